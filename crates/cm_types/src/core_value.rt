@@ -29,3 +29,10 @@ impl CoreValue {
         }
     }
 }
+
+impl Default for CoreValue {
+    /// The number 0 of 32 bits.
+    fn default() -> CoreValue {
+        CoreValue::I32(0)
+    }
+}

@@ -1,0 +1,5 @@
+pub mod Memories
+pub mod Stack
+pub mod State
+pub mod Step
+pub mod Run

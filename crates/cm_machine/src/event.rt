@@ -1,0 +1,137 @@
+//! What a move leads to.
+
+ghost use Rattle.std.specs.Prelude.{◌≡◌};
+
+use crate::flat::Flat;
+use thiserror::Error;
+
+/// What the machine answers to a move. Instances, functions and indices count from 0.
+#[derive(Debug, Drop, PartialEq)]
+pub enum Event {
+    /// The bytes are written.
+    Done,
+    /// The memory has grown: its pages before, or `None` where more than 1,024 would result and
+    /// nothing changed.
+    Grown(Option<u32>),
+    /// The body of this core function of this instance begins, with these arguments.
+    Enter {
+        instance: u32,
+        func: u32,
+        args: Flat,
+    },
+    /// This instance's allocator is called.
+    Realloc {
+        instance: u32,
+        func: u32,
+        args: Flat,
+    },
+    /// This instance goes on where it called, with these values.
+    Resume {
+        instance: u32,
+        values: Flat,
+    },
+    /// The call's results have been taken over: this core function of this instance may tidy up.
+    PostReturn {
+        instance: u32,
+        func: u32,
+        args: Flat,
+    },
+    /// The destructor of a dropped resource begins, with its representation.
+    Dtor {
+        instance: u32,
+        func: u32,
+        rep: u32,
+    },
+    /// The stack is emptied, and the instances on it are closed.
+    Trapped(Trap),
+    /// The root has returned: the stack is empty.
+    Ended,
+}
+
+impl Event {
+    ghost use Rattle.cm_machine.specs.Run.{is_last};
+
+    /// Whether a run stops after this event: the stack is empty then.
+    pub fn is_last(&self) -> bool
+        ensures { result ≡ is_last self.now }
+    {
+        matches!(self, Event::Ended | Event::Trapped(_))
+    }
+}
+
+/// Why a move was refused. The numbers are those of `Trap::number`.
+#[derive(Clone, Copy, Debug, PartialEq, Eq)]
+pub enum Trap {
+    /// A function got or gave other core values than its type has.
+    CoreShape = 1,
+    /// The guest stopped.
+    Unreachable,
+    /// A guest's own write passes the end of its memory.
+    GuestBounds,
+    /// A pointer, with what it points to, passes the end of a memory.
+    PointerBounds,
+    /// A pointer is not a multiple of its alignment.
+    Misaligned,
+    /// A number that is no Unicode scalar stands for a char.
+    BadChar,
+    /// A discriminant is not below the number of cases.
+    BadCase,
+    /// The bytes of a string are not text of its encoding.
+    BadText,
+    /// The strings and lists of a call hold more than 16,777,216 bytes.
+    TooLarge,
+    /// No handle stands at an index.
+    NoHandle,
+    /// The handle at an index is of another resource.
+    WrongResource,
+    /// The handle is lent to a call that has not returned.
+    StillLent,
+    /// The handle is borrowed, and an owned one was wanted.
+    NotOwned,
+    /// The handle table is full, or no serial number is left.
+    TableFull,
+    /// A call returned before it dropped the handles that it had borrowed.
+    BorrowsLeft,
+    /// The instance may not call out now.
+    MayNotLeave,
+    /// Two regions that the allocator answered overlap.
+    Overlap,
+    /// 64 frames stand on the stack already.
+    StackFull,
+    /// No canonical function has this index.
+    UnknownFunction,
+    /// The machine itself found no memory.
+    EngineMemory,
+    /// The called instance is closed.
+    CalleeClosed,
+}
+
+impl Trap {
+    /// The number of the trap, from 1 to 21.
+    pub fn number(self) -> u8 {
+        self as u8
+    }
+}
+
+/// Why a call of the machine itself was refused. The state is then unchanged.
+#[derive(Clone, Copy, Debug, PartialEq, Eq, Error)]
+pub enum Misuse {
+    /// 1: no frame stands on the stack, so no instance acts.
+    #[error("no instance acts")]
+    Idle,
+    /// 2: a frame stands on the stack already.
+    #[error("a call is on the stack")]
+    Busy,
+    /// 3: the instance is closed.
+    #[error("the instance is closed")]
+    Closed,
+    /// 4: there is no instance with this number.
+    #[error("there is no such instance")]
+    NoInstance,
+    /// 5: not one number of pages for each component, or a number above 1,024.
+    #[error("wrong numbers of pages")]
+    BadPages,
+    /// 6: no memory for the set or for the list of events.
+    #[error("out of memory")]
+    Memory,
+}

@@ -1,0 +1,18 @@
+//! The machine that runs the calls between the components of a linked set.
+#![tactic(auto)]
+
+mod checks;
+mod event;
+mod flat;
+mod frame;
+mod memory;
+mod moves;
+mod set;
+mod stack;
+mod step;
+
+pub use event::{Event, Misuse, Trap};
+pub use flat::Flat;
+pub use frame::{Call, CoreFunction, Frame, Lend, Lowered, Phase, Place, Purpose};
+pub use moves::Move;
+pub use set::Set;
