@@ -1,1 +1,5 @@
 pub mod CoreValues
+pub mod ExternNameForms
+pub mod ExternNames
+pub mod Faults
+pub mod Names

@@ -2,7 +2,11 @@
 #![tactic(auto)]
 
 mod core_value;
+mod extern_names;
+mod names;
 mod resource;
 
 pub use core_value::{CoreKind, CoreValue};
+pub use extern_names::{ExternName, ExternNameForm};
+pub use names::{Label, NameFault, same_name};
 pub use resource::ResourceId;
