@@ -1,4 +1,5 @@
 pub mod CoreValues
+pub mod DefTypes
 pub mod ExternNameForms
 pub mod ExternNames
 pub mod Faults
