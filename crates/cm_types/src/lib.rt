@@ -2,7 +2,13 @@
 #![tactic(auto)]
 
 mod core_value;
+mod def_types;
+mod extern_names;
+mod names;
 mod resource;
 
 pub use core_value::{CoreKind, CoreValue};
+pub use def_types::{DefType, FuncType, LabeledValType, ValType};
+pub use extern_names::{ExternName, ExternNameForm};
+pub use names::{Label, NameFault, same_name};
 pub use resource::ResourceId;
