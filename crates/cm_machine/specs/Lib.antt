@@ -3,3 +3,4 @@ pub mod Stack
 pub mod State
 pub mod Step
 pub mod Run
+pub mod Fresh

@@ -8,6 +8,7 @@ mod frame;
 mod memory;
 mod moves;
 mod set;
+mod setup;
 mod stack;
 mod step;
 

@@ -1,14 +1,16 @@
 //! The running set: its state, and the calls that read it.
 
-ghost use Rattle.std.specs.Prelude.{◌≡◌, ◌+◌, ◌*◌, ◌<◌, ◌≤◌, ◌&&◌, List, [], ◌∷◌, length, slice_set, map, true, IsOk, MatchResult, slice_get, IfSome, IfErr, OnErr, OnOk, Option, Some, None};
+ghost use Rattle.std.specs.Prelude.{◌≡◌, ◌+◌, ◌*◌, ◌<◌, ◌≤◌, ◌&&◌, List, [], ◌∷◌, length, slice_set, map, true, IsOk, MatchResult, slice_get, IfSome, IfOk, IfErr, OnErr, OnOk, Option, Some, None};
 ghost use Rattle.std.specs.Option.{option_map, option_copied};
 ghost use Rattle.cm_machine.specs.Stack.{actor, top_of};
 ghost use Rattle.cm_machine.specs.Memories.{bytes_of, written, grown};
-ghost use Rattle.cm_machine.specs.State.{State, StandsOn, IsValid, core_at, closed_with, trapped};
+ghost use Rattle.cm_machine.specs.State.{State, StandsOn, IsPlan, IsValid, core_at, closed_with, trapped};
+ghost use Rattle.cm_machine.specs.Fresh.{are_pages, fresh};
 ghost use Rattle.cm_machine.specs.Step.{memory_of, without_top};
 
 use crate::frame::{CoreFunction, Frame, Lend, Phase, Place, Purpose};
 use crate::memory::Memories;
+use crate::setup::memories_of;
 use crate::stack::Stack;
 use std::alloc::{AllocError, Global};
 use std::marker::Model;
@@ -85,6 +87,30 @@ fn close_all(stack: &mut Stack, closed: &mut [bool])
 }
 
 impl Set {
+    /// A set of instances with these functions, each with so many pages of zeros.
+    pub(crate) fn with_pages(
+        alloc: Global,
+        plan: Vec<CoreFunctions>,
+        pages: &[u32],
+    ) -> Result<Set, AllocError>
+        requires few { length plan.items ≤ 16 }
+        requires linked { IsPlan 0 plan.items }
+        requires pages { are_pages (length plan.items) pages.now ≡ true }
+        ensures { IfOk result (λ s. s ≡ fresh plan.items pages.now) }
+    {
+        let memories = memories_of(alloc, pages)?;
+        let closed = vec![in alloc; false; plan.len()]?;
+        let stack = Stack::new(alloc)?;
+        Ok(Set {
+            plan,
+            memories,
+            owners: Vec::new(alloc),
+            lends: Vec::new(alloc),
+            closed,
+            stack,
+        })
+    }
+
     /// The instance whose move is next, or `None` where the stack is empty.
     pub fn acting(&self) -> Option<u32>
         ensures { result ≡ option_map actor (top_of self.now.stack) }
