@@ -4,3 +4,6 @@ pub mod State
 pub mod Step
 pub mod Run
 pub mod Fresh
+pub mod History
+pub mod Values
+pub mod Headline

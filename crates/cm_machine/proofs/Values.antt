@@ -1,0 +1,48 @@
+-- Values of u32s: there is one wherever the core values are i32s, and no memory has a part in it.
+use Rattle.std.proofs.Common.{◌≡◌, ℕ, zero, suc, ◌+◌, Bool, true, false, ◌&&◌, ◌==◌, List, [], ◌∷◌, length, refl, sym, ap, subst, ◌∙◌, arith}
+use Rattle.std.specs.List.{list_all}
+use Rattle.std.proofs.lemmas.Bool.{eqb-true}
+use Rattle.cm_types.specs.declared.core_value.CoreValue.{CoreValue}
+use Rattle.cm_types.specs.declared.core_value.CoreValue.TheVariants as core_value
+use Rattle.cm_machine.specs.Step.{are_i32s, is_i32}
+use Rattle.cm_machine.specs.Values.{View, Value, number, Denotes, Receives}
+use Rattle.cm_machine.proofs.Valid.{length_of_i32s}
+
+right_of_and : (a b : Bool) → (a && b) ≡ true → b ≡ true
+right_of_and true b e = e
+right_of_and false b e = absurd cc
+
+numbers : (view : View) (n : ℕ) (cs : List CoreValue) → length cs ≡ n → list_all is_i32 cs ≡ true → (v : List Value) × Denotes view n cs v
+numbers view zero [] long all = ([], tt)
+numbers view zero (c ∷ cs) long all = absurd (omega (arith, long))
+numbers view (suc n) [] long all = absurd (omega (arith, long))
+numbers view (suc n) (core_value.I64 k ∷ cs) long all = absurd cc
+numbers view (suc n) (core_value.I32 k ∷ cs) long all =
+    let rest = numbers view n cs (omega (arith, long)) all in
+    (number k ∷ rest.0, (refl, rest.1))
+
+pub denoted : (view : View) (n : ℕ) (cs : List CoreValue) → are_i32s n cs ≡ true → (v : List Value) × Denotes view n cs v
+denoted view n cs e = numbers view n cs (length_of_i32s n cs e) (right_of_and (length cs == n) (list_all is_i32 cs) e)
+
+pub received : (view other : View) (n : ℕ) (cs : List CoreValue) (v : List Value) → Denotes view n cs v → Receives other n cs v
+received view other zero [] [] h = tt
+received view other zero [] (v ∷ vs) h = absurd h
+received view other zero (c ∷ cs) vs h = absurd h
+received view other (suc n) [] vs h = absurd h
+received view other (suc n) (c ∷ cs) [] h = absurd h
+received view other (suc n) (c ∷ cs) (v ∷ vs) h = (h.0, received view other n cs vs h.1)
+
+-- for given core values there is at most one value
+pub one_value : (view : View) (n : ℕ) (cs : List CoreValue) (v w : List Value) → Denotes view n cs v → Denotes view n cs w → v ≡ w
+one_value view zero [] [] [] h k = refl
+one_value view zero [] [] (w ∷ ws) h k = absurd k
+one_value view zero [] (v ∷ vs) ws h k = absurd h
+one_value view zero (c ∷ cs) vs ws h k = absurd h
+one_value view (suc n) [] vs ws h k = absurd h
+one_value view (suc n) (c ∷ cs) [] ws h k = absurd h
+one_value view (suc n) (c ∷ cs) (v ∷ vs) [] h k = absurd k
+one_value view (suc n) (core_value.I64 a ∷ cs) (number v ∷ vs) (w ∷ ws) h k = absurd h.0
+one_value view (suc n) (core_value.I32 a ∷ cs) (number v ∷ vs) (number w ∷ ws) h k =
+    let rest = one_value view n cs vs ws h.1 k.1 in
+    let same : v ≡ w = sym h.0 ∙ k.0 in
+    cc
