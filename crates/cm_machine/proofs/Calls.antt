@@ -128,12 +128,51 @@ call_resumes h s carried top values e new call is its fine r instance given ev =
     let return : Answering = record { callee = actor top; values = values.items; state = s } in
     let v = denoted (view_of s (actor top)) (result_count opened.sending.lowered) values.items shape in
     let taken : open_after (moves (move.Return values)) e (sent (record { before = s; action = moves (move.Return values); event = e; after = new } ∷ h)) (open_calls h) ≡ opened.others =
-        subst (λ (y : Event). open_after (moves (move.Return values)) y (sent (record { before = s; action = moves (move.Return values); event = e; after = new } ∷ h)) (open_calls h) ≡ opened.others) (sym back.1) (ap without_last opened.first_open) in
+    subst (λ (y : Event). open_after (moves (move.Return values)) y (sent (record { before = s; action = moves (move.Return values); event = e; after = new } ∷ h)) (open_calls h) ≡ opened.others) (sym back.1) (ap without_last opened.first_open) in
     let told : or_answered (answering_of s (acts h) values.items) (answered h) ≡ Some return = ap (λ (y : Option ℕ). or_answered (answering_of s y values.items) (answered h)) (acting_top h s top carried is) in
-    let callee : actor top ≡ opened.sending.lowered.instance = fine_top.itself ∙ sym stands.1 ∙ ap (λ (l : Lowered). l.instance) opened.lowered in
-    (opened.sending, opened.others, return, opened.first_open, taken, told,
+    let callee : actor top ≡ opened.sending.lowered.instance = fine_top.itself ∙ sym stands.1 ∙ ap (λ (l : Lowered). l.instance) opened.lowered in (
+      opened.sending,
+      opened.others,
+      return,
+      opened.first_open,
+      taken,
+      told,
       record {
         caller = sym opened.caller ∙ same_i;
         callee = callee;
         value = (v.0, v.1, subst (λ (g : List CoreValue). Receives (view_of new instance) (result_count opened.sending.lowered) g v.0) same_v (received (view_of s (actor top)) (view_of new instance) (result_count opened.sending.lowered) values.items v.0 v.1));
-      })
+      },
+    )
+
+grow_resumes_not : (s : State) (top : Frame) (pages : ℕ) (b : Bool) (e : Event) (new : State) (i : ℕ) (values : List CoreValue) → Grows s top pages b e new → e ≡ event.Resume i values → ⊥
+grow_resumes_not s top pages true e new i values g ev = let x = g.0 in cc
+grow_resumes_not s top pages false e new i values g ev = let x = g.0 in cc
+
+call_resumes_not : (s : State) (top : Frame) (f : Option CoreFunction) (args : List CoreValue) (e : Event) (new : State) (i : ℕ) (values : List CoreValue) → Calls s top f args e new → e ≡ event.Resume i values → ⊥
+call_resumes_not s top None args e new i values c ev = c
+call_resumes_not s top (Some core_function.Guest) args e new i values c ev = c
+call_resumes_not s top (Some (core_function.Lowered l)) args e new i values c ev = let x = c.0 in cc
+
+return_resumes : (h : List Entry) (s : State) (carried : Carried h s) (top : Frame) (values : _) (e : Event) (new : State) (p : Purpose) → top_of s.stack ≡ Some top → top.purpose ≡ p → first (checks s top (move.Return values)) ≡ None → Returns p s values.items e new → ResumesAs h s (move.Return values) e new
+return_resumes h s carried top values e new purpose.Root is its fine r i given ev = absurd (let x = r.0 in cc)
+return_resumes h s carried top values e new (purpose.Call call) is its fine r i given ev = call_resumes h s carried top values e new call is its fine r i given ev
+return_resumes h s carried top values e new (purpose.Destructor dropper) is its fine r i given ev =
+    absurd (subst (λ (q : Purpose). StandsOn q top.instance (below_top s.stack)) its (stands_below (length s.plan) s.stack top carried.valid.stack is).0)
+
+pass_resumes : (h : List Entry) (s : State) (carried : Carried h s) (m : Move) (e : Event) (new : State) (top : Frame) → top_of s.stack ≡ Some top → first (checks s top m) ≡ None → Passes s top m e new → ResumesAs h s m e new
+pass_resumes h s carried (move.Write at bytes) e new top is fine p i values ev = absurd (let x = p.0 in cc)
+pass_resumes h s carried (move.Grow pages) e new top is fine p i values ev = absurd (grow_resumes_not s top pages (may_grow s top pages) e new i values p ev)
+pass_resumes h s carried (move.Call func given) e new top is fine p i values ev = absurd (call_resumes_not s top (core_at s.plan (actor top) func) given.items e new i values p ev)
+pass_resumes h s carried (move.Return given) e new top is fine p i values ev = return_resumes h s carried top given e new top.purpose is refl fine p i values ev
+pass_resumes h s carried move.Unreachable e new top is fine p i values ev = absurd p
+
+go_resumes : (h : List Entry) (s : State) (carried : Carried h s) (m : Move) (e : Event) (new : State) (top : Frame) → top_of s.stack ≡ Some top → Goes s top m e new → ResumesAs h s m e new
+go_resumes h s carried m e new top is (traps t fails tells leaves) i values ev = absurd (cc (tells, ev))
+go_resumes h s carried m e new top is (passes fine p) i values ev = pass_resumes h s carried m e new top is fine p i values ev
+go_resumes h s carried m e new top is (wants fine may tells leaves) i values ev = absurd (cc (tells, ev))
+
+pub resumes : (h : List Entry) (s : State) (a : Action) (e : Event) (new : State) → Carried h s → Happens s a e new → ResumesRightly (record { before = s; action = a; event = e; after = new } ∷ h)
+resumes h s (begins j) e new carried b m i values is_move ev = absurd cc
+resumes h s (moves made) e new carried step m i values is_move ev =
+    let by = steps_by s made e new step in
+    go_resumes h s carried made e new by.top by.is by.goes i values ev

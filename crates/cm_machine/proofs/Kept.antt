@@ -25,36 +25,36 @@ length_closed (f ∷ fs) closed = length_closed fs (slice_set closed f.instance 
 
 pub valid_trapped : (s : State) → IsValid s → IsValid (trapped s)
 valid_trapped s valid = record {
-    few = valid.few;
-    linked = valid.linked;
-    memories = valid.memories;
-    closed = length_closed s.stack s.closed ∙ valid.closed;
-    stack = tt;
-    no_owners = ap (map abandoned) valid.no_owners;
-    no_lends = refl;
-  }
+  few = valid.few;
+  linked = valid.linked;
+  memories = valid.memories;
+  closed = length_closed s.stack s.closed ∙ valid.closed;
+  stack = tt;
+  no_owners = ap (map abandoned) valid.no_owners;
+  no_lends = refl;
+}
 
 valid_memory : (s : State) (top : Frame) (memory : List ℕ) → IsValid s → IsValid (with_memory s top memory)
 valid_memory s top memory valid = record {
-    few = valid.few;
-    linked = valid.linked;
-    memories = length-set s.memories (actor top) memory ∙ valid.memories;
-    closed = valid.closed;
-    stack = valid.stack;
-    no_owners = valid.no_owners;
-    no_lends = valid.no_lends;
-  }
+  few = valid.few;
+  linked = valid.linked;
+  memories = length-set s.memories (actor top) memory ∙ valid.memories;
+  closed = valid.closed;
+  stack = valid.stack;
+  no_owners = valid.no_owners;
+  no_lends = valid.no_lends;
+}
 
 valid_stack : (s : State) (stack : List Frame) → IsValid s → IsStack (length s.plan) stack → IsValid (record s { stack = stack })
 valid_stack s stack valid h = record {
-    few = valid.few;
-    linked = valid.linked;
-    memories = valid.memories;
-    closed = valid.closed;
-    stack = h;
-    no_owners = valid.no_owners;
-    no_lends = valid.no_lends;
-  }
+  few = valid.few;
+  linked = valid.linked;
+  memories = valid.memories;
+  closed = valid.closed;
+  stack = h;
+  no_owners = valid.no_owners;
+  no_lends = valid.no_lends;
+}
 
 is_stack_below : (count : ℕ) (stack : List Frame) → IsStack count stack → IsStack count (below_top stack)
 is_stack_below count [] h = tt

@@ -6,3 +6,8 @@ pub mod Kept
 pub mod Carried
 pub mod Values
 pub mod Calls
+pub mod MemoryLaws
+pub mod TrapLaws
+pub mod Passing
+pub mod RunLaws
+pub mod HistoryLaws

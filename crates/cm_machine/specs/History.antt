@@ -38,6 +38,14 @@ abbrev pub IsHistory : State → List Entry → State → Type 0
 IsHistory start [] s = s ≡ start
 IsHistory start (x ∷ h) s = IsHistory start h x.before × Happens x.before x.action x.event x.after × (s ≡ x.after)
 
+-- What happened to a set with these functions and numbers of pages, from `Set::new` on to the state s. The
+-- functions are those of a set that can be linked: 1 to 16 instances, each calling earlier ones alone.
+pub record IsHistoryOf (plan : List (List CoreFunction)) (pages : List ℕ) (h : List Entry) (s : State) : Type 0 where
+  pub few : length plan ≤ 16
+  pub linked : IsPlan 0 plan
+  pub pages_fit : are_pages (length plan) pages ≡ true
+  pub history : IsHistory (fresh plan pages) h s
+
 -- ---- who acts
 
 -- the instance that acts after an event, if one acted before

@@ -5,7 +5,7 @@ mod checks;
 mod event;
 mod flat;
 mod frame;
-mod headline;
+mod laws;
 mod memory;
 mod moves;
 mod set;
@@ -15,7 +15,7 @@ mod step;
 
 pub use event::{Event, Misuse, Trap};
 pub use flat::Flat;
-pub use headline::steps_keep;
 pub use frame::{Call, CoreFunction, Frame, Lend, Lowered, Phase, Place, Purpose};
+pub use laws::headline;
 pub use moves::Move;
 pub use set::Set;
