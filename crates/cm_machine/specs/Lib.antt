@@ -7,3 +7,5 @@ pub mod Fresh
 pub mod History
 pub mod Values
 pub mod Headline
+pub mod Exchange
+pub mod Player
