@@ -11,3 +11,4 @@ pub mod TrapLaws
 pub mod Passing
 pub mod RunLaws
 pub mod HistoryLaws
+pub mod Drives

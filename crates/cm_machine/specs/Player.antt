@@ -1,8 +1,9 @@
 -- A drive: one root call, played by the guests on their seats.
-use Rattle.std.specs.Prelude.{◌≡◌, ℕ, ◌+◌, ◌<◌, ◌⊎◌, ◌==◌, Bool, true, false, if◌then◌else◌, List, [], ◌∷◌, ◌++◌, length, Option, Some, None, slice_get}
+use Rattle.std.specs.Prelude.{◌≡◌, ℕ, ◌⊎◌, ◌==◌, ◌&&◌, Bool, true, false, not, unwrap_or, if◌then◌else◌, List, [], ◌∷◌, ◌++◌, length, Option, Some, None, slice_get}
 use Rattle.std.specs.Option.{option_map}
 use Rattle.std.specs.List.{AllByRecursion}
 use Rattle.cm_machine.specs.declared.event.Event.{Event}
+use Rattle.cm_machine.specs.declared.event.Event.TheVariants as event
 use Rattle.cm_machine.specs.declared.moves.Move.{Move}
 use Rattle.cm_machine.specs.declared.moves.Move.TheVariants as move
 use Rattle.cm_machine.specs.Exchange.{Exchange}
@@ -39,11 +40,19 @@ exchanges_of i (t ∷ ts) = if t.by == i then record { seen = t.seen; made = t.m
 abbrev pub AreStops : List Exchange → Type 0
 AreStops xs = AllByRecursion (λ x. x.made ≡ move.Unreachable) xs
 
--- A guest on a seat answered these exchanges, as its interface means it, and is then what the seat holds.
--- An empty or missing seat only stops. A seat that has become empty had a guest that answered them.
+-- A guest took part in these exchanges, as its interface means it.
+abbrev pub Answered : {G : Type 0} → (G → List Exchange → Type 0) → G → List Exchange → Type 0
+Answered plays g told = (told ≡ []) ⊎ plays g told
+
+-- What took part in these exchanges is now h: what h may go on with, g may after them.
+abbrev pub GoesOnAs : {G : Type 0} → (G → List Exchange → Type 0) → G → G → List Exchange → Type 0
+GoesOnAs plays g h told = (rest : List Exchange) → plays h rest → plays g (told ++ rest)
+
+-- What became of a seat: a guest there took part in these exchanges, and the seat holds what it is now, or
+-- nothing any more. An empty or missing seat only stops, and stays so.
 abbrev pub SeatPlays : {G : Type 0} → (G → List Exchange → Type 0) → Option (Option G) → Option (Option G) → List Exchange → Type 0
-SeatPlays plays (Some (Some g)) (Some (Some h)) told = (rest : List Exchange) → plays h rest → plays g (told ++ rest)
-SeatPlays plays (Some (Some g)) (Some None) told = (told ≡ []) ⊎ plays g told
+SeatPlays plays (Some (Some g)) (Some (Some h)) told = Answered plays g told × GoesOnAs plays g h told
+SeatPlays plays (Some (Some g)) (Some None) told = Answered plays g told
 SeatPlays plays (Some (Some g)) None told = ⊥
 SeatPlays plays (Some None) (Some (Some h)) told = ⊥
 SeatPlays plays (Some None) (Some None) told = AreStops told
@@ -51,6 +60,49 @@ SeatPlays plays (Some None) None told = ⊥
 SeatPlays plays None (Some seat) told = ⊥
 SeatPlays plays None None told = AreStops told
 
+-- whether a seat holds a guest
+abbrev pub is_taken : {G : Type 0} → Option (Option G) → Bool
+is_taken (Some (Some g)) = true
+is_taken (Some None) = false
+is_taken None = false
+
+-- The seat keeps its guest, or stays empty or missing.
+abbrev pub StaysTaken : {G : Type 0} → Option (Option G) → Option (Option G) → Type 0
+StaysTaken old new = is_taken new ≡ is_taken old
+
 -- A drive ends at an event that is the last, or after so many moves, and nowhere else.
 abbrev pub EndsAt : ℕ → Event → ℕ → Type 0
 EndsAt limit last moves = (is_last last ≡ true) ⊎ ((is_last last ≡ false) × (moves ≡ limit))
+
+-- ---- a whole drive
+
+-- From the state after `begin`, with these seats, these events, this new state and these new seats are a
+-- drive: some turns, each of the acting instance and each answered by its guest, whose events follow the
+-- first one, and which end where a drive ends.
+pub record IsDrive {G : Type 0} (plays : G → List Exchange → Type 0) (root limit : ℕ) (start : State) (old_seats : List (Option G)) (events : List Event) (new : State) (seats : List (Option G)) : Type 0 where
+  pub turns : List Turn
+  pub told : List Event
+  pub events_are : events ≡ event.Resume root [] ∷ told
+  pub went : Turns start (event.Resume root []) turns told new
+  pub ends : EndsAt limit (last_of (event.Resume root []) told) (length turns)
+  pub seats_play : (i : ℕ) → SeatPlays plays (slice_get old_seats i) (slice_get seats i) (exchanges_of i turns)
+
+-- whether an instance is closed in the new state and was not in the old one
+abbrev pub closed_since : List Bool → List Bool → ℕ → Bool
+closed_since old new i = unwrap_or (slice_get new i) false && not (unwrap_or (slice_get old i) false)
+
+-- a seat, emptied where this says so
+abbrev pub emptied_if : {G : Type 0} → Bool → Option (Option G) → Option (Option G)
+emptied_if true (Some seat) = Some None
+emptied_if true None = None
+emptied_if false seat = seat
+
+-- The same before the seats are emptied.
+pub record Played {G : Type 0} (plays : G → List Exchange → Type 0) (start : State) (first : Event) (old_seats : List (Option G)) (limit : ℕ) (events : List Event) (new : State) (seats : List (Option G)) : Type 0 where
+  pub turns : List Turn
+  pub told : List Event
+  pub events_are : events ≡ first ∷ told
+  pub went : Turns start first turns told new
+  pub ends : EndsAt limit (last_of first told) (length turns)
+  pub seats_play : (i : ℕ) → SeatPlays plays (slice_get old_seats i) (slice_get seats i) (exchanges_of i turns)
+  pub seats_stay : (i : ℕ) → StaysTaken (slice_get old_seats i) (slice_get seats i)
