@@ -15,7 +15,7 @@ use Rattle.cm_machine.specs.Stack.{actor, top_of}
 use Rattle.cm_machine.specs.State.{State}
 use Rattle.cm_machine.specs.Step.{Step}
 use Rattle.cm_machine.specs.Run.{is_last}
-use Rattle.cm_machine.specs.Player.{Turn, Turns, last_of, exchanges_of, AreStops, Answered, GoesOnAs, SeatPlays, is_taken, StaysTaken, EndsAt, Played, IsDrive, emptied_if}
+use Rattle.cm_machine.specs.Player.{Turn, Turns, last_of, exchanges_of, AreStops, Answered, GoesOnAs, SeatPlays, is_taken, StaysTaken, EndsAt, Played, IsDrive, closed_since, emptied_if}
 
 stops_join : (xs ys : List Exchange) → AreStops xs → AreStops ys → AreStops (xs ++ ys)
 stops_join [] ys h k = k
@@ -91,23 +91,22 @@ pub record Playing {G : Type 0} (plays : G → List Exchange → Type 0) (start 
 
 pub begins_playing : {G : Type 0} (plays : G → List Exchange → Type 0) (start : State) (first : Event) (seats : List (Option G)) (events : List Event) → events ≡ first ∷ [] → Playing plays start first seats events start seats 0
 begins_playing plays start first seats events is = record {
-    turns = [];
-    told = [];
-    events_are = is;
-    counted = refl;
-    went = λ ts es new h. h;
-    seats_play = λ i. seat_rests plays (slice_get seats i);
-    seats_stay = λ i. refl;
-  }
+  turns = [];
+  told = [];
+  events_are = is;
+  counted = refl;
+  went = λ ts es new h. h;
+  seats_play = λ i. seat_rests plays (slice_get seats i);
+  seats_stay = λ i. refl;
+}
 
 -- the seats after one exchange of the instance i
 module _ {G : Type 0} (plays : G → List Exchange → Type 0) (old mid new : List (Option G)) (turns : List Turn) (t : Turn)
-  (before : (i : ℕ) → SeatPlays plays (slice_get old i) (slice_get mid i) (exchanges_of i turns))
-  (kept : (i : ℕ) → StaysTaken (slice_get old i) (slice_get mid i))
-  (asked : SeatPlays plays (slice_get mid t.by) (slice_get new t.by) (record { seen = t.seen; made = t.made } ∷ []))
-  (asked_stays : StaysTaken (slice_get mid t.by) (slice_get new t.by))
-  (others : (i : ℕ) → i ≢ t.by → slice_get new i ≡ slice_get mid i) where
-
+    (before : (i : ℕ) → SeatPlays plays (slice_get old i) (slice_get mid i) (exchanges_of i turns))
+    (kept : (i : ℕ) → StaysTaken (slice_get old i) (slice_get mid i))
+    (asked : SeatPlays plays (slice_get mid t.by) (slice_get new t.by) (record { seen = t.seen; made = t.made } ∷ []))
+    (asked_stays : StaysTaken (slice_get mid t.by) (slice_get new t.by))
+    (others : (i : ℕ) → i ≢ t.by → slice_get new i ≡ slice_get mid i) where
   at_one : (i : ℕ) (b : Bool) → (t.by == i) ≡ b → SeatPlays plays (slice_get mid i) (slice_get new i) (if b then record { seen = t.seen; made = t.made } ∷ [] else [])
   at_one i true is = let same : t.by ≡ i = eqb-true t.by i is in subst (λ (j : ℕ). SeatPlays plays (slice_get mid j) (slice_get new j) (record { seen = t.seen; made = t.made } ∷ [])) same asked
   at_one i false is =
@@ -143,9 +142,9 @@ plays_on plays start first old events s seats count p by seen made e mid after l
       events_are = is ∙ ap (λ (xs : List Event). xs ++ e ∷ []) p.events_are;
       counted = length-append p.turns (t ∷ []) ∙ omega (arith, p.counted);
       went = λ ts es new h.
-        let rest : Turns mid e ts es new = subst (λ (x : Event). Turns mid x ts es new) (last_of_more first p.told e) h in
-        let here : Turns s (last_of first p.told) (t ∷ ts) (e ∷ es) new = (sym saw, subst (λ (x : Event). is_last x ≡ false) (sym saw) more, acts, (mid, step, rest)) in
-        rw (append_assoc, append_assoc) (p.went (t ∷ ts) (e ∷ es) new here);
+          let rest : Turns mid e ts es new = subst (λ (x : Event). Turns mid x ts es new) (last_of_more first p.told e) h in
+          let here : Turns s (last_of first p.told) (t ∷ ts) (e ∷ es) new = (sym saw, subst (λ (x : Event). is_last x ≡ false) (sym saw) more, acts, (mid, step, rest)) in
+          rw (append_assoc, append_assoc) (p.went (t ∷ ts) (e ∷ es) new here);
       seats_play = seats_after plays old seats after p.turns t p.seats_play p.seats_stay asked asked_stays others;
       seats_stay = stay_after plays old seats after p.turns t p.seats_play p.seats_stay asked asked_stays others;
     }
@@ -180,14 +179,14 @@ by_limit false limit moves is = inr (refl, is)
 module _ {G : Type 0} (plays : G → List Exchange → Type 0) (start : State) (first : Event) (old : List (Option G)) (limit : ℕ) (events : List Event) (s : State) (seats : List (Option G)) (count : ℕ) (p : Playing plays start first old events s seats count) where
   ended_at : EndsAt limit (last_of first p.told) (length p.turns) → Played plays start first old limit events s seats
   ended_at ends = record {
-      turns = p.turns;
-      told = p.told;
-      events_are = p.events_are;
-      went = subst (λ (ts : List Turn). Turns start first ts p.told s) (append-nil p.turns) (subst (λ (es : List Event). Turns start first (p.turns ++ []) es s) (append-nil p.told) (p.went [] [] s refl));
-      ends = ends;
-      seats_play = p.seats_play;
-      seats_stay = p.seats_stay;
-    }
+    turns = p.turns;
+    told = p.told;
+    events_are = p.events_are;
+    went = subst (λ (ts : List Turn). Turns start first ts p.told s) (append-nil p.turns) (subst (λ (es : List Event). Turns start first (p.turns ++ []) es s) (append-nil p.told) (p.went [] [] s refl));
+    ends = ends;
+    seats_play = p.seats_play;
+    seats_stay = p.seats_stay;
+  }
 
   pub stops_at : (e : Event) → slice_get events (length events - 1) ≡ Some e → is_last e ≡ true → Played plays start first old limit events s seats
   stops_at e is last =
@@ -211,3 +210,22 @@ some_last events first told is none = let there = last_at events first told is i
 
 pub last_is_seen : (events : List Event) (seen : Event) → slice_get events (length events - 1) ≡ Some seen → (first : Event) (told : List Event) → events ≡ first ∷ told → last_of first told ≡ seen
 last_is_seen events seen there first told is = let here = last_at events first told is in cc
+
+-- ---- the whole drive
+
+module _ {G : Type 0} (plays : G → List Exchange → Type 0) (start : State) (root limit : ℕ) (old : List (Option G)) (events : List Event) (s : State) (seats : List (Option G)) (p : Played plays start (event.Resume root []) old limit events s seats) (f : ℕ → Bool) (left : List (Option G)) (emptied : (i : ℕ) → slice_get left i ≡ emptied_if (f i) (slice_get seats i)) where
+  pub whole_drive : IsDrive plays root limit start old events s left
+  whole_drive = record {
+    turns = p.turns;
+    told = p.told;
+    events_are = p.events_are;
+    went = p.went;
+    ends = p.ends;
+    seats_play = λ i. subst (λ (x : Option (Option G)). SeatPlays plays (slice_get old i) x (exchanges_of i p.turns)) (sym (emptied i)) (seat_empties plays (f i) (slice_get old i) (slice_get seats i) (exchanges_of i p.turns) (p.seats_play i));
+  }
+
+  pub taken_after : (i : ℕ) → is_taken (slice_get left i) ≡ (is_taken (slice_get old i) && not (f i))
+  taken_after i = ap is_taken (emptied i) ∙ taken_empties (f i) (slice_get seats i) ∙ ap (λ b. b && not (f i)) (p.seats_stay i)
+
+pub closed_same : (a b c d : List Bool) → a ≡ b → c ≡ d → (i : ℕ) → closed_since a c i ≡ closed_since b d i
+closed_same a b c d p q i = ap (λ (x : List Bool). closed_since x c i) p ∙ ap (λ (x : List Bool). closed_since b x i) q

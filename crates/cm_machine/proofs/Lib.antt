@@ -12,3 +12,4 @@ pub mod Passing
 pub mod RunLaws
 pub mod HistoryLaws
 pub mod Drives
+pub mod Seats

@@ -19,5 +19,5 @@ pub use flat::Flat;
 pub use frame::{Call, CoreFunction, Frame, Lend, Lowered, Phase, Place, Purpose};
 pub use laws::headline;
 pub use moves::Move;
-pub use player::Guest;
+pub use player::{Guest, Player};
 pub use set::Set;

@@ -12,6 +12,7 @@ use crate::frame::{CoreFunction, Frame, Lend, Phase, Place, Purpose};
 use crate::memory::Memories;
 use crate::setup::memories_of;
 use crate::stack::Stack;
+use arrayvec::ArrayVec;
 use std::alloc::{AllocError, Global};
 use std::marker::Model;
 
@@ -155,6 +156,18 @@ impl Set {
         ensures valid { IsValid self.now }
     {
         self.stack.len()
+    }
+
+    /// For each instance whether it is closed, in place.
+    pub(crate) fn closed_flags(&self) -> ArrayVec<bool, 16>
+        ensures { result.items ≡ self.now.closed }
+    {
+        let closed = &self.closed;
+        let mut flags = ArrayVec::new();
+        for flag in closed {
+            flags.push(*flag);
+        }
+        flags
     }
 
     /// The frame on top of the stack.

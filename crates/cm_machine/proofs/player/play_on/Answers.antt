@@ -8,9 +8,9 @@ use Rattle.cm_machine.proofs.player.play_on.Goals as goal
 
 pub loop-init : goal.loop-init
 loop-init g c = record {
-    playing = λ first is. begins_playing (λ b rest. (goal.Guest-dyn g (b.vtable, b.value)).plays b.value rest) c.args.set.now first c.args.seats.now.items c.args.events.now.items is;
-    stands = λ first told is more. c.requires.stands;
-  }
+  playing = λ first is. begins_playing (λ b rest. (goal.Guest-dyn g (b.vtable, b.value)).plays b.value rest) c.args.set.now first c.args.seats.now.items c.args.events.now.items is;
+  stands = λ first told is more. c.requires.stands;
+}
 
 pub unreachable-requires : goal.unreachable-requires
 unreachable-requires g c =
@@ -44,14 +44,14 @@ loop-preserved g c =
     let pushed : c.push.new.self.items ≡ c.loop.events.items ++ c.in-Ok.event ∷ [] = c.in-Ok-push.ensures.items ∙ ap (λ (xs : List Event). xs ++ c.in-Ok.event ∷ []) c.reserve.ensures.items in
     record {
       playing = λ first is.
-        let p = c.loop.invariant.playing first is in
-        plays_on (λ b rest. (goal.Guest-dyn g (b.vtable, b.value)).plays b.value rest) c.args.set.now first c.args.seats.now.items c.loop.events.items c.loop.set c.loop.seats.items c.loop.counter p
+          let p = c.loop.invariant.playing first is in
+          plays_on (λ b rest. (goal.Guest-dyn g (b.vtable, b.value)).plays b.value rest) c.args.set.now first c.args.seats.now.items c.loop.events.items c.loop.set c.loop.seats.items c.loop.counter p
           c.in-Some-acting.instance c.in-Some.seen.now c.ask_one-made.result c.in-Ok.event c.step.new.self c.ask_one-made.new.seats.items c.push.new.self.items
           (last_is_seen c.loop.events.items c.in-Some.seen.now there first) more (sym c.acting.ensures ∙ c.in-Some-acting.is) c.in-Ok.ensures.step
           c.ask_one-made.ensures.plays c.ask_one-made.ensures.stays c.ask_one-made.ensures.others pushed;
       stands = λ first told is open_.
-        let same = last_pushed c.loop.events.items c.in-Ok.event first told (sym pushed ∙ is) in
-        c.in-Ok.ensures.goes_on (ap is_last (sym same) ∙ open_);
+          let same = last_pushed c.loop.events.items c.in-Ok.event first told (sym pushed ∙ is) in
+          c.in-Ok.ensures.goes_on (ap is_last (sym same) ∙ open_);
     }
 
 pub returns-clause-ok : goal.returns-clause-ok
