@@ -1,3 +1,4 @@
+pub mod Numbers
 pub mod Memories
 pub mod Stack
 pub mod State
