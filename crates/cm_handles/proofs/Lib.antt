@@ -1,0 +1,3 @@
+pub mod SoundHandles
+pub mod LinkedEntries
+pub mod TableSteps

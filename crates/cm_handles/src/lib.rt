@@ -1,0 +1,12 @@
+//! Handle tables: which resource stands under which index of an instance.
+#![tactic(auto)]
+
+mod fault;
+mod handle;
+mod table;
+#[cfg(test)]
+mod tests;
+
+pub use fault::HandleFault;
+pub use handle::{Handle, HandleKind};
+pub use table::Table;
