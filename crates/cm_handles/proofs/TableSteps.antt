@@ -9,7 +9,9 @@ use Rattle.cm_handles.specs.declared.table.Entry.{Entry}
 use Rattle.cm_handles.specs.declared.table.Entry.TheVariants.{Free, Used}
 use Rattle.cm_handles.specs.Handles.{Handles, TableState, handle_at, IsSound, IsSoundTable, Changes, greatest_index, next_index, indices_left, placed, released, restored, added}
 use Rattle.cm_handles.specs.Entries.{slot_of, thread, handles_of, room_of, IsLinked}
-use Rattle.cm_handles.proofs.LinkedEntries.{linked_released, linked_written, linked_restored, linked_pushed, free_bound, length-thread, threaded_first}
+use Rattle.cm_handles.proofs.SoundHandles.{positive_index, within_slots}
+use Rattle.std.specs.Option.{option_and_then}
+use Rattle.cm_handles.proofs.LinkedEntries.{slot-entry, linked_released, linked_written, linked_restored, linked_pushed, free_bound, length-thread, threaded_first}
 
 -- the table of these entries
 abbrev pub table_of : List Entry → ℕ → ℕ → ℕ → TableState
@@ -157,3 +159,21 @@ no_elements (x ∷ xs) none = absurd (omega arith)
 pub freed_first : (es : List Entry) (first free capacity : ℕ) (old : TableState) → table_of es first free capacity ≡ old → 0 < free → slice_get old.handles.freed 0 ≡ Some first
 freed_first es first free capacity old view positive =
     sym (ap (λ (s : TableState). slice_get s.handles.freed 0) view) ∙ thread_first free es first positive
+
+-- what was read at an index is what stands there
+pub read_slot : (es : List Entry) (first free capacity i : ℕ) (x : Entry) (old : TableState) → table_of es first free capacity ≡ old → 0 < i → i - 1 < length es → x ≡ get_or es (i - 1) x → handle_at old.handles i ≡ slot_of x
+read_slot es first free capacity i x old view positive within read =
+    sym (ap (λ (s : TableState). handle_at s.handles i) view) ∙ (slot-entry es i positive ∙ ap (λ o. option_and_then slot_of o) (slice_get_read es (length es) (i - 1) x refl within read))
+
+-- an index at which a handle stands is one of the entries'
+pub used_within : (es : List Entry) (first free capacity i : ℕ) (old : TableState) → IsLinked es first free → table_of es first free capacity ≡ old → IsSome (handle_at old.handles i) → (0 < i) × (i - 1 < length es)
+used_within es first free capacity i old linked view some =
+    let h = some_value (handle_at old.handles i) some in
+    let t = handles_of es first free in
+    let stands : handle_at t i ≡ Some h.0 = ap (λ (s : TableState). handle_at s.handles i) view ∙ h.1 in
+    let positive : 0 < i = positive_index t i h.0 linked.sound stands in
+    (positive, omega (arith, within_slots t i h.0 stands, length-map es slot_of))
+
+pub slots_length : (es : List Entry) (first free capacity : ℕ) (old : TableState) → table_of es first free capacity ≡ old → length old.handles.slots ≡ length es + 1
+slots_length es first free capacity old view =
+    sym (ap (λ (s : TableState). length s.handles.slots) view) ∙ omega (arith, length-map es slot_of)

@@ -1,6 +1,6 @@
 -- How a table lays out its entries. No public clause cites this module.
-use Rattle.std.specs.Prelude.{◌≡◌, ℕ, zero, suc, ◌+◌, ◌-◌, ◌<◌, ◌≤◌, min, Bool, true, false, List, [], ◌∷◌, map, length, count_by, slice_index_or, slice_get, Option, Some, None}
-use Rattle.cm_handles.specs.Handles.{Handles, TableState, IsSound, greatest_index}
+use Rattle.std.specs.Prelude.{◌≡◌, ℕ, zero, suc, ◌+◌, ◌-◌, ◌<◌, ◌≤◌, min, Bool, true, false, List, [], ◌∷◌, map, length, count_by, slice_index_or, slice_get, slice_set, if◌then◌else◌, Option, Some, None}
+use Rattle.cm_handles.specs.Handles.{Handles, TableState, IsSound, greatest_index, released, is_borrow, with_lends}
 use Rattle.cm_handles.specs.declared.handle.Handle.{Handle}
 use Rattle.cm_handles.specs.declared.table.Entry.{Entry}
 use Rattle.cm_handles.specs.declared.table.Entry.TheVariants.{Free, Used}
@@ -43,3 +43,9 @@ pub record IsLinked (es : List Entry) (first free : ℕ) : Type 0 where
   pub threads : Threads es first (thread free es first)
   pub counted : free ≡ count_by is_free es
   pub sound : IsSound (handles_of es first free)
+
+-- The handles after what stands at one index is closed: a borrow goes, and an owned handle is no longer
+-- lent.
+abbrev pub closed_at : Handles → ℕ → Option Handle → Handles
+closed_at t index None = t
+closed_at t index (Some h) = if is_borrow h.kind then released t index else record t { slots = slice_set t.slots index (Some (with_lends 0 h)) }

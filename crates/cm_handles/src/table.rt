@@ -1,6 +1,6 @@
 //! The table itself: entries, of which the empty ones form a list.
 
-ghost use Rattle.std.specs.Prelude.{◌≡◌, ◌≢◌, ◌↔◌, ℕ, ◌+◌, ◌-◌, ◌<◌, ◌≤◌, ◌^◌, [], ◌∷◌, ◌++◌, map, length, None, Some, Contains, IsOk, IsSome, IfOk, OnOk, OnErr, IsErrOf, IsOkUnless, IsSomeAnd, slice_get, slice_index_or, slice_set};
+ghost use Rattle.std.specs.Prelude.{◌≡◌, ◌≢◌, ◌↔◌, ℕ, ◌+◌, ◌-◌, ◌<◌, ◌≤◌, ◌^◌, [], ◌∷◌, ◌++◌, map, length, None, Some, Contains, IsOk, IsSome, IfOk, IfSome, OnOk, OnErr, IsErrOf, IsOkUnless, IsSomeAnd, slice_get, slice_index_or, slice_set};
 ghost use Rattle.std.specs.Option.{ForSome};
 ghost use Rattle.cm_handles.specs.Handles.{of_resource};
 ghost use Rattle.cm_handles.specs.Entries.{slot_of};
@@ -71,7 +71,9 @@ fn look(entries: &[Entry], index: u32, resource: ResourceId) -> Result<Handle, H
 }
 
 impl Table {
-    ghost use Rattle.cm_handles.specs.Handles.{no_handles, handle_at, next_index, indices_left, held, if_not_lent, if_owned, added, released, restored, lent, unlent, closed, with_lends, Handles, IsSoundTable, Changes};
+    ghost use Rattle.cm_handles.specs.Handles.{no_handles, handle_at, next_index, indices_left, held, if_not_lent, if_owned, added, released, restored, lent, unlent, closed, closed_slot, with_lends, Handles, IsSoundTable, Changes};
+
+    ghost use Rattle.cm_handles.specs.Entries.{closed_at};
 
     /// An empty table. It takes no memory before the first handle is added, and then from `alloc`.
     pub fn new(alloc: Global) -> Self
@@ -267,5 +269,58 @@ impl Table {
         let lends = handle.lends + 1;
         self.write(index, Handle { lends, ..handle });
         Ok(handle)
+    }
+
+    /// Ends one lend of the handle at `index`, which is lent.
+    pub fn unlend(&mut self, index: u32)
+        requires { IsSomeAnd (handle_at self.old.handles index) (λ handle. 0 < handle.lends) }
+        ensures handles { self.new.handles ≡ unlent self.old.handles index }
+        ensures changes { IfSome (handle_at self.old.handles index) (λ handle. Changes self.old.handles self.new.handles index (Some (with_lends (handle.lends - 1) handle))) }
+        ensures room { self.new.room ≡ self.old.room }
+        ensures sound { IsSoundTable self.new }
+    {
+        let handle = self.handle(index);
+        let lends = handle.lends - 1;
+        self.write(index, Handle { lends, ..handle });
+    }
+
+    /// The handle at an index.
+    fn handle(&self, index: u32) -> Handle
+        requires { IsSome (handle_at self.now.handles index) }
+        ensures { handle_at self.now.handles index ≡ Some result }
+    {
+        match self.entries[index as usize - 1] {
+            Entry::Used(handle) => handle,
+            Entry::Free(_) => unreachable!(),
+        }
+    }
+
+    /// Ends all lends and removes the borrows, the one at the least index first. Their indices are freed.
+    pub fn close(&mut self)
+        ensures handles { self.new.handles ≡ closed self.old.handles }
+        ensures at_each { (index : ℕ) → handle_at self.new.handles index ≡ closed_slot (handle_at self.old.handles index) }
+        ensures room { self.new.room + length self.old.handles.freed ≡ self.old.room + length self.new.handles.freed }
+        ensures sound { IsSoundTable self.new }
+    {
+        for at in 0..self.entries.len() {
+            self.close_handle(at as u32 + 1);
+        }
+    }
+
+    /// Ends the lends of the handle at an index, or removes it where it is a borrow.
+    fn close_handle(&mut self, index: u32)
+        requires positive { 0 < index }
+        requires within { index < length self.old.handles.slots }
+        ensures handles { self.new.handles ≡ closed_at self.old.handles index (handle_at self.old.handles index) }
+        ensures room { self.new.room + length self.old.handles.freed ≡ self.old.room + length self.new.handles.freed }
+        ensures sound { IsSoundTable self.new }
+    {
+        let Entry::Used(handle) = self.entries[index as usize - 1] else {
+            return;
+        };
+        match handle.kind {
+            HandleKind::Owned => self.write(index, Handle { lends: 0, ..handle }),
+            HandleKind::Borrowed { .. } => self.release(index),
+        }
     }
 }

@@ -1,5 +1,5 @@
-use Rattle.std.proofs.Common.{◌≡◌, ◌∙◌, ◌<◌, ap, sym, subst, arith, slice_get, Some}
-use Rattle.cm_handles.specs.Handles.{TableState, Changes, next_index, handle_at, indices_left, IsSound}
+use Rattle.std.proofs.Common.{◌∙◌, ap, sym, subst, arith, Some}
+use Rattle.cm_handles.specs.Handles.{TableState, Changes, handle_at, IsSound}
 use Rattle.cm_handles.proofs.LinkedEntries.{length-thread}
 use Rattle.cm_handles.proofs.TableSteps.{freed_first, next-freed, added-freed, left_of, freed_within, no_elements}
 use Rattle.cm_handles.proofs.table.Table.add.Goals as goal

@@ -1,7 +1,7 @@
-use Rattle.std.proofs.Common.{◌≡◌, ◌<◌, ◌+◌, ◌∙◌, ◌++◌, ◌∷◌, [], ℕ, min, ap, sym, subst, arith, length, Some}
+use Rattle.std.proofs.Common.{◌∙◌, ◌++◌, ◌∷◌, [], ap, sym, subst, arith, length, Some}
 use Rattle.std.proofs.lemmas.List.{length-map}
 use Rattle.cm_handles.specs.declared.table.Entry.TheVariants.{Used}
-use Rattle.cm_handles.specs.Handles.{TableState, IsSoundTable, greatest_index, Changes, next_index}
+use Rattle.cm_handles.specs.Handles.{TableState, IsSoundTable, Changes, next_index}
 use Rattle.cm_handles.specs.Entries.{IsLinked, slot_of}
 use Rattle.cm_handles.proofs.TableSteps.{pushed_step, room_after, sound_table, next-pushed, Changes-pushed, vacant-pushed}
 use Rattle.cm_handles.proofs.table.Table.append.Goals as goal

@@ -1,5 +1,5 @@
-use Rattle.std.proofs.Common.{sym, subst, ap}
-use Rattle.cm_handles.specs.Entries.{IsLinked, handles_of}
+use Rattle.std.proofs.Common.{sym, subst}
+use Rattle.cm_handles.specs.Entries.{IsLinked}
 use Rattle.cm_handles.proofs.LinkedEntries.{linked_none, handles-none}
 use Rattle.cm_handles.proofs.TableSteps.{sound_table}
 use Rattle.cm_handles.proofs.table.Table.new.Goals as goal

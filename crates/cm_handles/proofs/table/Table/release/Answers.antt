@@ -1,5 +1,3 @@
-use Rattle.std.proofs.Common.{◌-◌, set}
-use Rattle.cm_handles.specs.declared.table.Entry.TheVariants.{Free}
 use Rattle.cm_handles.proofs.TableSteps.{released_step, sound_table}
 use Rattle.cm_handles.proofs.table.Table.release.Goals as goal
 

@@ -1,5 +1,5 @@
-use Rattle.std.proofs.Common.{◌≡◌, ◌∙◌, ◌<◌, ◌≤◌, ap, sym, subst, arith, refl}
-use Rattle.cm_handles.specs.Handles.{TableState, IsSoundTable, indices_left}
+use Rattle.std.proofs.Common.{sym, subst, arith, refl}
+use Rattle.cm_handles.specs.Handles.{IsSoundTable}
 use Rattle.cm_handles.specs.Entries.{IsLinked}
 use Rattle.cm_handles.proofs.TableSteps.{left_of, sound_table}
 use Rattle.cm_handles.proofs.table.Table.reserve.Goals as goal

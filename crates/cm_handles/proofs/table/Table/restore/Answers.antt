@@ -1,6 +1,6 @@
-use Rattle.std.proofs.Common.{◌≡◌, ◌-◌, ◌∙◌, ap, subst, sym, arith, Some, slice_get, get_or, length-set}
+use Rattle.std.proofs.Common.{◌-◌, ◌∙◌, ap, subst, sym, arith, Some, length-set}
 use Rattle.cm_handles.specs.declared.table.Entry.TheVariants.{Used}
-use Rattle.cm_handles.specs.Handles.{TableState, IsSound, Handles, Changes, restored, released}
+use Rattle.cm_handles.specs.Handles.{TableState, IsSound, Changes, restored}
 use Rattle.cm_handles.proofs.TableSteps.{freed_entry, freed_read, not_used, restored_step, sound_table, Changes-restored, restored-released}
 use Rattle.cm_handles.proofs.table.Table.restore.Goals as goal
 
