@@ -71,7 +71,7 @@ fn look(entries: &[Entry], index: u32, resource: ResourceId) -> Result<Handle, H
 }
 
 impl Table {
-    ghost use Rattle.cm_handles.specs.Handles.{no_handles, handle_at, next_index, indices_left, held, if_not_lent, if_owned, added, released, restored, lent, unlent, closed, closed_slot, with_lends, Handles, IsSoundTable, Changes};
+    ghost use Rattle.cm_handles.specs.Handles.{no_handles, handle_at, next_index, indices_left, greatest_index, held, if_not_lent, if_owned, added, released, restored, lent, unlent, closed, closed_slot, with_lends, Handles, IsSoundTable, Changes};
 
     ghost use Rattle.cm_handles.specs.Entries.{closed_at};
 
@@ -91,6 +91,8 @@ impl Table {
     /// The handle at `index`, which is to be of `resource`.
     pub fn get(&self, index: u32, resource: ResourceId) -> Result<Handle, HandleFault>
         ensures answer { result ≡ held self.now.handles index resource }
+        ensures found { IfOk result (λ handle. (handle_at self.now.handles index ≡ Some handle) × (handle.resource ≡ resource)) }
+        ensures no_handle { IsErrOf result HandleFault.NoHandle ↔ (handle_at self.now.handles index ≡ None) }
         ensures sound { IsSoundTable self.now }
     {
         look(&self.entries, index, resource)
@@ -102,7 +104,7 @@ impl Table {
     /// and no more was to be had. No memory is taken while an index is freed or room is reserved.
     pub fn add(&mut self, handle: Handle) -> Result<u32, HandleFault>
         ensures index { IfOk result (λ index. index ≡ next_index self.old.handles) }
-        ensures in_range { IfOk result (λ index. (0 < index) × (index ≤ 65535)) }
+        ensures in_range { IfOk result (λ index. (0 < index) × (index ≤ greatest_index)) }
         ensures handles { OnOk result (self.new.handles ≡ added self.old.handles handle) }
         ensures changes { OnOk result (Changes self.old.handles self.new.handles (next_index self.old.handles) (Some handle)) }
         ensures was_vacant { OnOk result (handle_at self.old.handles (next_index self.old.handles) ≡ None) }
@@ -131,7 +133,7 @@ impl Table {
     fn append(&mut self, handle: Handle) -> Result<u32, HandleFault>
         requires { self.old.handles.freed ≡ [] }
         ensures index { IfOk result (λ index. index ≡ next_index self.old.handles) }
-        ensures in_range { IfOk result (λ index. (0 < index) × (index ≤ 65535)) }
+        ensures in_range { IfOk result (λ index. (0 < index) × (index ≤ greatest_index)) }
         ensures handles { OnOk result (self.new.handles ≡ added self.old.handles handle) }
         ensures changes { OnOk result (Changes self.old.handles self.new.handles (next_index self.old.handles) (Some handle)) }
         ensures was_vacant { OnOk result (handle_at self.old.handles (next_index self.old.handles) ≡ None) }
@@ -220,6 +222,7 @@ impl Table {
     /// Removes the handle at `index`, which is to be of `resource` and not lent. Its index is freed.
     pub fn drop_handle(&mut self, index: u32, resource: ResourceId) -> Result<Handle, HandleFault>
         ensures answer { result ≡ if_not_lent (held self.old.handles index resource) }
+        ensures found { IfOk result (λ handle. (handle_at self.old.handles index ≡ Some handle) × (handle.resource ≡ resource) × (handle.lends ≡ 0)) }
         ensures handles { OnOk result (self.new.handles ≡ released self.old.handles index) }
         ensures changes { OnOk result (Changes self.old.handles self.new.handles index None) }
         ensures room { OnOk result (self.new.room ≡ self.old.room + 1) }
@@ -237,6 +240,7 @@ impl Table {
     /// Removes the owned handle at `index`, which is to be of `resource` and not lent. Its index is freed.
     pub fn take_own(&mut self, index: u32, resource: ResourceId) -> Result<Handle, HandleFault>
         ensures answer { result ≡ if_owned (if_not_lent (held self.old.handles index resource)) }
+        ensures found { IfOk result (λ handle. (handle_at self.old.handles index ≡ Some handle) × (handle.resource ≡ resource) × (handle.lends ≡ 0) × (handle.kind ≡ HandleKind.Owned)) }
         ensures handles { OnOk result (self.new.handles ≡ released self.old.handles index) }
         ensures changes { OnOk result (Changes self.old.handles self.new.handles index None) }
         ensures room { OnOk result (self.new.room ≡ self.old.room + 1) }
@@ -259,6 +263,7 @@ impl Table {
     pub fn lend(&mut self, index: u32, resource: ResourceId) -> Result<Handle, HandleFault>
         requires { ForSome (handle_at self.old.handles index) (λ handle. handle.lends < 2 ^ 101) }
         ensures answer { result ≡ held self.old.handles index resource }
+        ensures found { IfOk result (λ handle. (handle_at self.old.handles index ≡ Some handle) × (handle.resource ≡ resource)) }
         ensures handles { OnOk result (self.new.handles ≡ lent self.old.handles index) }
         ensures changes { IfOk result (λ handle. Changes self.old.handles self.new.handles index (Some (with_lends (handle.lends + 1) handle))) }
         ensures room { self.new.room ≡ self.old.room }
