@@ -1,10 +1,9 @@
 -- A table is closed one index after another.
-use Rattle.std.proofs.Common.{◌≡◌, ℕ, zero, suc, ◌+◌, ◌-◌, ◌<◌, ◌≤◌, Bool, true, false, cond, List, [], ◌∷◌, ◌++◌, length, map, get_or, set, take, drop, Option, Some, None, refl, sym, ap, ◌∙◌, subst, arith, append_assoc, add-zero, inl, inr}
-use Rattle.std.specs.Prelude.{reverse, IsSome}
+use Rattle.std.proofs.Common.{◌≡◌, ℕ, suc, ◌+◌, ◌<◌, Bool, true, false, cond, List, [], ◌∷◌, ◌++◌, length, map, get_or, set, take, drop, Option, Some, None, refl, sym, ap, ◌∙◌, subst, arith, append_assoc, add-zero, inl, inr}
+use Rattle.std.specs.Prelude.{reverse}
 use Rattle.std.proofs.lemmas.List.{length-map, map_more, set_at, set-get_or, take_more, drop_more, reverse-append, append-nil, take_all, drop_all, length-take-le, get_or_at, get_or-map, get_or_past}
 use Rattle.std.proofs.lemmas.Bool.{cases_lt}
 use Rattle.cm_handles.specs.declared.handle.Handle.{Handle}
-use Rattle.cm_handles.specs.declared.handle.HandleKind.{HandleKind}
 use Rattle.cm_handles.specs.declared.handle.HandleKind.TheVariants.{Owned, Borrowed}
 use Rattle.cm_handles.specs.Handles.{Handles, handle_at, IsSound, released, is_borrow, with_lends, closed_slot, borrows_from, closed, TableState, IsSoundTable}
 use Rattle.cm_handles.specs.Entries.{closed_at}
@@ -47,8 +46,8 @@ borrows_more slots k within =
 
 -- what is closed is a handle, of which b says whether it is a borrow
 closing_handle : (b : Bool) (old t : Handles) (k n : ℕ) (x : Handle) (before : List ℕ) → set t.slots k (cond b None (Some x)) ≡ map closed_slot (take n old.slots) ++ drop n old.slots
-  → borrows_from 0 (take n old.slots) ≡ before ++ cond b (k ∷ []) [] → t.freed ≡ reverse before ++ old.freed
-  → IsClosing old (cond b (released t k) (record { slots = set t.slots k (Some x); freed = t.freed })) n
+    → borrows_from 0 (take n old.slots) ≡ before ++ cond b (k ∷ []) [] → t.freed ≡ reverse before ++ old.freed
+    → IsClosing old (cond b (released t k) (record { slots = set t.slots k (Some x); freed = t.freed })) n
 closing_handle true old t k n x before slots borrows freed =
     record {
       slots = slots;
@@ -64,7 +63,7 @@ closing_slot : (old t : Handles) (k : ℕ) (o : Option Handle) → k < length ol
 closing_slot old t k None within was is closing =
     record {
       slots = sym (ap (λ o. set t.slots k o) (sym is) ∙ set-get_or t.slots k None)
-        ∙ (ap (λ xs. set xs k None) closing.slots ∙ subst (λ o. set (map closed_slot (take k old.slots) ++ drop k old.slots) k (closed_slot o) ≡ map closed_slot (take (k + 1) old.slots) ++ drop (k + 1) old.slots) was (slots_more old.slots k within));
+          ∙ (ap (λ xs. set xs k None) closing.slots ∙ subst (λ o. set (map closed_slot (take k old.slots) ++ drop k old.slots) k (closed_slot o) ≡ map closed_slot (take (k + 1) old.slots) ++ drop (k + 1) old.slots) was (slots_more old.slots k within));
       freed = closing.freed ∙ ap (λ xs. reverse xs ++ old.freed) (sym (subst (λ o. borrows_from 0 (take (k + 1) old.slots) ≡ borrows_from 0 (take k old.slots) ++ borrows_from k (o ∷ [])) was (borrows_more old.slots k within) ∙ append-nil (borrows_from 0 (take k old.slots))));
     }
 closing_slot old t k (Some h) within was is closing =
@@ -104,8 +103,8 @@ closing_end old t k end closing =
 pub closed-at_each : (t : Handles) (i : ℕ) → handle_at (closed t) i ≡ closed_slot (handle_at t i)
 closed-at_each t i =
     elim (cases_lt i (length t.slots)) [
-      inl below ↦ get_or-map closed_slot t.slots i None None below
-    | inr past ↦ get_or_past (map closed_slot t.slots) i None (omega (arith, length-map t.slots closed_slot)) ∙ ap closed_slot (sym (get_or_past t.slots i None past))
+      | inl below ↦ get_or-map closed_slot t.slots i None None below
+      | inr past ↦ get_or_past (map closed_slot t.slots) i None (omega (arith, length-map t.slots closed_slot)) ∙ ap closed_slot (sym (get_or_past t.slots i None past))
     ]
 
 -- a handle that is closed, by its kind

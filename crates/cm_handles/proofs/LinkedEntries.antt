@@ -1,10 +1,10 @@
 -- How the entries of a table give its handles, and what a write to one of them leaves.
-use Rattle.std.proofs.Common.{◌≡◌, ℕ, zero, suc, ◌+◌, ◌-◌, ◌<◌, ◌≤◌, Bool, true, false, cond, List, [], ◌∷◌, ◌++◌, length, map, get_or, set, drop, Option, Some, None, slice_get, count_by, refl, sym, ap, ◌∙◌, subst, arith, length-set, sub-one, inl, inr}
+use Rattle.std.proofs.Common.{◌≡◌, ℕ, zero, suc, ◌+◌, ◌-◌, ◌<◌, ◌≤◌, cond, List, [], ◌∷◌, ◌++◌, length, map, get_or, set, drop, Option, Some, None, slice_get, count_by, refl, sym, ap, ◌∙◌, subst, arith}
 use Rattle.std.specs.Prelude.{Contains}
 use Rattle.std.specs.Option.{option_and_then}
-use Rattle.std.proofs.lemmas.List.{length-map, map-set, map_push, get_or-map, get_or-set_same, length_push}
+use Rattle.std.proofs.lemmas.List.{length-map, map-set, map_push}
 use Rattle.std.proofs.lemmas.List.Sums.{sum_by-set, sum_by_push, count_by-le-length}
-use Rattle.std.proofs.lemmas.Option.{slice_get-get_or, get_or_from_slice_get, slice_get_within, none-some, same_Some}
+use Rattle.std.proofs.lemmas.Option.{get_or_from_slice_get, slice_get_within, none-some, same_Some}
 use Rattle.cm_handles.specs.declared.handle.Handle.{Handle}
 use Rattle.cm_handles.specs.declared.table.Entry.{Entry}
 use Rattle.cm_handles.specs.declared.table.Entry.TheVariants.{Free, Used}

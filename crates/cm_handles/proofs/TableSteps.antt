@@ -1,5 +1,5 @@
 -- What a change of the entries makes of a table, where only its view is known.
-use Rattle.std.proofs.Common.{◌≡◌, ℕ, zero, suc, ◌+◌, ◌-◌, ◌<◌, ◌≤◌, min, List, [], ◌∷◌, ◌++◌, length, map, get_or, set, drop, Option, Some, None, slice_get, refl, sym, ap, ◌∙◌, subst, arith, length-set, inl, inr}
+use Rattle.std.proofs.Common.{◌≡◌, ℕ, zero, suc, ◌+◌, ◌-◌, ◌<◌, ◌≤◌, min, List, [], ◌∷◌, ◌++◌, length, get_or, set, Option, Some, None, slice_get, refl, sym, ap, ◌∙◌, subst, arith, inl, inr}
 use Rattle.std.specs.Prelude.{IsSome}
 use Rattle.std.proofs.lemmas.List.{length-map, get_or-set_same, get_or-set_other, set-set, set-get_or, get_or_push, get_or_append_left, get_or_past, length_push}
 use Rattle.std.proofs.lemmas.Bool.{false≢true, cases_lt}
@@ -11,7 +11,7 @@ use Rattle.cm_handles.specs.Handles.{Handles, TableState, handle_at, IsSound, Is
 use Rattle.cm_handles.specs.Entries.{slot_of, thread, handles_of, room_of, IsLinked}
 use Rattle.cm_handles.proofs.SoundHandles.{positive_index, within_slots}
 use Rattle.std.specs.Option.{option_and_then}
-use Rattle.cm_handles.proofs.LinkedEntries.{slot-entry, linked_released, linked_written, linked_restored, linked_pushed, free_bound, length-thread, threaded_first}
+use Rattle.cm_handles.proofs.LinkedEntries.{slot-entry, linked_released, linked_written, linked_restored, linked_pushed, length-thread, threaded_first}
 
 -- the table of these entries
 abbrev pub table_of : List Entry → ℕ → ℕ → ℕ → TableState

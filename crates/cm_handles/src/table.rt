@@ -72,7 +72,6 @@ fn look(entries: &[Entry], index: u32, resource: ResourceId) -> Result<Handle, H
 
 impl Table {
     ghost use Rattle.cm_handles.specs.Handles.{no_handles, handle_at, next_index, indices_left, greatest_index, held, if_not_lent, if_owned, added, released, restored, lent, unlent, closed, closed_slot, with_lends, Handles, IsSoundTable, Changes};
-
     ghost use Rattle.cm_handles.specs.Entries.{closed_at};
 
     /// An empty table. It takes no memory before the first handle is added, and then from `alloc`.

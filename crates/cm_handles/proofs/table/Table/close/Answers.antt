@@ -1,7 +1,7 @@
-use Rattle.std.proofs.Common.{◌≡◌, ◌∙◌, ◌+◌, ◌<◌, ap, sym, subst, arith, length, refl}
-use Rattle.cm_handles.specs.Handles.{TableState, IsSound, IsSoundTable, handle_at, closed}
+use Rattle.std.proofs.Common.{◌∙◌, ◌+◌, ap, sym, subst, arith, refl}
+use Rattle.cm_handles.specs.Handles.{IsSoundTable, handle_at}
 use Rattle.cm_handles.proofs.TableSteps.{slots_length, sound_table}
-use Rattle.cm_handles.proofs.ClosingTable.{IsClosing, IsClosingTable, closing_start, closing_step, closing_end, closed-at_each}
+use Rattle.cm_handles.proofs.ClosingTable.{IsClosing, closing_start, closing_step, closing_end, closed-at_each}
 use Rattle.cm_handles.proofs.table.Table.close.Goals as goal
 
 pub loop-at-init : goal.loop-at-init
