@@ -218,6 +218,19 @@ impl Table {
         self.entries[index as usize - 1] = Entry::Used(handle);
     }
 
+    /// The handle at an index, which is to be of a resource and not lent.
+    fn not_lent(&self, index: u32, resource: ResourceId) -> Result<Handle, HandleFault>
+        ensures answer { result ≡ if_not_lent (held self.now.handles index resource) }
+        ensures found { IfOk result (λ handle. (handle_at self.now.handles index ≡ Some handle) × (handle.resource ≡ resource) × (handle.lends ≡ 0)) }
+        ensures sound { IsSoundTable self.now }
+    {
+        let handle = self.get(index, resource)?;
+        if handle.lends > 0 {
+            return Err(HandleFault::StillLent);
+        }
+        Ok(handle)
+    }
+
     /// Removes the handle at `index`, which is to be of `resource` and not lent. Its index is freed.
     pub fn drop_handle(&mut self, index: u32, resource: ResourceId) -> Result<Handle, HandleFault>
         ensures answer { result ≡ if_not_lent (held self.old.handles index resource) }
@@ -228,12 +241,9 @@ impl Table {
         ensures err { OnErr result (self.new ≡ self.old) }
         ensures sound { IsSoundTable self.new }
     {
-        let handle = self.get(index, resource)?;
-        if handle.lends > 0 {
-            return Err(HandleFault::StillLent);
-        }
+        let dropped = self.not_lent(index, resource)?;
         self.release(index);
-        Ok(handle)
+        Ok(dropped)
     }
 
     /// Removes the owned handle at `index`, which is to be of `resource` and not lent. Its index is freed.
@@ -246,15 +256,12 @@ impl Table {
         ensures err { OnErr result (self.new ≡ self.old) }
         ensures sound { IsSoundTable self.new }
     {
-        let handle = self.get(index, resource)?;
-        if handle.lends > 0 {
-            return Err(HandleFault::StillLent);
-        }
-        if let HandleKind::Borrowed { .. } = handle.kind {
+        let taken = self.not_lent(index, resource)?;
+        if let HandleKind::Borrowed { .. } = taken.kind {
             return Err(HandleFault::NotOwned);
         }
         self.release(index);
-        Ok(handle)
+        Ok(taken)
     }
 
     /// Lends the handle at `index`, which is to be of `resource`, to one more call. The answer is the
