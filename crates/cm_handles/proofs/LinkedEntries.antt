@@ -7,7 +7,7 @@ use Rattle.std.proofs.lemmas.List.Sums.{sum_by-set, sum_by_push, count_by-le-len
 use Rattle.std.proofs.lemmas.Option.{get_or_from_slice_get, slice_get_within, none-some, same_Some}
 use Rattle.cm_handles.specs.declared.handle.Handle.{Handle}
 use Rattle.cm_handles.specs.declared.table.Entry.{Entry}
-use Rattle.cm_handles.specs.declared.table.Entry.TheVariants.{Free, Used}
+use Rattle.cm_handles.specs.declared.table.Entry.TheVariants.{Free, Owned, Borrowed}
 use Rattle.cm_handles.specs.Handles.{Handles, no_handles, handle_at, IsSound, greatest_index, released, restored, added}
 use Rattle.cm_handles.specs.Entries.{slot_of, is_free, next_of, thread, Threads, handles_of, IsLinked}
 use Rattle.cm_handles.proofs.SoundHandles.{IsSound-released, IsSound-reused, IsSound-pushed, IsSound-written, Contains-first, Contains-rest, positive_index, IsSound-none}
@@ -17,10 +17,9 @@ slot-entry_at [] k = refl
 slot-entry_at (x ∷ es) zero = refl
 slot-entry_at (x ∷ es) (suc k) = slot-entry_at es k
 
-Used_by : (o : Option Entry) (h : Handle) → option_and_then slot_of o ≡ Some h → o ≡ Some (Used h)
-Used_by None h e = absurd (none-some h e)
-Used_by (Some (Free next)) h e = absurd (none-some h e)
-Used_by (Some (Used k)) h e = ap (λ x. Some (Used x)) (same_Some k h e)
+entry_by_slot : (o : Option Entry) (h : Handle) → option_and_then slot_of o ≡ Some h → (e : Entry) × (o ≡ Some e) × (slot_of e ≡ Some h)
+entry_by_slot None h is = absurd (none-some h is)
+entry_by_slot (Some e) h is = (e, refl, is)
 
 -- the slot of an index is that of the entry before it
 pub slot-entry : (es : List Entry) (i : ℕ) → 0 < i → get_or (None ∷ map slot_of es) i None ≡ option_and_then slot_of (slice_get es (i - 1))
@@ -28,8 +27,14 @@ slot-entry es zero positive = absurd (omega arith)
 slot-entry es (suc k) positive = let e : suc k - 1 ≡ k = omega arith in rw e (slot-entry_at es k)
 
 -- the entry of a handle
-pub Used-from_slot : (es : List Entry) (i : ℕ) (h : Handle) → 0 < i → get_or (None ∷ map slot_of es) i None ≡ Some h → slice_get es (i - 1) ≡ Some (Used h)
-Used-from_slot es i h positive stands = Used_by (slice_get es (i - 1)) h (sym (slot-entry es i positive) ∙ stands)
+pub entry-from_slot : (es : List Entry) (i : ℕ) (h : Handle) → 0 < i → get_or (None ∷ map slot_of es) i None ≡ Some h → (e : Entry) × (slice_get es (i - 1) ≡ Some e) × (slot_of e ≡ Some h)
+entry-from_slot es i h positive stands = entry_by_slot (slice_get es (i - 1)) h (sym (slot-entry es i positive) ∙ stands)
+
+-- an entry that has a handle is not empty
+is_free-used : (e : Entry) (h : Handle) → slot_of e ≡ Some h → ◌≡◌ {A = ℕ} (cond (is_free e) 1 0) 0
+is_free-used (Free next) h is = absurd (none-some h is)
+is_free-used (Owned rep resource lends serial) h is = refl
+is_free-used (Borrowed rep resource lends serial call) h is = refl
 
 -- the slots after a write to the entry of an index
 pub slots-set : (es : List Entry) (i : ℕ) (e : Entry) → 0 < i → None ∷ map slot_of (set es (i - 1) e) ≡ set (None ∷ map slot_of es) i (slot_of e)
@@ -98,8 +103,8 @@ pub linked_released : (es : List Entry) (first free i : ℕ) (h : Handle) → Is
 linked_released es first free i h linked stands =
     let t = handles_of es first free in
     let positive : 0 < i = positive_index t i h linked.sound stands in
-    let used : slice_get es (i - 1) ≡ Some (Used h) = Used-from_slot es i h positive stands in
-    let within : i - 1 < length es = slice_get_within es (i - 1) (Used h) used in
+    let used = entry-from_slot es i h positive stands in
+    let within : i - 1 < length es = slice_get_within es (i - 1) used.0 used.1 in
     let out : Contains t.freed i → ⊥ = λ c. none-some h (sym ((linked.sound.freed i).0 c).2 ∙ stands) in
     let slots : None ∷ map slot_of (set es (i - 1) (Free first)) ≡ set t.slots i None = slots-set es i (Free first) positive in
     let threads : Threads (set es (i - 1) (Free first)) i (i ∷ t.freed) =
@@ -107,24 +112,24 @@ linked_released es first free i h linked stands =
     let sound = IsSound-released t i h stands linked.sound in
     let whole = linked_from (set es (i - 1) (Free first)) i (free + 1) (i ∷ t.freed) threads
     (omega (arith, length-thread free es first))
-    (omega (arith, count-set es (i - 1) (Free first) (Used h) used, linked.counted))
+    (omega (arith, count-set es (i - 1) (Free first) used.0 used.1, is_free-used used.0 h used.2, linked.counted))
     (subst (λ xs. IsSound (record { slots = xs; freed = i ∷ t.freed })) (sym slots) sound) in
     (whole.0, whole.1 ∙ (let make : List (Option Handle) → Handles = λ xs. record { slots = xs; freed = i ∷ t.freed } in ap make slots))
 
 -- the entry of a handle takes another handle
-pub linked_written : (es : List Entry) (first free i : ℕ) (h k : Handle) → IsLinked es first free → handle_at (handles_of es first free) i ≡ Some h
-    → IsLinked (set es (i - 1) (Used k)) first free × (handles_of (set es (i - 1) (Used k)) first free ≡ record { slots = set (handles_of es first free).slots i (Some k); freed = thread free es first })
-linked_written es first free i h k linked stands =
+pub linked_written : (es : List Entry) (first free i : ℕ) (h k : Handle) (e : Entry) → slot_of e ≡ Some k → IsLinked es first free → handle_at (handles_of es first free) i ≡ Some h
+    → IsLinked (set es (i - 1) e) first free × (handles_of (set es (i - 1) e) first free ≡ record { slots = set (handles_of es first free).slots i (Some k); freed = thread free es first })
+linked_written es first free i h k e is linked stands =
     let t = handles_of es first free in
     let positive : 0 < i = positive_index t i h linked.sound stands in
-    let used : slice_get es (i - 1) ≡ Some (Used h) = Used-from_slot es i h positive stands in
+    let used = entry-from_slot es i h positive stands in
     let out : Contains t.freed i → ⊥ = λ c. none-some h (sym ((linked.sound.freed i).0 c).2 ∙ stands) in
-    let slots : None ∷ map slot_of (set es (i - 1) (Used k)) ≡ set t.slots i (Some k) = slots-set es i (Used k) positive in
+    let slots : None ∷ map slot_of (set es (i - 1) e) ≡ set t.slots i (Some k) = slots-set es i e positive ∙ ap (λ o. set t.slots i o) is in
     let sound = IsSound-written t i h k stands linked.sound in
-    let whole = linked_from (set es (i - 1) (Used k)) first free t.freed
-    (Threads-set es i (Used k) first t.freed positive out linked.threads)
+    let whole = linked_from (set es (i - 1) e) first free t.freed
+    (Threads-set es i e first t.freed positive out linked.threads)
     (omega (arith, length-thread free es first))
-    (omega (arith, count-set es (i - 1) (Used k) (Used h) used, linked.counted))
+    (omega (arith, count-set es (i - 1) e used.0 used.1, is_free-used used.0 h used.2, is_free-used e k is, linked.counted))
     (subst (λ xs. IsSound (record { slots = xs; freed = t.freed })) (sym slots) sound) in
     (whole.0, whole.1 ∙ (let make : List (Option Handle) → Handles = λ xs. record { slots = xs; freed = t.freed } in ap make slots))
 
@@ -141,32 +146,32 @@ same_next : (o : Option Entry) (n m : ℕ) → o ≡ Some (Free n) → o ≡ Som
 same_next o n m a b = cc
 
 -- the entry of the index freed last takes a handle, and the list goes on at the index that it held
-pub linked_restored : (es : List Entry) (first free f next : ℕ) (h : Handle) → IsLinked es first free → slice_get (thread free es first) 0 ≡ Some f → slice_get es (f - 1) ≡ Some (Free next)
-    → IsLinked (set es (f - 1) (Used h)) next (free - 1) × (handles_of (set es (f - 1) (Used h)) next (free - 1) ≡ restored (handles_of es first free) f h)
-linked_restored es first free f next h linked freed entry =
+pub linked_restored : (es : List Entry) (first free f next : ℕ) (h : Handle) (e : Entry) → slot_of e ≡ Some h → IsLinked es first free → slice_get (thread free es first) 0 ≡ Some f → slice_get es (f - 1) ≡ Some (Free next)
+    → IsLinked (set es (f - 1) e) next (free - 1) × (handles_of (set es (f - 1) e) next (free - 1) ≡ restored (handles_of es first free) f h)
+linked_restored es first free f next h e is linked freed entry =
     let t = handles_of es first free in
     let fs : List ℕ = drop 1 t.freed in
     let list : t.freed ≡ f ∷ fs = first-drop t.freed f freed in
     let threads = threaded_first es first free f linked freed in
     let rest : Threads es next fs = subst (λ n. Threads es n fs) (same_next (slice_get es (f - 1)) threads.2 next threads.3 entry) threads.4 in
     let sound : IsSound (record { slots = t.slots; freed = f ∷ fs }) = subst (λ xs. IsSound (record { slots = t.slots; freed = xs })) list linked.sound in
-    let slots : None ∷ map slot_of (set es (f - 1) (Used h)) ≡ set t.slots f (Some h) = slots-set es f (Used h) threads.1 in
+    let slots : None ∷ map slot_of (set es (f - 1) e) ≡ set t.slots f (Some h) = slots-set es f e threads.1 ∙ ap (λ o. set t.slots f o) is in
     let long : length t.freed ≡ suc (length fs) = ap length list in
-    let whole = linked_from (set es (f - 1) (Used h)) next (free - 1) fs
-    (Threads-set es f (Used h) next fs threads.1 sound.once.0 rest)
+    let whole = linked_from (set es (f - 1) e) next (free - 1) fs
+    (Threads-set es f e next fs threads.1 sound.once.0 rest)
     (omega (arith, length-thread free es first, long))
-    (omega (arith, count-set es (f - 1) (Used h) (Free next) entry, linked.counted))
+    (omega (arith, count-set es (f - 1) e (Free next) entry, is_free-used e h is, linked.counted))
     (subst (λ xs. IsSound (record { slots = xs; freed = fs })) (sym slots) (IsSound-reused t.slots f fs h sound)) in
     (whole.0, whole.1 ∙ (let make : List (Option Handle) → Handles = λ xs. record { slots = xs; freed = fs } in ap make slots))
 
 -- one more entry, where none is empty
-pub linked_pushed : (es : List Entry) (first : ℕ) (h : Handle) → IsLinked es first 0 → length es < greatest_index
-    → IsLinked (es ++ Used h ∷ []) first 0 × (handles_of (es ++ Used h ∷ []) first 0 ≡ added (handles_of es first 0) h)
+pub linked_pushed : (es : List Entry) (first : ℕ) (h : Handle) (e : Entry) → slot_of e ≡ Some h → IsLinked es first 0 → length es < greatest_index
+    → IsLinked (es ++ e ∷ []) first 0 × (handles_of (es ++ e ∷ []) first 0 ≡ added (handles_of es first 0) h)
 unfolding thread
-linked_pushed es first h linked room =
-    let slots : None ∷ map slot_of (es ++ Used h ∷ []) ≡ (None ∷ map slot_of es) ++ Some h ∷ [] = ap (λ xs. None ∷ xs) (map_push slot_of es (Used h)) in
-    let whole = linked_from (es ++ Used h ∷ []) first 0 [] tt refl
-    (linked.counted ∙ (omega (arith, sum_by_push (λ x. cond (is_free x) 1 0) es (Used h))))
+linked_pushed es first h e is linked room =
+    let slots : None ∷ map slot_of (es ++ e ∷ []) ≡ (None ∷ map slot_of es) ++ Some h ∷ [] = ap (λ xs. None ∷ xs) (map_push slot_of es e ∙ ap (λ o. map slot_of es ++ o ∷ []) is) in
+    let whole = linked_from (es ++ e ∷ []) first 0 [] tt refl
+    (linked.counted ∙ (omega (arith, sum_by_push (λ x. cond (is_free x) 1 0) es e, is_free-used e h is)))
     (subst (λ xs. IsSound (record { slots = xs; freed = [] })) (sym slots) (IsSound-pushed (None ∷ map slot_of es) h (omega (arith, length-map es slot_of)) linked.sound)) in
     (whole.0, whole.1 ∙ (let make : List (Option Handle) → Handles = λ xs. record { slots = xs; freed = [] } in ap make slots))
 

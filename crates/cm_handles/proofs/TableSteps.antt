@@ -6,7 +6,7 @@ use Rattle.std.proofs.lemmas.Bool.{false≢true, cases_lt}
 use Rattle.std.proofs.lemmas.Option.{slice_get_within, slice_get_read, get_or_from_slice_get, none-some, same_Some}
 use Rattle.cm_handles.specs.declared.handle.Handle.{Handle}
 use Rattle.cm_handles.specs.declared.table.Entry.{Entry}
-use Rattle.cm_handles.specs.declared.table.Entry.TheVariants.{Free, Used}
+use Rattle.cm_handles.specs.declared.table.Entry.TheVariants.{Free}
 use Rattle.cm_handles.specs.Handles.{Handles, TableState, handle_at, IsSound, IsSoundTable, Changes, greatest_index, next_index, indices_left, placed, released, restored, added}
 use Rattle.cm_handles.specs.Entries.{slot_of, thread, handles_of, room_of, IsLinked}
 use Rattle.cm_handles.proofs.SoundHandles.{positive_index, within_slots}
@@ -38,11 +38,11 @@ released_step es first free capacity i old linked view some =
     (step.0, step.1 ∙ ap (λ (s : TableState). released s.handles i) view)
 
 -- the handle of an index is written
-pub written_step : (es : List Entry) (first free capacity i : ℕ) (k : Handle) (old : TableState) → IsLinked es first free → table_of es first free capacity ≡ old → IsSome (handle_at old.handles i)
-    → IsLinked (set es (i - 1) (Used k)) first free × (handles_of (set es (i - 1) (Used k)) first free ≡ record { slots = set old.handles.slots i (Some k); freed = old.handles.freed })
-written_step es first free capacity i k old linked view some =
+pub written_step : (es : List Entry) (first free capacity i : ℕ) (k : Handle) (e : Entry) (old : TableState) → slot_of e ≡ Some k → IsLinked es first free → table_of es first free capacity ≡ old → IsSome (handle_at old.handles i)
+    → IsLinked (set es (i - 1) e) first free × (handles_of (set es (i - 1) e) first free ≡ record { slots = set old.handles.slots i (Some k); freed = old.handles.freed })
+written_step es first free capacity i k e old is linked view some =
     let h = some_value (handle_at old.handles i) some in
-    let step = linked_written es first free i h.0 k linked (ap (λ (s : TableState). handle_at s.handles i) view ∙ h.1) in
+    let step = linked_written es first free i h.0 k e is linked (ap (λ (s : TableState). handle_at s.handles i) view ∙ h.1) in
     let make : TableState → Handles = λ s. record { slots = set s.handles.slots i (Some k); freed = s.handles.freed } in
     (step.0, step.1 ∙ ap make view)
 
@@ -55,11 +55,11 @@ freed_entry es first free capacity f old linked view freed =
     (threads.1, slice_get_within es (f - 1) (Free threads.2) threads.3, omega (arith, length-thread free es first, slice_get_within (thread free es first) 0 f here), threads.2, threads.3)
 
 -- a handle is put at the index freed last
-pub restored_step : (es : List Entry) (first free capacity f next : ℕ) (h : Handle) (old : TableState) → IsLinked es first free → table_of es first free capacity ≡ old → slice_get old.handles.freed 0 ≡ Some f → slice_get es (f - 1) ≡ Some (Free next)
-    → IsLinked (set es (f - 1) (Used h)) next (free - 1) × (handles_of (set es (f - 1) (Used h)) next (free - 1) ≡ restored old.handles f h)
-restored_step es first free capacity f next h old linked view freed entry =
+pub restored_step : (es : List Entry) (first free capacity f next : ℕ) (h : Handle) (e : Entry) (old : TableState) → slot_of e ≡ Some h → IsLinked es first free → table_of es first free capacity ≡ old → slice_get old.handles.freed 0 ≡ Some f → slice_get es (f - 1) ≡ Some (Free next)
+    → IsLinked (set es (f - 1) e) next (free - 1) × (handles_of (set es (f - 1) e) next (free - 1) ≡ restored old.handles f h)
+restored_step es first free capacity f next h e old is linked view freed entry =
     let here : slice_get (thread free es first) 0 ≡ Some f = ap (λ (s : TableState). slice_get s.handles.freed 0) view ∙ freed in
-    let step = linked_restored es first free f next h linked here entry in
+    let step = linked_restored es first free f next h e is linked here entry in
     (step.0, step.1 ∙ ap (λ (s : TableState). restored s.handles f h) view)
 
 -- what was read at the index freed last is an empty entry
@@ -68,11 +68,10 @@ freed_read es first free capacity f x old linked view freed read =
     let here = freed_entry es first free capacity f old linked view freed in
     slice_get_read es (length es) (f - 1) x refl here.1 read
 
-pub not_used : (es : List Entry) (first free capacity f : ℕ) (h : Handle) (x : Entry) (old : TableState) → IsLinked es first free → table_of es first free capacity ≡ old → slice_get old.handles.freed 0 ≡ Some f → x ≡ get_or es (f - 1) x → x ≡ Used h → ⊥
-not_used es first free capacity f h x old linked view freed read used =
+pub freed_empty : (es : List Entry) (first free capacity f : ℕ) (x : Entry) (old : TableState) → IsLinked es first free → table_of es first free capacity ≡ old → slice_get old.handles.freed 0 ≡ Some f → x ≡ get_or es (f - 1) x → (next : ℕ) × (x ≡ Free next)
+freed_empty es first free capacity f x old linked view freed read =
     let here = freed_entry es first free capacity f old linked view freed in
-    let same : Some x ≡ Some (Free here.3) = sym (freed_read es first free capacity f x old linked view freed read) ∙ here.4 in
-    cc
+    (here.3, same_Some x (Free here.3) (sym (freed_read es first free capacity f x old linked view freed read) ∙ here.4))
 
 -- the index freed last is one of the table's
 pub freed_within : (t : Handles) (f : ℕ) → IsSound t → slice_get t.freed 0 ≡ Some f → (0 < f) × (f < length t.slots) × (handle_at t f ≡ None)
@@ -97,15 +96,15 @@ none_free es first free capacity old view freed =
     sym (length-thread free es first) ∙ ap length (ap (λ (s : TableState). s.handles.freed) view ∙ freed)
 
 -- a handle is added where no index is freed
-pub pushed_step : (es more : List Entry) (first free capacity : ℕ) (h : Handle) (old : TableState) → IsLinked es first free → table_of es first free capacity ≡ old → old.handles.freed ≡ [] → length es < greatest_index → more ≡ es ++ Used h ∷ []
+pub pushed_step : (es more : List Entry) (first free capacity : ℕ) (h : Handle) (e : Entry) (old : TableState) → slot_of e ≡ Some h → IsLinked es first free → table_of es first free capacity ≡ old → old.handles.freed ≡ [] → length es < greatest_index → more ≡ es ++ e ∷ []
     → IsLinked more first free × (handles_of more first free ≡ added old.handles h)
-pushed_step es more first free capacity h old linked view freed room grown =
+pushed_step es more first free capacity h e old is linked view freed room grown =
     let zero_free : free ≡ 0 = none_free es first free capacity old view freed in
-    let step = linked_pushed es first h (subst (λ n. IsLinked es first n) zero_free linked) room in
+    let step = linked_pushed es first h e is (subst (λ n. IsLinked es first n) zero_free linked) room in
     let same : handles_of es first 0 ≡ old.handles = ap (λ n. handles_of es first n) (sym zero_free) ∙ ap (λ (s : TableState). s.handles) view in
     let Holds : List Entry → ℕ → Type 0 = λ xs n. IsLinked xs first n × (handles_of xs first n ≡ added old.handles h) in
-    let made : Holds (es ++ Used h ∷ []) 0 = (step.0, step.1 ∙ ap (λ t. added t h) same) in
-    subst (λ xs. Holds xs free) (sym grown) (subst (λ n. Holds (es ++ Used h ∷ []) n) (sym zero_free) made)
+    let made : Holds (es ++ e ∷ []) 0 = (step.0, step.1 ∙ ap (λ t. added t h) same) in
+    subst (λ xs. Holds xs free) (sym grown) (subst (λ n. Holds (es ++ e ∷ []) n) (sym zero_free) made)
 
 -- the room of a table of which no index is freed
 pub room_after : (es : List Entry) (first free capacity : ℕ) (old : TableState) → table_of es first free capacity ≡ old → old.handles.freed ≡ [] → old.room ≡ min greatest_index capacity - length es

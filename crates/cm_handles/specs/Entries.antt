@@ -3,32 +3,36 @@ use Rattle.std.specs.Prelude.{◌≡◌, ℕ, zero, suc, ◌+◌, ◌-◌, ◌<�
 use Rattle.cm_handles.specs.Handles.{Handles, IsSound, greatest_index, released, is_borrow, with_lends}
 use Rattle.cm_handles.specs.declared.handle.Handle.{Handle}
 use Rattle.cm_handles.specs.declared.table.Entry.{Entry}
-use Rattle.cm_handles.specs.declared.table.Entry.TheVariants.{Free, Used}
+use Rattle.cm_handles.specs.declared.table.Entry.TheVariants as entry
+use Rattle.cm_handles.specs.declared.handle.HandleKind.TheVariants as kind
 
 -- The handle of an entry, if it has one.
 abbrev pub slot_of : Entry → Option Handle
-slot_of (Free next) = None
-slot_of (Used handle) = Some handle
+slot_of (entry.Free next) = None
+slot_of (entry.Owned rep resource lends serial) = Some (record { resource = resource; serial = serial; lends = lends; rep = rep; kind = kind.Owned })
+slot_of (entry.Borrowed rep resource lends serial call) = Some (record { resource = resource; serial = serial; lends = lends; rep = rep; kind = kind.Borrowed call })
 
 abbrev pub is_free : Entry → Bool
-is_free (Free next) = true
-is_free (Used handle) = false
+is_free (entry.Free next) = true
+is_free (entry.Owned rep resource lends serial) = false
+is_free (entry.Borrowed rep resource lends serial call) = false
 
 -- The index that an empty entry holds.
 abbrev pub next_of : Entry → ℕ
-next_of (Free next) = next
-next_of (Used handle) = 0
+next_of (entry.Free next) = next
+next_of (entry.Owned rep resource lends serial) = 0
+next_of (entry.Borrowed rep resource lends serial call) = 0
 
 -- The indices that n entries hold one after another, from the first index on; the entry of index k is
 -- the one at k - 1.
 unfoldable pub thread : ℕ → List Entry → ℕ → List ℕ
 thread zero es index = []
-thread (suc n) es index = index ∷ thread n es (next_of (slice_index_or es (index - 1) (Free 0)))
+thread (suc n) es index = index ∷ thread n es (next_of (slice_index_or es (index - 1) (entry.Free 0)))
 
 -- These are the entries from the index on, each of them empty, as each holds the index of the next.
 abbrev pub Threads : List Entry → ℕ → List ℕ → Type 0
 Threads es index [] = Unit {0}
-Threads es index (f ∷ fs) = (index ≡ f) × (0 < f) × (next : ℕ) × (slice_get es (f - 1) ≡ Some (Free next)) × Threads es next fs
+Threads es index (f ∷ fs) = (index ≡ f) × (0 < f) × (next : ℕ) × (slice_get es (f - 1) ≡ Some (entry.Free next)) × Threads es next fs
 
 -- The handles of these entries, of which so many are empty, the one freed last at the first index.
 abbrev pub handles_of : List Entry → ℕ → ℕ → Handles

@@ -14,12 +14,91 @@ use std::marker::Model;
 /// No index is greater than this one.
 const GREATEST_INDEX: usize = 65_535;
 
-/// What stands at an index.
+/// What stands at an index. The parts of a handle follow the tag at once, so that an entry takes 48 bytes
+/// where `Used(Handle)` would take 64.
 #[derive(Clone, Copy)]
 enum Entry {
     /// Nothing, and the index that was freed last before this one.
     Free(u32),
-    Used(Handle),
+    /// An owned handle.
+    Owned {
+        rep: u32,
+        resource: ResourceId,
+        lends: u128,
+        serial: u64,
+    },
+    /// A borrow.
+    Borrowed {
+        rep: u32,
+        resource: ResourceId,
+        lends: u128,
+        serial: u64,
+        call: u32,
+    },
+}
+
+impl Entry {
+    /// The entry of a handle.
+    fn of(handle: Handle) -> Entry
+        ensures { slot_of result ≡ Some handle }
+    {
+        let Handle {
+            resource,
+            serial,
+            lends,
+            rep,
+            kind,
+        } = handle;
+        match kind {
+            HandleKind::Owned => Entry::Owned {
+                rep,
+                resource,
+                lends,
+                serial,
+            },
+            HandleKind::Borrowed { call } => Entry::Borrowed {
+                rep,
+                resource,
+                lends,
+                serial,
+                call,
+            },
+        }
+    }
+
+    /// The handle of the entry, if it has one.
+    fn handle(&self) -> Option<Handle>
+        ensures { result ≡ slot_of self.now }
+    {
+        match *self {
+            Entry::Free(_) => None,
+            Entry::Owned {
+                rep,
+                resource,
+                lends,
+                serial,
+            } => Some(Handle {
+                resource,
+                serial,
+                lends,
+                rep,
+                kind: HandleKind::Owned,
+            }),
+            Entry::Borrowed {
+                rep,
+                resource,
+                lends,
+                serial,
+                call,
+            } => Some(Handle {
+                resource,
+                serial,
+                lends,
+                rep,
+                kind: HandleKind::Borrowed { call },
+            }),
+        }
+    }
 }
 
 /// The handles of an instance, each under an index from 1 to 65,535 (CanonicalABI.md, "Table State").
@@ -58,15 +137,18 @@ fn look(entries: &[Entry], index: u32, resource: ResourceId) -> Result<Handle, H
     if index == 0 {
         return Err(HandleFault::NoHandle);
     }
-    match entries.get(index as usize - 1) {
-        Some(Entry::Used(handle)) => {
+    let Some(entry) = entries.get(index as usize - 1) else {
+        return Err(HandleFault::NoHandle);
+    };
+    match entry.handle() {
+        Some(handle) => {
             if handle.resource == resource {
-                Ok(*handle)
+                Ok(handle)
             } else {
                 Err(HandleFault::WrongResource)
             }
         }
-        _ => Err(HandleFault::NoHandle),
+        None => Err(HandleFault::NoHandle),
     }
 }
 
@@ -151,7 +233,7 @@ impl Table {
         let Ok(()) = self.entries.reserve(1) else {
             return Err(HandleFault::Memory);
         };
-        self.entries.push_reserved(Entry::Used(handle));
+        self.entries.push_reserved(Entry::of(handle));
         Ok(index as u32)
     }
 
@@ -167,7 +249,7 @@ impl Table {
         let Entry::Free(next) = self.entries[index as usize - 1] else {
             unreachable!()
         };
-        self.entries[index as usize - 1] = Entry::Used(handle);
+        self.entries[index as usize - 1] = Entry::of(handle);
         self.first = next;
         self.free -= 1;
     }
@@ -215,7 +297,7 @@ impl Table {
         ensures room { self.new.room ≡ self.old.room }
         ensures sound { IsSoundTable self.new }
     {
-        self.entries[index as usize - 1] = Entry::Used(handle);
+        self.entries[index as usize - 1] = Entry::of(handle);
     }
 
     /// The handle at an index, which is to be of a resource and not lent.
@@ -300,10 +382,7 @@ impl Table {
         requires { IsSome (handle_at self.now.handles index) }
         ensures { handle_at self.now.handles index ≡ Some result }
     {
-        match self.entries[index as usize - 1] {
-            Entry::Used(handle) => handle,
-            Entry::Free(_) => unreachable!(),
-        }
+        self.entries[index as usize - 1].handle().unwrap()
     }
 
     /// Ends all lends and removes the borrows, the one at the least index first. Their indices are freed.
@@ -326,7 +405,7 @@ impl Table {
         ensures room { self.new.room + length self.old.handles.freed ≡ self.old.room + length self.new.handles.freed }
         ensures sound { IsSoundTable self.new }
     {
-        let Entry::Used(handle) = self.entries[index as usize - 1] else {
+        let Some(handle) = self.entries[index as usize - 1].handle() else {
             return;
         };
         match handle.kind {

@@ -1,6 +1,5 @@
 use Rattle.std.proofs.Common.{◌∙◌, ◌++◌, ◌∷◌, [], ap, sym, subst, arith, length, Some}
 use Rattle.std.proofs.lemmas.List.{length-map}
-use Rattle.cm_handles.specs.declared.table.Entry.TheVariants.{Used}
 use Rattle.cm_handles.specs.Handles.{TableState, IsSoundTable, Changes, next_index}
 use Rattle.cm_handles.specs.Entries.{IsLinked, slot_of}
 use Rattle.cm_handles.proofs.TableSteps.{pushed_step, room_after, sound_table, next-pushed, Changes-pushed, vacant-pushed}
@@ -28,14 +27,14 @@ returns-in_default-clause-sound c =
 pub invariant_of-self-2 : goal.invariant_of-self-2
 invariant_of-self-2 c =
     let es = c.self.inside.entries.items in
-    (pushed_step es c.push_reserved.new.self.items c.self.inside.first c.self.inside.free _ c.args.handle c.args.self.now c.self.invariant c.self.view_is c.requires
-    (omega (arith, c.self.inside.entries.ok.0)) (c.push_reserved.ensures.items ∙ ap (λ xs. xs ++ Used c.args.handle ∷ []) c.reserve.ensures.items)).0
+    (pushed_step es c.push_reserved.new.self.items c.self.inside.first c.self.inside.free _ c.args.handle c.of.result c.args.self.now c.of.ensures c.self.invariant c.self.view_is c.requires
+    (omega (arith, c.self.inside.entries.ok.0)) (c.push_reserved.ensures.items ∙ ap (λ xs. xs ++ c.of.result ∷ []) c.reserve.ensures.items)).0
 
 pub returns-clause-handles : goal.returns-clause-handles
 returns-clause-handles c =
     let es = c.self.inside.entries.items in
-    (pushed_step es c.push_reserved.new.self.items c.self.inside.first c.self.inside.free _ c.args.handle c.args.self.now c.self.invariant c.self.view_is c.requires
-    (omega (arith, c.self.inside.entries.ok.0)) (c.push_reserved.ensures.items ∙ ap (λ xs. xs ++ Used c.args.handle ∷ []) c.reserve.ensures.items)).1
+    (pushed_step es c.push_reserved.new.self.items c.self.inside.first c.self.inside.free _ c.args.handle c.of.result c.args.self.now c.of.ensures c.self.invariant c.self.view_is c.requires
+    (omega (arith, c.self.inside.entries.ok.0)) (c.push_reserved.ensures.items ∙ ap (λ xs. xs ++ c.of.result ∷ []) c.reserve.ensures.items)).1
 
 pub returns-clause-sound : goal.returns-clause-sound
 returns-clause-sound c = sound_table _ _ _ _ (invariant_of-self-2 c)

@@ -1,7 +1,6 @@
 use Rattle.std.proofs.Common.{◌-◌, ◌∙◌, ap, subst, sym, arith, Some, length-set}
-use Rattle.cm_handles.specs.declared.table.Entry.TheVariants.{Used}
 use Rattle.cm_handles.specs.Handles.{TableState, IsSound, Changes, restored}
-use Rattle.cm_handles.proofs.TableSteps.{freed_entry, freed_read, not_used, restored_step, sound_table, Changes-restored, restored-released}
+use Rattle.cm_handles.proofs.TableSteps.{freed_entry, freed_read, freed_empty, restored_step, sound_table, Changes-restored, restored-released}
 use Rattle.cm_handles.proofs.table.Table.restore.Goals as goal
 
 pub overflow_sub-index : goal.overflow_sub-index
@@ -13,7 +12,9 @@ index-requires c =
     omega (arith, here.1, c.self.inside.entries.ok.0)
 
 pub unreachable-requires : goal.unreachable-requires
-unreachable-requires c = not_used c.self.inside.entries.items c.self.inside.first c.self.inside.free _ c.args.index c.in_default.field-0 c.index.result.now c.args.self.now c.self.invariant c.self.view_is c.requires c.index.ensures c.in_default.is
+unreachable-requires c =
+    let empty = freed_empty c.self.inside.entries.items c.self.inside.first c.self.inside.free _ c.args.index c.index.result.now c.args.self.now c.self.invariant c.self.view_is c.requires c.index.ensures in
+    c.in_default.not-Free empty.0 empty.1
 
 pub overflow_sub-index-2 : goal.overflow_sub-index-2
 overflow_sub-index-2 c = (freed_entry c.self.inside.entries.items c.self.inside.first c.self.inside.free _ c.args.index c.args.self.now c.self.invariant c.self.view_is c.requires).0
@@ -30,13 +31,13 @@ pub invariant_of-self : goal.invariant_of-self
 invariant_of-self c =
     let es = c.self.inside.entries.items in
     let entry = freed_read es c.self.inside.first c.self.inside.free _ c.args.index c.index.result.now c.args.self.now c.self.invariant c.self.view_is c.requires c.index.ensures ∙ ap (λ x. Some x) c.in-Free.is in
-    (restored_step es c.self.inside.first c.self.inside.free _ c.args.index c.in-Free.next c.args.handle c.args.self.now c.self.invariant c.self.view_is c.requires entry).0
+    (restored_step es c.self.inside.first c.self.inside.free _ c.args.index c.in-Free.next c.args.handle c.of.result c.args.self.now c.of.ensures c.self.invariant c.self.view_is c.requires entry).0
 
 pub returns-clause-handles : goal.returns-clause-handles
 returns-clause-handles c =
     let es = c.self.inside.entries.items in
     let entry = freed_read es c.self.inside.first c.self.inside.free _ c.args.index c.index.result.now c.args.self.now c.self.invariant c.self.view_is c.requires c.index.ensures ∙ ap (λ x. Some x) c.in-Free.is in
-    (restored_step es c.self.inside.first c.self.inside.free _ c.args.index c.in-Free.next c.args.handle c.args.self.now c.self.invariant c.self.view_is c.requires entry).1
+    (restored_step es c.self.inside.first c.self.inside.free _ c.args.index c.in-Free.next c.args.handle c.of.result c.args.self.now c.of.ensures c.self.invariant c.self.view_is c.requires entry).1
 
 pub returns-clause-changes : goal.returns-clause-changes
 returns-clause-changes c =
@@ -52,7 +53,7 @@ pub returns-clause-room : goal.returns-clause-room
 returns-clause-room c =
     let es = c.self.inside.entries.items in
     let here = freed_entry es c.self.inside.first c.self.inside.free _ c.args.index c.args.self.now c.self.invariant c.self.view_is c.requires in
-    omega (arith, here.2, length-set es (c.args.index - 1) (Used c.args.handle), ap (λ (s : TableState). s.room) c.self.view_is)
+    omega (arith, here.2, length-set es (c.args.index - 1) c.of.result, ap (λ (s : TableState). s.room) c.self.view_is)
 
 pub returns-clause-sound : goal.returns-clause-sound
 returns-clause-sound c = sound_table _ _ _ _ (invariant_of-self c)
