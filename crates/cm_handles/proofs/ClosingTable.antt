@@ -1,11 +1,12 @@
 -- A table is closed one index after another.
 use Rattle.std.proofs.Common.{◌≡◌, ℕ, suc, ◌+◌, ◌<◌, Bool, true, false, cond, List, [], ◌∷◌, ◌++◌, length, map, get_or, set, take, drop, Option, Some, None, refl, sym, ap, ◌∙◌, subst, arith, append_assoc, add-zero, inl, inr}
 use Rattle.std.specs.Prelude.{reverse}
+use Rattle.std.specs.Option.{option_map}
 use Rattle.std.proofs.lemmas.List.{length-map, map_more, set_at, set-get_or, take_more, drop_more, reverse-append, append-nil, take_all, drop_all, length-take-le, get_or_at, get_or-map, get_or_past}
 use Rattle.std.proofs.lemmas.Bool.{cases_lt}
 use Rattle.cm_handles.specs.declared.handle.Handle.{Handle}
 use Rattle.cm_handles.specs.declared.handle.HandleKind.TheVariants.{Owned, Borrowed}
-use Rattle.cm_handles.specs.Handles.{Handles, handle_at, IsSound, released, is_borrow, with_lends, closed_slot, borrows_from, closed, TableState, IsSoundTable}
+use Rattle.cm_handles.specs.Handles.{Handles, handle_at, IsSound, released, is_borrow, with_lends, changed, closed_slot, borrows_from, closed, TableState, IsSoundTable}
 use Rattle.cm_handles.specs.Entries.{closed_at}
 
 -- a table of which the first k indices are closed
@@ -108,11 +109,12 @@ closed-at_each t i =
     ]
 
 -- a handle that is closed, by its kind
-pub closed_at-owned : (t : Handles) (i : ℕ) (h : Handle) (o : Option Handle) → o ≡ Some h → h.kind ≡ Owned → record { slots = set t.slots i (Some (with_lends 0 h)); freed = t.freed } ≡ closed_at t i o
-closed_at-owned t i h o is kind =
+pub closed_at-owned : (t : Handles) (i : ℕ) (h : Handle) → handle_at t i ≡ Some h → h.kind ≡ Owned → changed t i (with_lends 0) ≡ closed_at t i (handle_at t i)
+closed_at-owned t i h is kind =
     let owned : closed_at t i (Some h) ≡ record { slots = set t.slots i (Some (with_lends 0 h)); freed = t.freed } =
     ap (λ k. cond (is_borrow k) (released t i) (record { slots = set t.slots i (Some (with_lends 0 h)); freed = t.freed })) kind in
-    sym (ap (λ x. closed_at t i x) is ∙ owned)
+    let make : Option Handle → Handles = λ o. record { slots = set t.slots i (option_map (with_lends 0) o); freed = t.freed } in
+    ap make is ∙ sym (ap (λ x. closed_at t i x) is ∙ owned)
 
 pub closed_at-borrowed : (t : Handles) (i call : ℕ) (h : Handle) (o : Option Handle) → o ≡ Some h → h.kind ≡ Borrowed call → released t i ≡ closed_at t i o
 closed_at-borrowed t i call h o is kind =

@@ -7,10 +7,10 @@ use Rattle.std.proofs.lemmas.Option.{slice_get_within, slice_get_read, get_or_fr
 use Rattle.cm_handles.specs.declared.handle.Handle.{Handle}
 use Rattle.cm_handles.specs.declared.table.Entry.{Entry}
 use Rattle.cm_handles.specs.declared.table.Entry.TheVariants.{Free}
-use Rattle.cm_handles.specs.Handles.{Handles, TableState, handle_at, IsSound, IsSoundTable, Changes, greatest_index, next_index, indices_left, placed, released, restored, added}
+use Rattle.cm_handles.specs.Handles.{Handles, TableState, handle_at, IsSound, IsSoundTable, Changes, greatest_index, next_index, indices_left, placed, with_lends, changed, released, restored, added}
 use Rattle.cm_handles.specs.Entries.{slot_of, thread, handles_of, room_of, IsLinked}
 use Rattle.cm_handles.proofs.SoundHandles.{positive_index, within_slots}
-use Rattle.std.specs.Option.{option_and_then}
+use Rattle.std.specs.Option.{option_and_then, option_map}
 use Rattle.cm_handles.proofs.LinkedEntries.{slot-entry, linked_released, linked_written, linked_restored, linked_pushed, length-thread, threaded_first}
 
 -- the table of these entries
@@ -176,3 +176,15 @@ used_within es first free capacity i old linked view some =
 pub slots_length : (es : List Entry) (first free capacity : ℕ) (old : TableState) → table_of es first free capacity ≡ old → length old.handles.slots ≡ length es + 1
 slots_length es first free capacity old view =
     sym (ap (λ (s : TableState). length s.handles.slots) view) ∙ omega (arith, length-map es slot_of)
+
+-- how often the handle of an index is lent is written
+pub lends_step : (es : List Entry) (first free capacity i lends : ℕ) (x e : Entry) (old : TableState) → x ≡ get_or es (i - 1) x → slot_of e ≡ option_map (with_lends lends) (slot_of x) → IsLinked es first free → table_of es first free capacity ≡ old → IsSome (handle_at old.handles i)
+    → IsLinked (set es (i - 1) e) first free × (handles_of (set es (i - 1) e) first free ≡ changed old.handles i (with_lends lends))
+lends_step es first free capacity i lends x e old read is linked view some =
+    let h = some_value (handle_at old.handles i) some in
+    let here = used_within es first free capacity i old linked view some in
+    let slot : handle_at old.handles i ≡ slot_of x = read_slot es first free capacity i x old view here.0 here.1 read in
+    let now : slot_of e ≡ Some (with_lends lends h.0) = is ∙ ap (λ o. option_map (with_lends lends) o) (sym slot ∙ h.1) in
+    let step = written_step es first free capacity i (with_lends lends h.0) e old now linked view some in
+    let make : Option Handle → Handles = λ o. record { slots = set old.handles.slots i (option_map (with_lends lends) o); freed = old.handles.freed } in
+    (step.0, step.1 ∙ ap make (sym h.1))

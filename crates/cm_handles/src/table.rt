@@ -1,8 +1,8 @@
 //! The table itself: entries, of which the empty ones form a list.
 
 ghost use Rattle.std.specs.Prelude.{◌≡◌, ◌≢◌, ◌↔◌, ℕ, ◌+◌, ◌-◌, ◌<◌, ◌≤◌, ◌^◌, [], ◌∷◌, ◌++◌, map, length, None, Some, Contains, IsOk, IsSome, IfOk, IfSome, OnOk, OnErr, IsErrOf, IsOkUnless, IsSomeAnd, slice_get, slice_index_or, slice_set};
-ghost use Rattle.std.specs.Option.{ForSome};
-ghost use Rattle.cm_handles.specs.Handles.{of_resource};
+ghost use Rattle.std.specs.Option.{ForSome, option_map};
+ghost use Rattle.cm_handles.specs.Handles.{of_resource, with_lends};
 ghost use Rattle.cm_handles.specs.Entries.{slot_of};
 
 use crate::fault::HandleFault;
@@ -63,6 +63,17 @@ impl Entry {
                 serial,
                 call,
             },
+        }
+    }
+
+    /// Writes how often the handle of the entry is lent, if it has one.
+    fn set_lends(&mut self, new_lends: u128)
+        ensures { slot_of self.new ≡ option_map (with_lends new_lends) (slot_of self.old) }
+    {
+        match self {
+            Entry::Free(_) => {}
+            Entry::Owned { lends, .. } => *lends = new_lends,
+            Entry::Borrowed { lends, .. } => *lends = new_lends,
         }
     }
 
@@ -153,7 +164,7 @@ fn look(entries: &[Entry], index: u32, resource: ResourceId) -> Result<Handle, H
 }
 
 impl Table {
-    ghost use Rattle.cm_handles.specs.Handles.{no_handles, handle_at, next_index, indices_left, greatest_index, held, if_not_lent, if_owned, added, released, restored, lent, unlent, closed, closed_slot, with_lends, Handles, IsSoundTable, Changes};
+    ghost use Rattle.cm_handles.specs.Handles.{no_handles, handle_at, next_index, indices_left, greatest_index, held, if_not_lent, if_owned, added, released, restored, changed, lent, unlent, closed, closed_slot, Handles, IsSoundTable, Changes};
     ghost use Rattle.cm_handles.specs.Entries.{closed_at};
 
     /// An empty table. It takes no memory before the first handle is added, and then from `alloc`.
@@ -290,14 +301,14 @@ impl Table {
         self.free += 1;
     }
 
-    /// Writes a handle where one stands.
-    fn write(&mut self, index: u32, handle: Handle)
+    /// Writes how often the handle at an index is lent.
+    fn write_lends(&mut self, index: u32, lends: u128)
         requires { IsSome (handle_at self.old.handles index) }
-        ensures handles { self.new.handles ≡ record self.old.handles { slots = slice_set self.old.handles.slots index (Some handle) } }
+        ensures handles { self.new.handles ≡ changed self.old.handles index (with_lends lends) }
         ensures room { self.new.room ≡ self.old.room }
         ensures sound { IsSoundTable self.new }
     {
-        self.entries[index as usize - 1] = Entry::of(handle);
+        self.entries[index as usize - 1].set_lends(lends);
     }
 
     /// The handle at an index, which is to be of a resource and not lent.
@@ -359,8 +370,7 @@ impl Table {
         ensures sound { IsSoundTable self.new }
     {
         let handle = self.get(index, resource)?;
-        let lends = handle.lends + 1;
-        self.write(index, Handle { lends, ..handle });
+        self.write_lends(index, handle.lends + 1);
         Ok(handle)
     }
 
@@ -373,8 +383,7 @@ impl Table {
         ensures sound { IsSoundTable self.new }
     {
         let handle = self.handle(index);
-        let lends = handle.lends - 1;
-        self.write(index, Handle { lends, ..handle });
+        self.write_lends(index, handle.lends - 1);
     }
 
     /// The handle at an index.
@@ -409,7 +418,7 @@ impl Table {
             return;
         };
         match handle.kind {
-            HandleKind::Owned => self.write(index, Handle { lends: 0, ..handle }),
+            HandleKind::Owned => self.write_lends(index, 0),
             HandleKind::Borrowed { .. } => self.release(index),
         }
     }
