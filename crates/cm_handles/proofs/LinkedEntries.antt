@@ -1,13 +1,13 @@
 -- How the entries of a table give its handles, and what a write to one of them leaves.
-use Rattle.std.proofs.Common.{◌≡◌, ℕ, zero, suc, ◌+◌, ◌-◌, ◌<◌, ◌≤◌, cond, List, [], ◌∷◌, ◌++◌, length, map, get_or, set, drop, Option, Some, None, slice_get, count_by, refl, sym, ap, ◌∙◌, subst, arith}
+use Rattle.std.proofs.Common.{◌≡◌, ℕ, zero, suc, ◌+◌, ◌-◌, ◌<◌, cond, List, [], ◌∷◌, ◌++◌, length, map, get_or, set, drop, Option, Some, None, slice_get, count_by, refl, sym, ap, ◌∙◌, subst, arith}
 use Rattle.std.specs.Prelude.{Contains}
 use Rattle.std.specs.Option.{option_and_then}
 use Rattle.std.proofs.lemmas.List.{length-map, map-set, map_push}
-use Rattle.std.proofs.lemmas.List.Sums.{sum_by-set, sum_by_push, count_by-le-length}
+use Rattle.std.proofs.lemmas.List.Sums.{sum_by-set, sum_by_push}
 use Rattle.std.proofs.lemmas.Option.{get_or_from_slice_get, slice_get_within, none-some, same_Some}
 use Rattle.cm_handles.specs.declared.handle.Handle.{Handle}
-use Rattle.cm_handles.specs.declared.table.Entry.{Entry}
-use Rattle.cm_handles.specs.declared.table.Entry.TheVariants.{Free, Owned, Borrowed}
+use Rattle.cm_handles.specs.declared.entry.Entry.{Entry}
+use Rattle.cm_handles.specs.declared.entry.Entry.TheVariants.{Free, Owned, Borrowed}
 use Rattle.cm_handles.specs.Handles.{Handles, no_handles, handle_at, IsSound, greatest_index, released, restored, added}
 use Rattle.cm_handles.specs.Entries.{slot_of, is_free, next_of, thread, Threads, handles_of, IsLinked}
 use Rattle.cm_handles.proofs.SoundHandles.{IsSound-released, IsSound-reused, IsSound-pushed, IsSound-written, Contains-first, Contains-rest, positive_index, IsSound-none}
@@ -91,11 +91,6 @@ count-set es k e d is =
     let within : k < length es = slice_get_within es k d is in
     let was : get_or es k d ≡ d = get_or_from_slice_get es k d d is in
     subst (λ x. count_by is_free (set es k e) + cond (is_free x) 1 0 ≡ count_by is_free es + cond (is_free e) 1 0) was (sum_by-set (λ x. cond (is_free x) 1 0) es k e d within)
-
--- there are fewer empty entries than entries of which one is used
-pub free_bound : (es : List Entry) (first free : ℕ) → IsLinked es first free → (free ≤ length es) × (length es ≤ greatest_index)
-free_bound es first free linked =
-    (omega (arith, linked.counted, count_by-le-length is_free es), omega (arith, linked.sound.limit, length-map es slot_of))
 
 -- the entry of a handle that goes becomes the first empty one
 pub linked_released : (es : List Entry) (first free i : ℕ) (h : Handle) → IsLinked es first free → handle_at (handles_of es first free) i ≡ Some h

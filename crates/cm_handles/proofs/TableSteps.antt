@@ -5,8 +5,8 @@ use Rattle.std.proofs.lemmas.List.{length-map, get_or-set_same, get_or-set_other
 use Rattle.std.proofs.lemmas.Bool.{false≢true, cases_lt}
 use Rattle.std.proofs.lemmas.Option.{slice_get_within, slice_get_read, get_or_from_slice_get, none-some, same_Some}
 use Rattle.cm_handles.specs.declared.handle.Handle.{Handle}
-use Rattle.cm_handles.specs.declared.table.Entry.{Entry}
-use Rattle.cm_handles.specs.declared.table.Entry.TheVariants.{Free}
+use Rattle.cm_handles.specs.declared.entry.Entry.{Entry}
+use Rattle.cm_handles.specs.declared.entry.Entry.TheVariants.{Free}
 use Rattle.cm_handles.specs.Handles.{Handles, TableState, handle_at, IsSound, IsSoundTable, Changes, greatest_index, next_index, indices_left, placed, with_lends, changed, released, restored, added}
 use Rattle.cm_handles.specs.Entries.{slot_of, thread, handles_of, room_of, IsLinked}
 use Rattle.cm_handles.proofs.SoundHandles.{positive_index, within_slots}

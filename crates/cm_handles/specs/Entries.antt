@@ -2,8 +2,8 @@
 use Rattle.std.specs.Prelude.{◌≡◌, ℕ, zero, suc, ◌+◌, ◌-◌, ◌<◌, min, Bool, true, false, List, [], ◌∷◌, map, length, count_by, slice_index_or, slice_get, slice_set, if◌then◌else◌, Option, Some, None}
 use Rattle.cm_handles.specs.Handles.{Handles, IsSound, greatest_index, released, is_borrow, with_lends}
 use Rattle.cm_handles.specs.declared.handle.Handle.{Handle}
-use Rattle.cm_handles.specs.declared.table.Entry.{Entry}
-use Rattle.cm_handles.specs.declared.table.Entry.TheVariants as entry
+use Rattle.cm_handles.specs.declared.entry.Entry.{Entry}
+use Rattle.cm_handles.specs.declared.entry.Entry.TheVariants as entry
 use Rattle.cm_handles.specs.declared.handle.HandleKind.TheVariants as kind
 
 -- The handle of an entry, if it has one.

@@ -2,7 +2,7 @@
 
 use cm_types::ResourceId;
 
-/// A handle (CanonicalABI.md, "Table State", `ResourceHandle`).
+/// A handle (CanonicalABI.md, "Resource State").
 #[derive(Clone, Copy, Debug, PartialEq, Eq)]
 pub struct Handle {
     /// The resource type.

@@ -1,6 +1,7 @@
 //! Handle tables: which resource stands under which index of an instance.
 #![tactic(auto)]
 
+mod entry;
 mod fault;
 mod handle;
 mod table;

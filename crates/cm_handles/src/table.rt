@@ -1,10 +1,11 @@
 //! The table itself: entries, of which the empty ones form a list.
 
-ghost use Rattle.std.specs.Prelude.{◌≡◌, ◌≢◌, ◌↔◌, ℕ, ◌+◌, ◌-◌, ◌<◌, ◌≤◌, ◌^◌, [], ◌∷◌, ◌++◌, map, length, None, Some, Contains, IsOk, IsSome, IfOk, IfSome, OnOk, OnErr, IsErrOf, IsOkUnless, IsSomeAnd, slice_get, slice_index_or, slice_set};
-ghost use Rattle.std.specs.Option.{ForSome, option_map};
-ghost use Rattle.cm_handles.specs.Handles.{of_resource, with_lends};
+ghost use Rattle.std.specs.Prelude.{◌≡◌, ◌↔◌, ℕ, ◌+◌, ◌-◌, ◌<◌, ◌≤◌, ◌^◌, [], ◌∷◌, map, length, None, Some, IsOk, IsSome, IfOk, IfSome, OnOk, OnErr, IsErrOf, IsOkUnless, IsSomeAnd, slice_get, slice_index_or};
+ghost use Rattle.std.specs.Option.{ForSome};
+ghost use Rattle.cm_handles.specs.Handles.{of_resource};
 ghost use Rattle.cm_handles.specs.Entries.{slot_of};
 
+use crate::entry::Entry;
 use crate::fault::HandleFault;
 use crate::handle::{Handle, HandleKind};
 use cm_types::ResourceId;
@@ -13,104 +14,6 @@ use std::marker::Model;
 
 /// No index is greater than this one.
 const GREATEST_INDEX: usize = 65_535;
-
-/// What stands at an index. The parts of a handle follow the tag at once, so that an entry takes 48 bytes
-/// where `Used(Handle)` would take 64.
-#[derive(Clone, Copy)]
-enum Entry {
-    /// Nothing, and the index that was freed last before this one.
-    Free(u32),
-    /// An owned handle.
-    Owned {
-        rep: u32,
-        resource: ResourceId,
-        lends: u128,
-        serial: u64,
-    },
-    /// A borrow.
-    Borrowed {
-        rep: u32,
-        resource: ResourceId,
-        lends: u128,
-        serial: u64,
-        call: u32,
-    },
-}
-
-impl Entry {
-    /// The entry of a handle.
-    fn of(handle: Handle) -> Entry
-        ensures { slot_of result ≡ Some handle }
-    {
-        let Handle {
-            resource,
-            serial,
-            lends,
-            rep,
-            kind,
-        } = handle;
-        match kind {
-            HandleKind::Owned => Entry::Owned {
-                rep,
-                resource,
-                lends,
-                serial,
-            },
-            HandleKind::Borrowed { call } => Entry::Borrowed {
-                rep,
-                resource,
-                lends,
-                serial,
-                call,
-            },
-        }
-    }
-
-    /// Writes how often the handle of the entry is lent, if it has one.
-    fn set_lends(&mut self, new_lends: u128)
-        ensures { slot_of self.new ≡ option_map (with_lends new_lends) (slot_of self.old) }
-    {
-        match self {
-            Entry::Free(_) => {}
-            Entry::Owned { lends, .. } => *lends = new_lends,
-            Entry::Borrowed { lends, .. } => *lends = new_lends,
-        }
-    }
-
-    /// The handle of the entry, if it has one.
-    fn handle(&self) -> Option<Handle>
-        ensures { result ≡ slot_of self.now }
-    {
-        match *self {
-            Entry::Free(_) => None,
-            Entry::Owned {
-                rep,
-                resource,
-                lends,
-                serial,
-            } => Some(Handle {
-                resource,
-                serial,
-                lends,
-                rep,
-                kind: HandleKind::Owned,
-            }),
-            Entry::Borrowed {
-                rep,
-                resource,
-                lends,
-                serial,
-                call,
-            } => Some(Handle {
-                resource,
-                serial,
-                lends,
-                rep,
-                kind: HandleKind::Borrowed { call },
-            }),
-        }
-    }
-}
 
 /// The handles of an instance, each under an index from 1 to 65,535 (CanonicalABI.md, "Table State").
 ///
@@ -164,7 +67,7 @@ fn look(entries: &[Entry], index: u32, resource: ResourceId) -> Result<Handle, H
 }
 
 impl Table {
-    ghost use Rattle.cm_handles.specs.Handles.{no_handles, handle_at, next_index, indices_left, greatest_index, held, if_not_lent, if_owned, added, released, restored, changed, lent, unlent, closed, closed_slot, Handles, IsSoundTable, Changes};
+    ghost use Rattle.cm_handles.specs.Handles.{no_handles, handle_at, next_index, indices_left, greatest_index, held, if_not_lent, if_owned, added, released, restored, changed, lent, unlent, closed, closed_slot, with_lends, Handles, IsSoundTable, Changes};
     ghost use Rattle.cm_handles.specs.Entries.{closed_at};
 
     /// An empty table. It takes no memory before the first handle is added, and then from `alloc`.

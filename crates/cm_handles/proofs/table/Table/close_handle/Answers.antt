@@ -1,7 +1,6 @@
 use Rattle.std.proofs.Common.{sym, ◌∙◌, ap, subst, arith}
 use Rattle.std.specs.Prelude.{is_some}
 use Rattle.cm_handles.specs.Handles.{IsSoundTable}
-use Rattle.cm_handles.specs.Entries.{slot_of}
 use Rattle.cm_handles.proofs.TableSteps.{read_slot, sound_table, slots_length}
 use Rattle.cm_handles.proofs.ClosingTable.{closed_at-owned, closed_at-borrowed}
 use Rattle.cm_handles.proofs.table.Table.close_handle.Goals as goal

@@ -1,6 +1,5 @@
-use Rattle.std.proofs.Common.{◌≡◌, ◌∙◌, ap, sym, true, false}
+use Rattle.std.proofs.Common.{◌∙◌, ap, sym}
 use Rattle.std.specs.Prelude.{is_some}
-use Rattle.cm_handles.specs.Entries.{slot_of}
 use Rattle.cm_handles.proofs.TableSteps.{read_slot, used_within}
 use Rattle.cm_handles.proofs.table.Table.handle.Goals as goal
 

@@ -8,4 +8,4 @@ pub returns-clause-handles : goal.returns-clause-handles
 returns-clause-handles c = (released_step c.self.inside.entries.items c.self.inside.first c.self.inside.free _ c.args.index c.args.self.now c.self.invariant c.self.view_is c.requires).1
 
 pub returns-clause-sound : goal.returns-clause-sound
-returns-clause-sound c = sound_table _ _ _ _ (released_step c.self.inside.entries.items c.self.inside.first c.self.inside.free _ c.args.index c.args.self.now c.self.invariant c.self.view_is c.requires).0
+returns-clause-sound c = sound_table _ _ _ _ (invariant_of-self c)
