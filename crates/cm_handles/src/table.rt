@@ -304,7 +304,8 @@ impl Table {
         ensures room { self.new.room + length self.old.handles.freed ≡ self.old.room + length self.new.handles.freed }
         ensures sound { IsSoundTable self.new }
     {
-        for at in 0..self.entries.len() {
+        let count = self.entries.len();
+        for at in 0..count {
             self.close_handle(at as u32 + 1);
         }
     }
