@@ -33,8 +33,8 @@ entry-from_slot es i h positive stands = entry_by_slot (slice_get es (i - 1)) h 
 -- an entry that has a handle is not empty
 is_free-used : (e : Entry) (h : Handle) → slot_of e ≡ Some h → ◌≡◌ {A = ℕ} (cond (is_free e) 1 0) 0
 is_free-used (Free next) h is = absurd (none-some h is)
-is_free-used (Owned rep resource lends serial) h is = refl
-is_free-used (Borrowed rep resource lends serial call) h is = refl
+is_free-used (Owned serial lends resource rep) h is = refl
+is_free-used (Borrowed call serial lends resource rep) h is = refl
 
 -- the slots after a write to the entry of an index
 pub slots-set : (es : List Entry) (i : ℕ) (e : Entry) → 0 < i → None ∷ map slot_of (set es (i - 1) e) ≡ set (None ∷ map slot_of es) i (slot_of e)

@@ -9,19 +9,19 @@ use Rattle.cm_handles.specs.declared.handle.HandleKind.TheVariants as kind
 -- The handle of an entry, if it has one.
 abbrev pub slot_of : Entry → Option Handle
 slot_of (entry.Free next) = None
-slot_of (entry.Owned rep resource lends serial) = Some (record { resource = resource; serial = serial; lends = lends; rep = rep; kind = kind.Owned })
-slot_of (entry.Borrowed rep resource lends serial call) = Some (record { resource = resource; serial = serial; lends = lends; rep = rep; kind = kind.Borrowed call })
+slot_of (entry.Owned serial lends resource rep) = Some (record { resource = resource; serial = serial; lends = lends; rep = rep; kind = kind.Owned })
+slot_of (entry.Borrowed call serial lends resource rep) = Some (record { resource = resource; serial = serial; lends = lends; rep = rep; kind = kind.Borrowed call })
 
 abbrev pub is_free : Entry → Bool
 is_free (entry.Free next) = true
-is_free (entry.Owned rep resource lends serial) = false
-is_free (entry.Borrowed rep resource lends serial call) = false
+is_free (entry.Owned serial lends resource rep) = false
+is_free (entry.Borrowed call serial lends resource rep) = false
 
 -- The index that an empty entry holds.
 abbrev pub next_of : Entry → ℕ
 next_of (entry.Free next) = next
-next_of (entry.Owned rep resource lends serial) = 0
-next_of (entry.Borrowed rep resource lends serial call) = 0
+next_of (entry.Owned serial lends resource rep) = 0
+next_of (entry.Borrowed call serial lends resource rep) = 0
 
 -- The indices that n entries hold one after another, from the first index on; the entry of index k is
 -- the one at k - 1.

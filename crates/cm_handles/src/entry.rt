@@ -14,18 +14,18 @@ pub enum Entry {
     Free(u32),
     /// An owned handle.
     Owned {
-        rep: u32,
-        resource: ResourceId,
-        lends: u128,
         serial: u64,
+        lends: u128,
+        resource: ResourceId,
+        rep: u32,
     },
     /// A borrow.
     Borrowed {
-        rep: u32,
-        resource: ResourceId,
-        lends: u128,
-        serial: u64,
         call: u32,
+        serial: u64,
+        lends: u128,
+        resource: ResourceId,
+        rep: u32,
     },
 }
 
@@ -46,17 +46,17 @@ impl Entry {
         } = handle;
         match kind {
             HandleKind::Owned => Entry::Owned {
-                rep,
-                resource,
-                lends,
                 serial,
+                lends,
+                resource,
+                rep,
             },
             HandleKind::Borrowed { call } => Entry::Borrowed {
-                rep,
-                resource,
-                lends,
-                serial,
                 call,
+                serial,
+                lends,
+                resource,
+                rep,
             },
         }
     }
@@ -79,10 +79,10 @@ impl Entry {
         match *self {
             Entry::Free(_) => None,
             Entry::Owned {
-                rep,
-                resource,
-                lends,
                 serial,
+                lends,
+                resource,
+                rep,
             } => Some(Handle {
                 resource,
                 serial,
@@ -91,11 +91,11 @@ impl Entry {
                 kind: HandleKind::Owned,
             }),
             Entry::Borrowed {
-                rep,
-                resource,
-                lends,
-                serial,
                 call,
+                serial,
+                lends,
+                resource,
+                rep,
             } => Some(Handle {
                 resource,
                 serial,
