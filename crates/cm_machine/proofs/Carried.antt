@@ -68,7 +68,8 @@ valid_begun s i valid h =
       memories = valid.memories;
       closed = valid.closed;
       stack = (omega (arith, valid.closed, inside), refl, tt);
-      no_owners = valid.no_owners;
+      no_handle = valid.no_handle;
+    no_owners = valid.no_owners;
       no_lends = valid.no_lends;
     }
 

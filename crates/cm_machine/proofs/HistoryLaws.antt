@@ -32,6 +32,7 @@ valid_fresh plan pages few linked fit = record {
   memories = length-map pages zeros ∙ eqb-true (length pages) (length plan) (left_true (length pages == length plan) (list_all (λ p. nat_le p 1024) pages) fit);
   closed = length-replicate (length plan) false;
   stack = tt;
+  no_handle = refl;
   no_owners = refl;
   no_lends = refl;
 }

@@ -1,12 +1,13 @@
 -- Each step keeps a state valid.
-use Rattle.std.proofs.Common.{◌≡◌, ℕ, ◌<◌, ◌≤◌, ◌⊎◌, inl, inr, Bool, true, false, List, [], ◌∷◌, length, map, Option, Some, None, refl, sym, ap, subst, ◌∙◌, arith}
-use Rattle.std.specs.Prelude.{slice_set}
+use Rattle.std.proofs.Common.{◌≡◌, ℕ, zero, suc, ◌<◌, ◌≤◌, ◌⊎◌, inl, inr, Bool, true, false, List, [], ◌∷◌, length, map, Option, Some, None, refl, sym, ap, subst, ◌∙◌, arith}
+use Rattle.std.specs.Prelude.{slice_set, slice_get, unwrap_or, replicate}
 use Rattle.std.proofs.Math.ListN.{length-set}
 use Rattle.cm_types.specs.declared.core_value.CoreValue.{CoreValue}
 use Rattle.cm_machine.specs.declared.frame.CoreFunction.{CoreFunction}
 use Rattle.cm_machine.specs.declared.frame.CoreFunction.TheVariants as core_function
 use Rattle.cm_machine.specs.declared.frame.Frame.{Frame}
 use Rattle.cm_machine.specs.declared.frame.Place.{Place}
+use Rattle.cm_machine.specs.declared.frame.Lend.{Lend}
 use Rattle.cm_machine.specs.declared.event.Event.{Event}
 use Rattle.cm_machine.specs.declared.event.Event.TheVariants as event
 use Rattle.cm_machine.specs.declared.event.Trap.{Trap}
@@ -14,7 +15,8 @@ use Rattle.cm_machine.specs.declared.moves.Move.{Move}
 use Rattle.cm_machine.specs.declared.moves.Move.TheVariants as move
 use Rattle.cm_machine.specs.Memories.{written, grown}
 use Rattle.cm_machine.specs.Stack.{actor, top_of, below_top}
-use Rattle.cm_machine.specs.State.{State, IsStack, IsValid, core_at, trapped, closed_with, abandoned}
+use Rattle.cm_machine.specs.State.{State, IsStack, IsValid, core_at, trapped, closed_with, tables_with, abandoned}
+use Rattle.cm_handles.specs.Handles.{Handles, no_handles, closed}
 use Rattle.cm_machine.specs.Step.{first, checks, call_checks, may_grow, memory_of, with_memory, without_top, call_frame, Grows, Calls, Passes, Step}
 use Rattle.cm_machine.proofs.Valid.{FitsCall, call_fits}
 use Rattle.cm_machine.proofs.Cases.{Goes, traps, passes, wants, StepsBy, steps_by, returns_new}
@@ -23,6 +25,22 @@ pub length_closed : (fs : List Frame) (closed : List Bool) → length (closed_wi
 length_closed [] closed = refl
 length_closed (f ∷ fs) closed = length_closed fs (slice_set closed f.instance true) ∙ length-set closed f.instance true
 
+-- an empty table stays as it is when its instance closes
+set_same : (n i : ℕ) → slice_set (replicate n no_handles) i (closed (unwrap_or (slice_get (replicate n no_handles) i) no_handles)) ≡ replicate n no_handles
+set_same zero i = refl
+set_same (suc n) zero = refl
+set_same (suc n) (suc i) = ap (λ ts. no_handles ∷ ts) (set_same n i)
+
+tables_stay : (fs : List Frame) (tables : List Handles) (n : ℕ) → tables ≡ replicate n no_handles → tables_with fs tables ≡ replicate n no_handles
+tables_stay [] tables n e = e
+tables_stay (f ∷ fs) tables n e =
+    tables_stay fs (slice_set tables f.instance (closed (unwrap_or (slice_get tables f.instance) no_handles))) n
+      (ap (λ (ts : List Handles). slice_set ts f.instance (closed (unwrap_or (slice_get ts f.instance) no_handles))) e ∙ set_same n f.instance)
+
+-- a valid state has no handle to lose in a trap
+pub tables_trapped : (s : State) → IsValid s → tables_with s.stack s.tables ≡ s.tables
+tables_trapped s valid = tables_stay s.stack s.tables (length s.plan) valid.no_handle ∙ sym valid.no_handle
+
 pub valid_trapped : (s : State) → IsValid s → IsValid (trapped s)
 valid_trapped s valid = record {
   few = valid.few;
@@ -30,9 +48,20 @@ valid_trapped s valid = record {
   memories = valid.memories;
   closed = length_closed s.stack s.closed ∙ valid.closed;
   stack = tt;
+  no_handle = tables_stay s.stack s.tables (length s.plan) valid.no_handle;
   no_owners = ap (map abandoned) valid.no_owners;
   no_lends = refl;
 }
+
+-- in a valid state a trap changes no more than the stack and what is closed
+pub trap_is : (s : State) → IsValid s → (closed_flags : List Bool) (stack : List Frame) → closed_flags ≡ closed_with s.stack s.closed → stack ≡ [] → ◌≡◌ {A = State} (record s { closed = closed_flags; stack = stack }) (trapped s)
+trap_is s valid closed_flags stack flags_are empty =
+    let owners : s.owners ≡ map abandoned s.owners = valid.no_owners ∙ sym (ap (map abandoned) valid.no_owners) in
+    ap (λ (x : List Bool). record s { closed = x; stack = stack }) flags_are
+    ∙ ap (λ (x : List Frame). record s { closed = closed_with s.stack s.closed; stack = x }) empty
+    ∙ ap (λ (x : List Handles). record s { tables = x; closed = closed_with s.stack s.closed; stack = [] }) (sym (tables_trapped s valid))
+    ∙ ap (λ (x : List Place). record s { tables = tables_with s.stack s.tables; owners = x; closed = closed_with s.stack s.closed; stack = [] }) owners
+    ∙ ap (λ (x : List Lend). record s { tables = tables_with s.stack s.tables; owners = map abandoned s.owners; lends = x; closed = closed_with s.stack s.closed; stack = [] }) valid.no_lends
 
 valid_memory : (s : State) (top : Frame) (memory : List ℕ) → IsValid s → IsValid (with_memory s top memory)
 valid_memory s top memory valid = record {
@@ -41,6 +70,7 @@ valid_memory s top memory valid = record {
   memories = length-set s.memories (actor top) memory ∙ valid.memories;
   closed = valid.closed;
   stack = valid.stack;
+  no_handle = valid.no_handle;
   no_owners = valid.no_owners;
   no_lends = valid.no_lends;
 }
@@ -52,7 +82,8 @@ valid_stack s stack valid h = record {
   memories = valid.memories;
   closed = valid.closed;
   stack = h;
-  no_owners = valid.no_owners;
+  no_handle = valid.no_handle;
+    no_owners = valid.no_owners;
   no_lends = valid.no_lends;
 }
 

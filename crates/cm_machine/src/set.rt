@@ -10,9 +10,10 @@ ghost use Rattle.cm_machine.specs.Step.{memory_of, without_top};
 
 use crate::frame::{CoreFunction, Frame, Lend, Phase, Place, Purpose};
 use crate::memory::Memories;
-use crate::setup::memories_of;
+use crate::setup::{memories_of, tables_of};
 use crate::stack::Stack;
 use arrayvec::ArrayVec;
+use cm_handles::Table;
 use std::alloc::{AllocError, Global};
 use std::marker::Model;
 
@@ -45,6 +46,7 @@ impl CoreFunctions {
 pub struct Set {
     plan: Vec<CoreFunctions>,
     memories: Memories,
+    tables: Vec<Table>,
     owners: Vec<Place>,
     lends: Vec<Lend>,
     closed: Vec<bool>,
@@ -52,13 +54,14 @@ pub struct Set {
 }
 
 impl Model for Set {
+    ghost use Rattle.std.specs.Prelude.{map};
     ghost use Rattle.cm_machine.specs.State.{State, IsValid};
 
     ghost Value = { State };
 
-    ghost view = { λ s. record { plan = s.plan.items; memories = s.memories; owners = s.owners.items; lends = s.lends.items; closed = s.closed.items; stack = s.stack } };
+    ghost view = { λ s. record { plan = s.plan.items; memories = s.memories; tables = map (λ t. t.handles) s.tables.items; owners = s.owners.items; lends = s.lends.items; closed = s.closed.items; stack = s.stack } };
 
-    ghost invariant = { λ s. IsValid (record { plan = s.plan.items; memories = s.memories; owners = s.owners.items; lends = s.lends.items; closed = s.closed.items; stack = s.stack }) };
+    ghost invariant = { λ s. IsValid (record { plan = s.plan.items; memories = s.memories; tables = map (λ t. t.handles) s.tables.items; owners = s.owners.items; lends = s.lends.items; closed = s.closed.items; stack = s.stack }) };
 }
 
 /// The instance that acts while this frame is on top.
@@ -75,9 +78,9 @@ pub(crate) fn actor(frame: &Frame) -> u32
 }
 
 /// Takes all frames off the stack, and closes their instances.
-fn close_all(stack: &mut Stack, closed: &mut [bool])
+fn close_all(stack: &mut Stack, closed: &mut Vec<bool>)
     ensures emptied { stack.new ≡ [] }
-    ensures closed { closed.new ≡ closed_with stack.old closed.old }
+    ensures closed { closed.new.items ≡ closed_with stack.old closed.old.items }
 {
     while let Some(frame) = stack.pop() {
         let instance = frame.instance as usize;
@@ -100,11 +103,13 @@ impl Set {
         ensures { IfOk result (λ s. s ≡ fresh plan.items pages.now) }
     {
         let memories = memories_of(alloc, pages)?;
+        let tables = tables_of(alloc, plan.len())?;
         let closed = vec![in alloc; false; plan.len()]?;
         let stack = Stack::new(alloc)?;
         Ok(Set {
             plan,
             memories,
+            tables,
             owners: Vec::new(alloc),
             lends: Vec::new(alloc),
             closed,

@@ -1,14 +1,15 @@
 //! A set before anything ran.
 
-ghost use Rattle.std.specs.Prelude.{◌≡◌, ◌≤◌, ◌⊎◌, ◌↔◌, List, [], true, false, length, map, nat_le, IfOk, IfErr, IsErrOf};
+ghost use Rattle.std.specs.Prelude.{◌≡◌, ◌≤◌, ◌⊎◌, replicate, ◌↔◌, List, [], true, false, length, map, nat_le, IfOk, IfErr, IsErrOf};
 ghost use Rattle.std.specs.List.{list_all};
+ghost use Rattle.cm_handles.specs.Handles.{no_handles};
 ghost use Rattle.cm_machine.specs.State.{IsPlan};
 ghost use Rattle.cm_machine.specs.Fresh.{are_pages, zeros, fresh};
 
 use crate::event::Misuse;
 use crate::memory::{MAX_PAGES, Memories, Memory};
 use crate::set::{CoreFunctions, Set};
-use crate::stack::Stack;
+use cm_handles::Table;
 use std::alloc::{AllocError, Global};
 
 fn all_fit(pages: &[u32]) -> bool
@@ -33,6 +34,17 @@ pub(crate) fn memories_of(alloc: Global, pages: &[u32]) -> Result<Memories, Allo
         memories.push(Memory::new(alloc, count)?)?;
     }
     Ok(memories)
+}
+
+/// So many empty handle tables.
+pub(crate) fn tables_of(alloc: Global, count: usize) -> Result<Vec<Table>, AllocError>
+    ensures { IfOk result (λ tables. map (λ t. t.handles) tables.items ≡ replicate count no_handles) }
+{
+    let mut tables = Vec::with_capacity(alloc, count)?;
+    for _ in 0..count {
+        tables.push(Table::new(alloc))?;
+    }
+    Ok(tables)
 }
 
 impl Set {
