@@ -12,3 +12,6 @@ pub use def_types::{DefType, FuncType, LabeledValType, ValType};
 pub use extern_names::{ExternName, ExternNameForm};
 pub use names::{Label, NameFault, same_name};
 pub use resource::ResourceId;
+
+#[cfg(test)]
+mod tests;
