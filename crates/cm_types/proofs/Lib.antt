@@ -3,3 +3,4 @@ pub mod Labels
 pub mod ExternNameLaws
 pub mod Nodes
 pub mod Seen
+pub mod SameTypeLemmas
