@@ -4,3 +4,4 @@ pub mod ExternNameLaws
 pub mod Nodes
 pub mod Seen
 pub mod SameTypeLemmas
+pub mod SameTypeLaws
