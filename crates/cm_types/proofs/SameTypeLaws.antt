@@ -1,11 +1,15 @@
 -- The test for equal types says yes exactly where the types are equal.
-use Rattle.std.proofs.Common.{◌≡◌, ℕ, Bool, true, false, ◌&&◌, ◌==◌, List, [], ◌∷◌, refl, sym, ap, ◌∙◌}
+use Rattle.std.proofs.Common.{◌≡◌, ℕ, Bool, true, false, ◌&&◌, ◌==◌, List, [], ◌∷◌, Option, Some, None, refl, sym, ap, ◌∙◌}
+use Rattle.std.specs.Option.{option_map}
 use Rattle.std.specs.Str.{bytes_eq}
 use Rattle.std.specs.Cmp.Lexicographic.{bytes_decides}
 use Rattle.std.proofs.lemmas.Bool.{and_parts, and_from, eqb-true, eq-eqb, false≢true}
 use Rattle.cm_types.specs.declared.resource.ResourceId.{ResourceId}
-use Rattle.cm_types.specs.Types.{Ty, Fields, Cases, FieldsKind, CasesKind, bool, signed, unsigned, char, string, list, fixed_list, fields, cases, flags, own, borrow, no_fields, field, no_cases, plain, carrying, record_type, tuple_type, variant_type, enum_type, option_type, result_type}
-use Rattle.cm_types.specs.SameTypes.{resolve, resolved, resolved_fields, resolved_cases, same_resource, same_fields_kind, same_cases_kind, same_labels, same_type, same_fields, same_cases}
+use Rattle.cm_types.specs.Types.{Ty, FuncTy, Fields, Cases, FieldsKind, CasesKind, bool, signed, unsigned, char, string, list, fixed_list, fields, cases, flags, own, borrow, no_fields, field, no_cases, plain, carrying, record_type, tuple_type, variant_type, enum_type, option_type, result_type}
+use Rattle.cm_types.specs.SameTypes.{resolve, resolved, resolved_fields, resolved_cases, same_resource, same_fields_kind, same_cases_kind, same_labels, same_type, same_fields, same_cases, same_payload, resolved_func, same_func}
+
+abbrev make_func : Fields → Option Ty → FuncTy
+make_func ps r = record { params = ps; result = r }
 
 -- ---- yes only where they are equal
 
@@ -150,3 +154,22 @@ module _ (rs ss : List ResourceId) where
     cases_complete (carrying k t cs) (carrying l u ds) e =
         and_from _ _ (and_from _ _ (label_complete k l cc) (complete t u cc)) (cases_complete cs ds cc)
     cases_complete _ _ e = cc
+
+  payload_sound : (o p : Option Ty) → same_payload rs ss o p ≡ true → option_map (resolved rs) o ≡ option_map (resolved ss) p
+  payload_sound None None h = refl
+  payload_sound (Some t) (Some u) h = ap Some (sound t u h)
+  payload_sound _ _ h = absurd (false≢true h)
+
+  payload_complete : (o p : Option Ty) → option_map (resolved rs) o ≡ option_map (resolved ss) p → same_payload rs ss o p ≡ true
+  payload_complete None None e = refl
+  payload_complete (Some t) (Some u) e = complete t u cc
+  payload_complete _ _ e = cc
+
+  pub func_sound : (f g : FuncTy) → same_func rs ss f g ≡ true → resolved_func rs f ≡ resolved_func ss g
+  func_sound f g h =
+      let p = and_parts _ _ h in
+      ap (λ ps. make_func ps (option_map (resolved rs) f.result)) (fields_sound f.params g.params p.0)
+      ∙ ap (λ r. make_func (resolved_fields ss g.params) r) (payload_sound f.result g.result p.1)
+
+  pub func_complete : (f g : FuncTy) → resolved_func rs f ≡ resolved_func ss g → same_func rs ss f g ≡ true
+  func_complete f g e = and_from _ _ (fields_complete f.params g.params (ap (λ h. h.params) e)) (payload_complete f.result g.result (ap (λ h. h.result) e))

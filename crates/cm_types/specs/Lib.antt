@@ -10,3 +10,4 @@ pub mod Limits
 pub mod Values
 pub mod ValueTrees
 pub mod SameTypes
+pub mod Funcs

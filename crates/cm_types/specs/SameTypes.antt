@@ -1,8 +1,9 @@
 -- Equality of types up to what stands for a resource.
 use Rattle.std.specs.Prelude.{◌≡◌, ℕ, ◌==◌, ◌&&◌, Bool, true, false, List, [], ◌∷◌, slice_index_or, Option, Some, None}
+use Rattle.std.specs.Option.{option_map}
 use Rattle.std.specs.Str.{bytes_eq}
 use Rattle.cm_types.specs.declared.resource.ResourceId.{ResourceId}
-use Rattle.cm_types.specs.Types.{Ty, Fields, Cases, FieldsKind, CasesKind, bool, signed, unsigned, char, string, list, fixed_list, fields, cases, flags, own, borrow, no_fields, field, no_cases, plain, carrying, record_type, tuple_type, variant_type, enum_type, option_type, result_type}
+use Rattle.cm_types.specs.Types.{Ty, FuncTy, Fields, Cases, FieldsKind, CasesKind, bool, signed, unsigned, char, string, list, fixed_list, fields, cases, flags, own, borrow, no_fields, field, no_cases, plain, carrying, record_type, tuple_type, variant_type, enum_type, option_type, result_type}
 
 -- what stands for a resource: the member of the list at its number, or itself where there is none
 abbrev pub resolve : List ResourceId → ResourceId → ResourceId
@@ -27,6 +28,10 @@ abbrev mutual
   resolved_cases rs no_cases = no_cases
   resolved_cases rs (plain l cs) = plain l (resolved_cases rs cs)
   resolved_cases rs (carrying l t cs) = carrying l (resolved rs t) (resolved_cases rs cs)
+
+-- the type of a function with each resource replaced
+abbrev pub resolved_func : List ResourceId → FuncTy → FuncTy
+resolved_func rs f = record { params = resolved_fields rs f.params; result = option_map (resolved rs) f.result }
 
 -- ---- the same as a test
 
@@ -85,3 +90,6 @@ same_payload rs ss _ _ = false
 
 abbrev pub same_case : List ResourceId → List ResourceId → List ℕ × Option Ty → List ℕ × Option Ty → Bool
 same_case rs ss c d = bytes_eq c.0 d.0 && same_payload rs ss c.1 d.1
+
+abbrev pub same_func : List ResourceId → List ResourceId → FuncTy → FuncTy → Bool
+same_func rs ss f g = same_fields rs ss f.params g.params && same_payload rs ss f.result g.result

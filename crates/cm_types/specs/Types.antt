@@ -42,3 +42,8 @@ mutual
     no_cases : Cases
     plain : List ℕ → Cases → Cases
     carrying : List ℕ → Ty → Cases → Cases
+
+-- the type of a function: labels and types of its parameters, and the type of its result, if it has one
+pub record FuncTy : Type 0 where
+  pub params : Fields
+  pub result : Option Ty

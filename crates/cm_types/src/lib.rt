@@ -16,6 +16,7 @@ pub use def_types::{DefType, FuncType, LabeledValType, ValType};
 pub use extern_names::{ExternName, ExternNameForm};
 pub use names::{Label, NameFault, same_name};
 pub use resource::ResourceId;
+pub use same_types::{same_func, same_type};
 pub use type_trees::{Case, Field, Func, TooLarge, TypeNode, TypeTree};
 pub use values::{Value, is_scalar};
 

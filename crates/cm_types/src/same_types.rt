@@ -1,14 +1,56 @@
 //! Equality of types, where what stands for a resource decides.
 
-ghost use Rattle.std.specs.Prelude.{◌≡◌};
+ghost use Rattle.std.specs.Prelude.{◌≡◌, ◌↔◌, IsTrue};
 ghost use Rattle.std.specs.Option.{option_map};
 ghost use Rattle.std.specs.Str.{bytes_eq};
-ghost use Rattle.cm_types.specs.SameTypes.{resolve, same_case, same_cases, same_fields, same_labels, same_payload, same_resource, same_type};
+ghost use Rattle.cm_types.specs.SameTypes.{resolve, resolved, resolved_func, same_case, same_cases, same_fields, same_func, same_labels, same_payload, same_resource, same_type};
+ghost use Rattle.cm_types.specs.Funcs.{func_of, tree_type};
 ghost use Rattle.cm_types.specs.TypeTrees.{boxed_payload, case_of, cases_of, fields_of, parts_of, type_of};
 
 use crate::names::Label;
 use crate::resource::ResourceId;
-use crate::type_trees::{Case, Field, TypeNode};
+use crate::type_trees::{Case, Field, Func, TypeNode, TypeTree};
+
+/// Whether two types are equal, labels as texts, once each resource is replaced by what stands for it:
+/// in `a` by the member of `left` at the number of the resource, in `b` by that of `right`. A resource
+/// whose number is past the end of its list stands for itself.
+///
+/// A record and a tuple, a variant, an enum, an option and a result are different types, also where
+/// they have the same fields or cases.
+pub fn same_type(a: &TypeNode, b: &TypeNode, left: &[ResourceId], right: &[ResourceId]) -> bool
+    ensures { IsTrue result ↔ (resolved left.now (type_of a.now) ≡ resolved right.now (type_of b.now)) }
+{
+    same_node(a, b, left, right)
+}
+
+/// Whether two functions have the same type: equal labels and types of parameters, in order, and equal
+/// results, as `same_type` tells it.
+pub fn same_func(a: &Func, b: &Func, left: &[ResourceId], right: &[ResourceId]) -> bool
+    ensures { IsTrue result ↔ (resolved_func left.now (func_of a.now) ≡ resolved_func right.now (func_of b.now)) }
+{
+    same_parts_of_func(a, b, left, right)
+}
+
+fn same_parts_of_func(a: &Func, b: &Func, left: &[ResourceId], right: &[ResourceId]) -> bool
+    ensures { result ≡ same_func left.now right.now (func_of a.now) (func_of b.now) }
+{
+    same_fields(&a.params, &b.params, left, right) && same_results(&a.result, &b.result, left, right)
+}
+
+fn same_results(
+    a: &Option<TypeTree>,
+    b: &Option<TypeTree>,
+    left: &[ResourceId],
+    right: &[ResourceId],
+) -> bool
+    ensures { result ≡ same_payload left.now right.now (option_map tree_type a.now) (option_map tree_type b.now) }
+{
+    match (a, b) {
+        (Some(x), Some(y)) => same_node(&x.root, &y.root, left, right),
+        (None, None) => true,
+        _ => false,
+    }
+}
 
 fn resolve(resources: &[ResourceId], id: ResourceId) -> ResourceId
     ensures { result ≡ resolve resources.now id }
