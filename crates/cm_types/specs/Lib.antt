@@ -11,3 +11,4 @@ pub mod Values
 pub mod ValueTrees
 pub mod SameTypes
 pub mod Funcs
+pub mod Signatures
