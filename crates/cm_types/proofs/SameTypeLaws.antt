@@ -5,8 +5,8 @@ use Rattle.std.specs.Str.{bytes_eq}
 use Rattle.std.specs.Cmp.Lexicographic.{bytes_decides}
 use Rattle.std.proofs.lemmas.Bool.{and_parts, and_from, eqb-true, eq-eqb, false≢true}
 use Rattle.cm_types.specs.declared.resource.ResourceId.{ResourceId}
-use Rattle.cm_types.specs.Types.{Ty, FuncTy, Fields, Cases, FieldsKind, CasesKind, bool, signed, unsigned, char, string, list, fixed_list, fields, cases, flags, own, borrow, no_fields, field, no_cases, plain, carrying, record_type, tuple_type, variant_type, enum_type, option_type, result_type}
-use Rattle.cm_types.specs.SameTypes.{resolve, resolved, resolved_fields, resolved_cases, same_resource, same_fields_kind, same_cases_kind, same_labels, same_type, same_fields, same_cases, same_payload, resolved_func, same_func}
+use Rattle.cm_types.specs.Types.{Ty, FuncTy, Fields, Cases, FieldsKind, CasesKind, Width, bits_8, bits_16, bits_32, bits_64, bool, signed, unsigned, char, string, list, fixed_list, fields, cases, flags, own, borrow, no_fields, field, no_cases, plain, carrying, record_type, tuple_type, variant_type, enum_type, option_type, result_type}
+use Rattle.cm_types.specs.SameTypes.{resolve, resolved, resolved_fields, resolved_cases, same_resource, same_width, same_fields_kind, same_cases_kind, same_labels, same_type, same_fields, same_cases, same_payload, resolved_func, same_func}
 
 abbrev make_func : Fields → Option Ty → FuncTy
 make_func ps r = record { params = ps; result = r }
@@ -18,6 +18,22 @@ resource_sound r s h =
     let p = and_parts _ _ h in
     ap (λ n. record { component = n; number = r.number }) (eqb-true r.component s.component p.0)
     ∙ ap (λ n. record { component = s.component; number = n }) (eqb-true r.number s.number p.1)
+
+width_sound : (j k : Width) → same_width j k ≡ true → j ≡ k
+width_sound bits_8 bits_8 h = refl
+width_sound bits_16 bits_16 h = refl
+width_sound bits_32 bits_32 h = refl
+width_sound bits_64 bits_64 h = refl
+width_sound _ _ h = absurd (false≢true h)
+
+width_same : (j : Width) → same_width j j ≡ true
+width_same bits_8 = refl
+width_same bits_16 = refl
+width_same bits_32 = refl
+width_same bits_64 = refl
+
+width_complete : (j k : Width) → j ≡ k → same_width j k ≡ true
+width_complete j k e = ap (same_width j) (sym e) ∙ width_same j
 
 fields_kind_sound : (j k : FieldsKind) → same_fields_kind j k ≡ true → j ≡ k
 fields_kind_sound record_type record_type h = refl
@@ -80,8 +96,8 @@ module _ (rs ss : List ResourceId) where
   mutual
     pub sound : (t u : Ty) → same_type rs ss t u ≡ true → resolved rs t ≡ resolved ss u
     sound bool bool h = refl
-    sound (signed j) (signed k) h = ap signed (eqb-true j k h)
-    sound (unsigned j) (unsigned k) h = ap unsigned (eqb-true j k h)
+    sound (signed j) (signed k) h = ap signed (width_sound j k h)
+    sound (unsigned j) (unsigned k) h = ap unsigned (width_sound j k h)
     sound char char h = refl
     sound string string h = refl
     sound (list t) (list u) h = ap list (sound t u h)
@@ -129,8 +145,8 @@ module _ (rs ss : List ResourceId) where
   mutual
     pub complete : (t u : Ty) → resolved rs t ≡ resolved ss u → same_type rs ss t u ≡ true
     complete bool bool e = refl
-    complete (signed j) (signed k) e = eq-eqb j k cc
-    complete (unsigned j) (unsigned k) e = eq-eqb j k cc
+    complete (signed j) (signed k) e = width_complete j k cc
+    complete (unsigned j) (unsigned k) e = width_complete j k cc
     complete char char e = refl
     complete string string e = refl
     complete (list t) (list u) e = complete t u cc

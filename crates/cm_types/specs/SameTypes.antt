@@ -3,7 +3,7 @@ use Rattle.std.specs.Prelude.{◌≡◌, ℕ, ◌==◌, ◌&&◌, Bool, true, fa
 use Rattle.std.specs.Option.{option_map}
 use Rattle.std.specs.Str.{bytes_eq}
 use Rattle.cm_types.specs.declared.resource.ResourceId.{ResourceId}
-use Rattle.cm_types.specs.Types.{Ty, FuncTy, Fields, Cases, FieldsKind, CasesKind, bool, signed, unsigned, char, string, list, fixed_list, fields, cases, flags, own, borrow, no_fields, field, no_cases, plain, carrying, record_type, tuple_type, variant_type, enum_type, option_type, result_type}
+use Rattle.cm_types.specs.Types.{Ty, FuncTy, Fields, Cases, FieldsKind, CasesKind, Width, bits_8, bits_16, bits_32, bits_64, bool, signed, unsigned, char, string, list, fixed_list, fields, cases, flags, own, borrow, no_fields, field, no_cases, plain, carrying, record_type, tuple_type, variant_type, enum_type, option_type, result_type}
 
 -- what stands for a resource: the member of the list at its number, or itself where there is none
 abbrev pub resolve : List ResourceId → ResourceId → ResourceId
@@ -38,6 +38,13 @@ resolved_func rs f = record { params = resolved_fields rs f.params; result = opt
 abbrev pub same_resource : ResourceId → ResourceId → Bool
 same_resource r s = (r.component == s.component) && (r.number == s.number)
 
+abbrev pub same_width : Width → Width → Bool
+same_width bits_8 bits_8 = true
+same_width bits_16 bits_16 = true
+same_width bits_32 bits_32 = true
+same_width bits_64 bits_64 = true
+same_width _ _ = false
+
 abbrev pub same_fields_kind : FieldsKind → FieldsKind → Bool
 same_fields_kind record_type record_type = true
 same_fields_kind tuple_type tuple_type = true
@@ -59,8 +66,8 @@ abbrev mutual
   -- whether two types are the same once their resources are replaced, by one list on each side
   pub same_type : List ResourceId → List ResourceId → Ty → Ty → Bool
   same_type rs ss bool bool = true
-  same_type rs ss (signed j) (signed k) = j == k
-  same_type rs ss (unsigned j) (unsigned k) = j == k
+  same_type rs ss (signed j) (signed k) = same_width j k
+  same_type rs ss (unsigned j) (unsigned k) = same_width j k
   same_type rs ss char char = true
   same_type rs ss string string = true
   same_type rs ss (list t) (list u) = same_type rs ss t u

@@ -2,7 +2,7 @@
 use Rattle.std.specs.Prelude.{◌≡◌, ℕ, zero, suc, ℤ, pos, neg_ℤ, ◌+◌, ◌*◌, ◌-◌, ◌<◌, ◌≤◌, ◌^◌, ◌⊎◌, ◌≤ℤ◌, ◌<ℤ◌, Bool, List, length, ⊤}
 use Rattle.std.specs.List.{AllByRecursion}
 use Rattle.cm_types.specs.declared.resource.ResourceId.{ResourceId}
-use Rattle.cm_types.specs.Types.{Ty, Fields, Cases, bool, signed, unsigned, char, string, list, fixed_list, fields, cases, flags, own, borrow, no_fields, field, no_cases, plain, carrying}
+use Rattle.cm_types.specs.Types.{Ty, Fields, Cases, Width, bytes_of, bool, signed, unsigned, char, string, list, fixed_list, fields, cases, flags, own, borrow, no_fields, field, no_cases, plain, carrying}
 
 -- a handle on its way: the serial number of the resource that it stands for, the representation, and the
 -- resource type
@@ -42,9 +42,13 @@ count_of (val v vs) = 1 + count_of vs
 abbrev pub IsScalarValue : ℕ → Type 0
 IsScalarValue c = (c < 0x110000) × ((c < 0xD800) ⊎ (0xDFFF < c))
 
--- a number of so many bytes in two's complement
-abbrev pub FitsSignedBytes : ℕ → ℤ → Type 0
-FitsSignedBytes k z = (neg_ℤ (pos (2 ^ (8 * k - 1))) ≤ℤ z) × (z <ℤ pos (2 ^ (8 * k - 1)))
+-- a number fits two's complement of this width
+abbrev pub FitsSignedWidth : Width → ℤ → Type 0
+FitsSignedWidth k z = (neg_ℤ (pos (2 ^ (8 * bytes_of k - 1))) ≤ℤ z) × (z <ℤ pos (2 ^ (8 * bytes_of k - 1)))
+
+-- a number without sign fits this width
+abbrev pub FitsWidth : Width → ℕ → Type 0
+FitsWidth k n = n < 2 ^ (8 * bytes_of k)
 
 -- the case of this number is there, and carries nothing
 abbrev pub IsPlainCase : Cases → ℕ → Type 0
@@ -63,8 +67,8 @@ abbrev mutual
   -- a value has a type, by cases on the type
   pub HasType : Ty → Val → Type 0
   HasType bool (truth b) = ⊤
-  HasType (signed k) (signed_number z) = FitsSignedBytes k z
-  HasType (unsigned k) (number n) = n < 2 ^ (8 * k)
+  HasType (signed k) (signed_number z) = FitsSignedWidth k z
+  HasType (unsigned k) (number n) = FitsWidth k n
   HasType char (scalar c) = IsScalarValue c
   HasType string (text cs) = AllByRecursion IsScalarValue cs
   HasType (list t) (elements vs) = AllVals (HasType t) vs
