@@ -1,0 +1,5 @@
+//! How values of component types lie in memory and in core values (CanonicalABI.md, "Alignment",
+//! "Element Size" and "Flattening").
+#![tactic(auto)]
+
+mod alignments;
