@@ -1,1 +1,2 @@
 pub mod AlignLemmas
+pub mod SizeLemmas

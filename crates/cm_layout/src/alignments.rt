@@ -1,13 +1,15 @@
 //! Alignments, in bytes.
 
-ghost use Rattle.std.specs.Prelude.{◌≡◌};
+ghost use Rattle.std.specs.Prelude.{◌≡◌, ◌≤◌};
 ghost use Rattle.cm_types.specs.TypeTrees.{boxed_payload, cases_of, fields_of, parts_of, type_of};
 ghost use Rattle.cm_layout.specs.Sizes.{align_of, align_of_fields, align_of_payload, align_of_payloads, discriminant_size, flags_size};
 
 use cm_types::{Case, Field, TypeNode};
 
 pub(crate) fn discriminant_size(cases: usize) -> u32
-    ensures { result ≡ discriminant_size cases }
+    ensures value { result ≡ discriminant_size cases }
+    ensures positive { 1 ≤ result }
+    ensures small { result ≤ 4 }
 {
     if cases <= 256 {
         1
@@ -33,7 +35,9 @@ pub(crate) fn flags_size(labels: usize) -> u32
 #[cycle(align)]
 #[tactic(auto, using(crate::proofs::AlignLemmas::aligns))]
 pub(crate) fn node_align(ty: &TypeNode) -> u32
-    ensures { result ≡ align_of (type_of ty.now) }
+    ensures value { result ≡ align_of (type_of ty.now) }
+    ensures positive { 1 ≤ result }
+    ensures small { result ≤ 8 }
 {
     match ty {
         TypeNode::Bool | TypeNode::S8 | TypeNode::U8 => 1,
@@ -60,7 +64,9 @@ pub(crate) fn node_align(ty: &TypeNode) -> u32
 #[cycle(align)]
 #[tactic(auto, using(crate::proofs::AlignLemmas::aligns))]
 pub(crate) fn box_align(payload: &Option<Box<TypeNode>>) -> u32
-    ensures { result ≡ align_of_payload (boxed_payload payload.now) }
+    ensures value { result ≡ align_of_payload (boxed_payload payload.now) }
+    ensures positive { 1 ≤ result }
+    ensures small { result ≤ 8 }
 {
     match payload {
         Some(ty) => node_align(ty),
@@ -71,7 +77,9 @@ pub(crate) fn box_align(payload: &Option<Box<TypeNode>>) -> u32
 #[cycle(align)]
 #[tactic(auto, using(crate::proofs::AlignLemmas::aligns))]
 pub(crate) fn fields_align(fields: &[Field]) -> u32
-    ensures { result ≡ align_of_fields (fields_of fields.now) }
+    ensures value { result ≡ align_of_fields (fields_of fields.now) }
+    ensures positive { 1 ≤ result }
+    ensures small { result ≤ 8 }
 {
     let mut most = 1;
     for field in fields {
@@ -83,7 +91,9 @@ pub(crate) fn fields_align(fields: &[Field]) -> u32
 #[cycle(align)]
 #[tactic(auto, using(crate::proofs::AlignLemmas::aligns))]
 pub(crate) fn parts_align(parts: &[TypeNode]) -> u32
-    ensures { result ≡ align_of_fields (parts_of parts.now) }
+    ensures value { result ≡ align_of_fields (parts_of parts.now) }
+    ensures positive { 1 ≤ result }
+    ensures small { result ≤ 8 }
 {
     let mut most = 1;
     for part in parts {
@@ -95,7 +105,9 @@ pub(crate) fn parts_align(parts: &[TypeNode]) -> u32
 #[cycle(align)]
 #[tactic(auto, using(crate::proofs::AlignLemmas::aligns))]
 pub(crate) fn payloads_align(cases: &[Case]) -> u32
-    ensures { result ≡ align_of_payloads (cases_of cases.now) }
+    ensures value { result ≡ align_of_payloads (cases_of cases.now) }
+    ensures positive { 1 ≤ result }
+    ensures small { result ≤ 8 }
 {
     let mut most = 1;
     for case in cases {

@@ -3,3 +3,4 @@
 #![tactic(auto)]
 
 mod alignments;
+mod sizes;
