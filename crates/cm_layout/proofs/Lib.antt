@@ -1,2 +1,3 @@
 pub mod AlignLemmas
 pub mod SizeLemmas
+pub mod PlaceLaws

@@ -1,5 +1,5 @@
 -- Sizes and alignments of values in memory, in bytes (CanonicalABI.md, "Alignment" and "Element Size").
-use Rattle.std.specs.Prelude.{ℕ, zero, suc, ◌+◌, ◌*◌, max, nat_le, if◌then◌else◌, List, length, Option, Some, None}
+use Rattle.std.specs.Prelude.{ℕ, zero, suc, ◌+◌, ◌*◌, ◌<◌, ⊤, max, nat_le, if◌then◌else◌, List, length, Option, Some, None}
 use Rattle.cm_types.specs.Types.{Ty, Fields, Cases, bytes_of, bool, signed, unsigned, char, string, list, fixed_list, fields, cases, flags, own, borrow, no_fields, field, no_cases, plain, carrying}
 use Rattle.cm_layout.specs.Places.{place}
 
@@ -94,3 +94,41 @@ align_of_payload (Some t) = align_of t
 abbrev pub size_of_payload : Option Ty → ℕ
 size_of_payload None = 0
 size_of_payload (Some t) = size_of t
+
+-- the type of field n
+abbrev pub field_type : Fields → ℕ → Ty
+field_type no_fields n = bool
+field_type (field l t fs) zero = t
+field_type (field l t fs) (suc n) = field_type fs n
+
+-- where what stands before field n ends, if the field before all ends here
+abbrev pub end_before : Fields → ℕ → ℕ → ℕ
+end_before fs at zero = at
+end_before fs at (suc n) = field_place fs at n + size_of (field_type fs n)
+
+-- ---- what can be asked of a type
+
+-- the type is a record or a tuple with field n
+abbrev pub HasField : Ty → ℕ → Type 0
+HasField (fields k fs) n = n < field_count fs
+HasField _ n = ⊥
+
+-- where field n stands in a record or a tuple
+abbrev pub field_offset : Ty → ℕ → ℕ
+field_offset (fields k fs) n = field_place fs 0 n
+field_offset _ n = 0
+
+-- the fields of a record or a tuple
+abbrev pub fields_in : Ty → Fields
+fields_in (fields k fs) = fs
+fields_in _ = no_fields
+
+-- the type is a variant, an enum, an option or a result
+abbrev pub HasCases : Ty → Type 0
+HasCases (cases k cs) = ⊤
+HasCases _ = ⊥
+
+-- where the payload stands in such a type
+abbrev pub case_offset : Ty → ℕ
+case_offset (cases k cs) = payload_offset cs
+case_offset _ = 0

@@ -3,4 +3,5 @@
 #![tactic(auto)]
 
 mod alignments;
+mod offsets;
 mod sizes;
