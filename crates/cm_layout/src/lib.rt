@@ -3,5 +3,6 @@
 #![tactic(auto)]
 
 mod alignments;
+mod flattening;
 mod offsets;
 mod sizes;

@@ -1,13 +1,14 @@
 -- What type each kind of node is.
 use Rattle.std.proofs.Common.{◌≡◌, ℕ, List, Option, Box, Vec, Global, rules, map, codes}
+use Rattle.std.specs.Option.{option_map}
 use Rattle.cm_types.specs.Types.{Ty, Cases, list, fixed_list, fields, cases, flags, record_type, tuple_type, variant_type, enum_type, option_type, result_type, no_cases, plain, carrying}
-use Rattle.cm_types.specs.TypeTrees.{type_of, field_of, fields_of, parts_of, cases_of, plain_from, case_before, boxed_payload}
+use Rattle.cm_types.specs.TypeTrees.{type_of, field_of, case_of, fields_of, parts_of, cases_of, plain_from, case_before, boxed_payload}
 use Rattle.cm_types.specs.declared.names.Label.{Label}
 use Rattle.cm_types.specs.declared.type_trees.TypeNode.{TypeNode, the_lemmas}
 use Rattle.cm_types.specs.declared.type_trees.TypeNode.TheViews as node
 use Rattle.cm_types.specs.declared.type_trees.TypeNode.TheVariants as leaf
 use Rattle.cm_types.specs.declared.type_trees.Field.{Field, out-Field}
-use Rattle.cm_types.specs.declared.type_trees.Case.{Case}
+use Rattle.cm_types.specs.declared.type_trees.Case.{Case, out-Case}
 
 pub seen_List : (b : Box TypeNode Global) → type_of (node.List b) ≡ list (type_of b.value)
 seen_List b = search (rules, the_lemmas)
@@ -39,3 +40,7 @@ seen_Result ok error = search (rules, the_lemmas)
 -- the type of a field
 pub seen_field : (f : Field) → (field_of f).1 ≡ type_of (out-Field f).ty
 seen_field f = search (rules, the_lemmas)
+
+-- the payload of a case
+pub seen_case : (c : Case) → (case_of c).1 ≡ option_map type_of (out-Case c).payload
+seen_case c = search (rules, the_lemmas)
