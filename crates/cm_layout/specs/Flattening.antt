@@ -1,8 +1,8 @@
 -- The core values that a value is passed as (CanonicalABI.md, "Flattening").
-use Rattle.std.specs.Prelude.{◌≡◌, ◌↔◌, ℕ, zero, suc, ◌+◌, ◌<◌, List, [], ◌∷◌, ◌++◌, length, Option, Some, None, Bool, true, false, nat_le, not, if◌then◌else◌}
+use Rattle.std.specs.Prelude.{◌≡◌, ℕ, zero, suc, List, [], ◌∷◌, ◌++◌, ◌⊎◌, ⊤, Option, Some, None}
 use Rattle.cm_types.specs.declared.core_value.CoreKind.{CoreKind}
 use Rattle.cm_types.specs.declared.core_value.CoreKind.TheVariants.{I32, I64}
-use Rattle.cm_types.specs.Types.{Ty, Fields, Cases, FuncTy, Width, bits_8, bits_16, bits_32, bits_64, bool, signed, unsigned, char, string, list, fixed_list, fields, cases, flags, own, borrow, no_fields, field, no_cases, plain, carrying}
+use Rattle.cm_types.specs.Types.{Ty, Fields, Cases, Width, bits_8, bits_16, bits_32, bits_64, bool, signed, unsigned, char, string, list, fixed_list, fields, cases, flags, own, borrow, no_fields, field, no_cases, plain, carrying}
 
 -- a list, so many times over
 abbrev pub copies : ℕ → List CoreKind → List CoreKind
@@ -59,50 +59,27 @@ abbrev pub flat_of_payload : Option Ty → List CoreKind
 flat_of_payload None = []
 flat_of_payload (Some t) = flat_of t
 
--- ---- functions
+-- ---- the same slot by slot
 
--- whose core function: that which a component lifts, or that which it gets for a function it lowers
-pub data FuncSide : Type 0 where
-  lift_side : FuncSide
-  lower_side : FuncSide
+-- the kind in a slot, if there is one
+abbrev pub slot : List CoreKind → ℕ → Option CoreKind
+slot [] n = None
+slot (k ∷ ks) zero = Some k
+slot (k ∷ ks) (suc n) = slot ks n
 
--- the signature of a core function
-pub record FlatFuncTy : Type 0 where
-  pub params : List CoreKind
-  pub results : List CoreKind
-  -- the parameters are one pointer to their tuple
-  pub spilled_params : Bool
-  -- the result is passed in memory: the function answers a pointer, or takes one as its last parameter
-  pub spilled_result : Bool
+-- some payload has this kind in this slot
+abbrev pub SlotOfSome : Cases → ℕ → CoreKind → Type 0
+SlotOfSome no_cases n k = ⊥
+SlotOfSome (plain l cs) n k = SlotOfSome cs n k
+SlotOfSome (carrying l t cs) n k = (slot (flat_of t) n ≡ Some k) ⊎ SlotOfSome cs n k
 
--- more than 16 flat parameters, and more than 1 flat result, are passed in memory
-abbrev pub spills : ℕ → List CoreKind → Bool
-spills most kinds = not (nat_le (length kinds) most)
+-- a kind is the greatest that some payload has in a slot, 32 bits below 64, or no payload has the slot
+abbrev pub IsGreatestSlot : Cases → ℕ → Option CoreKind → Type 0
+IsGreatestSlot cs n None = (k : CoreKind) → SlotOfSome cs n k → ⊥
+IsGreatestSlot cs n (Some k) = SlotOfSome cs n k × ((j : CoreKind) → SlotOfSome cs n j → join j k ≡ k)
 
-abbrev pub passed_params : List CoreKind → List CoreKind
-passed_params kinds = if spills 16 kinds then I32 ∷ [] else kinds
-
--- the kinds of the result, if there is one
-abbrev pub flat_result : FuncTy → List CoreKind
-flat_result f = flat_of_payload f.result
-
--- the core function that is lifted
-abbrev pub lifted_func : List CoreKind → List CoreKind → FlatFuncTy
-lifted_func params result = record {
-    params = passed_params params;
-    results = if spills 1 result then I32 ∷ [] else result;
-    spilled_params = spills 16 params;
-    spilled_result = spills 1 result }
-
--- the core function that stands for a lowered one
-abbrev pub lowered_func : List CoreKind → List CoreKind → FlatFuncTy
-lowered_func params result = record {
-    params = passed_params params ++ (if spills 1 result then I32 ∷ [] else []);
-    results = if spills 1 result then [] else result;
-    spilled_params = spills 16 params;
-    spilled_result = spills 1 result }
-
--- the core signature of a function
-abbrev pub flat_func : FuncSide → FuncTy → FlatFuncTy
-flat_func lift_side f = lifted_func (flat_of_fields f.params) (flat_result f)
-flat_func lower_side f = lowered_func (flat_of_fields f.params) (flat_result f)
+-- what has cases is the number of the case, and then slot by slot the greatest kind
+abbrev pub JoinsSlots : Ty → List CoreKind → Type 0
+JoinsSlots (cases k cs) [] = ⊥
+JoinsSlots (cases k cs) (d ∷ slots) = (d ≡ I32) × ((n : ℕ) → IsGreatestSlot cs n (slot slots n))
+JoinsSlots _ kinds = ⊤

@@ -3,6 +3,7 @@
 #![tactic(auto)]
 
 mod alignments;
+mod flat_funcs;
 mod flattening;
 mod offsets;
 mod sizes;
