@@ -1,3 +1,7 @@
 pub mod Cuts
 pub mod Labels
 pub mod ExternNameLaws
+pub mod Nodes
+pub mod Seen
+pub mod SameTypeLemmas
+pub mod SameTypeLaws

@@ -4,3 +4,11 @@ pub mod ExternNameForms
 pub mod ExternNames
 pub mod Faults
 pub mod Names
+pub mod TypeTrees
+pub mod Types
+pub mod Limits
+pub mod Values
+pub mod ValueTrees
+pub mod SameTypes
+pub mod Funcs
+pub mod Signatures

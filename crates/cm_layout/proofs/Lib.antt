@@ -1,0 +1,4 @@
+pub mod AlignLemmas
+pub mod SizeLemmas
+pub mod PlaceLaws
+pub mod FlatLemmas
