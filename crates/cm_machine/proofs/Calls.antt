@@ -20,7 +20,8 @@ use Rattle.cm_machine.specs.declared.moves.Move.TheVariants as move
 use Rattle.cm_machine.specs.Stack.{actor, top_of, below_top}
 use Rattle.cm_machine.specs.State.{State, StandsOn, IsValid, core_at, is_closed}
 use Rattle.cm_machine.specs.Step.{first, checks, call_checks, are_i32s, may_leave, may_grow, result_count, returned, returned_in, Grows, Calls, Returns, Passes, Step}
-use Rattle.cm_machine.specs.Values.{View, Value, view_of, Denotes, Receives}
+use Rattle.cm_types.specs.Values.{Val}
+use Rattle.cm_machine.specs.Values.{View, view_of, Denotes, Receives}
 use Rattle.cm_machine.specs.History.{Action, begins, moves, Entry, Happens, IsHistory, acts, Sending, sending_of, function_of, or_before, sent, Open, root, called, without_last, open_after, open_calls, Answering, answering_of, or_answered, answered}
 use Rattle.cm_machine.specs.Headline.{IsEntryOf, EntersRightly, IsResumptionOf, ResumesRightly}
 use Rattle.cm_machine.proofs.Valid.{four_pass, IsFineTop, top_is_fine}

@@ -69,7 +69,7 @@ valid_begun s i valid h =
       closed = valid.closed;
       stack = (omega (arith, valid.closed, inside), refl, tt);
       no_handle = valid.no_handle;
-    no_owners = valid.no_owners;
+      no_owners = valid.no_owners;
       no_lends = valid.no_lends;
     }
 

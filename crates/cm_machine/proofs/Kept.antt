@@ -35,7 +35,7 @@ tables_stay : (fs : List Frame) (tables : List Handles) (n : ℕ) → tables ≡
 tables_stay [] tables n e = e
 tables_stay (f ∷ fs) tables n e =
     tables_stay fs (slice_set tables f.instance (closed (unwrap_or (slice_get tables f.instance) no_handles))) n
-      (ap (λ (ts : List Handles). slice_set ts f.instance (closed (unwrap_or (slice_get ts f.instance) no_handles))) e ∙ set_same n f.instance)
+    (ap (λ (ts : List Handles). slice_set ts f.instance (closed (unwrap_or (slice_get ts f.instance) no_handles))) e ∙ set_same n f.instance)
 
 -- a valid state has no handle to lose in a trap
 pub tables_trapped : (s : State) → IsValid s → tables_with s.stack s.tables ≡ s.tables
@@ -83,7 +83,7 @@ valid_stack s stack valid h = record {
   closed = valid.closed;
   stack = h;
   no_handle = valid.no_handle;
-    no_owners = valid.no_owners;
+  no_owners = valid.no_owners;
   no_lends = valid.no_lends;
 }
 

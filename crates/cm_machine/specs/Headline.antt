@@ -17,7 +17,8 @@ use Rattle.cm_machine.specs.Stack.{top_of}
 use Rattle.cm_machine.specs.State.{State, core_at, IsPlan}
 use Rattle.cm_machine.specs.Step.{checks, may_want_memory, result_count}
 use Rattle.cm_machine.specs.Run.{Run}
-use Rattle.cm_machine.specs.Values.{View, Value, view_of, Denotes, Receives}
+use Rattle.cm_types.specs.Values.{Val}
+use Rattle.cm_machine.specs.Values.{View, view_of, Denotes, Receives}
 use Rattle.cm_machine.specs.History.{Action, begins, moves, Entry, Happens, IsHistory, acts, Sending, sent, Open, root, called, open_calls, Answering, answered}
 
 -- ---- entries
@@ -26,7 +27,7 @@ use Rattle.cm_machine.specs.History.{Action, begins, moves, Entry, Happens, IsHi
 pub record IsEntryOf (x : Sending) (instance func : ℕ) (args : List CoreValue) (new : State) : Type 0 where
   pub callee : x.lowered.instance ≡ instance
   pub lifted : x.lowered.func ≡ func
-  pub value : (v : List Value) × Denotes (view_of x.state x.caller) x.lowered.params x.args v × Receives (view_of new instance) x.lowered.params args v
+  pub value : (v : List Val) × Denotes (view_of x.state x.caller) x.lowered.params x.args v × Receives (view_of new instance) x.lowered.params args v
 
 -- Where a function is entered, it is the one that the last call reaches, with that call's value.
 abbrev pub EntersRightly : List Entry → Type 0
@@ -41,7 +42,7 @@ EntersRightly (x ∷ h) = (instance func : ℕ) (args : List CoreValue) → x.ev
 pub record IsResumptionOf (call : Sending) (return : Answering) (instance : ℕ) (values : List CoreValue) (new : State) : Type 0 where
   pub caller : call.caller ≡ instance
   pub callee : return.callee ≡ call.lowered.instance
-  pub value : (v : List Value) × Denotes (view_of return.state return.callee) (result_count call.lowered) return.values v × Receives (view_of new instance) (result_count call.lowered) values v
+  pub value : (v : List Val) × Denotes (view_of return.state return.callee) (result_count call.lowered) return.values v × Receives (view_of new instance) (result_count call.lowered) values v
 
 -- Where a move resumes an instance, it is the caller of the open call that was entered last, with the
 -- value of the last return; that call is open no longer.

@@ -3,12 +3,9 @@
 use Rattle.std.specs.Prelude.{◌≡◌, ℕ, zero, suc, List, [], ◌∷◌}
 use Rattle.cm_types.specs.declared.core_value.CoreValue.{CoreValue}
 use Rattle.cm_types.specs.declared.core_value.CoreValue.TheVariants as core_value
+use Rattle.cm_types.specs.Values.{Val, truth, signed_number, number, scalar, text, elements, parts, bare, bearing, flag_set, handle}
 use Rattle.cm_machine.specs.Memories.{bytes_of}
 use Rattle.cm_machine.specs.State.{State}
-
--- an interface value
-pub data Value : Type 0 where
-  number : ℕ → Value
 
 -- what an instance's core values are read by: its memory
 pub record View : Type 0 where
@@ -18,12 +15,13 @@ abbrev pub view_of : State → ℕ → View
 view_of s instance = record { memory = bytes_of s.memories instance }
 
 -- A u32 is the number of its i32 slot.
-abbrev pub ShowsU32 : CoreValue → Value → Type 0
+abbrev pub ShowsU32 : CoreValue → Val → Type 0
 ShowsU32 (core_value.I32 n) (number v) = n ≡ v
 ShowsU32 (core_value.I64 n) (number v) = ⊥
+ShowsU32 c v = ⊥
 
 -- In this view so many slots denote these values, a u32 each.
-abbrev pub Denotes : View → ℕ → List CoreValue → List Value → Type 0
+abbrev pub Denotes : View → ℕ → List CoreValue → List Val → Type 0
 Denotes view zero [] [] = Unit {0}
 Denotes view zero [] (v ∷ vs) = ⊥
 Denotes view zero (c ∷ cs) vs = ⊥
@@ -32,5 +30,5 @@ Denotes view (suc n) (c ∷ cs) [] = ⊥
 Denotes view (suc n) (c ∷ cs) (v ∷ vs) = ShowsU32 c v × Denotes view n cs vs
 
 -- In this view so many slots are the least representatives of these values: a u32 has one alone.
-abbrev pub Receives : View → ℕ → List CoreValue → List Value → Type 0
+abbrev pub Receives : View → ℕ → List CoreValue → List Val → Type 0
 Receives view count cs vs = Denotes view count cs vs
