@@ -17,7 +17,8 @@ const GREATEST_INDEX: usize = 65_535;
 
 /// The handles of an instance, each under an index from 1 to 65,535 (CanonicalABI.md, "Table State").
 ///
-/// The next handle gets the index that was freed last, else the least that was never used.
+/// The next handle gets the index that was freed last, else the least that was never used. A call that
+/// refuses leaves the table as it was. Only `add` and `reserve` take memory, before they change anything.
 #[derive(Drop)]
 pub struct Table {
     // The entry of index k stands at k - 1.
@@ -84,6 +85,9 @@ impl Table {
     }
 
     /// The handle at `index`, which is to be of `resource`.
+    ///
+    /// Refused with `NoHandle` where no handle stands there, else with `WrongResource` where it is of
+    /// another resource.
     pub fn get(&self, index: u32, resource: ResourceId) -> Result<Handle, HandleFault>
         ensures answer { result ≡ held self.now.handles index resource }
         ensures found { IfOk result (λ handle. (handle_at self.now.handles index ≡ Some handle) × (handle.resource ≡ resource)) }
@@ -93,7 +97,8 @@ impl Table {
         look(&self.entries, index, resource)
     }
 
-    /// Adds a handle at the next index, which is the answer.
+    /// Adds a handle, as it is, at the next index, which is the answer (CanonicalABI.md, "Table State",
+    /// `add`).
     ///
     /// Refused with `Full` where all 65,535 indices are in use, and with `Memory` where no room is left
     /// and no more was to be had. No memory is taken while an index is freed or room is reserved.
@@ -151,7 +156,8 @@ impl Table {
         Ok(index as u32)
     }
 
-    /// Puts a handle at `index`, which is the one freed last: it undoes `take_own`.
+    /// Puts a handle back at `index`, which is the one freed last: it undoes `take_own`, and of several
+    /// the last one first. It takes no memory.
     pub fn restore(&mut self, index: u32, handle: Handle)
         requires { slice_get self.old.handles.freed 0 ≡ Some index }
         ensures handles { self.new.handles ≡ restored self.old.handles index handle }
@@ -170,7 +176,7 @@ impl Table {
 
     /// Makes room for `additional` more handles, so that as many calls of `add` take no memory.
     ///
-    /// Refused with `Full` where fewer indices are left, and with `Memory` where the memory is refused.
+    /// Refused with `Full` where fewer indices are left, else with `Memory` where the memory is refused.
     pub fn reserve(&mut self, additional: usize) -> Result<(), HandleFault>
         ensures room { OnOk result (additional ≤ self.new.room) }
         ensures handles { self.new.handles ≡ self.old.handles }
@@ -227,7 +233,11 @@ impl Table {
         Ok(handle)
     }
 
-    /// Removes the handle at `index`, which is to be of `resource` and not lent. Its index is freed.
+    /// Removes the handle at `index`, which is to be of `resource` and not lent, and frees its index. The
+    /// answer is that handle (CanonicalABI.md, `canon resource.drop`).
+    ///
+    /// Refused with `NoHandle` where no handle stands there, else with `WrongResource` where it is of
+    /// another resource, else with `StillLent` where a call has borrowed it.
     pub fn drop_handle(&mut self, index: u32, resource: ResourceId) -> Result<Handle, HandleFault>
         ensures answer { result ≡ if_not_lent (held self.old.handles index resource) }
         ensures found { IfOk result (λ handle. (handle_at self.old.handles index ≡ Some handle) × (handle.resource ≡ resource) × (handle.lends ≡ 0)) }
@@ -242,7 +252,12 @@ impl Table {
         Ok(dropped)
     }
 
-    /// Removes the owned handle at `index`, which is to be of `resource` and not lent. Its index is freed.
+    /// Removes the owned handle at `index`, which is to be of `resource` and not lent, and frees its index.
+    /// The answer is that handle (CanonicalABI.md, "Loading", `lift_own`).
+    ///
+    /// Refused with `NoHandle` where no handle stands there, else with `WrongResource` where it is of
+    /// another resource, else with `StillLent` where a call has borrowed it, else with `NotOwned` where it
+    /// is a borrow.
     pub fn take_own(&mut self, index: u32, resource: ResourceId) -> Result<Handle, HandleFault>
         ensures answer { result ≡ if_owned (if_not_lent (held self.old.handles index resource)) }
         ensures found { IfOk result (λ handle. (handle_at self.old.handles index ≡ Some handle) × (handle.resource ≡ resource) × (handle.lends ≡ 0) × (handle.kind ≡ HandleKind.Owned)) }
@@ -260,8 +275,11 @@ impl Table {
         Ok(taken)
     }
 
-    /// Lends the handle at `index`, which is to be of `resource`, to one more call. The answer is the
-    /// handle as it stood before.
+    /// Lends the handle at `index`, which is to be of `resource` and lent fewer than 2^101 times, to one
+    /// more call. The answer is the handle as it stood before (CanonicalABI.md, "Loading", `lift_borrow`).
+    ///
+    /// Refused with `NoHandle` where no handle stands there, else with `WrongResource` where it is of
+    /// another resource.
     pub fn lend(&mut self, index: u32, resource: ResourceId) -> Result<Handle, HandleFault>
         requires { ForSome (handle_at self.old.handles index) (λ handle. handle.lends < 2 ^ 101) }
         ensures answer { result ≡ held self.old.handles index resource }
@@ -277,7 +295,7 @@ impl Table {
         Ok(handle)
     }
 
-    /// Ends one lend of the handle at `index`, which is lent.
+    /// Ends one lend of the handle at `index`, which is lent, as a call that borrowed it ends.
     pub fn unlend(&mut self, index: u32)
         requires { IsSomeAnd (handle_at self.old.handles index) (λ handle. 0 < handle.lends) }
         ensures handles { self.new.handles ≡ unlent self.old.handles index }
@@ -297,7 +315,8 @@ impl Table {
         self.entries[index as usize - 1].handle().unwrap()
     }
 
-    /// Ends all lends and removes the borrows, the one at the least index first. Their indices are freed.
+    /// Closes the instance: ends all lends, and removes the borrows, the one at the least index first, which
+    /// frees their indices. Owned handles stay.
     pub fn close(&mut self)
         ensures handles { self.new.handles ≡ closed self.old.handles }
         ensures at_each { (index : ℕ) → handle_at self.new.handles index ≡ closed_slot (handle_at self.old.handles index) }
