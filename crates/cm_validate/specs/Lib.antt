@@ -1,0 +1,6 @@
+pub mod Definitions
+pub mod Items
+pub mod Reasons
+pub mod Rules
+pub mod Spaces
+pub mod Valid
