@@ -1,3 +1,5 @@
 pub mod Cuts
 pub mod Labels
 pub mod ExternNameLaws
+pub mod Nodes
+pub mod Seen

@@ -4,3 +4,6 @@ pub mod ExternNameForms
 pub mod ExternNames
 pub mod Faults
 pub mod Names
+pub mod TypeTrees
+pub mod Types
+pub mod Limits

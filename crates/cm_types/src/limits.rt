@@ -1,0 +1,100 @@
+//! How large a type is, counted no further than its limits.
+
+ghost use Rattle.std.specs.Prelude.{◌≡◌, ◌≤◌, ◌+◌, min};
+ghost use Rattle.cm_types.specs.TypeTrees.{boxed_payload, cases_of, fields_of, parts_of, type_of};
+ghost use Rattle.cm_types.specs.Limits.{nodes_of, nodes_of_fields, nodes_of_cases, payload_nodes};
+
+use crate::type_trees::{Case, Field, TypeNode};
+
+/// The most nodes that a type may have.
+pub const MOST_NODES: u32 = 10_000;
+
+/// The depth that a type may have.
+pub const MOST_DEPTH: u32 = 64;
+
+fn capped(count: u64) -> u32
+    ensures { result ≡ min count 10001 }
+{
+    count.min(10_001) as u32
+}
+
+#[tactic(auto, using(crate::proofs::Nodes::nodes))]
+/// The number of nodes, or 10,001 where there are more than that.
+#[cycle(nodes)]
+fn nodes(ty: &TypeNode) -> u32
+    ensures { result ≡ min (nodes_of (type_of ty.now)) 10001 }
+{
+    match ty {
+        TypeNode::List(element) => capped(1 + u64::from(nodes(element))),
+        TypeNode::FixedList { element, length } => {
+            capped(1 + u64::from((*length).max(1)) * u64::from(nodes(element)))
+        }
+        TypeNode::Record(fields) => capped(1 + u64::from(nodes_of_fields(fields))),
+        TypeNode::Tuple(parts) => capped(1 + u64::from(nodes_of_parts(parts))),
+        TypeNode::Variant(cases) => capped(1 + u64::from(nodes_of_cases(cases))),
+        TypeNode::Option(some) => capped(1 + u64::from(nodes(some))),
+        TypeNode::Result { ok, error } => {
+            capped(1 + u64::from(nodes_of_payload(ok)) + u64::from(nodes_of_payload(error)))
+        }
+        TypeNode::Bool
+        | TypeNode::S8
+        | TypeNode::U8
+        | TypeNode::S16
+        | TypeNode::U16
+        | TypeNode::S32
+        | TypeNode::U32
+        | TypeNode::S64
+        | TypeNode::U64
+        | TypeNode::Char
+        | TypeNode::String
+        | TypeNode::Flags(_)
+        | TypeNode::Own(_)
+        | TypeNode::Borrow(_) => 1,
+        TypeNode::Enum(_) => 1,
+    }
+}
+
+#[cycle(nodes)]
+fn nodes_of_payload(payload: &Option<Box<TypeNode>>) -> u32
+    ensures { result ≡ min (payload_nodes (boxed_payload payload.now)) 10001 }
+{
+    match payload {
+        Some(ty) => nodes(ty),
+        None => 0,
+    }
+}
+
+#[cycle(nodes)]
+fn nodes_of_fields(fields: &[Field]) -> u32
+    ensures { result ≡ min (nodes_of_fields (fields_of fields.now)) 10001 }
+{
+    let mut count = 0;
+    for field in fields {
+        count = capped(u64::from(count) + u64::from(nodes(&field.ty)));
+    }
+    count
+}
+
+#[cycle(nodes)]
+fn nodes_of_parts(parts: &[TypeNode]) -> u32
+    ensures { result ≡ min (nodes_of_fields (parts_of parts.now)) 10001 }
+{
+    let mut count = 0;
+    for part in parts {
+        count = capped(u64::from(count) + u64::from(nodes(part)));
+    }
+    count
+}
+
+#[cycle(nodes)]
+fn nodes_of_cases(cases: &[Case]) -> u32
+    ensures { result ≡ min (nodes_of_cases (cases_of cases.now)) 10001 }
+{
+    let mut count = 0;
+    for case in cases {
+        if let Some(ty) = &case.payload {
+            count = capped(u64::from(count) + u64::from(nodes(ty)));
+        }
+    }
+    count
+}
