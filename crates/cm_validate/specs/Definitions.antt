@@ -1,17 +1,21 @@
 -- What the code's definitions of functions say.
-use Rattle.std.specs.Prelude.{List, ℕ}
+use Rattle.std.specs.Prelude.{map, option_map}
 use Rattle.std.specs.String.{string_bytes}
-use Rattle.cm_types.specs.DefTypes.{func_tree}
+use Rattle.cm_types.specs.TypeTrees.{field_of, type_of}
+use Rattle.cm_validate.specs.declared.definitions.Func.{Func}
 use Rattle.cm_validate.specs.declared.definitions.CoreFuncDef.{CoreFuncDef}
 use Rattle.cm_validate.specs.declared.definitions.CoreFuncDef.TheVariants as core_func_def
 use Rattle.cm_validate.specs.declared.definitions.FuncDef.{FuncDef}
 use Rattle.cm_validate.specs.declared.definitions.FuncDef.TheVariants as func_def
-use Rattle.cm_validate.specs.Spaces.{CoreFuncTree, FuncDefTree, guest, lowered, lifted, imported}
+use Rattle.cm_validate.specs.Spaces.{FuncTy, CoreFuncTree, FuncDefTree, guest, lowered, lifted, imported}
+
+abbrev pub func_of : Func → FuncTy
+func_of f = record { params = map field_of f.params.items; result = option_map type_of f.result }
 
 abbrev pub core_func_tree : CoreFuncDef → CoreFuncTree
 core_func_tree (core_func_def.Guest instance name) = guest instance (string_bytes name)
-core_func_tree (core_func_def.Lowered import item ty) = lowered import item (func_tree ty.value)
+core_func_tree (core_func_def.Lowered import item ty) = lowered import item (func_of ty.value)
 
 abbrev pub func_def_tree : FuncDef → FuncDefTree
-func_def_tree (func_def.Lifted core_func ty) = lifted core_func (func_tree ty.value)
-func_def_tree (func_def.Imported import item ty) = imported import item (func_tree ty.value)
+func_def_tree (func_def.Lifted core_func ty) = lifted core_func (func_of ty.value)
+func_def_tree (func_def.Imported import item ty) = imported import item (func_of ty.value)

@@ -1,5 +1,6 @@
 pub mod Definitions
 pub mod Items
+pub mod Names
 pub mod Reasons
 pub mod Rules
 pub mod Spaces

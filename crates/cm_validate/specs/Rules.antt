@@ -17,7 +17,7 @@ use Rattle.cm_component.specs.declared.section.ExternDesc.TheVariants as desc
 use Rattle.cm_validate.specs.declared.fault.ValidReason.{ValidReason}
 use Rattle.cm_validate.specs.declared.fault.ValidReason.TheVariants as reason
 use Rattle.cm_validate.specs.Items.{Item, module_item, core_instance_item, alias_item, type_item, canon_item, import_item, export_item}
-use Rattle.cm_validate.specs.Spaces.{Space, CoreFuncTree, FuncDefTree, guest, lowered, lifted, imported, type_of}
+use Rattle.cm_validate.specs.Spaces.{Space, CoreFuncTree, FuncDefTree, FuncTy, guest, lowered, lifted, imported, type_of}
 
 -- no two of these texts are equal
 abbrev pub are_distinct : List (List ℕ) → Bool
@@ -30,7 +30,7 @@ folded name = map to_ascii_lowercase name
 
 -- none of these names is the same as this one without ASCII case
 abbrev pub is_new_name : List ℕ → List (List ℕ) → Bool
-is_new_name name names = not (list_any (is_same_name name) names)
+is_new_name name names = not (list_any (λ other. is_same_name other name) names)
 
 -- whether an extern name is a plain label
 abbrev pub is_plain : NameTree → Bool
@@ -44,7 +44,7 @@ abbrev pub is_plain_label : List ℕ → Bool
 is_plain_label name = option_map_or is_plain (form_of name) false
 
 -- whether the parameters are passed flat: 16 of u32 at most, else they would stand in memory
-abbrev pub is_flat : FuncTree → Bool
+abbrev pub is_flat : FuncTy → Bool
 is_flat f = nat_le (length f.params) 16
 
 -- a parameter list counts as a tuple: a node above those of the parameters, of which there may be 10,000

@@ -1,7 +1,10 @@
 -- The index spaces of a component: for each sort the definitions that the items before a place add, in
 -- order (Explainer.md, "Index Spaces").
-use Rattle.std.specs.Prelude.{ℕ, ◌+◌, List, [], ◌∷◌, ◌++◌, length, Option, Some, None, slice_get, option_map, option_and_then, option_to_list}
+use Rattle.std.specs.Prelude.{ℕ, ◌+◌, List, [], ◌∷◌, ◌++◌, length, map, Option, Some, None, slice_get, option_map, option_and_then, option_to_list}
 use Rattle.cm_types.specs.DefTypes.{DefTree, FuncTree, func_def}
+use Rattle.cm_types.specs.Types.{Ty, unsigned}
+use Rattle.cm_types.specs.declared.def_types.ValType.{ValType}
+use Rattle.cm_types.specs.declared.def_types.ValType.TheVariants as val_type
 use Rattle.cm_component.specs.Trees.{CoreInstanceTree, AliasTree, ImportTree, ExportTree, SectionTree, instantiate, core_instance_export}
 use Rattle.cm_component.specs.declared.section.Canon.{Canon}
 use Rattle.cm_component.specs.declared.section.Canon.TheVariants as canon
@@ -9,22 +12,33 @@ use Rattle.cm_component.specs.declared.section.ExternDesc.{ExternDesc}
 use Rattle.cm_component.specs.declared.section.ExternDesc.TheVariants as desc
 use Rattle.cm_validate.specs.Items.{Item, module_item, core_instance_item, alias_item, type_item, canon_item, import_item, export_item, all_items}
 
+-- the type of a function with every index expanded
+pub record FuncTy : Type 0 where
+  pub params : List (List ℕ × Ty)
+  pub result : Option Ty
+
+abbrev pub expanded_value : ValType → Ty
+expanded_value val_type.U32 = unsigned 4
+
+abbrev pub expanded : FuncTree → FuncTy
+expanded f = record { params = map (λ p. (p.label, expanded_value p.ty)) f.params; result = option_map expanded_value f.result }
+
 -- what a core function is: what a core instance exports under this name, or an import that was lowered
 -- (its number, the item of an imported instance, and its type)
 pub data CoreFuncTree : Type 0 where
   guest : ℕ → List ℕ → CoreFuncTree
-  lowered : ℕ → Option ℕ → FuncTree → CoreFuncTree
+  lowered : ℕ → Option ℕ → FuncTy → CoreFuncTree
 
 -- what a function is: a core function lifted to a type, or an import (its number, the item of an
 -- imported instance, and its type)
 pub data FuncDefTree : Type 0 where
-  lifted : ℕ → FuncTree → FuncDefTree
-  imported : ℕ → Option ℕ → FuncTree → FuncDefTree
+  lifted : ℕ → FuncTy → FuncDefTree
+  imported : ℕ → Option ℕ → FuncTy → FuncDefTree
 
 -- an import of a function
 pub record ImportedFunc : Type 0 where
   pub name : List ℕ
-  pub ty : FuncTree
+  pub ty : FuncTy
 
 -- an export of a function: its index
 pub record ExportedFunc : Type 0 where
@@ -35,7 +49,7 @@ pub record ExportedFunc : Type 0 where
 pub record Space : Type 0 where
   pub modules : ℕ
   pub core_instances : List ℕ
-  pub types : List FuncTree
+  pub types : List FuncTy
   pub core_funcs : List CoreFuncTree
   pub funcs : List FuncDefTree
   pub imports : List ImportedFunc
@@ -46,7 +60,7 @@ abbrev pub nothing : Space
 nothing = record { modules = 0; core_instances = []; types = []; core_funcs = []; funcs = []; imports = []; exports = [] }
 
 -- the type of a function
-abbrev pub type_of : FuncDefTree → FuncTree
+abbrev pub type_of : FuncDefTree → FuncTy
 type_of (lifted core_func ty) = ty
 type_of (imported import item ty) = ty
 
@@ -73,7 +87,7 @@ abbrev pub grown : Space → Item → Space
 grown s module_item = record s { modules = s.modules + 1 }
 grown s (core_instance_item (instantiate m args)) = record s { core_instances = s.core_instances ++ m ∷ [] }
 grown s (alias_item (core_instance_export sort instance name)) = record s { core_funcs = s.core_funcs ++ guest instance name ∷ [] }
-grown s (type_item (func_def f)) = record s { types = s.types ++ f ∷ [] }
+grown s (type_item (func_def f)) = record s { types = s.types ++ expanded f ∷ [] }
 grown s (canon_item c) = after_canon s c
 grown s (import_item i) = after_import s i.name i.desc
 grown s (export_item e) = record s { funcs = s.funcs ++ option_to_list (slice_get s.funcs e.index); exports = s.exports ++ record { name = e.name; func = e.index } ∷ [] }

@@ -1,7 +1,14 @@
 //! What the indices of functions stand for.
 
-use cm_types::FuncType;
+use cm_types::{Field, TypeNode};
 use std::rc::Rc;
+
+/// The type of a function.
+#[derive(Debug, Drop)]
+pub struct Func {
+    pub params: Vec<Field>,
+    pub result: Option<TypeNode>,
+}
 
 /// What a core function of a component is.
 #[derive(Debug, Drop)]
@@ -12,7 +19,7 @@ pub enum CoreFuncDef {
     Lowered {
         import: u32,
         item: Option<u32>,
-        ty: Rc<FuncType>,
+        ty: Rc<Func>,
     },
 }
 
@@ -20,11 +27,11 @@ pub enum CoreFuncDef {
 #[derive(Debug, Drop)]
 pub enum FuncDef {
     /// A core function that was lifted, and the type that it was lifted to.
-    Lifted { core_func: u32, ty: Rc<FuncType> },
+    Lifted { core_func: u32, ty: Rc<Func> },
     /// An import: its number, the item where it is an instance, and its type.
     Imported {
         import: u32,
         item: Option<u32>,
-        ty: Rc<FuncType>,
+        ty: Rc<Func>,
     },
 }

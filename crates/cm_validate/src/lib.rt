@@ -2,8 +2,10 @@
 #![tactic(auto)]
 
 mod definitions;
+mod expand;
 mod fault;
+mod named;
 mod texts;
 
-pub use definitions::{CoreFuncDef, FuncDef};
+pub use definitions::{CoreFuncDef, Func, FuncDef};
 pub use fault::{ValidFault, ValidReason};
