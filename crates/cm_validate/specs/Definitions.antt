@@ -1,5 +1,7 @@
 -- What the code's definitions of functions say.
-use Rattle.std.specs.Prelude.{map, option_map}
+use Rattle.std.specs.Prelude.{List, ℕ, map, option_map}
+use Rattle.std.specs.declared.rc.Rc.{Rc}
+use Rattle.std.specs.declared.alloc.Global.{Global}
 use Rattle.std.specs.String.{string_bytes}
 use Rattle.cm_types.specs.TypeTrees.{field_of, type_of}
 use Rattle.cm_validate.specs.declared.definitions.Func.{Func}
@@ -7,7 +9,7 @@ use Rattle.cm_validate.specs.declared.definitions.CoreFuncDef.{CoreFuncDef}
 use Rattle.cm_validate.specs.declared.definitions.CoreFuncDef.TheVariants as core_func_def
 use Rattle.cm_validate.specs.declared.definitions.FuncDef.{FuncDef}
 use Rattle.cm_validate.specs.declared.definitions.FuncDef.TheVariants as func_def
-use Rattle.cm_validate.specs.Spaces.{FuncTy, CoreFuncTree, FuncDefTree, guest, lowered, lifted, imported}
+use Rattle.cm_validate.specs.Spaces.{FuncTy, ImportedFunc, ExportedFunc, CoreFuncTree, FuncDefTree, guest, lowered, lifted, imported}
 
 abbrev pub func_of : Func → FuncTy
 func_of f = record { params = map field_of f.params.items; result = option_map type_of f.result }
@@ -19,3 +21,9 @@ core_func_tree (core_func_def.Lowered import item ty) = lowered import item (fun
 abbrev pub func_def_tree : FuncDef → FuncDefTree
 func_def_tree (func_def.Lifted core_func ty) = lifted core_func (func_of ty.value)
 func_def_tree (func_def.Imported import item ty) = imported import item (func_of ty.value)
+
+abbrev pub imported_func : List ℕ × Rc Func Global → ImportedFunc
+imported_func d = record { name = d.0; ty = func_of d.1.value }
+
+abbrev pub exported_func : List ℕ × ℕ → ExportedFunc
+exported_func d = record { name = d.0; func = d.1 }

@@ -4,4 +4,5 @@ pub mod Names
 pub mod Reasons
 pub mod Rules
 pub mod Spaces
+pub mod SpacesOf
 pub mod Valid

@@ -47,9 +47,9 @@ is_plain_label name = option_map_or is_plain (form_of name) false
 abbrev pub is_flat : FuncTy → Bool
 is_flat f = nat_le (length f.params) 16
 
--- a parameter list counts as a tuple: a node above those of the parameters, of which there may be 10,000
+-- a parameter list counts as a tuple: a node above those of the parameters, 10,000 together at most
 abbrev pub is_small : FuncTree → Bool
-is_small f = nat_le (length f.params + 1) 10000
+is_small f = nat_lt (length f.params) 10000
 
 -- whether a core function is a guest's
 abbrev pub is_guest : CoreFuncTree → Bool

@@ -102,5 +102,5 @@ abbrev pub spaces_of : List SectionTree → Space
 spaces_of sections = after nothing (all_items sections)
 
 -- what the function under an export is
-abbrev pub exported_func : Space → ℕ → Option FuncDefTree
-exported_func s export = option_and_then (λ e. slice_get s.funcs e.func) (slice_get s.exports export)
+abbrev pub func_of_export : Space → ℕ → Option FuncDefTree
+func_of_export s export = option_and_then (λ e. slice_get s.funcs e.func) (slice_get s.exports export)

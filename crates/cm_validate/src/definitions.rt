@@ -1,6 +1,12 @@
 //! What the indices of functions stand for.
 
+ghost use Rattle.std.specs.Prelude.{◌≡◌, IfOk};
+ghost use Rattle.cm_validate.specs.Definitions.{core_func_tree, func_def_tree, func_of};
+ghost use Rattle.cm_validate.specs.Rules.{is_guest};
+ghost use Rattle.cm_validate.specs.Spaces.{type_of};
+
 use cm_types::{Field, TypeNode};
+use std::alloc::AllocError;
 use std::rc::Rc;
 
 /// The type of a function.
@@ -34,4 +40,44 @@ pub enum FuncDef {
         item: Option<u32>,
         ty: Rc<Func>,
     },
+}
+
+impl CoreFuncDef {
+    /// Whether it is a guest's own function.
+    pub fn is_guest(&self) -> bool
+        ensures { result ≡ is_guest (core_func_tree self.now) }
+    {
+        match self {
+            CoreFuncDef::Guest { .. } => true,
+            CoreFuncDef::Lowered { .. } => false,
+        }
+    }
+}
+
+impl FuncDef {
+    /// The type of the function.
+    pub fn ty(&self) -> &Func
+        ensures { func_of result.now ≡ type_of (func_def_tree self.now) }
+    {
+        match self {
+            FuncDef::Lifted { ty, .. } | FuncDef::Imported { ty, .. } => ty,
+        }
+    }
+
+    /// The same function once more.
+    pub(crate) fn share(&self) -> Result<FuncDef, AllocError>
+        ensures { IfOk result (λ f. func_def_tree f ≡ func_def_tree self.now) }
+    {
+        match self {
+            FuncDef::Lifted { core_func, ty } => Ok(FuncDef::Lifted {
+                core_func: *core_func,
+                ty: ty.clone()?,
+            }),
+            FuncDef::Imported { import, item, ty } => Ok(FuncDef::Imported {
+                import: *import,
+                item: *item,
+                ty: ty.clone()?,
+            }),
+        }
+    }
 }

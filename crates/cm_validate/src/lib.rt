@@ -4,7 +4,9 @@
 mod definitions;
 mod expand;
 mod fault;
+mod items;
 mod named;
+mod spaces;
 mod texts;
 
 pub use definitions::{CoreFuncDef, Func, FuncDef};
