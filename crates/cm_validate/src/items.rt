@@ -3,7 +3,7 @@
 ghost use Rattle.std.specs.Prelude.{◌≡◌, ℕ, IfOk, OnOk, length, map, nat_lt};
 ghost use Rattle.std.specs.List.{list_all};
 ghost use Rattle.cm_types.specs.DefTypes.{def_tree};
-ghost use Rattle.cm_component.specs.Trees.{arg_tree, core_instance_tree, alias_tree, import_tree, export_tree};
+ghost use Rattle.cm_component.specs.Trees.{instantiate, arg_tree, core_instance_tree, alias_tree, import_tree, export_tree};
 ghost use Rattle.cm_component.specs.declared.section.Canon.TheVariants as canon;
 ghost use Rattle.cm_validate.specs.Items.{Item, core_instance_item, alias_item, type_item, canon_item, import_item, export_item};
 ghost use Rattle.cm_validate.specs.Definitions.{func_def_tree, core_func_tree, func_of};
@@ -49,6 +49,27 @@ fn have_instances(args: &[CoreInstantiationArg], spaces: &Spaces) -> bool
     args.iter().all(|a| spaces.has_core_instance(a.instance))
 }
 
+fn instantiate_fault(
+    alloc: Global,
+    spaces: &Spaces,
+    of_module: u32,
+    args: &[CoreInstantiationArg],
+) -> Result<Option<ValidReason>, AllocError>
+    ensures { IfOk result (λ r. r ≡ first (rules (space_of spaces.now) (core_instance_item (instantiate of_module (map arg_tree args.now))))) }
+{
+    if !spaces.has_module(of_module) {
+        return Ok(Some(ValidReason::NoSuchIndex));
+    }
+    if !have_instances(args, spaces) {
+        return Ok(Some(ValidReason::NoSuchIndex));
+    }
+    if arg_names_are_distinct(alloc, args)? {
+        Ok(None)
+    } else {
+        Ok(Some(ValidReason::DuplicateName))
+    }
+}
+
 impl SectionItem for CoreInstance {
     ghost item = { λ i. core_instance_item (core_instance_tree i) };
 
@@ -58,13 +79,7 @@ impl SectionItem for CoreInstance {
         spaces: &Spaces,
     ) -> Result<Option<ValidReason>, AllocError> {
         let CoreInstance::Instantiate { module, args } = self;
-        if !spaces.has_module(*module) || !have_instances(args, spaces) {
-            Ok(Some(ValidReason::NoSuchIndex))
-        } else if !arg_names_are_distinct(alloc, args)? {
-            Ok(Some(ValidReason::DuplicateName))
-        } else {
-            Ok(None)
-        }
+        instantiate_fault(alloc, spaces, *module, args)
     }
 
     fn add(&self, _alloc: Global, spaces: &mut Spaces) -> Result<(), AllocError> {
