@@ -46,9 +46,9 @@ rest_is_distinct-new has more x xs new grows =
     ∙ and_assoc (list_all (λ y. not (has y)) xs) (not (list_any (bytes_eq x) xs)) (are_distinct xs)
     ∙ sym (ap (λ b. (not b && list_all (λ y. not (has y)) xs) && are_distinct (x ∷ xs)) new)
 
--- the next text of a list that is read by index
-pub next_text : {A : Type 0} (key : A → List ℕ) (xs : List A) (i : ℕ) (x : A) → i < length xs → x ≡ get_or xs i x → map key (drop i xs) ≡ key x ∷ map key (drop (i + 1) xs)
-next_text key xs i x lt is = rw (add-one, drop-cons xs i x lt, ← is) refl
+-- the next element of a list that is read by index
+pub next_element : {A B : Type 0} (key : A → B) (xs : List A) (i : ℕ) (x : A) → i < length xs → x ≡ get_or xs i x → map key (drop i xs) ≡ key x ∷ map key (drop (i + 1) xs)
+next_element key xs i x lt is = rw (add-one, drop-cons xs i x lt, ← is) refl
 
 is_false : (new b : Bool) → new ≡ not b → new ≡ true → b ≡ false
 is_false new true e n = absurd cc
@@ -59,5 +59,5 @@ pub goes_on : {A : Type 0} (key : A → List ℕ) (xs : List A) (i : ℕ) (x : A
 goes_on key xs i x has more t new all lt is same answer was grows before =
     rest_is_distinct-new has more t (map key (drop (i + 1) xs)) (is_false new (has t) answer was) grows
     ∙ ap (λ s. rest_is_distinct has (s ∷ map key (drop (i + 1) xs))) same
-    ∙ sym (ap (rest_is_distinct has) (next_text key xs i x lt is))
+    ∙ sym (ap (rest_is_distinct has) (next_element key xs i x lt is))
     ∙ before

@@ -1,2 +1,4 @@
-pub mod Distinct
 pub mod Args
+pub mod Distinct
+pub mod Order
+pub mod Sections

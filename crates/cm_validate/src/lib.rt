@@ -8,6 +8,7 @@ mod items;
 mod named;
 mod spaces;
 mod texts;
+mod walk;
 
 pub use definitions::{CoreFuncDef, Func, FuncDef};
 pub use fault::{ValidFault, ValidReason};
