@@ -3,3 +3,5 @@ pub mod Labels
 pub mod ExternNameLaws
 pub mod Nodes
 pub mod Seen
+pub mod SameTypeLemmas
+pub mod SameTypeLaws

@@ -4,7 +4,7 @@ use Rattle.std.proofs.Math.Nat.{mul-le-mul_left}
 use Rattle.std.proofs.lemmas.Bool.{cases_lt}
 use Rattle.cm_types.specs.Types.{Ty, Cases, no_cases}
 use Rattle.cm_types.specs.TypeTrees.{plain_from, case_before}
-use Rattle.cm_types.specs.Limits.{nodes_of_cases, payload_nodes}
+use Rattle.cm_types.specs.Limits.{depth_of_cases, nodes_of_cases, payload_nodes}
 
 pub plain_nodes : (ls : List (List ℕ)) → nodes_of_cases (plain_from ls) ≡ 0
 plain_nodes [] = refl
@@ -13,6 +13,10 @@ plain_nodes (l ∷ ls) = plain_nodes ls
 pub before_nodes : (l : List ℕ) (o : Option Ty) (cs : Cases) → nodes_of_cases (case_before l o cs) ≡ payload_nodes o + nodes_of_cases cs
 before_nodes l None cs = omega arith
 before_nodes l (Some t) cs = refl
+
+pub plain_depth : (ls : List (List ℕ)) → depth_of_cases (plain_from ls) ≡ 0
+plain_depth [] = refl
+plain_depth (l ∷ ls) = plain_depth ls
 
 small_or_not : (x : ℕ) → (x < 10001) ⊎ (10001 ≤ x)
 small_or_not x = cases_lt x 10001

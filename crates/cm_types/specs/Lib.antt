@@ -7,3 +7,8 @@ pub mod Names
 pub mod TypeTrees
 pub mod Types
 pub mod Limits
+pub mod Values
+pub mod ValueTrees
+pub mod SameTypes
+pub mod Funcs
+pub mod Signatures

@@ -2,7 +2,7 @@
 use Rattle.std.specs.Prelude.{ℕ, List, [], ◌∷◌, map, Option, Some, None, codes}
 use Rattle.std.specs.declared.alloc.Global.{Global}
 use Rattle.std.specs.declared.boxed.Box.{Box}
-use Rattle.cm_types.specs.Types.{Ty, Fields, Cases, bool, signed, unsigned, char, string, list, fixed_list, fields, cases, flags, own, borrow, no_fields, field, no_cases, plain, carrying, record_type, tuple_type, variant_type, enum_type, option_type, result_type}
+use Rattle.cm_types.specs.Types.{Ty, Fields, Cases, bool, signed, unsigned, char, string, list, fixed_list, fields, cases, flags, own, borrow, no_fields, field, no_cases, plain, carrying, record_type, tuple_type, variant_type, enum_type, option_type, result_type, bits_8, bits_16, bits_32, bits_64}
 use Rattle.cm_types.specs.declared.type_trees.TypeNode.{TypeNode}
 use Rattle.cm_types.specs.declared.type_trees.Field.{Field}
 use Rattle.cm_types.specs.declared.type_trees.Case.{Case}
@@ -49,14 +49,14 @@ unboxed (Some b) = Some b.value
 -- a node, given the types of the nodes below it
 abbrev pub type_step : node.TypeNode-F Ty CaseOf TypedLabel → Ty
 type_step node.Bool = bool
-type_step node.S8 = signed 1
-type_step node.U8 = unsigned 1
-type_step node.S16 = signed 2
-type_step node.U16 = unsigned 2
-type_step node.S32 = signed 4
-type_step node.U32 = unsigned 4
-type_step node.S64 = signed 8
-type_step node.U64 = unsigned 8
+type_step node.S8 = signed bits_8
+type_step node.U8 = unsigned bits_8
+type_step node.S16 = signed bits_16
+type_step node.U16 = unsigned bits_16
+type_step node.S32 = signed bits_32
+type_step node.U32 = unsigned bits_32
+type_step node.S64 = signed bits_64
+type_step node.U64 = unsigned bits_64
 type_step node.Char = char
 type_step node.String = string
 type_step (node.List t) = list t.value

@@ -14,15 +14,29 @@ pub data CasesKind : Type 0 where
   option_type : CasesKind
   result_type : CasesKind
 
+-- how wide a number is
+pub data Width : Type 0 where
+  bits_8 : Width
+  bits_16 : Width
+  bits_32 : Width
+  bits_64 : Width
+
+-- the same in bytes
+abbrev pub bytes_of : Width → ℕ
+bytes_of bits_8 = 1
+bytes_of bits_16 = 2
+bytes_of bits_32 = 4
+bytes_of bits_64 = 8
+
 -- Types. As CanonicalABI.md despecializes them, a tuple is fields without labels, an enum is cases without
 -- payloads, an option the cases `none` and `some`, a result the cases `ok` and `error`; the kind keeps
 -- apart what the standard does.
 mutual
   pub data Ty : Type 0 where
     bool : Ty
-    -- numbers of so many bytes: 1, 2, 4 or 8
-    signed : ℕ → Ty
-    unsigned : ℕ → Ty
+    -- s8 to s64, and u8 to u64
+    signed : Width → Ty
+    unsigned : Width → Ty
     char : Ty
     string : Ty
     list : Ty → Ty
@@ -42,3 +56,8 @@ mutual
     no_cases : Cases
     plain : List ℕ → Cases → Cases
     carrying : List ℕ → Ty → Cases → Cases
+
+-- the type of a function: labels and types of its parameters, and the type of its result, if it has one
+pub record FuncTy : Type 0 where
+  pub params : Fields
+  pub result : Option Ty

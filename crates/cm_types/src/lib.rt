@@ -7,14 +7,20 @@ mod extern_names;
 mod limits;
 mod names;
 mod resource;
+mod same_types;
+mod signatures;
 mod type_trees;
+mod values;
 
 pub use core_value::{CoreKind, CoreValue};
 pub use def_types::{DefType, FuncType, LabeledValType, ValType};
 pub use extern_names::{ExternName, ExternNameForm};
 pub use names::{Label, NameFault, same_name};
 pub use resource::ResourceId;
-pub use type_trees::{Case, Field, TypeNode};
+pub use same_types::{same_func, same_type};
+pub use signatures::{ExternDesc, InstanceItem, ItemDesc, Signature, SignatureItem};
+pub use type_trees::{Case, Field, Func, TooLarge, TypeNode, TypeTree};
+pub use values::{Value, is_scalar};
 
 #[cfg(test)]
 mod tests;

@@ -2,7 +2,7 @@
 
 ghost use Rattle.std.specs.Prelude.{◌≡◌, ◌≤◌, ◌+◌, min};
 ghost use Rattle.cm_types.specs.TypeTrees.{boxed_payload, cases_of, fields_of, parts_of, type_of};
-ghost use Rattle.cm_types.specs.Limits.{nodes_of, nodes_of_fields, nodes_of_cases, payload_nodes};
+ghost use Rattle.cm_types.specs.Limits.{depth_of, depth_of_cases, depth_of_fields, nodes_of, nodes_of_cases, nodes_of_fields, payload_depth, payload_nodes};
 
 use crate::type_trees::{Case, Field, TypeNode};
 
@@ -21,7 +21,7 @@ fn capped(count: u64) -> u32
 #[tactic(auto, using(crate::proofs::Nodes::nodes))]
 /// The number of nodes, or 10,001 where there are more than that.
 #[cycle(nodes)]
-fn nodes(ty: &TypeNode) -> u32
+pub(crate) fn nodes(ty: &TypeNode) -> u32
     ensures { result ≡ min (nodes_of (type_of ty.now)) 10001 }
 {
     match ty {
@@ -65,7 +65,7 @@ fn nodes_of_payload(payload: &Option<Box<TypeNode>>) -> u32
 }
 
 #[cycle(nodes)]
-fn nodes_of_fields(fields: &[Field]) -> u32
+pub(crate) fn nodes_of_fields(fields: &[Field]) -> u32
     ensures { result ≡ min (nodes_of_fields (fields_of fields.now)) 10001 }
 {
     let mut count = 0;
@@ -97,4 +97,85 @@ fn nodes_of_cases(cases: &[Case]) -> u32
         }
     }
     count
+}
+
+fn deeper(depth: u32) -> u32
+    ensures { result ≡ min (1 + depth) 65 }
+{
+    if depth < 65 { depth + 1 } else { 65 }
+}
+
+/// The depth, or 65 where it is more than 64.
+#[cycle(depth)]
+pub(crate) fn depth(ty: &TypeNode) -> u32
+    ensures { result ≡ min (depth_of (type_of ty.now)) 65 }
+{
+    match ty {
+        TypeNode::List(element) | TypeNode::Option(element) => deeper(depth(element)),
+        TypeNode::FixedList { element, .. } => deeper(depth(element)),
+        TypeNode::Record(fields) => deeper(depth_of_fields(fields)),
+        TypeNode::Tuple(parts) => deeper(depth_of_parts(parts)),
+        TypeNode::Variant(cases) => deeper(depth_of_cases(cases)),
+        TypeNode::Result { ok, error } => deeper(depth_of_payload(ok).max(depth_of_payload(error))),
+        TypeNode::Bool
+        | TypeNode::S8
+        | TypeNode::U8
+        | TypeNode::S16
+        | TypeNode::U16
+        | TypeNode::S32
+        | TypeNode::U32
+        | TypeNode::S64
+        | TypeNode::U64
+        | TypeNode::Char
+        | TypeNode::String
+        | TypeNode::Flags(_)
+        | TypeNode::Own(_)
+        | TypeNode::Borrow(_) => 1,
+        TypeNode::Enum(_) => 1,
+    }
+}
+
+#[cycle(depth)]
+fn depth_of_payload(payload: &Option<Box<TypeNode>>) -> u32
+    ensures { result ≡ min (payload_depth (boxed_payload payload.now)) 65 }
+{
+    match payload {
+        Some(ty) => depth(ty),
+        None => 0,
+    }
+}
+
+#[cycle(depth)]
+pub(crate) fn depth_of_fields(fields: &[Field]) -> u32
+    ensures { result ≡ min (depth_of_fields (fields_of fields.now)) 65 }
+{
+    let mut most = 0;
+    for field in fields {
+        most = most.max(depth(&field.ty));
+    }
+    most
+}
+
+#[cycle(depth)]
+fn depth_of_parts(parts: &[TypeNode]) -> u32
+    ensures { result ≡ min (depth_of_fields (parts_of parts.now)) 65 }
+{
+    let mut most = 0;
+    for part in parts {
+        most = most.max(depth(part));
+    }
+    most
+}
+
+#[cycle(depth)]
+fn depth_of_cases(cases: &[Case]) -> u32
+    ensures { result ≡ min (depth_of_cases (cases_of cases.now)) 65 }
+{
+    let mut most = 0;
+    for case in cases {
+        if let Some(ty) = &case.payload {
+            most = most.max(depth(ty));
+        }
+    }
+    most
 }

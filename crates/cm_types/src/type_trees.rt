@@ -1,7 +1,14 @@
 //! Types as finite trees, with every index of a file expanded.
 
+ghost use Rattle.std.specs.Prelude.{◌≡◌, IfOk, OnErr};
+ghost use Rattle.cm_types.specs.Limits.{IsWithinLimits};
+ghost use Rattle.cm_types.specs.Types.{fields, tuple_type};
+ghost use Rattle.cm_types.specs.TypeTrees.{fields_of, type_of};
+
+use crate::limits::{MOST_DEPTH, MOST_NODES, depth, depth_of_fields, nodes, nodes_of_fields};
 use crate::names::Label;
 use crate::resource::ResourceId;
+use thiserror::Error;
 
 /// A node of a type tree with all below it (Explainer.md, "Value Types").
 #[cycle(types)]
@@ -51,4 +58,62 @@ pub struct Field {
 pub struct Case {
     pub label: Label,
     pub payload: Option<TypeNode>,
+}
+
+/// A type is refused since it has more than 10,000 nodes or is more than 64 deep.
+#[derive(Clone, Copy, Debug, PartialEq, Eq, Error)]
+#[error("the type is too large")]
+pub struct TooLarge;
+
+/// A type of at most 10,000 nodes that is at most 64 deep (the limits are this project's own choice).
+///
+/// A leaf has 1 node and depth 1. What holds other types has 1 node more than these have together, and
+/// is 1 deeper than the deepest; a list of fixed length counts its element as often as it holds it.
+#[derive(Debug, Drop)]
+pub struct TypeTree {
+    pub root: TypeNode,
+    pub ghost within_limits: { IsWithinLimits (type_of root) },
+}
+
+impl TypeTree {
+    /// The type with this root; `TooLarge` exactly where it is not within the limits, and the root is
+    /// then dropped.
+    pub fn new(root: TypeNode) -> Result<TypeTree, TooLarge>
+        ensures held { IfOk result (λ tree. tree.root ≡ root) }
+        ensures refused { OnErr result (¬ (IsWithinLimits (type_of root))) }
+    {
+        if nodes(&root) <= MOST_NODES && depth(&root) <= MOST_DEPTH {
+            Ok(TypeTree { root })
+        } else {
+            Err(TooLarge)
+        }
+    }
+}
+
+/// The type of a function with every index expanded: its parameters in order, and its result, if it has
+/// one. The parameters are within the limits of one type as the fields of a tuple are.
+#[derive(Debug, Drop)]
+pub struct Func {
+    pub params: Vec<Field>,
+    pub result: Option<TypeTree>,
+    pub ghost within_limits: { IsWithinLimits (fields tuple_type (fields_of params.items)) },
+}
+
+impl Func {
+    /// The type of a function with these parameters and this result; `TooLarge` exactly where the
+    /// parameters are not within the limits as the fields of a tuple, and all is then dropped.
+    pub fn new(params: Vec<Field>, answer: Option<TypeTree>) -> Result<Func, TooLarge>
+        ensures params { IfOk result (λ func. func.params ≡ params) }
+        ensures answer { IfOk result (λ func. func.result ≡ answer) }
+        ensures refused { OnErr result (¬ (IsWithinLimits (fields tuple_type (fields_of params.items)))) }
+    {
+        if nodes_of_fields(&params) < MOST_NODES && depth_of_fields(&params) < MOST_DEPTH {
+            Ok(Func {
+                params,
+                result: answer,
+            })
+        } else {
+            Err(TooLarge)
+        }
+    }
 }

@@ -1,0 +1,62 @@
+-- What a component imports and exports, without where it lies in memory (Binary.md, "Import and Export
+-- Definitions").
+use Rattle.std.specs.Prelude.{ℕ, List, map}
+use Rattle.cm_types.specs.Types.{Ty, FuncTy}
+use Rattle.cm_types.specs.Funcs.{tree_type, func_of}
+use Rattle.cm_types.specs.declared.resource.ResourceId.{ResourceId}
+use Rattle.cm_types.specs.declared.signatures.Signature.{Signature}
+use Rattle.cm_types.specs.declared.signatures.SignatureItem.{SignatureItem}
+use Rattle.cm_types.specs.declared.signatures.ExternDesc.{ExternDesc}
+use Rattle.cm_types.specs.declared.signatures.ExternDesc.TheVariants as extern
+use Rattle.cm_types.specs.declared.signatures.InstanceItem.{InstanceItem}
+use Rattle.cm_types.specs.declared.signatures.ItemDesc.{ItemDesc}
+use Rattle.cm_types.specs.declared.signatures.ItemDesc.TheVariants as item
+
+-- what an item of an instance is: a function, a type equal to another one, a resource equal to another
+-- one, or a fresh resource
+pub data ItemTy : Type 0 where
+  func_item : FuncTy → ItemTy
+  equal_type : Ty → ItemTy
+  equal_resource : ResourceId → ItemTy
+  fresh_resource : ResourceId → ItemTy
+
+-- an item with its name
+pub record NamedItem : Type 0 where
+  pub name : List ℕ
+  pub desc : ItemTy
+
+-- what an import or an export is: a function, or an instance with its items
+pub data ExternTy : Type 0 where
+  func : FuncTy → ExternTy
+  instance : List NamedItem → ExternTy
+
+-- an import or an export with its name
+pub record NamedExtern : Type 0 where
+  pub name : List ℕ
+  pub desc : ExternTy
+
+-- imports and exports, in order
+pub record SignatureTy : Type 0 where
+  pub imports : List NamedExtern
+  pub exports : List NamedExtern
+
+-- ---- what the code's are
+
+abbrev pub item_desc_of : ItemDesc → ItemTy
+item_desc_of (item.Func f) = func_item (func_of f)
+item_desc_of (item.EqualType t) = equal_type (tree_type t)
+item_desc_of (item.EqualResource r) = equal_resource r
+item_desc_of (item.FreshResource r) = fresh_resource r
+
+abbrev pub item_of : InstanceItem → NamedItem
+item_of i = record { name = i.name; desc = item_desc_of i.desc }
+
+abbrev pub extern_desc_of : ExternDesc → ExternTy
+extern_desc_of (extern.Func f) = func (func_of f)
+extern_desc_of (extern.Instance items) = instance (map item_of items.items)
+
+abbrev pub extern_of : SignatureItem → NamedExtern
+extern_of i = record { name = i.name; desc = extern_desc_of i.desc }
+
+abbrev pub signature_of : Signature → SignatureTy
+signature_of s = record { imports = map extern_of s.imports.items; exports = map extern_of s.exports.items }

@@ -1,0 +1,47 @@
+//! What a component imports and exports, with every index expanded.
+
+use crate::extern_names::ExternName;
+use crate::resource::ResourceId;
+use crate::type_trees::{Func, TypeTree};
+
+/// What a component imports and exports, each in the order of its file.
+#[derive(Debug, Drop)]
+pub struct Signature {
+    pub imports: Vec<SignatureItem>,
+    pub exports: Vec<SignatureItem>,
+}
+
+/// An import or an export of a component.
+#[derive(Debug, Drop)]
+pub struct SignatureItem {
+    pub name: ExternName,
+    pub desc: ExternDesc,
+}
+
+/// What an import or an export is (Binary.md, "Import and Export Definitions").
+#[derive(Debug, Drop)]
+pub enum ExternDesc {
+    Func(Func),
+    /// The items of the instance, in order.
+    Instance(Vec<InstanceItem>),
+}
+
+/// An item of an instance.
+#[derive(Debug, Drop)]
+pub struct InstanceItem {
+    pub name: ExternName,
+    pub desc: ItemDesc,
+}
+
+/// What an item of an instance is: a function, or a type, which is equal to another type or a fresh
+/// resource.
+#[derive(Debug, Drop)]
+pub enum ItemDesc {
+    Func(Func),
+    /// A type equal to this one.
+    EqualType(TypeTree),
+    /// A resource equal to this one.
+    EqualResource(ResourceId),
+    /// A resource of its own.
+    FreshResource(ResourceId),
+}
