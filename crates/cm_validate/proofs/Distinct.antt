@@ -1,5 +1,5 @@
 -- A list of texts is read from its front, and each text is looked for in the set of those before it.
-use Rattle.std.proofs.Common.{◌≡◌, ℕ, ◌+◌, ◌<◌, Bool, true, false, ◌&&◌, ◌||◌, not, cond, List, [], ◌∷◌, length, get_or, drop, map, refl, sym, ◌∙◌, ap, add-one, drop-cons}
+use Rattle.std.proofs.Common.{◌≡◌, ℕ, ◌+◌, ◌<◌, Bool, true, false, ◌&&◌, ◌||◌, not, cond, List, [], ◌∷◌, ◌++◌, length, get_or, drop, map, refl, sym, ◌∙◌, ap, add-one, drop-cons}
 use Rattle.std.specs.List.{list_all, list_any}
 use Rattle.std.specs.Str.{bytes_eq}
 use Rattle.cm_validate.specs.Rules.{are_distinct}
@@ -7,6 +7,16 @@ use Rattle.cm_validate.specs.Rules.{are_distinct}
 -- none of the texts to come is in the set, and no two of them are equal
 abbrev pub rest_is_distinct : (List ℕ → Bool) → List (List ℕ) → Bool
 rest_is_distinct has xs = list_all (λ x. not (has x)) xs && are_distinct xs
+
+or_false : (a : Bool) → (a || false) ≡ cond a true false
+or_false true = refl
+or_false false = refl
+
+or_swap : (a b c : Bool) → (a || cond b true c) ≡ cond b true (a || c)
+or_swap true true c = refl
+or_swap true false c = refl
+or_swap false true c = refl
+or_swap false false c = refl
 
 all_not_in_nothing : (has : List ℕ → Bool) (xs : List (List ℕ)) → ((q : List ℕ) → has q ≡ false) → list_all (λ x. not (has x)) xs ≡ true
 all_not_in_nothing has [] none = refl
@@ -61,3 +71,8 @@ goes_on key xs i x has more t new all lt is same answer was grows before =
     ∙ ap (λ s. rest_is_distinct has (s ∷ map key (drop (i + 1) xs))) same
     ∙ sym (ap (rest_is_distinct has) (next_element key xs i x lt is))
     ∙ before
+
+-- a text is among a list with one more where it is the new one or among the others
+pub any_append : {A B : Type 0} (p : B → Bool) (f : A → B) (xs : List A) (x : A) → list_any p (map f (xs ++ x ∷ [])) ≡ cond (p (f x)) true (list_any p (map f xs))
+any_append p f [] x = or_false (p (f x))
+any_append p f (y ∷ ys) x = ap (λ b. p (f y) || b) (any_append p f ys x) ∙ or_swap (p (f y)) (p (f x)) (list_any p (map f ys))

@@ -1,4 +1,6 @@
 pub mod Args
 pub mod Distinct
+pub mod Lifts
 pub mod Order
+pub mod Params
 pub mod Sections

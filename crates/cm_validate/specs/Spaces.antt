@@ -2,7 +2,9 @@
 -- order (Explainer.md, "Index Spaces").
 use Rattle.std.specs.Prelude.{ℕ, ◌+◌, List, [], ◌∷◌, ◌++◌, length, map, Option, Some, None, slice_get, option_map, option_and_then, option_to_list}
 use Rattle.cm_types.specs.DefTypes.{DefTree, FuncTree, func_def}
-use Rattle.cm_types.specs.Types.{Ty, unsigned}
+use Rattle.cm_types.specs.Types.{Ty, FuncTy, unsigned, bits_32}
+use Rattle.cm_types.specs.TypeTrees.{fields_from}
+use Rattle.cm_types.specs.Signatures.{SignatureTy, func as func_extern}
 use Rattle.cm_types.specs.declared.def_types.ValType.{ValType}
 use Rattle.cm_types.specs.declared.def_types.ValType.TheVariants as val_type
 use Rattle.cm_component.specs.Trees.{CoreInstanceTree, AliasTree, ImportTree, ExportTree, SectionTree, instantiate, core_instance_export}
@@ -12,16 +14,12 @@ use Rattle.cm_component.specs.declared.section.ExternDesc.{ExternDesc}
 use Rattle.cm_component.specs.declared.section.ExternDesc.TheVariants as desc
 use Rattle.cm_validate.specs.Items.{Item, module_item, core_instance_item, alias_item, type_item, canon_item, import_item, export_item, all_items}
 
--- the type of a function with every index expanded
-pub record FuncTy : Type 0 where
-  pub params : List (List ℕ × Ty)
-  pub result : Option Ty
-
+-- a value type, and the type of a function, with every index expanded
 abbrev pub expanded_value : ValType → Ty
-expanded_value val_type.U32 = unsigned 4
+expanded_value val_type.U32 = unsigned bits_32
 
 abbrev pub expanded : FuncTree → FuncTy
-expanded f = record { params = map (λ p. (p.label, expanded_value p.ty)) f.params; result = option_map expanded_value f.result }
+expanded f = record { params = fields_from (map (λ p. (p.label, expanded_value p.ty)) f.params); result = option_map expanded_value f.result }
 
 -- what a core function is: what a core instance exports under this name, or an import that was lowered
 -- (its number, the item of an imported instance, and its type)
@@ -40,10 +38,11 @@ pub record ImportedFunc : Type 0 where
   pub name : List ℕ
   pub ty : FuncTy
 
--- an export of a function: its index
+-- an export of a function: its index and its type
 pub record ExportedFunc : Type 0 where
   pub name : List ℕ
   pub func : ℕ
+  pub ty : FuncTy
 
 -- the index spaces, with the imports and the exports; of a core instance the module that it is made of
 pub record Space : Type 0 where
@@ -82,7 +81,15 @@ after_import s name (desc.Func ty) =
       imports = s.imports ++ option_to_list (option_map (λ t. record { name = name; ty = t }) (slice_get s.types ty))
     }
 
--- the spaces after an item; an export gives its function a new index
+-- the spaces after an export of this name, which gives its function a new index
+abbrev pub after_export : Space → List ℕ → ℕ → Space
+after_export s name index =
+    record s {
+      funcs = s.funcs ++ option_to_list (slice_get s.funcs index);
+      exports = s.exports ++ option_to_list (option_map (λ f. record { name = name; func = index; ty = type_of f }) (slice_get s.funcs index))
+    }
+
+-- the spaces after an item
 abbrev pub grown : Space → Item → Space
 grown s module_item = record s { modules = s.modules + 1 }
 grown s (core_instance_item (instantiate m args)) = record s { core_instances = s.core_instances ++ m ∷ [] }
@@ -90,7 +97,7 @@ grown s (alias_item (core_instance_export sort instance name)) = record s { core
 grown s (type_item (func_def f)) = record s { types = s.types ++ expanded f ∷ [] }
 grown s (canon_item c) = after_canon s c
 grown s (import_item i) = after_import s i.name i.desc
-grown s (export_item e) = record s { funcs = s.funcs ++ option_to_list (slice_get s.funcs e.index); exports = s.exports ++ record { name = e.name; func = e.index } ∷ [] }
+grown s (export_item e) = after_export s e.name e.index
 
 -- the spaces after these items
 abbrev pub after : Space → List Item → Space
@@ -100,6 +107,14 @@ after s (x ∷ xs) = after (grown s x) xs
 -- the spaces of a whole component
 abbrev pub spaces_of : List SectionTree → Space
 spaces_of sections = after nothing (all_items sections)
+
+-- what a component imports and exports
+abbrev pub signature : Space → SignatureTy
+signature s =
+    record {
+      imports = map (λ i. record { name = i.name; desc = func_extern i.ty }) s.imports;
+      exports = map (λ e. record { name = e.name; desc = func_extern e.ty }) s.exports
+    }
 
 -- what the function under an export is
 abbrev pub func_of_export : Space → ℕ → Option FuncDefTree

@@ -1,20 +1,14 @@
 //! What the indices of functions stand for.
 
 ghost use Rattle.std.specs.Prelude.{◌≡◌, IfOk};
-ghost use Rattle.cm_validate.specs.Definitions.{core_func_tree, func_def_tree, func_of};
-ghost use Rattle.cm_validate.specs.Rules.{is_guest};
+ghost use Rattle.cm_types.specs.Funcs.{func_of};
+ghost use Rattle.cm_validate.specs.Definitions.{core_func_tree, func_def_tree};
+ghost use Rattle.cm_validate.specs.Rules.{field_count, is_guest};
 ghost use Rattle.cm_validate.specs.Spaces.{type_of};
 
-use cm_types::{Field, TypeNode};
+use cm_types::Func;
 use std::alloc::AllocError;
 use std::rc::Rc;
-
-/// The type of a function.
-#[derive(Debug, Drop)]
-pub struct Func {
-    pub params: Vec<Field>,
-    pub result: Option<TypeNode>,
-}
 
 /// What a core function of a component is.
 #[derive(Debug, Drop)]
@@ -42,6 +36,21 @@ pub enum FuncDef {
     },
 }
 
+/// What stands under an export: a function's index and its type.
+#[derive(Debug, Drop)]
+pub(crate) struct ExportDef {
+    pub func: u32,
+    pub ty: Rc<Func>,
+}
+
+/// How many parameters a function of this type has.
+#[tactic(auto, using(crate::proofs::Params::counts))]
+pub(crate) fn param_count(ty: &Func) -> usize
+    ensures { result ≡ field_count (func_of ty.now).params }
+{
+    ty.params.len()
+}
+
 impl CoreFuncDef {
     /// Whether it is a guest's own function.
     pub fn is_guest(&self) -> bool
@@ -56,8 +65,8 @@ impl CoreFuncDef {
 
 impl FuncDef {
     /// The type of the function.
-    pub fn ty(&self) -> &Func
-        ensures { func_of result.now ≡ type_of (func_def_tree self.now) }
+    pub fn ty(&self) -> &Rc<Func>
+        ensures { func_of result.now.value ≡ type_of (func_def_tree self.now) }
     {
         match self {
             FuncDef::Lifted { ty, .. } | FuncDef::Imported { ty, .. } => ty,

@@ -1,13 +1,15 @@
 //! Function types with every index expanded.
 
-ghost use Rattle.std.specs.Prelude.{◌≡◌, IfOk, map};
+ghost use Rattle.std.specs.Prelude.{◌≡◌, IfOk, map, true};
 ghost use Rattle.cm_types.specs.TypeTrees.{field_of, type_of};
+ghost use Rattle.cm_types.specs.Funcs.{func_of, tree_type};
 ghost use Rattle.cm_types.specs.DefTypes.{func_tree};
-ghost use Rattle.cm_validate.specs.Definitions.{func_of};
+ghost use Rattle.cm_validate.specs.Rules.{is_small};
 ghost use Rattle.cm_validate.specs.Spaces.{expanded, expanded_value};
 
-use crate::definitions::Func;
-use cm_types::{Field, FuncType, Label, LabeledValType, TypeNode, ValType};
+use cm_types::{
+    ExternName, Field, Func, FuncType, Label, LabeledValType, TypeNode, TypeTree, ValType,
+};
 use std::alloc::{AllocError, Global};
 
 fn expand_value(ty: ValType) -> TypeNode
@@ -16,6 +18,21 @@ fn expand_value(ty: ValType) -> TypeNode
     match ty {
         ValType::U32 => TypeNode::U32,
     }
+}
+
+fn expand_result(ty: ValType) -> TypeTree
+    ensures { tree_type result ≡ expanded_value ty }
+{
+    TypeTree {
+        root: expand_value(ty),
+    }
+}
+
+/// The name once more.
+pub(crate) fn copy_name(alloc: Global, name: &ExternName) -> Result<ExternName, AllocError>
+    ensures { IfOk result (λ n. n ≡ name.now) }
+{
+    ExternName::parse(alloc, name.as_str()).map_err(|_| AllocError)
 }
 
 fn copy_label(alloc: Global, label: &Label) -> Result<Label, AllocError>
@@ -39,10 +56,11 @@ fn expand_params(alloc: Global, params: &[LabeledValType]) -> Result<Vec<Field>,
 
 /// The type with every index expanded.
 pub(crate) fn expand(alloc: Global, ty: &FuncType) -> Result<Func, AllocError>
+    requires { is_small (func_tree ty.now) ≡ true }
     ensures { IfOk result (λ f. func_of f ≡ expanded (func_tree ty.now)) }
 {
     Ok(Func {
         params: expand_params(alloc, &ty.params)?,
-        result: ty.result.map(expand_value),
+        result: ty.result.map(expand_result),
     })
 }

@@ -1,18 +1,20 @@
 //! What an item of a section has to keep, and what it adds to the index spaces.
 
-ghost use Rattle.std.specs.Prelude.{◌≡◌, ℕ, IfOk, OnOk, length, map, nat_lt};
+ghost use Rattle.std.specs.Prelude.{◌≡◌, ℕ, [], ◌∷◌, None, IfOk, OnOk, length, map, nat_lt};
 ghost use Rattle.std.specs.List.{list_all};
+ghost use Rattle.cm_types.specs.Funcs.{func_of};
 ghost use Rattle.cm_types.specs.DefTypes.{def_tree};
 ghost use Rattle.cm_component.specs.Trees.{instantiate, arg_tree, core_instance_tree, alias_tree, import_tree, export_tree};
 ghost use Rattle.cm_component.specs.declared.section.Canon.TheVariants as canon;
+ghost use Rattle.cm_validate.specs.declared.fault.ValidReason.TheVariants as reason;
 ghost use Rattle.cm_validate.specs.Items.{Item, core_instance_item, alias_item, type_item, canon_item, import_item, export_item};
-ghost use Rattle.cm_validate.specs.Definitions.{func_def_tree, core_func_tree, func_of};
-ghost use Rattle.cm_validate.specs.Rules.{rules, canon_rules, is_plain_label, is_guest};
+ghost use Rattle.cm_validate.specs.Definitions.{func_def_tree, core_func_tree};
+ghost use Rattle.cm_validate.specs.Rules.{rules, canon_rules, is_flat, is_guest, is_plain_label};
 ghost use Rattle.cm_validate.specs.Spaces.{grown, after_canon, type_of};
 ghost use Rattle.cm_validate.specs.SpacesOf.{space_of};
 ghost use Rattle.cm_validate.specs.Valid.{first};
 
-use crate::definitions::{CoreFuncDef, Func, FuncDef};
+use crate::definitions::{CoreFuncDef, ExportDef, FuncDef, param_count};
 use crate::expand::expand;
 use crate::fault::ValidReason;
 use crate::spaces::Spaces;
@@ -20,7 +22,7 @@ use crate::texts::{arg_names_are_distinct, labels_are_distinct};
 use cm_component::{
     Alias, Canon, CoreInstance, CoreInstantiationArg, Export, ExternDesc, Import, Sort,
 };
-use cm_types::{DefType, ExternName, ExternNameForm};
+use cm_types::{DefType, ExternName, ExternNameForm, Func};
 use std::alloc::{AllocError, Global};
 use std::rc::Rc;
 
@@ -40,6 +42,7 @@ pub(crate) trait SectionItem {
 
     /// Adds to the spaces what the item adds.
     fn add(&self, alloc: Global, spaces: &mut Spaces) -> Result<(), AllocError>
+        requires { first (rules (space_of spaces.old) (item self.now)) ≡ None }
         ensures { OnOk result (space_of spaces.new ≡ grown (space_of spaces.old) (item self.now)) };
 }
 
@@ -137,19 +140,28 @@ impl SectionItem for DefType {
     }
 }
 
+fn lifting_fault(core_func: &CoreFuncDef, ty: &Func) -> Option<ValidReason>
+    ensures { result ≡ first ((is_flat (func_of ty.now), reason.NeedsMemory) ∷ (is_flat (func_of ty.now), reason.NeedsRealloc) ∷ (is_guest (core_func_tree core_func.now), reason.NotGuestFunction) ∷ []) }
+{
+    if param_count(ty) > MOST_FLAT_PARAMS {
+        Some(ValidReason::NeedsMemory)
+    } else if core_func.is_guest() {
+        None
+    } else {
+        Some(ValidReason::NotGuestFunction)
+    }
+}
+
 fn lift_fault(spaces: &Spaces, core_func: u32, ty: u32) -> Option<ValidReason>
     ensures { result ≡ first (canon_rules (space_of spaces.now) (canon.Lift core_func ty)) }
 {
-    let (Some(core_func), Some(ty)) = (spaces.core_func(core_func), spaces.ty(ty)) else {
+    let Some(core_func) = spaces.core_func(core_func) else {
         return Some(ValidReason::NoSuchIndex);
     };
-    if ty.params.len() > MOST_FLAT_PARAMS {
-        Some(ValidReason::NeedsMemory)
-    } else if !core_func.is_guest() {
-        Some(ValidReason::NotGuestFunction)
-    } else {
-        None
-    }
+    let Some(ty) = spaces.ty(ty) else {
+        return Some(ValidReason::NoSuchIndex);
+    };
+    lifting_fault(core_func, ty)
 }
 
 fn lower_fault(spaces: &Spaces, func: u32) -> Option<ValidReason>
@@ -158,7 +170,7 @@ fn lower_fault(spaces: &Spaces, func: u32) -> Option<ValidReason>
     let Some(func) = spaces.func(func) else {
         return Some(ValidReason::NoSuchIndex);
     };
-    if func.ty().params.len() > MOST_FLAT_PARAMS {
+    if param_count(func.ty()) > MOST_FLAT_PARAMS {
         Some(ValidReason::NeedsMemory)
     } else {
         match func {
@@ -258,7 +270,7 @@ impl SectionItem for Import {
                 };
                 let ty = ty.clone()?;
                 spaces.add_func(def)?;
-                spaces.add_import(alloc, self.name.as_str(), ty)
+                spaces.add_import(alloc, &self.name, ty)
             }
             None => Ok(()),
         }
@@ -287,10 +299,17 @@ impl SectionItem for Export {
 
     fn add(&self, alloc: Global, spaces: &mut Spaces) -> Result<(), AllocError> {
         let Sort::Func = self.sort;
-        if let Some(def) = spaces.func(self.index) {
-            let def = def.share()?;
-            spaces.add_func(def)?;
+        match spaces.func(self.index) {
+            Some(func) => {
+                let def = ExportDef {
+                    func: self.index,
+                    ty: func.ty().clone()?,
+                };
+                let func = func.share()?;
+                spaces.add_func(func)?;
+                spaces.add_export(alloc, &self.name, def)
+            }
+            None => Ok(()),
         }
-        spaces.add_export(alloc, self.name.as_str(), self.index)
     }
 }

@@ -10,5 +10,5 @@ mod spaces;
 mod texts;
 mod walk;
 
-pub use definitions::{CoreFuncDef, Func, FuncDef};
+pub use definitions::{CoreFuncDef, FuncDef};
 pub use fault::{ValidFault, ValidReason};

@@ -3,7 +3,9 @@
 ghost use Rattle.std.specs.Prelude.{◌≡◌, List, [], ◌∷◌, ◌++◌, IfOk, OnOk, length, map};
 ghost use Rattle.cm_validate.specs.Rules.{is_new_name};
 
+use crate::expand::copy_name;
 use crate::texts::{add_text, folded};
+use cm_types::ExternName;
 use std::alloc::{AllocError, Global};
 use std::collections::BTreeSet;
 use std::marker::Model;
@@ -11,7 +13,7 @@ use std::marker::Model;
 /// A definition under a name.
 #[derive(Debug, Drop)]
 pub(crate) struct Named<T> {
-    pub name: String,
+    pub name: ExternName,
     pub definition: T,
 }
 
@@ -24,14 +26,13 @@ pub(crate) struct NamedList<T> {
 
 impl<T> Model for NamedList<T> {
     ghost use Rattle.std.specs.Prelude.{List, ℕ, map};
-    ghost use Rattle.std.specs.String.{string_bytes};
     ghost use Rattle.cm_validate.specs.Names.{AreNamesOf};
 
     ghost Value = { List (List ℕ × T) };
 
-    ghost view = { λ l. map (λ d. (string_bytes d.name, d.definition)) l.definitions.items };
+    ghost view = { λ l. map (λ d. (d.name, d.definition)) l.definitions.items };
 
-    ghost invariant = { λ l. AreNamesOf l.names (map (λ d. string_bytes d.name) l.definitions.items) };
+    ghost invariant = { λ l. AreNamesOf l.names (map (λ d. d.name) l.definitions.items) };
 }
 
 impl<T> NamedList<T> {
@@ -59,13 +60,13 @@ impl<T> NamedList<T> {
     }
 
     /// Puts a definition at the end.
-    pub fn add(&mut self, alloc: Global, name: &str, definition: T) -> Result<(), AllocError>
+    pub fn add(&mut self, alloc: Global, name: &ExternName, definition: T) -> Result<(), AllocError>
     where
         T: Drop,
         ensures { OnOk result (self.new ≡ self.old ++ (name.now, definition) ∷ []) }
     {
-        let key = folded(alloc, name)?;
-        let name = String::from_str(alloc, name)?;
+        let key = folded(alloc, name.as_str())?;
+        let name = copy_name(alloc, name)?;
         self.definitions.reserve(1)?;
         add_text(&mut self.names, key)?;
         match self.definitions.push(Named { name, definition }) {

@@ -2,13 +2,15 @@
 
 ghost use Rattle.std.specs.Prelude.{◌≡◌, ◌+◌, [], ◌∷◌, ◌++◌, IfOk, OnOk, OnErr, length, map, nat_lt, slice_get};
 ghost use Rattle.std.specs.Option.{option_map};
+ghost use Rattle.cm_types.specs.Funcs.{func_of};
 ghost use Rattle.cm_validate.specs.Rules.{is_new_name};
-ghost use Rattle.cm_validate.specs.Definitions.{core_func_tree, func_def_tree, func_of};
+ghost use Rattle.cm_validate.specs.Definitions.{core_func_tree, func_def_tree};
 ghost use Rattle.cm_validate.specs.Spaces.{nothing};
 ghost use Rattle.cm_validate.specs.SpacesOf.{space_of};
 
-use crate::definitions::{CoreFuncDef, Func, FuncDef};
+use crate::definitions::{CoreFuncDef, ExportDef, FuncDef};
 use crate::named::NamedList;
+use cm_types::{ExternName, Func};
 use std::alloc::{AllocError, Global};
 use std::rc::Rc;
 
@@ -21,7 +23,7 @@ pub(crate) struct Spaces {
     core_funcs: Vec<CoreFuncDef>,
     funcs: Vec<FuncDef>,
     imports: NamedList<Rc<Func>>,
-    exports: NamedList<u32>,
+    exports: NamedList<ExportDef>,
 }
 
 impl Spaces {
@@ -125,15 +127,15 @@ impl Spaces {
         Ok(())
     }
 
-    pub fn add_import(&mut self, alloc: Global, name: &str, ty: Rc<Func>) -> Result<(), AllocError>
+    pub fn add_import(&mut self, alloc: Global, name: &ExternName, ty: Rc<Func>) -> Result<(), AllocError>
         ensures { OnOk result (space_of self.new ≡ record (space_of self.old) { imports = (space_of self.old).imports ++ record { name = name.now; ty = func_of ty.value } ∷ [] }) }
     {
         self.imports.add(alloc, name, ty)
     }
 
-    pub fn add_export(&mut self, alloc: Global, name: &str, func: u32) -> Result<(), AllocError>
-        ensures { OnOk result (space_of self.new ≡ record (space_of self.old) { exports = (space_of self.old).exports ++ record { name = name.now; func = func } ∷ [] }) }
+    pub fn add_export(&mut self, alloc: Global, name: &ExternName, def: ExportDef) -> Result<(), AllocError>
+        ensures { OnOk result (space_of self.new ≡ record (space_of self.old) { exports = (space_of self.old).exports ++ record { name = name.now; func = def.func; ty = func_of def.ty.value } ∷ [] }) }
     {
-        self.exports.add(alloc, name, func)
+        self.exports.add(alloc, name, def)
     }
 }

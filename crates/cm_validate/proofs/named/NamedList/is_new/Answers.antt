@@ -1,7 +1,6 @@
 use Rattle.std.proofs.Common.{◌≡◌, ℕ, List, [], ◌∷◌, not, map, refl, sym, ap, ◌∙◌}
 use Rattle.std.specs.List.{list_any}
 use Rattle.std.specs.Str.{bytes_eq}
-use Rattle.std.specs.String.{string_bytes}
 use Rattle.std.specs.BTreeSet.{contains_text}
 use Rattle.cm_validate.specs.Rules.{folded}
 use Rattle.cm_validate.proofs.named.NamedList.is_new.Goals as goal
@@ -16,5 +15,5 @@ returns g c =
     ap not (c.contains.ensures
       ∙ ap (contains_text c.self.inside.names) (c.as_str.ensures.value ∙ c.in_ok-key.ensures)
       ∙ c.self.invariant (folded c.args.name.now)
-      ∙ ap among (sym (keys_of (λ d. string_bytes d.name) (λ d. d.definition) c.self.inside.definitions.items))
+      ∙ ap among (sym (keys_of (λ d. d.name) (λ d. d.definition) c.self.inside.definitions.items))
       ∙ ap (λ ds. among (map (λ d. d.0) ds)) c.self.view_is)
