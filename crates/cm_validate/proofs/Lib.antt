@@ -4,3 +4,4 @@ pub mod Lifts
 pub mod Order
 pub mod Params
 pub mod Sections
+pub mod TableLemmas

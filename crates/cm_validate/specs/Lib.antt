@@ -5,4 +5,5 @@ pub mod Reasons
 pub mod Rules
 pub mod Spaces
 pub mod SpacesOf
+pub mod Tables
 pub mod Valid

@@ -119,3 +119,9 @@ signature s =
 -- what the function under an export is
 abbrev pub func_of_export : Space → ℕ → Option FuncDefTree
 func_of_export s export = option_and_then (λ e. slice_get s.funcs e.func) (slice_get s.exports export)
+
+-- what the function is that is an export of its own, or an item of an exported instance: so far no
+-- component exports instances
+abbrev pub func_at : Space → ℕ → Option ℕ → Option FuncDefTree
+func_at s export None = func_of_export s export
+func_at s export (Some item) = None

@@ -45,6 +45,14 @@ impl<T> NamedList<T> {
         }
     }
 
+    /// The definitions, in order.
+    pub fn into_definitions(self) -> Vec<Named<T>>
+        ensures { map (λ d. (d.name, d.definition)) result.items ≡ self }
+    {
+        let NamedList { definitions, .. } = self;
+        definitions
+    }
+
     pub fn len(&self) -> usize
         ensures { result ≡ length self.now }
     {

@@ -17,13 +17,13 @@ use std::rc::Rc;
 /// The index spaces after the items that were read, with the imports and the exports.
 #[derive(Drop)]
 pub(crate) struct Spaces {
-    modules: usize,
-    core_instances: Vec<u32>,
-    types: Vec<Rc<Func>>,
-    core_funcs: Vec<CoreFuncDef>,
-    funcs: Vec<FuncDef>,
-    imports: NamedList<Rc<Func>>,
-    exports: NamedList<ExportDef>,
+    pub modules: usize,
+    pub core_instances: Vec<u32>,
+    pub types: Vec<Rc<Func>>,
+    pub core_funcs: Vec<CoreFuncDef>,
+    pub funcs: Vec<FuncDef>,
+    pub imports: NamedList<Rc<Func>>,
+    pub exports: NamedList<ExportDef>,
 }
 
 impl Spaces {
