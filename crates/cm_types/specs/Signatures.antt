@@ -43,7 +43,7 @@ pub record SignatureTy : Type 0 where
 -- ---- what the code's are
 
 abbrev pub item_desc_of : ItemDesc → ItemTy
-item_desc_of (item.Func f) = func_item (func_of f)
+item_desc_of (item.Func f) = func_item (func_of f.value)
 item_desc_of (item.EqualType t) = equal_type (tree_type t)
 item_desc_of (item.EqualResource r) = equal_resource r
 item_desc_of (item.FreshResource r) = fresh_resource r
@@ -52,7 +52,7 @@ abbrev pub item_of : InstanceItem → NamedItem
 item_of i = record { name = i.name; desc = item_desc_of i.desc }
 
 abbrev pub extern_desc_of : ExternDesc → ExternTy
-extern_desc_of (extern.Func f) = func (func_of f)
+extern_desc_of (extern.Func f) = func (func_of f.value)
 extern_desc_of (extern.Instance items) = instance (map item_of items.items)
 
 abbrev pub extern_of : SignatureItem → NamedExtern

@@ -3,6 +3,7 @@
 use crate::extern_names::ExternName;
 use crate::resource::ResourceId;
 use crate::type_trees::{Func, TypeTree};
+use std::rc::Rc;
 
 /// What a component imports and exports, each in the order of its file.
 #[derive(Debug, Drop)]
@@ -21,7 +22,8 @@ pub struct SignatureItem {
 /// What an import or an export is (Binary.md, "Import and Export Definitions").
 #[derive(Debug, Drop)]
 pub enum ExternDesc {
-    Func(Func),
+    /// A function; its type may be shared with others.
+    Func(Rc<Func>),
     /// The items of the instance, in order.
     Instance(Vec<InstanceItem>),
 }
@@ -37,7 +39,8 @@ pub struct InstanceItem {
 /// resource.
 #[derive(Debug, Drop)]
 pub enum ItemDesc {
-    Func(Func),
+    /// A function; its type may be shared with others.
+    Func(Rc<Func>),
     /// A type equal to this one.
     EqualType(TypeTree),
     /// A resource equal to this one.

@@ -1,0 +1,9 @@
+pub mod Definitions
+pub mod Items
+pub mod Names
+pub mod Reasons
+pub mod Rules
+pub mod Spaces
+pub mod SpacesOf
+pub mod Tables
+pub mod Valid

@@ -1,0 +1,67 @@
+-- Valid components, and the fault of one that is not: its least section, the least item there, and of
+-- the rules that this item breaks the one of the smallest number.
+use Rattle.std.specs.Prelude.{◌≡◌, ℕ, ◌+◌, ◌≤◌, ◌⊎◌, Bool, false, List, [], ◌∷◌, ◌++◌, length, Option, Some, None, if◌then◌else◌}
+use Rattle.cm_component.specs.Trees.{SectionTree}
+use Rattle.cm_validate.specs.declared.fault.ValidReason.{ValidReason}
+use Rattle.cm_validate.specs.Reasons.{reason_number}
+use Rattle.cm_validate.specs.Items.{Item, items_of, all_items}
+use Rattle.cm_validate.specs.Spaces.{Space, nothing, grown, after}
+use Rattle.cm_validate.specs.Rules.{rules}
+
+-- one of these rules is broken, for this reason
+abbrev pub IsBroken : List (Bool × ValidReason) → ValidReason → Type 0
+IsBroken [] r = ⊥
+IsBroken (c ∷ cs) r = ((c.0 ≡ false) × (c.1 ≡ r)) ⊎ IsBroken cs r
+
+-- no item breaks a rule, in the spaces of the items before it
+abbrev pub IsValidFrom : Space → List Item → Type 0
+IsValidFrom s items =
+    (front : List Item) (x : Item) (rest : List Item) (r : ValidReason)
+    → items ≡ front ++ x ∷ rest → IsBroken (rules (after s front) x) r → ⊥
+
+-- a component is valid
+abbrev pub IsValid : List SectionTree → Type 0
+IsValid sections = IsValidFrom nothing (all_items sections)
+
+-- the first item that breaks a rule is that of this number, for this reason
+pub record IsFirstFault (s : Space) (items : List Item) (number : ℕ) (r : ValidReason) : Type 0 where
+  pub front : List Item
+  pub item : Item
+  pub rest : List Item
+  pub split : items ≡ front ++ item ∷ rest
+  pub place : length front ≡ number
+  pub before : IsValidFrom s front
+  pub broken : IsBroken (rules (after s front) item) r
+  pub least : (q : ValidReason) → IsBroken (rules (after s front) item) q → reason_number r ≤ reason_number q
+
+-- the first section with such an item is that of this number
+pub record IsFaultOf (sections : List SectionTree) (section item : ℕ) (r : ValidReason) : Type 0 where
+  pub before : List SectionTree
+  pub faulty : SectionTree
+  pub behind : List SectionTree
+  pub split : sections ≡ before ++ faulty ∷ behind
+  pub place : length before ≡ section
+  pub fine : IsValid before
+  pub here : IsFirstFault (after nothing (all_items before)) (items_of faulty) item r
+
+-- ---- the same, computed
+
+-- the reason of the first rule that is broken
+abbrev pub first : List (Bool × ValidReason) → Option ValidReason
+first [] = None
+first (c ∷ cs) = if c.0 then first cs else Some c.1
+
+-- where and why, if there is a reason, and else what comes later
+abbrev pub or_later : {A : Type 0} → Option A → Option (ℕ × A) → ℕ → Option (ℕ × A)
+or_later None later at = later
+or_later (Some found) later at = Some (at, found)
+
+-- the first fault among items that are numbered from here on
+abbrev pub items_fault : ℕ → Space → List Item → Option (ℕ × ValidReason)
+items_fault at s [] = None
+items_fault at s (x ∷ xs) = or_later (first (rules s x)) (items_fault (at + 1) (grown s x) xs) at
+
+-- the first fault among sections that are numbered from here on
+abbrev pub sections_fault : ℕ → Space → List SectionTree → Option (ℕ × (ℕ × ValidReason))
+sections_fault at s [] = None
+sections_fault at s (x ∷ xs) = or_later (items_fault 0 s (items_of x)) (sections_fault (at + 1) (after s (items_of x)) xs) at

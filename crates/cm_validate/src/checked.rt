@@ -1,0 +1,97 @@
+//! Components that are valid.
+
+ghost use Rattle.std.specs.Prelude.{◌≡◌, ◌⊎◌, IfOk, OnOk, IfErr, slice_get};
+ghost use Rattle.std.specs.Option.{option_map};
+ghost use Rattle.cm_types.specs.Signatures.{signature_of};
+ghost use Rattle.cm_validate.specs.declared.fault.ValidReason.TheVariants as reason;
+ghost use Rattle.cm_validate.specs.Definitions.{core_func_tree, func_def_tree};
+ghost use Rattle.cm_validate.specs.Spaces.{spaces_of, signature, func_at};
+ghost use Rattle.cm_validate.specs.Valid.{IsValid, IsFaultOf};
+
+use crate::definitions::{CoreFuncDef, FuncDef};
+use crate::fault::{ValidFault, ValidReason};
+use crate::tables::{Tables, tables_of};
+use crate::walk::walk_all;
+use cm_component::Component;
+use cm_types::Signature;
+use std::alloc::{AllocError, Global};
+use std::marker::Model;
+
+/// A component that is valid, with tables that tell what its indices stand for. Contracts see it as the
+/// tree of its file.
+#[derive(Debug, Drop)]
+pub struct Checked {
+    component: Component,
+    tables: Tables,
+}
+
+impl Model for Checked {
+    ghost use Rattle.std.specs.Prelude.{List};
+    ghost use Rattle.cm_component.specs.Trees.{SectionTree};
+
+    ghost Value = { List SectionTree };
+
+    ghost use Rattle.cm_validate.specs.Tables.{IsChecked};
+
+    ghost view = { λ c. c.component };
+
+    ghost invariant = { λ c. IsChecked c.component c.tables };
+}
+
+impl Checked {
+    /// What the component imports and exports, in the order of the file.
+    pub fn signature(&self) -> &Signature
+        ensures valid { IsValid self.now }
+        ensures signature { signature_of result.now ≡ signature (spaces_of self.now) }
+    {
+        &self.tables.signature
+    }
+
+    /// What the core function with index `core_func`, from 0, is, or None where there is none.
+    pub fn core(&self, core_func: u32) -> Option<&CoreFuncDef>
+        ensures { option_map (λ f. core_func_tree f.now) result ≡ slice_get (spaces_of self.now).core_funcs core_func }
+    {
+        self.tables.core_funcs.get(core_func as usize)
+    }
+
+    /// What the function under the export with number `export`, from 0, is. `item` is the place in an
+    /// exported instance, and None for a function that is an export of its own; None is the answer where
+    /// there is no such function.
+    pub fn func(&self, export: u32, item: Option<u32>) -> Option<&FuncDef>
+        ensures { option_map (λ f. func_def_tree f.now) result ≡ func_at (spaces_of self.now) export item }
+    {
+        match item {
+            Some(_) => None,
+            None => {
+                let func = *self.tables.exports.get(export as usize)?;
+                self.tables.funcs.get(func as usize)
+            }
+        }
+    }
+}
+
+/// The component as one that is valid.
+///
+/// A component that is not valid is refused with its first fault: the least section, the least item in
+/// it, and of the rules that the item breaks the one whose reason has the smallest number (Explainer.md;
+/// the reasons, their numbers and this order are this project's own choice). `Memory` comes where there
+/// is no memory for the tables, at the item that was looked at then. The component is dropped where it is
+/// refused.
+pub fn validate(alloc: Global, component: Component) -> Result<Checked, ValidFault>
+    ensures held { IfOk result (λ c. c ≡ component) }
+    ensures accepted { OnOk result (IsValid component) }
+    ensures complete { IsValid component → IfErr result (λ f. f.reason ≡ reason.Memory) }
+    ensures refused { IfErr result (λ f. (f.reason ≡ reason.Memory) ⊎ IsFaultOf component f.section f.item f.reason) }
+{
+    match walk_all(alloc, component.sections()) {
+        Ok(spaces) => match tables_of(alloc, spaces) {
+            Ok(tables) => Ok(Checked { component, tables }),
+            Err(AllocError) => Err(ValidFault {
+                section: component.sections().len(),
+                item: 0,
+                reason: ValidReason::Memory,
+            }),
+        },
+        Err(fault) => Err(fault),
+    }
+}

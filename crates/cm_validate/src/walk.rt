@@ -1,0 +1,118 @@
+//! The walk over a component's sections, to the first fault.
+
+ghost use Rattle.std.specs.Prelude.{◌≡◌, ◌+◌, ◌⊎◌, map, None, Some, IfOk, OnOk, IfErr};
+ghost use Rattle.cm_component.specs.Trees.{section_tree};
+ghost use Rattle.cm_validate.specs.declared.fault.ValidReason.TheVariants as reason;
+ghost use Rattle.cm_validate.specs.Items.{items_of};
+ghost use Rattle.cm_validate.specs.Rules.{rules};
+ghost use Rattle.cm_validate.specs.Spaces.{after, grown, nothing, spaces_of};
+ghost use Rattle.cm_validate.specs.SpacesOf.{space_of};
+ghost use Rattle.cm_validate.specs.Valid.{first, items_fault, sections_fault};
+
+use crate::fault::{ValidFault, ValidReason};
+use crate::items::SectionItem;
+use crate::spaces::Spaces;
+use cm_component::Section;
+use std::alloc::{AllocError, Global};
+
+/// Adds an item to the spaces, or gives the reason why it may not stand there.
+fn take_item<T: SectionItem>(
+    alloc: Global,
+    item: &T,
+    spaces: &mut Spaces,
+) -> Result<(), ValidReason>
+    ensures fine { OnOk result (first (rules (space_of spaces.old) (T.item item.now)) ≡ None) }
+    ensures grows { OnOk result (space_of spaces.new ≡ grown (space_of spaces.old) (T.item item.now)) }
+    ensures fault { IfErr result (λ r. (r ≡ reason.Memory) ⊎ (first (rules (space_of spaces.old) (T.item item.now)) ≡ Some r)) }
+{
+    match item.broken_rule(alloc, spaces) {
+        Ok(None) => match item.add(alloc, spaces) {
+            Ok(()) => Ok(()),
+            Err(AllocError) => Err(ValidReason::Memory),
+        },
+        Ok(Some(reason)) => Err(reason),
+        Err(AllocError) => Err(ValidReason::Memory),
+    }
+}
+
+/// Adds the items of a section to the spaces, up to the first fault.
+fn walk<T: SectionItem>(
+    alloc: Global,
+    section: usize,
+    items: &[T],
+    spaces: &mut Spaces,
+) -> Result<(), ValidFault>
+    ensures fine { OnOk result (items_fault 0 (space_of spaces.old) (map T.item items.now) ≡ None) }
+    ensures grows { OnOk result (space_of spaces.new ≡ after (space_of spaces.old) (map T.item items.now)) }
+    ensures place { IfErr result (λ f. f.section ≡ section) }
+    ensures fault { IfErr result (λ f. (f.reason ≡ reason.Memory) ⊎ (items_fault 0 (space_of spaces.old) (map T.item items.now) ≡ Some (f.item, f.reason))) }
+{
+    for (at, item) in items.iter().enumerate() {
+        match take_item(alloc, item, spaces) {
+            Ok(()) => {}
+            Err(reason) => {
+                return Err(ValidFault {
+                    section,
+                    item: at,
+                    reason,
+                });
+            }
+        }
+    }
+    Ok(())
+}
+
+fn walk_module(section: usize, spaces: &mut Spaces) -> Result<(), ValidFault>
+    ensures grows { OnOk result (space_of spaces.new ≡ record (space_of spaces.old) { modules = (space_of spaces.old).modules + 1 }) }
+    ensures place { IfErr result (λ f. f.section ≡ section) }
+    ensures fault { IfErr result (λ f. f.reason ≡ reason.Memory) }
+{
+    match spaces.add_module() {
+        Ok(()) => Ok(()),
+        Err(AllocError) => Err(ValidFault {
+            section,
+            item: 0,
+            reason: ValidReason::Memory,
+        }),
+    }
+}
+
+#[tactic(auto, using(crate::proofs::Sections::seen))]
+fn walk_section(
+    alloc: Global,
+    at: usize,
+    section: &Section,
+    spaces: &mut Spaces,
+) -> Result<(), ValidFault>
+    ensures fine { OnOk result (items_fault 0 (space_of spaces.old) (items_of (section_tree section.now)) ≡ None) }
+    ensures grows { OnOk result (space_of spaces.new ≡ after (space_of spaces.old) (items_of (section_tree section.now))) }
+    ensures place { IfErr result (λ f. f.section ≡ at) }
+    ensures fault { IfErr result (λ f. (f.reason ≡ reason.Memory) ⊎ (items_fault 0 (space_of spaces.old) (items_of (section_tree section.now)) ≡ Some (f.item, f.reason))) }
+{
+    match section {
+        Section::Custom(_) => Ok(()),
+        Section::CoreModule(_) => walk_module(at, spaces),
+        Section::CoreInstances(items) => walk(alloc, at, items, spaces),
+        Section::Aliases(items) => walk(alloc, at, items, spaces),
+        Section::Types(items) => walk(alloc, at, items, spaces),
+        Section::Canons(items) => walk(alloc, at, items, spaces),
+        Section::Imports(items) => walk(alloc, at, items, spaces),
+        Section::Exports(items) => walk(alloc, at, items, spaces),
+    }
+}
+
+/// The index spaces of a component of these sections, or its first fault.
+pub(crate) fn walk_all(alloc: Global, sections: &[Section]) -> Result<Spaces, ValidFault>
+    ensures fine { OnOk result (sections_fault 0 nothing (map section_tree sections.now) ≡ None) }
+    ensures spaces { IfOk result (λ s. space_of s ≡ spaces_of (map section_tree sections.now)) }
+    ensures fault { IfErr result (λ f. (f.reason ≡ reason.Memory) ⊎ (sections_fault 0 nothing (map section_tree sections.now) ≡ Some (f.section, (f.item, f.reason)))) }
+{
+    let mut spaces = Spaces::new(alloc);
+    for (at, section) in sections.iter().enumerate() {
+        match walk_section(alloc, at, section, &mut spaces) {
+            Ok(()) => {}
+            Err(fault) => return Err(fault),
+        }
+    }
+    Ok(spaces)
+}
