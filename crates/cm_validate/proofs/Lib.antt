@@ -5,3 +5,4 @@ pub mod Order
 pub mod Params
 pub mod Sections
 pub mod TableLemmas
+pub mod FlatLemmas

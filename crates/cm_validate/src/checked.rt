@@ -1,12 +1,14 @@
 //! Components that are valid.
 
-ghost use Rattle.std.specs.Prelude.{◌≡◌, ◌⊎◌, IfOk, OnOk, IfErr, slice_get};
+ghost use Rattle.std.specs.Prelude.{◌≡◌, ◌⊎◌, IfOk, OnOk, IfErr, map, slice_get};
+ghost use Rattle.std.specs.List.{AllByRecursion};
 ghost use Rattle.std.specs.Option.{option_map};
 ghost use Rattle.cm_types.specs.Signatures.{signature_of};
 ghost use Rattle.cm_validate.specs.declared.fault.ValidReason.TheVariants as reason;
 ghost use Rattle.cm_validate.specs.Definitions.{core_func_tree, func_def_tree};
 ghost use Rattle.cm_validate.specs.Spaces.{spaces_of, signature, func_at};
 ghost use Rattle.cm_validate.specs.Valid.{IsValid, IsFaultOf};
+ghost use Rattle.cm_validate.specs.PassedFlat.{PassesFlat};
 
 use crate::definitions::{CoreFuncDef, FuncDef};
 use crate::fault::{ValidFault, ValidReason};
@@ -52,6 +54,14 @@ impl Checked {
         ensures { option_map (λ f. core_func_tree f.now) result ≡ slice_get (spaces_of self.now).core_funcs core_func }
     {
         self.tables.core_funcs.get(core_func as usize)
+    }
+
+    /// What each core function is, in the order of their indices.
+    pub fn core_funcs(&self) -> &[CoreFuncDef]
+        ensures funcs { map core_func_tree result.now ≡ (spaces_of self.now).core_funcs }
+        ensures flat { AllByRecursion PassesFlat (spaces_of self.now).core_funcs }
+    {
+        &self.tables.core_funcs
     }
 
     /// What the function under the export with number `export`, from 0, is. `item` is the place in an
