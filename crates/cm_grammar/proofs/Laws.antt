@@ -46,8 +46,8 @@ ok_stays g l e e' bytes x rest more fits h =
 pub done_lawful : {R A : Type 0} (x : A) → Lawful (done {R = R} x)
 done_lawful {R} {A} x = record {
   takes = λ e bytes y rest fits h.
-    let p = ok_is (Fault R) (x, bytes) (y, rest) h in
-    record { front = []; spells = (sym (ap (λ (q : A × List ℕ). q.0) p), refl); parts = ap (λ (q : A × List ℕ). q.1) p };
+      let p = ok_is (Fault R) (x, bytes) (y, rest) h in
+      record { front = []; spells = (sym (ap (λ (q : A × List ℕ). q.0) p), refl); parts = ap (λ (q : A × List ℕ). q.1) p };
   again = λ e y front rest s. rw (s.0, s.1) refl;
   faulty = λ e bytes f fits h. absurd cc;
   faulty_again = λ e bytes f h. absurd h;
@@ -73,49 +73,49 @@ after_length bytes front rest e = omega (arith, simp length-append at (ap length
 pub bind_lawful : {R A B : Type 0} (g : Grammar R A) (next : A → Grammar R B) → Lawful g → ((x : A) → Lawful (next x)) → Lawful (g >>= next)
 bind_lawful {R} {A} {B} g next l m = record {
   takes = λ e bytes y rest fits h.
-    let q = then_ok (g.reads e bytes) (λ (x : A × List ℕ). (next x.0).reads e x.1) (y, rest) h in
-    let t = l.takes e bytes q.0.0 q.0.1 fits q.1 in
-    let u = (m q.0.0).takes e q.0.1 y rest (IsBytes-after bytes t.front q.0.1 t.parts fits) q.2 in
-    record {
-      front = t.front ++ u.front;
-      spells = (q.0.0, t.front, u.front, t.spells, u.spells, refl);
-      parts = t.parts ∙ ap (λ (r : List ℕ). t.front ++ r) u.parts ∙ sym (append_assoc t.front u.front rest);
-    };
+      let q = then_ok (g.reads e bytes) (λ (x : A × List ℕ). (next x.0).reads e x.1) (y, rest) h in
+      let t = l.takes e bytes q.0.0 q.0.1 fits q.1 in
+      let u = (m q.0.0).takes e q.0.1 y rest (IsBytes-after bytes t.front q.0.1 t.parts fits) q.2 in
+      record {
+        front = t.front ++ u.front;
+        spells = (q.0.0, t.front, u.front, t.spells, u.spells, refl);
+        parts = t.parts ∙ ap (λ (r : List ℕ). t.front ++ r) u.parts ∙ sym (append_assoc t.front u.front rest);
+      };
   again = λ e y front rest s.
-    rw (s.5, append_assoc s.1 s.2 rest, l.again e s.0 s.1 (s.2 ++ rest) s.3) ((m s.0).again e y s.2 rest s.4);
+      rw (s.5, append_assoc s.1 s.2 rest, l.again e s.0 s.1 (s.2 ++ rest) s.3) ((m s.0).again e y s.2 rest s.4);
   faulty = λ e bytes f fits h.
-    elim (then_err (g.reads e bytes) (λ (x : A × List ℕ). (next x.0).reads e x.1) f h) [
-      | inl q ↦ inl (l.faulty e bytes f fits q)
-      | inr q ↦
-        let t = l.takes e bytes q.0.0 q.0.1 fits q.1 in
-        inr (q.0.0, t.front, q.0.1, t.spells, t.parts, (m q.0.0).faulty e q.0.1 f (IsBytes-after bytes t.front q.0.1 t.parts fits) q.2)
-    ];
+      elim (then_err (g.reads e bytes) (λ (x : A × List ℕ). (next x.0).reads e x.1) f h) [
+        | inl q ↦ inl (l.faulty e bytes f fits q)
+        | inr q ↦
+            let t = l.takes e bytes q.0.0 q.0.1 fits q.1 in
+            inr (q.0.0, t.front, q.0.1, t.spells, t.parts, (m q.0.0).faulty e q.0.1 f (IsBytes-after bytes t.front q.0.1 t.parts fits) q.2)
+      ];
   faulty_again = λ e bytes f h.
-    elim h [
-      | inl k ↦ then_from_err (g.reads e bytes) (λ (x : A × List ℕ). (next x.0).reads e x.1) f (l.faulty_again e bytes f k)
-      | inr k ↦ rw (k.4, l.again e k.0 k.1 k.2 k.3) ((m k.0).faulty_again e k.2 f k.5)
-    ];
+      elim h [
+        | inl k ↦ then_from_err (g.reads e bytes) (λ (x : A × List ℕ). (next x.0).reads e x.1) f (l.faulty_again e bytes f k)
+        | inr k ↦ rw (k.4, l.again e k.0 k.1 k.2 k.3) ((m k.0).faulty_again e k.2 f k.5)
+      ];
   within = λ e bytes f fits h.
-    elim (then_err (g.reads e bytes) (λ (x : A × List ℕ). (next x.0).reads e x.1) f h) [
-      | inl q ↦ l.within e bytes f fits q
-      | inr q ↦
-        let t = l.takes e bytes q.0.0 q.0.1 fits q.1 in
-        omega (arith, after_length bytes t.front q.0.1 t.parts, (m q.0.0).within e q.0.1 f (IsBytes-after bytes t.front q.0.1 t.parts fits) q.2)
-    ];
+      elim (then_err (g.reads e bytes) (λ (x : A × List ℕ). (next x.0).reads e x.1) f h) [
+        | inl q ↦ l.within e bytes f fits q
+        | inr q ↦
+            let t = l.takes e bytes q.0.0 q.0.1 fits q.1 in
+            omega (arith, after_length bytes t.front q.0.1 t.parts, (m q.0.0).within e q.0.1 f (IsBytes-after bytes t.front q.0.1 t.parts fits) q.2)
+      ];
   stays = λ r bytes f fits h.
-    elim (then_err (g.reads (end.Cut r) bytes) (λ (x : A × List ℕ). (next x.0).reads (end.Cut r) x.1) f h) [
-      | inl q ↦
-        elim (l.stays r bytes f fits q) [
-          | inl k ↦ inl k
-          | inr k ↦ inr (λ e more. then_from_err (g.reads e (bytes ++ more)) (λ (x : A × List ℕ). (next x.0).reads e x.1) (later f (length more)) (k e more))
-        ]
-      | inr q ↦
-        let t = l.takes (end.Cut r) bytes q.0.0 q.0.1 fits q.1 in
-        elim ((m q.0.0).stays r q.0.1 f (IsBytes-after bytes t.front q.0.1 t.parts fits) q.2) [
-          | inl k ↦ inl k
-          | inr k ↦ inr (λ e more. then_from_ok (g.reads e (bytes ++ more)) (λ (x : A × List ℕ). (next x.0).reads e x.1) (q.0.0, q.0.1 ++ more) (err_of (B × List ℕ) (later f (length more))) (ok_stays g l (end.Cut r) e bytes q.0.0 q.0.1 more fits q.1) (k e more))
-        ]
-    ];
+      elim (then_err (g.reads (end.Cut r) bytes) (λ (x : A × List ℕ). (next x.0).reads (end.Cut r) x.1) f h) [
+        | inl q ↦
+            elim (l.stays r bytes f fits q) [
+              | inl k ↦ inl k
+              | inr k ↦ inr (λ e more. then_from_err (g.reads e (bytes ++ more)) (λ (x : A × List ℕ). (next x.0).reads e x.1) (later f (length more)) (k e more))
+            ]
+        | inr q ↦
+            let t = l.takes (end.Cut r) bytes q.0.0 q.0.1 fits q.1 in
+            elim ((m q.0.0).stays r q.0.1 f (IsBytes-after bytes t.front q.0.1 t.parts fits) q.2) [
+              | inl k ↦ inl k
+              | inr k ↦ inr (λ e more. then_from_ok (g.reads e (bytes ++ more)) (λ (x : A × List ℕ). (next x.0).reads e x.1) (q.0.0, q.0.1 ++ more) (err_of (B × List ℕ) (later f (length more))) (ok_stays g l (end.Cut r) e bytes q.0.0 q.0.1 more fits q.1) (k e more))
+            ]
+      ];
 }
 
 -- ---- a byte of a table
@@ -250,33 +250,33 @@ signed_keeps bytes more BadLastBits n h = record { front = h.front; rest = h.res
 pub number_lawful : {R : Type 0} (bad : R) → Lawful (number bad)
 number_lawful {R} bad = record {
   takes = λ e bytes n rest fits h.
-    let t = unsigned_takes 32 bytes n rest fits (number_ok bad e bytes (unsigned_at 32 bytes) (n, rest) h) in
-    record { front = t.front; spells = t.spells; parts = t.parts };
+      let t = unsigned_takes 32 bytes n rest fits (number_ok bad e bytes (unsigned_at 32 bytes) (n, rest) h) in
+      record { front = t.front; spells = t.spells; parts = t.parts };
   again = λ e n front rest s. rw (unsigned_again 32 front n rest s) refl;
   faulty = λ e bytes f fits h.
-    let p = number_err bad e bytes (unsigned_at 32 bytes) f h in
-    number_faulty (IsUnsignedFault 32) bad e bytes p.0 f (unsigned_faulty 32 bytes p.0 fits p.1) p.2;
+      let p = number_err bad e bytes (unsigned_at 32 bytes) f h in
+      number_faulty (IsUnsignedFault 32) bad e bytes p.0 f (unsigned_faulty 32 bytes p.0 fits p.1) p.2;
   faulty_again = λ e bytes f h. number_faulty_again (IsUnsignedFault 32) (unsigned_at 32 bytes) bad e bytes f (λ d k. unsigned_faulty_again 32 bytes d k) h;
   within = λ e bytes f fits h. let p = number_err bad e bytes (unsigned_at 32 bytes) f h in number_within bad e bytes p.0 f p.2;
   stays = λ r bytes f fits h.
-    let p = number_err bad (end.Cut r) bytes (unsigned_at 32 bytes) f h in
-    number_stays (unsigned_at 32) bytes (λ more d n q. unsigned_faulty_again 32 (bytes ++ more) d (unsigned_keeps bytes more d n (unsigned_faulty 32 bytes d fits q))) bad r p.0 f p.1 p.2;
+      let p = number_err bad (end.Cut r) bytes (unsigned_at 32 bytes) f h in
+      number_stays (unsigned_at 32) bytes (λ more d n q. unsigned_faulty_again 32 (bytes ++ more) d (unsigned_keeps bytes more d n (unsigned_faulty 32 bytes d fits q))) bad r p.0 f p.1 p.2;
 }
 
 pub signed_lawful : {R : Type 0} (bad : R) → Lawful (signed bad)
 signed_lawful {R} bad = record {
   takes = λ e bytes n rest fits h.
-    let t = signed_takes 33 bytes n rest fits (number_ok bad e bytes (signed_at 33 bytes) (n, rest) h) in
-    record { front = t.front; spells = t.spells; parts = t.parts };
+      let t = signed_takes 33 bytes n rest fits (number_ok bad e bytes (signed_at 33 bytes) (n, rest) h) in
+      record { front = t.front; spells = t.spells; parts = t.parts };
   again = λ e n front rest s. rw (signed_again 33 front n rest s) refl;
   faulty = λ e bytes f fits h.
-    let p = number_err bad e bytes (signed_at 33 bytes) f h in
-    number_faulty (IsSignedFault 33) bad e bytes p.0 f (signed_faulty 33 bytes p.0 fits p.1) p.2;
+      let p = number_err bad e bytes (signed_at 33 bytes) f h in
+      number_faulty (IsSignedFault 33) bad e bytes p.0 f (signed_faulty 33 bytes p.0 fits p.1) p.2;
   faulty_again = λ e bytes f h. number_faulty_again (IsSignedFault 33) (signed_at 33 bytes) bad e bytes f (λ d k. signed_faulty_again 33 bytes d k) h;
   within = λ e bytes f fits h. let p = number_err bad e bytes (signed_at 33 bytes) f h in number_within bad e bytes p.0 f p.2;
   stays = λ r bytes f fits h.
-    let p = number_err bad (end.Cut r) bytes (signed_at 33 bytes) f h in
-    number_stays (signed_at 33) bytes (λ more d n q. signed_faulty_again 33 (bytes ++ more) d (signed_keeps bytes more d n (signed_faulty 33 bytes d fits q))) bad r p.0 f p.1 p.2;
+      let p = number_err bad (end.Cut r) bytes (signed_at 33 bytes) f h in
+      number_stays (signed_at 33) bytes (λ more d n q. signed_faulty_again 33 (bytes ++ more) d (signed_keeps bytes more d n (signed_faulty 33 bytes d fits q))) bad r p.0 f p.1 p.2;
 }
 
 -- ---- bytes, and values that pass a test
@@ -298,17 +298,17 @@ raw_err n d f bytes h =
 pub raw_lawful : {R : Type 0} (n : ℕ) → Lawful (raw {R = R} n)
 raw_lawful {R} n = record {
   takes = λ e bytes x rest fits h.
-    let q = raw_ok n (want e) bytes (x, rest) h in
-    let e0 : take n bytes ≡ x = ap (λ (p : List ℕ × List ℕ). p.0) q.1 in
-    let e1 : drop n bytes ≡ rest = ap (λ (p : List ℕ × List ℕ). p.1) q.1 in
-    record {
-      front = take n bytes;
-      spells = (omega (arith, length-take n bytes, q.0), sym e0);
-      parts = sym (take-append-drop n bytes) ∙ ap (λ (r : List ℕ). take n bytes ++ r) e1;
-    };
+      let q = raw_ok n (want e) bytes (x, rest) h in
+      let e0 : take n bytes ≡ x = ap (λ (p : List ℕ × List ℕ). p.0) q.1 in
+      let e1 : drop n bytes ≡ rest = ap (λ (p : List ℕ × List ℕ). p.1) q.1 in
+      record {
+        front = take n bytes;
+        spells = (omega (arith, length-take n bytes, q.0), sym e0);
+        parts = sym (take-append-drop n bytes) ∙ ap (λ (r : List ℕ). take n bytes ++ r) e1;
+      };
   again = λ e x front rest s.
-    let t : ltb (length (front ++ rest)) n ≡ false = le-ltb _ _ (omega (arith, length-append front rest, s.0)) in
-    rw (t, take_at front rest n s.0, drop_at front rest n s.0, s.1) refl;
+      let t : ltb (length (front ++ rest)) n ≡ false = le-ltb _ _ (omega (arith, length-append front rest, s.0)) in
+      rw (t, take_at front rest n s.0, drop_at front rest n s.0, s.1) refl;
   faulty = λ e bytes f fits h. let q = raw_err n (want e) f bytes h in (q.0, sym q.1);
   faulty_again = λ e bytes f h. let t : ltb (length bytes) n ≡ true = lt-ltb _ _ h.0 in rw (t, h.1) refl;
   within = λ e bytes f fits h. let q = raw_err n (want e) f bytes h in rw (← q.1) (omega arith);
@@ -323,45 +323,45 @@ test_stays {R} {A} b bytes more x f reason p q = rw (p, ← q) (ap (λ (g : Faul
 pub checked_lawful : {R A : Type 0} (test : A → Bool) (reason : R) (g : Grammar R A) → Lawful g → Lawful (checked test reason g)
 checked_lawful {R} {A} test reason g l = record {
   takes = λ e bytes y rest fits h.
-    let q = then_ok (g.reads e bytes) (λ (x : A × List ℕ). cond (test x.0) (Ok x) (Err (flaw (length bytes) reason))) (y, rest) h in
-    let c = cond_ok (test q.0.0) (flaw (length bytes) reason) q.0 (y, rest) q.2 in
-    let t = l.takes e bytes q.0.0 q.0.1 fits q.1 in
-    subst (λ (p : A × List ℕ). Takes (checked test reason g) p.0 bytes p.1) c.1 (record { front = t.front; spells = (t.spells, c.0); parts = t.parts });
+      let q = then_ok (g.reads e bytes) (λ (x : A × List ℕ). cond (test x.0) (Ok x) (Err (flaw (length bytes) reason))) (y, rest) h in
+      let c = cond_ok (test q.0.0) (flaw (length bytes) reason) q.0 (y, rest) q.2 in
+      let t = l.takes e bytes q.0.0 q.0.1 fits q.1 in
+      subst (λ (p : A × List ℕ). Takes (checked test reason g) p.0 bytes p.1) c.1 (record { front = t.front; spells = (t.spells, c.0); parts = t.parts });
   again = λ e x front rest s. rw (l.again e x front rest s.0, s.1) refl;
   faulty = λ e bytes f fits h.
-    elim (then_err (g.reads e bytes) (λ (x : A × List ℕ). cond (test x.0) (Ok x) (Err (flaw (length bytes) reason))) f h) [
-      | inl q ↦ inl (l.faulty e bytes f fits q)
-      | inr q ↦
-        let c = cond_err (test q.0.0) (flaw (length bytes) reason) f q.0 q.2 in
-        let t = l.takes e bytes q.0.0 q.0.1 fits q.1 in
-        inr (q.0.0, t.front, q.0.1, t.spells, t.parts, c.0, sym c.1)
-    ];
+      elim (then_err (g.reads e bytes) (λ (x : A × List ℕ). cond (test x.0) (Ok x) (Err (flaw (length bytes) reason))) f h) [
+        | inl q ↦ inl (l.faulty e bytes f fits q)
+        | inr q ↦
+            let c = cond_err (test q.0.0) (flaw (length bytes) reason) f q.0 q.2 in
+            let t = l.takes e bytes q.0.0 q.0.1 fits q.1 in
+            inr (q.0.0, t.front, q.0.1, t.spells, t.parts, c.0, sym c.1)
+      ];
   faulty_again = λ e bytes f h.
-    elim h [
-      | inl k ↦ then_from_err (g.reads e bytes) (λ (x : A × List ℕ). cond (test x.0) (Ok x) (Err (flaw (length bytes) reason))) f (l.faulty_again e bytes f k)
-      | inr k ↦ rw (k.6, k.4, l.again e k.0 k.1 k.2 k.3, k.5) refl
-    ];
+      elim h [
+        | inl k ↦ then_from_err (g.reads e bytes) (λ (x : A × List ℕ). cond (test x.0) (Ok x) (Err (flaw (length bytes) reason))) f (l.faulty_again e bytes f k)
+        | inr k ↦ rw (k.6, k.4, l.again e k.0 k.1 k.2 k.3, k.5) refl
+      ];
   within = λ e bytes f fits h.
-    elim (then_err (g.reads e bytes) (λ (x : A × List ℕ). cond (test x.0) (Ok x) (Err (flaw (length bytes) reason))) f h) [
-      | inl q ↦ l.within e bytes f fits q
-      | inr q ↦ let c = cond_err (test q.0.0) (flaw (length bytes) reason) f q.0 q.2 in rw (← c.1) (omega arith)
-    ];
+      elim (then_err (g.reads e bytes) (λ (x : A × List ℕ). cond (test x.0) (Ok x) (Err (flaw (length bytes) reason))) f h) [
+        | inl q ↦ l.within e bytes f fits q
+        | inr q ↦ let c = cond_err (test q.0.0) (flaw (length bytes) reason) f q.0 q.2 in rw (← c.1) (omega arith)
+      ];
   stays = λ r bytes f fits h.
-    elim (then_err (g.reads (end.Cut r) bytes) (λ (x : A × List ℕ). cond (test x.0) (Ok x) (Err (flaw (length bytes) reason))) f h) [
-      | inl q ↦
-        elim (l.stays r bytes f fits q) [
-          | inl k ↦ inl k
-          | inr k ↦ inr (λ e more. then_from_err (g.reads e (bytes ++ more)) (λ (x : A × List ℕ). cond (test x.0) (Ok x) (Err (flaw (length (bytes ++ more)) reason))) (later f (length more)) (k e more))
-        ]
-      | inr q ↦
-        let c = cond_err (test q.0.0) (flaw (length bytes) reason) f q.0 q.2 in
-        inr (λ e more. then_from_ok (g.reads e (bytes ++ more)) (λ (x : A × List ℕ). cond (test x.0) (Ok x) (Err (flaw (length (bytes ++ more)) reason))) (q.0.0, q.0.1 ++ more) (err_of (A × List ℕ) (later f (length more))) (ok_stays g l (end.Cut r) e bytes q.0.0 q.0.1 more fits q.1) (test_stays (test q.0.0) bytes more (q.0.0, q.0.1 ++ more) f reason c.0 c.1))
-    ];
+      elim (then_err (g.reads (end.Cut r) bytes) (λ (x : A × List ℕ). cond (test x.0) (Ok x) (Err (flaw (length bytes) reason))) f h) [
+        | inl q ↦
+            elim (l.stays r bytes f fits q) [
+              | inl k ↦ inl k
+              | inr k ↦ inr (λ e more. then_from_err (g.reads e (bytes ++ more)) (λ (x : A × List ℕ). cond (test x.0) (Ok x) (Err (flaw (length (bytes ++ more)) reason))) (later f (length more)) (k e more))
+            ]
+        | inr q ↦
+            let c = cond_err (test q.0.0) (flaw (length bytes) reason) f q.0 q.2 in
+            inr (λ e more. then_from_ok (g.reads e (bytes ++ more)) (λ (x : A × List ℕ). cond (test x.0) (Ok x) (Err (flaw (length (bytes ++ more)) reason))) (q.0.0, q.0.1 ++ more) (err_of (A × List ℕ) (later f (length more))) (ok_stays g l (end.Cut r) e bytes q.0.0 q.0.1 more fits q.1) (test_stays (test q.0.0) bytes more (q.0.0, q.0.1 ++ more) f reason c.0 c.1))
+      ];
 }
 
 -- ---- a text
 
-differ_more : (c : ℕ) (text bytes : List ℕ) (left : ℕ) → DifferAt text bytes left → DifferAt (c ∷ text) (c ∷ bytes) left
+pub differ_more : (c : ℕ) (text bytes : List ℕ) (left : ℕ) → DifferAt text bytes left → DifferAt (c ∷ text) (c ∷ bytes) left
 differ_more c text bytes left d = record {
   same = c ∷ d.same;
   found = d.found;
@@ -374,7 +374,7 @@ differ_more c text bytes left d = record {
   place = d.place;
 }
 
-beginning_more : (c : ℕ) (text bytes : List ℕ) → IsBeginning text bytes → IsBeginning (c ∷ text) (c ∷ bytes)
+pub beginning_more : (c : ℕ) (text bytes : List ℕ) → IsBeginning text bytes → IsBeginning (c ∷ text) (c ∷ bytes)
 beginning_more c text bytes h = record { next = h.next; tail = h.tail; text_is = ap (λ (xs : List ℕ). c ∷ xs) h.text_is }
 
 fixed_goes_on : {R : Type 0} (c : ℕ) (text : List ℕ) (reason : R) (e : End R) (b : ℕ) (bytes : List ℕ) → b ≡ c → fixed_reads (c ∷ text) reason e (b ∷ bytes) ≡ fixed_reads text reason e bytes
@@ -407,8 +407,8 @@ fixed_faulty {R} (c ∷ text) reason e (b ∷ bytes) f h =
     elim (cases_eq b c) [
       | inl q ↦ subst (λ (x : ℕ). (fixed (c ∷ text) reason).Faulty e (x ∷ bytes) f) (sym q) (faulty_more text reason e c bytes f (fixed_faulty text reason e bytes f (sym (fixed_goes_on c text reason e b bytes q) ∙ h)))
       | inr n ↦
-        let p = err_is (Unit {0} × List ℕ) (flaw (suc (length bytes)) reason) f (sym (fixed_stops c text reason e b bytes n) ∙ h) in
-        inr (suc (length bytes), record { same = []; found = b; rest = bytes; expected = c; tail = text; bytes_are = refl; text_is = refl; differ = n; place = refl }, sym p)
+          let p = err_is (Unit {0} × List ℕ) (flaw (suc (length bytes)) reason) f (sym (fixed_stops c text reason e b bytes n) ∙ h) in
+          inr (suc (length bytes), record { same = []; found = b; rest = bytes; expected = c; tail = text; bytes_are = refl; text_is = refl; differ = n; place = refl }, sym p)
     ]
 
 fixed_short : {R : Type 0} (bytes : List ℕ) (next : ℕ) (tail : List ℕ) (reason : R) (e : End R) → fixed_reads (bytes ++ next ∷ tail) reason e bytes ≡ Err (want e)
@@ -419,7 +419,7 @@ fixed_differ : {R : Type 0} (same : List ℕ) (found : ℕ) (rest : List ℕ) (e
 fixed_differ [] found rest expected tail reason e n = fixed_stops expected tail reason e found rest n
 fixed_differ (b ∷ same) found rest expected tail reason e n = fixed_goes_on b (same ++ expected ∷ tail) reason e b (same ++ found ∷ rest) refl ∙ fixed_differ same found rest expected tail reason e n
 
-differ_within : (text bytes : List ℕ) (left : ℕ) → DifferAt text bytes left → left ≤ length bytes
+pub differ_within : (text bytes : List ℕ) (left : ℕ) → DifferAt text bytes left → left ≤ length bytes
 differ_within text bytes left d = omega (arith, d.place, simp length-append at (ap length d.bytes_are))
 
 fixed_within : {R : Type 0} (text : List ℕ) (reason : R) (e : End R) (bytes : List ℕ) (f : Fault R) → (fixed text reason).Faulty e bytes f → f.left ≤ length bytes
@@ -436,10 +436,10 @@ fixed_stays text reason r bytes f (inl h) = inl h.1
 fixed_stays {R} text reason r bytes f (inr h) =
     let d = h.1 in
     inr (λ e more.
-      let parts : bytes ++ more ≡ d.same ++ d.found ∷ (d.rest ++ more) = ap (λ (b : List ℕ). b ++ more) d.bytes_are ∙ append_assoc d.same (d.found ∷ d.rest) more in
-      let one = fixed_differ d.same d.found (d.rest ++ more) d.expected d.tail reason e d.differ in
-      let place : flaw (suc (length (d.rest ++ more))) reason ≡ later (flaw h.0 reason) (length more) = flaw-later h.0 reason (length more) (suc (length (d.rest ++ more))) (omega (arith, d.place, length-append d.rest more)) in
-      rw (h.2, parts, d.text_is) (one ∙ ap (λ (g : Fault R). err_of (Unit {0} × List ℕ) g) place))
+    let parts : bytes ++ more ≡ d.same ++ d.found ∷ (d.rest ++ more) = ap (λ (b : List ℕ). b ++ more) d.bytes_are ∙ append_assoc d.same (d.found ∷ d.rest) more in
+    let one = fixed_differ d.same d.found (d.rest ++ more) d.expected d.tail reason e d.differ in
+    let place : flaw (suc (length (d.rest ++ more))) reason ≡ later (flaw h.0 reason) (length more) = flaw-later h.0 reason (length more) (suc (length (d.rest ++ more))) (omega (arith, d.place, length-append d.rest more)) in
+    rw (h.2, parts, d.text_is) (one ∙ ap (λ (g : Fault R). err_of (Unit {0} × List ℕ) g) place))
 
 pub fixed_lawful : {R : Type 0} (text : List ℕ) (reason : R) → Lawful (fixed text reason)
 fixed_lawful text reason = record {

@@ -1,2 +1,5 @@
 pub mod Tools
 pub mod Laws
+pub mod WholeLaws
+pub mod PartLaws
+pub mod EndLaws

@@ -1,6 +1,7 @@
 -- Small facts on results, tests and lists of bytes, used by every law.
 use Rattle.std.proofs.Common.{◌≡◌, ℕ, zero, suc, ◌+◌, ◌<◌, ◌≤◌, Bool, true, false, cond, List, [], ◌∷◌, ◌++◌, length, get_or, drop, take, Result, Ok, Err, refl, sym, ap, subst, ◌∙◌, append_assoc, arith, inl, inr, ◌⊎◌}
-use Rattle.std.proofs.lemmas.List.{get_or-drop, get_or-append-add, length-append, drop_at}
+use Rattle.std.proofs.lemmas.List.{get_or-drop, get_or-append-add, length-append, length-take, get_or-take, get_or_past, drop_at}
+use Rattle.std.proofs.lemmas.Bool.{cases_lt}
 use Rattle.cm_grammar.specs.declared.fault.Fault.{Fault}
 use Rattle.cm_grammar.specs.Faults.{flaw, later, and_then}
 
@@ -58,3 +59,10 @@ flaw-later left reason more place e = rw e refl
 
 pub later-later : {R : Type 0} (f : Fault R) (a b c : ℕ) → a + b ≡ c → later (later f a) b ≡ later f c
 later-later f a b c e = let p : f.left + a + b ≡ f.left + c = omega arith in rw p refl
+
+pub IsBytes-take : (n : ℕ) (bytes : List ℕ) → IsBytes bytes → IsBytes (take n bytes)
+IsBytes-take n bytes h i =
+    elim (cases_lt i n) [
+      | inl lt ↦ rw (get_or-take n bytes i 0 lt) (h i)
+      | inr le ↦ rw (get_or_past (take n bytes) i 0 (omega (arith, length-take n bytes))) (omega arith)
+    ]

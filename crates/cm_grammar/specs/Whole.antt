@@ -106,8 +106,8 @@ abbrev pub sized : {R A : Type 0} → R → ℕ → Whole R A → Grammar R A
 sized mismatch n w = record {
   Spells = λ x bytes. (length bytes ≡ n) × w.Spells x bytes;
   Faulty = λ e bytes f.
-    ((front : List ℕ) × (rest : List ℕ) × (inner : Fault _) × (length front ≡ n) × (bytes ≡ front ++ rest) × w.Faulty (end.Whole mismatch) front inner × (f ≡ later inner (length rest)))
-    ⊎ ((length bytes < n) × (w.Faulty e bytes f ⊎ ((x : _) × w.Spells x bytes × (f ≡ want e))));
+      ((front : List ℕ) × (rest : List ℕ) × (inner : Fault _) × (length front ≡ n) × (bytes ≡ front ++ rest) × w.Faulty (end.Whole mismatch) front inner × (f ≡ later inner (length rest)))
+      ⊎ ((length bytes < n) × (w.Faulty e bytes f ⊎ ((x : _) × w.Spells x bytes × (f ≡ want e))));
   reads = λ e bytes. if nat_le n (length bytes) then inside (drop n bytes) (w.reads (end.Whole mismatch) (take n bytes)) else cut_short e (w.reads e bytes);
 }
 
@@ -125,7 +125,7 @@ abbrev pub at_most : {R A : Type 0} → ℕ → R → Whole R A → Whole R A
 at_most limit reason w = record {
   Spells = λ x bytes. (length bytes ≤ limit) × w.Spells x bytes;
   Faulty = λ e bytes f.
-    ((length bytes ≤ limit) × w.Faulty e bytes f)
-    ⊎ ((limit < length bytes) × ((inner : Fault _) × (w.Faulty (end.Cut reason) (take limit bytes) inner ⊎ ((x : _) × w.Spells x (take limit bytes) × (inner ≡ flaw 0 reason))) × (f ≡ later inner (length (drop limit bytes)))));
+      ((length bytes ≤ limit) × w.Faulty e bytes f)
+      ⊎ ((limit < length bytes) × ((inner : Fault _) × (w.Faulty (end.Cut reason) (take limit bytes) inner ⊎ ((x : _) × w.Spells x (take limit bytes) × (inner ≡ flaw 0 reason))) × (f ≡ later inner (length (drop limit bytes)))));
   reads = λ e bytes. if nat_le (length bytes) limit then w.reads e bytes else and_behind (length (drop limit bytes)) (too_many reason (w.reads (end.Cut reason) (take limit bytes)));
 }
