@@ -3,3 +3,4 @@ pub mod Laws
 pub mod WholeLaws
 pub mod PartLaws
 pub mod EndLaws
+pub mod ReadingLaws

@@ -1,6 +1,10 @@
 //! Grammars of bytes: steps from which a binary format is built, with the laws that make reading exact.
 #![tactic(auto)]
 
+mod cursor;
 mod fault;
+mod several;
 
+pub use cursor::{Code, Cursor};
 pub use fault::{End, Fault, ReadError};
+pub use several::{Item, read_items};
