@@ -1,15 +1,15 @@
 -- The laws of things to the end, and of a limit on all the bytes.
-use Rattle.std.proofs.Common.{◌≡◌, ℕ, zero, suc, ◌+◌, ◌-◌, ◌<◌, ◌≤◌, Bool, true, false, cond, leb, List, [], ◌∷◌, ◌++◌, length, take, drop, Result, Ok, Err, refl, sym, ap, subst, ◌∙◌, append_assoc, arith, inl, inr, ◌⊎◌}
-use Rattle.std.proofs.lemmas.Bool.{cases_Bool, leb-true, leb-false, le-leb, lt-leb}
-use Rattle.std.proofs.lemmas.List.{append-nil, length-append, length-take, length-drop, take_at, take-append-le, drop_at, take-append-drop}
+use Rattle.std.proofs.Common.{◌≡◌, ℕ, zero, suc, ◌+◌, ◌-◌, ◌<◌, ◌≤◌, List, [], ◌∷◌, ◌++◌, length, take, drop, Result, Ok, Err, refl, sym, ap, subst, ◌∙◌, arith, inl, inr, ◌⊎◌}
+use Rattle.std.proofs.lemmas.Bool.{le-leb, lt-leb}
+use Rattle.std.proofs.lemmas.List.{length-append, length-take, length-drop, take-append-le}
 use Rattle.cm_grammar.specs.declared.fault.Fault.{Fault}
 use Rattle.cm_grammar.specs.declared.fault.End.{End}
 use Rattle.cm_grammar.specs.declared.fault.End.TheVariants as end
-use Rattle.cm_grammar.specs.Faults.{flaw, later, want, and_then}
+use Rattle.cm_grammar.specs.Faults.{flaw, later, and_then}
 use Rattle.cm_grammar.specs.Grammar.{Grammar}
 use Rattle.cm_grammar.specs.Whole.{Whole, SpellsEach, state_after, each_reads, to_end, too_many, and_behind, at_most}
-use Rattle.cm_grammar.proofs.Tools.{IsBytes, IsBytes-after, IsBytes-take, ok_of, err_of, ok_is, err_is, then_ok, then_err, then_from_ok, then_from_err, flaw-later, later-later}
-use Rattle.cm_grammar.proofs.Laws.{Takes, Stays, Lawful, ok_stays}
+use Rattle.cm_grammar.proofs.Tools.{IsBytes, IsBytes-after, IsBytes-take, err_of, ok_is, err_is, then_ok, then_err, later-later, parts_behind, parts_more}
+use Rattle.cm_grammar.proofs.Laws.{Stays, Lawful}
 use Rattle.cm_grammar.proofs.WholeLaws.{LawfulWhole}
 use Rattle.cm_grammar.proofs.PartLaws.{cases_le, part_of, later_twice}
 
@@ -63,7 +63,7 @@ each_stops g next l some (suc room) s e [] front rest f h some_rest k fault =
     rw (k) (each_turn g next room s e rest some_rest ∙ rw fault refl)
 each_stops {R} {A} {S} g next l some (suc room) s e (x ∷ xs) front rest f h some_rest k fault =
     let first = some s x k.0 k.2 in
-    let parts : front ++ rest ≡ k.0 ++ (k.1 ++ rest) = ap (λ (b : List ℕ). b ++ rest) k.4 ∙ append_assoc k.0 k.1 rest in
+    let parts : front ++ rest ≡ k.0 ++ (k.1 ++ rest) = parts_more front k.0 k.1 rest k.4 in
     let less = shorter (front ++ rest) k.0 (k.1 ++ rest) parts first in
     let more = each_stops g next l some room (next s x) e xs k.1 rest f (omega (arith, less, h)) some_rest k.3 fault in
     let read : (g s).reads e (front ++ rest) ≡ Ok (x, k.1 ++ rest) = ap ((g s).reads e) parts ∙ (l s).again e x k.0 (k.1 ++ rest) k.2 in
@@ -87,7 +87,7 @@ each_faulty {R} {A} {S} g next l some (suc room) s e (b ∷ bytes) f fits h k =
           let less = shorter (b ∷ bytes) t.front q.0.1 t.parts (some s q.0.0 t.front t.spells) in
           let inner = each_more_err g next room (next s q.0.0) e q.0.1 q.0.0 f q.2 in
           let m = each_faulty g next l some room (next s q.0.0) e q.0.1 f (IsBytes-after (b ∷ bytes) t.front q.0.1 t.parts fits) (omega (arith, less, h)) inner in
-          (q.0.0 ∷ m.0, t.front ++ m.1, m.2, (t.front, m.1, t.spells, m.3, refl), t.parts ∙ ap (λ (r : List ℕ). t.front ++ r) m.4 ∙ sym (append_assoc t.front m.1 m.2), m.5, m.6)
+          (q.0.0 ∷ m.0, t.front ++ m.1, m.2, (t.front, m.1, t.spells, m.3, refl), parts_behind (b ∷ bytes) t.front q.0.1 m.1 m.2 t.parts m.4, m.5, m.6)
     ]
 
 pub to_end_lawful : {R A S : Type 0} (g : S → Grammar R A) (next : S → A → S) → ((s : S) → Lawful (g s)) → ((s : S) → IsNonempty (g s)) → (s : S) → LawfulWhole (to_end g next s)
@@ -107,7 +107,7 @@ to_end_lawful {R} {A} {S} g next l some s = record {
       elim (m.stays r h.2 f (IsBytes-after bytes h.1 h.2 h.4 fits) (m.faulty_again (end.Cut r) h.2 f h.6)) [
         | inl p ↦ inl p
         | inr p ↦ inr (λ e more.
-            let parts : bytes ++ more ≡ h.1 ++ (h.2 ++ more) = ap (λ (b : List ℕ). b ++ more) h.4 ∙ append_assoc h.1 h.2 more in
+            let parts : bytes ++ more ≡ h.1 ++ (h.2 ++ more) = parts_more bytes h.1 h.2 more h.4 in
             rw parts (each_stops g next l some (length (h.1 ++ (h.2 ++ more))) s e h.0 h.1 (h.2 ++ more) (later f (length more)) (omega arith) (omega (arith, h.5, length-append h.2 more)) h.3 (p e more)))
       ];
 }

@@ -1,20 +1,19 @@
 -- The laws of a grammar, and of each step.
-use Rattle.std.proofs.Common.{◌≡◌, ℕ, zero, suc, ◌+◌, ◌-◌, ◌<◌, ◌≤◌, Bool, true, false, cond, ltb, List, [], ◌∷◌, ◌++◌, length, take, drop, Result, Ok, Err, refl, sym, ap, subst, ◌∙◌, append_assoc, arith, inl, inr, ◌⊎◌}
-use Rattle.std.specs.Prelude.{ℤ, ◌≢◌}
-use Rattle.std.proofs.lemmas.Bool.{cases_Bool, cases_eq, ltb-true, ltb-false, lt-ltb, le-ltb, eqb-true, eqb-false, eq-eqb, ne_eqb}
-use Rattle.std.proofs.lemmas.List.{append-nil, length-append, length-take, length-drop, take_at, take-append-le, drop_at, take-append-drop}
+use Rattle.std.proofs.Common.{◌≡◌, ℕ, zero, suc, ◌<◌, ◌≤◌, Bool, true, false, cond, ltb, List, [], ◌∷◌, ◌++◌, length, take, drop, Result, Ok, Err, refl, sym, ap, subst, ◌∙◌, append_assoc, arith, inl, inr, ◌⊎◌}
+use Rattle.std.proofs.lemmas.Bool.{cases_Bool, cases_eq, ltb-true, ltb-false, lt-ltb, le-ltb, eq-eqb, ne_eqb}
+use Rattle.std.proofs.lemmas.List.{length-append, length-take, take_at, take-append-le, drop_at, take-append-drop}
 use Rattle.cm_leb.specs.declared.fault.LebFault.{LebFault}
 use Rattle.cm_leb.specs.declared.fault.LebFault.TheVariants.{Truncated, TooLong, BadLastBits}
-use Rattle.cm_leb.specs.Numbers.{greatest_length, SpellsUnsigned, SpellsSigned, IsTruncated, IsTooLong, HasBadUnsignedBits, HasBadSignedBits, IsUnsignedFault, IsSignedFault}
+use Rattle.cm_leb.specs.Numbers.{greatest_length, IsTooLong, IsUnsignedFault, IsSignedFault}
 use Rattle.cm_leb.specs.Reading.{unsigned_at, signed_at}
 use Rattle.cm_leb.proofs.UnsignedLaws.{unsigned_takes, unsigned_again, unsigned_faulty, unsigned_faulty_again}
 use Rattle.cm_leb.proofs.SignedLaws.{signed_takes, signed_again, signed_faulty, signed_faulty_again}
 use Rattle.cm_grammar.specs.declared.fault.Fault.{Fault}
 use Rattle.cm_grammar.specs.declared.fault.End.{End}
 use Rattle.cm_grammar.specs.declared.fault.End.TheVariants as end
-use Rattle.cm_grammar.specs.Faults.{flaw, later, wanted, want, and_then}
+use Rattle.cm_grammar.specs.Faults.{flaw, later, want}
 use Rattle.cm_grammar.specs.Grammar.{Grammar, done, ◌>>=◌, fail, coded, code_reads, code, ahead_reads, ahead, number_fault, number_reads, number, signed, raw, checked, DifferAt, IsBeginning, fixed_reads, fixed, chain, times, limited}
-use Rattle.cm_grammar.proofs.Tools.{IsBytes, IsBytes-after, IsBytes-drop, ok_of, err_of, ok_is, err_is, then_ok, then_err, then_from_ok, then_from_err, cond_ok, cond_err, flaw-later}
+use Rattle.cm_grammar.proofs.Tools.{IsBytes, IsBytes-after, ok_of, err_of, ok_is, err_is, then_ok, then_err, then_from_ok, then_from_err, cond_ok, cond_err, flaw-later, parts_behind}
 
 -- A spelling of x in front, and the rest.
 pub record Takes {R A : Type 0} (g : Grammar R A) (x : A) (bytes rest : List ℕ) : Type 0 where
@@ -79,7 +78,7 @@ bind_lawful {R} {A} {B} g next l m = record {
       record {
         front = t.front ++ u.front;
         spells = (q.0.0, t.front, u.front, t.spells, u.spells, refl);
-        parts = t.parts ∙ ap (λ (r : List ℕ). t.front ++ r) u.parts ∙ sym (append_assoc t.front u.front rest);
+        parts = parts_behind bytes t.front q.0.1 u.front rest t.parts u.parts;
       };
   again = λ e y front rest s.
       rw (s.5, append_assoc s.1 s.2 rest, l.again e s.0 s.1 (s.2 ++ rest) s.3) ((m s.0).again e y s.2 rest s.4);

@@ -4,3 +4,4 @@ pub mod WholeLaws
 pub mod PartLaws
 pub mod EndLaws
 pub mod ReadingLaws
+pub mod SpellingLaws

@@ -1,15 +1,15 @@
 -- The laws of parts: bytes that begin with a text, things to the end, a part of so many bytes, and a limit on all of them.
-use Rattle.std.proofs.Common.{◌≡◌, ℕ, zero, suc, ◌+◌, ◌-◌, ◌<◌, ◌≤◌, Bool, true, false, cond, ltb, leb, eqb, List, [], ◌∷◌, ◌++◌, length, take, drop, Result, Ok, Err, refl, sym, ap, subst, ◌∙◌, append_assoc, arith, inl, inr, ◌⊎◌}
+use Rattle.std.proofs.Common.{◌≡◌, ℕ, suc, ◌+◌, ◌-◌, ◌<◌, ◌≤◌, leb, List, [], ◌∷◌, ◌++◌, length, take, drop, Result, Ok, Err, refl, sym, ap, subst, ◌∙◌, append_assoc, arith, inl, inr, ◌⊎◌}
 use Rattle.std.proofs.lemmas.Bool.{cases_Bool, cases_eq, leb-true, leb-false, le-leb, lt-leb, eq-eqb, ne_eqb}
-use Rattle.std.proofs.lemmas.List.{append-nil, length-append, length-take, length-drop, take_at, take-append-le, drop_at, drop-append-le, take-append-drop, take_all, drop_all}
+use Rattle.std.proofs.lemmas.List.{length-append, length-take, length-drop, take_at, take-append-le, drop_at, take-append-drop}
 use Rattle.cm_grammar.specs.declared.fault.Fault.{Fault}
 use Rattle.cm_grammar.specs.declared.fault.End.{End}
 use Rattle.cm_grammar.specs.declared.fault.End.TheVariants as end
-use Rattle.cm_grammar.specs.Faults.{flaw, later, wanted, want, and_then}
-use Rattle.cm_grammar.specs.Grammar.{Grammar, DifferAt, IsBeginning}
-use Rattle.cm_grammar.specs.Whole.{Whole, too_short, begun_reads, begun, SpellsEach, state_after, each_reads, to_end, inside, cut_short, sized, too_many, and_behind, at_most}
-use Rattle.cm_grammar.proofs.Tools.{IsBytes, IsBytes-after, IsBytes-drop, IsBytes-take, ok_of, err_of, ok_is, err_is, then_ok, then_err, then_from_ok, then_from_err, flaw-later, later-later}
-use Rattle.cm_grammar.proofs.Laws.{Takes, Stays, Lawful, ok_stays, differ_more, beginning_more, differ_within}
+use Rattle.cm_grammar.specs.Faults.{flaw, later, want}
+use Rattle.cm_grammar.specs.Grammar.{DifferAt, IsBeginning}
+use Rattle.cm_grammar.specs.Whole.{Whole, too_short, begun_reads, begun, inside, cut_short, sized}
+use Rattle.cm_grammar.proofs.Tools.{IsBytes, IsBytes-take, ok_of, err_of, ok_is, err_is, flaw-later, later-later}
+use Rattle.cm_grammar.proofs.Laws.{Takes, Stays, Lawful, differ_more, beginning_more}
 use Rattle.cm_grammar.proofs.WholeLaws.{LawfulWhole}
 
 -- ---- bytes that begin with a text

@@ -1,13 +1,19 @@
 -- Several things that were read one after the other are what the grammar reads.
-use Rattle.std.proofs.Common.{◌≡◌, ℕ, zero, suc, ◌+◌, ◌<◌, ◌≤◌, List, [], ◌∷◌, ◌++◌, length, map, Result, Ok, Err, refl, sym, ap, subst, ◌∙◌, arith, inl, inr, ◌⊎◌}
+use Rattle.std.proofs.Common.{◌≡◌, ℕ, zero, suc, ◌<◌, ◌≤◌, true, false, leb, List, [], ◌∷◌, ◌++◌, length, map, take, drop, Result, Ok, Err, refl, subst, ◌∙◌, arith, inl, inr, ◌⊎◌}
 use Rattle.std.specs.Prelude.{MatchResult}
+use Rattle.std.proofs.lemmas.Bool.{cases_Bool, leb-false}
+use Rattle.std.proofs.lemmas.List.{length-drop, take_all}
+use Rattle.cm_grammar.specs.declared.fault.End.TheVariants as end
 use Rattle.cm_grammar.specs.declared.fault.Fault.{Fault}
 use Rattle.cm_grammar.specs.declared.fault.End.{End}
 use Rattle.cm_grammar.specs.declared.fault.ReadError.{ReadError}
 use Rattle.cm_grammar.specs.declared.fault.ReadError.TheVariants as errors
 use Rattle.cm_grammar.specs.Faults.{and_then, Fails, Gives}
-use Rattle.cm_grammar.specs.Grammar.{Grammar, done, ◌>>=◌, chain, times}
-use Rattle.cm_grammar.specs.Reading.{EachRead, FailsAmong}
+use Rattle.cm_grammar.specs.Grammar.{Grammar, times}
+use Rattle.cm_grammar.specs.Whole.{Whole, sized}
+use Rattle.cm_grammar.specs.Reading.{EachRead, FailsAmong, part_end, IsInside, behind_part}
+use Rattle.cm_grammar.proofs.Tools.{IsBytes}
+use Rattle.cm_grammar.proofs.WholeLaws.{LawfulWhole}
 
 pub EachRead-push : {A : Type 0} (IsRead : List ℕ → A → List ℕ → Type 0) (bytes : List ℕ) (xs : List A) (behind : List ℕ) (x : A) (rest : List ℕ) → EachRead IsRead bytes xs behind → IsRead behind x rest → EachRead IsRead bytes (xs ++ x ∷ []) rest
 EachRead-push IsRead bytes [] behind x rest h k = (rest, subst (λ (b : List ℕ). IsRead b x rest) h k, refl)
@@ -44,3 +50,28 @@ pub gives_times : {R A X V : Type 0} (g : Grammar R A) (view : X → A) (items_o
     → Gives (λ v. (map view (items_of v), rest)) r ((times g count).reads e bytes)
 gives_times g view items_of e bytes rest count (Ok v) h = subst (λ (n : ℕ). (times g n).reads e bytes ≡ Ok (map view (items_of v), rest)) h.1 (times_ok g view e bytes (items_of v) rest h.0)
 gives_times g view items_of e bytes rest count (Err err) h = fails_times g view e count bytes err h
+
+-- ---- parts
+
+sized_inside : {R A X : Type 0} (mismatch : R) (size : ℕ) (w : Whole R A) (view : X → A) (e : End R) (bytes rest : List ℕ) (r : Result X (ReadError R)) → leb size (length bytes) ≡ true → rest ≡ drop size bytes → Gives view r (w.reads (end.Whole mismatch) (take size bytes)) → Gives (λ x. (view x, rest)) (behind_part size e bytes r) ((sized mismatch size w).reads e bytes)
+sized_inside mismatch size w view e bytes rest (Ok x) t s h = rw (t, h, s) refl
+sized_inside mismatch size w view e bytes rest (Err errors.Memory) t s h = tt {0}
+sized_inside {R} {A} {X} mismatch size w view e bytes rest (Err (errors.Fault f)) t s h = rw (t, h, length-drop size bytes) refl
+
+sized_short : {R A X : Type 0} (mismatch : R) (size : ℕ) (w : Whole R A) (view : X → A) (e : End R) (bytes rest : List ℕ) (r : Result X (ReadError R)) → leb size (length bytes) ≡ false → Gives view r (w.reads e bytes) → Gives (λ x. (view x, rest)) (behind_part size e bytes r) ((sized mismatch size w).reads e bytes)
+sized_short mismatch size w view e bytes rest (Ok x) t h = rw (t, h) refl
+sized_short mismatch size w view e bytes rest (Err errors.Memory) t h = tt {0}
+sized_short mismatch size w view e bytes rest (Err (errors.Fault f)) t h = rw (t, h) refl
+
+-- What the reading of a part came to, behind it, is what the grammar of so many bytes gives.
+pub gives_sized : {R A X : Type 0} (mismatch : R) (size : ℕ) (w : Whole R A) (view : X → A) (e inner : End R) (bytes part rest : List ℕ) (r : Result X (ReadError R)) → part ≡ take size bytes → inner ≡ part_end mismatch size e bytes → rest ≡ drop size bytes → Gives view r (w.reads inner part) → Gives (λ x. (view x, rest)) (behind_part size e bytes r) ((sized mismatch size w).reads e bytes)
+gives_sized mismatch size w view e inner bytes part rest r p q s h =
+    elim (cases_Bool (leb size (length bytes))) [
+      | inl t ↦ sized_inside mismatch size w view e bytes rest r t s (subst (λ (b : List ℕ). Gives view r (w.reads (end.Whole mismatch) b)) p (subst (λ (i : End _). Gives view r (w.reads i part)) (q ∙ rw t refl) h))
+      | inr f ↦ sized_short mismatch size w view e bytes rest r f (subst (λ (b : List ℕ). Gives view r (w.reads e b)) (p ∙ take_all size bytes (omega (arith, leb-false _ _ f))) (subst (λ (i : End _). Gives view r (w.reads i part)) (q ∙ rw f refl) h))
+    ]
+
+pub inside_part : {R A X : Type 0} (w : Whole R A) → LawfulWhole w → (view : X → A) (e : End R) (part : List ℕ) (r : Result X (ReadError R)) (size : ℕ) → IsBytes part → length part ≤ size → Gives view r (w.reads e part) → IsInside size r
+inside_part w l view e part (Ok x) size fits le h = tt {0}
+inside_part w l view e part (Err errors.Memory) size fits le h = tt {0}
+inside_part w l view e part (Err (errors.Fault f)) size fits le h = omega (arith, l.within e part f fits h, le)

@@ -1,6 +1,6 @@
 -- Small facts on results, tests and lists of bytes, used by every law.
-use Rattle.std.proofs.Common.{◌≡◌, ℕ, zero, suc, ◌+◌, ◌<◌, ◌≤◌, Bool, true, false, cond, List, [], ◌∷◌, ◌++◌, length, get_or, drop, take, Result, Ok, Err, refl, sym, ap, subst, ◌∙◌, append_assoc, arith, inl, inr, ◌⊎◌}
-use Rattle.std.proofs.lemmas.List.{get_or-drop, get_or-append-add, length-append, length-take, get_or-take, get_or_past, drop_at}
+use Rattle.std.proofs.Common.{◌≡◌, ℕ, suc, ◌+◌, ◌<◌, Bool, true, false, cond, List, ◌∷◌, ◌++◌, length, get_or, drop, take, Result, Ok, Err, refl, sym, ap, ◌∙◌, append_assoc, arith, inl, inr, ◌⊎◌}
+use Rattle.std.proofs.lemmas.List.{get_or-drop, get_or-append-add, length-take, get_or-take, get_or_past}
 use Rattle.std.proofs.lemmas.Bool.{cases_lt}
 use Rattle.cm_grammar.specs.declared.fault.Fault.{Fault}
 use Rattle.cm_grammar.specs.Faults.{flaw, later, and_then}
@@ -66,3 +66,11 @@ IsBytes-take n bytes h i =
       | inl lt ↦ rw (get_or-take n bytes i 0 lt) (h i)
       | inr le ↦ rw (get_or_past (take n bytes) i 0 (omega (arith, length-take n bytes))) (omega arith)
     ]
+
+-- Two parts and what is behind both.
+pub parts_behind : (bytes front rest second behind : List ℕ) → bytes ≡ front ++ rest → rest ≡ second ++ behind → bytes ≡ (front ++ second) ++ behind
+parts_behind bytes front rest second behind p q = p ∙ ap (λ (r : List ℕ). front ++ r) q ∙ sym (append_assoc front second behind)
+
+-- Two parts, and more.
+pub parts_more : (bytes front rest more : List ℕ) → bytes ≡ front ++ rest → bytes ++ more ≡ front ++ (rest ++ more)
+parts_more bytes front rest more p = ap (λ (b : List ℕ). b ++ more) p ∙ append_assoc front rest more

@@ -1,15 +1,14 @@
 -- The laws of a grammar of all of some bytes, and of each step between the two kinds.
-use Rattle.std.proofs.Common.{◌≡◌, ℕ, zero, suc, ◌+◌, ◌-◌, ◌<◌, ◌≤◌, Bool, true, false, cond, ltb, leb, eqb, List, [], ◌∷◌, ◌++◌, length, take, drop, Result, Ok, Err, refl, sym, ap, subst, ◌∙◌, append_assoc, arith, inl, inr, ◌⊎◌}
-use Rattle.std.proofs.lemmas.Bool.{cases_Bool, cases_eq, leb-true, leb-false, le-leb, lt-leb, eq-eqb, ne_eqb}
-use Rattle.std.proofs.lemmas.List.{append-nil, length-append, length-take, length-drop, take_at, take-append-le, drop_at, drop-append-le, take-append-drop, take_all, drop_all, get_or-take, get_or_past}
+use Rattle.std.proofs.Common.{◌≡◌, ℕ, suc, ◌<◌, ◌≤◌, List, [], ◌∷◌, ◌++◌, length, Result, Ok, Err, refl, sym, ap, subst, ◌∙◌, arith, inl, inr}
+use Rattle.std.proofs.lemmas.List.{append-nil, length-append}
 use Rattle.cm_grammar.specs.declared.fault.Fault.{Fault}
 use Rattle.cm_grammar.specs.declared.fault.End.{End}
 use Rattle.cm_grammar.specs.declared.fault.End.TheVariants as end
-use Rattle.cm_grammar.specs.Faults.{flaw, later, wanted, want, and_then}
-use Rattle.cm_grammar.specs.Grammar.{Grammar, DifferAt, IsBeginning}
-use Rattle.cm_grammar.specs.Whole.{Whole, made, remainder, exactly_ends, exactly, joined, too_short, begun_reads, begun, SpellsEach, state_after, each_reads, to_end, inside, cut_short, sized, too_many, and_behind, at_most}
-use Rattle.cm_grammar.proofs.Tools.{IsBytes, IsBytes-after, IsBytes-drop, ok_of, err_of, ok_is, err_is, then_ok, then_err, then_from_ok, then_from_err, cond_ok, cond_err, flaw-later, later-later}
-use Rattle.cm_grammar.proofs.Laws.{Takes, Stays, Lawful, ok_stays}
+use Rattle.cm_grammar.specs.Faults.{flaw, later, and_then}
+use Rattle.cm_grammar.specs.Grammar.{Grammar}
+use Rattle.cm_grammar.specs.Whole.{Whole, made, remainder, exactly_ends, exactly, joined}
+use Rattle.cm_grammar.proofs.Tools.{IsBytes, IsBytes-after, ok_of, err_of, ok_is, err_is, then_ok, then_err, then_from_ok, then_from_err, flaw-later}
+use Rattle.cm_grammar.proofs.Laws.{Stays, Lawful, ok_stays}
 
 pub record LawfulWhole {R A : Type 0} (w : Whole R A) : Type 0 where
   pub takes : (e : End R) (bytes : List ℕ) (x : A) → IsBytes bytes → w.reads e bytes ≡ Ok x → w.Spells x bytes

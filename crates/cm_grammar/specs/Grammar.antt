@@ -1,14 +1,13 @@
 -- Grammars of bytes: which bytes spell a value, and what is the first fault of bytes that do not begin with a spelling. A
 -- grammar is built from steps, and each step says both, so the two cannot part.
-use Rattle.std.specs.Prelude.{◌≡◌, ◌≢◌, ℕ, zero, suc, ◌+◌, ◌-◌, ◌<◌, ◌≤◌, ◌⊎◌, Bool, true, false, List, [], ◌∷◌, ◌++◌, length, take, drop, Result, Ok, Err, ℤ, nat_lt, nat_le, ◌==◌, if◌then◌else◌}
+use Rattle.std.specs.Prelude.{◌≡◌, ◌≢◌, ℕ, zero, suc, ◌<◌, ◌⊎◌, Bool, true, false, List, [], ◌∷◌, ◌++◌, length, take, drop, Result, Ok, Err, ℤ, nat_lt, ◌==◌, if◌then◌else◌}
 use Rattle.cm_leb.specs.declared.fault.LebFault.{LebFault}
 use Rattle.cm_leb.specs.declared.fault.LebFault.TheVariants.{Truncated, TooLong, BadLastBits}
 use Rattle.cm_leb.specs.Numbers.{SpellsUnsigned, SpellsSigned, IsTruncated, IsTooLong, HasBadUnsignedBits, HasBadSignedBits}
 use Rattle.cm_leb.specs.Reading.{unsigned_at, signed_at}
 use Rattle.cm_grammar.specs.declared.fault.Fault.{Fault}
 use Rattle.cm_grammar.specs.declared.fault.End.{End}
-use Rattle.cm_grammar.specs.declared.fault.End.TheVariants.{Whole, Cut}
-use Rattle.cm_grammar.specs.Faults.{flaw, later, want, and_then}
+use Rattle.cm_grammar.specs.Faults.{flaw, want, and_then}
 
 -- Values that stand at the front of bytes. `Spells x bytes`: the bytes are a spelling of x. `Faulty e bytes f`: the bytes,
 -- which end at e, do not begin with a spelling, and f is their first fault. `reads` computes both.
@@ -159,3 +158,11 @@ times g n = chain (λ (s : Unit {0}). g) (λ s x. s) n tt
 abbrev pub limited : {R A : Type 0} → (ℕ → Grammar R A) → R → ℕ → Grammar R A
 limited g reason zero = fail reason
 limited g reason (suc room) = g room
+
+-- A count, and so many things.
+abbrev pub vec : {R A : Type 0} → R → Grammar R A → Grammar R (List A)
+vec bad g = number bad >>= λ n. times g n
+
+-- A count, and so many bytes.
+abbrev pub blob : {R : Type 0} → R → Grammar R (List ℕ)
+blob bad = number bad >>= λ n. raw n

@@ -2,3 +2,4 @@ pub mod Faults
 pub mod Grammar
 pub mod Whole
 pub mod Reading
+pub mod Spelling

@@ -1,9 +1,9 @@
 -- Grammars of all of some bytes, to their end.
-use Rattle.std.specs.Prelude.{◌≡◌, ℕ, zero, suc, ◌+◌, ◌-◌, ◌<◌, ◌≤◌, ◌⊎◌, Bool, true, false, List, [], ◌∷◌, ◌++◌, length, take, drop, Result, Ok, Err, nat_eq, nat_le, if◌then◌else◌}
+use Rattle.std.specs.Prelude.{◌≡◌, ℕ, zero, suc, ◌<◌, ◌≤◌, ◌⊎◌, List, [], ◌∷◌, ◌++◌, length, take, drop, Result, Ok, Err, nat_eq, nat_le, if◌then◌else◌}
 use Rattle.cm_grammar.specs.declared.fault.Fault.{Fault}
 use Rattle.cm_grammar.specs.declared.fault.End.{End}
 use Rattle.cm_grammar.specs.declared.fault.End.TheVariants as end
-use Rattle.cm_grammar.specs.Faults.{flaw, later, wanted, want, and_then}
+use Rattle.cm_grammar.specs.Faults.{flaw, later, want, and_then}
 use Rattle.cm_grammar.specs.Grammar.{Grammar, DifferAt, IsBeginning}
 
 -- Values that are spelled by all of some bytes. `Faulty e bytes f`: the bytes, which end at e, spell no value, and f is

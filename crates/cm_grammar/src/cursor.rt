@@ -1,6 +1,7 @@
 //! Bytes that are read from the front on.
 
-ghost use Rattle.std.specs.Prelude.{◌≡◌, ℕ, List, length, Result};
+ghost use Rattle.std.specs.Prelude.{◌≡◌, ℕ, List, length, take, drop, min, Result};
+ghost use Rattle.cm_grammar.specs.Reading.{part_end, IsInside, behind_part};
 ghost use Rattle.cm_grammar.specs.Faults.{Gives, flaw, want};
 ghost use Rattle.cm_grammar.specs.Grammar.{number, signed, raw, code, fixed};
 ghost use Rattle.cm_grammar.specs.Whole.{begun, begun_reads, too_short};
@@ -151,6 +152,58 @@ impl<'a, R: Copy> Cursor<'a, R> {
                     self.begun_behind(text, rest, reason)
                 }
             },
+        }
+    }
+
+    /// A part of so many bytes, which ends at a want of the reason `mismatch`; where fewer are left,
+    /// these, which end as they do here.
+    pub fn part(&self, size: u32, mismatch: R) -> Cursor<'a, R>
+        ensures rest { result.rest.now ≡ take size self.now.rest.now }
+        ensures end { result.end ≡ part_end mismatch size self.now.end self.now.rest.now }
+    {
+        let size = size as usize;
+        if size <= self.rest.len() {
+            Cursor {
+                rest: &self.rest[..size],
+                end: End::Whole(mismatch),
+            }
+        } else {
+            let end = match self.end {
+                End::Whole(reason) => End::Whole(reason),
+                End::Cut(reason) => End::Cut(reason),
+            };
+            Cursor {
+                rest: self.rest,
+                end,
+            }
+        }
+    }
+
+    /// Goes on behind a part of so many bytes, with what was read of it. A part that is cut short
+    /// lacks a byte where the bytes end, unless a fault stands in it.
+    pub fn leave<T: Drop>(
+        &mut self,
+        size: u32,
+        outcome: Result<T, ReadError<R>>,
+    ) -> Result<T, ReadError<R>>
+        requires { IsInside (min size (length self.old.rest.now)) outcome }
+        ensures read { result ≡ behind_part size self.old.end self.old.rest.now outcome }
+        ensures rest { self.new.rest.now ≡ drop size self.old.rest.now }
+        ensures end { self.new.end ≡ self.old.end }
+    {
+        let size = size as usize;
+        if self.rest.len() < size {
+            let want = self.want();
+            self.rest = &self.rest[self.rest.len()..];
+            return outcome.and(Err(want));
+        }
+        self.rest = &self.rest[size..];
+        match outcome {
+            Err(ReadError::Fault(fault)) => Err(ReadError::Fault(Fault {
+                left: fault.left + self.rest.len(),
+                reason: fault.reason,
+            })),
+            other => other,
         }
     }
 

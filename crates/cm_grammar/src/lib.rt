@@ -4,7 +4,9 @@
 mod cursor;
 mod fault;
 mod several;
+mod writing;
 
 pub use cursor::{Code, Cursor};
 pub use fault::{End, Fault, ReadError};
 pub use several::{Item, read_items};
+pub use writing::{Spelled, write_counted, write_prefixed};

@@ -68,6 +68,9 @@ unsigned_length-least n (suc (suc (suc zero))) h l = let b : n < 2097152 = l in 
 unsigned_length-least n (suc (suc (suc (suc zero)))) h l = let b : n < 268435456 = l in grind (arith, nat_tests)
 unsigned_length-least n (suc (suc (suc (suc (suc k))))) h l = omega (arith, unsigned_length-few n)
 
+pub shortest_unsigned-length : (n : ℕ) → length (shortest_unsigned n) ≡ unsigned_length n
+shortest_unsigned-length n = group_of-length (unsigned_length n) n
+
 -- No spelling is shorter.
 pub shortest_unsigned-least : (n : ℕ) (bytes : List ℕ) → SpellsUnsigned 32 bytes n → length (shortest_unsigned n) ≤ length bytes
 shortest_unsigned-least n bytes s =
