@@ -1,0 +1,11 @@
+//! Component files: reading and writing them (Binary.md).
+#![tactic(auto)]
+
+mod codes;
+mod fault;
+
+pub use cm_component::{
+    Alias, Canon, Component, CoreInstance, CoreInstantiationArg, CoreSort, CustomSection, Export,
+    ExternDesc, Import, Section, Sort,
+};
+pub use fault::{DecodeFault, DecodeReason, Feature};
