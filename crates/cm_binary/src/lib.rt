@@ -3,6 +3,7 @@
 
 mod codes;
 mod fault;
+mod texts;
 
 pub use cm_component::{
     Alias, Canon, Component, CoreInstance, CoreInstantiationArg, CoreSort, CustomSection, Export,
