@@ -174,14 +174,14 @@ extern_desc = do
   ty ← index
   done (descs.Func ty)
 
-unfoldable pub «import» : Production ImportTree
-«import» = do
+unfoldable pub import_item : Production ImportTree
+import_item = do
   name ← extern_name
   desc ← extern_desc
   done (record { name = name; desc = desc })
 
-unfoldable pub «export» : Production ExportTree
-«export» = do
+unfoldable pub export_item : Production ExportTree
+export_item = do
   name ← extern_name
   sort ← code export_sort
   func ← index
@@ -206,8 +206,8 @@ contents room kinds.CoreInstances = made trees.core_instances (exactly SizeMisma
 contents room kinds.Aliases = made trees.aliases (exactly SizeMismatch (vector alias))
 contents room kinds.Types = made trees.types (exactly SizeMismatch (type_defs room))
 contents room kinds.Canons = made trees.canons (exactly SizeMismatch (vector canon))
-contents room kinds.Imports = made trees.imports (exactly SizeMismatch (vector «import»))
-contents room kinds.Exports = made trees.exports (exactly SizeMismatch (vector «export»))
+contents room kinds.Imports = made trees.imports (exactly SizeMismatch (vector import_item))
+contents room kinds.Exports = made trees.exports (exactly SizeMismatch (vector export_item))
 
 -- The id of the section, its size in bytes, and contents of that size.
 unfoldable pub section : ℕ → Production SectionTree

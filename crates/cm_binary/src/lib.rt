@@ -1,9 +1,13 @@
 //! Component files: reading and writing them (Binary.md).
 #![tactic(auto)]
 
+mod canons;
 mod codes;
+mod externs;
 mod fault;
+mod instances;
 mod texts;
+mod types;
 
 pub use cm_component::{
     Alias, Canon, Component, CoreInstance, CoreInstantiationArg, CoreSort, CustomSection, Export,

@@ -26,7 +26,10 @@ fn as_text(bytes: &[u8]) -> Option<&str>
 }
 
 /// Reads a text of so many bytes.
-fn utf8_of<'a>(bytes: &mut Cursor<'a, DecodeReason>, length: u32) -> Result<&'a str, ReadError<DecodeReason>>
+fn utf8_of<'a>(
+    bytes: &mut Cursor<'a, DecodeReason>,
+    length: u32,
+) -> Result<&'a str, ReadError<DecodeReason>>
     ensures read { Gives (λ x. (x.now, bytes.new.rest.now)) result ((checked is_utf8 reasons.BadUtf8 (raw length)).reads bytes.old.end bytes.old.rest.now) }
     ensures end { bytes.new.end ≡ bytes.old.end }
 {
@@ -40,7 +43,10 @@ fn utf8_of<'a>(bytes: &mut Cursor<'a, DecodeReason>, length: u32) -> Result<&'a 
 
 /// Reads a text.
 #[tactic(auto, unfolding(crate::specs::File::text))]
-pub(crate) fn text_of(alloc: Global, bytes: &mut Cursor<'_, DecodeReason>) -> Result<String, ReadError<DecodeReason>>
+pub(crate) fn text_of(
+    alloc: Global,
+    bytes: &mut Cursor<'_, DecodeReason>,
+) -> Result<String, ReadError<DecodeReason>>
     ensures read { Gives (λ x. (string_bytes x, bytes.new.rest.now)) result (text.reads bytes.old.end bytes.old.rest.now) }
     ensures end { bytes.new.end ≡ bytes.old.end }
 {
@@ -62,7 +68,10 @@ fn as_label(alloc: Global, text: &str) -> Result<Option<Label>, AllocError>
 
 /// Reads a label.
 #[tactic(auto, unfolding(crate::specs::File::label))]
-pub(crate) fn label_of(alloc: Global, bytes: &mut Cursor<'_, DecodeReason>) -> Result<Label, ReadError<DecodeReason>>
+pub(crate) fn label_of(
+    alloc: Global,
+    bytes: &mut Cursor<'_, DecodeReason>,
+) -> Result<Label, ReadError<DecodeReason>>
     ensures read { Gives (λ x. (x, bytes.new.rest.now)) result (label.reads bytes.old.end bytes.old.rest.now) }
     ensures end { bytes.new.end ≡ bytes.old.end }
 {
@@ -88,7 +97,10 @@ fn as_extern_name(alloc: Global, text: &str) -> Result<Option<ExternName>, Alloc
 
 /// Reads an extern name.
 #[tactic(auto, unfolding(crate::specs::File::extern_name))]
-pub(crate) fn extern_name_of(alloc: Global, bytes: &mut Cursor<'_, DecodeReason>) -> Result<ExternName, ReadError<DecodeReason>>
+pub(crate) fn extern_name_of(
+    alloc: Global,
+    bytes: &mut Cursor<'_, DecodeReason>,
+) -> Result<ExternName, ReadError<DecodeReason>>
     ensures read { Gives (λ x. (x, bytes.new.rest.now)) result (extern_name.reads bytes.old.end bytes.old.rest.now) }
     ensures end { bytes.new.end ≡ bytes.old.end }
 {

@@ -1,6 +1,6 @@
 -- Several things that were read one after the other are what the grammar reads.
-use Rattle.std.proofs.Common.{◌≡◌, ℕ, zero, suc, ◌<◌, ◌≤◌, true, false, leb, List, [], ◌∷◌, ◌++◌, length, map, take, drop, Result, Ok, Err, refl, subst, ◌∙◌, arith, inl, inr, ◌⊎◌}
-use Rattle.std.specs.Prelude.{MatchResult}
+use Rattle.std.proofs.Common.{sym, ap, ◌≡◌, ℕ, zero, suc, ◌<◌, ◌≤◌, true, false, leb, List, [], ◌∷◌, ◌++◌, length, map, take, drop, Result, Ok, Err, refl, subst, ◌∙◌, arith, inl, inr, ◌⊎◌}
+use Rattle.std.specs.Prelude.{IfOk, IfErr}
 use Rattle.std.proofs.lemmas.Bool.{cases_Bool, leb-false}
 use Rattle.std.proofs.lemmas.List.{length-drop, take_all}
 use Rattle.cm_grammar.specs.declared.fault.End.TheVariants as end
@@ -9,7 +9,7 @@ use Rattle.cm_grammar.specs.declared.fault.End.{End}
 use Rattle.cm_grammar.specs.declared.fault.ReadError.{ReadError}
 use Rattle.cm_grammar.specs.declared.fault.ReadError.TheVariants as errors
 use Rattle.cm_grammar.specs.Faults.{and_then, Fails, Gives}
-use Rattle.cm_grammar.specs.Grammar.{Grammar, times}
+use Rattle.cm_grammar.specs.Grammar.{Grammar, number, times, vec}
 use Rattle.cm_grammar.specs.Whole.{Whole, sized}
 use Rattle.cm_grammar.specs.Reading.{EachRead, FailsAmong, part_end, IsInside, behind_part}
 use Rattle.cm_grammar.proofs.Tools.{IsBytes}
@@ -46,10 +46,24 @@ fails_times g view e count bytes (errors.Fault f) (inr h) = times_err g view e c
 
 -- What the reading of several gave is what the grammar of so many gives.
 pub gives_times : {R A X V : Type 0} (g : Grammar R A) (view : X → A) (items_of : V → List X) (e : End R) (bytes rest : List ℕ) (count : ℕ) (r : Result V (ReadError R))
-    → MatchResult r (λ v. EachRead (reads_as g view e) bytes (items_of v) rest × (length (items_of v) ≡ count)) (λ err. (err ≡ errors.Memory) ⊎ FailsAmong (reads_as g view e) (fails_as g e) count bytes err)
+    → IfOk r (λ v. EachRead (reads_as g view e) bytes (items_of v) rest)
+    → IfOk r (λ v. length (items_of v) ≡ count)
+    → IfErr r (λ err. (err ≡ errors.Memory) ⊎ FailsAmong (reads_as g view e) (fails_as g e) count bytes err)
     → Gives (λ v. (map view (items_of v), rest)) r ((times g count).reads e bytes)
-gives_times g view items_of e bytes rest count (Ok v) h = subst (λ (n : ℕ). (times g n).reads e bytes ≡ Ok (map view (items_of v), rest)) h.1 (times_ok g view e bytes (items_of v) rest h.0)
-gives_times g view items_of e bytes rest count (Err err) h = fails_times g view e count bytes err h
+gives_times g view items_of e bytes rest count (Ok v) each size h = subst (λ (n : ℕ). (times g n).reads e bytes ≡ Ok (map view (items_of v), rest)) size (times_ok g view e bytes (items_of v) rest each)
+gives_times g view items_of e bytes rest count (Err err) each size h = fails_times g view e count bytes err h
+
+-- The same behind the count.
+pub gives_vec : {R A X V : Type 0} (bad : R) (g : Grammar R A) (view : X → A) (items_of : V → List X) (e inner : End R) (bytes behind rest : List ℕ) (count : ℕ) (r : Result V (ReadError R))
+    → (number bad).reads e bytes ≡ Ok (count, behind)
+    → inner ≡ e
+    → IfOk r (λ v. EachRead (reads_as g view inner) behind (items_of v) rest)
+    → IfOk r (λ v. length (items_of v) ≡ count)
+    → IfErr r (λ err. (err ≡ errors.Memory) ⊎ FailsAmong (reads_as g view inner) (fails_as g inner) count behind err)
+    → Gives (λ v. (map view (items_of v), rest)) r ((vec bad g).reads e bytes)
+gives_vec bad g view items_of e inner bytes behind rest count r counted same each size fails =
+    let k = gives_times g view items_of inner behind rest count r each size fails in
+    subst (λ t. Gives (λ v. (map view (items_of v), rest)) r t) (sym (ap (λ t. and_then t (λ n. (times g n.0).reads e n.1)) counted)) (subst (λ i. Gives (λ v. (map view (items_of v), rest)) r ((times g count).reads i behind)) same k)
 
 -- ---- parts
 
