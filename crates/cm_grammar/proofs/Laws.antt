@@ -12,7 +12,7 @@ use Rattle.cm_grammar.specs.declared.fault.Fault.{Fault}
 use Rattle.cm_grammar.specs.declared.fault.End.{End}
 use Rattle.cm_grammar.specs.declared.fault.End.TheVariants as end
 use Rattle.cm_grammar.specs.Faults.{flaw, later, want}
-use Rattle.cm_grammar.specs.Grammar.{Grammar, done, ◌>>=◌, fail, coded, code_reads, code, ahead_reads, ahead, number_fault, number_reads, number, signed, raw, checked, DifferAt, IsBeginning, fixed_reads, fixed, chain, times, limited}
+use Rattle.cm_grammar.specs.Grammar.{Grammar, done, ◌>>=◌, fail, coded, code_reads, code, ahead_reads, ahead, number_fault, number_reads, number, signed, raw, checked, DifferAt, IsBeginning, fixed_reads, fixed, chain, times, limited, vec, blob}
 use Rattle.cm_grammar.proofs.Tools.{IsBytes, IsBytes-after, ok_of, err_of, ok_is, err_is, then_ok, then_err, then_from_ok, then_from_err, cond_ok, cond_err, flaw-later, parts_behind}
 
 -- A spelling of x in front, and the rest.
@@ -462,3 +462,9 @@ times_lawful g l n = chain_lawful (λ (s : Unit {0}). g) (λ s x. s) (λ s. l) n
 pub limited_lawful : {R A : Type 0} (g : ℕ → Grammar R A) (reason : R) → ((room : ℕ) → Lawful (g room)) → (room : ℕ) → Lawful (limited g reason room)
 limited_lawful g reason l zero = fail_lawful reason
 limited_lawful g reason l (suc room) = l room
+
+pub vec_lawful : {R A : Type 0} (bad : R) (g : Grammar R A) → Lawful g → Lawful (vec bad g)
+vec_lawful bad g l = bind_lawful (number bad) _ (number_lawful bad) (λ n. times_lawful g l n)
+
+pub blob_lawful : {R : Type 0} (bad : R) → Lawful (blob bad)
+blob_lawful bad = bind_lawful (number bad) _ (number_lawful bad) (λ n. raw_lawful n)

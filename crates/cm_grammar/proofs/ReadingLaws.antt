@@ -1,18 +1,20 @@
 -- Several things that were read one after the other are what the grammar reads.
-use Rattle.std.proofs.Common.{sym, ap, ◌≡◌, ℕ, zero, suc, ◌<◌, ◌≤◌, true, false, leb, List, [], ◌∷◌, ◌++◌, length, map, take, drop, Result, Ok, Err, refl, subst, ◌∙◌, arith, inl, inr, ◌⊎◌}
+use Rattle.std.proofs.Common.{sym, ap, append_assoc, ◌≡◌, ℕ, zero, suc, ◌<◌, ◌≤◌, true, false, leb, List, [], ◌∷◌, ◌++◌, length, map, take, drop, Result, Ok, Err, refl, subst, ◌∙◌, arith, inl, inr, ◌⊎◌}
 use Rattle.std.specs.Prelude.{IfOk, IfErr}
 use Rattle.std.proofs.lemmas.Bool.{cases_Bool, leb-false}
-use Rattle.std.proofs.lemmas.List.{length-drop, take_all}
+use Rattle.std.proofs.lemmas.List.{length-drop, take_all, append-nil, nil_from_length}
 use Rattle.cm_grammar.specs.declared.fault.End.TheVariants as end
 use Rattle.cm_grammar.specs.declared.fault.Fault.{Fault}
 use Rattle.cm_grammar.specs.declared.fault.End.{End}
 use Rattle.cm_grammar.specs.declared.fault.ReadError.{ReadError}
 use Rattle.cm_grammar.specs.declared.fault.ReadError.TheVariants as errors
 use Rattle.cm_grammar.specs.Faults.{and_then, Fails, Gives}
-use Rattle.cm_grammar.specs.Grammar.{Grammar, number, times, vec}
-use Rattle.cm_grammar.specs.Whole.{Whole, sized}
+use Rattle.cm_grammar.specs.Grammar.{Grammar, number, times, chain, vec}
+use Rattle.cm_grammar.specs.Whole.{Whole, sized, to_end}
 use Rattle.cm_grammar.specs.Reading.{EachRead, FailsAmong, part_end, IsInside, behind_part}
-use Rattle.cm_grammar.proofs.Tools.{IsBytes}
+use Rattle.cm_grammar.proofs.Tools.{IsBytes, ok_of}
+use Rattle.cm_grammar.proofs.Laws.{Lawful}
+use Rattle.cm_grammar.proofs.EndLaws.{IsNonempty, and_more, to_end_turn, to_end_stops}
 use Rattle.cm_grammar.proofs.WholeLaws.{LawfulWhole}
 
 pub EachRead-push : {A : Type 0} (IsRead : List ℕ → A → List ℕ → Type 0) (bytes : List ℕ) (xs : List A) (behind : List ℕ) (x : A) (rest : List ℕ) → EachRead IsRead bytes xs behind → IsRead behind x rest → EachRead IsRead bytes (xs ++ x ∷ []) rest
@@ -64,6 +66,62 @@ pub gives_vec : {R A X V : Type 0} (bad : R) (g : Grammar R A) (view : X → A) 
 gives_vec bad g view items_of e inner bytes behind rest count r counted same each size fails =
     let k = gives_times g view items_of inner behind rest count r each size fails in
     subst (λ t. Gives (λ v. (map view (items_of v), rest)) r t) (sym (ap (λ t. and_then t (λ n. (times g n.0).reads e n.1)) counted)) (subst (λ i. Gives (λ v. (map view (items_of v), rest)) r ((times g count).reads i behind)) same k)
+
+-- ---- a loop over a count, with a state
+
+-- What was read before, and what is still read.
+abbrev pub with_front : {A E : Type 0} → List A → Result (List A × List ℕ) E → Result (List A × List ℕ) E
+with_front front t = and_then t (λ x. Ok (front ++ x.0, x.1))
+
+regroup : {A E : Type 0} (front : List A) (x : A) (t : Result (List A × List ℕ) E) → with_front front (and_then t (λ xs. Ok (x ∷ xs.0, xs.1))) ≡ with_front (front ++ x ∷ []) t
+regroup {A} {E} front x (Ok xs) = ap (λ (ys : List A). ok_of E (ys, xs.1)) (sym (append_assoc front (x ∷ []) xs.0))
+regroup front x (Err f) = refl
+
+-- Another one was read.
+pub chain_more : {R A S : Type 0} (g : S → Grammar R A) (next : S → A → S) (front : List A) (m n : ℕ) (s after : S) (e : End R) (bytes : List ℕ) (x : A) (behind : List ℕ) (total : Result (List A × List ℕ) (Fault R)) → m ≡ suc n → next s x ≡ after → (g s).reads e bytes ≡ Ok (x, behind) → with_front front ((chain g next m s).reads e bytes) ≡ total → with_front (front ++ x ∷ []) ((chain g next n after).reads e behind) ≡ total
+chain_more g next front m n s after e bytes x behind total p q h so_far =
+    let one : with_front front ((chain g next m s).reads e bytes) ≡ with_front (front ++ x ∷ []) ((chain g next n after).reads e behind) = rw (p, h, q) (regroup front x ((chain g next n after).reads e behind)) in
+    sym one ∙ so_far
+
+-- The next one failed.
+pub chain_fails : {R A S : Type 0} (g : S → Grammar R A) (next : S → A → S) (front : List A) (m n : ℕ) (s : S) (e : End R) (bytes : List ℕ) (err : ReadError R) (total : Result (List A × List ℕ) (Fault R)) → m ≡ suc n → Fails err ((g s).reads e bytes) → with_front front ((chain g next m s).reads e bytes) ≡ total → Fails err total
+chain_fails g next front m n s e bytes errors.Memory total p h so_far = tt {0}
+chain_fails {R} {A} {S} g next front m n s e bytes (errors.Fault f) total p h so_far =
+    let one : with_front front ((chain g next m s).reads e bytes) ≡ Err f = rw (p, h) refl in
+    sym so_far ∙ one
+
+-- None is left to read.
+pub chain_done : {R A S : Type 0} (g : S → Grammar R A) (next : S → A → S) (front : List A) (m : ℕ) (s : S) (e : End R) (bytes : List ℕ) (total : Result (List A × List ℕ) (Fault R)) → m ≡ 0 → with_front front ((chain g next m s).reads e bytes) ≡ total → total ≡ Ok (front, bytes)
+chain_done {R} {A} {S} g next front m s e bytes total p so_far =
+    let one : with_front front ((chain g next m s).reads e bytes) ≡ Ok (front, bytes) = rw p (ap (λ (ys : List A). ok_of (Fault R) (ys, bytes)) (append-nil front)) in
+    sym so_far ∙ one
+
+-- ---- a loop to the end, with a state
+
+abbrev pub with_each : {A E : Type 0} → List A → Result (List A) E → Result (List A) E
+with_each front t = and_then t (λ xs. Ok (front ++ xs))
+
+regroup_each : {A E : Type 0} (front : List A) (x : A) (t : Result (List A) E) → with_each front (and_more x t) ≡ with_each (front ++ x ∷ []) t
+regroup_each {A} {E} front x (Ok xs) = ap (λ (ys : List A). ok_of E ys) (sym (append_assoc front (x ∷ []) xs))
+regroup_each front x (Err f) = refl
+
+pub to_end_more : {R A S : Type 0} (g : S → Grammar R A) (next : S → A → S) → ((s : S) → Lawful (g s)) → ((s : S) → IsNonempty (g s)) → (front : List A) (s : S) (e : End R) (bytes : List ℕ) (x : A) (behind : List ℕ) (total : Result (List A) (Fault R)) → IsBytes bytes → 0 < length bytes → (g s).reads e bytes ≡ Ok (x, behind) → with_each front ((to_end g next s).reads e bytes) ≡ total → with_each (front ++ x ∷ []) ((to_end g next (next s x)).reads e behind) ≡ total
+to_end_more {R} {A} {S} g next l some front s e bytes x behind total fits h k so_far =
+    let turn = to_end_turn g next l some s e bytes x behind fits h k in
+    let one : with_each front ((to_end g next s).reads e bytes) ≡ with_each (front ++ x ∷ []) ((to_end g next (next s x)).reads e behind) = ap (with_each front) turn ∙ regroup_each front x ((to_end g next (next s x)).reads e behind) in
+    sym one ∙ so_far
+
+pub to_end_fails : {R A S : Type 0} (g : S → Grammar R A) (next : S → A → S) → ((s : S) → Lawful (g s)) → ((s : S) → IsNonempty (g s)) → (front : List A) (s : S) (e : End R) (bytes : List ℕ) (err : ReadError R) (total : Result (List A) (Fault R)) → 0 < length bytes → Fails err ((g s).reads e bytes) → with_each front ((to_end g next s).reads e bytes) ≡ total → Fails err total
+to_end_fails g next l some front s e bytes errors.Memory total h k so_far = tt {0}
+to_end_fails {R} {A} {S} g next l some front s e bytes (errors.Fault f) total h k so_far =
+    let one : with_each front ((to_end g next s).reads e bytes) ≡ Err f = ap (with_each front) (to_end_stops g next l some s e bytes f h k) in
+    sym so_far ∙ one
+
+pub to_end_done : {R A S : Type 0} (g : S → Grammar R A) (next : S → A → S) (front : List A) (s : S) (e : End R) (bytes : List ℕ) (total : Result (List A) (Fault R)) → length bytes ≡ 0 → with_each front ((to_end g next s).reads e bytes) ≡ total → total ≡ Ok front
+to_end_done {R} {A} {S} g next front s e bytes total h so_far =
+    let none : bytes ≡ [] = nil_from_length bytes h in
+    let one : with_each front ((to_end g next s).reads e bytes) ≡ Ok front = rw none (ap (λ (ys : List A). ok_of (Fault R) ys) (append-nil front)) in
+    sym so_far ∙ one
 
 -- ---- parts
 

@@ -60,7 +60,7 @@ ends_err : {R A : Type 0} (surplus : R) (x : A × List ℕ) (f : Fault R) → ex
 ends_err surplus (x, []) f h = absurd cc
 ends_err {R} {A} surplus (x, b ∷ rest) f h = (omega arith, sym (err_is A (flaw (suc (length rest)) surplus) f h))
 
-ends_fails : {R A : Type 0} (surplus : R) (x : A) (rest : List ℕ) → 0 < length rest → exactly_ends surplus (x, rest) ≡ Err (flaw (length rest) surplus)
+pub ends_fails : {R A : Type 0} (surplus : R) (x : A) (rest : List ℕ) → 0 < length rest → exactly_ends surplus (x, rest) ≡ Err (flaw (length rest) surplus)
 ends_fails surplus x [] h = absurd (omega arith)
 ends_fails surplus x (b ∷ rest) h = refl
 
