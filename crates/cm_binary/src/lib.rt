@@ -6,6 +6,7 @@ mod codes;
 mod externs;
 mod fault;
 mod instances;
+mod sections;
 mod texts;
 mod types;
 

@@ -1,10 +1,12 @@
 //! Types of functions.
 
-ghost use Rattle.std.specs.Prelude.{◌≡◌, Ok, map};
+ghost use Rattle.std.specs.Prelude.{◌≡◌, ◌-◌, Ok, map};
 ghost use Rattle.cm_grammar.specs.Faults.{Gives, Fails};
+ghost use Rattle.cm_grammar.specs.Grammar.{chain, limited};
+ghost use Rattle.cm_binary.specs.declared.fault.DecodeReason.TheVariants as reasons;
 ghost use Rattle.cm_types.specs.DefTypes.{func_tree, def_tree};
 ghost use Rattle.cm_binary.specs.declared.codes.ResultForm.TheVariants as result_forms;
-ghost use Rattle.cm_binary.specs.File.{vector, param, func_result_of, func_result, func_type, def_type};
+ghost use Rattle.cm_binary.specs.File.{vector, param, func_result_of, func_result, func_type, def_type, type_defs};
 
 use crate::codes::{ResultForm, TypeForm};
 use crate::fault::DecodeReason;
@@ -95,4 +97,54 @@ pub(crate) fn def_type_of(
     let TypeForm::Func = bytes.code()?;
     let func = func_type_of(alloc, bytes)?;
     Ok(DefType::Func(func))
+}
+
+/// Reads the types of a section, where `room` more may stand in the file.
+#[tactic(auto, unfolding(crate::specs::File::type_defs))]
+pub(crate) fn types_of(
+    alloc: Global,
+    bytes: &mut Cursor<'_, DecodeReason>,
+    room: usize,
+) -> Result<Vec<DefType>, ReadError<DecodeReason>>
+    ensures read { Gives (λ v. (map def_tree v.items, bytes.new.rest.now)) result ((type_defs room).reads bytes.old.end bytes.old.rest.now) }
+    ensures end { bytes.new.end ≡ bytes.old.end }
+{
+    let count = bytes.number(DecodeReason::BadNumber)?;
+    limited_types_of(alloc, bytes, count, room)
+}
+
+/// Reads one more type, where `room` more may stand in the file.
+#[tactic(auto, unfolding(crate::specs::File::def_type))]
+fn limited_type_of(
+    alloc: Global,
+    bytes: &mut Cursor<'_, DecodeReason>,
+    room: usize,
+) -> Result<DefType, ReadError<DecodeReason>>
+    ensures read { Gives (λ x. (def_tree x, bytes.new.rest.now)) result ((limited (λ left. def_type) reasons.TooMany room).reads bytes.old.end bytes.old.rest.now) }
+    ensures end { bytes.new.end ≡ bytes.old.end }
+{
+    if room == 0 {
+        return Err(bytes.fault(DecodeReason::TooMany));
+    }
+    def_type_of(alloc, bytes)
+}
+
+/// Reads so many types, where `room` more may stand in the file.
+fn limited_types_of(
+    alloc: Global,
+    bytes: &mut Cursor<'_, DecodeReason>,
+    count: u32,
+    room: usize,
+) -> Result<Vec<DefType>, ReadError<DecodeReason>>
+    ensures read { Gives (λ v. (map def_tree v.items, bytes.new.rest.now)) result ((chain (limited (λ left. def_type) reasons.TooMany) (λ left t. left - 1) count room).reads bytes.old.end bytes.old.rest.now) }
+    ensures end { bytes.new.end ≡ bytes.old.end }
+{
+    let mut types = Vec::new(alloc);
+    let mut left = room;
+    for _ in 0..count {
+        let ty = limited_type_of(alloc, bytes, left)?;
+        types.push(ty)?;
+        left = left.saturating_sub(1);
+    }
+    Ok(types)
 }

@@ -1,6 +1,6 @@
 //! Bytes that are read from the front on.
 
-ghost use Rattle.std.specs.Prelude.{◌≡◌, ℕ, List, length, take, drop, min, Result};
+ghost use Rattle.std.specs.Prelude.{◌≡◌, ℕ, ◌<◌, List, [], length, take, drop, min, Result, OnOk, OnErr, IfErr};
 ghost use Rattle.cm_grammar.specs.Reading.{part_end, IsInside, behind_part};
 ghost use Rattle.cm_grammar.specs.Faults.{Gives, flaw, want};
 ghost use Rattle.cm_grammar.specs.Grammar.{number, signed, raw, code, fixed};
@@ -152,6 +152,18 @@ impl<'a, R: Copy> Cursor<'a, R> {
                     self.begun_behind(text, rest, reason)
                 }
             },
+        }
+    }
+
+    /// That nothing is left; else the next byte is a fault of the reason.
+    pub fn finish(&self, surplus: R) -> Result<(), ReadError<R>>
+        ensures ok { OnOk result (self.now.rest.now ≡ []) }
+        ensures err { IfErr result (λ e. e ≡ errors.Fault (flaw (length self.now.rest.now) surplus)) }
+        ensures some { OnErr result (0 < length self.now.rest.now) }
+    {
+        match self.rest {
+            [] => Ok(()),
+            [_, ..] => Err(self.fault(surplus)),
         }
     }
 
