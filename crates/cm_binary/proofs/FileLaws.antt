@@ -16,7 +16,7 @@ use Rattle.cm_binary.specs.declared.codes.ResultForm.{ResultForm}
 use Rattle.cm_binary.specs.declared.codes.ResultForm.TheVariants as result_forms
 use Rattle.cm_binary.specs.declared.codes.CanonForm.{CanonForm}
 use Rattle.cm_binary.specs.declared.codes.CanonForm.TheVariants as canon_forms
-use Rattle.cm_binary.specs.File.{text, label, extern_name, core_arg, core_instance, alias_of, alias, param, func_result_of, func_result, func_type, def_type, type_defs, options_of, options, canon_of, canon, extern_desc, import_item, export_item, contents, section, sections, file, room_after, type_limit, byte_limit, component_preamble, module_preamble}
+use Rattle.cm_binary.specs.File.{text, label, extern_name, core_arg, core_instance, alias_of, alias, param, func_result_of, func_result, func_type, def_type, type_defs, options_of, options, canon_of, canon, extern_desc, import_item, export_item, contents, section, sections, component, file, room_after, type_limit, byte_limit, component_preamble, module_preamble}
 
 pub index_lawful : Lawful (number BadNumber)
 index_lawful = number_lawful BadNumber
@@ -129,6 +129,10 @@ pub sections_lawful : (room : ℕ) → LawfulWhole (sections room)
 unfolding sections
 sections_lawful room = to_end_lawful section room_after section_lawful section_nonempty room
 
+pub component_lawful : LawfulWhole component
+unfolding component
+component_lawful = joined_lawful _ _ (fixed_lawful _ _) (λ preamble. sections_lawful type_limit)
+
 pub file_lawful : LawfulWhole file
 unfolding file
-file_lawful = at_most_lawful _ _ _ (joined_lawful _ _ (fixed_lawful _ _) (λ preamble. sections_lawful type_limit))
+file_lawful = at_most_lawful _ _ _ component_lawful

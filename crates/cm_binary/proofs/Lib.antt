@@ -1,3 +1,4 @@
 pub mod TextLaws
 pub mod FileLaws
 pub mod LoopLaws
+pub mod DecodeLaws

@@ -232,14 +232,18 @@ byte_limit = 16777216
 unfoldable pub sections : ℕ → Contents (List SectionTree)
 sections room = to_end section room_after room
 
--- A file: the preamble, and sections to the end.
-unfoldable pub file : Contents (List SectionTree)
-file = at_most byte_limit TooLong (joined (fixed component_preamble BadPreamble) (λ preamble. sections type_limit))
+-- The preamble, and sections to the end.
+unfoldable pub component : Contents (List SectionTree)
+component = joined (fixed component_preamble BadPreamble) (λ preamble. sections type_limit)
 
--- The bytes are a spelling of the component.
+-- A file, of at most so many bytes.
+unfoldable pub file : Contents (List SectionTree)
+file = at_most byte_limit TooLong component
+
+-- The bytes are a spelling of the component with these sections.
 abbrev pub Spells : List SectionTree → List ℕ → Type 0
 Spells c bytes = file.Spells c bytes
 
--- The bytes are no component file, and this is the first fault, met reading byte after byte.
+-- The bytes are no component file, and this is their first fault, met reading byte after byte.
 abbrev pub FirstFault : List ℕ → ℕ → DecodeReason → Type 0
 FirstFault bytes at reason = (left : ℕ) × (at + left ≡ length bytes) × file.Faulty (end.Cut Truncated) bytes (flaw left reason)

@@ -1,3 +1,4 @@
 pub mod Reasons
 pub mod Codes
 pub mod File
+pub mod Answers

@@ -3,6 +3,7 @@
 
 mod canons;
 mod codes;
+mod decoding;
 mod externs;
 mod fault;
 mod instances;
@@ -14,4 +15,5 @@ pub use cm_component::{
     Alias, Canon, Component, CoreInstance, CoreInstantiationArg, CoreSort, CustomSection, Export,
     ExternDesc, Import, Section, Sort,
 };
+pub use decoding::decode;
 pub use fault::{DecodeFault, DecodeReason, Feature};

@@ -20,9 +20,10 @@ loop-cursor-smaller c = section_shorter c.loop-cursor.room c.loop-cursor.cursor.
 
 pub loop-cursor-preserved : goal.loop-cursor-preserved
 loop-cursor-preserved c =
-    let some : 0 < length c.loop-cursor.cursor.rest.now = grind (arith, common_steps) in
-    (sections_more c.loop-cursor.sections.items c.push.new.self.items c.in_ok-section.section c.loop-cursor.room c.room_behind-room.result c.loop-cursor.cursor.end c.section_of.new.bytes.end c.loop-cursor.cursor.rest.now c.section_of.new.bytes.rest.now _ c.in_ok-push.ensures.items c.in_ok-section.ensures.end c.room_behind-room.ensures c.loop-cursor.invariant.1 some c.in_ok-section.ensures.read c.loop-cursor.invariant.0,
-     section_behind c.loop-cursor.room c.loop-cursor.cursor.end c.loop-cursor.cursor.rest.now (section_tree c.in_ok-section.section) c.section_of.new.bytes.rest.now c.loop-cursor.invariant.1 c.in_ok-section.ensures.read)
+    let some : 0 < length c.loop-cursor.cursor.rest.now = grind (arith, common_steps) in (
+      sections_more c.loop-cursor.sections.items c.push.new.self.items c.in_ok-section.section c.loop-cursor.room c.room_behind-room.result c.loop-cursor.cursor.end c.section_of.new.bytes.end c.loop-cursor.cursor.rest.now c.section_of.new.bytes.rest.now _ c.in_ok-push.ensures.items c.in_ok-section.ensures.end c.room_behind-room.ensures c.loop-cursor.invariant.1 some c.in_ok-section.ensures.read c.loop-cursor.invariant.0,
+      section_behind c.loop-cursor.room c.loop-cursor.cursor.end c.loop-cursor.cursor.rest.now (section_tree c.in_ok-section.section) c.section_of.new.bytes.rest.now c.loop-cursor.invariant.1 c.in_ok-section.ensures.read,
+    )
 
 pub returns : goal.returns
 unfolding sections
