@@ -2,3 +2,4 @@ pub mod TextLaws
 pub mod FileLaws
 pub mod LoopLaws
 pub mod DecodeLaws
+pub mod FileSpelling
