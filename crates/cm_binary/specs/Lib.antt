@@ -1,0 +1,5 @@
+pub mod Reasons
+pub mod Codes
+pub mod File
+pub mod Answers
+pub mod Spelling
