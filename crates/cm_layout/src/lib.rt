@@ -5,5 +5,9 @@
 mod alignments;
 mod flat_funcs;
 mod flattening;
+mod layout;
 mod offsets;
 mod sizes;
+
+pub use flat_funcs::{FlatFunc, MAX_FLAT_PARAMS, MAX_FLAT_RESULTS, Side, flatten_func};
+pub use layout::{align, case_offset, field_offset, flatten, size};

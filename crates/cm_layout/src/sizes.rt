@@ -31,7 +31,8 @@ pub(crate) fn node_size(ty: &TypeNode) -> u32
     match ty {
         TypeNode::Bool | TypeNode::S8 | TypeNode::U8 => 1,
         TypeNode::S16 | TypeNode::U16 => 2,
-        TypeNode::S32 | TypeNode::U32 | TypeNode::Char | TypeNode::Own(_) | TypeNode::Borrow(_) => 4,
+        TypeNode::S32 | TypeNode::U32 | TypeNode::Char | TypeNode::Own(_) | TypeNode::Borrow(_) =>
+            4,
         TypeNode::S64 | TypeNode::U64 | TypeNode::String | TypeNode::List(_) => 8,
         TypeNode::FixedList { element, length } => *length * node_size(element),
         TypeNode::Record(fields) => place(fields_align(fields), fields_end(fields)),
@@ -61,7 +62,10 @@ fn variant_size(discriminant: u32, align: u32, payload: u32) -> u32
     requires fits { payload ≤ 320000 }
     ensures { result ≡ place (max discriminant align) (place align discriminant + payload) }
 {
-    place(discriminant.max(align), place(align, discriminant) + payload)
+    place(
+        discriminant.max(align),
+        place(align, discriminant) + payload,
+    )
 }
 
 #[cycle(size)]

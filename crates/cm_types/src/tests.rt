@@ -100,7 +100,13 @@ fn parts<'a>(form: &ExternNameForm<'a>) -> (u8, &'a str, &'a str, &'a str, &'a s
             package,
             interface,
             version,
-        } => (4, *namespace, *package, *interface, version.unwrap_or("none")),
+        } => (
+            4,
+            *namespace,
+            *package,
+            *interface,
+            version.unwrap_or("none"),
+        ),
     }
 }
 
