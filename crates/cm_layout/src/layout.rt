@@ -1,6 +1,6 @@
 //! The layout of whole types.
 
-ghost use Rattle.std.specs.Prelude.{◌≡◌, ◌*◌, ℕ, IfOk};
+ghost use Rattle.std.specs.Prelude.{◌≡◌, ◌↔◌, ◌*◌, ℕ, IfOk, IsTrue};
 ghost use Rattle.cm_types.specs.Funcs.{tree_type};
 ghost use Rattle.cm_layout.specs.Places.{IsPlace};
 ghost use Rattle.cm_layout.specs.Sizes.{HasCases, HasField, align_of, case_offset, end_before, field_offset, field_type, fields_in, size_of, IsPayloadPlace};
@@ -8,7 +8,7 @@ ghost use Rattle.cm_layout.specs.Flattening.{JoinsSlots, flat_of};
 
 use crate::alignments::node_align;
 use crate::flattening::push_flat;
-use crate::offsets::{node_case_offset, node_field_offset};
+use crate::offsets::{node_case_offset, node_field_offset, node_has_cases, node_has_field};
 use crate::sizes::node_size;
 use cm_types::{CoreKind, TypeTree};
 use std::alloc::{AllocError, Global};
@@ -26,6 +26,20 @@ pub fn size(ty: &TypeTree) -> u32
     ensures multiple { (k : ℕ) × (result ≡ k * align_of (tree_type ty.now)) }
 {
     node_size(&ty.root)
+}
+
+/// Whether the type is a record or a tuple with a field `n`, from 0, so that `field_offset` may be asked.
+pub fn has_field(ty: &TypeTree, n: usize) -> bool
+    ensures { IsTrue result ↔ HasField (tree_type ty.now) n }
+{
+    node_has_field(&ty.root, n)
+}
+
+/// Whether the type is a variant, an enum, an option or a result, so that `case_offset` may be asked.
+pub fn has_cases(ty: &TypeTree) -> bool
+    ensures { IsTrue result ↔ HasCases (tree_type ty.now) }
+{
+    node_has_cases(&ty.root)
 }
 
 /// Where field `n`, from 0, of a record or a tuple stands, in bytes from where the whole does: at the

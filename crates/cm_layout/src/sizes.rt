@@ -21,9 +21,11 @@ pub(crate) fn place(align: u32, end: u32) -> u32
     (end + (align - 1)) / align * align
 }
 
+/// The size in bytes of a type of at most 10,000 nodes (CanonicalABI.md, "Element Size"): below 320,000,
+/// since each node adds at most 32 bytes.
 #[cycle(size)]
 #[tactic(auto, using(crate::proofs::SizeLemmas::sizes))]
-pub(crate) fn node_size(ty: &TypeNode) -> u32
+pub fn node_size(ty: &TypeNode) -> u32
     requires within { nodes_of (type_of ty.now) ≤ 10000 }
     ensures value { result ≡ size_of (type_of ty.now) }
     ensures small { result + 7 ≤ 32 * nodes_of (type_of ty.now) }
