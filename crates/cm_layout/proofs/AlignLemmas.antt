@@ -1,5 +1,5 @@
 -- Alignments are positive, and what cases made from lists have.
-use Rattle.std.proofs.Common.{◌≡◌, ℕ, zero, suc, ◌+◌, ◌≤◌, ◌<◌, max, List, [], ◌∷◌, length, map, Option, Some, None, Bool, true, false, nat_le, refl, sym, ap, ◌∙◌, arith, inl, inr}
+use Rattle.std.proofs.Common.{◌≡◌, ℕ, suc, ◌≤◌, max, List, [], ◌∷◌, length, map, Option, Some, None, nat_le, refl, ap, ◌∙◌, arith, inl, inr}
 use Rattle.std.proofs.lemmas.Bool.{cases_Bool}
 use Rattle.std.proofs.lemmas.List.{length-map}
 use Rattle.cm_types.specs.Types.{Ty, Fields, Cases, CasesKind, Width, bits_8, bits_16, bits_32, bits_64, bytes_of, bool, signed, unsigned, char, string, list, fixed_list, fields, cases, flags, own, borrow, no_fields, field, no_cases, plain, carrying}
@@ -15,13 +15,15 @@ width_pos bits_64 = omega arith
 
 pub flags_pos : (n : ℕ) → 1 ≤ flags_size n
 flags_pos n = elim (cases_Bool (nat_le n 8)) [
-    inl y ↦ rw y (omega arith)
-  | inr b ↦ elim (cases_Bool (nat_le n 16)) [ inl y ↦ rw (b, y) (omega arith) | inr c ↦ rw (b, c) (omega arith) ] ]
+  | inl y ↦ rw y (omega arith)
+  | inr b ↦ elim (cases_Bool (nat_le n 16)) [ inl y ↦ rw (b, y) (omega arith) | inr c ↦ rw (b, c) (omega arith) ]
+]
 
 pub discriminant_pos : (n : ℕ) → 1 ≤ discriminant_size n
 discriminant_pos n = elim (cases_Bool (nat_le n 256)) [
-    inl y ↦ rw y (omega arith)
-  | inr b ↦ elim (cases_Bool (nat_le n 65536)) [ inl y ↦ rw (b, y) (omega arith) | inr c ↦ rw (b, c) (omega arith) ] ]
+  | inl y ↦ rw y (omega arith)
+  | inr b ↦ elim (cases_Bool (nat_le n 65536)) [ inl y ↦ rw (b, y) (omega arith) | inr c ↦ rw (b, c) (omega arith) ]
+]
 
 pub fields_align_pos : (fs : Fields) → 1 ≤ align_of_fields fs
 fields_align_pos no_fields = omega arith

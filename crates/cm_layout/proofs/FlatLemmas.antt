@@ -3,7 +3,7 @@ use Rattle.std.proofs.Common.{◌≡◌, ℕ, zero, suc, ◌+◌, ◌-◌, ◌�
 use Rattle.std.proofs.lemmas.List.{drop_all, take_all, length-drop}
 use Rattle.cm_types.specs.declared.core_value.CoreKind.{CoreKind}
 use Rattle.cm_types.specs.declared.core_value.CoreKind.TheVariants.{I32, I64}
-use Rattle.cm_types.specs.Types.{Ty, Fields, Cases, CasesKind, no_cases, plain, carrying, cases}
+use Rattle.cm_types.specs.Types.{Ty, Cases, CasesKind, no_cases, plain, carrying, cases}
 use Rattle.cm_types.specs.TypeTrees.{plain_from, case_before, case_of, cases_of}
 use Rattle.cm_types.specs.declared.type_trees.Case.{Case}
 use Rattle.cm_layout.specs.Flattening.{copies, join, joined, flat_of, flat_of_cases, flat_of_payload}

@@ -1,11 +1,10 @@
 -- Places, and bounds on sizes by the number of nodes, so that no size overflows.
-use Rattle.std.proofs.Common.{◌≡◌, ℕ, zero, suc, ◌+◌, ◌-◌, ◌*◌, ◌/◌, ◌≤◌, ◌<◌, max, List, [], ◌∷◌, length, map, Option, Some, None, Bool, nat_le, refl, sym, ap, ◌∙◌, arith, inl, inr}
+use Rattle.std.proofs.Common.{◌≡◌, ℕ, zero, suc, ◌+◌, ◌-◌, ◌*◌, ◌/◌, ◌≤◌, ◌<◌, max, List, [], ◌∷◌, length, Option, Some, None, nat_le, refl, ap, ◌∙◌, arith, inl, inr}
 use Rattle.std.proofs.Math.Nat.{div-mul-le_self, lt-div-mul-add, mul-le-mul_left, mul-le-mul_right}
 use Rattle.std.proofs.lemmas.Bool.{cases_Bool, cases_lt}
 use Rattle.cm_types.specs.Types.{Ty, Fields, Cases, CasesKind, Width, bits_8, bits_16, bits_32, bits_64, bytes_of, bool, signed, unsigned, char, string, list, fixed_list, fields, cases, flags, own, borrow, no_fields, field, no_cases, plain, carrying}
-use Rattle.cm_types.specs.TypeTrees.{CaseOf, case_before, cases_from, plain_from, case_of, cases_of}
+use Rattle.cm_types.specs.TypeTrees.{case_before, plain_from}
 use Rattle.cm_types.specs.Limits.{nodes_of, nodes_of_fields, nodes_of_cases, payload_nodes}
-use Rattle.cm_types.specs.declared.type_trees.Case.{Case}
 use Rattle.cm_layout.specs.Places.{place, IsPlace}
 use Rattle.cm_layout.specs.Sizes.{align_of, align_of_fields, align_of_payloads, align_of_payload, case_count, discriminant_size, flags_size, size_of, end_of, greatest_payload, payload_offset, size_of_payload}
 use Rattle.cm_layout.proofs.AlignLemmas.{align_pos, fields_align_pos, payloads_align_pos, discriminant_pos, flags_pos, count_before, count_of_cases, count_plain, align_before, align_plain, payload_align_pos}
@@ -32,8 +31,9 @@ place_least a e j p h =
     let q = (e + (a - 1)) / a in
     let near : (e + (a - 1)) / a * a ≤ e + (a - 1) = div-mul-le_self (e + (a - 1)) a in
     elim (cases_lt j ((e + (a - 1)) / a)) [
-        inl lt ↦ absurd (below_next ((e + (a - 1)) / a) a e j p near h lt)
-      | inr le ↦ mul-le-mul_right a le ]
+      | inl lt ↦ absurd (below_next ((e + (a - 1)) / a) a e j p near h lt)
+      | inr le ↦ mul-le-mul_right a le
+    ]
 
 -- a place is the least multiple that is not below the end
 pub is_place : (a e : ℕ) → 1 ≤ a → IsPlace a e (place a e)
@@ -49,13 +49,15 @@ width_small bits_64 = omega arith
 
 flags_small : (n : ℕ) → flags_size n ≤ 4
 flags_small n = elim (cases_Bool (nat_le n 8)) [
-    inl y ↦ rw y (omega arith)
-  | inr b ↦ elim (cases_Bool (nat_le n 16)) [ inl y ↦ rw (b, y) (omega arith) | inr c ↦ rw (b, c) (omega arith) ] ]
+  | inl y ↦ rw y (omega arith)
+  | inr b ↦ elim (cases_Bool (nat_le n 16)) [ inl y ↦ rw (b, y) (omega arith) | inr c ↦ rw (b, c) (omega arith) ]
+]
 
 pub discriminant_small : (n : ℕ) → discriminant_size n ≤ 4
 discriminant_small n = elim (cases_Bool (nat_le n 256)) [
-    inl y ↦ rw y (omega arith)
-  | inr b ↦ elim (cases_Bool (nat_le n 65536)) [ inl y ↦ rw (b, y) (omega arith) | inr c ↦ rw (b, c) (omega arith) ] ]
+  | inl y ↦ rw y (omega arith)
+  | inr b ↦ elim (cases_Bool (nat_le n 65536)) [ inl y ↦ rw (b, y) (omega arith) | inr c ↦ rw (b, c) (omega arith) ]
+]
 
 mutual
   pub align_small : (t : Ty) → align_of t ≤ 8
@@ -107,8 +109,14 @@ mutual
   size_small (fixed_list t n) = repeated_small n (size_of t) (nodes_of t) (size_small t)
   size_small (fields k fs) = omega (arith, end_small fs 0, place_near (align_of_fields fs) (end_of fs 0) (fields_align_pos fs), fields_align_small fs, fields_align_pos fs)
   size_small (cases k cs) =
-      omega (arith, payload_small cs, payload_offset_small cs,
-          place_near (align_of (cases k cs)) (payload_offset cs + greatest_payload cs) (align_pos (cases k cs)), align_small (cases k cs), align_pos (cases k cs))
+      omega (
+        arith,
+        payload_small cs,
+        payload_offset_small cs,
+        place_near (align_of (cases k cs)) (payload_offset cs + greatest_payload cs) (align_pos (cases k cs)),
+        align_small (cases k cs),
+        align_pos (cases k cs),
+      )
   size_small (flags ls) = omega (arith, flags_small (length ls))
   size_small (own r) = omega arith
   size_small (borrow r) = omega arith
@@ -158,8 +166,9 @@ two_nodes k l m o p = rw (before_nodes l o (case_before m p no_cases), before_no
 -- an enum is as large as its discriminant
 enum_place : (n : ℕ) → discriminant_size n ≡ place (max (discriminant_size n) 1) (place 1 (discriminant_size n) + 0)
 enum_place n = elim (cases_Bool (nat_le n 256)) [
-    inl y ↦ rw y refl
-  | inr b ↦ elim (cases_Bool (nat_le n 65536)) [ inl y ↦ rw (b, y) refl | inr c ↦ rw (b, c) refl ] ]
+  | inl y ↦ rw y refl
+  | inr b ↦ elim (cases_Bool (nat_le n 65536)) [ inl y ↦ rw (b, y) refl | inr c ↦ rw (b, c) refl ]
+]
 
 greatest_plain : (ls : List (List ℕ)) → greatest_payload (plain_from ls) ≡ 0
 greatest_plain [] = refl

@@ -27,18 +27,20 @@ passed_params params = if spills 16 params then I32 ∷ [] else params
 -- the function that a component lifts answers a result of more than 1 flat value by a pointer
 abbrev pub lifted_func : List CoreKind → List CoreKind → FlatFuncTy
 lifted_func params results = record {
-    params = passed_params params;
-    results = if spills 1 results then I32 ∷ [] else results;
-    spilled_params = spills 16 params;
-    spilled_result = spills 1 results }
+  params = passed_params params;
+  results = if spills 1 results then I32 ∷ [] else results;
+  spilled_params = spills 16 params;
+  spilled_result = spills 1 results;
+}
 
 -- the function that a component gets for one that it lowers takes a pointer to such a result last
 abbrev pub lowered_func : List CoreKind → List CoreKind → FlatFuncTy
 lowered_func params results = record {
-    params = if spills 1 results then passed_params params ++ I32 ∷ [] else passed_params params;
-    results = if spills 1 results then [] else results;
-    spilled_params = spills 16 params;
-    spilled_result = spills 1 results }
+  params = if spills 1 results then passed_params params ++ I32 ∷ [] else passed_params params;
+  results = if spills 1 results then [] else results;
+  spilled_params = spills 16 params;
+  spilled_result = spills 1 results;
+}
 
 -- the core signature of a function
 abbrev pub flat_func : Side → FuncTy → FlatFuncTy

@@ -1,7 +1,7 @@
 -- Sizes and alignments of values in memory, in bytes (CanonicalABI.md, "Alignment" and "Element Size").
-use Rattle.std.specs.Prelude.{ℕ, zero, suc, ◌+◌, ◌*◌, ◌<◌, ⊤, max, nat_le, if◌then◌else◌, List, length, Option, Some, None}
+use Rattle.std.specs.Prelude.{ℕ, zero, suc, ◌+◌, ◌*◌, ◌<◌, ⊤, max, nat_le, if◌then◌else◌, length, Option, Some, None}
 use Rattle.cm_types.specs.Types.{Ty, Fields, Cases, bytes_of, bool, signed, unsigned, char, string, list, fixed_list, fields, cases, flags, own, borrow, no_fields, field, no_cases, plain, carrying}
-use Rattle.cm_layout.specs.Places.{place}
+use Rattle.cm_layout.specs.Places.{IsPlace, place}
 
 -- how many cases
 abbrev pub case_count : Cases → ℕ
@@ -132,3 +132,8 @@ HasCases _ = ⊥
 abbrev pub case_offset : Ty → ℕ
 case_offset (cases k cs) = payload_offset cs
 case_offset _ = 0
+
+-- the payload stands at the least multiple of the payloads' alignment behind the number of the case
+abbrev pub IsPayloadPlace : Ty → ℕ → Type 0
+IsPayloadPlace (cases k cs) at = IsPlace (align_of_payloads cs) (discriminant_size (case_count cs)) at
+IsPayloadPlace _ at = ⊥

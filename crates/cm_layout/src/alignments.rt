@@ -32,9 +32,10 @@ pub(crate) fn flags_size(labels: usize) -> u32
     }
 }
 
+/// The alignment of a type in bytes: 1, 2, 4 or 8 (CanonicalABI.md, "Alignment").
 #[cycle(align)]
 #[tactic(auto, using(crate::proofs::AlignLemmas::aligns))]
-pub(crate) fn node_align(ty: &TypeNode) -> u32
+pub fn node_align(ty: &TypeNode) -> u32
     ensures value { result ≡ align_of (type_of ty.now) }
     ensures positive { 1 ≤ result }
     ensures small { result ≤ 8 }

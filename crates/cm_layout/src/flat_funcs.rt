@@ -50,7 +50,11 @@ impl FlatFunc {
     {
         let spilled_params = params.len() > MAX_FLAT_PARAMS;
         let spilled_result = results.len() > MAX_FLAT_RESULTS;
-        let mut params = if spilled_params { pointer(alloc)? } else { params };
+        let mut params = if spilled_params {
+            pointer(alloc)?
+        } else {
+            params
+        };
         let results = if spilled_result {
             match side {
                 Side::Lift => pointer(alloc)?,

@@ -43,7 +43,11 @@ fn push_copies(out: &mut Vec<CoreKind>, kinds: &[CoreKind], count: u32) -> Resul
 
 #[cycle(flat)]
 #[tactic(auto, using(crate::proofs::FlatLemmas::flats))]
-pub(crate) fn push_flat(out: &mut Vec<CoreKind>, alloc: Global, ty: &TypeNode) -> Result<(), AllocError>
+pub(crate) fn push_flat(
+    out: &mut Vec<CoreKind>,
+    alloc: Global,
+    ty: &TypeNode,
+) -> Result<(), AllocError>
     ensures { OnOk result (out.new.items ≡ out.old.items ++ flat_of (type_of ty.now)) }
 {
     match ty {
@@ -104,7 +108,11 @@ fn flat_box(alloc: Global, payload: &Option<Box<TypeNode>>) -> Result<Vec<CoreKi
 
 #[cycle(flat)]
 #[tactic(auto, using(crate::proofs::FlatLemmas::flats))]
-pub(crate) fn push_fields(out: &mut Vec<CoreKind>, alloc: Global, fields: &[Field]) -> Result<(), AllocError>
+pub(crate) fn push_fields(
+    out: &mut Vec<CoreKind>,
+    alloc: Global,
+    fields: &[Field],
+) -> Result<(), AllocError>
     ensures { OnOk result (out.new.items ≡ out.old.items ++ flat_of_fields (fields_of fields.now)) }
 {
     for field in fields {

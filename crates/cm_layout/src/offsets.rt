@@ -1,6 +1,6 @@
 //! Where fields and payloads stand, in bytes from where the whole does.
 
-ghost use Rattle.std.specs.Prelude.{◌≡◌, ◌≤◌, ◌<◌, length};
+ghost use Rattle.std.specs.Prelude.{◌≡◌, ◌↔◌, ◌≤◌, ◌<◌, IsTrue, length};
 ghost use Rattle.cm_types.specs.Limits.{nodes_of, nodes_of_fields};
 ghost use Rattle.cm_types.specs.TypeTrees.{fields_of, parts_of, type_of};
 ghost use Rattle.cm_layout.specs.Sizes.{HasCases, HasField, case_offset, field_offset, field_place};
@@ -27,7 +27,8 @@ fn part_place(parts: &[TypeNode], n: usize) -> u32
     place(node_align(&parts[n]), parts_end(&parts[..n]))
 }
 
-pub(crate) fn node_field_offset(ty: &TypeNode, n: usize) -> u32
+/// Where field `n`, from 0, of a record or a tuple stands, in bytes from where the whole does.
+pub fn node_field_offset(ty: &TypeNode, n: usize) -> u32
     requires there { HasField (type_of ty.now) n }
     requires within { nodes_of (type_of ty.now) ≤ 10000 }
     ensures { result ≡ field_offset (type_of ty.now) n }
@@ -39,7 +40,9 @@ pub(crate) fn node_field_offset(ty: &TypeNode, n: usize) -> u32
     }
 }
 
-pub(crate) fn node_case_offset(ty: &TypeNode) -> u32
+/// Where the payload of a variant, an enum, an option or a result stands, in bytes from where the whole
+/// does.
+pub fn node_case_offset(ty: &TypeNode) -> u32
     requires { HasCases (type_of ty.now) }
     ensures { result ≡ case_offset (type_of ty.now) }
 {
@@ -49,5 +52,28 @@ pub(crate) fn node_case_offset(ty: &TypeNode) -> u32
         TypeNode::Option(some) => place(node_align(some), 1),
         TypeNode::Result { ok, error } => place(box_align(ok).max(box_align(error)), 1),
         _ => unreachable!(),
+    }
+}
+
+/// Whether a type is a record or a tuple with a field `n`, from 0.
+pub fn node_has_field(ty: &TypeNode, n: usize) -> bool
+    ensures { IsTrue result ↔ HasField (type_of ty.now) n }
+{
+    match ty {
+        TypeNode::Record(fields) => n < fields.len(),
+        TypeNode::Tuple(parts) => n < parts.len(),
+        _ => false,
+    }
+}
+
+/// Whether a type is a variant, an enum, an option or a result.
+pub fn node_has_cases(ty: &TypeNode) -> bool
+    ensures { IsTrue result ↔ HasCases (type_of ty.now) }
+{
+    match ty {
+        TypeNode::Variant(_) | TypeNode::Option(_) => true,
+        TypeNode::Enum(_) => true,
+        TypeNode::Result { .. } => true,
+        _ => false,
     }
 }

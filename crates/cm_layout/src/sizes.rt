@@ -21,9 +21,11 @@ pub(crate) fn place(align: u32, end: u32) -> u32
     (end + (align - 1)) / align * align
 }
 
+/// The size in bytes of a type of at most 10,000 nodes (CanonicalABI.md, "Element Size"): below 320,000,
+/// since each node adds at most 32 bytes.
 #[cycle(size)]
 #[tactic(auto, using(crate::proofs::SizeLemmas::sizes))]
-pub(crate) fn node_size(ty: &TypeNode) -> u32
+pub fn node_size(ty: &TypeNode) -> u32
     requires within { nodes_of (type_of ty.now) ≤ 10000 }
     ensures value { result ≡ size_of (type_of ty.now) }
     ensures small { result + 7 ≤ 32 * nodes_of (type_of ty.now) }
@@ -31,7 +33,8 @@ pub(crate) fn node_size(ty: &TypeNode) -> u32
     match ty {
         TypeNode::Bool | TypeNode::S8 | TypeNode::U8 => 1,
         TypeNode::S16 | TypeNode::U16 => 2,
-        TypeNode::S32 | TypeNode::U32 | TypeNode::Char | TypeNode::Own(_) | TypeNode::Borrow(_) => 4,
+        TypeNode::S32 | TypeNode::U32 | TypeNode::Char | TypeNode::Own(_) | TypeNode::Borrow(_) =>
+            4,
         TypeNode::S64 | TypeNode::U64 | TypeNode::String | TypeNode::List(_) => 8,
         TypeNode::FixedList { element, length } => *length * node_size(element),
         TypeNode::Record(fields) => place(fields_align(fields), fields_end(fields)),
@@ -61,7 +64,10 @@ fn variant_size(discriminant: u32, align: u32, payload: u32) -> u32
     requires fits { payload ≤ 320000 }
     ensures { result ≡ place (max discriminant align) (place align discriminant + payload) }
 {
-    place(discriminant.max(align), place(align, discriminant) + payload)
+    place(
+        discriminant.max(align),
+        place(align, discriminant) + payload,
+    )
 }
 
 #[cycle(size)]

@@ -1,8 +1,7 @@
-use Rattle.std.proofs.Common.{◌≡◌, ◌∙◌, ap, arith, codes}
+use Rattle.std.proofs.Common.{◌∙◌, ap, arith, codes}
 use Rattle.cm_types.specs.Types.{variant_type, enum_type, option_type, result_type}
 use Rattle.cm_types.specs.TypeTrees.{type_of, boxed_payload}
 use Rattle.cm_types.proofs.Seen.{seen_Variant, seen_Enum, seen_Option, seen_Result}
-use Rattle.cm_layout.specs.Sizes.{align_of}
 use Rattle.cm_layout.proofs.AlignLemmas.{variant_align, enum_align, option_align, result_align}
 use Rattle.cm_layout.proofs.alignments.+align.Goals as goal
 
@@ -11,7 +10,7 @@ node_align-returns-in-Variant-clause-value t c =
     let v = c.in-Variant.cases in
     rw (ap type_of c.in-Variant.is ∙ seen_Variant c.in-Variant.cases)
     (variant_align variant_type c.max.result c.discriminant_size.result c.len.result c.payloads_align.result c.deref-in-Variant.result.now v.items
-        c.max.ensures c.discriminant_size.ensures.value (omega (arith, c.len.ensures, v.ok.0)) c.payloads_align.ensures.value c.deref-in-Variant.ensures.value)
+    c.max.ensures c.discriminant_size.ensures.value (omega (arith, c.len.ensures, v.ok.0)) c.payloads_align.ensures.value c.deref-in-Variant.ensures.value)
 
 pub node_align-returns-in-Enum-clause-value : goal.node_align-returns-in-Enum-clause-value
 node_align-returns-in-Enum-clause-value t c =
@@ -29,4 +28,4 @@ pub node_align-returns-in-Result-clause-value : goal.node_align-returns-in-Resul
 node_align-returns-in-Result-clause-value t c =
     rw (ap type_of c.in-Result.is ∙ seen_Result c.in-Result.ok c.in-Result.error)
     (result_align result_type c.max-in-Result.result c.box_align.result c.box_align-in-Result.result (codes "ok") (codes "error") (boxed_payload c.in-Result.ok) (boxed_payload c.in-Result.error)
-        c.max-in-Result.ensures c.box_align.ensures.value c.box_align-in-Result.ensures.value)
+    c.max-in-Result.ensures c.box_align.ensures.value c.box_align-in-Result.ensures.value)

@@ -1,6 +1,6 @@
-use Rattle.std.proofs.Common.{◌≡◌, ◌∙◌, sym, ap, codes, refl, arith, length, ◌<◌}
+use Rattle.std.proofs.Common.{◌∙◌, sym, ap, codes, arith, length, ◌<◌}
 use Rattle.cm_types.specs.declared.type_trees.Case.{Case}
-use Rattle.cm_types.specs.declared.core_value.CoreKind.TheVariants.{I32, I64}
+use Rattle.cm_types.specs.declared.core_value.CoreKind.TheVariants.{I32}
 use Rattle.cm_types.specs.Types.{enum_type, option_type, result_type}
 use Rattle.cm_types.specs.TypeTrees.{type_of, boxed_payload, cases_of}
 use Rattle.cm_types.proofs.Seen.{seen_Enum, seen_Option, seen_Result, seen_case}
@@ -18,7 +18,7 @@ push_flat-returns-in_ok-push_flat-in-Option t c =
     let b = c.in-Option.some in
     rw (ap type_of c.in-Option.is ∙ seen_Option c.in-Option.some, option_flat option_type (codes "none") (codes "some") (type_of b.value))
     (pushed_both I32 c.args.out.now.items c.push-in-Option.new.self.items c.push_flat-in-Option.new.out.items (flat_of (type_of c.deref-in-Option.result.now)) (flat_of (type_of b.value))
-        c.in_ok-push-in-Option.ensures.items c.in_ok-push_flat-in-Option.ensures (ap (λ x. flat_of (type_of x)) c.deref-in-Option.ensures))
+    c.in_ok-push-in-Option.ensures.items c.in_ok-push_flat-in-Option.ensures (ap (λ x. flat_of (type_of x)) c.deref-in-Option.ensures))
 
 pub push_flat-returns-in_ok-extend_from_slice-in-Result : goal.push_flat-returns-in_ok-extend_from_slice-in-Result
 push_flat-returns-in_ok-extend_from_slice-in-Result t c =
@@ -29,9 +29,9 @@ push_flat-returns-in_ok-extend_from_slice-in-Result t c =
     let errors = c.in_ok-error_kinds-in-Result.error_kinds in
     rw (ap type_of c.in-Result.is ∙ seen_Result c.in-Result.ok c.in-Result.error, result_flat result_type (codes "ok") (codes "error") (boxed_payload c.in-Result.ok) (boxed_payload c.in-Result.error))
     (pushed_both I32 c.args.out.now.items c.push-in-Result.new.self.items c.extend_from_slice-in-Result.new.self.items c.deref-in-Result-3.result.now (joined (flat_of_payload o) (flat_of_payload p))
-        c.in_ok-push-in-Result.ensures.items c.in_ok-extend_from_slice-in-Result.ensures.items
-        (both_joined c.deref-in-Result-3.result.now kinds.items c.deref-in-Result.result.now c.deref-in-Result-2.result.now oks.items errors.items (flat_of_payload o) (flat_of_payload p)
-            c.deref-in-Result-3.ensures.value c.in_ok-kinds-in-Result.ensures c.deref-in-Result.ensures.value c.deref-in-Result-2.ensures.value c.in_ok-ok_kinds-in-Result.ensures c.in_ok-error_kinds-in-Result.ensures))
+    c.in_ok-push-in-Result.ensures.items c.in_ok-extend_from_slice-in-Result.ensures.items
+    (both_joined c.deref-in-Result-3.result.now kinds.items c.deref-in-Result.result.now c.deref-in-Result-2.result.now oks.items errors.items (flat_of_payload o) (flat_of_payload p)
+    c.deref-in-Result-3.ensures.value c.in_ok-kinds-in-Result.ensures c.deref-in-Result.ensures.value c.deref-in-Result-2.ensures.value c.in_ok-ok_kinds-in-Result.ensures c.in_ok-error_kinds-in-Result.ensures))
 
 pub flat_payloads-returns : goal.flat_payloads-returns
 flat_payloads-returns t c =
@@ -43,4 +43,4 @@ flat_payloads-loop-case-preserved t c =
     let x : Case = c.case-item.result in
     let s = c.loop-case.slots in
     joined_more c.loop-case.case-index c.args.cases.now x c.loop-case.slots.items c.in_ok-slots.slots.items (flat_of_cases (cases_of c.args.cases.now))
-        lt c.case-item.is (c.in_ok-slots.ensures ∙ ap (λ o. joined s.items (flat_of_payload o)) (sym (seen_case x))) c.loop-case.invariant
+    lt c.case-item.is (c.in_ok-slots.ensures ∙ ap (λ o. joined s.items (flat_of_payload o)) (sym (seen_case x))) c.loop-case.invariant

@@ -9,4 +9,4 @@ returns c =
     let xs : List CoreKind = c.args.a.now in
     let ys : List CoreKind = c.args.b.now in
     joined_end c.loop-i.i c.min-both.result c.loop-i.slots.items c.extend_from_slice.new.self.items c.extend_from_slice-2.new.self.items xs ys
-        ends c.min-both.ensures c.loop-i.invariant c.in_ok-extend_from_slice.ensures.items c.in_ok-extend_from_slice-2.ensures.items
+    ends c.min-both.ensures c.loop-i.invariant c.in_ok-extend_from_slice.ensures.items c.in_ok-extend_from_slice-2.ensures.items

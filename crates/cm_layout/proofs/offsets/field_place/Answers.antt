@@ -1,4 +1,4 @@
-use Rattle.std.proofs.Common.{◌≡◌, ◌∙◌, sym, ap, get_or}
+use Rattle.std.proofs.Common.{◌∙◌, sym, ap, get_or}
 use Rattle.cm_types.specs.TypeTrees.{field_of}
 use Rattle.cm_types.proofs.Seen.{seen_field}
 use Rattle.cm_types.specs.declared.type_trees.Field.{Field}

@@ -1,4 +1,4 @@
-use Rattle.std.proofs.Common.{◌≡◌, ◌∙◌, sym, ap, arith}
+use Rattle.std.proofs.Common.{◌∙◌, ap, arith}
 use Rattle.cm_types.specs.TypeTrees.{type_of}
 use Rattle.cm_types.proofs.Seen.{seen_Record, seen_Tuple}
 use Rattle.cm_layout.proofs.PlaceLaws.{count_fields, count_parts}

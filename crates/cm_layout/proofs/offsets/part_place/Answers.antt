@@ -1,4 +1,4 @@
-use Rattle.std.proofs.Common.{◌≡◌, ◌∙◌, sym}
+use Rattle.std.proofs.Common.{◌∙◌, sym}
 use Rattle.cm_layout.proofs.PlaceLaws.{part_place_is}
 use Rattle.cm_layout.proofs.offsets.part_place.Goals as goal
 
