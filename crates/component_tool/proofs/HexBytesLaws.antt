@@ -86,9 +86,9 @@ ArePairs-decode_pairs i (c ∷ d ∷ text) (b ∷ bytes) h =
 -- a text that decodes has pairs of digits
 pub ArePairs-decode_of : (text bytes : List ℕ) → decode_of text ≡ Ok bytes → ArePairs text bytes
 ArePairs-decode_of text bytes h = elim (length text % 2 == 1) as (λ odd. (if odd then Err OddLength else decode_pairs 0 text) ≡ Ok bytes → ArePairs text bytes) [
-    | true ↦ λ e. absurd (cc)
-    | false ↦ λ e. ArePairs-decode_pairs 0 text bytes e
-  ] h
+  | true ↦ λ e. absurd (cc)
+  | false ↦ λ e. ArePairs-decode_pairs 0 text bytes e
+] h
 
 -- the bytes of a text that is not empty are some
 pub some-bytes : (text bytes : List ℕ) → text ≢ [] → ArePairs text bytes → bytes ≢ []

@@ -8,25 +8,17 @@ mod files;
 mod guest;
 mod hex_bytes;
 mod numbers;
+mod play;
 mod script;
+mod start;
 mod statement;
 #[cfg(test)]
 mod tests;
 mod words;
 
-use commands::tool;
-use files::Disk;
+use start::start;
 use std::process::ExitCode;
-use std::{env, io};
 
-fn main(rt: HostRuntime) -> io::Result<ExitCode> {
-    let words: Vec<String> = env::args(&rt)?.skip(1).collect(rt.alloc())?;
-    let status = tool(
-        rt.alloc(),
-        words.as_slice(),
-        &mut Disk::new(&rt),
-        &mut rt.stdout(),
-        &mut rt.stderr(),
-    );
-    Ok(ExitCode::from(status))
+fn main(rt: HostRuntime) -> ExitCode {
+    ExitCode::from(start(&rt, rt.stdout(), &mut rt.stderr()))
 }

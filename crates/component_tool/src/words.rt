@@ -9,11 +9,18 @@ use std::alloc::{AllocError, Global};
 #[derive(Debug, Drop)]
 pub enum Request<'a> {
     /// `check FILE`
-    Check { file: &'a str },
+    Check {
+        file: &'a str,
+    },
     /// `link FILE..`
-    Link { files: Vec<&'a str> },
+    Link {
+        files: Vec<&'a str>,
+    },
     /// `play --script S FILE..`
-    Play { script: &'a str, files: Vec<&'a str> },
+    Play {
+        script: &'a str,
+        files: Vec<&'a str>,
+    },
 }
 
 impl<'a> Request<'a> {
@@ -48,9 +55,7 @@ fn try_match<'a>(alloc: Global, words: &'a [String]) -> Result<ArgMatches<'a>, E
     let check = Command::new(alloc, "check").arg(Arg::new(alloc, "file").required(true))?;
     let link = Command::new(alloc, "link").arg(files(alloc))?;
     let script = Arg::new(alloc, "script").long("script").required(true);
-    let play = Command::new(alloc, "play")
-        .arg(script)?
-        .arg(files(alloc))?;
+    let play = Command::new(alloc, "play").arg(script)?.arg(files(alloc))?;
     Command::new(alloc, "component_tool")
         .no_binary_name(true)
         .subcommand_required(true)

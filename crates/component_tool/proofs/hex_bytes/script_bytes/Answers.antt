@@ -11,11 +11,11 @@ returns-in-Ok-clause-spelled c =
 
 pub returns-in-Err : goal.returns-in-Err
 returns-in-Err c = record {
-    spelled = tt;
-    complete = λ bytes. elim [
-      | inl none ↦ absurd (let text = none.0 in search (rules, text))
-      | inr some ↦
-          let decoded = decode_of-pairs c.args.text.now bytes some.1 in
-          c.fault_of.ensures.1 (elim c.in-Err.ensures.err [ | inl memory ↦ memory | inr bad ↦ absurd (cc (decoded, bad)) ])
-    ];
-  }
+  spelled = tt;
+  complete = λ bytes. elim [
+    | inl none ↦ absurd (let text = none.0 in search (rules, text))
+    | inr some ↦
+        let decoded = decode_of-pairs c.args.text.now bytes some.1 in
+        c.fault_of.ensures.1 (elim c.in-Err.ensures.err [ inl memory ↦ memory | inr bad ↦ absurd (cc (decoded, bad)) ])
+  ];
+}
