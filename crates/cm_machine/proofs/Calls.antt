@@ -22,7 +22,7 @@ use Rattle.cm_machine.specs.State.{State, StandsOn, IsValid, core_at, is_closed}
 use Rattle.cm_machine.specs.Step.{first, checks, call_checks, are_i32s, may_leave, may_grow, result_count, returned, returned_in, Grows, Calls, Returns, Passes, Step}
 use Rattle.cm_types.specs.Values.{Val}
 use Rattle.cm_machine.specs.Values.{View, view_of, Denotes, Receives}
-use Rattle.cm_machine.specs.History.{Action, begins, moves, Entry, Happens, IsHistory, acts, Sending, sending_of, function_of, or_before, sent, Open, root, called, without_last, open_after, open_calls, Answering, answering_of, or_answered, answered}
+use Rattle.cm_machine.specs.History.{Action, begins, moves, Entry, Happens, IsHistory, acts, Sending, sending_of, function_of, or_before, waiting, sent, Open, root, called, without_last, open_after, open_calls, Answering, answering_of, or_answered, answered}
 use Rattle.cm_machine.specs.Headline.{IsEntryOf, EntersRightly, IsResumptionOf, ResumesRightly}
 use Rattle.cm_machine.proofs.Valid.{four_pass, IsFineTop, top_is_fine}
 use Rattle.cm_machine.proofs.Cases.{Goes, traps, passes, wants, StepsBy, steps_by, body_returns}
@@ -41,7 +41,7 @@ entry_of s caller l args new shape =
     record { callee = refl; lifted = refl; value = (v.0, v.1, received (view_of s caller) (view_of new l.instance) l.params args v.0 v.1) }
 
 call_enters : (h : List Entry) (s : State) (carried : Carried h s) (top : Frame) (func : ℕ) (args : List CoreValue) (e : Event) (new : State) (f : Option CoreFunction) → top_of s.stack ≡ Some top → core_at s.plan (actor top) func ≡ f → first (call_checks s top f args) ≡ None → Calls s top f args e new
-    → (i g : ℕ) (given : List CoreValue) → e ≡ event.Enter i g given → (call : Sending) × (or_before (sending_of s (acts h) args (function_of s (acts h) func)) (sent h) ≡ Some call) × IsEntryOf call i g given new
+    → (i g : ℕ) (given : List CoreValue) → e ≡ event.Enter i g given → (call : Sending) × (or_before (sending_of s (acts h) args (function_of s (acts h) func)) (waiting h) ≡ Some call) × IsEntryOf call i g given new
 call_enters h s carried top func args e new None is there fine c i g given ev = absurd c
 call_enters h s carried top func args e new (Some core_function.Guest) is there fine c i g given ev = absurd c
 call_enters h s carried top func args e new (Some (core_function.Lowered l)) is there fine c i g given ev =
@@ -52,7 +52,7 @@ call_enters h s carried top func args e new (Some (core_function.Lowered l)) is 
     let same_i : l.instance ≡ i = cc in
     let same_g : l.func ≡ g = cc in
     let same_args : args ≡ given = cc in
-    (x, ap (λ (y : Option Sending). or_before y (sent h)) last, subst (λ (j : ℕ). IsEntryOf x j g given new) same_i (subst (λ (j : ℕ). IsEntryOf x l.instance j given new) same_g (subst (λ (j : List CoreValue). IsEntryOf x l.instance l.func j new) same_args (entry_of s (actor top) l args new held.0))))
+    (x, ap (λ (y : Option Sending). or_before y (waiting h)) last, subst (λ (j : ℕ). IsEntryOf x j g given new) same_i (subst (λ (j : ℕ). IsEntryOf x l.instance j given new) same_g (subst (λ (j : List CoreValue). IsEntryOf x l.instance l.func j new) same_args (entry_of s (actor top) l args new held.0))))
 
 grow_enters_not : (s : State) (top : Frame) (pages : ℕ) (b : Bool) (e : Event) (new : State) (i f : ℕ) (args : List CoreValue) → Grows s top pages b e new → e ≡ event.Enter i f args → ⊥
 grow_enters_not s top pages true e new i f args g ev = let x = g.0 in cc

@@ -23,7 +23,7 @@ use Rattle.cm_machine.specs.Stack.{actor, top_of, below_top}
 use Rattle.cm_machine.specs.State.{State, StandsOn, IsStack, IsValid, core_at, trapped}
 use Rattle.cm_machine.specs.Step.{first, checks, call_checks, may_grow, memory_of, with_memory, without_top, call_frame, Grows, Calls, Returns, Passes, Step}
 use Rattle.cm_machine.specs.Run.{begun, misuse_by_closed, misuse_by_stack, misuse_of_begin}
-use Rattle.cm_machine.specs.History.{Action, begins, moves, Entry, Happens, IsHistory, acts_after, acts, Sending, sending_of, function_of, sent_by, or_before, sent, Open, root, called, opened, without_last, open_after, open_calls}
+use Rattle.cm_machine.specs.History.{Action, begins, moves, Entry, Happens, IsHistory, acts_after, acts, Sending, sending_of, function_of, sent_by, or_before, waiting, sent, Open, root, called, opened, without_last, open_after, open_calls}
 use Rattle.cm_machine.proofs.Valid.{IsFineTop, fine_top, top_is_fine}
 use Rattle.cm_machine.proofs.Cases.{Goes, traps, passes, wants, StepsBy, steps_by, returns_new, body_returns}
 use Rattle.cm_machine.proofs.Kept.{step_valid, valid_trapped, valid_without_top}
@@ -122,7 +122,7 @@ calls_told h s carried m e new top func args (Some core_function.Guest) is there
 calls_told h s carried m e new top func args (Some (core_function.Lowered l)) is there by c =
     let x : Sending = record { caller = actor top; lowered = l; args = args; state = s } in
     let last : sent_by s (acts h) (moves m) ≡ Some x = by ∙ sends s (actor top) func l args (acts h) (acting_is h s top carried is) there in
-    entered_told h s carried m e new l.instance l.func args x (call_frame (actor top) l) c.0 (ap (λ (y : Option Sending). or_before y (sent h)) last) (ap (λ (y : State). y.stack) c.1) refl (refl, refl)
+    entered_told h s carried m e new l.instance l.func args x (call_frame (actor top) l) c.0 (ap (λ (y : Option Sending). or_before y (waiting h)) last) (ap (λ (y : State). y.stack) c.1) refl (refl, refl)
 
 -- what stands below a frame on top, by why that frame stands
 pub stands_below : (count : ℕ) (stack : List Frame) (top : Frame) → IsStack count stack → top_of stack ≡ Some top → StandsOn top.purpose top.instance (below_top stack) × IsStack count (below_top stack)

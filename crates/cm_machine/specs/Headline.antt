@@ -29,7 +29,8 @@ pub record IsEntryOf (x : Sending) (instance func : ℕ) (args : List CoreValue)
   pub lifted : x.lowered.func ≡ func
   pub value : (v : List Val) × Denotes (view_of x.state x.caller) x.lowered.params x.args v × Receives (view_of new instance) x.lowered.params args v
 
--- Where a function is entered, it is the one that the last call reaches, with that call's value.
+-- Where a function is entered, it is the one that the last call reaches, which was not entered before, with
+-- that call's value.
 abbrev pub EntersRightly : List Entry → Type 0
 EntersRightly [] = Unit {0}
 EntersRightly (x ∷ h) = (instance func : ℕ) (args : List CoreValue) → x.event ≡ event.Enter instance func args

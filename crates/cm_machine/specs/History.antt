@@ -98,10 +98,27 @@ abbrev pub or_before : Option Sending → Option Sending → Option Sending
 or_before (Some x) earlier = Some x
 or_before None earlier = earlier
 
--- the last call of a lowered function
+-- whether a call that waits to be entered still waits after an event
+abbrev pub waits_after : Event → Option Sending → Option Sending
+waits_after event.Done call = call
+waits_after (event.Grown pages) call = call
+waits_after (event.Enter instance func args) call = None
+waits_after (event.Realloc instance func args) call = call
+waits_after (event.Resume instance values) call = call
+waits_after (event.PostReturn instance func args) call = call
+waits_after (event.Dtor instance func rep) call = call
+waits_after (event.Trapped t) call = None
+waits_after event.Ended call = None
+
+-- the call of a lowered function that was sent and has not been entered
+abbrev pub waiting : List Entry → Option Sending
+waiting [] = None
+waiting (x ∷ h) = waits_after x.event (or_before (sent_by x.before (acts h) x.action) (waiting h))
+
+-- the call that may be entered by the latest event: the one that was sent last, and was not entered before
 abbrev pub sent : List Entry → Option Sending
 sent [] = None
-sent (x ∷ h) = or_before (sent_by x.before (acts h) x.action) (sent h)
+sent (x ∷ h) = or_before (sent_by x.before (acts h) x.action) (waiting h)
 
 -- a call that has been entered and has not returned, or a root
 pub data Open : Type 0 where
@@ -116,7 +133,7 @@ abbrev pub without_last : List Open → List Open
 without_last [] = []
 without_last (o ∷ os) = os
 
--- the open calls after an event, where this call was the last that was made
+-- the open calls after an event, where this call was sent last and not entered before
 abbrev pub open_after : Action → Event → Option Sending → List Open → List Open
 open_after (begins i) e last open_calls = root i ∷ []
 open_after (moves m) event.Done last open_calls = open_calls
