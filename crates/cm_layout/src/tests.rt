@@ -2,7 +2,8 @@
 //! "Flattening".
 
 use crate::{
-    FlatFunc, Side, align, case_offset, field_offset, flatten, flatten_func, has_cases, has_field, size,
+    FlatFunc, Side, align, case_offset, field_offset, flatten, flatten_func, has_cases, has_field,
+    size,
 };
 use cm_types::CoreKind::{I32, I64};
 use cm_types::{Case, CoreKind, Field, Func, Label, ResourceId, TypeNode, TypeTree};
@@ -100,7 +101,14 @@ fn simple_rows(alloc: Global, rows: &mut Vec<Worked>) -> Result<(), Fail> {
     rows.push(row(alloc, "u64", TypeNode::U64, 8, 8, &[I64])?)?;
     rows.push(row(alloc, "char", TypeNode::Char, 4, 4, &[I32])?)?;
     rows.push(row(alloc, "string", TypeNode::String, 8, 4, &[I32, I32])?)?;
-    rows.push(row(alloc, "list<u64>", list(alloc, TypeNode::U64)?, 8, 4, &[I32, I32])?)?;
+    rows.push(row(
+        alloc,
+        "list<u64>",
+        list(alloc, TypeNode::U64)?,
+        8,
+        4,
+        &[I32, I32],
+    )?)?;
     rows.push(row(alloc, "own", TypeNode::Own(id), 4, 4, &[I32])?)?;
     rows.push(row(alloc, "borrow", TypeNode::Borrow(id), 4, 4, &[I32])?)?;
     for (count, size) in [(8, 1), (9, 2), (16, 2), (17, 4), (32, 4)] {
@@ -117,18 +125,52 @@ fn simple_rows(alloc: Global, rows: &mut Vec<Worked>) -> Result<(), Fail> {
 /// Records, tuples and lists of fixed length.
 fn field_rows(alloc: Global, rows: &mut Vec<Worked>) -> Result<(), Fail> {
     // Fields at 0, 4 and 8, ending at 10.
-    let root = record(alloc, vec![in alloc; TypeNode::U8, TypeNode::U32, TypeNode::U16]?)?;
-    rows.push(row(alloc, "record {u8, u32, u16}", root, 12, 4, &[I32, I32, I32])?)?;
+    let root = record(
+        alloc,
+        vec![in alloc; TypeNode::U8, TypeNode::U32, TypeNode::U16]?,
+    )?;
+    rows.push(row(
+        alloc,
+        "record {u8, u32, u16}",
+        root,
+        12,
+        4,
+        &[I32, I32, I32],
+    )?)?;
     // Fields at 0, 8 and 16, ending at 17.
     let root = TypeNode::Tuple(vec![in alloc; TypeNode::U8, TypeNode::S64, TypeNode::U8]?);
     rows.push(row(alloc, "tuple<u8, s64, u8>", root, 24, 8, &[I32, I64, I32])?)?;
-    rows.push(row(alloc, "list<u8, 3>", fixed(alloc, TypeNode::U8, 3)?, 3, 1, &[I32, I32, I32])?)?;
+    rows.push(row(
+        alloc,
+        "list<u8, 3>",
+        fixed(alloc, TypeNode::U8, 3)?,
+        3,
+        1,
+        &[I32, I32, I32],
+    )?)?;
     // The list at 2, ending at 8.
-    let root = record(alloc, vec![in alloc; TypeNode::U8, fixed(alloc, TypeNode::U16, 3)?]?)?;
-    rows.push(row(alloc, "record {u8, list<u16, 3>}", root, 8, 2, &[I32, I32, I32, I32])?)?;
+    let root = record(
+        alloc,
+        vec![in alloc; TypeNode::U8, fixed(alloc, TypeNode::U16, 3)?]?,
+    )?;
+    rows.push(row(
+        alloc,
+        "record {u8, list<u16, 3>}",
+        root,
+        8,
+        2,
+        &[I32, I32, I32, I32],
+    )?)?;
     // Each pair takes 8 bytes.
     let pair = TypeNode::Tuple(vec![in alloc; TypeNode::U8, TypeNode::U32]?);
-    rows.push(row(alloc, "list<tuple<u8, u32>, 2>", fixed(alloc, pair, 2)?, 16, 4, &[I32, I32, I32, I32])?)?;
+    rows.push(row(
+        alloc,
+        "list<tuple<u8, u32>, 2>",
+        fixed(alloc, pair, 2)?,
+        16,
+        4,
+        &[I32, I32, I32, I32],
+    )?)?;
     Ok(())
 }
 
@@ -144,30 +186,78 @@ fn case_rows(alloc: Global, rows: &mut Vec<Worked>) -> Result<(), Fail> {
         error: None,
     };
     rows.push(row(alloc, "result", root, 1, 1, &[I32])?)?;
-    let root = variant(alloc, vec![in alloc; None, Some(TypeNode::U8), Some(TypeNode::S64)]?)?;
-    rows.push(row(alloc, "variant {a, b(u8), c(s64)}", root, 16, 8, &[I32, I64])?)?;
-    rows.push(row(alloc, "option<u8>", option(alloc, TypeNode::U8)?, 2, 1, &[I32, I32])?)?;
-    rows.push(row(alloc, "option<u32>", option(alloc, TypeNode::U32)?, 8, 4, &[I32, I32])?)?;
+    let root = variant(
+        alloc,
+        vec![in alloc; None, Some(TypeNode::U8), Some(TypeNode::S64)]?,
+    )?;
+    rows.push(row(
+        alloc,
+        "variant {a, b(u8), c(s64)}",
+        root,
+        16,
+        8,
+        &[I32, I64],
+    )?)?;
+    rows.push(row(
+        alloc,
+        "option<u8>",
+        option(alloc, TypeNode::U8)?,
+        2,
+        1,
+        &[I32, I32],
+    )?)?;
+    rows.push(row(
+        alloc,
+        "option<u32>",
+        option(alloc, TypeNode::U32)?,
+        8,
+        4,
+        &[I32, I32],
+    )?)?;
     // The inner option takes 16 bytes from 8 on.
     let root = option(alloc, option(alloc, TypeNode::U64)?)?;
     rows.push(row(alloc, "option<option<u64>>", root, 24, 8, &[I32, I32, I64])?)?;
     // `i32 i64`, `i64 i32` and `i32 i32` join to `i64 i64`; the tuples take 16 bytes from 8 on.
     let first = TypeNode::Tuple(vec![in alloc; TypeNode::U32, TypeNode::U64]?);
     let second = TypeNode::Tuple(vec![in alloc; TypeNode::U64, TypeNode::U32]?);
-    let root = variant(alloc, vec![in alloc; Some(first), Some(second), Some(TypeNode::String)]?)?;
-    rows.push(row(alloc, "variant of tuples and a string", root, 24, 8, &[I32, I64, I64])?)?;
+    let root = variant(
+        alloc,
+        vec![in alloc; Some(first), Some(second), Some(TypeNode::String)]?,
+    )?;
+    rows.push(row(
+        alloc,
+        "variant of tuples and a string",
+        root,
+        24,
+        8,
+        &[I32, I64, I64],
+    )?)?;
     // A record of 4 bytes and a list of 16, from 8 on.
     let small = record(alloc, vec![in alloc; TypeNode::U8, TypeNode::U16]?)?;
     let large = fixed(alloc, TypeNode::U64, 2)?;
     let root = variant(alloc, vec![in alloc; Some(small), Some(large)]?)?;
-    rows.push(row(alloc, "variant {record, list<u64, 2>}", root, 24, 8, &[I32, I64, I64])?)?;
+    rows.push(row(
+        alloc,
+        "variant {record, list<u64, 2>}",
+        root,
+        24,
+        8,
+        &[I32, I64, I64],
+    )?)?;
     // 257 cases take a discriminant of 2 bytes, and the payload stands at 4.
     let mut payloads = Vec::new(alloc);
     for _ in 0..256 {
         payloads.push(None)?;
     }
     payloads.push(Some(TypeNode::Char))?;
-    rows.push(row(alloc, "variant of 257 cases", variant(alloc, payloads)?, 8, 4, &[I32, I32])?)?;
+    rows.push(row(
+        alloc,
+        "variant of 257 cases",
+        variant(alloc, payloads)?,
+        8,
+        4,
+        &[I32, I32],
+    )?)?;
     Ok(())
 }
 
@@ -197,7 +287,10 @@ fn layouts(rt: HostRuntime) -> Result<(), Fail> {
 #[test]
 fn places(rt: HostRuntime) -> Result<(), Fail> {
     let alloc = rt.alloc();
-    let root = record(alloc, vec![in alloc; TypeNode::U8, TypeNode::U32, TypeNode::U16]?)?;
+    let root = record(
+        alloc,
+        vec![in alloc; TypeNode::U8, TypeNode::U32, TypeNode::U16]?,
+    )?;
     let tree = TypeTree::new(root)?;
     for (n, want) in [(0, 0), (1, 4), (2, 8)] {
         assert!(rt; has_field(&tree, n));

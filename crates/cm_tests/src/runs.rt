@@ -31,7 +31,12 @@ fn a_call_goes_there_and_back(rt: HostRuntime) -> Result<(), Fail> {
     };
     assert_eq!(rt; set.begin(1)?, resumed);
     assert_eq!(rt; set.acting(), Some(1));
-    let moves = vec![in alloc; call(alloc, 0, &[CoreValue::I32(41)])?, answer(alloc, &[CoreValue::I32(42)])?, answer(alloc, &[])?, Move::Unreachable]?;
+    let moves = vec![in alloc;
+        call(alloc, 0, &[CoreValue::I32(41)])?,
+        answer(alloc, &[CoreValue::I32(42)])?,
+        answer(alloc, &[])?,
+        Move::Unreachable,
+    ]?;
     let events = set.run(alloc, &moves)?;
     let expected = [
         Event::Enter {
@@ -112,7 +117,10 @@ fn a_closed_callee_traps_its_caller(rt: HostRuntime) -> Result<(), Fail> {
     let alloc = rt.alloc();
     let mut set = pair(alloc, &[0, 0]).ok_or("the pair links")?;
     let _ = set.begin(0)?;
-    assert_eq!(rt; set.step(&Move::Unreachable)?, Event::Trapped(Trap::Unreachable));
+    assert_eq!(rt;
+        set.step(&Move::Unreachable)?,
+        Event::Trapped(Trap::Unreachable)
+    );
     assert_eq!(rt; set.is_closed(0), Some(true));
     assert_eq!(rt; set.is_closed(1), Some(false));
     assert_eq!(rt; set.begin(0), Err(Misuse::Closed));
@@ -138,7 +146,10 @@ fn memories_end_where_they_end(rt: HostRuntime) -> Result<(), Fail> {
     assert_eq!(rt; memory.get(65_535).copied(), Some(7));
     assert_eq!(rt; memory.get(65_536).copied(), Some(0));
     assert_eq!(rt; set.step(&write(alloc, 131_072, &[])?)?, Event::Done);
-    assert_eq!(rt; set.step(&write(alloc, 131_073, &[])?)?, Event::Trapped(Trap::GuestBounds));
+    assert_eq!(rt;
+        set.step(&write(alloc, 131_073, &[])?)?,
+        Event::Trapped(Trap::GuestBounds)
+    );
     Ok(())
 }
 
@@ -149,7 +160,10 @@ fn a_full_memory_does_not_grow(rt: HostRuntime) -> Result<(), Fail> {
     let mut set = Set::new(alloc, provider, &[1_024])?;
     let _ = set.begin(0)?;
     assert_eq!(rt; set.step(&Move::Grow { pages: 1 })?, Event::Grown(None));
-    assert_eq!(rt; set.step(&Move::Grow { pages: 0 })?, Event::Grown(Some(1_024)));
+    assert_eq!(rt;
+        set.step(&Move::Grow { pages: 0 })?,
+        Event::Grown(Some(1_024))
+    );
     Ok(())
 }
 
@@ -158,15 +172,24 @@ fn misuses_change_nothing(rt: HostRuntime) -> Result<(), Fail> {
     let alloc = rt.alloc();
     let mut set = pair(alloc, &[0, 1]).ok_or("the pair links")?;
     assert_eq!(rt; set.step(&Move::Unreachable), Err(Misuse::Idle));
-    assert_eq!(rt; set.run(alloc, &[Move::Unreachable]).err(), Some(Misuse::Idle));
+    assert_eq!(rt;
+        set.run(alloc, &[Move::Unreachable]).err(),
+        Some(Misuse::Idle)
+    );
     assert_eq!(rt; set.begin(2), Err(Misuse::NoInstance));
     let _ = set.begin(1)?;
     assert_eq!(rt; set.begin(1), Err(Misuse::Busy));
     assert_eq!(rt; set.acting(), Some(1));
-    assert_eq!(rt; set.step(&call(alloc, 1, &[])?)?, Event::Trapped(Trap::UnknownFunction));
+    assert_eq!(rt;
+        set.step(&call(alloc, 1, &[])?)?,
+        Event::Trapped(Trap::UnknownFunction)
+    );
     for pages in [[0].as_slice(), [0, 0, 0].as_slice(), [0, 1_025].as_slice()] {
         let linked = linked(alloc, &[&PROVIDER, &crate::pair::USER]).ok_or("the pair links")?;
-        assert_eq!(rt; Set::new(alloc, linked, pages).err(), Some(Misuse::BadPages));
+        assert_eq!(rt;
+            Set::new(alloc, linked, pages).err(),
+            Some(Misuse::BadPages)
+        );
     }
     Ok(())
 }

@@ -1,8 +1,8 @@
 //! Names against their grammar, and types against their limits and each other, by cases worked by hand.
 
 use crate::{
-    Case, CoreKind, CoreValue, ExternName, ExternNameForm, Field, Func, Label, NameFault, ResourceId,
-    TooLarge, TypeNode, TypeTree, is_scalar, same_func, same_name, same_type,
+    Case, CoreKind, CoreValue, ExternName, ExternNameForm, Field, Func, Label, NameFault,
+    ResourceId, TooLarge, TypeNode, TypeTree, is_scalar, same_func, same_name, same_type,
 };
 use std::alloc::Global;
 use std::test::Fail;
@@ -222,7 +222,10 @@ fn different(alloc: Global) -> Result<Vec<TypeNode>, Fail> {
     types.push(TypeNode::Enum(one_label(alloc, "a")?))?;
     types.push(TypeNode::Flags(one_label(alloc, "a")?))?;
     types.push(TypeNode::Option(Box::new(alloc, TypeNode::U8)?))?;
-    types.push(TypeNode::Result { ok: Some(some), error: none })?;
+    types.push(TypeNode::Result {
+        ok: Some(some),
+        error: none,
+    })?;
     Ok(types)
 }
 
@@ -236,8 +239,14 @@ fn equal_types(rt: HostRuntime) -> Result<(), Fail> {
             assert_eq!(rt; same_type(a, b, &[], &[]), i == j, "types {i} and {j}");
         }
     }
-    let here = ResourceId { component: 0, number: 1 };
-    let there = ResourceId { component: 2, number: 0 };
+    let here = ResourceId {
+        component: 0,
+        number: 1,
+    };
+    let there = ResourceId {
+        component: 2,
+        number: 0,
+    };
     let own = TypeNode::Own(here);
     assert!(rt; !same_type(&own, &TypeNode::Own(there), &[], &[]));
     assert!(rt; same_type(&own, &TypeNode::Own(there), &[here, there], &[]));
@@ -251,7 +260,15 @@ fn equal_types(rt: HostRuntime) -> Result<(), Fail> {
 
 #[test]
 fn scalars_and_kinds(rt: HostRuntime) {
-    for (number, want) in [(0, true), (0xD7FF, true), (0xD800, false), (0xDFFF, false), (0xE000, true), (0x10_FFFF, true), (0x11_0000, false)] {
+    for (number, want) in [
+        (0, true),
+        (0xD7FF, true),
+        (0xD800, false),
+        (0xDFFF, false),
+        (0xE000, true),
+        (0x10_FFFF, true),
+        (0x11_0000, false),
+    ] {
         assert_eq!(rt; is_scalar(number), want, "at {number}");
     }
     assert_eq!(rt; CoreValue::I64(1).kind(), CoreKind::I64);

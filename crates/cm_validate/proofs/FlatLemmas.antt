@@ -37,7 +37,7 @@ canon_flat : (s : Space) (c : Canon) → AllByRecursion PassesFlat s.core_funcs 
 canon_flat s (canon.Lift core_func ty) flat kept = flat
 canon_flat s (canon.Lower func) flat kept =
     flat_append s.core_funcs (option_to_list (option_and_then lowered_import (slice_get s.funcs func))) flat
-      (lowered_flat (slice_get s.funcs func) (λ e. kept reason.NeedsMemory (inr (inl (e, refl)))))
+    (lowered_flat (slice_get s.funcs func) (λ e. kept reason.NeedsMemory (inr (inl (e, refl)))))
 
 import_flat : (s : Space) (name : List ℕ) (d : ExternDesc) → AllByRecursion PassesFlat s.core_funcs → AllByRecursion PassesFlat (after_import s name d).core_funcs
 import_flat s name (desc.Func ty) flat = flat
@@ -55,7 +55,7 @@ items_flat : (s : Space) (xs : List Item) → AllByRecursion PassesFlat s.core_f
 items_flat s [] flat valid = flat
 items_flat s (x ∷ xs) flat valid =
     items_flat (grown s x) xs (item_flat s x flat (λ r b. valid [] x xs r refl b))
-      (λ front y rest r split b. valid (x ∷ front) y rest r (ap (λ (ys : List Item). x ∷ ys) split) b)
+    (λ front y rest r split b. valid (x ∷ front) y rest r (ap (λ (ys : List Item). x ∷ ys) split) b)
 
 -- so do those of a whole component
 pub all_flat : (sections : List SectionTree) → IsValid sections → AllByRecursion PassesFlat (spaces_of sections).core_funcs
