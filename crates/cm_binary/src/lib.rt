@@ -20,3 +20,6 @@ pub use cm_component::{
 pub use decoding::decode;
 pub use encoding::encode;
 pub use fault::{DecodeFault, DecodeReason, Feature};
+
+#[cfg(test)]
+mod tests;
