@@ -3,9 +3,12 @@
 ghost use Rattle.std.specs.Prelude.{◌≡◌, ℕ, ◌++◌, ◌∷◌, ◌^◌, ◌<◌, ◌≤◌, List, length, map, OnOk, IfOk};
 ghost use Rattle.std.specs.List.{flat_map};
 ghost use Rattle.cm_component.specs.Trees.{section_tree};
+ghost use Rattle.cm_binary.specs.Answers.{Accepts};
 ghost use Rattle.cm_binary.specs.File.{Spells};
 ghost use Rattle.cm_binary.specs.Spelling.{contents_spelling, section_id, section_spelling, spelling};
 
+use crate::decoding::decode;
+use crate::fault::{DecodeFault, DecodeReason};
 use crate::spelling::{
     write_aliases, write_canons, write_core_instances, write_exports, write_imports, write_types,
 };
@@ -29,6 +32,21 @@ pub fn encode(alloc: Global, component: &Component) -> Result<Vec<u8>, AllocErro
     ensures shortest { IfOk result (λ v. (bytes : List ℕ) → Spells component.now bytes → length v.items ≤ length bytes) }
 {
     file_bytes(alloc, component.sections())
+}
+
+/// Writes a component as a file, and reads the file: what comes back is the component, unless memory
+/// was refused.
+pub fn written_and_read(alloc: Global, component: &Component) -> Result<Component, DecodeFault>
+    requires { (bytes : List ℕ) × Spells component.now bytes }
+    ensures { Accepts result component.now }
+{
+    match encode(alloc, component) {
+        Ok(file) => decode(alloc, &file),
+        Err(AllocError) => Err(DecodeFault {
+            at: 0,
+            reason: DecodeReason::Memory,
+        }),
+    }
 }
 
 /// The bytes of a file with these sections.

@@ -18,7 +18,7 @@ pub use cm_component::{
     ExternDesc, Import, Section, Sort,
 };
 pub use decoding::decode;
-pub use encoding::encode;
+pub use encoding::{encode, written_and_read};
 pub use fault::{DecodeFault, DecodeReason, Feature};
 
 #[cfg(test)]
