@@ -3,9 +3,11 @@ use Rattle.std.proofs.Common.{◌≡◌, ℕ, zero, suc, ◌+◌, ◌-◌, ◌<�
 use Rattle.std.specs.List.{flat_map}
 use Rattle.std.specs.Str.{is_utf8}
 use Rattle.std.proofs.lemmas.List.{length-append}
+use Rattle.cm_leb.specs.Numbers.{SpellsUnsigned}
 use Rattle.cm_leb.specs.Writing.{shortest_unsigned}
+use Rattle.cm_leb.proofs.WritingLaws.{shortest_unsigned-spells, shortest_unsigned-least}
 use Rattle.cm_grammar.specs.Grammar.{Grammar, done, ◌>>=◌, code, number, raw, checked, fixed, vec, chain, limited}
-use Rattle.cm_grammar.specs.Whole.{Whole, exactly, sized, to_end}
+use Rattle.cm_grammar.specs.Whole.{Whole, made, exactly, sized, to_end}
 use Rattle.cm_grammar.specs.Spelling.{counted, prefixed}
 use Rattle.cm_grammar.proofs.SpellingLaws.{Short, ShortWhole, Shortens, ShortensWhole, bind_short, made_short, code_short, fixed_short, number_shortens, vec_shortens, counted_shortens, limited_shortens, text_shortens, each_shortens, shortest_unsigned-mono}
 use Rattle.cm_types.specs.Names.{is_label}
@@ -24,7 +26,10 @@ use Rattle.cm_component.specs.declared.section.ExternDesc.{ExternDesc}
 use Rattle.cm_component.specs.declared.section.ExternDesc.TheVariants as descs
 use Rattle.cm_component.specs.Trees as trees
 use Rattle.cm_component.specs.Trees.{ArgTree, CoreInstanceTree, AliasTree, ImportTree, ExportTree, SectionTree}
-use Rattle.cm_binary.specs.declared.fault.DecodeReason.TheVariants.{BadNumber, BadUtf8, BadName, UnknownCode, TooMany}
+use Rattle.cm_binary.specs.declared.fault.DecodeReason.{DecodeReason}
+use Rattle.cm_binary.specs.declared.codes.SectionKind.{SectionKind}
+use Rattle.cm_binary.specs.declared.codes.SectionKind.TheVariants as kinds
+use Rattle.cm_binary.specs.declared.fault.DecodeReason.TheVariants.{SizeMismatch, BadNumber, BadUtf8, BadName, UnknownCode, TooMany}
 use Rattle.cm_binary.specs.declared.codes.CoreInstanceForm.{CoreInstanceForm}
 use Rattle.cm_binary.specs.declared.codes.CoreInstanceForm.TheVariants as core_instance_forms
 use Rattle.cm_binary.specs.declared.codes.AliasSort.{AliasSort}
@@ -41,9 +46,9 @@ use Rattle.cm_binary.specs.declared.codes.DescForm.{DescForm}
 use Rattle.cm_binary.specs.declared.codes.DescForm.TheVariants as desc_forms
 use Rattle.cm_binary.specs.declared.codes.NoDescription.{NoDescription}
 use Rattle.cm_binary.specs.declared.codes.NoDescription.TheVariants as descriptions
-use Rattle.cm_binary.specs.Codes.{core_instance_form, core_sort, alias_sort, core_alias_target, val_type, type_form, result_form, canon_form, desc_form, export_sort, export_desc}
-use Rattle.cm_binary.specs.File.{index, text, label, extern_name, core_arg, core_instance, alias_of, alias, param, func_result_of, func_result, func_type, def_type, type_defs, options_of, options, canon_of, canon, extern_desc, import_item, export_item}
-use Rattle.cm_binary.specs.Spelling.{extern_name_spelling, core_arg_spelling, core_instance_spelling, alias_spelling, val_type_code, param_spelling, result_spelling, func_spelling, def_spelling, canon_spelling, desc_spelling, import_spelling, export_spelling}
+use Rattle.cm_binary.specs.Codes.{section_kind, core_instance_form, core_sort, alias_sort, core_alias_target, val_type, type_form, result_form, canon_form, desc_form, export_sort, export_desc}
+use Rattle.cm_binary.specs.File.{index, text, label, extern_name, core_arg, core_instance, alias_of, alias, param, func_result_of, func_result, func_type, def_type, type_defs, options_of, options, canon_of, canon, extern_desc, import_item, export_item, contents, section, sections, component, file, room_after, type_limit, byte_limit, component_preamble}
+use Rattle.cm_binary.specs.Spelling.{extern_name_spelling, core_arg_spelling, core_instance_spelling, alias_spelling, val_type_code, param_spelling, result_spelling, func_spelling, def_spelling, canon_spelling, desc_spelling, import_spelling, export_spelling, contents_spelling, section_id, section_spelling, spelling}
 
 utf8_plain : (n : ℕ) (x bytes : List ℕ) → (checked is_utf8 BadUtf8 (raw n)).Spells x bytes → (bytes ≡ x) × (length x ≡ n)
 utf8_plain n x bytes s = (sym s.0.1, ap length s.0.1 ∙ s.0.0)
@@ -260,3 +265,78 @@ export_shortens x bytes s =
     let third = bind_short index _ u.0 made t.2 u.1 u.2 (shortest_unsigned u.0) (0 ∷ []) (number_shortens BadNumber u.0 u.1 u.3) last u.5 in
     let second = bind_short (code export_sort) _ t.0 made s.2 t.1 t.2 (1 ∷ []) (shortest_unsigned u.0 ++ (0 ∷ [])) (code_short export_sort t.0 1 t.1 (sort_byte t.0) t.3) third t.5 in
     subst (λ (y : ExportTree). Short export_item y bytes (export_spelling y)) (sym v.4.0) (bind_short extern_name _ s.0 made bytes s.1 s.2 (extern_name_spelling s.0) (1 ∷ (shortest_unsigned u.0 ++ (0 ∷ []))) (extern_name_shortens s.0 s.1 s.3) second s.5)
+
+-- ---- sections
+
+-- All of a section's contents.
+closed_short : {A B : Type 0} (make : A → B) (g : Grammar DecodeReason A) (y : A) (bytes short : List ℕ) → Short g y bytes short → ShortWhole (made make (exactly SizeMismatch g)) (make y) bytes short
+closed_short make g y bytes short s = record { spelled = (y, s.spelled, refl); shorter = s.shorter }
+
+-- The contents are spelled shortly, and the id names them.
+abbrev ShortContents : ℕ → SectionKind → List ℕ → SectionTree → Type 0
+ShortContents room kind bytes x = ShortWhole (contents room kind) x bytes (contents_spelling x) × (section_kind (section_id x) ≡ Ok kind)
+
+contents_shortens : (room : ℕ) (kind : SectionKind) (x : SectionTree) (bytes : List ℕ) → (contents room kind).Spells x bytes → ShortContents room kind bytes x
+unfolding contents
+contents_shortens room kinds.Custom x bytes s =
+    let name = text_shortens_is s.0 s.1 s.3 in
+    let same : s.2 ≡ s.4.0 = sym s.4.1 in
+    let whole : ShortWhole (contents room kinds.Custom) (trees.custom s.0 s.4.0) bytes (prefixed s.0 ++ s.4.0) = record {
+      spelled = (s.0, prefixed s.0, s.4.0, name.spelled, (s.4.0, refl, refl), refl);
+      shorter = omega (arith, name.shorter, length-append (prefixed s.0) s.4.0, ap length same, ap length s.5, length-append s.1 s.2);
+    } in
+    subst (ShortContents room kinds.Custom bytes) (sym s.4.2) (whole, refl)
+contents_shortens room kinds.CoreModule x bytes s =
+    let whole : ShortWhole (contents room kinds.CoreModule) (trees.core_module s.0) bytes s.0 = record {
+      spelled = (s.0, (refl, (s.1.1.0, s.1.0 ∙ s.1.1.1)), refl);
+      shorter = omega (arith, ap length s.1.0);
+    } in
+    subst (ShortContents room kinds.CoreModule bytes) (sym s.2) (whole, refl)
+contents_shortens room kinds.CoreInstances x bytes s = subst (ShortContents room kinds.CoreInstances bytes) (sym s.2) (closed_short trees.core_instances (vec BadNumber core_instance) s.0 bytes (counted core_instance_spelling s.0) (vec_shortens BadNumber core_instance core_instance_spelling core_instance_shortens s.0 bytes s.1), refl)
+contents_shortens room kinds.Aliases x bytes s = subst (ShortContents room kinds.Aliases bytes) (sym s.2) (closed_short trees.aliases (vec BadNumber alias) s.0 bytes (counted alias_spelling s.0) (vec_shortens BadNumber alias alias_spelling alias_shortens s.0 bytes s.1), refl)
+contents_shortens room kinds.Types x bytes s = subst (ShortContents room kinds.Types bytes) (sym s.2) (closed_short trees.types (type_defs room) s.0 bytes (counted def_spelling s.0) (type_defs_shortens room s.0 bytes s.1), refl)
+contents_shortens room kinds.Canons x bytes s = subst (ShortContents room kinds.Canons bytes) (sym s.2) (closed_short trees.canons (vec BadNumber canon) s.0 bytes (counted canon_spelling s.0) (vec_shortens BadNumber canon canon_spelling canon_shortens s.0 bytes s.1), refl)
+contents_shortens room kinds.Imports x bytes s = subst (ShortContents room kinds.Imports bytes) (sym s.2) (closed_short trees.imports (vec BadNumber import_item) s.0 bytes (counted import_spelling s.0) (vec_shortens BadNumber import_item import_spelling import_shortens s.0 bytes s.1), refl)
+contents_shortens room kinds.Exports x bytes s = subst (ShortContents room kinds.Exports bytes) (sym s.2) (closed_short trees.exports (vec BadNumber export_item) s.0 bytes (counted export_spelling s.0) (vec_shortens BadNumber export_item export_spelling export_shortens s.0 bytes s.1), refl)
+
+-- A part of another size.
+sized_short : (room : ℕ) (kind : SectionKind) (x : SectionTree) (bytes : List ℕ) → ShortWhole (contents room kind) x bytes (contents_spelling x) → Short (sized SizeMismatch (length (contents_spelling x)) (contents room kind)) x bytes (contents_spelling x)
+sized_short room kind x bytes s = record { spelled = (refl, s.spelled); shorter = s.shorter }
+
+size_short : (size less : ℕ) (bytes : List ℕ) → SpellsUnsigned 32 bytes size → less ≤ size → Short index less bytes (shortest_unsigned less)
+size_short size less bytes s h = record {
+  spelled = shortest_unsigned-spells less (omega (arith, s.fits, h));
+  shorter = omega (arith, shortest_unsigned-mono less size h, shortest_unsigned-least size bytes s);
+}
+
+pub section_shortens : (room : ℕ) → Shortens (section room) section_spelling
+unfolding section
+section_shortens room x bytes s =
+    let t = s.4 in
+    let c = contents_shortens room s.0 x t.2 t.4.1 in
+    let text = contents_spelling x in
+    let first = size_short t.0 (length text) t.1 t.3 (omega (arith, c.0.shorter, t.4.0)) in
+    let second = bind_short index (λ size. sized SizeMismatch size (contents room s.0)) (length text) x s.2 t.1 t.2 (shortest_unsigned (length text)) text first (sized_short room s.0 x t.2 c.0) t.5 in
+    bind_short (code section_kind) (λ kind. index >>= λ size. sized SizeMismatch size (contents room kind)) s.0 x bytes s.1 s.2 (section_id x ∷ []) (prefixed text) (code_short section_kind s.0 (section_id x) s.1 c.1 s.3) second s.5
+
+pub sections_shortens : (room : ℕ) → ShortensWhole (sections room) (flat_map section_spelling)
+unfolding sections
+sections_shortens room xs bytes s =
+    let t = each_shortens section room_after section_spelling section_shortens room xs bytes s in
+    record { spelled = t.spelled; shorter = t.shorter }
+
+pub component_shortens : ShortensWhole component spelling
+unfolding component
+component_shortens c bytes s =
+    let t = sections_shortens type_limit c s.2 s.4 in
+    record {
+      spelled = (s.0, component_preamble, flat_map section_spelling c, refl, t.spelled, refl);
+      shorter = omega (arith, t.shorter, ap length s.5, length-append s.1 s.2, ap length s.3);
+    }
+
+-- A component that has a spelling has this one, and no other is shorter.
+pub file_shortens : ShortensWhole file spelling
+unfolding file
+file_shortens c bytes s =
+    let t = component_shortens c bytes s.1 in
+    record { spelled = (omega (arith, t.shorter, s.0), t.spelled); shorter = t.shorter }

@@ -3,3 +3,4 @@ pub mod FileLaws
 pub mod LoopLaws
 pub mod DecodeLaws
 pub mod FileSpelling
+pub mod EncodeLaws

@@ -3,3 +3,4 @@ pub mod Codes
 pub mod File
 pub mod Answers
 pub mod Spelling
+pub mod Nonempty

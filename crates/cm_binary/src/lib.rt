@@ -4,10 +4,12 @@
 mod canons;
 mod codes;
 mod decoding;
+mod encoding;
 mod externs;
 mod fault;
 mod instances;
 mod sections;
+mod spelling;
 mod texts;
 mod types;
 
@@ -16,4 +18,8 @@ pub use cm_component::{
     ExternDesc, Import, Section, Sort,
 };
 pub use decoding::decode;
+pub use encoding::{encode, written_and_read};
 pub use fault::{DecodeFault, DecodeReason, Feature};
+
+#[cfg(test)]
+mod tests;

@@ -1,7 +1,7 @@
 -- What is written shortly is spelled, and no longer than any spelling.
-use Rattle.std.proofs.Common.{◌≡◌, ℕ, zero, suc, ◌+◌, ◌^◌, ◌<◌, ◌≤◌, List, [], ◌∷◌, ◌++◌, length, get_or, Result, Ok, refl, sym, ap, subst, ◌∙◌, arith}
+use Rattle.std.proofs.Common.{◌≡◌, ℕ, zero, suc, ◌+◌, ◌^◌, ◌<◌, ◌≤◌, List, [], ◌∷◌, ◌++◌, length, map, get_or, Result, Ok, refl, sym, ap, subst, ◌∙◌, arith}
 use Rattle.std.specs.List.{flat_map}
-use Rattle.std.proofs.lemmas.List.{length-append, append-nil}
+use Rattle.std.proofs.lemmas.List.{length-append, length-map, append-nil}
 use Rattle.std.proofs.lemmas.Bool.Decides.{nat_tests}
 use Rattle.cm_leb.specs.Numbers.{SpellsUnsigned}
 use Rattle.cm_leb.specs.Writing.{shortest_unsigned}
@@ -121,3 +121,19 @@ each_short spell (y ∷ ys) (suc i) x h e = omega (arith, each_short spell ys i 
 
 pub each_short_counted : {A : Type 0} (spell : A → List ℕ) (xs : List A) (i : ℕ) (x : A) (limit : ℕ) → i < length xs → x ≡ get_or xs i x → length (counted spell xs) < limit → length (spell x) < limit
 each_short_counted spell xs i x limit h e lt = omega (arith, each_short spell xs i x h e, length-append (shortest_unsigned (length xs)) (flat_map spell xs), lt)
+
+flat_map_some : {A : Type 0} (spell : A → List ℕ) → ((x : A) → 0 < length (spell x)) → (xs : List A) → length xs ≤ length (flat_map spell xs)
+flat_map_some spell some [] = omega arith
+flat_map_some spell some (x ∷ xs) = omega (arith, some x, flat_map_some spell some xs, flat_map-cons_length spell x xs)
+
+pub flat_map-map : {A B : Type 0} (spell : B → List ℕ) (view : A → B) (xs : List A) → flat_map spell (map view xs) ≡ flat_map (λ x. spell (view x)) xs
+flat_map-map spell view [] = refl
+flat_map-map spell view (x ∷ xs) = ap (λ (b : List ℕ). spell (view x) ++ b) (flat_map-map spell view xs)
+
+-- Where no spelling is empty there are no more things than bytes.
+pub each_some : {A : Type 0} (spell : A → List ℕ) → ((x : A) → 0 < length (spell x)) → (xs : List A) → length xs ≤ length (counted spell xs)
+each_some spell some xs = omega (arith, flat_map_some spell some xs, length-append (shortest_unsigned (length xs)) (flat_map spell xs))
+
+-- The list that is seen and the list of what is seen have one spelling.
+pub counted-map : {A B : Type 0} (spell : B → List ℕ) (view : A → B) (xs : List A) → counted spell (map view xs) ≡ counted (λ x. spell (view x)) xs
+counted-map spell view xs = rw (length-map xs view, flat_map-map spell view xs) refl

@@ -7,7 +7,9 @@ use cm_leb::write_u32;
 use std::alloc::AllocError;
 
 /// A value that has a spelling. Where memory is refused the list may hold a part of it.
-pub trait Spelled {
+///
+/// `R` are the reasons of the format, as for [`Item`](crate::Item).
+pub trait Spelled<R> {
     ghost use Rattle.std.specs.Prelude.{ℕ, List};
 
     ghost spelling: { Self → List ℕ };
@@ -16,6 +18,9 @@ pub trait Spelled {
     fn write(&self, out: &mut Vec<u8>) -> Result<(), AllocError>
         requires { length (spelling self.now) < 2 ^ 32 }
         ensures { OnOk result (out.new.items ≡ out.old.items ++ spelling self.now) };
+
+    // No spelling is empty.
+    ghost some: { (x : Self) → 0 < length (spelling x) };
 }
 
 /// Appends the number of bytes, and the bytes.
@@ -28,9 +33,8 @@ pub fn write_prefixed(out: &mut Vec<u8>, bytes: &[u8]) -> Result<(), AllocError>
 }
 
 /// Appends the number of values, and the spelling of each.
-pub fn write_counted<T: Spelled>(out: &mut Vec<u8>, values: &[T]) -> Result<(), AllocError>
-    requires count { length values.now < 2 ^ 32 }
-    requires size { length (counted T.spelling values.now) < 2 ^ 32 }
+pub fn write_counted<R, T: Spelled<R>>(out: &mut Vec<u8>, values: &[T]) -> Result<(), AllocError>
+    requires { length (counted T.spelling values.now) < 2 ^ 32 }
     ensures { OnOk result (out.new.items ≡ out.old.items ++ counted T.spelling values.now) }
 {
     write_u32(out, values.len() as u32)?;
