@@ -1,0 +1,170 @@
+//! Runs of ASCII, sixteen lanes at a time.
+
+ghost use Rattle.std.specs.Prelude.{◌≡◌, ℕ, ◌+◌, ◌*◌, ◌<◌, ◌≤◌, ◌++◌, length, take, map, All};
+ghost use Rattle.std.specs.Char.{is_ascii};
+ghost use Rattle.std.specs.List.{prefix_len, flat_map};
+ghost use Rattle.std.specs.Simd.Lanes.{chunk, zip2};
+ghost use Rattle.cm_text.specs.Ascii.{ascii_run, ascii_units, wide};
+ghost use Rattle.cm_text.specs.Utf16.{unit, units, first_bytes, second_bytes};
+
+use std::simd::prelude::*;
+
+/// How many lanes a block has.
+const LANES: usize = 16;
+
+/// How many of the sixteen lanes come before the first that is not below 0x80.
+#[inline(always)]
+fn run_of(lanes: u8x16) -> usize
+    ensures { result ≡ prefix_len is_ascii lanes }
+{
+    let others = lanes.simd_ge(u8x16::splat(0x80)).to_bitmask();
+    if others == 0 {
+        16
+    } else {
+        others.trailing_zeros() as usize
+    }
+}
+
+/// How many of the sixteen bytes from `at` on come before the first that is not ASCII.
+#[inline(always)]
+pub(crate) fn run_in(bytes: &[u8], at: usize) -> usize
+    requires { at + 16 ≤ length bytes.now }
+    ensures { result ≡ prefix_len is_ascii (chunk at 16 bytes.now) }
+{
+    run_of(u8x16::from_slice(&bytes[at..]))
+}
+
+/// Writes the sixteen bytes from `at` on as units of UTF-16 from `to` on, and answers how many of them
+/// come before the first that is not ASCII.
+#[inline(always)]
+pub(crate) fn widen_in(bytes: &[u8], at: usize, out: &mut [u8], to: usize) -> usize
+    requires within { at + 16 ≤ length bytes.now }
+    requires room { to + 32 ≤ length out.old }
+    ensures run { result ≡ prefix_len is_ascii (chunk at 16 bytes.now) }
+    ensures written { take (to + 32) out.new ≡ take to out.old ++ flat_map wide (chunk at 16 bytes.now) }
+{
+    let lanes = u8x16::from_slice(&bytes[at..]);
+    let (low, high) = lanes.interleave(u8x16::splat(0));
+    low.copy_to_slice(&mut out[to..]);
+    high.copy_to_slice(&mut out[to + 16..]);
+    run_of(lanes)
+}
+
+/// The first and the second bytes of the sixteen units of UTF-16 from `at` on.
+#[inline(always)]
+pub(crate) fn units_at(bytes: &[u8], at: usize) -> (u8x16, u8x16)
+    requires { at + 32 ≤ length bytes.now }
+    ensures low { result.0 ≡ first_bytes (chunk at 32 bytes.now) }
+    ensures high { result.1 ≡ second_bytes (chunk at 32 bytes.now) }
+{
+    let front = u8x16::from_slice(&bytes[at..]);
+    let back = u8x16::from_slice(&bytes[at + 16..]);
+    front.deinterleave(back)
+}
+
+/// How many of the sixteen units of these first and second bytes come before the first that is not ASCII.
+#[inline(always)]
+fn run_of_units(low: u8x16, high: u8x16) -> usize
+    ensures { result ≡ prefix_len is_ascii (zip2 unit low high) }
+{
+    run_of(
+        high.simd_ne(u8x16::splat(0))
+            .select(u8x16::splat(0xFF), low),
+    )
+}
+
+/// Writes the first bytes of the sixteen units of UTF-16 from `at` on from `to` on, and answers how many
+/// of the units come before the first that is not ASCII.
+#[inline(always)]
+pub(crate) fn narrow_in(bytes: &[u8], at: usize, out: &mut [u8], to: usize) -> usize
+    requires within { at + 32 ≤ length bytes.now }
+    requires room { to + 16 ≤ length out.old }
+    ensures run { result ≡ prefix_len is_ascii (units (chunk at 32 bytes.now)) }
+    ensures written { take (to + 16) out.new ≡ take to out.old ++ first_bytes (chunk at 32 bytes.now) }
+{
+    let (low, high) = units_at(bytes, at);
+    low.copy_to_slice(&mut out[to..]);
+    run_of_units(low, high)
+}
+
+/// The length in bytes of the longest beginning of `bytes` in which each byte is below 0x80.
+pub fn ascii_run(bytes: &[u8]) -> usize
+    ensures { result ≡ ascii_run bytes.now }
+{
+    let mut at = 0;
+    while bytes.len() - at >= LANES {
+        let run = run_in(bytes, at);
+        at += run;
+        if run < LANES {
+            return at;
+        }
+    }
+    while at < bytes.len() && bytes[at] < 0x80 {
+        at += 1;
+    }
+    at
+}
+
+/// How many of the sixteen units of UTF-16 from `at` on come before the first that is not ASCII.
+#[inline(always)]
+pub(crate) fn units_in(bytes: &[u8], at: usize) -> usize
+    requires { at + 32 ≤ length bytes.now }
+    ensures { result ≡ prefix_len is_ascii (units (chunk at 32 bytes.now)) }
+{
+    let (low, high) = units_at(bytes, at);
+    run_of_units(low, high)
+}
+
+/// The number of units in the longest beginning of `bytes` in which each unit of UTF-16, little end first,
+/// is below 0x80. An odd last byte is no unit.
+pub fn ascii_units(bytes: &[u8]) -> usize
+    ensures { result ≡ ascii_units bytes.now }
+{
+    let mut count = 0;
+    while bytes.len() - 2 * count >= 2 * LANES {
+        let run = units_in(bytes, 2 * count);
+        count += run;
+        if run < LANES {
+            return count;
+        }
+    }
+    while bytes.len() - 2 * count >= 2 && bytes[2 * count] < 0x80 && bytes[2 * count + 1] == 0 {
+        count += 1;
+    }
+    count
+}
+
+/// Writes each byte as the unit of UTF-16 of its value, little end first: the byte, and then 0.
+pub fn widen(bytes: &[u8], out: &mut [u8])
+    requires { length out.old ≡ 2 * length bytes.now }
+    ensures { out.new ≡ flat_map wide bytes.now }
+{
+    let mut at = 0;
+    while bytes.len() - at >= LANES {
+        widen_in(bytes, at, out, 2 * at);
+        at += LANES;
+    }
+    while at < bytes.len() {
+        out[2 * at] = bytes[at];
+        out[2 * at + 1] = 0;
+        at += 1;
+    }
+}
+
+/// Writes the first byte of each unit of UTF-16, where each unit is below 0x80.
+pub fn narrow(bytes: &[u8], out: &mut [u8])
+    requires ascii { All (λ unit. unit < 0x80) (units bytes.now) }
+    requires half { length bytes.now ≡ 2 * length out.old }
+    ensures first { out.new ≡ first_bytes bytes.now }
+    ensures same { flat_map wide out.new ≡ bytes.now }
+{
+    let mut to = 0;
+    while out.len() - to >= LANES {
+        narrow_in(bytes, 2 * to, out, to);
+        to += LANES;
+    }
+    while to < out.len() {
+        out[to] = bytes[2 * to];
+        to += 1;
+    }
+}
