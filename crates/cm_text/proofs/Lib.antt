@@ -1,3 +1,5 @@
 pub mod LaneLemmas
 pub mod RunLemmas
+pub mod StretchLemmas
+pub mod TextLemmas
 pub mod UnitLemmas

@@ -54,51 +54,42 @@ units_some at n xs within less =
 run_le : (xs : List ℕ) (n : ℕ) → length xs ≡ n → prefix_len is_ascii xs ≤ n
 run_le xs n long = omega (arith, prefix_len-le-length is_ascii xs)
 
--- a step of a search for the end of a run in bytes
-pub bytes_step : (at run total : ℕ) (xs : List ℕ) → at + 16 ≤ length xs → run ≡ prefix_len is_ascii (chunk at 16 xs) → 16 ≤ run
-    → at + prefix_len is_ascii (drop at xs) ≡ total → (at + run ≤ length xs) × (at + run + prefix_len is_ascii (drop (at + run) xs) ≡ total)
-bytes_step at run total xs within found whole all =
+-- a block that passes whole, in a search for the end of a run
+pub bytes_step : (at k run total : ℕ) (xs : List ℕ) → at + 16 ≤ length xs → run ≡ prefix_len is_ascii (chunk at 16 xs) → 16 ≤ run
+    → k + prefix_len is_ascii (drop at xs) ≡ total → k + 16 + prefix_len is_ascii (drop (at + 16) xs) ≡ total
+bytes_step at k run total xs within found whole all =
     let most : prefix_len is_ascii (chunk at 16 xs) ≤ 16 = run_le (chunk at 16 xs) 16 (length-chunk at 16 xs within) in
-    let full : run ≡ 16 = omega arith in
-    let next : prefix_len is_ascii (drop at xs) ≡ 16 + prefix_len is_ascii (drop (at + 16) xs) = bytes_whole at 16 xs within (sym found ∙ full) in
-    let same : prefix_len is_ascii (drop (at + run) xs) ≡ prefix_len is_ascii (drop (at + 16) xs) = ap (λ k. prefix_len is_ascii (drop (at + k) xs)) full in
-    (omega arith, omega arith)
+    let next : prefix_len is_ascii (drop at xs) ≡ 16 + prefix_len is_ascii (drop (at + 16) xs) = bytes_whole at 16 xs within (omega arith) in
+    omega arith
 
 -- the same in units
-pub units_step : (k run total : ℕ) (xs : List ℕ) → 2 * k + 32 ≤ length xs → run ≡ prefix_len is_ascii (units (chunk (2 * k) 32 xs)) → 16 ≤ run
-    → k + prefix_len is_ascii (units (drop (2 * k) xs)) ≡ total
-    → (2 * (k + run) ≤ length xs) × (k + run + prefix_len is_ascii (units (drop (2 * (k + run)) xs)) ≡ total)
-units_step k run total xs within found whole all =
-    let most : prefix_len is_ascii (units (chunk (2 * k) 32 xs)) ≤ 16 = run_le (units (chunk (2 * k) 32 xs)) 16 (length-units (2 * k) 16 xs within) in
-    let full : run ≡ 16 = omega arith in
-    let next : prefix_len is_ascii (units (drop (2 * k) xs)) ≡ 16 + prefix_len is_ascii (units (drop (2 * k + 32) xs)) = units_whole (2 * k) 16 xs within (sym found ∙ full) in
-    let place : 2 * (k + run) ≡ 2 * k + 32 = omega arith in
-    let same : prefix_len is_ascii (units (drop (2 * (k + run)) xs)) ≡ prefix_len is_ascii (units (drop (2 * k + 32) xs)) = ap (λ n. prefix_len is_ascii (units (drop n xs))) place in
-    (omega arith, omega arith)
+pub units_step : (at k run total : ℕ) (xs : List ℕ) → at + 32 ≤ length xs → run ≡ prefix_len is_ascii (units (chunk at 32 xs)) → 16 ≤ run
+    → k + prefix_len is_ascii (units (drop at xs)) ≡ total → k + 16 + prefix_len is_ascii (units (drop (at + 32) xs)) ≡ total
+units_step at k run total xs within found whole all =
+    let most : prefix_len is_ascii (units (chunk at 32 xs)) ≤ 16 = run_le (units (chunk at 32 xs)) 16 (length-units at 16 xs within) in
+    let next : prefix_len is_ascii (units (drop at xs)) ≡ 16 + prefix_len is_ascii (units (drop (at + 32) xs)) = units_whole at 16 xs within (omega arith) in
+    omega arith
 
 pub units_run_le : (at : ℕ) (xs : List ℕ) → at + 32 ≤ length xs → prefix_len is_ascii (units (chunk at 32 xs)) ≤ 16
 units_run_le at xs within = run_le (units (chunk at 32 xs)) 16 (length-units at 16 xs within)
 
 -- one unit that is ASCII, and one that is not
-pub units_one : (k total : ℕ) (xs : List ℕ) → 2 * k + 2 ≤ length xs → get_or xs (2 * k) 0 < 128 → get_or xs (2 * k + 1) 0 ≡ 0
-    → k + prefix_len is_ascii (units (drop (2 * k) xs)) ≡ total
-    → (2 * (k + 1) ≤ length xs) × (k + 1 + prefix_len is_ascii (units (drop (2 * (k + 1)) xs)) ≡ total)
-units_one k total xs within low high all =
-    let u = unit (get_or xs (2 * k) 0) (get_or xs (2 * k + 1) 0) in
+pub units_one : (at k total : ℕ) (xs : List ℕ) → at + 2 ≤ length xs → get_or xs at 0 < 128 → get_or xs (at + 1) 0 ≡ 0
+    → k + prefix_len is_ascii (units (drop at xs)) ≡ total → k + 1 + prefix_len is_ascii (units (drop (at + 2) xs)) ≡ total
+units_one at k total xs within low high all =
+    let u = unit (get_or xs at 0) (get_or xs (at + 1) 0) in
     let small : is_ascii u ≡ true = grind (arith, nat_tests) in
-    let next : prefix_len is_ascii (units (drop (2 * k) xs)) ≡ 1 + prefix_len is_ascii (units (drop (2 * k + 2) xs)) =
-    ap (prefix_len is_ascii) (units-next (2 * k) xs within) ∙ ap (λ b. cond b (1 + prefix_len is_ascii (units (drop (2 * k + 2) xs))) 0) small in
-    let same : prefix_len is_ascii (units (drop (2 * (k + 1)) xs)) ≡ prefix_len is_ascii (units (drop (2 * k + 2) xs)) =
-    ap (λ n. prefix_len is_ascii (units (drop n xs))) {x = 2 * (k + 1)} {y = 2 * k + 2} (omega arith) in
-    (omega arith, omega arith)
+    let next : prefix_len is_ascii (units (drop at xs)) ≡ 1 + prefix_len is_ascii (units (drop (at + 2) xs)) =
+    ap (prefix_len is_ascii) (units-next at xs within) ∙ ap (λ b. cond b (1 + prefix_len is_ascii (units (drop (at + 2) xs))) 0) small in
+    omega arith
 
-pub units_none : (k total : ℕ) (xs : List ℕ) → 2 * k + 2 ≤ length xs → 128 ≤ unit (get_or xs (2 * k) 0) (get_or xs (2 * k + 1) 0)
-    → k + prefix_len is_ascii (units (drop (2 * k) xs)) ≡ total → k ≡ total
-units_none k total xs within past all =
-    let u = unit (get_or xs (2 * k) 0) (get_or xs (2 * k + 1) 0) in
+pub units_none : (at k total : ℕ) (xs : List ℕ) → at + 2 ≤ length xs → 128 ≤ unit (get_or xs at 0) (get_or xs (at + 1) 0)
+    → k + prefix_len is_ascii (units (drop at xs)) ≡ total → k ≡ total
+units_none at k total xs within past all =
+    let u = unit (get_or xs at 0) (get_or xs (at + 1) 0) in
     let large : is_ascii u ≡ false = grind (arith, nat_tests) in
-    let next : prefix_len is_ascii (units (drop (2 * k) xs)) ≡ 0 =
-    ap (prefix_len is_ascii) (units-next (2 * k) xs within) ∙ ap (λ b. cond b (1 + prefix_len is_ascii (units (drop (2 * k + 2) xs))) 0) large in
+    let next : prefix_len is_ascii (units (drop at xs)) ≡ 0 =
+    ap (prefix_len is_ascii) (units-next at xs within) ∙ ap (λ b. cond b (1 + prefix_len is_ascii (units (drop (at + 2) xs))) 0) large in
     omega arith
 
 -- where less than a unit is left
@@ -107,7 +98,7 @@ no_unit [] short = refl
 no_unit (x ∷ []) short = refl
 no_unit (x ∷ y ∷ xs) short = absurd (omega arith)
 
-pub units_end : (k total : ℕ) (xs : List ℕ) → length xs < 2 * k + 2 → k + prefix_len is_ascii (units (drop (2 * k) xs)) ≡ total → k ≡ total
-units_end k total xs short all =
-    let none : prefix_len is_ascii (units (drop (2 * k) xs)) ≡ 0 = ap (prefix_len is_ascii) (no_unit (drop (2 * k) xs) (omega (arith, length-drop (2 * k) xs))) in
+pub units_end : (at k total : ℕ) (xs : List ℕ) → length xs < at + 2 → k + prefix_len is_ascii (units (drop at xs)) ≡ total → k ≡ total
+units_end at k total xs short all =
+    let none : prefix_len is_ascii (units (drop at xs)) ≡ 0 = ap (prefix_len is_ascii) (no_unit (drop at xs) (omega (arith, length-drop at xs))) in
     omega arith

@@ -1,4 +1,6 @@
 pub mod Ascii
 pub mod Fault
+pub mod Latin1
 pub mod Text
 pub mod Utf16
+pub mod Utf8

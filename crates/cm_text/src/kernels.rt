@@ -1,6 +1,6 @@
 //! Runs of ASCII, sixteen lanes at a time.
 
-ghost use Rattle.std.specs.Prelude.{◌≡◌, ℕ, ◌+◌, ◌*◌, ◌<◌, ◌≤◌, ◌++◌, length, take, map, All};
+ghost use Rattle.std.specs.Prelude.{◌≡◌, ℕ, ◌+◌, ◌*◌, ◌<◌, ◌≤◌, ◌++◌, length, take, drop, All};
 ghost use Rattle.std.specs.Char.{is_ascii};
 ghost use Rattle.std.specs.List.{prefix_len, flat_map};
 ghost use Rattle.std.specs.Simd.Lanes.{chunk, zip2};
@@ -87,6 +87,58 @@ pub(crate) fn narrow_in(bytes: &[u8], at: usize, out: &mut [u8], to: usize) -> u
     run_of_units(low, high)
 }
 
+/// Writes the run of ASCII from `at` on as units of UTF-16 from `to` on, and answers its length. What lies
+/// behind may be written too.
+#[inline(always)]
+pub(crate) fn widen_run(bytes: &[u8], at: usize, out: &mut [u8], to: usize) -> usize
+    requires within { at ≤ length bytes.now }
+    requires room { to + 2 * ascii_run (drop at bytes.now) ≤ length out.old }
+    ensures run { result ≡ ascii_run (drop at bytes.now) }
+    ensures written { take (to + 2 * result) out.new ≡ take to out.old ++ flat_map wide (take result (drop at bytes.now)) }
+{
+    let mut run = 0;
+    while bytes.len() - (at + run) >= LANES && out.len() - (to + 2 * run) >= 2 * LANES {
+        let more = widen_in(bytes, at + run, out, to + 2 * run);
+        if more < LANES {
+            return run + more;
+        }
+        run += LANES;
+    }
+    while at + run < bytes.len() && bytes[at + run] < 0x80 {
+        out[to + 2 * run] = bytes[at + run];
+        out[to + 2 * run + 1] = 0;
+        run += 1;
+    }
+    run
+}
+
+/// Writes the run of ASCII units from `at` on as bytes from `to` on, and answers how many units it has. What
+/// lies behind may be written too.
+#[inline(always)]
+pub(crate) fn narrow_run(bytes: &[u8], at: usize, out: &mut [u8], to: usize) -> usize
+    requires within { at ≤ length bytes.now }
+    requires room { to + ascii_units (drop at bytes.now) ≤ length out.old }
+    ensures run { result ≡ ascii_units (drop at bytes.now) }
+    ensures written { take (to + result) out.new ≡ take to out.old ++ first_bytes (take (2 * result) (drop at bytes.now)) }
+{
+    let mut run = 0;
+    while bytes.len() - (at + 2 * run) >= 2 * LANES && out.len() - (to + run) >= LANES {
+        let more = narrow_in(bytes, at + 2 * run, out, to + run);
+        if more < LANES {
+            return run + more;
+        }
+        run += LANES;
+    }
+    while bytes.len() - (at + 2 * run) >= 2
+        && bytes[at + 2 * run] < 0x80
+        && bytes[at + 2 * run + 1] == 0
+    {
+        out[to + run] = bytes[at + 2 * run];
+        run += 1;
+    }
+    run
+}
+
 /// The length in bytes of the longest beginning of `bytes` in which each byte is below 0x80.
 pub fn ascii_run(bytes: &[u8]) -> usize
     ensures { result ≡ ascii_run bytes.now }
@@ -94,10 +146,10 @@ pub fn ascii_run(bytes: &[u8]) -> usize
     let mut at = 0;
     while bytes.len() - at >= LANES {
         let run = run_in(bytes, at);
-        at += run;
         if run < LANES {
-            return at;
+            return at + run;
         }
+        at += LANES;
     }
     while at < bytes.len() && bytes[at] < 0x80 {
         at += 1;
@@ -123,10 +175,10 @@ pub fn ascii_units(bytes: &[u8]) -> usize
     let mut count = 0;
     while bytes.len() - 2 * count >= 2 * LANES {
         let run = units_in(bytes, 2 * count);
-        count += run;
         if run < LANES {
-            return count;
+            return count + run;
         }
+        count += LANES;
     }
     while bytes.len() - 2 * count >= 2 && bytes[2 * count] < 0x80 && bytes[2 * count + 1] == 0 {
         count += 1;

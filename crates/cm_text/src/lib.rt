@@ -1,8 +1,17 @@
 //! Texts in UTF-8, UTF-16 and Latin-1.
 #![tactic(auto)]
 
+mod encoding;
 mod fault;
 mod kernels;
+mod source;
+mod utf16;
+mod utf8;
+mod utf8_to_utf16;
 
+pub use encoding::Encoding;
 pub use fault::TextFault;
 pub use kernels::{ascii_run, ascii_units, narrow, widen};
+pub use source::Source;
+pub use utf8::Utf8;
+pub use utf16::Utf16;

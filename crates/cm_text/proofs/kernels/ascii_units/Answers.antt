@@ -1,13 +1,16 @@
-use Rattle.std.proofs.Common.{◌+◌, ◌∙◌, ◌*◌, ap, sym, arith}
+use Rattle.std.proofs.Common.{◌≡◌, ◌+◌, ◌∙◌, ◌*◌, ap, sym, arith, drop}
+use Rattle.std.specs.Char.{is_ascii}
+use Rattle.std.specs.List.{prefix_len}
+use Rattle.cm_text.specs.Utf16.{units}
 use Rattle.cm_text.proofs.RunLemmas.{units_step, units_some, units_run_le, units_one, units_none, units_end}
 use Rattle.cm_text.proofs.kernels.ascii_units.Goals as goal
 
-pub overflow_add-count : goal.overflow_add-count
-overflow_add-count c = omega (arith, units_run_le (2 * c.loop-count.count) c.args.bytes.now (omega arith))
-
 pub loop-count-preserved : goal.loop-count-preserved
 loop-count-preserved c =
-    units_step c.loop-count.count c.units_in-run.result _ c.args.bytes.now (omega arith) c.units_in-run.ensures c.if-run-lt-LANES.false c.loop-count.invariant.1
+    let k = c.loop-count.count in
+    let xs = c.args.bytes.now in
+    let on = units_step (2 * k) k c.units_in-run.result _ xs (omega arith) c.units_in-run.ensures c.if-run-lt-LANES.false c.loop-count.invariant.1 in
+    (omega arith, ap (λ n. k + 16 + prefix_len is_ascii (units (drop n xs))) {x = 2 * (k + 16)} {y = 2 * k + 32} (omega arith) ∙ on)
 
 pub returns-then-run-lt-LANES : goal.returns-then-run-lt-LANES
 returns-then-run-lt-LANES c =
@@ -15,13 +18,16 @@ returns-then-run-lt-LANES c =
 
 pub loop-count-2-preserved : goal.loop-count-2-preserved
 loop-count-2-preserved c =
-    units_one c.loop-count-2.count _ c.args.bytes.now (omega arith) c.if-bytes-count-lt128.true c.if-bytes-count-eq0.true c.loop-count-2.invariant.1
+    let k = c.loop-count-2.count in
+    let xs = c.args.bytes.now in
+    let on = units_one (2 * k) k _ xs (omega arith) c.if-bytes-count-lt128.true c.if-bytes-count-eq0.true c.loop-count-2.invariant.1 in
+    (omega arith, ap (λ n. k + 1 + prefix_len is_ascii (units (drop n xs))) {x = 2 * (k + 1)} {y = 2 * k + 2} (omega arith) ∙ on)
 
 pub returns-else-bytes-count-lt128 : goal.returns-else-bytes-count-lt128
-returns-else-bytes-count-lt128 c = units_none c.loop-count-2.count _ c.args.bytes.now (omega arith) (omega arith) c.loop-count-2.invariant.1
+returns-else-bytes-count-lt128 c = units_none (2 * c.loop-count-2.count) c.loop-count-2.count _ c.args.bytes.now (omega arith) (omega arith) c.loop-count-2.invariant.1
 
 pub returns-else-bytes-count-eq0 : goal.returns-else-bytes-count-eq0
-returns-else-bytes-count-eq0 c = units_none c.loop-count-2.count _ c.args.bytes.now (omega arith) (omega arith) c.loop-count-2.invariant.1
+returns-else-bytes-count-eq0 c = units_none (2 * c.loop-count-2.count) c.loop-count-2.count _ c.args.bytes.now (omega arith) (omega arith) c.loop-count-2.invariant.1
 
 pub returns-after-loop-count-2 : goal.returns-after-loop-count-2
-returns-after-loop-count-2 c = units_end c.loop-count-2.count _ c.args.bytes.now (omega arith) c.loop-count-2.invariant.1
+returns-after-loop-count-2 c = units_end (2 * c.loop-count-2.count) c.loop-count-2.count _ c.args.bytes.now (omega arith) c.loop-count-2.invariant.1

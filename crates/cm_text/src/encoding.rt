@@ -1,0 +1,40 @@
+//! Encodings that texts are written in.
+
+ghost use Rattle.std.specs.Prelude.{◌≡◌, ℕ, ◌+◌, ◌*◌, ◌<◌, ◌≤◌, List, ◌++◌, length, OnOk, OnErr};
+ghost use Rattle.std.specs.List.{flat_map};
+ghost use Rattle.std.specs.Char.{IsScalar};
+ghost use Rattle.std.specs.Char.Escape.{encode_utf16};
+ghost use Rattle.cm_text.specs.Text.{IsText, IsSomeText, IsTextOfSize, IsSameText};
+
+use crate::Source;
+use std::alloc::AllocError;
+
+/// An encoding that texts are written in: each Unicode scalar value has a spelling.
+pub trait Encoding: Source {
+    ghost GREATEST_GROWTH: { ℕ };
+
+    /// The most bytes that a text takes in this encoding for each unit that it has in another.
+    const GREATEST_GROWTH: usize;
+
+    /// Appends the spelling of a scalar; where there is no memory, the bytes stay as they were.
+    fn append(out: &mut Vec<u8>, scalar: char) -> Result<(), AllocError>
+        ensures ok { OnOk result (out.new.items ≡ out.old.items ++ Self.spell scalar) }
+        ensures err { OnErr result (out.new.items ≡ out.old.items) };
+
+    /// How many bytes a text of `S` takes in this encoding.
+    fn size_of<S: Source>(bytes: &[u8]) -> usize
+        requires { IsSomeText S.has S.spell bytes.now }
+        ensures { (scalars : List ℕ) → IsText S.has S.spell scalars bytes.now → result ≡ length (flat_map Self.spell scalars) };
+
+    /// Writes a text of `S` in this encoding.
+    fn write<S: Source>(bytes: &[u8], out: &mut [u8])
+        requires { IsTextOfSize S.has S.spell Self.spell bytes.now (length out.old) }
+        ensures { IsSameText S.has S.spell Self.spell bytes.now out.new };
+
+    /// Each scalar has a spelling.
+    ghost every: { (c : ℕ) → IsScalar c → Self.has c };
+
+    /// A spelling takes no more bytes than the greatest growth of its units in UTF-16, than which no
+    /// encoding has fewer.
+    ghost grows: { (c : ℕ) → IsScalar c → length (Self.spell c) ≤ GREATEST_GROWTH * length (encode_utf16 c) };
+}

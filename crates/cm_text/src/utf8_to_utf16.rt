@@ -1,0 +1,1 @@
+//! From UTF-8 to UTF-16.
