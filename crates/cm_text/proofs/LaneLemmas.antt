@@ -9,7 +9,7 @@ use Rattle.std.specs.List.{prefix_len, flat_map}
 use Rattle.cm_text.specs.Ascii.{wide}
 use lib.Dec.{leb, eqb}
 use lib.Lanes.{zip2, mask_l, top, sel_l, chunk, pick_l, put_chunk}
-use Rattle.cm_text.specs.Utf16.{unit, units, first_bytes, second_bytes}
+use Rattle.cm_text.specs.Utf16.{unit, units, first_bytes, second_bytes, mark}
 
 -- tests that agree give one run
 pub prefix_len-same : (p q : ℕ → Bool) → ((x : ℕ) → p x ≡ q x) → (xs : List ℕ) → prefix_len p xs ≡ prefix_len q xs
@@ -59,29 +59,43 @@ units-zip2 (x ∷ []) = refl
 units-zip2 (x ∷ y ∷ xs) = ap (λ us. unit x y ∷ us) (units-zip2 xs)
 
 -- a lane that is not below 0x80 where the unit is not
-run-marked : (low high : ℕ) → is_ascii (cond (top 7 (cond (not (eqb high 0)) 255 0)) 255 low) ≡ is_ascii (unit low high)
-run-marked low zero = ap is_ascii {x = low} {y = unit low zero} (omega arith)
-run-marked low (suc high) =
+marked_lane : (low high : ℕ) → cond (top 7 (cond (not (eqb high 0)) 255 0)) 255 low ≡ mark low high
+marked_lane low zero = refl
+marked_lane low (suc high) =
+    let other : eqb (suc high) 0 ≡ false = grind (arith, nat_tests) in
+    ap (λ b. cond (top 7 (cond (not b) 255 0)) 255 low) other ∙ ap (λ b. cond b low 255) (sym other)
+
+marked_lanes : (lows highs : List ℕ)
+    → sel_l (map (top 7) (zip2 (λ a b. cond (not (eqb a b)) 255 0) highs (map (λ _. 0) highs))) (map (λ _. 255) highs) lows ≡ zip2 mark lows highs
+marked_lanes [] [] = refl
+marked_lanes [] (high ∷ highs) = refl
+marked_lanes (low ∷ lows) [] = refl
+marked_lanes (low ∷ lows) (high ∷ highs) =
+    ap (λ x. x ∷ sel_l (map (top 7) (zip2 (λ a b. cond (not (eqb a b)) 255 0) highs (map (λ _. 0) highs))) (map (λ _. 255) highs) lows) (marked_lane low high)
+    ∙ ap (λ xs. mark low high ∷ xs) (marked_lanes lows highs)
+
+-- what selecting by the second bytes makes
+pub marked_16 : (lows highs : List ℕ) → length highs ≡ 16
+    → sel_l (map (top 7) (zip2 (λ a b. cond (not (eqb a b)) 255 0) highs (replicate 16 0))) (replicate 16 255) lows ≡ zip2 mark lows highs
+marked_16 lows highs high =
+    ap (λ zs. sel_l (map (top 7) (zip2 (λ a b. cond (not (eqb a b)) 255 0) highs zs)) (replicate 16 255) lows) (splat_is_map highs 16 0 high)
+    ∙ ap (λ zs. sel_l (map (top 7) (zip2 (λ a b. cond (not (eqb a b)) 255 0) highs (map (λ _. 0) highs))) zs lows) (splat_is_map highs 16 255 high)
+    ∙ marked_lanes lows highs
+
+mark-ascii : (low high : ℕ) → is_ascii (mark low high) ≡ is_ascii (unit low high)
+mark-ascii low zero = ap is_ascii {x = low} {y = unit low zero} (omega arith)
+mark-ascii low (suc high) =
     let past : is_ascii (unit low (suc high)) ≡ false = grind (arith, nat_tests) in
     let other : eqb (suc high) 0 ≡ false = grind (arith, nat_tests) in
-    ap (λ b. is_ascii (cond (top 7 (cond (not b) 255 0)) 255 low)) other ∙ sym past
+    ap (λ b. is_ascii (cond b low 255)) other ∙ sym past
 
 -- a run in the lanes that are marked is a run in the units
-run-units : (lows highs : List ℕ)
-    → prefix_len is_ascii (sel_l (map (top 7) (zip2 (λ a b. cond (not (eqb a b)) 255 0) highs (map (λ _. 0) highs))) (map (λ _. 255) highs) lows) ≡ prefix_len is_ascii (zip2 unit lows highs)
-run-units [] [] = refl
-run-units [] (high ∷ highs) = refl
-run-units (low ∷ lows) [] = refl
-run-units (low ∷ lows) (high ∷ highs) =
-    ap (λ b. cond b (1 + prefix_len is_ascii (sel_l (map (top 7) (zip2 (λ a b. cond (not (eqb a b)) 255 0) highs (map (λ _. 0) highs))) (map (λ _. 255) highs) lows)) 0) (run-marked low high)
-    ∙ ap (λ n. cond (is_ascii (unit low high)) (1 + n) 0) (run-units lows highs)
-
-pub run-units_16 : (lows highs : List ℕ) → length highs ≡ 16
-    → prefix_len is_ascii (sel_l (map (top 7) (zip2 (λ a b. cond (not (eqb a b)) 255 0) highs (replicate 16 0))) (replicate 16 255) lows) ≡ prefix_len is_ascii (zip2 unit lows highs)
-run-units_16 lows highs high =
-    ap (λ zs. prefix_len is_ascii (sel_l (map (top 7) (zip2 (λ a b. cond (not (eqb a b)) 255 0) highs zs)) (replicate 16 255) lows)) (splat_is_map highs 16 0 high)
-    ∙ ap (λ zs. prefix_len is_ascii (sel_l (map (top 7) (zip2 (λ a b. cond (not (eqb a b)) 255 0) highs (map (λ _. 0) highs))) zs lows)) (splat_is_map highs 16 255 high)
-    ∙ run-units lows highs
+pub run-marked : (lows highs : List ℕ) → prefix_len is_ascii (zip2 mark lows highs) ≡ prefix_len is_ascii (zip2 unit lows highs)
+run-marked [] highs = refl
+run-marked (low ∷ lows) [] = refl
+run-marked (low ∷ lows) (high ∷ highs) =
+    ap (λ b. cond b (1 + prefix_len is_ascii (zip2 mark lows highs)) 0) (mark-ascii low high)
+    ∙ ap (λ n. cond (is_ascii (unit low high)) (1 + n) 0) (run-marked lows highs)
 
 -- a chunk as units of its own bytes: what interleaving with zeros makes
 abbrev firsts : List ℕ

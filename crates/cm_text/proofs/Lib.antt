@@ -1,3 +1,4 @@
+pub mod CountLemmas
 pub mod LaneLemmas
 pub mod RunLemmas
 pub mod StretchLemmas

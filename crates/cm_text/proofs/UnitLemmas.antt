@@ -1,7 +1,7 @@
 -- The units of UTF-16 at an offset in bytes.
-use Rattle.std.proofs.Common.{◌≡◌, ℕ, ◌+◌, ◌*◌, ◌/◌, ◌<◌, ◌≤◌, List, [], ◌∷◌, ◌++◌, length, take, drop, get_or, refl, sym, ap, subst, ◌∙◌, arith, zero, suc, length-append}
+use Rattle.std.proofs.Common.{◌≡◌, ℕ, ◌+◌, ◌*◌, ◌/◌, ◌<◌, ◌≤◌, List, [], ◌∷◌, ◌++◌, length, take, drop, get_or, refl, sym, ap, subst, ◌∙◌, arith, zero, suc, length-append, length-drop}
 use Rattle.std.proofs.Math.Seq.{take-add}
-use Rattle.std.proofs.lemmas.List.{length-take-le, drop_more, drop-drop}
+use Rattle.std.proofs.lemmas.List.{length-take-le, take-append-drop, append-nil}
 use Rattle.std.proofs.lemmas.List.Concat.{flat_map-append}
 use Rattle.std.proofs.lemmas.Simd.{chunk-drop, length-chunk, pick_l_whole, get_or-chunk}
 use Rattle.std.specs.List.{flat_map, AllByRecursion}
@@ -71,3 +71,29 @@ wide-first_bytes (suc k) (x ∷ y ∷ xs) even all =
 -- wide bytes, n further
 pub wide-take : (k n : ℕ) (xs : List ℕ) → flat_map wide (take (k + n) xs) ≡ flat_map wide (take k xs) ++ flat_map wide (chunk k n xs)
 wide-take k n xs = ap (flat_map wide) (take-add k n xs) ∙ flat_map-append wide (take k xs) (chunk k n xs)
+
+-- units, n further, and one further
+pub units-take : (k n : ℕ) (xs : List ℕ) → 2 * k + 2 * n ≤ length xs → units (take (2 * (k + n)) xs) ≡ units (take (2 * k) xs) ++ units (chunk (2 * k) (2 * n) xs)
+units-take k n xs within =
+    ap (λ m. units (take m xs)) {x = 2 * (k + n)} {y = 2 * k + 2 * n} (omega arith)
+    ∙ ap units (take-add (2 * k) (2 * n) xs)
+    ∙ units-append k (take (2 * k) xs) (chunk (2 * k) (2 * n) xs) (length-take-le (2 * k) xs (omega arith))
+
+pub units-take_one : (k : ℕ) (xs : List ℕ) → 2 * k + 2 ≤ length xs
+    → units (take (2 * (k + 1)) xs) ≡ units (take (2 * k) xs) ++ unit (get_or xs (2 * k) 0) (get_or xs (2 * k + 1) 0) ∷ []
+units-take_one k xs within = units-take k 1 xs within ∙ ap (λ ys. units (take (2 * k) xs) ++ units ys) (chunk-two (2 * k) xs within)
+
+no_unit : (xs : List ℕ) → length xs < 2 → units xs ≡ []
+no_unit [] short = refl
+no_unit (x ∷ []) short = refl
+no_unit (x ∷ y ∷ xs) short = absurd (omega arith)
+
+-- all units stand before an odd last byte
+pub units-take_all : (k : ℕ) (xs : List ℕ) → 2 * k ≤ length xs → length xs < 2 * k + 2 → units (take (2 * k) xs) ≡ units xs
+units-take_all k xs within short =
+    sym
+    (ap units (sym (take-append-drop (2 * k) xs)) ∙ units-append k (take (2 * k) xs) (drop (2 * k) xs) (length-take-le (2 * k) xs within)
+    ∙ ap (λ ys. units (take (2 * k) xs) ++ ys) (no_unit (drop (2 * k) xs) (omega (arith, length-drop (2 * k) xs))) ∙ append-nil (units (take (2 * k) xs)))
+
+pub length-units_front : (k : ℕ) (xs : List ℕ) → 2 * k ≤ length xs → length (units (take (2 * k) xs)) ≡ k
+length-units_front k xs within = length-units_half (take (2 * k) xs) ∙ ap (λ n. n / 2) (length-take-le (2 * k) xs within) ∙ omega arith

@@ -1,5 +1,5 @@
 -- UTF-16, each unit little end first (the Unicode Standard, D91 and D97, UTF-16LE).
-use Rattle.std.specs.Prelude.{ℕ, ◌+◌, ◌*◌, ◌/◌, ◌%◌, List, [], ◌∷◌}
+use Rattle.std.specs.Prelude.{ℕ, ◌+◌, ◌*◌, ◌/◌, ◌%◌, List, [], ◌∷◌, if◌then◌else◌, ◌==◌}
 use Rattle.std.specs.List.{flat_map}
 use Rattle.std.specs.Char.Escape.{encode_utf16}
 
@@ -32,3 +32,7 @@ abbrev pub second_bytes : List ℕ → List ℕ
 second_bytes [] = []
 second_bytes (low ∷ []) = []
 second_bytes (low ∷ high ∷ bytes) = high ∷ second_bytes bytes
+
+-- the first byte of a unit whose second is 0, and 0xFF for any other unit
+abbrev pub mark : ℕ → ℕ → ℕ
+mark low high = if high == 0 then low else 0xFF

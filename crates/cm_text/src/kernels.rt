@@ -5,12 +5,12 @@ ghost use Rattle.std.specs.Char.{is_ascii};
 ghost use Rattle.std.specs.List.{prefix_len, flat_map};
 ghost use Rattle.std.specs.Simd.Lanes.{chunk, zip2};
 ghost use Rattle.cm_text.specs.Ascii.{ascii_run, ascii_units, wide};
-ghost use Rattle.cm_text.specs.Utf16.{unit, units, first_bytes, second_bytes};
+ghost use Rattle.cm_text.specs.Utf16.{unit, units, first_bytes, second_bytes, mark};
 
 use std::simd::prelude::*;
 
 /// How many lanes a block has.
-const LANES: usize = 16;
+pub(crate) const LANES: usize = 16;
 
 /// How many of the sixteen lanes come before the first that is not below 0x80.
 #[inline(always)]
@@ -62,15 +62,22 @@ pub(crate) fn units_at(bytes: &[u8], at: usize) -> (u8x16, u8x16)
     front.deinterleave(back)
 }
 
+/// The first byte of each unit of these first and second bytes, and 0xFF where the second is not 0, so that the
+/// lane is below 0x80 where the unit is.
+#[inline(always)]
+pub(crate) fn marked(low: u8x16, high: u8x16) -> u8x16
+    ensures { result ≡ zip2 mark low high }
+{
+    high.simd_ne(u8x16::splat(0))
+        .select(u8x16::splat(0xFF), low)
+}
+
 /// How many of the sixteen units of these first and second bytes come before the first that is not ASCII.
 #[inline(always)]
 fn run_of_units(low: u8x16, high: u8x16) -> usize
     ensures { result ≡ prefix_len is_ascii (zip2 unit low high) }
 {
-    run_of(
-        high.simd_ne(u8x16::splat(0))
-            .select(u8x16::splat(0xFF), low),
-    )
+    run_of(marked(low, high))
 }
 
 /// Writes the first bytes of the sixteen units of UTF-16 from `at` on from `to` on, and answers how many

@@ -4,6 +4,7 @@
 mod encoding;
 mod fault;
 mod kernels;
+mod sizes;
 mod source;
 mod utf16;
 mod utf8;
