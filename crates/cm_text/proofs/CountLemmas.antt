@@ -18,6 +18,7 @@ use Rattle.cm_text.specs.Sizes.{units_begun, bytes_taken, latin1_taken}
 use Rattle.std.specs.Char.Escape.{encode_utf16}
 use Rattle.cm_text.specs.Latin1.{HasLatin1, spell_latin1}
 use Rattle.cm_text.specs.Utf16.{unit, units, mark, spell_utf16, bytes_of_unit}
+use Rattle.cm_text.specs.Utf16Laws.{units_of_units}
 use Rattle.cm_text.specs.Utf8.{spell_utf8, following}
 use Rattle.cm_text.proofs.LaneLemmas.{mask_from}
 
@@ -113,12 +114,6 @@ taken_le [] = omega arith
 taken_le (u ∷ us) = omega (arith, bytes_taken_le u, taken_le us, sum_by-cons bytes_taken u us)
 
 -- the units of a text are those of its scalars
-pub units_of_units : (us ys : List ℕ) → units (flat_map bytes_of_unit us ++ ys) ≡ us ++ units ys
-units_of_units [] ys = refl
-units_of_units (u ∷ us) ys =
-    let same : unit (u % 256) (u / 256) ≡ u = omega arith in
-    ap (λ x. x ∷ units (flat_map bytes_of_unit us ++ ys)) same ∙ ap (λ xs. u ∷ xs) (units_of_units us ys)
-
 pub units_of_text : (cs : List ℕ) → units (flat_map spell_utf16 cs) ≡ flat_map encode_utf16 cs
 units_of_text [] = refl
 units_of_text (c ∷ cs) = units_of_units (encode_utf16 c) (flat_map spell_utf16 cs) ∙ ap (λ us. encode_utf16 c ++ us) (units_of_text cs)

@@ -1,5 +1,8 @@
+pub mod AsciiLemmas
 pub mod CountLemmas
 pub mod LaneLemmas
+pub mod MidwayLemmas
+pub mod PairLemmas
 pub mod RunLemmas
 pub mod StretchLemmas
 pub mod TextLemmas

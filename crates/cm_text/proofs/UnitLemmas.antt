@@ -21,7 +21,7 @@ first_bytes-append k (x ∷ []) ys even = absurd (omega arith)
 first_bytes-append zero (x ∷ y ∷ xs) ys even = absurd (omega arith)
 first_bytes-append (suc k) (x ∷ y ∷ xs) ys even = ap (λ us. x ∷ us) (first_bytes-append k xs ys (omega arith))
 
-length-units_half : (xs : List ℕ) → length (units xs) ≡ length xs / 2
+pub length-units_half : (xs : List ℕ) → length (units xs) ≡ length xs / 2
 length-units_half [] = refl
 length-units_half (x ∷ []) = omega arith
 length-units_half (x ∷ y ∷ xs) = omega (arith, length-units_half xs)

@@ -8,7 +8,7 @@ mod sizes;
 mod source;
 mod utf16;
 mod utf8;
-mod utf8_to_utf16;
+mod writes;
 
 pub use encoding::Encoding;
 pub use fault::TextFault;

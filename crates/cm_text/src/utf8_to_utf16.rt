@@ -1,1 +1,0 @@
-//! From UTF-8 to UTF-16.
