@@ -86,9 +86,10 @@ run_of ys n is =
     let xs = take n ys in
     let all : AreAscii xs = subst (λ k. AreAscii (take k ys)) (sym is) (ascii_in_run ys) in
     let long : length xs ≡ n = length-take-le n ys (omega (arith, prefix_len-le-length is_ascii ys)) in
-    record
-      { all = ascii_scalars xs all
-      ; split = sym (take-append-drop n ys) ∙ ap (λ zs. zs ++ drop n ys) (sym (ascii_utf8 xs all))
-      ; size = ap length (ascii_utf8 xs all) ∙ long
-      ; as_wide = ascii_utf16 xs all
-      ; size_wide = ap length (ascii_utf16 xs all) ∙ length-wide xs ∙ ap (λ k. 2 * k) long }
+    record {
+      all = ascii_scalars xs all;
+      split = sym (take-append-drop n ys) ∙ ap (λ zs. zs ++ drop n ys) (sym (ascii_utf8 xs all));
+      size = ap length (ascii_utf8 xs all) ∙ long;
+      as_wide = ascii_utf16 xs all;
+      size_wide = ap length (ascii_utf16 xs all) ∙ length-wide xs ∙ ap (λ k. 2 * k) long;
+    }

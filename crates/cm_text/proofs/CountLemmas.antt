@@ -40,9 +40,15 @@ begun_by_tests x = grind (arith, nat_tests)
 pub begun_by_counts : (xs : List ℕ) → sum_by units_begun xs + count_by (λ x. nat_le 128 x) xs ≡ length xs + count_by (λ x. nat_le 192 x) xs + count_by (λ x. nat_le 240 x) xs
 begun_by_counts [] = refl
 begun_by_counts (x ∷ xs) =
-    omega
-    ( arith, begun_by_tests x, begun_by_counts xs, sum_by-cons units_begun x xs, sum_by-cons (λ y. cond (nat_le 128 y) 1 0) x xs
-    , sum_by-cons (λ y. cond (nat_le 192 y) 1 0) x xs, sum_by-cons (λ y. cond (nat_le 240 y) 1 0) x xs )
+    omega (
+      arith,
+      begun_by_tests x,
+      begun_by_counts xs,
+      sum_by-cons units_begun x xs,
+      sum_by-cons (λ y. cond (nat_le 128 y) 1 0) x xs,
+      sum_by-cons (λ y. cond (nat_le 192 y) 1 0) x xs,
+      sum_by-cons (λ y. cond (nat_le 240 y) 1 0) x xs,
+    )
 
 pub below_of_scalar : (c : ℕ) → IsScalar c → c < 0x110000
 below_of_scalar c is = ⊎_elim (λ low. omega arith) (λ high. high.1) (scalar_cases c is)
@@ -57,16 +63,24 @@ begun_le_scalar c is = let below = below_of_scalar c is in grind (arith, nat_tes
 pub begun_by_text : (cs : List ℕ) → AllByRecursion IsScalar cs → 2 * sum_by units_begun (flat_map spell_utf8 cs) ≡ length (flat_map spell_utf16 cs)
 begun_by_text [] all = refl
 begun_by_text (c ∷ cs) all =
-    omega
-    ( arith, begun_by_scalar c all.0, begun_by_text cs all.1, sum_by-append units_begun (spell_utf8 c) (flat_map spell_utf8 cs)
-    , length-append (spell_utf16 c) (flat_map spell_utf16 cs) )
+    omega (
+      arith,
+      begun_by_scalar c all.0,
+      begun_by_text cs all.1,
+      sum_by-append units_begun (spell_utf8 c) (flat_map spell_utf8 cs),
+      length-append (spell_utf16 c) (flat_map spell_utf16 cs),
+    )
 
 pub begun_le_text : (cs : List ℕ) → AllByRecursion IsScalar cs → sum_by units_begun (flat_map spell_utf8 cs) ≤ length (flat_map spell_utf8 cs)
 begun_le_text [] all = omega arith
 begun_le_text (c ∷ cs) all =
-    omega
-    ( arith, begun_le_scalar c all.0, begun_le_text cs all.1, sum_by-append units_begun (spell_utf8 c) (flat_map spell_utf8 cs)
-    , length-append (spell_utf8 c) (flat_map spell_utf8 cs) )
+    omega (
+      arith,
+      begun_le_scalar c all.0,
+      begun_le_text cs all.1,
+      sum_by-append units_begun (spell_utf8 c) (flat_map spell_utf8 cs),
+      length-append (spell_utf8 c) (flat_map spell_utf8 cs),
+    )
 
 -- the same of the bytes of a text
 pub begun_le : (bytes : List ℕ) → IsSomeText IsScalar spell_utf8 bytes → sum_by units_begun bytes ≤ length bytes
@@ -85,7 +99,7 @@ sum_by-block_le f at n xs = omega (arith, sum_by-block f at n xs, sum_by-take-le
 pub sum_by-one_le : (f : ℕ → ℕ) (at : ℕ) (xs : List ℕ) → at < length xs → sum_by f (take at xs) + f (get_or xs at 0) ≤ sum_by f xs
 sum_by-one_le f at xs within =
     omega
-    ( arith, sum_by-take-le f xs (at + 1), ap (sum_by f) (take_more xs at 0 within), sum_by-append f (take at xs) (get_or xs at 0 ∷ []), sum_by-cons f (get_or xs at 0) [] )
+    (arith, sum_by-take-le f xs (at + 1), ap (sum_by f) (take_more xs at 0 within), sum_by-append f (take at xs) (get_or xs at 0 ∷ []), sum_by-cons f (get_or xs at 0) [])
 
 -- of one unit: the bytes that it takes, by four tests
 taken_by_tests : (low high : ℕ) → low < 256
@@ -100,11 +114,16 @@ taken_by_counts [] [] same fits = refl
 taken_by_counts [] (high ∷ highs) same fits = absurd (omega arith)
 taken_by_counts (low ∷ lows) [] same fits = absurd (omega arith)
 taken_by_counts (low ∷ lows) (high ∷ highs) same fits =
-    omega
-    ( arith, taken_by_tests low high fits.0.fits, taken_by_counts lows highs (omega arith) fits.1
-    , sum_by-cons bytes_taken (unit low high) (zip2 unit lows highs), sum_by-cons (λ y. cond (nat_le 216 y) 1 0) high highs
-    , sum_by-cons (λ y. cond (nat_le 128 y) 1 0) (mark low high) (zip2 mark lows highs), sum_by-cons (λ y. cond (nat_le 8 y) 1 0) high highs
-    , sum_by-cons (λ y. cond (nat_le 224 y) 1 0) high highs )
+    omega (
+      arith,
+      taken_by_tests low high fits.0.fits,
+      taken_by_counts lows highs (omega arith) fits.1,
+      sum_by-cons bytes_taken (unit low high) (zip2 unit lows highs),
+      sum_by-cons (λ y. cond (nat_le 216 y) 1 0) high highs,
+      sum_by-cons (λ y. cond (nat_le 128 y) 1 0) (mark low high) (zip2 mark lows highs),
+      sum_by-cons (λ y. cond (nat_le 8 y) 1 0) high highs,
+      sum_by-cons (λ y. cond (nat_le 224 y) 1 0) high highs,
+    )
 
 pub bytes_taken_le : (u : ℕ) → bytes_taken u ≤ 3
 bytes_taken_le u = grind (arith, nat_tests)
@@ -124,9 +143,13 @@ taken_by_scalar c is = let apart = scalar_cases c is in grind (arith, nat_tests)
 taken_by_text : (cs : List ℕ) → AllByRecursion IsScalar cs → sum_by bytes_taken (flat_map encode_utf16 cs) ≡ length (flat_map spell_utf8 cs)
 taken_by_text [] all = refl
 taken_by_text (c ∷ cs) all =
-    omega
-    ( arith, taken_by_scalar c all.0, taken_by_text cs all.1, sum_by-append bytes_taken (encode_utf16 c) (flat_map encode_utf16 cs)
-    , length-append (spell_utf8 c) (flat_map spell_utf8 cs) )
+    omega (
+      arith,
+      taken_by_scalar c all.0,
+      taken_by_text cs all.1,
+      sum_by-append bytes_taken (encode_utf16 c) (flat_map encode_utf16 cs),
+      length-append (spell_utf8 c) (flat_map spell_utf8 cs),
+    )
 
 pub taken_is : (cs bytes : List ℕ) → IsText IsScalar spell_utf16 cs bytes → sum_by bytes_taken (units bytes) ≡ length (flat_map spell_utf8 cs)
 taken_is cs bytes text = ap (λ xs. sum_by bytes_taken (units xs)) (sym text.is) ∙ ap (sum_by bytes_taken) (units_of_text cs) ∙ taken_by_text cs text.all
@@ -150,7 +173,7 @@ latin1_text : (cs : List ℕ) → AllByRecursion HasLatin1 cs → sum_by latin1_
 latin1_text [] all = refl
 latin1_text (c ∷ cs) all =
     omega
-    ( arith, latin1_scalar c all.0, latin1_text cs all.1, sum_by-cons latin1_taken c (flat_map spell_latin1 cs), length-append (spell_utf8 c) (flat_map spell_utf8 cs) )
+    (arith, latin1_scalar c all.0, latin1_text cs all.1, sum_by-cons latin1_taken c (flat_map spell_latin1 cs), length-append (spell_utf8 c) (flat_map spell_utf8 cs))
 
 pub latin1_is : (cs bytes : List ℕ) → IsText HasLatin1 spell_latin1 cs bytes → sum_by latin1_taken bytes ≡ length (flat_map spell_utf8 cs)
 latin1_is cs bytes text = ap (sum_by latin1_taken) (sym text.is) ∙ latin1_text cs text.all

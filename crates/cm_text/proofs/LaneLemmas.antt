@@ -9,7 +9,7 @@ use Rattle.std.specs.List.{prefix_len, flat_map}
 use Rattle.cm_text.specs.Ascii.{wide}
 use lib.Dec.{leb, eqb}
 use lib.Lanes.{zip2, mask_l, top, sel_l, chunk, pick_l, put_chunk}
-use Rattle.cm_text.specs.Utf16.{unit, units, first_bytes, second_bytes, mark}
+use Rattle.cm_text.specs.Utf16.{unit, units, first_bytes, second_bytes, mark, below_e0, is_plain}
 
 -- tests that agree give one run
 pub prefix_len-same : (p q : ℕ → Bool) → ((x : ℕ) → p x ≡ q x) → (xs : List ℕ) → prefix_len p xs ≡ prefix_len q xs
@@ -24,11 +24,11 @@ mask_from k xs long =
     (zip2_splat_left (λ a b. cond (leb a b) 255 0) k 16 xs long ∙ sym (zip2_splat (λ a b. cond (leb b a) 255 0) xs 16 k long))
     ∙ bitmask_splat w8 (λ x y. leb y x) xs 16 k long (omega arith)
 
-not_from : (x : ℕ) → not (leb 128 x) ≡ is_ascii x
-not_from x = grind (arith, nat_tests)
+not_from : (k x : ℕ) → not (leb k x) ≡ nat_lt x k
+not_from k x = grind (arith, nat_tests)
 
-pub prefix_len-ascii : (xs : List ℕ) → prefix_len (λ x. not (leb 128 x)) xs ≡ prefix_len is_ascii xs
-prefix_len-ascii xs = prefix_len-same (λ x. not (leb 128 x)) is_ascii not_from xs
+pub prefix_len-below : (k : ℕ) (xs : List ℕ) → prefix_len (λ x. not (leb k x)) xs ≡ prefix_len (λ x. nat_lt x k) xs
+prefix_len-below k xs = prefix_len-same (λ x. not (leb k x)) (λ x. nat_lt x k) (not_from k) xs
 
 -- two loads of sixteen lanes are the thirty-two bytes
 two_chunks : (at : ℕ) (xs : List ℕ) → chunk at 16 xs ++ chunk (at + 16) 16 xs ≡ chunk at 32 xs
@@ -143,3 +143,30 @@ pub narrowed : (at to : ℕ) (bytes out lows : List ℕ) → at + 32 ≤ length 
 narrowed at to bytes out lows within room low =
     let held : length lows ≡ 16 = ap length low ∙ length-first_bytes (chunk at 32 bytes) ∙ ap (λ n. n / 2) (length-chunk at 32 bytes within) in
     take_more_put_chunk to out lows (to + 16) (omega arith) room ∙ ap (λ ys. take to out ++ ys) low
+
+-- the second bytes of units that are no surrogates
+selected_e0 : (xs : List ℕ)
+    → sel_l (map (top 7) (zip2 (λ a b. cond (leb a b) 255 0) (map (λ _. 224) xs) xs)) (map (λ _. 0) xs) xs ≡ map below_e0 xs
+selected_e0 [] = refl
+selected_e0 (x ∷ xs) =
+    ap (λ y. y ∷ sel_l (map (top 7) (zip2 (λ a b. cond (leb a b) 255 0) (map (λ _. 224) xs) xs)) (map (λ _. 0) xs) xs) (one (leb 224 x))
+    ∙ ap (λ ys. below_e0 x ∷ ys) (selected_e0 xs)
+  where
+    one : (b : Bool) → cond (top 7 (cond b 255 0)) 0 x ≡ cond b 0 x
+    one true = refl
+    one false = refl
+
+pub selected_e0_16 : (xs : List ℕ) → length xs ≡ 16
+    → sel_l (map (top 7) (zip2 (λ a b. cond (leb a b) 255 0) (replicate 16 224) xs)) (replicate 16 0) xs ≡ map below_e0 xs
+selected_e0_16 xs long =
+    ap (λ zs. sel_l (map (top 7) (zip2 (λ a b. cond (leb a b) 255 0) zs xs)) (replicate 16 0) xs) (splat_is_map xs 16 224 long)
+    ∙ ap (λ zs. sel_l (map (top 7) (zip2 (λ a b. cond (leb a b) 255 0) (map (λ _. 224) xs) xs)) zs xs) (splat_is_map xs 16 0 long)
+    ∙ selected_e0 xs
+
+plain_by_test : (x : ℕ) → nat_lt (below_e0 x) 216 ≡ is_plain x
+plain_by_test x = grind (arith, nat_tests)
+
+pub plain_run : (xs : List ℕ) → prefix_len (λ x. nat_lt x 216) (map below_e0 xs) ≡ prefix_len is_plain xs
+plain_run [] = refl
+plain_run (x ∷ xs) =
+    ap (λ b. cond b (1 + prefix_len (λ y. nat_lt y 216) (map below_e0 xs)) 0) (plain_by_test x) ∙ ap (λ n. cond (is_plain x) (1 + n) 0) (plain_run xs)

@@ -46,14 +46,15 @@ module _ (has : ℕ → Type 0) (spell spell_to : ℕ → List ℕ) (laws : Laws
   further bytes out new at to size n xs rest m all split size_is room is =
       let after : drop (at + size) bytes ≡ rest =
       sym (drop-drop size at bytes) ∙ ap (drop size) split ∙ drop_at (flat_map spell xs) rest size size_is in
-      record
-        { done = m.done ++ xs
-        ; all = all-append has m.done xs m.all all
-        ; at_le = omega (arith, m.at_le, length-drop at bytes, ap length split, length-append (flat_map spell xs) rest)
-        ; to_le = room
-        ; read = m.read ∙ ap (λ ys. flat_map spell m.done ++ ys) split ∙ sym (append_assoc (flat_map spell m.done) (flat_map spell xs) rest)
-            ∙ ap (λ ys. ys ++ rest) (sym (flat_map-append spell m.done xs)) ∙ ap (λ ys. flat_map spell (m.done ++ xs) ++ ys) (sym after)
-        ; wrote = is ∙ ap (λ ys. ys ++ flat_map spell_to xs) m.wrote ∙ sym (flat_map-append spell_to m.done xs) }
+      record {
+        done = m.done ++ xs;
+        all = all-append has m.done xs m.all all;
+        at_le = omega (arith, m.at_le, length-drop at bytes, ap length split, length-append (flat_map spell xs) rest);
+        to_le = room;
+        read = m.read ∙ ap (λ ys. flat_map spell m.done ++ ys) split ∙ sym (append_assoc (flat_map spell m.done) (flat_map spell xs) rest)
+            ∙ ap (λ ys. ys ++ rest) (sym (flat_map-append spell m.done xs)) ∙ ap (λ ys. flat_map spell (m.done ++ xs) ++ ys) (sym after);
+        wrote = is ∙ ap (λ ys. ys ++ flat_map spell_to xs) m.wrote ∙ sym (flat_map-append spell_to m.done xs);
+      }
 
   -- before the end a scalar begins
   pub begins : (bytes out : List ℕ) (at to total : ℕ) → IsTextOfSize has spell spell_to bytes total → Midway has spell spell_to bytes at out to → at < length bytes

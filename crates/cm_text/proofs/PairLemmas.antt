@@ -1,5 +1,5 @@
 -- A run of ASCII midway from one encoding into another.
-use Rattle.std.proofs.Common.{◌≡◌, ℕ, ◌+◌, ◌*◌, ◌/◌, ◌<◌, ◌≤◌, List, [], ◌∷◌, ◌++◌, length, take, drop, get_or, refl, sym, ap, subst, ◌∙◌, arith, zero, suc, length-append, length-drop}
+use Rattle.std.proofs.Common.{◌≡◌, ℕ, ◌+◌, ◌*◌, ◌/◌, ◌<◌, ◌≤◌, List, [], ◌∷◌, ◌++◌, length, take, drop, get_or, refl, sym, ap, subst, ◌∙◌, arith, zero, suc, length-append, length-drop, Fits, w8}
 use Rattle.std.proofs.lemmas.List.{take-append-drop, length-take-le, drop_more}
 use Rattle.std.proofs.lemmas.List.Sums.{prefix_len-le-length}
 use Rattle.std.specs.Char.{IsScalar, is_ascii}
@@ -64,11 +64,12 @@ unit_run_of ys n is =
     let long : length (take (2 * n) ys) ≡ 2 * n = length-take-le (2 * n) ys within in
     let all : AreAscii (units (take (2 * n) ys)) =
     subst AreAscii (take-units n ys) (subst (λ k. AreAscii (take k (units ys))) (sym is) (ascii_in_run (units ys))) in
-    record
-      { all = first_of_ascii (take (2 * n) ys) all
-      ; whole = wide-first_bytes n (take (2 * n) ys) long all
-      ; within = within
-      ; count = length-first_bytes (take (2 * n) ys) ∙ ap (λ k. k / 2) long ∙ omega arith }
+    record {
+      all = first_of_ascii (take (2 * n) ys) all;
+      whole = wide-first_bytes n (take (2 * n) ys) long all;
+      within = within;
+      count = length-first_bytes (take (2 * n) ys) ∙ ap (λ k. k / 2) long ∙ omega arith;
+    }
 
 module _ (bytes out : List ℕ) (at to n : ℕ) (is : n ≡ prefix_len is_ascii (units (drop at bytes))) (m : Midway IsScalar spell_utf16 spell_utf8 bytes at out to) where
   narrow_split : (ys : List ℕ) (n : ℕ) → UnitRun ys n → ys ≡ flat_map spell_utf16 (first_bytes (take (2 * n) ys)) ++ drop (2 * n) ys
@@ -100,6 +101,11 @@ module _ (bytes out : List ℕ) (at to n : ℕ) (is : n ≡ prefix_len is_ascii 
 pub latin1_spelled : (xs : List ℕ) → flat_map spell_latin1 xs ≡ xs
 latin1_spelled [] = refl
 latin1_spelled (x ∷ xs) = ap (λ ys. x ∷ ys) (latin1_spelled xs)
+
+-- any bytes are a text
+pub fits_latin1 : (xs : List ℕ) → ((i : ℕ) → Fits w8 (get_or xs i 0)) → AllByRecursion HasLatin1 xs
+fits_latin1 [] fits = tt
+fits_latin1 (x ∷ xs) fits = ((fits 0).fits, fits_latin1 xs (λ i. fits (suc i)))
 
 module _ (bytes out : List ℕ) (at to n : ℕ) (is : n ≡ prefix_len is_ascii (drop at bytes)) (m : Midway HasLatin1 spell_latin1 spell_utf8 bytes at out to) where
   copy_split : (ys : List ℕ) (n : ℕ) → ys ≡ flat_map spell_latin1 (take n ys) ++ drop n ys

@@ -85,3 +85,22 @@ module _ (has : ℕ → Type 0) (spell : ℕ → List ℕ) (laws : Laws has spel
 pub record Read (has : ℕ → Type 0) (spell : ℕ → List ℕ) (done bytes rest : List ℕ) : Type 0 where
   pub all : AllByRecursion has done
   pub split : bytes ≡ flat_map spell done ++ rest
+
+abbrev pub ReadSome : (ℕ → Type 0) → (ℕ → List ℕ) → List ℕ → List ℕ → Type 0
+ReadSome has spell bytes rest = (done : List ℕ) × Read has spell done bytes rest
+
+-- one scalar more, and some more after it
+pub read_more : (has : ℕ → Type 0) (spell : ℕ → List ℕ) (done bytes rest : List ℕ) (c : ℕ) (after cs left : List ℕ) → Read has spell done bytes rest → has c
+    → rest ≡ spell c ++ after → AllByRecursion has cs → after ≡ flat_map spell cs ++ left → Read has spell (done ++ c ∷ cs) bytes left
+read_more has spell done bytes rest c after cs left so_far is_c first all more = record {
+  all = all-append has done (c ∷ cs) so_far.all (is_c, all);
+  split = so_far.split
+      ∙ ap (λ ys. flat_map spell done ++ ys) (first ∙ ap (λ ys. spell c ++ ys) more ∙ sym (append_assoc (spell c) (flat_map spell cs) left))
+      ∙ sym (append_assoc (flat_map spell done) (flat_map spell (c ∷ cs)) left)
+      ∙ ap (λ ys. ys ++ left) (sym (flat_map-append spell done (c ∷ cs)));
+}
+
+-- what holds of each element, weakened
+pub all-weaker : (P Q : ℕ → Type 0) → ((x : ℕ) → P x → Q x) → (xs : List ℕ) → AllByRecursion P xs → AllByRecursion Q xs
+all-weaker P Q weaker [] all = tt
+all-weaker P Q weaker (x ∷ xs) all = (weaker x all.0, all-weaker P Q weaker xs all.1)

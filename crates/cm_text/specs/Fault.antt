@@ -12,3 +12,8 @@ IsIllFormed Memory holds = ⊥
 abbrev pub IfIllFormed : TextFault → (ℕ → Type 0) → Type 0
 IfIllFormed (IllFormed at) holds = holds at
 IfIllFormed Memory holds = Unit {0}
+
+-- the fault is Memory
+abbrev pub IsMemory : TextFault → Type 0
+IsMemory (IllFormed at) = ⊥
+IsMemory Memory = Unit {0}

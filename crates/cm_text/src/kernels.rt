@@ -1,28 +1,36 @@
 //! Runs of ASCII, sixteen lanes at a time.
 
-ghost use Rattle.std.specs.Prelude.{◌≡◌, ℕ, ◌+◌, ◌*◌, ◌<◌, ◌≤◌, ◌++◌, length, take, drop, All};
-ghost use Rattle.std.specs.Char.{is_ascii};
-ghost use Rattle.std.specs.List.{prefix_len, flat_map};
+ghost use Rattle.std.specs.Prelude.{◌≡◌, ℕ, ◌+◌, ◌*◌, ◌<◌, ◌≤◌, List, ◌++◌, length, take, drop, map, nat_lt, All};
+ghost use Rattle.std.specs.Char.{IsScalar, is_ascii};
+ghost use Rattle.std.specs.List.{AllByRecursion, prefix_len, flat_map};
 ghost use Rattle.std.specs.Simd.Lanes.{chunk, zip2};
 ghost use Rattle.cm_text.specs.Ascii.{ascii_run, ascii_units, wide};
-ghost use Rattle.cm_text.specs.Utf16.{unit, units, first_bytes, second_bytes, mark};
+ghost use Rattle.cm_text.specs.Utf16.{unit, units, first_bytes, second_bytes, mark, below_e0, is_plain, spell_utf16};
 
 use std::simd::prelude::*;
 
 /// How many lanes a block has.
 pub(crate) const LANES: usize = 16;
 
-/// How many of the sixteen lanes come before the first that is not below 0x80.
+/// How many of the sixteen lanes come before the first that is `least` or more.
 #[inline(always)]
-fn run_of(lanes: u8x16) -> usize
-    ensures { result ≡ prefix_len is_ascii lanes }
+fn run_below(lanes: u8x16, least: u8) -> usize
+    ensures { result ≡ prefix_len (λ x. nat_lt x least) lanes }
 {
-    let others = lanes.simd_ge(u8x16::splat(0x80)).to_bitmask();
+    let others = lanes.simd_ge(u8x16::splat(least)).to_bitmask();
     if others == 0 {
         16
     } else {
         others.trailing_zeros() as usize
     }
+}
+
+/// How many of the sixteen lanes come before the first that is not below 0x80.
+#[inline(always)]
+fn run_of(lanes: u8x16) -> usize
+    ensures { result ≡ prefix_len is_ascii lanes }
+{
+    run_below(lanes, 0x80)
 }
 
 /// How many of the sixteen bytes from `at` on come before the first that is not ASCII.
@@ -226,4 +234,40 @@ pub fn narrow(bytes: &[u8], out: &mut [u8])
         out[to] = bytes[2 * to];
         to += 1;
     }
+}
+
+/// The lanes, with 0 for those that are 0xE0 or more.
+#[inline(always)]
+fn below_e0(high: u8x16) -> u8x16
+    ensures { result ≡ map below_e0 high }
+{
+    high.simd_ge(u8x16::splat(0xE0))
+        .select(u8x16::splat(0), high)
+}
+
+/// How many of the sixteen units of UTF-16 from `at` on come before the first surrogate.
+#[inline(always)]
+fn plain_in(bytes: &[u8], at: usize) -> usize
+    requires { at + 32 ≤ length bytes.now }
+    ensures { result ≡ prefix_len is_plain (second_bytes (chunk at 32 bytes.now)) }
+{
+    let (_, high) = units_at(bytes, at);
+    run_below(below_e0(high), 0xD8)
+}
+
+/// The bytes after some units of UTF-16 that are no surrogates. Where fewer than sixteen units are left, or the
+/// first is a surrogate, that may be none.
+#[inline(always)]
+pub(crate) fn after_plain_units(bytes: &[u8]) -> &[u8]
+    ensures { (scalars : List ℕ) × AllByRecursion IsScalar scalars × (bytes.now ≡ flat_map spell_utf16 scalars ++ result.now) }
+{
+    let mut at = 0;
+    while bytes.len() - at >= 2 * LANES {
+        let run = plain_in(bytes, at);
+        if run < LANES {
+            return &bytes[at + 2 * run..];
+        }
+        at += 2 * LANES;
+    }
+    &bytes[at..]
 }

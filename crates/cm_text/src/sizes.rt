@@ -20,10 +20,7 @@ fn count_from(lanes: u8x16, least: u8) -> usize
     ensures value { result ≡ count_by (λ x. nat_le least x) lanes }
     ensures most { result ≤ 16 }
 {
-    lanes
-        .simd_ge(u8x16::splat(least))
-        .to_bitmask()
-        .count_ones() as usize
+    lanes.simd_ge(u8x16::splat(least)).to_bitmask().count_ones() as usize
 }
 
 /// How many units of UTF-16 a scalar takes whose spelling in UTF-8 begins with this byte.
@@ -94,7 +91,8 @@ fn bytes_taken_of(low: u8x16, high: u8x16) -> usize
     ensures { result ≡ sum_by bytes_taken (zip2 unit low high) }
 {
     let marked = marked(low, high);
-    LANES + count_from(marked, 0x80) + count_from(high, 0x08) + count_from(high, 0xE0) - count_from(high, 0xD8)
+    LANES + count_from(marked, 0x80) + count_from(high, 0x08) + count_from(high, 0xE0)
+        - count_from(high, 0xD8)
 }
 
 /// The same over the sixteen units from `at` on.

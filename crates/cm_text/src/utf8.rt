@@ -1,13 +1,107 @@
 //! UTF-8 (the Unicode Standard, D92).
 
-ghost use Rattle.std.specs.Prelude.{◌≡◌, ℕ, ◌+◌, ◌*◌, ◌%◌, ◌<◌, ◌≤◌, ◌++◌, length, take, drop};
+ghost use Rattle.std.specs.Prelude.{◌≡◌, ℕ, ◌+◌, ◌*◌, ◌%◌, ◌<◌, ◌≤◌, ◌++◌, length, take, drop, OnOk, OnErr, IfErr, IfSome, IfNone};
 ghost use Rattle.std.specs.Char.{IsScalar};
 ghost use Rattle.cm_text.specs.Text.{BeginsWith, BeginsWithSome};
 ghost use Rattle.cm_text.specs.Utf8.{spell_utf8};
 
+use crate::{Encoding, Source, TextFault, sizes, writes};
+use std::alloc::AllocError;
+
 /// UTF-8.
 #[derive(Clone, Copy, Debug, PartialEq, Eq)]
 pub struct Utf8;
+
+impl Source for Utf8 {
+    ghost use Rattle.cm_text.specs.Utf8Laws.{utf8_some_byte, utf8_one_spelling, utf8_units};
+
+    ghost has = { IsScalar };
+
+    ghost spell = { spell_utf8 };
+
+    ghost UNIT_SIZE = { 1 };
+
+    ghost ALIGNMENT = { 1 };
+
+    const UNIT_SIZE: usize = 1;
+
+    const ALIGNMENT: usize = 1;
+
+    fn split_first(bytes: &[u8]) -> Option<(char, &[u8])> {
+        match bstr::decode_utf8(bytes) {
+            (Some(scalar), size) => Some((scalar, after(bytes, size))),
+            (None, _) => None,
+        }
+    }
+
+    fn check(bytes: &[u8]) -> Result<(), TextFault> {
+        match simdutf8::compat::from_utf8(bytes) {
+            Ok(_) => Ok(()),
+            Err(fault) => Err(TextFault::IllFormed {
+                at: fault.valid_up_to(),
+            }),
+        }
+    }
+
+    fn size_in_utf8(bytes: &[u8]) -> usize {
+        bytes.len()
+    }
+
+    fn size_in_utf16(bytes: &[u8]) -> usize {
+        sizes::utf8_in_utf16(bytes)
+    }
+
+    fn write_utf8(bytes: &[u8], out: &mut [u8]) {
+        writes::copy(bytes, out);
+    }
+
+    fn write_utf16(bytes: &[u8], out: &mut [u8]) {
+        writes::utf8_to_utf16(bytes, out);
+    }
+
+    ghost only_scalars = { λ c is. is };
+
+    ghost whole_units = { λ c is. utf8_units c };
+
+    ghost some_byte = { λ c is. utf8_some_byte c };
+
+    ghost one_spelling = { λ c d x y is_c is_d same. utf8_one_spelling c d x y same };
+}
+
+impl Encoding for Utf8 {
+    ghost use Rattle.cm_text.specs.Utf8Laws.{utf8_grows};
+
+    ghost GREATEST_GROWTH = { 3 };
+
+    const GREATEST_GROWTH: usize = 3;
+
+    fn append(out: &mut Vec<u8>, scalar: char) -> Result<(), AllocError> {
+        let mut room = [0; 4];
+        let size = put_utf8(&mut room, 0, scalar as u32);
+        out.extend_from_slice(&room[..size])
+    }
+
+    fn size_of<S: Source>(bytes: &[u8]) -> usize {
+        S::size_in_utf8(bytes)
+    }
+
+    fn write<S: Source>(bytes: &[u8], out: &mut [u8]) {
+        S::write_utf8(bytes, out);
+    }
+
+    ghost every = { λ c is. is };
+
+    ghost grows = { λ c is. utf8_grows c };
+}
+
+/// The bytes after the first few.
+#[inline(always)]
+fn after(bytes: &[u8], size: usize) -> &[u8]
+    requires { size ≤ length bytes.now }
+    ensures { result.now ≡ drop size bytes.now }
+{
+    &bytes[size..]
+}
 
 /// Six bits more of a scalar, from a byte that goes on with its spelling.
 #[inline(always)]

@@ -11,18 +11,29 @@ pub overflow_add-size : goal.overflow_add-size
 overflow_add-size c =
     let k = c.loop-count.count in
     let xs = c.args.bytes.now in
-    omega
-    ( arith, c.loop-count.invariant.1, c.bytes_taken_in-size.ensures, taken_le (units (take (2 * k) xs)), taken_le (units (chunk (2 * k) 32 xs))
-    , length-units_front k xs c.loop-count.invariant.0, length-units (2 * k) 16 xs (omega arith) )
+    omega (
+      arith,
+      c.loop-count.invariant.1,
+      c.bytes_taken_in-size.ensures,
+      taken_le (units (take (2 * k) xs)),
+      taken_le (units (chunk (2 * k) 32 xs)),
+      length-units_front k xs c.loop-count.invariant.0,
+      length-units (2 * k) 16 xs (omega arith),
+    )
 
 pub loop-count-preserved : goal.loop-count-preserved
 loop-count-preserved c =
     let k = c.loop-count.count in
-    let xs = c.args.bytes.now in
-    ( omega arith
-    , omega
-      ( arith, c.loop-count.invariant.1, c.bytes_taken_in-size.ensures, ap (sum_by bytes_taken) (units-take k 16 xs (omega arith))
-      , sum_by-append bytes_taken (units (take (2 * k) xs)) (units (chunk (2 * k) 32 xs)) ) )
+    let xs = c.args.bytes.now in (
+      omega arith,
+      omega (
+        arith,
+        c.loop-count.invariant.1,
+        c.bytes_taken_in-size.ensures,
+        ap (sum_by bytes_taken) (units-take k 16 xs (omega arith)),
+        sum_by-append bytes_taken (units (take (2 * k) xs)) (units (chunk (2 * k) 32 xs)),
+      ),
+    )
 
 pub overflow_add-size-in-loop-count-2 : goal.overflow_add-size-in-loop-count-2
 overflow_add-size-in-loop-count-2 c =
@@ -34,11 +45,17 @@ pub loop-count-2-preserved : goal.loop-count-2-preserved
 loop-count-2-preserved c =
     let k = c.loop-count-2.count in
     let xs = c.args.bytes.now in
-    let u = unit (get_or xs (2 * k) 0) (get_or xs (2 * k + 1) 0) in
-    ( omega arith
-    , omega
-      ( arith, c.loop-count-2.invariant.1, c.bytes_taken-size.ensures ∙ ap bytes_taken c.unit.ensures, ap (sum_by bytes_taken) (units-take_one k xs (omega arith))
-      , sum_by-append bytes_taken (units (take (2 * k) xs)) (u ∷ []), sum_by-cons bytes_taken u [] ) )
+    let u = unit (get_or xs (2 * k) 0) (get_or xs (2 * k + 1) 0) in (
+      omega arith,
+      omega (
+        arith,
+        c.loop-count-2.invariant.1,
+        c.bytes_taken-size.ensures ∙ ap bytes_taken c.unit.ensures,
+        ap (sum_by bytes_taken) (units-take_one k xs (omega arith)),
+        sum_by-append bytes_taken (units (take (2 * k) xs)) (u ∷ []),
+        sum_by-cons bytes_taken u [],
+      ),
+    )
 
 pub returns : goal.returns
 returns c =
