@@ -25,7 +25,7 @@ use Rattle.cm_text.proofs.LaneLemmas.{mask_from}
 -- the lanes from k on are as many as the bits of their mask
 pub ones_from : (k : ℕ) (xs : List ℕ) → length xs ≡ 16
     → count_ones (mask_l (map (top 7) (zip2 (λ a b. cond (leb a b) 255 0) (replicate 16 k) xs)) % 2 ^ 64) ≡ count_by (λ x. nat_le k x) xs
-ones_from k xs long = ap count_ones (mask_from k xs long) ∙ ones-mask_l (λ x. leb k x) xs
+ones_from k xs long = ap count_ones (mask_from 16 k xs long (omega arith)) ∙ ones-mask_l (λ x. leb k x) xs
 
 pub count_le : (p : ℕ → Bool) (xs : List ℕ) (n : ℕ) → length xs ≡ n → count_by p xs ≤ n
 count_le p xs n long = omega (arith, count_by-le-length p xs)

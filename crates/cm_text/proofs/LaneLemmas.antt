@@ -17,12 +17,12 @@ prefix_len-same p q same [] = refl
 prefix_len-same p q same (x ∷ xs) = ap (λ b. cond b (1 + prefix_len p xs) 0) (same x) ∙ ap (λ n. cond (q x) (1 + n) 0) (prefix_len-same p q same xs)
 
 -- the mask of the lanes from k on, where the splat stands on the left
-pub mask_from : (k : ℕ) (xs : List ℕ) → length xs ≡ 16
-    → mask_l (map (top 7) (zip2 (λ a b. cond (leb a b) 255 0) (replicate 16 k) xs)) % 2 ^ 64 ≡ mask_l (map (λ x. leb k x) xs)
-mask_from k xs long =
+pub mask_from : (n k : ℕ) (xs : List ℕ) → length xs ≡ n → n ≤ 64
+    → mask_l (map (top 7) (zip2 (λ a b. cond (leb a b) 255 0) (replicate n k) xs)) % 2 ^ 64 ≡ mask_l (map (λ x. leb k x) xs)
+mask_from n k xs long few =
     ap (λ ys. mask_l (map (top 7) ys) % 2 ^ 64)
-    (zip2_splat_left (λ a b. cond (leb a b) 255 0) k 16 xs long ∙ sym (zip2_splat (λ a b. cond (leb b a) 255 0) xs 16 k long))
-    ∙ bitmask_splat w8 (λ x y. leb y x) xs 16 k long (omega arith)
+    (zip2_splat_left (λ a b. cond (leb a b) 255 0) k n xs long ∙ sym (zip2_splat (λ a b. cond (leb b a) 255 0) xs n k long))
+    ∙ bitmask_splat w8 (λ x y. leb y x) xs n k long few
 
 not_from : (k x : ℕ) → not (leb k x) ≡ nat_lt x k
 not_from k x = grind (arith, nat_tests)

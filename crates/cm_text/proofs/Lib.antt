@@ -10,3 +10,4 @@ pub mod TextLemmas
 pub mod UnitLemmas
 pub mod Utf8Lemmas
 pub mod FaultLemmas
+pub mod TightLemmas

@@ -1,12 +1,13 @@
 //! Encodings that texts are written in.
 
-ghost use Rattle.std.specs.Prelude.{◌≡◌, ℕ, ◌+◌, ◌*◌, ◌<◌, ◌≤◌, List, ◌++◌, length, OnOk, OnErr};
+ghost use Rattle.std.specs.Prelude.{◌≡◌, ℕ, ◌+◌, ◌*◌, ◌<◌, ◌≤◌, List, ◌++◌, length, OnOk, OnErr, IfOk, IfErr};
 ghost use Rattle.std.specs.List.{flat_map};
 ghost use Rattle.std.specs.Char.{IsScalar};
 ghost use Rattle.std.specs.Char.Escape.{encode_utf16};
-ghost use Rattle.cm_text.specs.Text.{IsText, IsSomeText, IsTextOfSize, IsSameText};
+ghost use Rattle.cm_text.specs.Text.{IsTextUpTo, IsTextOfSize, IsSameText};
+ghost use Rattle.cm_text.specs.Fault.{IsIllFormed};
 
-use crate::Source;
+use crate::{Source, TextFault};
 use std::alloc::AllocError;
 
 /// An encoding that texts are written in: each Unicode scalar value has a spelling.
@@ -21,12 +22,12 @@ pub trait Encoding: Source {
         ensures ok { OnOk result (out.new.items ≡ out.old.items ++ Self.spell scalar) }
         ensures err { OnErr result (out.new.items ≡ out.old.items) };
 
-    /// How many bytes a text of `S` takes in this encoding.
-    fn size_of<S: Source>(bytes: &[u8]) -> usize
-        requires { IsSomeText S.has S.spell bytes.now }
-        ensures { (scalars : List ℕ) → IsText S.has S.spell scalars bytes.now → result ≡ length (flat_map Self.spell scalars) };
+    /// How many bytes a text of `S` takes in this encoding; else IllFormed as the check of `S` answers it.
+    fn measure<S: Source>(bytes: &[u8]) -> Result<usize, TextFault>
+        ensures ok { IfOk result (IsTextOfSize S.has S.spell Self.spell bytes.now) }
+        ensures ill_formed { IfErr result (λ e. IsIllFormed e (IsTextUpTo S.has S.spell bytes.now)) };
 
-    /// Writes a text of `S` in this encoding.
+    /// Writes a text of `S` in this encoding into a slice of its size here.
     fn write<S: Source>(bytes: &[u8], out: &mut [u8])
         requires { IsTextOfSize S.has S.spell Self.spell bytes.now (length out.old) }
         ensures { IsSameText S.has S.spell Self.spell bytes.now out.new };

@@ -1,6 +1,6 @@
 //! Runs of ASCII, sixteen lanes at a time.
 
-ghost use Rattle.std.specs.Prelude.{◌≡◌, ℕ, ◌+◌, ◌*◌, ◌<◌, ◌≤◌, List, ◌++◌, length, take, drop, map, nat_lt, All};
+ghost use Rattle.std.specs.Prelude.{◌≡◌, ℕ, ◌+◌, ◌*◌, ◌<◌, ◌≤◌, List, ◌++◌, length, take, drop, map, nat_lt, All, IsTrue};
 ghost use Rattle.std.specs.Char.{IsScalar, is_ascii};
 ghost use Rattle.std.specs.List.{AllByRecursion, prefix_len, flat_map};
 ghost use Rattle.std.specs.Simd.Lanes.{chunk, zip2};
@@ -154,11 +154,37 @@ pub(crate) fn narrow_run(bytes: &[u8], at: usize, out: &mut [u8], to: usize) -> 
     run
 }
 
+/// Whether the sixty-four bytes from `at` on are ASCII.
+#[inline(always)]
+fn is_ascii_in(bytes: &[u8], at: usize) -> bool
+    requires { at + 64 ≤ length bytes.now }
+    ensures { IsTrue result → prefix_len is_ascii (chunk at 64 bytes.now) ≡ 64 }
+{
+    let lanes = u8x64::from_slice(&bytes[at..]);
+    lanes.simd_ge(u8x64::splat(0x80)).to_bitmask() == 0
+}
+
+/// How many bytes the blocks of sixty-four have that the longest beginning of ASCII begins with.
+#[inline(always)]
+fn ascii_blocks(bytes: &[u8]) -> usize
+    ensures within { result ≤ length bytes.now }
+    ensures run { result + ascii_run (drop result bytes.now) ≡ ascii_run bytes.now }
+{
+    let mut at = 0;
+    while bytes.len() - at >= 64 {
+        if !is_ascii_in(bytes, at) {
+            return at;
+        }
+        at += 64;
+    }
+    at
+}
+
 /// The length in bytes of the longest beginning of `bytes` in which each byte is below 0x80.
 pub fn ascii_run(bytes: &[u8]) -> usize
     ensures { result ≡ ascii_run bytes.now }
 {
-    let mut at = 0;
+    let mut at = ascii_blocks(bytes);
     while bytes.len() - at >= LANES {
         let run = run_in(bytes, at);
         if run < LANES {

@@ -36,12 +36,12 @@ impl Source for Latin1 {
         Ok(())
     }
 
-    fn size_in_utf8(bytes: &[u8]) -> usize {
-        sizes::latin1_in_utf8(bytes)
+    fn measure_utf8(bytes: &[u8]) -> Result<usize, TextFault> {
+        Ok(sizes::latin1_in_utf8(bytes))
     }
 
-    fn size_in_utf16(bytes: &[u8]) -> usize {
-        2 * bytes.len()
+    fn measure_utf16(bytes: &[u8]) -> Result<usize, TextFault> {
+        Ok(2 * bytes.len())
     }
 
     fn write_utf8(bytes: &[u8], out: &mut [u8]) {

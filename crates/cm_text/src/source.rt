@@ -42,22 +42,22 @@ pub trait Source {
         ensures ok { OnOk result (IsSomeText has spell bytes.now) }
         ensures ill_formed { IfErr result (λ e. IsIllFormed e (IsTextUpTo has spell bytes.now)) };
 
-    /// How many bytes the text takes in UTF-8.
-    fn size_in_utf8(bytes: &[u8]) -> usize
-        requires { IsSomeText has spell bytes.now }
-        ensures { (scalars : List ℕ) → IsText has spell scalars bytes.now → result ≡ length (flat_map spell_utf8 scalars) };
+    /// How many bytes the text takes in UTF-8; else IllFormed as `check` answers it.
+    fn measure_utf8(bytes: &[u8]) -> Result<usize, TextFault>
+        ensures ok { IfOk result (IsTextOfSize has spell spell_utf8 bytes.now) }
+        ensures ill_formed { IfErr result (λ e. IsIllFormed e (IsTextUpTo has spell bytes.now)) };
 
-    /// How many bytes the text takes in UTF-16.
-    fn size_in_utf16(bytes: &[u8]) -> usize
-        requires { IsSomeText has spell bytes.now }
-        ensures { (scalars : List ℕ) → IsText has spell scalars bytes.now → result ≡ length (flat_map spell_utf16 scalars) };
+    /// How many bytes the text takes in UTF-16; else IllFormed as `check` answers it.
+    fn measure_utf16(bytes: &[u8]) -> Result<usize, TextFault>
+        ensures ok { IfOk result (IsTextOfSize has spell spell_utf16 bytes.now) }
+        ensures ill_formed { IfErr result (λ e. IsIllFormed e (IsTextUpTo has spell bytes.now)) };
 
-    /// Writes the text in UTF-8.
+    /// Writes a text in UTF-8 into a slice of its size there.
     fn write_utf8(bytes: &[u8], out: &mut [u8])
         requires { IsTextOfSize has spell spell_utf8 bytes.now (length out.old) }
         ensures { IsSameText has spell spell_utf8 bytes.now out.new };
 
-    /// Writes the text in UTF-16.
+    /// Writes a text in UTF-16 into a slice of its size there.
     fn write_utf16(bytes: &[u8], out: &mut [u8])
         requires { IsTextOfSize has spell spell_utf16 bytes.now (length out.old) }
         ensures { IsSameText has spell spell_utf16 bytes.now out.new };

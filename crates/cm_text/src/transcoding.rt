@@ -33,8 +33,7 @@ pub fn transcoded_size<S: Source, D: Encoding>(bytes: &[u8]) -> Result<usize, Te
     ensures ok { IfOk result (IsTextOfSize S.has S.spell D.spell bytes.now) }
     ensures ill_formed { IfErr result (λ e. IsIllFormed e (IsTextUpTo S.has S.spell bytes.now)) }
 {
-    S::check(bytes)?;
-    Ok(D::size_of::<S>(bytes))
+    D::measure::<S>(bytes)
 }
 
 /// Writes the text in another encoding into a slice of its size there, as `transcoded_size` answers it; takes

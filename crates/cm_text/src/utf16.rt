@@ -7,7 +7,7 @@ ghost use Rattle.std.specs.Char.{IsScalar};
 ghost use Rattle.cm_text.specs.Text.{BeginsWith, BeginsWithSome, IsSomeText, IsTextUpTo};
 ghost use Rattle.cm_text.specs.Utf16.{unit, bytes_of_unit, spell_utf16};
 
-use crate::kernels::after_plain_units;
+use crate::kernels::{after_plain_units, ascii_units};
 use crate::{Encoding, Source, TextFault, sizes, writes};
 use std::alloc::AllocError;
 
@@ -38,12 +38,18 @@ impl Source for Utf16 {
         check_utf16(bytes)
     }
 
-    fn size_in_utf8(bytes: &[u8]) -> usize {
-        sizes::utf16_in_utf8(bytes)
+    fn measure_utf8(bytes: &[u8]) -> Result<usize, TextFault> {
+        let units = ascii_units(bytes);
+        if 2 * units == bytes.len() {
+            return Ok(units);
+        }
+        check_utf16(bytes)?;
+        Ok(sizes::utf16_in_utf8(bytes))
     }
 
-    fn size_in_utf16(bytes: &[u8]) -> usize {
-        bytes.len()
+    fn measure_utf16(bytes: &[u8]) -> Result<usize, TextFault> {
+        check_utf16(bytes)?;
+        Ok(bytes.len())
     }
 
     fn write_utf8(bytes: &[u8], out: &mut [u8]) {
@@ -76,8 +82,8 @@ impl Encoding for Utf16 {
         out.extend_from_slice(&room[..size])
     }
 
-    fn size_of<S: Source>(bytes: &[u8]) -> usize {
-        S::size_in_utf16(bytes)
+    fn measure<S: Source>(bytes: &[u8]) -> Result<usize, TextFault> {
+        S::measure_utf16(bytes)
     }
 
     fn write<S: Source>(bytes: &[u8], out: &mut [u8]) {

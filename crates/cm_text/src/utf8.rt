@@ -2,9 +2,11 @@
 
 ghost use Rattle.std.specs.Prelude.{◌≡◌, ℕ, ◌+◌, ◌*◌, ◌%◌, ◌<◌, ◌≤◌, ◌++◌, length, take, drop, OnOk, OnErr, IfErr, IfSome, IfNone};
 ghost use Rattle.std.specs.Char.{IsScalar};
-ghost use Rattle.cm_text.specs.Text.{BeginsWith, BeginsWithSome};
+ghost use Rattle.cm_text.specs.Text.{BeginsWith, BeginsWithSome, IsSomeText, IsTextUpTo};
+ghost use Rattle.cm_text.specs.Fault.{IsIllFormed};
 ghost use Rattle.cm_text.specs.Utf8.{spell_utf8};
 
+use crate::kernels::ascii_run;
 use crate::{Encoding, Source, TextFault, sizes, writes};
 use std::alloc::AllocError;
 
@@ -35,20 +37,20 @@ impl Source for Utf8 {
     }
 
     fn check(bytes: &[u8]) -> Result<(), TextFault> {
-        match simdutf8::compat::from_utf8(bytes) {
-            Ok(_) => Ok(()),
-            Err(fault) => Err(TextFault::IllFormed {
-                at: fault.valid_up_to(),
-            }),
+        check_utf8(bytes)
+    }
+
+    fn measure_utf8(bytes: &[u8]) -> Result<usize, TextFault> {
+        check_utf8(bytes)?;
+        Ok(bytes.len())
+    }
+
+    fn measure_utf16(bytes: &[u8]) -> Result<usize, TextFault> {
+        if ascii_run(bytes) == bytes.len() {
+            return Ok(2 * bytes.len());
         }
-    }
-
-    fn size_in_utf8(bytes: &[u8]) -> usize {
-        bytes.len()
-    }
-
-    fn size_in_utf16(bytes: &[u8]) -> usize {
-        sizes::utf8_in_utf16(bytes)
+        check_utf8(bytes)?;
+        Ok(sizes::utf8_in_utf16(bytes))
     }
 
     fn write_utf8(bytes: &[u8], out: &mut [u8]) {
@@ -81,8 +83,8 @@ impl Encoding for Utf8 {
         out.extend_from_slice(&room[..size])
     }
 
-    fn size_of<S: Source>(bytes: &[u8]) -> usize {
-        S::size_in_utf8(bytes)
+    fn measure<S: Source>(bytes: &[u8]) -> Result<usize, TextFault> {
+        S::measure_utf8(bytes)
     }
 
     fn write<S: Source>(bytes: &[u8], out: &mut [u8]) {
@@ -92,6 +94,19 @@ impl Encoding for Utf8 {
     ghost every = { λ c is. is };
 
     ghost grows = { λ c is. utf8_grows c };
+}
+
+/// Whether the bytes are a text.
+fn check_utf8(bytes: &[u8]) -> Result<(), TextFault>
+    ensures ok { OnOk result (IsSomeText IsScalar spell_utf8 bytes.now) }
+    ensures ill_formed { IfErr result (λ e. IsIllFormed e (IsTextUpTo IsScalar spell_utf8 bytes.now)) }
+{
+    match simdutf8::compat::from_utf8(bytes) {
+        Ok(_) => Ok(()),
+        Err(fault) => Err(TextFault::IllFormed {
+            at: fault.valid_up_to(),
+        }),
+    }
 }
 
 /// The bytes after the first few.

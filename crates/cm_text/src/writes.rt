@@ -8,15 +8,19 @@ ghost use Rattle.cm_text.specs.Text.{IsTextOfSize, IsSameText};
 ghost use Rattle.cm_text.specs.Utf16.{spell_utf16};
 ghost use Rattle.cm_text.specs.Utf8.{spell_utf8};
 
-use crate::kernels::{ascii_run, narrow_run, widen, widen_run};
+use crate::kernels::{ascii_run, narrow, narrow_run, widen, widen_run};
 use crate::utf8::{put_utf8, utf8_scalar_at};
 use crate::utf16::{put_utf16, utf16_scalar_at};
 
-/// Writes a text in UTF-8 in UTF-16.
+/// Writes a text in UTF-8 in UTF-16. Where it takes two bytes for each of its own, all of it is ASCII.
 pub(crate) fn utf8_to_utf16(bytes: &[u8], out: &mut [u8])
     requires { IsTextOfSize IsScalar spell_utf8 spell_utf16 bytes.now (length out.old) }
     ensures { IsSameText IsScalar spell_utf8 spell_utf16 bytes.now out.new }
 {
+    if out.len() == 2 * bytes.len() {
+        widen(bytes, out);
+        return;
+    }
     let mut at = 0;
     let mut to = 0;
     while at < bytes.len() {
@@ -32,11 +36,15 @@ pub(crate) fn utf8_to_utf16(bytes: &[u8], out: &mut [u8])
     }
 }
 
-/// Writes a text in UTF-16 in UTF-8.
+/// Writes a text in UTF-16 in UTF-8. Where it takes a byte for two of its own, all of it is ASCII.
 pub(crate) fn utf16_to_utf8(bytes: &[u8], out: &mut [u8])
     requires { IsTextOfSize IsScalar spell_utf16 spell_utf8 bytes.now (length out.old) }
     ensures { IsSameText IsScalar spell_utf16 spell_utf8 bytes.now out.new }
 {
+    if 2 * out.len() == bytes.len() {
+        narrow(bytes, out);
+        return;
+    }
     let mut at = 0;
     let mut to = 0;
     while at < bytes.len() {

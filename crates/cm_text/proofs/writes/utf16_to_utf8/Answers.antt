@@ -1,4 +1,4 @@
-use Rattle.std.proofs.Common.{◌≡◌, ◌≤◌, ◌+◌, ◌*◌, ◌++◌, ◌∙◌, ap, sym, subst, refl, arith, length, length-drop, drop, take, get_or}
+use Rattle.std.proofs.Common.{◌≡◌, ◌≤◌, ◌<◌, ◌+◌, ◌*◌, ◌++◌, ◌∙◌, ap, sym, subst, refl, arith, length, length-drop, drop, take, get_or}
 use Rattle.std.specs.Char.{IsScalar, is_ascii}
 use Rattle.std.specs.List.{prefix_len, flat_map}
 use Rattle.cm_text.specs.Latin1.{HasLatin1, spell_latin1}
@@ -8,6 +8,8 @@ use Rattle.cm_text.specs.Utf8.{spell_utf8}
 use Rattle.cm_text.proofs.AsciiLemmas.{utf16_laws}
 use Rattle.cm_text.proofs.MidwayLemmas.{begins, room_for_one, one_further, finish}
 use Rattle.cm_text.proofs.PairLemmas.{narrow_room, narrow_further, narrow_count, two_left, unit_run_some}
+use Rattle.std.proofs.lemmas.List.Elements.{All-from_recursion}
+use Rattle.cm_text.proofs.TightLemmas.{narrow_text, narrow_units, narrowed_text}
 use Rattle.cm_text.proofs.writes.utf16_to_utf8.Goals as goal
 
 pub bounds-bytes-at-then-bytes-at-lt128 : goal.bounds-bytes-at-then-bytes-at-lt128
@@ -68,3 +70,15 @@ pub returns : goal.returns
 returns c =
     let whole = subst (IsTextOfSize IsScalar spell_utf16 spell_utf8 c.args.bytes.now) (sym c.loop-at.auto.out) c.requires in
     finish IsScalar spell_utf16 spell_utf8 utf16_laws c.args.bytes.now c.loop-at.out c.loop-at.at c.loop-at.to whole c.loop-at.invariant c.loop-at-test.false
+
+pub narrow-requires-clause-ascii : goal.narrow-requires-clause-ascii
+narrow-requires-clause-ascii c =
+    let bytes = c.args.bytes.now in
+    let cs = c.requires.scalars in
+    let ascii = narrow_text bytes (length c.args.out.now) c.requires c.if-out-bytes.true cs c.requires.text in
+    All-from_recursion (λ u. u < 128) (units bytes) (narrow_units cs bytes c.requires.text ascii)
+
+pub returns-then-out-bytes : goal.returns-then-out-bytes
+returns-then-out-bytes c =
+    let bytes = c.args.bytes.now in
+    λ cs text. narrowed_text cs bytes c.narrow.new.out text (narrow_text bytes (length c.args.out.now) c.requires c.if-out-bytes.true cs text) c.narrow.ensures.first

@@ -7,6 +7,7 @@ use Rattle.cm_text.specs.Utf8.{spell_utf8}
 use Rattle.cm_text.proofs.AsciiLemmas.{utf8_laws}
 use Rattle.cm_text.proofs.MidwayLemmas.{begins, room_for_one, one_further, finish}
 use Rattle.cm_text.proofs.PairLemmas.{widen_room, widen_further}
+use Rattle.cm_text.proofs.TightLemmas.{widened_text}
 use Rattle.cm_text.proofs.writes.utf8_to_utf16.Goals as goal
 
 pub widen_run-run-requires-clause-room : goal.widen_run-run-requires-clause-room
@@ -46,3 +47,7 @@ pub returns : goal.returns
 returns c =
     let whole = subst (IsTextOfSize IsScalar spell_utf8 spell_utf16 c.args.bytes.now) (sym c.loop-at.auto.out) c.requires in
     finish IsScalar spell_utf8 spell_utf16 utf8_laws c.args.bytes.now c.loop-at.out c.loop-at.at c.loop-at.to whole c.loop-at.invariant c.loop-at-test.false
+
+pub returns-then-out-bytes : goal.returns-then-out-bytes
+returns-then-out-bytes c =
+    λ cs text. widened_text cs c.args.bytes.now c.args.out.now text c.requires c.if-out-bytes.true c.widen.new.out c.widen.ensures

@@ -1,7 +1,7 @@
 use Rattle.std.proofs.Common.{subst, sym}
 use Rattle.std.specs.Str.{IsValidUpTo}
 use Rattle.cm_text.proofs.Utf8Lemmas.{text_of, text_up_to}
-use Rattle.cm_text.proofs.utf8.Utf8Source.check.Goals as goal
+use Rattle.cm_text.proofs.utf8.check_utf8.Goals as goal
 
 pub returns-in-Ok-clause-ok : goal.returns-in-Ok-clause-ok
 returns-in-Ok-clause-ok c = text_of c.args.bytes.now c.in-Ok.ensures.cases.1
