@@ -1,7 +1,7 @@
 -- Sixteen lanes against their plain definitions.
 use Rattle.std.proofs.Common.{◌≡◌, ℕ, ◌+◌, ◌*◌, ◌<◌, ◌≤◌, ◌%◌, ◌/◌, ◌^◌, Bool, true, false, cond, not, List, [], ◌∷◌, ◌++◌, length, map, refl, sym, ap, ◌∙◌, arith, nat_lt, replicate, w8, subst, take, drop, zero, suc, append_assoc}
 use Rattle.std.proofs.lemmas.Bool.Decides.{nat_tests}
-use Rattle.std.proofs.lemmas.Simd.{zip2_splat, zip2_splat_left, bitmask_splat, pick_l_whole, length-chunk, splat_is_map, take_more_put_chunk, length-put_chunk}
+use Rattle.std.proofs.lemmas.Simd.{zip2_splat, zip2_splat_left, bitmask_splat, pick_l_whole, length-chunk, splat_is_map, take_more_put_chunk, length-put_chunk, tops_compared, mask_l-mod, length-zip2}
 use Rattle.std.proofs.Math.Seq.{take-add}
 use Rattle.std.proofs.lemmas.List.{drop-drop}
 use Rattle.std.specs.Char.{is_ascii}
@@ -170,3 +170,33 @@ pub plain_run : (xs : List ℕ) → prefix_len (λ x. nat_lt x 216) (map below_e
 plain_run [] = refl
 plain_run (x ∷ xs) =
     ap (λ b. cond b (1 + prefix_len (λ y. nat_lt y 216) (map below_e0 xs)) 0) (plain_by_test x) ∙ ap (λ n. cond (is_plain x) (1 + n) 0) (plain_run xs)
+
+-- the bytes that no ASCII unit reaches, n times
+abbrev past_ascii : ℕ → List ℕ
+past_ascii zero = []
+past_ascii (suc n) = 128 ∷ 1 ∷ past_ascii n
+
+no_bit : (b : Bool) (n : ℕ) → cond b 1 0 + 2 * n ≡ 0 → (b ≡ false) × (n ≡ 0)
+no_bit true n none = absurd (omega arith)
+no_bit false n none = (refl, omega arith)
+
+unmarked : (n : ℕ) (xs : List ℕ) → length xs ≡ 2 * n → mask_l (zip2 leb (past_ascii n) xs) ≡ 0 → prefix_len is_ascii (units xs) ≡ n
+unmarked zero [] even none = refl
+unmarked zero (x ∷ xs) even none = absurd (omega arith)
+unmarked (suc n) [] even none = absurd (omega arith)
+unmarked (suc n) (x ∷ []) even none = absurd (omega arith)
+unmarked (suc n) (x ∷ y ∷ xs) even none =
+    let one = no_bit (leb 128 x) (mask_l (leb 1 y ∷ zip2 leb (past_ascii n) xs)) none in
+    let two = no_bit (leb 1 y) (mask_l (zip2 leb (past_ascii n) xs)) one.1 in
+    let low : leb 128 x ≡ false = one.0 in
+    let high : leb 1 y ≡ false = two.0 in
+    let ascii : is_ascii (unit x y) ≡ true = grind (arith, nat_tests) in
+    ap (λ b. cond b (1 + prefix_len is_ascii (units xs)) 0) ascii ∙ ap (λ k. 1 + k) (unmarked n xs (omega arith) two.1) ∙ omega arith
+
+-- a block of thirty-two units none of whose bytes reaches them
+pub units_32 : (xs : List ℕ) → length xs ≡ 64
+    → mask_l (map (top 7) (zip2 (λ a b. cond (leb a b) 255 0) (past_ascii 32) xs)) % 2 ^ 64 ≡ 0 → prefix_len is_ascii (units xs) ≡ 32
+units_32 xs long none =
+    let tests : map (top 7) (zip2 (λ a b. cond (leb a b) 255 0) (past_ascii 32) xs) ≡ zip2 leb (past_ascii 32) xs = tops_compared w8 leb (past_ascii 32) xs in
+    let few : length (zip2 leb (past_ascii 32) xs) ≤ 64 = omega (arith, length-zip2 leb (past_ascii 32) xs (sym long)) in
+    unmarked 32 xs long (sym (mask_l-mod (zip2 leb (past_ascii 32) xs) 64 few) ∙ ap (λ ms. mask_l ms % 2 ^ 64) (sym tests) ∙ none)

@@ -154,3 +154,30 @@ narrows_one bytes at old to out run so_far within small zero_high room =
           ∙ ap (λ ys. take to old ++ ys)
           (ap (λ x. first_bytes (take (2 * run) rest) ++ x ∷ []) (sym (get_or-drop at bytes (2 * run) 0)) ∙ sym (first_bytes-next run rest (omega (arith, length-drop at bytes))));
     }
+
+-- a run in two parts
+pub widen_joined : (at to few more : ℕ) (bytes old out new : List ℕ)
+    → take (to + 2 * few) out ≡ take to old ++ flat_map wide (take few (drop at bytes))
+    → take (to + 2 * few + 2 * more) new ≡ take (to + 2 * few) out ++ flat_map wide (take more (drop (at + few) bytes))
+    → take (to + 2 * (few + more)) new ≡ take to old ++ flat_map wide (take (few + more) (drop at bytes))
+widen_joined at to few more bytes old out new first second =
+    let rest = drop at bytes in
+    ap (λ n. take n new) {x = to + 2 * (few + more)} {y = to + 2 * few + 2 * more} (omega arith)
+    ∙ second
+    ∙ ap (λ ys. ys ++ flat_map wide (take more (drop (at + few) bytes))) first
+    ∙ append_assoc (take to old) (flat_map wide (take few rest)) (flat_map wide (take more (drop (at + few) bytes)))
+    ∙ ap (λ ys. take to old ++ (flat_map wide (take few rest) ++ flat_map wide (take more ys))) (sym (drop-drop few at bytes))
+    ∙ ap (λ ys. take to old ++ ys) (sym (wide-take few more rest))
+
+pub narrow_joined : (at to few more : ℕ) (bytes old out new : List ℕ) → at + 2 * few + 2 * more ≤ length bytes
+    → take (to + few) out ≡ take to old ++ first_bytes (take (2 * few) (drop at bytes))
+    → take (to + few + more) new ≡ take (to + few) out ++ first_bytes (take (2 * more) (drop (at + 2 * few) bytes))
+    → take (to + (few + more)) new ≡ take to old ++ first_bytes (take (2 * (few + more)) (drop at bytes))
+narrow_joined at to few more bytes old out new within first second =
+    let rest = drop at bytes in
+    ap (λ n. take n new) {x = to + (few + more)} {y = to + few + more} (omega arith)
+    ∙ second
+    ∙ ap (λ ys. ys ++ first_bytes (take (2 * more) (drop (at + 2 * few) bytes))) first
+    ∙ append_assoc (take to old) (first_bytes (take (2 * few) rest)) (first_bytes (take (2 * more) (drop (at + 2 * few) bytes)))
+    ∙ ap (λ ys. take to old ++ (first_bytes (take (2 * few) rest) ++ first_bytes (take (2 * more) ys))) (sym (drop-drop (2 * few) at bytes))
+    ∙ ap (λ ys. take to old ++ ys) (sym (first_bytes-take few more rest (omega (arith, length-drop at bytes))))

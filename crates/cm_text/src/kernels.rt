@@ -102,10 +102,9 @@ pub(crate) fn narrow_in(bytes: &[u8], at: usize, out: &mut [u8], to: usize) -> u
     run_of_units(low, high)
 }
 
-/// Writes the run of ASCII from `at` on as units of UTF-16 from `to` on, and answers its length. What lies
-/// behind may be written too.
-#[inline(always)]
-pub(crate) fn widen_run(bytes: &[u8], at: usize, out: &mut [u8], to: usize) -> usize
+/// Writes the run of ASCII from `at` on as units of UTF-16 from `to` on, sixteen at a time, and answers its
+/// length. What lies behind may be written too.
+fn widen_long_run(bytes: &[u8], at: usize, out: &mut [u8], to: usize) -> usize
     requires within { at ≤ length bytes.now }
     requires room { to + 2 * ascii_run (drop at bytes.now) ≤ length out.old }
     ensures run { result ≡ ascii_run (drop at bytes.now) }
@@ -127,10 +126,46 @@ pub(crate) fn widen_run(bytes: &[u8], at: usize, out: &mut [u8], to: usize) -> u
     run
 }
 
-/// Writes the run of ASCII units from `at` on as bytes from `to` on, and answers how many units it has. What
-/// lies behind may be written too.
+/// Writes the run of ASCII from `at` on, or its first sixteen bytes, as units of UTF-16 from `to` on, and answers
+/// how many.
 #[inline(always)]
-pub(crate) fn narrow_run(bytes: &[u8], at: usize, out: &mut [u8], to: usize) -> usize
+fn widen_few(bytes: &[u8], at: usize, out: &mut [u8], to: usize) -> usize
+    requires within { at ≤ length bytes.now }
+    requires room { to + 2 * ascii_run (drop at bytes.now) ≤ length out.old }
+    ensures run { result < 16 → result ≡ ascii_run (drop at bytes.now) }
+    ensures most { result ≤ 16 }
+    ensures within { at + result ≤ length bytes.now }
+    ensures left { result + ascii_run (drop (at + result) bytes.now) ≡ ascii_run (drop at bytes.now) }
+    ensures written { take (to + 2 * result) out.new ≡ take to out.old ++ flat_map wide (take result (drop at bytes.now)) }
+{
+    let mut run = 0;
+    while run < LANES && at + run < bytes.len() && bytes[at + run] < 0x80 {
+        out[to + 2 * run] = bytes[at + run];
+        out[to + 2 * run + 1] = 0;
+        run += 1;
+    }
+    run
+}
+
+/// Writes the run of ASCII from `at` on as units of UTF-16 from `to` on, and answers its length: one by one where
+/// it is short, as in most texts that are not ASCII as a whole. What lies behind may be written too.
+#[inline(always)]
+pub(crate) fn widen_run(bytes: &[u8], at: usize, out: &mut [u8], to: usize) -> usize
+    requires within { at ≤ length bytes.now }
+    requires room { to + 2 * ascii_run (drop at bytes.now) ≤ length out.old }
+    ensures run { result ≡ ascii_run (drop at bytes.now) }
+    ensures written { take (to + 2 * result) out.new ≡ take to out.old ++ flat_map wide (take result (drop at bytes.now)) }
+{
+    let few = widen_few(bytes, at, out, to);
+    if few < LANES {
+        return few;
+    }
+    few + widen_long_run(bytes, at + few, out, to + 2 * few)
+}
+
+/// Writes the run of ASCII units from `at` on as bytes from `to` on, sixteen at a time, and answers how many
+/// units it has. What lies behind may be written too.
+fn narrow_long_run(bytes: &[u8], at: usize, out: &mut [u8], to: usize) -> usize
     requires within { at ≤ length bytes.now }
     requires room { to + ascii_units (drop at bytes.now) ≤ length out.old }
     ensures run { result ≡ ascii_units (drop at bytes.now) }
@@ -152,6 +187,45 @@ pub(crate) fn narrow_run(bytes: &[u8], at: usize, out: &mut [u8], to: usize) -> 
         run += 1;
     }
     run
+}
+
+/// Writes the run of ASCII units from `at` on, or its first sixteen, as bytes from `to` on, and answers how many.
+#[inline(always)]
+fn narrow_few(bytes: &[u8], at: usize, out: &mut [u8], to: usize) -> usize
+    requires within { at ≤ length bytes.now }
+    requires room { to + ascii_units (drop at bytes.now) ≤ length out.old }
+    ensures run { result < 16 → result ≡ ascii_units (drop at bytes.now) }
+    ensures most { result ≤ 16 }
+    ensures within { at + 2 * result ≤ length bytes.now }
+    ensures left { result + ascii_units (drop (at + 2 * result) bytes.now) ≡ ascii_units (drop at bytes.now) }
+    ensures written { take (to + result) out.new ≡ take to out.old ++ first_bytes (take (2 * result) (drop at bytes.now)) }
+{
+    let mut run = 0;
+    while run < LANES
+        && bytes.len() - (at + 2 * run) >= 2
+        && bytes[at + 2 * run] < 0x80
+        && bytes[at + 2 * run + 1] == 0
+    {
+        out[to + run] = bytes[at + 2 * run];
+        run += 1;
+    }
+    run
+}
+
+/// Writes the run of ASCII units from `at` on as bytes from `to` on, and answers how many units it has: one by one
+/// where it is short, as in most texts that are not ASCII as a whole. What lies behind may be written too.
+#[inline(always)]
+pub(crate) fn narrow_run(bytes: &[u8], at: usize, out: &mut [u8], to: usize) -> usize
+    requires within { at ≤ length bytes.now }
+    requires room { to + ascii_units (drop at bytes.now) ≤ length out.old }
+    ensures run { result ≡ ascii_units (drop at bytes.now) }
+    ensures written { take (to + result) out.new ≡ take to out.old ++ first_bytes (take (2 * result) (drop at bytes.now)) }
+{
+    let few = narrow_few(bytes, at, out, to);
+    if few < LANES {
+        return few;
+    }
+    few + narrow_long_run(bytes, at + 2 * few, out, to + few)
 }
 
 /// Whether the sixty-four bytes from `at` on are ASCII.
@@ -208,12 +282,46 @@ pub(crate) fn units_in(bytes: &[u8], at: usize) -> usize
     run_of_units(low, high)
 }
 
+/// What no byte of an ASCII unit reaches: 0x80 for the first bytes, 1 for the second.
+const PAST_ASCII: [u8; 64] = [
+    0x80, 1, 0x80, 1, 0x80, 1, 0x80, 1, 0x80, 1, 0x80, 1, 0x80, 1, 0x80, 1, 0x80, 1, 0x80, 1, 0x80,
+    1, 0x80, 1, 0x80, 1, 0x80, 1, 0x80, 1, 0x80, 1, 0x80, 1, 0x80, 1, 0x80, 1, 0x80, 1, 0x80, 1,
+    0x80, 1, 0x80, 1, 0x80, 1, 0x80, 1, 0x80, 1, 0x80, 1, 0x80, 1, 0x80, 1, 0x80, 1, 0x80, 1, 0x80,
+    1,
+];
+
+/// Whether the thirty-two units of UTF-16 from `at` on are ASCII.
+#[inline(always)]
+fn are_ascii_units_in(bytes: &[u8], at: usize) -> bool
+    requires { at + 64 ≤ length bytes.now }
+    ensures { IsTrue result → prefix_len is_ascii (units (chunk at 64 bytes.now)) ≡ 32 }
+{
+    let lanes = u8x64::from_slice(&bytes[at..]);
+    lanes.simd_ge(u8x64::from_array(PAST_ASCII)).to_bitmask() == 0
+}
+
+/// How many units the blocks of thirty-two have that the longest beginning of ASCII begins with.
+#[inline(always)]
+fn ascii_unit_blocks(bytes: &[u8]) -> usize
+    ensures within { 2 * result ≤ length bytes.now }
+    ensures run { result + ascii_units (drop (2 * result) bytes.now) ≡ ascii_units bytes.now }
+{
+    let mut count = 0;
+    while bytes.len() - 2 * count >= 64 {
+        if !are_ascii_units_in(bytes, 2 * count) {
+            return count;
+        }
+        count += 32;
+    }
+    count
+}
+
 /// The number of units in the longest beginning of `bytes` in which each unit of UTF-16, little end first,
 /// is below 0x80. An odd last byte is no unit.
 pub fn ascii_units(bytes: &[u8]) -> usize
     ensures { result ≡ ascii_units bytes.now }
 {
-    let mut count = 0;
+    let mut count = ascii_unit_blocks(bytes);
     while bytes.len() - 2 * count >= 2 * LANES {
         let run = units_in(bytes, 2 * count);
         if run < LANES {

@@ -1,6 +1,6 @@
 use Rattle.std.proofs.Common.{ℕ, ◌+◌, ◌*◌, ◌-◌, length}
 use Rattle.cm_text.proofs.StretchLemmas.{Narrows}
-use Rattle.cm_text.proofs.kernels.narrow_run.Given as goal
+use Rattle.cm_text.proofs.kernels.narrow_long_run.Given as goal
 
 abbrev pub invariant-loop-run : goal.invariant-loop-run
 invariant-loop-run l = Narrows l.bytes l.at l.fn.out l.to l.out l.run
