@@ -7,6 +7,7 @@ ghost use Rattle.std.specs.Simd.Lanes.{chunk, zip2};
 ghost use Rattle.cm_text.specs.Ascii.{ascii_run, ascii_units, wide};
 ghost use Rattle.cm_text.specs.Utf16.{unit, units, first_bytes, second_bytes, mark, below_e0, is_plain, spell_utf16};
 
+use crate::utf16::unit;
 use std::simd::prelude::*;
 
 /// How many lanes a block has.
@@ -201,12 +202,12 @@ fn narrow_few(bytes: &[u8], at: usize, out: &mut [u8], to: usize) -> usize
     ensures written { take (to + result) out.new ≡ take to out.old ++ first_bytes (take (2 * result) (drop at bytes.now)) }
 {
     let mut run = 0;
-    while run < LANES
-        && bytes.len() - (at + 2 * run) >= 2
-        && bytes[at + 2 * run] < 0x80
-        && bytes[at + 2 * run + 1] == 0
-    {
-        out[to + run] = bytes[at + 2 * run];
+    while run < LANES && bytes.len() - (at + 2 * run) >= 2 {
+        let unit = unit(bytes[at + 2 * run], bytes[at + 2 * run + 1]);
+        if unit >= 0x80 {
+            return run;
+        }
+        out[to + run] = unit as u8;
         run += 1;
     }
     run

@@ -10,7 +10,7 @@ ghost use Rattle.cm_text.specs.Utf8.{spell_utf8};
 
 use crate::kernels::{ascii_run, narrow, narrow_run, widen, widen_run};
 use crate::utf8::{put_utf8, utf8_scalar_at};
-use crate::utf16::{put_utf16, utf16_scalar_at};
+use crate::utf16::{put_utf16, unit, utf16_scalar_at};
 
 /// Writes a text in UTF-8 in UTF-16. Where it takes two bytes for each of its own, all of it is ASCII.
 pub(crate) fn utf8_to_utf16(bytes: &[u8], out: &mut [u8])
@@ -48,7 +48,7 @@ pub(crate) fn utf16_to_utf8(bytes: &[u8], out: &mut [u8])
     let mut at = 0;
     let mut to = 0;
     while at < bytes.len() {
-        if bytes[at] < 0x80 && bytes[at + 1] == 0 {
+        if unit(bytes[at], bytes[at + 1]) < 0x80 {
             let run = narrow_run(bytes, at, out, to);
             at += 2 * run;
             to += run;

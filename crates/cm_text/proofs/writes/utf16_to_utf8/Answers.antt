@@ -3,7 +3,7 @@ use Rattle.std.specs.Char.{IsScalar, is_ascii}
 use Rattle.std.specs.List.{prefix_len, flat_map}
 use Rattle.cm_text.specs.Latin1.{HasLatin1, spell_latin1}
 use Rattle.cm_text.specs.Text.{IsTextOfSize}
-use Rattle.cm_text.specs.Utf16.{units, spell_utf16}
+use Rattle.cm_text.specs.Utf16.{unit, units, spell_utf16}
 use Rattle.cm_text.specs.Utf8.{spell_utf8}
 use Rattle.cm_text.proofs.AsciiLemmas.{utf16_laws}
 use Rattle.cm_text.proofs.MidwayLemmas.{begins, room_for_one, one_further, finish}
@@ -12,8 +12,8 @@ use Rattle.std.proofs.lemmas.List.Elements.{All-from_recursion}
 use Rattle.cm_text.proofs.TightLemmas.{narrow_text, narrow_units, narrowed_text}
 use Rattle.cm_text.proofs.writes.utf16_to_utf8.Goals as goal
 
-pub bounds-bytes-at-then-bytes-at-lt128 : goal.bounds-bytes-at-then-bytes-at-lt128
-bounds-bytes-at-then-bytes-at-lt128 c =
+pub bounds-bytes-at-in-loop-at : goal.bounds-bytes-at-in-loop-at
+bounds-bytes-at-in-loop-at c =
     let b = begins IsScalar spell_utf16 spell_utf8 utf16_laws c.args.bytes.now c.loop-at.out c.loop-at.at c.loop-at.to (length c.args.out.now) c.requires c.loop-at.invariant c.loop-at-test.true in
     omega (arith, two_left c.args.bytes.now c.loop-at.at c.loop-at-test.true b)
 
@@ -27,8 +27,8 @@ overflow_mul-at c =
     let run = narrow_count c.args.bytes.now c.loop-at.out c.loop-at.at c.loop-at.to c.narrow_run-run.result c.narrow_run-run.ensures.run c.loop-at.invariant in
     omega (arith, run.within, length-drop c.loop-at.at c.args.bytes.now)
 
-pub overflow_add-at-then-bytes-at-eq0 : goal.overflow_add-at-then-bytes-at-eq0
-overflow_add-at-then-bytes-at-eq0 c =
+pub overflow_add-at-then-unit-lt128 : goal.overflow_add-at-then-unit-lt128
+overflow_add-at-then-unit-lt128 c =
     let run = narrow_count c.args.bytes.now c.loop-at.out c.loop-at.at c.loop-at.to c.narrow_run-run.result c.narrow_run-run.ensures.run c.loop-at.invariant in
     omega (arith, run.within, length-drop c.loop-at.at c.args.bytes.now)
 
@@ -37,14 +37,17 @@ overflow_add-to c =
     let whole = subst (IsTextOfSize IsScalar spell_utf16 spell_utf8 c.args.bytes.now) (sym c.loop-at.auto.out) c.requires in
     omega (arith, narrow_room c.args.bytes.now c.loop-at.out c.loop-at.at c.loop-at.to c.narrow_run-run.result c.narrow_run-run.ensures.run c.loop-at.invariant whole)
 
-pub loop-at-smaller-then-bytes-at-eq0 : goal.loop-at-smaller-then-bytes-at-eq0
-loop-at-smaller-then-bytes-at-eq0 c =
+pub loop-at-smaller-then-unit-lt128 : goal.loop-at-smaller-then-unit-lt128
+loop-at-smaller-then-unit-lt128 c =
     let b = begins IsScalar spell_utf16 spell_utf8 utf16_laws c.args.bytes.now c.loop-at.out c.loop-at.at c.loop-at.to (length c.args.out.now) c.requires c.loop-at.invariant c.loop-at-test.true in
     let two : c.loop-at.at + 2 ≤ length c.args.bytes.now = two_left c.args.bytes.now c.loop-at.at c.loop-at-test.true b in
-    omega (arith, c.narrow_run-run.ensures.run, unit_run_some c.args.bytes.now c.loop-at.at two c.if-bytes-at-lt128.true c.if-bytes-at-eq0.true)
+    let at = c.loop-at.at in
+    let bytes = c.args.bytes.now in
+    let small : unit (get_or bytes at 0) (get_or bytes (at + 1) 0) < 128 = omega (arith, c.unit.ensures, c.if-unit-lt128.true) in
+    omega (arith, c.narrow_run-run.ensures.run, unit_run_some bytes at two (omega arith) (omega arith))
 
-pub loop-at-preserved-then-bytes-at-eq0 : goal.loop-at-preserved-then-bytes-at-eq0
-loop-at-preserved-then-bytes-at-eq0 c =
+pub loop-at-preserved-then-unit-lt128 : goal.loop-at-preserved-then-unit-lt128
+loop-at-preserved-then-unit-lt128 c =
     let whole = subst (IsTextOfSize IsScalar spell_utf16 spell_utf8 c.args.bytes.now) (sym c.loop-at.auto.out) c.requires in
     let room = narrow_room c.args.bytes.now c.loop-at.out c.loop-at.at c.loop-at.to c.narrow_run-run.result c.narrow_run-run.ensures.run c.loop-at.invariant whole in
     narrow_further c.args.bytes.now c.loop-at.out c.loop-at.at c.loop-at.to c.narrow_run-run.result c.narrow_run-run.ensures.run c.loop-at.invariant c.narrow_run-run.new.out
