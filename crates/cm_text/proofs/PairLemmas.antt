@@ -1,6 +1,7 @@
 -- A run of ASCII midway from one encoding into another.
-use Rattle.std.proofs.Common.{◌≡◌, ℕ, ◌+◌, ◌*◌, ◌/◌, ◌<◌, ◌≤◌, List, [], ◌∷◌, ◌++◌, length, take, drop, get_or, refl, sym, ap, subst, ◌∙◌, arith, zero, suc, length-append, length-drop, Fits, w8}
+use Rattle.std.proofs.Common.{◌≡◌, ℕ, ◌+◌, ◌*◌, ◌/◌, ◌<◌, ◌≤◌, List, [], ◌∷◌, ◌++◌, length, take, drop, get_or, refl, sym, ap, subst, ◌∙◌, arith, zero, suc, length-append, length-drop, Fits, w8, true, cond, take_all}
 use Rattle.std.proofs.lemmas.List.{take-append-drop, length-take-le, drop_more}
+use Rattle.std.proofs.lemmas.Bool.Decides.{nat_tests}
 use Rattle.std.proofs.lemmas.List.Sums.{prefix_len-le-length}
 use Rattle.std.specs.Char.{IsScalar, is_ascii}
 use Rattle.std.specs.List.{AllByRecursion, flat_map, prefix_len}
@@ -148,3 +149,16 @@ two_left bytes at within b =
 pub unit_run_some : (bytes : List ℕ) (at : ℕ) → at + 2 ≤ length bytes → get_or bytes at 0 < 128 → get_or bytes (at + 1) 0 ≡ 0 → 0 < prefix_len is_ascii (units (drop at bytes))
 unit_run_some bytes at within low high =
     omega (arith, units_one at 0 (prefix_len is_ascii (units (drop at bytes))) bytes within low high (omega arith))
+
+-- units that are ASCII as a whole
+pub all_ascii_units : (bytes : List ℕ) (n : ℕ) → prefix_len is_ascii (units bytes) ≡ n → length bytes ≡ 2 * n → AreAscii (units bytes)
+all_ascii_units bytes n whole half =
+    subst AreAscii (take_all (prefix_len is_ascii (units bytes)) (units bytes) (omega (arith, length-units_half bytes))) (ascii_in_run (units bytes))
+
+ascii_one : (x : ℕ) → x < 128 → is_ascii x ≡ true
+ascii_one x low = grind (arith, nat_tests)
+
+pub run_of_ascii : (xs : List ℕ) → AreAscii xs → prefix_len is_ascii xs ≡ length xs
+run_of_ascii [] all = refl
+run_of_ascii (x ∷ xs) all =
+    ap (λ b. cond b (1 + prefix_len is_ascii xs) 0) (ascii_one x all.0) ∙ ap (λ n. 1 + n) (run_of_ascii xs all.1) ∙ omega arith

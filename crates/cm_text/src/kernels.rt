@@ -1,6 +1,6 @@
 //! Runs of ASCII, sixteen lanes at a time.
 
-ghost use Rattle.std.specs.Prelude.{◌≡◌, ℕ, ◌+◌, ◌*◌, ◌<◌, ◌≤◌, List, ◌++◌, length, take, drop, map, nat_lt, All, IsTrue};
+ghost use Rattle.std.specs.Prelude.{◌≡◌, ℕ, ◌+◌, ◌*◌, ◌<◌, ◌≤◌, List, ◌++◌, length, take, drop, map, nat_lt, IsTrue};
 ghost use Rattle.std.specs.Char.{IsScalar, is_ascii};
 ghost use Rattle.std.specs.List.{AllByRecursion, prefix_len, flat_map};
 ghost use Rattle.std.specs.Simd.Lanes.{chunk, zip2};
@@ -336,7 +336,8 @@ pub fn ascii_units(bytes: &[u8]) -> usize
     count
 }
 
-/// Writes each byte as the unit of UTF-16 of its value, little end first: the byte, and then 0.
+/// Writes each byte as the unit of UTF-16 of its value, little end first: the byte, and then 0. It asks for an
+/// output of twice the length.
 pub fn widen(bytes: &[u8], out: &mut [u8])
     requires { length out.old ≡ 2 * length bytes.now }
     ensures { out.new ≡ flat_map wide bytes.now }
@@ -353,9 +354,10 @@ pub fn widen(bytes: &[u8], out: &mut [u8])
     }
 }
 
-/// Writes the first byte of each unit of UTF-16, where each unit is below 0x80.
+/// Writes the first byte of each unit of UTF-16. It asks for units below 0x80 alone, as `ascii_units` tells, and
+/// for an output of half the length.
 pub fn narrow(bytes: &[u8], out: &mut [u8])
-    requires ascii { All (λ unit. unit < 0x80) (units bytes.now) }
+    requires ascii { ascii_units bytes.now ≡ length out.old }
     requires half { length bytes.now ≡ 2 * length out.old }
     ensures first { out.new ≡ first_bytes bytes.now }
     ensures same { flat_map wide out.new ≡ bytes.now }

@@ -1,10 +1,10 @@
 use Rattle.std.proofs.Common.{◌≡◌, ◌+◌, ◌*◌, ◌∙◌, ◌++◌, [], ◌∷◌, take, get_or, length, ap, sym, arith, take_all, length-set, ◌<◌}
 use Rattle.std.specs.List.{flat_map}
 use Rattle.std.proofs.lemmas.List.{take_more_set}
-use Rattle.std.proofs.lemmas.List.Elements.{recursion_from_All}
 use lib.Lanes.{chunk}
 use Rattle.cm_text.specs.Ascii.{wide}
 use Rattle.cm_text.specs.Utf16.{units, first_bytes}
+use Rattle.cm_text.proofs.PairLemmas.{all_ascii_units}
 use Rattle.cm_text.proofs.UnitLemmas.{first_bytes-take, first_bytes-next, wide-first_bytes}
 use Rattle.cm_text.proofs.kernels.narrow.Goals as goal
 
@@ -32,4 +32,4 @@ returns-clause-same c =
     let out = c.loop-to.out in
     let all : out ≡ first_bytes bytes =
     sym (take_all to out c.loop-to-test.false) ∙ c.loop-to.invariant.1 ∙ ap first_bytes (take_all (2 * to) bytes (omega arith)) in
-    ap (flat_map wide) all ∙ wide-first_bytes (length c.args.out.now) bytes c.requires.half (recursion_from_All (λ u. u < 128) (units bytes) c.requires.ascii)
+    ap (flat_map wide) all ∙ wide-first_bytes (length c.args.out.now) bytes c.requires.half (all_ascii_units bytes (length c.args.out.now) c.requires.ascii c.requires.half)

@@ -8,7 +8,8 @@ use Rattle.cm_text.specs.Utf8.{spell_utf8}
 use Rattle.cm_text.proofs.AsciiLemmas.{utf16_laws}
 use Rattle.cm_text.proofs.MidwayLemmas.{begins, room_for_one, one_further, finish}
 use Rattle.cm_text.proofs.PairLemmas.{narrow_room, narrow_further, narrow_count, two_left, unit_run_some}
-use Rattle.std.proofs.lemmas.List.Elements.{All-from_recursion}
+use Rattle.cm_text.proofs.PairLemmas.{run_of_ascii}
+use Rattle.cm_text.proofs.UnitLemmas.{length-units_half}
 use Rattle.cm_text.proofs.TightLemmas.{narrow_text, narrow_units, narrowed_text}
 use Rattle.cm_text.proofs.writes.utf16_to_utf8.Goals as goal
 
@@ -79,7 +80,7 @@ narrow-requires-clause-ascii c =
     let bytes = c.args.bytes.now in
     let cs = c.requires.scalars in
     let ascii = narrow_text bytes (length c.args.out.now) c.requires c.if-out-bytes.true cs c.requires.text in
-    All-from_recursion (λ u. u < 128) (units bytes) (narrow_units cs bytes c.requires.text ascii)
+    omega (arith, run_of_ascii (units bytes) (narrow_units cs bytes c.requires.text ascii), length-units_half bytes, c.if-out-bytes.true)
 
 pub returns-then-out-bytes : goal.returns-then-out-bytes
 returns-then-out-bytes c =
