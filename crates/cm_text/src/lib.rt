@@ -7,6 +7,8 @@ mod kernels;
 mod latin1;
 mod sizes;
 mod source;
+#[cfg(test)]
+mod tests;
 mod transcoding;
 mod utf16;
 mod utf8;

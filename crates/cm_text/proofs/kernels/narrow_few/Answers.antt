@@ -9,10 +9,11 @@ loop-run-preserved c =
     let at = c.args.at + 2 * c.loop-run.run in
     let bytes = c.args.bytes.now in
     let small : unit (get_or bytes at 0) (get_or bytes (at + 1) 0) < 128 = omega (arith, c.unit-unit.ensures, c.if-unit-ge128.false) in
-    let same : c.unit-unit.result ≡ get_or bytes at 0 = omega (arith, c.unit-unit.ensures) in
-    ( omega arith
-    , subst (λ x. Narrows bytes c.args.at c.args.out.now c.args.to (set c.loop-run.out (c.args.to + c.loop-run.run) x) (c.loop-run.run + 1)) (sym same)
-      (narrows_one bytes c.args.at c.args.out.now c.args.to c.loop-run.out c.loop-run.run c.loop-run.invariant.1 (omega arith) (omega arith) (omega arith) (omega arith)) )
+    let same : c.unit-unit.result ≡ get_or bytes at 0 = omega (arith, c.unit-unit.ensures) in (
+      omega arith,
+      subst (λ x. Narrows bytes c.args.at c.args.out.now c.args.to (set c.loop-run.out (c.args.to + c.loop-run.run) x) (c.loop-run.run + 1)) (sym same)
+          (narrows_one bytes c.args.at c.args.out.now c.args.to c.loop-run.out c.loop-run.run c.loop-run.invariant.1 (omega arith) (omega arith) (omega arith) (omega arith)),
+    )
 
 pub returns-else-bytes-at-ge2-clause-run : goal.returns-else-bytes-at-ge2-clause-run
 returns-else-bytes-at-ge2-clause-run c =
