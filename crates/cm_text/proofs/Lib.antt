@@ -11,3 +11,5 @@ pub mod UnitLemmas
 pub mod Utf8Lemmas
 pub mod FaultLemmas
 pub mod TightLemmas
+pub mod WellFormedLemmas
+pub mod GrowthLemmas

@@ -8,3 +8,4 @@ pub mod Utf16
 pub mod Utf16Laws
 pub mod Utf8
 pub mod Utf8Laws
+pub mod WellFormed

@@ -27,10 +27,12 @@ pub fn transcode<S: Source, D: Encoding>(alloc: Global, bytes: &[u8]) -> Result<
     Ok(out)
 }
 
-/// How many bytes the text takes in another encoding; takes no memory. IllFormed comes where the bytes are no
-/// text of `S`, at the length of the longest beginning that is one.
+/// How many bytes the text takes in another encoding, which is at most the greatest growth for each of its
+/// units; takes no memory. IllFormed comes where the bytes are no text of `S`, at the length of the longest
+/// beginning that is one.
 pub fn transcoded_size<S: Source, D: Encoding>(bytes: &[u8]) -> Result<usize, TextFault>
     ensures ok { IfOk result (IsTextOfSize S.has S.spell D.spell bytes.now) }
+    ensures growth { IfOk result (λ size. S.UNIT_SIZE * size ≤ D.GREATEST_GROWTH * length bytes.now) }
     ensures ill_formed { IfErr result (λ e. IsIllFormed e (IsTextUpTo S.has S.spell bytes.now)) }
 {
     D::measure::<S>(bytes)
