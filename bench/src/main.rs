@@ -4,10 +4,11 @@
 mod handles;
 mod heap;
 mod measure;
+mod text;
 
 fn main() {
     let wanted: Vec<String> = std::env::args().skip(1).collect();
-    let parts: [(&str, fn()); 1] = [("handles", handles::run)];
+    let parts: [(&str, fn()); 2] = [("text", text::run), ("handles", handles::run)];
     for (name, run) in parts {
         if wanted.is_empty() || wanted.iter().any(|word| word == name) {
             run();
