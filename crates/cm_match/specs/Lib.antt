@@ -1,0 +1,4 @@
+pub mod Links
+pub mod Offers
+pub mod Reasons
+pub mod Targets

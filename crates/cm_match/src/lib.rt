@@ -1,0 +1,9 @@
+//! Linking: the imports of each component and the exports of those before it.
+#![tactic(auto)]
+
+mod fault;
+mod offers;
+mod plan;
+
+pub use fault::{LinkFault, LinkReason};
+pub use plan::PlanLine;
