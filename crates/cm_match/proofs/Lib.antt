@@ -1,1 +1,4 @@
+pub mod Candidates
+pub mod ChooseLemmas
 pub mod OfferLemmas
+pub mod SameLemmas

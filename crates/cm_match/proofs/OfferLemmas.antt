@@ -10,16 +10,13 @@ use Rattle.std.specs.declared.alloc.Global.{Global}
 use Rattle.cm_types.specs.declared.signatures.SignatureItem.{SignatureItem}
 use Rattle.cm_types.specs.Signatures.{NamedExtern, extern_of}
 use Rattle.cm_match.specs.declared.offers.Offer.{Offer}
-use Rattle.cm_match.specs.Links.{Entry, entries}
+use Rattle.cm_match.specs.Links.{Entry, entry, entries}
 use Rattle.cm_match.specs.Offers.{AreOffers, offer_among, next_offer}
 
 offer_more : (xs : List Entry) (e : Entry) → offer_among (xs ++ e ∷ []) ≡ Some (next_offer e.component e.number (offer_among xs))
 offer_more [] e = refl
 offer_more (a ∷ []) e = refl
 offer_more (a ∷ b ∷ xs) e = refl
-
-abbrev pub entry : ℕ → ℕ → NamedExtern → Entry
-entry component number item = record { component = component; number = number; item = item }
 
 entries_more : (component n : ℕ) (xs : List NamedExtern) (x : NamedExtern) → entries component n (xs ++ x ∷ []) ≡ entries component n xs ++ entry component (n + length xs) x ∷ []
 entries_more component n [] x = ap (λ k. entry component k x ∷ []) (omega arith)

@@ -1,4 +1,5 @@
 pub mod Links
 pub mod Offers
+pub mod Reached
 pub mod Reasons
 pub mod Targets

@@ -1,6 +1,6 @@
 -- Which export of an earlier component each import of a set is linked to (how components are linked is
 -- this project's own choice).
-use Rattle.std.specs.Prelude.{◌≡◌, ℕ, ◌+◌, ◌<◌, ◌≤◌, List, [], ◌∷◌, ◌++◌, length, take, map, filter, Option, Some, None}
+use Rattle.std.specs.Prelude.{◌≡◌, ℕ, ◌+◌, ◌<◌, ◌≤◌, List, [], ◌∷◌, ◌++◌, length, take, map, filter, Option, Some, None, slice_get, option_and_then}
 use Rattle.std.specs.Str.{bytes_eq}
 use Rattle.cm_component.specs.Trees.{SectionTree}
 use Rattle.cm_types.specs.Signatures.{SignatureTy, NamedExtern, ExternTy, func, instance}
@@ -19,10 +19,17 @@ pub record Entry : Type 0 where
   pub number : ℕ
   pub item : NamedExtern
 
+abbrev pub entry : ℕ → ℕ → NamedExtern → Entry
+entry component number item = record { component = component; number = number; item = item }
+
+-- the export of this number of a component
+abbrev pub export_at : List SignatureTy → ℕ → ℕ → Option NamedExtern
+export_at set component number = option_and_then (λ c. slice_get c.exports number) (slice_get set component)
+
 -- these items of a component, numbered from here on
 abbrev pub entries : ℕ → ℕ → List NamedExtern → List Entry
 entries component number [] = []
-entries component number (x ∷ xs) = record { component = component; number = number; item = x } ∷ entries component (number + 1) xs
+entries component number (x ∷ xs) = entry component number x ∷ entries component (number + 1) xs
 
 -- the imports of components that are numbered from here on, in order
 abbrev pub imports_from : ℕ → List SignatureTy → List Entry

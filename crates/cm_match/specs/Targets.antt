@@ -4,7 +4,7 @@ use Rattle.std.specs.Prelude.{◌≡◌, ℕ, zero, suc, ◌+◌, ◌<◌, ◌==
 use Rattle.cm_types.specs.Types.{FuncTy}
 use Rattle.cm_component.specs.Trees.{SectionTree}
 use Rattle.cm_validate.specs.Spaces.{Space, CoreFuncTree, FuncDefTree, lifted, imported, lowered, spaces_of, signature, func_at}
-use Rattle.cm_match.specs.Links.{Entry, candidates, only, signatures}
+use Rattle.cm_match.specs.Links.{Entry, entry, candidates, only, signatures}
 
 -- a lifted function: its component, the core function that is lifted, and the type
 pub record TargetTree : Type 0 where
@@ -15,7 +15,7 @@ pub record TargetTree : Type 0 where
 -- the import of this number of a component
 abbrev pub import_entry : List (List SectionTree) → ℕ → ℕ → Option Entry
 import_entry set component import =
-    option_and_then (λ c. option_map (λ i. record { component = component; number = import; item = i }) (slice_get (signature (spaces_of c)).imports import))
+    option_and_then (λ c. option_map (entry component import) (slice_get (signature (spaces_of c)).imports import))
       (slice_get set component)
 
 -- what the function under an export is
