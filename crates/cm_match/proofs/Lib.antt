@@ -2,3 +2,5 @@ pub mod Candidates
 pub mod ChooseLemmas
 pub mod OfferLemmas
 pub mod SameLemmas
+pub mod Steps
+pub mod TableSteps

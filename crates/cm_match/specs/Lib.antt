@@ -1,5 +1,6 @@
 pub mod Links
 pub mod Offers
+pub mod Progress
 pub mod Reached
 pub mod Reasons
 pub mod Targets

@@ -3,6 +3,7 @@
 
 mod choose;
 mod fault;
+mod link;
 mod offers;
 mod plan;
 mod reached;
