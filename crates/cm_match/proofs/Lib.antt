@@ -4,3 +4,4 @@ pub mod OfferLemmas
 pub mod SameLemmas
 pub mod Steps
 pub mod TableSteps
+pub mod Faults

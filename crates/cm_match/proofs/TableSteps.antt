@@ -1,5 +1,5 @@
 -- One component more is linked.
-use Rattle.std.proofs.Common.{◌≡◌, ◌≢◌, ℕ, zero, suc, ◌+◌, ◌<◌, ◌==◌, Bool, true, false, List, [], ◌∷◌, ◌++◌, length, get_or, take, map, Option, Some, None, refl, sym, ap, subst, ◌∙◌, arith, add-one, append-nil, append_assoc, length-take, ◌⊎◌, inl, inr, rules, tests, Vec}
+use Rattle.std.proofs.Common.{◌≡◌, ◌≢◌, ℕ, zero, suc, ◌+◌, ◌<◌, ◌==◌, Bool, true, false, List, [], ◌∷◌, ◌++◌, length, get_or, take, map, Option, Some, None, refl, sym, ap, subst, ◌∙◌, arith, add-one, drop, drop-cons, append-nil, append_assoc, length-take, ◌⊎◌, inl, inr, rules, tests, Vec}
 use Rattle.std.specs.Prelude.{slice_get, option_and_then, if◌then◌else◌}
 use Rattle.std.specs.Option.{option_map}
 use Rattle.std.specs.declared.alloc.Global.{Global}
@@ -35,6 +35,9 @@ exports_next set at c lt is =
     ∙ ap (exports_from 0) (taken_next (λ d. signature (spaces_of d)) set at c lt is)
     ∙ exports_snoc 0 (take at (signatures set)) (signature (spaces_of c))
     ∙ ap (λ k. exports_from 0 (take at (signatures set)) ++ entries k 0 (signature (spaces_of c)).exports) long
+
+pub next_component : {A : Type 0} (xs : List A) (n : ℕ) (x : A) → n < length xs → x ≡ get_or xs n x → drop n xs ≡ x ∷ drop (n + 1) xs
+next_component xs n x lt is = rw (add-one, drop-cons xs n x lt, ← is) refl
 
 -- ---- the table of targets
 

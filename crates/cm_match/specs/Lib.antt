@@ -1,3 +1,4 @@
+pub mod Linked
 pub mod Links
 pub mod Offers
 pub mod Progress

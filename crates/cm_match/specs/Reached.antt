@@ -5,10 +5,14 @@ use Rattle.std.specs.declared.alloc.Global.{Global}
 use Rattle.cm_component.specs.Trees.{SectionTree}
 use Rattle.cm_types.specs.Funcs.{func_of}
 use Rattle.cm_match.specs.declared.reached.Reached.{Reached}
+use Rattle.cm_match.specs.declared.reached.Target.{Target}
 use Rattle.cm_match.specs.Targets.{TargetTree, reach}
 
 abbrev pub reached_tree : Reached → TargetTree
 reached_tree r = record { component = r.component; core_func = r.core_func; ty = func_of r.ty.value }
+
+abbrev pub target_tree : Target → TargetTree
+target_tree t = record { component = t.component; core_func = t.core_func; ty = func_of t.ty.now }
 
 -- what an import of a component reaches, by this table
 abbrev pub table : List (Vec (Option Reached) Global) → ℕ → ℕ → Option TargetTree

@@ -3,10 +3,13 @@
 
 mod choose;
 mod fault;
-mod link;
+mod links;
+mod linked;
 mod offers;
 mod plan;
 mod reached;
 
 pub use fault::{LinkFault, LinkReason};
+pub use linked::{Linked, link};
 pub use plan::PlanLine;
+pub use reached::Target;

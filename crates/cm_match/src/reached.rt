@@ -19,6 +19,16 @@ pub(crate) struct Reached {
     pub ty: Rc<Func>,
 }
 
+/// The lifted function that an imported function reaches.
+#[derive(Clone, Copy, Debug)]
+pub struct Target<'a> {
+    /// The place in the set of the component that lifts it.
+    pub component: u32,
+    /// The core function that is lifted.
+    pub core_func: u32,
+    pub ty: &'a Func,
+}
+
 impl Reached {
     fn share(&self) -> Result<Reached, AllocError>
         ensures { IfOk result (λ r. reached_tree r ≡ reached_tree self.now) }

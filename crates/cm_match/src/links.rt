@@ -2,8 +2,10 @@
 
 ghost use Rattle.std.specs.Prelude.{◌≡◌, ◌+◌, ◌<◌, ◌≤◌, ◌⊎◌, ◌++◌, IfOk, OnOk, IfErr, length, map, take, slice_get, option_and_then, None};
 ghost use Rattle.std.specs.Option.{option_map};
+ghost use Rattle.std.specs.List.{AllByRecursion};
 ghost use Rattle.cm_types.specs.Signatures.{extern_of};
 ghost use Rattle.cm_validate.specs.Spaces.{spaces_of, func_at};
+ghost use Rattle.cm_validate.specs.Valid.{IsValid};
 ghost use Rattle.cm_match.specs.declared.fault.LinkReason.TheVariants as reason;
 ghost use Rattle.cm_match.specs.Links.{Entry, entry, entries, exports_from, signatures, line, IsServed, Fails, IsFirstUnserved, Matches};
 ghost use Rattle.cm_match.specs.Offers.{AreOffers};
@@ -124,6 +126,7 @@ pub(crate) struct Links {
 pub(crate) fn link_all(alloc: Global, components: &[Checked]) -> Result<Links, LinkFault>
     requires some { 0 < length components.now }
     requires few { length components.now ≤ 16 }
+    ensures valid { OnOk result (AllByRecursion IsValid components.now) }
     ensures plan { IfOk result (λ l. Matches (signatures components.now) l.plan.items) }
     ensures targets { IfOk result (λ l. IsTable l.targets.items components.now (length components.now)) }
     ensures fault { IfErr result (λ f. (f.reason ≡ reason.Memory) ⊎ IsFirstUnserved (signatures components.now) f.component f.import f.reason) }

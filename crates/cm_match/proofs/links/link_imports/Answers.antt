@@ -6,7 +6,7 @@ use Rattle.cm_match.specs.Progress.{Progress, imports_of_rest}
 use Rattle.cm_match.specs.Reached.{reached_tree, table}
 use Rattle.cm_match.specs.Targets.{leads}
 use Rattle.cm_match.proofs.Steps.{served_on, failed_at, next_entry, reached_on, pushed}
-use Rattle.cm_match.proofs.link.link_imports.Goals as goal
+use Rattle.cm_match.proofs.links.link_imports.Goals as goal
 
 pub returns-in-Err-clause-fault : goal.returns-in-Err-clause-fault
 returns-in-Err-clause-fault c =

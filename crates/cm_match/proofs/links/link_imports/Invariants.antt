@@ -5,7 +5,7 @@ use Rattle.cm_match.specs.Links.{entries, signatures}
 use Rattle.cm_match.specs.Progress.{Progress, imports_of_rest}
 use Rattle.cm_match.specs.Reached.{reached_tree, table}
 use Rattle.cm_match.specs.Targets.{leads}
-use Rattle.cm_match.proofs.link.link_imports.Given as goal
+use Rattle.cm_match.proofs.links.link_imports.Given as goal
 
 abbrev pub invariant-loop-number : goal.invariant-loop-number
 invariant-loop-number l =
