@@ -1,0 +1,7 @@
+pub mod Linked
+pub mod Links
+pub mod Offers
+pub mod Progress
+pub mod Reached
+pub mod Reasons
+pub mod Targets

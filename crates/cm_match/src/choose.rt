@@ -1,0 +1,64 @@
+//! The export that an import is linked to.
+
+ghost use Rattle.std.specs.Prelude.{◌≡◌, ◌↔◌, IsTrue, IfOk, IfErr, take};
+ghost use Rattle.std.specs.Option.{option_map};
+ghost use Rattle.cm_types.specs.Funcs.{func_of};
+ghost use Rattle.cm_types.specs.Signatures.{extern_of, extern_desc_of};
+ghost use Rattle.cm_match.specs.Links.{Entry, entry, exports_from, export_at, signatures, IsSame, IsServed, Fails};
+ghost use Rattle.cm_match.specs.Offers.{AreOffers};
+
+use crate::fault::LinkReason;
+use crate::offers::Offer;
+use cm_types::{ExternDesc, Func, SignatureItem, same_func};
+use cm_validate::Checked;
+use std::collections::BTreeMap;
+
+fn export_at(components: &[Checked], provider: usize, export: usize) -> Option<&SignatureItem>
+    ensures { option_map (λ i. extern_of i.now) result ≡ export_at (signatures components.now) provider export }
+{
+    components.get(provider)?.signature().exports.get(export)
+}
+
+fn same_funcs(a: &Func, b: &Func) -> bool
+    ensures { IsTrue result ↔ (func_of a.now ≡ func_of b.now) }
+{
+    same_func(a, b, &[], &[])
+}
+
+fn same_desc(a: &ExternDesc, b: &ExternDesc) -> bool
+    ensures { IsTrue result ↔ IsSame (extern_desc_of a.now) (extern_desc_of b.now) }
+{
+    match (a, b) {
+        (ExternDesc::Func(a), ExternDesc::Func(b)) => same_funcs(a, b),
+        _ => false,
+    }
+}
+
+/// The export that import `number` of component `at` is linked to, or why there is none.
+pub(crate) fn choose(
+    components: &[Checked],
+    offers: &BTreeMap<String, Offer>,
+    at: usize,
+    number: usize,
+    import: &SignatureItem,
+) -> Result<Offer, LinkReason>
+    requires { AreOffers offers.now (exports_from 0 (take at (signatures components.now))) }
+    ensures served { IfOk result (λ o. (e : Entry) × IsServed (signatures components.now) (entry at number (extern_of import.now)) e × (o.provider ≡ e.component) × (o.export ≡ e.number)) }
+    ensures fails { IfErr result (λ r. Fails (signatures components.now) (entry at number (extern_of import.now)) r) }
+{
+    let _ = number;
+    let Some(offer) = offers.get(import.name.as_str()) else {
+        return Err(LinkReason::NoProvider);
+    };
+    if offer.more {
+        return Err(LinkReason::TwoProviders);
+    }
+    let Some(export) = export_at(components, offer.provider, offer.export) else {
+        unreachable!();
+    };
+    if same_desc(&export.desc, &import.desc) {
+        Ok(*offer)
+    } else {
+        Err(LinkReason::DifferentType)
+    }
+}

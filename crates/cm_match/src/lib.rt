@@ -1,0 +1,15 @@
+//! Linking: the imports of each component and the exports of those before it.
+#![tactic(auto)]
+
+mod choose;
+mod fault;
+mod links;
+mod linked;
+mod offers;
+mod plan;
+mod reached;
+
+pub use fault::{LinkFault, LinkReason};
+pub use linked::{Linked, link};
+pub use plan::PlanLine;
+pub use reached::Target;

@@ -1,0 +1,116 @@
+//! Linked sets of components.
+
+ghost use Rattle.std.specs.Prelude.{◌≡◌, ◌⊎◌, List, IfOk, IfErr};
+ghost use Rattle.std.specs.List.{AllByRecursion};
+ghost use Rattle.std.specs.Option.{option_map};
+ghost use Rattle.cm_types.specs.Funcs.{func_of};
+ghost use Rattle.cm_validate.specs.Valid.{IsValid};
+ghost use Rattle.cm_match.specs.declared.fault.LinkReason.TheVariants as reason;
+ghost use Rattle.cm_match.specs.declared.plan.PlanLine.{PlanLine};
+ghost use Rattle.cm_match.specs.Links.{signatures, IsLinkFault, Matches};
+ghost use Rattle.cm_match.specs.Reached.{target_tree};
+ghost use Rattle.cm_match.specs.Targets.{target};
+
+use crate::fault::{LinkFault, LinkReason};
+use crate::links::{Links, link_all};
+use crate::plan::PlanLine;
+use crate::reached::{Target, reached_at};
+use cm_validate::Checked;
+use std::alloc::Global;
+use std::marker::Model;
+
+/// The most components of a set.
+const MOST_COMPONENTS: usize = 16;
+
+/// A set of components whose imports are all served by components before. Contracts see it as the trees
+/// of the components' files, in order.
+#[derive(Debug, Drop)]
+pub struct Linked {
+    components: Vec<Checked>,
+    links: Links,
+}
+
+impl Model for Linked {
+    ghost use Rattle.std.specs.Prelude.{List};
+    ghost use Rattle.cm_component.specs.Trees.{SectionTree};
+
+    ghost Value = { List (List SectionTree) };
+
+    ghost use Rattle.cm_match.specs.Linked.{IsLinked};
+
+    ghost view = { λ l. l.components.items };
+
+    ghost invariant = { λ l. IsLinked l.components.items l.links };
+}
+
+impl Linked {
+    /// Which export of which component each import is linked to: a line an import, the components in
+    /// order and the imports of each in order.
+    pub fn plan(&self) -> &[PlanLine]
+        ensures { Matches (signatures self.now) result.now }
+    {
+        &self.links.plan
+    }
+
+    /// The components, in the order in which they were linked.
+    pub fn components(&self) -> &[Checked]
+        ensures components { result.now ≡ self.now }
+        ensures valid { AllByRecursion IsValid self.now }
+    {
+        &self.components
+    }
+
+    /// The lifted function that an imported function reaches, through every component that exports it
+    /// again. `component` is the place of the importing component in the set and `import` the number of
+    /// the import, both from 0; `item` is the place in an imported instance, and None for a function that
+    /// is an import of its own. None is the answer where there is no such import.
+    pub fn target(&self, component: u32, import: u32, item: Option<u32>) -> Option<Target<'_>>
+        ensures { option_map target_tree result ≡ target self.now component import item }
+    {
+        match item {
+            Some(_) => None,
+            None => match reached_at(&self.links.targets, component as usize, import) {
+                Some(reached) => Some(Target {
+                    component: reached.component,
+                    core_func: reached.core_func,
+                    ty: &reached.ty,
+                }),
+                None => None,
+            },
+        }
+    }
+}
+
+fn set_fault(reason: LinkReason) -> LinkFault
+    ensures { result ≡ record { component = 0; import = 0; reason = reason } }
+{
+    LinkFault {
+        component: 0,
+        import: 0,
+        reason,
+    }
+}
+
+/// The components as a linked set.
+///
+/// Components are taken in order, and the imports of each in order. An import is linked to the export of
+/// a component before whose name is the same text, if there is just one, and their types are equal. A
+/// set that can't be linked is refused with its first fault: `Empty` and `TooMany` for the set, at
+/// component 0 and import 0; `NoProvider`, `TwoProviders` and `DifferentType` at the first import that is
+/// not served; `Memory` where there is no memory. The components are dropped where they are refused.
+pub fn link(alloc: Global, components: Vec<Checked>) -> Result<Linked, LinkFault>
+    ensures held { IfOk result (λ l. l ≡ components.items) }
+    ensures complete { (plan : List PlanLine) → Matches (signatures components.items) plan → IfErr result (λ f. f.reason ≡ reason.Memory) }
+    ensures refused { IfErr result (λ f. (f.reason ≡ reason.Memory) ⊎ IsLinkFault (signatures components.items) f.component f.import f.reason) }
+{
+    if components.is_empty() {
+        return Err(set_fault(LinkReason::Empty));
+    }
+    if components.len() > MOST_COMPONENTS {
+        return Err(set_fault(LinkReason::TooMany));
+    }
+    match link_all(alloc, &components) {
+        Ok(links) => Ok(Linked { components, links }),
+        Err(fault) => Err(fault),
+    }
+}

@@ -1,0 +1,14 @@
+//! The plan of a linked set.
+
+/// An import with the export that it is linked to.
+#[derive(Clone, Copy, Debug, PartialEq, Eq)]
+pub struct PlanLine {
+    /// The place in the set of the component that imports, from 0.
+    pub importer: u32,
+    /// The number of the import, from 0.
+    pub import: u32,
+    /// The place in the set of the component that exports.
+    pub provider: u32,
+    /// The number of the export.
+    pub export: u32,
+}
