@@ -5,3 +5,4 @@ pub mod SameLemmas
 pub mod Steps
 pub mod TableSteps
 pub mod Faults
+pub mod Below
