@@ -1,6 +1,6 @@
 //! Linked sets of components.
 
-ghost use Rattle.std.specs.Prelude.{◌≡◌, ◌⊎◌, ◌<◌, List, IfOk, IfErr, IfSome};
+ghost use Rattle.std.specs.Prelude.{◌≡◌, ◌⊎◌, ◌<◌, ◌≤◌, List, length, IfOk, IfErr, IfSome};
 ghost use Rattle.std.specs.List.{AllByRecursion};
 ghost use Rattle.std.specs.Option.{option_map};
 ghost use Rattle.cm_types.specs.Funcs.{func_of};
@@ -56,6 +56,8 @@ impl Linked {
     pub fn components(&self) -> &[Checked]
         ensures components { result.now ≡ self.now }
         ensures valid { AllByRecursion IsValid self.now }
+        ensures some { 0 < length self.now }
+        ensures few { length self.now ≤ 16 }
     {
         &self.components
     }
