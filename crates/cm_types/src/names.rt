@@ -40,8 +40,8 @@ impl NameFault {
 
 /// One or more words and acronyms joined by hyphens, as `get-HTTP-body`: a word is a lower-case
 /// letter and then lower-case letters and digits, an acronym an upper-case letter and then upper-case
-/// letters and digits (WIT.md, "Identifiers"; that digits may follow any letter is this project's own
-/// choice).
+/// letters and digits (after WIT.md, "Identifiers"; that every fragment begins with a letter is this
+/// project's own choice).
 ///
 /// Contracts see a label as the bytes of its text.
 #[derive(Debug, Drop)]
