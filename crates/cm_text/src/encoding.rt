@@ -1,7 +1,6 @@
 //! Encodings that texts are written in.
 
-ghost use Rattle.std.specs.Prelude.{◌≡◌, ℕ, ◌+◌, ◌*◌, ◌<◌, ◌≤◌, List, ◌++◌, length, OnOk, OnErr, IfOk, IfErr};
-ghost use Rattle.std.specs.List.{flat_map};
+ghost use Rattle.std.specs.Prelude.{◌≡◌, ℕ, ◌+◌, ◌*◌, ◌<◌, ◌≤◌, ◌++◌, length, OnOk, OnErr, IfOk, IfErr};
 ghost use Rattle.std.specs.Char.{IsScalar};
 ghost use Rattle.std.specs.Char.Escape.{encode_utf16};
 ghost use Rattle.cm_text.specs.Text.{IsTextUpTo, IsTextOfSize, IsSameText};
