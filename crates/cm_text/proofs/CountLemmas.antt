@@ -15,7 +15,8 @@ use lib.Utf8.{scalar_cases}
 use Rattle.cm_text.specs.Sizes.{units_begun, bytes_taken, latin1_taken}
 use Rattle.std.specs.Char.Escape.{encode_utf16}
 use Rattle.cm_text.specs.Latin1.{HasLatin1, spell_latin1}
-use Rattle.cm_text.specs.Utf16.{unit, units, mark, spell_utf16}
+use Rattle.cm_text.specs.Utf16.{unit, units, spell_utf16}
+use Rattle.cm_text.specs.Lanes.{mark}
 use Rattle.cm_text.specs.Utf16Laws.{units_of_units}
 use Rattle.cm_text.specs.Utf8.{spell_utf8}
 use Rattle.cm_text.proofs.LaneLemmas.{mask_from}

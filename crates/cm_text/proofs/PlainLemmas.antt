@@ -6,7 +6,8 @@ use Rattle.std.proofs.lemmas.List.Concat.{flat_map-append}
 use Rattle.std.specs.Char.{IsScalar}
 use Rattle.std.specs.List.{AllByRecursion, flat_map, prefix_len}
 use lib.Lanes.{Each1, chunk}
-use Rattle.cm_text.specs.Utf16.{unit, units, second_bytes, is_plain, bytes_of_unit, spell_utf16}
+use Rattle.cm_text.specs.Utf16.{unit, units, bytes_of_unit, spell_utf16}
+use Rattle.cm_text.specs.Lanes.{second_bytes, is_plain}
 use Rattle.cm_text.specs.Utf16Laws.{one_unit}
 use Rattle.cm_text.proofs.TextLemmas.{all-append}
 

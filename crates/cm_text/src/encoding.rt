@@ -11,6 +11,7 @@ use std::alloc::AllocError;
 
 /// An encoding that texts are written in: each Unicode scalar value has a spelling.
 pub trait Encoding: Source {
+    /// The most bytes that a text takes in this encoding for each unit that it has in another.
     ghost GREATEST_GROWTH: { ℕ };
 
     /// The most bytes that a text takes in this encoding for each unit that it has in another.
