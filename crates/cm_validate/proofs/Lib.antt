@@ -4,4 +4,5 @@ pub mod Lifts
 pub mod Order
 pub mod Params
 pub mod Sections
+pub mod Sounds
 pub mod TableLemmas

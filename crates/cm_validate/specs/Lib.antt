@@ -3,6 +3,7 @@ pub mod Items
 pub mod Names
 pub mod Reasons
 pub mod Rules
+pub mod Sound
 pub mod Spaces
 pub mod SpacesOf
 pub mod Tables
