@@ -29,7 +29,7 @@ pub record IsFineTop (count : ℕ) (top : Frame) : Type 0 where
   pub itself : actor top ≡ top.instance
   pub stands : (below : List Frame) × StandsOn top.purpose top.instance below
 
-fine_top : (count : ℕ) (stack : List Frame) (top : Frame) → IsStack count stack → top_of stack ≡ Some top → IsFineTop count top
+pub fine_top : (count : ℕ) (stack : List Frame) (top : Frame) → IsStack count stack → top_of stack ≡ Some top → IsFineTop count top
 fine_top count [] top h e = absurd cc
 fine_top count (f ∷ fs) top h e =
     let same : f ≡ top = cc in

@@ -1,5 +1,12 @@
+pub mod Numbers
 pub mod Memories
 pub mod Stack
 pub mod State
 pub mod Step
 pub mod Run
+pub mod Fresh
+pub mod History
+pub mod Values
+pub mod Headline
+pub mod Exchange
+pub mod Player

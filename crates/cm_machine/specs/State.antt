@@ -1,5 +1,5 @@
 -- The state of a linked set while it runs.
-use Rattle.std.specs.Prelude.{◌≡◌, ℕ, ◌+◌, ◌<◌, ◌≤◌, Bool, true, false, List, [], ◌∷◌, length, map, Option, Some, None, slice_get, slice_set, unwrap_or, option_and_then}
+use Rattle.std.specs.Prelude.{◌≡◌, ℕ, ◌+◌, ◌<◌, ◌≤◌, Bool, true, false, List, [], ◌∷◌, length, map, Option, Some, None, slice_get, slice_set, replicate, unwrap_or, option_and_then}
 use Rattle.std.specs.List.{AllByRecursion}
 use Rattle.cm_machine.specs.declared.frame.CoreFunction.{CoreFunction}
 use Rattle.cm_machine.specs.declared.frame.CoreFunction.TheVariants as core_function
@@ -11,14 +11,16 @@ use Rattle.cm_machine.specs.declared.frame.Phase.TheVariants as phase
 use Rattle.cm_machine.specs.declared.frame.Place.{Place}
 use Rattle.cm_machine.specs.declared.frame.Place.TheVariants as place
 use Rattle.cm_machine.specs.declared.frame.Lend.{Lend}
+use Rattle.cm_handles.specs.Handles.{Handles, no_handles, closed}
 use Rattle.cm_machine.specs.Stack.{top_of}
 
--- each instance's core functions, memory, and whether it is closed; where each resource that was made
+-- each instance's core functions, memory, handle table, and whether it is closed; where each resource that was made
 -- is, by its serial number, so that the next serial number is their count; the handles that are lent;
 -- the frames, the top first
 pub record State : Type 0 where
   pub plan : List (List CoreFunction)
   pub memories : List (List ℕ)
+  pub tables : List Handles
   pub owners : List Place
   pub lends : List Lend
   pub closed : List Bool
@@ -44,9 +46,14 @@ abbrev pub closed_with : List Frame → List Bool → List Bool
 closed_with [] closed = closed
 closed_with (f ∷ fs) closed = closed_with fs (slice_set closed f.instance true)
 
+-- the handle tables of the instances of these frames lose their borrows and are lent no longer
+abbrev pub tables_with : List Frame → List Handles → List Handles
+tables_with [] tables = tables
+tables_with (f ∷ fs) tables = tables_with fs (slice_set tables f.instance (closed (unwrap_or (slice_get tables f.instance) no_handles)))
+
 -- the state that a trap leaves: the stack is empty and its instances are closed; memories stay
 abbrev pub trapped : State → State
-trapped s = record s { owners = map abandoned s.owners; lends = []; closed = closed_with s.stack s.closed; stack = [] }
+trapped s = record s { tables = tables_with s.stack s.tables; owners = map abandoned s.owners; lends = []; closed = closed_with s.stack s.closed; stack = [] }
 
 -- A lowered function of an instance reaches an earlier instance, and its parameters are passed flat.
 abbrev pub IsLinkedBelow : ℕ → CoreFunction → Type 0
@@ -76,5 +83,6 @@ pub record IsValid (s : State) : Type 0 where
   pub memories : length s.memories ≡ length s.plan
   pub closed : length s.closed ≡ length s.plan
   pub stack : IsStack (length s.plan) s.stack
+  pub no_handle : s.tables ≡ replicate (length s.plan) no_handles
   pub no_owners : s.owners ≡ []
   pub no_lends : s.lends ≡ []

@@ -107,8 +107,12 @@ pub enum Trap {
 }
 
 impl Trap {
-    /// The number of the trap, from 1 to 21.
-    pub fn number(self) -> u8 {
+    ghost use Rattle.cm_machine.specs.Numbers.{trap_number};
+
+    /// The number by which the trap is known, from 1 for `CoreShape` to 21 for `CalleeClosed`.
+    pub fn number(self) -> u8
+        ensures { result ≡ trap_number self }
+    {
         self as u8
     }
 }
@@ -118,7 +122,7 @@ impl Trap {
 pub enum Misuse {
     /// 1: no frame stands on the stack, so no instance acts.
     #[error("no instance acts")]
-    Idle,
+    Idle = 1,
     /// 2: a frame stands on the stack already.
     #[error("a call is on the stack")]
     Busy,
@@ -134,4 +138,15 @@ pub enum Misuse {
     /// 6: no memory for the set or for the list of events.
     #[error("out of memory")]
     Memory,
+}
+
+impl Misuse {
+    ghost use Rattle.cm_machine.specs.Numbers.{misuse_number};
+
+    /// The number by which the misuse is known, from 1 for `Idle` to 6 for `Memory`.
+    pub fn number(self) -> u8
+        ensures { result ≡ misuse_number self }
+    {
+        self as u8
+    }
 }

@@ -1,15 +1,19 @@
 //! The running set: its state, and the calls that read it.
 
-ghost use Rattle.std.specs.Prelude.{◌≡◌, ◌+◌, ◌*◌, ◌<◌, ◌≤◌, ◌&&◌, List, [], ◌∷◌, length, slice_set, map, true, IsOk, MatchResult, slice_get, IfSome, IfErr, OnErr, OnOk, Option, Some, None};
+ghost use Rattle.std.specs.Prelude.{◌≡◌, ◌+◌, ◌*◌, ◌<◌, ◌≤◌, ◌&&◌, List, [], ◌∷◌, length, slice_set, map, true, IsOk, MatchResult, slice_get, IfSome, IfOk, IfErr, OnErr, OnOk, Option, Some, None};
 ghost use Rattle.std.specs.Option.{option_map, option_copied};
 ghost use Rattle.cm_machine.specs.Stack.{actor, top_of};
 ghost use Rattle.cm_machine.specs.Memories.{bytes_of, written, grown};
-ghost use Rattle.cm_machine.specs.State.{State, StandsOn, IsValid, core_at, closed_with, trapped};
+ghost use Rattle.cm_machine.specs.State.{State, StandsOn, IsPlan, IsValid, core_at, closed_with, trapped};
+ghost use Rattle.cm_machine.specs.Fresh.{are_pages, fresh};
 ghost use Rattle.cm_machine.specs.Step.{memory_of, without_top};
 
 use crate::frame::{CoreFunction, Frame, Lend, Phase, Place, Purpose};
 use crate::memory::Memories;
+use crate::setup::{memories_of, tables_of};
 use crate::stack::Stack;
+use arrayvec::ArrayVec;
+use cm_handles::Table;
 use std::alloc::{AllocError, Global};
 use std::marker::Model;
 
@@ -42,6 +46,7 @@ impl CoreFunctions {
 pub struct Set {
     plan: Vec<CoreFunctions>,
     memories: Memories,
+    tables: Vec<Table>,
     owners: Vec<Place>,
     lends: Vec<Lend>,
     closed: Vec<bool>,
@@ -49,13 +54,14 @@ pub struct Set {
 }
 
 impl Model for Set {
+    ghost use Rattle.std.specs.Prelude.{map};
     ghost use Rattle.cm_machine.specs.State.{State, IsValid};
 
     ghost Value = { State };
 
-    ghost view = { λ s. record { plan = s.plan.items; memories = s.memories; owners = s.owners.items; lends = s.lends.items; closed = s.closed.items; stack = s.stack } };
+    ghost view = { λ s. record { plan = s.plan.items; memories = s.memories; tables = map (λ t. t.handles) s.tables.items; owners = s.owners.items; lends = s.lends.items; closed = s.closed.items; stack = s.stack } };
 
-    ghost invariant = { λ s. IsValid (record { plan = s.plan.items; memories = s.memories; owners = s.owners.items; lends = s.lends.items; closed = s.closed.items; stack = s.stack }) };
+    ghost invariant = { λ s. IsValid (record { plan = s.plan.items; memories = s.memories; tables = map (λ t. t.handles) s.tables.items; owners = s.owners.items; lends = s.lends.items; closed = s.closed.items; stack = s.stack }) };
 }
 
 /// The instance that acts while this frame is on top.
@@ -72,9 +78,9 @@ pub(crate) fn actor(frame: &Frame) -> u32
 }
 
 /// Takes all frames off the stack, and closes their instances.
-fn close_all(stack: &mut Stack, closed: &mut [bool])
+fn close_all(stack: &mut Stack, closed: &mut Vec<bool>)
     ensures emptied { stack.new ≡ [] }
-    ensures closed { closed.new ≡ closed_with stack.old closed.old }
+    ensures closed { closed.new.items ≡ closed_with stack.old closed.old.items }
 {
     while let Some(frame) = stack.pop() {
         let instance = frame.instance as usize;
@@ -85,6 +91,32 @@ fn close_all(stack: &mut Stack, closed: &mut [bool])
 }
 
 impl Set {
+    /// A set of instances with these functions, each with so many pages of zeros.
+    pub(crate) fn with_pages(
+        alloc: Global,
+        plan: Vec<CoreFunctions>,
+        pages: &[u32],
+    ) -> Result<Set, AllocError>
+        requires few { length plan.items ≤ 16 }
+        requires linked { IsPlan 0 plan.items }
+        requires pages { are_pages (length plan.items) pages.now ≡ true }
+        ensures { IfOk result (λ s. s ≡ fresh plan.items pages.now) }
+    {
+        let memories = memories_of(alloc, pages)?;
+        let tables = tables_of(alloc, plan.len())?;
+        let closed = vec![in alloc; false; plan.len()]?;
+        let stack = Stack::new(alloc)?;
+        Ok(Set {
+            plan,
+            memories,
+            tables,
+            owners: Vec::new(alloc),
+            lends: Vec::new(alloc),
+            closed,
+            stack,
+        })
+    }
+
     /// The instance whose move is next, or `None` where the stack is empty.
     pub fn acting(&self) -> Option<u32>
         ensures { result ≡ option_map actor (top_of self.now.stack) }
@@ -129,6 +161,18 @@ impl Set {
         ensures valid { IsValid self.now }
     {
         self.stack.len()
+    }
+
+    /// For each instance whether it is closed, in place.
+    pub(crate) fn closed_flags(&self) -> ArrayVec<bool, 16>
+        ensures { result.items ≡ self.now.closed }
+    {
+        let closed = &self.closed;
+        let mut flags = ArrayVec::new();
+        for flag in closed {
+            flags.push(*flag);
+        }
+        flags
     }
 
     /// The frame on top of the stack.

@@ -45,9 +45,10 @@ pub record Stands (set : List SignatureTy) (e : Entry) : Type 0 where
 entries_stand : (set : List SignatureTy) (s : SignatureTy) (component n : ℕ) (xs : List NamedExtern) → slice_get set component ≡ Some s → ((k : ℕ) → slice_get s.exports (n + k) ≡ slice_get xs k) → AllByRecursion (Stands set) (entries component n xs)
 entries_stand set s component n [] there from = tt
 entries_stand set s component n (x ∷ xs) there from =
-    let here : n + 0 ≡ n = omega arith in
-    ( record { signature = s; there = there; export = sym (ap (slice_get s.exports) here) ∙ from 0 },
-      entries_stand set s component (n + 1) xs there (λ k. let next : (n + 1) + k ≡ n + suc k = omega arith in ap (slice_get s.exports) next ∙ from (suc k)) )
+    let here : n + 0 ≡ n = omega arith in (
+      record { signature = s; there = there; export = sym (ap (slice_get s.exports) here) ∙ from 0 },
+      entries_stand set s component (n + 1) xs there (λ k. let next : (n + 1) + k ≡ n + suc k = omega arith in ap (slice_get s.exports) next ∙ from (suc k)),
+    )
 
 all_append : {A : Type 0} (P : A → Type 0) (xs ys : List A) → AllByRecursion P xs → AllByRecursion P ys → AllByRecursion P (xs ++ ys)
 all_append P [] ys p q = q
@@ -56,9 +57,9 @@ all_append P (x ∷ xs) ys p q = (p.0, all_append P xs ys p.1 q)
 all_filter : {A : Type 0} (P : A → Type 0) (test : A → Bool) (xs : List A) → AllByRecursion P xs → AllByRecursion P (filter test xs)
 all_filter P test [] p = tt
 all_filter P test (x ∷ xs) p = elim (test x) as (λ t. AllByRecursion P (cond t (x ∷ filter test xs) (filter test xs))) [
-    true ↦ (p.0, all_filter P test xs p.1)
+  | true ↦ (p.0, all_filter P test xs p.1)
   | false ↦ all_filter P test xs p.1
-  ]
+]
 
 exports_stand : (set : List SignatureTy) (component : ℕ) (cs : List SignatureTy) → ((k : ℕ) → slice_get set (component + k) ≡ slice_get cs k) → AllByRecursion (Stands set) (exports_from component cs)
 exports_stand set component [] from = tt
@@ -66,8 +67,8 @@ exports_stand set component (c ∷ cs) from =
     let here : component + 0 ≡ component = omega arith in
     let there : slice_get set component ≡ Some c = sym (ap (slice_get set) here) ∙ from 0 in
     all_append (Stands set) (entries component 0 c.exports) (exports_from (component + 1) cs)
-      (entries_stand set c component 0 c.exports there (λ k. let same : 0 + k ≡ k = omega arith in ap (slice_get c.exports) same))
-      (exports_stand set (component + 1) cs (λ k. let next : (component + 1) + k ≡ component + suc k = omega arith in ap (slice_get set) next ∙ from (suc k)))
+    (entries_stand set c component 0 c.exports there (λ k. let same : 0 + k ≡ k = omega arith in ap (slice_get c.exports) same))
+    (exports_stand set (component + 1) cs (λ k. let next : (component + 1) + k ≡ component + suc k = omega arith in ap (slice_get set) next ∙ from (suc k)))
 
 get_taken : {A : Type 0} (n : ℕ) (xs : List A) (k : ℕ) (x : A) → slice_get (take n xs) k ≡ Some x → slice_get xs k ≡ Some x
 get_taken zero xs k x e = absurd cc
@@ -84,7 +85,7 @@ pub record IsEarlier (set : List SignatureTy) (i e : Entry) : Type 0 where
 pub earlier : (set : List SignatureTy) (i e : Entry) → candidates set i ≡ e ∷ [] → IsEarlier set i e
 earlier set i e only =
     let all = all_filter (Stands (take i.component set)) (λ x. bytes_eq x.item.name i.item.name) (exports_from 0 (take i.component set))
-                (exports_stand (take i.component set) 0 (take i.component set) (λ k. let same : 0 + k ≡ k = omega arith in ap (slice_get (take i.component set)) same)) in
+    (exports_stand (take i.component set) 0 (take i.component set) (λ k. let same : 0 + k ≡ k = omega arith in ap (slice_get (take i.component set)) same)) in
     let one = subst (AllByRecursion (Stands (take i.component set))) only all in
     let s = one.0 in
     let within = slice_get_within (take i.component set) e.component s.signature s.there in
@@ -92,7 +93,7 @@ earlier set i e only =
     record {
       before = omega (arith, within, length-take i.component set);
       inside = slice_get_within set e.component s.signature there;
-      stands = record { signature = s.signature; there = there; export = s.export }
+      stands = record { signature = s.signature; there = there; export = s.export };
     }
 
 -- so it is found there

@@ -1,3 +1,4 @@
+pub mod Below
 pub mod Candidates
 pub mod ChooseLemmas
 pub mod Faults

@@ -37,20 +37,20 @@ offers_grow old new xs e grows before = λ q.
     let is : List ℕ → Entry → Bool = λ name x. bytes_eq x.item.name name in
     let split = filter-append (is q) xs (e ∷ []) in
     elim (bool_cases (bytes_eq e.item.name q)) [
-      inl h ↦
-        let same : e.item.name ≡ q = (bytes_eq-Decides e.item.name q).0 h in
-        grows q
-        ∙ ap (λ t. cond t (Some (next_offer e.component e.number (get_by_text old e.item.name))) (get_by_text old q)) h
-        ∙ ap (λ o. Some (next_offer e.component e.number o)) (before e.item.name ∙ ap (λ name. offer_among (filter (is name) xs)) same)
-        ∙ sym (offer_more (filter (is q) xs) e)
-        ∙ sym (ap (λ t. offer_among (filter (is q) xs ++ cond t (e ∷ []) [])) h)
-        ∙ sym (ap offer_among split)
-    | inr h ↦
-        grows q
-        ∙ ap (λ t. cond t (Some (next_offer e.component e.number (get_by_text old e.item.name))) (get_by_text old q)) h
-        ∙ before q
-        ∙ sym (ap offer_among (ap (λ t. filter (is q) xs ++ cond t (e ∷ []) []) h ∙ append-nil (filter (is q) xs)))
-        ∙ sym (ap offer_among split)
+      | inl h ↦
+          let same : e.item.name ≡ q = (bytes_eq-Decides e.item.name q).0 h in
+          grows q
+          ∙ ap (λ t. cond t (Some (next_offer e.component e.number (get_by_text old e.item.name))) (get_by_text old q)) h
+          ∙ ap (λ o. Some (next_offer e.component e.number o)) (before e.item.name ∙ ap (λ name. offer_among (filter (is name) xs)) same)
+          ∙ sym (offer_more (filter (is q) xs) e)
+          ∙ sym (ap (λ t. offer_among (filter (is q) xs ++ cond t (e ∷ []) [])) h)
+          ∙ sym (ap offer_among split)
+      | inr h ↦
+          grows q
+          ∙ ap (λ t. cond t (Some (next_offer e.component e.number (get_by_text old e.item.name))) (get_by_text old q)) h
+          ∙ before q
+          ∙ sym (ap offer_among (ap (λ t. filter (is q) xs ++ cond t (e ∷ []) []) h ∙ append-nil (filter (is q) xs)))
+          ∙ sym (ap offer_among split)
     ]
 
 map_snoc : {A B : Type 0} (f : A → B) (xs : List A) (x : A) → map f (xs ++ x ∷ []) ≡ map f xs ++ f x ∷ []

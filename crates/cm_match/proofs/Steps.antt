@@ -21,7 +21,7 @@ served_on set i rest plan l p s =
       few = p.few;
       front = p.front ++ i ∷ [];
       split = p.split ∙ sym (append_assoc p.front (i ∷ []) rest);
-      served = served_snoc set p.front plan i l p.served s
+      served = served_snoc set p.front plan i l p.served s;
     }
 
 pub failed_at : (set : List SignatureTy) (i : Entry) (rest : List Entry) (plan : List PlanLine) (r : LinkReason) → Progress set (i ∷ rest) plan → Fails set i r → IsFirstUnserved set i.component i.number r
@@ -37,7 +37,7 @@ failed_at set i rest plan r p f =
       number_is = refl;
       plan = plan;
       served = p.served;
-      fails = f
+      fails = f;
     }
 
 pub all_served : (set : List SignatureTy) (plan : List PlanLine) → Progress set [] plan → Matches set plan

@@ -99,29 +99,29 @@ table_on old new v set at c pushed long there row before = λ component import.
     let imports = (signature (spaces_of c)).imports in
     let grown : reach set (at + 1) component import ≡ (if component == at then option_and_then (leads set (reach set at)) (import_entry set component import) else reach set at component import) = ap (λ k. reach set k component import) (add-one at) in
     elim (bool_cases (component == at)) [
-      inl h ↦
-        let same : component ≡ at = same_of component at h in
-        let here : slice_get new component ≡ Some v = ap (slice_get new) (same ∙ sym long) ∙ ap (λ xs. slice_get xs (length old)) pushed ∙ get_end old v in
-        let got : option_and_then (option_map reached_tree) (slice_get v.items import) ≡ option_and_then (leads set (table old)) (option_map (entry at import) (slice_get imports import)) =
+      | inl h ↦
+          let same : component ≡ at = same_of component at h in
+          let here : slice_get new component ≡ Some v = ap (slice_get new) (same ∙ sym long) ∙ ap (λ xs. slice_get xs (length old)) pushed ∙ get_end old v in
+          let got : option_and_then (option_map reached_tree) (slice_get v.items import) ≡ option_and_then (leads set (table old)) (option_map (entry at import) (slice_get imports import)) =
           and_then_joined (option_map reached_tree) (slice_get v.items import)
           ∙ ap joined (sym (slice_get-map (option_map reached_tree) v.items import))
           ∙ ap (λ xs. joined (slice_get xs import)) row
           ∙ ap joined (slice_get-map (leads set (table old)) (entries at 0 imports) import)
           ∙ sym (and_then_joined (leads set (table old)) (slice_get (entries at 0 imports) import))
           ∙ ap (option_and_then (leads set (table old))) (get_entries at 0 imports import ∙ ap (λ m. option_map (entry at m) (slice_get imports import)) (omega arith))
-        in
-        let wanted : import_entry set component import ≡ option_map (entry at import) (slice_get imports import) = ap (λ k. import_entry set k import) same ∙ ap (option_and_then (λ d. option_map (entry at import) (slice_get (signature (spaces_of d)).imports import))) there in
-        ap (option_and_then (λ xs. option_and_then (option_map reached_tree) (slice_get xs.items import))) here
-        ∙ got
-        ∙ leads_same set (table old) (reach set at) (option_map (entry at import) (slice_get imports import)) before
-        ∙ sym (ap (option_and_then (leads set (reach set at))) wanted)
-        ∙ sym (ap (λ t. if t then option_and_then (leads set (reach set at)) (import_entry set component import) else reach set at component import) h)
-        ∙ sym grown
-    | inr h ↦
-        let ne : component ≢ length old = λ e. apart_of component at h (e ∙ long) in
-        ap (λ xs. table xs component import) pushed
-        ∙ ap (option_and_then (λ xs. option_and_then (option_map reached_tree) (slice_get xs.items import))) (get_elsewhere old v component ne)
-        ∙ before component import
-        ∙ sym (ap (λ t. if t then option_and_then (leads set (reach set at)) (import_entry set component import) else reach set at component import) h)
-        ∙ sym grown
+          in
+          let wanted : import_entry set component import ≡ option_map (entry at import) (slice_get imports import) = ap (λ k. import_entry set k import) same ∙ ap (option_and_then (λ d. option_map (entry at import) (slice_get (signature (spaces_of d)).imports import))) there in
+          ap (option_and_then (λ xs. option_and_then (option_map reached_tree) (slice_get xs.items import))) here
+          ∙ got
+          ∙ leads_same set (table old) (reach set at) (option_map (entry at import) (slice_get imports import)) before
+          ∙ sym (ap (option_and_then (leads set (reach set at))) wanted)
+          ∙ sym (ap (λ t. if t then option_and_then (leads set (reach set at)) (import_entry set component import) else reach set at component import) h)
+          ∙ sym grown
+      | inr h ↦
+          let ne : component ≢ length old = λ e. apart_of component at h (e ∙ long) in
+          ap (λ xs. table xs component import) pushed
+          ∙ ap (option_and_then (λ xs. option_and_then (option_map reached_tree) (slice_get xs.items import))) (get_elsewhere old v component ne)
+          ∙ before component import
+          ∙ sym (ap (λ t. if t then option_and_then (leads set (reach set at)) (import_entry set component import) else reach set at component import) h)
+          ∙ sym grown
     ]

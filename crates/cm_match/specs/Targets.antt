@@ -16,7 +16,7 @@ pub record TargetTree : Type 0 where
 abbrev pub import_entry : List (List SectionTree) → ℕ → ℕ → Option Entry
 import_entry set component import =
     option_and_then (λ c. option_map (entry component import) (slice_get (signature (spaces_of c)).imports import))
-      (slice_get set component)
+    (slice_get set component)
 
 -- what the function under an export is
 abbrev pub export_def : List (List SectionTree) → Entry → Option FuncDefTree

@@ -3,8 +3,8 @@
 
 mod choose;
 mod fault;
-mod links;
 mod linked;
+mod links;
 mod offers;
 mod plan;
 mod reached;

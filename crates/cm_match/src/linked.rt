@@ -1,6 +1,6 @@
 //! Linked sets of components.
 
-ghost use Rattle.std.specs.Prelude.{◌≡◌, ◌<◌, ◌≤◌, ◌⊎◌, List, length, IfOk, IfErr};
+ghost use Rattle.std.specs.Prelude.{◌≡◌, ◌<◌, ◌≤◌, ◌⊎◌, List, length, IfOk, IfErr, IfSome};
 ghost use Rattle.std.specs.List.{AllByRecursion};
 ghost use Rattle.std.specs.Option.{option_map};
 ghost use Rattle.cm_types.specs.Funcs.{func_of};
@@ -69,7 +69,8 @@ impl Linked {
     /// the import, both from 0; `item` is the place in an imported instance, and None for a function that
     /// is an import of its own. None is the answer where there is no such import.
     pub fn target(&self, component: u32, import: u32, item: Option<u32>) -> Option<Target<'_>>
-        ensures { option_map target_tree result ≡ target self.now component import item }
+        ensures target { option_map target_tree result ≡ target self.now component import item }
+        ensures below { IfSome result (λ t. t.component < component) }
     {
         match item {
             Some(_) => None,

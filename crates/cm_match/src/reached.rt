@@ -80,9 +80,13 @@ pub(crate) fn follow_export(
             ty: ty.clone()?,
         })),
         Some(FuncDef::Imported { item: Some(_), .. }) => Ok(None),
-        Some(FuncDef::Imported {
-            import, item: None, ..
-        }) => match reached_at(targets, provider, *import) {
+        Some(
+            FuncDef::Imported {
+                import,
+                item: None,
+                ..
+            },
+        ) => match reached_at(targets, provider, *import) {
             Some(reached) => Ok(Some(reached.share()?)),
             None => Ok(None),
         },

@@ -1,6 +1,5 @@
 -- Counting nodes up to a cap.
-use Rattle.std.proofs.Common.{◌≡◌, ℕ, zero, suc, ◌+◌, ◌*◌, ◌≤◌, ◌<◌, min, max, List, [], ◌∷◌, Option, Some, None, refl, sym, ap, ◌∙◌, arith, inl, inr, ◌⊎◌}
-use Rattle.std.proofs.Math.Nat.{mul-le-mul_left}
+use Rattle.std.proofs.Common.{◌≡◌, ℕ, zero, suc, ◌+◌, ◌*◌, ◌≤◌, ◌<◌, min, max, List, [], ◌∷◌, Option, Some, None, refl, ◌∙◌, arith, inl, inr, ◌⊎◌}
 use Rattle.std.proofs.lemmas.Bool.{cases_lt}
 use Rattle.cm_types.specs.Types.{Ty, Cases, no_cases}
 use Rattle.cm_types.specs.TypeTrees.{plain_from, case_before}
@@ -28,12 +27,13 @@ product_large m x le = omega arith
 pub capped_product : (n x : ℕ) → 1 ≤ n → min (1 + n * min x 10001) 10001 ≡ min (1 + n * x) 10001
 capped_product zero x some = absurd (omega arith)
 capped_product (suc m) x some = elim (small_or_not x) [
-    inl lt ↦ let e : min x 10001 ≡ x = omega arith in rw e refl
+  | inl lt ↦ let e : min x 10001 ≡ x = omega arith in rw e refl
   | inr le ↦
       let e : min x 10001 ≡ 10001 = omega arith in
       let a = product_large m 10001 (omega arith) in
       let b = product_large m x le in
-      rw e (omega arith) ]
+      rw e (omega arith)
+]
 
 pub fixed_count : (r a b n x : ℕ) → r ≡ min (1 + a * b) 10001 → a ≡ max n 1 → b ≡ min x 10001 → r ≡ min (1 + max n 1 * x) 10001
 fixed_count r a b n x e f g = e ∙ rw (f, g) (capped_product (max n 1) x (omega arith))

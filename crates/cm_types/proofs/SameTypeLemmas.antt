@@ -1,16 +1,12 @@
 -- What the test for equal types computes on lists.
-use Rattle.std.proofs.Common.{◌≡◌, ◌≢◌, ℕ, zero, suc, ◌+◌, Bool, true, false, ◌&&◌, List, [], ◌∷◌, length, map, Option, Some, None, refl, sym, ap, ◌∙◌, arith}
-use Rattle.std.specs.Option.{option_map}
+use Rattle.std.proofs.Common.{◌≡◌, ◌≢◌, ℕ, Bool, true, false, ◌&&◌, List, [], ◌∷◌, length, map, Option, Some, None, refl, sym, ap, ◌∙◌, arith}
 use Rattle.std.specs.Str.{bytes_eq}
 use Rattle.std.proofs.lemmas.List.{length-map}
-use Rattle.std.proofs.lemmas.Bool.{and_right, cases_Bool}
+use Rattle.std.proofs.lemmas.Bool.{and_right}
 use Rattle.cm_types.specs.declared.resource.ResourceId.{ResourceId}
-use Rattle.cm_types.specs.declared.type_trees.TypeNode.{TypeNode}
-use Rattle.cm_types.specs.declared.type_trees.Field.{Field}
-use Rattle.cm_types.specs.declared.type_trees.Case.{Case}
-use Rattle.cm_types.specs.Types.{Ty, Fields, Cases}
-use Rattle.cm_types.specs.TypeTrees.{TypedLabel, CaseOf, fields_from, parts_from, cases_from, plain_from, case_before, case_of, fields_of, parts_of, cases_of}
-use Rattle.cm_types.specs.SameTypes.{same_labels, same_fields, same_cases, same_type, same_payload, same_case}
+use Rattle.cm_types.specs.Types.{Ty, Cases}
+use Rattle.cm_types.specs.TypeTrees.{TypedLabel, CaseOf, fields_from, parts_from, cases_from, plain_from, case_before}
+use Rattle.cm_types.specs.SameTypes.{same_labels, same_fields, same_cases, same_payload}
 
 and_true : (x y : Bool) → (x && y) ≡ (x && true && y)
 and_true true y = refl

@@ -1,13 +1,14 @@
 -- What type each kind of node is.
-use Rattle.std.proofs.Common.{◌≡◌, ℕ, List, Option, Box, Vec, Global, rules, map, codes}
-use Rattle.cm_types.specs.Types.{Ty, Cases, list, fixed_list, fields, cases, flags, record_type, tuple_type, variant_type, enum_type, option_type, result_type, no_cases, plain, carrying}
-use Rattle.cm_types.specs.TypeTrees.{type_of, fields_of, parts_of, cases_of, plain_from, case_before, boxed_payload}
+use Rattle.std.proofs.Common.{◌≡◌, ℕ, Option, Box, Vec, Global, rules, codes}
+use Rattle.std.specs.Option.{option_map}
+use Rattle.cm_types.specs.Types.{list, fixed_list, fields, cases, flags, record_type, tuple_type, variant_type, enum_type, option_type, result_type, no_cases, plain, carrying}
+use Rattle.cm_types.specs.TypeTrees.{type_of, field_of, case_of, fields_of, parts_of, cases_of, plain_from, case_before, boxed_payload}
 use Rattle.cm_types.specs.declared.names.Label.{Label}
 use Rattle.cm_types.specs.declared.type_trees.TypeNode.{TypeNode, the_lemmas}
 use Rattle.cm_types.specs.declared.type_trees.TypeNode.TheViews as node
 use Rattle.cm_types.specs.declared.type_trees.TypeNode.TheVariants as leaf
-use Rattle.cm_types.specs.declared.type_trees.Field.{Field}
-use Rattle.cm_types.specs.declared.type_trees.Case.{Case}
+use Rattle.cm_types.specs.declared.type_trees.Field.{Field, out-Field}
+use Rattle.cm_types.specs.declared.type_trees.Case.{Case, out-Case}
 
 pub seen_List : (b : Box TypeNode Global) → type_of (node.List b) ≡ list (type_of b.value)
 seen_List b = search (rules, the_lemmas)
@@ -35,3 +36,11 @@ seen_Option b = search (rules, the_lemmas)
 
 pub seen_Result : (ok error : Option (Box TypeNode Global)) → type_of (node.Result ok error) ≡ cases result_type (case_before (codes "ok") (boxed_payload ok) (case_before (codes "error") (boxed_payload error) no_cases))
 seen_Result ok error = search (rules, the_lemmas)
+
+-- the type of a field
+pub seen_field : (f : Field) → (field_of f).1 ≡ type_of (out-Field f).ty
+seen_field f = search (rules, the_lemmas)
+
+-- the payload of a case
+pub seen_case : (c : Case) → (case_of c).1 ≡ option_map type_of (out-Case c).payload
+seen_case c = search (rules, the_lemmas)

@@ -1,5 +1,4 @@
 -- The function types that the code's are.
-use Rattle.std.specs.Prelude.{Option}
 use Rattle.std.specs.Option.{option_map}
 use Rattle.cm_types.specs.Types.{Ty, FuncTy}
 use Rattle.cm_types.specs.TypeTrees.{type_of, fields_of}

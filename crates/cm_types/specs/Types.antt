@@ -47,10 +47,12 @@ mutual
     flags : List (List ℕ) → Ty
     own : ResourceId → Ty
     borrow : ResourceId → Ty
+
   -- labels and types of fields, in order
   pub data Fields : Type 0 where
     no_fields : Fields
     field : List ℕ → Ty → Fields → Fields
+
   -- labels of cases, in order, with the payload of those that carry one
   pub data Cases : Type 0 where
     no_cases : Cases

@@ -1,5 +1,5 @@
 -- Values of components, and which types they have (Explainer.md, "Value Types").
-use Rattle.std.specs.Prelude.{◌≡◌, ℕ, zero, suc, ℤ, pos, neg_ℤ, ◌+◌, ◌*◌, ◌-◌, ◌<◌, ◌≤◌, ◌^◌, ◌⊎◌, ◌≤ℤ◌, ◌<ℤ◌, Bool, List, length, ⊤}
+use Rattle.std.specs.Prelude.{◌≡◌, ℕ, zero, suc, ℤ, pos, neg_ℤ, ◌+◌, ◌*◌, ◌-◌, ◌<◌, ◌^◌, ◌⊎◌, ◌≤ℤ◌, ◌<ℤ◌, Bool, List, length, ⊤}
 use Rattle.std.specs.List.{AllByRecursion}
 use Rattle.cm_types.specs.declared.resource.ResourceId.{ResourceId}
 use Rattle.cm_types.specs.Types.{Ty, Fields, Cases, Width, bytes_of, bool, signed, unsigned, char, string, list, fixed_list, fields, cases, flags, own, borrow, no_fields, field, no_cases, plain, carrying}
@@ -29,6 +29,7 @@ mutual
     -- the set of the labels n with bit n of the number
     flag_set : ℕ → Val
     handle : HandleValue → Val
+
   pub data Vals : Type 0 where
     no_vals : Vals
     val : Val → Vals → Vals

@@ -34,7 +34,8 @@ pub fn same_func(a: &Func, b: &Func, left: &[ResourceId], right: &[ResourceId]) 
 fn same_parts_of_func(a: &Func, b: &Func, left: &[ResourceId], right: &[ResourceId]) -> bool
     ensures { result ≡ same_func left.now right.now (func_of a.now) (func_of b.now) }
 {
-    same_fields(&a.params, &b.params, left, right) && same_results(&a.result, &b.result, left, right)
+    same_fields(&a.params, &b.params, left, right)
+        && same_results(&a.result, &b.result, left, right)
 }
 
 fn same_results(
@@ -72,7 +73,6 @@ fn same_label(a: &Label, b: &Label) -> bool
 {
     a.as_str() == b.as_str()
 }
-
 
 fn same_labels(a: &[Label], b: &[Label]) -> bool
     ensures { result ≡ same_labels a.now b.now }
@@ -132,7 +132,10 @@ fn same_node(a: &TypeNode, b: &TypeNode, left: &[ResourceId], right: &[ResourceI
                 error: y_error,
             },
         ) => same_boxes(x, y, left, right) && same_boxes(x_error, y_error, left, right),
-        (TypeNode::Own(x), TypeNode::Own(y)) => same_resource(resolve(left, *x), resolve(right, *y)),
+        (TypeNode::Own(x), TypeNode::Own(y)) => same_resource(
+            resolve(left, *x),
+            resolve(right, *y),
+        ),
         (TypeNode::Borrow(x), TypeNode::Borrow(y)) => {
             same_resource(resolve(left, *x), resolve(right, *y))
         }

@@ -1,6 +1,10 @@
-//! Names against their grammar, by cases worked by hand.
+//! Names against their grammar, and types against their limits and each other, by cases worked by hand.
 
-use crate::{ExternName, ExternNameForm, Label, NameFault, same_name};
+use crate::{
+    Case, CoreKind, CoreValue, ExternName, ExternNameForm, Field, Func, Label, NameFault,
+    ResourceId, TooLarge, TypeNode, TypeTree, is_scalar, same_func, same_name, same_type,
+};
+use std::alloc::Global;
 use std::test::Fail;
 
 fn label_fault(rt: &HostRuntime, text: &str) -> Option<NameFault> {
@@ -100,7 +104,13 @@ fn parts<'a>(form: &ExternNameForm<'a>) -> (u8, &'a str, &'a str, &'a str, &'a s
             package,
             interface,
             version,
-        } => (4, *namespace, *package, *interface, version.unwrap_or("none")),
+        } => (
+            4,
+            *namespace,
+            *package,
+            *interface,
+            version.unwrap_or("none"),
+        ),
     }
 }
 
@@ -127,4 +137,139 @@ fn names_without_case(rt: HostRuntime) {
     assert!(rt; !same_name("a-b", "ab"));
     assert!(rt; !same_name("é", "É"));
     assert_eq!(rt; NameFault::BadVersion.number(), 4);
+}
+
+fn pair(alloc: Global, first: TypeNode, second: TypeNode) -> Result<TypeNode, Fail> {
+    let mut parts = Vec::new(alloc);
+    parts.push(first)?;
+    parts.push(second)?;
+    Ok(TypeNode::Tuple(parts))
+}
+
+/// A list in a list, so many deep, with u8 inside.
+fn lists(alloc: Global, depth: u32) -> Result<TypeNode, Fail> {
+    let mut node = TypeNode::U8;
+    for _ in 1..depth {
+        node = TypeNode::List(Box::new(alloc, node)?);
+    }
+    Ok(node)
+}
+
+fn fixed(alloc: Global, element: TypeNode, length: u32) -> Result<TypeNode, Fail> {
+    let element = Box::new(alloc, element)?;
+    Ok(TypeNode::FixedList { element, length })
+}
+
+fn is_within(root: TypeNode) -> bool {
+    TypeTree::new(root).is_ok()
+}
+
+#[test]
+fn limits(rt: HostRuntime) -> Result<(), Fail> {
+    let alloc = rt.alloc();
+    assert!(rt; is_within(fixed(alloc, TypeNode::U8, 9_999)?));
+    assert!(rt; !is_within(fixed(alloc, TypeNode::U8, 10_000)?));
+    assert!(rt; is_within(lists(alloc, 64)?));
+    assert!(rt; !is_within(lists(alloc, 65)?));
+    // 5 nodes 400 times, and the list: 2,001. Five of these, and the list around: 10,006.
+    let small = pair(alloc, lists(alloc, 2)?, lists(alloc, 2)?)?;
+    let large = fixed(alloc, fixed(alloc, small, 400)?, 5)?;
+    assert!(rt; !is_within(large));
+    let mut params = Vec::new(alloc);
+    params.push(Field {
+        label: Label::parse(alloc, "a")?,
+        ty: fixed(alloc, TypeNode::U8, 9_999)?,
+    })?;
+    assert_eq!(rt; Func::new(params, None).err(), Some(TooLarge));
+    Ok(())
+}
+
+fn one_label(alloc: Global, text: &str) -> Result<Vec<Label>, Fail> {
+    let mut labels = Vec::new(alloc);
+    labels.push(Label::parse(alloc, text)?)?;
+    Ok(labels)
+}
+
+fn one_field(alloc: Global, text: &str, ty: TypeNode) -> Result<TypeNode, Fail> {
+    let mut fields = Vec::new(alloc);
+    let label = Label::parse(alloc, text)?;
+    fields.push(Field { label, ty })?;
+    Ok(TypeNode::Record(fields))
+}
+
+fn one_case(alloc: Global, text: &str, payload: Option<TypeNode>) -> Result<TypeNode, Fail> {
+    let mut cases = Vec::new(alloc);
+    let label = Label::parse(alloc, text)?;
+    cases.push(Case { label, payload })?;
+    Ok(TypeNode::Variant(cases))
+}
+
+/// Types that are all different.
+fn different(alloc: Global) -> Result<Vec<TypeNode>, Fail> {
+    let some = Box::new(alloc, TypeNode::U8)?;
+    let none: Option<Box<TypeNode>> = None;
+    let mut types = Vec::new(alloc);
+    types.push(TypeNode::U8)?;
+    types.push(TypeNode::S8)?;
+    types.push(TypeNode::List(Box::new(alloc, TypeNode::U8)?))?;
+    types.push(fixed(alloc, TypeNode::U8, 2)?)?;
+    types.push(fixed(alloc, TypeNode::U8, 3)?)?;
+    types.push(pair(alloc, TypeNode::U8, TypeNode::U8)?)?;
+    types.push(one_field(alloc, "a", TypeNode::U8)?)?;
+    types.push(one_field(alloc, "b", TypeNode::U8)?)?;
+    types.push(one_case(alloc, "a", None)?)?;
+    types.push(one_case(alloc, "a", Some(TypeNode::U8))?)?;
+    types.push(TypeNode::Enum(one_label(alloc, "a")?))?;
+    types.push(TypeNode::Flags(one_label(alloc, "a")?))?;
+    types.push(TypeNode::Option(Box::new(alloc, TypeNode::U8)?))?;
+    types.push(TypeNode::Result {
+        ok: Some(some),
+        error: none,
+    })?;
+    Ok(types)
+}
+
+#[test]
+fn equal_types(rt: HostRuntime) -> Result<(), Fail> {
+    let alloc = rt.alloc();
+    let left = different(alloc)?;
+    let right = different(alloc)?;
+    for (i, a) in left.iter().enumerate() {
+        for (j, b) in right.iter().enumerate() {
+            assert_eq!(rt; same_type(a, b, &[], &[]), i == j, "types {i} and {j}");
+        }
+    }
+    let here = ResourceId {
+        component: 0,
+        number: 1,
+    };
+    let there = ResourceId {
+        component: 2,
+        number: 0,
+    };
+    let own = TypeNode::Own(here);
+    assert!(rt; !same_type(&own, &TypeNode::Own(there), &[], &[]));
+    assert!(rt; same_type(&own, &TypeNode::Own(there), &[here, there], &[]));
+    assert!(rt; !same_type(&own, &TypeNode::Borrow(here), &[], &[]));
+    let first = Func::new(Vec::new(alloc), Some(TypeTree::new(TypeNode::U8)?))?;
+    let second = Func::new(Vec::new(alloc), None)?;
+    assert!(rt; same_func(&first, &first, &[], &[]));
+    assert!(rt; !same_func(&first, &second, &[], &[]));
+    Ok(())
+}
+
+#[test]
+fn scalars_and_kinds(rt: HostRuntime) {
+    for (number, want) in [
+        (0, true),
+        (0xD7FF, true),
+        (0xD800, false),
+        (0xDFFF, false),
+        (0xE000, true),
+        (0x10_FFFF, true),
+        (0x11_0000, false),
+    ] {
+        assert_eq!(rt; is_scalar(number), want, "at {number}");
+    }
+    assert_eq!(rt; CoreValue::I64(1).kind(), CoreKind::I64);
 }

@@ -28,7 +28,10 @@ pub enum TypeNode {
     /// A list whose elements lie elsewhere.
     List(Box<TypeNode>),
     /// A list of exactly `length` elements, which lie in place.
-    FixedList { element: Box<TypeNode>, length: u32 },
+    FixedList {
+        element: Box<TypeNode>,
+        length: u32,
+    },
     Record(Vec<Field>),
     Tuple(Vec<TypeNode>),
     Variant(Vec<Case>),

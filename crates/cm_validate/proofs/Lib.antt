@@ -7,3 +7,4 @@ pub mod Params
 pub mod Sections
 pub mod Sounds
 pub mod TableLemmas
+pub mod FlatLemmas

@@ -48,8 +48,8 @@ none_broken [] r e b = b
 none_broken (c ∷ cs) r e (inl b) = let f : Some c.1 ≡ None = if_false c.0 (first cs) (Some c.1) None b.0 e in absurd cc
 none_broken (c ∷ cs) r e (inr b) =
     elim (bool_cases c.0) [
-      inl h ↦ none_broken cs r (if_true c.0 (first cs) (Some c.1) None h e) b
-    | inr h ↦ let f : Some c.1 ≡ None = if_false c.0 (first cs) (Some c.1) None h e in absurd cc
+      | inl h ↦ none_broken cs r (if_true c.0 (first cs) (Some c.1) None h e) b
+      | inr h ↦ let f : Some c.1 ≡ None = if_false c.0 (first cs) (Some c.1) None h e in absurd cc
     ]
 
 -- the first rule that is broken is broken
@@ -57,8 +57,8 @@ pub first_is_broken : (cs : List (Bool × ValidReason)) (r : ValidReason) → fi
 first_is_broken [] r e = absurd cc
 first_is_broken (c ∷ cs) r e =
     elim (bool_cases c.0) [
-      inl h ↦ inr (first_is_broken cs r (if_true c.0 (first cs) (Some c.1) (Some r) h e))
-    | inr h ↦ let f : Some c.1 ≡ Some r = if_false c.0 (first cs) (Some c.1) (Some r) h e in inl (h, cc)
+      | inl h ↦ inr (first_is_broken cs r (if_true c.0 (first cs) (Some c.1) (Some r) h e))
+      | inr h ↦ let f : Some c.1 ≡ Some r = if_false c.0 (first cs) (Some c.1) (Some r) h e in inl (h, cc)
     ]
 
 -- no reason of these rules has a smaller number
@@ -85,11 +85,11 @@ first_is_least (c ∷ cs) r q ordered e (inl b) =
     subst (λ z. reason_number r ≤ reason_number z) same (omega arith)
 first_is_least (c ∷ cs) r q ordered e (inr b) =
     elim (bool_cases c.0) [
-      inl h ↦ first_is_least cs r q ordered.1 (if_true c.0 (first cs) (Some c.1) (Some r) h e) b
-    | inr h ↦
-        let f : Some c.1 ≡ Some r = if_false c.0 (first cs) (Some c.1) (Some r) h e in
-        let same : c.1 ≡ r = cc in
-        subst (λ z. reason_number z ≤ reason_number q) same (from_below (reason_number c.1) cs q ordered.0 b)
+      | inl h ↦ first_is_least cs r q ordered.1 (if_true c.0 (first cs) (Some c.1) (Some r) h e) b
+      | inr h ↦
+          let f : Some c.1 ≡ Some r = if_false c.0 (first cs) (Some c.1) (Some r) h e in
+          let same : c.1 ≡ r = cc in
+          subst (λ z. reason_number z ≤ reason_number q) same (from_below (reason_number c.1) cs q ordered.0 b)
     ]
 
 canon_ordered : (s : Space) (c : Canon) → AreOrdered (canon_rules s c)
@@ -153,8 +153,8 @@ pub append_valid : (at : ℕ) (s : Space) (xs ys : List Item) → items_fault at
 append_valid at s [] ys e valid = valid
 append_valid at s (x ∷ xs) ys e valid =
     elim (option_cases (first (rules s x))) [
-      inl h ↦ valid_cons s x (xs ++ ys) h (append_valid (at + 1) (grown s x) xs ys (later_none (first (rules s x)) _ None at h e) valid)
-    | inr h ↦ let f : found_at at h.0 ≡ None = later_some (first (rules s x)) (items_fault (at + 1) (grown s x) xs) None at h.0 h.1 e in absurd cc
+      | inl h ↦ valid_cons s x (xs ++ ys) h (append_valid (at + 1) (grown s x) xs ys (later_none (first (rules s x)) _ None at h e) valid)
+      | inr h ↦ let f : found_at at h.0 ≡ None = later_some (first (rules s x)) (items_fault (at + 1) (grown s x) xs) None at h.0 h.1 e in absurd cc
     ]
 
 later_fault : (s : Space) (x : Item) (xs : List Item) (j : ℕ) (r : ValidReason) → first (rules s x) ≡ None → IsFirstFault (grown s x) xs j r → IsFirstFault s (x ∷ xs) (j + 1) r
@@ -167,7 +167,7 @@ later_fault s x xs j r fine f =
       place = add-one-length (length f.front) j f.place;
       before = valid_cons s x f.front fine f.before;
       broken = f.broken;
-      least = f.least
+      least = f.least;
     }
 
 first_fault : (s : Space) (x : Item) (xs : List Item) (r : ValidReason) → first (rules s x) ≡ Some r → IsFirstFault s (x ∷ xs) 0 r
@@ -180,7 +180,7 @@ first_fault s x xs r e =
       place = refl;
       before = valid_nil s;
       broken = first_is_broken (rules s x) r e;
-      least = λ q b. first_is_least (rules s x) r q (ordered s x) e b
+      least = λ q b. first_is_least (rules s x) r q (ordered s x) e b;
     }
 
 -- the fault that is found is the first
@@ -188,13 +188,13 @@ pub found_in_items : (at : ℕ) (s : Space) (xs : List Item) (k : ℕ) (r : Vali
 found_in_items at s [] k r e = absurd cc
 found_in_items at s (x ∷ xs) k r e =
     elim (option_cases (first (rules s x))) [
-      inl h ↦
-        let f = found_in_items (at + 1) (grown s x) xs k r (later_none (first (rules s x)) _ (Some (k, r)) at h e) in
-        (f.0 + 1, omega (arith, f.1), later_fault s x xs f.0 r h f.2)
-    | inr h ↦
-        let f : found_at at h.0 ≡ found_at k r = later_some (first (rules s x)) (items_fault (at + 1) (grown s x) xs) (Some (k, r)) at h.0 h.1 e in
-        let same = same_pair at k h.0 r f in
-        (0, omega (arith, same.0), subst (IsFirstFault s (x ∷ xs) 0) same.1 (first_fault s x xs h.0 h.1))
+      | inl h ↦
+          let f = found_in_items (at + 1) (grown s x) xs k r (later_none (first (rules s x)) _ (Some (k, r)) at h e) in
+          (f.0 + 1, omega (arith, f.1), later_fault s x xs f.0 r h f.2)
+      | inr h ↦
+          let f : found_at at h.0 ≡ found_at k r = later_some (first (rules s x)) (items_fault (at + 1) (grown s x) xs) (Some (k, r)) at h.0 h.1 e in
+          let same = same_pair at k h.0 r f in
+          (0, omega (arith, same.0), subst (IsFirstFault s (x ∷ xs) 0) same.1 (first_fault s x xs h.0 h.1))
     ]
 
 -- ---- the sections
@@ -214,8 +214,8 @@ pub none_found : (at : ℕ) (s : Space) (xs : List SectionTree) → sections_fau
 none_found at s [] e = valid_nil s
 none_found at s (x ∷ xs) e =
     elim (option_cases (items_fault 0 s (items_of x))) [
-      inl h ↦ append_valid 0 s (items_of x) (all_items xs) h (none_found (at + 1) (after s (items_of x)) xs (later_none (items_fault 0 s (items_of x)) _ None at h e))
-    | inr h ↦ let f : found_at at h.0 ≡ None = later_some (items_fault 0 s (items_of x)) (sections_fault (at + 1) (after s (items_of x)) xs) None at h.0 h.1 e in absurd cc
+      | inl h ↦ append_valid 0 s (items_of x) (all_items xs) h (none_found (at + 1) (after s (items_of x)) xs (later_none (items_fault 0 s (items_of x)) _ None at h e))
+      | inr h ↦ let f : found_at at h.0 ≡ None = later_some (items_fault 0 s (items_of x)) (sections_fault (at + 1) (after s (items_of x)) xs) None at h.0 h.1 e in absurd cc
     ]
 
 later_section : (s : Space) (x : SectionTree) (xs : List SectionTree) (j i : ℕ) (r : ValidReason) → items_fault 0 s (items_of x) ≡ None → IsFaultFrom (after s (items_of x)) xs j i r → IsFaultFrom s (x ∷ xs) (j + 1) i r
@@ -227,7 +227,7 @@ later_section s x xs j i r fine f =
       split = ap (λ ys. x ∷ ys) f.split;
       place = add-one-length (length f.before) j f.place;
       fine = append_valid 0 s (items_of x) (all_items f.before) fine f.fine;
-      here = subst (λ t. IsFirstFault t (items_of f.faulty) i r) (sym (after_append s (items_of x) (all_items f.before))) f.here
+      here = subst (λ t. IsFirstFault t (items_of f.faulty) i r) (sym (after_append s (items_of x) (all_items f.before))) f.here;
     }
 
 first_section : (s : Space) (x : SectionTree) (xs : List SectionTree) (i : ℕ) (r : ValidReason) → items_fault 0 s (items_of x) ≡ Some (i, r) → IsFaultFrom s (x ∷ xs) 0 i r
@@ -241,19 +241,19 @@ first_section s x xs i r e =
       split = refl;
       place = refl;
       fine = valid_nil s;
-      here = subst (λ n. IsFirstFault s (items_of x) n r) same f.2
+      here = subst (λ n. IsFirstFault s (items_of x) n r) same f.2;
     }
 
 found : (at : ℕ) (s : Space) (xs : List SectionTree) (k i : ℕ) (r : ValidReason) → sections_fault at s xs ≡ Some (k, (i, r)) → (j : ℕ) × (k ≡ at + j) × IsFaultFrom s xs j i r
 found at s [] k i r e = absurd cc
 found at s (x ∷ xs) k i r e =
     elim (option_cases (items_fault 0 s (items_of x))) [
-      inl h ↦
-        let f = found (at + 1) (after s (items_of x)) xs k i r (later_none (items_fault 0 s (items_of x)) _ (Some (k, (i, r))) at h e) in
-        (f.0 + 1, omega (arith, f.1), later_section s x xs f.0 i r h f.2)
-    | inr h ↦
-        let same = same_pair at k h.0 (i, r) (later_some (items_fault 0 s (items_of x)) (sections_fault (at + 1) (after s (items_of x)) xs) (Some (k, (i, r))) at h.0 h.1 e) in
-        (0, omega (arith, same.0), first_section s x xs i r (h.1 ∙ ap (λ a. Some a) same.1))
+      | inl h ↦
+          let f = found (at + 1) (after s (items_of x)) xs k i r (later_none (items_fault 0 s (items_of x)) _ (Some (k, (i, r))) at h e) in
+          (f.0 + 1, omega (arith, f.1), later_section s x xs f.0 i r h f.2)
+      | inr h ↦
+          let same = same_pair at k h.0 (i, r) (later_some (items_fault 0 s (items_of x)) (sections_fault (at + 1) (after s (items_of x)) xs) (Some (k, (i, r))) at h.0 h.1 e) in
+          (0, omega (arith, same.0), first_section s x xs i r (h.1 ∙ ap (λ a. Some a) same.1))
     ]
 
 -- the fault that is found is that of the component
@@ -268,7 +268,7 @@ fault_found xs k i r e =
       split = f.2.split;
       place = f.2.place ∙ same;
       fine = f.2.fine;
-      here = f.2.here
+      here = f.2.here;
     }
 
 -- ---- a component with a fault is not valid
@@ -281,11 +281,11 @@ pub fault_is_broken : (xs : List SectionTree) (k i : ℕ) (r : ValidReason) → 
 fault_is_broken xs k i r f valid =
     let h = f.here in
     let split : all_items xs ≡ (all_items f.before ++ h.front) ++ h.item ∷ (h.rest ++ all_items f.behind) =
-        ap all_items f.split
-        ∙ all_items_append f.before (f.faulty ∷ f.behind)
-        ∙ ap (λ zs. all_items f.before ++ (zs ++ all_items f.behind)) h.split
-        ∙ ap (λ zs. all_items f.before ++ zs) (append_assoc h.front (h.item ∷ h.rest) (all_items f.behind))
-        ∙ sym (append_assoc (all_items f.before) h.front (h.item ∷ (h.rest ++ all_items f.behind)))
+    ap all_items f.split
+    ∙ all_items_append f.before (f.faulty ∷ f.behind)
+    ∙ ap (λ zs. all_items f.before ++ (zs ++ all_items f.behind)) h.split
+    ∙ ap (λ zs. all_items f.before ++ zs) (append_assoc h.front (h.item ∷ h.rest) (all_items f.behind))
+    ∙ sym (append_assoc (all_items f.before) h.front (h.item ∷ (h.rest ++ all_items f.behind)))
     in
     valid (all_items f.before ++ h.front) h.item (h.rest ++ all_items f.behind) r split
-      (subst (λ t. IsBroken (rules t h.item) r) (sym (after_append nothing (all_items f.before) h.front)) h.broken)
+    (subst (λ t. IsBroken (rules t h.item) r) (sym (after_append nothing (all_items f.before) h.front)) h.broken)

@@ -2,6 +2,7 @@ pub mod Definitions
 pub mod Items
 pub mod Names
 pub mod Orders
+pub mod PassedFlat
 pub mod Reasons
 pub mod Rules
 pub mod Sound

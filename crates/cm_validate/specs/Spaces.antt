@@ -78,7 +78,7 @@ abbrev pub after_import : Space → List ℕ → ExternDesc → Space
 after_import s name (desc.Func ty) =
     record s {
       funcs = s.funcs ++ option_to_list (option_map (imported (length s.imports) None) (slice_get s.types ty));
-      imports = s.imports ++ option_to_list (option_map (λ t. record { name = name; ty = t }) (slice_get s.types ty))
+      imports = s.imports ++ option_to_list (option_map (λ t. record { name = name; ty = t }) (slice_get s.types ty));
     }
 
 -- the spaces after an export of this name, which gives its function a new index
@@ -86,7 +86,7 @@ abbrev pub after_export : Space → List ℕ → ℕ → Space
 after_export s name index =
     record s {
       funcs = s.funcs ++ option_to_list (slice_get s.funcs index);
-      exports = s.exports ++ option_to_list (option_map (λ f. record { name = name; func = index; ty = type_of f }) (slice_get s.funcs index))
+      exports = s.exports ++ option_to_list (option_map (λ f. record { name = name; func = index; ty = type_of f }) (slice_get s.funcs index));
     }
 
 -- the spaces after an item
@@ -113,7 +113,7 @@ abbrev pub signature : Space → SignatureTy
 signature s =
     record {
       imports = map (λ i. record { name = i.name; desc = func_extern i.ty }) s.imports;
-      exports = map (λ e. record { name = e.name; desc = func_extern e.ty }) s.exports
+      exports = map (λ e. record { name = e.name; desc = func_extern e.ty }) s.exports;
     }
 
 -- what the function under an export is

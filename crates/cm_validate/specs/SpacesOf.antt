@@ -14,5 +14,5 @@ space_of s =
       core_funcs = map core_func_tree s.core_funcs.items;
       funcs = map func_def_tree s.funcs.items;
       imports = map imported_func s.imports;
-      exports = map exported_func s.exports
+      exports = map exported_func s.exports;
     }

@@ -1,6 +1,7 @@
 //! Components that are valid.
 
-ghost use Rattle.std.specs.Prelude.{◌≡◌, ◌⊎◌, List, IfOk, OnOk, IfErr, slice_get};
+ghost use Rattle.std.specs.Prelude.{◌≡◌, ◌⊎◌, List, IfOk, OnOk, IfErr, map, slice_get};
+ghost use Rattle.std.specs.List.{AllByRecursion};
 ghost use Rattle.std.specs.Option.{option_map};
 ghost use Rattle.cm_types.specs.Signatures.{signature_of};
 ghost use Rattle.cm_validate.specs.declared.fault.ValidReason.TheVariants as reason;
@@ -10,6 +11,7 @@ ghost use Rattle.cm_validate.specs.Orders.{AreInOrder};
 ghost use Rattle.cm_validate.specs.Sound.{IsSound};
 ghost use Rattle.cm_validate.specs.Spaces.{spaces_of, signature, func_at};
 ghost use Rattle.cm_validate.specs.Valid.{IsValid, IsFaultOf};
+ghost use Rattle.cm_validate.specs.PassedFlat.{PassesFlat};
 
 use crate::definitions::{CoreFuncDef, FuncDef};
 use crate::fault::{ValidFault, ValidReason};
@@ -57,6 +59,14 @@ impl Checked {
         ensures { option_map (λ f. core_func_tree f.now) result ≡ slice_get (spaces_of self.now).core_funcs core_func }
     {
         self.tables.core_funcs.get(core_func as usize)
+    }
+
+    /// What each core function is, in the order of their indices.
+    pub fn core_funcs(&self) -> &[CoreFuncDef]
+        ensures funcs { map core_func_tree result.now ≡ (spaces_of self.now).core_funcs }
+        ensures flat { AllByRecursion PassesFlat (spaces_of self.now).core_funcs }
+    {
+        &self.tables.core_funcs
     }
 
     /// What the function under the export with number `export`, from 0, is. `item` is the place in an

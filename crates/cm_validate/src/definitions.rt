@@ -14,7 +14,10 @@ use std::rc::Rc;
 #[derive(Debug, Drop)]
 pub enum CoreFuncDef {
     /// What a core instance exports under a name.
-    Guest { instance: u32, name: String },
+    Guest {
+        instance: u32,
+        name: String,
+    },
     /// An import that was lowered: its number, the item where it is an instance, and its type.
     Lowered {
         import: u32,
@@ -27,7 +30,10 @@ pub enum CoreFuncDef {
 #[derive(Debug, Drop)]
 pub enum FuncDef {
     /// A core function that was lifted, and the type that it was lifted to.
-    Lifted { core_func: u32, ty: Rc<Func> },
+    Lifted {
+        core_func: u32,
+        ty: Rc<Func>,
+    },
     /// An import: its number, the item where it is an instance, and its type.
     Imported {
         import: u32,

@@ -127,13 +127,23 @@ impl Spaces {
         Ok(())
     }
 
-    pub fn add_import(&mut self, alloc: Global, name: &ExternName, ty: Rc<Func>) -> Result<(), AllocError>
+    pub fn add_import(
+        &mut self,
+        alloc: Global,
+        name: &ExternName,
+        ty: Rc<Func>,
+    ) -> Result<(), AllocError>
         ensures { OnOk result (space_of self.new ≡ record (space_of self.old) { imports = (space_of self.old).imports ++ record { name = name.now; ty = func_of ty.value } ∷ [] }) }
     {
         self.imports.add(alloc, name, ty)
     }
 
-    pub fn add_export(&mut self, alloc: Global, name: &ExternName, def: ExportDef) -> Result<(), AllocError>
+    pub fn add_export(
+        &mut self,
+        alloc: Global,
+        name: &ExternName,
+        def: ExportDef,
+    ) -> Result<(), AllocError>
         ensures { OnOk result (space_of self.new ≡ record (space_of self.old) { exports = (space_of self.old).exports ++ record { name = name.now; func = def.func; ty = func_of def.ty.value } ∷ [] }) }
     {
         self.exports.add(alloc, name, def)

@@ -25,16 +25,16 @@ loop-at-preserved c =
     let kept = pushed c.push.result c.loop-at.targets.items c.push.new.self.items c.in-Ok.reached c.push.ensures.items (sym c.if-is_err.ensures.value) in
     let offered = promised c.add_offers.result ((before : List Entry) → AreOffers c.loop-at.offers before → AreOffers c.add_offers.new.offers (before ++ entries at 0 (map extern_of c.deref-else-is_err.result.now))) c.add_offers.ensures (sym c.if-is_err-2.ensures.value) in
     let row : map (option_map reached_tree) c.in-Ok.reached.items ≡ map (leads set (table c.loop-at.targets.items)) (entries at 0 (signature (spaces_of component)).imports) =
-      c.in-Ok.ensures.reached
-      ∙ ap (λ xs. map (leads set (table xs)) (entries at 0 (map extern_of c.deref-in-loop-at.result.now))) c.deref.ensures.value
-      ∙ ap (λ xs. map (leads set (table c.loop-at.targets.items)) (entries at 0 xs)) imports in
+    c.in-Ok.ensures.reached
+    ∙ ap (λ xs. map (leads set (table xs)) (entries at 0 (map extern_of c.deref-in-loop-at.result.now))) c.deref.ensures.value
+    ∙ ap (λ xs. map (leads set (table c.loop-at.targets.items)) (entries at 0 xs)) imports in
     record {
       fine = λ rest. c.loop-at.invariant.fine (subst (AllByRecursion IsFine) (sym (next_component set at component c.loop-at-test.true c.index-components-at.is)) (record { valid = c.signature-signature.ensures.valid; sound = c.signature-signature.ensures.sound }, rest));
       so_far = c.in-Ok.ensures.so_far;
       offers = subst (AreOffers c.add_offers.new.offers)
-        (ap (λ xs. exports_from 0 (take at (signatures set)) ++ entries at 0 xs) exports ∙ sym (exports_next set at component c.loop-at-test.true c.index-components-at.is))
-        (offered (exports_from 0 (take at (signatures set))) c.loop-at.invariant.offers);
+          (ap (λ xs. exports_from 0 (take at (signatures set)) ++ entries at 0 xs) exports ∙ sym (exports_next set at component c.loop-at-test.true c.index-components-at.is))
+          (offered (exports_from 0 (take at (signatures set))) c.loop-at.invariant.offers);
       count = ap length kept ∙ length_push c.loop-at.targets.items c.in-Ok.reached ∙ ap (λ n. n + 1) c.loop-at.invariant.count;
       targets = table_on c.loop-at.targets.items c.push.new.self.items c.in-Ok.reached set at component kept c.loop-at.invariant.count
-        (slice_get_read set (length set) at component refl c.loop-at-test.true c.index-components-at.is) row c.loop-at.invariant.targets
+          (slice_get_read set (length set) at component refl c.loop-at-test.true c.index-components-at.is) row c.loop-at.invariant.targets;
     }

@@ -14,5 +14,5 @@ invariant-loop-at l =
       so_far : Progress (signatures l.components) (imports_of_rest l.at l.components) l.plan.items;
       offers : AreOffers l.offers (exports_from 0 (take l.at (signatures l.components)));
       count : length l.targets.items ≡ l.at;
-      targets : IsTable l.targets.items l.components l.at
+      targets : IsTable l.targets.items l.components l.at;
     }

@@ -33,5 +33,5 @@ loop-number-preserved c =
     let kept = pushed c.push-else-is_err.result c.loop-number.reached.items c.push-else-is_err.new.self.items c.in-Ok.target c.push-else-is_err.ensures.items (sym c.if-is_err-2.ensures.value) in
     record {
       so_far = subst (Progress set rest) (sym planned) (served_on set i rest c.loop-number.plan.items c.in-Ok.line before c.in-Ok.ensures.served);
-      reached = reached_on (option_map reached_tree) (leads c.args.components.now (table c.args.targets.now)) c.loop-number.reached.items c.push-else-is_err.new.self.items c.in-Ok.target i (entries c.args.at n (map extern_of (drop n c.args.imports.now))) later _ kept c.in-Ok.ensures.reached next c.loop-number.invariant.reached
+      reached = reached_on (option_map reached_tree) (leads c.args.components.now (table c.args.targets.now)) c.loop-number.reached.items c.push-else-is_err.new.self.items c.in-Ok.target i (entries c.args.at n (map extern_of (drop n c.args.imports.now))) later _ kept c.in-Ok.ensures.reached next c.loop-number.invariant.reached;
     }

@@ -11,5 +11,5 @@ abbrev pub invariant-loop-number : goal.invariant-loop-number
 invariant-loop-number l =
     record {
       so_far : Progress (signatures l.components) (entries l.at l.number (map extern_of (drop l.number l.imports)) ++ imports_of_rest (l.at + 1) l.components) l.plan.items;
-      reached : map (option_map reached_tree) l.reached.items ++ map (leads l.components (table l.targets)) (entries l.at l.number (map extern_of (drop l.number l.imports))) ≡ map (leads l.components (table l.targets)) (entries l.at 0 (map extern_of l.imports))
+      reached : map (option_map reached_tree) l.reached.items ++ map (leads l.components (table l.targets)) (entries l.at l.number (map extern_of (drop l.number l.imports))) ≡ map (leads l.components (table l.targets)) (entries l.at 0 (map extern_of l.imports));
     }

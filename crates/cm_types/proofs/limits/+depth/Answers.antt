@@ -1,4 +1,4 @@
-use Rattle.std.proofs.Common.{◌≡◌, ◌∙◌, ap, refl}
+use Rattle.std.proofs.Common.{◌∙◌, ap, refl}
 use Rattle.cm_types.specs.TypeTrees.{type_of}
 use Rattle.cm_types.proofs.Nodes.{plain_depth}
 use Rattle.cm_types.proofs.Seen.{seen_Enum}

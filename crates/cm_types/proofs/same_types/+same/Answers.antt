@@ -1,6 +1,5 @@
-use Rattle.std.proofs.Common.{◌≡◌, ◌∙◌, sym, ap, map}
+use Rattle.std.proofs.Common.{◌∙◌, sym, ap, map}
 use Rattle.cm_types.specs.TypeTrees.{type_of, field_of, case_of}
-use Rattle.cm_types.specs.SameTypes.{same_type}
 use Rattle.cm_types.proofs.Seen.{seen_Enum}
 use Rattle.cm_types.proofs.SameTypeLemmas.{fields_differ, parts_differ, cases_differ, mapped_differ, enums_same}
 use Rattle.cm_types.proofs.same_types.+same.Goals as goal
@@ -20,4 +19,4 @@ same_node-returns-in-Enum-Enum t c =
     let y = c.in-Enum-Enum.y in
     rw (ap type_of c.in-Enum-Enum.is-0 ∙ seen_Enum c.in-Enum-Enum.x, ap type_of c.in-Enum-Enum.is-1 ∙ seen_Enum c.in-Enum-Enum.y)
     (enums_same c.args.left.now c.args.right.now c.same_labels.result c.deref-in-Enum-Enum.result.now c.deref-in-Enum-Enum-2.result.now x.items y.items
-        c.same_labels.ensures c.deref-in-Enum-Enum.ensures.value c.deref-in-Enum-Enum-2.ensures.value)
+    c.same_labels.ensures c.deref-in-Enum-Enum.ensures.value c.deref-in-Enum-Enum-2.ensures.value)

@@ -10,5 +10,5 @@ pub invariant_of-result : goal.invariant_of-result
 invariant_of-result c =
     let small : length c.args.ty.now.params.items < 10000 = ltb-true (length c.args.ty.now.params.items) 10000 c.requires in
     record {
-      within_limits = subst (λ fs. IsWithinLimits (fields tuple_type (fields_from fs))) (sym c.in_ok-expand_params.ensures) (subst (λ ps. IsWithinLimits (fields tuple_type (params_from ps))) (sym c.deref.ensures.value) (small_params c.args.ty.now.params.items small))
+      within_limits = subst (λ fs. IsWithinLimits (fields tuple_type (fields_from fs))) (sym c.in_ok-expand_params.ensures) (subst (λ ps. IsWithinLimits (fields tuple_type (params_from ps))) (sym c.deref.ensures.value) (small_params c.args.ty.now.params.items small));
     }

@@ -14,5 +14,5 @@ returns c =
       signatures = ap (λ xs. signature_from xs (map extern_of c.in_ok-export_items.field-0.items)) imported ∙ ap (signature_from (map imported_extern (map imported_func c.args.spaces.imports))) exported;
       cores = refl;
       functions = refl;
-      exported = funcs_seen definitions exports c.in_ok-export_funcs.field-0.items c.into_definitions-exports.ensures (c.in_ok-export_funcs.ensures ∙ ap (map (λ d. d.definition.func)) c.deref.ensures.value)
+      exported = funcs_seen definitions exports c.in_ok-export_funcs.field-0.items c.into_definitions-exports.ensures (c.in_ok-export_funcs.ensures ∙ ap (map (λ d. d.definition.func)) c.deref.ensures.value);
     }

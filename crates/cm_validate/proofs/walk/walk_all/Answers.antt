@@ -15,5 +15,5 @@ loop-at-preserved c =
     let next = next_element section_tree c.args.sections.now c.loop-at.at c.index-sections-at.result c.loop-at-test.true c.index-sections-at.is in
     record {
       fault = goes_on_fault c.loop-at.at s (space_of c.walk_section.new.spaces) (section_tree c.index-sections-at.result) rest _ c.in-Ok.ensures.fine c.in-Ok.ensures.grows (sym (ap (sections_fault c.loop-at.at s) next) ∙ c.loop-at.invariant.fault);
-      grows = goes_on_spaces s (space_of c.walk_section.new.spaces) (section_tree c.index-sections-at.result) rest _ c.in-Ok.ensures.grows (sym (ap (λ xs. after s (all_items xs)) next) ∙ c.loop-at.invariant.grows)
+      grows = goes_on_spaces s (space_of c.walk_section.new.spaces) (section_tree c.index-sections-at.result) rest _ c.in-Ok.ensures.grows (sym (ap (λ xs. after s (all_items xs)) next) ∙ c.loop-at.invariant.grows);
     }

@@ -10,5 +10,5 @@ abbrev pub invariant-loop-at : goal.invariant-loop-at
 invariant-loop-at l =
     record {
       fault : sections_fault l.at (space_of l.spaces) (map section_tree (drop l.at l.sections)) ≡ sections_fault 0 nothing (map section_tree l.sections);
-      grows : after (space_of l.spaces) (all_items (map section_tree (drop l.at l.sections))) ≡ spaces_of (map section_tree l.sections)
+      grows : after (space_of l.spaces) (all_items (map section_tree (drop l.at l.sections))) ≡ spaces_of (map section_tree l.sections);
     }

@@ -13,7 +13,7 @@ pub returns : goal.returns
 returns g c =
     let among : List (List ℕ) → _ = λ names. list_any (λ name. bytes_eq (folded name) (folded c.args.name.now)) names in
     ap not (c.contains.ensures
-      ∙ ap (contains_text c.self.inside.names) (c.as_str.ensures.value ∙ c.in_ok-key.ensures)
-      ∙ c.self.invariant (folded c.args.name.now)
-      ∙ ap among (sym (keys_of (λ d. d.name) (λ d. d.definition) c.self.inside.definitions.items))
-      ∙ ap (λ ds. among (map (λ d. d.0) ds)) c.self.view_is)
+    ∙ ap (contains_text c.self.inside.names) (c.as_str.ensures.value ∙ c.in_ok-key.ensures)
+    ∙ c.self.invariant (folded c.args.name.now)
+    ∙ ap among (sym (keys_of (λ d. d.name) (λ d. d.definition) c.self.inside.definitions.items))
+    ∙ ap (λ ds. among (map (λ d. d.0) ds)) c.self.view_is)

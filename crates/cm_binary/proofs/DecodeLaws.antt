@@ -1,0 +1,40 @@
+-- The answer of reading a file, in the words of the grammar.
+use Rattle.std.proofs.Common.{◌≡◌, ℕ, ◌+◌, ◌≤◌, List, length, Result, Ok, Err, refl, sym, ap, subst, ◌∙◌, arith, inl, inr, ◌⊎◌}
+use Rattle.std.specs.Prelude.{IfOk, IfErr}
+use Rattle.cm_grammar.specs.declared.fault.Fault.{Fault}
+use Rattle.cm_grammar.specs.declared.fault.End.TheVariants as end
+use Rattle.cm_grammar.specs.Faults.{flaw}
+use Rattle.cm_grammar.proofs.Tools.{IsBytes, ok_is, err_is}
+use Rattle.cm_component.specs.Trees.{SectionTree}
+use Rattle.cm_binary.specs.declared.fault.DecodeFault.{DecodeFault}
+use Rattle.cm_binary.specs.declared.fault.DecodeReason.{DecodeReason}
+use Rattle.cm_binary.specs.declared.fault.DecodeReason.TheVariants.{Truncated, Memory}
+use Rattle.cm_binary.specs.File.{file, Spells, FirstFault}
+use Rattle.cm_binary.specs.Answers.{Accepts, Refuses, Answers}
+use Rattle.cm_binary.proofs.FileLaws.{file_lawful}
+
+pub is_found : (bytes : List ℕ) (r : Result (List SectionTree) DecodeFault) → IsBytes bytes → Answers bytes r (file.reads (end.Cut Truncated) bytes) → IfOk r (λ c. Spells c bytes)
+is_found bytes (Ok c) fits h = file_lawful.takes (end.Cut Truncated) bytes c fits h
+is_found bytes (Err f) fits h = tt {0}
+
+pub is_only : (bytes : List ℕ) (r : Result (List SectionTree) DecodeFault) → Answers bytes r (file.reads (end.Cut Truncated) bytes) → (c : List SectionTree) → Spells c bytes → Accepts r c
+is_only bytes (Ok v) h c s = ok_is (Fault DecodeReason) v c (sym h ∙ file_lawful.again (end.Cut Truncated) c bytes s)
+is_only bytes (Err f) (inl m) c s = m
+is_only bytes (Err f) (inr h) c s = let q = h.2 in let p = file_lawful.again (end.Cut Truncated) c bytes s in absurd cc
+
+pub is_fault : (bytes : List ℕ) (r : Result (List SectionTree) DecodeFault) → IsBytes bytes → Answers bytes r (file.reads (end.Cut Truncated) bytes) → IfErr r (λ f. (f.reason ≡ Memory) ⊎ FirstFault bytes f.at f.reason)
+is_fault bytes (Ok c) fits h = tt {0}
+is_fault bytes (Err f) fits (inl m) = inl m
+is_fault bytes (Err f) fits (inr h) = inr (h.0, h.1, file_lawful.faulty (end.Cut Truncated) bytes (flaw h.0 f.reason) fits h.2)
+
+same_place : (at left at' left' n : ℕ) (reason reason' : DecodeReason) → at + left ≡ n → at' + left' ≡ n → flaw left reason ≡ flaw left' reason' → (at ≡ at') × (reason ≡ reason')
+same_place at left at' left' n reason reason' p q e =
+    let lefts : left ≡ left' = ap (λ (f : Fault DecodeReason). f.left) e in
+    (omega arith, ap (λ (f : Fault DecodeReason). f.reason) e)
+
+pub is_first : (bytes : List ℕ) (r : Result (List SectionTree) DecodeFault) → Answers bytes r (file.reads (end.Cut Truncated) bytes) → (at : ℕ) (reason : DecodeReason) → FirstFault bytes at reason → Refuses r at reason
+is_first bytes (Ok c) h at reason f = let p = file_lawful.faulty_again (end.Cut Truncated) bytes (flaw f.0 reason) f.2 in absurd cc
+is_first bytes (Err d) (inl m) at reason f = inl m
+is_first bytes (Err d) (inr h) at reason f =
+    let p = err_is (List SectionTree) (flaw h.0 d.reason) (flaw f.0 reason) (sym h.2 ∙ file_lawful.faulty_again (end.Cut Truncated) bytes (flaw f.0 reason) f.2) in
+    inr (same_place d.at h.0 at f.0 (length bytes) d.reason reason h.1 f.1 p)

@@ -1,0 +1,6 @@
+pub mod TextLaws
+pub mod FileLaws
+pub mod LoopLaws
+pub mod DecodeLaws
+pub mod FileSpelling
+pub mod EncodeLaws

@@ -1,0 +1,61 @@
+-- The loops over the types of a section and over the sections of a file.
+use Rattle.std.proofs.Common.{◌≡◌, ℕ, suc, ◌+◌, ◌-◌, ◌<◌, ◌≤◌, List, [], ◌∷◌, ◌++◌, length, map, Result, Ok, Err, refl, sym, ap, subst, ◌∙◌, arith}
+use Rattle.std.proofs.lemmas.List.{map_push, length-append}
+use Rattle.cm_grammar.specs.declared.fault.Fault.{Fault}
+use Rattle.cm_grammar.specs.declared.fault.End.{End}
+use Rattle.cm_grammar.specs.declared.fault.ReadError.{ReadError}
+use Rattle.cm_grammar.specs.Faults.{Fails, Gives}
+use Rattle.cm_grammar.specs.Grammar.{Grammar, chain, limited}
+use Rattle.cm_grammar.specs.Whole.{to_end}
+use Rattle.cm_grammar.proofs.Tools.{IsBytes, IsBytes-after}
+use Rattle.cm_grammar.proofs.ReadingLaws.{with_front, chain_more, chain_fails, with_each, to_end_more, to_end_fails, to_end_done}
+use Rattle.cm_types.specs.declared.def_types.DefType.{DefType}
+use Rattle.cm_types.specs.DefTypes.{DefTree, def_tree}
+use Rattle.cm_component.specs.declared.section.Section.{Section}
+use Rattle.cm_component.specs.Trees.{SectionTree, section_tree}
+use Rattle.cm_binary.specs.declared.fault.DecodeReason.{DecodeReason}
+use Rattle.cm_binary.specs.declared.fault.DecodeReason.TheVariants.{TooMany}
+use Rattle.cm_binary.specs.File.{def_type, section, sections, room_after}
+use Rattle.cm_binary.proofs.FileLaws.{section_lawful, section_nonempty}
+
+-- The types of a section, where so many more may stand in the file.
+abbrev pub types_from : ℕ → ℕ → Grammar DecodeReason (List DefTree)
+types_from n left = chain (limited (λ l. def_type) TooMany) (λ l t. l - 1) n left
+
+pub types_more : (items pushed : List DefType) (ty : DefType) (count i left behind_left : ℕ) (e behind_e : End DecodeReason) (bytes behind : List ℕ) (total : Result (List DefTree × List ℕ) (Fault DecodeReason))
+    → pushed ≡ items ++ ty ∷ [] → behind_e ≡ e → behind_left ≡ left - 1 → i < count
+    → (limited (λ l. def_type) TooMany left).reads e bytes ≡ Ok (def_tree ty, behind)
+    → with_front (map def_tree items) ((types_from (count - i) left).reads e bytes) ≡ total
+    → with_front (map def_tree pushed) ((types_from (count - (i + 1)) behind_left).reads behind_e behind) ≡ total
+types_more items pushed ty count i left behind_left e behind_e bytes behind total push same fewer lt h so_far =
+    let more = chain_more (limited (λ l. def_type) TooMany) (λ l t. l - 1) (map def_tree items) (count - i) (count - (i + 1)) left (left - 1) e bytes (def_tree ty) behind total (omega arith) refl h so_far in
+    rw (push, map_push def_tree items ty, same, fewer) more
+
+pub types_fail : (items : List DefType) (count i left : ℕ) (e : End DecodeReason) (bytes : List ℕ) (err : ReadError DecodeReason) (total : Result (List DefTree × List ℕ) (Fault DecodeReason))
+    → i < count → Fails err ((limited (λ l. def_type) TooMany left).reads e bytes)
+    → with_front (map def_tree items) ((types_from (count - i) left).reads e bytes) ≡ total → Fails err total
+types_fail items count i left e bytes err total lt h so_far = chain_fails (limited (λ l. def_type) TooMany) (λ l t. l - 1) (map def_tree items) (count - i) (count - (i + 1)) left e bytes err total (omega arith) h so_far
+
+pub section_shorter : (room : ℕ) (e : End DecodeReason) (bytes : List ℕ) (x : SectionTree) (behind : List ℕ) → IsBytes bytes → (section room).reads e bytes ≡ Ok (x, behind) → length behind < length bytes
+section_shorter room e bytes x behind fits h =
+    let t = (section_lawful room).takes e bytes x behind fits h in
+    omega (arith, section_nonempty room x t.front t.spells, simp length-append at (ap length t.parts))
+
+pub section_behind : (room : ℕ) (e : End DecodeReason) (bytes : List ℕ) (x : SectionTree) (behind : List ℕ) → IsBytes bytes → (section room).reads e bytes ≡ Ok (x, behind) → IsBytes behind
+section_behind room e bytes x behind fits h =
+    let t = (section_lawful room).takes e bytes x behind fits h in
+    IsBytes-after bytes t.front behind t.parts fits
+
+pub sections_more : (items pushed : List Section) (x : Section) (room behind_room : ℕ) (e behind_e : End DecodeReason) (bytes behind : List ℕ) (total : Result (List SectionTree) (Fault DecodeReason))
+    → pushed ≡ items ++ x ∷ [] → behind_e ≡ e → behind_room ≡ room_after room (section_tree x) → IsBytes bytes → 0 < length bytes
+    → (section room).reads e bytes ≡ Ok (section_tree x, behind)
+    → with_each (map section_tree items) ((to_end section room_after room).reads e bytes) ≡ total
+    → with_each (map section_tree pushed) ((to_end section room_after behind_room).reads behind_e behind) ≡ total
+sections_more items pushed x room behind_room e behind_e bytes behind total push same rooms fits some h so_far =
+    let more = to_end_more section room_after section_lawful section_nonempty (map section_tree items) room e bytes (section_tree x) behind total fits some h so_far in
+    rw (push, map_push section_tree items x, same, rooms) more
+
+pub sections_fail : (items : List Section) (room : ℕ) (e : End DecodeReason) (bytes : List ℕ) (err : ReadError DecodeReason) (total : Result (List SectionTree) (Fault DecodeReason))
+    → 0 < length bytes → Fails err ((section room).reads e bytes)
+    → with_each (map section_tree items) ((to_end section room_after room).reads e bytes) ≡ total → Fails err total
+sections_fail items room e bytes err total some h so_far = to_end_fails section room_after section_lawful section_nonempty (map section_tree items) room e bytes err total some h so_far

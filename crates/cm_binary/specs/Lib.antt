@@ -1,0 +1,6 @@
+pub mod Reasons
+pub mod Codes
+pub mod File
+pub mod Answers
+pub mod Spelling
+pub mod Nonempty

@@ -1,0 +1,252 @@
+//! The bytes that name forms, place by place.
+
+ghost use Rattle.std.specs.Prelude.{◌≡◌};
+ghost use Rattle.cm_binary.specs.Codes.{section_kind, core_instance_form, core_sort, alias_sort, core_alias_target, other_alias_target, type_form, val_type, result_form, canon_form, canon_option, desc_form, export_sort, export_desc};
+
+use crate::fault::{DecodeReason, Feature};
+use cm_component::{CoreSort, Sort};
+use cm_grammar::Code;
+use cm_types::ValType;
+
+/// What a section holds.
+#[derive(Clone, Copy, Debug, PartialEq, Eq)]
+pub enum SectionKind {
+    Custom,
+    CoreModule,
+    CoreInstances,
+    Aliases,
+    Types,
+    Canons,
+    Imports,
+    Exports,
+}
+
+/// How a core instance is made.
+#[derive(Clone, Copy, Debug, PartialEq, Eq)]
+pub enum CoreInstanceForm {
+    Instantiate,
+}
+
+/// What is aliased.
+#[derive(Clone, Copy, Debug, PartialEq, Eq)]
+pub enum AliasSort {
+    Core,
+    Other,
+}
+
+/// Where an alias of a core definition comes from.
+#[derive(Clone, Copy, Debug, PartialEq, Eq)]
+pub enum AliasTarget {
+    CoreInstanceExport,
+}
+
+/// Which type is defined.
+#[derive(Clone, Copy, Debug, PartialEq, Eq)]
+pub enum TypeForm {
+    Func,
+}
+
+/// How many results a function has.
+#[derive(Clone, Copy, Debug, PartialEq, Eq)]
+pub enum ResultForm {
+    One,
+    Zero,
+}
+
+/// Which canonical definition stands there.
+#[derive(Clone, Copy, Debug, PartialEq, Eq)]
+pub enum CanonForm {
+    Lift,
+    Lower,
+}
+
+/// What an import describes.
+#[derive(Clone, Copy, Debug, PartialEq, Eq)]
+pub enum DescForm {
+    Func,
+}
+
+/// That an export has no description.
+#[derive(Clone, Copy, Debug, PartialEq, Eq)]
+pub enum NoDescription {
+    Absent,
+}
+
+impl Code<DecodeReason> for SectionKind {
+    ghost table = { section_kind };
+
+    fn from_byte(byte: u8) -> Result<SectionKind, DecodeReason> {
+        match byte {
+            0 => Ok(SectionKind::Custom),
+            1 => Ok(SectionKind::CoreModule),
+            2 => Ok(SectionKind::CoreInstances),
+            3 => Err(DecodeReason::Unsupported(Feature::CoreTypes)),
+            4 => Err(DecodeReason::Unsupported(Feature::NestedComponents)),
+            5 => Err(DecodeReason::Unsupported(Feature::Instances)),
+            6 => Ok(SectionKind::Aliases),
+            7 => Ok(SectionKind::Types),
+            8 => Ok(SectionKind::Canons),
+            9 => Err(DecodeReason::Unsupported(Feature::Start)),
+            10 => Ok(SectionKind::Imports),
+            11 => Ok(SectionKind::Exports),
+            _ => Err(DecodeReason::UnknownCode),
+        }
+    }
+}
+
+impl Code<DecodeReason> for CoreInstanceForm {
+    ghost table = { core_instance_form };
+
+    fn from_byte(byte: u8) -> Result<CoreInstanceForm, DecodeReason> {
+        match byte {
+            0 => Ok(CoreInstanceForm::Instantiate),
+            1 => Err(DecodeReason::Unsupported(Feature::CoreInstanceOfExports)),
+            _ => Err(DecodeReason::UnknownCode),
+        }
+    }
+}
+
+impl Code<DecodeReason> for CoreSort {
+    ghost table = { core_sort };
+
+    fn from_byte(byte: u8) -> Result<CoreSort, DecodeReason> {
+        match byte {
+            0x00 => Ok(CoreSort::Func),
+            0x01..=0x03 | 0x10..=0x12 => Err(DecodeReason::Unsupported(Feature::CoreSort)),
+            _ => Err(DecodeReason::UnknownCode),
+        }
+    }
+}
+
+impl Code<DecodeReason> for AliasSort {
+    ghost table = { alias_sort };
+
+    fn from_byte(byte: u8) -> Result<AliasSort, DecodeReason> {
+        match byte {
+            0 => Ok(AliasSort::Core),
+            1 | 3 | 5 => Ok(AliasSort::Other),
+            2 | 4 => Err(DecodeReason::Unsupported(Feature::Sort)),
+            _ => Err(DecodeReason::UnknownCode),
+        }
+    }
+}
+
+impl Code<DecodeReason> for AliasTarget {
+    ghost table = { core_alias_target };
+
+    fn from_byte(byte: u8) -> Result<AliasTarget, DecodeReason> {
+        match byte {
+            1 => Ok(AliasTarget::CoreInstanceExport),
+            0 | 2 => Err(DecodeReason::Unsupported(Feature::AliasTarget)),
+            _ => Err(DecodeReason::UnknownCode),
+        }
+    }
+}
+
+impl Code<DecodeReason> for TypeForm {
+    ghost table = { type_form };
+
+    fn from_byte(byte: u8) -> Result<TypeForm, DecodeReason> {
+        match byte {
+            0x40 => Ok(TypeForm::Func),
+            0x73..=0x7f | 0x68..=0x6b | 0x6d..=0x72 | 0x3f | 0x41 | 0x42 => {
+                Err(DecodeReason::Unsupported(Feature::TypeDefinition))
+            }
+            _ => Err(DecodeReason::UnknownCode),
+        }
+    }
+}
+
+impl Code<DecodeReason> for ValType {
+    ghost table = { val_type };
+
+    fn from_byte(byte: u8) -> Result<ValType, DecodeReason> {
+        match byte {
+            0x79 => Ok(ValType::U32),
+            0x73..=0x7f => Err(DecodeReason::Unsupported(Feature::ValueType)),
+            0x40..=0x7f => Err(DecodeReason::UnknownCode),
+            _ => Err(DecodeReason::Unsupported(Feature::ValueTypeIndex)),
+        }
+    }
+}
+
+impl Code<DecodeReason> for ResultForm {
+    ghost table = { result_form };
+
+    fn from_byte(byte: u8) -> Result<ResultForm, DecodeReason> {
+        match byte {
+            0 => Ok(ResultForm::One),
+            1 => Ok(ResultForm::Zero),
+            _ => Err(DecodeReason::UnknownCode),
+        }
+    }
+}
+
+impl Code<DecodeReason> for CanonForm {
+    ghost table = { canon_form };
+
+    fn from_byte(byte: u8) -> Result<CanonForm, DecodeReason> {
+        match byte {
+            0 => Ok(CanonForm::Lift),
+            1 => Ok(CanonForm::Lower),
+            2..=4 => Err(DecodeReason::Unsupported(Feature::ResourceCanon)),
+            _ => Err(DecodeReason::UnknownCode),
+        }
+    }
+}
+
+impl Code<DecodeReason> for DescForm {
+    ghost table = { desc_form };
+
+    fn from_byte(byte: u8) -> Result<DescForm, DecodeReason> {
+        match byte {
+            1 => Ok(DescForm::Func),
+            0..=5 => Err(DecodeReason::Unsupported(Feature::Description)),
+            _ => Err(DecodeReason::UnknownCode),
+        }
+    }
+}
+
+impl Code<DecodeReason> for Sort {
+    ghost table = { export_sort };
+
+    fn from_byte(byte: u8) -> Result<Sort, DecodeReason> {
+        match byte {
+            1 => Ok(Sort::Func),
+            0..=5 => Err(DecodeReason::Unsupported(Feature::Sort)),
+            _ => Err(DecodeReason::UnknownCode),
+        }
+    }
+}
+
+impl Code<DecodeReason> for NoDescription {
+    ghost table = { export_desc };
+
+    fn from_byte(byte: u8) -> Result<NoDescription, DecodeReason> {
+        match byte {
+            0 => Ok(NoDescription::Absent),
+            1 => Err(DecodeReason::Unsupported(Feature::ExportDescription)),
+            _ => Err(DecodeReason::UnknownCode),
+        }
+    }
+}
+
+/// Why the target of an alias of another sort is refused.
+pub fn other_alias_target(byte: u8) -> DecodeReason
+    ensures { result ≡ other_alias_target byte }
+{
+    match byte {
+        0..=2 => DecodeReason::Unsupported(Feature::AliasTarget),
+        _ => DecodeReason::UnknownCode,
+    }
+}
+
+/// Why a canonical option is refused.
+pub fn canon_option(byte: u8) -> DecodeReason
+    ensures { result ≡ canon_option byte }
+{
+    match byte {
+        0..=5 => DecodeReason::Unsupported(Feature::CanonicalOption),
+        _ => DecodeReason::UnknownCode,
+    }
+}

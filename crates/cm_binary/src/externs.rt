@@ -1,0 +1,103 @@
+//! Imports and exports.
+
+ghost use Rattle.std.specs.Prelude.{◌≡◌, Ok, map};
+ghost use Rattle.cm_grammar.specs.Faults.{Gives, Fails};
+ghost use Rattle.cm_component.specs.Trees.{import_tree, export_tree};
+ghost use Rattle.cm_binary.specs.File.{vector, extern_desc, import_item, export_item};
+
+use crate::codes::{DescForm, NoDescription};
+use crate::fault::DecodeReason;
+use crate::texts::extern_name_of;
+use cm_component::{Export, ExternDesc, Import};
+use cm_grammar::{Cursor, Item, ReadError, read_items};
+use std::alloc::Global;
+
+/// Reads the type of an import.
+#[tactic(auto, unfolding(crate::specs::File::extern_desc))]
+fn desc_of(bytes: &mut Cursor<'_, DecodeReason>) -> Result<ExternDesc, ReadError<DecodeReason>>
+    ensures read { Gives (λ x. (x, bytes.new.rest.now)) result (extern_desc.reads bytes.old.end bytes.old.rest.now) }
+    ensures end { bytes.new.end ≡ bytes.old.end }
+{
+    let DescForm::Func = bytes.code()?;
+    Ok(ExternDesc::Func(bytes.number(DecodeReason::BadNumber)?))
+}
+
+/// Reads an import.
+#[tactic(auto, unfolding(crate::specs::File::import_item))]
+fn import_from(
+    alloc: Global,
+    bytes: &mut Cursor<'_, DecodeReason>,
+) -> Result<Import, ReadError<DecodeReason>>
+    ensures read { Gives (λ x. (import_tree x, bytes.new.rest.now)) result (import_item.reads bytes.old.end bytes.old.rest.now) }
+    ensures end { bytes.new.end ≡ bytes.old.end }
+{
+    let name = extern_name_of(alloc, bytes)?;
+    let desc = desc_of(bytes)?;
+    Ok(Import { name, desc })
+}
+
+impl Item<DecodeReason> for Import {
+    ghost is_read = { λ e bytes x rest. import_item.reads e bytes ≡ Ok (import_tree x, rest) };
+
+    ghost fails = { λ e bytes err. Fails err (import_item.reads e bytes) };
+
+    fn read(
+        alloc: Global,
+        cursor: &mut Cursor<'_, DecodeReason>,
+    ) -> Result<Self, ReadError<DecodeReason>> {
+        import_from(alloc, cursor)
+    }
+}
+
+/// Reads the contents of a section of imports.
+pub(crate) fn imports_of(
+    alloc: Global,
+    bytes: &mut Cursor<'_, DecodeReason>,
+) -> Result<Vec<Import>, ReadError<DecodeReason>>
+    ensures read { Gives (λ v. (map import_tree v.items, bytes.new.rest.now)) result ((vector import_item).reads bytes.old.end bytes.old.rest.now) }
+    ensures end { bytes.new.end ≡ bytes.old.end }
+{
+    let count = bytes.number(DecodeReason::BadNumber)?;
+    read_items(alloc, bytes, count)
+}
+
+/// Reads an export.
+#[tactic(auto, unfolding(crate::specs::File::export_item))]
+fn export_from(
+    alloc: Global,
+    bytes: &mut Cursor<'_, DecodeReason>,
+) -> Result<Export, ReadError<DecodeReason>>
+    ensures read { Gives (λ x. (export_tree x, bytes.new.rest.now)) result (export_item.reads bytes.old.end bytes.old.rest.now) }
+    ensures end { bytes.new.end ≡ bytes.old.end }
+{
+    let name = extern_name_of(alloc, bytes)?;
+    let sort = bytes.code()?;
+    let index = bytes.number(DecodeReason::BadNumber)?;
+    let NoDescription::Absent = bytes.code()?;
+    Ok(Export { name, sort, index })
+}
+
+impl Item<DecodeReason> for Export {
+    ghost is_read = { λ e bytes x rest. export_item.reads e bytes ≡ Ok (export_tree x, rest) };
+
+    ghost fails = { λ e bytes err. Fails err (export_item.reads e bytes) };
+
+    fn read(
+        alloc: Global,
+        cursor: &mut Cursor<'_, DecodeReason>,
+    ) -> Result<Self, ReadError<DecodeReason>> {
+        export_from(alloc, cursor)
+    }
+}
+
+/// Reads the contents of a section of exports.
+pub(crate) fn exports_of(
+    alloc: Global,
+    bytes: &mut Cursor<'_, DecodeReason>,
+) -> Result<Vec<Export>, ReadError<DecodeReason>>
+    ensures read { Gives (λ v. (map export_tree v.items, bytes.new.rest.now)) result ((vector export_item).reads bytes.old.end bytes.old.rest.now) }
+    ensures end { bytes.new.end ≡ bytes.old.end }
+{
+    let count = bytes.number(DecodeReason::BadNumber)?;
+    read_items(alloc, bytes, count)
+}

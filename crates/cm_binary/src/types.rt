@@ -1,0 +1,150 @@
+//! Types of functions.
+
+ghost use Rattle.std.specs.Prelude.{◌≡◌, ◌-◌, Ok, map};
+ghost use Rattle.cm_grammar.specs.Faults.{Gives, Fails};
+ghost use Rattle.cm_grammar.specs.Grammar.{chain, limited};
+ghost use Rattle.cm_binary.specs.declared.fault.DecodeReason.TheVariants as reasons;
+ghost use Rattle.cm_types.specs.DefTypes.{func_tree, def_tree};
+ghost use Rattle.cm_binary.specs.declared.codes.ResultForm.TheVariants as result_forms;
+ghost use Rattle.cm_binary.specs.File.{vector, param, func_result_of, func_result, func_type, def_type, type_defs};
+
+use crate::codes::{ResultForm, TypeForm};
+use crate::fault::DecodeReason;
+use crate::texts::label_of;
+use cm_grammar::{Cursor, Item, ReadError, read_items};
+use cm_types::{DefType, FuncType, LabeledValType, ValType};
+use std::alloc::Global;
+
+/// Reads a parameter.
+#[tactic(auto, unfolding(crate::specs::File::param))]
+fn param_of(
+    alloc: Global,
+    bytes: &mut Cursor<'_, DecodeReason>,
+) -> Result<LabeledValType, ReadError<DecodeReason>>
+    ensures read { Gives (λ x. (x, bytes.new.rest.now)) result (param.reads bytes.old.end bytes.old.rest.now) }
+    ensures end { bytes.new.end ≡ bytes.old.end }
+{
+    let label = label_of(alloc, bytes)?;
+    let ty = bytes.code()?;
+    Ok(LabeledValType { label, ty })
+}
+
+impl Item<DecodeReason> for LabeledValType {
+    ghost is_read = { λ e bytes x rest. param.reads e bytes ≡ Ok (x, rest) };
+
+    ghost fails = { λ e bytes err. Fails err (param.reads e bytes) };
+
+    fn read(
+        alloc: Global,
+        cursor: &mut Cursor<'_, DecodeReason>,
+    ) -> Result<Self, ReadError<DecodeReason>> {
+        param_of(alloc, cursor)
+    }
+}
+
+/// Reads the parameters of a function.
+fn params_of(
+    alloc: Global,
+    bytes: &mut Cursor<'_, DecodeReason>,
+) -> Result<Vec<LabeledValType>, ReadError<DecodeReason>>
+    ensures read { Gives (λ v. (map (λ x. x) v.items, bytes.new.rest.now)) result ((vector param).reads bytes.old.end bytes.old.rest.now) }
+    ensures end { bytes.new.end ≡ bytes.old.end }
+{
+    let count = bytes.number(DecodeReason::BadNumber)?;
+    read_items(alloc, bytes, count)
+}
+
+/// Reads the result of a function.
+#[tactic(auto, unfolding(crate::specs::File::func_result, crate::specs::File::func_result_of))]
+fn result_of(
+    bytes: &mut Cursor<'_, DecodeReason>,
+) -> Result<Option<ValType>, ReadError<DecodeReason>>
+    ensures read { Gives (λ x. (x, bytes.new.rest.now)) result (func_result.reads bytes.old.end bytes.old.rest.now) }
+    ensures end { bytes.new.end ≡ bytes.old.end }
+{
+    match bytes.code()? {
+        ResultForm::One => Ok(Some(bytes.code()?)),
+        ResultForm::Zero => {
+            bytes.fixed(&[0x00], DecodeReason::UnknownCode)?;
+            Ok(None)
+        }
+    }
+}
+
+/// Reads the type of a function, behind its code.
+#[tactic(auto, unfolding(crate::specs::File::func_type))]
+fn func_type_of(
+    alloc: Global,
+    bytes: &mut Cursor<'_, DecodeReason>,
+) -> Result<FuncType, ReadError<DecodeReason>>
+    ensures read { Gives (λ x. (func_tree x, bytes.new.rest.now)) result (func_type.reads bytes.old.end bytes.old.rest.now) }
+    ensures end { bytes.new.end ≡ bytes.old.end }
+{
+    let params = params_of(alloc, bytes)?;
+    let result = result_of(bytes)?;
+    Ok(FuncType { params, result })
+}
+
+/// Reads a type.
+#[tactic(auto, unfolding(crate::specs::File::def_type))]
+pub(crate) fn def_type_of(
+    alloc: Global,
+    bytes: &mut Cursor<'_, DecodeReason>,
+) -> Result<DefType, ReadError<DecodeReason>>
+    ensures read { Gives (λ x. (def_tree x, bytes.new.rest.now)) result (def_type.reads bytes.old.end bytes.old.rest.now) }
+    ensures end { bytes.new.end ≡ bytes.old.end }
+{
+    let TypeForm::Func = bytes.code()?;
+    let func = func_type_of(alloc, bytes)?;
+    Ok(DefType::Func(func))
+}
+
+/// Reads the types of a section, where `room` more may stand in the file.
+#[tactic(auto, unfolding(crate::specs::File::type_defs))]
+pub(crate) fn types_of(
+    alloc: Global,
+    bytes: &mut Cursor<'_, DecodeReason>,
+    room: usize,
+) -> Result<Vec<DefType>, ReadError<DecodeReason>>
+    ensures read { Gives (λ v. (map def_tree v.items, bytes.new.rest.now)) result ((type_defs room).reads bytes.old.end bytes.old.rest.now) }
+    ensures end { bytes.new.end ≡ bytes.old.end }
+{
+    let count = bytes.number(DecodeReason::BadNumber)?;
+    limited_types_of(alloc, bytes, count, room)
+}
+
+/// Reads one more type, where `room` more may stand in the file.
+#[tactic(auto, unfolding(crate::specs::File::def_type))]
+fn limited_type_of(
+    alloc: Global,
+    bytes: &mut Cursor<'_, DecodeReason>,
+    room: usize,
+) -> Result<DefType, ReadError<DecodeReason>>
+    ensures read { Gives (λ x. (def_tree x, bytes.new.rest.now)) result ((limited (λ left. def_type) reasons.TooMany room).reads bytes.old.end bytes.old.rest.now) }
+    ensures end { bytes.new.end ≡ bytes.old.end }
+{
+    if room == 0 {
+        return Err(bytes.fault(DecodeReason::TooMany));
+    }
+    def_type_of(alloc, bytes)
+}
+
+/// Reads so many types, where `room` more may stand in the file.
+fn limited_types_of(
+    alloc: Global,
+    bytes: &mut Cursor<'_, DecodeReason>,
+    count: u32,
+    room: usize,
+) -> Result<Vec<DefType>, ReadError<DecodeReason>>
+    ensures read { Gives (λ v. (map def_tree v.items, bytes.new.rest.now)) result ((chain (limited (λ left. def_type) reasons.TooMany) (λ left t. left - 1) count room).reads bytes.old.end bytes.old.rest.now) }
+    ensures end { bytes.new.end ≡ bytes.old.end }
+{
+    let mut types = Vec::new(alloc);
+    let mut left = room;
+    for _ in 0..count {
+        let ty = limited_type_of(alloc, bytes, left)?;
+        types.push(ty)?;
+        left = left.saturating_sub(1);
+    }
+    Ok(types)
+}

@@ -1,0 +1,5 @@
+pub mod Faults
+pub mod Grammar
+pub mod Whole
+pub mod Reading
+pub mod Spelling

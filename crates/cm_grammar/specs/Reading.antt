@@ -1,0 +1,33 @@
+-- What code that reads by a grammar says of itself: bytes of which a cursor has read a part, and several things one after
+-- the other.
+use Rattle.std.specs.Prelude.{◌≡◌, ℕ, ◌<◌, ◌≤◌, ◌-◌, nat_le, if◌then◌else◌, List, [], ◌∷◌, length, Result, Ok, Err}
+use Rattle.cm_grammar.specs.declared.fault.End.{End}
+use Rattle.cm_grammar.specs.declared.fault.End.TheVariants as end
+use Rattle.cm_grammar.specs.declared.fault.ReadError.{ReadError}
+use Rattle.cm_grammar.specs.declared.fault.ReadError.TheVariants as errors
+use Rattle.cm_grammar.specs.Faults.{later, want}
+
+-- The things were read one after the other, from these bytes up to those.
+abbrev pub EachRead : {A : Type 0} → (List ℕ → A → List ℕ → Type 0) → List ℕ → List A → List ℕ → Type 0
+EachRead IsRead bytes [] rest = rest ≡ bytes
+EachRead IsRead bytes (x ∷ xs) rest = (behind : List ℕ) × IsRead bytes x behind × EachRead IsRead behind xs rest
+
+-- Fewer things than wanted were read, and the next one failed.
+abbrev pub FailsAmong : {A R : Type 0} → (List ℕ → A → List ℕ → Type 0) → (List ℕ → ReadError R → Type 0) → ℕ → List ℕ → ReadError R → Type 0
+FailsAmong IsRead Fails count bytes e = (xs : List _) × (behind : List ℕ) × EachRead IsRead bytes xs behind × (length xs < count) × Fails behind e
+
+-- How a part of so many bytes ends: as itself where it is all there, else as the bytes do.
+abbrev pub part_end : {R : Type 0} → R → ℕ → End R → List ℕ → End R
+part_end mismatch size e bytes = if nat_le size (length bytes) then end.Whole mismatch else e
+
+-- The fault is inside a part of so many bytes.
+abbrev pub IsInside : {R X : Type 0} → ℕ → Result X (ReadError R) → Type 0
+IsInside size (Ok x) = Unit {0}
+IsInside size (Err errors.Memory) = Unit {0}
+IsInside size (Err (errors.Fault f)) = f.left ≤ size
+
+-- What the reading of a part comes to behind it.
+abbrev pub behind_part : {R X : Type 0} → ℕ → End R → List ℕ → Result X (ReadError R) → Result X (ReadError R)
+behind_part size e bytes (Ok x) = if nat_le size (length bytes) then Ok x else Err (errors.Fault (want e))
+behind_part size e bytes (Err errors.Memory) = Err errors.Memory
+behind_part size e bytes (Err (errors.Fault f)) = if nat_le size (length bytes) then Err (errors.Fault (later f (length bytes - size))) else Err (errors.Fault f)

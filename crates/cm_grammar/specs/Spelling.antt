@@ -1,0 +1,12 @@
+-- How values are written: the shortest numbers, and lists behind their count.
+use Rattle.std.specs.Prelude.{ℕ, List, ◌++◌, length}
+use Rattle.std.specs.List.{flat_map}
+use Rattle.cm_leb.specs.Writing.{shortest_unsigned}
+
+-- The number of things, and the things one after the other.
+abbrev pub counted : {A : Type 0} → (A → List ℕ) → List A → List ℕ
+counted spell xs = shortest_unsigned (length xs) ++ flat_map spell xs
+
+-- The number of bytes, and the bytes.
+abbrev pub prefixed : List ℕ → List ℕ
+prefixed bytes = shortest_unsigned (length bytes) ++ bytes

@@ -1,0 +1,4 @@
+pub mod SoundHandles
+pub mod LinkedEntries
+pub mod TableSteps
+pub mod ClosingTable

@@ -1,0 +1,5 @@
+pub mod AlignLemmas
+pub mod SizeLemmas
+pub mod PlaceLaws
+pub mod FlatLemmas
+pub mod SlotLaws

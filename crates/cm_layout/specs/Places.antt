@@ -1,0 +1,12 @@
+-- Multiples of an alignment (CanonicalABI.md, "Alignment").
+use Rattle.std.specs.Prelude.{◌≡◌, ℕ, ◌+◌, ◌-◌, ◌*◌, ◌/◌, ◌≤◌}
+
+-- the least multiple of an alignment that is not below an end
+abbrev pub place : ℕ → ℕ → ℕ
+place align end = (end + (align - 1)) / align * align
+
+-- the same in words: a multiple, not below the end, and not above any other such multiple
+pub record IsPlace (align end at : ℕ) : Type 0 where
+  pub multiple : (k : ℕ) × (at ≡ k * align)
+  pub above : end ≤ at
+  pub least : (j : ℕ) → end ≤ j * align → at ≤ j * align

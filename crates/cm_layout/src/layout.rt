@@ -1,0 +1,75 @@
+//! The layout of whole types.
+
+ghost use Rattle.std.specs.Prelude.{◌≡◌, ◌↔◌, ◌*◌, ℕ, IfOk, IsTrue};
+ghost use Rattle.cm_types.specs.Funcs.{tree_type};
+ghost use Rattle.cm_layout.specs.Places.{IsPlace};
+ghost use Rattle.cm_layout.specs.Sizes.{HasCases, HasField, align_of, case_offset, end_before, field_offset, field_type, fields_in, size_of, IsPayloadPlace};
+ghost use Rattle.cm_layout.specs.Flattening.{JoinsSlots, flat_of};
+
+use crate::alignments::node_align;
+use crate::flattening::push_flat;
+use crate::offsets::{node_case_offset, node_field_offset, node_has_cases, node_has_field};
+use crate::sizes::node_size;
+use cm_types::{CoreKind, TypeTree};
+use std::alloc::{AllocError, Global};
+
+/// The alignment of a type in bytes: 1, 2, 4 or 8 (CanonicalABI.md, "Alignment").
+pub fn align(ty: &TypeTree) -> u32
+    ensures { result ≡ align_of (tree_type ty.now) }
+{
+    node_align(&ty.root)
+}
+
+/// The size of a type in bytes, a multiple of its alignment (CanonicalABI.md, "Element Size").
+pub fn size(ty: &TypeTree) -> u32
+    ensures value { result ≡ size_of (tree_type ty.now) }
+    ensures multiple { (k : ℕ) × (result ≡ k * align_of (tree_type ty.now)) }
+{
+    node_size(&ty.root)
+}
+
+/// Whether the type is a record or a tuple with a field `n`, from 0, so that `field_offset` may be asked.
+pub fn has_field(ty: &TypeTree, n: usize) -> bool
+    ensures { IsTrue result ↔ HasField (tree_type ty.now) n }
+{
+    node_has_field(&ty.root, n)
+}
+
+/// Whether the type is a variant, an enum, an option or a result, so that `case_offset` may be asked.
+pub fn has_cases(ty: &TypeTree) -> bool
+    ensures { IsTrue result ↔ HasCases (tree_type ty.now) }
+{
+    node_has_cases(&ty.root)
+}
+
+/// Where field `n`, from 0, of a record or a tuple stands, in bytes from where the whole does: at the
+/// least multiple of the field's alignment that is not below the end of what is before it.
+pub fn field_offset(ty: &TypeTree, n: usize) -> u32
+    requires { HasField (tree_type ty.now) n }
+    ensures value { result ≡ field_offset (tree_type ty.now) n }
+    ensures least { IsPlace (align_of (field_type (fields_in (tree_type ty.now)) n)) (end_before (fields_in (tree_type ty.now)) 0 n) result }
+{
+    node_field_offset(&ty.root, n)
+}
+
+/// Where the payload of a variant, an enum, an option or a result stands, in bytes from where the whole
+/// does: at the least multiple of the greatest alignment of a payload that is not below the end of the
+/// number of the case.
+pub fn case_offset(ty: &TypeTree) -> u32
+    requires { HasCases (tree_type ty.now) }
+    ensures value { result ≡ case_offset (tree_type ty.now) }
+    ensures least { IsPayloadPlace (tree_type ty.now) result }
+{
+    node_case_offset(&ty.root)
+}
+
+/// The kinds of the core values that a value of the type is passed as, in order (CanonicalABI.md,
+/// "Flattening"). `AllocError` comes where there is no memory for the list.
+pub fn flatten(alloc: Global, ty: &TypeTree) -> Result<Vec<CoreKind>, AllocError>
+    ensures value { IfOk result (λ kinds. kinds.items ≡ flat_of (tree_type ty.now)) }
+    ensures slots { IfOk result (λ kinds. JoinsSlots (tree_type ty.now) kinds.items) }
+{
+    let mut kinds = Vec::new(alloc);
+    push_flat(&mut kinds, alloc, &ty.root)?;
+    Ok(kinds)
+}

@@ -1,0 +1,79 @@
+//! Where fields and payloads stand, in bytes from where the whole does.
+
+ghost use Rattle.std.specs.Prelude.{◌≡◌, ◌↔◌, ◌≤◌, ◌<◌, IsTrue, length};
+ghost use Rattle.cm_types.specs.Limits.{nodes_of, nodes_of_fields};
+ghost use Rattle.cm_types.specs.TypeTrees.{fields_of, parts_of, type_of};
+ghost use Rattle.cm_layout.specs.Sizes.{HasCases, HasField, case_offset, field_offset, field_place};
+
+use crate::alignments::{box_align, discriminant_size, node_align, payloads_align};
+use crate::sizes::{fields_end, parts_end, place};
+use cm_types::{Field, TypeNode};
+
+#[tactic(auto, using(crate::proofs::PlaceLaws::places))]
+fn field_place(fields: &[Field], n: usize) -> u32
+    requires there { n < length fields.now }
+    requires within { nodes_of_fields (fields_of fields.now) ≤ 10000 }
+    ensures { result ≡ field_place (fields_of fields.now) 0 n }
+{
+    place(node_align(&fields[n].ty), fields_end(&fields[..n]))
+}
+
+#[tactic(auto, using(crate::proofs::PlaceLaws::places))]
+fn part_place(parts: &[TypeNode], n: usize) -> u32
+    requires there { n < length parts.now }
+    requires within { nodes_of_fields (parts_of parts.now) ≤ 10000 }
+    ensures { result ≡ field_place (parts_of parts.now) 0 n }
+{
+    place(node_align(&parts[n]), parts_end(&parts[..n]))
+}
+
+/// Where field `n`, from 0, of a record or a tuple stands, in bytes from where the whole does.
+pub fn node_field_offset(ty: &TypeNode, n: usize) -> u32
+    requires there { HasField (type_of ty.now) n }
+    requires within { nodes_of (type_of ty.now) ≤ 10000 }
+    ensures { result ≡ field_offset (type_of ty.now) n }
+{
+    match ty {
+        TypeNode::Record(fields) => field_place(fields, n),
+        TypeNode::Tuple(parts) => part_place(parts, n),
+        _ => unreachable!(),
+    }
+}
+
+/// Where the payload of a variant, an enum, an option or a result stands, in bytes from where the whole
+/// does.
+pub fn node_case_offset(ty: &TypeNode) -> u32
+    requires { HasCases (type_of ty.now) }
+    ensures { result ≡ case_offset (type_of ty.now) }
+{
+    match ty {
+        TypeNode::Variant(cases) => place(payloads_align(cases), discriminant_size(cases.len())),
+        TypeNode::Enum(labels) => discriminant_size(labels.len()),
+        TypeNode::Option(some) => place(node_align(some), 1),
+        TypeNode::Result { ok, error } => place(box_align(ok).max(box_align(error)), 1),
+        _ => unreachable!(),
+    }
+}
+
+/// Whether a type is a record or a tuple with a field `n`, from 0.
+pub fn node_has_field(ty: &TypeNode, n: usize) -> bool
+    ensures { IsTrue result ↔ HasField (type_of ty.now) n }
+{
+    match ty {
+        TypeNode::Record(fields) => n < fields.len(),
+        TypeNode::Tuple(parts) => n < parts.len(),
+        _ => false,
+    }
+}
+
+/// Whether a type is a variant, an enum, an option or a result.
+pub fn node_has_cases(ty: &TypeNode) -> bool
+    ensures { IsTrue result ↔ HasCases (type_of ty.now) }
+{
+    match ty {
+        TypeNode::Variant(_) | TypeNode::Option(_) => true,
+        TypeNode::Enum(_) => true,
+        TypeNode::Result { .. } => true,
+        _ => false,
+    }
+}

@@ -1,0 +1,231 @@
+-- A drive, turn by turn.
+use Rattle.std.proofs.Common.{◌≡◌, ◌≢◌, ℕ, zero, suc, ◌+◌, ◌-◌, ◌<◌, ◌≤◌, ◌⊎◌, inl, inr, ◌==◌, ◌&&◌, Bool, true, false, if◌then◌else◌, List, [], ◌∷◌, ◌++◌, length, Option, Some, None, refl, sym, ap, subst, ◌∙◌, append_assoc, arith}
+use Rattle.std.specs.Prelude.{slice_get, not}
+use Rattle.std.specs.Option.{option_map}
+use Rattle.std.specs.List.{AllByRecursion}
+use Rattle.std.proofs.lemmas.Bool.{eqb-true, eqb-false}
+use Rattle.std.proofs.lemmas.List.{append-nil, length-append}
+use Rattle.cm_machine.specs.declared.frame.Frame.{Frame}
+use Rattle.cm_machine.specs.declared.event.Event.{Event}
+use Rattle.cm_machine.specs.declared.event.Event.TheVariants as event
+use Rattle.cm_machine.specs.declared.moves.Move.{Move}
+use Rattle.cm_machine.specs.declared.moves.Move.TheVariants as move
+use Rattle.cm_machine.specs.Exchange.{Exchange}
+use Rattle.cm_machine.specs.Stack.{actor, top_of}
+use Rattle.cm_machine.specs.State.{State}
+use Rattle.cm_machine.specs.Step.{Step}
+use Rattle.cm_machine.specs.Run.{is_last}
+use Rattle.cm_machine.specs.Player.{Turn, Turns, last_of, exchanges_of, AreStops, Answered, GoesOnAs, SeatPlays, is_taken, StaysTaken, EndsAt, Played, IsDrive, closed_since, emptied_if}
+
+stops_join : (xs ys : List Exchange) → AreStops xs → AreStops ys → AreStops (xs ++ ys)
+stops_join [] ys h k = k
+stops_join (x ∷ xs) ys h k = (h.0, stops_join xs ys h.1 k)
+
+join_answered : {G : Type 0} (plays : G → List Exchange → Type 0) (g h : G) (xs ys : List Exchange) → Answered plays g xs → GoesOnAs plays g h xs → Answered plays h ys → Answered plays g (xs ++ ys)
+join_answered plays g h xs ys a b (inl none) = subst (λ (zs : List Exchange). Answered plays g (xs ++ zs)) (sym none) (rw (append-nil xs) a)
+join_answered plays g h xs ys a b (inr p) = inr (b ys p)
+
+-- A seat that took part in two runs of exchanges, one after the other, and held its guest between them.
+pub seat_joins : {G : Type 0} (plays : G → List Exchange → Type 0) (a b c : Option (Option G)) (xs ys : List Exchange) → SeatPlays plays a b xs → StaysTaken a b → SeatPlays plays b c ys → SeatPlays plays a c (xs ++ ys)
+seat_joins plays (Some (Some g)) (Some (Some h)) (Some (Some k)) xs ys p t q =
+    (join_answered plays g h xs ys p.0 p.1 q.0, λ rest r. rw append_assoc (p.1 (ys ++ rest) (q.1 rest r)))
+seat_joins plays (Some (Some g)) (Some (Some h)) (Some None) xs ys p t q = join_answered plays g h xs ys p.0 p.1 q
+seat_joins plays (Some (Some g)) (Some (Some h)) None xs ys p t q = absurd q
+seat_joins plays (Some (Some g)) (Some None) c xs ys p t q = absurd cc
+seat_joins plays (Some (Some g)) None c xs ys p t q = absurd p
+seat_joins plays (Some None) (Some (Some h)) c xs ys p t q = absurd p
+seat_joins plays (Some None) (Some None) (Some (Some k)) xs ys p t q = absurd q
+seat_joins plays (Some None) (Some None) (Some None) xs ys p t q = stops_join xs ys p q
+seat_joins plays (Some None) (Some None) None xs ys p t q = absurd q
+seat_joins plays (Some None) None c xs ys p t q = absurd p
+seat_joins plays None (Some b) c xs ys p t q = absurd p
+seat_joins plays None None (Some c) xs ys p t q = absurd q
+seat_joins plays None None None xs ys p t q = stops_join xs ys p q
+
+-- A seat that nothing was asked of.
+pub seat_rests : {G : Type 0} (plays : G → List Exchange → Type 0) (a : Option (Option G)) → SeatPlays plays a a []
+seat_rests plays (Some (Some g)) = (inl refl, λ rest r. r)
+seat_rests plays (Some None) = tt
+seat_rests plays None = tt
+
+pub seat_empties : {G : Type 0} (plays : G → List Exchange → Type 0) (c : Bool) (a b : Option (Option G)) (xs : List Exchange) → SeatPlays plays a b xs → SeatPlays plays a (emptied_if c b) xs
+seat_empties plays false a b xs p = p
+seat_empties plays true a None xs p = p
+seat_empties plays true (Some (Some g)) (Some (Some h)) xs p = p.0
+seat_empties plays true (Some (Some g)) (Some None) xs p = p
+seat_empties plays true (Some None) (Some (Some h)) xs p = absurd p
+seat_empties plays true (Some None) (Some None) xs p = p
+seat_empties plays true None (Some b) xs p = absurd p
+
+pub taken_empties : {G : Type 0} (c : Bool) (a : Option (Option G)) → is_taken (emptied_if c a) ≡ (is_taken a && not c)
+taken_empties true (Some (Some g)) = refl
+taken_empties true (Some None) = refl
+taken_empties true None = refl
+taken_empties false (Some (Some g)) = refl
+taken_empties false (Some None) = refl
+taken_empties false None = refl
+
+-- ---- turns
+
+pub last_of_more : (first : Event) (told : List Event) (e : Event) → last_of first (told ++ e ∷ []) ≡ e
+last_of_more first [] e = refl
+last_of_more first (x ∷ xs) e = last_of_more x xs e
+
+exchanges_more : (i : ℕ) (ts us : List Turn) → exchanges_of i (ts ++ us) ≡ exchanges_of i ts ++ exchanges_of i us
+exchanges_more i [] us = refl
+exchanges_more i (t ∷ ts) us = by_test (t.by == i) (exchanges_more i ts us)
+  where
+    by_test : (b : Bool) → exchanges_of i (ts ++ us) ≡ exchanges_of i ts ++ exchanges_of i us → (if b then record { seen = t.seen; made = t.made } ∷ exchanges_of i (ts ++ us) else exchanges_of i (ts ++ us)) ≡ (if b then record { seen = t.seen; made = t.made } ∷ exchanges_of i ts else exchanges_of i ts) ++ exchanges_of i us
+    by_test true e = ap (λ (xs : List Exchange). record { seen = t.seen; made = t.made } ∷ xs) e
+    by_test false e = e
+
+-- what holds in mid-drive
+pub record Playing {G : Type 0} (plays : G → List Exchange → Type 0) (start : State) (first : Event) (old_seats : List (Option G)) (events : List Event) (s : State) (seats : List (Option G)) (count : ℕ) : Type 0 where
+  pub turns : List Turn
+  pub told : List Event
+  pub events_are : events ≡ first ∷ told
+  pub counted : length turns ≡ count
+  pub went : (ts : List Turn) (es : List Event) (new : State) → Turns s (last_of first told) ts es new → Turns start first (turns ++ ts) (told ++ es) new
+  pub seats_play : (i : ℕ) → SeatPlays plays (slice_get old_seats i) (slice_get seats i) (exchanges_of i turns)
+  pub seats_stay : (i : ℕ) → StaysTaken (slice_get old_seats i) (slice_get seats i)
+
+pub begins_playing : {G : Type 0} (plays : G → List Exchange → Type 0) (start : State) (first : Event) (seats : List (Option G)) (events : List Event) → events ≡ first ∷ [] → Playing plays start first seats events start seats 0
+begins_playing plays start first seats events is = record {
+  turns = [];
+  told = [];
+  events_are = is;
+  counted = refl;
+  went = λ ts es new h. h;
+  seats_play = λ i. seat_rests plays (slice_get seats i);
+  seats_stay = λ i. refl;
+}
+
+-- the seats after one exchange of the instance i
+module _ {G : Type 0} (plays : G → List Exchange → Type 0) (old mid new : List (Option G)) (turns : List Turn) (t : Turn)
+    (before : (i : ℕ) → SeatPlays plays (slice_get old i) (slice_get mid i) (exchanges_of i turns))
+    (kept : (i : ℕ) → StaysTaken (slice_get old i) (slice_get mid i))
+    (asked : SeatPlays plays (slice_get mid t.by) (slice_get new t.by) (record { seen = t.seen; made = t.made } ∷ []))
+    (asked_stays : StaysTaken (slice_get mid t.by) (slice_get new t.by))
+    (others : (i : ℕ) → i ≢ t.by → slice_get new i ≡ slice_get mid i) where
+  at_one : (i : ℕ) (b : Bool) → (t.by == i) ≡ b → SeatPlays plays (slice_get mid i) (slice_get new i) (if b then record { seen = t.seen; made = t.made } ∷ [] else [])
+  at_one i true is = let same : t.by ≡ i = eqb-true t.by i is in subst (λ (j : ℕ). SeatPlays plays (slice_get mid j) (slice_get new j) (record { seen = t.seen; made = t.made } ∷ [])) same asked
+  at_one i false is =
+      let other : i ≢ t.by = λ e. eqb-false t.by i is (sym e) in
+      subst (λ (x : Option (Option G)). SeatPlays plays (slice_get mid i) x []) (sym (others i other)) (seat_rests plays (slice_get mid i))
+
+  stays_one : (i : ℕ) (b : Bool) → (t.by == i) ≡ b → StaysTaken (slice_get mid i) (slice_get new i)
+  stays_one i true is = let same : t.by ≡ i = eqb-true t.by i is in subst (λ (j : ℕ). StaysTaken (slice_get mid j) (slice_get new j)) same asked_stays
+  stays_one i false is =
+      let other : i ≢ t.by = λ e. eqb-false t.by i is (sym e) in
+      ap is_taken (others i other)
+
+  pub seats_after : (i : ℕ) → SeatPlays plays (slice_get old i) (slice_get new i) (exchanges_of i (turns ++ t ∷ []))
+  seats_after i =
+      rw (exchanges_more i turns (t ∷ [])) (seat_joins plays (slice_get old i) (slice_get mid i) (slice_get new i) (exchanges_of i turns) (exchanges_of i (t ∷ [])) (before i) (kept i) (at_one i (t.by == i) refl))
+
+  pub stay_after : (i : ℕ) → StaysTaken (slice_get old i) (slice_get new i)
+  stay_after i = stays_one i (t.by == i) refl ∙ kept i
+
+pub plays_on : {G : Type 0} (plays : G → List Exchange → Type 0) (start : State) (first : Event) (old : List (Option G)) (events : List Event) (s : State) (seats : List (Option G)) (count : ℕ)
+    → Playing plays start first old events s seats count
+    → (by : ℕ) (seen : Event) (made : Move) (e : Event) (mid : State) (after : List (Option G)) (list : List Event)
+    → ((told : List Event) → events ≡ first ∷ told → last_of first told ≡ seen) → is_last seen ≡ false → option_map actor (top_of s.stack) ≡ Some by → Step s made e mid
+    → SeatPlays plays (slice_get seats by) (slice_get after by) (record { seen = seen; made = made } ∷ []) → StaysTaken (slice_get seats by) (slice_get after by)
+    → ((i : ℕ) → i ≢ by → slice_get after i ≡ slice_get seats i) → list ≡ events ++ e ∷ []
+    → Playing plays start first old list mid after (count + 1)
+plays_on plays start first old events s seats count p by seen made e mid after list last more acts step asked asked_stays others is =
+    let t : Turn = record { by = by; seen = seen; made = made } in
+    let saw : last_of first p.told ≡ seen = last p.told p.events_are in
+    record {
+      turns = p.turns ++ t ∷ [];
+      told = p.told ++ e ∷ [];
+      events_are = is ∙ ap (λ (xs : List Event). xs ++ e ∷ []) p.events_are;
+      counted = length-append p.turns (t ∷ []) ∙ omega (arith, p.counted);
+      went = λ ts es new h.
+          let rest : Turns mid e ts es new = subst (λ (x : Event). Turns mid x ts es new) (last_of_more first p.told e) h in
+          let here : Turns s (last_of first p.told) (t ∷ ts) (e ∷ es) new = (sym saw, subst (λ (x : Event). is_last x ≡ false) (sym saw) more, acts, (mid, step, rest)) in
+          rw (append_assoc, append_assoc) (p.went (t ∷ ts) (e ∷ es) new here);
+      seats_play = seats_after plays old seats after p.turns t p.seats_play p.seats_stay asked asked_stays others;
+      seats_stay = stay_after plays old seats after p.turns t p.seats_play p.seats_stay asked asked_stays others;
+    }
+
+-- ---- the last event of a list
+
+last_there : (first : Event) (told : List Event) → slice_get (first ∷ told) (length told) ≡ Some (last_of first told)
+last_there first [] = refl
+last_there first (x ∷ xs) = last_there x xs
+
+pub last_at : (events : List Event) (first : Event) (told : List Event) → events ≡ first ∷ told → slice_get events (length events - 1) ≡ Some (last_of first told)
+last_at events first told is =
+    let long : length events - 1 ≡ length told = omega (arith, ap length is) in
+    ap (λ n. slice_get events n) long ∙ ap (λ (xs : List Event). slice_get xs (length told)) is ∙ last_there first told
+
+pub last_pushed : (events : List Event) (e first : Event) (told : List Event) → events ++ e ∷ [] ≡ first ∷ told → last_of first told ≡ e
+last_pushed [] e first told is =
+    let head : e ≡ first = cc in
+    let tail : [] ≡ told = cc in
+    subst (λ (xs : List Event). last_of first xs ≡ e) tail (sym head)
+last_pushed (x ∷ xs) e first told is =
+    let head : x ≡ first = cc in
+    let tail : xs ++ e ∷ [] ≡ told = cc in
+    subst (λ (ys : List Event). last_of first ys ≡ e) tail (last_of_more first xs e)
+
+-- ---- where a drive ends
+
+by_limit : (b : Bool) (limit moves : ℕ) → moves ≡ limit → (b ≡ true) ⊎ ((b ≡ false) × (moves ≡ limit))
+by_limit true limit moves is = inl refl
+by_limit false limit moves is = inr (refl, is)
+
+module _ {G : Type 0} (plays : G → List Exchange → Type 0) (start : State) (first : Event) (old : List (Option G)) (limit : ℕ) (events : List Event) (s : State) (seats : List (Option G)) (count : ℕ) (p : Playing plays start first old events s seats count) where
+  ended_at : EndsAt limit (last_of first p.told) (length p.turns) → Played plays start first old limit events s seats
+  ended_at ends = record {
+    turns = p.turns;
+    told = p.told;
+    events_are = p.events_are;
+    went = subst (λ (ts : List Turn). Turns start first ts p.told s) (append-nil p.turns) (subst (λ (es : List Event). Turns start first (p.turns ++ []) es s) (append-nil p.told) (p.went [] [] s refl));
+    ends = ends;
+    seats_play = p.seats_play;
+    seats_stay = p.seats_stay;
+  }
+
+  pub stops_at : (e : Event) → slice_get events (length events - 1) ≡ Some e → is_last e ≡ true → Played plays start first old limit events s seats
+  stops_at e is last =
+      let there = last_at events first p.told p.events_are in
+      let same : last_of first p.told ≡ e = cc in
+      ended_at (inl (ap is_last same ∙ last))
+
+  pub runs_out : count ≡ limit → Played plays start first old limit events s seats
+  runs_out is = ended_at (by_limit (is_last (last_of first p.told)) limit (length p.turns) (p.counted ∙ is))
+
+pub somebody_acts : (stack : List Frame) → 0 < length stack → option_map actor (top_of stack) ≡ None → ⊥
+somebody_acts [] some none = absurd (omega arith)
+somebody_acts (f ∷ fs) some none = cc
+
+-- the last event, of a list that is the same
+pub last_seen : (items events : List Event) (o : Option Event) → items ≡ events → o ≡ slice_get items (length items - 1) → slice_get events (length events - 1) ≡ o
+last_seen items events o same is = sym (is ∙ ap (λ (xs : List Event). slice_get xs (length xs - 1)) same)
+
+pub some_last : (events : List Event) (first : Event) (told : List Event) → events ≡ first ∷ told → slice_get events (length events - 1) ≡ None → ⊥
+some_last events first told is none = let there = last_at events first told is in cc
+
+pub last_is_seen : (events : List Event) (seen : Event) → slice_get events (length events - 1) ≡ Some seen → (first : Event) (told : List Event) → events ≡ first ∷ told → last_of first told ≡ seen
+last_is_seen events seen there first told is = let here = last_at events first told is in cc
+
+-- ---- the whole drive
+
+module _ {G : Type 0} (plays : G → List Exchange → Type 0) (start : State) (root limit : ℕ) (old : List (Option G)) (events : List Event) (s : State) (seats : List (Option G)) (p : Played plays start (event.Resume root []) old limit events s seats) (f : ℕ → Bool) (left : List (Option G)) (emptied : (i : ℕ) → slice_get left i ≡ emptied_if (f i) (slice_get seats i)) where
+  pub whole_drive : IsDrive plays root limit start old events s left
+  whole_drive = record {
+    turns = p.turns;
+    told = p.told;
+    events_are = p.events_are;
+    went = p.went;
+    ends = p.ends;
+    seats_play = λ i. subst (λ (x : Option (Option G)). SeatPlays plays (slice_get old i) x (exchanges_of i p.turns)) (sym (emptied i)) (seat_empties plays (f i) (slice_get old i) (slice_get seats i) (exchanges_of i p.turns) (p.seats_play i));
+  }
+
+  pub taken_after : (i : ℕ) → is_taken (slice_get left i) ≡ (is_taken (slice_get old i) && not (f i))
+  taken_after i = ap is_taken (emptied i) ∙ taken_empties (f i) (slice_get seats i) ∙ ap (λ b. b && not (f i)) (p.seats_stay i)
+
+pub closed_same : (a b c d : List Bool) → a ≡ b → c ≡ d → (i : ℕ) → closed_since a c i ≡ closed_since b d i
+closed_same a b c d p q i = ap (λ (x : List Bool). closed_since x c i) p ∙ ap (λ (x : List Bool). closed_since b x i) q

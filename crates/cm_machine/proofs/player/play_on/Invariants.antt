@@ -1,0 +1,13 @@
+use Rattle.std.proofs.Common.{◌≡◌, ◌<◌, false, List, [], ◌∷◌, length}
+use Rattle.cm_machine.specs.declared.event.Event.{Event}
+use Rattle.cm_machine.specs.Run.{is_last}
+use Rattle.cm_machine.specs.Player.{last_of}
+use Rattle.cm_machine.proofs.Drives.{Playing}
+use Rattle.cm_machine.proofs.player.play_on.Given as goal
+
+-- a drive is on its way, and somebody acts unless its last event is the last
+abbrev pub invariant-loop : goal.invariant-loop
+invariant-loop g l = record {
+  playing : (first : Event) → l.fn.events.items ≡ first ∷ [] → Playing (λ b rest. (goal.Guest-dyn g (b.vtable, b.value)).plays b.value rest) l.fn.set first l.fn.seats.items l.events.items l.set l.seats.items l.counter;
+  stands : (first : Event) (told : List Event) → l.events.items ≡ first ∷ told → is_last (last_of first told) ≡ false → 0 < length l.set.stack;
+}

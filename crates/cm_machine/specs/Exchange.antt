@@ -1,0 +1,7 @@
+-- What a guest saw, and what it made of it.
+use Rattle.cm_machine.specs.declared.event.Event.{Event}
+use Rattle.cm_machine.specs.declared.moves.Move.{Move}
+
+pub record Exchange : Type 0 where
+  pub seen : Event
+  pub made : Move

@@ -1,0 +1,15 @@
+pub mod AsciiLemmas
+pub mod CountLemmas
+pub mod LaneLemmas
+pub mod MidwayLemmas
+pub mod PairLemmas
+pub mod PlainLemmas
+pub mod RunLemmas
+pub mod StretchLemmas
+pub mod TextLemmas
+pub mod UnitLemmas
+pub mod Utf8Lemmas
+pub mod FaultLemmas
+pub mod TightLemmas
+pub mod WellFormedLemmas
+pub mod GrowthLemmas

@@ -1,0 +1,16 @@
+use Rattle.std.proofs.Common.{◌≡◌, ℕ, ◌+◌, ◌-◌, ◌≤◌, length, drop}
+use Rattle.std.specs.Char.{is_ascii}
+use Rattle.std.specs.List.{prefix_len}
+use Rattle.cm_text.proofs.kernels.ascii_run.Given as goal
+
+abbrev pub invariant-loop-at : goal.invariant-loop-at
+invariant-loop-at l = (l.at ≤ length l.bytes) × (l.at + prefix_len is_ascii (drop l.at l.bytes) ≡ prefix_len is_ascii l.bytes)
+
+abbrev pub decreases-loop-at : goal.decreases-loop-at
+decreases-loop-at l = length l.bytes - l.at
+
+abbrev pub invariant-loop-at-2 : goal.invariant-loop-at-2
+invariant-loop-at-2 l = (l.at ≤ length l.bytes) × (l.at + prefix_len is_ascii (drop l.at l.bytes) ≡ prefix_len is_ascii l.bytes)
+
+abbrev pub decreases-loop-at-2 : goal.decreases-loop-at-2
+decreases-loop-at-2 l = length l.bytes - l.at

@@ -1,0 +1,9 @@
+use Rattle.std.proofs.Common.{ℕ, ◌+◌, ◌-◌, ◌≤◌, length}
+use Rattle.cm_text.proofs.StretchLemmas.{Narrows}
+use Rattle.cm_text.proofs.kernels.narrow_few.Given as goal
+
+abbrev pub invariant-loop-run : goal.invariant-loop-run
+invariant-loop-run l = (l.run ≤ 16) × Narrows l.bytes l.at l.fn.out l.to l.out l.run
+
+abbrev pub decreases-loop-run : goal.decreases-loop-run
+decreases-loop-run l = 16 - l.run

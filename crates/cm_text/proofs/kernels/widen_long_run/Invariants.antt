@@ -1,0 +1,15 @@
+use Rattle.std.proofs.Common.{ℕ, ◌+◌, ◌-◌, length}
+use Rattle.cm_text.proofs.StretchLemmas.{Widens}
+use Rattle.cm_text.proofs.kernels.widen_long_run.Given as goal
+
+abbrev pub invariant-loop-run : goal.invariant-loop-run
+invariant-loop-run l = Widens l.bytes l.at l.fn.out l.to l.out l.run
+
+abbrev pub decreases-loop-run : goal.decreases-loop-run
+decreases-loop-run l = length l.bytes - (l.at + l.run)
+
+abbrev pub invariant-loop-run-2 : goal.invariant-loop-run-2
+invariant-loop-run-2 l = Widens l.bytes l.at l.fn.out l.to l.out l.run
+
+abbrev pub decreases-loop-run-2 : goal.decreases-loop-run-2
+decreases-loop-run-2 l = length l.bytes - (l.at + l.run)

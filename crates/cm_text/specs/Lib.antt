@@ -1,0 +1,11 @@
+pub mod Ascii
+pub mod Fault
+pub mod Latin1
+pub mod Latin1Laws
+pub mod Sizes
+pub mod Text
+pub mod Utf16
+pub mod Utf16Laws
+pub mod Utf8
+pub mod Utf8Laws
+pub mod WellFormed

@@ -1,0 +1,26 @@
+//! Texts in UTF-8, UTF-16 and Latin-1.
+#![tactic(auto)]
+
+mod encoding;
+mod fault;
+mod kernels;
+mod latin1;
+mod laws;
+mod sizes;
+mod source;
+#[cfg(test)]
+mod tests;
+mod transcoding;
+mod utf16;
+mod utf8;
+mod writes;
+
+pub use encoding::Encoding;
+pub use fault::TextFault;
+pub use kernels::{ascii_run, ascii_units, narrow, widen};
+pub use latin1::Latin1;
+pub use laws::{one_list_of_scalars, utf8_is_well_formed, utf16_is_well_formed};
+pub use source::Source;
+pub use transcoding::{transcode, transcode_into, transcoded_size};
+pub use utf8::Utf8;
+pub use utf16::Utf16;

@@ -1,0 +1,2 @@
+pub mod HexBytes
+pub mod Moves

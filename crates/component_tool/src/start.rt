@@ -1,0 +1,45 @@
+//! The program on the machine that it runs on.
+
+use crate::commands::tool;
+use crate::fault::{Fault, report};
+use crate::files::Disk;
+use std::io::{BufWriter, Write};
+use std::rt::{Env, Files};
+use std::{env, io};
+
+/// Runs the command of the program's words, which come after its name, on the files of the disk, and
+/// answers its exit status.
+pub fn start<R: Env + Files + AllocGlobal, O: Write + Drop, E: Write>(
+    rt: &R,
+    out: O,
+    err: &mut E,
+) -> u8 {
+    match run(rt, out, err) {
+        Ok(status) => status,
+        Err(error) => {
+            let fault = fault_of(&error);
+            report(err, &fault);
+            fault.status()
+        }
+    }
+}
+
+fn run<R: Env + Files + AllocGlobal, O: Write + Drop, E: Write>(
+    rt: &R,
+    out: O,
+    err: &mut E,
+) -> io::Result<u8> {
+    let alloc = rt.alloc();
+    let words: Vec<String> = env::args(rt)?.skip(1).collect(alloc)?;
+    let mut out = BufWriter::new(alloc, out)?;
+    Ok(tool(alloc, words.as_slice(), &mut Disk::new(rt), &mut out, err))
+}
+
+/// Words that are no text are no command.
+fn fault_of(error: &io::Error) -> Fault<'static> {
+    if error.kind() == io::ErrorKind::OutOfMemory {
+        Fault::Memory
+    } else {
+        Fault::Usage
+    }
+}

@@ -1,0 +1,7 @@
+//! Tests of the parts, and of whole commands on files in memory.
+
+mod bytes;
+mod lines;
+mod scripts;
+mod words;
+mod worlds;
