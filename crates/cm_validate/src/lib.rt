@@ -15,3 +15,6 @@ mod walk;
 pub use checked::{Checked, index_spaces, validate};
 pub use definitions::{CoreFuncDef, FuncDef};
 pub use fault::{ValidFault, ValidReason};
+
+#[cfg(test)]
+mod tests;
