@@ -41,7 +41,9 @@ fn function_of(linked: &Linked, component: u32, function: &CoreFuncDef) -> CoreF
 {
     match function {
         CoreFuncDef::Guest { .. } => CoreFunction::Guest,
-        CoreFuncDef::Lowered { import, item, ty } => match linked.target(component, *import, *item) {
+        CoreFuncDef::Lowered { import, item, ty } => match linked.target(
+            component, *import, *item,
+        ) {
             Some(target) => CoreFunction::Lowered(Lowered {
                 instance: target.component,
                 func: target.core_func,
@@ -54,7 +56,12 @@ fn function_of(linked: &Linked, component: u32, function: &CoreFuncDef) -> CoreF
 }
 
 /// What each core function of component `component` stands for.
-fn functions_of(alloc: Global, linked: &Linked, component: u32, checked: &Checked) -> Result<CoreFunctions, AllocError>
+fn functions_of(
+    alloc: Global,
+    linked: &Linked,
+    component: u32,
+    checked: &Checked,
+) -> Result<CoreFunctions, AllocError>
     ensures are { IfOk result (λ fs. fs ≡ functions_of linked.now component checked.now) }
     ensures below { IfOk result (λ fs. AllByRecursion (IsLinkedBelow component) fs) }
 {

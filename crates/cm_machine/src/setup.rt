@@ -9,8 +9,8 @@ ghost use Rattle.cm_machine.specs.Plan.{plan_of};
 
 use crate::event::Misuse;
 use crate::memory::{MAX_PAGES, Memories, Memory};
-use crate::set::{CoreFunctions, Set};
 use crate::plan::plan_of;
+use crate::set::{CoreFunctions, Set};
 use cm_handles::Table;
 use cm_match::Linked;
 use std::alloc::{AllocError, Global};

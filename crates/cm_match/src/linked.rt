@@ -1,14 +1,14 @@
 //! Linked sets of components.
 
-ghost use Rattle.std.specs.Prelude.{◌≡◌, ◌⊎◌, ◌<◌, ◌≤◌, List, length, IfOk, IfErr, IfSome};
+ghost use Rattle.std.specs.Prelude.{◌≡◌, ◌<◌, ◌≤◌, ◌⊎◌, List, length, IfOk, IfErr, IfSome};
 ghost use Rattle.std.specs.List.{AllByRecursion};
 ghost use Rattle.std.specs.Option.{option_map};
 ghost use Rattle.cm_types.specs.Funcs.{func_of};
-ghost use Rattle.cm_validate.specs.Valid.{IsValid};
 ghost use Rattle.cm_match.specs.declared.fault.LinkReason.TheVariants as reason;
 ghost use Rattle.cm_match.specs.declared.plan.PlanLine.{PlanLine};
 ghost use Rattle.cm_match.specs.Links.{signatures, IsLinkFault, Matches};
 ghost use Rattle.cm_match.specs.Reached.{target_tree};
+ghost use Rattle.cm_match.specs.Reaches.{IsFine, LoweredReach};
 ghost use Rattle.cm_match.specs.Targets.{target};
 
 use crate::fault::{LinkFault, LinkReason};
@@ -52,12 +52,14 @@ impl Linked {
         &self.links.plan
     }
 
-    /// The components, in the order in which they were linked.
+    /// The components, in the order in which they were linked: 1 to 16. Each is valid, and each function
+    /// that one of them lowers reaches a function that an earlier one lifts.
     pub fn components(&self) -> &[Checked]
         ensures components { result.now ≡ self.now }
-        ensures valid { AllByRecursion IsValid self.now }
+        ensures fine { AllByRecursion IsFine self.now }
         ensures some { 0 < length self.now }
         ensures few { length self.now ≤ 16 }
+        ensures lowered { LoweredReach self.now }
     {
         &self.components
     }

@@ -5,12 +5,12 @@ ghost use Rattle.std.specs.Option.{option_map};
 ghost use Rattle.std.specs.List.{AllByRecursion};
 ghost use Rattle.cm_types.specs.Signatures.{extern_of};
 ghost use Rattle.cm_validate.specs.Spaces.{spaces_of, func_at};
-ghost use Rattle.cm_validate.specs.Valid.{IsValid};
 ghost use Rattle.cm_match.specs.declared.fault.LinkReason.TheVariants as reason;
 ghost use Rattle.cm_match.specs.Links.{Entry, entry, entries, exports_from, signatures, line, IsServed, Fails, IsFirstUnserved, Matches};
 ghost use Rattle.cm_match.specs.Offers.{AreOffers};
 ghost use Rattle.cm_match.specs.Progress.{Progress, imports_of_rest};
 ghost use Rattle.cm_match.specs.Reached.{reached_tree, table, IsTable};
+ghost use Rattle.cm_match.specs.Reaches.{IsFine};
 ghost use Rattle.cm_match.specs.Targets.{follow, leads};
 
 use crate::choose::choose;
@@ -126,7 +126,7 @@ pub(crate) struct Links {
 pub(crate) fn link_all(alloc: Global, components: &[Checked]) -> Result<Links, LinkFault>
     requires some { 0 < length components.now }
     requires few { length components.now ≤ 16 }
-    ensures valid { OnOk result (AllByRecursion IsValid components.now) }
+    ensures fine { OnOk result (AllByRecursion IsFine components.now) }
     ensures plan { IfOk result (λ l. Matches (signatures components.now) l.plan.items) }
     ensures targets { IfOk result (λ l. IsTable l.targets.items components.now (length components.now)) }
     ensures fault { IfErr result (λ f. (f.reason ≡ reason.Memory) ⊎ IsFirstUnserved (signatures components.now) f.component f.import f.reason) }

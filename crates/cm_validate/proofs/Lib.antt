@@ -2,7 +2,9 @@ pub mod Args
 pub mod Distinct
 pub mod Lifts
 pub mod Order
+pub mod OrderOfSpaces
 pub mod Params
 pub mod Sections
+pub mod Sounds
 pub mod TableLemmas
 pub mod FlatLemmas

@@ -1,9 +1,11 @@
 pub mod Definitions
 pub mod Items
 pub mod Names
+pub mod Orders
 pub mod PassedFlat
 pub mod Reasons
 pub mod Rules
+pub mod Sound
 pub mod Spaces
 pub mod SpacesOf
 pub mod Tables

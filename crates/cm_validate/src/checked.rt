@@ -1,11 +1,14 @@
 //! Components that are valid.
 
-ghost use Rattle.std.specs.Prelude.{◌≡◌, ◌⊎◌, IfOk, OnOk, IfErr, map, slice_get};
+ghost use Rattle.std.specs.Prelude.{◌≡◌, ◌⊎◌, List, IfOk, OnOk, IfErr, map, slice_get};
 ghost use Rattle.std.specs.List.{AllByRecursion};
 ghost use Rattle.std.specs.Option.{option_map};
 ghost use Rattle.cm_types.specs.Signatures.{signature_of};
 ghost use Rattle.cm_validate.specs.declared.fault.ValidReason.TheVariants as reason;
 ghost use Rattle.cm_validate.specs.Definitions.{core_func_tree, func_def_tree};
+ghost use Rattle.cm_component.specs.Trees.{SectionTree};
+ghost use Rattle.cm_validate.specs.Orders.{AreInOrder};
+ghost use Rattle.cm_validate.specs.Sound.{IsSound};
 ghost use Rattle.cm_validate.specs.Spaces.{spaces_of, signature, func_at};
 ghost use Rattle.cm_validate.specs.Valid.{IsValid, IsFaultOf};
 ghost use Rattle.cm_validate.specs.PassedFlat.{PassesFlat};
@@ -41,9 +44,11 @@ impl Model for Checked {
 }
 
 impl Checked {
-    /// What the component imports and exports, in the order of the file.
+    /// What the component imports and exports, in the order of the file. Callers learn here, too, that
+    /// the component is valid, and what that means for its index spaces.
     pub fn signature(&self) -> &Signature
         ensures valid { IsValid self.now }
+        ensures sound { IsSound (spaces_of self.now) }
         ensures signature { signature_of result.now ≡ signature (spaces_of self.now) }
     {
         &self.tables.signature
@@ -79,6 +84,12 @@ impl Checked {
         }
     }
 }
+
+/// A law on the definitions, which does nothing: each index space of a component is what its items add
+/// to it, in order (Explainer.md, "Index Spaces").
+pub fn index_spaces()
+    ensures { (sections : List SectionTree) → AreInOrder sections }
+{}
 
 /// The component as one that is valid.
 ///

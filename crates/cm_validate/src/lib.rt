@@ -12,6 +12,9 @@ mod tables;
 mod texts;
 mod walk;
 
-pub use checked::{Checked, validate};
+pub use checked::{Checked, index_spaces, validate};
 pub use definitions::{CoreFuncDef, FuncDef};
 pub use fault::{ValidFault, ValidReason};
+
+#[cfg(test)]
+mod tests;

@@ -15,9 +15,9 @@ loop-component-preserved c =
     let pushed : c.push.new.self.items ≡ c.loop-component.plan.items ++ c.in_ok-functions_of.field-0 ∷ [] = c.in_ok-push.ensures.items in
     record {
       are = pushed
-        ∙ ap (λ (plan : List (List CoreFunction)). plan ++ c.in_ok-functions_of.field-0 ∷ []) c.loop-component.invariant.are
-        ∙ ap (λ (fs : List CoreFunction). functions_from c.args.linked.now 0 (take c.loop-component.component c.args.linked.now) ++ fs ∷ []) c.in_ok-functions_of.ensures.are
-        ∙ sym (next_component c.args.linked.now c.loop-component.component c.index-components-component.result inside here);
+          ∙ ap (λ (plan : List (List CoreFunction)). plan ++ c.in_ok-functions_of.field-0 ∷ []) c.loop-component.invariant.are
+          ∙ ap (λ (fs : List CoreFunction). functions_from c.args.linked.now 0 (take c.loop-component.component c.args.linked.now) ++ fs ∷ []) c.in_ok-functions_of.ensures.are
+          ∙ sym (next_component c.args.linked.now c.loop-component.component c.index-components-component.result inside here);
       linked = subst (IsPlan 0) (sym pushed) (one_more_planned 0 c.loop-component.plan.items c.in_ok-functions_of.field-0 c.loop-component.component counted c.loop-component.invariant.linked c.in_ok-functions_of.ensures.below);
       count = ap length pushed ∙ one_longer c.loop-component.plan.items c.in_ok-functions_of.field-0 c.loop-component.component c.loop-component.invariant.count;
     }

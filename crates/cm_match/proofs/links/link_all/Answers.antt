@@ -1,11 +1,11 @@
-use Rattle.std.proofs.Common.{◌≡◌, ◌+◌, ◌++◌, List, [], ◌∷◌, length, map, take, sym, subst, ap, refl, ◌∙◌, arith}
+use Rattle.std.proofs.Common.{◌≡◌, ◌+◌, ◌++◌, List, length, map, take, sym, subst, ap, refl, ◌∙◌}
 use Rattle.std.proofs.lemmas.List.{length_push}
 use Rattle.std.proofs.lemmas.Option.{slice_get_read}
 use Rattle.std.specs.List.{AllByRecursion}
 use Rattle.std.specs.Option.{option_map}
 use Rattle.cm_types.specs.Signatures.{extern_of}
 use Rattle.cm_validate.specs.Spaces.{spaces_of, signature}
-use Rattle.cm_validate.specs.Valid.{IsValid}
+use Rattle.cm_match.specs.Reaches.{IsFine}
 use Rattle.cm_match.specs.Links.{Entry, entries, exports_from, signatures}
 use Rattle.cm_match.specs.Offers.{AreOffers}
 use Rattle.cm_match.specs.Reached.{reached_tree, table}
@@ -29,7 +29,7 @@ loop-at-preserved c =
     ∙ ap (λ xs. map (leads set (table xs)) (entries at 0 (map extern_of c.deref-in-loop-at.result.now))) c.deref.ensures.value
     ∙ ap (λ xs. map (leads set (table c.loop-at.targets.items)) (entries at 0 xs)) imports in
     record {
-      valid = λ rest. c.loop-at.invariant.valid (subst (AllByRecursion IsValid) (sym (next_component set at component c.loop-at-test.true c.index-components-at.is)) (c.signature-signature.ensures.valid, rest));
+      fine = λ rest. c.loop-at.invariant.fine (subst (AllByRecursion IsFine) (sym (next_component set at component c.loop-at-test.true c.index-components-at.is)) (record { valid = c.signature-signature.ensures.valid; sound = c.signature-signature.ensures.sound }, rest));
       so_far = c.in-Ok.ensures.so_far;
       offers = subst (AreOffers c.add_offers.new.offers)
           (ap (λ xs. exports_from 0 (take at (signatures set)) ++ entries at 0 xs) exports ∙ sym (exports_next set at component c.loop-at-test.true c.index-components-at.is))
