@@ -1,6 +1,8 @@
 -- The answer of reading a file, in the words of the grammar.
-use Rattle.std.proofs.Common.{◌≡◌, ℕ, ◌+◌, ◌≤◌, List, length, Result, Ok, Err, refl, sym, ap, subst, ◌∙◌, arith, inl, inr, ◌⊎◌}
+use Rattle.std.proofs.Common.{◌≡◌, ℕ, ◌+◌, List, ◌++◌, length, Result, Ok, Err, sym, ap, ◌∙◌, arith, inl, inr, ◌⊎◌}
 use Rattle.std.specs.Prelude.{IfOk, IfErr}
+use Rattle.std.proofs.lemmas.Bool.{cases_lt}
+use Rattle.std.proofs.lemmas.List.{length-append, get_or_append_left, get_or_past}
 use Rattle.cm_grammar.specs.declared.fault.Fault.{Fault}
 use Rattle.cm_grammar.specs.declared.fault.End.TheVariants as end
 use Rattle.cm_grammar.specs.Faults.{flaw}
@@ -38,3 +40,18 @@ is_first bytes (Err d) (inl m) at reason f = inl m
 is_first bytes (Err d) (inr h) at reason f =
     let p = err_is (List SectionTree) (flaw h.0 d.reason) (flaw f.0 reason) (sym h.2 ∙ file_lawful.faulty_again (end.Cut Truncated) bytes (flaw f.0 reason) f.2) in
     inr (same_place d.at h.0 at f.0 (length bytes) d.reason reason h.1 f.1 p)
+
+-- The beginning of bytes are bytes.
+front_bytes : (bytes more : List ℕ) → IsBytes (bytes ++ more) → IsBytes bytes
+front_bytes bytes more h i =
+    elim (cases_lt i (length bytes)) [
+      | inl lt ↦ omega (arith, h i, get_or_append_left bytes more 0 i lt)
+      | inr le ↦ rw (get_or_past bytes i 0 le) (omega arith)
+    ]
+
+pub stays : (bytes more : List ℕ) (at : ℕ) (reason : DecodeReason) → IsBytes (bytes ++ more) → (reason ≡ Truncated → ⊥) → FirstFault bytes at reason → FirstFault (bytes ++ more) at reason
+stays bytes more at reason fits other f =
+    elim (file_lawful.stays Truncated bytes (flaw f.0 reason) (front_bytes bytes more fits) (file_lawful.faulty_again (end.Cut Truncated) bytes (flaw f.0 reason) f.2)) [
+      | inl same ↦ absurd (other (ap (λ (g : Fault DecodeReason). g.reason) same))
+      | inr all ↦ (f.0 + length more, omega (arith, f.1, length-append bytes more), file_lawful.faulty (end.Cut Truncated) (bytes ++ more) (flaw (f.0 + length more) reason) fits (all (end.Cut Truncated) more))
+    ]

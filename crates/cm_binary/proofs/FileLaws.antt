@@ -1,13 +1,12 @@
 -- Each production is read exactly.
-use Rattle.std.proofs.Common.{◌≡◌, ℕ, zero, suc, ◌+◌, ◌-◌, ◌<◌, ◌≤◌, List, [], ◌∷◌, ◌++◌, length, refl, ap, arith}
+use Rattle.std.proofs.Common.{ℕ, zero, suc, length, ap, arith}
 use Rattle.std.proofs.lemmas.List.{length-append}
-use Rattle.cm_grammar.specs.Grammar.{Grammar, done, ◌>>=◌, code, number}
-use Rattle.cm_grammar.specs.Whole.{Whole}
+use Rattle.cm_grammar.specs.Grammar.{number}
 use Rattle.cm_grammar.proofs.Laws.{Lawful, done_lawful, bind_lawful, code_lawful, number_lawful, raw_lawful, checked_lawful, fixed_lawful, vec_lawful, chain_lawful, limited_lawful}
 use Rattle.cm_grammar.proofs.WholeLaws.{LawfulWhole, made_lawful, remainder_lawful, exactly_lawful, joined_lawful}
 use Rattle.cm_grammar.proofs.PartLaws.{begun_lawful, sized_lawful}
 use Rattle.cm_grammar.proofs.EndLaws.{IsNonempty, to_end_lawful, at_most_lawful}
-use Rattle.cm_binary.specs.declared.fault.DecodeReason.TheVariants.{BadPreamble, BadNumber, SizeMismatch, UnknownCode, BadUtf8, BadName, NotAModule, TooMany, TooLong}
+use Rattle.cm_binary.specs.declared.fault.DecodeReason.TheVariants.{BadNumber}
 use Rattle.cm_binary.specs.declared.codes.SectionKind.{SectionKind}
 use Rattle.cm_binary.specs.declared.codes.SectionKind.TheVariants as kinds
 use Rattle.cm_binary.specs.declared.codes.AliasSort.{AliasSort}
@@ -16,7 +15,7 @@ use Rattle.cm_binary.specs.declared.codes.ResultForm.{ResultForm}
 use Rattle.cm_binary.specs.declared.codes.ResultForm.TheVariants as result_forms
 use Rattle.cm_binary.specs.declared.codes.CanonForm.{CanonForm}
 use Rattle.cm_binary.specs.declared.codes.CanonForm.TheVariants as canon_forms
-use Rattle.cm_binary.specs.File.{text, label, extern_name, core_arg, core_instance, alias_of, alias, param, func_result_of, func_result, func_type, def_type, type_defs, options_of, options, canon_of, canon, extern_desc, import_item, export_item, contents, section, sections, component, file, room_after, type_limit, byte_limit, component_preamble, module_preamble}
+use Rattle.cm_binary.specs.File.{text, label, extern_name, core_arg, core_instance, alias_of, alias, param, func_result_of, func_result, func_type, def_type, type_defs, options_of, options, canon_of, canon, extern_desc, import_item, export_item, contents, section, sections, component, file, room_after, type_limit}
 
 pub index_lawful : Lawful (number BadNumber)
 index_lawful = number_lawful BadNumber

@@ -1,13 +1,13 @@
 -- Each form that is spelled is spelled shortly too.
-use Rattle.std.proofs.Common.{◌≡◌, ℕ, zero, suc, ◌+◌, ◌-◌, ◌<◌, ◌≤◌, Bool, true, List, [], ◌∷◌, ◌++◌, length, Option, Some, None, Result, Ok, Err, refl, sym, ap, subst, ◌∙◌, arith}
+use Rattle.std.proofs.Common.{◌≡◌, ℕ, zero, suc, ◌-◌, ◌≤◌, List, [], ◌∷◌, ◌++◌, length, Option, Some, None, Ok, refl, sym, ap, subst, ◌∙◌, arith}
 use Rattle.std.specs.List.{flat_map}
 use Rattle.std.specs.Str.{is_utf8}
 use Rattle.std.proofs.lemmas.List.{length-append}
 use Rattle.cm_leb.specs.Numbers.{SpellsUnsigned}
 use Rattle.cm_leb.specs.Writing.{shortest_unsigned}
 use Rattle.cm_leb.proofs.WritingLaws.{shortest_unsigned-spells, shortest_unsigned-least}
-use Rattle.cm_grammar.specs.Grammar.{Grammar, done, ◌>>=◌, code, number, raw, checked, fixed, vec, chain, limited}
-use Rattle.cm_grammar.specs.Whole.{Whole, made, exactly, sized, to_end}
+use Rattle.cm_grammar.specs.Grammar.{Grammar, done, ◌>>=◌, code, raw, checked, fixed, vec, limited}
+use Rattle.cm_grammar.specs.Whole.{made, exactly, sized}
 use Rattle.cm_grammar.specs.Spelling.{counted, prefixed}
 use Rattle.cm_grammar.proofs.SpellingLaws.{Short, ShortWhole, Shortens, ShortensWhole, bind_short, made_short, code_short, fixed_short, number_shortens, vec_shortens, counted_shortens, limited_shortens, text_shortens, each_shortens, shortest_unsigned-mono}
 use Rattle.cm_types.specs.Names.{is_label}
@@ -47,7 +47,7 @@ use Rattle.cm_binary.specs.declared.codes.DescForm.TheVariants as desc_forms
 use Rattle.cm_binary.specs.declared.codes.NoDescription.{NoDescription}
 use Rattle.cm_binary.specs.declared.codes.NoDescription.TheVariants as descriptions
 use Rattle.cm_binary.specs.Codes.{section_kind, core_instance_form, core_sort, alias_sort, core_alias_target, val_type, type_form, result_form, canon_form, desc_form, export_sort, export_desc}
-use Rattle.cm_binary.specs.File.{index, text, label, extern_name, core_arg, core_instance, alias_of, alias, param, func_result_of, func_result, func_type, def_type, type_defs, options_of, options, canon_of, canon, extern_desc, import_item, export_item, contents, section, sections, component, file, room_after, type_limit, byte_limit, component_preamble}
+use Rattle.cm_binary.specs.File.{index, text, label, extern_name, core_arg, core_instance, alias_of, alias, param, func_result_of, func_result, func_type, def_type, type_defs, options_of, options, canon_of, canon, extern_desc, import_item, export_item, contents, section, sections, component, file, room_after, type_limit, component_preamble}
 use Rattle.cm_binary.specs.Spelling.{extern_name_spelling, core_arg_spelling, core_instance_spelling, alias_spelling, val_type_code, param_spelling, result_spelling, func_spelling, def_spelling, canon_spelling, desc_spelling, import_spelling, export_spelling, contents_spelling, section_id, section_spelling, spelling}
 
 utf8_plain : (n : ℕ) (x bytes : List ℕ) → (checked is_utf8 BadUtf8 (raw n)).Spells x bytes → (bytes ≡ x) × (length x ≡ n)
@@ -86,7 +86,7 @@ core_instance_shortens x bytes s =
     let args = vec_shortens BadNumber core_arg core_arg_spelling core_arg_shortens s.4.4.0 s.4.4.1 s.4.4.3 in
     let made : CoreInstanceTree = trees.instantiate s.4.0 s.4.4.0 in
     let last = made_short (vec BadNumber core_arg) (λ a. trees.instantiate s.4.0 a) s.4.4.0 s.4.2 s.4.4.1 s.4.4.2 (counted core_arg_spelling s.4.4.0) args s.4.4.5 in
-    let second = bind_short index _ s.4.0 made s.2 s.4.1 s.4.2 (shortest_unsigned s.4.0) (counted core_arg_spelling s.4.4.0) (number_shortens BadNumber s.4.0 s.4.1 s.4.3) last s.4.5 in
+    let second = bind_short index (λ m. vec BadNumber core_arg >>= λ a. done (trees.instantiate m a)) s.4.0 made s.2 s.4.1 s.4.2 (shortest_unsigned s.4.0) (counted core_arg_spelling s.4.4.0) (number_shortens BadNumber s.4.0 s.4.1 s.4.3) last s.4.5 in
     subst (λ (y : CoreInstanceTree). Short core_instance y bytes (core_instance_spelling y)) (sym s.4.4.4.0) (bind_short (code core_instance_form) _ s.0 made bytes s.1 s.2 (0 ∷ []) (shortest_unsigned s.4.0 ++ counted core_arg_spelling s.4.4.0) (code_short core_instance_form s.0 0 s.1 (core_instance_byte s.0) s.3) second s.5)
 
 core_sort_byte : (sort : CoreSort) → core_sort 0 ≡ Ok sort
@@ -135,7 +135,7 @@ param_shortens x bytes s =
     let t = s.4 in
     let made : LabeledValType = record { label = s.0; ty = t.0 } in
     let last = made_short (code val_type) (λ y. record { label = s.0; ty = y }) t.0 s.2 t.1 t.2 (val_type_code t.0 ∷ []) (val_type_shortens t.0 t.1 t.3) t.5 in
-    subst (λ (y : LabeledValType). Short param y bytes (param_spelling y)) (sym t.4.0) (bind_short label _ s.0 made bytes s.1 s.2 (prefixed s.0) (val_type_code t.0 ∷ []) (label_shortens s.0 s.1 s.3) last s.5)
+    subst (λ (y : LabeledValType). Short param y bytes (param_spelling y)) (sym t.4.0) (bind_short label (λ n. code val_type >>= λ y. done (record { label = n; ty = y })) s.0 made bytes s.1 s.2 (prefixed s.0) (val_type_code t.0 ∷ []) (label_shortens s.0 s.1 s.3) last s.5)
 
 func_result_cases : (form : ResultForm) (x : Option ValType) (bytes front rest : List ℕ) → (code result_form).Spells form front → (func_result_of form).Spells x rest → bytes ≡ front ++ rest → Short func_result x bytes (result_spelling x)
 unfolding func_result func_result_of

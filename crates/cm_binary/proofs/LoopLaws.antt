@@ -1,21 +1,21 @@
 -- The loops over the types of a section and over the sections of a file.
-use Rattle.std.proofs.Common.{◌≡◌, ℕ, suc, ◌+◌, ◌-◌, ◌<◌, ◌≤◌, List, [], ◌∷◌, ◌++◌, length, map, Result, Ok, Err, refl, sym, ap, subst, ◌∙◌, arith}
+use Rattle.std.proofs.Common.{◌≡◌, ℕ, ◌+◌, ◌-◌, ◌<◌, List, [], ◌∷◌, ◌++◌, length, map, Result, Ok, refl, ap, arith}
 use Rattle.std.proofs.lemmas.List.{map_push, length-append}
 use Rattle.cm_grammar.specs.declared.fault.Fault.{Fault}
 use Rattle.cm_grammar.specs.declared.fault.End.{End}
 use Rattle.cm_grammar.specs.declared.fault.ReadError.{ReadError}
-use Rattle.cm_grammar.specs.Faults.{Fails, Gives}
+use Rattle.cm_grammar.specs.Faults.{Fails}
 use Rattle.cm_grammar.specs.Grammar.{Grammar, chain, limited}
 use Rattle.cm_grammar.specs.Whole.{to_end}
 use Rattle.cm_grammar.proofs.Tools.{IsBytes, IsBytes-after}
-use Rattle.cm_grammar.proofs.ReadingLaws.{with_front, chain_more, chain_fails, with_each, to_end_more, to_end_fails, to_end_done}
+use Rattle.cm_grammar.proofs.ReadingLaws.{with_front, chain_more, chain_fails, with_each, to_end_more, to_end_fails}
 use Rattle.cm_types.specs.declared.def_types.DefType.{DefType}
 use Rattle.cm_types.specs.DefTypes.{DefTree, def_tree}
 use Rattle.cm_component.specs.declared.section.Section.{Section}
 use Rattle.cm_component.specs.Trees.{SectionTree, section_tree}
 use Rattle.cm_binary.specs.declared.fault.DecodeReason.{DecodeReason}
 use Rattle.cm_binary.specs.declared.fault.DecodeReason.TheVariants.{TooMany}
-use Rattle.cm_binary.specs.File.{def_type, section, sections, room_after}
+use Rattle.cm_binary.specs.File.{def_type, section, room_after}
 use Rattle.cm_binary.proofs.FileLaws.{section_lawful, section_nonempty}
 
 -- The types of a section, where so many more may stand in the file.

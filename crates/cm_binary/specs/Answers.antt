@@ -1,5 +1,5 @@
 -- What reading a file answers, want of memory aside.
-use Rattle.std.specs.Prelude.{◌≡◌, ◌⊎◌, ℕ, ◌+◌, List, length, Result, Ok, Err, MatchResult}
+use Rattle.std.specs.Prelude.{◌≡◌, ◌⊎◌, ℕ, ◌+◌, ◌<◌, List, length, slice_index, Result, Ok, Err, MatchResult}
 use Rattle.cm_grammar.specs.declared.fault.Fault.{Fault}
 use Rattle.cm_grammar.specs.Faults.{flaw}
 use Rattle.cm_component.specs.Trees.{SectionTree}
@@ -19,3 +19,7 @@ Refuses answer at reason = MatchResult answer (λ v. ⊥) (λ f. (f.reason ≡ M
 abbrev pub Answers : List ℕ → Result (List SectionTree) DecodeFault → Result (List SectionTree) (Fault DecodeReason) → Type 0
 Answers bytes (Ok c) read = read ≡ Ok c
 Answers bytes (Err f) read = (f.reason ≡ Memory) ⊎ ((left : ℕ) × (f.at + left ≡ length bytes) × (read ≡ Err (flaw left f.reason)))
+
+-- The numbers of the list are bytes.
+abbrev pub AreBytes : List ℕ → Type 0
+AreBytes bytes = (i : ℕ) → slice_index bytes i < 256

@@ -1,7 +1,7 @@
 -- The grammar of component files (Binary.md), production by production, in its names and order: which bytes spell which
 -- tree, and what is the first fault of bytes that spell none. `x ← g` reads one thing, and the next line what stands
 -- behind it.
-use Rattle.std.specs.Prelude.{◌≡◌, ℕ, zero, suc, ◌+◌, ◌-◌, List, [], ◌∷◌, length, Option, Some, None, Result, Ok, Err}
+use Rattle.std.specs.Prelude.{◌≡◌, ℕ, zero, suc, ◌+◌, ◌-◌, List, [], ◌∷◌, length, Option, Some, None, Err}
 use Rattle.std.specs.Str.{is_utf8}
 use Rattle.cm_grammar.specs.declared.fault.End.TheVariants as end
 use Rattle.cm_grammar.specs.Faults.{flaw}

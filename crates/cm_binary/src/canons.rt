@@ -1,5 +1,6 @@
 //! Canonical definitions.
 
+ghost use Rattle.cm_grammar.specs.Reading.{Reads};
 ghost use Rattle.std.specs.Prelude.{◌≡◌, Ok, map};
 ghost use Rattle.cm_grammar.specs.Faults.{Gives, Fails};
 ghost use Rattle.cm_binary.specs.declared.codes.CanonForm.TheVariants as canon_forms;
@@ -14,7 +15,7 @@ use std::alloc::Global;
 /// Reads canonical options, of which there must be none.
 #[tactic(auto, unfolding(crate::specs::File::options, crate::specs::File::options_of))]
 fn no_options_of(bytes: &mut Cursor<'_, DecodeReason>) -> Result<(), ReadError<DecodeReason>>
-    ensures read { Gives (λ x. (x, bytes.new.rest.now)) result (options.reads bytes.old.end bytes.old.rest.now) }
+    ensures read { Reads options (λ x. x) bytes.old bytes.new result }
     ensures end { bytes.new.end ≡ bytes.old.end }
 {
     if bytes.number(DecodeReason::BadNumber)? == 0 {
@@ -29,7 +30,7 @@ fn no_options_of(bytes: &mut Cursor<'_, DecodeReason>) -> Result<(), ReadError<D
 /// Reads a canonical definition.
 #[tactic(auto, unfolding(crate::specs::File::canon, crate::specs::File::canon_of))]
 fn canon_from(bytes: &mut Cursor<'_, DecodeReason>) -> Result<Canon, ReadError<DecodeReason>>
-    ensures read { Gives (λ x. (x, bytes.new.rest.now)) result (canon.reads bytes.old.end bytes.old.rest.now) }
+    ensures read { Reads canon (λ x. x) bytes.old bytes.new result }
     ensures end { bytes.new.end ≡ bytes.old.end }
 {
     let form = bytes.code()?;
@@ -67,7 +68,7 @@ pub(crate) fn canons_of(
     alloc: Global,
     bytes: &mut Cursor<'_, DecodeReason>,
 ) -> Result<Vec<Canon>, ReadError<DecodeReason>>
-    ensures read { Gives (λ v. (map (λ x. x) v.items, bytes.new.rest.now)) result ((vector canon).reads bytes.old.end bytes.old.rest.now) }
+    ensures read { Reads (vector canon) (λ v. v.items) bytes.old bytes.new result }
     ensures end { bytes.new.end ≡ bytes.old.end }
 {
     let count = bytes.number(DecodeReason::BadNumber)?;

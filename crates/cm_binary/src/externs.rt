@@ -1,5 +1,6 @@
 //! Imports and exports.
 
+ghost use Rattle.cm_grammar.specs.Reading.{Reads};
 ghost use Rattle.std.specs.Prelude.{◌≡◌, Ok, map};
 ghost use Rattle.cm_grammar.specs.Faults.{Gives, Fails};
 ghost use Rattle.cm_component.specs.Trees.{import_tree, export_tree};
@@ -15,7 +16,7 @@ use std::alloc::Global;
 /// Reads the type of an import.
 #[tactic(auto, unfolding(crate::specs::File::extern_desc))]
 fn desc_of(bytes: &mut Cursor<'_, DecodeReason>) -> Result<ExternDesc, ReadError<DecodeReason>>
-    ensures read { Gives (λ x. (x, bytes.new.rest.now)) result (extern_desc.reads bytes.old.end bytes.old.rest.now) }
+    ensures read { Reads extern_desc (λ x. x) bytes.old bytes.new result }
     ensures end { bytes.new.end ≡ bytes.old.end }
 {
     let DescForm::Func = bytes.code()?;
@@ -28,7 +29,7 @@ fn import_from(
     alloc: Global,
     bytes: &mut Cursor<'_, DecodeReason>,
 ) -> Result<Import, ReadError<DecodeReason>>
-    ensures read { Gives (λ x. (import_tree x, bytes.new.rest.now)) result (import_item.reads bytes.old.end bytes.old.rest.now) }
+    ensures read { Reads import_item import_tree bytes.old bytes.new result }
     ensures end { bytes.new.end ≡ bytes.old.end }
 {
     let name = extern_name_of(alloc, bytes)?;
@@ -54,7 +55,7 @@ pub(crate) fn imports_of(
     alloc: Global,
     bytes: &mut Cursor<'_, DecodeReason>,
 ) -> Result<Vec<Import>, ReadError<DecodeReason>>
-    ensures read { Gives (λ v. (map import_tree v.items, bytes.new.rest.now)) result ((vector import_item).reads bytes.old.end bytes.old.rest.now) }
+    ensures read { Reads (vector import_item) (λ v. map import_tree v.items) bytes.old bytes.new result }
     ensures end { bytes.new.end ≡ bytes.old.end }
 {
     let count = bytes.number(DecodeReason::BadNumber)?;
@@ -67,7 +68,7 @@ fn export_from(
     alloc: Global,
     bytes: &mut Cursor<'_, DecodeReason>,
 ) -> Result<Export, ReadError<DecodeReason>>
-    ensures read { Gives (λ x. (export_tree x, bytes.new.rest.now)) result (export_item.reads bytes.old.end bytes.old.rest.now) }
+    ensures read { Reads export_item export_tree bytes.old bytes.new result }
     ensures end { bytes.new.end ≡ bytes.old.end }
 {
     let name = extern_name_of(alloc, bytes)?;
@@ -95,7 +96,7 @@ pub(crate) fn exports_of(
     alloc: Global,
     bytes: &mut Cursor<'_, DecodeReason>,
 ) -> Result<Vec<Export>, ReadError<DecodeReason>>
-    ensures read { Gives (λ v. (map export_tree v.items, bytes.new.rest.now)) result ((vector export_item).reads bytes.old.end bytes.old.rest.now) }
+    ensures read { Reads (vector export_item) (λ v. map export_tree v.items) bytes.old bytes.new result }
     ensures end { bytes.new.end ≡ bytes.old.end }
 {
     let count = bytes.number(DecodeReason::BadNumber)?;

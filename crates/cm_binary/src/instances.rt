@@ -1,5 +1,6 @@
 //! Core instances and aliases.
 
+ghost use Rattle.cm_grammar.specs.Reading.{Reads};
 ghost use Rattle.std.specs.Prelude.{◌≡◌, Ok, Err, map};
 ghost use Rattle.cm_grammar.specs.Faults.{Gives, Fails};
 ghost use Rattle.cm_grammar.specs.Grammar.{code};
@@ -21,7 +22,7 @@ fn core_arg_of(
     alloc: Global,
     bytes: &mut Cursor<'_, DecodeReason>,
 ) -> Result<CoreInstantiationArg, ReadError<DecodeReason>>
-    ensures read { Gives (λ x. (arg_tree x, bytes.new.rest.now)) result (core_arg.reads bytes.old.end bytes.old.rest.now) }
+    ensures read { Reads core_arg arg_tree bytes.old bytes.new result }
     ensures end { bytes.new.end ≡ bytes.old.end }
 {
     let name = text_of(alloc, bytes)?;
@@ -48,7 +49,7 @@ fn core_args_of(
     alloc: Global,
     bytes: &mut Cursor<'_, DecodeReason>,
 ) -> Result<Vec<CoreInstantiationArg>, ReadError<DecodeReason>>
-    ensures read { Gives (λ v. (map arg_tree v.items, bytes.new.rest.now)) result ((vector core_arg).reads bytes.old.end bytes.old.rest.now) }
+    ensures read { Reads (vector core_arg) (λ v. map arg_tree v.items) bytes.old bytes.new result }
     ensures end { bytes.new.end ≡ bytes.old.end }
 {
     let count = bytes.number(DecodeReason::BadNumber)?;
@@ -61,7 +62,7 @@ fn core_instance_of(
     alloc: Global,
     bytes: &mut Cursor<'_, DecodeReason>,
 ) -> Result<CoreInstance, ReadError<DecodeReason>>
-    ensures read { Gives (λ x. (core_instance_tree x, bytes.new.rest.now)) result (core_instance.reads bytes.old.end bytes.old.rest.now) }
+    ensures read { Reads core_instance core_instance_tree bytes.old bytes.new result }
     ensures end { bytes.new.end ≡ bytes.old.end }
 {
     let CoreInstanceForm::Instantiate = bytes.code()?;
@@ -88,7 +89,7 @@ pub(crate) fn core_instances_of(
     alloc: Global,
     bytes: &mut Cursor<'_, DecodeReason>,
 ) -> Result<Vec<CoreInstance>, ReadError<DecodeReason>>
-    ensures read { Gives (λ v. (map core_instance_tree v.items, bytes.new.rest.now)) result ((vector core_instance).reads bytes.old.end bytes.old.rest.now) }
+    ensures read { Reads (vector core_instance) (λ v. map core_instance_tree v.items) bytes.old bytes.new result }
     ensures end { bytes.new.end ≡ bytes.old.end }
 {
     let count = bytes.number(DecodeReason::BadNumber)?;
@@ -101,7 +102,7 @@ fn core_alias_of(
     alloc: Global,
     bytes: &mut Cursor<'_, DecodeReason>,
 ) -> Result<Alias, ReadError<DecodeReason>>
-    ensures read { Gives (λ x. (alias_tree x, bytes.new.rest.now)) result ((alias_of alias_sorts.Core).reads bytes.old.end bytes.old.rest.now) }
+    ensures read { Reads (alias_of alias_sorts.Core) alias_tree bytes.old bytes.new result }
     ensures end { bytes.new.end ≡ bytes.old.end }
 {
     let sort = bytes.code()?;
@@ -132,7 +133,7 @@ fn alias_from(
     alloc: Global,
     bytes: &mut Cursor<'_, DecodeReason>,
 ) -> Result<Alias, ReadError<DecodeReason>>
-    ensures read { Gives (λ x. (alias_tree x, bytes.new.rest.now)) result (alias.reads bytes.old.end bytes.old.rest.now) }
+    ensures read { Reads alias alias_tree bytes.old bytes.new result }
     ensures end { bytes.new.end ≡ bytes.old.end }
 {
     match bytes.code()? {
@@ -159,7 +160,7 @@ pub(crate) fn aliases_of(
     alloc: Global,
     bytes: &mut Cursor<'_, DecodeReason>,
 ) -> Result<Vec<Alias>, ReadError<DecodeReason>>
-    ensures read { Gives (λ v. (map alias_tree v.items, bytes.new.rest.now)) result ((vector alias).reads bytes.old.end bytes.old.rest.now) }
+    ensures read { Reads (vector alias) (λ v. map alias_tree v.items) bytes.old bytes.new result }
     ensures end { bytes.new.end ≡ bytes.old.end }
 {
     let count = bytes.number(DecodeReason::BadNumber)?;

@@ -8,6 +8,7 @@ mod encoding;
 mod externs;
 mod fault;
 mod instances;
+mod laws;
 mod sections;
 mod spelling;
 mod texts;
@@ -20,6 +21,7 @@ pub use cm_component::{
 pub use decoding::decode;
 pub use encoding::{encode, written_and_read};
 pub use fault::{DecodeFault, DecodeReason, Feature};
+pub use laws::first_fault_stays;
 
 #[cfg(test)]
 mod tests;

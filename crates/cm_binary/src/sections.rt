@@ -3,7 +3,7 @@
 ghost use Rattle.std.specs.Prelude.{◌≡◌, ℕ, map, length};
 ghost use Rattle.cm_grammar.specs.Faults.{Gives};
 ghost use Rattle.cm_grammar.specs.Whole.{sized};
-ghost use Rattle.cm_grammar.specs.Reading.{IsInside};
+ghost use Rattle.cm_grammar.specs.Reading.{Reads, ReadsAll, IsInside};
 ghost use Rattle.cm_types.specs.DefTypes.{def_tree};
 ghost use Rattle.cm_component.specs.Trees.{section_tree};
 ghost use Rattle.cm_binary.specs.declared.fault.DecodeReason.TheVariants as reasons;
@@ -32,7 +32,7 @@ fn core_instances_section(
     alloc: Global,
     part: &mut Cursor<'_, DecodeReason>,
 ) -> Result<Section, ReadError<DecodeReason>>
-    ensures { (room : ℕ) → Gives section_tree result ((contents room kinds.CoreInstances).reads part.old.end part.old.rest.now) }
+    ensures { (room : ℕ) → ReadsAll (contents room kinds.CoreInstances) section_tree part.old result }
 {
     let items = core_instances_of(alloc, part)?;
     part.finish(DecodeReason::SizeMismatch)?;
@@ -44,7 +44,7 @@ fn aliases_section(
     alloc: Global,
     part: &mut Cursor<'_, DecodeReason>,
 ) -> Result<Section, ReadError<DecodeReason>>
-    ensures { (room : ℕ) → Gives section_tree result ((contents room kinds.Aliases).reads part.old.end part.old.rest.now) }
+    ensures { (room : ℕ) → ReadsAll (contents room kinds.Aliases) section_tree part.old result }
 {
     let items = aliases_of(alloc, part)?;
     part.finish(DecodeReason::SizeMismatch)?;
@@ -56,7 +56,7 @@ fn canons_section(
     alloc: Global,
     part: &mut Cursor<'_, DecodeReason>,
 ) -> Result<Section, ReadError<DecodeReason>>
-    ensures { (room : ℕ) → Gives section_tree result ((contents room kinds.Canons).reads part.old.end part.old.rest.now) }
+    ensures { (room : ℕ) → ReadsAll (contents room kinds.Canons) section_tree part.old result }
 {
     let items = canons_of(alloc, part)?;
     part.finish(DecodeReason::SizeMismatch)?;
@@ -68,7 +68,7 @@ fn imports_section(
     alloc: Global,
     part: &mut Cursor<'_, DecodeReason>,
 ) -> Result<Section, ReadError<DecodeReason>>
-    ensures { (room : ℕ) → Gives section_tree result ((contents room kinds.Imports).reads part.old.end part.old.rest.now) }
+    ensures { (room : ℕ) → ReadsAll (contents room kinds.Imports) section_tree part.old result }
 {
     let items = imports_of(alloc, part)?;
     part.finish(DecodeReason::SizeMismatch)?;
@@ -80,7 +80,7 @@ fn exports_section(
     alloc: Global,
     part: &mut Cursor<'_, DecodeReason>,
 ) -> Result<Section, ReadError<DecodeReason>>
-    ensures { (room : ℕ) → Gives section_tree result ((contents room kinds.Exports).reads part.old.end part.old.rest.now) }
+    ensures { (room : ℕ) → ReadsAll (contents room kinds.Exports) section_tree part.old result }
 {
     let items = exports_of(alloc, part)?;
     part.finish(DecodeReason::SizeMismatch)?;
@@ -93,7 +93,7 @@ fn types_section(
     part: &mut Cursor<'_, DecodeReason>,
     room: usize,
 ) -> Result<Section, ReadError<DecodeReason>>
-    ensures { Gives section_tree result ((contents room kinds.Types).reads part.old.end part.old.rest.now) }
+    ensures { ReadsAll (contents room kinds.Types) section_tree part.old result }
 {
     let items = types_of(alloc, part, room)?;
     part.finish(DecodeReason::SizeMismatch)?;
@@ -105,7 +105,7 @@ fn custom_section(
     alloc: Global,
     part: &mut Cursor<'_, DecodeReason>,
 ) -> Result<Section, ReadError<DecodeReason>>
-    ensures { (room : ℕ) → Gives section_tree result ((contents room kinds.Custom).reads part.old.end part.old.rest.now) }
+    ensures { (room : ℕ) → ReadsAll (contents room kinds.Custom) section_tree part.old result }
 {
     let name = text_of(alloc, part)?;
     let bytes = Vec::from_slice(alloc, part.rest)?;
@@ -117,7 +117,7 @@ fn core_module_section(
     alloc: Global,
     part: &Cursor<'_, DecodeReason>,
 ) -> Result<Section, ReadError<DecodeReason>>
-    ensures { (room : ℕ) → Gives section_tree result ((contents room kinds.CoreModule).reads part.now.end part.now.rest.now) }
+    ensures { (room : ℕ) → ReadsAll (contents room kinds.CoreModule) section_tree part.now result }
 {
     let module = part.begun(&MODULE_PREAMBLE, DecodeReason::NotAModule)?;
     Ok(Section::CoreModule(Vec::from_slice(alloc, module)?))
@@ -130,7 +130,7 @@ fn contents_of(
     room: usize,
     kind: SectionKind,
 ) -> Result<Section, ReadError<DecodeReason>>
-    ensures { Gives section_tree result ((contents room kind).reads part.old.end part.old.rest.now) }
+    ensures { ReadsAll (contents room kind) section_tree part.old result }
 {
     match kind {
         SectionKind::Custom => custom_section(alloc, part),
@@ -166,7 +166,7 @@ fn sized_section_of(
     kind: SectionKind,
     size: u32,
 ) -> Result<Section, ReadError<DecodeReason>>
-    ensures read { Gives (λ x. (section_tree x, bytes.new.rest.now)) result ((sized reasons.SizeMismatch size (contents room kind)).reads bytes.old.end bytes.old.rest.now) }
+    ensures read { Reads (sized reasons.SizeMismatch size (contents room kind)) section_tree bytes.old bytes.new result }
     ensures end { bytes.new.end ≡ bytes.old.end }
 {
     let part = bytes.part(size, DecodeReason::SizeMismatch);
@@ -181,7 +181,7 @@ fn section_of(
     bytes: &mut Cursor<'_, DecodeReason>,
     room: usize,
 ) -> Result<Section, ReadError<DecodeReason>>
-    ensures read { Gives (λ x. (section_tree x, bytes.new.rest.now)) result ((section room).reads bytes.old.end bytes.old.rest.now) }
+    ensures read { Reads (section room) section_tree bytes.old bytes.new result }
     ensures end { bytes.new.end ≡ bytes.old.end }
 {
     let kind = bytes.code()?;

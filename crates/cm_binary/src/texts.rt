@@ -1,5 +1,6 @@
 //! Texts, labels and extern names.
 
+ghost use Rattle.cm_grammar.specs.Reading.{Reads};
 ghost use Rattle.std.specs.Prelude.{◌≡◌, true, false, IfOk, MatchOption};
 ghost use Rattle.std.specs.Str.{is_utf8};
 ghost use Rattle.std.specs.String.{string_bytes};
@@ -30,7 +31,7 @@ fn utf8_of<'a>(
     bytes: &mut Cursor<'a, DecodeReason>,
     length: u32,
 ) -> Result<&'a str, ReadError<DecodeReason>>
-    ensures read { Gives (λ x. (x.now, bytes.new.rest.now)) result ((checked is_utf8 reasons.BadUtf8 (raw length)).reads bytes.old.end bytes.old.rest.now) }
+    ensures read { Reads (checked is_utf8 reasons.BadUtf8 (raw length)) (λ x. x.now) bytes.old bytes.new result }
     ensures end { bytes.new.end ≡ bytes.old.end }
 {
     let fault = bytes.fault(DecodeReason::BadUtf8);
@@ -47,7 +48,7 @@ pub(crate) fn text_of(
     alloc: Global,
     bytes: &mut Cursor<'_, DecodeReason>,
 ) -> Result<String, ReadError<DecodeReason>>
-    ensures read { Gives (λ x. (string_bytes x, bytes.new.rest.now)) result (text.reads bytes.old.end bytes.old.rest.now) }
+    ensures read { Reads text string_bytes bytes.old bytes.new result }
     ensures end { bytes.new.end ≡ bytes.old.end }
 {
     let length = bytes.number(DecodeReason::BadNumber)?;
@@ -72,7 +73,7 @@ pub(crate) fn label_of(
     alloc: Global,
     bytes: &mut Cursor<'_, DecodeReason>,
 ) -> Result<Label, ReadError<DecodeReason>>
-    ensures read { Gives (λ x. (x, bytes.new.rest.now)) result (label.reads bytes.old.end bytes.old.rest.now) }
+    ensures read { Reads label (λ x. x) bytes.old bytes.new result }
     ensures end { bytes.new.end ≡ bytes.old.end }
 {
     let length = bytes.number(DecodeReason::BadNumber)?;
@@ -101,7 +102,7 @@ pub(crate) fn extern_name_of(
     alloc: Global,
     bytes: &mut Cursor<'_, DecodeReason>,
 ) -> Result<ExternName, ReadError<DecodeReason>>
-    ensures read { Gives (λ x. (x, bytes.new.rest.now)) result (extern_name.reads bytes.old.end bytes.old.rest.now) }
+    ensures read { Reads extern_name (λ x. x) bytes.old bytes.new result }
     ensures end { bytes.new.end ≡ bytes.old.end }
 {
     bytes.fixed(&[0x00], DecodeReason::UnknownCode)?;

@@ -1,5 +1,6 @@
 //! Types of functions.
 
+ghost use Rattle.cm_grammar.specs.Reading.{Reads};
 ghost use Rattle.std.specs.Prelude.{◌≡◌, ◌-◌, Ok, map};
 ghost use Rattle.cm_grammar.specs.Faults.{Gives, Fails};
 ghost use Rattle.cm_grammar.specs.Grammar.{chain, limited};
@@ -21,7 +22,7 @@ fn param_of(
     alloc: Global,
     bytes: &mut Cursor<'_, DecodeReason>,
 ) -> Result<LabeledValType, ReadError<DecodeReason>>
-    ensures read { Gives (λ x. (x, bytes.new.rest.now)) result (param.reads bytes.old.end bytes.old.rest.now) }
+    ensures read { Reads param (λ x. x) bytes.old bytes.new result }
     ensures end { bytes.new.end ≡ bytes.old.end }
 {
     let label = label_of(alloc, bytes)?;
@@ -47,7 +48,7 @@ fn params_of(
     alloc: Global,
     bytes: &mut Cursor<'_, DecodeReason>,
 ) -> Result<Vec<LabeledValType>, ReadError<DecodeReason>>
-    ensures read { Gives (λ v. (map (λ x. x) v.items, bytes.new.rest.now)) result ((vector param).reads bytes.old.end bytes.old.rest.now) }
+    ensures read { Reads (vector param) (λ v. v.items) bytes.old bytes.new result }
     ensures end { bytes.new.end ≡ bytes.old.end }
 {
     let count = bytes.number(DecodeReason::BadNumber)?;
@@ -59,7 +60,7 @@ fn params_of(
 fn result_of(
     bytes: &mut Cursor<'_, DecodeReason>,
 ) -> Result<Option<ValType>, ReadError<DecodeReason>>
-    ensures read { Gives (λ x. (x, bytes.new.rest.now)) result (func_result.reads bytes.old.end bytes.old.rest.now) }
+    ensures read { Reads func_result (λ x. x) bytes.old bytes.new result }
     ensures end { bytes.new.end ≡ bytes.old.end }
 {
     match bytes.code()? {
@@ -77,7 +78,7 @@ fn func_type_of(
     alloc: Global,
     bytes: &mut Cursor<'_, DecodeReason>,
 ) -> Result<FuncType, ReadError<DecodeReason>>
-    ensures read { Gives (λ x. (func_tree x, bytes.new.rest.now)) result (func_type.reads bytes.old.end bytes.old.rest.now) }
+    ensures read { Reads func_type func_tree bytes.old bytes.new result }
     ensures end { bytes.new.end ≡ bytes.old.end }
 {
     let params = params_of(alloc, bytes)?;
@@ -91,7 +92,7 @@ pub(crate) fn def_type_of(
     alloc: Global,
     bytes: &mut Cursor<'_, DecodeReason>,
 ) -> Result<DefType, ReadError<DecodeReason>>
-    ensures read { Gives (λ x. (def_tree x, bytes.new.rest.now)) result (def_type.reads bytes.old.end bytes.old.rest.now) }
+    ensures read { Reads def_type def_tree bytes.old bytes.new result }
     ensures end { bytes.new.end ≡ bytes.old.end }
 {
     let TypeForm::Func = bytes.code()?;
@@ -106,7 +107,7 @@ pub(crate) fn types_of(
     bytes: &mut Cursor<'_, DecodeReason>,
     room: usize,
 ) -> Result<Vec<DefType>, ReadError<DecodeReason>>
-    ensures read { Gives (λ v. (map def_tree v.items, bytes.new.rest.now)) result ((type_defs room).reads bytes.old.end bytes.old.rest.now) }
+    ensures read { Reads (type_defs room) (λ v. map def_tree v.items) bytes.old bytes.new result }
     ensures end { bytes.new.end ≡ bytes.old.end }
 {
     let count = bytes.number(DecodeReason::BadNumber)?;
@@ -120,7 +121,7 @@ fn limited_type_of(
     bytes: &mut Cursor<'_, DecodeReason>,
     room: usize,
 ) -> Result<DefType, ReadError<DecodeReason>>
-    ensures read { Gives (λ x. (def_tree x, bytes.new.rest.now)) result ((limited (λ left. def_type) reasons.TooMany room).reads bytes.old.end bytes.old.rest.now) }
+    ensures read { Reads (limited (λ left. def_type) reasons.TooMany room) def_tree bytes.old bytes.new result }
     ensures end { bytes.new.end ≡ bytes.old.end }
 {
     if room == 0 {
@@ -136,7 +137,7 @@ fn limited_types_of(
     count: u32,
     room: usize,
 ) -> Result<Vec<DefType>, ReadError<DecodeReason>>
-    ensures read { Gives (λ v. (map def_tree v.items, bytes.new.rest.now)) result ((chain (limited (λ left. def_type) reasons.TooMany) (λ left t. left - 1) count room).reads bytes.old.end bytes.old.rest.now) }
+    ensures read { Reads (chain (limited (λ left. def_type) reasons.TooMany) (λ left t. left - 1) count room) (λ v. map def_tree v.items) bytes.old bytes.new result }
     ensures end { bytes.new.end ≡ bytes.old.end }
 {
     let mut types = Vec::new(alloc);

@@ -2,7 +2,7 @@
 use Rattle.std.proofs.Common.{sym, ap, append_assoc, ◌≡◌, ℕ, zero, suc, ◌<◌, ◌≤◌, true, false, leb, List, [], ◌∷◌, ◌++◌, length, map, take, drop, Result, Ok, Err, refl, subst, ◌∙◌, arith, inl, inr, ◌⊎◌}
 use Rattle.std.specs.Prelude.{IfOk, IfErr}
 use Rattle.std.proofs.lemmas.Bool.{cases_Bool, leb-false}
-use Rattle.std.proofs.lemmas.List.{length-drop, take_all, append-nil, nil_from_length}
+use Rattle.std.proofs.lemmas.List.{length-drop, take_all, append-nil, nil_from_length, map-id}
 use Rattle.cm_grammar.specs.declared.fault.End.TheVariants as end
 use Rattle.cm_grammar.specs.declared.fault.Fault.{Fault}
 use Rattle.cm_grammar.specs.declared.fault.End.{End}
@@ -66,6 +66,21 @@ pub gives_vec : {R A X V : Type 0} (bad : R) (g : Grammar R A) (view : X → A) 
 gives_vec bad g view items_of e inner bytes behind rest count r counted same each size fails =
     let k = gives_times g view items_of inner behind rest count r each size fails in
     subst (λ t. Gives (λ v. (map view (items_of v), rest)) r t) (sym (ap (λ t. and_then t (λ n. (times g n.0).reads e n.1)) counted)) (subst (λ i. Gives (λ v. (map view (items_of v), rest)) r ((times g count).reads i behind)) same k)
+
+-- The same where the code's values are the grammar's.
+same_items : {R A V : Type 0} (items_of : V → List A) (rest : List ℕ) (r : Result V (ReadError R)) (t : Result (List A × List ℕ) (Fault R)) → Gives (λ v. (map (λ x. x) (items_of v), rest)) r t → Gives (λ v. (items_of v, rest)) r t
+same_items {R} {A} {V} items_of rest (Ok v) t h = h ∙ ap (λ (xs : List A). ok_of (Fault R) (xs, rest)) (map-id (items_of v))
+same_items items_of rest (Err e) t h = h
+
+pub gives_vec_same : {R A V : Type 0} (bad : R) (g : Grammar R A) (items_of : V → List A) (e inner : End R) (bytes behind rest : List ℕ) (count : ℕ) (r : Result V (ReadError R))
+    → (number bad).reads e bytes ≡ Ok (count, behind)
+    → inner ≡ e
+    → IfOk r (λ v. EachRead (reads_as g (λ x. x) inner) behind (items_of v) rest)
+    → IfOk r (λ v. length (items_of v) ≡ count)
+    → IfErr r (λ err. (err ≡ errors.Memory) ⊎ FailsAmong (reads_as g (λ x. x) inner) (fails_as g inner) count behind err)
+    → Gives (λ v. (items_of v, rest)) r ((vec bad g).reads e bytes)
+gives_vec_same bad g items_of e inner bytes behind rest count r counted same each size fails =
+    same_items items_of rest r ((vec bad g).reads e bytes) (gives_vec bad g (λ x. x) items_of e inner bytes behind rest count r counted same each size fails)
 
 -- ---- a loop over a count, with a state
 

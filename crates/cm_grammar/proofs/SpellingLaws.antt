@@ -1,13 +1,12 @@
 -- What is written shortly is spelled, and no longer than any spelling.
-use Rattle.std.proofs.Common.{◌≡◌, ℕ, zero, suc, ◌+◌, ◌^◌, ◌<◌, ◌≤◌, List, [], ◌∷◌, ◌++◌, length, map, get_or, Result, Ok, refl, sym, ap, subst, ◌∙◌, arith}
+use Rattle.std.proofs.Common.{◌≡◌, ℕ, zero, suc, ◌+◌, ◌<◌, ◌≤◌, List, [], ◌∷◌, ◌++◌, length, map, get_or, Result, Ok, refl, sym, ap, subst, ◌∙◌, arith}
 use Rattle.std.specs.List.{flat_map}
 use Rattle.std.proofs.lemmas.List.{length-append, length-map, append-nil}
 use Rattle.std.proofs.lemmas.Bool.Decides.{nat_tests}
-use Rattle.cm_leb.specs.Numbers.{SpellsUnsigned}
 use Rattle.cm_leb.specs.Writing.{shortest_unsigned}
 use Rattle.cm_leb.proofs.WritingLaws.{shortest_unsigned-spells, shortest_unsigned-least, shortest_unsigned-length}
-use Rattle.cm_grammar.specs.Grammar.{Grammar, done, ◌>>=◌, code, number, raw, checked, fixed, chain, times, limited, vec}
-use Rattle.cm_grammar.specs.Whole.{Whole, SpellsEach, to_end}
+use Rattle.cm_grammar.specs.Grammar.{Grammar, done, ◌>>=◌, code, number, fixed, chain, limited, vec}
+use Rattle.cm_grammar.specs.Whole.{Whole, to_end}
 use Rattle.cm_grammar.specs.Spelling.{counted, prefixed}
 
 -- The text spells x, and takes no more bytes than these.

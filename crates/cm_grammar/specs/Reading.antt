@@ -5,7 +5,10 @@ use Rattle.cm_grammar.specs.declared.fault.End.{End}
 use Rattle.cm_grammar.specs.declared.fault.End.TheVariants as end
 use Rattle.cm_grammar.specs.declared.fault.ReadError.{ReadError}
 use Rattle.cm_grammar.specs.declared.fault.ReadError.TheVariants as errors
-use Rattle.cm_grammar.specs.Faults.{later, want}
+use Rattle.cm_grammar.specs.declared.cursor.Cursor.{Cursor}
+use Rattle.cm_grammar.specs.Faults.{later, want, Gives}
+use Rattle.cm_grammar.specs.Grammar.{Grammar}
+use Rattle.cm_grammar.specs.Whole.{Whole}
 
 -- The things were read one after the other, from these bytes up to those.
 abbrev pub EachRead : {A : Type 0} → (List ℕ → A → List ℕ → Type 0) → List ℕ → List A → List ℕ → Type 0
@@ -31,3 +34,11 @@ abbrev pub behind_part : {R X : Type 0} → ℕ → End R → List ℕ → Resul
 behind_part size e bytes (Ok x) = if nat_le size (length bytes) then Ok x else Err (errors.Fault (want e))
 behind_part size e bytes (Err errors.Memory) = Err errors.Memory
 behind_part size e bytes (Err (errors.Fault f)) = if nat_le size (length bytes) then Err (errors.Fault (later f (length bytes - size))) else Err (errors.Fault f)
+
+-- What was read between these two states of a cursor is what the grammar gives, seen by view.
+abbrev pub Reads : {R A X : Type 0} → Grammar R A → (X → A) → Cursor R → Cursor R → Result X (ReadError R) → Type 0
+Reads g view old new r = Gives (λ x. (view x, new.rest.now)) r (g.reads old.end old.rest.now)
+
+-- What was read of all that is left is what the grammar gives, seen by view.
+abbrev pub ReadsAll : {R A X : Type 0} → Whole R A → (X → A) → Cursor R → Result X (ReadError R) → Type 0
+ReadsAll w view old r = Gives view r (w.reads old.end old.rest.now)

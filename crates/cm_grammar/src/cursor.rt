@@ -1,7 +1,7 @@
 //! Bytes that are read from the front on.
 
 ghost use Rattle.std.specs.Prelude.{◌≡◌, ℕ, ◌<◌, List, [], length, take, drop, min, Result, OnOk, OnErr, IfErr};
-ghost use Rattle.cm_grammar.specs.Reading.{part_end, IsInside, behind_part};
+ghost use Rattle.cm_grammar.specs.Reading.{Reads, ReadsAll, part_end, IsInside, behind_part};
 ghost use Rattle.cm_grammar.specs.Faults.{Gives, flaw, want};
 ghost use Rattle.cm_grammar.specs.Grammar.{number, signed, raw, code, fixed};
 ghost use Rattle.cm_grammar.specs.Whole.{begun, begun_reads, too_short};
@@ -48,7 +48,7 @@ impl<'a, R: Copy> Cursor<'a, R> {
     /// Reads a number of 32 bits without a sign. One that is too long or too large is a fault of
     /// the reason `bad` at its first byte.
     pub fn number(&mut self, bad: R) -> Result<u32, ReadError<R>>
-        ensures read { Gives (λ x. (x, self.new.rest.now)) result ((number bad).reads self.old.end self.old.rest.now) }
+        ensures read { Reads (number bad) (λ x. x) self.old self.new result }
         ensures end { self.new.end ≡ self.old.end }
     {
         match front_u32(self.rest) {
@@ -63,7 +63,7 @@ impl<'a, R: Copy> Cursor<'a, R> {
 
     /// Reads so many bytes.
     pub fn raw(&mut self, count: usize) -> Result<&'a [u8], ReadError<R>>
-        ensures read { Gives (λ x. (x.now, self.new.rest.now)) result ((raw count).reads self.old.end self.old.rest.now) }
+        ensures read { Reads (raw count) (λ x. x.now) self.old self.new result }
         ensures end { self.new.end ≡ self.old.end }
     {
         if self.rest.len() < count {
@@ -77,7 +77,7 @@ impl<'a, R: Copy> Cursor<'a, R> {
     /// Reads a number of 33 bits with a sign. One that is too long or too large is a fault of the
     /// reason `bad` at its first byte.
     pub fn signed(&mut self, bad: R) -> Result<i64, ReadError<R>>
-        ensures read { Gives (λ x. (x, self.new.rest.now)) result ((signed bad).reads self.old.end self.old.rest.now) }
+        ensures read { Reads (signed bad) (λ x. x) self.old self.new result }
         ensures end { self.new.end ≡ self.old.end }
     {
         match front_s33(self.rest) {
@@ -92,7 +92,7 @@ impl<'a, R: Copy> Cursor<'a, R> {
 
     /// Reads a byte of a table. A byte that the table refuses is a fault at that byte.
     pub fn code<K: Code<R>>(&mut self) -> Result<K, ReadError<R>>
-        ensures read { Gives (λ x. (x, self.new.rest.now)) result ((code K.table).reads self.old.end self.old.rest.now) }
+        ensures read { Reads (code K.table) (λ x. x) self.old self.new result }
         ensures end { self.new.end ≡ self.old.end }
     {
         match self.rest {
@@ -109,7 +109,7 @@ impl<'a, R: Copy> Cursor<'a, R> {
 
     /// Reads this text. A fault of the reason is at the first byte that differs.
     pub fn fixed(&mut self, text: &[u8], reason: R) -> Result<(), ReadError<R>>
-        ensures read { Gives (λ x. (x, self.new.rest.now)) result ((fixed text.now reason).reads self.old.end self.old.rest.now) }
+        ensures read { Reads (fixed text.now reason) (λ x. x) self.old self.new result }
         ensures end { self.new.end ≡ self.old.end }
     {
         match text {
@@ -131,7 +131,7 @@ impl<'a, R: Copy> Cursor<'a, R> {
     /// where a byte differs, and where all that was to come is only a beginning of the text. Where
     /// the input ends before the text does, a byte is wanted there.
     pub fn begun(&self, text: &[u8], reason: R) -> Result<&'a [u8], ReadError<R>>
-        ensures { Gives (λ x. x.now) result ((begun text.now reason).reads self.now.end self.now.rest.now) }
+        ensures { ReadsAll (begun text.now reason) (λ x. x.now) self.now result }
     {
         self.begun_behind(text, self.rest, reason)?;
         Ok(self.rest)
@@ -139,7 +139,8 @@ impl<'a, R: Copy> Cursor<'a, R> {
 
     /// Of a text and of what is left, the parts behind what is equal in both.
     fn begun_behind(&self, text: &[u8], rest: &[u8], reason: R) -> Result<(), ReadError<R>>
-        ensures { Gives (λ _. self.now.rest.now) result (begun_reads text.now reason self.now.end self.now.rest.now rest.now) }
+        ensures { Gives (λ _. self.now.rest.now) result
+            (begun_reads text.now reason self.now.end self.now.rest.now rest.now) }
     {
         match text {
             [] => Ok(()),

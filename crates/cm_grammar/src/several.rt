@@ -31,9 +31,11 @@ pub fn read_items<R: Copy, T: Item<R>>(
     cursor: &mut Cursor<'_, R>,
     count: u32,
 ) -> Result<Vec<T>, ReadError<R>>
-    ensures ok { IfOk result (λ v. EachRead (T.is_read cursor.old.end) cursor.old.rest.now v.items cursor.new.rest.now) }
+    ensures ok { IfOk result (λ v.
+        EachRead (T.is_read cursor.old.end) cursor.old.rest.now v.items cursor.new.rest.now) }
     ensures count { IfOk result (λ v. length v.items ≡ count) }
-    ensures err { IfErr result (λ e. (e ≡ errors.Memory) ⊎ FailsAmong (T.is_read cursor.old.end) (T.fails cursor.old.end) count cursor.old.rest.now e) }
+    ensures err { IfErr result (λ e. (e ≡ errors.Memory)
+        ⊎ FailsAmong (T.is_read cursor.old.end) (T.fails cursor.old.end) count cursor.old.rest.now e) }
     ensures end { cursor.new.end ≡ cursor.old.end }
 {
     let mut values = Vec::new(alloc);

@@ -1,4 +1,4 @@
-use Rattle.std.proofs.Common.{arith, inr, ◌≤◌, length}
+use Rattle.std.proofs.Common.{arith, inr}
 use Rattle.cm_binary.proofs.decoding.component_of.Goals as goal
 
 pub returns-in-Err-Fault : goal.returns-in-Err-Fault

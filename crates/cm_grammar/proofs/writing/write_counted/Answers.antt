@@ -1,7 +1,4 @@
-use Rattle.std.proofs.Common.{◌^◌, ◌<◌, length, arith}
-use Rattle.std.proofs.lemmas.List.{length-append}
-use Rattle.std.specs.List.{flat_map}
-use Rattle.cm_leb.specs.Writing.{shortest_unsigned}
+use Rattle.std.proofs.Common.{◌^◌, arith}
 use Rattle.cm_grammar.proofs.SpellingLaws.{each_short_counted, each_some}
 use Rattle.cm_grammar.proofs.writing.write_counted.Goals as goal
 
