@@ -106,5 +106,5 @@ spaces_in_order sections =
       core_funcs = in_order (λ s. s.core_funcs) added_core_funcs core_funcs_grown nothing (all_items sections);
       funcs = in_order (λ s. s.funcs) added_funcs funcs_grown nothing (all_items sections);
       imports = in_order (λ s. s.imports) added_imports imports_grown nothing (all_items sections);
-      exports = in_order (λ s. s.exports) added_exports exports_grown nothing (all_items sections)
+      exports = in_order (λ s. s.exports) added_exports exports_grown nothing (all_items sections);
     }

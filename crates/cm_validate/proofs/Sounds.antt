@@ -78,7 +78,7 @@ keeps s t cs fs is es g =
     record {
       core_funcs = λ k x e. ap (λ xs. slice_get xs k) g.core_funcs ∙ get_more s.core_funcs cs k x e;
       funcs = λ k x e. ap (λ xs. slice_get xs k) g.funcs ∙ get_more s.funcs fs k x e;
-      imports = λ k x e. ap (λ xs. slice_get xs k) g.imports ∙ get_more s.imports is k x e
+      imports = λ k x e. ap (λ xs. slice_get xs k) g.imports ∙ get_more s.imports is k x e;
     }
 
 sound_grows : (s t : Space) (cs : List CoreFuncTree) (fs : List FuncDefTree) (is : List ImportedFunc) (es : List ExportedFunc) → Grows s t cs fs is es
@@ -88,7 +88,7 @@ sound_grows s t cs fs is es g csound fsound esound p =
     record {
       core_funcs = subst (AllByRecursion (IsSoundCoreFunc t)) (sym g.core_funcs) (all_append (IsSoundCoreFunc t) s.core_funcs cs (all_map (IsSoundCoreFunc s) (IsSoundCoreFunc t) s.core_funcs (core_func_kept s t k) p.core_funcs) csound);
       funcs = subst (AllByRecursion (IsSoundFunc t)) (sym g.funcs) (all_append (IsSoundFunc t) s.funcs fs (all_map (IsSoundFunc s) (IsSoundFunc t) s.funcs (func_kept s t k) p.funcs) fsound);
-      exports = subst (AllByRecursion (IsSoundExport t)) (sym g.exports) (all_append (IsSoundExport t) s.exports es (all_map (IsSoundExport s) (IsSoundExport t) s.exports (export_kept s t k) p.exports) esound)
+      exports = subst (AllByRecursion (IsSoundExport t)) (sym g.exports) (all_append (IsSoundExport t) s.exports es (all_map (IsSoundExport s) (IsSoundExport t) s.exports (export_kept s t k) p.exports) esound);
     }
 
 same : {A : Type 0} (xs : List A) → xs ≡ xs ++ []
@@ -180,8 +180,8 @@ export_grows s name index p =
     let grows : Grows s t [] fs [] es = record { core_funcs = same s.core_funcs; funcs = refl; imports = same s.imports; exports = refl } in
     let k = keeps s t [] fs [] es grows in
     sound_grows s t [] fs [] es grows tt
-      (shared_sound t o (λ f e. func_kept s t k f (all_at (IsSoundFunc s) s.funcs index f p.funcs e)))
-      (export_sound t name index o (λ f e. k.funcs index f e)) p
+    (shared_sound t o (λ f e. func_kept s t k f (all_at (IsSoundFunc s) s.funcs index f p.funcs e)))
+    (export_sound t name index o (λ f e. k.funcs index f e)) p
 
 nothing_new : (s t : Space) → t.core_funcs ≡ s.core_funcs → t.funcs ≡ s.funcs → t.imports ≡ s.imports → t.exports ≡ s.exports → IsSound s → IsSound t
 nothing_new s t cs fs is es p = sound_grows s t [] [] [] [] (record { core_funcs = cs ∙ same s.core_funcs; funcs = fs ∙ same s.funcs; imports = is ∙ same s.imports; exports = es ∙ same s.exports }) tt tt tt p

@@ -89,8 +89,7 @@ impl Checked {
 /// to it, in order (Explainer.md, "Index Spaces").
 pub fn index_spaces()
     ensures { (sections : List SectionTree) → AreInOrder sections }
-{
-}
+{}
 
 /// The component as one that is valid.
 ///
