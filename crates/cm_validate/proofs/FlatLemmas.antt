@@ -1,10 +1,9 @@
 -- The lowered functions of a valid component pass their parameters flat.
-use Rattle.std.proofs.Common.{◌≡◌, ℕ, ◌≤◌, ◌⊎◌, inl, inr, Bool, true, false, List, [], ◌∷◌, ◌++◌, length, Option, Some, None, refl, sym, ap, subst, ◌∙◌, arith}
-use Rattle.std.specs.Prelude.{slice_get, option_and_then, option_to_list, nat_le}
+use Rattle.std.proofs.Common.{◌≡◌, ℕ, ◌≤◌, inl, inr, Bool, true, false, List, [], ◌∷◌, ◌++◌, Option, Some, None, refl, ap}
+use Rattle.std.specs.Prelude.{slice_get, option_and_then, option_to_list}
 use Rattle.std.specs.Option.{option_map_or}
 use Rattle.std.specs.List.{AllByRecursion}
 use borrow.Author.Tests.{leb-true}
-use Rattle.cm_types.specs.Types.{FuncTy}
 use Rattle.cm_types.specs.DefTypes.{func_def}
 use Rattle.cm_component.specs.Trees.{SectionTree, instantiate, core_instance_export}
 use Rattle.cm_component.specs.declared.section.Canon.{Canon}
@@ -14,8 +13,8 @@ use Rattle.cm_component.specs.declared.section.ExternDesc.TheVariants as desc
 use Rattle.cm_validate.specs.declared.fault.ValidReason.{ValidReason}
 use Rattle.cm_validate.specs.declared.fault.ValidReason.TheVariants as reason
 use Rattle.cm_validate.specs.Items.{Item, all_items, module_item, core_instance_item, alias_item, type_item, canon_item, import_item, export_item}
-use Rattle.cm_validate.specs.Spaces.{Space, CoreFuncTree, FuncDefTree, guest, lowered, lifted, imported, nothing, grown, after, after_canon, after_import, lowered_import, type_of, spaces_of}
-use Rattle.cm_validate.specs.Rules.{rules, canon_rules, is_flat, is_import, field_count}
+use Rattle.cm_validate.specs.Spaces.{Space, CoreFuncTree, FuncDefTree, guest, lifted, imported, nothing, grown, after, after_canon, after_import, lowered_import, type_of, spaces_of}
+use Rattle.cm_validate.specs.Rules.{rules, canon_rules, is_flat, field_count}
 use Rattle.cm_validate.specs.Valid.{IsBroken, IsValidFrom, IsValid}
 use Rattle.cm_validate.specs.PassedFlat.{PassesFlat}
 

@@ -1,7 +1,6 @@
 -- The rules of a lift where what it names is there.
-use Rattle.std.proofs.Common.{◌≡◌, ℕ, ◌<◌, true, ◌&&◌, List, [], ◌∷◌, length, Some, refl, sym, ap, ◌∙◌, rules, tests}
+use Rattle.std.proofs.Common.{◌≡◌, ℕ, ◌<◌, true, List, [], ◌∷◌, length, Some, refl, rules, tests}
 use Rattle.std.specs.Prelude.{nat_lt, slice_get}
-use Rattle.std.specs.Option.{option_map_or}
 use Rattle.std.proofs.lemmas.Option.{slice_get_within}
 use Rattle.cm_types.specs.Types.{FuncTy}
 use Rattle.cm_component.specs.declared.section.Canon.TheVariants as canon

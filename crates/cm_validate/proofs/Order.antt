@@ -1,14 +1,13 @@
 -- The first fault in the order of sections, items and reasons is what the walk finds.
-use Rattle.std.proofs.Common.{◌≡◌, ℕ, suc, ◌+◌, ◌≤◌, ◌⊎◌, inl, inr, Bool, true, false, ◌&&◌, List, [], ◌∷◌, ◌++◌, length, map, Option, Some, None, refl, sym, ◌∙◌, ap, subst, arith, append_assoc, rules as std_rules}
-use Rattle.std.specs.Prelude.{if◌then◌else◌, slice_get}
-use Rattle.cm_types.specs.DefTypes.{DefTree, func_def}
-use Rattle.cm_component.specs.Trees.{SectionTree, CoreInstanceTree, AliasTree, ImportTree, ExportTree, instantiate, core_instance_export}
+use Rattle.std.proofs.Common.{◌≡◌, ℕ, suc, ◌+◌, ◌≤◌, ◌⊎◌, inl, inr, Bool, true, false, List, [], ◌∷◌, ◌++◌, length, Option, Some, None, refl, sym, ◌∙◌, ap, subst, arith, append_assoc, rules as std_rules}
+use Rattle.std.specs.Prelude.{if◌then◌else◌}
+use Rattle.cm_types.specs.DefTypes.{func_def}
+use Rattle.cm_component.specs.Trees.{SectionTree, instantiate, core_instance_export}
 use Rattle.cm_component.specs.declared.section.Canon.{Canon}
 use Rattle.cm_component.specs.declared.section.Canon.TheVariants as canon
 use Rattle.cm_component.specs.declared.section.ExternDesc.{ExternDesc}
 use Rattle.cm_component.specs.declared.section.ExternDesc.TheVariants as desc
 use Rattle.cm_validate.specs.declared.fault.ValidReason.{ValidReason}
-use Rattle.cm_validate.specs.declared.fault.ValidReason.TheVariants as reason
 use Rattle.cm_validate.specs.Reasons.{reason_number}
 use Rattle.cm_validate.specs.Items.{Item, items_of, all_items, module_item, core_instance_item, alias_item, type_item, canon_item, import_item, export_item}
 use Rattle.cm_validate.specs.Spaces.{Space, nothing, grown, after}

@@ -1,13 +1,13 @@
 -- Each index space is what the items add to it, in order.
 use Rattle.std.proofs.Common.{◌≡◌, ℕ, List, [], ◌∷◌, ◌++◌, refl, sym, ap, ◌∙◌, append-nil, append_assoc}
 use Rattle.cm_types.specs.DefTypes.{func_def}
-use Rattle.cm_component.specs.Trees.{SectionTree, ImportTree, instantiate, core_instance_export}
+use Rattle.cm_component.specs.Trees.{SectionTree, instantiate, core_instance_export}
 use Rattle.cm_component.specs.declared.section.Canon.TheVariants as canon
 use Rattle.cm_component.specs.declared.section.ExternDesc.TheVariants as desc
 use Rattle.cm_component.specs.declared.section.ExternDesc.{ExternDesc}
 use Rattle.cm_validate.specs.Items.{Item, all_items, module_item, core_instance_item, alias_item, type_item, canon_item, import_item, export_item}
 use Rattle.cm_validate.specs.Spaces.{Space, nothing, grown, after, after_import}
-use Rattle.cm_validate.specs.Orders.{AreInOrder, all_added, import_type, added_core_instances, added_types, added_core_funcs, added_funcs, added_imports, added_exports}
+use Rattle.cm_validate.specs.Orders.{AreInOrder, all_added, added_core_instances, added_types, added_core_funcs, added_funcs, added_imports, added_exports}
 
 same : {A : Type 0} (xs : List A) → xs ≡ xs ++ []
 same xs = sym (append-nil xs)

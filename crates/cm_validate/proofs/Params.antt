@@ -1,11 +1,11 @@
 -- Parameters as fields are as many as in their list, and small parameter lists are within the limits.
-use Rattle.std.proofs.Common.{◌≡◌, ℕ, ◌+◌, ◌<◌, ◌≤◌, List, [], ◌∷◌, length, map, refl, arith}
-use Rattle.cm_types.specs.Types.{Ty, Fields, fields, tuple_type}
+use Rattle.std.proofs.Common.{◌≡◌, ◌<◌, ◌≤◌, List, [], ◌∷◌, length, map, refl, arith}
+use Rattle.cm_types.specs.Types.{Fields, fields, tuple_type}
 use Rattle.cm_types.specs.Limits.{IsWithinLimits, nodes_of, nodes_of_fields, depth_of, depth_of_fields}
 use Rattle.cm_types.specs.declared.def_types.ValType.{ValType}
 use Rattle.cm_types.specs.declared.def_types.ValType.TheVariants as val_type
 use Rattle.cm_types.specs.declared.def_types.LabeledValType.{LabeledValType}
-use Rattle.cm_types.specs.TypeTrees.{fields_from, fields_of, field_of}
+use Rattle.cm_types.specs.TypeTrees.{fields_from, fields_of}
 use Rattle.cm_types.specs.declared.type_trees.Field.{Field}
 use Rattle.cm_validate.specs.Rules.{field_count}
 use Rattle.cm_validate.specs.Spaces.{expanded_value}

@@ -1,20 +1,19 @@
 -- The index spaces of a valid component are sound.
-use Rattle.std.proofs.Common.{◌≡◌, ℕ, zero, suc, ◌+◌, ◌<◌, Bool, true, false, ◌&&◌, ◌⊎◌, inl, inr, List, [], ◌∷◌, ◌++◌, length, map, Option, Some, None, refl, sym, ◌∙◌, ap, subst, append-nil, arith}
+use Rattle.std.proofs.Common.{◌≡◌, ℕ, zero, suc, ◌<◌, Bool, true, false, ◌&&◌, ◌⊎◌, inl, inr, List, [], ◌∷◌, ◌++◌, length, Option, Some, None, refl, sym, ◌∙◌, ap, subst, append-nil, arith}
 use borrow.Author.Tests.{ltb-true}
 use Rattle.std.specs.Prelude.{nat_lt, slice_get, option_map, option_and_then, option_to_list}
 use Rattle.std.specs.List.{AllByRecursion}
 use Rattle.std.specs.Option.{option_map_or}
 use Rattle.cm_types.specs.Types.{FuncTy}
-use Rattle.cm_types.specs.DefTypes.{DefTree, func_def}
-use Rattle.cm_component.specs.Trees.{SectionTree, CoreInstanceTree, AliasTree, ImportTree, ExportTree, instantiate, core_instance_export}
+use Rattle.cm_types.specs.DefTypes.{func_def}
+use Rattle.cm_component.specs.Trees.{SectionTree, instantiate, core_instance_export}
 use Rattle.cm_component.specs.declared.section.Canon.{Canon}
 use Rattle.cm_component.specs.declared.section.Canon.TheVariants as canon
 use Rattle.cm_component.specs.declared.section.ExternDesc.{ExternDesc}
 use Rattle.cm_component.specs.declared.section.ExternDesc.TheVariants as desc
 use Rattle.cm_validate.specs.declared.fault.ValidReason.{ValidReason}
-use Rattle.cm_validate.specs.declared.fault.ValidReason.TheVariants as reason
 use Rattle.cm_validate.specs.Items.{Item, all_items, module_item, core_instance_item, alias_item, type_item, canon_item, import_item, export_item}
-use Rattle.cm_validate.specs.Rules.{rules, canon_rules, import_rules, is_flat, is_guest}
+use Rattle.cm_validate.specs.Rules.{rules, canon_rules, is_flat, is_guest}
 use Rattle.cm_validate.specs.Sound.{Imports, IsGuestAt, IsSoundFunc, IsSoundCoreFunc, IsSoundExport, IsSound}
 use Rattle.cm_validate.specs.Spaces.{Space, CoreFuncTree, FuncDefTree, ImportedFunc, ExportedFunc, guest, lowered, lifted, imported, type_of, nothing, grown, after, after_canon, after_import, after_export, lowered_import, spaces_of}
 use Rattle.cm_validate.specs.Valid.{IsBroken, IsValidFrom, IsValid}

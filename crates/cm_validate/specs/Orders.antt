@@ -6,7 +6,7 @@ use Rattle.cm_component.specs.Trees.{SectionTree, instantiate, core_instance_exp
 use Rattle.cm_component.specs.declared.section.Canon.TheVariants as canon
 use Rattle.cm_component.specs.declared.section.ExternDesc.TheVariants as desc
 use Rattle.cm_component.specs.declared.section.ExternDesc.{ExternDesc}
-use Rattle.cm_validate.specs.Items.{Item, all_items, module_item, core_instance_item, alias_item, type_item, canon_item, import_item, export_item}
+use Rattle.cm_validate.specs.Items.{Item, all_items, core_instance_item, alias_item, type_item, canon_item, import_item, export_item}
 use Rattle.cm_validate.specs.Spaces.{Space, CoreFuncTree, FuncDefTree, ImportedFunc, ExportedFunc, guest, lifted, imported, lowered_import, type_of, expanded, nothing, grown, spaces_of}
 
 -- what an item adds to each sort, given the spaces before it

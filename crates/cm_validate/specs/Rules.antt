@@ -9,8 +9,8 @@ use Rattle.std.specs.Str.{bytes_eq}
 use Rattle.cm_types.specs.Names.{is_same_name}
 use Rattle.cm_types.specs.ExternNames.{NameTree, plain, method, static, constructor, interface, form_of}
 use Rattle.cm_types.specs.Types.{FuncTy, Fields, no_fields, field}
-use Rattle.cm_types.specs.DefTypes.{DefTree, FuncTree, func_def}
-use Rattle.cm_component.specs.Trees.{CoreInstanceTree, AliasTree, ImportTree, ExportTree, instantiate, core_instance_export}
+use Rattle.cm_types.specs.DefTypes.{FuncTree, func_def}
+use Rattle.cm_component.specs.Trees.{instantiate, core_instance_export}
 use Rattle.cm_component.specs.declared.section.Canon.{Canon}
 use Rattle.cm_component.specs.declared.section.Canon.TheVariants as canon
 use Rattle.cm_component.specs.declared.section.ExternDesc.{ExternDesc}

@@ -1,6 +1,6 @@
 -- What the index spaces of a valid component promise: what a definition names is there, and the
 -- parameters of what is lifted or lowered are passed flat.
-use Rattle.std.specs.Prelude.{◌≡◌, ℕ, true, List, Option, Some, None, slice_get}
+use Rattle.std.specs.Prelude.{◌≡◌, ℕ, true, List, Some, None, slice_get}
 use Rattle.std.specs.List.{AllByRecursion}
 use Rattle.cm_types.specs.Types.{FuncTy}
 use Rattle.cm_validate.specs.Rules.{is_flat}

@@ -1,13 +1,13 @@
 -- The index spaces of a component: for each sort the definitions that the items before a place add, in
 -- order (Explainer.md, "Index Spaces").
 use Rattle.std.specs.Prelude.{ℕ, ◌+◌, List, [], ◌∷◌, ◌++◌, length, map, Option, Some, None, slice_get, option_map, option_and_then, option_to_list}
-use Rattle.cm_types.specs.DefTypes.{DefTree, FuncTree, func_def}
+use Rattle.cm_types.specs.DefTypes.{FuncTree, func_def}
 use Rattle.cm_types.specs.Types.{Ty, FuncTy, unsigned, bits_32}
 use Rattle.cm_types.specs.TypeTrees.{fields_from}
 use Rattle.cm_types.specs.Signatures.{SignatureTy, func as func_extern}
 use Rattle.cm_types.specs.declared.def_types.ValType.{ValType}
 use Rattle.cm_types.specs.declared.def_types.ValType.TheVariants as val_type
-use Rattle.cm_component.specs.Trees.{CoreInstanceTree, AliasTree, ImportTree, ExportTree, SectionTree, instantiate, core_instance_export}
+use Rattle.cm_component.specs.Trees.{SectionTree, instantiate, core_instance_export}
 use Rattle.cm_component.specs.declared.section.Canon.{Canon}
 use Rattle.cm_component.specs.declared.section.Canon.TheVariants as canon
 use Rattle.cm_component.specs.declared.section.ExternDesc.{ExternDesc}

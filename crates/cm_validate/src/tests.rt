@@ -55,22 +55,20 @@ fn module(alloc: Global) -> Result<Section, Fail> {
     Ok(Section::CoreModule(bytes))
 }
 
-/// Core instances of these modules, each with these arguments.
-fn instances(alloc: Global, of: &[(u32, &[(&str, u32)])]) -> Result<Section, Fail> {
-    let mut instances = Vec::new(alloc);
-    for (module, given) in of {
-        let mut args = Vec::new(alloc);
-        for (name, instance) in *given {
-            args.push(CoreInstantiationArg {
-                name: String::from_str(alloc, name)?,
-                instance: *instance,
-            })?;
-        }
-        instances.push(CoreInstance::Instantiate {
-            module: *module,
-            args,
+/// A core instance of a module, with these arguments.
+fn instance(alloc: Global, of_module: u32, given: &[(&str, u32)]) -> Result<Section, Fail> {
+    let mut args = Vec::new(alloc);
+    for (name, instance) in given {
+        args.push(CoreInstantiationArg {
+            name: String::from_str(alloc, name)?,
+            instance: *instance,
         })?;
     }
+    let mut instances = Vec::new(alloc);
+    instances.push(CoreInstance::Instantiate {
+        module: of_module,
+        args,
+    })?;
     Ok(Section::CoreInstances(instances))
 }
 
@@ -140,8 +138,8 @@ fn custom(alloc: Global) -> Result<Section, Fail> {
 enum Part<'a> {
     Custom,
     Module,
-    /// The module of each, and its arguments.
-    Instances(&'a [(u32, &'a [(&'a str, u32)])]),
+    /// An instance of a module, with these arguments.
+    Instance(u32, &'a [(&'a str, u32)]),
     Aliases(&'a [(u32, &'a str)]),
     /// The labels of each type's parameters.
     Types(&'a [&'a [&'a str]]),
@@ -156,7 +154,7 @@ fn built(alloc: Global, part: Part) -> Result<Section, Fail> {
     match part {
         Part::Custom => custom(alloc),
         Part::Module => module(alloc),
-        Part::Instances(of) => instances(alloc, of),
+        Part::Instance(of_module, args) => instance(alloc, of_module, args),
         Part::Aliases(of) => aliases(alloc, of),
         Part::Types(of) => types(alloc, of),
         Part::LargeTypes(of) => large_types(alloc, of),
@@ -186,7 +184,7 @@ fn component(alloc: Global, parts: &[Part]) -> Result<Component, Fail> {
 fn guest(alloc: Global, parts: &[Part]) -> Result<Component, Fail> {
     let front = [
         Part::Module,
-        Part::Instances(&[(0, &[])]),
+        Part::Instance(0, &[]),
         Part::Aliases(&[(0, "f"), (0, "g")]),
         Part::Types(&[&["x"]]),
     ];
@@ -285,47 +283,44 @@ const LABELS: [&str; 17] = [
     "a", "b", "c", "d", "e", "f", "g", "h", "i", "j", "k", "l", "m", "n", "o", "p", "q",
 ];
 
+/// The fault of the component of these sections.
+fn fault_of(alloc: Global, parts: &[Part]) -> Result<Option<(usize, usize, u8)>, Fail> {
+    Ok(fault(alloc, component(alloc, parts)?))
+}
+
 #[test]
 fn rules_of_modules_and_types(rt: HostRuntime) -> Result<(), Fail> {
-    let rows: [(&[Part], Option<(usize, usize, u8)>); 8] = [
-        (&[], None),
-        // no such module, after a custom section, which counts
-        (
-            &[Part::Custom, Part::Instances(&[(0, &[])])],
-            Some((1, 0, 1)),
-        ),
-        // an argument that is no instance; names that are equal as texts, or only without case
-        (
-            &[Part::Module, Part::Instances(&[(0, &[]), (0, &[("a", 1)])])],
-            Some((1, 1, 1)),
-        ),
-        (
-            &[
-                Part::Module,
-                Part::Instances(&[(0, &[]), (0, &[("a", 0), ("b", 0), ("a", 0)])]),
-            ],
-            Some((1, 1, 6)),
-        ),
-        (
-            &[
-                Part::Module,
-                Part::Instances(&[(0, &[]), (0, &[("a", 0), ("A", 0)])]),
-            ],
-            None,
-        ),
-        // an alias of no instance
-        (&[Part::Aliases(&[(0, "f")])], Some((0, 0, 1))),
-        // labels that are the same without case, and too many
-        (
-            &[Part::Types(&[&["x", "y"], &["x", "y", "X"]])],
-            Some((0, 1, 6)),
-        ),
-        (&[Part::LargeTypes(&[9_999, 10_000])], Some((0, 1, 17))),
+    let a = rt.alloc();
+    // no such module, after a custom section, which counts
+    let parts = [Part::Custom, Part::Instance(0, &[])];
+    assert_eq!(rt; fault_of(a, &parts)?, Some((1, 0, 1)));
+    // an argument that is no instance; names that are equal as texts, or only without case
+    let parts = [Part::Module, Part::Instance(0, &[("a", 1)])];
+    assert_eq!(rt; fault_of(a, &parts)?, Some((1, 0, 1)));
+    let parts = [
+        Part::Module,
+        Part::Instance(0, &[]),
+        Part::Instance(0, &[("a", 0), ("b", 0), ("a", 0)]),
     ];
-    for (parts, wanted) in rows {
-        let found = fault(rt.alloc(), component(rt.alloc(), parts)?);
-        assert_eq!(rt; found, wanted);
-    }
+    assert_eq!(rt; fault_of(a, &parts)?, Some((2, 0, 6)));
+    let parts = [
+        Part::Module,
+        Part::Instance(0, &[]),
+        Part::Instance(0, &[("a", 0), ("A", 0)]),
+    ];
+    assert_eq!(rt; fault_of(a, &parts)?, None);
+    // an alias of no instance
+    assert_eq!(rt;
+        fault_of(a, &[Part::Aliases(&[(0, "f")])])?,
+        Some((0, 0, 1))
+    );
+    // labels that are the same without case, and too many
+    let parts = [Part::Types(&[&["x", "y"], &["x", "y", "X"]])];
+    assert_eq!(rt; fault_of(a, &parts)?, Some((0, 1, 6)));
+    assert_eq!(rt;
+        fault_of(a, &[Part::LargeTypes(&[9_999, 10_000])])?,
+        Some((0, 1, 17))
+    );
     Ok(())
 }
 

@@ -1,8 +1,7 @@
-use Rattle.std.proofs.Common.{◌≡◌, ◌⊎◌, inl, inr, None, Some, map, sym, ap, subst, ◌∙◌}
-use Rattle.cm_validate.specs.declared.fault.ValidReason.TheVariants as reason
+use Rattle.std.proofs.Common.{inl, inr, sym, ap, subst, ◌∙◌}
 use Rattle.cm_validate.specs.Spaces.{nothing, spaces_of}
-use Rattle.cm_validate.specs.Tables.{AreTables, IsChecked}
-use Rattle.cm_validate.specs.Valid.{IsValid, IsFaultOf, sections_fault}
+use Rattle.cm_validate.specs.Tables.{AreTables}
+use Rattle.cm_validate.specs.Valid.{sections_fault}
 use Rattle.cm_validate.proofs.Order.{none_found, fault_found, fault_is_broken}
 use Rattle.cm_validate.proofs.checked.validate.Goals as goal
 

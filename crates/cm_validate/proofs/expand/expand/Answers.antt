@@ -1,4 +1,4 @@
-use Rattle.std.proofs.Common.{◌<◌, length, sym, subst, ap, ◌∙◌}
+use Rattle.std.proofs.Common.{◌<◌, length, sym, subst}
 use borrow.Author.Tests.{ltb-true}
 use Rattle.cm_types.specs.Types.{fields, tuple_type}
 use Rattle.cm_types.specs.TypeTrees.{fields_from}

@@ -1,5 +1,4 @@
 use Rattle.std.proofs.Common.{refl, length}
-use Rattle.cm_validate.specs.SpacesOf.{space_of}
 use Rattle.cm_validate.proofs.Args.{names_of_args, instances_of_args}
 use Rattle.cm_validate.proofs.items.instantiate_fault.Goals as goal
 

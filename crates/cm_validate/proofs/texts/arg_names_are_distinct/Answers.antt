@@ -1,7 +1,6 @@
-use Rattle.std.proofs.Common.{refl, ap, ◌∙◌, map, arith}
+use Rattle.std.proofs.Common.{refl, ◌∙◌, map}
 use Rattle.std.specs.BTreeSet.{contains_text}
 use Rattle.std.specs.String.{string_bytes}
-use Rattle.cm_validate.specs.Rules.{folded}
 use Rattle.cm_validate.proofs.Distinct.{rest_is_distinct-empty, goes_on}
 use Rattle.cm_validate.proofs.texts.arg_names_are_distinct.Goals as goal
 

@@ -1,7 +1,7 @@
 use Rattle.std.proofs.Common.{◌≡◌, map, drop}
 use Rattle.std.specs.BTreeSet.{contains_text}
 use Rattle.std.specs.String.{string_bytes}
-use Rattle.cm_validate.specs.Rules.{are_distinct, folded}
+use Rattle.cm_validate.specs.Rules.{are_distinct}
 use Rattle.cm_validate.proofs.Distinct.{rest_is_distinct}
 use Rattle.cm_validate.proofs.texts.arg_names_are_distinct.Given as goal
 

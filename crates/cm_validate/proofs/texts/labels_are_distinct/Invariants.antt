@@ -1,6 +1,5 @@
 use Rattle.std.proofs.Common.{◌≡◌, map, drop}
 use Rattle.std.specs.BTreeSet.{contains_text}
-use Rattle.std.specs.String.{string_bytes}
 use Rattle.cm_validate.specs.Rules.{are_distinct, folded}
 use Rattle.cm_validate.proofs.Distinct.{rest_is_distinct}
 use Rattle.cm_validate.proofs.texts.labels_are_distinct.Given as goal

@@ -1,4 +1,4 @@
-use Rattle.std.proofs.Common.{◌≡◌, ◌+◌, List, ◌∷◌, map, drop, subst, ap, sym, ◌∙◌}
+use Rattle.std.proofs.Common.{◌+◌, map, drop, ap, sym, ◌∙◌}
 use Rattle.cm_component.specs.Trees.{section_tree}
 use Rattle.cm_validate.specs.Items.{all_items}
 use Rattle.cm_validate.specs.Spaces.{after}

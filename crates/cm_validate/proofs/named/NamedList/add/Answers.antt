@@ -1,4 +1,4 @@
-use Rattle.std.proofs.Common.{◌≡◌, Bool, true, cond, List, [], ◌∷◌, ◌++◌, ℕ, map, ap, sym, ◌∙◌}
+use Rattle.std.proofs.Common.{Bool, true, cond, List, [], ◌∷◌, ◌++◌, ℕ, map, ap, sym, ◌∙◌}
 use Rattle.std.specs.List.{list_any}
 use Rattle.std.specs.Str.{bytes_eq}
 use Rattle.std.specs.BTreeSet.{contains_text}
