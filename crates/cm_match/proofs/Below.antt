@@ -1,12 +1,11 @@
 -- What an import reaches is lifted by a component before.
-use Rattle.std.proofs.Common.{◌≡◌, ℕ, zero, suc, ◌<◌, ◌==◌, Bool, true, false, List, [], ◌∷◌, Option, Some, None, refl, sym, ap, subst, ◌∙◌, arith}
-use Rattle.std.specs.Prelude.{slice_get, option_map, option_and_then, if◌then◌else◌, length}
-use Rattle.std.proofs.lemmas.Bool.{eqb-true}
+use Rattle.std.proofs.Common.{◌≡◌, ℕ, zero, suc, ◌<◌, ◌==◌, Bool, true, false, List, [], ◌∷◌, Option, Some, None, refl, sym, ap, arith}
+use Rattle.std.specs.Prelude.{slice_get, option_map, option_and_then, if◌then◌else◌}
 use Rattle.cm_types.specs.Signatures.{NamedExtern}
 use Rattle.cm_component.specs.Trees.{SectionTree}
 use Rattle.cm_validate.specs.Spaces.{FuncDefTree, lifted, imported, spaces_of, signature}
 use Rattle.cm_match.specs.Links.{Entry, entry, candidates, only, signatures}
-use Rattle.cm_match.specs.Targets.{TargetTree, import_entry, export_def, follow, leads, reach, target}
+use Rattle.cm_match.specs.Targets.{TargetTree, import_entry, export_def, follow, leads, reach}
 use Rattle.cm_match.proofs.Candidates.{earlier}
 
 is_only : (es : List Entry) (e : Entry) → only es ≡ Some e → es ≡ e ∷ []

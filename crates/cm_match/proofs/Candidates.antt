@@ -1,12 +1,12 @@
 -- What is known of the candidates of an import.
-use Rattle.std.proofs.Common.{◌≡◌, ℕ, zero, suc, ◌+◌, ◌<◌, ◌≤◌, Bool, true, false, cond, List, [], ◌∷◌, ◌++◌, length, take, filter, Option, Some, None, refl, sym, ap, subst, ◌∙◌, arith, length-take, ◌⊎◌, inl, inr}
+use Rattle.std.proofs.Common.{◌≡◌, ℕ, zero, suc, ◌+◌, ◌<◌, Bool, true, false, cond, List, [], ◌∷◌, ◌++◌, length, take, filter, Some, None, refl, sym, ap, subst, ◌∙◌, arith, length-take}
 use Rattle.std.specs.Prelude.{slice_get}
 use Rattle.std.specs.List.{AllByRecursion}
 use Rattle.std.specs.Str.{bytes_eq}
 use Rattle.std.proofs.lemmas.Option.{slice_get_within}
 use Rattle.cm_types.specs.Signatures.{SignatureTy, NamedExtern}
 use Rattle.cm_match.specs.declared.offers.Offer.{Offer}
-use Rattle.cm_match.specs.Links.{Entry, entry, entries, exports_from, export_at, candidates}
+use Rattle.cm_match.specs.Links.{Entry, entries, exports_from, export_at, candidates}
 use Rattle.cm_match.specs.Offers.{offer_among}
 
 pub no_offer : (cs : List Entry) → offer_among cs ≡ None → cs ≡ []

@@ -1,5 +1,5 @@
 -- The code's items as the definitions see them.
-use Rattle.std.proofs.Common.{◌≡◌, Some, ap, ◌∙◌}
+use Rattle.std.proofs.Common.{◌≡◌, Some, ap}
 use Rattle.cm_types.specs.declared.signatures.SignatureItem.{SignatureItem}
 use Rattle.cm_types.specs.Signatures.{NamedExtern, extern_of, extern_desc_of}
 

@@ -1,10 +1,10 @@
 -- The fault of a set, and that a set that matches has none.
-use Rattle.std.proofs.Common.{◌≡◌, ℕ, ◌+◌, ◌<◌, ◌≤◌, List, [], ◌∷◌, ◌++◌, length, refl, sym, ap, subst, ◌∙◌, arith}
+use Rattle.std.proofs.Common.{◌≡◌, ℕ, List, [], ◌∷◌, ◌++◌, length, sym, ap, subst, ◌∙◌, arith}
 use Rattle.cm_types.specs.Signatures.{SignatureTy}
 use Rattle.cm_match.specs.declared.fault.LinkReason.{LinkReason}
 use Rattle.cm_match.specs.declared.fault.LinkReason.TheVariants as reason
 use Rattle.cm_match.specs.declared.plan.PlanLine.{PlanLine}
-use Rattle.cm_match.specs.Links.{Entry, candidates, imports_from, line, AreServed, IsServed, IsSame, Fails, IsFirstUnserved, IsLinkFault, Matches}
+use Rattle.cm_match.specs.Links.{Entry, candidates, AreServed, IsServed, IsSame, Fails, IsFirstUnserved, IsLinkFault, Matches}
 
 pub served_at : (set : List SignatureTy) (front : List Entry) (i : Entry) (rest : List Entry) (plan : List PlanLine) → AreServed set (front ++ i ∷ rest) plan → (e : Entry) × IsServed set i e
 served_at set [] i rest [] h = absurd h

@@ -6,14 +6,13 @@ use Rattle.std.specs.Option.{option_map}
 use Rattle.std.proofs.lemmas.Option.{slice_get-map, slice_get_within}
 use Rattle.cm_component.specs.Trees.{SectionTree}
 use Rattle.cm_types.specs.Types.{FuncTy}
-use Rattle.cm_types.specs.Signatures.{SignatureTy, NamedExtern, ExternTy, func}
-use Rattle.cm_validate.specs.Rules.{is_flat}
-use Rattle.cm_validate.specs.Sound.{IsSound, IsGuestAt, Imports, IsSoundFunc, IsSoundCoreFunc, IsSoundExport}
-use Rattle.cm_validate.specs.Spaces.{Space, FuncDefTree, CoreFuncTree, ImportedFunc, ExportedFunc, lifted, imported, lowered, type_of, spaces_of, signature, func_at}
+use Rattle.cm_types.specs.Signatures.{SignatureTy, NamedExtern, func}
+use Rattle.cm_validate.specs.Sound.{IsGuestAt, IsSoundFunc, IsSoundCoreFunc, IsSoundExport}
+use Rattle.cm_validate.specs.Spaces.{FuncDefTree, ImportedFunc, ExportedFunc, lifted, imported, lowered, type_of, spaces_of, signature, func_at}
 use Rattle.cm_match.specs.declared.plan.PlanLine.{PlanLine}
-use Rattle.cm_match.specs.Links.{Entry, entry, entries, imports_from, candidates, only, signatures, line, AreServed, IsServed, IsSame, Matches}
+use Rattle.cm_match.specs.Links.{Entry, entry, entries, imports_from, only, signatures, AreServed, IsServed, IsSame, Matches}
 use Rattle.cm_match.specs.Reaches.{IsFine, Reaches, LoweredReach}
-use Rattle.cm_match.specs.Targets.{TargetTree, follow, leads, reach, import_entry, export_def, target}
+use Rattle.cm_match.specs.Targets.{TargetTree, follow, leads, reach, import_entry, export_def}
 use Rattle.cm_match.proofs.Candidates.{earlier}
 
 -- ---- lists
@@ -69,7 +68,7 @@ in_imports P component (d ∷ ds) zero c m x p e f =
     let here : component ≡ component + 0 = omega arith in
     let zero_more : 0 + m ≡ m = omega arith in
     subst (λ a. P (entry a m x)) here (subst (λ b. P (entry component b x)) zero_more
-      (in_entries P component 0 d.imports m x (all_front P (entries component 0 d.imports) (imports_from (component + 1) ds) p) (ap (λ s. slice_get s.imports m) same ∙ f)))
+    (in_entries P component 0 d.imports m x (all_front P (entries component 0 d.imports) (imports_from (component + 1) ds) p) (ap (λ s. slice_get s.imports m) same ∙ f)))
 in_imports P component (d ∷ ds) (suc k) c m x p e f =
     let next : (component + 1) + k ≡ component + suc k = omega arith in
     subst (λ a. P (entry a m x)) next (in_imports P (component + 1) ds k c m x (all_back P (entries component 0 d.imports) (imports_from (component + 1) ds) p) e f)
@@ -155,16 +154,16 @@ last_found set plan count import c i m fine there import_is before =
     record {
       found = f.found;
       found_is =
-        ap (λ t. if t then option_and_then (leads set (reach set count)) (import_entry set count import) else reach set count count import) self
-        ∙ ap (option_and_then (leads set (reach set count))) entry_is
-        ∙ ap (λ cs. option_and_then (λ y. option_and_then (follow (reach set count) y.component) (export_def set y)) (only cs)) served.1.only
-        ∙ ap (option_and_then (follow (reach set count) e.component)) def_is
-        ∙ f.found_is;
+          ap (λ t. if t then option_and_then (leads set (reach set count)) (import_entry set count import) else reach set count count import) self
+          ∙ ap (option_and_then (leads set (reach set count))) entry_is
+          ∙ ap (λ cs. option_and_then (λ y. option_and_then (follow (reach set count) y.component) (export_def set y)) (only cs)) served.1.only
+          ∙ ap (option_and_then (follow (reach set count) e.component)) def_is
+          ∙ f.found_is;
       below = omega (arith, f.below, a.before);
       same = f.same ∙ exported.same ∙ same_desc x.from e.item i x.same served.1.same;
       provider = f.provider;
       provider_is = f.provider_is;
-      lifts = f.lifts
+      lifts = f.lifts;
     }
 
 -- an import of one of the first components
@@ -173,23 +172,23 @@ all_found set plan m fine zero component import c i lt there import_is = absurd 
 all_found set plan m fine (suc count) component import c i lt there import_is =
     let before = all_found set plan m fine count in
     elim (bool_cases (component == count)) [
-      inl h ↦
-        let same : component ≡ count = same_of component count h in
-        subst (λ k. Found set (suc count) k import i.ty) (sym same)
+      | inl h ↦
+          let same : component ≡ count = same_of component count h in
+          subst (λ k. Found set (suc count) k import i.ty) (sym same)
           (last_found set plan count import c i m fine (ap (slice_get set) (sym same) ∙ there) import_is (λ k j p x. before k j p x))
-    | inr h ↦
-        let ne : component ≢ count = apart_of component count h in
-        let less : component < count = omega (arith, ne) in
-        let f = before component import c i less there import_is in
-        record {
-          found = f.found;
-          found_is = ap (λ t. if t then option_and_then (leads set (reach set count)) (import_entry set component import) else reach set count component import) h ∙ f.found_is;
-          below = f.below;
-          same = f.same;
-          provider = f.provider;
-          provider_is = f.provider_is;
-          lifts = f.lifts
-        }
+      | inr h ↦
+          let ne : component ≢ count = apart_of component count h in
+          let less : component < count = omega (arith, ne) in
+          let f = before component import c i less there import_is in
+          record {
+            found = f.found;
+            found_is = ap (λ t. if t then option_and_then (leads set (reach set count)) (import_entry set component import) else reach set count component import) h ∙ f.found_is;
+            below = f.below;
+            same = f.same;
+            provider = f.provider;
+            provider_is = f.provider_is;
+            lifts = f.lifts;
+          }
     ]
 
 lowered_reach_of : (set : List (List SectionTree)) (plan : List PlanLine) → Matches (signatures set) plan → AllByRecursion IsFine set → (component import : ℕ) (c : List SectionTree) (item : Option ℕ) (ty : FuncTy) → slice_get set component ≡ Some c → IsSoundCoreFunc (spaces_of c) (lowered import item ty) → Reaches set component import item ty

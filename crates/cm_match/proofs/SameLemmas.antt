@@ -1,7 +1,6 @@
 -- Without resources, types that are the same are equal.
-use Rattle.std.proofs.Common.{◌≡◌, ℕ, List, [], ◌∷◌, Option, Some, None, refl, sym, ap, ◌∙◌}
+use Rattle.std.proofs.Common.{◌≡◌, [], Option, Some, None, refl, ap, ◌∙◌}
 use Rattle.std.specs.Option.{option_map}
-use Rattle.cm_types.specs.declared.resource.ResourceId.{ResourceId}
 use Rattle.cm_types.specs.Types.{Ty, FuncTy, Fields, Cases, bool, signed, unsigned, char, string, list, fixed_list, fields, cases, flags, own, borrow, no_fields, field, no_cases, plain, carrying}
 use Rattle.cm_types.specs.SameTypes.{resolved, resolved_fields, resolved_cases, resolved_func}
 

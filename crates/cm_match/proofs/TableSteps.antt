@@ -1,5 +1,5 @@
 -- One component more is linked.
-use Rattle.std.proofs.Common.{◌≡◌, ◌≢◌, ℕ, zero, suc, ◌+◌, ◌<◌, ◌==◌, Bool, true, false, List, [], ◌∷◌, ◌++◌, length, get_or, take, map, Option, Some, None, refl, sym, ap, subst, ◌∙◌, arith, add-one, drop, drop-cons, append-nil, append_assoc, length-take, ◌⊎◌, inl, inr, rules, tests, Vec}
+use Rattle.std.proofs.Common.{◌≡◌, ◌≢◌, ℕ, zero, suc, ◌+◌, ◌<◌, ◌==◌, Bool, true, false, List, [], ◌∷◌, ◌++◌, length, get_or, take, map, Option, Some, None, refl, sym, ap, ◌∙◌, arith, add-one, drop, drop-cons, append-nil, append_assoc, length-take, ◌⊎◌, inl, inr, rules, tests, Vec}
 use Rattle.std.specs.Prelude.{slice_get, option_and_then, if◌then◌else◌}
 use Rattle.std.specs.Option.{option_map}
 use Rattle.std.specs.declared.alloc.Global.{Global}
@@ -10,7 +10,6 @@ use Rattle.cm_types.specs.Signatures.{SignatureTy, NamedExtern}
 use Rattle.cm_validate.specs.Spaces.{FuncDefTree, lifted, imported, spaces_of, signature}
 use Rattle.cm_match.specs.declared.reached.Reached.{Reached}
 use Rattle.cm_match.specs.Links.{Entry, entry, entries, exports_from, only, candidates, signatures}
-use Rattle.cm_match.specs.Offers.{AreOffers}
 use Rattle.cm_match.specs.Reached.{reached_tree, table, IsTable}
 use Rattle.cm_match.specs.Targets.{TargetTree, follow, leads, reach, import_entry, export_def}
 

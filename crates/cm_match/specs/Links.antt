@@ -3,7 +3,7 @@
 use Rattle.std.specs.Prelude.{◌≡◌, ℕ, ◌+◌, ◌<◌, ◌≤◌, List, [], ◌∷◌, ◌++◌, length, take, map, filter, Option, Some, None, slice_get, option_and_then}
 use Rattle.std.specs.Str.{bytes_eq}
 use Rattle.cm_component.specs.Trees.{SectionTree}
-use Rattle.cm_types.specs.Signatures.{SignatureTy, NamedExtern, ExternTy, func, instance}
+use Rattle.cm_types.specs.Signatures.{SignatureTy, NamedExtern, ExternTy, func}
 use Rattle.cm_validate.specs.Spaces.{signature, spaces_of}
 use Rattle.cm_match.specs.declared.fault.LinkReason.{LinkReason}
 use Rattle.cm_match.specs.declared.fault.LinkReason.TheVariants as reason

@@ -1,9 +1,9 @@
 -- What an imported function reaches in the end, where each component that exports an import again is
 -- passed through.
-use Rattle.std.specs.Prelude.{◌≡◌, ℕ, zero, suc, ◌+◌, ◌<◌, ◌==◌, Bool, List, [], ◌∷◌, length, map, Option, Some, None, slice_get, option_map, option_and_then, if◌then◌else◌}
+use Rattle.std.specs.Prelude.{ℕ, zero, suc, ◌==◌, List, length, Option, Some, None, slice_get, option_map, option_and_then, if◌then◌else◌}
 use Rattle.cm_types.specs.Types.{FuncTy}
 use Rattle.cm_component.specs.Trees.{SectionTree}
-use Rattle.cm_validate.specs.Spaces.{Space, CoreFuncTree, FuncDefTree, lifted, imported, lowered, spaces_of, signature, func_at}
+use Rattle.cm_validate.specs.Spaces.{FuncDefTree, lifted, imported, spaces_of, signature, func_at}
 use Rattle.cm_match.specs.Links.{Entry, entry, candidates, only, signatures}
 
 -- a lifted function: its component, the core function that is lifted, and the type

@@ -80,7 +80,11 @@ fn provider(alloc: Global, label: &str, names: &[(&str, u32)]) -> Result<Checked
 
 /// A component that imports functions under these names, and exports them again.
 fn user(alloc: Global, names: &[&str], again: &[(&str, u32)]) -> Result<Checked, Fail> {
-    let sections = vec![in alloc; ty(alloc, "x")?, imports(alloc, names)?, exports(alloc, again)?]?;
+    let sections = vec![in alloc;
+        ty(alloc, "x")?,
+        imports(alloc, names)?,
+        exports(alloc, again)?,
+    ]?;
     Ok(validate(alloc, Component::from_sections(sections))?)
 }
 
@@ -162,7 +166,11 @@ fn faults(rt: HostRuntime) -> Result<(), Fail> {
     let two = vec![in a; inc(a)?, inc(a)?, user(a, &["inc"], &[])?]?;
     let other = vec![in a; provider(a, "y", &[("inc", 0)])?, user(a, &["inc"], &[])?]?;
     let case = vec![in a; inc(a)?, user(a, &["INC"], &[])?]?;
-    let second = vec![in a; inc(a)?, user(a, &["inc", "dec"], &[])?, user(a, &["no"], &[])?]?;
+    let second = vec![in a;
+        inc(a)?,
+        user(a, &["inc", "dec"], &[])?,
+        user(a, &["no"], &[])?,
+    ]?;
     assert_eq!(rt; fault(a, Vec::new(a)), at(0, 0, LinkReason::Empty));
     assert_eq!(rt; fault(a, none), at(0, 0, LinkReason::NoProvider));
     assert_eq!(rt; fault(a, two), at(2, 0, LinkReason::TwoProviders));

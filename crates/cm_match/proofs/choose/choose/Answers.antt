@@ -1,9 +1,8 @@
-use Rattle.std.proofs.Common.{◌≡◌, Some, None, sym, ap, subst, ◌∙◌, arith}
+use Rattle.std.proofs.Common.{◌≡◌, Some, None, sym, ap, subst, ◌∙◌}
 use Rattle.std.proofs.lemmas.Bool.{false≢true}
 use Rattle.std.specs.BTreeMap.{get_by_text}
 use Rattle.cm_types.specs.Signatures.{extern_of, extern_desc_of}
-use Rattle.cm_match.specs.Links.{Entry, entry, candidates, export_at, signatures, IsSame}
-use Rattle.cm_match.specs.Offers.{offer_among}
+use Rattle.cm_match.specs.Links.{entry, candidates, export_at, signatures, IsSame}
 use Rattle.cm_match.proofs.Candidates.{no_offer, more_offers, one_offer, found}
 use Rattle.cm_match.proofs.ChooseLemmas.{seen_item}
 use Rattle.cm_match.proofs.choose.choose.Goals as goal

@@ -1,7 +1,7 @@
-use Rattle.std.proofs.Common.{◌≡◌, ◌+◌, ◌++◌, ◌∷◌, List, [], inl, inr, map, drop, sym, subst, ap, ◌∙◌}
+use Rattle.std.proofs.Common.{◌+◌, ◌++◌, ◌∷◌, inl, inr, map, drop, sym, subst}
 use Rattle.std.specs.Option.{option_map}
 use Rattle.cm_types.specs.Signatures.{extern_of}
-use Rattle.cm_match.specs.Links.{Entry, entry, entries, signatures}
+use Rattle.cm_match.specs.Links.{entry, entries, signatures}
 use Rattle.cm_match.specs.Progress.{Progress, imports_of_rest}
 use Rattle.cm_match.specs.Reached.{reached_tree, table}
 use Rattle.cm_match.specs.Targets.{leads}
