@@ -2,3 +2,5 @@ pub mod Places
 pub mod Sizes
 pub mod Flattening
 pub mod FlatFuncs
+pub mod LayoutTys
+pub mod LayoutTrees

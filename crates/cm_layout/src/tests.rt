@@ -2,8 +2,8 @@
 //! "Flattening".
 
 use crate::{
-    FlatFunc, Side, align, case_offset, field_offset, flatten, flatten_func, has_cases, has_field,
-    size,
+    FlatFunc, LayoutTree, Side, align, case_offset, field_offset, flatten, flatten_func, has_cases,
+    has_field, layout, size,
 };
 use cm_types::CoreKind::{I32, I64};
 use cm_types::{Case, CoreKind, Field, Func, Label, ResourceId, TypeNode, TypeTree};
@@ -359,5 +359,35 @@ fn core_signatures(rt: HostRuntime) -> Result<(), Fail> {
     assert!(rt; has_kinds(&flat.params, &[I32]));
     assert!(rt; has_kinds(&flat.results, &[I64]));
     assert_eq!(rt; counts(&flat), (1, 1, true, false));
+    Ok(())
+}
+
+/// Offset, size, alignment, flat values and children of a layout, and whether it is a number.
+fn figures(layout: &LayoutTree) -> (u32, u32, u32, usize, usize, bool) {
+    (
+        layout.offset,
+        layout.size,
+        layout.align,
+        layout.flat.len(),
+        layout.children.len(),
+        layout.is_number,
+    )
+}
+
+#[test]
+fn layout_trees(rt: HostRuntime) -> Result<(), Fail> {
+    let alloc = rt.alloc();
+    // A byte at 0, and at 8 an option with its payload at 8, of 8 bytes.
+    let parts = vec![in alloc; TypeNode::U8, option(alloc, TypeNode::S64)?]?;
+    let tree = TypeTree::new(TypeNode::Tuple(parts))?;
+    let whole = layout(alloc, &tree)?;
+    assert_eq!(rt; figures(&whole), (0, 24, 8, 3, 2, false));
+    assert_eq!(rt; whole.children.len(), 2);
+    assert_eq!(rt; figures(&whole.children[0]), (0, 1, 1, 1, 0, true));
+    let choice = &whole.children[1];
+    assert_eq!(rt; figures(choice), (8, 16, 8, 2, 2, false));
+    assert_eq!(rt; choice.children.len(), 2);
+    assert_eq!(rt; figures(&choice.children[0]), (8, 0, 1, 0, 0, false));
+    assert_eq!(rt; figures(&choice.children[1]), (8, 8, 8, 1, 0, true));
     Ok(())
 }

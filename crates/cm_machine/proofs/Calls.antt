@@ -1,5 +1,5 @@
 -- At each entry and each resumption the value is the one that was sent.
-use Rattle.std.proofs.Common.{◌≡◌, ℕ, ◌<◌, ◌≤◌, ◌⊎◌, inl, inr, Bool, true, false, List, [], ◌∷◌, length, Option, Some, None, refl, sym, ap, subst, ◌∙◌, arith}
+use Rattle.std.proofs.Common.{◌≡◌, ℕ, Bool, true, false, List, [], ◌∷◌, length, Option, Some, None, refl, sym, ap, subst, ◌∙◌}
 use Rattle.std.specs.Prelude.{not, nat_lt}
 use Rattle.cm_types.specs.declared.core_value.CoreValue.{CoreValue}
 use Rattle.cm_machine.specs.declared.frame.CoreFunction.{CoreFunction}
@@ -10,7 +10,6 @@ use Rattle.cm_machine.specs.declared.frame.Frame.{Frame}
 use Rattle.cm_machine.specs.declared.frame.Purpose.{Purpose}
 use Rattle.cm_machine.specs.declared.frame.Purpose.TheVariants as purpose
 use Rattle.cm_machine.specs.declared.frame.Phase.{Phase}
-use Rattle.cm_machine.specs.declared.frame.Phase.TheVariants as phase
 use Rattle.cm_machine.specs.declared.event.Event.{Event}
 use Rattle.cm_machine.specs.declared.event.Event.TheVariants as event
 use Rattle.cm_machine.specs.declared.event.Trap.TheVariants as trap
@@ -18,14 +17,13 @@ use Rattle.cm_machine.specs.declared.event.Trap.{Trap}
 use Rattle.cm_machine.specs.declared.moves.Move.{Move}
 use Rattle.cm_machine.specs.declared.moves.Move.TheVariants as move
 use Rattle.cm_machine.specs.Stack.{actor, top_of, below_top}
-use Rattle.cm_machine.specs.State.{State, StandsOn, IsValid, core_at, is_closed}
-use Rattle.cm_machine.specs.Step.{first, checks, call_checks, are_i32s, may_leave, may_grow, result_count, returned, returned_in, Grows, Calls, Returns, Passes, Step}
-use Rattle.cm_types.specs.Values.{Val}
-use Rattle.cm_machine.specs.Values.{View, view_of, Denotes, Receives}
-use Rattle.cm_machine.specs.History.{Action, begins, moves, Entry, Happens, IsHistory, acts, Sending, sending_of, function_of, or_before, waiting, sent, Open, root, called, without_last, open_after, open_calls, Answering, answering_of, or_answered, answered}
+use Rattle.cm_machine.specs.State.{State, StandsOn, core_at, is_closed}
+use Rattle.cm_machine.specs.Step.{first, checks, call_checks, are_i32s, may_leave, may_grow, result_count, returned, returned_in, Grows, Calls, Returns, Passes}
+use Rattle.cm_machine.specs.Values.{view_of, Receives}
+use Rattle.cm_machine.specs.History.{Action, begins, moves, Entry, Happens, acts, Sending, sending_of, function_of, or_before, waiting, sent, Open, root, called, without_last, open_after, open_calls, Answering, answering_of, or_answered, answered}
 use Rattle.cm_machine.specs.Headline.{IsEntryOf, EntersRightly, IsResumptionOf, ResumesRightly}
-use Rattle.cm_machine.proofs.Valid.{four_pass, IsFineTop, top_is_fine}
-use Rattle.cm_machine.proofs.Cases.{Goes, traps, passes, wants, StepsBy, steps_by, body_returns}
+use Rattle.cm_machine.proofs.Valid.{four_pass, top_is_fine}
+use Rattle.cm_machine.proofs.Cases.{Goes, traps, passes, wants, steps_by, body_returns}
 use Rattle.cm_machine.proofs.Carried.{Carried, IsOf, AreOf, acting_top, sends, stands_below}
 use Rattle.cm_machine.proofs.Values.{denoted, received}
 

@@ -1,32 +1,29 @@
 -- What is kept along a history: who acts and which calls are open, as the events tell it, is what stands
 -- on the stack.
-use Rattle.std.proofs.Common.{◌≡◌, ℕ, ◌<◌, ◌≤◌, ◌⊎◌, inl, inr, Bool, true, false, List, [], ◌∷◌, length, map, Option, Some, None, refl, sym, ap, subst, ◌∙◌, arith}
-use Rattle.std.specs.Prelude.{slice_get, nat_lt}
+use Rattle.std.proofs.Common.{◌≡◌, ℕ, ◌<◌, Bool, true, false, List, [], ◌∷◌, length, Option, Some, None, refl, sym, ap, subst, ◌∙◌, arith}
+use Rattle.std.specs.Prelude.{slice_get}
 use Rattle.std.specs.Option.{option_map}
 use Rattle.std.proofs.lemmas.Option.{slice_get_within}
 use Rattle.cm_types.specs.declared.core_value.CoreValue.{CoreValue}
 use Rattle.cm_machine.specs.declared.frame.CoreFunction.{CoreFunction}
 use Rattle.cm_machine.specs.declared.frame.CoreFunction.TheVariants as core_function
 use Rattle.cm_machine.specs.declared.frame.Lowered.{Lowered}
-use Rattle.cm_machine.specs.declared.frame.Call.{Call}
 use Rattle.cm_machine.specs.declared.frame.Frame.{Frame}
 use Rattle.cm_machine.specs.declared.frame.Purpose.{Purpose}
 use Rattle.cm_machine.specs.declared.frame.Purpose.TheVariants as purpose
-use Rattle.cm_machine.specs.declared.frame.Phase.TheVariants as phase
 use Rattle.cm_machine.specs.declared.event.Event.{Event}
 use Rattle.cm_machine.specs.declared.event.Event.TheVariants as event
-use Rattle.cm_machine.specs.declared.event.Misuse.{Misuse}
 use Rattle.cm_machine.specs.declared.event.Trap.{Trap}
 use Rattle.cm_machine.specs.declared.moves.Move.{Move}
 use Rattle.cm_machine.specs.declared.moves.Move.TheVariants as move
 use Rattle.cm_machine.specs.Stack.{actor, top_of, below_top}
 use Rattle.cm_machine.specs.State.{State, StandsOn, IsStack, IsValid, core_at, trapped}
-use Rattle.cm_machine.specs.Step.{first, checks, call_checks, may_grow, memory_of, with_memory, without_top, call_frame, Grows, Calls, Returns, Passes, Step}
+use Rattle.cm_machine.specs.Step.{may_grow, call_frame, Grows, Calls, Returns, Passes, Step}
 use Rattle.cm_machine.specs.Run.{begun, misuse_by_closed, misuse_by_stack, misuse_of_begin}
 use Rattle.cm_machine.specs.History.{Action, begins, moves, Entry, Happens, IsHistory, acts_after, acts, Sending, sending_of, function_of, sent_by, or_before, waiting, sent, Open, root, called, opened, without_last, open_after, open_calls}
-use Rattle.cm_machine.proofs.Valid.{IsFineTop, fine_top, top_is_fine}
-use Rattle.cm_machine.proofs.Cases.{Goes, traps, passes, wants, StepsBy, steps_by, returns_new, body_returns}
-use Rattle.cm_machine.proofs.Kept.{step_valid, valid_trapped, valid_without_top}
+use Rattle.cm_machine.proofs.Valid.{fine_top}
+use Rattle.cm_machine.proofs.Cases.{Goes, traps, passes, wants, steps_by, body_returns}
+use Rattle.cm_machine.proofs.Kept.{step_valid}
 
 -- a frame is what this open call put on the stack
 abbrev pub IsOf : Purpose → ℕ → Open → Type 0

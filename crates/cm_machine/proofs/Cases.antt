@@ -1,8 +1,6 @@
 -- A step is a trap or what its move does.
-use Rattle.std.proofs.Common.{◌≡◌, ℕ, ◌<◌, ◌⊎◌, inl, inr, Bool, true, false, List, [], ◌∷◌, length, Option, Some, None, refl, sym, ap, subst, ◌∙◌, arith}
+use Rattle.std.proofs.Common.{◌≡◌, inl, inr, true, List, [], ◌∷◌, Option, Some, None, refl, ap}
 use Rattle.cm_types.specs.declared.core_value.CoreValue.{CoreValue}
-use Rattle.cm_machine.specs.declared.frame.CoreFunction.{CoreFunction}
-use Rattle.cm_machine.specs.declared.frame.CoreFunction.TheVariants as core_function
 use Rattle.cm_machine.specs.declared.frame.Call.{Call}
 use Rattle.cm_machine.specs.declared.frame.Frame.{Frame}
 use Rattle.cm_machine.specs.declared.frame.Purpose.{Purpose}

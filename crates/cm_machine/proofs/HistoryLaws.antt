@@ -1,6 +1,6 @@
 -- The sentences of the headline, for the latest entry of each history.
-use Rattle.std.proofs.Common.{◌≡◌, ℕ, ◌≤◌, Bool, true, false, ◌&&◌, ◌==◌, List, [], ◌∷◌, length, map, refl, sym, ap, subst, ◌∙◌, arith}
-use Rattle.std.specs.Prelude.{replicate, nat_le}
+use Rattle.std.proofs.Common.{◌≡◌, ℕ, ◌≤◌, Bool, true, false, ◌&&◌, ◌==◌, List, [], ◌∷◌, length, refl, ◌∙◌}
+use Rattle.std.specs.Prelude.{nat_le}
 use Rattle.std.specs.List.{list_all}
 use Rattle.std.specs.Option.{option_map}
 use Rattle.std.proofs.Math.ListN.{length-replicate}
@@ -13,7 +13,7 @@ use Rattle.cm_machine.specs.Stack.{actor, top_of}
 use Rattle.cm_machine.specs.State.{State, IsPlan, IsValid}
 use Rattle.cm_machine.specs.Run.{Run}
 use Rattle.cm_machine.specs.Fresh.{fresh, zeros, are_pages}
-use Rattle.cm_machine.specs.History.{Entry, Happens, IsHistory, IsHistoryOf, acts}
+use Rattle.cm_machine.specs.History.{Entry, Happens, IsHistoryOf, acts}
 use Rattle.cm_machine.specs.Headline.{EntersRightly, ResumesRightly, ChangesMemoryRightly, TrapsRightly, TrapsWhereItMust, RunsOn}
 use Rattle.cm_machine.proofs.Carried.{Carried, history_carried}
 use Rattle.cm_machine.proofs.Calls.{enters, resumes}

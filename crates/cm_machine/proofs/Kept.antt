@@ -1,5 +1,5 @@
 -- Each step keeps a state valid.
-use Rattle.std.proofs.Common.{◌≡◌, ℕ, zero, suc, ◌<◌, ◌≤◌, ◌⊎◌, inl, inr, Bool, true, false, List, [], ◌∷◌, length, map, Option, Some, None, refl, sym, ap, subst, ◌∙◌, arith}
+use Rattle.std.proofs.Common.{◌≡◌, ℕ, zero, suc, Bool, true, false, List, [], ◌∷◌, length, map, Option, Some, None, refl, sym, ap, subst, ◌∙◌}
 use Rattle.std.specs.Prelude.{slice_set, slice_get, unwrap_or, replicate}
 use Rattle.std.proofs.Math.ListN.{length-set}
 use Rattle.cm_types.specs.declared.core_value.CoreValue.{CoreValue}
@@ -9,8 +9,6 @@ use Rattle.cm_machine.specs.declared.frame.Frame.{Frame}
 use Rattle.cm_machine.specs.declared.frame.Place.{Place}
 use Rattle.cm_machine.specs.declared.frame.Lend.{Lend}
 use Rattle.cm_machine.specs.declared.event.Event.{Event}
-use Rattle.cm_machine.specs.declared.event.Event.TheVariants as event
-use Rattle.cm_machine.specs.declared.event.Trap.{Trap}
 use Rattle.cm_machine.specs.declared.moves.Move.{Move}
 use Rattle.cm_machine.specs.declared.moves.Move.TheVariants as move
 use Rattle.cm_machine.specs.Memories.{written, grown}
@@ -18,8 +16,8 @@ use Rattle.cm_machine.specs.Stack.{actor, top_of, below_top}
 use Rattle.cm_machine.specs.State.{State, IsStack, IsValid, core_at, trapped, closed_with, tables_with, abandoned}
 use Rattle.cm_handles.specs.Handles.{Handles, no_handles, closed}
 use Rattle.cm_machine.specs.Step.{first, checks, call_checks, may_grow, memory_of, with_memory, without_top, call_frame, Grows, Calls, Passes, Step}
-use Rattle.cm_machine.proofs.Valid.{FitsCall, call_fits}
-use Rattle.cm_machine.proofs.Cases.{Goes, traps, passes, wants, StepsBy, steps_by, returns_new}
+use Rattle.cm_machine.proofs.Valid.{call_fits}
+use Rattle.cm_machine.proofs.Cases.{Goes, traps, passes, wants, steps_by, returns_new}
 
 pub length_closed : (fs : List Frame) (closed : List Bool) → length (closed_with fs closed) ≡ length closed
 length_closed [] closed = refl

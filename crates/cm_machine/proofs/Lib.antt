@@ -13,3 +13,4 @@ pub mod RunLaws
 pub mod HistoryLaws
 pub mod Drives
 pub mod Seats
+pub mod Plans

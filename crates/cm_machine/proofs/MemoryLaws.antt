@@ -1,10 +1,9 @@
 -- What writes and growths do to bytes, address by address, and that nothing else changes a memory.
-use Rattle.std.proofs.Common.{◌≡◌, ◌≢◌, ℕ, zero, suc, ◌+◌, ◌-◌, ◌*◌, ◌/◌, ◌<◌, ◌≤◌, ◌⊎◌, inl, inr, Bool, true, false, List, [], ◌∷◌, ◌++◌, length, take, drop, get_or, Option, Some, None, refl, sym, ap, subst, ◌∙◌, arith, length-append, length-take, length-drop, get_or-take, get_or-drop}
-use Rattle.std.specs.Prelude.{slice_get, slice_set, slice_index, unwrap_or, replicate, nat_le, vec_len}
+use Rattle.std.proofs.Common.{◌≡◌, ◌≢◌, ℕ, zero, suc, ◌+◌, ◌-◌, ◌*◌, ◌/◌, ◌<◌, ◌≤◌, Bool, true, false, List, [], ◌∷◌, ◌++◌, length, take, drop, get_or, Option, Some, None, refl, sym, ap, subst, ◌∙◌, arith, length-append, length-take, length-drop, get_or-take, get_or-drop}
+use Rattle.std.specs.Prelude.{slice_set, slice_index, replicate, nat_le, vec_len}
 use Rattle.std.proofs.Math.ListN.{length-set, get_or-append, length-replicate}
 use Rattle.std.proofs.lemmas.List.{get_or-append_right, get_or-set_same, get_or-set_other}
 use Rattle.std.proofs.lemmas.Option.{unwrap_or-slice_get}
-use Rattle.std.proofs.lemmas.Grind.{common_steps}
 use borrow.Author.Tests.{leb-true, leb-false}
 use Rattle.cm_types.specs.declared.core_value.CoreValue.{CoreValue}
 use Rattle.cm_machine.specs.declared.frame.CoreFunction.{CoreFunction}
@@ -16,15 +15,14 @@ use Rattle.cm_machine.specs.declared.event.Trap.{Trap}
 use Rattle.cm_machine.specs.declared.event.Trap.TheVariants as trap
 use Rattle.cm_machine.specs.declared.moves.Move.{Move}
 use Rattle.cm_machine.specs.declared.moves.Move.TheVariants as move
-use Rattle.cm_machine.specs.Memories.{written, grown, pages_of, bytes_of}
-use Rattle.cm_machine.specs.Stack.{actor, top_of}
-use Rattle.cm_machine.specs.State.{State, IsValid, core_at, trapped}
+use Rattle.cm_machine.specs.Memories.{written, grown, bytes_of}
+use Rattle.cm_machine.specs.Stack.{actor}
+use Rattle.cm_machine.specs.State.{State, core_at, trapped}
 use Rattle.cm_machine.specs.Step.{first, checks, may_grow, memory_of, with_memory, Grows, Calls, Passes, Step}
-use Rattle.cm_machine.specs.Run.{begun}
 use Rattle.cm_machine.specs.History.{Action, begins, moves, Entry, Happens, acts}
 use Rattle.cm_machine.specs.Headline.{WritesExactly, GrowsExactly, OthersStay, ChangesAsTold, ChangesMemoryRightly}
 use Rattle.cm_machine.proofs.Valid.{actor_inside}
-use Rattle.cm_machine.proofs.Cases.{Goes, traps, passes, wants, StepsBy, steps_by, returns_new}
+use Rattle.cm_machine.proofs.Cases.{Goes, traps, passes, wants, steps_by, returns_new}
 use Rattle.cm_machine.proofs.Carried.{Carried, acting_top}
 
 index_at : (xs : List ℕ) (k : ℕ) → slice_index xs k ≡ get_or xs k 0

@@ -1,5 +1,5 @@
 -- What passes is no trap.
-use Rattle.std.proofs.Common.{◌≡◌, ℕ, Bool, true, false, List, Option, Some, None, refl, sym, ap, ◌∙◌}
+use Rattle.std.proofs.Common.{◌≡◌, ℕ, Bool, true, false, List, Option, Some, None}
 use Rattle.cm_types.specs.declared.core_value.CoreValue.{CoreValue}
 use Rattle.cm_machine.specs.declared.frame.CoreFunction.{CoreFunction}
 use Rattle.cm_machine.specs.declared.frame.CoreFunction.TheVariants as core_function

@@ -1,12 +1,11 @@
 -- A run extends each history that led to its state.
-use Rattle.std.proofs.Common.{◌≡◌, Bool, true, false, List, [], ◌∷◌, refl, sym, ap, subst, ◌∙◌}
+use Rattle.std.proofs.Common.{◌≡◌, Bool, true, false, List, [], ◌∷◌, refl, sym, subst}
 use Rattle.cm_machine.specs.declared.event.Event.{Event}
 use Rattle.cm_machine.specs.declared.moves.Move.{Move}
 use Rattle.cm_machine.specs.State.{State}
-use Rattle.cm_machine.specs.Step.{Step}
 use Rattle.cm_machine.specs.Run.{Run, is_last}
 use Rattle.cm_machine.specs.History.{moves, Entry, IsHistory}
-use Rattle.cm_machine.specs.Headline.{GoesOnBy, RunsOn}
+use Rattle.cm_machine.specs.Headline.{RunsOn}
 
 one_more : (start : State) (h : List Entry) (s : State) (m : Move) (e : Event) (mid : State) (ms : List Move) (es : List Event) (new : State) → RunsOn start (record { before = s; action = moves m; event = e; after = mid } ∷ h) ms es new → RunsOn start h (m ∷ ms) (e ∷ es) new
 one_more start h s m e mid ms es new r = (r.0, (record { before = s; action = moves m; event = e; after = mid }, refl, refl, r.1))

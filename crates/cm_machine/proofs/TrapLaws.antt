@@ -1,5 +1,5 @@
 -- A trap has its named cause, and closes exactly what stood on the stack.
-use Rattle.std.proofs.Common.{◌≡◌, ◌≢◌, ℕ, zero, suc, ◌+◌, ◌<◌, ◌≤◌, ◌⊎◌, inl, inr, Bool, true, false, List, [], ◌∷◌, ◌++◌, length, get_or, Option, Some, None, refl, sym, ap, subst, ◌∙◌, arith}
+use Rattle.std.proofs.Common.{◌≡◌, ℕ, zero, suc, ◌<◌, ◌⊎◌, inl, inr, Bool, true, false, List, [], ◌∷◌, ◌++◌, length, Some, None, refl, sym, ap, subst, ◌∙◌, arith}
 use Rattle.std.specs.Prelude.{slice_get, slice_set, ◌↔◌}
 use Rattle.std.proofs.Math.ListN.{length-set}
 use Rattle.std.specs.List.{AllByRecursion}
@@ -9,13 +9,12 @@ use Rattle.cm_machine.specs.declared.event.Event.TheVariants as event
 use Rattle.cm_machine.specs.declared.event.Trap.{Trap}
 use Rattle.cm_machine.specs.declared.event.Trap.TheVariants as trap
 use Rattle.cm_machine.specs.declared.moves.Move.{Move}
-use Rattle.cm_machine.specs.declared.moves.Move.TheVariants as move
 use Rattle.cm_machine.specs.Stack.{top_of}
 use Rattle.cm_machine.specs.State.{State, IsStack, IsValid, trapped, closed_with}
-use Rattle.cm_machine.specs.Step.{first, checks, may_want_memory, Passes, Step}
+use Rattle.cm_machine.specs.Step.{first, checks, Step}
 use Rattle.cm_machine.specs.History.{Action, begins, moves, Entry, Happens}
 use Rattle.cm_machine.specs.Headline.{IsFirstFailing, HasCause, StandsOnStack, ClosesStack, TrapsRightly, TrapsWhereItMust}
-use Rattle.cm_machine.proofs.Cases.{Goes, traps, passes, wants, StepsBy, steps_by}
+use Rattle.cm_machine.proofs.Cases.{Goes, traps, passes, wants, steps_by}
 use Rattle.cm_machine.proofs.Carried.{Carried}
 use Rattle.cm_machine.proofs.Passing.{passes_no_trap}
 

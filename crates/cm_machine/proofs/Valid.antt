@@ -1,6 +1,6 @@
 -- What a valid state says of the frame on top and of the function that it calls.
-use Rattle.std.proofs.Common.{◌≡◌, ℕ, zero, suc, ◌+◌, ◌<◌, ◌≤◌, Bool, true, false, ◌&&◌, ◌==◌, List, [], ◌∷◌, length, Option, Some, None, refl, sym, ◌∙◌, ap, subst, arith, add-zero, add-suc}
-use Rattle.std.specs.Prelude.{slice_get, unwrap_or, not, nat_lt}
+use Rattle.std.proofs.Common.{◌≡◌, ℕ, zero, suc, ◌+◌, ◌<◌, ◌≤◌, Bool, true, false, ◌&&◌, ◌==◌, List, [], ◌∷◌, length, Option, Some, None, refl, sym, ap, subst, arith, add-zero}
+use Rattle.std.specs.Prelude.{slice_get, not, nat_lt}
 use Rattle.std.specs.List.{AllByRecursion, list_all}
 use Rattle.std.proofs.lemmas.Bool.{eqb-true}
 use borrow.Author.Tests.{ltb-true}
@@ -13,7 +13,6 @@ use Rattle.cm_machine.specs.declared.frame.Lowered.{Lowered}
 use Rattle.cm_machine.specs.declared.frame.Frame.{Frame}
 use Rattle.cm_machine.specs.declared.frame.Purpose.{Purpose}
 use Rattle.cm_machine.specs.declared.frame.Purpose.TheVariants as purpose
-use Rattle.cm_machine.specs.declared.frame.Phase.TheVariants as phase
 use Rattle.cm_machine.specs.Stack.{actor, actor_of, actor_in, top_of}
 use Rattle.cm_machine.specs.State.{State, StandsOn, IsStack, IsPlan, IsLinkedBelow, IsValid, core_at, is_closed}
 use Rattle.cm_machine.specs.Step.{are_i32s, is_i32, first, call_checks, call_frame, may_leave}

@@ -1,10 +1,7 @@
 -- What holds of each history of a linked set.
-use Rattle.std.specs.Prelude.{◌≡◌, ◌≢◌, ℕ, ◌+◌, ◌-◌, ◌*◌, ◌<◌, ◌≤◌, ◌⊎◌, ◌↔◌, Bool, true, false, List, [], ◌∷◌, ◌++◌, length, Option, Some, None, slice_get, slice_index, vec_len}
+use Rattle.std.specs.Prelude.{◌≡◌, ◌≢◌, ℕ, ◌+◌, ◌*◌, ◌<◌, ◌≤◌, ◌⊎◌, ◌↔◌, Bool, true, false, List, [], ◌∷◌, ◌++◌, length, Some, None, slice_get, slice_index}
 use Rattle.std.specs.List.{AllByRecursion}
 use Rattle.cm_types.specs.declared.core_value.CoreValue.{CoreValue}
-use Rattle.cm_machine.specs.declared.frame.CoreFunction.{CoreFunction}
-use Rattle.cm_machine.specs.declared.frame.CoreFunction.TheVariants as core_function
-use Rattle.cm_machine.specs.declared.frame.Lowered.{Lowered}
 use Rattle.cm_machine.specs.declared.frame.Frame.{Frame}
 use Rattle.cm_machine.specs.declared.event.Event.{Event}
 use Rattle.cm_machine.specs.declared.event.Event.TheVariants as event
@@ -14,12 +11,11 @@ use Rattle.cm_machine.specs.declared.moves.Move.{Move}
 use Rattle.cm_machine.specs.declared.moves.Move.TheVariants as move
 use Rattle.cm_machine.specs.Memories.{bytes_of}
 use Rattle.cm_machine.specs.Stack.{top_of}
-use Rattle.cm_machine.specs.State.{State, core_at, IsPlan}
+use Rattle.cm_machine.specs.State.{State}
 use Rattle.cm_machine.specs.Step.{checks, may_want_memory, result_count}
-use Rattle.cm_machine.specs.Run.{Run}
 use Rattle.cm_types.specs.Values.{Val}
-use Rattle.cm_machine.specs.Values.{View, view_of, Denotes, Receives}
-use Rattle.cm_machine.specs.History.{Action, begins, moves, Entry, Happens, IsHistory, acts, Sending, sent, Open, root, called, open_calls, Answering, answered}
+use Rattle.cm_machine.specs.Values.{view_of, Denotes, Receives}
+use Rattle.cm_machine.specs.History.{begins, moves, Entry, IsHistory, acts, Sending, sent, Open, called, open_calls, Answering, answered}
 
 -- ---- entries
 

@@ -1,9 +1,7 @@
 -- Whole histories of a set, told by what guests did and what the machine answered. Nothing here reads
 -- the machine's stack: who acts and which calls are open is told by the events alone.
-use Rattle.std.specs.Prelude.{◌≡◌, ℕ, ◌<◌, ◌≤◌, ◌⊎◌, Bool, true, false, List, [], ◌∷◌, Option, Some, None, slice_get, length}
-use Rattle.std.specs.Option.{option_map}
+use Rattle.std.specs.Prelude.{◌≡◌, ℕ, ◌≤◌, true, List, [], ◌∷◌, Option, Some, None, length}
 use Rattle.cm_types.specs.declared.core_value.CoreValue.{CoreValue}
-use Rattle.cm_types.specs.declared.core_value.CoreValue.TheVariants as core_value
 use Rattle.cm_machine.specs.declared.frame.CoreFunction.{CoreFunction}
 use Rattle.cm_machine.specs.declared.frame.CoreFunction.TheVariants as core_function
 use Rattle.cm_machine.specs.declared.frame.Lowered.{Lowered}

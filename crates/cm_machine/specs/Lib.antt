@@ -10,3 +10,4 @@ pub mod Values
 pub mod Headline
 pub mod Exchange
 pub mod Player
+pub mod Plan

@@ -1,9 +1,8 @@
 -- The state of a linked set while it runs.
-use Rattle.std.specs.Prelude.{◌≡◌, ℕ, ◌+◌, ◌<◌, ◌≤◌, Bool, true, false, List, [], ◌∷◌, length, map, Option, Some, None, slice_get, slice_set, replicate, unwrap_or, option_and_then}
+use Rattle.std.specs.Prelude.{◌≡◌, ℕ, ◌+◌, ◌<◌, ◌≤◌, Bool, true, false, List, [], ◌∷◌, length, map, Option, Some, slice_get, slice_set, replicate, unwrap_or}
 use Rattle.std.specs.List.{AllByRecursion}
 use Rattle.cm_machine.specs.declared.frame.CoreFunction.{CoreFunction}
 use Rattle.cm_machine.specs.declared.frame.CoreFunction.TheVariants as core_function
-use Rattle.cm_machine.specs.declared.frame.Lowered.{Lowered}
 use Rattle.cm_machine.specs.declared.frame.Frame.{Frame}
 use Rattle.cm_machine.specs.declared.frame.Purpose.{Purpose}
 use Rattle.cm_machine.specs.declared.frame.Purpose.TheVariants as purpose

@@ -3,7 +3,7 @@
 use Rattle.std.specs.Prelude.{◌≡◌, ℕ, zero, suc, List, [], ◌∷◌}
 use Rattle.cm_types.specs.declared.core_value.CoreValue.{CoreValue}
 use Rattle.cm_types.specs.declared.core_value.CoreValue.TheVariants as core_value
-use Rattle.cm_types.specs.Values.{Val, truth, signed_number, number, scalar, text, elements, parts, bare, bearing, flag_set, handle}
+use Rattle.cm_types.specs.Values.{Val, number}
 use Rattle.cm_machine.specs.Memories.{bytes_of}
 use Rattle.cm_machine.specs.State.{State}
 

@@ -8,6 +8,7 @@ mod frame;
 mod laws;
 mod memory;
 mod moves;
+mod plan;
 mod player;
 mod set;
 mod setup;

@@ -33,6 +33,13 @@ impl Model for CoreFunctions {
 }
 
 impl CoreFunctions {
+    /// These functions, in order.
+    pub fn of(functions: Vec<CoreFunction>) -> CoreFunctions
+        ensures { result ≡ functions.items }
+    {
+        CoreFunctions { functions }
+    }
+
     /// The function with this index.
     pub fn get(&self, index: usize) -> Option<CoreFunction>
         ensures { result ≡ slice_get self.now index }

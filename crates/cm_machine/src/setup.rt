@@ -1,15 +1,18 @@
 //! A set before anything ran.
 
-ghost use Rattle.std.specs.Prelude.{◌≡◌, ◌≤◌, ◌⊎◌, replicate, ◌↔◌, List, [], true, false, length, map, nat_le, IfOk, IfErr, IsErrOf};
+ghost use Rattle.std.specs.Prelude.{◌≡◌, ◌≤◌, ◌⊎◌, replicate, ◌↔◌, List, [], true, false, length, map, nat_le, IfOk, IfErr, OnOk, IsErrOf};
 ghost use Rattle.std.specs.List.{list_all};
 ghost use Rattle.cm_handles.specs.Handles.{no_handles};
 ghost use Rattle.cm_machine.specs.State.{IsPlan};
 ghost use Rattle.cm_machine.specs.Fresh.{are_pages, zeros, fresh};
+ghost use Rattle.cm_machine.specs.Plan.{plan_of};
 
 use crate::event::Misuse;
 use crate::memory::{MAX_PAGES, Memories, Memory};
+use crate::plan::plan_of;
 use crate::set::{CoreFunctions, Set};
 use cm_handles::Table;
+use cm_match::Linked;
 use std::alloc::{AllocError, Global};
 
 fn all_fit(pages: &[u32]) -> bool
@@ -48,24 +51,33 @@ pub(crate) fn tables_of(alloc: Global, count: usize) -> Result<Vec<Table>, Alloc
 }
 
 impl Set {
-    /// A set of instances with these functions, each with so many pages of zeros.
-    pub(crate) fn of_plan(
-        alloc: Global,
-        plan: Vec<CoreFunctions>,
-        pages: &[u32],
-    ) -> Result<Set, Misuse>
-        requires few { length plan.items ≤ 16 }
-        requires linked { IsPlan 0 plan.items }
-        ensures fresh { IfOk result (λ s. s ≡ fresh plan.items pages.now) }
-        ensures bad_pages { IsErrOf result Misuse.BadPages ↔ (are_pages (length plan.items) pages.now ≡ false) }
+    /// A linked set that can run: each instance has so many pages of zeros, in the order of the components,
+    /// and an empty handle table; no frame stands.
+    ///
+    /// Misuse: `BadPages` where there is not one number for each component, or one is above 1,024, else
+    /// `Memory` where there is no room for the set. The linked set is dropped then.
+    pub fn new(alloc: Global, linked: Linked, pages: &[u32]) -> Result<Set, Misuse>
+        ensures fresh { IfOk result (λ s. s ≡ fresh (plan_of linked) pages.now) }
+        ensures accepted { OnOk result (IsPlan 0 (plan_of linked) × (length (plan_of linked) ≤ 16) × (are_pages (length linked) pages.now ≡ true)) }
+        ensures bad_pages { IsErrOf result Misuse.BadPages ↔ (are_pages (length linked) pages.now ≡ false) }
         ensures only { IfErr result (λ m. (m ≡ Misuse.BadPages) ⊎ (m ≡ Misuse.Memory)) }
     {
-        if !are_pages(plan.len(), pages) {
+        if !are_pages(linked.components().len(), pages) {
             return Err(Misuse::BadPages);
         }
-        match Set::with_pages(alloc, plan, pages) {
+        match set_of(alloc, &linked, pages) {
             Ok(set) => Ok(set),
             Err(AllocError) => Err(Misuse::Memory),
         }
     }
+}
+
+/// The set of this plan.
+fn set_of(alloc: Global, linked: &Linked, pages: &[u32]) -> Result<Set, AllocError>
+    requires { are_pages (length linked.now) pages.now ≡ true }
+    ensures fresh { IfOk result (λ s. s ≡ fresh (plan_of linked.now) pages.now) }
+    ensures accepted { OnOk result (IsPlan 0 (plan_of linked.now) × (length (plan_of linked.now) ≤ 16)) }
+{
+    let plan = plan_of(alloc, linked)?;
+    Set::with_pages(alloc, plan, pages)
 }

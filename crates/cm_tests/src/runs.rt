@@ -62,6 +62,7 @@ fn a_call_goes_there_and_back(rt: HostRuntime) -> Result<(), Fail> {
 }
 
 /// What a guest does wrong, the trap, and which of the two instances are closed then.
+#[derive(Clone, Copy, Drop)]
 struct Wrong<'a> {
     args: &'a [CoreValue],
     values: &'a [CoreValue],

@@ -1,5 +1,5 @@
 -- ASCII in each encoding.
-use Rattle.std.proofs.Common.{◌≡◌, ℕ, ◌+◌, ◌*◌, ◌/◌, ◌%◌, ◌<◌, ◌≤◌, Bool, true, false, cond, List, [], ◌∷◌, ◌++◌, length, take, drop, refl, sym, ap, subst, ◌∙◌, arith, zero, suc}
+use Rattle.std.proofs.Common.{◌≡◌, ℕ, ◌+◌, ◌*◌, ◌/◌, ◌%◌, ◌<◌, Bool, true, false, cond, List, [], ◌∷◌, ◌++◌, length, take, drop, refl, sym, ap, subst, ◌∙◌, arith, suc}
 use Rattle.std.proofs.lemmas.Bool.Decides.{nat_tests}
 use Rattle.std.proofs.lemmas.List.{take-append-drop, length-take-le}
 use Rattle.std.proofs.lemmas.List.Sums.{prefix_len-le-length}
@@ -7,7 +7,7 @@ use Rattle.std.specs.Char.{IsScalar, is_ascii}
 use Rattle.std.specs.List.{AllByRecursion, flat_map, prefix_len}
 use lib.Utf8.{low_scalar}
 use Rattle.cm_text.specs.Ascii.{wide}
-use Rattle.cm_text.specs.Utf16.{unit, units, first_bytes, bytes_of_unit, spell_utf16}
+use Rattle.cm_text.specs.Utf16.{bytes_of_unit, spell_utf16}
 use Rattle.cm_text.specs.Utf16Laws.{one_unit, utf16_one_spelling, utf16_some_byte}
 use Rattle.cm_text.specs.Utf8Laws.{utf8_one_spelling, utf8_some_byte}
 use Rattle.cm_text.specs.Latin1Laws.{latin1_one_spelling, latin1_some_byte}

@@ -1,9 +1,7 @@
 -- Sizes in another encoding, as sums over the bytes or the units of a text.
-use Rattle.std.proofs.Common.{◌≡◌, ℕ, ◌+◌, ◌*◌, ◌-◌, ◌/◌, ◌%◌, ◌<◌, ◌≤◌, ◌^◌, Bool, true, false, cond, not, List, [], ◌∷◌, ◌++◌, length, take, drop, get_or, map, refl, sym, ap, subst, ◌∙◌, arith, zero-add, length-append, nat_le, nat_lt, sum_by, count_by, replicate, ◌⊎◌, ⊎_elim, inl, inr, zero, suc, Fits, w8}
+use Rattle.std.proofs.Common.{◌≡◌, ℕ, ◌+◌, ◌*◌, ◌%◌, ◌<◌, ◌≤◌, ◌^◌, Bool, cond, List, [], ◌∷◌, ◌++◌, length, take, get_or, map, refl, sym, ap, subst, ◌∙◌, arith, zero-add, length-append, nat_le, sum_by, count_by, replicate, ⊎_elim, zero, suc, Fits, w8}
 use Rattle.std.proofs.lemmas.Bool.Decides.{nat_tests}
-use Rattle.std.proofs.lemmas.Bool.{cases_lt}
 use Rattle.std.proofs.lemmas.List.Sums.{sum_by-append, sum_by-take-le, count_by-le-length}
-use Rattle.std.proofs.lemmas.List.Concat.{flat_map-append}
 use Rattle.std.proofs.lemmas.Simd.{ones-mask_l}
 use Rattle.std.specs.Char.{IsScalar}
 use Rattle.std.specs.Int.RustNames.{count_ones}
@@ -17,9 +15,10 @@ use lib.Utf8.{scalar_cases}
 use Rattle.cm_text.specs.Sizes.{units_begun, bytes_taken, latin1_taken}
 use Rattle.std.specs.Char.Escape.{encode_utf16}
 use Rattle.cm_text.specs.Latin1.{HasLatin1, spell_latin1}
-use Rattle.cm_text.specs.Utf16.{unit, units, mark, spell_utf16, bytes_of_unit}
+use Rattle.cm_text.specs.Utf16.{unit, units, spell_utf16}
+use Rattle.cm_text.specs.Lanes.{mark}
 use Rattle.cm_text.specs.Utf16Laws.{units_of_units}
-use Rattle.cm_text.specs.Utf8.{spell_utf8, following}
+use Rattle.cm_text.specs.Utf8.{spell_utf8}
 use Rattle.cm_text.proofs.LaneLemmas.{mask_from}
 
 -- the lanes from k on are as many as the bits of their mask

@@ -1,5 +1,5 @@
 -- A text is refused for want of memory alone.
-use Rattle.std.proofs.Common.{◌≡◌, ℕ, List}
+use Rattle.std.proofs.Common.{ℕ, List}
 use Rattle.cm_text.specs.declared.fault.TextFault.{TextFault}
 use Rattle.cm_text.specs.declared.fault.TextFault.TheVariants.{IllFormed, Memory}
 use Rattle.cm_text.specs.Fault.{IsIllFormed, IsMemory}

@@ -1,5 +1,5 @@
 -- Sixteen lanes against their plain definitions.
-use Rattle.std.proofs.Common.{◌≡◌, ℕ, ◌+◌, ◌*◌, ◌<◌, ◌≤◌, ◌%◌, ◌/◌, ◌^◌, Bool, true, false, cond, not, List, [], ◌∷◌, ◌++◌, length, map, refl, sym, ap, ◌∙◌, arith, nat_lt, replicate, w8, subst, take, drop, zero, suc, append_assoc}
+use Rattle.std.proofs.Common.{◌≡◌, ℕ, ◌+◌, ◌*◌, ◌≤◌, ◌%◌, ◌/◌, ◌^◌, Bool, true, false, cond, not, List, [], ◌∷◌, ◌++◌, length, map, refl, sym, ap, ◌∙◌, arith, nat_lt, replicate, w8, subst, take, drop, zero, suc, append_assoc}
 use Rattle.std.proofs.lemmas.Bool.Decides.{nat_tests}
 use Rattle.std.proofs.lemmas.Simd.{zip2_splat, zip2_splat_left, bitmask_splat, pick_l_whole, length-chunk, splat_is_map, take_more_put_chunk, length-put_chunk, tops_compared, mask_l-mod, length-zip2}
 use Rattle.std.proofs.Math.Seq.{take-add}
@@ -9,7 +9,8 @@ use Rattle.std.specs.List.{prefix_len, flat_map}
 use Rattle.cm_text.specs.Ascii.{wide}
 use lib.Dec.{leb, eqb}
 use lib.Lanes.{zip2, mask_l, top, sel_l, chunk, pick_l, put_chunk}
-use Rattle.cm_text.specs.Utf16.{unit, units, first_bytes, second_bytes, mark, below_e0, is_plain}
+use Rattle.cm_text.specs.Utf16.{unit, units, first_bytes}
+use Rattle.cm_text.specs.Lanes.{second_bytes, mark, below_e0, is_plain}
 
 -- tests that agree give one run
 pub prefix_len-same : (p q : ℕ → Bool) → ((x : ℕ) → p x ≡ q x) → (xs : List ℕ) → prefix_len p xs ≡ prefix_len q xs

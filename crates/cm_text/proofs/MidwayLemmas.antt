@@ -1,9 +1,9 @@
 -- A text midway into another encoding: some of its scalars were read and written.
-use Rattle.std.proofs.Common.{◌≡◌, ℕ, ◌+◌, ◌*◌, ◌<◌, ◌≤◌, List, [], ◌∷◌, ◌++◌, length, take, drop, refl, sym, ap, subst, ◌∙◌, arith, append_assoc, length-append, length-drop}
-use Rattle.std.proofs.lemmas.List.{append-nil, append_cancel_left, take-append-drop, take_all, drop_all, drop_at, length-take-le, drop-drop}
+use Rattle.std.proofs.Common.{◌≡◌, ℕ, ◌+◌, ◌<◌, ◌≤◌, List, [], ◌∷◌, ◌++◌, length, take, drop, refl, sym, ap, subst, ◌∙◌, arith, append_assoc, length-append, length-drop}
+use Rattle.std.proofs.lemmas.List.{append-nil, take_all, drop_all, drop_at, length-take-le, drop-drop}
 use Rattle.std.proofs.lemmas.List.Concat.{flat_map-append}
 use Rattle.std.specs.List.{AllByRecursion, flat_map}
-use Rattle.cm_text.specs.Text.{IsText, IsSomeText, IsTextOfSize, IsSameText, BeginsWith, BeginsWithSome}
+use Rattle.cm_text.specs.Text.{IsText, IsTextOfSize, IsSameText, BeginsWith, BeginsWithSome}
 use Rattle.cm_text.proofs.TextLemmas.{Laws, Left, goes_on, one_text, no_scalar, all-append}
 
 pub record Midway (has : ℕ → Type 0) (spell spell_to : ℕ → List ℕ) (bytes : List ℕ) (at : ℕ) (out : List ℕ) (to : ℕ) : Type 0 where

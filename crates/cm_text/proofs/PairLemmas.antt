@@ -7,13 +7,13 @@ use Rattle.std.specs.Char.{IsScalar, is_ascii}
 use Rattle.std.specs.List.{AllByRecursion, flat_map, prefix_len}
 use Rattle.cm_text.specs.Ascii.{wide}
 use Rattle.cm_text.specs.Latin1.{HasLatin1, spell_latin1}
-use Rattle.cm_text.specs.Text.{IsText, IsTextOfSize, IsSameText, BeginsWith, BeginsWithSome}
+use Rattle.cm_text.specs.Text.{IsTextOfSize, BeginsWith, BeginsWithSome}
 use Rattle.cm_text.specs.Utf16.{unit, units, first_bytes, spell_utf16}
 use Rattle.cm_text.specs.Utf16Laws.{length_of_units, some_unit}
 use Rattle.std.specs.Char.Escape.{encode_utf16}
 use Rattle.cm_text.proofs.RunLemmas.{units_one}
 use Rattle.cm_text.specs.Utf8.{spell_utf8}
-use Rattle.cm_text.proofs.AsciiLemmas.{AreAscii, Run, run_of, ascii_in_run, ascii_scalars, ascii_utf8, ascii_utf16, ascii_latin1, utf8_laws, utf16_laws, latin1_laws}
+use Rattle.cm_text.proofs.AsciiLemmas.{AreAscii, run_of, ascii_in_run, ascii_scalars, ascii_utf8, ascii_utf16, ascii_latin1, utf8_laws, utf16_laws, latin1_laws}
 use Rattle.cm_text.proofs.MidwayLemmas.{Midway, room_for, further}
 use Rattle.cm_text.proofs.UnitLemmas.{wide-first_bytes, length-units_half}
 

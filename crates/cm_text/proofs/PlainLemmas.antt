@@ -1,12 +1,13 @@
 -- Units of UTF-16 that are no surrogates.
-use Rattle.std.proofs.Common.{◌≡◌, ℕ, ◌+◌, ◌*◌, ◌-◌, ◌/◌, ◌%◌, ◌<◌, ◌≤◌, Bool, true, false, cond, List, [], ◌∷◌, ◌++◌, length, take, drop, refl, sym, ap, subst, ◌∙◌, arith, zero, suc, append_assoc, length-drop, Fits, w8}
+use Rattle.std.proofs.Common.{◌≡◌, ℕ, ◌+◌, ◌*◌, ◌-◌, ◌/◌, ◌%◌, ◌<◌, ◌≤◌, Bool, true, false, cond, List, [], ◌∷◌, ◌++◌, length, take, drop, refl, sym, ap, ◌∙◌, arith, zero, suc, append_assoc, Fits, w8}
 use Rattle.std.proofs.lemmas.Bool.Decides.{nat_tests}
-use Rattle.std.proofs.lemmas.List.{take-append-drop, take-take, drop-drop}
+use Rattle.std.proofs.lemmas.List.{take-append-drop, take-take, drop-drop, take_rest}
 use Rattle.std.proofs.lemmas.List.Concat.{flat_map-append}
 use Rattle.std.specs.Char.{IsScalar}
 use Rattle.std.specs.List.{AllByRecursion, flat_map, prefix_len}
 use lib.Lanes.{Each1, chunk}
-use Rattle.cm_text.specs.Utf16.{unit, units, second_bytes, is_plain, bytes_of_unit, spell_utf16}
+use Rattle.cm_text.specs.Utf16.{unit, units, bytes_of_unit, spell_utf16}
+use Rattle.cm_text.specs.Lanes.{second_bytes, is_plain}
 use Rattle.cm_text.specs.Utf16Laws.{one_unit}
 use Rattle.cm_text.proofs.TextLemmas.{all-append}
 
@@ -71,3 +72,8 @@ plain_on bytes at run so_far fits within few le =
           ∙ sym (append_assoc (flat_map spell_utf16 so_far.scalars) (flat_map spell_utf16 us) (drop (at + 2 * run) bytes))
           ∙ ap (λ ys. ys ++ drop (at + 2 * run) bytes) (sym (flat_map-append spell_utf16 so_far.scalars us));
     }
+
+-- the bytes before a place are scalars, and the rest is what a slice from there on holds
+pub front_of : (bytes : List ℕ) (at : ℕ) → Plain bytes at
+    → (scalars : List ℕ) × AllByRecursion IsScalar scalars × (bytes ≡ flat_map spell_utf16 scalars ++ take (length bytes - at) (drop at bytes))
+front_of bytes at p = (p.scalars, p.all, p.split ∙ ap (λ ys. flat_map spell_utf16 p.scalars ++ ys) (sym (take_rest bytes at)))

@@ -1,6 +1,6 @@
 -- Runs of ASCII that are written block by block, where a block may write past the run.
-use Rattle.std.proofs.Common.{◌≡◌, ℕ, ◌+◌, ◌*◌, ◌<◌, ◌≤◌, List, [], ◌∷◌, ◌++◌, length, take, drop, get_or, refl, sym, ap, subst, ◌∙◌, arith, zero, suc, append_assoc, length-drop, length-set, get_or-drop, set, true, cond}
-use Rattle.std.proofs.lemmas.List.{take-take, take-append-le, length-take-le, drop-drop, take_more, take_more_set}
+use Rattle.std.proofs.Common.{◌≡◌, ℕ, ◌+◌, ◌*◌, ◌<◌, ◌≤◌, List, [], ◌∷◌, ◌++◌, length, take, drop, get_or, refl, sym, ap, ◌∙◌, arith, zero, suc, append_assoc, length-drop, length-set, get_or-drop, set, true}
+use Rattle.std.proofs.lemmas.List.{take-take, length-take-le, drop-drop, take_more, take_more_set}
 use Rattle.std.proofs.Math.Seq.{take-append-add}
 use Rattle.std.specs.Char.{is_ascii}
 use Rattle.std.specs.List.{prefix_len, flat_map}

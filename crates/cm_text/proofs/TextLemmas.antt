@@ -1,11 +1,11 @@
 -- Texts in an encoding of which no more is known than that a spelling has some byte and that bytes begin
 -- with the spelling of one scalar at most.
-use Rattle.std.proofs.Common.{◌≡◌, ℕ, ◌+◌, ◌-◌, ◌<◌, ◌≤◌, List, [], ◌∷◌, ◌++◌, length, take, drop, refl, sym, ap, subst, ◌∙◌, arith, append_assoc, length-append, length-take, length-drop}
-use Rattle.std.proofs.lemmas.List.{append-nil, append_cancel_left, take-append-drop, take_at, take_all, drop_at, length-take-le}
+use Rattle.std.proofs.Common.{◌≡◌, ℕ, ◌+◌, ◌-◌, ◌<◌, List, [], ◌∷◌, ◌++◌, length, take, drop, refl, sym, ap, subst, ◌∙◌, arith, append_assoc, length-append, length-take}
+use Rattle.std.proofs.lemmas.List.{append-nil, append_cancel_left, take-append-drop, take_at, take_all}
 use Rattle.std.proofs.lemmas.List.Concat.{flat_map-append}
 use Rattle.std.proofs.Math.Seq.{take-append-add}
 use Rattle.std.specs.List.{AllByRecursion, flat_map}
-use Rattle.cm_text.specs.Text.{IsText, IsSomeText, IsTextUpTo}
+use Rattle.cm_text.specs.Text.{IsText, IsTextUpTo}
 
 pub record Laws (has : ℕ → Type 0) (spell : ℕ → List ℕ) : Type 0 where
   pub some_byte : (c : ℕ) → has c → 0 < length (spell c)

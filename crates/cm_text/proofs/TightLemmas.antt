@@ -1,18 +1,18 @@
 -- Where a text takes as many units as bytes, all of it is ASCII.
-use Rattle.std.proofs.Common.{◌≡◌, ℕ, ◌+◌, ◌*◌, ◌<◌, ◌≤◌, List, [], ◌∷◌, ◌++◌, length, take, refl, sym, ap, subst, ◌∙◌, arith, length-append, take_all, ⊎_elim}
+use Rattle.std.proofs.Common.{◌≡◌, ℕ, ◌*◌, ◌<◌, ◌≤◌, List, [], ◌∷◌, ◌++◌, length, take, refl, sym, ap, subst, ◌∙◌, arith, length-append, take_all, ⊎_elim}
 use Rattle.std.proofs.lemmas.Bool.{cases_lt}
 use Rattle.std.proofs.lemmas.Bool.Decides.{nat_tests}
 use Rattle.std.specs.Char.{IsScalar, is_ascii}
 use Rattle.std.specs.Char.Escape.{encode_utf16}
-use Rattle.std.specs.List.{AllByRecursion, flat_map, prefix_len}
+use Rattle.std.specs.List.{flat_map, prefix_len}
 use Rattle.cm_text.specs.Ascii.{wide}
 use Rattle.cm_text.specs.Text.{IsText, IsTextOfSize}
 use Rattle.cm_text.specs.Utf16.{units, first_bytes, spell_utf16}
 use Rattle.cm_text.specs.Utf16Laws.{length_of_units, one_unit}
 use Rattle.cm_text.specs.Utf8.{spell_utf8}
 use Rattle.cm_text.proofs.AsciiLemmas.{AreAscii, ascii_in_run, ascii_scalars, ascii_utf8, ascii_utf16, length-wide, utf8_laws, utf16_laws}
-use Rattle.cm_text.proofs.CountLemmas.{below_of_scalar, units_of_text}
-use Rattle.cm_text.proofs.PairLemmas.{UnitRun, unit_run_of}
+use Rattle.cm_text.proofs.CountLemmas.{units_of_text}
+use Rattle.cm_text.proofs.PairLemmas.{unit_run_of}
 use Rattle.cm_text.proofs.TextLemmas.{one_text}
 
 -- a scalar takes a unit at the most for each of its bytes, and less if it is not ASCII

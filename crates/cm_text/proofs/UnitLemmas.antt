@@ -1,11 +1,11 @@
 -- The units of UTF-16 at an offset in bytes.
-use Rattle.std.proofs.Common.{◌≡◌, ℕ, ◌+◌, ◌*◌, ◌/◌, ◌<◌, ◌≤◌, List, [], ◌∷◌, ◌++◌, length, take, drop, get_or, refl, sym, ap, subst, ◌∙◌, arith, zero, suc, length-append, length-drop}
+use Rattle.std.proofs.Common.{◌≡◌, ℕ, ◌+◌, ◌*◌, ◌/◌, ◌<◌, ◌≤◌, List, [], ◌∷◌, ◌++◌, length, take, drop, get_or, refl, sym, ap, ◌∙◌, arith, zero, suc, length-drop}
 use Rattle.std.proofs.Math.Seq.{take-add}
 use Rattle.std.proofs.lemmas.List.{length-take-le, take-append-drop, append-nil}
 use Rattle.std.proofs.lemmas.List.Concat.{flat_map-append}
 use Rattle.std.proofs.lemmas.Simd.{chunk-drop, length-chunk, pick_l_whole, get_or-chunk}
 use Rattle.std.specs.List.{flat_map, AllByRecursion}
-use lib.Lanes.{chunk, pick_l}
+use lib.Lanes.{chunk}
 use Rattle.cm_text.specs.Ascii.{wide}
 use Rattle.cm_text.specs.Utf16.{unit, units, first_bytes}
 

@@ -1,11 +1,10 @@
 -- Table 3-7 against the spellings of UTF-8.
-use Rattle.std.proofs.Common.{◌≡◌, ℕ, ◌+◌, ◌-◌, ◌*◌, ◌/◌, ◌%◌, ◌<◌, ◌≤◌, Bool, true, false, List, [], ◌∷◌, refl, sym, ap, subst, ◌∙◌, arith, IsTrue, ◌&&◌, ◌||◌, ◌⊎◌, ⊎_elim}
-use Rattle.std.proofs.lemmas.Bool.{cases_lt}
+use Rattle.std.proofs.Common.{◌≡◌, ℕ, ◌+◌, ◌-◌, ◌*◌, List, [], ◌∷◌, sym, ap, subst, ◌∙◌, arith, IsTrue}
 use Rattle.std.proofs.lemmas.Bool.Decides.{nat_tests}
 use Rattle.std.specs.Char.{IsScalar}
 use lib.Utf8.{scalar_cases}
-use Rattle.cm_text.specs.Utf8.{spell_utf8, following}
-use Rattle.cm_text.specs.WellFormed.{is_well_formed_utf8, is_well_formed_utf16, follows}
+use Rattle.cm_text.specs.Utf8.{spell_utf8}
+use Rattle.cm_text.specs.WellFormed.{is_well_formed_utf8, is_well_formed_utf16}
 use Rattle.std.specs.Char.Escape.{encode_utf16}
 use Rattle.std.proofs.lemmas.List.{append-nil}
 use Rattle.cm_text.specs.Utf16.{units, spell_utf16}

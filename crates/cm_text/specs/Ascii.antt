@@ -1,5 +1,5 @@
 -- Runs of ASCII, in bytes and in units of UTF-16.
-use Rattle.std.specs.Prelude.{◌≡◌, ℕ, List, [], ◌∷◌}
+use Rattle.std.specs.Prelude.{ℕ, List, [], ◌∷◌}
 use Rattle.std.specs.Char.{is_ascii}
 use Rattle.std.specs.List.{prefix_len}
 use Rattle.cm_text.specs.Utf16.{units}

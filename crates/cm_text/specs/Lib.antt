@@ -1,5 +1,6 @@
 pub mod Ascii
 pub mod Fault
+pub mod Lanes
 pub mod Latin1
 pub mod Latin1Laws
 pub mod Sizes

@@ -1,12 +1,12 @@
 -- What UTF-8 owes as an encoding: no two scalars share a spelling, none is a beginning of another, and each
 -- has one to four bytes.
-use Rattle.std.specs.Prelude.{◌≡◌, ℕ, ◌+◌, ◌*◌, ◌<◌, ◌≤◌, List, ◌++◌, length, refl}
+use Rattle.std.specs.Prelude.{◌≡◌, ℕ, ◌*◌, ◌<◌, ◌≤◌, List, ◌++◌, length, refl}
 use Rattle.std.proofs.Common.{sym, ap, ◌∙◌, arith}
 use Rattle.std.proofs.lemmas.Bool.Decides.{nat_tests}
 use Rattle.std.proofs.lemmas.Str.{encode_same}
-use Rattle.std.specs.Char.{IsScalar, encode_utf8}
+use Rattle.std.specs.Char.{encode_utf8}
 use Rattle.std.specs.Char.Escape.{encode_utf16}
-use Rattle.cm_text.specs.Utf8.{spell_utf8, following}
+use Rattle.cm_text.specs.Utf8.{spell_utf8}
 
 -- the bytes that `char::encode_utf8` writes
 pub spell_utf8-encode : (c : ℕ) → spell_utf8 c ≡ encode_utf8 c

@@ -1,7 +1,6 @@
 //! Encodings that texts are written in.
 
-ghost use Rattle.std.specs.Prelude.{◌≡◌, ℕ, ◌+◌, ◌*◌, ◌<◌, ◌≤◌, List, ◌++◌, length, OnOk, OnErr, IfOk, IfErr};
-ghost use Rattle.std.specs.List.{flat_map};
+ghost use Rattle.std.specs.Prelude.{◌≡◌, ℕ, ◌+◌, ◌*◌, ◌<◌, ◌≤◌, ◌++◌, length, OnOk, OnErr, IfOk, IfErr};
 ghost use Rattle.std.specs.Char.{IsScalar};
 ghost use Rattle.std.specs.Char.Escape.{encode_utf16};
 ghost use Rattle.cm_text.specs.Text.{IsTextUpTo, IsTextOfSize, IsSameText};
@@ -12,6 +11,7 @@ use std::alloc::AllocError;
 
 /// An encoding that texts are written in: each Unicode scalar value has a spelling.
 pub trait Encoding: Source {
+    /// The most bytes that a text takes in this encoding for each unit that it has in another.
     ghost GREATEST_GROWTH: { ℕ };
 
     /// The most bytes that a text takes in this encoding for each unit that it has in another.

@@ -5,7 +5,8 @@ ghost use Rattle.std.specs.Char.{IsScalar, is_ascii};
 ghost use Rattle.std.specs.List.{AllByRecursion, prefix_len, flat_map};
 ghost use Rattle.std.specs.Simd.Lanes.{chunk, zip2};
 ghost use Rattle.cm_text.specs.Ascii.{ascii_run, ascii_units, wide};
-ghost use Rattle.cm_text.specs.Utf16.{unit, units, first_bytes, second_bytes, mark, below_e0, is_plain, spell_utf16};
+ghost use Rattle.cm_text.specs.Utf16.{unit, units, first_bytes, spell_utf16};
+ghost use Rattle.cm_text.specs.Lanes.{second_bytes, mark, below_e0, is_plain};
 
 use crate::utf16::unit;
 use std::simd::prelude::*;

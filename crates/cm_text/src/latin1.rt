@@ -1,6 +1,5 @@
 //! Latin-1 (ISO/IEC 8859-1).
 
-ghost use Rattle.std.specs.Prelude.{◌≡◌, ℕ, ◌++◌};
 ghost use Rattle.cm_text.specs.Latin1.{HasLatin1, spell_latin1};
 
 use crate::{Source, TextFault, sizes, writes};

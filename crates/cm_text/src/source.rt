@@ -1,7 +1,6 @@
 //! Encodings that texts are read from.
 
 ghost use Rattle.std.specs.Prelude.{◌≡◌, ℕ, ◌+◌, ◌*◌, ◌<◌, ◌≤◌, List, ◌++◌, length, OnOk, IfOk, IfErr, IfSome, IfNone};
-ghost use Rattle.std.specs.List.{flat_map};
 ghost use Rattle.std.specs.Char.{IsScalar};
 ghost use Rattle.std.specs.Char.Escape.{encode_utf16};
 ghost use Rattle.cm_text.specs.Text.{IsText, IsSomeText, IsTextUpTo, IsTextOfSize, IsSameText};
@@ -21,8 +20,10 @@ pub trait Source {
     /// The bytes that spell a scalar.
     ghost spell: { ℕ → List ℕ };
 
+    /// The bytes of a unit, in which the length of a string is counted.
     ghost UNIT_SIZE: { ℕ };
 
+    /// The alignment of a string in a memory, in bytes.
     ghost ALIGNMENT: { ℕ };
 
     /// The bytes of a unit, in which the length of a string is counted.
@@ -90,6 +91,7 @@ pub trait Source {
     /// A spelling is one or more whole units, no fewer than UTF-16 takes.
     ghost whole_units: { (c : ℕ) → has c → (n : ℕ) × (length (spell c) ≡ UNIT_SIZE * n) × (length (encode_utf16 c) ≤ n) };
 
+    /// A spelling has a byte or more.
     ghost some_byte: { (c : ℕ) → has c → 0 < length (spell c) };
 
     /// Bytes begin with the spelling of one scalar at most.

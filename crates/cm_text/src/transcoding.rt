@@ -1,7 +1,6 @@
 //! Texts from one encoding into another.
 
-ghost use Rattle.std.specs.Prelude.{◌≡◌, ℕ, ◌*◌, ◌≤◌, List, length, IfOk, IfErr};
-ghost use Rattle.std.specs.List.{flat_map};
+ghost use Rattle.std.specs.Prelude.{ℕ, ◌*◌, ◌≤◌, List, length, IfOk, IfErr};
 ghost use Rattle.cm_text.specs.Fault.{IsIllFormed, IfIllFormed, IsMemory};
 ghost use Rattle.cm_text.specs.Text.{IsText, IsTextUpTo, IsTextOfSize, IsSameText};
 

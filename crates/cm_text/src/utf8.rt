@@ -1,6 +1,6 @@
 //! UTF-8 (the Unicode Standard, D92).
 
-ghost use Rattle.std.specs.Prelude.{◌≡◌, ℕ, ◌+◌, ◌*◌, ◌%◌, ◌<◌, ◌≤◌, ◌++◌, length, take, drop, OnOk, OnErr, IfErr, IfSome, IfNone};
+ghost use Rattle.std.specs.Prelude.{◌≡◌, ◌+◌, ◌*◌, ◌%◌, ◌<◌, ◌≤◌, ◌++◌, length, take, drop, OnOk, IfErr};
 ghost use Rattle.std.specs.Char.{IsScalar};
 ghost use Rattle.cm_text.specs.Text.{BeginsWith, BeginsWithSome, IsSomeText, IsTextUpTo};
 ghost use Rattle.cm_text.specs.Fault.{IsIllFormed};

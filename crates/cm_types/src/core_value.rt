@@ -31,6 +31,10 @@ impl CoreValue {
 }
 
 impl Default for CoreValue {
+    ghost use Rattle.cm_types.specs.declared.core_value.CoreValue.TheVariants as core_value;
+
+    ghost is_default = { λ value. value ≡ core_value.I32 0 };
+
     /// The number 0 of 32 bits.
     fn default() -> CoreValue {
         CoreValue::I32(0)

@@ -40,8 +40,8 @@ impl NameFault {
 
 /// One or more words and acronyms joined by hyphens, as `get-HTTP-body`: a word is a lower-case
 /// letter and then lower-case letters and digits, an acronym an upper-case letter and then upper-case
-/// letters and digits (WIT.md, "Identifiers"; that digits may follow any letter is this project's own
-/// choice).
+/// letters and digits (after WIT.md, "Identifiers"; that every fragment begins with a letter is this
+/// project's own choice).
 ///
 /// Contracts see a label as the bytes of its text.
 #[derive(Debug, Drop)]
@@ -62,18 +62,21 @@ impl Model for Label {
 }
 
 impl Label {
+    ghost use Rattle.std.specs.Prelude.{Err};
+    ghost use Rattle.cm_types.specs.declared.names.NameFault.{NameFault};
     ghost use Rattle.cm_types.specs.Names.{IsLabel};
     ghost use Rattle.cm_types.specs.declared.names.NameFault.TheVariants as name_fault;
 
     /// The text as a label.
     ///
     /// An empty text is refused with `Empty`, another text that is no label with `BadFragment`, and
-    /// a label with `Memory` where there is no memory for its copy.
+    /// a label with `Memory` where there is no memory for its copy. Only a label takes memory.
     pub fn parse(alloc: Global, text: &str) -> Result<Label, NameFault>
         ensures held { IfOk result (λ label. label ≡ text.now) }
         ensures accepted { IfOk result (λ _. IsLabel text.now) }
         ensures complete { IsLabel text.now → IfErr result (λ e. e ≡ name_fault.Memory) }
         ensures refused { IfErr result (λ e. (e ≡ name_fault.Memory) ⊎ (label_fault text.now ≡ Some e)) }
+        ensures faulty { (e : NameFault) → label_fault text.now ≡ Some e → result ≡ Err e }
     {
         match label_fault(text) {
             Some(fault) => Err(fault),

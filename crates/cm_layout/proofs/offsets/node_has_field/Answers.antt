@@ -1,4 +1,4 @@
-use Rattle.std.proofs.Common.{◌≡◌, ◌∙◌, ap, arith, ℕ, ◌<◌, IsTrue, nat_lt, subst}
+use Rattle.std.proofs.Common.{◌≡◌, ◌∙◌, ap, arith, ℕ, ◌<◌, IsTrue, nat_lt}
 use Rattle.std.proofs.lemmas.Bool.{ltb-true, lt-ltb}
 use Rattle.cm_types.specs.TypeTrees.{type_of}
 use Rattle.cm_types.proofs.Seen.{seen_Record, seen_Tuple}

@@ -1,6 +1,6 @@
-use Rattle.std.proofs.Common.{◌<◌, ◌+◌, length, arith, ap, sym, ◌∙◌}
+use Rattle.std.proofs.Common.{◌<◌, length, arith, ap, sym, ◌∙◌}
 use Rattle.cm_machine.specs.Player.{closed_since}
-use Rattle.cm_machine.proofs.Seats.{EmptiedTo, EmptiedNext, turn_empties, turn_keeps, all_emptied}
+use Rattle.cm_machine.proofs.Seats.{EmptiedTo, turn_empties, turn_keeps, all_emptied}
 use Rattle.cm_machine.proofs.player.empty_closed.Goals as goal
 use Rattle.cm_machine.proofs.player.empty_closed.Goals.{then-closes, else-closes}
 

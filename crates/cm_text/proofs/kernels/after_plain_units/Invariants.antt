@@ -1,4 +1,4 @@
-use Rattle.std.proofs.Common.{◌-◌, length, ℕ}
+use Rattle.std.proofs.Common.{◌-◌, length}
 use Rattle.cm_text.proofs.PlainLemmas.{Plain}
 use Rattle.cm_text.proofs.kernels.after_plain_units.Given as goal
 

@@ -1,5 +1,4 @@
-use Rattle.std.proofs.Common.{◌≡◌, ◌+◌, arith, drop, refl}
-use Rattle.std.proofs.lemmas.Bool.Decides.{nat_tests}
+use Rattle.std.proofs.Common.{◌≡◌, arith, refl}
 use Rattle.std.specs.Char.{is_ascii}
 use Rattle.std.specs.List.{prefix_len}
 use lib.Lanes.{chunk}

@@ -1,5 +1,5 @@
-use Rattle.std.proofs.Common.{◌≡◌, ◌+◌, ◌∙◌, ap, sym, arith}
-use Rattle.cm_text.proofs.RunLemmas.{bytes_step, bytes_some}
+use Rattle.std.proofs.Common.{arith}
+use Rattle.cm_text.proofs.RunLemmas.{bytes_step}
 use Rattle.cm_text.proofs.kernels.ascii_run.Goals as goal
 
 pub loop-at-preserved : goal.loop-at-preserved

@@ -1,8 +1,8 @@
-use Rattle.std.proofs.Common.{◌≡◌, ◌+◌, ◌∙◌, ◌*◌, ap, sym, arith, drop}
+use Rattle.std.proofs.Common.{◌+◌, ◌∙◌, ◌*◌, ap, sym, arith, drop}
 use Rattle.std.specs.Char.{is_ascii}
 use Rattle.std.specs.List.{prefix_len}
 use Rattle.cm_text.specs.Utf16.{units}
-use Rattle.cm_text.proofs.RunLemmas.{units_step, units_some, units_run_le, units_one, units_none, units_end}
+use Rattle.cm_text.proofs.RunLemmas.{units_step, units_some, units_one, units_none, units_end}
 use Rattle.cm_text.proofs.kernels.ascii_units.Goals as goal
 
 pub loop-count-preserved : goal.loop-count-preserved

@@ -1,9 +1,9 @@
-use Rattle.std.proofs.Common.{◌≡◌, ◌+◌, ◌*◌, ◌∙◌, ◌++◌, [], ◌∷◌, take, get_or, length, ap, sym, arith, take_all, length-set, ◌<◌}
+use Rattle.std.proofs.Common.{◌≡◌, ◌*◌, ◌∙◌, ◌++◌, [], ◌∷◌, get_or, length, ap, sym, arith, take_all, length-set}
 use Rattle.std.specs.List.{flat_map}
 use Rattle.std.proofs.lemmas.List.{take_more_set}
 use lib.Lanes.{chunk}
 use Rattle.cm_text.specs.Ascii.{wide}
-use Rattle.cm_text.specs.Utf16.{units, first_bytes}
+use Rattle.cm_text.specs.Utf16.{first_bytes}
 use Rattle.cm_text.proofs.PairLemmas.{all_ascii_units}
 use Rattle.cm_text.proofs.UnitLemmas.{first_bytes-take, first_bytes-next, wide-first_bytes}
 use Rattle.cm_text.proofs.kernels.narrow.Goals as goal

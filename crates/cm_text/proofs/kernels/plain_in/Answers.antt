@@ -1,7 +1,7 @@
 use Rattle.std.proofs.Common.{◌∙◌, ap, map, nat_lt}
 use Rattle.std.specs.List.{prefix_len}
 use Rattle.std.specs.Simd.Lanes.{chunk}
-use Rattle.cm_text.specs.Utf16.{second_bytes, below_e0}
+use Rattle.cm_text.specs.Lanes.{second_bytes, below_e0}
 use Rattle.cm_text.proofs.LaneLemmas.{plain_run}
 use Rattle.cm_text.proofs.kernels.plain_in.Goals as goal
 

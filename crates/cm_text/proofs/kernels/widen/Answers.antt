@@ -1,4 +1,4 @@
-use Rattle.std.proofs.Common.{◌≡◌, ◌+◌, ◌*◌, ◌∙◌, ◌++◌, take, ap, sym, arith}
+use Rattle.std.proofs.Common.{◌+◌, ◌*◌, ◌∙◌, ◌++◌, take, ap, sym, arith}
 use Rattle.std.specs.List.{flat_map}
 use lib.Lanes.{chunk}
 use Rattle.cm_text.specs.Ascii.{wide}

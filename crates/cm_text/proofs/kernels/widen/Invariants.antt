@@ -1,4 +1,4 @@
-use Rattle.std.proofs.Common.{◌≡◌, ℕ, ◌*◌, ◌-◌, ◌≤◌, length, take}
+use Rattle.std.proofs.Common.{◌≡◌, ◌*◌, ◌-◌, ◌≤◌, length, take}
 use Rattle.std.specs.List.{flat_map}
 use Rattle.cm_text.specs.Ascii.{wide}
 use Rattle.cm_text.proofs.kernels.widen.Given as goal

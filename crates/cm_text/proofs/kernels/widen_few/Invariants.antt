@@ -1,4 +1,4 @@
-use Rattle.std.proofs.Common.{ℕ, ◌+◌, ◌-◌, ◌≤◌, length}
+use Rattle.std.proofs.Common.{◌-◌, ◌≤◌}
 use Rattle.cm_text.proofs.StretchLemmas.{Widens}
 use Rattle.cm_text.proofs.kernels.widen_few.Given as goal
 

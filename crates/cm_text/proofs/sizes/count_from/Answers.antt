@@ -1,4 +1,4 @@
-use Rattle.std.proofs.Common.{◌≤◌, nat_le, arith, count_by}
+use Rattle.std.proofs.Common.{nat_le, arith}
 use Rattle.cm_text.proofs.CountLemmas.{ones_from, count_le}
 use Rattle.cm_text.proofs.sizes.count_from.Goals as goal
 

@@ -1,4 +1,4 @@
-use Rattle.std.proofs.Common.{◌≡◌, ◌≤◌, ◌+◌, ◌*◌, ◌∙◌, ◌++◌, [], ◌∷◌, ap, arith, length, sum_by, take, get_or}
+use Rattle.std.proofs.Common.{◌+◌, ◌*◌, ◌∙◌, [], ◌∷◌, ap, arith, sum_by, take, get_or}
 use Rattle.std.proofs.lemmas.List.Sums.{sum_by-append}
 use Rattle.std.specs.Simd.Lanes.{chunk}
 use Rattle.cm_text.specs.Sizes.{bytes_taken}

@@ -1,4 +1,4 @@
-use Rattle.std.proofs.Common.{◌≡◌, ℕ, ◌*◌, ◌-◌, ◌≤◌, length, take, sum_by}
+use Rattle.std.proofs.Common.{◌≡◌, ◌*◌, ◌-◌, ◌≤◌, length, take, sum_by}
 use Rattle.cm_text.specs.Sizes.{bytes_taken}
 use Rattle.cm_text.specs.Utf16.{units}
 use Rattle.cm_text.proofs.sizes.utf16_in_utf8.Given as goal

@@ -1,4 +1,4 @@
-use Rattle.std.proofs.Common.{◌≡◌, ◌≤◌, ◌*◌, ◌∙◌, ap, arith, take_all, length, sum_by, take}
+use Rattle.std.proofs.Common.{◌*◌, ◌∙◌, ap, arith, take_all, sum_by}
 use Rattle.std.proofs.lemmas.List.Sums.{sum_by-take-le}
 use Rattle.cm_text.specs.Sizes.{units_begun}
 use Rattle.cm_text.proofs.CountLemmas.{begun_le, begun_is, sum_by-block, sum_by-block_le, sum_by-one_le}

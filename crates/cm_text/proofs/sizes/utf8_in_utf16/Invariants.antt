@@ -1,4 +1,4 @@
-use Rattle.std.proofs.Common.{◌≡◌, ℕ, ◌-◌, ◌≤◌, length, take, sum_by}
+use Rattle.std.proofs.Common.{◌≡◌, ◌-◌, ◌≤◌, length, take, sum_by}
 use Rattle.cm_text.specs.Sizes.{units_begun}
 use Rattle.cm_text.proofs.sizes.utf8_in_utf16.Given as goal
 

@@ -1,4 +1,4 @@
-use Rattle.std.proofs.Common.{◌≡◌, ◌≤◌, ◌++◌, ◌∙◌, ap, sym, arith, length, take, drop}
+use Rattle.std.proofs.Common.{◌≡◌, ◌++◌, ◌∙◌, sym, arith, length, take, drop}
 use Rattle.std.proofs.lemmas.List.{take-append-le, take_all}
 use Rattle.cm_text.proofs.FaultLemmas.{only_memory}
 use Rattle.cm_text.proofs.TextLemmas.{all-weaker}

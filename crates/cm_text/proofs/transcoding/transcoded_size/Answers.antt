@@ -1,4 +1,4 @@
-use Rattle.std.proofs.Common.{◌≡◌, ◌≤◌, ◌*◌, ◌∙◌, ℕ, Result, Ok, Err, IfOk, subst, ap, length, arith}
+use Rattle.std.proofs.Common.{◌≤◌, ◌*◌, ℕ, Result, Ok, Err, IfOk, ap, length, arith}
 use Rattle.cm_text.specs.declared.fault.TextFault.{TextFault}
 use Rattle.cm_text.specs.Text.{IsTextOfSize}
 use Rattle.cm_text.proofs.GrowthLemmas.{growth_of}

@@ -1,10 +1,5 @@
-use Rattle.std.proofs.Common.{◌≡◌, ◌≤◌, ◌+◌, ◌*◌, ◌++◌, ◌∙◌, ap, sym, subst, refl, arith, length, length-drop, drop, take, get_or}
-use Rattle.std.specs.Char.{IsScalar, is_ascii}
-use Rattle.std.specs.List.{prefix_len, flat_map}
-use Rattle.cm_text.specs.Latin1.{HasLatin1, spell_latin1}
-use Rattle.cm_text.specs.Text.{IsTextOfSize}
-use Rattle.cm_text.specs.Utf16.{units, spell_utf16}
-use Rattle.cm_text.specs.Utf8.{spell_utf8}
+use Rattle.std.proofs.Common.{◌*◌, ◌∙◌, ap, sym, length}
+use Rattle.std.specs.List.{flat_map}
 use Rattle.cm_text.specs.Ascii.{wide}
 use Rattle.cm_text.proofs.AsciiLemmas.{latin1_utf16, length-wide}
 use Rattle.cm_text.proofs.PairLemmas.{latin1_spelled}

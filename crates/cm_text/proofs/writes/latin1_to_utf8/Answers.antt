@@ -1,11 +1,9 @@
-use Rattle.std.proofs.Common.{◌≡◌, ◌≤◌, ◌+◌, ◌*◌, ◌++◌, ◌∙◌, ap, sym, subst, refl, arith, length, length-drop, drop, take, get_or}
-use Rattle.std.specs.Char.{IsScalar, is_ascii}
-use Rattle.std.specs.List.{prefix_len, flat_map}
+use Rattle.std.proofs.Common.{sym, subst, refl, arith, drop, get_or}
+use Rattle.std.specs.Char.{is_ascii}
+use Rattle.std.specs.List.{prefix_len}
 use Rattle.cm_text.specs.Latin1.{HasLatin1, spell_latin1}
 use Rattle.cm_text.specs.Text.{IsTextOfSize}
-use Rattle.cm_text.specs.Utf16.{units, spell_utf16}
 use Rattle.cm_text.specs.Utf8.{spell_utf8}
-use Rattle.cm_text.specs.Text.{BeginsWith}
 use Rattle.cm_text.proofs.AsciiLemmas.{latin1_laws}
 use Rattle.cm_text.proofs.MidwayLemmas.{room_for_one, one_further, finish}
 use Rattle.cm_text.proofs.PairLemmas.{copy_room, copy_further, latin1_begins}

@@ -1,7 +1,6 @@
-use Rattle.std.proofs.Common.{◌≡◌, ◌≤◌, ◌<◌, ◌+◌, ◌*◌, ◌++◌, ◌∙◌, ap, sym, subst, refl, arith, length, length-drop, drop, take, get_or}
+use Rattle.std.proofs.Common.{◌≤◌, ◌<◌, ◌+◌, sym, subst, refl, arith, length, length-drop, drop, get_or}
 use Rattle.std.specs.Char.{IsScalar, is_ascii}
-use Rattle.std.specs.List.{prefix_len, flat_map}
-use Rattle.cm_text.specs.Latin1.{HasLatin1, spell_latin1}
+use Rattle.std.specs.List.{prefix_len}
 use Rattle.cm_text.specs.Text.{IsTextOfSize}
 use Rattle.cm_text.specs.Utf16.{unit, units, spell_utf16}
 use Rattle.cm_text.specs.Utf8.{spell_utf8}

@@ -1,6 +1,5 @@
 use Rattle.std.proofs.Common.{◌-◌, length}
 use Rattle.std.specs.Char.{IsScalar}
-use Rattle.cm_text.specs.Latin1.{HasLatin1, spell_latin1}
 use Rattle.cm_text.specs.Utf16.{spell_utf16}
 use Rattle.cm_text.specs.Utf8.{spell_utf8}
 use Rattle.cm_text.proofs.MidwayLemmas.{Midway}

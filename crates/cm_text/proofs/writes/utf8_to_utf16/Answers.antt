@@ -1,4 +1,4 @@
-use Rattle.std.proofs.Common.{◌≡◌, ◌+◌, ◌++◌, ◌∙◌, ap, sym, subst, refl, arith, length, drop, take}
+use Rattle.std.proofs.Common.{sym, subst, refl, arith, length, drop}
 use Rattle.std.specs.Char.{IsScalar, is_ascii}
 use Rattle.std.specs.List.{prefix_len}
 use Rattle.cm_text.specs.Text.{IsTextOfSize}

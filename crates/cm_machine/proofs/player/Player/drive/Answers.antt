@@ -1,6 +1,5 @@
-use Rattle.std.proofs.Common.{◌≡◌, ℕ, List, [], ◌∷◌, ap, sym, subst, ◌∙◌}
+use Rattle.std.proofs.Common.{◌≡◌, [], ◌∷◌, ap, subst, ◌∙◌}
 use Rattle.std.specs.Prelude.{slice_get}
-use Rattle.cm_machine.specs.declared.event.Event.{Event}
 use Rattle.cm_machine.specs.declared.event.Event.TheVariants as event
 use Rattle.cm_machine.specs.State.{State}
 use Rattle.cm_machine.specs.Run.{begun}

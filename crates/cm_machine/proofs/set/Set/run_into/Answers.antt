@@ -1,6 +1,5 @@
-use Rattle.std.proofs.Common.{◌≡◌, ◌+◌, ◌<◌, ◌++◌, ◌∷◌, [], List, length, drop, arith}
+use Rattle.std.proofs.Common.{arith}
 use Rattle.std.proofs.lemmas.Grind.{common_steps}
-use Rattle.cm_machine.specs.declared.event.Event.{Event}
 use Rattle.cm_machine.proofs.Runs.{stopped, went_on, ended}
 use Rattle.cm_machine.proofs.set.Set.run_into.Goals as goal
 

@@ -1,4 +1,4 @@
-use Rattle.std.proofs.Common.{◌≡◌, ◌+◌, ◌<◌, ◌≤◌, List, ◌++◌, length, drop, vec_len}
+use Rattle.std.proofs.Common.{◌+◌, ◌<◌, ◌≤◌, List, ◌++◌, length, drop, vec_len}
 use Rattle.std.specs.Prelude.{vec_capacity}
 use Rattle.cm_machine.specs.declared.event.Event.{Event}
 use Rattle.cm_machine.specs.State.{State}

@@ -1,4 +1,4 @@
-use Rattle.std.proofs.Common.{◌≡◌, List, [], ◌∷◌, map, sym, ap, subst, ◌∙◌}
+use Rattle.std.proofs.Common.{map, sym, ap, subst, ◌∙◌}
 use Rattle.cm_machine.specs.State.{State, IsValid, trapped}
 use Rattle.cm_machine.proofs.Kept.{trap_is, valid_trapped}
 use Rattle.cm_machine.proofs.set.Set.trap.Goals as goal

@@ -1,4 +1,4 @@
-use Rattle.std.proofs.Common.{◌*◌, ◌∙◌, ap, sym, length}
+use Rattle.std.proofs.Common.{◌∙◌, ap, length}
 use Rattle.cm_text.proofs.AsciiLemmas.{latin1_utf16, length-wide}
 use Rattle.cm_text.proofs.PairLemmas.{latin1_spelled, fits_latin1}
 use Rattle.cm_text.proofs.latin1.Latin1Source.measure_utf16.Goals as goal

@@ -1,4 +1,4 @@
-use Rattle.std.proofs.Common.{arith, sym}
+use Rattle.std.proofs.Common.{arith}
 use Rattle.cm_text.proofs.PairLemmas.{unit_run_of}
 use Rattle.cm_text.proofs.TightLemmas.{ascii_units_of_size}
 use Rattle.cm_text.proofs.utf16.Utf16Source.measure_utf8.Goals as goal

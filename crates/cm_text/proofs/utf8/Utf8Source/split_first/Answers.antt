@@ -1,4 +1,4 @@
-use Rattle.std.proofs.Common.{◌∙◌, ◌++◌, ap, sym, arith}
+use Rattle.std.proofs.Common.{◌∙◌, ◌++◌, ap, sym}
 use Rattle.cm_text.specs.Utf8.{spell_utf8}
 use Rattle.cm_text.proofs.Utf8Lemmas.{found, not_found}
 use Rattle.cm_text.proofs.utf8.Utf8Source.split_first.Goals as goal

@@ -1,0 +1,32 @@
+-- What the core functions of a linked set's instances stand for.
+use Rattle.std.specs.Prelude.{ℕ, ◌+◌, List, [], ◌∷◌, map, Option, Some, None, is_some}
+use Rattle.cm_types.specs.Types.{FuncTy}
+use Rattle.cm_component.specs.Trees.{SectionTree}
+use Rattle.cm_validate.specs.Rules.{field_count}
+use Rattle.cm_validate.specs.Spaces.{CoreFuncTree, guest, lowered, spaces_of}
+use Rattle.cm_match.specs.Targets.{TargetTree, target}
+use Rattle.cm_machine.specs.declared.frame.CoreFunction.{CoreFunction}
+use Rattle.cm_machine.specs.declared.frame.CoreFunction.TheVariants as core_function
+
+-- a lowered function of this type, linked to this target: each import that can be lowered has one
+abbrev pub linked_to : FuncTy → Option TargetTree → CoreFunction
+linked_to ty None = core_function.Guest
+linked_to ty (Some t) = core_function.Lowered (record { instance = t.component; func = t.core_func; params = field_count ty.params; has_result = is_some ty.result })
+
+-- what a core function of this component of the set stands for
+abbrev pub function_of : List (List SectionTree) → ℕ → CoreFuncTree → CoreFunction
+function_of set component (guest instance name) = core_function.Guest
+function_of set component (lowered import item ty) = linked_to ty (target set component import item)
+
+-- what each of its core functions stands for, in order
+abbrev pub functions_of : List (List SectionTree) → ℕ → List SectionTree → List CoreFunction
+functions_of set component sections = map (function_of set component) (spaces_of sections).core_funcs
+
+-- the same for these components of the set, numbered from here on
+abbrev pub functions_from : List (List SectionTree) → ℕ → List (List SectionTree) → List (List CoreFunction)
+functions_from set component [] = []
+functions_from set component (c ∷ cs) = functions_of set component c ∷ functions_from set (component + 1) cs
+
+-- the plan of a linked set
+abbrev pub plan_of : List (List SectionTree) → List (List CoreFunction)
+plan_of set = functions_from set 0 set
