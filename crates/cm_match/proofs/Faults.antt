@@ -1,4 +1,8 @@
+<<<<<<< HEAD
+-- A set that matches has no fault.
+=======
 -- The fault of a set, and that a set that matches has none.
+>>>>>>> main
 use Rattle.std.proofs.Common.{◌≡◌, ℕ, List, [], ◌∷◌, ◌++◌, length, sym, ap, subst, ◌∙◌, arith}
 use Rattle.cm_types.specs.Signatures.{SignatureTy}
 use Rattle.cm_match.specs.declared.fault.LinkReason.{LinkReason}
@@ -29,13 +33,3 @@ pub unserved_is_no_match : (set : List SignatureTy) (component number : ℕ) (r 
 unserved_is_no_match set component number r plan f m =
     let s = served_at set f.front f.entry f.rest plan (subst (λ is. AreServed set is plan) f.split m.served) in
     not_both set f.entry s.0 r f.fails s.1
-
-pub unserved_is_fault : (set : List SignatureTy) (component number : ℕ) (r : LinkReason) → IsFirstUnserved set component number r → IsLinkFault set component number r
-unserved_is_fault set component number reason.Empty f = absurd f.fails
-unserved_is_fault set component number reason.TooMany f = absurd f.fails
-unserved_is_fault set component number reason.NoProvider f = f
-unserved_is_fault set component number reason.TwoProviders f = f
-unserved_is_fault set component number reason.MissingExport f = f
-unserved_is_fault set component number reason.DifferentType f = f
-unserved_is_fault set component number reason.DifferentResource f = f
-unserved_is_fault set component number reason.Memory f = f

@@ -68,7 +68,7 @@ is_import (lifted core_func ty) = false
 is_import (imported import item ty) = true
 
 -- A rule is a test that has to hold, and the reason where it does not. The rules of an item stand in the
--- order of their reasons' numbers.
+-- order of their reasons' numbers, and what is not there breaks the first alone.
 abbrev pub canon_rules : Space → Canon → List (Bool × ValidReason)
 canon_rules s (canon.Lift core_func ty) =
     (nat_lt core_func (length s.core_funcs) && nat_lt ty (length s.types), reason.NoSuchIndex)

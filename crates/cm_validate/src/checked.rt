@@ -96,8 +96,8 @@ pub fn index_spaces()
 /// A component that is not valid is refused with its first fault: the least section, the least item in
 /// it, and of the rules that the item breaks the one whose reason has the smallest number (Explainer.md;
 /// the reasons, their numbers and this order are this project's own choice). `Memory` comes where there
-/// is no memory for the tables, at the item that was looked at then. The component is dropped where it is
-/// refused.
+/// is no memory for the tables, at the item that was looked at then, or past the last section. The
+/// component is dropped where it is refused.
 pub fn validate(alloc: Global, component: Component) -> Result<Checked, ValidFault>
     ensures held { IfOk result (λ c. c ≡ component) }
     ensures accepted { OnOk result (IsValid component) }

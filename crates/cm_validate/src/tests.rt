@@ -55,22 +55,20 @@ fn module(alloc: Global) -> Result<Section, Fail> {
     Ok(Section::CoreModule(bytes))
 }
 
-/// Core instances of these modules, each with these arguments.
-fn instances(alloc: Global, of: &[(u32, &[(&str, u32)])]) -> Result<Section, Fail> {
-    let mut instances = Vec::new(alloc);
-    for (module, given) in of {
-        let mut args = Vec::new(alloc);
-        for (name, instance) in *given {
-            args.push(CoreInstantiationArg {
-                name: String::from_str(alloc, name)?,
-                instance: *instance,
-            })?;
-        }
-        instances.push(CoreInstance::Instantiate {
-            module: *module,
-            args,
+/// A core instance of a module, with these arguments.
+fn instance(alloc: Global, of_module: u32, given: &[(&str, u32)]) -> Result<Section, Fail> {
+    let mut args = Vec::new(alloc);
+    for (name, instance) in given {
+        args.push(CoreInstantiationArg {
+            name: String::from_str(alloc, name)?,
+            instance: *instance,
         })?;
     }
+    let mut instances = Vec::new(alloc);
+    instances.push(CoreInstance::Instantiate {
+        module: of_module,
+        args,
+    })?;
     Ok(Section::CoreInstances(instances))
 }
 
@@ -86,16 +84,21 @@ fn aliases(alloc: Global, of: &[(u32, &str)]) -> Result<Section, Fail> {
     Ok(Section::Aliases(aliases))
 }
 
-fn canons(alloc: Global, of: &[Canon]) -> Result<Section, Fail> {
+/// A canonical definition of a section that is to be built.
+#[derive(Clone, Copy)]
+enum Made {
+    Lift(u32, u32),
+    Lower(u32),
+}
+
+fn canons(alloc: Global, of: &[Made]) -> Result<Section, Fail> {
     let mut canons = Vec::new(alloc);
-    for canon in of {
-        canons.push(match canon {
-            Canon::Lift { core_func, ty } => Canon::Lift {
-                core_func: *core_func,
-                ty: *ty,
-            },
-            Canon::Lower { func } => Canon::Lower { func: *func },
-        })?;
+    for made in of {
+        let canon = match *made {
+            Made::Lift(core_func, ty) => Canon::Lift { core_func, ty },
+            Made::Lower(func) => Canon::Lower { func },
+        };
+        canons.push(canon)?;
     }
     Ok(Section::Canons(canons))
 }
@@ -130,28 +133,70 @@ fn custom(alloc: Global) -> Result<Section, Fail> {
     }))
 }
 
-/// A module, an instance of it, its functions `f` and `g` and a function of one parameter.
-fn guest(alloc: Global) -> Result<Vec<Section>, Fail> {
-    let mut sections = Vec::new(alloc);
-    sections.push(module(alloc)?)?;
-    sections.push(instances(alloc, &[(0, &[])])?)?;
-    sections.push(aliases(alloc, &[(0, "f"), (0, "g")])?)?;
-    sections.push(types(alloc, &[&["x"]])?)?;
-    Ok(sections)
+/// A section that is to be built.
+#[derive(Clone, Copy)]
+enum Part<'a> {
+    Custom,
+    Module,
+    /// An instance of a module, with these arguments.
+    Instance(u32, &'a [(&'a str, u32)]),
+    Aliases(&'a [(u32, &'a str)]),
+    /// The labels of each type's parameters.
+    Types(&'a [&'a [&'a str]]),
+    /// How many parameters each type has.
+    LargeTypes(&'a [usize]),
+    Canons(&'a [Made]),
+    Imports(&'a [(&'a str, u32)]),
+    Exports(&'a [(&'a str, u32)]),
 }
 
-/// These sections after a guest's four.
-fn after_guest(alloc: Global, more: Vec<Section>) -> Result<Vec<Section>, Fail> {
-    let mut sections = guest(alloc)?;
-    for section in more {
-        sections.push(section)?;
+fn built(alloc: Global, part: Part) -> Result<Section, Fail> {
+    match part {
+        Part::Custom => custom(alloc),
+        Part::Module => module(alloc),
+        Part::Instance(of_module, args) => instance(alloc, of_module, args),
+        Part::Aliases(of) => aliases(alloc, of),
+        Part::Types(of) => types(alloc, of),
+        Part::LargeTypes(of) => large_types(alloc, of),
+        Part::Canons(of) => canons(alloc, of),
+        Part::Imports(of) => imports(alloc, of),
+        Part::Exports(of) => exports(alloc, of),
     }
-    Ok(sections)
+}
+
+/// These sections, after others.
+fn add(alloc: Global, sections: &mut Vec<Section>, parts: &[Part]) -> Result<(), Fail> {
+    for part in parts {
+        sections.push(built(alloc, *part)?)?;
+    }
+    Ok(())
+}
+
+/// The component of these sections.
+fn component(alloc: Global, parts: &[Part]) -> Result<Component, Fail> {
+    let mut sections = Vec::new(alloc);
+    add(alloc, &mut sections, parts)?;
+    Ok(Component::from_sections(sections))
+}
+
+/// The component of a module, an instance of it, its functions `f` and `g`, the type of functions with one
+/// parameter, and these sections after them.
+fn guest(alloc: Global, parts: &[Part]) -> Result<Component, Fail> {
+    let front = [
+        Part::Module,
+        Part::Instance(0, &[]),
+        Part::Aliases(&[(0, "f"), (0, "g")]),
+        Part::Types(&[&["x"]]),
+    ];
+    let mut sections = Vec::new(alloc);
+    add(alloc, &mut sections, &front)?;
+    add(alloc, &mut sections, parts)?;
+    Ok(Component::from_sections(sections))
 }
 
 /// The section, the item and the reason's number of the fault, if there is one.
-fn fault(alloc: Global, sections: Vec<Section>) -> Option<(usize, usize, u8)> {
-    match validate(alloc, Component::from_sections(sections)) {
+fn fault(alloc: Global, component: Component) -> Option<(usize, usize, u8)> {
+    match validate(alloc, component) {
         Ok(_) => None,
         Err(
             ValidFault {
@@ -172,25 +217,21 @@ fn are_named(items: &[SignatureItem], names: &[&str]) -> bool {
 }
 
 fn provider(alloc: Global) -> Result<Checked, Fail> {
-    let mut sections = guest(alloc)?;
-    sections.push(canons(
-        alloc,
-        &[Canon::Lift {
-            core_func: 1,
-            ty: 0,
-        }],
-    )?)?;
-    sections.push(exports(alloc, &[("inc", 0)])?)?;
-    Ok(validate(alloc, Component::from_sections(sections))?)
+    let parts = [
+        Part::Canons(&[Made::Lift(1, 0)]),
+        Part::Exports(&[("inc", 0)]),
+    ];
+    Ok(validate(alloc, guest(alloc, &parts)?)?)
 }
 
 fn user(alloc: Global) -> Result<Checked, Fail> {
-    let mut sections = Vec::new(alloc);
-    sections.push(types(alloc, &[&[], &["x"]])?)?;
-    sections.push(imports(alloc, &[("now", 0), ("inc", 1)])?)?;
-    sections.push(canons(alloc, &[Canon::Lower { func: 1 }])?)?;
-    sections.push(exports(alloc, &[("again", 1)])?)?;
-    Ok(validate(alloc, Component::from_sections(sections))?)
+    let parts = [
+        Part::Types(&[&[], &["x"]]),
+        Part::Imports(&[("now", 0), ("inc", 1)]),
+        Part::Canons(&[Made::Lower(1)]),
+        Part::Exports(&[("again", 1)]),
+    ];
+    Ok(validate(alloc, component(alloc, &parts)?)?)
 }
 
 #[test]
@@ -237,142 +278,142 @@ fn what_a_user_is(rt: HostRuntime) -> Result<(), Fail> {
     Ok(())
 }
 
+/// 17 parameters, one more than are passed flat.
+const LABELS: [&str; 17] = [
+    "a", "b", "c", "d", "e", "f", "g", "h", "i", "j", "k", "l", "m", "n", "o", "p", "q",
+];
+
+/// The fault of the component of these sections.
+fn fault_of(alloc: Global, parts: &[Part]) -> Result<Option<(usize, usize, u8)>, Fail> {
+    Ok(fault(alloc, component(alloc, parts)?))
+}
+
 #[test]
-fn broken_rules(rt: HostRuntime) -> Result<(), Fail> {
+fn rules_of_modules_and_types(rt: HostRuntime) -> Result<(), Fail> {
     let a = rt.alloc();
-    let lift = |core_func: u32, ty: u32| Canon::Lift { core_func, ty };
-    let lower = |func: u32| Canon::Lower { func };
-    let labels_17: [&str; 17] = [
-        "a", "b", "c", "d", "e", "f", "g", "h", "i", "j", "k", "l", "m", "n", "o", "p", "q",
+    // no such module, after a custom section, which counts
+    let parts = [Part::Custom, Part::Instance(0, &[])];
+    assert_eq!(rt; fault_of(a, &parts)?, Some((1, 0, 1)));
+    // an argument that is no instance; names that are equal as texts, or only without case
+    let parts = [Part::Module, Part::Instance(0, &[("a", 1)])];
+    assert_eq!(rt; fault_of(a, &parts)?, Some((1, 0, 1)));
+    let parts = [
+        Part::Module,
+        Part::Instance(0, &[]),
+        Part::Instance(0, &[("a", 0), ("b", 0), ("a", 0)]),
     ];
-    let rows: [(Vec<Section>, Option<(usize, usize, u8)>); 24] = [
-        (Vec::new(a), None),
-        (guest(a)?, None),
-        // no such module, after a custom section, which counts
+    assert_eq!(rt; fault_of(a, &parts)?, Some((2, 0, 6)));
+    let parts = [
+        Part::Module,
+        Part::Instance(0, &[]),
+        Part::Instance(0, &[("a", 0), ("A", 0)]),
+    ];
+    assert_eq!(rt; fault_of(a, &parts)?, None);
+    // an alias of no instance
+    assert_eq!(rt;
+        fault_of(a, &[Part::Aliases(&[(0, "f")])])?,
+        Some((0, 0, 1))
+    );
+    // labels that are the same without case, and too many
+    let parts = [Part::Types(&[&["x", "y"], &["x", "y", "X"]])];
+    assert_eq!(rt; fault_of(a, &parts)?, Some((0, 1, 6)));
+    assert_eq!(rt;
+        fault_of(a, &[Part::LargeTypes(&[9_999, 10_000])])?,
+        Some((0, 1, 17))
+    );
+    Ok(())
+}
+
+#[test]
+fn rules_of_canonical_definitions(rt: HostRuntime) -> Result<(), Fail> {
+    let rows: [(&[Part], Option<(usize, usize, u8)>); 9] = [
+        (&[Part::Canons(&[Made::Lift(0, 0), Made::Lift(1, 0)])], None),
+        // lifts: no core function, no type, 17 parameters, a function that was lowered
+        (&[Part::Canons(&[Made::Lift(2, 0)])], Some((4, 0, 1))),
         (
-            vec![in a; custom(a)?, instances(a, &[(0, &[])])?]?,
-            Some((1, 0, 1)),
-        ),
-        // an argument that is no instance, and names that are equal, or not, as texts
-        (
-            vec![in a; module(a)?, instances(a, &[(0, &[]), (0, &[("a", 1)])])?]?,
-            Some((1, 1, 1)),
-        ),
-        (
-            vec![in a;
-                module(a)?,
-                instances(a, &[(0, &[]), (0, &[("a", 0), ("b", 0), ("a", 0)])])?,
-            ]?,
-            Some((1, 1, 6)),
-        ),
-        (
-            vec![in a;
-                module(a)?,
-                instances(a, &[(0, &[]), (0, &[("a", 0), ("A", 0)])])?,
-            ]?,
-            None,
-        ),
-        (vec![in a; aliases(a, &[(0, "f")])?]?, Some((0, 0, 1))),
-        // labels that are the same without case, and too many
-        (
-            vec![in a; types(a, &[&["x", "y"], &["x", "y", "X"]])?]?,
-            Some((0, 1, 6)),
-        ),
-        (
-            vec![in a; large_types(a, &[9_999, 10_000])?]?,
-            Some((0, 1, 17)),
-        ),
-        // lifts: no core function, no type, 17 parameters, a function that is lowered
-        (
-            after_guest(a, vec![in a; canons(a, &[lift(2, 0)])?]?)?,
-            Some((4, 0, 1)),
-        ),
-        (
-            after_guest(a, vec![in a; canons(a, &[lift(0, 0), lift(1, 1)])?]?)?,
+            &[Part::Canons(&[Made::Lift(0, 0), Made::Lift(1, 1)])],
             Some((4, 1, 1)),
         ),
         (
-            after_guest(
-                a,
-                vec![in a; types(a, &[&labels_17])?, canons(a, &[lift(0, 1)])?]?,
-            )?,
+            &[Part::Types(&[&LABELS]), Part::Canons(&[Made::Lift(0, 1)])],
             Some((5, 0, 7)),
         ),
         (
-            after_guest(
-                a,
-                vec![in a;
-                    imports(a, &[("f", 0)])?,
-                    canons(a, &[lower(0), lift(2, 0)])?,
-                ]?,
-            )?,
+            &[
+                Part::Imports(&[("f", 0)]),
+                Part::Canons(&[Made::Lower(0), Made::Lift(2, 0)]),
+            ],
             Some((5, 1, 11)),
         ),
-        // lowered functions: none, 17 parameters, one that was lifted
+        // lowered functions: none, 17 parameters, one that was lifted, one that was imported and exported
+        (&[Part::Canons(&[Made::Lower(0)])], Some((4, 0, 1))),
         (
-            after_guest(a, vec![in a; canons(a, &[lower(0)])?]?)?,
-            Some((4, 0, 1)),
+            &[
+                Part::Types(&[&LABELS]),
+                Part::Imports(&[("f", 1)]),
+                Part::Canons(&[Made::Lower(0)]),
+            ],
+            Some((6, 0, 7)),
         ),
         (
-            vec![in a;
-                types(a, &[&labels_17])?,
-                imports(a, &[("f", 0)])?,
-                canons(a, &[lower(0)])?,
-            ]?,
-            Some((2, 0, 7)),
-        ),
-        (
-            after_guest(a, vec![in a; canons(a, &[lift(0, 0), lower(0)])?]?)?,
+            &[Part::Canons(&[Made::Lift(0, 0), Made::Lower(0)])],
             Some((4, 1, 16)),
         ),
-        // imports: no type, the same name without case, names that functions do not have
-        (vec![in a; imports(a, &[("f", 0)])?]?, Some((0, 0, 1))),
         (
-            vec![in a;
-                types(a, &[&[]])?,
-                imports(a, &[("get-it", 0), ("GET-it", 0)])?,
-            ]?,
-            Some((1, 1, 6)),
+            &[
+                Part::Imports(&[("f", 0)]),
+                Part::Exports(&[("g", 0)]),
+                Part::Canons(&[Made::Lower(1)]),
+            ],
+            None,
+        ),
+    ];
+    for (parts, wanted) in rows {
+        let found = fault(rt.alloc(), guest(rt.alloc(), parts)?);
+        assert_eq!(rt; found, wanted);
+    }
+    Ok(())
+}
+
+#[test]
+fn rules_of_imports_and_exports(rt: HostRuntime) -> Result<(), Fail> {
+    let rows: [(&[Part], Option<(usize, usize, u8)>); 8] = [
+        // no type, the same name without case, names that functions do not have
+        (&[Part::Imports(&[("f", 1)])], Some((4, 0, 1))),
+        (
+            &[Part::Imports(&[("get-it", 0), ("GET-it", 0)])],
+            Some((4, 1, 6)),
+        ),
+        (&[Part::Imports(&[("a:b/c", 0)])], Some((4, 0, 14))),
+        (
+            &[Part::Imports(&[("f", 0), ("[static]r.f", 0)])],
+            Some((4, 1, 14)),
+        ),
+        // no function, the same name without case, a name that functions do not have
+        (&[Part::Exports(&[("f", 0)])], Some((4, 0, 1))),
+        (
+            &[
+                Part::Imports(&[("f", 0)]),
+                Part::Exports(&[("f", 0), ("F", 1)]),
+            ],
+            Some((5, 1, 6)),
         ),
         (
-            vec![in a; types(a, &[&[]])?, imports(a, &[("a:b/c", 0)])?]?,
-            Some((1, 0, 14)),
-        ),
-        (
-            vec![in a;
-                types(a, &[&[]])?,
-                imports(a, &[("f", 0), ("[static]r.f", 0)])?,
-            ]?,
-            Some((1, 1, 14)),
-        ),
-        // exports: no function, the same name without case, names that functions do not have
-        (vec![in a; exports(a, &[("f", 0)])?]?, Some((0, 0, 1))),
-        (
-            vec![in a;
-                types(a, &[&[]])?,
-                imports(a, &[("f", 0)])?,
-                exports(a, &[("f", 0), ("F", 1)])?,
-            ]?,
-            Some((2, 1, 6)),
-        ),
-        (
-            vec![in a;
-                types(a, &[&[]])?,
-                imports(a, &[("f", 0)])?,
-                exports(a, &[("a:b/c@1.0.0", 0)])?,
-            ]?,
-            Some((2, 0, 14)),
+            &[
+                Part::Imports(&[("f", 0)]),
+                Part::Exports(&[("a:b/c@1.0.0", 0)]),
+            ],
+            Some((5, 0, 14)),
         ),
         // of two faults the first
         (
-            vec![in a; types(a, &[&["x", "x"]])?, canons(a, &[lower(7)])?]?,
-            Some((0, 0, 6)),
+            &[Part::Types(&[&["x", "x"]]), Part::Canons(&[Made::Lower(7)])],
+            Some((4, 0, 6)),
         ),
     ];
-    let mut row = 0;
-    for (sections, wanted) in rows {
-        assert_eq!(rt; fault(a, sections), wanted, "in row {row}");
-        row = if row < 100 { row + 1 } else { row };
+    for (parts, wanted) in rows {
+        let found = fault(rt.alloc(), guest(rt.alloc(), parts)?);
+        assert_eq!(rt; found, wanted);
     }
     Ok(())
 }
