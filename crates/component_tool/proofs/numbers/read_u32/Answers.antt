@@ -1,6 +1,4 @@
-use Rattle.std.proofs.Common.{◌≡◌, ◌∙◌, arith, lit≤, rules, subst, sym}
-use Rattle.std.specs.Prelude.{IfSome}
-use Rattle.std.specs.Fmt.{decimal}
+use Rattle.std.proofs.Common.{◌∙◌, arith, lit≤, rules, subst, sym}
 use Rattle.component_tool.specs.Numbers.{IsDecimal}
 use Rattle.component_tool.proofs.NumberLaws.{decimal-read, read-decimal, IsDecimal-decimal}
 use Rattle.component_tool.proofs.numbers.read_u32.Goals as goal
