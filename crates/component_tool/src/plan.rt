@@ -19,6 +19,7 @@ pub fn write_plan<O: Write>(out: &mut O, linked: &Linked) -> io::Result<()> {
     Ok(())
 }
 
+/// The name of the import of a plan's line. A plan names imports that are there.
 fn import_name<'a>(linked: &'a Linked, line: &PlanLine) -> &'a str {
     let name = linked
         .components()
@@ -30,6 +31,7 @@ fn import_name<'a>(linked: &'a Linked, line: &PlanLine) -> &'a str {
     }
 }
 
+/// The name of the export of a plan's line. A plan names exports that are there.
 fn export_name<'a>(linked: &'a Linked, line: &PlanLine) -> &'a str {
     let name = linked
         .components()
