@@ -1,1 +1,2 @@
 pub mod HexBytesLaws
+pub mod NumberLaws

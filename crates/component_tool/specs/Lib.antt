@@ -1,2 +1,3 @@
 pub mod HexBytes
 pub mod Moves
+pub mod Numbers

@@ -2,12 +2,26 @@
 
 use crate::fault::{Fault, report};
 use crate::files::Files;
-use crate::script::Script;
+use crate::load::{load, load_script, load_set};
+use crate::outcome::Outcome;
+use crate::plan::write_plan;
+use crate::play::play;
 use crate::words::Request;
+use cm_machine::Set;
 use std::alloc::Global;
 use std::io::Write;
 
-/// Runs the command that the words ask for, and answers its exit status.
+/// The most moves of a drive.
+pub const LIMIT: u64 = 1_000_000;
+
+/// Runs the command that the words ask for, and answers its exit status: 0 where it is done, 1 where
+/// something was refused, 2 where the words are no command or ask for help, 3 where a drive trapped, 4
+/// where a file cannot be read or standard output not be written.
+///
+/// The words are those after the program's name. Files are read, decoded and validated in their order,
+/// `link` and `play` then link them, and `play` reads its script after that. The first fault ends the
+/// command, with one line on standard error that begins with `error: `; of `play`, also each drive that is
+/// refused or reaches its limit has such a line, and the later ones run.
 pub fn tool<F: Files, O: Write, E: Write>(
     alloc: Global,
     words: &[String],
@@ -15,8 +29,8 @@ pub fn tool<F: Files, O: Write, E: Write>(
     out: &mut O,
     err: &mut E,
 ) -> u8 {
-    match run(alloc, words, files, out) {
-        Ok(()) => 0,
+    match run(alloc, words, files, out, err) {
+        Ok(outcome) => outcome.status(),
         Err(fault) => {
             report(err, &fault);
             fault.status()
@@ -24,55 +38,62 @@ pub fn tool<F: Files, O: Write, E: Write>(
     }
 }
 
-fn run<'a, F: Files, O: Write>(
+fn run<'a, F: Files, O: Write, E: Write>(
     alloc: Global,
     words: &'a [String],
     files: &mut F,
-    _out: &mut O,
-) -> Result<(), Fault<'a>> {
+    out: &mut O,
+    err: &mut E,
+) -> Result<Outcome, Fault<'a>> {
     match Request::read(alloc, words)? {
-        Request::Check { file } => {
-            let _ = read_file(alloc, files, file)?;
-            Ok(())
-        }
-        Request::Link { files: _ } => Ok(()),
+        Request::Check { file } => run_check(alloc, file, files, out),
+        Request::Link { files: names } => run_link(alloc, names.as_slice(), files, out),
         Request::Play {
             script,
             files: names,
-        } => {
-            let _ = read_script(alloc, files, script, names.len())?;
-            Ok(())
-        }
+        } => run_play(alloc, script, names.as_slice(), files, out, err),
     }
 }
 
-fn read_file<'a, F: Files>(
+fn run_check<'a, F: Files, O: Write>(
     alloc: Global,
-    files: &mut F,
     name: &'a str,
-) -> Result<Vec<u8>, Fault<'a>> {
-    match files.read(alloc, name) {
-        Ok(bytes) => Ok(bytes),
-        Err(fault) => Err(Fault::File { name, fault }),
-    }
+    files: &mut F,
+    out: &mut O,
+) -> Result<Outcome, Fault<'a>> {
+    let checked = load(alloc, files, name)?;
+    let signature = checked.signature();
+    let imports = signature.imports.len();
+    let exports = signature.exports.len();
+    writeln!(out, "ok: {imports} imports, {exports} exports")?;
+    out.flush()?;
+    Ok(Outcome::Done)
 }
 
-/// Reads the script for so many components.
-fn read_script<'a, F: Files>(
+fn run_link<'a, F: Files, O: Write>(
     alloc: Global,
+    names: &[&'a str],
     files: &mut F,
-    name: &'a str,
-    components: usize,
-) -> Result<Script, Fault<'a>> {
-    let bytes = read_file(alloc, files, name)?;
-    match str::from_utf8(bytes.as_slice()) {
-        Ok(text) => match Script::parse(alloc, text, components) {
-            Ok(script) => Ok(script),
-            Err(refusal) => Err(Fault::Script(refusal)),
-        },
-        Err(error) => Err(Fault::BadUtf8 {
-            name,
-            at: error.valid_up_to(),
-        }),
+    out: &mut O,
+) -> Result<Outcome, Fault<'a>> {
+    let linked = load_set(alloc, files, names)?;
+    write_plan(out, &linked)?;
+    out.flush()?;
+    Ok(Outcome::Done)
+}
+
+fn run_play<'a, F: Files, O: Write, E: Write>(
+    alloc: Global,
+    script: &'a str,
+    names: &[&'a str],
+    files: &mut F,
+    out: &mut O,
+    err: &mut E,
+) -> Result<Outcome, Fault<'a>> {
+    let linked = load_set(alloc, files, names)?;
+    let script = load_script(alloc, files, script, names.len())?;
+    match Set::new(alloc, linked, script.pages.as_slice()) {
+        Ok(mut set) => play(alloc, &mut set, script, LIMIT, out, err),
+        Err(misuse) => Err(Fault::Misuse(misuse)),
     }
 }

@@ -1,8 +1,14 @@
 //! Why a command ends early, and the line that says so.
 
+ghost use Rattle.std.specs.Prelude.{◌≡◌};
+ghost use Rattle.component_tool.specs.declared.fault.Fault.TheVariants as fault;
+
 use crate::files::FileFault;
 use crate::script::ScriptRefusal;
+use cm_binary::{DecodeFault, DecodeReason};
 use cm_machine::Misuse;
+use cm_match::LinkFault;
+use cm_validate::ValidFault;
 use std::alloc::{AllocError, AllocFailed};
 use std::io::Write;
 use std::{fmt, io};
@@ -16,6 +22,12 @@ pub enum Fault<'a> {
     Memory,
     /// A file cannot be read.
     File { name: &'a str, fault: FileFault },
+    /// A file is no component file.
+    Decode { name: &'a str, fault: DecodeFault },
+    /// A file's component is not valid.
+    Valid { name: &'a str, fault: ValidFault },
+    /// The components do not link.
+    Link(LinkFault),
     /// A file that should be text is not UTF-8, from the byte `at` on.
     BadUtf8 { name: &'a str, at: usize },
     /// A script has a line at fault.
@@ -35,6 +47,9 @@ impl Fault<'_> {
             Fault::Usage => 2,
             Fault::File { .. } | Fault::Output => 4,
             Fault::Memory
+            | Fault::Decode { .. }
+            | Fault::Valid { .. }
+            | Fault::Link(_)
             | Fault::BadUtf8 { .. }
             | Fault::Script(_)
             | Fault::Misuse(_)
@@ -44,32 +59,26 @@ impl Fault<'_> {
 }
 
 impl From<AllocError> for Fault<'_> {
+    ghost from_gives = { λ _ f. f ≡ fault.Memory };
+
     fn from(_error: AllocError) -> Self {
         Fault::Memory
     }
 }
 
 impl<T: Drop> From<AllocFailed<T>> for Fault<'_> {
+    ghost from_gives = { λ _ f. f ≡ fault.Memory };
+
     fn from(_error: AllocFailed<T>) -> Self {
         Fault::Memory
     }
 }
 
 impl From<io::Error> for Fault<'_> {
+    ghost from_gives = { λ _ f. f ≡ fault.Output };
+
     fn from(_error: io::Error) -> Self {
         Fault::Output
-    }
-}
-
-/// The number by which a misuse is known.
-fn misuse_number(misuse: Misuse) -> u8 {
-    match misuse {
-        Misuse::Idle => 1,
-        Misuse::Busy => 2,
-        Misuse::Closed => 3,
-        Misuse::NoInstance => 4,
-        Misuse::BadPages => 5,
-        Misuse::Memory => 6,
     }
 }
 
@@ -78,18 +87,58 @@ impl fmt::Display for Fault<'_> {
         match self {
             Fault::Usage => write!(f, "usage"),
             Fault::Memory => write!(f, "Memory"),
-            Fault::File { name, fault } => write!(f, "{name}: {fault}"),
-            Fault::BadUtf8 { name, at } => write!(f, "{name}: BadUtf8 at {at}"),
+            Fault::File { name, fault } => write!(f, "{name}: {fault:?}: {fault}"),
+            Fault::Decode { name, fault } => write_decode_fault(f, name, *fault),
+            Fault::Valid { name, fault } => {
+                let ValidFault {
+                    section,
+                    item,
+                    reason,
+                } = fault;
+                write!(
+                    f,
+                    "{name}: {reason:?} in section {section}, item {item}: {reason}"
+                )
+            }
+            Fault::Link(
+                LinkFault {
+                    component,
+                    import,
+                    reason,
+                },
+            ) => write!(
+                f,
+                "{reason:?} in component {component}, import {import}: {reason}"
+            ),
+            Fault::BadUtf8 { name, at } => {
+                write!(f, "{name}: BadUtf8 at {at}: a script is UTF-8 text")
+            }
             Fault::Script(ScriptRefusal { line, fault }) => {
                 write!(f, "script line {line}: {fault}")
             }
             Fault::Misuse(misuse) => {
-                let number = misuse_number(*misuse);
+                let number = misuse.number();
                 write!(f, "misuse {number}: {misuse}")
             }
             Fault::Limit => write!(f, "limit"),
-            Fault::Output => write!(f, "standard output: Write"),
+            Fault::Output => write!(f, "standard output: Write: it cannot be written"),
         }
+    }
+}
+
+/// Writes the fault of a file that is no component file: the name of the reason, without the feature
+/// that is not supported, the place, and what the reason says.
+fn write_decode_fault<W: fmt::Write>(
+    f: &mut fmt::Formatter<W>,
+    name: &str,
+    fault: DecodeFault,
+) -> fmt::Result {
+    let DecodeFault { at, reason } = fault;
+    match reason {
+        DecodeReason::Unsupported(feature) => {
+            write!(f, "{name}: Unsupported at {at}: {feature}")
+        }
+        _ => write!(f, "{name}: {reason:?} at {at}: {reason}"),
     }
 }
 

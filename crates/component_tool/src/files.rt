@@ -8,10 +8,10 @@ use thiserror::Error;
 #[derive(Clone, Copy, Debug, PartialEq, Eq, Error)]
 pub enum FileFault {
     /// The file cannot be read, as when there is none of this name.
-    #[error("Read")]
+    #[error("the file cannot be read")]
     Read = 1,
     /// There was no memory for its bytes.
-    #[error("Memory")]
+    #[error("no memory for its bytes")]
     Memory = 2,
 }
 

@@ -3,42 +3,19 @@
 use crate::events::write_event;
 use crate::fault::{Fault, report};
 use crate::guest::ScriptGuest;
+use crate::outcome::Outcome;
 use crate::script::Script;
 use cm_machine::{Event, Guest, Player, Set};
 use std::alloc::Global;
 use std::io::Write;
 
-/// The most moves of a drive.
-const LIMIT: u64 = 1_000_000;
-
-/// How a command ended that ran to its end, the better one first.
-#[derive(Clone, Copy, Debug, PartialEq, Eq, PartialOrd, Ord)]
-pub enum Outcome {
-    /// All was done.
-    Done,
-    /// A drive was refused, or reached its limit.
-    Refused,
-    /// A drive trapped.
-    Trapped,
-}
-
-impl Outcome {
-    /// The exit status.
-    pub fn status(self) -> u8 {
-        match self {
-            Outcome::Done => 0,
-            Outcome::Refused => 1,
-            Outcome::Trapped => 3,
-        }
-    }
-}
-
-/// Plays each drive of a script, in order, and prints its events. A drive that is refused or that
-/// reaches its limit has a line on standard error, and the later ones run.
+/// Plays each drive of a script, in order, for so many moves at most, and prints its events. A drive that
+/// is refused or that reaches its limit has a line on standard error, and the later ones run.
 pub fn play<O: Write, E: Write>(
     alloc: Global,
     set: &mut Set,
     script: Script,
+    limit: u64,
     out: &mut O,
     err: &mut E,
 ) -> Result<Outcome, Fault<'static>> {
@@ -54,7 +31,7 @@ pub fn play<O: Write, E: Write>(
     }
     let mut worst = Outcome::Done;
     for root in begins {
-        let outcome = match Player::drive(alloc, set, &mut seats, root, LIMIT) {
+        let outcome = match Player::drive(alloc, set, &mut seats, root, limit) {
             Ok(events) => print_drive(events.as_slice(), out, err)?,
             Err(misuse) => {
                 report(err, &Fault::Misuse(misuse));

@@ -1,5 +1,8 @@
 //! The statements of scripts, one a line.
 
+ghost use Rattle.std.specs.Prelude.{◌≡◌};
+ghost use Rattle.component_tool.specs.declared.statement.LineFault.TheVariants as fault;
+
 use crate::hex_bytes::{ScriptFault, script_bytes};
 use crate::numbers::{read_u32, read_u64};
 use cm_machine::Move;
@@ -34,12 +37,16 @@ pub enum LineFault {
 }
 
 impl From<AllocError> for LineFault {
+    ghost from_gives = { λ _ f. f ≡ fault.Memory };
+
     fn from(_error: AllocError) -> LineFault {
         LineFault::Memory
     }
 }
 
 impl<T: Drop> From<AllocFailed<T>> for LineFault {
+    ghost from_gives = { λ _ f. f ≡ fault.Memory };
+
     fn from(_error: AllocFailed<T>) -> LineFault {
         LineFault::Memory
     }

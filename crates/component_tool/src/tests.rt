@@ -1,6 +1,7 @@
 //! Tests of the parts, and of whole commands on files in memory.
 
 mod bytes;
+mod commands;
 mod lines;
 mod scripts;
 mod words;

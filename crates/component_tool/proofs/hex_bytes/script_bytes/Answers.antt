@@ -1,6 +1,5 @@
-use Rattle.std.proofs.Common.{rules, ◌≡◌, ◌≢◌, List, ℕ, inl, inr, sym, ◌∙◌, []}
+use Rattle.std.proofs.Common.{rules, ◌≢◌, inl, inr, []}
 use Rattle.component_tool.proofs.HexBytesLaws.{ArePairs-decode_of, decode_of-pairs, some-bytes}
-use Rattle.component_tool.specs.HexBytes.{Spells}
 use Rattle.component_tool.proofs.hex_bytes.script_bytes.Goals as goal
 
 pub returns-in-Ok-clause-spelled : goal.returns-in-Ok-clause-spelled
