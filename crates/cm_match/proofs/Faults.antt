@@ -1,8 +1,4 @@
-<<<<<<< HEAD
--- A set that matches has no fault.
-=======
 -- The fault of a set, and that a set that matches has none.
->>>>>>> main
 use Rattle.std.proofs.Common.{◌≡◌, ℕ, List, [], ◌∷◌, ◌++◌, length, sym, ap, subst, ◌∙◌, arith}
 use Rattle.cm_types.specs.Signatures.{SignatureTy}
 use Rattle.cm_match.specs.declared.fault.LinkReason.{LinkReason}
