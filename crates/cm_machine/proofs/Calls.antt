@@ -52,11 +52,11 @@ call_enters h s carried top func args e new (Some (core_function.Lowered l)) is 
     let same_args : args ≡ given = cc in
     (x, ap (λ (y : Option Sending). or_before y (waiting h)) last, subst (λ (j : ℕ). IsEntryOf x j g given new) same_i (subst (λ (j : ℕ). IsEntryOf x l.instance j given new) same_g (subst (λ (j : List CoreValue). IsEntryOf x l.instance l.func j new) same_args (entry_of s (actor top) l args new held.0))))
 
-grow_enters_not : (s : State) (top : Frame) (pages : ℕ) (b : Bool) (e : Event) (new : State) (i f : ℕ) (args : List CoreValue) → Grows s top pages b e new → e ≡ event.Enter i f args → ⊥
+pub grow_enters_not : (s : State) (top : Frame) (pages : ℕ) (b : Bool) (e : Event) (new : State) (i f : ℕ) (args : List CoreValue) → Grows s top pages b e new → e ≡ event.Enter i f args → ⊥
 grow_enters_not s top pages true e new i f args g ev = let x = g.0 in cc
 grow_enters_not s top pages false e new i f args g ev = let x = g.0 in cc
 
-return_enters_not : (p : Purpose) (s : State) (values : List CoreValue) (e : Event) (new : State) (i f : ℕ) (args : List CoreValue) → Returns p s values e new → e ≡ event.Enter i f args → ⊥
+pub return_enters_not : (p : Purpose) (s : State) (values : List CoreValue) (e : Event) (new : State) (i f : ℕ) (args : List CoreValue) → Returns p s values e new → e ≡ event.Enter i f args → ⊥
 return_enters_not purpose.Root s values e new i f args r ev = let x = r.0 in cc
 return_enters_not (purpose.Call call) s values e new i f args r ev = let x = (body_returns s call values e new r).1 in cc
 return_enters_not (purpose.Destructor dropper) s values e new i f args r ev = let x = r.0 in cc

@@ -14,3 +14,4 @@ pub mod HistoryLaws
 pub mod Drives
 pub mod Seats
 pub mod Plans
+pub mod Guards

@@ -8,6 +8,7 @@ pub mod Fresh
 pub mod History
 pub mod Values
 pub mod Headline
+pub mod Guarded
 pub mod Exchange
 pub mod Player
 pub mod Plan

@@ -2,12 +2,16 @@
 
 ghost use Rattle.std.specs.Prelude.{◌≡◌, ℕ, List};
 ghost use Rattle.std.specs.Option.{option_map};
+ghost use Rattle.cm_types.specs.declared.core_value.CoreValue.{CoreValue};
 ghost use Rattle.cm_machine.specs.declared.event.Event.{Event};
+ghost use Rattle.cm_machine.specs.declared.event.Event.TheVariants as event;
 ghost use Rattle.cm_machine.specs.declared.frame.CoreFunction.{CoreFunction};
 ghost use Rattle.cm_machine.specs.declared.moves.Move.{Move};
 ghost use Rattle.cm_machine.specs.Stack.{actor, top_of};
 ghost use Rattle.cm_machine.specs.State.{State};
+ghost use Rattle.cm_machine.specs.Step.{Step};
 ghost use Rattle.cm_machine.specs.Run.{Run};
+ghost use Rattle.cm_machine.specs.Guarded.{MayBeEntered};
 ghost use Rattle.cm_machine.specs.Fresh.{fresh};
 ghost use Rattle.cm_machine.specs.History.{Entry, IsHistoryOf, acts};
 ghost use Rattle.cm_machine.specs.Headline.{EntersRightly, ResumesRightly, ChangesMemoryRightly, TrapsRightly, TrapsWhereItMust, RunsOn};
@@ -37,4 +41,12 @@ pub fn headline()
     // What a run did extends the history by its moves and events.
     ensures runs { (plan : List (List CoreFunction)) (pages : List ℕ) (h : List Entry) (s : State) (ms : List Move) (es : List Event) (new : State)
         → IsHistoryOf plan pages h s → Run s ms es new → RunsOn (fresh plan pages) h ms es new }
+{}
+
+/// A function is entered only by an instance that may leave, in an instance that is open, and where there
+/// is room on the stack. This is a law on the definition of a step, over all states, those too that no set
+/// of today comes to.
+pub fn entries_are_guarded()
+    ensures { (s : State) (m : Move) (instance func : ℕ) (args : List CoreValue) (new : State)
+        → Step s m (event.Enter instance func args) new → MayBeEntered s instance }
 {}

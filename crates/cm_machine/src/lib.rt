@@ -18,7 +18,7 @@ mod step;
 pub use event::{Event, Misuse, Trap};
 pub use flat::Flat;
 pub use frame::{Call, CoreFunction, Frame, Lend, Lowered, Phase, Place, Purpose};
-pub use laws::headline;
+pub use laws::{entries_are_guarded, headline};
 pub use moves::Move;
 pub use player::{Guest, Player};
 pub use set::Set;
