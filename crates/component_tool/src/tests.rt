@@ -2,6 +2,7 @@
 
 mod bytes;
 mod commands;
+mod drives;
 mod lines;
 mod scripts;
 mod words;

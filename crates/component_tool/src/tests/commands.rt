@@ -1,23 +1,13 @@
 use crate::commands::LIMIT;
 use crate::files::FileFault;
-use crate::hex_bytes::script_bytes;
 use crate::load::{load_script, load_set};
 use crate::outcome::Outcome;
 use crate::play::play;
-use crate::tests::worlds::{Entry, MemoryFiles, Ran, run};
+use crate::tests::worlds::{Entry, MemoryFiles, PROVIDER, USER, bytes_of, run};
 use cm_machine::Set;
 use std::alloc::Global;
 use std::process::Abort;
 use std::test::Fail;
-
-/// Exports `inc: func(x: u32) -> u32`, lifted.
-static PROVIDER: &str = "0061736D0D000100010800\
-    61736D0100000002040100000006070100000100016607080140010178790079080601000000\
-    00000B09010003696E63010000";
-
-/// Imports `inc` and lowers it.
-static USER: &str = "0061736D0D000100070801400101787900790A08010003696E630100080501010000\
-    00";
 
 /// The user, whose lower names a function that is not there.
 static ODD_USER: &str = "0061736D0D000100070801400101787900790A08010003696E630100080501010001\
@@ -45,7 +35,7 @@ static LATIN: &[u8] = b"pages 0 0\n\xE9";
 /// What a command prints: its words, its status, its standard output and its line of standard error.
 type Row = (&'static str, u8, &'static str, &'static str);
 
-static ROWS: [Row; 34] = [
+static ROWS: [Row; 37] = [
     ("check p", 0, "ok: 0 imports, 1 exports\n", ""),
     ("check u", 0, "ok: 1 imports, 0 exports\n", ""),
     (
@@ -128,6 +118,24 @@ static ROWS: [Row; 34] = [
         0,
         "resume 1\nenter 0 0 i32:41\nresume 1 i32:42\nended\n",
         "",
+    ),
+    (
+        "play --script inc p none",
+        4,
+        "",
+        "error: none: Read: the file cannot be read\n",
+    ),
+    (
+        "play --script inc lost u",
+        4,
+        "",
+        "error: lost: Read: the file cannot be read\n",
+    ),
+    (
+        "play --script lost p u",
+        4,
+        "",
+        "error: lost: Read: the file cannot be read\n",
     ),
     (
         "play --script none p full",
@@ -226,10 +234,6 @@ static ROWS: [Row; 34] = [
         "error: misuse 5: wrong numbers of pages\n",
     ),
 ];
-
-fn bytes_of(alloc: Global, hex: &str) -> Result<Vec<u8>, Fail> {
-    Ok(script_bytes(alloc, hex)?)
-}
 
 /// Where standard output takes less than a command prints, the status is 4.
 fn fails_at(

@@ -1,11 +1,26 @@
-//! Files in memory, and writers that fail.
+//! Files in memory, two components among them, and writers that fail.
 
 use crate::commands::tool;
 use crate::files::{FileFault, Files};
+use crate::hex_bytes::script_bytes;
 use std::alloc::Global;
 use std::io;
 use std::io::Write;
 use std::test::Fail;
+
+/// Exports `inc: func(x: u32) -> u32`, lifted.
+pub static PROVIDER: &str = "0061736D0D000100010800\
+    61736D0100000002040100000006070100000100016607080140010178790079080601000000\
+    00000B09010003696E63010000";
+
+/// Imports `inc` and lowers it.
+pub static USER: &str = "0061736D0D000100070801400101787900790A08010003696E630100080501010000\
+    00";
+
+/// The bytes that some digits spell.
+pub fn bytes_of(alloc: Global, hex: &str) -> Result<Vec<u8>, Fail> {
+    Ok(script_bytes(alloc, hex)?)
+}
 
 /// A file in memory: its name, and what a reading of it gives.
 pub type Entry<'a> = (&'a str, Result<&'a [u8], FileFault>);
