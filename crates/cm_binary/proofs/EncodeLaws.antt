@@ -6,8 +6,8 @@ use Rattle.std.proofs.lemmas.List.{length-append}
 use Rattle.cm_grammar.proofs.SpellingLaws.{each_short, flat_map-map}
 use Rattle.cm_component.specs.declared.section.Section.{Section}
 use Rattle.cm_component.specs.Trees.{SectionTree, section_tree}
-use Rattle.cm_binary.specs.File.{file, Spells, component_preamble}
-use Rattle.cm_binary.specs.Spelling.{section_spelling, spelling}
+use Rattle.cm_binary.specs.File.{file, Spells}
+use Rattle.cm_component.specs.Spelling.{section_spelling, spelling, component_preamble}
 use Rattle.cm_binary.proofs.FileSpelling.{file_shortens}
 
 -- A section of a small file is small.

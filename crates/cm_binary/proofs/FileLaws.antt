@@ -15,7 +15,8 @@ use Rattle.cm_binary.specs.declared.codes.ResultForm.{ResultForm}
 use Rattle.cm_binary.specs.declared.codes.ResultForm.TheVariants as result_forms
 use Rattle.cm_binary.specs.declared.codes.CanonForm.{CanonForm}
 use Rattle.cm_binary.specs.declared.codes.CanonForm.TheVariants as canon_forms
-use Rattle.cm_binary.specs.File.{text, label, extern_name, core_arg, core_instance, alias_of, alias, param, func_result_of, func_result, func_type, def_type, type_defs, options_of, options, canon_of, canon, extern_desc, import_item, export_item, contents, section, sections, component, file, room_after, type_limit}
+use Rattle.cm_binary.specs.File.{text, label, extern_name, core_arg, core_instance, alias_of, alias, param, func_result_of, func_result, func_type, def_type, type_defs, options_of, options, canon_of, canon, extern_desc, import_item, export_item, contents, section, sections, component, file, room_after}
+use Rattle.cm_component.specs.Limits.{type_limit}
 
 pub index_lawful : Lawful (number BadNumber)
 index_lawful = number_lawful BadNumber

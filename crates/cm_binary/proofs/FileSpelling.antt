@@ -47,8 +47,9 @@ use Rattle.cm_binary.specs.declared.codes.DescForm.TheVariants as desc_forms
 use Rattle.cm_binary.specs.declared.codes.NoDescription.{NoDescription}
 use Rattle.cm_binary.specs.declared.codes.NoDescription.TheVariants as descriptions
 use Rattle.cm_binary.specs.Codes.{section_kind, core_instance_form, core_sort, alias_sort, core_alias_target, val_type, type_form, result_form, canon_form, desc_form, export_sort, export_desc}
-use Rattle.cm_binary.specs.File.{index, text, label, extern_name, core_arg, core_instance, alias_of, alias, param, func_result_of, func_result, func_type, def_type, type_defs, options_of, options, canon_of, canon, extern_desc, import_item, export_item, contents, section, sections, component, file, room_after, type_limit, component_preamble}
-use Rattle.cm_binary.specs.Spelling.{extern_name_spelling, core_arg_spelling, core_instance_spelling, alias_spelling, val_type_code, param_spelling, result_spelling, func_spelling, def_spelling, canon_spelling, desc_spelling, import_spelling, export_spelling, contents_spelling, section_id, section_spelling, spelling}
+use Rattle.cm_binary.specs.File.{index, text, label, extern_name, core_arg, core_instance, alias_of, alias, param, func_result_of, func_result, func_type, def_type, type_defs, options_of, options, canon_of, canon, extern_desc, import_item, export_item, contents, section, sections, component, file, room_after}
+use Rattle.cm_component.specs.Limits.{type_limit}
+use Rattle.cm_component.specs.Spelling.{extern_name_spelling, core_arg_spelling, core_instance_spelling, alias_spelling, val_type_code, param_spelling, result_spelling, func_spelling, def_spelling, canon_spelling, desc_spelling, import_spelling, export_spelling, contents_spelling, section_id, section_spelling, spelling, component_preamble}
 
 utf8_plain : (n : ℕ) (x bytes : List ℕ) → (checked is_utf8 BadUtf8 (raw n)).Spells x bytes → (bytes ≡ x) × (length x ≡ n)
 utf8_plain n x bytes s = (sym s.0.1, ap length s.0.1 ∙ s.0.0)

@@ -18,6 +18,8 @@ use Rattle.cm_component.specs.declared.section.ExternDesc.{ExternDesc}
 use Rattle.cm_component.specs.declared.section.ExternDesc.TheVariants as descs
 use Rattle.cm_component.specs.Trees as trees
 use Rattle.cm_component.specs.Trees.{ArgTree, CoreInstanceTree, AliasTree, ImportTree, ExportTree, SectionTree}
+use Rattle.cm_component.specs.Spelling.{component_preamble}
+use Rattle.cm_component.specs.Limits.{type_limit, byte_limit, module_preamble}
 use Rattle.cm_binary.specs.declared.fault.DecodeReason.{DecodeReason}
 use Rattle.cm_binary.specs.declared.fault.DecodeReason.TheVariants.{BadPreamble, Truncated, BadNumber, SizeMismatch, UnknownCode, BadUtf8, BadName, NotAModule, TooMany, TooLong}
 use Rattle.cm_binary.specs.declared.codes.SectionKind.{SectionKind}
@@ -190,14 +192,6 @@ export_item = do
 
 -- ---- sections, and the file
 
--- The first eight bytes of a core module, version 1.
-abbrev pub module_preamble : List ℕ
-module_preamble = 0 ∷ 97 ∷ 115 ∷ 109 ∷ 1 ∷ 0 ∷ 0 ∷ 0 ∷ []
-
--- The first eight bytes of a component.
-abbrev pub component_preamble : List ℕ
-component_preamble = 0 ∷ 97 ∷ 115 ∷ 109 ∷ 13 ∷ 0 ∷ 1 ∷ 0 ∷ []
-
 -- The contents of a section, where so many more types may stand in the file.
 unfoldable pub contents : ℕ → SectionKind → Contents SectionTree
 contents room kinds.Custom = joined text (λ name. made (trees.custom name) remainder)
@@ -220,13 +214,6 @@ section room = do
 abbrev pub room_after : ℕ → SectionTree → ℕ
 room_after room (trees.types ts) = room - length ts
 room_after room s = room
-
--- This project's own limits: types in a file, and bytes of it.
-abbrev pub type_limit : ℕ
-type_limit = 4096
-
-abbrev pub byte_limit : ℕ
-byte_limit = 16777216
 
 -- The sections of a file, in any order.
 unfoldable pub sections : ℕ → Contents (List SectionTree)

@@ -2,5 +2,4 @@ pub mod Reasons
 pub mod Codes
 pub mod File
 pub mod Answers
-pub mod Spelling
 pub mod Nonempty

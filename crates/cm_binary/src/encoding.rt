@@ -5,7 +5,7 @@ ghost use Rattle.std.specs.List.{flat_map};
 ghost use Rattle.cm_component.specs.Trees.{section_tree};
 ghost use Rattle.cm_binary.specs.Answers.{Accepts};
 ghost use Rattle.cm_binary.specs.File.{Spells};
-ghost use Rattle.cm_binary.specs.Spelling.{contents_spelling, section_id, section_spelling, spelling};
+ghost use Rattle.cm_component.specs.Spelling.{contents_spelling, section_id, section_spelling, spelling};
 
 use crate::decoding::decode;
 use crate::fault::{DecodeFault, DecodeReason};

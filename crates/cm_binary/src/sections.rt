@@ -8,7 +8,8 @@ ghost use Rattle.cm_types.specs.DefTypes.{def_tree};
 ghost use Rattle.cm_component.specs.Trees.{section_tree};
 ghost use Rattle.cm_binary.specs.declared.fault.DecodeReason.TheVariants as reasons;
 ghost use Rattle.cm_binary.specs.declared.codes.SectionKind.TheVariants as kinds;
-ghost use Rattle.cm_binary.specs.File.{contents, section, sections, type_limit, room_after};
+ghost use Rattle.cm_component.specs.Limits.{type_limit};
+ghost use Rattle.cm_binary.specs.File.{contents, section, sections, room_after};
 
 use crate::canons::canons_of;
 use crate::codes::SectionKind;

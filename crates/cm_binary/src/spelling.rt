@@ -4,7 +4,7 @@ ghost use Rattle.std.specs.Prelude.{◌≡◌, ◌∷◌, ◌++◌, ◌^◌, ◌
 ghost use Rattle.cm_grammar.specs.Spelling.{counted};
 ghost use Rattle.cm_types.specs.DefTypes.{func_tree, def_tree};
 ghost use Rattle.cm_component.specs.Trees.{arg_tree, core_instance_tree, alias_tree, import_tree, export_tree};
-ghost use Rattle.cm_binary.specs.Spelling.{extern_name_spelling, core_arg_spelling, core_instance_spelling, alias_spelling, val_type_code, param_spelling, result_spelling, func_spelling, def_spelling, canon_spelling, desc_spelling, import_spelling, export_spelling};
+ghost use Rattle.cm_component.specs.Spelling.{extern_name_spelling, core_arg_spelling, core_instance_spelling, alias_spelling, val_type_code, param_spelling, result_spelling, func_spelling, def_spelling, canon_spelling, desc_spelling, import_spelling, export_spelling};
 ghost use Rattle.cm_binary.specs.Nonempty.{core_arg_some, core_instance_some, alias_some, param_some, def_some, canon_some, import_some, export_some};
 
 use crate::fault::DecodeReason;

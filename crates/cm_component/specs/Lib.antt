@@ -1,1 +1,5 @@
 pub mod Trees
+pub mod Spelling
+pub mod Limits
+pub mod Parts
+pub mod Measures

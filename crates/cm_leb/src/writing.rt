@@ -18,7 +18,7 @@ pub fn write_u32(out: &mut Vec<u8>, value: u32) -> Result<(), AllocError>
     ensures shortest { (bytes : List ℕ) → SpellsUnsigned 32 bytes value → length (shortest_unsigned value) ≤ length bytes }
     ensures err { OnErr result (out.new.items ≡ out.old.items) }
 {
-    put_group(out, length_of_u32(value), value as u64)
+    put_group(out, spelled_length(value as u64) as usize, value as u64)
 }
 
 /// Appends the shortest spelling of a number of 33 bits with a sign, in two's complement of seven bits
@@ -38,9 +38,11 @@ pub fn write_s33(out: &mut Vec<u8>, value: i64) -> Result<(), AllocError>
     put_group(out, length, two_complement_digits(7 * length as u32, value))
 }
 
-/// How many bytes the shortest spelling of the number takes.
-fn length_of_u32(value: u32) -> usize
-    ensures { result ≡ unsigned_length value }
+/// How many bytes the shortest spelling of a number without a sign takes (the core specification,
+/// "Integers"): 1 to 5. A number of more than 32 bits has none; the answer is then 5.
+pub fn spelled_length(value: u64) -> u32
+    ensures digits { result ≡ unsigned_length value }
+    ensures bytes { result ≡ length (shortest_unsigned value) }
 {
     if value < 1 << 7 {
         1

@@ -1,11 +1,11 @@
 //! Extern names: the names of imports and exports, and of an instance's items.
 
-ghost use Rattle.std.specs.Prelude.{◌≡◌, IfOk, IfErr, ◌⊎◌, Some, None, ◌<◌, option_copied, IsTrue};
+ghost use Rattle.std.specs.Prelude.{◌≡◌, IfOk, IfErr, ◌⊎◌, Some, None, ◌<◌, option_copied, IsTrue, true};
 ghost use Rattle.std.specs.Option.{option_map};
 ghost use Rattle.std.specs.List.{list_any};
 ghost use Rattle.semver.specs.Parse.{memory_error};
 ghost use Rattle.cm_types.specs.Names.{label_fault};
-ghost use Rattle.cm_types.specs.ExternNames.{cut, cut_or_all, extern_name_fault, form_of, interface_of, interface_parts, is_bracketed, is_interface_mark, is_version, labels_fault, least_fault, member, method, parts_fault, static, spelling, unannotated, version_fault, without_front, HasLabels};
+ghost use Rattle.cm_types.specs.ExternNames.{cut, cut_or_all, extern_name_fault, form_of, interface_of, interface_parts, is_bracketed, is_interface_mark, is_version, is_extern_name, labels_fault, least_fault, member, method, parts_fault, static, spelling, unannotated, version_fault, without_front, HasLabels};
 ghost use Rattle.cm_types.specs.ExternNameForms.{form_tree, pair_view};
 
 use crate::names::{NameFault, label_fault};
@@ -95,6 +95,7 @@ impl ExternName {
     pub fn as_str(&self) -> &str
         ensures text { result.now ≡ self.now }
         ensures name { IsExternName result.now }
+        ensures test { is_extern_name result.now ≡ true }
     {
         self.text.as_str()
     }

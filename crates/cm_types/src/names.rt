@@ -1,6 +1,6 @@
 //! Labels, and why a text is no name.
 
-ghost use Rattle.std.specs.Prelude.{◌≡◌, IfOk, IfErr, ◌⊎◌, Some};
+ghost use Rattle.std.specs.Prelude.{◌≡◌, IfOk, IfErr, ◌⊎◌, Some, true};
 ghost use Rattle.std.specs.List.{list_all};
 ghost use Rattle.cm_types.specs.Names.{is_in_word, is_in_acronym, is_fragment, is_label, is_same_name, label_fault};
 ghost use Rattle.cm_types.specs.Faults.{fault_number};
@@ -91,6 +91,7 @@ impl Label {
     pub fn as_str(&self) -> &str
         ensures text { result.now ≡ self.now }
         ensures label { IsLabel result.now }
+        ensures test { is_label result.now ≡ true }
     {
         self.text.as_str()
     }

@@ -1,8 +1,7 @@
 use Rattle.std.proofs.Common.{◌≡◌, ◌++◌, map, take}
 use Rattle.std.specs.List.{flat_map}
 use Rattle.cm_component.specs.Trees.{section_tree}
-use Rattle.cm_binary.specs.File.{component_preamble}
-use Rattle.cm_binary.specs.Spelling.{section_spelling}
+use Rattle.cm_component.specs.Spelling.{component_preamble, section_spelling}
 use Rattle.cm_binary.proofs.encoding.file_bytes.Given as goal
 
 abbrev pub invariant-loop-section : goal.invariant-loop-section

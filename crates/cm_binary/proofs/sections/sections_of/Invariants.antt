@@ -3,7 +3,8 @@ use Rattle.cm_grammar.specs.Whole.{to_end}
 use Rattle.cm_grammar.proofs.Tools.{IsBytes}
 use Rattle.cm_grammar.proofs.ReadingLaws.{with_each}
 use Rattle.cm_component.specs.Trees.{section_tree}
-use Rattle.cm_binary.specs.File.{section, room_after, type_limit}
+use Rattle.cm_component.specs.Limits.{type_limit}
+use Rattle.cm_binary.specs.File.{section, room_after}
 use Rattle.cm_binary.proofs.sections.sections_of.Given as goal
 
 abbrev pub invariant-loop-cursor : goal.invariant-loop-cursor

@@ -1,6 +1,6 @@
 use Rattle.cm_grammar.proofs.SpellingLaws.{counted-map}
 use Rattle.cm_component.specs.Trees.{alias_tree}
-use Rattle.cm_binary.specs.Spelling.{alias_spelling}
+use Rattle.cm_component.specs.Spelling.{alias_spelling}
 use Rattle.cm_binary.proofs.spelling.write_aliases.Goals as goal
 
 pub write_counted-requires : goal.write_counted-requires

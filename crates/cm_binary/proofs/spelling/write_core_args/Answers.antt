@@ -1,6 +1,6 @@
 use Rattle.cm_grammar.proofs.SpellingLaws.{counted-map}
 use Rattle.cm_component.specs.Trees.{arg_tree}
-use Rattle.cm_binary.specs.Spelling.{core_arg_spelling}
+use Rattle.cm_component.specs.Spelling.{core_arg_spelling}
 use Rattle.cm_binary.proofs.spelling.write_core_args.Goals as goal
 
 pub write_counted-requires : goal.write_counted-requires

@@ -1,6 +1,6 @@
 use Rattle.cm_grammar.proofs.SpellingLaws.{counted-map}
 use Rattle.cm_component.specs.Trees.{core_instance_tree}
-use Rattle.cm_binary.specs.Spelling.{core_instance_spelling}
+use Rattle.cm_component.specs.Spelling.{core_instance_spelling}
 use Rattle.cm_binary.proofs.spelling.write_core_instances.Goals as goal
 
 pub write_counted-requires : goal.write_counted-requires

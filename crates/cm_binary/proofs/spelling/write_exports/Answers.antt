@@ -1,6 +1,6 @@
 use Rattle.cm_grammar.proofs.SpellingLaws.{counted-map}
 use Rattle.cm_component.specs.Trees.{export_tree}
-use Rattle.cm_binary.specs.Spelling.{export_spelling}
+use Rattle.cm_component.specs.Spelling.{export_spelling}
 use Rattle.cm_binary.proofs.spelling.write_exports.Goals as goal
 
 pub write_counted-requires : goal.write_counted-requires

@@ -1,6 +1,6 @@
 use Rattle.cm_grammar.proofs.SpellingLaws.{counted-map}
 use Rattle.cm_component.specs.Trees.{import_tree}
-use Rattle.cm_binary.specs.Spelling.{import_spelling}
+use Rattle.cm_component.specs.Spelling.{import_spelling}
 use Rattle.cm_binary.proofs.spelling.write_imports.Goals as goal
 
 pub write_counted-requires : goal.write_counted-requires

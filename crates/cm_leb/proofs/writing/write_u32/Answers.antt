@@ -10,4 +10,4 @@ pub returns-clause-shortest : goal.returns-clause-shortest
 returns-clause-shortest c = λ bytes s. shortest_unsigned-least c.args.value bytes s
 
 pub returns-clause-stands : goal.returns-clause-stands
-returns-clause-stands c = unsigned_appended 32 c.args.out.now.items c.put_group.new.out.items (shortest_unsigned c.args.value) c.args.value c.put_group.result (shortest_unsigned-spells c.args.value (omega arith)) (rw (c.length_of_u32.ensures) at c.put_group.ensures.ok)
+returns-clause-stands c = unsigned_appended 32 c.args.out.now.items c.put_group.new.out.items (shortest_unsigned c.args.value) c.args.value c.put_group.result (shortest_unsigned-spells c.args.value (omega arith)) (rw (c.spelled_length.ensures.digits) at c.put_group.ensures.ok)

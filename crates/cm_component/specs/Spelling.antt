@@ -13,8 +13,6 @@ use Rattle.cm_component.specs.declared.section.ExternDesc.{ExternDesc}
 use Rattle.cm_component.specs.declared.section.ExternDesc.TheVariants as descs
 use Rattle.cm_component.specs.Trees as trees
 use Rattle.cm_component.specs.Trees.{ArgTree, CoreInstanceTree, AliasTree, ImportTree, ExportTree, SectionTree}
-use Rattle.cm_binary.specs.File.{component_preamble}
-
 abbrev pub extern_name_spelling : List ℕ → List ℕ
 extern_name_spelling name = 0 ∷ prefixed name
 
@@ -80,6 +78,10 @@ section_id (trees.exports items) = 11
 
 abbrev pub section_spelling : SectionTree → List ℕ
 section_spelling s = section_id s ∷ prefixed (contents_spelling s)
+
+-- The first eight bytes of a component.
+abbrev pub component_preamble : List ℕ
+component_preamble = 0 ∷ 97 ∷ 115 ∷ 109 ∷ 13 ∷ 0 ∷ 1 ∷ 0 ∷ []
 
 -- A file: the preamble, and the sections in order.
 abbrev pub spelling : List SectionTree → List ℕ

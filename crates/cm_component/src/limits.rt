@@ -1,0 +1,31 @@
+//! The limits of a component file.
+
+/// Why sections make no component. The limits on types and bytes are this project's own.
+#[derive(Clone, Copy, Debug, PartialEq, Eq, thiserror::Error)]
+pub enum LimitFault {
+    /// More than 4,096 types.
+    #[error("more than 4096 types")]
+    TooMany,
+    /// The shortest file takes more than 16,777,216 bytes.
+    #[error("more than 16777216 bytes")]
+    TooLong,
+    /// A core module does not begin with the preamble `00 61 73 6D 01 00 00 00`.
+    #[error("a core module without its preamble")]
+    NotAModule,
+}
+
+impl LimitFault {
+    ghost use Rattle.std.specs.Prelude.{◌≡◌};
+    ghost use Rattle.cm_component.specs.Limits.{limit_number};
+
+    /// The number by which the fault is known, from 1 for `TooMany` to 3 for `NotAModule`.
+    pub fn number(self) -> u8
+        ensures { result ≡ limit_number self }
+    {
+        match self {
+            LimitFault::TooMany => 1,
+            LimitFault::TooLong => 2,
+            LimitFault::NotAModule => 3,
+        }
+    }
+}
