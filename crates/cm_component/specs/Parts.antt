@@ -1,7 +1,8 @@
 -- What the parts of a component hold, whatever its sections are: texts are UTF-8, names are names, and indices are numbers
 -- of 32 bits.
-use Rattle.std.specs.Prelude.{◌≡◌, ℕ, ◌^◌, ◌<◌, List, true, IsUtf8}
-use Rattle.std.specs.List.{All}
+use Rattle.std.specs.Prelude.{ℕ, ◌^◌, List, Bool, true, ◌&&◌, nat_lt}
+use Rattle.std.specs.List.{list_all}
+use Rattle.std.specs.Str.{is_utf8}
 use Rattle.cm_types.specs.Names.{is_label}
 use Rattle.cm_types.specs.ExternNames.{is_extern_name}
 use Rattle.cm_types.specs.declared.def_types.LabeledValType.{LabeledValType}
@@ -13,46 +14,49 @@ use Rattle.cm_component.specs.declared.section.ExternDesc.TheVariants as descs
 use Rattle.cm_component.specs.Trees as trees
 use Rattle.cm_component.specs.Trees.{ArgTree, CoreInstanceTree, AliasTree, ImportTree, ExportTree, SectionTree}
 
-abbrev pub IsIndex : ℕ → Type 0
-IsIndex n = n < 2 ^ 32
+abbrev pub is_index : ℕ → Bool
+is_index n = nat_lt n (2 ^ 32)
 
-abbrev pub HoldsArg : ArgTree → Type 0
-HoldsArg a = IsUtf8 a.name × IsIndex a.instance
+abbrev pub holds_arg : ArgTree → Bool
+holds_arg a = is_utf8 a.name && is_index a.instance
 
-abbrev pub HoldsCoreInstance : CoreInstanceTree → Type 0
-HoldsCoreInstance (trees.instantiate module_ args) = IsIndex module_ × All HoldsArg args
+abbrev pub holds_core_instance : CoreInstanceTree → Bool
+holds_core_instance (trees.instantiate module_ args) = is_index module_ && list_all holds_arg args
 
-abbrev pub HoldsAlias : AliasTree → Type 0
-HoldsAlias (trees.core_instance_export sort instance name) = IsIndex instance × IsUtf8 name
+abbrev pub holds_alias : AliasTree → Bool
+holds_alias (trees.core_instance_export sort instance name) = is_index instance && is_utf8 name
 
-abbrev pub HoldsParam : LabeledValType → Type 0
-HoldsParam p = IsUtf8 p.label × (is_label p.label ≡ true)
+abbrev pub holds_param : LabeledValType → Bool
+holds_param p = is_utf8 p.label && is_label p.label
 
-abbrev pub HoldsDef : DefTree → Type 0
-HoldsDef (func_def f) = All HoldsParam f.params
+abbrev pub holds_func : FuncTree → Bool
+holds_func f = list_all holds_param f.params
 
-abbrev pub HoldsCanon : Canon → Type 0
-HoldsCanon (canons.Lift func ty) = IsIndex func × IsIndex ty
-HoldsCanon (canons.Lower func) = IsIndex func
+abbrev pub holds_def : DefTree → Bool
+holds_def (func_def f) = holds_func f
 
-abbrev pub HoldsDesc : ExternDesc → Type 0
-HoldsDesc (descs.Func ty) = IsIndex ty
+abbrev pub holds_canon : Canon → Bool
+holds_canon (canons.Lift func ty) = is_index func && is_index ty
+holds_canon (canons.Lower func) = is_index func
 
-abbrev pub HoldsName : List ℕ → Type 0
-HoldsName name = IsUtf8 name × (is_extern_name name ≡ true)
+abbrev pub holds_desc : ExternDesc → Bool
+holds_desc (descs.Func ty) = is_index ty
 
-abbrev pub HoldsImport : ImportTree → Type 0
-HoldsImport i = HoldsName i.name × HoldsDesc i.desc
+abbrev pub holds_name : List ℕ → Bool
+holds_name name = is_utf8 name && is_extern_name name
 
-abbrev pub HoldsExport : ExportTree → Type 0
-HoldsExport e = HoldsName e.name × IsIndex e.index
+abbrev pub holds_import : ImportTree → Bool
+holds_import i = holds_name i.name && holds_desc i.desc
 
-abbrev pub Holds : SectionTree → Type 0
-Holds (trees.custom name bytes) = IsUtf8 name
-Holds (trees.core_module bytes) = Unit {0}
-Holds (trees.core_instances items) = All HoldsCoreInstance items
-Holds (trees.aliases items) = All HoldsAlias items
-Holds (trees.types items) = All HoldsDef items
-Holds (trees.canons items) = All HoldsCanon items
-Holds (trees.imports items) = All HoldsImport items
-Holds (trees.exports items) = All HoldsExport items
+abbrev pub holds_export : ExportTree → Bool
+holds_export e = holds_name e.name && is_index e.index
+
+abbrev pub holds : SectionTree → Bool
+holds (trees.custom name bytes) = is_utf8 name
+holds (trees.core_module bytes) = true
+holds (trees.core_instances items) = list_all holds_core_instance items
+holds (trees.aliases items) = list_all holds_alias items
+holds (trees.types items) = list_all holds_def items
+holds (trees.canons items) = list_all holds_canon items
+holds (trees.imports items) = list_all holds_import items
+holds (trees.exports items) = list_all holds_export items

@@ -1,10 +1,10 @@
 //! A component file's tree.
 
-ghost use Rattle.std.specs.Prelude.{◌≡◌, None, map};
-ghost use Rattle.std.specs.List.{All};
+ghost use Rattle.std.specs.Prelude.{◌≡◌, None, map, true};
+ghost use Rattle.std.specs.List.{list_all};
 ghost use Rattle.cm_component.specs.Trees.{section_tree};
 ghost use Rattle.cm_component.specs.Limits.{is_begun, limit_fault, limited};
-ghost use Rattle.cm_component.specs.Parts.{Holds};
+ghost use Rattle.cm_component.specs.Parts.{holds};
 
 use crate::limits::LimitFault;
 use crate::measuring::{file_length, types_in_all};
@@ -28,17 +28,17 @@ pub struct Component {
 }
 
 impl Model for Component {
-    ghost use Rattle.std.specs.Prelude.{◌≡◌, List, None, map};
-    ghost use Rattle.std.specs.List.{All};
+    ghost use Rattle.std.specs.Prelude.{◌≡◌, List, None, map, true};
+    ghost use Rattle.std.specs.List.{list_all};
     ghost use Rattle.cm_component.specs.Trees.{SectionTree, section_tree};
     ghost use Rattle.cm_component.specs.Limits.{limit_fault};
-    ghost use Rattle.cm_component.specs.Parts.{Holds};
+    ghost use Rattle.cm_component.specs.Parts.{holds};
 
     ghost Value = { List SectionTree };
 
     ghost view = { λ c. map section_tree c.sections.items };
 
-    ghost invariant = { λ c. (limit_fault (map section_tree c.sections.items) ≡ None) × All Holds (map section_tree c.sections.items) };
+    ghost invariant = { λ c. (limit_fault (map section_tree c.sections.items) ≡ None) × (list_all holds (map section_tree c.sections.items) ≡ true) };
 }
 
 impl Component {
@@ -50,26 +50,49 @@ impl Component {
     pub fn new(sections: Vec<Section>) -> Result<Component, LimitFault>
         ensures { result ≡ limited (map section_tree sections.items) }
     {
-        if types_in_all(&sections) > TYPE_LIMIT {
-            return Err(LimitFault::TooMany);
+        match limit_fault(&sections) {
+            Some(fault) => Err(fault),
+            None => Ok(Component { sections }),
         }
-        if file_length(&sections) > BYTE_LIMIT {
-            return Err(LimitFault::TooLong);
-        }
-        if !sections.iter().all(is_begun) {
-            return Err(LimitFault::NotAModule);
-        }
-        Ok(Component { sections })
     }
 
     /// The sections, in order.
     pub fn sections(&self) -> &[Section]
         ensures sections { map section_tree result.now ≡ self.now }
         ensures limits { limit_fault self.now ≡ None }
-        ensures parts { All Holds self.now }
+        ensures parts { list_all holds self.now ≡ true }
     {
         &self.sections
     }
+}
+
+/// The first limit that the sections do not keep.
+fn limit_fault(sections: &[Section]) -> Option<LimitFault>
+    ensures fault { result ≡ limit_fault (map section_tree sections.now) }
+    ensures holds { list_all holds (map section_tree sections.now) ≡ true }
+{
+    let length = file_length(sections);
+    if types_in_all(sections) > TYPE_LIMIT {
+        Some(LimitFault::TooMany)
+    } else if length > BYTE_LIMIT {
+        Some(LimitFault::TooLong)
+    } else if are_begun(sections) {
+        None
+    } else {
+        Some(LimitFault::NotAModule)
+    }
+}
+
+/// Whether each core module begins with its preamble.
+fn are_begun(sections: &[Section]) -> bool
+    ensures { result ≡ list_all is_begun (map section_tree sections.now) }
+{
+    for section in sections {
+        if !is_begun(section) {
+            return false;
+        }
+    }
+    true
 }
 
 /// Whether the section is no core module, or one that begins with its preamble.

@@ -1,0 +1,12 @@
+use Rattle.std.proofs.lemmas.List.Folds.{list_all-map}
+use Rattle.cm_grammar.proofs.SpellingLaws.{counted-map}
+use Rattle.cm_component.specs.Trees.{core_instance_tree}
+use Rattle.cm_component.specs.Spelling.{core_instance_spelling}
+use Rattle.cm_component.specs.Parts.{holds_core_instance}
+use Rattle.cm_component.proofs.measuring.core_instances_length.Goals as goal
+
+pub returns-clause-length : goal.returns-clause-length
+returns-clause-length c = rw (counted-map core_instance_spelling core_instance_tree c.args.items.now) c.counted_length.ensures.length
+
+pub returns-clause-holds : goal.returns-clause-holds
+returns-clause-holds c = rw (list_all-map holds_core_instance core_instance_tree c.args.items.now) c.counted_length.ensures.holds
