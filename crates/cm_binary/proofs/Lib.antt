@@ -3,4 +3,6 @@ pub mod FileLaws
 pub mod LoopLaws
 pub mod DecodeLaws
 pub mod FileSpelling
+pub mod FileLimits
+pub mod FileWritten
 pub mod EncodeLaws

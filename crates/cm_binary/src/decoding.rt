@@ -1,10 +1,11 @@
 //! Reading component files.
 
-ghost use Rattle.std.specs.Prelude.{◌≡◌, ℕ, ◌⊎◌, List, length, map, IfOk, IfErr};
+ghost use Rattle.std.specs.Prelude.{◌≡◌, ℕ, ◌⊎◌, List, length, map, IfOk, IfErr, None};
 ghost use Rattle.cm_grammar.specs.Faults.{Gives};
 ghost use Rattle.cm_grammar.specs.Reading.{IsInside};
 ghost use Rattle.cm_grammar.specs.declared.fault.End.TheVariants as end;
 ghost use Rattle.cm_component.specs.Trees.{SectionTree, section_tree};
+ghost use Rattle.cm_component.specs.Limits.{limit_fault};
 ghost use Rattle.cm_binary.specs.declared.fault.DecodeReason.{DecodeReason};
 ghost use Rattle.cm_binary.specs.declared.fault.DecodeReason.TheVariants as reasons;
 ghost use Rattle.cm_binary.specs.File.{component, file, Spells, FirstFault};
@@ -47,7 +48,7 @@ fn component_of(alloc: Global, bytes: &[u8]) -> Result<Component, DecodeFault>
     ensures { Answers bytes.now result (file.reads (end.Cut reasons.Truncated) bytes.now) }
 {
     match file_of(alloc, bytes) {
-        Ok(sections) => Ok(Component::from_sections(sections)),
+        Ok(sections) => Ok(component_within(sections)),
         Err(ReadError::Fault(fault)) => Err(DecodeFault {
             at: bytes.len() - fault.left,
             reason: fault.reason,
@@ -56,6 +57,17 @@ fn component_of(alloc: Global, bytes: &[u8]) -> Result<Component, DecodeFault>
             at: 0,
             reason: DecodeReason::Memory,
         }),
+    }
+}
+
+/// The component of sections that keep the limits.
+fn component_within(sections: Vec<Section>) -> Component
+    requires { limit_fault (map section_tree sections.items) ≡ None }
+    ensures { result ≡ map section_tree sections.items }
+{
+    match Component::new(sections) {
+        Ok(component) => component,
+        Err(_) => unreachable!(),
     }
 }
 

@@ -20,13 +20,9 @@ use std::alloc::{AllocError, Global};
 const COMPONENT_PREAMBLE: [u8; 8] = [0x00, 0x61, 0x73, 0x6d, 0x0d, 0x00, 0x01, 0x00];
 
 /// Writes a component as a file (Binary.md), with the shortest spelling of each number. Of all the
-/// files that spell the component none is shorter, and [`decode`](crate::decode) reads it as the same component.
-///
-/// The component must have a file at all, as each that was decoded has: at most 16,777,216 bytes, at
-/// most 4,096 types, and core modules that begin with their preamble. The one error is that memory
-/// was refused.
+/// files that spell the component none is shorter, and [`decode`](crate::decode) reads it as the same
+/// component. The one error is that memory was refused.
 pub fn encode(alloc: Global, component: &Component) -> Result<Vec<u8>, AllocError>
-    requires { (bytes : List ℕ) × Spells component.now bytes }
     ensures bytes { IfOk result (λ v. v.items ≡ spelling component.now) }
     ensures spelled { IfOk result (λ v. Spells component.now v.items) }
     ensures shortest { IfOk result (λ v. (bytes : List ℕ) → Spells component.now bytes → length v.items ≤ length bytes) }
@@ -37,7 +33,6 @@ pub fn encode(alloc: Global, component: &Component) -> Result<Vec<u8>, AllocErro
 /// Writes a component as a file, and reads the file: what comes back is the component, unless memory
 /// was refused.
 pub fn written_and_read(alloc: Global, component: &Component) -> Result<Component, DecodeFault>
-    requires { (bytes : List ℕ) × Spells component.now bytes }
     ensures { Accepts result component.now }
 {
     match encode(alloc, component) {

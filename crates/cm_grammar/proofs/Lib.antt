@@ -5,3 +5,4 @@ pub mod PartLaws
 pub mod EndLaws
 pub mod ReadingLaws
 pub mod SpellingLaws
+pub mod WrittenLaws

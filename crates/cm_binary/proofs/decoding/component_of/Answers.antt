@@ -1,5 +1,12 @@
 use Rattle.std.proofs.Common.{arith, inr}
+use Rattle.cm_grammar.specs.declared.fault.End.TheVariants as end
+use Rattle.cm_binary.specs.declared.fault.DecodeReason.TheVariants.{Truncated}
+use Rattle.cm_binary.proofs.FileLaws.{file_lawful}
+use Rattle.cm_binary.proofs.FileLimits.{spelled_within}
 use Rattle.cm_binary.proofs.decoding.component_of.Goals as goal
+
+pub component_within-requires : goal.component_within-requires
+component_within-requires c = spelled_within _ c.args.bytes.now (file_lawful.takes (end.Cut Truncated) c.args.bytes.now _ (λ i. omega (arith, c.type_inv.bytes i)) c.in-Ok.ensures.read)
 
 pub returns-in-Err-Fault : goal.returns-in-Err-Fault
 returns-in-Err-Fault c =
