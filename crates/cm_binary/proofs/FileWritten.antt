@@ -186,7 +186,7 @@ unfolding type_defs
 type_defs_writes room items h le lt =
     let parts = counted_parts holds_def def_spelling def_some items h lt in
     counted_written BadNumber (limited (λ left. def_type) TooMany) (λ left t. left - 1) room def_spelling items parts.0
-      (chain_written (limited (λ left. def_type) TooMany) (λ left t. left - 1) def_spelling (AreStocked holds_def def_spelling) (stock_written def_type TooMany holds_def def_spelling def_type_writes) room items (le, parts.1))
+    (chain_written (limited (λ left. def_type) TooMany) (λ left t. left - 1) def_spelling (AreStocked holds_def def_spelling) (stock_written def_type TooMany holds_def def_spelling def_type_writes) room items (le, parts.1))
 
 -- The contents are spelled so, by the production that the id names.
 abbrev WritesContents : ℕ → SectionTree → Type 0

@@ -13,6 +13,7 @@ use Rattle.cm_component.specs.declared.section.ExternDesc.{ExternDesc}
 use Rattle.cm_component.specs.declared.section.ExternDesc.TheVariants as descs
 use Rattle.cm_component.specs.Trees as trees
 use Rattle.cm_component.specs.Trees.{ArgTree, CoreInstanceTree, AliasTree, ImportTree, ExportTree, SectionTree}
+
 abbrev pub extern_name_spelling : List ℕ → List ℕ
 extern_name_spelling name = 0 ∷ prefixed name
 

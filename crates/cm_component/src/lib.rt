@@ -12,3 +12,6 @@ pub use section::{
     Alias, Canon, CoreInstance, CoreInstantiationArg, CoreSort, CustomSection, Export, ExternDesc,
     Import, Section, Sort,
 };
+
+#[cfg(test)]
+mod tests;

@@ -59,7 +59,11 @@ fn unsigned_spellings(rt: HostRuntime) -> Result<(), Fail> {
             let mut out = vec![in rt.alloc(); 0x55]?;
             write_u32(&mut out, *number)?;
             assert_eq!(rt; &out[1..], *shortest, "row {i}");
-            assert_eq!(rt; spelled_length(*number as u64) as usize, shortest.len(), "row {i}");
+            assert_eq!(rt;
+                spelled_length(*number as u64) as usize,
+                shortest.len(),
+                "row {i}"
+            );
             assert_eq!(rt; read_u32(&out, 1), Ok((*number, out.len())), "row {i}");
         }
     }

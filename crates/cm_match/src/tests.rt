@@ -75,7 +75,7 @@ fn provider(alloc: Global, label: &str, names: &[(&str, u32)]) -> Result<Checked
         Section::Canons(canons),
         exports(alloc, names)?,
     ]?;
-    Ok(validate(alloc, Component::from_sections(sections))?)
+    Ok(validate(alloc, Component::new(sections)?)?)
 }
 
 /// A component that imports functions under these names, and exports them again.
@@ -85,7 +85,7 @@ fn user(alloc: Global, names: &[&str], again: &[(&str, u32)]) -> Result<Checked,
         imports(alloc, names)?,
         exports(alloc, again)?,
     ]?;
-    Ok(validate(alloc, Component::from_sections(sections))?)
+    Ok(validate(alloc, Component::new(sections)?)?)
 }
 
 fn inc(alloc: Global) -> Result<Checked, Fail> {

@@ -176,7 +176,7 @@ fn add(alloc: Global, sections: &mut Vec<Section>, parts: &[Part]) -> Result<(),
 fn component(alloc: Global, parts: &[Part]) -> Result<Component, Fail> {
     let mut sections = Vec::new(alloc);
     add(alloc, &mut sections, parts)?;
-    Ok(Component::from_sections(sections))
+    Ok(Component::new(sections)?)
 }
 
 /// The component of a module, an instance of it, its functions `f` and `g`, the type of functions with one
@@ -191,7 +191,7 @@ fn guest(alloc: Global, parts: &[Part]) -> Result<Component, Fail> {
     let mut sections = Vec::new(alloc);
     add(alloc, &mut sections, &front)?;
     add(alloc, &mut sections, parts)?;
-    Ok(Component::from_sections(sections))
+    Ok(Component::new(sections)?)
 }
 
 /// The section, the item and the reason's number of the fault, if there is one.
