@@ -1,9 +1,10 @@
 -- The plan of a linked set, function by function and component by component.
 use Rattle.std.proofs.Common.{◌≡◌, ℕ, zero, suc, ◌+◌, ◌<◌, List, [], ◌∷◌, ◌++◌, length, map, take, get_or, Option, Some, None, refl, sym, ap, subst, ◌∙◌, arith, length-take}
-use Rattle.std.specs.Prelude.{is_some}
+use Rattle.std.specs.Prelude.{is_some, slice_get}
 use Rattle.std.specs.Option.{option_map}
 use Rattle.std.specs.List.{AllByRecursion}
 use Rattle.std.proofs.lemmas.List.{take_more, length-append}
+use Rattle.std.proofs.lemmas.Option.{slice_get-map}
 use Rattle.std.proofs.lemmas.Simd.{map-map}
 use Rattle.cm_types.specs.TypeTrees.{fields_of}
 use Rattle.cm_types.specs.Funcs.{tree_type, func_of}
@@ -16,8 +17,12 @@ use Rattle.cm_validate.specs.PassedFlat.{PassesFlat}
 use Rattle.cm_validate.specs.Definitions.{core_func_tree}
 use Rattle.cm_validate.specs.declared.definitions.CoreFuncDef.{CoreFuncDef}
 use Rattle.cm_machine.specs.declared.frame.CoreFunction.{CoreFunction}
-use Rattle.cm_machine.specs.State.{IsLinkedBelow, IsPlan}
-use Rattle.cm_machine.specs.Plan.{function_of, functions_of, functions_from}
+use Rattle.cm_types.specs.Types.{FuncTy}
+use Rattle.cm_validate.specs.Spaces.{lowered, spaces_of}
+use Rattle.cm_match.specs.Reaches.{LoweredReach}
+use Rattle.cm_match.specs.Targets.{TargetTree}
+use Rattle.cm_machine.specs.State.{IsLinkedBelow, IsPlan, core_at}
+use Rattle.cm_machine.specs.Plan.{function_of, functions_of, functions_from, linked_to, plan_of, StandsFor, LoweredStand}
 
 fields_count : (fs : List Field) → field_count (fields_of fs) ≡ length fs
 fields_count [] = refl
@@ -72,3 +77,21 @@ planned_count set k (c ∷ cs) = omega (arith, planned_count set (k + 1) cs)
 
 pub one_longer : (plan : List (List CoreFunction)) (fs : List CoreFunction) (n : ℕ) → length plan ≡ n → length (plan ++ fs ∷ []) ≡ n + 1
 one_longer plan fs n is = omega (arith, length-append plan (fs ∷ []), is)
+
+-- ---- what is lowered
+
+-- the functions of one component of the set
+planned_at : (set : List (List SectionTree)) (k : ℕ) (cs : List (List SectionTree)) (i : ℕ) (c : List SectionTree) → slice_get cs i ≡ Some c → slice_get (functions_from set k cs) i ≡ Some (functions_of set (k + i) c)
+planned_at set k [] i c e = absurd cc
+planned_at set k (x ∷ cs) zero c e = let same : x ≡ c = cc in let here : k ≡ k + 0 = omega arith in ap Some (ap (functions_of set k) same ∙ ap (λ (n : ℕ). functions_of set n c) here)
+planned_at set k (x ∷ cs) (suc i) c e = let next : (k + 1) + i ≡ k + suc i = omega arith in planned_at set (k + 1) cs i c e ∙ ap (λ (n : ℕ). Some (functions_of set n c)) next
+
+-- each function that is lowered stands for the one that it reaches
+pub lowered_stand : (set : List (List SectionTree)) → LoweredReach set → LoweredStand set (plan_of set)
+lowered_stand set reach component core_func import c item ty at is =
+    let r = reach component core_func import c item ty at is in
+    record {
+      found = r.found;
+      found_is = r.found_is;
+      stands = rw (planned_at set 0 set component c at) (slice_get-map (function_of set component) (spaces_of c).core_funcs core_func ∙ ap (option_map (function_of set component)) is ∙ ap (λ (t : Option TargetTree). Some (linked_to ty t)) r.found_is);
+    }

@@ -1,5 +1,5 @@
 -- What the core functions of a linked set's instances stand for.
-use Rattle.std.specs.Prelude.{ℕ, ◌+◌, List, [], ◌∷◌, map, Option, Some, None, is_some}
+use Rattle.std.specs.Prelude.{◌≡◌, ℕ, ◌+◌, List, [], ◌∷◌, map, slice_get, Option, Some, None, is_some}
 use Rattle.cm_types.specs.Types.{FuncTy}
 use Rattle.cm_component.specs.Trees.{SectionTree}
 use Rattle.cm_validate.specs.Rules.{field_count}
@@ -7,6 +7,7 @@ use Rattle.cm_validate.specs.Spaces.{CoreFuncTree, guest, lowered, spaces_of}
 use Rattle.cm_match.specs.Targets.{TargetTree, target}
 use Rattle.cm_machine.specs.declared.frame.CoreFunction.{CoreFunction}
 use Rattle.cm_machine.specs.declared.frame.CoreFunction.TheVariants as core_function
+use Rattle.cm_machine.specs.State.{core_at}
 
 -- a lowered function of this type, linked to this target: each import that can be lowered has one
 abbrev pub linked_to : FuncTy → Option TargetTree → CoreFunction
@@ -30,3 +31,16 @@ functions_from set component (c ∷ cs) = functions_of set component c ∷ funct
 -- the plan of a linked set
 abbrev pub plan_of : List (List SectionTree) → List (List CoreFunction)
 plan_of set = functions_from set 0 set
+
+-- this core function of the plan stands for the lifted function that the imported one reaches
+pub record StandsFor (set : List (List SectionTree)) (component import : ℕ) (item : Option ℕ) (ty : FuncTy) (f : Option CoreFunction) : Type 0 where
+  pub found : TargetTree
+  pub found_is : target set component import item ≡ Some found
+  pub stands : f ≡ Some (core_function.Lowered (record { instance = found.component; func = found.core_func; params = field_count ty.params; has_result = is_some ty.result }))
+
+-- each core function that a component of the set lowers does, so none of them stands for a guest's own
+abbrev pub LoweredStand : List (List SectionTree) → List (List CoreFunction) → Type 0
+LoweredStand set plan =
+    (component core_func import : ℕ) (c : List SectionTree) (item : Option ℕ) (ty : FuncTy)
+    → slice_get set component ≡ Some c → slice_get (spaces_of c).core_funcs core_func ≡ Some (lowered import item ty)
+    → StandsFor set component import item ty (core_at plan component core_func)

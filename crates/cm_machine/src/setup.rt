@@ -5,7 +5,7 @@ ghost use Rattle.std.specs.List.{list_all};
 ghost use Rattle.cm_handles.specs.Handles.{no_handles};
 ghost use Rattle.cm_machine.specs.State.{IsPlan};
 ghost use Rattle.cm_machine.specs.Fresh.{are_pages, zeros, fresh};
-ghost use Rattle.cm_machine.specs.Plan.{plan_of};
+ghost use Rattle.cm_machine.specs.Plan.{plan_of, LoweredStand};
 
 use crate::event::Misuse;
 use crate::memory::{MAX_PAGES, Memories, Memory};
@@ -58,6 +58,8 @@ impl Set {
     /// `Memory` where there is no room for the set. The linked set is dropped then.
     pub fn new(alloc: Global, linked: Linked, pages: &[u32]) -> Result<Set, Misuse>
         ensures fresh { IfOk result (λ s. s ≡ fresh (plan_of linked) pages.now) }
+        // Each lowered function stands in the plan for the one that it reaches.
+        ensures lowered { LoweredStand linked (plan_of linked) }
         ensures accepted { OnOk result (IsPlan 0 (plan_of linked) × (length (plan_of linked) ≤ 16) × (are_pages (length linked) pages.now ≡ true)) }
         ensures bad_pages { IsErrOf result Misuse.BadPages ↔ (are_pages (length linked) pages.now ≡ false) }
         ensures only { IfErr result (λ m. (m ≡ Misuse.BadPages) ⊎ (m ≡ Misuse.Memory)) }
