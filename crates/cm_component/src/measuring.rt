@@ -60,20 +60,26 @@ fn number_length(number: u64) -> u64
     spelled_length(number) as u64
 }
 
+/// The length of bytes behind their number.
+fn prefixed_length(bytes: &[u8]) -> u64
+    ensures { result ≡ capped (length (prefixed bytes.now)) }
+{
+    number_length(bytes.len() as u64).saturating_add(bytes.len() as u64)
+}
+
 /// The length of a text behind its length.
 fn text_length(text: &str) -> u64
     ensures length { result ≡ capped (length (prefixed text.now)) }
     ensures utf8 { is_utf8 text.now ≡ true }
 {
-    let bytes = text.as_bytes();
-    number_length(bytes.len() as u64).saturating_add(bytes.len() as u64)
+    prefixed_length(text.as_bytes())
 }
 
 fn extern_name_length(name: &ExternName) -> u64
     ensures length { result ≡ capped (length (extern_name_spelling name.now)) }
     ensures holds { holds_name name.now ≡ true }
 {
-    text_length(name.as_str()).saturating_add(1)
+    prefixed_length(name.as_bytes()).saturating_add(1)
 }
 
 fn result_length(result_type: Option<ValType>) -> u64
@@ -189,7 +195,7 @@ impl Part for LabeledValType {
     ghost holds = { holds_param };
 
     fn length(&self) -> u64 {
-        text_length(self.label.as_str()).saturating_add(1)
+        prefixed_length(self.label.as_bytes()).saturating_add(1)
     }
 }
 

@@ -1,7 +1,7 @@
 -- The plan of a linked set, function by function and component by component.
 use Rattle.std.proofs.Common.{◌≡◌, ℕ, zero, suc, ◌+◌, ◌<◌, List, [], ◌∷◌, ◌++◌, length, map, take, get_or, Option, Some, None, refl, sym, ap, subst, ◌∙◌, arith, length-take}
 use Rattle.std.specs.Prelude.{is_some, slice_get}
-use Rattle.std.specs.Option.{option_map}
+use Rattle.std.specs.Option.{option_map, unwrap_or}
 use Rattle.std.specs.List.{AllByRecursion}
 use Rattle.std.proofs.lemmas.List.{take_more, length-append}
 use Rattle.std.proofs.lemmas.Option.{slice_get-map}
@@ -81,17 +81,22 @@ one_longer plan fs n is = omega (arith, length-append plan (fs ∷ []), is)
 -- ---- what is lowered
 
 -- the functions of one component of the set
-planned_at : (set : List (List SectionTree)) (k : ℕ) (cs : List (List SectionTree)) (i : ℕ) (c : List SectionTree) → slice_get cs i ≡ Some c → slice_get (functions_from set k cs) i ≡ Some (functions_of set (k + i) c)
-planned_at set k [] i c e = absurd cc
-planned_at set k (x ∷ cs) zero c e = let same : x ≡ c = cc in let here : k ≡ k + 0 = omega arith in ap Some (ap (functions_of set k) same ∙ ap (λ (n : ℕ). functions_of set n c) here)
-planned_at set k (x ∷ cs) (suc i) c e = let next : (k + 1) + i ≡ k + suc i = omega arith in planned_at set (k + 1) cs i c e ∙ ap (λ (n : ℕ). Some (functions_of set n c)) next
+planned_at : (set : List (List SectionTree)) (k : ℕ) (cs : List (List SectionTree)) (i n : ℕ) (c : List SectionTree) → n ≡ k + i → slice_get cs i ≡ Some c → slice_get (functions_from set k cs) i ≡ Some (functions_of set n c)
+planned_at set k [] i n c is e = absurd cc
+planned_at set k (x ∷ cs) zero n c is e =
+    let same : x ≡ c = cc in
+    let here : k ≡ n = omega (arith, is) in
+    ap Some (ap (functions_of set k) same ∙ ap (λ (m : ℕ). functions_of set m c) here)
+planned_at set k (x ∷ cs) (suc i) n c is e = planned_at set (k + 1) cs i n c (omega (arith, is)) e
 
 -- each function that is lowered stands for the one that it reaches
 pub lowered_stand : (set : List (List SectionTree)) → LoweredReach set → LoweredStand set (plan_of set)
 lowered_stand set reach component core_func import c item ty at is =
     let r = reach component core_func import c item ty at is in
+    let here = planned_at set 0 set component component c (omega arith) at in
+    let mapped = slice_get-map (function_of set component) (spaces_of c).core_funcs core_func ∙ ap (option_map (function_of set component)) is in
     record {
       found = r.found;
       found_is = r.found_is;
-      stands = rw (planned_at set 0 set component c at) (slice_get-map (function_of set component) (spaces_of c).core_funcs core_func ∙ ap (option_map (function_of set component)) is ∙ ap (λ (t : Option TargetTree). Some (linked_to ty t)) r.found_is);
+      stands = ap (λ (fs : Option (List CoreFunction)). slice_get (unwrap_or fs []) core_func) here ∙ mapped ∙ ap (λ (t : Option TargetTree). Some (linked_to ty t)) r.found_is;
     }

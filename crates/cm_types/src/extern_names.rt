@@ -1,11 +1,11 @@
 //! Extern names: the names of imports and exports, and of an instance's items.
 
-ghost use Rattle.std.specs.Prelude.{◌≡◌, IfOk, IfErr, ◌⊎◌, Some, None, ◌<◌, option_copied, IsTrue, true};
+ghost use Rattle.std.specs.Prelude.{◌≡◌, IfOk, IfErr, ◌⊎◌, Some, None, ◌<◌, option_copied, IsTrue};
 ghost use Rattle.std.specs.Option.{option_map};
 ghost use Rattle.std.specs.List.{list_any};
 ghost use Rattle.semver.specs.Parse.{memory_error};
 ghost use Rattle.cm_types.specs.Names.{label_fault};
-ghost use Rattle.cm_types.specs.ExternNames.{cut, cut_or_all, extern_name_fault, form_of, interface_of, interface_parts, is_bracketed, is_interface_mark, is_version, is_extern_name, labels_fault, least_fault, member, method, parts_fault, static, spelling, unannotated, version_fault, without_front, HasLabels};
+ghost use Rattle.cm_types.specs.ExternNames.{cut, cut_or_all, extern_name_fault, form_of, interface_of, interface_parts, is_bracketed, is_interface_mark, is_version, labels_fault, least_fault, member, method, parts_fault, static, spelling, unannotated, version_fault, without_front, HasLabels};
 ghost use Rattle.cm_types.specs.ExternNameForms.{form_tree, pair_view};
 
 use crate::names::{NameFault, label_fault};
@@ -64,7 +64,9 @@ impl Model for ExternName {
 }
 
 impl ExternName {
-    ghost use Rattle.cm_types.specs.ExternNames.{IsExternName};
+    ghost use Rattle.std.specs.Prelude.{true};
+    ghost use Rattle.std.specs.Str.{is_utf8};
+    ghost use Rattle.cm_types.specs.ExternNames.{is_extern_name, IsExternName};
     ghost use Rattle.cm_types.specs.declared.names.NameFault.TheVariants as name_fault;
 
     /// The text as an extern name.
@@ -95,9 +97,17 @@ impl ExternName {
     pub fn as_str(&self) -> &str
         ensures text { result.now ≡ self.now }
         ensures name { IsExternName result.now }
-        ensures test { is_extern_name result.now ≡ true }
     {
         self.text.as_str()
+    }
+
+    /// The bytes of the name's text.
+    pub fn as_bytes(&self) -> &[u8]
+        ensures bytes { result.now ≡ self.now }
+        ensures utf8 { is_utf8 result.now ≡ true }
+        ensures name { is_extern_name result.now ≡ true }
+    {
+        self.text.as_bytes()
     }
 
     /// The form of the name, with its parts: what is spelled as the name, and whose parts are labels.

@@ -1,6 +1,6 @@
 //! Labels, and why a text is no name.
 
-ghost use Rattle.std.specs.Prelude.{◌≡◌, IfOk, IfErr, ◌⊎◌, Some, true};
+ghost use Rattle.std.specs.Prelude.{◌≡◌, IfOk, IfErr, ◌⊎◌, Some};
 ghost use Rattle.std.specs.List.{list_all};
 ghost use Rattle.cm_types.specs.Names.{is_in_word, is_in_acronym, is_fragment, is_label, is_same_name, label_fault};
 ghost use Rattle.cm_types.specs.Faults.{fault_number};
@@ -62,7 +62,8 @@ impl Model for Label {
 }
 
 impl Label {
-    ghost use Rattle.std.specs.Prelude.{Err};
+    ghost use Rattle.std.specs.Prelude.{Err, true};
+    ghost use Rattle.std.specs.Str.{is_utf8};
     ghost use Rattle.cm_types.specs.declared.names.NameFault.{NameFault};
     ghost use Rattle.cm_types.specs.Names.{IsLabel};
     ghost use Rattle.cm_types.specs.declared.names.NameFault.TheVariants as name_fault;
@@ -91,9 +92,17 @@ impl Label {
     pub fn as_str(&self) -> &str
         ensures text { result.now ≡ self.now }
         ensures label { IsLabel result.now }
-        ensures test { is_label result.now ≡ true }
     {
         self.text.as_str()
+    }
+
+    /// The bytes of the label's text.
+    pub fn as_bytes(&self) -> &[u8]
+        ensures bytes { result.now ≡ self.now }
+        ensures utf8 { is_utf8 result.now ≡ true }
+        ensures label { is_label result.now ≡ true }
+    {
+        self.text.as_bytes()
     }
 }
 

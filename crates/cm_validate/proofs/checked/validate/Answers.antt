@@ -8,24 +8,24 @@ use Rattle.cm_validate.proofs.checked.validate.Goals as goal
 pub invariant_of-result : goal.invariant_of-result
 invariant_of-result c =
     record {
-      valid = none_found 0 nothing c.args.component (ap (sections_fault 0 nothing) (sym c.sections.ensures) ∙ c.in-Ok.ensures.fine);
-      of_spaces = subst (AreTables c.in-Ok-tables_of.tables) (c.in-Ok.ensures.spaces ∙ ap spaces_of c.sections.ensures) c.in-Ok-tables_of.ensures;
+      valid = none_found 0 nothing c.args.component (ap (sections_fault 0 nothing) (sym c.sections.ensures.sections) ∙ c.in-Ok.ensures.fine);
+      of_spaces = subst (AreTables c.in-Ok-tables_of.tables) (c.in-Ok.ensures.spaces ∙ ap spaces_of c.sections.ensures.sections) c.in-Ok-tables_of.ensures;
     }
 
 pub returns-in-Ok-tables_of-clause-accepted : goal.returns-in-Ok-tables_of-clause-accepted
 returns-in-Ok-tables_of-clause-accepted c =
-    none_found 0 nothing c.args.component (ap (sections_fault 0 nothing) (sym c.sections.ensures) ∙ c.in-Ok.ensures.fine)
+    none_found 0 nothing c.args.component (ap (sections_fault 0 nothing) (sym c.sections.ensures.sections) ∙ c.in-Ok.ensures.fine)
 
 pub returns-in-Err-clause-refused : goal.returns-in-Err-clause-refused
 returns-in-Err-clause-refused c =
     elim c.in-Err.ensures.fault [
       | inl e ↦ inl e
-      | inr e ↦ inr (fault_found c.args.component c.in-Err.fault.section c.in-Err.fault.item c.in-Err.fault.reason (ap (sections_fault 0 nothing) (sym c.sections.ensures) ∙ e))
+      | inr e ↦ inr (fault_found c.args.component c.in-Err.fault.section c.in-Err.fault.item c.in-Err.fault.reason (ap (sections_fault 0 nothing) (sym c.sections.ensures.sections) ∙ e))
     ]
 
 pub returns-in-Err-clause-complete : goal.returns-in-Err-clause-complete
 returns-in-Err-clause-complete c = λ valid.
     elim c.in-Err.ensures.fault [
       | inl e ↦ e
-      | inr e ↦ absurd (fault_is_broken c.args.component c.in-Err.fault.section c.in-Err.fault.item c.in-Err.fault.reason (fault_found c.args.component c.in-Err.fault.section c.in-Err.fault.item c.in-Err.fault.reason (ap (sections_fault 0 nothing) (sym c.sections.ensures) ∙ e)) valid)
+      | inr e ↦ absurd (fault_is_broken c.args.component c.in-Err.fault.section c.in-Err.fault.item c.in-Err.fault.reason (fault_found c.args.component c.in-Err.fault.section c.in-Err.fault.item c.in-Err.fault.reason (ap (sections_fault 0 nothing) (sym c.sections.ensures.sections) ∙ e)) valid)
     ]
