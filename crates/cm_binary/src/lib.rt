@@ -16,7 +16,7 @@ mod types;
 
 pub use cm_component::{
     Alias, Canon, Component, CoreInstance, CoreInstantiationArg, CoreSort, CustomSection, Export,
-    ExternDesc, Import, Section, Sort,
+    ExternDesc, Import, LimitFault, Section, Sort,
 };
 pub use decoding::decode;
 pub use encoding::{encode, written_and_read};

@@ -313,7 +313,41 @@ fn files_are_written_as_they_were_read(rt: HostRuntime) -> Result<(), Fail> {
         let component = decode(rt.alloc(), file).ok().ok_or("a component")?;
         let written = encode(rt.alloc(), &component)?;
         assert_eq!(rt; written.as_slice(), *want, "row {i}");
+        let again = written_and_read(rt.alloc(), &component)
+            .ok()
+            .ok_or("a component")?;
+        assert_eq!(rt; encode(rt.alloc(), &again)?.as_slice(), *want, "row {i}");
     }
+    Ok(())
+}
+
+#[test]
+fn sections_made_by_hand_are_written(rt: HostRuntime) -> Result<(), Fail> {
+    let alloc = rt.alloc();
+    let custom = CustomSection {
+        name: String::from_str(alloc, "hi")?,
+        bytes: b"!".to_vec(alloc)?,
+    };
+    let core_instance = CoreInstance::Instantiate {
+        module: 128,
+        args: Vec::new(alloc),
+    };
+    let sections = vec![in alloc;
+        Section::Custom(custom),
+        Section::CoreInstances(vec![in alloc; core_instance]?),
+        Section::Canons(vec![in alloc; Canon::Lower { func: 7 }]?),
+    ]?;
+    let component = Component::new(sections)?;
+    let want = [
+        0x00, 0x61, 0x73, 0x6d, 0x0d, 0x00, 0x01, 0x00, 0x00, 0x04, 0x02, 0x68, 0x69, 0x21, 0x02,
+        0x05, 0x01, 0x00, 0x80, 0x01, 0x00, 0x08, 0x05, 0x01, 0x01, 0x00, 0x07, 0x00,
+    ];
+    let written = encode(alloc, &component)?;
+    assert_eq!(rt; written.as_slice(), want.as_slice());
+    let again = written_and_read(alloc, &component)
+        .ok()
+        .ok_or("a component")?;
+    assert_eq!(rt; again.sections().len(), 3);
     Ok(())
 }
 
