@@ -5,21 +5,63 @@ use cm_machine::{Event, Flat, Guest, Misuse, Move, Player, Set, Trap};
 use cm_types::CoreValue;
 use std::alloc::{AllocError, Global};
 use std::collections::VecDeque;
+use std::process::Abort;
 use std::test::Fail;
 
-/// Seats in the order of their places.
-type Seats = Vec<Option<Box<dyn Guest>>>;
+/// What a drive answered, which seats had a guest behind it, and which of the two instances were closed.
+#[derive(Debug, Drop, PartialEq)]
+struct Drove {
+    answer: Result<Vec<Event>, Misuse>,
+    taken: Vec<bool>,
+    closed: [Option<bool>; 2],
+}
 
-/// The provider and the user, linked in this order, without memory.
-fn pair(alloc: Global) -> Result<Set, Fail> {
-    let provider = bytes_of(alloc, PROVIDER)?;
-    let user = bytes_of(alloc, USER)?;
-    let entries: [Entry; 2] = [("p", Ok(provider.as_slice())), ("u", Ok(user.as_slice()))];
-    let mut files = MemoryFiles { entries: &entries };
-    let linked = load_set(alloc, &mut files, &["p", "u"])
-        .ok()
-        .ok_or("the pair links")?;
-    Ok(Set::new(alloc, linked, &[0, 0])?)
+/// Drives the linked pair from one root after the other. On each seat is a guest that makes these moves and then
+/// stops, or nobody.
+fn drives(
+    rt: &impl Abort,
+    alloc: Global,
+    entries: &[Entry],
+    moves: Vec<Option<VecDeque<Move>>>,
+    roots: &[u32],
+) -> Result<Vec<Drove>, Fail> {
+    let mut files = MemoryFiles { entries };
+    let linked = load_set(alloc, &mut files, &["p", "u"]).expect(rt, "the pair links");
+    let mut set = Set::new(alloc, linked, &[0, 0])?;
+    let mut seats: Vec<Option<Box<dyn Guest>>> = Vec::with_capacity(alloc, moves.len())?;
+    for given in moves {
+        match given {
+            Some(moves) => {
+                let guest: Box<dyn Guest> = Box::new(alloc, ScriptGuest::new(moves))?;
+                seats.push(Some(guest))?;
+            }
+            None => seats.push(None)?,
+        }
+    }
+    let mut drove = Vec::new(alloc);
+    for &root in roots {
+        let answer = Player::drive(alloc, &mut set, &mut seats, root, 10);
+        let mut taken = Vec::new(alloc);
+        for seat in &seats {
+            taken.push(seat.is_some())?;
+        }
+        let closed = [set.is_closed(0), set.is_closed(1)];
+        drove.push(Drove {
+            answer,
+            taken,
+            closed,
+        })?;
+    }
+    Ok(drove)
+}
+
+/// These moves, in order.
+fn moves(alloc: Global, given: Vec<Move>) -> Result<Option<VecDeque<Move>>, AllocError> {
+    let mut moves = VecDeque::new(alloc);
+    for each in given {
+        moves.push_back(each)?;
+    }
+    Ok(Some(moves))
 }
 
 /// The user's call of `inc` with 41.
@@ -29,28 +71,27 @@ fn call(alloc: Global) -> Result<Move, AllocError> {
 }
 
 /// A return of these values.
-fn answer(alloc: Global, values: &[CoreValue]) -> Result<Move, AllocError> {
+fn back(alloc: Global, values: &[CoreValue]) -> Result<Move, AllocError> {
     let values = Vec::from_slice(alloc, values)?;
     Ok(Move::Return { values })
 }
 
-/// A guest that makes these moves and then stops.
-fn guest(alloc: Global, moves: Vec<Move>) -> Result<Option<Box<dyn Guest>>, AllocError> {
-    let mut made = VecDeque::new(alloc);
-    for each in moves {
-        made.push_back(each)?;
+/// A drive that answered these events.
+fn answered(events: Vec<Event>, taken: Vec<bool>, closed: [bool; 2]) -> Drove {
+    Drove {
+        answer: Ok(events),
+        taken,
+        closed: [Some(closed[0]), Some(closed[1])],
     }
-    let guest: Box<dyn Guest> = Box::new(alloc, ScriptGuest::new(made))?;
-    Ok(Some(guest))
 }
 
-/// Which seats have a guest.
-fn taken(alloc: Global, seats: &Seats) -> Result<Vec<bool>, AllocError> {
-    let mut taken = Vec::with_capacity(alloc, seats.len())?;
-    for seat in seats {
-        taken.push(seat.is_some())?;
+/// A drive that was refused.
+fn refused(misuse: Misuse, taken: Vec<bool>, closed: [bool; 2]) -> Drove {
+    Drove {
+        answer: Err(misuse),
+        taken,
+        closed: [Some(closed[0]), Some(closed[1])],
     }
-    Ok(taken)
 }
 
 fn resumes(instance: u32, values: Flat) -> Event {
@@ -65,87 +106,97 @@ fn enters() -> Event {
     }
 }
 
+/// The events of a root call whose guest stops at once.
+fn stops(alloc: Global, root: u32) -> Result<Vec<Event>, AllocError> {
+    let mut events = Vec::with_capacity(alloc, 2)?;
+    events.push(resumes(root, Flat::new()))?;
+    events.push(Event::Trapped(Trap::Unreachable))?;
+    Ok(events)
+}
+
 #[test]
 fn seats_beyond_the_set_stay(rt: HostRuntime) -> Result<(), Fail> {
     let alloc = rt.alloc();
-    let mut set = pair(alloc)?;
+    let provider = bytes_of(alloc, PROVIDER)?;
+    let user = bytes_of(alloc, USER)?;
+    let entries: [Entry; 2] = [("p", Ok(provider.as_slice())), ("u", Ok(user.as_slice()))];
     let forty_two = [CoreValue::I32(42)];
-    let mut seats: Seats = vec![in alloc;
-        guest(alloc, vec![in alloc; answer(alloc, &forty_two)?]?)?,
-        guest(alloc, vec![in alloc; call(alloc)?, answer(alloc, &[])?]?)?,
-        guest(alloc, vec![in alloc; Move::Unreachable]?)?,
+    let seats = vec![in alloc;
+        moves(alloc, vec![in alloc; back(alloc, &forty_two)?]?)?,
+        moves(alloc, vec![in alloc; call(alloc)?, back(alloc, &[])?]?)?,
+        moves(alloc, vec![in alloc; Move::Unreachable]?)?,
         None,
-        guest(alloc, vec![in alloc; Move::Grow { pages: 1 }]?)?,
+        moves(alloc, vec![in alloc; Move::Grow { pages: 1 }]?)?,
     ]?;
-    let events = Player::drive(alloc, &mut set, &mut seats, 1, 10)?;
-    let whole = [
+    let whole = vec![in alloc;
         resumes(1, Flat::new()),
         enters(),
         resumes(1, Flat::one(CoreValue::I32(42))),
         Event::Ended,
-    ];
-    assert_eq!(rt; events.as_slice(), whole.as_slice());
-    assert_eq!(rt;
-        taken(alloc, &seats)?.as_slice(),
-        [true, true, true, false, true].as_slice()
-    );
-    for root in [2, 4, 5] {
-        let answer = Player::drive(alloc, &mut set, &mut seats, root, 10).err();
-        assert_eq!(rt; answer, Some(Misuse::NoInstance));
-    }
-    let events = Player::drive(alloc, &mut set, &mut seats, 1, 10)?;
-    let stopped = [resumes(1, Flat::new()), Event::Trapped(Trap::Unreachable)];
-    assert_eq!(rt; events.as_slice(), stopped.as_slice());
-    assert_eq!(rt;
-        taken(alloc, &seats)?.as_slice(),
-        [true, false, true, false, true].as_slice()
-    );
-    assert_eq!(rt;
-        Player::drive(alloc, &mut set, &mut seats, 1, 10).err(),
-        Some(Misuse::Closed)
-    );
-    assert_eq!(rt; set.is_closed(0), Some(false));
+    ]?;
+    let open = [false, false];
+    let want = vec![in alloc;
+        answered(whole, vec![in alloc; true, true, true, false, true]?, open),
+        refused(
+            Misuse::NoInstance,
+            vec![in alloc; true, true, true, false, true]?,
+            open
+        ),
+        refused(
+            Misuse::NoInstance,
+            vec![in alloc; true, true, true, false, true]?,
+            open
+        ),
+        answered(
+            stops(alloc, 1)?,
+            vec![in alloc; true, false, true, false, true]?,
+            [false, true]
+        ),
+        refused(
+            Misuse::Closed,
+            vec![in alloc; true, false, true, false, true]?,
+            [false, true]
+        ),
+    ]?;
+    let ran = drives(&rt, alloc, &entries, seats, &[1, 2, 4, 1, 1])?;
+    assert_eq!(rt; ran, want);
     Ok(())
 }
 
 #[test]
 fn missing_seats_stop(rt: HostRuntime) -> Result<(), Fail> {
     let alloc = rt.alloc();
-    let stopped = [resumes(1, Flat::new()), Event::Trapped(Trap::Unreachable)];
-    let mut set = pair(alloc)?;
-    let mut none: Seats = Vec::new(alloc);
-    let events = Player::drive(alloc, &mut set, &mut none, 1, 10)?;
-    assert_eq!(rt; events.as_slice(), stopped.as_slice());
-    assert_eq!(rt; none.len(), 0);
-    let mut set = pair(alloc)?;
-    let mut one: Seats = vec![in alloc; guest(alloc, vec![in alloc; Move::Unreachable]?)?]?;
-    let events = Player::drive(alloc, &mut set, &mut one, 1, 10)?;
-    assert_eq!(rt; events.as_slice(), stopped.as_slice());
-    assert_eq!(rt; taken(alloc, &one)?.as_slice(), [true].as_slice());
+    let provider = bytes_of(alloc, PROVIDER)?;
+    let user = bytes_of(alloc, USER)?;
+    let entries: [Entry; 2] = [("p", Ok(provider.as_slice())), ("u", Ok(user.as_slice()))];
+    let want = vec![in alloc; answered(stops(alloc, 1)?, Vec::new(alloc), [false, true])]?;
+    let ran = drives(&rt, alloc, &entries, Vec::new(alloc), &[1])?;
+    assert_eq!(rt; ran, want);
+    let seats = vec![in alloc; moves(alloc, vec![in alloc; Move::Unreachable]?)?]?;
+    let want = vec![in alloc; answered(stops(alloc, 1)?, vec![in alloc; true]?, [false, true])]?;
+    let ran = drives(&rt, alloc, &entries, seats, &[1])?;
+    assert_eq!(rt; ran, want);
     Ok(())
 }
 
 #[test]
 fn an_empty_seat_stops(rt: HostRuntime) -> Result<(), Fail> {
     let alloc = rt.alloc();
-    let mut set = pair(alloc)?;
-    let mut seats: Seats = vec![in alloc;
+    let provider = bytes_of(alloc, PROVIDER)?;
+    let user = bytes_of(alloc, USER)?;
+    let entries: [Entry; 2] = [("p", Ok(provider.as_slice())), ("u", Ok(user.as_slice()))];
+    let seats = vec![in alloc;
         None,
-        guest(alloc, vec![in alloc; call(alloc)?]?)?,
-        guest(alloc, vec![in alloc; Move::Unreachable]?)?,
+        moves(alloc, vec![in alloc; call(alloc)?]?)?,
+        moves(alloc, vec![in alloc; Move::Unreachable]?)?,
     ]?;
-    let events = Player::drive(alloc, &mut set, &mut seats, 1, 10)?;
-    let called = [
+    let called = vec![in alloc;
         resumes(1, Flat::new()),
         enters(),
         Event::Trapped(Trap::Unreachable),
-    ];
-    assert_eq!(rt; events.as_slice(), called.as_slice());
-    assert_eq!(rt;
-        taken(alloc, &seats)?.as_slice(),
-        [false, false, true].as_slice()
-    );
-    assert_eq!(rt; set.is_closed(0), Some(true));
-    assert_eq!(rt; set.is_closed(1), Some(true));
+    ]?;
+    let want = vec![in alloc; answered(called, vec![in alloc; false, false, true]?, [true, true])]?;
+    let ran = drives(&rt, alloc, &entries, seats, &[1])?;
+    assert_eq!(rt; ran, want);
     Ok(())
 }
