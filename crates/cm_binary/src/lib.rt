@@ -22,6 +22,3 @@ pub use decoding::decode;
 pub use encoding::{encode, written_and_read};
 pub use fault::{DecodeFault, DecodeReason, Feature};
 pub use laws::first_fault_stays;
-
-#[cfg(test)]
-mod tests;

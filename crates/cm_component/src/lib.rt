@@ -12,6 +12,3 @@ pub use section::{
     Alias, Canon, CoreInstance, CoreInstantiationArg, CoreSort, CustomSection, Export, ExternDesc,
     Import, Section, Sort,
 };
-
-#[cfg(test)]
-mod tests;

@@ -10,6 +10,3 @@ pub use cursor::{Code, Cursor};
 pub use fault::{End, Fault, ReadError};
 pub use several::{Item, read_items};
 pub use writing::{Spelled, write_counted, write_prefixed};
-
-#[cfg(test)]
-mod tests;

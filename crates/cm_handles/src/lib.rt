@@ -5,8 +5,6 @@ mod entry;
 mod fault;
 mod handle;
 mod table;
-#[cfg(test)]
-mod tests;
 
 pub use fault::HandleFault;
 pub use handle::{Handle, HandleKind};

@@ -16,6 +16,3 @@ pub use layout_trees::{LayoutTree, is_number, layout, node_layout};
 pub use offsets::{node_case_offset, node_field_offset, node_has_cases, node_has_field};
 pub use sizes::node_size;
 pub use whole_types::{align, case_offset, field_offset, flatten, has_cases, has_field, size};
-
-#[cfg(test)]
-mod tests;

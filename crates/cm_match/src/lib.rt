@@ -13,6 +13,3 @@ pub use fault::{LinkFault, LinkReason};
 pub use linked::{Linked, link};
 pub use plan::PlanLine;
 pub use reached::Target;
-
-#[cfg(test)]
-mod tests;

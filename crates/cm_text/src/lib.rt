@@ -8,8 +8,6 @@ mod latin1;
 mod laws;
 mod sizes;
 mod source;
-#[cfg(test)]
-mod tests;
 mod transcoding;
 mod utf16;
 mod utf8;

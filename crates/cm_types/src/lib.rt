@@ -21,6 +21,3 @@ pub use same_types::{same_func, same_type};
 pub use signatures::{ExternDesc, InstanceItem, ItemDesc, Signature, SignatureItem};
 pub use type_trees::{Case, Field, Func, TooLarge, TypeNode, TypeTree};
 pub use values::{Value, is_scalar};
-
-#[cfg(test)]
-mod tests;

@@ -15,6 +15,3 @@ mod walk;
 pub use checked::{Checked, index_spaces, validate};
 pub use definitions::{CoreFuncDef, FuncDef};
 pub use fault::{ValidFault, ValidReason};
-
-#[cfg(test)]
-mod tests;

@@ -4,6 +4,7 @@ mod bytes;
 mod commands;
 mod drives;
 mod lines;
+mod same;
 mod scripts;
 mod words;
 mod worlds;

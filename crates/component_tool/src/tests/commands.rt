@@ -3,34 +3,41 @@ use crate::files::FileFault;
 use crate::load::{load_script, load_set};
 use crate::outcome::Outcome;
 use crate::play::play;
-use crate::tests::worlds::{Entry, MemoryFiles, PROVIDER, USER, bytes_of, run};
+use crate::tests::same::same;
+use crate::tests::worlds::{Entry, MemoryFiles, PROVIDER, USER, run};
 use cm_machine::Set;
 use std::alloc::Global;
 use std::process::Abort;
 use std::test::Fail;
 
 /// The user, whose lower names a function that is not there.
-static ODD_USER: &str = "0061736D0D000100070801400101787900790A08010003696E630100080501010001\
-    00";
+const ODD_USER: [u8; 35] = [
+    0x00, 0x61, 0x73, 0x6D, 0x0D, 0x00, 0x01, 0x00, 0x07, 0x08, 0x01, 0x40, 0x01, 0x01, 0x78, 0x79,
+    0x00, 0x79, 0x0A, 0x08, 0x01, 0x00, 0x03, 0x69, 0x6E, 0x63, 0x01, 0x00, 0x08, 0x05, 0x01, 0x01,
+    0x00, 0x01, 0x00,
+];
 
 /// A component in a component.
-static NESTED: &str = "0061736D0D0001000400";
+const NESTED: [u8; 10] = [0x00, 0x61, 0x73, 0x6D, 0x0D, 0x00, 0x01, 0x00, 0x04, 0x00];
 
-static INC: &[u8] = b"pages 0 0\nguest 0\nreturn i32:42\nguest 1\ncall 0 i32:41\nreturn\nbegin 1";
+/// A section of types that ends before its size.
+const CUT: [u8; 9] = [0x00, 0x61, 0x73, 0x6D, 0x0D, 0x00, 0x01, 0x00, 0x07];
 
-static STOPS: &[u8] = b"pages 0 0\nguest 1\ncall 0 i32:41\nbegin 1\nbegin 0\n";
+const INC: &[u8] = b"pages 0 0\nguest 0\nreturn i32:42\nguest 1\ncall 0 i32:41\nreturn\nbegin 1";
 
-static TRAPS_FIRST: &[u8] =
+const STOPS: &[u8] = b"pages 0 0\nguest 1\ncall 0 i32:41\nbegin 1\nbegin 0\n";
+
+const TRAPS_FIRST: &[u8] =
     b"pages 0 0\nguest 0\nreturn\nguest 1\ncall 0 i64:41\nbegin 1\nbegin 0\n";
 
-static MOVES: &[u8] =
+const MOVES: &[u8] =
     b"pages 0 1\nguest 0\ngrow 1\ngrow 1024\nwrite 65536 -\nwrite 0 00ff\nreturn\nbegin 0\nbegin 2\n";
 
-static PAGES: &[u8] = b"pages 0\nbegin 7\n";
+const PAGES: &[u8] = b"pages 0\nbegin 7\n";
 
-static NO_GUEST: &[u8] = b"pages 0 0\nguest 2\n";
+const NO_GUEST: &[u8] = b"pages 0 0\nguest 2\n";
 
-static LATIN: &[u8] = b"pages 0 0\n\xE9";
+const LATIN: &[u8] = b"pages 0 0\n\xE9";
 
 /// What a command prints: its words, its status, its standard output and its line of standard error.
 type Row = (&'static str, u8, &'static str, &'static str);
@@ -60,7 +67,7 @@ static ROWS: [Row; 37] = [
         "check cut",
         1,
         "",
-        "error: cut: Truncated at 61: the input ends too early\n",
+        "error: cut: Truncated at 9: the input ends too early\n",
     ),
     (
         "check nested",
@@ -99,7 +106,7 @@ static ROWS: [Row; 37] = [
         "link cut lost",
         1,
         "",
-        "error: cut: Truncated at 61: the input ends too early\n",
+        "error: cut: Truncated at 9: the input ends too early\n",
     ),
     (
         "link lost cut",
@@ -147,7 +154,7 @@ static ROWS: [Row; 37] = [
         "play --script none cut u",
         1,
         "",
-        "error: cut: Truncated at 61: the input ends too early\n",
+        "error: cut: Truncated at 9: the input ends too early\n",
     ),
     (
         "play --script none u p",
@@ -272,34 +279,29 @@ fn runs_as(rt: &impl Abort, alloc: Global, row: &Row, entries: &[Entry]) -> Resu
     Ok(())
 }
 
+static ENTRIES: [Entry; 16] = [
+    ("p", Ok(&PROVIDER)),
+    ("u", Ok(&USER)),
+    ("cut", Ok(&CUT)),
+    ("odd", Ok(&ODD_USER)),
+    ("nested", Ok(&NESTED)),
+    ("lost", Err(FileFault::Read)),
+    ("full", Err(FileFault::Memory)),
+    ("inc", Ok(INC)),
+    ("stops", Ok(STOPS)),
+    ("traps-first", Ok(TRAPS_FIRST)),
+    ("moves", Ok(MOVES)),
+    ("pages", Ok(PAGES)),
+    ("no-guest", Ok(NO_GUEST)),
+    ("latin", Ok(LATIN)),
+    ("empty", Ok(b"\n")),
+    ("", Ok(b"")),
+];
+
 #[test]
 fn runs_commands(rt: HostRuntime) -> Result<(), Fail> {
-    let alloc = rt.alloc();
-    let provider = bytes_of(alloc, PROVIDER)?;
-    let user = bytes_of(alloc, USER)?;
-    let odd = bytes_of(alloc, ODD_USER)?;
-    let nested = bytes_of(alloc, NESTED)?;
-    let cut = provider.as_slice().get(..61).ok_or("62 bytes")?;
-    let entries: [Entry; 16] = [
-        ("p", Ok(provider.as_slice())),
-        ("u", Ok(user.as_slice())),
-        ("cut", Ok(cut)),
-        ("odd", Ok(odd.as_slice())),
-        ("nested", Ok(nested.as_slice())),
-        ("lost", Err(FileFault::Read)),
-        ("full", Err(FileFault::Memory)),
-        ("inc", Ok(INC)),
-        ("stops", Ok(STOPS)),
-        ("traps-first", Ok(TRAPS_FIRST)),
-        ("moves", Ok(MOVES)),
-        ("pages", Ok(PAGES)),
-        ("no-guest", Ok(NO_GUEST)),
-        ("latin", Ok(LATIN)),
-        ("empty", Ok(b"\n")),
-        ("", Ok(b"")),
-    ];
     for row in &ROWS {
-        runs_as(&rt, alloc, row, &entries)?;
+        runs_as(&rt, rt.alloc(), row, &ENTRIES)?;
     }
     Ok(())
 }
@@ -326,19 +328,19 @@ static LIMITS: [(u64, &str, &str, Outcome); 3] = [
     ),
 ];
 
+static LIMITED: [Entry; 2] = [
+    ("p", Ok(&PROVIDER)),
+    (
+        "s",
+        Ok(b"pages 0\nguest 0\ngrow 0\ngrow 0\nreturn\nbegin 0\nbegin 0"),
+    ),
+];
+
 #[test]
 fn stops_at_the_limit(rt: HostRuntime) -> Result<(), Fail> {
     let alloc = rt.alloc();
-    assert_eq!(rt; LIMIT, 1_000_000);
-    let provider = bytes_of(alloc, PROVIDER)?;
-    let entries: [Entry; 2] = [
-        ("p", Ok(provider.as_slice())),
-        (
-            "s",
-            Ok(b"pages 0\nguest 0\ngrow 0\ngrow 0\nreturn\nbegin 0\nbegin 0"),
-        ),
-    ];
-    let mut files = MemoryFiles { entries: &entries };
+    same(&rt, LIMIT, 1_000_000);
+    let mut files = MemoryFiles { entries: &LIMITED };
     for (limit, want_out, want_err, want) in LIMITS {
         let script = load_script(alloc, &mut files, "s", 1).expect(&rt, "a script");
         let linked = load_set(alloc, &mut files, &["p"]).expect(&rt, "a linked set");

@@ -1,5 +1,6 @@
 use crate::script::{Script, ScriptRefusal};
 use crate::statement::LineFault;
+use crate::tests::same::same;
 use std::test::Fail;
 
 #[test]
@@ -13,7 +14,7 @@ fn reads_a_script(rt: HostRuntime) -> Result<(), Fail> {
         moves: [[Write { at: 7, bytes: [] }, Write { at: 0, bytes: [255, 0] }, Grow { pages: 0 }], \
         [Call { func: 4294967295, args: [I32(0), I64(18446744073709551615)] }, Return { values: [] }, \
         Unreachable, Return { values: [I32(4294967295)] }]], begins: [1, 9] }";
-    assert_eq!(rt; shown.as_str(), want);
+    same(&rt, shown.as_str(), want);
     Ok(())
 }
 

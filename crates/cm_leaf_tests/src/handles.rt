@@ -1,4 +1,5 @@
-use crate::{Handle, HandleFault, HandleKind, Table};
+use crate::same::same;
+use cm_handles::{Handle, HandleFault, HandleKind, Table};
 use cm_types::ResourceId;
 use std::test::Fail;
 
@@ -72,17 +73,17 @@ fn uses_freed_indices_again(rt: HostRuntime) -> Result<(), Fail> {
 fn is_full_at_the_limit(rt: HostRuntime) -> Result<(), Fail> {
     let mut table = Table::new(rt.alloc());
     for index in 1..65_536u32 {
-        assert_eq!(rt; table.add(owned(1, index)), Ok(index));
+        same(&rt, table.add(owned(1, index)), Ok(index));
     }
-    assert_eq!(rt; table.add(owned(1, 0)), Err(HandleFault::Full));
-    assert_eq!(rt; table.reserve(1), Err(HandleFault::Full));
-    assert_eq!(rt; table.drop_handle(40, FILE), Ok(owned(1, 40)));
-    assert_eq!(rt; table.reserve(2), Err(HandleFault::Full));
-    assert_eq!(rt; table.reserve(1), Ok(()));
-    assert_eq!(rt; table.add(owned(1, 41)), Ok(40));
-    assert_eq!(rt; table.add(owned(1, 0)), Err(HandleFault::Full));
-    assert_eq!(rt; table.get(65_535, FILE), Ok(owned(1, 65_535)));
-    assert_eq!(rt; table.get(65_536, FILE), Err(HandleFault::NoHandle));
+    same(&rt, table.add(owned(1, 0)), Err(HandleFault::Full));
+    same(&rt, table.reserve(1), Err(HandleFault::Full));
+    same(&rt, table.drop_handle(40, FILE), Ok(owned(1, 40)));
+    same(&rt, table.reserve(2), Err(HandleFault::Full));
+    same(&rt, table.reserve(1), Ok(()));
+    same(&rt, table.add(owned(1, 41)), Ok(40));
+    same(&rt, table.add(owned(1, 0)), Err(HandleFault::Full));
+    same(&rt, table.get(65_535, FILE), Ok(owned(1, 65_535)));
+    same(&rt, table.get(65_536, FILE), Err(HandleFault::NoHandle));
     Ok(())
 }
 
@@ -90,12 +91,12 @@ fn is_full_at_the_limit(rt: HostRuntime) -> Result<(), Fail> {
 #[test]
 fn refuses_in_order(rt: HostRuntime) -> Result<(), Fail> {
     let mut table = Table::new(rt.alloc());
-    assert_eq!(rt; table.get(0, FILE), Err(HandleFault::NoHandle));
-    assert_eq!(rt; table.get(1, FILE), Err(HandleFault::NoHandle));
-    assert_eq!(rt; table.reserve(65_536), Err(HandleFault::Full));
-    assert_eq!(rt; table.reserve(3), Ok(()));
-    assert_eq!(rt; table.add(owned(4, 40)), Ok(1));
-    assert_eq!(rt; table.add(borrowed(5, 50, 9)), Ok(2));
+    same(&rt, table.get(0, FILE), Err(HandleFault::NoHandle));
+    same(&rt, table.get(1, FILE), Err(HandleFault::NoHandle));
+    same(&rt, table.reserve(65_536), Err(HandleFault::Full));
+    same(&rt, table.reserve(3), Ok(()));
+    same(&rt, table.add(owned(4, 40)), Ok(1));
+    same(&rt, table.add(borrowed(5, 50, 9)), Ok(2));
 
     let rows = [
         (0, FILE, HandleFault::NoHandle),
@@ -113,11 +114,11 @@ fn refuses_in_order(rt: HostRuntime) -> Result<(), Fail> {
         );
         assert_eq!(rt; table.take_own(index, resource), Err(fault), "at {index}");
     }
-    assert_eq!(rt; table.take_own(2, SOCKET), Err(HandleFault::NotOwned));
-    assert_eq!(rt; table.get(1, FILE), Ok(owned(4, 40)));
-    assert_eq!(rt; table.get(2, SOCKET), Ok(borrowed(5, 50, 9)));
-    assert_eq!(rt; HandleFault::NoHandle as u8, 1);
-    assert_eq!(rt; HandleFault::Memory as u8, 6);
+    same(&rt, table.take_own(2, SOCKET), Err(HandleFault::NotOwned));
+    same(&rt, table.get(1, FILE), Ok(owned(4, 40)));
+    same(&rt, table.get(2, SOCKET), Ok(borrowed(5, 50, 9)));
+    same(&rt, HandleFault::NoHandle as u8, 1);
+    same(&rt, HandleFault::Memory as u8, 6);
     Ok(())
 }
 
@@ -125,23 +126,27 @@ fn refuses_in_order(rt: HostRuntime) -> Result<(), Fail> {
 #[test]
 fn counts_lends(rt: HostRuntime) -> Result<(), Fail> {
     let mut table = Table::new(rt.alloc());
-    assert_eq!(rt; table.add(borrowed(5, 50, 9)), Ok(1));
+    same(&rt, table.add(borrowed(5, 50, 9)), Ok(1));
     for lends in 0..2u64 {
         let handle = table.get(1, SOCKET)?;
-        assert_eq!(rt; handle.lends, u128::from(lends));
-        assert_eq!(rt; table.lend(1, FILE), Err(HandleFault::WrongResource));
-        assert_eq!(rt; table.lend(1, SOCKET), Ok(handle));
+        same(&rt, handle.lends, u128::from(lends));
+        same(&rt, table.lend(1, FILE), Err(HandleFault::WrongResource));
+        same(&rt, table.lend(1, SOCKET), Ok(handle));
     }
     for lends in 0..2u64 {
         let handle = table.get(1, SOCKET)?;
-        assert_eq!(rt; handle.lends, u128::from(2 - lends));
-        assert_eq!(rt; table.drop_handle(1, SOCKET), Err(HandleFault::StillLent));
-        assert_eq!(rt; table.take_own(1, SOCKET), Err(HandleFault::StillLent));
+        same(&rt, handle.lends, u128::from(2 - lends));
+        same(
+            &rt,
+            table.drop_handle(1, SOCKET),
+            Err(HandleFault::StillLent),
+        );
+        same(&rt, table.take_own(1, SOCKET), Err(HandleFault::StillLent));
         table.unlend(1);
     }
-    assert_eq!(rt; table.get(1, SOCKET), Ok(borrowed(5, 50, 9)));
-    assert_eq!(rt; table.take_own(1, SOCKET), Err(HandleFault::NotOwned));
-    assert_eq!(rt; table.drop_handle(1, SOCKET), Ok(borrowed(5, 50, 9)));
+    same(&rt, table.get(1, SOCKET), Ok(borrowed(5, 50, 9)));
+    same(&rt, table.take_own(1, SOCKET), Err(HandleFault::NotOwned));
+    same(&rt, table.drop_handle(1, SOCKET), Ok(borrowed(5, 50, 9)));
     Ok(())
 }
 
@@ -150,16 +155,16 @@ fn counts_lends(rt: HostRuntime) -> Result<(), Fail> {
 fn puts_back_what_was_taken(rt: HostRuntime) -> Result<(), Fail> {
     let mut table = Table::new(rt.alloc());
     for index in 1..4u32 {
-        assert_eq!(rt; table.add(owned(u64::from(index), 10)), Ok(index));
+        same(&rt, table.add(owned(u64::from(index), 10)), Ok(index));
     }
     let third = table.take_own(3, FILE)?;
     let first = table.take_own(1, FILE)?;
-    assert_eq!(rt; table.get(3, FILE), Err(HandleFault::NoHandle));
+    same(&rt, table.get(3, FILE), Err(HandleFault::NoHandle));
     table.restore(1, first);
     table.restore(3, third);
-    assert_eq!(rt; table.get(1, FILE), Ok(owned(1, 10)));
-    assert_eq!(rt; table.get(3, FILE), Ok(owned(3, 10)));
-    assert_eq!(rt; table.add(owned(4, 10)), Ok(4));
+    same(&rt, table.get(1, FILE), Ok(owned(1, 10)));
+    same(&rt, table.get(3, FILE), Ok(owned(3, 10)));
+    same(&rt, table.add(owned(4, 10)), Ok(4));
     Ok(())
 }
 
@@ -167,20 +172,20 @@ fn puts_back_what_was_taken(rt: HostRuntime) -> Result<(), Fail> {
 #[test]
 fn closes(rt: HostRuntime) -> Result<(), Fail> {
     let mut table = Table::new(rt.alloc());
-    assert_eq!(rt; table.add(owned(1, 10)), Ok(1));
-    assert_eq!(rt; table.add(borrowed(2, 20, 3)), Ok(2));
-    assert_eq!(rt; table.add(owned(3, 30)), Ok(3));
-    assert_eq!(rt; table.add(borrowed(4, 40, 3)), Ok(4));
-    assert_eq!(rt; table.drop_handle(3, FILE), Ok(owned(3, 30)));
+    same(&rt, table.add(owned(1, 10)), Ok(1));
+    same(&rt, table.add(borrowed(2, 20, 3)), Ok(2));
+    same(&rt, table.add(owned(3, 30)), Ok(3));
+    same(&rt, table.add(borrowed(4, 40, 3)), Ok(4));
+    same(&rt, table.drop_handle(3, FILE), Ok(owned(3, 30)));
     let handle = table.get(1, FILE)?;
-    assert_eq!(rt; handle.lends, 0);
-    assert_eq!(rt; table.lend(1, FILE), Ok(handle));
+    same(&rt, handle.lends, 0);
+    same(&rt, table.lend(1, FILE), Ok(handle));
     table.close();
-    assert_eq!(rt; table.get(1, FILE), Ok(owned(1, 10)));
-    assert_eq!(rt; table.get(2, SOCKET), Err(HandleFault::NoHandle));
-    assert_eq!(rt; table.get(4, SOCKET), Err(HandleFault::NoHandle));
+    same(&rt, table.get(1, FILE), Ok(owned(1, 10)));
+    same(&rt, table.get(2, SOCKET), Err(HandleFault::NoHandle));
+    same(&rt, table.get(4, SOCKET), Err(HandleFault::NoHandle));
     for index in [4, 2, 3, 5] {
-        assert_eq!(rt; table.add(owned(5, 50)), Ok(index));
+        same(&rt, table.add(owned(5, 50)), Ok(index));
     }
     Ok(())
 }

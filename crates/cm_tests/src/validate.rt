@@ -1,198 +1,12 @@
 //! Components built by hand, and what validation says of them.
 
-use crate::{Checked, CoreFuncDef, FuncDef, ValidFault, validate};
-use cm_component::{
-    Alias, Canon, Component, CoreInstance, CoreInstantiationArg, CoreSort, CustomSection, Export,
-    ExternDesc, Import, Section, Sort,
-};
-use cm_types::{DefType, ExternName, FuncType, Label, LabeledValType, SignatureItem, ValType};
+use crate::parts::{Made, Part, component, guest};
+use crate::same::same;
+use cm_component::Component;
+use cm_types::SignatureItem;
+use cm_validate::{Checked, CoreFuncDef, FuncDef, ValidFault, validate};
 use std::alloc::Global;
 use std::test::Fail;
-
-fn types(alloc: Global, of: &[&[&str]]) -> Result<Section, Fail> {
-    let mut types = Vec::new(alloc);
-    for labels in of {
-        let mut params = Vec::new(alloc);
-        for label in *labels {
-            params.push(LabeledValType {
-                label: Label::parse(alloc, label)?,
-                ty: ValType::U32,
-            })?;
-        }
-        types.push(DefType::Func(FuncType {
-            params,
-            result: Some(ValType::U32),
-        }))?;
-    }
-    Ok(Section::Types(types))
-}
-
-fn many_params(alloc: Global, count: usize) -> Result<DefType, Fail> {
-    let mut params = Vec::new(alloc);
-    for number in 0..count {
-        let label = format!(in alloc; "x{number}")?;
-        params.push(LabeledValType {
-            label: Label::parse(alloc, label.as_str())?,
-            ty: ValType::U32,
-        })?;
-    }
-    Ok(DefType::Func(FuncType {
-        params,
-        result: None,
-    }))
-}
-
-fn large_types(alloc: Global, counts: &[usize]) -> Result<Section, Fail> {
-    let mut types = Vec::new(alloc);
-    for count in counts {
-        types.push(many_params(alloc, *count)?)?;
-    }
-    Ok(Section::Types(types))
-}
-
-fn module(alloc: Global) -> Result<Section, Fail> {
-    let bytes = [0, 0x61, 0x73, 0x6D, 1, 0, 0, 0].to_vec(alloc)?;
-    Ok(Section::CoreModule(bytes))
-}
-
-/// A core instance of a module, with these arguments.
-fn instance(alloc: Global, of_module: u32, given: &[(&str, u32)]) -> Result<Section, Fail> {
-    let mut args = Vec::new(alloc);
-    for (name, instance) in given {
-        args.push(CoreInstantiationArg {
-            name: String::from_str(alloc, name)?,
-            instance: *instance,
-        })?;
-    }
-    let mut instances = Vec::new(alloc);
-    instances.push(CoreInstance::Instantiate {
-        module: of_module,
-        args,
-    })?;
-    Ok(Section::CoreInstances(instances))
-}
-
-fn aliases(alloc: Global, of: &[(u32, &str)]) -> Result<Section, Fail> {
-    let mut aliases = Vec::new(alloc);
-    for (instance, name) in of {
-        aliases.push(Alias::CoreInstanceExport {
-            sort: CoreSort::Func,
-            instance: *instance,
-            name: String::from_str(alloc, name)?,
-        })?;
-    }
-    Ok(Section::Aliases(aliases))
-}
-
-/// A canonical definition of a section that is to be built.
-#[derive(Clone, Copy)]
-enum Made {
-    Lift(u32, u32),
-    Lower(u32),
-}
-
-fn canons(alloc: Global, of: &[Made]) -> Result<Section, Fail> {
-    let mut canons = Vec::new(alloc);
-    for made in of {
-        let canon = match *made {
-            Made::Lift(core_func, ty) => Canon::Lift { core_func, ty },
-            Made::Lower(func) => Canon::Lower { func },
-        };
-        canons.push(canon)?;
-    }
-    Ok(Section::Canons(canons))
-}
-
-fn imports(alloc: Global, of: &[(&str, u32)]) -> Result<Section, Fail> {
-    let mut imports = Vec::new(alloc);
-    for (name, ty) in of {
-        imports.push(Import {
-            name: ExternName::parse(alloc, name)?,
-            desc: ExternDesc::Func(*ty),
-        })?;
-    }
-    Ok(Section::Imports(imports))
-}
-
-fn exports(alloc: Global, of: &[(&str, u32)]) -> Result<Section, Fail> {
-    let mut exports = Vec::new(alloc);
-    for (name, index) in of {
-        exports.push(Export {
-            name: ExternName::parse(alloc, name)?,
-            sort: Sort::Func,
-            index: *index,
-        })?;
-    }
-    Ok(Section::Exports(exports))
-}
-
-fn custom(alloc: Global) -> Result<Section, Fail> {
-    Ok(Section::Custom(CustomSection {
-        name: String::from_str(alloc, "note")?,
-        bytes: Vec::new(alloc),
-    }))
-}
-
-/// A section that is to be built.
-#[derive(Clone, Copy)]
-enum Part<'a> {
-    Custom,
-    Module,
-    /// An instance of a module, with these arguments.
-    Instance(u32, &'a [(&'a str, u32)]),
-    Aliases(&'a [(u32, &'a str)]),
-    /// The labels of each type's parameters.
-    Types(&'a [&'a [&'a str]]),
-    /// How many parameters each type has.
-    LargeTypes(&'a [usize]),
-    Canons(&'a [Made]),
-    Imports(&'a [(&'a str, u32)]),
-    Exports(&'a [(&'a str, u32)]),
-}
-
-fn built(alloc: Global, part: Part) -> Result<Section, Fail> {
-    match part {
-        Part::Custom => custom(alloc),
-        Part::Module => module(alloc),
-        Part::Instance(of_module, args) => instance(alloc, of_module, args),
-        Part::Aliases(of) => aliases(alloc, of),
-        Part::Types(of) => types(alloc, of),
-        Part::LargeTypes(of) => large_types(alloc, of),
-        Part::Canons(of) => canons(alloc, of),
-        Part::Imports(of) => imports(alloc, of),
-        Part::Exports(of) => exports(alloc, of),
-    }
-}
-
-/// These sections, after others.
-fn add(alloc: Global, sections: &mut Vec<Section>, parts: &[Part]) -> Result<(), Fail> {
-    for part in parts {
-        sections.push(built(alloc, *part)?)?;
-    }
-    Ok(())
-}
-
-/// The component of these sections.
-fn component(alloc: Global, parts: &[Part]) -> Result<Component, Fail> {
-    let mut sections = Vec::new(alloc);
-    add(alloc, &mut sections, parts)?;
-    Ok(Component::new(sections)?)
-}
-
-/// The component of a module, an instance of it, its functions `f` and `g`, the type of functions with one
-/// parameter, and these sections after them.
-fn guest(alloc: Global, parts: &[Part]) -> Result<Component, Fail> {
-    let front = [
-        Part::Module,
-        Part::Instance(0, &[]),
-        Part::Aliases(&[(0, "f"), (0, "g")]),
-        Part::Types(&[&["x"]]),
-    ];
-    let mut sections = Vec::new(alloc);
-    add(alloc, &mut sections, &front)?;
-    add(alloc, &mut sections, parts)?;
-    Ok(Component::new(sections)?)
-}
 
 /// The section, the item and the reason's number of the fault, if there is one.
 fn fault(alloc: Global, component: Component) -> Option<(usize, usize, u8)> {
@@ -241,14 +55,14 @@ fn what_a_provider_is(rt: HostRuntime) -> Result<(), Fail> {
     assert!(rt; are_named(&checked.signature().exports, &["inc"]));
     match checked.core(1) {
         Some(CoreFuncDef::Guest { instance, name }) => {
-            assert_eq!(rt; (*instance, name.as_str()), (0, "g"));
+            same(&rt, (*instance, name.as_str()), (0, "g"));
         }
         _ => panic!(rt; "core function 1 is a guest's"),
     }
     assert!(rt; checked.core(2).is_none());
     match checked.func(0, None) {
         Some(FuncDef::Lifted { core_func, ty }) => {
-            assert_eq!(rt; (*core_func, ty.params.len()), (1, 1));
+            same(&rt, (*core_func, ty.params.len()), (1, 1));
             assert!(rt; ty.result.is_some());
         }
         _ => panic!(rt; "export 0 is a lift"),
@@ -265,13 +79,13 @@ fn what_a_user_is(rt: HostRuntime) -> Result<(), Fail> {
     assert!(rt; are_named(&checked.signature().exports, &["again"]));
     match checked.core(0) {
         Some(CoreFuncDef::Lowered { import, item, ty }) => {
-            assert_eq!(rt; (*import, *item, ty.params.len()), (1, None, 1));
+            same(&rt, (*import, *item, ty.params.len()), (1, None, 1));
         }
         _ => panic!(rt; "core function 0 is lowered"),
     }
     match checked.func(0, None) {
         Some(FuncDef::Imported { import, item, ty }) => {
-            assert_eq!(rt; (*import, *item, ty.params.len()), (1, None, 1));
+            same(&rt, (*import, *item, ty.params.len()), (1, None, 1));
         }
         _ => panic!(rt; "export 0 is an import"),
     }
@@ -293,33 +107,35 @@ fn rules_of_modules_and_types(rt: HostRuntime) -> Result<(), Fail> {
     let a = rt.alloc();
     // no such module, after a custom section, which counts
     let parts = [Part::Custom, Part::Instance(0, &[])];
-    assert_eq!(rt; fault_of(a, &parts)?, Some((1, 0, 1)));
+    same(&rt, fault_of(a, &parts)?, Some((1, 0, 1)));
     // an argument that is no instance; names that are equal as texts, or only without case
     let parts = [Part::Module, Part::Instance(0, &[("a", 1)])];
-    assert_eq!(rt; fault_of(a, &parts)?, Some((1, 0, 1)));
+    same(&rt, fault_of(a, &parts)?, Some((1, 0, 1)));
     let parts = [
         Part::Module,
         Part::Instance(0, &[]),
         Part::Instance(0, &[("a", 0), ("b", 0), ("a", 0)]),
     ];
-    assert_eq!(rt; fault_of(a, &parts)?, Some((2, 0, 6)));
+    same(&rt, fault_of(a, &parts)?, Some((2, 0, 6)));
     let parts = [
         Part::Module,
         Part::Instance(0, &[]),
         Part::Instance(0, &[("a", 0), ("A", 0)]),
     ];
-    assert_eq!(rt; fault_of(a, &parts)?, None);
+    same(&rt, fault_of(a, &parts)?, None);
     // an alias of no instance
-    assert_eq!(rt;
+    same(
+        &rt,
         fault_of(a, &[Part::Aliases(&[(0, "f")])])?,
-        Some((0, 0, 1))
+        Some((0, 0, 1)),
     );
     // labels that are the same without case, and too many
     let parts = [Part::Types(&[&["x", "y"], &["x", "y", "X"]])];
-    assert_eq!(rt; fault_of(a, &parts)?, Some((0, 1, 6)));
-    assert_eq!(rt;
+    same(&rt, fault_of(a, &parts)?, Some((0, 1, 6)));
+    same(
+        &rt,
         fault_of(a, &[Part::LargeTypes(&[9_999, 10_000])])?,
-        Some((0, 1, 17))
+        Some((0, 1, 17)),
     );
     Ok(())
 }
@@ -370,7 +186,7 @@ fn rules_of_canonical_definitions(rt: HostRuntime) -> Result<(), Fail> {
     ];
     for (parts, wanted) in rows {
         let found = fault(rt.alloc(), guest(rt.alloc(), parts)?);
-        assert_eq!(rt; found, wanted);
+        same(&rt, found, wanted);
     }
     Ok(())
 }
@@ -413,7 +229,7 @@ fn rules_of_imports_and_exports(rt: HostRuntime) -> Result<(), Fail> {
     ];
     for (parts, wanted) in rows {
         let found = fault(rt.alloc(), guest(rt.alloc(), parts)?);
-        assert_eq!(rt; found, wanted);
+        same(&rt, found, wanted);
     }
     Ok(())
 }

@@ -1,6 +1,7 @@
 //! Outside values: the tables of the Unicode Standard, and runs of each length.
 
-use crate::{
+use crate::same::same;
+use cm_text::{
     Encoding, Latin1, Source, TextFault, Utf8, Utf16, ascii_run, ascii_units, narrow, transcode,
     transcode_into, transcoded_size, widen,
 };
@@ -110,20 +111,21 @@ fn texts_at_each_border(rt: HostRuntime) -> Result<(), Fail> {
         same_text::<Utf8, Utf8>(&rt, utf8, utf8)?;
         same_text::<Utf16, Utf16>(&rt, utf16, utf16)?;
         let scalars = Utf8::scalars(rt.alloc(), utf8)?;
-        assert_eq!(rt;
+        same(
+            &rt,
             Utf16::scalars(rt.alloc(), utf16)?.as_slice(),
-            scalars.as_slice()
+            scalars.as_slice(),
         );
         let mut appended = Vec::new(rt.alloc());
         for scalar in &scalars {
             Utf8::append(&mut appended, *scalar)?;
         }
-        assert_eq!(rt; appended.as_slice(), utf8);
+        same(&rt, appended.as_slice(), utf8);
         appended.clear();
         for scalar in &scalars {
             Utf16::append(&mut appended, *scalar)?;
         }
-        assert_eq!(rt; appended.as_slice(), utf16);
+        same(&rt, appended.as_slice(), utf16);
     }
     Ok(())
 }
@@ -137,25 +139,28 @@ fn latin1_is_its_own_scalars(rt: HostRuntime) -> Result<(), Fail> {
         &[0x61, 0xC3, 0xA9, 0x7F, 0xC2, 0x80, 0xC3, 0xBF],
     )?;
     same_text::<Latin1, Utf16>(&rt, &latin1, &[0x61, 0, 0xE9, 0, 0x7F, 0, 0x80, 0, 0xFF, 0])?;
-    assert_eq!(rt; Latin1::check(&latin1), Ok(()));
-    assert_eq!(rt;
+    same(&rt, Latin1::check(&latin1), Ok(()));
+    same(
+        &rt,
         Latin1::scalars(rt.alloc(), &latin1)?.as_slice(),
-        ['a', 'é', '\u{7F}', '\u{80}', 'ÿ'].as_slice()
+        ['a', 'é', '\u{7F}', '\u{80}', 'ÿ'].as_slice(),
     );
     Ok(())
 }
 
 #[test]
 fn constants(rt: HostRuntime) {
-    assert_eq!(rt;
+    same(
+        &rt,
         (Utf8::UNIT_SIZE, Utf8::ALIGNMENT, Utf8::GREATEST_GROWTH),
-        (1, 1, 3)
+        (1, 1, 3),
     );
-    assert_eq!(rt;
+    same(
+        &rt,
         (Utf16::UNIT_SIZE, Utf16::ALIGNMENT, Utf16::GREATEST_GROWTH),
-        (2, 2, 2)
+        (2, 2, 2),
     );
-    assert_eq!(rt; (Latin1::UNIT_SIZE, Latin1::ALIGNMENT), (1, 2));
+    same(&rt, (Latin1::UNIT_SIZE, Latin1::ALIGNMENT), (1, 2));
 }
 
 /// Bytes that are refused at a place, by each call that reads them.
@@ -287,12 +292,12 @@ fn widening_and_narrowing(rt: HostRuntime) -> Result<(), Fail> {
         assert!(rt; length <= 33);
         let mut units = [0xAA; 66];
         widen(&alphabet[..length], &mut units[..2 * length]);
-        assert_eq!(rt; &units[..2 * length], &wide[..2 * length]);
+        same(&rt, &units[..2 * length], &wide[..2 * length]);
         let mut bytes = [0xAA; 33];
         if ascii_units(&wide[..2 * length]) == length {
             narrow(&wide[..2 * length], &mut bytes[..length]);
         }
-        assert_eq!(rt; &bytes[..length], &alphabet[..length]);
+        same(&rt, &bytes[..length], &alphabet[..length]);
     }
     Ok(())
 }

@@ -1,4 +1,9 @@
-use super::*;
+//! Numbers in LEB128, by rows worked by hand.
+
+use crate::same::same;
+use cm_leb::{
+    LebFault, front_s33, front_u32, read_s33, read_u32, spelled_length, write_s33, write_u32,
+};
 use std::test::Fail;
 
 /// Spellings without a sign, their number or fault, and the number's shortest spelling.
@@ -67,7 +72,7 @@ fn unsigned_spellings(rt: HostRuntime) -> Result<(), Fail> {
             assert_eq!(rt; read_u32(&out, 1), Ok((*number, out.len())), "row {i}");
         }
     }
-    assert_eq!(rt; read_u32(&[1, 2], 9), Err(LebFault::Truncated));
+    same(&rt, read_u32(&[1, 2], 9), Err(LebFault::Truncated));
     Ok(())
 }
 
@@ -90,6 +95,6 @@ fn signed_spellings(rt: HostRuntime) -> Result<(), Fail> {
             }
         }
     }
-    assert_eq!(rt; read_s33(&[1, 2], 9), Err(LebFault::Truncated));
+    same(&rt, read_s33(&[1, 2], 9), Err(LebFault::Truncated));
     Ok(())
 }

@@ -1,6 +1,7 @@
 //! Names against their grammar, and types against their limits and each other, by cases worked by hand.
 
-use crate::{
+use crate::same::same;
+use cm_types::{
     Case, CoreKind, CoreValue, ExternName, ExternNameForm, Field, Func, Label, NameFault,
     ResourceId, TooLarge, TypeNode, TypeTree, is_scalar, same_func, same_name, same_type,
 };
@@ -136,7 +137,7 @@ fn names_without_case(rt: HostRuntime) {
     assert!(rt; same_name("get-HTTP", "GET-http"));
     assert!(rt; !same_name("a-b", "ab"));
     assert!(rt; !same_name("é", "É"));
-    assert_eq!(rt; NameFault::BadVersion.number(), 4);
+    same(&rt, NameFault::BadVersion.number(), 4);
 }
 
 fn pair(alloc: Global, first: TypeNode, second: TypeNode) -> Result<TypeNode, Fail> {
@@ -180,7 +181,7 @@ fn limits(rt: HostRuntime) -> Result<(), Fail> {
         label: Label::parse(alloc, "a")?,
         ty: fixed(alloc, TypeNode::U8, 9_999)?,
     })?;
-    assert_eq!(rt; Func::new(params, None).err(), Some(TooLarge));
+    same(&rt, Func::new(params, None).err(), Some(TooLarge));
     Ok(())
 }
 
@@ -204,28 +205,38 @@ fn one_case(alloc: Global, text: &str, payload: Option<TypeNode>) -> Result<Type
     Ok(TypeNode::Variant(cases))
 }
 
-/// Types that are all different.
-fn different(alloc: Global) -> Result<Vec<TypeNode>, Fail> {
-    let some = Box::new(alloc, TypeNode::U8)?;
-    let none: Option<Box<TypeNode>> = None;
-    let mut types = Vec::new(alloc);
+/// Types without names that are all different.
+fn without_names(alloc: Global, types: &mut Vec<TypeNode>) -> Result<(), Fail> {
     types.push(TypeNode::U8)?;
     types.push(TypeNode::S8)?;
     types.push(TypeNode::List(Box::new(alloc, TypeNode::U8)?))?;
     types.push(fixed(alloc, TypeNode::U8, 2)?)?;
     types.push(fixed(alloc, TypeNode::U8, 3)?)?;
     types.push(pair(alloc, TypeNode::U8, TypeNode::U8)?)?;
+    types.push(TypeNode::Option(Box::new(alloc, TypeNode::U8)?))?;
+    types.push(TypeNode::Result {
+        ok: Some(Box::new(alloc, TypeNode::U8)?),
+        error: None,
+    })?;
+    Ok(())
+}
+
+/// Types with names that are all different.
+fn with_names(alloc: Global, types: &mut Vec<TypeNode>) -> Result<(), Fail> {
     types.push(one_field(alloc, "a", TypeNode::U8)?)?;
     types.push(one_field(alloc, "b", TypeNode::U8)?)?;
     types.push(one_case(alloc, "a", None)?)?;
     types.push(one_case(alloc, "a", Some(TypeNode::U8))?)?;
     types.push(TypeNode::Enum(one_label(alloc, "a")?))?;
     types.push(TypeNode::Flags(one_label(alloc, "a")?))?;
-    types.push(TypeNode::Option(Box::new(alloc, TypeNode::U8)?))?;
-    types.push(TypeNode::Result {
-        ok: Some(some),
-        error: none,
-    })?;
+    Ok(())
+}
+
+/// Types that are all different.
+fn different(alloc: Global) -> Result<Vec<TypeNode>, Fail> {
+    let mut types = Vec::new(alloc);
+    without_names(alloc, &mut types)?;
+    with_names(alloc, &mut types)?;
     Ok(types)
 }
 
@@ -239,6 +250,11 @@ fn equal_types(rt: HostRuntime) -> Result<(), Fail> {
             assert_eq!(rt; same_type(a, b, &[], &[]), i == j, "types {i} and {j}");
         }
     }
+    Ok(())
+}
+
+#[test]
+fn equal_resources(rt: HostRuntime) {
     let here = ResourceId {
         component: 0,
         number: 1,
@@ -248,13 +264,26 @@ fn equal_types(rt: HostRuntime) -> Result<(), Fail> {
         number: 0,
     };
     let own = TypeNode::Own(here);
-    assert!(rt; !same_type(&own, &TypeNode::Own(there), &[], &[]));
-    assert!(rt; same_type(&own, &TypeNode::Own(there), &[here, there], &[]));
-    assert!(rt; !same_type(&own, &TypeNode::Borrow(here), &[], &[]));
+    same(&rt, same_type(&own, &TypeNode::Own(there), &[], &[]), false);
+    same(
+        &rt,
+        same_type(&own, &TypeNode::Own(there), &[here, there], &[]),
+        true,
+    );
+    same(
+        &rt,
+        same_type(&own, &TypeNode::Borrow(here), &[], &[]),
+        false,
+    );
+}
+
+#[test]
+fn equal_functions(rt: HostRuntime) -> Result<(), Fail> {
+    let alloc = rt.alloc();
     let first = Func::new(Vec::new(alloc), Some(TypeTree::new(TypeNode::U8)?))?;
     let second = Func::new(Vec::new(alloc), None)?;
-    assert!(rt; same_func(&first, &first, &[], &[]));
-    assert!(rt; !same_func(&first, &second, &[], &[]));
+    same(&rt, same_func(&first, &first, &[], &[]), true);
+    same(&rt, same_func(&first, &second, &[], &[]), false);
     Ok(())
 }
 
@@ -271,5 +300,5 @@ fn scalars_and_kinds(rt: HostRuntime) {
     ] {
         assert_eq!(rt; is_scalar(number), want, "at {number}");
     }
-    assert_eq!(rt; CoreValue::I64(1).kind(), CoreKind::I64);
+    same(&rt, CoreValue::I64(1).kind(), CoreKind::I64);
 }

@@ -1,7 +1,8 @@
 //! Layouts worked by hand from the rules of CanonicalABI.md, "Alignment", "Element Size" and
 //! "Flattening".
 
-use crate::{
+use crate::same::same;
+use cm_layout::{
     FlatFunc, LayoutTree, Side, align, case_offset, field_offset, flatten, flatten_func, has_cases,
     has_field, layout, size,
 };
@@ -90,8 +91,8 @@ fn has_kinds(kinds: &Vec<CoreKind>, want: &[CoreKind]) -> bool {
     kinds.as_slice() == want
 }
 
-/// Leaves, flags and enums.
-fn simple_rows(alloc: Global, rows: &mut Vec<Worked>) -> Result<(), Fail> {
+/// Leaves.
+fn leaf_rows(alloc: Global, rows: &mut Vec<Worked>) -> Result<(), Fail> {
     let id = ResourceId {
         component: 0,
         number: 3,
@@ -101,16 +102,13 @@ fn simple_rows(alloc: Global, rows: &mut Vec<Worked>) -> Result<(), Fail> {
     rows.push(row(alloc, "u64", TypeNode::U64, 8, 8, &[I64])?)?;
     rows.push(row(alloc, "char", TypeNode::Char, 4, 4, &[I32])?)?;
     rows.push(row(alloc, "string", TypeNode::String, 8, 4, &[I32, I32])?)?;
-    rows.push(row(
-        alloc,
-        "list<u64>",
-        list(alloc, TypeNode::U64)?,
-        8,
-        4,
-        &[I32, I32],
-    )?)?;
     rows.push(row(alloc, "own", TypeNode::Own(id), 4, 4, &[I32])?)?;
     rows.push(row(alloc, "borrow", TypeNode::Borrow(id), 4, 4, &[I32])?)?;
+    Ok(())
+}
+
+/// Flags and enums, which take as many bytes as their labels need.
+fn label_rows(alloc: Global, rows: &mut Vec<Worked>) -> Result<(), Fail> {
     for (count, size) in [(8, 1), (9, 2), (16, 2), (17, 4), (32, 4)] {
         let root = TypeNode::Flags(labels(alloc, count)?);
         rows.push(row(alloc, "flags", root, size, size, &[I32])?)?;
@@ -122,74 +120,112 @@ fn simple_rows(alloc: Global, rows: &mut Vec<Worked>) -> Result<(), Fail> {
     Ok(())
 }
 
-/// Records, tuples and lists of fixed length.
-fn field_rows(alloc: Global, rows: &mut Vec<Worked>) -> Result<(), Fail> {
-    // Fields at 0, 4 and 8, ending at 10.
-    let root = record(
+/// Fields at 0, 4 and 8, ending at 10.
+fn small_record(alloc: Global) -> Result<TypeNode, Fail> {
+    record(
         alloc,
         vec![in alloc; TypeNode::U8, TypeNode::U32, TypeNode::U16]?,
-    )?;
-    rows.push(row(
-        alloc,
-        "record {u8, u32, u16}",
-        root,
-        12,
-        4,
-        &[I32, I32, I32],
-    )?)?;
-    // Fields at 0, 8 and 16, ending at 17.
-    let root = TypeNode::Tuple(vec![in alloc; TypeNode::U8, TypeNode::S64, TypeNode::U8]?);
-    rows.push(row(alloc, "tuple<u8, s64, u8>", root, 24, 8, &[I32, I64, I32])?)?;
-    rows.push(row(
-        alloc,
-        "list<u8, 3>",
-        fixed(alloc, TypeNode::U8, 3)?,
-        3,
-        1,
-        &[I32, I32, I32],
-    )?)?;
-    // The list at 2, ending at 8.
-    let root = record(
-        alloc,
-        vec![in alloc; TypeNode::U8, fixed(alloc, TypeNode::U16, 3)?]?,
-    )?;
-    rows.push(row(
-        alloc,
-        "record {u8, list<u16, 3>}",
-        root,
-        8,
-        2,
-        &[I32, I32, I32, I32],
-    )?)?;
-    // Each pair takes 8 bytes.
+    )
+}
+
+/// Fields at 0, 8 and 16, ending at 17.
+fn wide_tuple(alloc: Global) -> Result<TypeNode, Fail> {
+    let types = vec![in alloc; TypeNode::U8, TypeNode::S64, TypeNode::U8]?;
+    Ok(TypeNode::Tuple(types))
+}
+
+/// A byte, and three numbers of 16 bits from 2 on, ending at 8.
+fn list_in_record(alloc: Global) -> Result<TypeNode, Fail> {
+    let list = fixed(alloc, TypeNode::U16, 3)?;
+    record(alloc, vec![in alloc; TypeNode::U8, list]?)
+}
+
+/// Two pairs, each of which takes 8 bytes.
+fn two_pairs(alloc: Global) -> Result<TypeNode, Fail> {
     let pair = TypeNode::Tuple(vec![in alloc; TypeNode::U8, TypeNode::U32]?);
-    rows.push(row(
-        alloc,
-        "list<tuple<u8, u32>, 2>",
-        fixed(alloc, pair, 2)?,
-        16,
-        4,
-        &[I32, I32, I32, I32],
-    )?)?;
+    fixed(alloc, pair, 2)
+}
+
+/// Records, tuples and lists.
+fn field_rows(alloc: Global, rows: &mut Vec<Worked>) -> Result<(), Fail> {
+    let root = small_record(alloc)?;
+    rows.push(row(alloc, "record {u8, u32, u16}", root, 12, 4, &[I32; 3])?)?;
+    let root = wide_tuple(alloc)?;
+    rows.push(row(alloc, "tuple<u8, s64, u8>", root, 24, 8, &[I32, I64, I32])?)?;
+    let root = list(alloc, TypeNode::U64)?;
+    rows.push(row(alloc, "list<u64>", root, 8, 4, &[I32; 2])?)?;
+    let root = fixed(alloc, TypeNode::U8, 3)?;
+    rows.push(row(alloc, "list<u8, 3>", root, 3, 1, &[I32; 3])?)?;
+    let root = list_in_record(alloc)?;
+    rows.push(row(alloc, "record {u8, list<u16, 3>}", root, 8, 2, &[I32; 4])?)?;
+    let root = two_pairs(alloc)?;
+    rows.push(row(alloc, "list<tuple<u8, u32>, 2>", root, 16, 4, &[I32; 4])?)?;
     Ok(())
 }
 
-/// Variants, options and results.
-fn case_rows(alloc: Global, rows: &mut Vec<Worked>) -> Result<(), Fail> {
-    let root = TypeNode::Result {
+fn result_of_string(alloc: Global) -> Result<TypeNode, Fail> {
+    Ok(TypeNode::Result {
         ok: Some(Box::new(alloc, TypeNode::String)?),
         error: Some(Box::new(alloc, TypeNode::U64)?),
-    };
+    })
+}
+
+/// Results and options.
+fn option_rows(alloc: Global, rows: &mut Vec<Worked>) -> Result<(), Fail> {
+    let root = result_of_string(alloc)?;
     rows.push(row(alloc, "result<string, u64>", root, 16, 8, &[I32, I64, I32])?)?;
     let root = TypeNode::Result {
         ok: None,
         error: None,
     };
     rows.push(row(alloc, "result", root, 1, 1, &[I32])?)?;
-    let root = variant(
+    let root = option(alloc, TypeNode::U8)?;
+    rows.push(row(alloc, "option<u8>", root, 2, 1, &[I32; 2])?)?;
+    let root = option(alloc, TypeNode::U32)?;
+    rows.push(row(alloc, "option<u32>", root, 8, 4, &[I32; 2])?)?;
+    // The inner option takes 16 bytes from 8 on.
+    let root = option(alloc, option(alloc, TypeNode::U64)?)?;
+    rows.push(row(alloc, "option<option<u64>>", root, 24, 8, &[I32, I32, I64])?)?;
+    Ok(())
+}
+
+fn three_cases(alloc: Global) -> Result<TypeNode, Fail> {
+    variant(
         alloc,
         vec![in alloc; None, Some(TypeNode::U8), Some(TypeNode::S64)]?,
-    )?;
+    )
+}
+
+/// `i32 i64`, `i64 i32` and `i32 i32` join to `i64 i64`; the tuples take 16 bytes from 8 on.
+fn joined_cases(alloc: Global) -> Result<TypeNode, Fail> {
+    let first = TypeNode::Tuple(vec![in alloc; TypeNode::U32, TypeNode::U64]?);
+    let second = TypeNode::Tuple(vec![in alloc; TypeNode::U64, TypeNode::U32]?);
+    variant(
+        alloc,
+        vec![in alloc; Some(first), Some(second), Some(TypeNode::String)]?,
+    )
+}
+
+/// A record of 4 bytes and a list of 16, from 8 on.
+fn record_or_list(alloc: Global) -> Result<TypeNode, Fail> {
+    let small = record(alloc, vec![in alloc; TypeNode::U8, TypeNode::U16]?)?;
+    let large = fixed(alloc, TypeNode::U64, 2)?;
+    variant(alloc, vec![in alloc; Some(small), Some(large)]?)
+}
+
+/// 257 cases take a discriminant of 2 bytes, and the payload stands at 4.
+fn many_cases(alloc: Global) -> Result<TypeNode, Fail> {
+    let mut payloads = Vec::new(alloc);
+    for _ in 0..256 {
+        payloads.push(None)?;
+    }
+    payloads.push(Some(TypeNode::Char))?;
+    variant(alloc, payloads)
+}
+
+/// Variants.
+fn case_rows(alloc: Global, rows: &mut Vec<Worked>) -> Result<(), Fail> {
+    let root = three_cases(alloc)?;
     rows.push(row(
         alloc,
         "variant {a, b(u8), c(s64)}",
@@ -198,32 +234,7 @@ fn case_rows(alloc: Global, rows: &mut Vec<Worked>) -> Result<(), Fail> {
         8,
         &[I32, I64],
     )?)?;
-    rows.push(row(
-        alloc,
-        "option<u8>",
-        option(alloc, TypeNode::U8)?,
-        2,
-        1,
-        &[I32, I32],
-    )?)?;
-    rows.push(row(
-        alloc,
-        "option<u32>",
-        option(alloc, TypeNode::U32)?,
-        8,
-        4,
-        &[I32, I32],
-    )?)?;
-    // The inner option takes 16 bytes from 8 on.
-    let root = option(alloc, option(alloc, TypeNode::U64)?)?;
-    rows.push(row(alloc, "option<option<u64>>", root, 24, 8, &[I32, I32, I64])?)?;
-    // `i32 i64`, `i64 i32` and `i32 i32` join to `i64 i64`; the tuples take 16 bytes from 8 on.
-    let first = TypeNode::Tuple(vec![in alloc; TypeNode::U32, TypeNode::U64]?);
-    let second = TypeNode::Tuple(vec![in alloc; TypeNode::U64, TypeNode::U32]?);
-    let root = variant(
-        alloc,
-        vec![in alloc; Some(first), Some(second), Some(TypeNode::String)]?,
-    )?;
+    let root = joined_cases(alloc)?;
     rows.push(row(
         alloc,
         "variant of tuples and a string",
@@ -232,10 +243,7 @@ fn case_rows(alloc: Global, rows: &mut Vec<Worked>) -> Result<(), Fail> {
         8,
         &[I32, I64, I64],
     )?)?;
-    // A record of 4 bytes and a list of 16, from 8 on.
-    let small = record(alloc, vec![in alloc; TypeNode::U8, TypeNode::U16]?)?;
-    let large = fixed(alloc, TypeNode::U64, 2)?;
-    let root = variant(alloc, vec![in alloc; Some(small), Some(large)]?)?;
+    let root = record_or_list(alloc)?;
     rows.push(row(
         alloc,
         "variant {record, list<u64, 2>}",
@@ -244,20 +252,8 @@ fn case_rows(alloc: Global, rows: &mut Vec<Worked>) -> Result<(), Fail> {
         8,
         &[I32, I64, I64],
     )?)?;
-    // 257 cases take a discriminant of 2 bytes, and the payload stands at 4.
-    let mut payloads = Vec::new(alloc);
-    for _ in 0..256 {
-        payloads.push(None)?;
-    }
-    payloads.push(Some(TypeNode::Char))?;
-    rows.push(row(
-        alloc,
-        "variant of 257 cases",
-        variant(alloc, payloads)?,
-        8,
-        4,
-        &[I32, I32],
-    )?)?;
+    let root = many_cases(alloc)?;
+    rows.push(row(alloc, "variant of 257 cases", root, 8, 4, &[I32; 2])?)?;
     Ok(())
 }
 
@@ -275,8 +271,10 @@ fn check_row(rt: &impl Abort, alloc: Global, row: Worked) -> Result<(), Fail> {
 fn layouts(rt: HostRuntime) -> Result<(), Fail> {
     let alloc = rt.alloc();
     let mut rows = Vec::new(alloc);
-    simple_rows(alloc, &mut rows)?;
+    leaf_rows(alloc, &mut rows)?;
+    label_rows(alloc, &mut rows)?;
     field_rows(alloc, &mut rows)?;
+    option_rows(alloc, &mut rows)?;
     case_rows(alloc, &mut rows)?;
     for row in rows {
         check_row(&rt, alloc, row)?;
@@ -285,29 +283,26 @@ fn layouts(rt: HostRuntime) -> Result<(), Fail> {
 }
 
 #[test]
-fn places(rt: HostRuntime) -> Result<(), Fail> {
-    let alloc = rt.alloc();
-    let root = record(
-        alloc,
-        vec![in alloc; TypeNode::U8, TypeNode::U32, TypeNode::U16]?,
-    )?;
-    let tree = TypeTree::new(root)?;
+fn places_of_fields(rt: HostRuntime) -> Result<(), Fail> {
+    let tree = TypeTree::new(small_record(rt.alloc())?)?;
     for (n, want) in [(0, 0), (1, 4), (2, 8)] {
         assert!(rt; has_field(&tree, n));
-        assert_eq!(rt; field_offset(&tree, n), want, "field {n}");
+        same(&rt, field_offset(&tree, n), want);
     }
     assert!(rt; !has_field(&tree, 3));
     assert!(rt; !has_cases(&tree));
-    let root = TypeNode::Result {
-        ok: Some(Box::new(alloc, TypeNode::String)?),
-        error: Some(Box::new(alloc, TypeNode::U64)?),
-    };
-    let tree = TypeTree::new(root)?;
+    Ok(())
+}
+
+#[test]
+fn places_of_cases(rt: HostRuntime) -> Result<(), Fail> {
+    let alloc = rt.alloc();
+    let tree = TypeTree::new(result_of_string(alloc)?)?;
     assert!(rt; has_cases(&tree));
-    assert_eq!(rt; case_offset(&tree), 8);
+    same(&rt, case_offset(&tree), 8);
     let tree = TypeTree::new(option(alloc, TypeNode::U8)?)?;
     assert!(rt; has_cases(&tree));
-    assert_eq!(rt; case_offset(&tree), 1);
+    same(&rt, case_offset(&tree), 1);
     Ok(())
 }
 
@@ -358,7 +353,7 @@ fn core_signatures(rt: HostRuntime) -> Result<(), Fail> {
     let flat = flatten_func(alloc, &func, Side::Lower)?;
     assert!(rt; has_kinds(&flat.params, &[I32]));
     assert!(rt; has_kinds(&flat.results, &[I64]));
-    assert_eq!(rt; counts(&flat), (1, 1, true, false));
+    same(&rt, counts(&flat), (1, 1, true, false));
     Ok(())
 }
 
@@ -381,13 +376,13 @@ fn layout_trees(rt: HostRuntime) -> Result<(), Fail> {
     let parts = vec![in alloc; TypeNode::U8, option(alloc, TypeNode::S64)?]?;
     let tree = TypeTree::new(TypeNode::Tuple(parts))?;
     let whole = layout(alloc, &tree)?;
-    assert_eq!(rt; figures(&whole), (0, 24, 8, 3, 2, false));
-    assert_eq!(rt; whole.children.len(), 2);
-    assert_eq!(rt; figures(&whole.children[0]), (0, 1, 1, 1, 0, true));
+    same(&rt, figures(&whole), (0, 24, 8, 3, 2, false));
+    same(&rt, whole.children.len(), 2);
+    same(&rt, figures(&whole.children[0]), (0, 1, 1, 1, 0, true));
     let choice = &whole.children[1];
-    assert_eq!(rt; figures(choice), (8, 16, 8, 2, 2, false));
-    assert_eq!(rt; choice.children.len(), 2);
-    assert_eq!(rt; figures(&choice.children[0]), (8, 0, 1, 0, 0, false));
-    assert_eq!(rt; figures(&choice.children[1]), (8, 8, 8, 1, 0, true));
+    same(&rt, figures(choice), (8, 16, 8, 2, 2, false));
+    same(&rt, choice.children.len(), 2);
+    same(&rt, figures(&choice.children[0]), (8, 0, 1, 0, 0, false));
+    same(&rt, figures(&choice.children[1]), (8, 8, 8, 1, 0, true));
     Ok(())
 }

@@ -1,21 +1,12 @@
-use super::*;
+//! Files, and the fault of each at its place.
+
+use crate::pair::{PROVIDER, USER};
+use crate::same::same;
+use cm_binary::{
+    Canon, Component, CoreInstance, CustomSection, DecodeFault, DecodeReason, ExternDesc, Feature,
+    Section, decode, encode, written_and_read,
+};
 use std::test::Fail;
-
-/// A core module that is instantiated, with its function `f` lifted and exported as
-/// `inc: func(x: u32) -> u32`.
-const PROVIDER: [u8; 62] = [
-    0x00, 0x61, 0x73, 0x6d, 0x0d, 0x00, 0x01, 0x00, 0x01, 0x08, 0x00, 0x61, 0x73, 0x6d, 0x01, 0x00,
-    0x00, 0x00, 0x02, 0x04, 0x01, 0x00, 0x00, 0x00, 0x06, 0x07, 0x01, 0x00, 0x00, 0x01, 0x00, 0x01,
-    0x66, 0x07, 0x08, 0x01, 0x40, 0x01, 0x01, 0x78, 0x79, 0x00, 0x79, 0x08, 0x06, 0x01, 0x00, 0x00,
-    0x00, 0x00, 0x00, 0x0b, 0x09, 0x01, 0x00, 0x03, 0x69, 0x6e, 0x63, 0x01, 0x00, 0x00,
-];
-
-/// Imports `inc` and lowers it.
-const USER: [u8; 35] = [
-    0x00, 0x61, 0x73, 0x6d, 0x0d, 0x00, 0x01, 0x00, 0x07, 0x08, 0x01, 0x40, 0x01, 0x01, 0x78, 0x79,
-    0x00, 0x79, 0x0a, 0x08, 0x01, 0x00, 0x03, 0x69, 0x6e, 0x63, 0x01, 0x00, 0x08, 0x05, 0x01, 0x01,
-    0x00, 0x00, 0x00,
-];
 
 const PREAMBLE: [u8; 8] = [0x00, 0x61, 0x73, 0x6d, 0x0d, 0x00, 0x01, 0x00];
 
@@ -261,7 +252,7 @@ fn faults_stand_at_their_places(rt: HostRuntime) -> Result<(), Fail> {
         at: 4,
         reason: DecodeReason::BadPreamble,
     };
-    assert_eq!(rt; fault_of(&rt, &other), Some(want));
+    same(&rt, fault_of(&rt, &other), Some(want));
     Ok(())
 }
 
@@ -343,11 +334,11 @@ fn sections_made_by_hand_are_written(rt: HostRuntime) -> Result<(), Fail> {
         0x05, 0x01, 0x00, 0x80, 0x01, 0x00, 0x08, 0x05, 0x01, 0x01, 0x00, 0x07, 0x00,
     ];
     let written = encode(alloc, &component)?;
-    assert_eq!(rt; written.as_slice(), want.as_slice());
+    same(&rt, written.as_slice(), want.as_slice());
     let again = written_and_read(alloc, &component)
         .ok()
         .ok_or("a component")?;
-    assert_eq!(rt; again.sections().len(), 3);
+    same(&rt, again.sections().len(), 3);
     Ok(())
 }
 
@@ -355,16 +346,16 @@ fn sections_made_by_hand_are_written(rt: HostRuntime) -> Result<(), Fail> {
 fn what_the_user_holds(rt: HostRuntime) -> Result<(), Fail> {
     let component = decode(rt.alloc(), &USER).ok().ok_or("a component")?;
     let sections = component.sections();
-    assert_eq!(rt; sections.len(), 3);
+    same(&rt, sections.len(), 3);
     let types = matches!(&sections[0], Section::Types(types) if types.len() == 1);
     assert!(rt; types);
     let imports = match &sections[1] {
         Section::Imports(imports) => imports.as_slice(),
         _ => &[],
     };
-    assert_eq!(rt; imports.len(), 1);
-    assert_eq!(rt; imports[0].name.as_str(), "inc");
-    assert_eq!(rt; imports[0].desc, ExternDesc::Func(0));
+    same(&rt, imports.len(), 1);
+    same(&rt, imports[0].name.as_str(), "inc");
+    same(&rt, imports[0].desc, ExternDesc::Func(0));
     let lower =
         matches!(&sections[2], Section::Canons(canons) if matches!(canons.as_slice(), [Canon::Lower { func: 0 }]));
     assert!(rt; lower);
@@ -385,15 +376,15 @@ fn types_file(rt: &HostRuntime, behind: &[u8], count: usize) -> Result<Vec<u8>, 
 fn limits_of_types_and_bytes(rt: HostRuntime) -> Result<(), Fail> {
     // 4,096 types; then 4,097; then 4,097 of which the last is missing.
     let all = types_file(&rt, &[0x07, 0x82, 0x80, 0x01, 0x80, 0x20], 4096)?;
-    assert_eq!(rt; fault_of(&rt, &all), None);
+    same(&rt, fault_of(&rt, &all), None);
     let want = DecodeFault {
         at: 16398,
         reason: DecodeReason::TooMany,
     };
     let over = types_file(&rt, &[0x07, 0x86, 0x80, 0x01, 0x81, 0x20], 4097)?;
-    assert_eq!(rt; fault_of(&rt, &over), Some(want));
+    same(&rt, fault_of(&rt, &over), Some(want));
     let missing = types_file(&rt, &[0x07, 0x82, 0x80, 0x01, 0x81, 0x20], 4096)?;
-    assert_eq!(rt; fault_of(&rt, &missing), Some(want));
+    same(&rt, fault_of(&rt, &missing), Some(want));
 
     // A custom section that ends at the limit, and one more byte.
     let mut file = vec![in rt.alloc(); 0u8; 16_777_217]?;
@@ -406,15 +397,15 @@ fn limits_of_types_and_bytes(rt: HostRuntime) -> Result<(), Fail> {
         at: 16_777_216,
         reason: DecodeReason::TooLong,
     };
-    assert_eq!(rt; fault_of(&rt, &file), Some(want));
+    same(&rt, fault_of(&rt, &file), Some(want));
     file.truncate(16_777_216);
-    assert_eq!(rt; fault_of(&rt, &file), None);
+    same(&rt, fault_of(&rt, &file), None);
     Ok(())
 }
 
 #[test]
 fn reasons_have_their_numbers(rt: HostRuntime) {
-    assert_eq!(rt; DecodeReason::BadPreamble.number(), 1);
-    assert_eq!(rt; DecodeReason::Unsupported(Feature::Start).number(), 6);
-    assert_eq!(rt; DecodeReason::Memory.number(), 13);
+    same(&rt, DecodeReason::BadPreamble.number(), 1);
+    same(&rt, DecodeReason::Unsupported(Feature::Start).number(), 6);
+    same(&rt, DecodeReason::Memory.number(), 13);
 }
