@@ -129,13 +129,13 @@ fn counts_lends(rt: HostRuntime) -> Result<(), Fail> {
     same(&rt, table.add(borrowed(5, 50, 9)), Ok(1));
     for lends in 0..2u64 {
         let handle = table.get(1, SOCKET)?;
-        same(&rt, handle.lends, u128::from(lends));
+        assert_eq!(rt; handle.lends, u128::from(lends));
         same(&rt, table.lend(1, FILE), Err(HandleFault::WrongResource));
         same(&rt, table.lend(1, SOCKET), Ok(handle));
     }
     for lends in 0..2u64 {
         let handle = table.get(1, SOCKET)?;
-        same(&rt, handle.lends, u128::from(2 - lends));
+        assert_eq!(rt; handle.lends, u128::from(2 - lends));
         same(
             &rt,
             table.drop_handle(1, SOCKET),
@@ -178,7 +178,7 @@ fn closes(rt: HostRuntime) -> Result<(), Fail> {
     same(&rt, table.add(borrowed(4, 40, 3)), Ok(4));
     same(&rt, table.drop_handle(3, FILE), Ok(owned(3, 30)));
     let handle = table.get(1, FILE)?;
-    same(&rt, handle.lends, 0);
+    assert_eq!(rt; handle.lends, 0);
     same(&rt, table.lend(1, FILE), Ok(handle));
     table.close();
     same(&rt, table.get(1, FILE), Ok(owned(1, 10)));

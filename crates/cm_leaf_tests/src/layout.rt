@@ -377,12 +377,15 @@ fn layout_trees(rt: HostRuntime) -> Result<(), Fail> {
     let tree = TypeTree::new(TypeNode::Tuple(parts))?;
     let whole = layout(alloc, &tree)?;
     same(&rt, figures(&whole), (0, 24, 8, 3, 2, false));
-    same(&rt, whole.children.len(), 2);
-    same(&rt, figures(&whole.children[0]), (0, 1, 1, 1, 0, true));
-    let choice = &whole.children[1];
+    let [byte, choice] = whole.children.as_slice() else {
+        panic!(rt; "two parts");
+    };
+    same(&rt, figures(byte), (0, 1, 1, 1, 0, true));
     same(&rt, figures(choice), (8, 16, 8, 2, 2, false));
-    same(&rt, choice.children.len(), 2);
-    same(&rt, figures(&choice.children[0]), (8, 0, 1, 0, 0, false));
-    same(&rt, figures(&choice.children[1]), (8, 8, 8, 1, 0, true));
+    let [none, some] = choice.children.as_slice() else {
+        panic!(rt; "two cases");
+    };
+    same(&rt, figures(none), (8, 0, 1, 0, 0, false));
+    same(&rt, figures(some), (8, 8, 8, 1, 0, true));
     Ok(())
 }

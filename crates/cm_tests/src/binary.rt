@@ -345,20 +345,21 @@ fn sections_made_by_hand_are_written(rt: HostRuntime) -> Result<(), Fail> {
 #[test]
 fn what_the_user_holds(rt: HostRuntime) -> Result<(), Fail> {
     let component = decode(rt.alloc(), &USER).ok().ok_or("a component")?;
-    let sections = component.sections();
-    same(&rt, sections.len(), 3);
-    let types = matches!(&sections[0], Section::Types(types) if types.len() == 1);
-    assert!(rt; types);
-    let imports = match &sections[1] {
-        Section::Imports(imports) => imports.as_slice(),
-        _ => &[],
+    let [
+        Section::Types(types),
+        Section::Imports(imports),
+        Section::Canons(canons),
+    ] = component.sections()
+    else {
+        panic!(rt; "a section of types, one of imports, and one of canonical definitions");
     };
-    same(&rt, imports.len(), 1);
-    same(&rt, imports[0].name.as_str(), "inc");
-    same(&rt, imports[0].desc, ExternDesc::Func(0));
-    let lower =
-        matches!(&sections[2], Section::Canons(canons) if matches!(canons.as_slice(), [Canon::Lower { func: 0 }]));
-    assert!(rt; lower);
+    same(&rt, types.len(), 1);
+    let [import] = imports.as_slice() else {
+        panic!(rt; "one import");
+    };
+    same(&rt, import.name.as_str(), "inc");
+    same(&rt, import.desc, ExternDesc::Func(0));
+    assert!(rt; matches!(canons.as_slice(), [Canon::Lower { func: 0 }]));
     Ok(())
 }
 
