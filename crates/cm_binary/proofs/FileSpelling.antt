@@ -15,7 +15,7 @@ use Rattle.cm_types.specs.ExternNames.{is_extern_name}
 use Rattle.cm_types.specs.declared.def_types.ValType.{ValType}
 use Rattle.cm_types.specs.declared.def_types.ValType.TheVariants as val_types
 use Rattle.cm_types.specs.declared.def_types.LabeledValType.{LabeledValType}
-use Rattle.cm_types.specs.DefTypes.{FuncTree, DefTree, func_def}
+use Rattle.cm_types.specs.DefTypes.{FuncTypeTree, DefTypeTree, func_def}
 use Rattle.cm_component.specs.declared.section.Canon.{Canon}
 use Rattle.cm_component.specs.declared.section.Canon.TheVariants as canons
 use Rattle.cm_component.specs.declared.section.CoreSort.{CoreSort}
@@ -156,9 +156,9 @@ pub func_type_shortens : Shortens func_type func_spelling
 unfolding func_type
 func_type_shortens x bytes s =
     let t = s.4 in
-    let made : FuncTree = record { params = s.0; result = t.0 } in
+    let made : FuncTypeTree = record { params = s.0; result = t.0 } in
     let last = made_short func_result (λ r. record { params = s.0; result = r }) t.0 s.2 t.1 t.2 (result_spelling t.0) (func_result_shortens t.0 t.1 t.3) t.5 in
-    subst (λ (y : FuncTree). Short func_type y bytes (func_spelling y)) (sym t.4.0) (bind_short (vec BadNumber param) _ s.0 made bytes s.1 s.2 (counted param_spelling s.0) (result_spelling t.0) (vec_shortens BadNumber param param_spelling param_shortens s.0 s.1 s.3) last s.5)
+    subst (λ (y : FuncTypeTree). Short func_type y bytes (func_spelling y)) (sym t.4.0) (bind_short (vec BadNumber param) _ s.0 made bytes s.1 s.2 (counted param_spelling s.0) (result_spelling t.0) (vec_shortens BadNumber param param_spelling param_shortens s.0 s.1 s.3) last s.5)
 
 type_byte : (f : TypeForm) → type_form 64 ≡ Ok f
 type_byte type_forms.Func = refl
@@ -168,7 +168,7 @@ unfolding def_type
 def_type_shortens x bytes s =
     let t = s.4 in
     let last = made_short func_type func_def t.0 s.2 t.1 t.2 (func_spelling t.0) (func_type_shortens t.0 t.1 t.3) t.5 in
-    subst (λ (y : DefTree). Short def_type y bytes (def_spelling y)) (sym t.4.0) (bind_short (code type_form) _ s.0 (func_def t.0) bytes s.1 s.2 (64 ∷ []) (func_spelling t.0) (code_short type_form s.0 64 s.1 (type_byte s.0) s.3) last s.5)
+    subst (λ (y : DefTypeTree). Short def_type y bytes (def_spelling y)) (sym t.4.0) (bind_short (code type_form) _ s.0 (func_def t.0) bytes s.1 s.2 (64 ∷ []) (func_spelling t.0) (code_short type_form s.0 64 s.1 (type_byte s.0) s.3) last s.5)
 
 pub type_defs_shortens : (room : ℕ) → Shortens (type_defs room) (counted def_spelling)
 unfolding type_defs

@@ -15,7 +15,7 @@ use Rattle.cm_types.specs.ExternNames.{is_extern_name}
 use Rattle.cm_types.specs.declared.def_types.ValType.{ValType}
 use Rattle.cm_types.specs.declared.def_types.ValType.TheVariants as val_types
 use Rattle.cm_types.specs.declared.def_types.LabeledValType.{LabeledValType}
-use Rattle.cm_types.specs.DefTypes.{FuncTree, DefTree, func_def}
+use Rattle.cm_types.specs.DefTypes.{FuncTypeTree, DefTypeTree, func_def}
 use Rattle.cm_component.specs.declared.section.Canon.{Canon}
 use Rattle.cm_component.specs.declared.section.Canon.TheVariants as canons
 use Rattle.cm_component.specs.declared.section.CoreSort.{CoreSort}
@@ -181,7 +181,7 @@ export_writes x h lt =
 
 -- ---- sections
 
-type_defs_writes : (room : ℕ) (items : List DefTree) → list_all holds_def items ≡ true → length items ≤ room → length (counted def_spelling items) < 2 ^ 32 → (type_defs room).Spells items (counted def_spelling items)
+type_defs_writes : (room : ℕ) (items : List DefTypeTree) → list_all holds_def items ≡ true → length items ≤ room → length (counted def_spelling items) < 2 ^ 32 → (type_defs room).Spells items (counted def_spelling items)
 unfolding type_defs
 type_defs_writes room items h le lt =
     let parts = counted_parts holds_def def_spelling def_some items h lt in

@@ -11,7 +11,7 @@ use Rattle.cm_types.specs.Names.{is_label}
 use Rattle.cm_types.specs.ExternNames.{is_extern_name}
 use Rattle.cm_types.specs.declared.def_types.ValType.{ValType}
 use Rattle.cm_types.specs.declared.def_types.LabeledValType.{LabeledValType}
-use Rattle.cm_types.specs.DefTypes.{FuncTree, DefTree, func_def}
+use Rattle.cm_types.specs.DefTypes.{FuncTypeTree, DefTypeTree, func_def}
 use Rattle.cm_component.specs.declared.section.Canon.{Canon}
 use Rattle.cm_component.specs.declared.section.Canon.TheVariants as canons
 use Rattle.cm_component.specs.declared.section.ExternDesc.{ExternDesc}
@@ -121,20 +121,20 @@ func_result = do
   form ← code result_form
   func_result_of form
 
-unfoldable pub func_type : Production FuncTree
+unfoldable pub func_type : Production FuncTypeTree
 func_type = do
   params ← vector param
   result ← func_result
   done (record { params = params; result = result })
 
-unfoldable pub def_type : Production DefTree
+unfoldable pub def_type : Production DefTypeTree
 def_type = do
   form ← code type_form
   func ← func_type
   done (func_def func)
 
 -- The types of a section, where so many more may stand in the file.
-unfoldable pub type_defs : ℕ → Production (List DefTree)
+unfoldable pub type_defs : ℕ → Production (List DefTypeTree)
 type_defs room = do
   n ← index
   chain (limited (λ left. def_type) TooMany) (λ left t. left - 1) n room

@@ -4,7 +4,7 @@ use Rattle.std.proofs.lemmas.List.{length-append}
 use Rattle.cm_leb.specs.Writing.{shortest_unsigned}
 use Rattle.cm_grammar.specs.Spelling.{prefixed}
 use Rattle.cm_types.specs.declared.def_types.LabeledValType.{LabeledValType}
-use Rattle.cm_types.specs.DefTypes.{DefTree, func_def}
+use Rattle.cm_types.specs.DefTypes.{DefTypeTree, func_def}
 use Rattle.cm_component.specs.declared.section.Canon.{Canon}
 use Rattle.cm_component.specs.declared.section.Canon.TheVariants as canons
 use Rattle.cm_component.specs.Trees as trees
@@ -23,7 +23,7 @@ alias_some (trees.core_instance_export sort i name) = omega arith
 pub param_some : (p : LabeledValType) → 0 < length (param_spelling p)
 param_some p = omega (arith, length-append (prefixed p.label) (val_type_code p.ty ∷ []))
 
-pub def_some : (t : DefTree) → 0 < length (def_spelling t)
+pub def_some : (t : DefTypeTree) → 0 < length (def_spelling t)
 def_some (func_def f) = omega arith
 
 pub canon_some : (c : Canon) → 0 < length (canon_spelling c)

@@ -4,7 +4,7 @@ ghost use Rattle.std.specs.Prelude.{◌≡◌, ℕ, map, length};
 ghost use Rattle.cm_grammar.specs.Faults.{Gives};
 ghost use Rattle.cm_grammar.specs.Whole.{sized};
 ghost use Rattle.cm_grammar.specs.Reading.{Reads, ReadsAll, IsInside};
-ghost use Rattle.cm_types.specs.DefTypes.{def_tree};
+ghost use Rattle.cm_types.specs.DefTypes.{def_type_tree};
 ghost use Rattle.cm_component.specs.Trees.{section_tree};
 ghost use Rattle.cm_binary.specs.declared.fault.DecodeReason.TheVariants as reasons;
 ghost use Rattle.cm_binary.specs.declared.codes.SectionKind.TheVariants as kinds;

@@ -2,7 +2,7 @@
 
 ghost use Rattle.std.specs.Prelude.{◌≡◌, ◌∷◌, ◌++◌, ◌^◌, ◌<◌, [], length, map, OnOk};
 ghost use Rattle.cm_grammar.specs.Spelling.{counted};
-ghost use Rattle.cm_types.specs.DefTypes.{func_tree, def_tree};
+ghost use Rattle.cm_types.specs.DefTypes.{func_type_tree, def_type_tree};
 ghost use Rattle.cm_component.specs.Trees.{arg_tree, core_instance_tree, alias_tree, import_tree, export_tree};
 ghost use Rattle.cm_component.specs.Spelling.{extern_name_spelling, core_arg_spelling, core_instance_spelling, alias_spelling, val_type_code, param_spelling, result_spelling, func_spelling, def_spelling, canon_spelling, desc_spelling, import_spelling, export_spelling};
 ghost use Rattle.cm_binary.specs.Nonempty.{core_arg_some, core_instance_some, alias_some, param_some, def_some, canon_some, import_some, export_some};
@@ -54,8 +54,8 @@ fn write_desc(out: &mut Vec<u8>, desc: ExternDesc) -> Result<(), AllocError>
 }
 
 fn write_func_type(out: &mut Vec<u8>, func: &FuncType) -> Result<(), AllocError>
-    requires { length (func_spelling (func_tree func.now)) < 2 ^ 32 }
-    ensures { OnOk result (out.new.items ≡ out.old.items ++ func_spelling (func_tree func.now)) }
+    requires { length (func_spelling (func_type_tree func.now)) < 2 ^ 32 }
+    ensures { OnOk result (out.new.items ≡ out.old.items ++ func_spelling (func_type_tree func.now)) }
 {
     write_counted::<DecodeReason, _>(out, &func.params)?;
     write_result(out, func.result)
@@ -86,8 +86,8 @@ pub(crate) fn write_aliases(out: &mut Vec<u8>, items: &[Alias]) -> Result<(), Al
 }
 
 pub(crate) fn write_types(out: &mut Vec<u8>, items: &[DefType]) -> Result<(), AllocError>
-    requires { length (counted def_spelling (map def_tree items.now)) < 2 ^ 32 }
-    ensures { OnOk result (out.new.items ≡ out.old.items ++ counted def_spelling (map def_tree items.now)) }
+    requires { length (counted def_spelling (map def_type_tree items.now)) < 2 ^ 32 }
+    ensures { OnOk result (out.new.items ≡ out.old.items ++ counted def_spelling (map def_type_tree items.now)) }
 {
     write_counted::<DecodeReason, _>(out, items)
 }
@@ -174,7 +174,7 @@ impl Spelled<DecodeReason> for LabeledValType {
 }
 
 impl Spelled<DecodeReason> for DefType {
-    ghost spelling = { λ t. def_spelling (def_tree t) };
+    ghost spelling = { λ t. def_spelling (def_type_tree t) };
 
     fn write(&self, out: &mut Vec<u8>) -> Result<(), AllocError> {
         match self {
@@ -185,7 +185,7 @@ impl Spelled<DecodeReason> for DefType {
         }
     }
 
-    ghost some = { λ t. def_some (def_tree t) };
+    ghost some = { λ t. def_some (def_type_tree t) };
 }
 
 impl Spelled<DecodeReason> for Canon {

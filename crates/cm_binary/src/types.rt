@@ -5,7 +5,7 @@ ghost use Rattle.std.specs.Prelude.{◌≡◌, ◌-◌, Ok, map};
 ghost use Rattle.cm_grammar.specs.Faults.{Gives, Fails};
 ghost use Rattle.cm_grammar.specs.Grammar.{chain, limited};
 ghost use Rattle.cm_binary.specs.declared.fault.DecodeReason.TheVariants as reasons;
-ghost use Rattle.cm_types.specs.DefTypes.{func_tree, def_tree};
+ghost use Rattle.cm_types.specs.DefTypes.{func_type_tree, def_type_tree};
 ghost use Rattle.cm_binary.specs.declared.codes.ResultForm.TheVariants as result_forms;
 ghost use Rattle.cm_binary.specs.File.{vector, param, func_result_of, func_result, func_type, def_type, type_defs};
 
@@ -78,7 +78,7 @@ fn func_type_of(
     alloc: Global,
     bytes: &mut Cursor<'_, DecodeReason>,
 ) -> Result<FuncType, ReadError<DecodeReason>>
-    ensures read { Reads func_type func_tree bytes.old bytes.new result }
+    ensures read { Reads func_type func_type_tree bytes.old bytes.new result }
     ensures end { bytes.new.end ≡ bytes.old.end }
 {
     let params = params_of(alloc, bytes)?;
@@ -92,7 +92,7 @@ pub(crate) fn def_type_of(
     alloc: Global,
     bytes: &mut Cursor<'_, DecodeReason>,
 ) -> Result<DefType, ReadError<DecodeReason>>
-    ensures read { Reads def_type def_tree bytes.old bytes.new result }
+    ensures read { Reads def_type def_type_tree bytes.old bytes.new result }
     ensures end { bytes.new.end ≡ bytes.old.end }
 {
     let TypeForm::Func = bytes.code()?;
@@ -107,7 +107,7 @@ pub(crate) fn types_of(
     bytes: &mut Cursor<'_, DecodeReason>,
     room: usize,
 ) -> Result<Vec<DefType>, ReadError<DecodeReason>>
-    ensures read { Reads (type_defs room) (λ v. map def_tree v.items) bytes.old bytes.new result }
+    ensures read { Reads (type_defs room) (λ v. map def_type_tree v.items) bytes.old bytes.new result }
     ensures end { bytes.new.end ≡ bytes.old.end }
 {
     let count = bytes.number(DecodeReason::BadNumber)?;
@@ -121,7 +121,7 @@ fn limited_type_of(
     bytes: &mut Cursor<'_, DecodeReason>,
     room: usize,
 ) -> Result<DefType, ReadError<DecodeReason>>
-    ensures read { Reads (limited (λ left. def_type) reasons.TooMany room) def_tree bytes.old bytes.new result }
+    ensures read { Reads (limited (λ left. def_type) reasons.TooMany room) def_type_tree bytes.old bytes.new result }
     ensures end { bytes.new.end ≡ bytes.old.end }
 {
     if room == 0 {
@@ -137,7 +137,7 @@ fn limited_types_of(
     count: u32,
     room: usize,
 ) -> Result<Vec<DefType>, ReadError<DecodeReason>>
-    ensures read { Reads (chain (limited (λ left. def_type) reasons.TooMany) (λ left t. left - 1) count room) (λ v. map def_tree v.items) bytes.old bytes.new result }
+    ensures read { Reads (chain (limited (λ left. def_type) reasons.TooMany) (λ left t. left - 1) count room) (λ v. map def_type_tree v.items) bytes.old bytes.new result }
     ensures end { bytes.new.end ≡ bytes.old.end }
 {
     let mut types = Vec::new(alloc);

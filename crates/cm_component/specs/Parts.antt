@@ -6,7 +6,7 @@ use Rattle.std.specs.Str.{is_utf8}
 use Rattle.cm_types.specs.Names.{is_label}
 use Rattle.cm_types.specs.ExternNames.{is_extern_name}
 use Rattle.cm_types.specs.declared.def_types.LabeledValType.{LabeledValType}
-use Rattle.cm_types.specs.DefTypes.{FuncTree, DefTree, func_def}
+use Rattle.cm_types.specs.DefTypes.{FuncTypeTree, DefTypeTree, func_def}
 use Rattle.cm_component.specs.declared.section.Canon.{Canon}
 use Rattle.cm_component.specs.declared.section.Canon.TheVariants as canons
 use Rattle.cm_component.specs.declared.section.ExternDesc.{ExternDesc}
@@ -29,10 +29,10 @@ holds_alias (trees.core_instance_export sort instance name) = is_index instance 
 abbrev pub holds_param : LabeledValType → Bool
 holds_param p = is_utf8 p.label && is_label p.label
 
-abbrev pub holds_func : FuncTree → Bool
+abbrev pub holds_func : FuncTypeTree → Bool
 holds_func f = list_all holds_param f.params
 
-abbrev pub holds_def : DefTree → Bool
+abbrev pub holds_def : DefTypeTree → Bool
 holds_def (func_def f) = holds_func f
 
 abbrev pub holds_canon : Canon → Bool

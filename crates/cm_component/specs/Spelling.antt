@@ -6,7 +6,7 @@ use Rattle.cm_grammar.specs.Spelling.{counted, prefixed}
 use Rattle.cm_types.specs.declared.def_types.ValType.{ValType}
 use Rattle.cm_types.specs.declared.def_types.ValType.TheVariants as val_types
 use Rattle.cm_types.specs.declared.def_types.LabeledValType.{LabeledValType}
-use Rattle.cm_types.specs.DefTypes.{FuncTree, DefTree, func_def}
+use Rattle.cm_types.specs.DefTypes.{FuncTypeTree, DefTypeTree, func_def}
 use Rattle.cm_component.specs.declared.section.Canon.{Canon}
 use Rattle.cm_component.specs.declared.section.Canon.TheVariants as canons
 use Rattle.cm_component.specs.declared.section.ExternDesc.{ExternDesc}
@@ -37,10 +37,10 @@ abbrev pub result_spelling : Option ValType → List ℕ
 result_spelling (Some ty) = 0 ∷ val_type_code ty ∷ []
 result_spelling None = 1 ∷ 0 ∷ []
 
-abbrev pub func_spelling : FuncTree → List ℕ
+abbrev pub func_spelling : FuncTypeTree → List ℕ
 func_spelling f = counted param_spelling f.params ++ result_spelling f.result
 
-abbrev pub def_spelling : DefTree → List ℕ
+abbrev pub def_spelling : DefTypeTree → List ℕ
 def_spelling (func_def f) = 64 ∷ func_spelling f
 
 abbrev pub canon_spelling : Canon → List ℕ

@@ -2,7 +2,7 @@
 -- bytes; indices count from 0.
 use Rattle.std.specs.Prelude.{ℕ, List, map}
 use Rattle.std.specs.String.{string_bytes}
-use Rattle.cm_types.specs.DefTypes.{DefTree, def_tree}
+use Rattle.cm_types.specs.DefTypes.{DefTypeTree, def_type_tree}
 use Rattle.cm_component.specs.declared.section.Section.{Section}
 use Rattle.cm_component.specs.declared.section.Section.TheVariants as section
 use Rattle.cm_component.specs.declared.section.CoreInstance.{CoreInstance}
@@ -44,7 +44,7 @@ pub data SectionTree : Type 0 where
   core_module : List ℕ → SectionTree
   core_instances : List CoreInstanceTree → SectionTree
   aliases : List AliasTree → SectionTree
-  types : List DefTree → SectionTree
+  types : List DefTypeTree → SectionTree
   canons : List Canon → SectionTree
   imports : List ImportTree → SectionTree
   exports : List ExportTree → SectionTree
@@ -71,7 +71,7 @@ section_tree (section.Custom c) = custom (string_bytes c.name) c.bytes.items
 section_tree (section.CoreModule bytes) = core_module bytes.items
 section_tree (section.CoreInstances items) = core_instances (map core_instance_tree items.items)
 section_tree (section.Aliases items) = aliases (map alias_tree items.items)
-section_tree (section.Types items) = types (map def_tree items.items)
+section_tree (section.Types items) = types (map def_type_tree items.items)
 section_tree (section.Canons items) = canons items.items
 section_tree (section.Imports items) = imports (map import_tree items.items)
 section_tree (section.Exports items) = exports (map export_tree items.items)

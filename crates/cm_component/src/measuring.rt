@@ -5,7 +5,7 @@ ghost use Rattle.std.specs.Str.{is_utf8};
 ghost use Rattle.std.specs.List.{flat_map, list_all, sum_by};
 ghost use Rattle.cm_leb.specs.Writing.{shortest_unsigned};
 ghost use Rattle.cm_grammar.specs.Spelling.{counted, prefixed};
-ghost use Rattle.cm_types.specs.DefTypes.{func_tree, def_tree};
+ghost use Rattle.cm_types.specs.DefTypes.{func_type_tree, def_type_tree};
 ghost use Rattle.cm_component.specs.Trees.{arg_tree, core_instance_tree, alias_tree, import_tree, export_tree, section_tree};
 ghost use Rattle.cm_component.specs.Spelling.{extern_name_spelling, core_arg_spelling, core_instance_spelling, alias_spelling, param_spelling, result_spelling, func_spelling, def_spelling, canon_spelling, desc_spelling, import_spelling, export_spelling, contents_spelling, section_spelling, spelling};
 ghost use Rattle.cm_component.specs.Limits.{types_in};
@@ -122,8 +122,8 @@ fn aliases_length(items: &[Alias]) -> u64
 }
 
 fn types_length(items: &[DefType]) -> u64
-    ensures length { result ≡ capped (length (counted def_spelling (map def_tree items.now))) }
-    ensures holds { list_all holds_def (map def_tree items.now) ≡ true }
+    ensures length { result ≡ capped (length (counted def_spelling (map def_type_tree items.now))) }
+    ensures holds { list_all holds_def (map def_type_tree items.now) ≡ true }
 {
     counted_length(items)
 }
@@ -143,8 +143,8 @@ fn exports_length(items: &[Export]) -> u64
 }
 
 fn func_length(func: &FuncType) -> u64
-    ensures length { result ≡ capped (length (func_spelling (func_tree func.now))) }
-    ensures holds { holds_func (func_tree func.now) ≡ true }
+    ensures length { result ≡ capped (length (func_spelling (func_type_tree func.now))) }
+    ensures holds { holds_func (func_type_tree func.now) ≡ true }
 {
     counted_length(&func.params).saturating_add(result_length(func.result))
 }
@@ -200,9 +200,9 @@ impl Part for LabeledValType {
 }
 
 impl Part for DefType {
-    ghost spelling = { λ t. def_spelling (def_tree t) };
+    ghost spelling = { λ t. def_spelling (def_type_tree t) };
 
-    ghost holds = { λ t. holds_def (def_tree t) };
+    ghost holds = { λ t. holds_def (def_type_tree t) };
 
     fn length(&self) -> u64 {
         match self {

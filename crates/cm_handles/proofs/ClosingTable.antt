@@ -6,7 +6,7 @@ use Rattle.std.proofs.lemmas.List.{length-map, map_more, set_at, set-get_or, tak
 use Rattle.std.proofs.lemmas.Bool.{cases_lt}
 use Rattle.cm_handles.specs.declared.handle.Handle.{Handle}
 use Rattle.cm_handles.specs.declared.handle.HandleKind.TheVariants.{Owned, Borrowed}
-use Rattle.cm_handles.specs.Handles.{Handles, handle_at, IsSound, released, is_borrow, with_lends, changed, closed_slot, borrows_from, closed, TableState, IsSoundTable}
+use Rattle.cm_handles.specs.Handles.{Handles, handle_at, IsSound, released, is_borrow, with_lends, changed, closed_slot, borrows_from, after_close, TableState, IsSoundTable}
 use Rattle.cm_handles.specs.Entries.{closed_at}
 
 -- a table of which the first k indices are closed
@@ -90,7 +90,7 @@ closing_start t sound =
     subst (λ o. IsClosing t (closed_at t 0 o) 1) sound.reserved (closing_step t t 0 sound.some_slot none)
 
 -- all indices are closed
-pub closing_end : (old t : Handles) (k : ℕ) → k ≡ length old.slots → IsClosing old t k → t ≡ closed old
+pub closing_end : (old t : Handles) (k : ℕ) → k ≡ length old.slots → IsClosing old t k → t ≡ after_close old
 closing_end old t k end closing =
     let all : take k old.slots ≡ old.slots = take_all k old.slots (omega arith) in
     let none : drop k old.slots ≡ [] = drop_all k old.slots (omega arith) in
@@ -101,7 +101,7 @@ closing_end old t k end closing =
     ap (λ xs. make xs t.freed) slots ∙ ap (λ fs. make (map closed_slot old.slots) fs) freed
 
 -- what stands at an index of a closed table
-pub closed-at_each : (t : Handles) (i : ℕ) → handle_at (closed t) i ≡ closed_slot (handle_at t i)
+pub closed-at_each : (t : Handles) (i : ℕ) → handle_at (after_close t) i ≡ closed_slot (handle_at t i)
 closed-at_each t i =
     elim (cases_lt i (length t.slots)) [
       | inl below ↦ get_or-map closed_slot t.slots i None None below

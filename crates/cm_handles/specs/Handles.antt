@@ -119,8 +119,8 @@ borrows_from index (Some h ∷ rest) = if is_borrow h.kind then index ∷ borrow
 
 -- The handles after their instance closes: the borrows go one after another, the least index first, and
 -- what stays is no longer lent.
-abbrev pub closed : Handles → Handles
-closed t = record { slots = map closed_slot t.slots; freed = reverse (borrows_from 0 t.slots) ++ t.freed }
+abbrev pub after_close : Handles → Handles
+after_close t = record { slots = map closed_slot t.slots; freed = reverse (borrows_from 0 t.slots) ++ t.freed }
 
 -- Whether two resource types are the same.
 abbrev pub is_same_resource : ResourceId → ResourceId → Bool

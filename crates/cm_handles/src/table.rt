@@ -68,7 +68,7 @@ fn look(entries: &[Entry], index: u32, resource: ResourceId) -> Result<Handle, H
 }
 
 impl Table {
-    ghost use Rattle.cm_handles.specs.Handles.{no_handles, handle_at, next_index, indices_left, greatest_index, held, if_not_lent, if_owned, added, released, restored, changed, lent, unlent, closed, closed_slot, with_lends, Handles, IsSoundTable, Changes};
+    ghost use Rattle.cm_handles.specs.Handles.{no_handles, handle_at, next_index, indices_left, greatest_index, held, if_not_lent, if_owned, added, released, restored, changed, lent, unlent, after_close, closed_slot, with_lends, Handles, IsSoundTable, Changes};
     ghost use Rattle.cm_handles.specs.Entries.{closed_at};
 
     /// An empty table. It takes no memory before the first handle is added, and then from `alloc`.
@@ -318,7 +318,7 @@ impl Table {
     /// Closes the instance: ends all lends, and removes the borrows, the one at the least index first, which
     /// frees their indices. Owned handles stay.
     pub fn close(&mut self)
-        ensures handles { self.new.handles ≡ closed self.old.handles }
+        ensures handles { self.new.handles ≡ after_close self.old.handles }
         ensures at_each { (index : ℕ) → handle_at self.new.handles index ≡ closed_slot (handle_at self.old.handles index) }
         ensures room { self.new.room + length self.old.handles.freed ≡ self.old.room + length self.new.handles.freed }
         ensures sound { IsSoundTable self.new }

@@ -3,7 +3,7 @@ use Rattle.std.proofs.Common.{◌≡◌, ℕ, zero, suc, ◌+◌, ◌*◌, ◌�
 use Rattle.std.proofs.lemmas.Bool.{cases_Bool}
 use Rattle.std.proofs.Math.Nat.{mul_assoc}
 use Rattle.std.proofs.lemmas.List.{length-map}
-use Rattle.cm_types.specs.Types.{Ty, Fields, Cases, bytes_of, bool, signed, unsigned, char, string, list, fixed_list, fields, cases, flags, own, borrow, no_fields, field}
+use Rattle.cm_types.specs.Types.{Ty, Fields, Cases, width_bytes, bool, signed, unsigned, char, string, list, fixed_list, fields, cases, flags, own, borrow, no_fields, field}
 use Rattle.cm_types.specs.TypeTrees.{TypedLabel, fields_from, parts_from, plain_from, field_of, type_of, fields_of, parts_of}
 use Rattle.cm_types.specs.Limits.{nodes_of_fields}
 use Rattle.cm_types.specs.declared.type_trees.TypeNode.{TypeNode}
@@ -94,8 +94,8 @@ times n s a m = (n * m.0, ap (λ x. n * x) m.1 ∙ sym (mul_assoc n m.0 a))
 
 pub size_multiple : (t : Ty) → IsMultiple (align_of t) (size_of t)
 size_multiple bool = once 1
-size_multiple (signed w) = once (bytes_of w)
-size_multiple (unsigned w) = once (bytes_of w)
+size_multiple (signed w) = once (width_bytes w)
+size_multiple (unsigned w) = once (width_bytes w)
 size_multiple char = once 4
 size_multiple string = (2, refl)
 size_multiple (list t) = (2, refl)

@@ -14,7 +14,7 @@ use Rattle.cm_machine.specs.declared.moves.Move.TheVariants as move
 use Rattle.cm_machine.specs.Memories.{written, grown}
 use Rattle.cm_machine.specs.Stack.{actor, top_of, below_top}
 use Rattle.cm_machine.specs.State.{State, IsStack, IsValid, core_at, trapped, closed_with, tables_with, abandoned}
-use Rattle.cm_handles.specs.Handles.{Handles, no_handles, closed}
+use Rattle.cm_handles.specs.Handles.{Handles, no_handles, after_close}
 use Rattle.cm_machine.specs.Step.{first, checks, call_checks, may_grow, memory_of, with_memory, without_top, call_frame, Grows, Calls, Passes, Step}
 use Rattle.cm_machine.proofs.Valid.{call_fits}
 use Rattle.cm_machine.proofs.Cases.{Goes, traps, passes, wants, steps_by, returns_new}
@@ -24,7 +24,7 @@ length_closed [] closed = refl
 length_closed (f ∷ fs) closed = length_closed fs (slice_set closed f.instance true) ∙ length-set closed f.instance true
 
 -- an empty table stays as it is when its instance closes
-set_same : (n i : ℕ) → slice_set (replicate n no_handles) i (closed (unwrap_or (slice_get (replicate n no_handles) i) no_handles)) ≡ replicate n no_handles
+set_same : (n i : ℕ) → slice_set (replicate n no_handles) i (after_close (unwrap_or (slice_get (replicate n no_handles) i) no_handles)) ≡ replicate n no_handles
 set_same zero i = refl
 set_same (suc n) zero = refl
 set_same (suc n) (suc i) = ap (λ ts. no_handles ∷ ts) (set_same n i)
@@ -32,8 +32,8 @@ set_same (suc n) (suc i) = ap (λ ts. no_handles ∷ ts) (set_same n i)
 tables_stay : (fs : List Frame) (tables : List Handles) (n : ℕ) → tables ≡ replicate n no_handles → tables_with fs tables ≡ replicate n no_handles
 tables_stay [] tables n e = e
 tables_stay (f ∷ fs) tables n e =
-    tables_stay fs (slice_set tables f.instance (closed (unwrap_or (slice_get tables f.instance) no_handles))) n
-    (ap (λ (ts : List Handles). slice_set ts f.instance (closed (unwrap_or (slice_get ts f.instance) no_handles))) e ∙ set_same n f.instance)
+    tables_stay fs (slice_set tables f.instance (after_close (unwrap_or (slice_get tables f.instance) no_handles))) n
+    (ap (λ (ts : List Handles). slice_set ts f.instance (after_close (unwrap_or (slice_get ts f.instance) no_handles))) e ∙ set_same n f.instance)
 
 -- a valid state has no handle to lose in a trap
 pub tables_trapped : (s : State) → IsValid s → tables_with s.stack s.tables ≡ s.tables

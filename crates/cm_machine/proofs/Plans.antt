@@ -11,7 +11,7 @@ use Rattle.cm_types.specs.Funcs.{tree_type, func_of}
 use Rattle.cm_types.specs.declared.type_trees.Field.{Field}
 use Rattle.cm_types.specs.declared.type_trees.Func.{Func}
 use Rattle.cm_component.specs.Trees.{SectionTree}
-use Rattle.cm_validate.specs.Rules.{field_count}
+use Rattle.cm_validate.specs.Rules.{param_count}
 use Rattle.cm_validate.specs.Spaces.{CoreFuncTree}
 use Rattle.cm_validate.specs.PassedFlat.{PassesFlat}
 use Rattle.cm_validate.specs.Definitions.{core_func_tree}
@@ -24,11 +24,11 @@ use Rattle.cm_match.specs.Targets.{TargetTree}
 use Rattle.cm_machine.specs.State.{IsLinkedBelow, IsPlan, core_at}
 use Rattle.cm_machine.specs.Plan.{function_of, functions_of, functions_from, linked_to, plan_of, StandsFor, LoweredStand}
 
-fields_count : (fs : List Field) → field_count (fields_of fs) ≡ length fs
+fields_count : (fs : List Field) → param_count (fields_of fs) ≡ length fs
 fields_count [] = refl
 fields_count (f ∷ fs) = omega (arith, fields_count fs)
 
-pub counts : (f : Func) → field_count (func_of f).params ≡ length f.params.items
+pub counts : (f : Func) → param_count (func_of f).params ≡ length f.params.items
 counts f = fields_count f.params.items
 
 is_some_map : {A B : Type 0} (f : A → B) (o : Option A) → is_some (option_map f o) ≡ is_some o

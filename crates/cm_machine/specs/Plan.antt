@@ -2,7 +2,7 @@
 use Rattle.std.specs.Prelude.{◌≡◌, ℕ, ◌+◌, List, [], ◌∷◌, map, slice_get, Option, Some, None, is_some}
 use Rattle.cm_types.specs.Types.{FuncTy}
 use Rattle.cm_component.specs.Trees.{SectionTree}
-use Rattle.cm_validate.specs.Rules.{field_count}
+use Rattle.cm_validate.specs.Rules.{param_count}
 use Rattle.cm_validate.specs.Spaces.{CoreFuncTree, guest, lowered, spaces_of}
 use Rattle.cm_match.specs.Targets.{TargetTree, target}
 use Rattle.cm_machine.specs.declared.frame.CoreFunction.{CoreFunction}
@@ -12,7 +12,7 @@ use Rattle.cm_machine.specs.State.{core_at}
 -- a lowered function of this type, linked to this target: each import that can be lowered has one
 abbrev pub linked_to : FuncTy → Option TargetTree → CoreFunction
 linked_to ty None = core_function.Guest
-linked_to ty (Some t) = core_function.Lowered (record { instance = t.component; func = t.core_func; params = field_count ty.params; has_result = is_some ty.result })
+linked_to ty (Some t) = core_function.Lowered (record { instance = t.component; func = t.core_func; params = param_count ty.params; has_result = is_some ty.result })
 
 -- what a core function of this component of the set stands for
 abbrev pub function_of : List (List SectionTree) → ℕ → CoreFuncTree → CoreFunction
@@ -36,7 +36,7 @@ plan_of set = functions_from set 0 set
 pub record StandsFor (set : List (List SectionTree)) (component import : ℕ) (item : Option ℕ) (ty : FuncTy) (f : Option CoreFunction) : Type 0 where
   pub found : TargetTree
   pub found_is : target set component import item ≡ Some found
-  pub stands : f ≡ Some (core_function.Lowered (record { instance = found.component; func = found.core_func; params = field_count ty.params; has_result = is_some ty.result }))
+  pub stands : f ≡ Some (core_function.Lowered (record { instance = found.component; func = found.core_func; params = param_count ty.params; has_result = is_some ty.result }))
 
 -- each core function that a component of the set lowers does, so none of them stands for a guest's own
 abbrev pub LoweredStand : List (List SectionTree) → List (List CoreFunction) → Type 0

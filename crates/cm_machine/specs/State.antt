@@ -10,7 +10,7 @@ use Rattle.cm_machine.specs.declared.frame.Phase.TheVariants as phase
 use Rattle.cm_machine.specs.declared.frame.Place.{Place}
 use Rattle.cm_machine.specs.declared.frame.Place.TheVariants as place
 use Rattle.cm_machine.specs.declared.frame.Lend.{Lend}
-use Rattle.cm_handles.specs.Handles.{Handles, no_handles, closed}
+use Rattle.cm_handles.specs.Handles.{Handles, no_handles, after_close}
 use Rattle.cm_machine.specs.Stack.{top_of}
 
 -- each instance's core functions, memory, handle table, and whether it is closed; where each resource that was made
@@ -48,7 +48,7 @@ closed_with (f ∷ fs) closed = closed_with fs (slice_set closed f.instance true
 -- the handle tables of the instances of these frames lose their borrows and are lent no longer
 abbrev pub tables_with : List Frame → List Handles → List Handles
 tables_with [] tables = tables
-tables_with (f ∷ fs) tables = tables_with fs (slice_set tables f.instance (closed (unwrap_or (slice_get tables f.instance) no_handles)))
+tables_with (f ∷ fs) tables = tables_with fs (slice_set tables f.instance (after_close (unwrap_or (slice_get tables f.instance) no_handles)))
 
 -- the state that a trap leaves: the stack is empty and its instances are closed; memories stay
 abbrev pub trapped : State → State

@@ -2,7 +2,7 @@
 
 ghost use Rattle.std.specs.Prelude.{◌≡◌, ◌≤◌, length, is_some, map, IfOk};
 ghost use Rattle.cm_types.specs.Funcs.{func_of};
-ghost use Rattle.cm_validate.specs.Rules.{field_count};
+ghost use Rattle.cm_validate.specs.Rules.{param_count};
 ghost use Rattle.std.specs.List.{AllByRecursion};
 ghost use Rattle.cm_validate.specs.Definitions.{core_func_tree};
 ghost use Rattle.cm_validate.specs.PassedFlat.{PassesFlat};
@@ -19,8 +19,8 @@ use std::alloc::{AllocError, Global};
 /// How many parameters a function passes flat: each is a `u32`.
 #[tactic(auto, using(crate::proofs::Plans::counts))]
 fn param_count(ty: &Func) -> u32
-    requires { field_count (func_of ty.now).params ≤ 16 }
-    ensures { result ≡ field_count (func_of ty.now).params }
+    requires { param_count (func_of ty.now).params ≤ 16 }
+    ensures { result ≡ param_count (func_of ty.now).params }
 {
     ty.params.len() as u32
 }

@@ -8,7 +8,7 @@ use Rattle.cm_component.specs.Trees.{SectionTree}
 use Rattle.cm_types.specs.Types.{FuncTy}
 use Rattle.cm_types.specs.Signatures.{SignatureTy, NamedExtern, func}
 use Rattle.cm_validate.specs.Sound.{IsGuestAt, IsSoundFunc, IsSoundCoreFunc, IsSoundExport}
-use Rattle.cm_validate.specs.Spaces.{FuncDefTree, ImportedFunc, ExportedFunc, lifted, imported, lowered, type_of, spaces_of, signature, func_at}
+use Rattle.cm_validate.specs.Spaces.{FuncDefTree, ImportedFunc, ExportedFunc, lifted, imported, lowered, func_type_of, spaces_of, signature, func_at}
 use Rattle.cm_match.specs.declared.plan.PlanLine.{PlanLine}
 use Rattle.cm_match.specs.Links.{Entry, entry, entries, imports_from, only, signatures, AreServed, IsServed, IsSame, Matches}
 use Rattle.cm_match.specs.Reaches.{IsFine, Reaches, LoweredReach}
@@ -102,7 +102,7 @@ record Followed (set : List (List SectionTree)) (count component : ℕ) (ty : Fu
 
 follow_found : (set : List (List SectionTree)) (count component : ℕ) (p : List SectionTree) (f : FuncDefTree) → slice_get set component ≡ Some p → IsSoundFunc (spaces_of p) f
     → ((import : ℕ) (i : ImportedFunc) → slice_get (spaces_of p).imports import ≡ Some i → Found set count component import i.ty)
-    → Followed set count component (type_of f) f
+    → Followed set count component (func_type_of f) f
 follow_found set count component p (lifted core_func ty) there sound before =
     record { found = record { component = component; core_func = core_func; ty = ty }; found_is = refl; below = omega arith; same = refl; provider = p; provider_is = there; lifts = sound.0 }
 follow_found set count component p (imported import None ty) there sound before =

@@ -3,13 +3,13 @@
 ghost use Rattle.std.specs.Prelude.{◌≡◌, ◌↔◌, IsTrue, IfOk, IfErr, take};
 ghost use Rattle.std.specs.Option.{option_map};
 ghost use Rattle.cm_types.specs.Funcs.{func_of};
-ghost use Rattle.cm_types.specs.Signatures.{extern_of, extern_desc_of};
+ghost use Rattle.cm_types.specs.Signatures.{extern_of, extern_type_of};
 ghost use Rattle.cm_match.specs.Links.{Entry, entry, exports_from, export_at, signatures, IsSame, IsServed, Fails};
 ghost use Rattle.cm_match.specs.Offers.{AreOffers};
 
 use crate::fault::LinkReason;
 use crate::offers::Offer;
-use cm_types::{ExternDesc, Func, SignatureItem, same_func};
+use cm_types::{ExternType, Func, SignatureItem, same_func};
 use cm_validate::Checked;
 use std::collections::BTreeMap;
 
@@ -25,11 +25,11 @@ fn same_funcs(a: &Func, b: &Func) -> bool
     same_func(a, b, &[], &[])
 }
 
-fn same_desc(a: &ExternDesc, b: &ExternDesc) -> bool
-    ensures { IsTrue result ↔ IsSame (extern_desc_of a.now) (extern_desc_of b.now) }
+fn same_desc(a: &ExternType, b: &ExternType) -> bool
+    ensures { IsTrue result ↔ IsSame (extern_type_of a.now) (extern_type_of b.now) }
 {
     match (a, b) {
-        (ExternDesc::Func(a), ExternDesc::Func(b)) => same_funcs(a, b),
+        (ExternType::Func(a), ExternType::Func(b)) => same_funcs(a, b),
         _ => false,
     }
 }

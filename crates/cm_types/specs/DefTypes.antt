@@ -8,16 +8,16 @@ use Rattle.cm_types.specs.declared.def_types.DefType.{DefType}
 use Rattle.cm_types.specs.declared.def_types.DefType.TheVariants as def_type
 
 -- the type of a function: parameters, each a label and a type, and the result
-pub record FuncTree : Type 0 where
+pub record FuncTypeTree : Type 0 where
   pub params : List LabeledValType
   pub result : Option ValType
 
-abbrev pub func_tree : FuncType → FuncTree
-func_tree f = record { params = f.params.items; result = f.result }
+abbrev pub func_type_tree : FuncType → FuncTypeTree
+func_type_tree f = record { params = f.params.items; result = f.result }
 
 -- a type definition
-pub data DefTree : Type 0 where
-  func_def : FuncTree → DefTree
+pub data DefTypeTree : Type 0 where
+  func_def : FuncTypeTree → DefTypeTree
 
-abbrev pub def_tree : DefType → DefTree
-def_tree (def_type.Func f) = func_def (func_tree f)
+abbrev pub def_type_tree : DefType → DefTypeTree
+def_type_tree (def_type.Func f) = func_def (func_type_tree f)

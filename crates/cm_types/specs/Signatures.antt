@@ -6,11 +6,11 @@ use Rattle.cm_types.specs.Funcs.{tree_type, func_of}
 use Rattle.cm_types.specs.declared.resource.ResourceId.{ResourceId}
 use Rattle.cm_types.specs.declared.signatures.Signature.{Signature}
 use Rattle.cm_types.specs.declared.signatures.SignatureItem.{SignatureItem}
-use Rattle.cm_types.specs.declared.signatures.ExternDesc.{ExternDesc}
-use Rattle.cm_types.specs.declared.signatures.ExternDesc.TheVariants as extern
+use Rattle.cm_types.specs.declared.signatures.ExternType.{ExternType}
+use Rattle.cm_types.specs.declared.signatures.ExternType.TheVariants as extern
 use Rattle.cm_types.specs.declared.signatures.InstanceItem.{InstanceItem}
-use Rattle.cm_types.specs.declared.signatures.ItemDesc.{ItemDesc}
-use Rattle.cm_types.specs.declared.signatures.ItemDesc.TheVariants as item
+use Rattle.cm_types.specs.declared.signatures.ItemType.{ItemType}
+use Rattle.cm_types.specs.declared.signatures.ItemType.TheVariants as item
 
 -- what an item of an instance is: a function, a type equal to another one, a resource equal to another
 -- one, or a fresh resource
@@ -42,21 +42,21 @@ pub record SignatureTy : Type 0 where
 
 -- ---- what the code's are
 
-abbrev pub item_desc_of : ItemDesc → ItemTy
-item_desc_of (item.Func f) = func_item (func_of f.value)
-item_desc_of (item.EqualType t) = equal_type (tree_type t)
-item_desc_of (item.EqualResource r) = equal_resource r
-item_desc_of (item.FreshResource r) = fresh_resource r
+abbrev pub item_type_of : ItemType → ItemTy
+item_type_of (item.Func f) = func_item (func_of f.value)
+item_type_of (item.EqualType t) = equal_type (tree_type t)
+item_type_of (item.EqualResource r) = equal_resource r
+item_type_of (item.FreshResource r) = fresh_resource r
 
 abbrev pub item_of : InstanceItem → NamedItem
-item_of i = record { name = i.name; desc = item_desc_of i.desc }
+item_of i = record { name = i.name; desc = item_type_of i.desc }
 
-abbrev pub extern_desc_of : ExternDesc → ExternTy
-extern_desc_of (extern.Func f) = func (func_of f.value)
-extern_desc_of (extern.Instance items) = instance (map item_of items.items)
+abbrev pub extern_type_of : ExternType → ExternTy
+extern_type_of (extern.Func f) = func (func_of f.value)
+extern_type_of (extern.Instance items) = instance (map item_of items.items)
 
 abbrev pub extern_of : SignatureItem → NamedExtern
-extern_of i = record { name = i.name; desc = extern_desc_of i.desc }
+extern_of i = record { name = i.name; desc = extern_type_of i.desc }
 
 abbrev pub signature_of : Signature → SignatureTy
 signature_of s = record { imports = map extern_of s.imports.items; exports = map extern_of s.exports.items }

@@ -22,11 +22,11 @@ pub data Width : Type 0 where
   bits_64 : Width
 
 -- the same in bytes
-abbrev pub bytes_of : Width → ℕ
-bytes_of bits_8 = 1
-bytes_of bits_16 = 2
-bytes_of bits_32 = 4
-bytes_of bits_64 = 8
+abbrev pub width_bytes : Width → ℕ
+width_bytes bits_8 = 1
+width_bytes bits_16 = 2
+width_bytes bits_32 = 4
+width_bytes bits_64 = 8
 
 -- Types. As CanonicalABI.md despecializes them, a tuple is fields without labels, an enum is cases without
 -- payloads, an option the cases `none` and `some`, a result the cases `ok` and `error`; the kind keeps

@@ -2,7 +2,7 @@
 use Rattle.std.specs.Prelude.{◌≡◌, ℕ, zero, suc, ℤ, pos, neg_ℤ, ◌+◌, ◌*◌, ◌-◌, ◌<◌, ◌^◌, ◌⊎◌, ◌≤ℤ◌, ◌<ℤ◌, Bool, List, length, ⊤}
 use Rattle.std.specs.List.{AllByRecursion}
 use Rattle.cm_types.specs.declared.resource.ResourceId.{ResourceId}
-use Rattle.cm_types.specs.Types.{Ty, Fields, Cases, Width, bytes_of, bool, signed, unsigned, char, string, list, fixed_list, fields, cases, flags, own, borrow, no_fields, field, no_cases, plain, carrying}
+use Rattle.cm_types.specs.Types.{Ty, Fields, Cases, Width, width_bytes, bool, signed, unsigned, char, string, list, fixed_list, fields, cases, flags, own, borrow, no_fields, field, no_cases, plain, carrying}
 
 -- a handle on its way: the serial number of the resource that it stands for, the representation, and the
 -- resource type
@@ -45,11 +45,11 @@ IsScalarValue c = (c < 0x110000) × ((c < 0xD800) ⊎ (0xDFFF < c))
 
 -- a number fits two's complement of this width
 abbrev pub FitsSignedWidth : Width → ℤ → Type 0
-FitsSignedWidth k z = (neg_ℤ (pos (2 ^ (8 * bytes_of k - 1))) ≤ℤ z) × (z <ℤ pos (2 ^ (8 * bytes_of k - 1)))
+FitsSignedWidth k z = (neg_ℤ (pos (2 ^ (8 * width_bytes k - 1))) ≤ℤ z) × (z <ℤ pos (2 ^ (8 * width_bytes k - 1)))
 
 -- a number without sign fits this width
 abbrev pub FitsWidth : Width → ℕ → Type 0
-FitsWidth k n = n < 2 ^ (8 * bytes_of k)
+FitsWidth k n = n < 2 ^ (8 * width_bytes k)
 
 -- the case of this number is there, and carries nothing
 abbrev pub IsPlainCase : Cases → ℕ → Type 0

@@ -18,6 +18,6 @@ pub use extern_names::{ExternName, ExternNameForm};
 pub use names::{Label, NameFault, same_name};
 pub use resource::ResourceId;
 pub use same_types::{same_func, same_type};
-pub use signatures::{ExternDesc, InstanceItem, ItemDesc, Signature, SignatureItem};
+pub use signatures::{ExternType, InstanceItem, ItemType, Signature, SignatureItem};
 pub use type_trees::{Case, Field, Func, TooLarge, TypeNode, TypeTree};
 pub use values::{Value, is_scalar};

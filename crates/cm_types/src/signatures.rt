@@ -16,12 +16,12 @@ pub struct Signature {
 #[derive(Debug, Drop)]
 pub struct SignatureItem {
     pub name: ExternName,
-    pub desc: ExternDesc,
+    pub desc: ExternType,
 }
 
 /// What an import or an export is (Binary.md, "Import and Export Definitions").
 #[derive(Debug, Drop)]
-pub enum ExternDesc {
+pub enum ExternType {
     /// A function; its type may be shared with others.
     Func(Rc<Func>),
     /// The items of the instance, in order.
@@ -32,13 +32,13 @@ pub enum ExternDesc {
 #[derive(Debug, Drop)]
 pub struct InstanceItem {
     pub name: ExternName,
-    pub desc: ItemDesc,
+    pub desc: ItemType,
 }
 
 /// What an item of an instance is: a function, or a type, which is equal to another type or a fresh
 /// resource.
 #[derive(Debug, Drop)]
-pub enum ItemDesc {
+pub enum ItemType {
     /// A function; its type may be shared with others.
     Func(Rc<Func>),
     /// A type equal to this one.

@@ -13,8 +13,8 @@ use Rattle.cm_component.specs.declared.section.ExternDesc.TheVariants as desc
 use Rattle.cm_validate.specs.declared.fault.ValidReason.{ValidReason}
 use Rattle.cm_validate.specs.declared.fault.ValidReason.TheVariants as reason
 use Rattle.cm_validate.specs.Items.{Item, all_items, module_item, core_instance_item, alias_item, type_item, canon_item, import_item, export_item}
-use Rattle.cm_validate.specs.Spaces.{Space, CoreFuncTree, FuncDefTree, guest, lifted, imported, nothing, grown, after, after_canon, after_import, lowered_import, type_of, spaces_of}
-use Rattle.cm_validate.specs.Rules.{rules, canon_rules, is_flat, field_count}
+use Rattle.cm_validate.specs.Spaces.{Space, CoreFuncTree, FuncDefTree, guest, lifted, imported, nothing, grown, after, after_canon, after_import, lowered_import, func_type_of, spaces_of}
+use Rattle.cm_validate.specs.Rules.{rules, canon_rules, is_flat, param_count}
 use Rattle.cm_validate.specs.Valid.{IsBroken, IsValidFrom, IsValid}
 use Rattle.cm_validate.specs.PassedFlat.{PassesFlat}
 
@@ -23,13 +23,13 @@ flat_append [] ys a b = b
 flat_append (x ∷ xs) ys a b = (a.0, flat_append xs ys a.1 b)
 
 -- a function that is lowered, where the rule on its parameters is kept
-lowered_flat : (o : Option FuncDefTree) → (option_map_or (λ f. is_flat (type_of f)) o true ≡ false → ⊥) → AllByRecursion PassesFlat (option_to_list (option_and_then lowered_import o))
+lowered_flat : (o : Option FuncDefTree) → (option_map_or (λ f. is_flat (func_type_of f)) o true ≡ false → ⊥) → AllByRecursion PassesFlat (option_to_list (option_and_then lowered_import o))
 lowered_flat None kept = tt
 lowered_flat (Some (lifted core_func ty)) kept = tt
 lowered_flat (Some (imported import item ty)) kept = (by_test (is_flat ty) refl, tt)
   where
-    by_test : (b : Bool) → is_flat ty ≡ b → field_count ty.params ≤ 16
-    by_test true e = leb-true (field_count ty.params) 16 e
+    by_test : (b : Bool) → is_flat ty ≡ b → param_count ty.params ≤ 16
+    by_test true e = leb-true (param_count ty.params) 16 e
     by_test false e = absurd (kept e)
 
 canon_flat : (s : Space) (c : Canon) → AllByRecursion PassesFlat s.core_funcs → ((r : ValidReason) → IsBroken (canon_rules s c) r → ⊥) → AllByRecursion PassesFlat (after_canon s c).core_funcs

@@ -7,10 +7,10 @@ use Rattle.cm_types.specs.declared.def_types.ValType.TheVariants as val_type
 use Rattle.cm_types.specs.declared.def_types.LabeledValType.{LabeledValType}
 use Rattle.cm_types.specs.TypeTrees.{fields_from, fields_of}
 use Rattle.cm_types.specs.declared.type_trees.Field.{Field}
-use Rattle.cm_validate.specs.Rules.{field_count}
+use Rattle.cm_validate.specs.Rules.{param_count}
 use Rattle.cm_validate.specs.Spaces.{expanded_value}
 
-pub counts : (fs : List Field) → field_count (fields_of fs) ≡ length fs
+pub counts : (fs : List Field) → param_count (fields_of fs) ≡ length fs
 counts [] = refl
 counts (f ∷ fs) = omega (arith, counts fs)
 

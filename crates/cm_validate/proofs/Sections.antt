@@ -2,7 +2,7 @@
 use Rattle.std.proofs.Common.{◌≡◌, Vec, map}
 use Rattle.std.specs.declared.alloc.Global.{Global}
 use Rattle.std.proofs.lemmas.Simd.{map-map}
-use Rattle.cm_types.specs.DefTypes.{def_tree}
+use Rattle.cm_types.specs.DefTypes.{def_type_tree}
 use Rattle.cm_types.specs.declared.def_types.DefType.{DefType}
 use Rattle.cm_component.specs.Trees.{core_instance_tree, alias_tree, import_tree, export_tree, section_tree}
 use Rattle.cm_component.specs.declared.section.Section.TheVariants as section
@@ -18,8 +18,8 @@ seen_core_instances v = map-map core_instance_item core_instance_tree v.items
 pub seen_aliases : (v : Vec Alias Global) → items_of (section_tree (section.Aliases v)) ≡ map (λ a. alias_item (alias_tree a)) v.items
 seen_aliases v = map-map alias_item alias_tree v.items
 
-pub seen_types : (v : Vec DefType Global) → items_of (section_tree (section.Types v)) ≡ map (λ t. type_item (def_tree t)) v.items
-seen_types v = map-map type_item def_tree v.items
+pub seen_types : (v : Vec DefType Global) → items_of (section_tree (section.Types v)) ≡ map (λ t. type_item (def_type_tree t)) v.items
+seen_types v = map-map type_item def_type_tree v.items
 
 pub seen_imports : (v : Vec Import Global) → items_of (section_tree (section.Imports v)) ≡ map (λ i. import_item (import_tree i)) v.items
 seen_imports v = map-map import_item import_tree v.items

@@ -15,7 +15,7 @@ use Rattle.cm_validate.specs.declared.fault.ValidReason.{ValidReason}
 use Rattle.cm_validate.specs.Items.{Item, all_items, module_item, core_instance_item, alias_item, type_item, canon_item, import_item, export_item}
 use Rattle.cm_validate.specs.Rules.{rules, canon_rules, is_flat, is_guest}
 use Rattle.cm_validate.specs.Sound.{Imports, IsGuestAt, IsSoundFunc, IsSoundCoreFunc, IsSoundExport, IsSound}
-use Rattle.cm_validate.specs.Spaces.{Space, CoreFuncTree, FuncDefTree, ImportedFunc, ExportedFunc, guest, lowered, lifted, imported, type_of, nothing, grown, after, after_canon, after_import, after_export, lowered_import, spaces_of}
+use Rattle.cm_validate.specs.Spaces.{Space, CoreFuncTree, FuncDefTree, ImportedFunc, ExportedFunc, guest, lowered, lifted, imported, func_type_of, nothing, grown, after, after_canon, after_import, after_export, lowered_import, spaces_of}
 use Rattle.cm_validate.specs.Valid.{IsBroken, IsValidFrom, IsValid}
 
 -- ---- lists
@@ -127,7 +127,7 @@ lift_sound : (t : Space) (core_func : ℕ) (o : Option FuncTy) → IsGuestAt t c
 lift_sound t core_func None g flat = tt
 lift_sound t core_func (Some ty) g flat = ((g, flat), tt)
 
-lower_sound : (t : Space) (o : Option FuncDefTree) → option_map_or (λ f. is_flat (type_of f)) o true ≡ true → ((f : FuncDefTree) → o ≡ Some f → IsSoundFunc t f) → AllByRecursion (IsSoundCoreFunc t) (option_to_list (option_and_then lowered_import o))
+lower_sound : (t : Space) (o : Option FuncDefTree) → option_map_or (λ f. is_flat (func_type_of f)) o true ≡ true → ((f : FuncDefTree) → o ≡ Some f → IsSoundFunc t f) → AllByRecursion (IsSoundCoreFunc t) (option_to_list (option_and_then lowered_import o))
 lower_sound t None flat sound = tt
 lower_sound t (Some (lifted core_func ty)) flat sound = tt
 lower_sound t (Some (imported import None ty)) flat sound = ((sound (imported import None ty) refl, flat), tt)
@@ -141,7 +141,7 @@ shared_sound : (t : Space) (o : Option FuncDefTree) → ((f : FuncDefTree) → o
 shared_sound t None sound = tt
 shared_sound t (Some f) sound = (sound f refl, tt)
 
-export_sound : (t : Space) (name : List ℕ) (index : ℕ) (o : Option FuncDefTree) → ((f : FuncDefTree) → o ≡ Some f → slice_get t.funcs index ≡ Some f) → AllByRecursion (IsSoundExport t) (option_to_list (option_map (λ f. record { name = name; func = index; ty = type_of f }) o))
+export_sound : (t : Space) (name : List ℕ) (index : ℕ) (o : Option FuncDefTree) → ((f : FuncDefTree) → o ≡ Some f → slice_get t.funcs index ≡ Some f) → AllByRecursion (IsSoundExport t) (option_to_list (option_map (λ f. record { name = name; func = index; ty = func_type_of f }) o))
 export_sound t name index None there = tt
 export_sound t name index (Some f) there = (record { def = f; there = there f refl; same = refl }, tt)
 
@@ -175,7 +175,7 @@ export_grows s name index p =
     let t = after_export s name index in
     let o = slice_get s.funcs index in
     let fs = option_to_list o in
-    let es : List ExportedFunc = option_to_list (option_map (λ f. record { name = name; func = index; ty = type_of f }) o) in
+    let es : List ExportedFunc = option_to_list (option_map (λ f. record { name = name; func = index; ty = func_type_of f }) o) in
     let grows : Grows s t [] fs [] es = record { core_funcs = same s.core_funcs; funcs = refl; imports = same s.imports; exports = refl } in
     let k = keeps s t [] fs [] es grows in
     sound_grows s t [] fs [] es grows tt

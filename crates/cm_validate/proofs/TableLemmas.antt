@@ -3,7 +3,7 @@ use Rattle.std.proofs.Common.{◌≡◌, ℕ, List, [], ◌∷◌, map, refl, ap
 use Rattle.std.specs.declared.rc.Rc.{Rc}
 use Rattle.std.specs.declared.alloc.Global.{Global}
 use Rattle.cm_types.specs.declared.type_trees.Func.{Func}
-use Rattle.cm_types.specs.declared.signatures.ExternDesc.TheVariants as extern
+use Rattle.cm_types.specs.declared.signatures.ExternType.TheVariants as extern
 use Rattle.cm_types.specs.declared.signatures.SignatureItem.{SignatureItem}
 use Rattle.cm_types.specs.Signatures.{NamedExtern, SignatureTy, extern_of, func}
 use Rattle.cm_validate.specs.declared.named.Named.{Named}

@@ -1,6 +1,6 @@
 -- The definitions of a component, one after another (Binary.md, "Component Definitions").
 use Rattle.std.specs.Prelude.{List, [], ◌∷◌, ◌++◌, map}
-use Rattle.cm_types.specs.DefTypes.{DefTree}
+use Rattle.cm_types.specs.DefTypes.{DefTypeTree}
 use Rattle.cm_component.specs.Trees.{CoreInstanceTree, AliasTree, ImportTree, ExportTree, SectionTree, custom, core_module, core_instances, aliases, types, canons, imports, exports}
 use Rattle.cm_component.specs.declared.section.Canon.{Canon}
 
@@ -9,7 +9,7 @@ pub data Item : Type 0 where
   module_item : Item
   core_instance_item : CoreInstanceTree → Item
   alias_item : AliasTree → Item
-  type_item : DefTree → Item
+  type_item : DefTypeTree → Item
   canon_item : Canon → Item
   import_item : ImportTree → Item
   export_item : ExportTree → Item

@@ -7,7 +7,7 @@ use Rattle.cm_component.specs.declared.section.Canon.TheVariants as canon
 use Rattle.cm_component.specs.declared.section.ExternDesc.TheVariants as desc
 use Rattle.cm_component.specs.declared.section.ExternDesc.{ExternDesc}
 use Rattle.cm_validate.specs.Items.{Item, all_items, core_instance_item, alias_item, type_item, canon_item, import_item, export_item}
-use Rattle.cm_validate.specs.Spaces.{Space, CoreFuncTree, FuncDefTree, ImportedFunc, ExportedFunc, guest, lifted, imported, lowered_import, type_of, expanded, nothing, grown, spaces_of}
+use Rattle.cm_validate.specs.Spaces.{Space, CoreFuncTree, FuncDefTree, ImportedFunc, ExportedFunc, guest, lifted, imported, lowered_import, func_type_of, expanded, nothing, grown, spaces_of}
 
 -- what an item adds to each sort, given the spaces before it
 abbrev pub added_core_instances : Space → Item → List ℕ
@@ -38,7 +38,7 @@ added_imports s (import_item i) = option_to_list (option_map (λ ty. record { na
 added_imports s _ = []
 
 abbrev pub added_exports : Space → Item → List ExportedFunc
-added_exports s (export_item e) = option_to_list (option_map (λ f. record { name = e.name; func = e.index; ty = type_of f }) (slice_get s.funcs e.index))
+added_exports s (export_item e) = option_to_list (option_map (λ f. record { name = e.name; func = e.index; ty = func_type_of f }) (slice_get s.funcs e.index))
 added_exports s _ = []
 
 -- what items add to a sort, in order, from these spaces on

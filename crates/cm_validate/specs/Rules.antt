@@ -9,7 +9,7 @@ use Rattle.std.specs.Str.{bytes_eq}
 use Rattle.cm_types.specs.Names.{is_same_name}
 use Rattle.cm_types.specs.ExternNames.{NameTree, plain, method, static, constructor, interface, form_of}
 use Rattle.cm_types.specs.Types.{FuncTy, Fields, no_fields, field}
-use Rattle.cm_types.specs.DefTypes.{FuncTree, func_def}
+use Rattle.cm_types.specs.DefTypes.{FuncTypeTree, func_def}
 use Rattle.cm_component.specs.Trees.{instantiate, core_instance_export}
 use Rattle.cm_component.specs.declared.section.Canon.{Canon}
 use Rattle.cm_component.specs.declared.section.Canon.TheVariants as canon
@@ -18,7 +18,7 @@ use Rattle.cm_component.specs.declared.section.ExternDesc.TheVariants as desc
 use Rattle.cm_validate.specs.declared.fault.ValidReason.{ValidReason}
 use Rattle.cm_validate.specs.declared.fault.ValidReason.TheVariants as reason
 use Rattle.cm_validate.specs.Items.{Item, module_item, core_instance_item, alias_item, type_item, canon_item, import_item, export_item}
-use Rattle.cm_validate.specs.Spaces.{Space, CoreFuncTree, FuncDefTree, guest, lowered, lifted, imported, type_of}
+use Rattle.cm_validate.specs.Spaces.{Space, CoreFuncTree, FuncDefTree, guest, lowered, lifted, imported, func_type_of}
 
 -- no two of these texts are equal
 abbrev pub are_distinct : List (List ℕ) → Bool
@@ -45,16 +45,16 @@ abbrev pub is_plain_label : List ℕ → Bool
 is_plain_label name = option_map_or is_plain (form_of name) false
 
 -- how many fields
-abbrev pub field_count : Fields → ℕ
-field_count no_fields = 0
-field_count (field label ty fs) = field_count fs + 1
+abbrev pub param_count : Fields → ℕ
+param_count no_fields = 0
+param_count (field label ty fs) = param_count fs + 1
 
 -- whether the parameters are passed flat: 16 of u32 at most, else they would stand in memory
 abbrev pub is_flat : FuncTy → Bool
-is_flat f = nat_le (field_count f.params) 16
+is_flat f = nat_le (param_count f.params) 16
 
 -- a parameter list counts as a tuple: a node above those of the parameters, 10,000 together at most
-abbrev pub is_small : FuncTree → Bool
+abbrev pub is_small : FuncTypeTree → Bool
 is_small f = nat_lt (length f.params) 10000
 
 -- whether a core function is a guest's
@@ -77,7 +77,7 @@ canon_rules s (canon.Lift core_func ty) =
     ∷ (option_map_or is_guest (slice_get s.core_funcs core_func) true, reason.NotGuestFunction) ∷ []
 canon_rules s (canon.Lower func) =
     (nat_lt func (length s.funcs), reason.NoSuchIndex)
-    ∷ (option_map_or (λ f. is_flat (type_of f)) (slice_get s.funcs func) true, reason.NeedsMemory)
+    ∷ (option_map_or (λ f. is_flat (func_type_of f)) (slice_get s.funcs func) true, reason.NeedsMemory)
     ∷ (option_map_or is_import (slice_get s.funcs func) true, reason.NotImported) ∷ []
 
 abbrev pub import_rules : Space → List ℕ → ExternDesc → List (Bool × ValidReason)

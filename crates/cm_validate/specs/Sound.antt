@@ -4,7 +4,7 @@ use Rattle.std.specs.Prelude.{◌≡◌, ℕ, true, List, Some, None, slice_get}
 use Rattle.std.specs.List.{AllByRecursion}
 use Rattle.cm_types.specs.Types.{FuncTy}
 use Rattle.cm_validate.specs.Rules.{is_flat}
-use Rattle.cm_validate.specs.Spaces.{Space, CoreFuncTree, FuncDefTree, ImportedFunc, ExportedFunc, guest, lowered, lifted, imported, type_of}
+use Rattle.cm_validate.specs.Spaces.{Space, CoreFuncTree, FuncDefTree, ImportedFunc, ExportedFunc, guest, lowered, lifted, imported, func_type_of}
 
 -- the import of this number is a function of this type
 pub record Imports (s : Space) (import : ℕ) (ty : FuncTy) : Type 0 where
@@ -32,7 +32,7 @@ IsSoundCoreFunc s (lowered import (Some item) ty) = ⊥
 pub record IsSoundExport (s : Space) (e : ExportedFunc) : Type 0 where
   pub def : FuncDefTree
   pub there : slice_get s.funcs e.func ≡ Some def
-  pub same : type_of def ≡ e.ty
+  pub same : func_type_of def ≡ e.ty
 
 pub record IsSound (s : Space) : Type 0 where
   pub core_funcs : AllByRecursion (IsSoundCoreFunc s) s.core_funcs

@@ -1,7 +1,7 @@
 -- The index spaces of a component: for each sort the definitions that the items before a place add, in
 -- order (Explainer.md, "Index Spaces").
 use Rattle.std.specs.Prelude.{ℕ, ◌+◌, List, [], ◌∷◌, ◌++◌, length, map, Option, Some, None, slice_get, option_map, option_and_then, option_to_list}
-use Rattle.cm_types.specs.DefTypes.{FuncTree, func_def}
+use Rattle.cm_types.specs.DefTypes.{FuncTypeTree, func_def}
 use Rattle.cm_types.specs.Types.{Ty, FuncTy, unsigned, bits_32}
 use Rattle.cm_types.specs.TypeTrees.{fields_from}
 use Rattle.cm_types.specs.Signatures.{SignatureTy, func as func_extern}
@@ -18,7 +18,7 @@ use Rattle.cm_validate.specs.Items.{Item, module_item, core_instance_item, alias
 abbrev pub expanded_value : ValType → Ty
 expanded_value val_type.U32 = unsigned bits_32
 
-abbrev pub expanded : FuncTree → FuncTy
+abbrev pub expanded : FuncTypeTree → FuncTy
 expanded f = record { params = fields_from (map (λ p. (p.label, expanded_value p.ty)) f.params); result = option_map expanded_value f.result }
 
 -- what a core function is: what a core instance exports under this name, or an import that was lowered
@@ -59,9 +59,9 @@ abbrev pub nothing : Space
 nothing = record { modules = 0; core_instances = []; types = []; core_funcs = []; funcs = []; imports = []; exports = [] }
 
 -- the type of a function
-abbrev pub type_of : FuncDefTree → FuncTy
-type_of (lifted core_func ty) = ty
-type_of (imported import item ty) = ty
+abbrev pub func_type_of : FuncDefTree → FuncTy
+func_type_of (lifted core_func ty) = ty
+func_type_of (imported import item ty) = ty
 
 -- a function that comes to an import, as a core function
 abbrev pub lowered_import : FuncDefTree → Option CoreFuncTree
@@ -86,7 +86,7 @@ abbrev pub after_export : Space → List ℕ → ℕ → Space
 after_export s name index =
     record s {
       funcs = s.funcs ++ option_to_list (slice_get s.funcs index);
-      exports = s.exports ++ option_to_list (option_map (λ f. record { name = name; func = index; ty = type_of f }) (slice_get s.funcs index));
+      exports = s.exports ++ option_to_list (option_map (λ f. record { name = name; func = index; ty = func_type_of f }) (slice_get s.funcs index));
     }
 
 -- the spaces after an item

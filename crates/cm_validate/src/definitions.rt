@@ -3,8 +3,8 @@
 ghost use Rattle.std.specs.Prelude.{◌≡◌, IfOk};
 ghost use Rattle.cm_types.specs.Funcs.{func_of};
 ghost use Rattle.cm_validate.specs.Definitions.{core_func_tree, func_def_tree};
-ghost use Rattle.cm_validate.specs.Rules.{field_count, is_guest};
-ghost use Rattle.cm_validate.specs.Spaces.{type_of};
+ghost use Rattle.cm_validate.specs.Rules.{param_count, is_guest};
+ghost use Rattle.cm_validate.specs.Spaces.{func_type_of};
 
 use cm_types::Func;
 use std::alloc::AllocError;
@@ -52,7 +52,7 @@ pub(crate) struct ExportDef {
 /// How many parameters a function of this type has.
 #[tactic(auto, using(crate::proofs::Params::counts))]
 pub(crate) fn param_count(ty: &Func) -> usize
-    ensures { result ≡ field_count (func_of ty.now).params }
+    ensures { result ≡ param_count (func_of ty.now).params }
 {
     ty.params.len()
 }
@@ -72,7 +72,7 @@ impl CoreFuncDef {
 impl FuncDef {
     /// The type of the function.
     pub fn ty(&self) -> &Rc<Func>
-        ensures { func_of result.now.value ≡ type_of (func_def_tree self.now) }
+        ensures { func_of result.now.value ≡ func_type_of (func_def_tree self.now) }
     {
         match self {
             FuncDef::Lifted { ty, .. } | FuncDef::Imported { ty, .. } => ty,

@@ -3,7 +3,7 @@
 ghost use Rattle.std.specs.Prelude.{◌≡◌, IfOk, map, true};
 ghost use Rattle.cm_types.specs.TypeTrees.{field_of, type_of};
 ghost use Rattle.cm_types.specs.Funcs.{func_of, tree_type};
-ghost use Rattle.cm_types.specs.DefTypes.{func_tree};
+ghost use Rattle.cm_types.specs.DefTypes.{func_type_tree};
 ghost use Rattle.cm_validate.specs.Rules.{is_small};
 ghost use Rattle.cm_validate.specs.Spaces.{expanded, expanded_value};
 
@@ -56,8 +56,8 @@ fn expand_params(alloc: Global, params: &[LabeledValType]) -> Result<Vec<Field>,
 
 /// The type with every index expanded.
 pub(crate) fn expand(alloc: Global, ty: &FuncType) -> Result<Func, AllocError>
-    requires { is_small (func_tree ty.now) ≡ true }
-    ensures { IfOk result (λ f. func_of f ≡ expanded (func_tree ty.now)) }
+    requires { is_small (func_type_tree ty.now) ≡ true }
+    ensures { IfOk result (λ f. func_of f ≡ expanded (func_type_tree ty.now)) }
 {
     Ok(Func {
         params: expand_params(alloc, &ty.params)?,

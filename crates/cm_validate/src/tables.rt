@@ -1,14 +1,14 @@
 //! What a checked component answers from: tables that are made once.
 
 ghost use Rattle.std.specs.Prelude.{◌≡◌, IfOk, map};
-ghost use Rattle.cm_types.specs.declared.signatures.ExternDesc.TheVariants as extern;
+ghost use Rattle.cm_types.specs.declared.signatures.ExternType.TheVariants as extern;
 ghost use Rattle.cm_validate.specs.SpacesOf.{space_of};
 ghost use Rattle.cm_validate.specs.Tables.{AreTables};
 
 use crate::definitions::{CoreFuncDef, ExportDef, FuncDef};
 use crate::named::{Named, NamedList};
 use crate::spaces::Spaces;
-use cm_types::{ExternDesc, Func, Signature, SignatureItem};
+use cm_types::{ExternType, Func, Signature, SignatureItem};
 use std::alloc::{AllocError, Global};
 use std::rc::Rc;
 
@@ -32,7 +32,7 @@ fn import_items(
         .into_iter()
         .map(|d| SignatureItem {
             name: d.name,
-            desc: ExternDesc::Func(d.definition),
+            desc: ExternType::Func(d.definition),
         })
         .collect(alloc)
 }
@@ -47,7 +47,7 @@ fn export_items(
         .into_iter()
         .map(|d| SignatureItem {
             name: d.name,
-            desc: ExternDesc::Func(d.definition.ty),
+            desc: ExternType::Func(d.definition.ty),
         })
         .collect(alloc)
 }

@@ -1,7 +1,7 @@
 use Rattle.std.proofs.Common.{◌≡◌, Some, None, sym, ap, subst, ◌∙◌}
 use Rattle.std.proofs.lemmas.Bool.{false≢true}
 use Rattle.std.specs.BTreeMap.{get_by_text}
-use Rattle.cm_types.specs.Signatures.{extern_of, extern_desc_of}
+use Rattle.cm_types.specs.Signatures.{extern_of, extern_type_of}
 use Rattle.cm_match.specs.Links.{entry, candidates, export_at, signatures, IsSame}
 use Rattle.cm_match.proofs.Candidates.{no_offer, more_offers, one_offer, found}
 use Rattle.cm_match.proofs.ChooseLemmas.{seen_item}
@@ -35,7 +35,7 @@ returns-then-same_desc-clause-served c =
     let o = one_offer (candidates set i) c.in-Some.offer.now (sym (c.requires c.args.import.now.name) ∙ ap (get_by_text c.args.offers.now) (sym c.as_str.ensures.text) ∙ sym c.in-Some.ensures.value) c.if-offer.false in
     let there : export_at set c.in-Some.offer.now.provider c.in-Some.offer.now.export ≡ Some o.entry.item = ap (λ p. export_at set p c.in-Some.offer.now.export) o.provider_is ∙ ap (export_at set o.entry.component) o.export_is ∙ found set i o.entry o.only in
     let same = seen_item c.in-Some-export_at.export.now o.entry.item (c.in-Some-export_at.ensures ∙ there) in
-    (o.entry, record { only = o.only; same = subst (λ d. IsSame d (extern_desc_of c.args.import.now.desc)) same (c.same_desc.ensures.0 c.if-same_desc.true) }, o.provider_is, o.export_is)
+    (o.entry, record { only = o.only; same = subst (λ d. IsSame d (extern_type_of c.args.import.now.desc)) same (c.same_desc.ensures.0 c.if-same_desc.true) }, o.provider_is, o.export_is)
 
 pub returns-else-same_desc-clause-fails : goal.returns-else-same_desc-clause-fails
 returns-else-same_desc-clause-fails c =
@@ -44,4 +44,4 @@ returns-else-same_desc-clause-fails c =
     let o = one_offer (candidates set i) c.in-Some.offer.now (sym (c.requires c.args.import.now.name) ∙ ap (get_by_text c.args.offers.now) (sym c.as_str.ensures.text) ∙ sym c.in-Some.ensures.value) c.if-offer.false in
     let there : export_at set c.in-Some.offer.now.provider c.in-Some.offer.now.export ≡ Some o.entry.item = ap (λ p. export_at set p c.in-Some.offer.now.export) o.provider_is ∙ ap (export_at set o.entry.component) o.export_is ∙ found set i o.entry o.only in
     let same = seen_item c.in-Some-export_at.export.now o.entry.item (c.in-Some-export_at.ensures ∙ there) in
-    (o.entry, o.only, λ h. let s = subst (λ d. IsSame d (extern_desc_of c.args.import.now.desc)) (sym same) h in let t = c.same_desc.ensures.1 s in false≢true (sym c.if-same_desc.false ∙ t))
+    (o.entry, o.only, λ h. let s = subst (λ d. IsSame d (extern_type_of c.args.import.now.desc)) (sym same) h in let t = c.same_desc.ensures.1 s in false≢true (sym c.if-same_desc.false ∙ t))
