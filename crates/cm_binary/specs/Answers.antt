@@ -1,5 +1,6 @@
 -- What reading a file answers, want of memory aside.
-use Rattle.std.specs.Prelude.{◌≡◌, ◌⊎◌, ℕ, ◌+◌, ◌<◌, List, length, slice_index, Result, Ok, Err, MatchResult}
+use Rattle.std.specs.Prelude.{◌≡◌, ◌⊎◌, ℕ, ◌+◌, ◌<◌, List, length, slice_index, Result, Ok, Err}
+use Rattle.std.specs.Prelude.{MatchResult}
 use Rattle.cm_grammar.specs.declared.fault.Fault.{Fault}
 use Rattle.cm_grammar.specs.Faults.{flaw}
 use Rattle.cm_component.specs.Trees.{SectionTree}

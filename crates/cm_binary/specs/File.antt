@@ -1,12 +1,15 @@
 -- The grammar of component files (Binary.md), production by production, in its names and order: which bytes spell which
 -- tree, and what is the first fault of bytes that spell none. `x ← g` reads one thing, and the next line what stands
 -- behind it.
-use Rattle.std.specs.Prelude.{◌≡◌, ℕ, zero, suc, ◌+◌, ◌-◌, List, [], ◌∷◌, length, Option, Some, None, Err}
+use Rattle.std.specs.Prelude.{◌≡◌, ℕ, zero, suc, ◌+◌, ◌-◌, List, [], ◌∷◌, length, Option, Some}
+use Rattle.std.specs.Prelude.{None, Err}
 use Rattle.std.specs.Str.{is_utf8}
 use Rattle.cm_grammar.specs.declared.fault.End.TheVariants as end
 use Rattle.cm_grammar.specs.Faults.{flaw}
-use Rattle.cm_grammar.specs.Grammar.{Grammar, done, ◌>>=◌, code, number, raw, checked, fixed, vec, chain, limited}
-use Rattle.cm_grammar.specs.Whole.{Whole, made, remainder, exactly, joined, begun, to_end, sized, at_most}
+use Rattle.cm_grammar.specs.Grammar.{Grammar, done, ◌>>=◌, code, number, raw, checked, fixed, vec}
+use Rattle.cm_grammar.specs.Grammar.{chain, limited}
+use Rattle.cm_grammar.specs.Whole.{Whole, made, remainder, exactly, joined, begun, to_end, sized}
+use Rattle.cm_grammar.specs.Whole.{at_most}
 use Rattle.cm_types.specs.Names.{is_label}
 use Rattle.cm_types.specs.ExternNames.{is_extern_name}
 use Rattle.cm_types.specs.declared.def_types.ValType.{ValType}
@@ -17,11 +20,15 @@ use Rattle.cm_component.specs.declared.section.Canon.TheVariants as canons
 use Rattle.cm_component.specs.declared.section.ExternDesc.{ExternDesc}
 use Rattle.cm_component.specs.declared.section.ExternDesc.TheVariants as descs
 use Rattle.cm_component.specs.Trees as trees
-use Rattle.cm_component.specs.Trees.{ArgTree, CoreInstanceTree, AliasTree, ImportTree, ExportTree, SectionTree}
+use Rattle.cm_component.specs.Trees.{ArgTree, CoreInstanceTree, AliasTree, ImportTree, ExportTree}
+use Rattle.cm_component.specs.Trees.{SectionTree}
 use Rattle.cm_component.specs.Spelling.{component_preamble}
 use Rattle.cm_component.specs.Limits.{type_limit, byte_limit, module_preamble}
 use Rattle.cm_binary.specs.declared.fault.DecodeReason.{DecodeReason}
-use Rattle.cm_binary.specs.declared.fault.DecodeReason.TheVariants.{BadPreamble, Truncated, BadNumber, SizeMismatch, UnknownCode, BadUtf8, BadName, NotAModule, TooMany, TooLong}
+use Rattle.cm_binary.specs.declared.fault.DecodeReason.TheVariants.{BadPreamble, Truncated}
+use Rattle.cm_binary.specs.declared.fault.DecodeReason.TheVariants.{BadNumber, SizeMismatch}
+use Rattle.cm_binary.specs.declared.fault.DecodeReason.TheVariants.{UnknownCode, BadUtf8, BadName}
+use Rattle.cm_binary.specs.declared.fault.DecodeReason.TheVariants.{NotAModule, TooMany, TooLong}
 use Rattle.cm_binary.specs.declared.codes.SectionKind.{SectionKind}
 use Rattle.cm_binary.specs.declared.codes.SectionKind.TheVariants as kinds
 use Rattle.cm_binary.specs.declared.codes.AliasSort.{AliasSort}
@@ -30,7 +37,10 @@ use Rattle.cm_binary.specs.declared.codes.ResultForm.{ResultForm}
 use Rattle.cm_binary.specs.declared.codes.ResultForm.TheVariants as result_forms
 use Rattle.cm_binary.specs.declared.codes.CanonForm.{CanonForm}
 use Rattle.cm_binary.specs.declared.codes.CanonForm.TheVariants as canon_forms
-use Rattle.cm_binary.specs.Codes.{section_kind, core_instance_form, core_sort, alias_sort, core_alias_target, other_alias_target, type_form, val_type, result_form, canon_form, canon_option, desc_form, export_sort, export_desc}
+use Rattle.cm_binary.specs.Codes.{section_kind, core_instance_form, core_sort, alias_sort}
+use Rattle.cm_binary.specs.Codes.{core_alias_target, other_alias_target, type_form, val_type}
+use Rattle.cm_binary.specs.Codes.{result_form, canon_form, canon_option, desc_form, export_sort}
+use Rattle.cm_binary.specs.Codes.{export_desc}
 
 -- A production of the grammar, and one of bytes to their end.
 abbrev pub Production : Type 0 → Type 1

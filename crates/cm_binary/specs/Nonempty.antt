@@ -9,7 +9,9 @@ use Rattle.cm_component.specs.declared.section.Canon.{Canon}
 use Rattle.cm_component.specs.declared.section.Canon.TheVariants as canons
 use Rattle.cm_component.specs.Trees as trees
 use Rattle.cm_component.specs.Trees.{ArgTree, CoreInstanceTree, AliasTree, ImportTree, ExportTree}
-use Rattle.cm_component.specs.Spelling.{core_arg_spelling, core_instance_spelling, alias_spelling, val_type_code, param_spelling, def_spelling, canon_spelling, import_spelling, export_spelling}
+use Rattle.cm_component.specs.Spelling.{core_arg_spelling, core_instance_spelling, alias_spelling}
+use Rattle.cm_component.specs.Spelling.{val_type_code, param_spelling, def_spelling, canon_spelling}
+use Rattle.cm_component.specs.Spelling.{import_spelling, export_spelling}
 
 pub core_arg_some : (a : ArgTree) → 0 < length (core_arg_spelling a)
 core_arg_some a = omega (arith, length-append (prefixed a.name) (18 ∷ shortest_unsigned a.instance))

@@ -1,7 +1,11 @@
 -- The numbers of reasons.
 use Rattle.std.specs.Prelude.{ℕ}
 use Rattle.cm_binary.specs.declared.fault.DecodeReason.{DecodeReason}
-use Rattle.cm_binary.specs.declared.fault.DecodeReason.TheVariants.{BadPreamble, Truncated, BadNumber, SizeMismatch, UnknownCode, Unsupported, BadUtf8, BadName, NotAModule, TooMany, TooLong, Read, Memory}
+use Rattle.cm_binary.specs.declared.fault.DecodeReason.TheVariants.{BadPreamble, Truncated}
+use Rattle.cm_binary.specs.declared.fault.DecodeReason.TheVariants.{BadNumber, SizeMismatch}
+use Rattle.cm_binary.specs.declared.fault.DecodeReason.TheVariants.{UnknownCode, Unsupported}
+use Rattle.cm_binary.specs.declared.fault.DecodeReason.TheVariants.{BadUtf8, BadName, NotAModule}
+use Rattle.cm_binary.specs.declared.fault.DecodeReason.TheVariants.{TooMany, TooLong, Read, Memory}
 
 -- The number by which a reason is known.
 abbrev pub reason_number : DecodeReason → ℕ

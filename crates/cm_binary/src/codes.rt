@@ -1,7 +1,10 @@
 //! The bytes that name forms, place by place.
 
 ghost use Rattle.std.specs.Prelude.{◌≡◌};
-ghost use Rattle.cm_binary.specs.Codes.{section_kind, core_instance_form, core_sort, alias_sort, core_alias_target, other_alias_target, type_form, val_type, result_form, canon_form, canon_option, desc_form, export_sort, export_desc};
+ghost use Rattle.cm_binary.specs.Codes.{section_kind, core_instance_form, core_sort, alias_sort};
+ghost use Rattle.cm_binary.specs.Codes.{core_alias_target, other_alias_target, type_form, val_type};
+ghost use Rattle.cm_binary.specs.Codes.{result_form, canon_form, canon_option, desc_form};
+ghost use Rattle.cm_binary.specs.Codes.{export_sort, export_desc};
 
 use crate::fault::{DecodeReason, Feature};
 use cm_component::{CoreSort, Sort};

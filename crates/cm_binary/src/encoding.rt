@@ -1,11 +1,13 @@
 //! Writing component files.
 
-ghost use Rattle.std.specs.Prelude.{◌≡◌, ℕ, ◌++◌, ◌∷◌, ◌^◌, ◌<◌, ◌≤◌, List, length, map, OnOk, IfOk};
+ghost use Rattle.std.specs.Prelude.{◌≡◌, ℕ, ◌++◌, ◌∷◌, ◌^◌, ◌<◌, ◌≤◌, List, length, map, OnOk};
+ghost use Rattle.std.specs.Prelude.{IfOk};
 ghost use Rattle.std.specs.List.{flat_map};
 ghost use Rattle.cm_component.specs.Trees.{section_tree};
 ghost use Rattle.cm_binary.specs.Answers.{Accepts};
 ghost use Rattle.cm_binary.specs.File.{Spells};
-ghost use Rattle.cm_component.specs.Spelling.{contents_spelling, section_id, section_spelling, spelling};
+ghost use Rattle.cm_component.specs.Spelling.{contents_spelling, section_id, section_spelling};
+ghost use Rattle.cm_component.specs.Spelling.{spelling};
 
 use crate::decoding::decode;
 use crate::fault::{DecodeFault, DecodeReason};

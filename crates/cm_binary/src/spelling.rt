@@ -3,9 +3,16 @@
 ghost use Rattle.std.specs.Prelude.{◌≡◌, ◌∷◌, ◌++◌, ◌^◌, ◌<◌, [], length, map, OnOk};
 ghost use Rattle.cm_grammar.specs.Spelling.{counted};
 ghost use Rattle.cm_types.specs.DefTypes.{func_type_tree, def_type_tree};
-ghost use Rattle.cm_component.specs.Trees.{arg_tree, core_instance_tree, alias_tree, import_tree, export_tree};
-ghost use Rattle.cm_component.specs.Spelling.{extern_name_spelling, core_arg_spelling, core_instance_spelling, alias_spelling, val_type_code, param_spelling, result_spelling, func_spelling, def_spelling, canon_spelling, desc_spelling, import_spelling, export_spelling};
-ghost use Rattle.cm_binary.specs.Nonempty.{core_arg_some, core_instance_some, alias_some, param_some, def_some, canon_some, import_some, export_some};
+ghost use Rattle.cm_component.specs.Trees.{arg_tree, core_instance_tree, alias_tree, import_tree};
+ghost use Rattle.cm_component.specs.Trees.{export_tree};
+ghost use Rattle.cm_component.specs.Spelling.{extern_name_spelling, core_arg_spelling};
+ghost use Rattle.cm_component.specs.Spelling.{core_instance_spelling, alias_spelling};
+ghost use Rattle.cm_component.specs.Spelling.{val_type_code, param_spelling, result_spelling};
+ghost use Rattle.cm_component.specs.Spelling.{func_spelling, def_spelling, canon_spelling};
+ghost use Rattle.cm_component.specs.Spelling.{desc_spelling, import_spelling, export_spelling};
+ghost use Rattle.cm_binary.specs.Nonempty.{core_arg_some, core_instance_some, alias_some};
+ghost use Rattle.cm_binary.specs.Nonempty.{param_some, def_some, canon_some, import_some};
+ghost use Rattle.cm_binary.specs.Nonempty.{export_some};
 
 use crate::fault::DecodeReason;
 use cm_component::{

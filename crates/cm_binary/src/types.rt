@@ -7,7 +7,8 @@ ghost use Rattle.cm_grammar.specs.Grammar.{chain, limited};
 ghost use Rattle.cm_binary.specs.declared.fault.DecodeReason.TheVariants as reasons;
 ghost use Rattle.cm_types.specs.DefTypes.{func_type_tree, def_type_tree};
 ghost use Rattle.cm_binary.specs.declared.codes.ResultForm.TheVariants as result_forms;
-ghost use Rattle.cm_binary.specs.File.{vector, param, func_result_of, func_result, func_type, def_type, type_defs};
+ghost use Rattle.cm_binary.specs.File.{vector, param, func_result_of, func_result, func_type};
+ghost use Rattle.cm_binary.specs.File.{def_type, type_defs};
 
 use crate::codes::{ResultForm, TypeForm};
 use crate::fault::DecodeReason;

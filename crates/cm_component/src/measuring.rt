@@ -6,10 +6,19 @@ ghost use Rattle.std.specs.List.{flat_map, list_all, sum_by};
 ghost use Rattle.cm_leb.specs.Writing.{shortest_unsigned};
 ghost use Rattle.cm_grammar.specs.Spelling.{counted, prefixed};
 ghost use Rattle.cm_types.specs.DefTypes.{func_type_tree, def_type_tree};
-ghost use Rattle.cm_component.specs.Trees.{arg_tree, core_instance_tree, alias_tree, import_tree, export_tree, section_tree};
-ghost use Rattle.cm_component.specs.Spelling.{extern_name_spelling, core_arg_spelling, core_instance_spelling, alias_spelling, param_spelling, result_spelling, func_spelling, def_spelling, canon_spelling, desc_spelling, import_spelling, export_spelling, contents_spelling, section_spelling, spelling};
+ghost use Rattle.cm_component.specs.Trees.{arg_tree, core_instance_tree, alias_tree, import_tree};
+ghost use Rattle.cm_component.specs.Trees.{export_tree, section_tree};
+ghost use Rattle.cm_component.specs.Spelling.{extern_name_spelling, core_arg_spelling};
+ghost use Rattle.cm_component.specs.Spelling.{core_instance_spelling, alias_spelling};
+ghost use Rattle.cm_component.specs.Spelling.{param_spelling, result_spelling, func_spelling};
+ghost use Rattle.cm_component.specs.Spelling.{def_spelling, canon_spelling, desc_spelling};
+ghost use Rattle.cm_component.specs.Spelling.{import_spelling, export_spelling, contents_spelling};
+ghost use Rattle.cm_component.specs.Spelling.{section_spelling, spelling};
 ghost use Rattle.cm_component.specs.Limits.{types_in};
-ghost use Rattle.cm_component.specs.Parts.{holds_arg, holds_core_instance, holds_alias, holds_param, holds_func, holds_def, holds_canon, holds_desc, holds_name, holds_import, holds_export, holds};
+ghost use Rattle.cm_component.specs.Parts.{holds_arg, holds_core_instance, holds_alias};
+ghost use Rattle.cm_component.specs.Parts.{holds_param, holds_func, holds_def, holds_canon};
+ghost use Rattle.cm_component.specs.Parts.{holds_desc, holds_name, holds_import, holds_export};
+ghost use Rattle.cm_component.specs.Parts.{holds};
 ghost use Rattle.cm_component.specs.Measures.{capped};
 
 use crate::section::{

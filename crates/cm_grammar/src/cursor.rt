@@ -1,6 +1,7 @@
 //! Bytes that are read from the front on.
 
-ghost use Rattle.std.specs.Prelude.{◌≡◌, ℕ, ◌<◌, List, [], length, take, drop, min, Result, OnOk, OnErr, IfErr};
+ghost use Rattle.std.specs.Prelude.{◌≡◌, ℕ, ◌<◌, List, [], length, take, drop, min, Result, OnOk};
+ghost use Rattle.std.specs.Prelude.{OnErr, IfErr};
 ghost use Rattle.cm_grammar.specs.Reading.{Reads, ReadsAll, part_end, IsInside, behind_part};
 ghost use Rattle.cm_grammar.specs.Faults.{Gives, flaw, want};
 ghost use Rattle.cm_grammar.specs.Grammar.{number, signed, raw, code, fixed};

@@ -1,6 +1,9 @@
 -- How a table lays out its entries. No public clause cites this module.
-use Rattle.std.specs.Prelude.{◌≡◌, ℕ, zero, suc, ◌+◌, ◌-◌, ◌<◌, min, Bool, true, false, List, [], ◌∷◌, map, length, count_by, slice_index_or, slice_get, slice_set, if◌then◌else◌, Option, Some, None}
-use Rattle.cm_handles.specs.Handles.{Handles, IsSound, greatest_index, released, is_borrow, with_lends}
+use Rattle.std.specs.Prelude.{◌≡◌, ℕ, zero, suc, ◌+◌, ◌-◌, ◌<◌, min, Bool, true, false, List, []}
+use Rattle.std.specs.Prelude.{◌∷◌, map, length, count_by, slice_index_or, slice_get, slice_set}
+use Rattle.std.specs.Prelude.{if◌then◌else◌, Option, Some, None}
+use Rattle.cm_handles.specs.Handles.{Handles, IsSound, greatest_index, released, is_borrow}
+use Rattle.cm_handles.specs.Handles.{with_lends}
 use Rattle.cm_handles.specs.declared.handle.Handle.{Handle}
 use Rattle.cm_handles.specs.declared.entry.Entry.{Entry}
 use Rattle.cm_handles.specs.declared.entry.Entry.TheVariants as entry

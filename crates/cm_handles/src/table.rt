@@ -1,6 +1,8 @@
 //! The table itself: entries, of which the empty ones form a list.
 
-ghost use Rattle.std.specs.Prelude.{◌≡◌, ◌↔◌, ℕ, ◌+◌, ◌-◌, ◌<◌, ◌≤◌, ◌^◌, [], ◌∷◌, map, length, None, Some, IsOk, IsSome, IfOk, IfSome, OnOk, OnErr, IsErrOf, IsOkUnless, IsSomeAnd, slice_get, slice_index_or};
+ghost use Rattle.std.specs.Prelude.{◌≡◌, ◌↔◌, ℕ, ◌+◌, ◌-◌, ◌<◌, ◌≤◌, ◌^◌, [], ◌∷◌, map, length};
+ghost use Rattle.std.specs.Prelude.{None, Some, IsOk, IsSome, IfOk, IfSome, OnOk, OnErr, IsErrOf};
+ghost use Rattle.std.specs.Prelude.{IsOkUnless, IsSomeAnd, slice_get, slice_index_or};
 ghost use Rattle.std.specs.Option.{ForSome};
 ghost use Rattle.cm_handles.specs.Handles.{of_resource};
 ghost use Rattle.cm_handles.specs.Entries.{slot_of};
@@ -68,7 +70,11 @@ fn look(entries: &[Entry], index: u32, resource: ResourceId) -> Result<Handle, H
 }
 
 impl Table {
-    ghost use Rattle.cm_handles.specs.Handles.{no_handles, handle_at, next_index, indices_left, greatest_index, held, if_not_lent, if_owned, added, released, restored, changed, lent, unlent, after_close, closed_slot, with_lends, Handles, IsSoundTable, Changes};
+    ghost use Rattle.cm_handles.specs.Handles.{no_handles, handle_at, next_index, indices_left};
+    ghost use Rattle.cm_handles.specs.Handles.{greatest_index, held, if_not_lent, if_owned, added};
+    ghost use Rattle.cm_handles.specs.Handles.{released, restored, changed, lent, unlent};
+    ghost use Rattle.cm_handles.specs.Handles.{after_close, closed_slot, with_lends, Handles};
+    ghost use Rattle.cm_handles.specs.Handles.{IsSoundTable, Changes};
     ghost use Rattle.cm_handles.specs.Entries.{closed_at};
 
     /// An empty table. It takes no memory before the first handle is added, and then from `alloc`.

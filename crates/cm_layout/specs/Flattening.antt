@@ -2,7 +2,9 @@
 use Rattle.std.specs.Prelude.{◌≡◌, ℕ, zero, suc, List, [], ◌∷◌, ◌++◌, ◌⊎◌, ⊤, Option, Some, None}
 use Rattle.cm_types.specs.declared.core_value.CoreKind.{CoreKind}
 use Rattle.cm_types.specs.declared.core_value.CoreKind.TheVariants.{I32, I64}
-use Rattle.cm_types.specs.Types.{Ty, Fields, Cases, Width, bits_8, bits_16, bits_32, bits_64, bool, signed, unsigned, char, string, list, fixed_list, fields, cases, flags, own, borrow, no_fields, field, no_cases, plain, carrying}
+use Rattle.cm_types.specs.Types.{Ty, Fields, Cases, Width, bits_8, bits_16, bits_32, bits_64, bool}
+use Rattle.cm_types.specs.Types.{signed, unsigned, char, string, list, fixed_list, fields, cases}
+use Rattle.cm_types.specs.Types.{flags, own, borrow, no_fields, field, no_cases, plain, carrying}
 
 -- a list, so many times over
 abbrev pub copies : ℕ → List CoreKind → List CoreKind

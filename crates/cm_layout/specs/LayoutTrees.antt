@@ -1,7 +1,8 @@
 -- The layouts that the code's layout trees are.
 use Rattle.std.specs.Prelude.{List, map}
 use Rattle.cm_layout.specs.LayoutTys.{LayoutTy, layout, layouts_from}
-use Rattle.cm_layout.specs.declared.layout_trees.LayoutTree.{LayoutTree, LayoutTree-F, fold-LayoutTree}
+use Rattle.cm_layout.specs.declared.layout_trees.LayoutTree.{LayoutTree, LayoutTree-F}
+use Rattle.cm_layout.specs.declared.layout_trees.LayoutTree.{fold-LayoutTree}
 
 -- a layout, given the layouts in it
 abbrev pub layout_step : LayoutTree-F LayoutTy → LayoutTy

@@ -1,7 +1,9 @@
 -- The layout of a type and of all types in it.
 use Rattle.std.specs.Prelude.{ℕ, ◌+◌, List, [], ◌∷◌, Bool, true, false, Option, Some, None}
 use Rattle.cm_types.specs.declared.core_value.CoreKind.{CoreKind}
-use Rattle.cm_types.specs.Types.{Ty, Fields, Cases, variant_type, option_type, result_type, signed, unsigned, list, fixed_list, fields, cases, no_fields, field, no_cases, plain, carrying}
+use Rattle.cm_types.specs.Types.{Ty, Fields, Cases, variant_type, option_type, result_type, signed}
+use Rattle.cm_types.specs.Types.{unsigned, list, fixed_list, fields, cases, no_fields, field}
+use Rattle.cm_types.specs.Types.{no_cases, plain, carrying}
 use Rattle.cm_layout.specs.Places.{place}
 use Rattle.cm_layout.specs.Sizes.{align_of, size_of, payload_offset}
 use Rattle.cm_layout.specs.Flattening.{flat_of}

@@ -1,6 +1,9 @@
 -- Sizes and alignments of values in memory, in bytes (CanonicalABI.md, "Alignment" and "Element Size").
-use Rattle.std.specs.Prelude.{ℕ, zero, suc, ◌+◌, ◌*◌, ◌<◌, ⊤, max, nat_le, if◌then◌else◌, length, Option, Some, None}
-use Rattle.cm_types.specs.Types.{Ty, Fields, Cases, bytes_of, bool, signed, unsigned, char, string, list, fixed_list, fields, cases, flags, own, borrow, no_fields, field, no_cases, plain, carrying}
+use Rattle.std.specs.Prelude.{ℕ, zero, suc, ◌+◌, ◌*◌, ◌<◌, ⊤, max, nat_le, if◌then◌else◌, length}
+use Rattle.std.specs.Prelude.{Option, Some, None}
+use Rattle.cm_types.specs.Types.{Ty, Fields, Cases, bytes_of, bool, signed, unsigned, char, string}
+use Rattle.cm_types.specs.Types.{list, fixed_list, fields, cases, flags, own, borrow, no_fields}
+use Rattle.cm_types.specs.Types.{field, no_cases, plain, carrying}
 use Rattle.cm_layout.specs.Places.{IsPlace, place}
 
 -- how many cases

@@ -2,7 +2,8 @@
 
 ghost use Rattle.std.specs.Prelude.{◌≡◌, ◌≤◌};
 ghost use Rattle.cm_types.specs.TypeTrees.{boxed_payload, cases_of, fields_of, parts_of, type_of};
-ghost use Rattle.cm_layout.specs.Sizes.{align_of, align_of_fields, align_of_payload, align_of_payloads, discriminant_size, flags_size};
+ghost use Rattle.cm_layout.specs.Sizes.{align_of, align_of_fields, align_of_payload};
+ghost use Rattle.cm_layout.specs.Sizes.{align_of_payloads, discriminant_size, flags_size};
 
 use cm_types::{Case, Field, TypeNode};
 

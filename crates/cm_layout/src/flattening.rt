@@ -3,7 +3,8 @@
 ghost use Rattle.std.specs.Prelude.{◌≡◌, ◌++◌, IfOk, OnOk};
 ghost use Rattle.std.specs.Option.{option_map};
 ghost use Rattle.cm_types.specs.TypeTrees.{boxed_payload, cases_of, fields_of, parts_of, type_of};
-ghost use Rattle.cm_layout.specs.Flattening.{copies, flat_of, flat_of_cases, flat_of_fields, flat_of_payload, join, joined};
+ghost use Rattle.cm_layout.specs.Flattening.{copies, flat_of, flat_of_cases, flat_of_fields};
+ghost use Rattle.cm_layout.specs.Flattening.{flat_of_payload, join, joined};
 
 use cm_types::{Case, CoreKind, Field, TypeNode};
 use std::alloc::{AllocError, Global};

@@ -5,7 +5,8 @@ ghost use Rattle.std.specs.Option.{option_map};
 ghost use Rattle.cm_types.specs.Funcs.{tree_type};
 ghost use Rattle.cm_types.specs.Limits.{nodes_of, nodes_of_cases, nodes_of_fields, payload_nodes};
 ghost use Rattle.cm_types.specs.TypeTrees.{boxed_payload, cases_of, fields_of, parts_of, type_of};
-ghost use Rattle.cm_layout.specs.LayoutTys.{children_of, children_of_fields, children_of_payloads, is_number, layout_at, nothing_at, payload_at};
+ghost use Rattle.cm_layout.specs.LayoutTys.{children_of, children_of_fields, children_of_payloads};
+ghost use Rattle.cm_layout.specs.LayoutTys.{is_number, layout_at, nothing_at, payload_at};
 ghost use Rattle.cm_layout.specs.LayoutTrees.{tree_of, trees_of};
 
 use crate::alignments::node_align;

@@ -4,7 +4,8 @@ ghost use Rattle.std.specs.Prelude.{◌≡◌, ◌≤◌, ◌<◌, ◌+◌, ◌*
 ghost use Rattle.cm_types.specs.Limits.{nodes_of, nodes_of_cases, nodes_of_fields, payload_nodes};
 ghost use Rattle.cm_types.specs.TypeTrees.{boxed_payload, cases_of, fields_of, parts_of, type_of};
 ghost use Rattle.cm_layout.specs.Places.{place};
-ghost use Rattle.cm_layout.specs.Sizes.{discriminant_size, end_of, greatest_payload, size_of, size_of_payload};
+ghost use Rattle.cm_layout.specs.Sizes.{discriminant_size, end_of, greatest_payload, size_of};
+ghost use Rattle.cm_layout.specs.Sizes.{size_of_payload};
 
 use crate::alignments::{
     box_align, discriminant_size, fields_align, flags_size, node_align, parts_align, payloads_align,

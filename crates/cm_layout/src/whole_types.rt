@@ -3,7 +3,9 @@
 ghost use Rattle.std.specs.Prelude.{◌≡◌, ◌↔◌, ◌*◌, ℕ, IfOk, IsTrue};
 ghost use Rattle.cm_types.specs.Funcs.{tree_type};
 ghost use Rattle.cm_layout.specs.Places.{IsPlace};
-ghost use Rattle.cm_layout.specs.Sizes.{HasCases, HasField, align_of, case_offset, end_before, field_offset, field_type, fields_in, size_of, IsPayloadPlace};
+ghost use Rattle.cm_layout.specs.Sizes.{HasCases, HasField, align_of, case_offset, end_before};
+ghost use Rattle.cm_layout.specs.Sizes.{field_offset, field_type, fields_in, size_of};
+ghost use Rattle.cm_layout.specs.Sizes.{IsPayloadPlace};
 ghost use Rattle.cm_layout.specs.Flattening.{JoinsSlots, flat_of};
 
 use crate::alignments::node_align;

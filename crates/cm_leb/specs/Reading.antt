@@ -1,6 +1,8 @@
 -- Reading the number at the front of bytes. What is read, and which fault is given, is stated in Numbers; these functions
 -- compute it.
-use Rattle.std.specs.Prelude.{◌≡◌, ℕ, zero, suc, ◌+◌, ◌-◌, ◌*◌, ◌^◌, List, [], ◌∷◌, length, drop, Result, Ok, Err, nat_lt, if◌then◌else◌, ℤ, pos, neg_ℤ, int_le, int_lt, Bool, ◌&&◌}
+use Rattle.std.specs.Prelude.{◌≡◌, ℕ, zero, suc, ◌+◌, ◌-◌, ◌*◌, ◌^◌, List, [], ◌∷◌, length, drop}
+use Rattle.std.specs.Prelude.{Result, Ok, Err, nat_lt, if◌then◌else◌, ℤ, pos, neg_ℤ, int_le, int_lt}
+use Rattle.std.specs.Prelude.{Bool, ◌&&◌}
 use Rattle.cm_leb.specs.declared.fault.LebFault.{LebFault}
 use Rattle.cm_leb.specs.declared.fault.LebFault.TheVariants.{Truncated, TooLong, BadLastBits}
 use Rattle.cm_leb.specs.Numbers.{two_complement, greatest_length}

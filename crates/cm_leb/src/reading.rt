@@ -1,9 +1,13 @@
 //! Numbers at the front of bytes, and at a place in them.
 
-ghost use Rattle.std.specs.Prelude.{◌≡◌, ℕ, ℤ, List, ◌+◌, ◌*◌, ◌^◌, ◌<◌, ◌≤◌, ◌↔◌, length, drop, IfOk, IsOkAnd};
+ghost use Rattle.std.specs.Prelude.{◌≡◌, ℕ, ℤ, List, ◌+◌, ◌*◌, ◌^◌, ◌<◌, ◌≤◌, ◌↔◌, length, drop};
+ghost use Rattle.std.specs.Prelude.{IfOk, IsOkAnd};
 ghost use Rattle.std.specs.Result.{IsErrOf};
-ghost use Rattle.cm_leb.specs.Numbers.{two_complement, IsTruncated, IsTooLong, HasBadUnsignedBits, HasBadSignedBits, BeginsUnsigned, BeginsSigned, StandsUnsigned, StandsSigned};
-ghost use Rattle.cm_leb.specs.Reading.{Gives, group_at, unsigned_at, signed_at, unsigned_from, signed_from};
+ghost use Rattle.cm_leb.specs.Numbers.{two_complement, IsTruncated, IsTooLong, HasBadUnsignedBits};
+ghost use Rattle.cm_leb.specs.Numbers.{HasBadSignedBits, BeginsUnsigned, BeginsSigned};
+ghost use Rattle.cm_leb.specs.Numbers.{StandsUnsigned, StandsSigned};
+ghost use Rattle.cm_leb.specs.Reading.{Gives, group_at, unsigned_at, signed_at, unsigned_from};
+ghost use Rattle.cm_leb.specs.Reading.{signed_from};
 
 use crate::fault::LebFault;
 

@@ -1,8 +1,10 @@
 //! The shortest spellings.
 
 ghost use Rattle.std.specs.Prelude.{◌≡◌, ℕ, List, ◌%◌, ◌^◌, ◌<◌, ◌≤◌, ◌++◌, length, OnOk, OnErr};
-ghost use Rattle.cm_leb.specs.Numbers.{IsWithin, SpellsUnsigned, StandsUnsigned, SpellsSigned, StandsSigned};
-ghost use Rattle.cm_leb.specs.Writing.{group_of, unsigned_length, shortest_unsigned, signed_length, to_two_complement, shortest_signed};
+ghost use Rattle.cm_leb.specs.Numbers.{IsWithin, SpellsUnsigned, StandsUnsigned, SpellsSigned};
+ghost use Rattle.cm_leb.specs.Numbers.{StandsSigned};
+ghost use Rattle.cm_leb.specs.Writing.{group_of, unsigned_length, shortest_unsigned, signed_length};
+ghost use Rattle.cm_leb.specs.Writing.{to_two_complement, shortest_signed};
 
 use std::alloc::AllocError;
 

@@ -1,5 +1,6 @@
 -- What holds of each history of a linked set.
-use Rattle.std.specs.Prelude.{◌≡◌, ◌≢◌, ℕ, ◌+◌, ◌*◌, ◌<◌, ◌≤◌, ◌⊎◌, ◌↔◌, Bool, true, false, List, [], ◌∷◌, ◌++◌, length, Some, None, slice_get, slice_index}
+use Rattle.std.specs.Prelude.{◌≡◌, ◌≢◌, ℕ, ◌+◌, ◌*◌, ◌<◌, ◌≤◌, ◌⊎◌, ◌↔◌, Bool, true, false, List}
+use Rattle.std.specs.Prelude.{[], ◌∷◌, ◌++◌, length, Some, None, slice_get, slice_index}
 use Rattle.std.specs.List.{AllByRecursion}
 use Rattle.cm_types.specs.declared.core_value.CoreValue.{CoreValue}
 use Rattle.cm_machine.specs.declared.frame.Frame.{Frame}
@@ -15,7 +16,8 @@ use Rattle.cm_machine.specs.State.{State}
 use Rattle.cm_machine.specs.Step.{checks, may_want_memory, result_count}
 use Rattle.cm_types.specs.Values.{Val}
 use Rattle.cm_machine.specs.Values.{view_of, Denotes, Receives}
-use Rattle.cm_machine.specs.History.{begins, moves, Entry, IsHistory, acts, Sending, sent, Open, called, open_calls, Answering, answered}
+use Rattle.cm_machine.specs.History.{begins, moves, Entry, IsHistory, acts, Sending, sent, Open}
+use Rattle.cm_machine.specs.History.{called, open_calls, Answering, answered}
 
 -- ---- entries
 

@@ -1,6 +1,7 @@
 -- Linear memories. A page has 65,536 bytes, and a memory at most 1,024 pages (WebAssembly's core
 -- specification, "Memory Instances"; the limit is this project's own choice).
-use Rattle.std.specs.Prelude.{ℕ, ◌+◌, ◌*◌, ◌/◌, List, [], ◌++◌, length, take, drop, replicate, slice_get, unwrap_or}
+use Rattle.std.specs.Prelude.{ℕ, ◌+◌, ◌*◌, ◌/◌, List, [], ◌++◌, length, take, drop, replicate}
+use Rattle.std.specs.Prelude.{slice_get, unwrap_or}
 
 -- the memory after these bytes were written at an address
 abbrev pub written : List ℕ → ℕ → List ℕ → List ℕ

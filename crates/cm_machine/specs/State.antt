@@ -1,5 +1,6 @@
 -- The state of a linked set while it runs.
-use Rattle.std.specs.Prelude.{◌≡◌, ℕ, ◌+◌, ◌<◌, ◌≤◌, Bool, true, false, List, [], ◌∷◌, length, map, Option, Some, slice_get, slice_set, replicate, unwrap_or}
+use Rattle.std.specs.Prelude.{◌≡◌, ℕ, ◌+◌, ◌<◌, ◌≤◌, Bool, true, false, List, [], ◌∷◌, length, map}
+use Rattle.std.specs.Prelude.{Option, Some, slice_get, slice_set, replicate, unwrap_or}
 use Rattle.std.specs.List.{AllByRecursion}
 use Rattle.cm_machine.specs.declared.frame.CoreFunction.{CoreFunction}
 use Rattle.cm_machine.specs.declared.frame.CoreFunction.TheVariants as core_function

@@ -1,6 +1,8 @@
 -- One step of the machine: which trap a move meets, and else what it does (CanonicalABI.md, `canon_lift`,
 -- `canon_lower`; the order of the checks and the numbers of the traps are this project's own choice).
-use Rattle.std.specs.Prelude.{◌≡◌, ℕ, ◌+◌, ◌*◌, ◌⊎◌, ◌==◌, ◌&&◌, Bool, true, false, not, nat_le, nat_lt, if◌then◌else◌, List, [], ◌∷◌, length, Option, Some, None, slice_set, vec_len}
+use Rattle.std.specs.Prelude.{◌≡◌, ℕ, ◌+◌, ◌*◌, ◌⊎◌, ◌==◌, ◌&&◌, Bool, true, false, not, nat_le}
+use Rattle.std.specs.Prelude.{nat_lt, if◌then◌else◌, List, [], ◌∷◌, length, Option, Some, None}
+use Rattle.std.specs.Prelude.{slice_set, vec_len}
 use Rattle.std.specs.List.{list_all}
 use Rattle.cm_types.specs.declared.core_value.CoreValue.{CoreValue}
 use Rattle.cm_types.specs.declared.core_value.CoreValue.TheVariants as core_value

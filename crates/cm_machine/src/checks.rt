@@ -1,10 +1,12 @@
 //! Which trap a move meets.
 
-ghost use Rattle.std.specs.Prelude.{◌≡◌, ◌&&◌, List, true, false, map, Option, Some, None, slice_get};
+ghost use Rattle.std.specs.Prelude.{◌≡◌, ◌&&◌, List, true, false, map, Option, Some, None};
+ghost use Rattle.std.specs.Prelude.{slice_get};
 ghost use Rattle.std.specs.List.{list_all};
 ghost use Rattle.cm_machine.specs.declared.frame.CoreFunction.TheVariants as core_function;
 ghost use Rattle.cm_machine.specs.State.{State, core_at, is_closed};
-ghost use Rattle.cm_machine.specs.Step.{first, is_i32, are_i32s, result_count, may_leave, returned, call_checks, checks};
+ghost use Rattle.cm_machine.specs.Step.{first, is_i32, are_i32s, result_count, may_leave, returned};
+ghost use Rattle.cm_machine.specs.Step.{call_checks, checks};
 
 use crate::event::Trap;
 use crate::frame::{CoreFunction, Frame, Lowered, Phase, Purpose};

@@ -14,7 +14,8 @@ ghost use Rattle.cm_machine.specs.Run.{Run};
 ghost use Rattle.cm_machine.specs.Guarded.{MayBeEntered};
 ghost use Rattle.cm_machine.specs.Fresh.{fresh};
 ghost use Rattle.cm_machine.specs.History.{Entry, IsHistoryOf, acts};
-ghost use Rattle.cm_machine.specs.Headline.{EntersRightly, ResumesRightly, ChangesMemoryRightly, TrapsRightly, TrapsWhereItMust, RunsOn};
+ghost use Rattle.cm_machine.specs.Headline.{EntersRightly, ResumesRightly, ChangesMemoryRightly};
+ghost use Rattle.cm_machine.specs.Headline.{TrapsRightly, TrapsWhereItMust, RunsOn};
 
 /// The headline, a clause a sentence: for each set that can be linked, and each history of it from
 /// `Set::new` on, whatever the guests did. The clauses of `Set::new`, `Set::begin`, `Set::step` and

@@ -1,6 +1,8 @@
 //! The memories of the instances.
 
-ghost use Rattle.std.specs.Prelude.{◌≡◌, ◌+◌, ◌*◌, ◌<◌, ◌≤◌, List, [], ◌∷◌, ◌++◌, ℕ, length, replicate, take, drop, vec_len, IfOk, OnOk, OnErr, slice_get, slice_set, Some};
+ghost use Rattle.std.specs.Prelude.{◌≡◌, ◌+◌, ◌*◌, ◌<◌, ◌≤◌, List, [], ◌∷◌, ◌++◌, ℕ, length};
+ghost use Rattle.std.specs.Prelude.{replicate, take, drop, vec_len, IfOk, OnOk, OnErr, slice_get};
+ghost use Rattle.std.specs.Prelude.{slice_set, Some};
 ghost use Rattle.std.specs.Option.{option_copied};
 ghost use Rattle.cm_machine.specs.Memories.{written, grown, bytes_of};
 

@@ -1,13 +1,17 @@
 //! Guests on their seats, and a drive that plays them.
 
-ghost use Rattle.std.specs.Prelude.{◌≡◌, ◌≢◌, ℕ, ◌<◌, ◌&&◌, not, Err, ◌⊎◌, OnOk, false, ◌↔◌, List, [], ◌∷◌, ◌++◌, length, Option, Some, None, slice_set, IfOk, IfErr, slice_get, true};
+ghost use Rattle.std.specs.Prelude.{◌≡◌, ◌≢◌, ℕ, ◌<◌, ◌&&◌, not, Err, ◌⊎◌, OnOk, false, ◌↔◌, List};
+ghost use Rattle.std.specs.Prelude.{[], ◌∷◌, ◌++◌, length, Option, Some, None, slice_set, IfOk};
+ghost use Rattle.std.specs.Prelude.{IfErr, slice_get, true};
 ghost use Rattle.std.specs.Option.{option_map};
 ghost use Rattle.cm_machine.specs.declared.event.Event.{Event};
 ghost use Rattle.cm_machine.specs.declared.event.Misuse.{Misuse};
 ghost use Rattle.cm_machine.specs.Exchange.{Exchange};
 ghost use Rattle.cm_machine.specs.Stack.{actor, top_of};
 ghost use Rattle.cm_machine.specs.Run.{is_last, begun, misuse_of_begin};
-ghost use Rattle.cm_machine.specs.Player.{Turn, Turns, last_of, exchanges_of, AreStops, SeatPlays, StaysTaken, EndsAt, Played, IsDrive, closed_since, emptied_if, is_taken};
+ghost use Rattle.cm_machine.specs.Player.{Turn, Turns, last_of, exchanges_of, AreStops, SeatPlays};
+ghost use Rattle.cm_machine.specs.Player.{StaysTaken, EndsAt, Played, IsDrive, closed_since};
+ghost use Rattle.cm_machine.specs.Player.{emptied_if, is_taken};
 
 use crate::event::{Event, Misuse};
 use crate::moves::Move;

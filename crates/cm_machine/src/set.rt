@@ -1,10 +1,13 @@
 //! The running set: its state, and the calls that read it.
 
-ghost use Rattle.std.specs.Prelude.{◌≡◌, ◌+◌, ◌*◌, ◌<◌, ◌≤◌, ◌&&◌, List, [], ◌∷◌, length, slice_set, map, true, IsOk, MatchResult, slice_get, IfSome, IfOk, IfErr, OnErr, OnOk, Option, Some, None};
+ghost use Rattle.std.specs.Prelude.{◌≡◌, ◌+◌, ◌*◌, ◌<◌, ◌≤◌, ◌&&◌, List, [], ◌∷◌, length};
+ghost use Rattle.std.specs.Prelude.{slice_set, map, true, IsOk, MatchResult, slice_get, IfSome};
+ghost use Rattle.std.specs.Prelude.{IfOk, IfErr, OnErr, OnOk, Option, Some, None};
 ghost use Rattle.std.specs.Option.{option_map, option_copied};
 ghost use Rattle.cm_machine.specs.Stack.{actor, top_of};
 ghost use Rattle.cm_machine.specs.Memories.{bytes_of, written, grown};
-ghost use Rattle.cm_machine.specs.State.{State, StandsOn, IsPlan, IsValid, core_at, closed_with, trapped};
+ghost use Rattle.cm_machine.specs.State.{State, StandsOn, IsPlan, IsValid, core_at, closed_with};
+ghost use Rattle.cm_machine.specs.State.{trapped};
 ghost use Rattle.cm_machine.specs.Fresh.{are_pages, fresh};
 ghost use Rattle.cm_machine.specs.Step.{memory_of, without_top};
 

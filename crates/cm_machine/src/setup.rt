@@ -1,6 +1,7 @@
 //! A set before anything ran.
 
-ghost use Rattle.std.specs.Prelude.{◌≡◌, ◌≤◌, ◌⊎◌, replicate, ◌↔◌, List, [], true, false, length, map, nat_le, IfOk, IfErr, OnOk, IsErrOf};
+ghost use Rattle.std.specs.Prelude.{◌≡◌, ◌≤◌, ◌⊎◌, replicate, ◌↔◌, List, [], true, false, length};
+ghost use Rattle.std.specs.Prelude.{map, nat_le, IfOk, IfErr, OnOk, IsErrOf};
 ghost use Rattle.std.specs.List.{list_all};
 ghost use Rattle.cm_handles.specs.Handles.{no_handles};
 ghost use Rattle.cm_machine.specs.State.{IsPlan};

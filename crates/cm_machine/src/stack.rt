@@ -1,6 +1,7 @@
 //! The stack of frames, of at most 64, in room that is made once.
 
-ghost use Rattle.std.specs.Prelude.{◌≡◌, ◌+◌, ◌<◌, ◌≤◌, List, [], ◌∷◌, ◌++◌, length, IfOk, Some, None, reverse};
+ghost use Rattle.std.specs.Prelude.{◌≡◌, ◌+◌, ◌<◌, ◌≤◌, List, [], ◌∷◌, ◌++◌, length, IfOk, Some};
+ghost use Rattle.std.specs.Prelude.{None, reverse};
 ghost use Rattle.cm_machine.specs.Stack.{top_of, below_top};
 
 use crate::frame::Frame;

@@ -1,10 +1,14 @@
 //! One step of the machine, and whole runs.
 
-ghost use Rattle.std.specs.Prelude.{◌≡◌, ◌+◌, ◌*◌, ◌<◌, ◌≤◌, List, [], ◌∷◌, true, false, length, Option, Some, None, IfOk, OnErr, OnOk, IsErrOf, IfErr, slice_set, vec_len, vec_capacity, ◌↔◌, ◌⊎◌};
+ghost use Rattle.std.specs.Prelude.{◌≡◌, ◌+◌, ◌*◌, ◌<◌, ◌≤◌, List, [], ◌∷◌, true, false, length};
+ghost use Rattle.std.specs.Prelude.{Option, Some, None, IfOk, OnErr, OnOk, IsErrOf, IfErr};
+ghost use Rattle.std.specs.Prelude.{slice_set, vec_len, vec_capacity, ◌↔◌, ◌⊎◌};
 ghost use Rattle.cm_machine.specs.Memories.{bytes_of, written, grown, pages_of};
 ghost use Rattle.cm_machine.specs.Stack.{actor, top_of};
 ghost use Rattle.cm_machine.specs.State.{State, IsValid, core_at, trapped};
-ghost use Rattle.cm_machine.specs.Step.{first, checks, call_checks, may_grow, memory_of, with_memory, Grows, Calls, Returns, Passes, may_want_memory, StepAt, Step};
+ghost use Rattle.cm_machine.specs.Step.{first, checks, call_checks, may_grow, memory_of};
+ghost use Rattle.cm_machine.specs.Step.{with_memory, Grows, Calls, Returns, Passes};
+ghost use Rattle.cm_machine.specs.Step.{may_want_memory, StepAt, Step};
 ghost use Rattle.cm_machine.specs.Run.{is_last, begun, misuse_of_begin, Run};
 ghost use Rattle.std.specs.Result.{result_err};
 

@@ -1,6 +1,7 @@
 -- Which export of an earlier component each import of a set is linked to (how components are linked is
 -- this project's own choice).
-use Rattle.std.specs.Prelude.{◌≡◌, ℕ, ◌+◌, ◌<◌, ◌≤◌, List, [], ◌∷◌, ◌++◌, length, take, map, filter, Option, Some, None, slice_get, option_and_then}
+use Rattle.std.specs.Prelude.{◌≡◌, ℕ, ◌+◌, ◌<◌, ◌≤◌, List, [], ◌∷◌, ◌++◌, length, take, map, filter}
+use Rattle.std.specs.Prelude.{Option, Some, None, slice_get, option_and_then}
 use Rattle.std.specs.Str.{bytes_eq}
 use Rattle.cm_component.specs.Trees.{SectionTree}
 use Rattle.cm_types.specs.Signatures.{SignatureTy, NamedExtern, ExternTy, func}

@@ -4,7 +4,8 @@ ghost use Rattle.std.specs.Prelude.{◌≡◌, ◌↔◌, IsTrue, IfOk, IfErr, t
 ghost use Rattle.std.specs.Option.{option_map};
 ghost use Rattle.cm_types.specs.Funcs.{func_of};
 ghost use Rattle.cm_types.specs.Signatures.{extern_of, extern_type_of};
-ghost use Rattle.cm_match.specs.Links.{Entry, entry, exports_from, export_at, signatures, IsSame, IsServed, Fails};
+ghost use Rattle.cm_match.specs.Links.{Entry, entry, exports_from, export_at, signatures, IsSame};
+ghost use Rattle.cm_match.specs.Links.{IsServed, Fails};
 ghost use Rattle.cm_match.specs.Offers.{AreOffers};
 
 use crate::fault::LinkReason;

@@ -1,12 +1,14 @@
 //! Linking of a set of components.
 
-ghost use Rattle.std.specs.Prelude.{◌≡◌, ◌+◌, ◌<◌, ◌≤◌, ◌⊎◌, ◌++◌, IfOk, OnOk, IfErr, length, map, take, slice_get, option_and_then, None};
+ghost use Rattle.std.specs.Prelude.{◌≡◌, ◌+◌, ◌<◌, ◌≤◌, ◌⊎◌, ◌++◌, IfOk, OnOk, IfErr, length, map};
+ghost use Rattle.std.specs.Prelude.{take, slice_get, option_and_then, None};
 ghost use Rattle.std.specs.Option.{option_map};
 ghost use Rattle.std.specs.List.{AllByRecursion};
 ghost use Rattle.cm_types.specs.Signatures.{extern_of};
 ghost use Rattle.cm_validate.specs.Spaces.{spaces_of, func_at};
 ghost use Rattle.cm_match.specs.declared.fault.LinkReason.TheVariants as reason;
-ghost use Rattle.cm_match.specs.Links.{Entry, entry, entries, exports_from, signatures, line, IsServed, Fails, IsFirstUnserved, Matches};
+ghost use Rattle.cm_match.specs.Links.{Entry, entry, entries, exports_from, signatures, line};
+ghost use Rattle.cm_match.specs.Links.{IsServed, Fails, IsFirstUnserved, Matches};
 ghost use Rattle.cm_match.specs.Offers.{AreOffers};
 ghost use Rattle.cm_match.specs.Progress.{Progress, imports_of_rest};
 ghost use Rattle.cm_match.specs.Reached.{reached_tree, table, IsTable};

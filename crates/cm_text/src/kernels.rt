@@ -1,6 +1,7 @@
 //! Runs of ASCII, sixteen lanes at a time.
 
-ghost use Rattle.std.specs.Prelude.{◌≡◌, ℕ, ◌+◌, ◌*◌, ◌<◌, ◌≤◌, List, ◌++◌, length, take, drop, map, nat_lt, IsTrue};
+ghost use Rattle.std.specs.Prelude.{◌≡◌, ℕ, ◌+◌, ◌*◌, ◌<◌, ◌≤◌, List, ◌++◌, length, take, drop};
+ghost use Rattle.std.specs.Prelude.{map, nat_lt, IsTrue};
 ghost use Rattle.std.specs.Char.{IsScalar, is_ascii};
 ghost use Rattle.std.specs.List.{AllByRecursion, prefix_len, flat_map};
 ghost use Rattle.std.specs.Simd.Lanes.{chunk, zip2};

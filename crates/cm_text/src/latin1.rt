@@ -10,7 +10,8 @@ use crate::{Source, TextFault, sizes, writes};
 pub struct Latin1;
 
 impl Source for Latin1 {
-    ghost use Rattle.cm_text.specs.Latin1Laws.{latin1_only_scalars, latin1_some_byte, latin1_one_spelling, latin1_units};
+    ghost use Rattle.cm_text.specs.Latin1Laws.{latin1_only_scalars, latin1_some_byte};
+    ghost use Rattle.cm_text.specs.Latin1Laws.{latin1_one_spelling, latin1_units};
 
     ghost has = { HasLatin1 };
 

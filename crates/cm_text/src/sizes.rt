@@ -1,6 +1,7 @@
 //! How many bytes a text takes in another encoding, sixteen lanes at a time.
 
-ghost use Rattle.std.specs.Prelude.{◌≡◌, ℕ, ◌+◌, ◌*◌, ◌<◌, ◌≤◌, List, length, nat_le, count_by, sum_by};
+ghost use Rattle.std.specs.Prelude.{◌≡◌, ℕ, ◌+◌, ◌*◌, ◌<◌, ◌≤◌, List, length, nat_le, count_by};
+ghost use Rattle.std.specs.Prelude.{sum_by};
 ghost use Rattle.std.specs.List.{flat_map};
 ghost use Rattle.std.specs.Char.{IsScalar};
 ghost use Rattle.std.specs.Simd.Lanes.{chunk, zip2};

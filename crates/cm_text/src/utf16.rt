@@ -1,6 +1,7 @@
 //! UTF-16, each unit little end first (the Unicode Standard, D91 and D97).
 
-ghost use Rattle.std.specs.Prelude.{◌≡◌, ℕ, ◌+◌, ◌<◌, ◌≤◌, List, ◌++◌, length, take, drop, OnOk, IfErr, IfSome, IfNone};
+ghost use Rattle.std.specs.Prelude.{◌≡◌, ℕ, ◌+◌, ◌<◌, ◌≤◌, List, ◌++◌, length, take, drop, OnOk};
+ghost use Rattle.std.specs.Prelude.{IfErr, IfSome, IfNone};
 ghost use Rattle.cm_text.specs.Fault.{IsIllFormed};
 ghost use Rattle.std.specs.Char.{IsScalar};
 ghost use Rattle.cm_text.specs.Text.{BeginsWith, BeginsWithSome, IsSomeText, IsTextUpTo};

@@ -1,6 +1,7 @@
 //! UTF-8 (the Unicode Standard, D92).
 
-ghost use Rattle.std.specs.Prelude.{◌≡◌, ◌+◌, ◌*◌, ◌%◌, ◌<◌, ◌≤◌, ◌++◌, length, take, drop, OnOk, IfErr};
+ghost use Rattle.std.specs.Prelude.{◌≡◌, ◌+◌, ◌*◌, ◌%◌, ◌<◌, ◌≤◌, ◌++◌, length, take, drop, OnOk};
+ghost use Rattle.std.specs.Prelude.{IfErr};
 ghost use Rattle.std.specs.Char.{IsScalar};
 ghost use Rattle.cm_text.specs.Text.{BeginsWith, BeginsWithSome, IsSomeText, IsTextUpTo};
 ghost use Rattle.cm_text.specs.Fault.{IsIllFormed};

@@ -1,6 +1,7 @@
 -- Extern names: the names of imports and exports, and of an instance's items (Binary.md, "Import and
 -- Export Definitions"; Explainer.md, "Import and Export Definitions").
-use Rattle.std.specs.Prelude.{◌≡◌, ℕ, Bool, false, ◌||◌, ◌==◌, List, [], ◌∷◌, ◌++◌, Option, Some, None, is_none, IfSome, IsTrue, codes, is_ok, nat_le, if◌then◌else◌}
+use Rattle.std.specs.Prelude.{◌≡◌, ℕ, Bool, false, ◌||◌, ◌==◌, List, [], ◌∷◌, ◌++◌, Option, Some}
+use Rattle.std.specs.Prelude.{None, is_none, IfSome, IsTrue, codes, is_ok, nat_le, if◌then◌else◌}
 use Rattle.std.specs.List.{list_any}
 use Rattle.std.specs.Option.{option_map, option_map_or}
 use Rattle.semver.specs.Parse.{version_parts}

@@ -1,6 +1,7 @@
 -- How large a type is, and the limits within which types stay (this project's own choice).
 use Rattle.std.specs.Prelude.{ℕ, ◌+◌, ◌*◌, ◌≤◌, max, Option, Some, None}
-use Rattle.cm_types.specs.Types.{Ty, Fields, Cases, list, fixed_list, fields, cases, no_fields, field, no_cases, plain, carrying}
+use Rattle.cm_types.specs.Types.{Ty, Fields, Cases, list, fixed_list, fields, cases, no_fields}
+use Rattle.cm_types.specs.Types.{field, no_cases, plain, carrying}
 
 abbrev mutual
   -- the nodes of a type: 1 for a leaf, and for what holds other types 1 more than these have together.

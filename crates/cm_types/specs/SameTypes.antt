@@ -1,9 +1,14 @@
 -- Equality of types up to what stands for a resource.
-use Rattle.std.specs.Prelude.{ℕ, ◌==◌, ◌&&◌, Bool, true, false, List, [], ◌∷◌, slice_index_or, Option, Some, None}
+use Rattle.std.specs.Prelude.{ℕ, ◌==◌, ◌&&◌, Bool, true, false, List, [], ◌∷◌, slice_index_or}
+use Rattle.std.specs.Prelude.{Option, Some, None}
 use Rattle.std.specs.Option.{option_map}
 use Rattle.std.specs.Str.{bytes_eq}
 use Rattle.cm_types.specs.declared.resource.ResourceId.{ResourceId}
-use Rattle.cm_types.specs.Types.{Ty, FuncTy, Fields, Cases, FieldsKind, CasesKind, Width, bits_8, bits_16, bits_32, bits_64, bool, signed, unsigned, char, string, list, fixed_list, fields, cases, flags, own, borrow, no_fields, field, no_cases, plain, carrying, record_type, tuple_type, variant_type, enum_type, option_type, result_type}
+use Rattle.cm_types.specs.Types.{Ty, FuncTy, Fields, Cases, FieldsKind, CasesKind, Width, bits_8}
+use Rattle.cm_types.specs.Types.{bits_16, bits_32, bits_64, bool, signed, unsigned, char, string}
+use Rattle.cm_types.specs.Types.{list, fixed_list, fields, cases, flags, own, borrow, no_fields}
+use Rattle.cm_types.specs.Types.{field, no_cases, plain, carrying, record_type, tuple_type}
+use Rattle.cm_types.specs.Types.{variant_type, enum_type, option_type, result_type}
 
 -- what stands for a resource: the member of the list at its number, or itself where there is none
 abbrev pub resolve : List ResourceId → ResourceId → ResourceId

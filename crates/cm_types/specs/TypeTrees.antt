@@ -2,12 +2,17 @@
 use Rattle.std.specs.Prelude.{ℕ, List, [], ◌∷◌, map, Option, Some, None, codes}
 use Rattle.std.specs.declared.alloc.Global.{Global}
 use Rattle.std.specs.declared.boxed.Box.{Box}
-use Rattle.cm_types.specs.Types.{Ty, Fields, Cases, bool, signed, unsigned, char, string, list, fixed_list, fields, cases, flags, own, borrow, no_fields, field, no_cases, plain, carrying, record_type, tuple_type, variant_type, enum_type, option_type, result_type, bits_8, bits_16, bits_32, bits_64}
+use Rattle.cm_types.specs.Types.{Ty, Fields, Cases, bool, signed, unsigned, char, string, list}
+use Rattle.cm_types.specs.Types.{fixed_list, fields, cases, flags, own, borrow, no_fields, field}
+use Rattle.cm_types.specs.Types.{no_cases, plain, carrying, record_type, tuple_type, variant_type}
+use Rattle.cm_types.specs.Types.{enum_type, option_type, result_type, bits_8, bits_16, bits_32}
+use Rattle.cm_types.specs.Types.{bits_64}
 use Rattle.cm_types.specs.declared.type_trees.TypeNode.{TypeNode}
 use Rattle.cm_types.specs.declared.type_trees.Field.{Field}
 use Rattle.cm_types.specs.declared.type_trees.Case.{Case}
 use Rattle.cm_types.specs.declared.type_trees.TypeNode.TheOpen as node
-use Rattle.cm_types.specs.declared.type_trees.TypeNode.TheFolds.{fold-TypeNode, fold-Case, fold-Field}
+use Rattle.cm_types.specs.declared.type_trees.TypeNode.TheFolds.{fold-TypeNode, fold-Case}
+use Rattle.cm_types.specs.declared.type_trees.TypeNode.TheFolds.{fold-Field}
 
 -- a label with a type, and one with a payload or none
 abbrev pub TypedLabel : Type 0

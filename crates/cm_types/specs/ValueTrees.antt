@@ -4,7 +4,8 @@ use Rattle.std.specs.Str.{chars}
 use Rattle.std.specs.String.{string_bytes}
 use Rattle.std.specs.declared.alloc.Global.{Global}
 use Rattle.std.specs.declared.boxed.Box.{Box}
-use Rattle.cm_types.specs.Values.{Val, Vals, no_vals, val, truth, signed_number, number, scalar, text, elements, parts, bare, bearing, flag_set, handle}
+use Rattle.cm_types.specs.Values.{Val, Vals, no_vals, val, truth, signed_number, number, scalar}
+use Rattle.cm_types.specs.Values.{text, elements, parts, bare, bearing, flag_set, handle}
 use Rattle.cm_types.specs.declared.values.Value.{Value}
 use Rattle.cm_types.specs.declared.values.Value.TheOpen as value
 use Rattle.cm_types.specs.declared.values.Value.TheFolds.{fold-Value}

@@ -1,8 +1,11 @@
 -- Values of components, and which types they have (Explainer.md, "Value Types").
-use Rattle.std.specs.Prelude.{◌≡◌, ℕ, zero, suc, ℤ, pos, neg_ℤ, ◌+◌, ◌*◌, ◌-◌, ◌<◌, ◌^◌, ◌⊎◌, ◌≤ℤ◌, ◌<ℤ◌, Bool, List, length, ⊤}
+use Rattle.std.specs.Prelude.{◌≡◌, ℕ, zero, suc, ℤ, pos, neg_ℤ, ◌+◌, ◌*◌, ◌-◌, ◌<◌, ◌^◌, ◌⊎◌, ◌≤ℤ◌}
+use Rattle.std.specs.Prelude.{◌<ℤ◌, Bool, List, length, ⊤}
 use Rattle.std.specs.List.{AllByRecursion}
 use Rattle.cm_types.specs.declared.resource.ResourceId.{ResourceId}
-use Rattle.cm_types.specs.Types.{Ty, Fields, Cases, Width, width_bytes, bool, signed, unsigned, char, string, list, fixed_list, fields, cases, flags, own, borrow, no_fields, field, no_cases, plain, carrying}
+use Rattle.cm_types.specs.Types.{Ty, Fields, Cases, Width, width_bytes, bool, signed, unsigned}
+use Rattle.cm_types.specs.Types.{char, string, list, fixed_list, fields, cases, flags, own, borrow}
+use Rattle.cm_types.specs.Types.{no_fields, field, no_cases, plain, carrying}
 
 -- a handle on its way: the serial number of the resource that it stands for, the representation, and the
 -- resource type

@@ -5,7 +5,12 @@ ghost use Rattle.std.specs.Option.{option_map};
 ghost use Rattle.std.specs.List.{list_any};
 ghost use Rattle.semver.specs.Parse.{memory_error};
 ghost use Rattle.cm_types.specs.Names.{label_fault};
-ghost use Rattle.cm_types.specs.ExternNames.{cut, cut_or_all, extern_name_fault, form_of, interface_of, interface_parts, is_bracketed, is_interface_mark, is_version, labels_fault, least_fault, member, method, parts_fault, static, spelling, unannotated, version_fault, without_front, HasLabels};
+ghost use Rattle.cm_types.specs.ExternNames.{cut, cut_or_all, extern_name_fault, form_of};
+ghost use Rattle.cm_types.specs.ExternNames.{interface_of, interface_parts, is_bracketed};
+ghost use Rattle.cm_types.specs.ExternNames.{is_interface_mark, is_version, labels_fault};
+ghost use Rattle.cm_types.specs.ExternNames.{least_fault, member, method, parts_fault, static};
+ghost use Rattle.cm_types.specs.ExternNames.{spelling, unannotated, version_fault, without_front};
+ghost use Rattle.cm_types.specs.ExternNames.{HasLabels};
 ghost use Rattle.cm_types.specs.ExternNameForms.{form_tree, pair_view};
 
 use crate::names::{NameFault, label_fault};

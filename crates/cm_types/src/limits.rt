@@ -2,7 +2,9 @@
 
 ghost use Rattle.std.specs.Prelude.{◌≡◌, ◌≤◌, ◌+◌, min};
 ghost use Rattle.cm_types.specs.TypeTrees.{boxed_payload, cases_of, fields_of, parts_of, type_of};
-ghost use Rattle.cm_types.specs.Limits.{depth_of, depth_of_cases, depth_of_fields, nodes_of, nodes_of_cases, nodes_of_fields, payload_depth, payload_nodes};
+ghost use Rattle.cm_types.specs.Limits.{depth_of, depth_of_cases, depth_of_fields, nodes_of};
+ghost use Rattle.cm_types.specs.Limits.{nodes_of_cases, nodes_of_fields, payload_depth};
+ghost use Rattle.cm_types.specs.Limits.{payload_nodes};
 
 use crate::type_trees::{Case, Field, TypeNode};
 

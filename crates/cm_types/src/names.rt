@@ -2,7 +2,8 @@
 
 ghost use Rattle.std.specs.Prelude.{◌≡◌, IfOk, IfErr, ◌⊎◌, Some};
 ghost use Rattle.std.specs.List.{list_all};
-ghost use Rattle.cm_types.specs.Names.{is_in_word, is_in_acronym, is_fragment, is_label, is_same_name, label_fault};
+ghost use Rattle.cm_types.specs.Names.{is_in_word, is_in_acronym, is_fragment, is_label};
+ghost use Rattle.cm_types.specs.Names.{is_same_name, label_fault};
 ghost use Rattle.cm_types.specs.Faults.{fault_number};
 
 use std::alloc::{AllocError, Global};

@@ -3,9 +3,12 @@
 ghost use Rattle.std.specs.Prelude.{◌≡◌, ◌↔◌, IsTrue};
 ghost use Rattle.std.specs.Option.{option_map};
 ghost use Rattle.std.specs.Str.{bytes_eq};
-ghost use Rattle.cm_types.specs.SameTypes.{resolve, resolved, resolved_func, same_case, same_cases, same_fields, same_func, same_labels, same_payload, same_resource, same_type};
+ghost use Rattle.cm_types.specs.SameTypes.{resolve, resolved, resolved_func, same_case, same_cases};
+ghost use Rattle.cm_types.specs.SameTypes.{same_fields, same_func, same_labels, same_payload};
+ghost use Rattle.cm_types.specs.SameTypes.{same_resource, same_type};
 ghost use Rattle.cm_types.specs.Funcs.{func_of, tree_type};
-ghost use Rattle.cm_types.specs.TypeTrees.{boxed_payload, case_of, cases_of, fields_of, parts_of, type_of};
+ghost use Rattle.cm_types.specs.TypeTrees.{boxed_payload, case_of, cases_of, fields_of, parts_of};
+ghost use Rattle.cm_types.specs.TypeTrees.{type_of};
 
 use crate::names::Label;
 use crate::resource::ResourceId;

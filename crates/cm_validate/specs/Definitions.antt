@@ -10,7 +10,8 @@ use Rattle.cm_validate.specs.declared.definitions.CoreFuncDef.{CoreFuncDef}
 use Rattle.cm_validate.specs.declared.definitions.CoreFuncDef.TheVariants as core_func_def
 use Rattle.cm_validate.specs.declared.definitions.FuncDef.{FuncDef}
 use Rattle.cm_validate.specs.declared.definitions.FuncDef.TheVariants as func_def
-use Rattle.cm_validate.specs.Spaces.{ImportedFunc, ExportedFunc, CoreFuncTree, FuncDefTree, guest, lowered, lifted, imported}
+use Rattle.cm_validate.specs.Spaces.{ImportedFunc, ExportedFunc, CoreFuncTree, FuncDefTree, guest}
+use Rattle.cm_validate.specs.Spaces.{lowered, lifted, imported}
 
 abbrev pub core_func_tree : CoreFuncDef → CoreFuncTree
 core_func_tree (core_func_def.Guest instance name) = guest instance (string_bytes name)

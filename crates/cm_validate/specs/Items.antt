@@ -1,7 +1,9 @@
 -- The definitions of a component, one after another (Binary.md, "Component Definitions").
 use Rattle.std.specs.Prelude.{List, [], ◌∷◌, ◌++◌, map}
 use Rattle.cm_types.specs.DefTypes.{DefTypeTree}
-use Rattle.cm_component.specs.Trees.{CoreInstanceTree, AliasTree, ImportTree, ExportTree, SectionTree, custom, core_module, core_instances, aliases, types, canons, imports, exports}
+use Rattle.cm_component.specs.Trees.{CoreInstanceTree, AliasTree, ImportTree, ExportTree}
+use Rattle.cm_component.specs.Trees.{SectionTree, custom, core_module, core_instances, aliases}
+use Rattle.cm_component.specs.Trees.{types, canons, imports, exports}
 use Rattle.cm_component.specs.declared.section.Canon.{Canon}
 
 -- one definition, of whatever section

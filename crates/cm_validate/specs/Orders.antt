@@ -1,13 +1,17 @@
 -- The index spaces one sort at a time: each is what the items add to it, in order.
-use Rattle.std.specs.Prelude.{◌≡◌, ℕ, List, [], ◌∷◌, ◌++◌, length, Option, None, slice_get, option_map, option_and_then, option_to_list}
+use Rattle.std.specs.Prelude.{◌≡◌, ℕ, List, [], ◌∷◌, ◌++◌, length, Option, None, slice_get}
+use Rattle.std.specs.Prelude.{option_map, option_and_then, option_to_list}
 use Rattle.cm_types.specs.Types.{FuncTy}
 use Rattle.cm_types.specs.DefTypes.{func_def}
 use Rattle.cm_component.specs.Trees.{SectionTree, instantiate, core_instance_export}
 use Rattle.cm_component.specs.declared.section.Canon.TheVariants as canon
 use Rattle.cm_component.specs.declared.section.ExternDesc.TheVariants as desc
 use Rattle.cm_component.specs.declared.section.ExternDesc.{ExternDesc}
-use Rattle.cm_validate.specs.Items.{Item, all_items, core_instance_item, alias_item, type_item, canon_item, import_item, export_item}
-use Rattle.cm_validate.specs.Spaces.{Space, CoreFuncTree, FuncDefTree, ImportedFunc, ExportedFunc, guest, lifted, imported, lowered_import, func_type_of, expanded, nothing, grown, spaces_of}
+use Rattle.cm_validate.specs.Items.{Item, all_items, core_instance_item, alias_item, type_item}
+use Rattle.cm_validate.specs.Items.{canon_item, import_item, export_item}
+use Rattle.cm_validate.specs.Spaces.{Space, CoreFuncTree, FuncDefTree, ImportedFunc, ExportedFunc}
+use Rattle.cm_validate.specs.Spaces.{guest, lifted, imported, lowered_import, func_type_of}
+use Rattle.cm_validate.specs.Spaces.{expanded, nothing, grown, spaces_of}
 
 -- what an item adds to each sort, given the spaces before it
 abbrev pub added_core_instances : Space → Item → List ℕ

@@ -1,13 +1,15 @@
 -- The rules that a valid component keeps, item by item (Explainer.md, "Component Definitions" and the
 -- sections after it; CanonicalABI.md, "Canonical Definitions"; the numbers of the reasons, their order
 -- and the limits are this project's own choice).
-use Rattle.std.specs.Prelude.{ℕ, ◌+◌, Bool, true, false, ◌&&◌, not, nat_lt, nat_le, List, [], ◌∷◌, length, map, slice_get}
+use Rattle.std.specs.Prelude.{ℕ, ◌+◌, Bool, true, false, ◌&&◌, not, nat_lt, nat_le, List, [], ◌∷◌}
+use Rattle.std.specs.Prelude.{length, map, slice_get}
 use Rattle.std.specs.List.{list_all, list_any}
 use Rattle.std.specs.Option.{option_map_or}
 use Rattle.std.specs.Char.{to_ascii_lowercase}
 use Rattle.std.specs.Str.{bytes_eq}
 use Rattle.cm_types.specs.Names.{is_same_name}
-use Rattle.cm_types.specs.ExternNames.{NameTree, plain, method, static, constructor, interface, form_of}
+use Rattle.cm_types.specs.ExternNames.{NameTree, plain, method, static, constructor, interface}
+use Rattle.cm_types.specs.ExternNames.{form_of}
 use Rattle.cm_types.specs.Types.{FuncTy, Fields, no_fields, field}
 use Rattle.cm_types.specs.DefTypes.{FuncTypeTree, func_def}
 use Rattle.cm_component.specs.Trees.{instantiate, core_instance_export}
@@ -17,8 +19,10 @@ use Rattle.cm_component.specs.declared.section.ExternDesc.{ExternDesc}
 use Rattle.cm_component.specs.declared.section.ExternDesc.TheVariants as desc
 use Rattle.cm_validate.specs.declared.fault.ValidReason.{ValidReason}
 use Rattle.cm_validate.specs.declared.fault.ValidReason.TheVariants as reason
-use Rattle.cm_validate.specs.Items.{Item, module_item, core_instance_item, alias_item, type_item, canon_item, import_item, export_item}
-use Rattle.cm_validate.specs.Spaces.{Space, CoreFuncTree, FuncDefTree, guest, lowered, lifted, imported, func_type_of}
+use Rattle.cm_validate.specs.Items.{Item, module_item, core_instance_item, alias_item, type_item}
+use Rattle.cm_validate.specs.Items.{canon_item, import_item, export_item}
+use Rattle.cm_validate.specs.Spaces.{Space, CoreFuncTree, FuncDefTree, guest, lowered, lifted}
+use Rattle.cm_validate.specs.Spaces.{imported, func_type_of}
 
 -- no two of these texts are equal
 abbrev pub are_distinct : List (List ℕ) → Bool

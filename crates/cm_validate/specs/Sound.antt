@@ -4,7 +4,8 @@ use Rattle.std.specs.Prelude.{◌≡◌, ℕ, true, List, Some, None, slice_get}
 use Rattle.std.specs.List.{AllByRecursion}
 use Rattle.cm_types.specs.Types.{FuncTy}
 use Rattle.cm_validate.specs.Rules.{is_flat}
-use Rattle.cm_validate.specs.Spaces.{Space, CoreFuncTree, FuncDefTree, ImportedFunc, ExportedFunc, guest, lowered, lifted, imported, func_type_of}
+use Rattle.cm_validate.specs.Spaces.{Space, CoreFuncTree, FuncDefTree, ImportedFunc, ExportedFunc}
+use Rattle.cm_validate.specs.Spaces.{guest, lowered, lifted, imported, func_type_of}
 
 -- the import of this number is a function of this type
 pub record Imports (s : Space) (import : ℕ) (ty : FuncTy) : Type 0 where

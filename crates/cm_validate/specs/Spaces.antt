@@ -1,6 +1,7 @@
 -- The index spaces of a component: for each sort the definitions that the items before a place add, in
 -- order (Explainer.md, "Index Spaces").
-use Rattle.std.specs.Prelude.{ℕ, ◌+◌, List, [], ◌∷◌, ◌++◌, length, map, Option, Some, None, slice_get, option_map, option_and_then, option_to_list}
+use Rattle.std.specs.Prelude.{ℕ, ◌+◌, List, [], ◌∷◌, ◌++◌, length, map, Option, Some, None}
+use Rattle.std.specs.Prelude.{slice_get, option_map, option_and_then, option_to_list}
 use Rattle.cm_types.specs.DefTypes.{FuncTypeTree, func_def}
 use Rattle.cm_types.specs.Types.{Ty, FuncTy, unsigned, bits_32}
 use Rattle.cm_types.specs.TypeTrees.{fields_from}
@@ -12,7 +13,8 @@ use Rattle.cm_component.specs.declared.section.Canon.{Canon}
 use Rattle.cm_component.specs.declared.section.Canon.TheVariants as canon
 use Rattle.cm_component.specs.declared.section.ExternDesc.{ExternDesc}
 use Rattle.cm_component.specs.declared.section.ExternDesc.TheVariants as desc
-use Rattle.cm_validate.specs.Items.{Item, module_item, core_instance_item, alias_item, type_item, canon_item, import_item, export_item, all_items}
+use Rattle.cm_validate.specs.Items.{Item, module_item, core_instance_item, alias_item, type_item}
+use Rattle.cm_validate.specs.Items.{canon_item, import_item, export_item, all_items}
 
 -- a value type, and the type of a function, with every index expanded
 abbrev pub expanded_value : ValType → Ty

@@ -2,7 +2,8 @@
 use Rattle.std.specs.Prelude.{map}
 use Rattle.cm_validate.specs.declared.spaces.Spaces.{Spaces}
 use Rattle.cm_types.specs.Funcs.{func_of}
-use Rattle.cm_validate.specs.Definitions.{core_func_tree, func_def_tree, imported_func, exported_func}
+use Rattle.cm_validate.specs.Definitions.{core_func_tree, func_def_tree, imported_func}
+use Rattle.cm_validate.specs.Definitions.{exported_func}
 use Rattle.cm_validate.specs.Spaces.{Space}
 
 abbrev pub space_of : Spaces → Space

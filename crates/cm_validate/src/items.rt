@@ -4,10 +4,12 @@ ghost use Rattle.std.specs.Prelude.{◌≡◌, ℕ, [], ◌∷◌, None, IfOk, O
 ghost use Rattle.std.specs.List.{list_all};
 ghost use Rattle.cm_types.specs.Funcs.{func_of};
 ghost use Rattle.cm_types.specs.DefTypes.{def_type_tree};
-ghost use Rattle.cm_component.specs.Trees.{instantiate, arg_tree, core_instance_tree, alias_tree, import_tree, export_tree};
+ghost use Rattle.cm_component.specs.Trees.{instantiate, arg_tree, core_instance_tree, alias_tree};
+ghost use Rattle.cm_component.specs.Trees.{import_tree, export_tree};
 ghost use Rattle.cm_component.specs.declared.section.Canon.TheVariants as canon;
 ghost use Rattle.cm_validate.specs.declared.fault.ValidReason.TheVariants as reason;
-ghost use Rattle.cm_validate.specs.Items.{Item, core_instance_item, alias_item, type_item, canon_item, import_item, export_item};
+ghost use Rattle.cm_validate.specs.Items.{Item, core_instance_item, alias_item, type_item};
+ghost use Rattle.cm_validate.specs.Items.{canon_item, import_item, export_item};
 ghost use Rattle.cm_validate.specs.Definitions.{func_def_tree, core_func_tree};
 ghost use Rattle.cm_validate.specs.Rules.{rules, canon_rules, is_flat, is_guest, is_plain_label};
 ghost use Rattle.cm_validate.specs.Spaces.{grown, after_canon, func_type_of};
