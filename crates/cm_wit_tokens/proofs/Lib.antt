@@ -1,0 +1,5 @@
+mod RunLaws
+mod CommentLaws
+mod DigitLaws
+mod FrontLaws
+mod LexedLaws

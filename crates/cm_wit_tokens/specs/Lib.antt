@@ -1,0 +1,6 @@
+pub mod Keywords
+pub mod Operators
+pub mod Comments
+pub mod Runs
+pub mod Tokens
+pub mod LexedViews

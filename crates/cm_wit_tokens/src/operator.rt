@@ -1,0 +1,50 @@
+//! The operators of WIT texts.
+
+ghost use Rattle.std.specs.Prelude.{◌≡◌};
+ghost use Rattle.cm_wit_tokens.specs.Operators.{operator_of};
+
+/// A mark of one byte, or the arrow of two (WIT.md, "Operators and Packages delimiters").
+#[derive(Clone, Copy, PartialEq, Eq)]
+pub enum Operator {
+    Equals,
+    Comma,
+    Colon,
+    Semicolon,
+    LeftParenthesis,
+    RightParenthesis,
+    LeftBrace,
+    RightBrace,
+    LessThan,
+    GreaterThan,
+    /// `->`
+    Arrow,
+    Slash,
+    Period,
+    At,
+    Underscore,
+}
+
+impl Operator {
+    /// The operator that one byte is, if it is one.
+    pub fn of_byte(byte: u8) -> Option<Operator>
+        ensures { result ≡ operator_of byte }
+    {
+        match byte {
+            b'=' => Some(Operator::Equals),
+            b',' => Some(Operator::Comma),
+            b':' => Some(Operator::Colon),
+            b';' => Some(Operator::Semicolon),
+            b'(' => Some(Operator::LeftParenthesis),
+            b')' => Some(Operator::RightParenthesis),
+            b'{' => Some(Operator::LeftBrace),
+            b'}' => Some(Operator::RightBrace),
+            b'<' => Some(Operator::LessThan),
+            b'>' => Some(Operator::GreaterThan),
+            b'/' => Some(Operator::Slash),
+            b'.' => Some(Operator::Period),
+            b'@' => Some(Operator::At),
+            b'_' => Some(Operator::Underscore),
+            _ => None,
+        }
+    }
+}

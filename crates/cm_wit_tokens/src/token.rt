@@ -1,0 +1,38 @@
+//! The tokens of WIT texts.
+
+ghost use Rattle.std.specs.Prelude.{◌≡◌};
+ghost use Rattle.cm_wit_tokens.specs.Tokens.{is_at};
+
+use crate::keyword::Keyword;
+use crate::operator::Operator;
+use crate::version::Version;
+use cm_types::Label;
+
+/// What a token is (WIT.md, "Lexical structure").
+#[derive(Drop)]
+pub enum Form {
+    Operator(Operator),
+    Keyword(Keyword),
+    /// A label that is no keyword, or any label behind `%`.
+    Identifier(Label),
+    /// What stands directly behind `@`.
+    Version(Version),
+    /// Decimal digits, at most 4,294,967,295, with no zero in front.
+    Integer(u32),
+}
+
+impl Form {
+    /// Whether a version is to stand directly behind the token.
+    pub fn is_at(&self) -> bool
+        ensures { result ≡ is_at self.now }
+    {
+        matches!(self, Form::Operator(Operator::At))
+    }
+}
+
+/// A token, and how many bytes of the text are left from its first byte on.
+#[derive(Drop)]
+pub struct Token {
+    pub left: usize,
+    pub form: Form,
+}
