@@ -4,3 +4,4 @@ pub mod Comments
 pub mod Runs
 pub mod Tokens
 pub mod LexedViews
+pub mod Forms

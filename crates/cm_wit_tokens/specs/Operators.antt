@@ -1,5 +1,5 @@
 -- The operators of WIT texts (WIT.md, "Operators and Packages delimiters").
-use Rattle.std.specs.Prelude.{ℕ, Option, Some, None, if◌then◌else◌, ◌==◌}
+use Rattle.std.specs.Prelude.{ℕ, List, Option, Some, None, if◌then◌else◌, ◌==◌, codes}
 use Rattle.cm_wit_tokens.specs.declared.operator.Operator.{Operator}
 use Rattle.cm_wit_tokens.specs.declared.operator.Operator.TheVariants as operator
 
@@ -21,3 +21,21 @@ operator_of b =
     else if b == 0x40 then Some operator.At
     else if b == 0x5F then Some operator.Underscore
     else None
+
+-- how an operator is spelled
+abbrev pub operator_spelling : Operator → List ℕ
+operator_spelling operator.Equals = codes "="
+operator_spelling operator.Comma = codes ","
+operator_spelling operator.Colon = codes ":"
+operator_spelling operator.Semicolon = codes ";"
+operator_spelling operator.LeftParenthesis = codes "("
+operator_spelling operator.RightParenthesis = codes ")"
+operator_spelling operator.LeftBrace = codes "{"
+operator_spelling operator.RightBrace = codes "}"
+operator_spelling operator.LessThan = codes "<"
+operator_spelling operator.GreaterThan = codes ">"
+operator_spelling operator.Arrow = codes "->"
+operator_spelling operator.Slash = codes "/"
+operator_spelling operator.Period = codes "."
+operator_spelling operator.At = codes "@"
+operator_spelling operator.Underscore = codes "_"

@@ -1,7 +1,7 @@
 //! The operators of WIT texts.
 
 ghost use Rattle.std.specs.Prelude.{◌≡◌};
-ghost use Rattle.cm_wit_tokens.specs.Operators.{operator_of};
+ghost use Rattle.cm_wit_tokens.specs.Operators.{operator_of, operator_spelling};
 
 /// A mark of one byte, or the arrow of two (WIT.md, "Operators and Packages delimiters").
 #[derive(Clone, Copy, PartialEq, Eq)]
@@ -25,6 +25,29 @@ pub enum Operator {
 }
 
 impl Operator {
+    /// The operator in a text.
+    pub fn as_str(self) -> &'static str
+        ensures { result.now ≡ operator_spelling self }
+    {
+        match self {
+            Operator::Equals => "=",
+            Operator::Comma => ",",
+            Operator::Colon => ":",
+            Operator::Semicolon => ";",
+            Operator::LeftParenthesis => "(",
+            Operator::RightParenthesis => ")",
+            Operator::LeftBrace => "{",
+            Operator::RightBrace => "}",
+            Operator::LessThan => "<",
+            Operator::GreaterThan => ">",
+            Operator::Arrow => "->",
+            Operator::Slash => "/",
+            Operator::Period => ".",
+            Operator::At => "@",
+            Operator::Underscore => "_",
+        }
+    }
+
     /// The operator that one byte is, if it is one.
     pub fn of_byte(byte: u8) -> Option<Operator>
         ensures { result ≡ operator_of byte }

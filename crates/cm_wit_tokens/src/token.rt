@@ -2,6 +2,7 @@
 
 ghost use Rattle.std.specs.Prelude.{◌≡◌};
 ghost use Rattle.cm_wit_tokens.specs.Tokens.{is_at};
+ghost use Rattle.cm_wit_tokens.specs.Forms.{is_operator, is_keyword};
 
 use crate::keyword::Keyword;
 use crate::operator::Operator;
@@ -27,6 +28,26 @@ impl Form {
         ensures { result ≡ is_at self.now }
     {
         matches!(self, Form::Operator(Operator::At))
+    }
+
+    /// Whether the token is this operator.
+    pub fn is_operator(&self, operator: Operator) -> bool
+        ensures { result ≡ is_operator operator self.now }
+    {
+        match self {
+            Form::Operator(found) => found.as_str() == operator.as_str(),
+            _ => false,
+        }
+    }
+
+    /// Whether the token is this keyword.
+    pub fn is_keyword(&self, keyword: Keyword) -> bool
+        ensures { result ≡ is_keyword keyword self.now }
+    {
+        match self {
+            Form::Keyword(found) => found.as_str() == keyword.as_str(),
+            _ => false,
+        }
     }
 }
 

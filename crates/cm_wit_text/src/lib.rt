@@ -1,0 +1,13 @@
+//! WIT texts: the packages that their tokens are.
+#![tactic(auto)]
+
+mod cursor;
+mod fault;
+mod name;
+mod type_reader;
+mod types;
+
+pub use cursor::Cursor;
+pub use fault::{ReadError, WitFault, WitReason};
+pub use name::Name;
+pub use types::{Primitive, WitType};
