@@ -1,6 +1,6 @@
 -- Types (WIT.md, "Item: `ty`").
 use Rattle.std.specs.Prelude.{ℕ, zero, suc, Bool, List, [], ◌∷◌, Option, Some, None, Result, Ok, Err}
-use Rattle.std.specs.Prelude.{is_ok}
+use Rattle.std.specs.Prelude.{is_ok, if◌then◌else◌}
 use Rattle.cm_wit_tokens.specs.declared.keyword.Keyword.{Keyword}
 use Rattle.cm_wit_tokens.specs.declared.keyword.Keyword.TheVariants as word
 use Rattle.cm_wit_tokens.specs.declared.operator.Operator.TheVariants as operator
@@ -79,9 +79,29 @@ start_of (form.Identifier text) = Ok (whole (named text))
 start_of (form.Keyword k) = keyword_start (keyword_head k) k
 start_of f = Err (other_fault f)
 
+-- the same where no borrow may stand
+abbrev pub no_borrow : Form → Start → Result Start WitReason
+no_borrow f (whole x) = Ok (whole x)
+no_borrow f borrow_of = Err (other_fault f)
+no_borrow f list_of = Ok list_of
+no_borrow f option_of = Ok option_of
+no_borrow f tuple_of = Ok tuple_of
+no_borrow f result_of = Ok result_of
+
+abbrev pub borrowless : Form → Result Start WitReason → Result Start WitReason
+borrowless f (Ok h) = no_borrow f h
+borrowless f (Err r) = Err r
+
+abbrev pub start_in : Bool → Form → Result Start WitReason
+start_in borrows f = if borrows then start_of f else borrowless f (start_of f)
+
 -- whether a token begins a type
 abbrev pub begins_type : Form → Bool
 begins_type f = is_ok (start_of f)
+
+-- the same of types with or without borrows
+abbrev pub begins_type_in : Bool → Form → Bool
+begins_type_in borrows f = is_ok (start_in borrows f)
 
 -- one thing, and others behind commas, of which one more may stand at the end: {"," x} [","]
 abbrev pub next_item : {A : Type 0} → (Form → Bool) → Grammar A → Grammar (Option A)
@@ -150,10 +170,10 @@ abbrev pub too_deep : Result Start WitReason → Result Ty WitReason
 too_deep (Ok h) = Err reason.TooDeep
 too_deep (Err r) = Err r
 
--- a type that is at most so many deep
-unfoldable pub ty : ℕ → Grammar Ty
-ty zero = token (λ f. too_deep (start_of f))
-ty (suc room) = token start_of >>= λ h. rest_of (ty room) h
+-- a type that is at most so many deep, with or without borrows
+unfoldable pub ty : Bool → ℕ → Grammar Ty
+ty borrows zero = token (λ f. too_deep (start_in borrows f))
+ty borrows (suc room) = token (start_in borrows) >>= λ h. rest_of (ty borrows room) h
 
 -- a type is at most 64 deep (this project's own choice)
 abbrev pub most_depth : ℕ

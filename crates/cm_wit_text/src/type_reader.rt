@@ -6,21 +6,21 @@ ghost use Rattle.cm_wit_tokens.specs.Forms.{is_operator};
 ghost use Rattle.cm_wit_text.specs.Faults.{Gives};
 ghost use Rattle.cm_wit_text.specs.Grammar.{first, passes, token, steps, with_front};
 ghost use Rattle.cm_wit_text.specs.Reading.{Reads};
-ghost use Rattle.cm_wit_text.specs.Types.{begins_type, borrow_rest, error_rest, items, list_rest};
-ghost use Rattle.cm_wit_text.specs.Types.{next_item, only_error, option_rest, result_rest, start_of};
+ghost use Rattle.cm_wit_text.specs.Types.{begins_type, begins_type_in, borrow_rest, error_rest, items, list_rest};
+ghost use Rattle.cm_wit_text.specs.Types.{next_item, only_error, option_rest, result_rest, start_in};
 ghost use Rattle.cm_wit_text.specs.Types.{tuple_rest, ty};
 ghost use Rattle.cm_wit_text.specs.TypeViews.{head_tree, type_tree};
 
 use crate::cursor::Cursor;
 use crate::fault::{ReadError, WitReason};
-use crate::types::{Head, WitType, begins_type, keyword_head};
+use crate::types::{Head, WitType, begins_type, begins_type_in, keyword_head};
 use cm_wit_tokens::{Form, Operator};
 use std::alloc::Global;
 
 impl Cursor {
     /// Reads what the first token of a type says.
-    fn head(&mut self) -> Result<Head, ReadError>
-        ensures { Reads (token start_of) head_tree self.old self.new result }
+    fn head(&mut self, borrows: bool) -> Result<Head, ReadError>
+        ensures { Reads (token (start_in borrows)) head_tree self.old self.new result }
     {
         let keyword = match self.next() {
             Some(Form::Identifier(_)) => return Ok(Head::Named(self.name()?)),
@@ -28,6 +28,7 @@ impl Cursor {
             _ => return Err(self.unexpected()),
         };
         match keyword_head(keyword) {
+            Some(Head::Borrow) if !borrows => Err(self.unexpected()),
             Some(head) => {
                 self.take();
                 Ok(head)
@@ -46,12 +47,22 @@ impl Cursor {
         }
     }
 
+    /// The same of types without borrows where `borrows` is false.
+    fn next_begins_type_in(&self, borrows: bool) -> bool
+        ensures { result ≡ passes (begins_type_in borrows) (first self.now) }
+    {
+        match self.next() {
+            Some(form) => begins_type_in(form, borrows),
+            None => false,
+        }
+    }
+
     /// The fault where a type would be too deep.
     #[tactic(auto, using(crate::proofs::TypeLaws::deep_where_type))]
-    fn too_deep(&self) -> Result<WitType, ReadError>
-        ensures { Reads (ty 0) type_tree self.now self.now result }
+    fn too_deep(&self, borrows: bool) -> Result<WitType, ReadError>
+        ensures { Reads (ty borrows 0) type_tree self.now self.now result }
     {
-        if self.next_begins_type() {
+        if self.next_begins_type_in(borrows) {
             Err(ReadError::Fault(WitReason::TooDeep))
         } else {
             Err(self.unexpected())
@@ -67,33 +78,33 @@ impl Cursor {
         Ok(WitType::Borrow(name))
     }
 
-    /// Reads a type that is at most `room` deep. A deeper one is a fault at the first byte of the
+    /// Reads a type that is at most `room` deep; without `borrows` no borrow may stand in it. A deeper one is a fault at the first byte of the
     /// first type in it that is.
     #[cycle(types)]
     #[tactic(auto, unfolding(crate::specs::Types::ty))]
-    pub fn ty(&mut self, alloc: Global, room: u32) -> Result<WitType, ReadError>
-        ensures { Reads (ty room) type_tree self.old self.new result }
+    pub fn ty(&mut self, alloc: Global, borrows: bool, room: u32) -> Result<WitType, ReadError>
+        ensures { Reads (ty borrows room) type_tree self.old self.new result }
     {
         if room == 0 {
-            return self.too_deep();
+            return self.too_deep(borrows);
         }
-        match self.head()? {
+        match self.head(borrows)? {
             Head::Primitive(primitive) => Ok(WitType::Primitive(primitive)),
             Head::Named(name) => Ok(WitType::Named(name)),
             Head::Borrow => self.borrow_rest(),
-            Head::List => self.list_rest(alloc, room - 1),
-            Head::Option => self.option_rest(alloc, room - 1),
-            Head::Tuple => self.tuple_rest(alloc, room - 1),
-            Head::Result => self.result_rest(alloc, room - 1),
+            Head::List => self.list_rest(alloc, borrows, room - 1),
+            Head::Option => self.option_rest(alloc, borrows, room - 1),
+            Head::Tuple => self.tuple_rest(alloc, borrows, room - 1),
+            Head::Result => self.result_rest(alloc, borrows, room - 1),
         }
     }
 
     #[cycle(types)]
-    fn list_rest(&mut self, alloc: Global, room: u32) -> Result<WitType, ReadError>
-        ensures { Reads (list_rest (ty room)) type_tree self.old self.new result }
+    fn list_rest(&mut self, alloc: Global, borrows: bool, room: u32) -> Result<WitType, ReadError>
+        ensures { Reads (list_rest (ty borrows room)) type_tree self.old self.new result }
     {
         self.expect(Operator::LessThan)?;
-        let element = Box::new(alloc, self.ty(alloc, room)?)?;
+        let element = Box::new(alloc, self.ty(alloc, borrows, room)?)?;
         if self.next_is(Operator::Comma) {
             self.expect(Operator::Comma)?;
             let length = self.length()?;
@@ -106,34 +117,34 @@ impl Cursor {
     }
 
     #[cycle(types)]
-    fn option_rest(&mut self, alloc: Global, room: u32) -> Result<WitType, ReadError>
-        ensures { Reads (option_rest (ty room)) type_tree self.old self.new result }
+    fn option_rest(&mut self, alloc: Global, borrows: bool, room: u32) -> Result<WitType, ReadError>
+        ensures { Reads (option_rest (ty borrows room)) type_tree self.old self.new result }
     {
         self.expect(Operator::LessThan)?;
-        let payload = Box::new(alloc, self.ty(alloc, room)?)?;
+        let payload = Box::new(alloc, self.ty(alloc, borrows, room)?)?;
         self.expect(Operator::GreaterThan)?;
         Ok(WitType::Option(payload))
     }
 
     #[cycle(types)]
-    fn tuple_rest(&mut self, alloc: Global, room: u32) -> Result<WitType, ReadError>
-        ensures { Reads (tuple_rest (ty room)) type_tree self.old self.new result }
+    fn tuple_rest(&mut self, alloc: Global, borrows: bool, room: u32) -> Result<WitType, ReadError>
+        ensures { Reads (tuple_rest (ty borrows room)) type_tree self.old self.new result }
     {
         self.expect(Operator::LessThan)?;
-        let types = self.types(alloc, room)?;
+        let types = self.types(alloc, borrows, room)?;
         self.expect(Operator::GreaterThan)?;
         Ok(WitType::Tuple(types))
     }
 
     /// Reads one type, and others behind commas.
     #[cycle(types)]
-    fn types(&mut self, alloc: Global, room: u32) -> Result<Vec<WitType>, ReadError>
-        ensures { Reads (items begins_type (ty room)) (λ v. map type_tree v.items)
+    fn types(&mut self, alloc: Global, borrows: bool, room: u32) -> Result<Vec<WitType>, ReadError>
+        ensures { Reads (items begins_type (ty borrows room)) (λ v. map type_tree v.items)
             self.old self.new result }
     {
         let mut types = Vec::new(alloc);
-        types.push(self.ty(alloc, room)?)?;
-        self.further_types(alloc, room, types)
+        types.push(self.ty(alloc, borrows, room)?)?;
+        self.further_types(alloc, borrows, room, types)
     }
 
     /// Reads the types behind commas, and puts them behind those that were read.
@@ -141,13 +152,14 @@ impl Cursor {
     fn further_types(
         &mut self,
         alloc: Global,
+        borrows: bool,
         room: u32,
         mut types: Vec<WitType>,
     ) -> Result<Vec<WitType>, ReadError>
         ensures { Gives (λ v. map type_tree v.items) self.new result (with_front
-            (map type_tree types.items) ((steps (next_item begins_type (ty room))).reads self.old)) }
+            (map type_tree types.items) ((steps (next_item begins_type (ty borrows room))).reads self.old)) }
     {
-        while let Some(ty) = self.next_type(alloc, room)? {
+        while let Some(ty) = self.next_type(alloc, borrows, room)? {
             types.push(ty)?;
         }
         Ok(types)
@@ -155,8 +167,13 @@ impl Cursor {
 
     /// Reads a comma and the type behind it, where they stand.
     #[cycle(types)]
-    fn next_type(&mut self, alloc: Global, room: u32) -> Result<Option<WitType>, ReadError>
-        ensures { Reads (next_item begins_type (ty room)) (λ o. option_map type_tree o)
+    fn next_type(
+        &mut self,
+        alloc: Global,
+        borrows: bool,
+        room: u32,
+    ) -> Result<Option<WitType>, ReadError>
+        ensures { Reads (next_item begins_type (ty borrows room)) (λ o. option_map type_tree o)
             self.old self.new result }
     {
         if !self.next_is(Operator::Comma) {
@@ -164,15 +181,15 @@ impl Cursor {
         }
         self.expect(Operator::Comma)?;
         if self.next_begins_type() {
-            Ok(Some(self.ty(alloc, room)?))
+            Ok(Some(self.ty(alloc, borrows, room)?))
         } else {
             Ok(None)
         }
     }
 
     #[cycle(types)]
-    fn result_rest(&mut self, alloc: Global, room: u32) -> Result<WitType, ReadError>
-        ensures { Reads (result_rest (ty room)) type_tree self.old self.new result }
+    fn result_rest(&mut self, alloc: Global, borrows: bool, room: u32) -> Result<WitType, ReadError>
+        ensures { Reads (result_rest (ty borrows room)) type_tree self.old self.new result }
     {
         if !self.next_is(Operator::LessThan) {
             return Ok(WitType::Result {
@@ -182,20 +199,20 @@ impl Cursor {
         }
         self.expect(Operator::LessThan)?;
         if self.next_is(Operator::Underscore) {
-            self.only_error(alloc, room)
+            self.only_error(alloc, borrows, room)
         } else {
-            let ok = Box::new(alloc, self.ty(alloc, room)?)?;
-            self.error_rest(alloc, room, ok)
+            let ok = Box::new(alloc, self.ty(alloc, borrows, room)?)?;
+            self.error_rest(alloc, borrows, room, ok)
         }
     }
 
     #[cycle(types)]
-    fn only_error(&mut self, alloc: Global, room: u32) -> Result<WitType, ReadError>
-        ensures { Reads (only_error (ty room)) type_tree self.old self.new result }
+    fn only_error(&mut self, alloc: Global, borrows: bool, room: u32) -> Result<WitType, ReadError>
+        ensures { Reads (only_error (ty borrows room)) type_tree self.old self.new result }
     {
         self.expect(Operator::Underscore)?;
         self.expect(Operator::Comma)?;
-        let error = Box::new(alloc, self.ty(alloc, room)?)?;
+        let error = Box::new(alloc, self.ty(alloc, borrows, room)?)?;
         self.expect(Operator::GreaterThan)?;
         Ok(WitType::Result {
             ok: None,
@@ -207,15 +224,16 @@ impl Cursor {
     fn error_rest(
         &mut self,
         alloc: Global,
+        borrows: bool,
         room: u32,
         ok: Box<WitType>,
     ) -> Result<WitType, ReadError>
-        ensures { Reads (error_rest (ty room) (type_tree ok.value)) type_tree
+        ensures { Reads (error_rest (ty borrows room) (type_tree ok.value)) type_tree
             self.old self.new result }
     {
         if self.next_is(Operator::Comma) {
             self.expect(Operator::Comma)?;
-            let error = Box::new(alloc, self.ty(alloc, room)?)?;
+            let error = Box::new(alloc, self.ty(alloc, borrows, room)?)?;
             self.expect(Operator::GreaterThan)?;
             Ok(WitType::Result {
                 ok: Some(ok),

@@ -2,7 +2,7 @@
 
 ghost use Rattle.std.specs.Prelude.{◌≡◌};
 ghost use Rattle.std.specs.Option.{option_map};
-ghost use Rattle.cm_wit_text.specs.Types.{keyword_head, begins_type};
+ghost use Rattle.cm_wit_text.specs.Types.{keyword_head, begins_type, begins_type_in};
 ghost use Rattle.cm_wit_text.specs.TypeViews.{head_tree};
 
 use crate::name::Name;
@@ -89,6 +89,21 @@ pub fn begins_type(form: &Form) -> bool
     match form {
         Form::Identifier(_) => true,
         Form::Keyword(keyword) => keyword_head(*keyword).is_some(),
+        _ => false,
+    }
+}
+
+/// Whether a token begins a type, of those without borrows where `borrows` is false.
+pub fn begins_type_in(form: &Form, borrows: bool) -> bool
+    ensures { result ≡ begins_type_in borrows form.now }
+{
+    match form {
+        Form::Identifier(_) => true,
+        Form::Keyword(keyword) => match keyword_head(*keyword) {
+            Some(Head::Borrow) => borrows,
+            Some(_) => true,
+            None => false,
+        },
         _ => false,
     }
 }

@@ -17,13 +17,13 @@ only_error-returns t c = search (rules, seen_error)
 pub further_types-returns-in_err-ty : goal.further_types-returns-in_err-ty
 further_types-returns-in_err-ty t c =
     let p = err_from_is_err_and c.from_residual.result c.from_residual.ensures.1 in
-    rw (p.1, p.2) (types_fail c.args.room c.loop-types.types.items c.loop-types.self c.next_type.new.self c.in_err-ty.field-0.0 _ c.loop-types.invariant c.in_err-ty.ensures)
+    rw (p.1, p.2) (types_fail c.args.borrows c.args.room c.loop-types.types.items c.loop-types.self c.next_type.new.self c.in_err-ty.field-0.0 _ c.loop-types.invariant c.in_err-ty.ensures)
 
 pub further_types-loop-types-smaller : goal.further_types-loop-types-smaller
-further_types-loop-types-smaller t c = types_fewer c.args.room c.in-Some.ty c.loop-types.self c.next_type.new.self (c.in_ok-ty.ensures ∙ ap (λ (o : Option _). Ok (option_map type_tree o, c.next_type.new.self)) c.in-Some.is)
+further_types-loop-types-smaller t c = types_fewer c.args.borrows c.args.room c.in-Some.ty c.loop-types.self c.next_type.new.self (c.in_ok-ty.ensures ∙ ap (λ (o : Option _). Ok (option_map type_tree o, c.next_type.new.self)) c.in-Some.is)
 
 pub further_types-loop-types-preserved : goal.further_types-loop-types-preserved
-further_types-loop-types-preserved t c = rw c.in_ok-push.ensures.items (types_go_on c.args.room c.loop-types.types.items c.in-Some.ty c.loop-types.self c.next_type.new.self _ c.loop-types.invariant (c.in_ok-ty.ensures ∙ ap (λ (o : Option _). Ok (option_map type_tree o, c.next_type.new.self)) c.in-Some.is))
+further_types-loop-types-preserved t c = rw c.in_ok-push.ensures.items (types_go_on c.args.borrows c.args.room c.loop-types.types.items c.in-Some.ty c.loop-types.self c.next_type.new.self _ c.loop-types.invariant (c.in_ok-ty.ensures ∙ ap (λ (o : Option _). Ok (option_map type_tree o, c.next_type.new.self)) c.in-Some.is))
 
 pub further_types-returns : goal.further_types-returns
-further_types-returns t c = types_end c.args.room c.loop-types.types.items c.loop-types.self c.next_type.new.self _ c.loop-types.invariant (c.in_ok-ty.ensures ∙ ap (λ (o : Option _). Ok (option_map type_tree o, c.next_type.new.self)) c.in_default.is)
+further_types-returns t c = types_end c.args.borrows c.args.room c.loop-types.types.items c.loop-types.self c.next_type.new.self _ c.loop-types.invariant (c.in_ok-ty.ensures ∙ ap (λ (o : Option _). Ok (option_map type_tree o, c.next_type.new.self)) c.in_default.is)

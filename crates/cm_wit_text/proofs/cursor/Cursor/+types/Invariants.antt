@@ -36,7 +36,7 @@ abbrev pub decreases-types : goal.decreases-types
 decreases-types l = 8 * l.room + 6
 
 abbrev pub invariant-further_types-loop-types : goal.invariant-further_types-loop-types
-invariant-further_types-loop-types l = StepsGo (next_item begins_type (ty l.room)) (map type_tree l.types.items) l.self (with_front (map type_tree l.initial.types.items) ((steps (next_item begins_type (ty l.room))).reads l.initial.self))
+invariant-further_types-loop-types l = StepsGo (next_item begins_type (ty l.borrows l.room)) (map type_tree l.types.items) l.self (with_front (map type_tree l.initial.types.items) ((steps (next_item begins_type (ty l.borrows l.room))).reads l.initial.self))
 
 abbrev pub decreases-further_types-loop-types : goal.decreases-further_types-loop-types
 decreases-further_types-loop-types l = length l.self
