@@ -5,3 +5,4 @@ pub mod ItemLaws
 pub mod TypeLaws
 pub mod TypesSeen
 pub mod WholeLaws
+pub mod SignatureLaws

@@ -5,3 +5,5 @@ pub mod Parts
 pub mod Types
 pub mod TypeViews
 pub mod Whole
+pub mod Signatures
+pub mod SignatureViews

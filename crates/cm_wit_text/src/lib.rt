@@ -4,10 +4,13 @@
 mod cursor;
 mod fault;
 mod name;
+mod signature_reader;
+mod signatures;
 mod type_reader;
 mod types;
 
 pub use cursor::Cursor;
 pub use fault::{ReadError, WitFault, WitReason};
 pub use name::Name;
-pub use types::{Primitive, WitType};
+pub use signatures::{Func, Path, Typed};
+pub use types::{MOST_DEPTH, Primitive, WitType};

@@ -6,8 +6,10 @@ ghost use Rattle.cm_wit_tokens.specs.Forms.{is_operator};
 ghost use Rattle.cm_wit_text.specs.Faults.{Gives};
 ghost use Rattle.cm_wit_text.specs.Grammar.{first, passes, token, steps, with_front};
 ghost use Rattle.cm_wit_text.specs.Reading.{Reads};
-ghost use Rattle.cm_wit_text.specs.Types.{begins_type, begins_type_in, borrow_rest, error_rest, items, list_rest};
-ghost use Rattle.cm_wit_text.specs.Types.{next_item, only_error, option_rest, result_rest, start_in};
+ghost use Rattle.cm_wit_text.specs.Types.{begins_type, begins_type_in, borrow_rest, error_rest};
+ghost use Rattle.cm_wit_text.specs.Types.{items, list_rest};
+ghost use Rattle.cm_wit_text.specs.Types.{next_item, only_error, option_rest, result_rest};
+ghost use Rattle.cm_wit_text.specs.Types.{start_in};
 ghost use Rattle.cm_wit_text.specs.Types.{tuple_rest, ty};
 ghost use Rattle.cm_wit_text.specs.TypeViews.{head_tree, type_tree};
 

@@ -1,0 +1,168 @@
+//! Reading functions and the paths of interfaces.
+
+ghost use Rattle.std.specs.Prelude.{◌≡◌, map};
+ghost use Rattle.std.specs.Option.{option_map};
+ghost use Rattle.cm_wit_text.specs.Faults.{Gives};
+ghost use Rattle.cm_wit_text.specs.Grammar.{first, passes, steps, token, with_front};
+ghost use Rattle.cm_wit_text.specs.Reading.{Reads};
+ghost use Rattle.cm_wit_text.specs.Signatures.{foreign_rest, func, is_identifier, optional_version};
+ghost use Rattle.cm_wit_text.specs.Signatures.{params, path, typed, version_of};
+ghost use Rattle.cm_wit_text.specs.SignatureViews.{func_tree, path_tree, typed_tree};
+ghost use Rattle.cm_wit_text.specs.Types.{items, next_item};
+
+use crate::cursor::Cursor;
+use crate::fault::ReadError;
+use crate::name::Name;
+use crate::signatures::{Func, Path, Typed};
+use crate::types::MOST_DEPTH;
+use cm_wit_tokens::{Form, Operator, Token, Version};
+use std::alloc::Global;
+
+impl Cursor {
+    /// Whether the next token is an identifier.
+    fn next_is_identifier(&self) -> bool
+        ensures { result ≡ passes is_identifier (first self.now) }
+    {
+        matches!(self.next(), Some(Form::Identifier(_)))
+    }
+
+    /// Reads a name, `:` and a type.
+    fn typed(&mut self, alloc: Global) -> Result<Typed, ReadError>
+        ensures { Reads typed typed_tree self.old self.new result }
+    {
+        let name = self.name()?;
+        self.expect(Operator::Colon)?;
+        let ty = self.ty(alloc, true, MOST_DEPTH)?;
+        Ok(Typed { name, ty })
+    }
+
+    /// Reads a comma and the name and type behind it, where they stand.
+    fn next_typed(&mut self, alloc: Global) -> Result<Option<Typed>, ReadError>
+        ensures { Reads (next_item is_identifier typed) (λ o. option_map typed_tree o)
+            self.old self.new result }
+    {
+        if !self.next_is(Operator::Comma) {
+            return Ok(None);
+        }
+        self.expect(Operator::Comma)?;
+        if self.next_is_identifier() {
+            Ok(Some(self.typed(alloc)?))
+        } else {
+            Ok(None)
+        }
+    }
+
+    /// Reads the names and types behind commas, and puts them behind those that were read.
+    fn further_typed(
+        &mut self,
+        alloc: Global,
+        mut list: Vec<Typed>,
+    ) -> Result<Vec<Typed>, ReadError>
+        ensures { Gives (λ v. map typed_tree v.items) self.new result (with_front
+            (map typed_tree list.items) ((steps (next_item is_identifier typed)).reads self.old)) }
+    {
+        while let Some(one) = self.next_typed(alloc)? {
+            list.push(one)?;
+        }
+        Ok(list)
+    }
+
+    /// Reads names with types, at least one, behind one another with commas.
+    pub fn typed_list(&mut self, alloc: Global) -> Result<Vec<Typed>, ReadError>
+        ensures { Reads (items is_identifier typed) (λ v. map typed_tree v.items)
+            self.old self.new result }
+    {
+        let mut list = Vec::new(alloc);
+        list.push(self.typed(alloc)?)?;
+        self.further_typed(alloc, list)
+    }
+
+    /// Reads parameters in parentheses.
+    pub fn params(&mut self, alloc: Global) -> Result<Vec<Typed>, ReadError>
+        ensures { Reads params (λ v. map typed_tree v.items) self.old self.new result }
+    {
+        self.expect(Operator::LeftParenthesis)?;
+        let list = if self.next_is_identifier() {
+            self.typed_list(alloc)?
+        } else {
+            Vec::new(alloc)
+        };
+        self.expect(Operator::RightParenthesis)?;
+        Ok(list)
+    }
+
+    /// Reads parameters and a result, in which no borrow may stand, where there is one.
+    pub fn func(&mut self, alloc: Global) -> Result<Func, ReadError>
+        ensures { Reads func func_tree self.old self.new result }
+    {
+        let params = self.params(alloc)?;
+        if self.next_is(Operator::Arrow) {
+            self.expect(Operator::Arrow)?;
+            let result = Some(self.ty(alloc, false, MOST_DEPTH)?);
+            Ok(Func { params, result })
+        } else {
+            Ok(Func {
+                params,
+                result: None,
+            })
+        }
+    }
+
+    fn version(&mut self) -> Result<Version, ReadError>
+        ensures { Reads (token version_of) (λ v. v) self.old self.new result }
+    {
+        let Some(Form::Version(_)) = self.next() else {
+            return Err(self.unexpected());
+        };
+        match self.take() {
+            Some(
+                Token {
+                    form: Form::Version(version),
+                    ..
+                },
+            ) => Ok(version),
+            _ => unreachable!(),
+        }
+    }
+
+    /// Reads `@` and a version, where they stand.
+    pub fn optional_version(&mut self) -> Result<Option<Version>, ReadError>
+        ensures { Reads optional_version (λ v. v) self.old self.new result }
+    {
+        if self.next_is(Operator::At) {
+            self.expect(Operator::At)?;
+            Ok(Some(self.version()?))
+        } else {
+            Ok(None)
+        }
+    }
+
+    /// Reads what stands behind a namespace and its `:` in a path.
+    pub fn foreign_rest(&mut self, namespace: Name) -> Result<Path, ReadError>
+        ensures { Reads (foreign_rest namespace.label) path_tree self.old self.new result }
+    {
+        let package = self.name()?;
+        self.expect(Operator::Slash)?;
+        let interface = self.name()?;
+        let version = self.optional_version()?;
+        Ok(Path::Foreign {
+            namespace,
+            package,
+            interface,
+            version,
+        })
+    }
+
+    /// Reads the path of an interface.
+    pub fn path(&mut self) -> Result<Path, ReadError>
+        ensures { Reads path path_tree self.old self.new result }
+    {
+        let name = self.name()?;
+        if self.next_is(Operator::Colon) {
+            self.expect(Operator::Colon)?;
+            self.foreign_rest(name)
+        } else {
+            Ok(Path::Local(name))
+        }
+    }
+}
