@@ -1,18 +1,17 @@
 -- The laws of things behind commas, and of reading steps one after the other.
-use Rattle.std.proofs.Common.{◌≡◌, ℕ, zero, suc, ◌+◌, ◌<◌, ◌≤◌, Bool, true, false, List, [], ◌∷◌, ◌++◌, length, Option, Some, None, Result, Ok, Err, refl, sym, ap, subst, ◌∙◌, append_assoc, append-nil, arith, inl, inr, ◌⊎◌}
-use Rattle.std.proofs.lemmas.List.{length-append}
+use Rattle.std.proofs.Common.{◌≡◌, ℕ, zero, suc, ◌<◌, ◌≤◌, Bool, List, [], ◌∷◌, ◌++◌, length, Option, Some, None, Result, Ok, Err, refl, sym, ap, ◌∙◌, append_assoc, append-nil, arith, inl, inr}
 use Rattle.cm_wit_tokens.specs.declared.operator.Operator.{Operator}
 use Rattle.cm_wit_tokens.specs.declared.operator.Operator.TheVariants as operator
 use Rattle.cm_wit_tokens.specs.declared.token.Token.{Token}
 use Rattle.cm_wit_tokens.specs.declared.token.Form.{Form}
 use Rattle.cm_wit_tokens.specs.Forms.{is_operator}
 use Rattle.cm_wit_text.specs.declared.fault.WitReason.{WitReason}
-use Rattle.cm_wit_text.specs.Faults.{Fault, flaw, and_then}
+use Rattle.cm_wit_text.specs.Faults.{Fault, and_then}
 use Rattle.cm_wit_text.specs.Grammar.{first, Grammar, done, ◌>>=◌, token, token_reads, passes, chosen, with_front, after_step, steps_in, steps}
-use Rattle.cm_wit_text.specs.Parts.{expect, other_fault}
+use Rattle.cm_wit_text.specs.Parts.{expect}
 use Rattle.cm_wit_text.specs.Types.{next_item, items}
-use Rattle.cm_wit_text.proofs.Tools.{ok_of, err_of, ok_is, then_ok, then_from_ok, then_from_err, length_behind}
-use Rattle.cm_wit_text.proofs.Laws.{Takes, Lawful, done_lawful, bind_lawful, token_lawful, chosen_lawful, if_ok}
+use Rattle.cm_wit_text.proofs.Tools.{ok_of, ok_is, then_ok, length_behind}
+use Rattle.cm_wit_text.proofs.Laws.{Lawful, done_lawful, bind_lawful, token_lawful, chosen_lawful, if_ok}
 use Rattle.cm_wit_text.proofs.StepLaws.{Moves, steps_lawful}
 
 pub no_longer : {A : Type 0} (g : Grammar A) → Lawful g → (ts : List Token) (x : A) (rest : List Token) → g.reads ts ≡ Ok (x, rest) → length rest ≤ length ts

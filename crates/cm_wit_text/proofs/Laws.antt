@@ -1,32 +1,13 @@
 -- The laws of a grammar of tokens, and of each step.
-use Rattle.std.proofs.Common.{◌≡◌, ℕ, zero, suc, ◌+◌, ◌<◌, ◌≤◌, Bool, true, false, if◌then◌else◌, List, [], ◌∷◌, ◌++◌, length, Option, Some, None, Result, Ok, Err, refl, sym, ap, subst, ◌∙◌, append_assoc, arith, inl, inr, ◌⊎◌}
-use Rattle.std.proofs.lemmas.List.{length-append}
+use Rattle.std.proofs.Common.{◌≡◌, Bool, true, false, if◌then◌else◌, List, [], ◌∷◌, ◌++◌, Result, Ok, Err, refl, sym, ap, subst, ◌∙◌, append_assoc, inl, inr, ◌⊎◌}
 use Rattle.cm_wit_tokens.specs.declared.token.Token.{Token}
 use Rattle.cm_wit_tokens.specs.declared.token.Form.{Form}
 use Rattle.cm_wit_text.specs.declared.fault.WitReason.{WitReason}
 use Rattle.cm_wit_text.specs.declared.fault.WitReason.TheVariants as reason
-use Rattle.cm_wit_text.specs.Faults.{Fault, flaw, and_then}
-use Rattle.cm_wit_text.specs.Grammar.{first, first_or, Grammar, done, ◌>>=◌, taken, token_reads, token, passes, chosen, StepsSpell, with_front, after_step, steps_in, steps}
-use Rattle.cm_wit_text.proofs.Tools.{ok_of, err_of, ok_is, err_is, then_ok, then_err, then_from_ok, then_from_err, first-append, first_same, same_front, not_behind, parts_behind, length_behind}
-
--- A spelling of x in front, and the rest.
-pub record Takes {A : Type 0} (g : Grammar A) (x : A) (ts rest : List Token) : Type 0 where
-  pub front : List Token
-  pub spells : g.Spells x front (first rest)
-  pub parts : ts ≡ front ++ rest
-
--- The rest of some tokens.
-pub record IsRest (ts rest : List Token) : Type 0 where
-  pub front : List Token
-  pub parts : ts ≡ front ++ rest
-
--- Reading is exact: what is read is spelled, what is spelled is read, a fault is inside the tokens, and it is the same fault
--- whatever follows the token at its place.
-pub record Lawful {A : Type 0} (g : Grammar A) : Type 0 where
-  pub takes : (ts : List Token) (x : A) (rest : List Token) → g.reads ts ≡ Ok (x, rest) → Takes g x ts rest
-  pub again : (x : A) (front rest : List Token) → g.Spells x front (first rest) → g.reads (front ++ rest) ≡ Ok (x, rest)
-  pub within : (ts : List Token) (f : Fault) → g.reads ts ≡ Err f → IsRest ts f.rest
-  pub early : (front after : List Token) (t : Token) (r : WitReason) → g.reads (front ++ t ∷ after) ≡ Err (flaw (t ∷ after) r) → (more : List Token) → g.reads (front ++ t ∷ more) ≡ Err (flaw (t ∷ more) r)
+use Rattle.cm_wit_text.specs.Faults.{Fault, flaw}
+use Rattle.cm_wit_text.specs.Grammar.{first, Grammar, done, ◌>>=◌, taken, token_reads, token, passes, chosen}
+use Rattle.cm_wit_text.proofs.Tools.{ok_of, err_of, ok_is, err_is, then_ok, then_err, then_from_err, first-append, first_same, same_front, not_behind, parts_behind}
+pub use Rattle.cm_wit_text.specs.Exact.{Takes, IsRest, Lawful}
 
 -- ---- no tokens
 

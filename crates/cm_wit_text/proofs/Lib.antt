@@ -6,3 +6,4 @@ pub mod TypeLaws
 pub mod TypesSeen
 pub mod WholeLaws
 pub mod SignatureLaws
+pub mod LoopLaws

@@ -1,11 +1,11 @@
 -- The laws of steps one after the other.
-use Rattle.std.proofs.Common.{◌≡◌, ℕ, zero, suc, ◌+◌, ◌<◌, ◌≤◌, List, [], ◌∷◌, ◌++◌, length, Option, Some, None, Result, Ok, Err, refl, sym, ap, subst, ◌∙◌, append_assoc, arith, inl, inr, ◌⊎◌}
+use Rattle.std.proofs.Common.{◌≡◌, ℕ, zero, suc, ◌<◌, List, [], ◌∷◌, ◌++◌, length, Option, Some, None, Result, Ok, Err, refl, sym, ap, subst, ◌∙◌, append_assoc, arith, inl, inr}
 use Rattle.cm_wit_tokens.specs.declared.token.Token.{Token}
 use Rattle.cm_wit_text.specs.declared.fault.WitReason.{WitReason}
 use Rattle.cm_wit_text.specs.declared.fault.WitReason.TheVariants as reason
-use Rattle.cm_wit_text.specs.Faults.{Fault, flaw, and_then}
-use Rattle.cm_wit_text.specs.Grammar.{first, first_or, Grammar, StepsSpell, with_front, after_step, steps_in, steps}
-use Rattle.cm_wit_text.proofs.Tools.{ok_of, err_of, ok_is, err_is, then_ok, then_err, then_from_ok, then_from_err, first-append, first_same, same_front, not_behind, parts_behind, length_behind}
+use Rattle.cm_wit_text.specs.Faults.{Fault, flaw}
+use Rattle.cm_wit_text.specs.Grammar.{first, Grammar, StepsSpell, with_front, after_step, steps_in, steps}
+use Rattle.cm_wit_text.proofs.Tools.{ok_of, err_of, ok_is, err_is, then_ok, then_err, then_from_err, first-append, first_same, same_front, parts_behind}
 use Rattle.cm_wit_text.proofs.Laws.{Takes, IsRest, Lawful}
 
 -- Each step that gives a value takes a token.

@@ -1,9 +1,8 @@
 -- Small facts on results, tokens and lists, used by every law.
-use Rattle.std.proofs.Common.{◌≡◌, ℕ, suc, ◌+◌, ◌<◌, List, [], ◌∷◌, ◌++◌, length, Option, Result, Ok, Err, refl, sym, ap, ◌∙◌, append_assoc, arith, inl, inr, ◌⊎◌}
+use Rattle.std.proofs.Common.{◌≡◌, ◌+◌, List, [], ◌∷◌, ◌++◌, length, Result, Ok, Err, refl, sym, ap, ◌∙◌, append_assoc, arith, inl, inr, ◌⊎◌}
 use Rattle.std.proofs.lemmas.List.{length-append, append_cancel_right}
 use Rattle.cm_wit_tokens.specs.declared.token.Token.{Token}
-use Rattle.cm_wit_text.specs.declared.fault.WitReason.{WitReason}
-use Rattle.cm_wit_text.specs.Faults.{Fault, flaw, and_then}
+use Rattle.cm_wit_text.specs.Faults.{Fault, and_then}
 use Rattle.cm_wit_text.specs.Grammar.{first, first_or}
 
 abbrev pub ok_of : {A : Type 0} (E : Type 0) → A → Result A E

@@ -1,5 +1,5 @@
 -- The laws of types.
-use Rattle.std.proofs.Common.{◌≡◌, ℕ, zero, suc, ◌<◌, Bool, true, false, List, [], ◌∷◌, length, Option, Some, None, Result, Ok, Err, refl, ap}
+use Rattle.std.proofs.Common.{◌≡◌, ℕ, zero, suc, Bool, true, false, List, [], ◌∷◌, Option, Some, None, Result, Ok, Err, refl}
 use Rattle.cm_wit_tokens.specs.declared.operator.Operator.TheVariants as operator
 use Rattle.cm_wit_tokens.specs.declared.token.Token.{Token}
 use Rattle.std.specs.Prelude.{is_ok}
@@ -9,8 +9,8 @@ use Rattle.cm_wit_tokens.specs.declared.token.Form.TheVariants as form
 use Rattle.cm_wit_text.specs.declared.fault.WitReason.{WitReason}
 use Rattle.cm_wit_text.specs.declared.fault.WitReason.TheVariants as reason
 use Rattle.cm_wit_text.specs.Faults.{flaw, Fails}
-use Rattle.cm_wit_text.specs.Grammar.{first, passes, token_reads, Grammar, done, ◌>>=◌, token, chosen}
-use Rattle.cm_wit_text.specs.Parts.{keyword_fault, other_fault, unexpected, expect, identifier, length_of, identifier_of}
+use Rattle.cm_wit_text.specs.Grammar.{first, passes, Grammar, done, ◌>>=◌}
+use Rattle.cm_wit_text.specs.Parts.{keyword_fault, other_fault, unexpected, expect, length_of, identifier_of}
 use Rattle.cm_wit_text.specs.Types.{Ty, Start, whole, borrow_of, list_of, option_of, tuple_of, result_of, keyword_head, keyword_start, start_of, no_borrow, borrowless, start_in, begins_type, begins_type_in, too_deep, borrow_rest, list_rest, option_rest, tuple_rest, error_rest, only_error, result_rest, rest_of, ty}
 use Rattle.cm_wit_text.proofs.Laws.{Lawful, done_lawful, bind_lawful, token_lawful, chosen_lawful}
 use Rattle.cm_wit_text.proofs.ItemLaws.{expect_lawful, items_lawful}

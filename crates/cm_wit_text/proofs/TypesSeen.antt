@@ -1,5 +1,5 @@
 -- What type each kind of result is, and what reading types behind commas comes to.
-use Rattle.std.proofs.Common.{◌≡◌, ℕ, ◌<◌, Bool, List, ◌∷◌, ◌++◌, [], length, map, Option, Some, None, Result, Ok, Err, Box, Global, rules, subst, sym, ap, ◌∙◌}
+use Rattle.std.proofs.Common.{◌≡◌, ℕ, ◌<◌, Bool, List, ◌∷◌, ◌++◌, [], length, map, Some, None, Result, Ok, Box, Global, rules}
 use Rattle.std.proofs.lemmas.List.{map-append}
 use Rattle.cm_wit_tokens.specs.declared.token.Token.{Token}
 use Rattle.cm_wit_text.specs.declared.fault.ReadError.{ReadError}
@@ -7,8 +7,7 @@ use Rattle.cm_wit_text.specs.declared.fault.ReadError.TheVariants as errors
 use Rattle.cm_wit_text.specs.declared.types.WitType.{WitType, the_lemmas}
 use Rattle.cm_wit_text.specs.declared.types.WitType.TheViews as node
 use Rattle.cm_wit_text.specs.Faults.{Fault, flaw, Fails}
-use Rattle.cm_wit_text.specs.Grammar.{steps_in, with_front}
-use Rattle.cm_wit_text.specs.Types.{Ty, plain_result, ok_result, error_result, result, begins_type, next_item, ty}
+use Rattle.cm_wit_text.specs.Types.{Ty, error_result, result, begins_type, next_item, ty}
 use Rattle.cm_wit_text.specs.TypeViews.{type_tree}
 use Rattle.cm_wit_text.proofs.ItemLaws.{StepsGo, steps_end, steps_fail, steps_go_on, next_item_moves}
 use Rattle.cm_wit_text.proofs.TypeLaws.{ty_lawful}

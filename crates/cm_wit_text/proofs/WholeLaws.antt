@@ -1,11 +1,11 @@
 -- The laws of whole texts.
-use Rattle.std.proofs.Common.{◌≡◌, List, [], ◌∷◌, ◌++◌, length, Result, Ok, Err, refl, sym, ap, subst, ◌∙◌, append_assoc, append-nil, arith, inl, inr, ◌⊎◌}
+use Rattle.std.proofs.Common.{◌≡◌, List, [], ◌∷◌, ◌++◌, length, Result, Ok, Err, refl, sym, ap, subst, ◌∙◌, append-nil, arith, inl, inr}
 use Rattle.cm_wit_tokens.specs.declared.token.Token.{Token}
-use Rattle.cm_wit_text.specs.Faults.{Fault, flaw, and_then}
+use Rattle.cm_wit_text.specs.Faults.{Fault, flaw}
 use Rattle.cm_wit_text.specs.Grammar.{first, Grammar, IsText}
 use Rattle.cm_wit_text.specs.Parts.{other_fault}
 use Rattle.cm_wit_text.specs.Whole.{to_end, whole, CannotStand, IsRefused}
-use Rattle.cm_wit_text.proofs.Tools.{ok_of, err_of, ok_is, err_is, then_ok, then_err, then_from_ok}
+use Rattle.cm_wit_text.proofs.Tools.{ok_of, err_of, ok_is, err_is, then_ok, then_err}
 use Rattle.cm_wit_text.proofs.Laws.{Lawful}
 
 end_ok : {A : Type 0} (x y : A) (rest : List Token) → to_end x rest ≡ Ok y → (rest ≡ []) × (x ≡ y)

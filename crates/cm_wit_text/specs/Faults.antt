@@ -1,4 +1,4 @@
--- Faults in texts that are read token by token, and what a reader that also needs memory may answer.
+-- Faults in texts that are read token by token, and what a reader that needs memory may answer.
 use Rattle.std.specs.Prelude.{◌≡◌, ℕ, List, Result, Ok, Err}
 use Rattle.cm_wit_tokens.specs.declared.token.Token.{Token}
 use Rattle.cm_wit_text.specs.declared.fault.WitReason.{WitReason}
@@ -36,6 +36,7 @@ abbrev pub Fails : {Y : Type 0} → List Token → ReadError → Result Y Fault 
 Fails left errors.Memory read = Unit {0}
 Fails left (errors.Fault r) read = read ≡ Err (flaw left r)
 
-abbrev pub Gives : {X Y : Type 0} → (X → Y) → List Token → Result X ReadError → Result (Y × List Token) Fault → Type 0
+abbrev pub Gives : {X Y : Type 0} →
+    (X → Y) → List Token → Result X ReadError → Result (Y × List Token) Fault → Type 0
 Gives view left (Ok x) read = read ≡ Ok (view x, left)
 Gives view left (Err e) read = Fails left e read

@@ -19,8 +19,8 @@ abbrev pub first_or : List Token → Option Token → Option Token
 first_or [] next = next
 first_or (t ∷ ts) next = Some t
 
--- Values that stand at the front of tokens. `Spells x ts next`: the tokens are a spelling of x where
--- next is the token behind them (none: the text ends). `reads` gives the value at the front and the
+-- Values that stand at the front of tokens. `Spells x ts next`: the tokens are a spelling of x
+-- where next is the token behind them (none: the text ends). `reads` gives the value at the front and the
 -- tokens behind it, or the first fault.
 pub record Grammar (A : Type 0) : Type 1 where
   pub Spells : A → List Token → Option Token → Type 0
@@ -43,13 +43,15 @@ g >>= h = record {
   reads = λ ts. and_then (g.reads ts) (λ x. (h x.0).reads x.1);
 }
 
--- A token of a table, which says what the token stands for, or what is wrong with it. Where no token
--- is left one is wanted.
-abbrev pub taken : {K : Type 0} → Token → List Token → Result K WitReason → Result (K × List Token) Fault
+-- A token of a table, which says what the token stands for, or what is wrong with it. Where no
+-- token is left one is wanted.
+abbrev pub taken : {K : Type 0} →
+    Token → List Token → Result K WitReason → Result (K × List Token) Fault
 taken t ts (Ok k) = Ok (k, ts)
 taken t ts (Err r) = Err (flaw (t ∷ ts) r)
 
-abbrev pub token_reads : {K : Type 0} → (Form → Result K WitReason) → List Token → Result (K × List Token) Fault
+abbrev pub token_reads : {K : Type 0} →
+    (Form → Result K WitReason) → List Token → Result (K × List Token) Fault
 token_reads table [] = Err (flaw [] reason.Unexpected)
 token_reads table (t ∷ ts) = taken t ts (table t.form)
 
@@ -74,21 +76,27 @@ chosen test g h = record {
 }
 
 -- Steps one after the other, each of which gives a value, up to one that gives none.
-abbrev pub StepsSpell : {A : Type 0} → Grammar (Option A) → List A → List Token → Option Token → Type 0
+abbrev pub StepsSpell : {A : Type 0} →
+    Grammar (Option A) → List A → List Token → Option Token → Type 0
 StepsSpell g [] ts next = g.Spells None ts next
 StepsSpell g (x ∷ xs) ts next =
     (front : List Token) × (rest : List Token)
-    × g.Spells (Some x) front (first_or rest next) × StepsSpell g xs rest next × (ts ≡ front ++ rest)
+    × g.Spells (Some x) front (first_or rest next)
+    × StepsSpell g xs rest next × (ts ≡ front ++ rest)
 
-abbrev pub with_front : {A : Type 0} → List A → Result (List A × List Token) Fault → Result (List A × List Token) Fault
+abbrev pub with_front : {A : Type 0} →
+    List A → Result (List A × List Token) Fault → Result (List A × List Token) Fault
 with_front xs read = and_then read (λ p. Ok (xs ++ p.0, p.1))
 
-abbrev pub after_step : {A : Type 0} → (List Token → Result (List A × List Token) Fault) → Option A → List Token → Result (List A × List Token) Fault
+abbrev pub after_step : {A : Type 0} →
+    (List Token → Result (List A × List Token) Fault) →
+    Option A → List Token → Result (List A × List Token) Fault
 after_step more None ts = Ok ([], ts)
 after_step more (Some x) ts = with_front (x ∷ []) (more ts)
 
 -- in so many turns, each of which takes a token at least
-unfoldable pub steps_in : {A : Type 0} → Grammar (Option A) → ℕ → List Token → Result (List A × List Token) Fault
+unfoldable pub steps_in : {A : Type 0} →
+    Grammar (Option A) → ℕ → List Token → Result (List A × List Token) Fault
 steps_in g zero ts = Err (flaw ts reason.Unexpected)
 steps_in g (suc turns) ts = and_then (g.reads ts) (λ p. after_step (steps_in g turns) p.0 p.1)
 

@@ -1,6 +1,7 @@
 pub mod Faults
 pub mod Grammar
 pub mod Reading
+pub mod Exact
 pub mod Parts
 pub mod Types
 pub mod TypeViews

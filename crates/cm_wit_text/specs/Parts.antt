@@ -1,5 +1,5 @@
 -- Single tokens, as tables (WIT.md, "Item: `ty`", and "Lexical structure").
-use Rattle.std.specs.Prelude.{ℕ, Bool, true, false, ◌==◌, if◌then◌else◌, List, [], ◌∷◌, Result}
+use Rattle.std.specs.Prelude.{ℕ, ◌==◌, if◌then◌else◌, List, [], ◌∷◌, Result}
 use Rattle.std.specs.Prelude.{Ok, Err}
 use Rattle.cm_wit_tokens.specs.declared.keyword.Keyword.{Keyword}
 use Rattle.cm_wit_tokens.specs.declared.keyword.Keyword.TheVariants as word

@@ -12,5 +12,6 @@ next_form [] = None
 next_form (t ∷ ts) = Some t.form
 
 -- What was read between these two states of a cursor is what the grammar gives, seen by view.
-abbrev pub Reads : {A X : Type 0} → Grammar A → (X → A) → List Token → List Token → Result X ReadError → Type 0
+abbrev pub Reads : {A X : Type 0} →
+    Grammar A → (X → A) → List Token → List Token → Result X ReadError → Type 0
 Reads g view old new r = Gives view new r (g.reads old)

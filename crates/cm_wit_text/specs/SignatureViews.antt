@@ -1,7 +1,6 @@
 -- The functions and paths that the code's trees are, without the places of names.
-use Rattle.std.specs.Prelude.{List, ℕ, Option, map}
+use Rattle.std.specs.Prelude.{map}
 use Rattle.std.specs.Option.{option_map}
-use Rattle.cm_wit_tokens.specs.declared.version.Version.{Version}
 use Rattle.cm_wit_text.specs.declared.signatures.Typed as typed_code
 use Rattle.cm_wit_text.specs.declared.signatures.Func as func_code
 use Rattle.cm_wit_text.specs.declared.signatures.Path as path_code
@@ -13,7 +12,10 @@ abbrev pub typed_tree : typed_code.Typed → Typed
 typed_tree t = (t.name.label, type_tree t.ty)
 
 abbrev pub func_tree : func_code.Func → Func
-func_tree f = record { params = map typed_tree f.params.items; result = option_map type_tree f.result }
+func_tree f = record {
+  params = map typed_tree f.params.items;
+  result = option_map type_tree f.result;
+}
 
 abbrev pub path_tree : path_code.Path → Path
 path_tree (path_is.Local name) = local name.label

@@ -1,5 +1,5 @@
 -- Functions, and the paths of interfaces (WIT.md, "Item: `func`", and "Item: `use`").
-use Rattle.std.specs.Prelude.{ℕ, Bool, true, false, List, [], ◌∷◌, Option, Some, None, Result, Ok}
+use Rattle.std.specs.Prelude.{ℕ, Bool, true, false, List, [], Option, Some, None, Result, Ok}
 use Rattle.std.specs.Prelude.{Err}
 use Rattle.cm_wit_tokens.specs.declared.operator.Operator.TheVariants as operator
 use Rattle.cm_wit_tokens.specs.declared.token.Form.{Form}
@@ -52,7 +52,8 @@ abbrev pub func : Grammar Func
 func =
     params >>= λ xs.
     chosen (is_operator operator.Arrow)
-    (expect operator.Arrow >>= λ _. result_type >>= λ x. done (record { params = xs; result = Some x }))
+    (expect operator.Arrow >>= λ _. result_type >>= λ x.
+    done (record { params = xs; result = Some x }))
     (done (record { params = xs; result = None }))
 
 -- a version

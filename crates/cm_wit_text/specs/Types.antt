@@ -125,13 +125,15 @@ abbrev pub list_rest : Grammar Ty → Grammar Ty
 list_rest t =
     expect operator.LessThan >>= λ _. t >>= λ x.
     chosen (is_operator operator.Comma)
-    (expect operator.Comma >>= λ _. length >>= λ n. expect operator.GreaterThan >>= λ _. done (fixed_list x n))
+    (expect operator.Comma >>= λ _. length >>= λ n. expect operator.GreaterThan >>= λ _.
+    done (fixed_list x n))
     (expect operator.GreaterThan >>= λ _. done (list x))
 
 -- `<` ty `>`
 abbrev pub option_rest : Grammar Ty → Grammar Ty
 option_rest t =
-    expect operator.LessThan >>= λ _. t >>= λ x. expect operator.GreaterThan >>= λ _. done (option x)
+    expect operator.LessThan >>= λ _. t >>= λ x.
+    expect operator.GreaterThan >>= λ _. done (option x)
 
 -- `<` ty {`,` ty} [`,`] `>`
 abbrev pub tuple_rest : Grammar Ty → Grammar Ty
@@ -143,7 +145,8 @@ tuple_rest t =
 abbrev pub error_rest : Grammar Ty → Ty → Grammar Ty
 error_rest t x =
     chosen (is_operator operator.Comma)
-    (expect operator.Comma >>= λ _. t >>= λ y. expect operator.GreaterThan >>= λ _. done (result x y))
+    (expect operator.Comma >>= λ _. t >>= λ y. expect operator.GreaterThan >>= λ _.
+    done (result x y))
     (expect operator.GreaterThan >>= λ _. done (ok_result x))
 
 -- `_` `,` ty `>`
@@ -156,7 +159,8 @@ only_error t =
 abbrev pub result_rest : Grammar Ty → Grammar Ty
 result_rest t =
     chosen (is_operator operator.LessThan)
-    (expect operator.LessThan >>= λ _. chosen (is_operator operator.Underscore) (only_error t) (t >>= λ x. error_rest t x))
+    (expect operator.LessThan >>= λ _.
+    chosen (is_operator operator.Underscore) (only_error t) (t >>= λ x. error_rest t x))
     (done plain_result)
 
 abbrev pub rest_of : Grammar Ty → Start → Grammar Ty

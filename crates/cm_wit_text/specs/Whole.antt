@@ -1,5 +1,5 @@
 -- Whole texts: all of their tokens are one value, or where they cannot go on.
-use Rattle.std.specs.Prelude.{◌≡◌, ℕ, ◌-◌, List, [], ◌∷◌, ◌++◌, length, Option, Some, None, Result}
+use Rattle.std.specs.Prelude.{◌≡◌, ℕ, ◌-◌, List, [], ◌∷◌, ◌++◌, Option, Some, None, Result}
 use Rattle.std.specs.Prelude.{Ok, Err}
 use Rattle.cm_wit_tokens.specs.declared.token.Token.{Token}
 use Rattle.cm_wit_tokens.specs.Tokens.{lexed}
@@ -19,8 +19,8 @@ to_end x (t ∷ ts) = Err (flaw (t ∷ ts) (other_fault t.form))
 abbrev pub whole : {A : Type 0} → Grammar A → List Token → Result A Fault
 whole g ts = and_then (g.reads ts) (λ p. to_end p.0 p.1)
 
--- No text of the grammar begins with the tokens in front and the first of the rest. Where there is no
--- rest, the tokens in front are no text.
+-- No text of the grammar begins with the tokens in front and the first of the rest. Where there is
+-- no rest, the tokens in front are no text.
 abbrev pub CannotStand : {A : Type 0} → Grammar A → List Token → List Token → Type 0
 CannotStand g front [] = (x : _) → IsText g x front → ⊥
 CannotStand g front (t ∷ ts) = (x : _) (more : List Token) → IsText g x (front ++ t ∷ more) → ⊥
@@ -31,8 +31,8 @@ pub record IsRefused {A : Type 0} (g : Grammar A) (tokens rest : List Token) : T
   pub parts : tokens ≡ front ++ rest
   pub cannot : CannotStand g front rest
 
--- the place of a fault, counted from the text's first byte: that of its token, or the place where no
--- token begins, or else the text's end
+-- the place of a fault, counted from the text's first byte: that of its token, or the place where
+-- no token begins, or else the text's end
 abbrev pub end_fault : ℕ → Option ℕ → WitFault
 end_fault size None = record { at = size; reason = reason.Unexpected }
 end_fault size (Some left) = record { at = size - left; reason = reason.BadToken }

@@ -36,8 +36,8 @@ impl WitReason {
     }
 }
 
-/// Why a text is refused, and where: the byte, counted from 0, at which the fault's token stands, or
-/// the text's length. Where memory was refused the place says nothing.
+/// Why a text is refused, and where: the byte, counted from 0, at which the fault's token stands,
+/// or the text's length. Where memory was refused the place says nothing.
 #[derive(Clone, Copy, PartialEq, Eq)]
 pub struct WitFault {
     pub at: usize,

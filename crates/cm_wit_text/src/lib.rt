@@ -3,6 +3,7 @@
 
 mod cursor;
 mod fault;
+mod items;
 mod name;
 mod signature_reader;
 mod signatures;

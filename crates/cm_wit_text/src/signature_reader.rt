@@ -1,22 +1,39 @@
 //! Reading functions and the paths of interfaces.
 
 ghost use Rattle.std.specs.Prelude.{◌≡◌, map};
-ghost use Rattle.std.specs.Option.{option_map};
-ghost use Rattle.cm_wit_text.specs.Faults.{Gives};
-ghost use Rattle.cm_wit_text.specs.Grammar.{first, passes, steps, token, with_front};
+ghost use Rattle.cm_wit_text.specs.Grammar.{first, passes, token};
 ghost use Rattle.cm_wit_text.specs.Reading.{Reads};
 ghost use Rattle.cm_wit_text.specs.Signatures.{foreign_rest, func, is_identifier, optional_version};
 ghost use Rattle.cm_wit_text.specs.Signatures.{params, path, typed, version_of};
 ghost use Rattle.cm_wit_text.specs.SignatureViews.{func_tree, path_tree, typed_tree};
-ghost use Rattle.cm_wit_text.specs.Types.{items, next_item};
+ghost use Rattle.cm_wit_text.specs.Signatures as spec;
 
 use crate::cursor::Cursor;
 use crate::fault::ReadError;
+use crate::items::{Item, read_items};
 use crate::name::Name;
 use crate::signatures::{Func, Path, Typed};
 use crate::types::MOST_DEPTH;
 use cm_wit_tokens::{Form, Operator, Token, Version};
 use std::alloc::Global;
+
+impl Item for Typed {
+    ghost Tree = { spec.Typed };
+
+    ghost grammar = { typed };
+
+    ghost tree = { typed_tree };
+
+    ghost is_first = { is_identifier };
+
+    fn begins(form: &Form) -> bool {
+        matches!(form, Form::Identifier(_))
+    }
+
+    fn read(alloc: Global, cursor: &mut Cursor) -> Result<Typed, ReadError> {
+        cursor.typed(alloc)
+    }
+}
 
 impl Cursor {
     /// Whether the next token is an identifier.
@@ -36,54 +53,14 @@ impl Cursor {
         Ok(Typed { name, ty })
     }
 
-    /// Reads a comma and the name and type behind it, where they stand.
-    fn next_typed(&mut self, alloc: Global) -> Result<Option<Typed>, ReadError>
-        ensures { Reads (next_item is_identifier typed) (λ o. option_map typed_tree o)
-            self.old self.new result }
-    {
-        if !self.next_is(Operator::Comma) {
-            return Ok(None);
-        }
-        self.expect(Operator::Comma)?;
-        if self.next_is_identifier() {
-            Ok(Some(self.typed(alloc)?))
-        } else {
-            Ok(None)
-        }
-    }
-
-    /// Reads the names and types behind commas, and puts them behind those that were read.
-    fn further_typed(
-        &mut self,
-        alloc: Global,
-        mut list: Vec<Typed>,
-    ) -> Result<Vec<Typed>, ReadError>
-        ensures { Gives (λ v. map typed_tree v.items) self.new result (with_front
-            (map typed_tree list.items) ((steps (next_item is_identifier typed)).reads self.old)) }
-    {
-        while let Some(one) = self.next_typed(alloc)? {
-            list.push(one)?;
-        }
-        Ok(list)
-    }
-
-    /// Reads names with types, at least one, behind one another with commas.
-    pub fn typed_list(&mut self, alloc: Global) -> Result<Vec<Typed>, ReadError>
-        ensures { Reads (items is_identifier typed) (λ v. map typed_tree v.items)
-            self.old self.new result }
-    {
-        let mut list = Vec::new(alloc);
-        list.push(self.typed(alloc)?)?;
-        self.further_typed(alloc, list)
-    }
-
     /// Reads parameters in parentheses.
+    #[tactic(auto, using(crate::proofs::SignatureLaws::typed_lawful))]
     pub fn params(&mut self, alloc: Global) -> Result<Vec<Typed>, ReadError>
         ensures { Reads params (λ v. map typed_tree v.items) self.old self.new result }
     {
         self.expect(Operator::LeftParenthesis)?;
         let list = if self.next_is_identifier() {
-            self.typed_list(alloc)?
+            read_items(alloc, self)?
         } else {
             Vec::new(alloc)
         };

@@ -80,8 +80,8 @@ impl Cursor {
         Ok(WitType::Borrow(name))
     }
 
-    /// Reads a type that is at most `room` deep; without `borrows` no borrow may stand in it. A deeper one is a fault at the first byte of the
-    /// first type in it that is.
+    /// Reads a type that is at most `room` deep; without `borrows` no borrow may stand in it. A
+    /// deeper one is a fault at the first byte of the first type in it that is.
     #[cycle(types)]
     #[tactic(auto, unfolding(crate::specs::Types::ty))]
     pub fn ty(&mut self, alloc: Global, borrows: bool, room: u32) -> Result<WitType, ReadError>
@@ -159,7 +159,8 @@ impl Cursor {
         mut types: Vec<WitType>,
     ) -> Result<Vec<WitType>, ReadError>
         ensures { Gives (λ v. map type_tree v.items) self.new result (with_front
-            (map type_tree types.items) ((steps (next_item begins_type (ty borrows room))).reads self.old)) }
+            (map type_tree types.items)
+            ((steps (next_item begins_type (ty borrows room))).reads self.old)) }
     {
         while let Some(ty) = self.next_type(alloc, borrows, room)? {
             types.push(ty)?;

@@ -1,9 +1,6 @@
-use Rattle.std.proofs.Common.{◌≡◌, List, Option, Some, None, Result, Ok, Err, map, sym, ap, ◌∙◌, rules, subst}
+use Rattle.std.proofs.Common.{Option, Ok, ap, ◌∙◌, rules}
 use Rattle.std.specs.Option.{option_map}
 use Rattle.std.proofs.lemmas.Result.{err_from_is_err_and}
-use Rattle.cm_wit_tokens.specs.declared.token.Token.{Token}
-use Rattle.cm_wit_text.specs.Faults.{Fault}
-use Rattle.cm_wit_text.specs.Types.{Ty, begins_type, next_item, ty}
 use Rattle.cm_wit_text.specs.TypeViews.{type_tree}
 use Rattle.cm_wit_text.proofs.TypesSeen.{seen_error, seen_both, types_fail, types_go_on, types_fewer, types_end}
 use Rattle.cm_wit_text.proofs.cursor.Cursor.+types.Goals as goal

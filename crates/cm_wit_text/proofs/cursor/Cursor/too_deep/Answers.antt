@@ -1,4 +1,4 @@
-use Rattle.std.proofs.Common.{◌≡◌, sym, ◌∙◌, subst}
+use Rattle.std.proofs.Common.{sym, ◌∙◌, subst}
 use Rattle.cm_wit_text.specs.Faults.{Fails}
 use Rattle.cm_wit_text.specs.Types.{ty}
 use Rattle.cm_wit_text.proofs.TypeLaws.{no_type_here}
