@@ -6,6 +6,7 @@ use crate::load::{load, load_script, load_set};
 use crate::outcome::Outcome;
 use crate::plan::write_plan;
 use crate::play::play;
+use crate::play_help::SetSize;
 use cm_machine::Set;
 use cm_words::{Request, WordsFault};
 use std::alloc::Global;
@@ -100,8 +101,12 @@ fn run_play<'a, F: Files, O: Write, E: Write>(
 ) -> Result<Outcome, Fault<'a>> {
     let linked = load_set(alloc, files, names)?;
     let script = load_script(alloc, files, script, names.len())?;
+    let size = SetSize {
+        components: names.len(),
+        pages: script.pages.len(),
+    };
     match Set::new(alloc, linked, script.pages.as_slice()) {
         Ok(mut set) => play(alloc, &mut set, script, LIMIT, out, err),
-        Err(misuse) => Err(Fault::Misuse(misuse)),
+        Err(misuse) => Err(Fault::Set { misuse, size }),
     }
 }

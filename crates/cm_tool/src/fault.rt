@@ -3,11 +3,14 @@
 ghost use Rattle.std.specs.Prelude.{◌≡◌};
 ghost use Rattle.cm_tool.specs.declared.fault.Fault.TheVariants as fault;
 
+use crate::file_help::{write_decode_fault, write_valid_fault};
 use crate::files::FileFault;
-use cm_binary::{DecodeFault, DecodeReason};
+use crate::link_help::{FileNames, write_link_fault};
+use crate::play_help::{Drive, SetSize, write_begin_fault, write_limit, write_set_fault};
+use crate::script_help::{BadLine, write_bad_line};
+use cm_binary::DecodeFault;
 use cm_machine::Misuse;
 use cm_match::LinkFault;
-use cm_script::ScriptRefusal;
 use cm_validate::ValidFault;
 use cm_words::USAGE;
 use std::alloc::{AllocError, AllocFailed};
@@ -22,21 +25,48 @@ pub enum Fault<'a> {
     /// There was no memory.
     Memory,
     /// A file cannot be read.
-    File { name: &'a str, fault: FileFault },
-    /// A file is no component file.
-    Decode { name: &'a str, fault: DecodeFault },
+    File {
+        name: &'a str,
+        fault: FileFault,
+    },
+    /// A file is no component file. `found` is the byte at the fault, where the file has one there.
+    Decode {
+        name: &'a str,
+        fault: DecodeFault,
+        found: Option<u8>,
+    },
     /// A file's component is not valid.
-    Valid { name: &'a str, fault: ValidFault },
-    /// The components do not link.
-    Link(LinkFault),
+    Valid {
+        name: &'a str,
+        fault: ValidFault,
+    },
+    /// The components of these files do not link.
+    Link {
+        fault: LinkFault,
+        files: Vec<FileNames<'a>>,
+    },
     /// A file that should be text is not UTF-8, from the byte `at` on.
-    BadUtf8 { name: &'a str, at: usize },
+    BadUtf8 {
+        name: &'a str,
+        at: usize,
+    },
     /// A script has a line at fault.
-    Script(ScriptRefusal),
-    /// The machine refused a set, or a drive.
-    Misuse(Misuse),
+    Script(BadLine),
+    /// The machine refused to make a set.
+    Set {
+        misuse: Misuse,
+        size: SetSize,
+    },
+    /// The machine refused to begin a drive.
+    Begin {
+        misuse: Misuse,
+        drive: Drive,
+    },
     /// A drive made its last move, and its root has not returned.
-    Limit,
+    Limit {
+        limit: u64,
+        drive: Drive,
+    },
     /// Standard output cannot be written.
     Output,
 }
@@ -50,11 +80,12 @@ impl Fault<'_> {
             Fault::Memory
             | Fault::Decode { .. }
             | Fault::Valid { .. }
-            | Fault::Link(_)
+            | Fault::Link { .. }
             | Fault::BadUtf8 { .. }
             | Fault::Script(_)
-            | Fault::Misuse(_)
-            | Fault::Limit => 1,
+            | Fault::Set { .. }
+            | Fault::Begin { .. }
+            | Fault::Limit { .. } => 1,
         }
     }
 }
@@ -88,58 +119,22 @@ impl fmt::Display for Fault<'_> {
         match self {
             Fault::Usage => write!(f, "usage: {USAGE}"),
             Fault::Memory => write!(f, "Memory"),
-            Fault::File { name, fault } => write!(f, "{name}: {}: {fault}", fault.name()),
-            Fault::Decode { name, fault } => write_decode_fault(f, name, *fault),
-            Fault::Valid { name, fault } => {
-                let ValidFault {
-                    section,
-                    item,
-                    reason,
-                } = fault;
-                write!(
-                    f,
-                    "{name}: {reason:?} in section {section}, item {item}: {reason}"
-                )
+            Fault::File { name, fault } => {
+                let reason = fault.name();
+                write!(f, "{name}: {reason}: {fault}")
             }
-            Fault::Link(
-                LinkFault {
-                    component,
-                    import,
-                    reason,
-                },
-            ) => write!(
-                f,
-                "{reason:?} in component {component}, import {import}: {reason}"
-            ),
+            Fault::Decode { name, fault, found } => write_decode_fault(f, name, *fault, *found),
+            Fault::Valid { name, fault } => write_valid_fault(f, name, *fault),
+            Fault::Link { fault, files } => write_link_fault(f, *fault, files.as_slice()),
             Fault::BadUtf8 { name, at } => {
                 write!(f, "{name}: BadUtf8 at {at}: a script is UTF-8 text")
             }
-            Fault::Script(ScriptRefusal { line, fault }) => {
-                write!(f, "script line {line}: {fault}")
-            }
-            Fault::Misuse(misuse) => {
-                let number = misuse.number();
-                write!(f, "misuse {number}: {misuse}")
-            }
-            Fault::Limit => write!(f, "limit"),
+            Fault::Script(bad) => write_bad_line(f, bad),
+            Fault::Set { misuse, size } => write_set_fault(f, *misuse, *size),
+            Fault::Begin { misuse, drive } => write_begin_fault(f, *misuse, *drive),
+            Fault::Limit { limit, drive } => write_limit(f, *limit, *drive),
             Fault::Output => write!(f, "standard output: Write: it cannot be written"),
         }
-    }
-}
-
-/// Writes the fault of a file that is no component file: the name of the reason, without the feature
-/// that is not supported, the place, and what the reason says.
-fn write_decode_fault<W: fmt::Write>(
-    f: &mut fmt::Formatter<W>,
-    name: &str,
-    fault: DecodeFault,
-) -> fmt::Result {
-    let DecodeFault { at, reason } = fault;
-    match reason {
-        DecodeReason::Unsupported(feature) => {
-            write!(f, "{name}: Unsupported at {at}: {feature}")
-        }
-        _ => write!(f, "{name}: {reason:?} at {at}: {reason}"),
     }
 }
 

@@ -4,17 +4,24 @@
 mod commands;
 mod events;
 mod fault;
+mod file_help;
 mod files;
+mod link_help;
 mod load;
 mod outcome;
 mod plan;
 mod play;
+mod play_help;
+mod script_help;
 
 pub use commands::{LIMIT, tool};
 pub use events::write_event;
 pub use fault::{Fault, report};
 pub use files::{FileFault, Files};
+pub use link_help::FileNames;
 pub use load::{load, load_script, load_set};
 pub use outcome::Outcome;
 pub use plan::write_plan;
 pub use play::play;
+pub use play_help::{Drive, SetSize};
+pub use script_help::BadLine;

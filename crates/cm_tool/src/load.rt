@@ -2,6 +2,8 @@
 
 use crate::fault::Fault;
 use crate::files::Files;
+use crate::link_help::FileNames;
+use crate::script_help::BadLine;
 use cm_binary::decode;
 use cm_match::{Linked, link};
 use cm_script::Script;
@@ -29,7 +31,10 @@ pub fn load<'a, F: Files>(
     let bytes = read_file(alloc, files, name)?;
     let component = match decode(alloc, bytes.as_slice()) {
         Ok(component) => component,
-        Err(fault) => return Err(Fault::Decode { name, fault }),
+        Err(fault) => {
+            let found = bytes.get(fault.at).copied();
+            return Err(Fault::Decode { name, fault, found });
+        }
     };
     match validate(alloc, component) {
         Ok(checked) => Ok(checked),
@@ -44,12 +49,18 @@ pub fn load_set<'a, F: Files>(
     names: &[&'a str],
 ) -> Result<Linked, Fault<'a>> {
     let mut components = Vec::with_capacity(alloc, names.len())?;
+    let mut names_of_files = Vec::with_capacity(alloc, names.len())?;
     for name in names {
-        components.push(load(alloc, files, name)?)?;
+        let checked = load(alloc, files, name)?;
+        names_of_files.push(FileNames::new(alloc, name, &checked)?)?;
+        components.push(checked)?;
     }
     match link(alloc, components) {
         Ok(linked) => Ok(linked),
-        Err(fault) => Err(Fault::Link(fault)),
+        Err(fault) => Err(Fault::Link {
+            fault,
+            files: names_of_files,
+        }),
     }
 }
 
@@ -70,6 +81,9 @@ pub fn load_script<'a, F: Files>(
     };
     match Script::parse(alloc, text, components) {
         Ok(script) => Ok(script),
-        Err(refusal) => Err(Fault::Script(refusal)),
+        Err(refusal) => {
+            let bad = BadLine::new(alloc, text, components, refusal)?;
+            Err(Fault::Script(bad))
+        }
     }
 }
