@@ -5,4 +5,7 @@ use Rattle.std.specs.List.{list_all}
 
 -- A text is one or more ASCII digits, and begins with no `0`, code 48, where there are more.
 abbrev pub IsDecimal : List ℕ → Type 0
-IsDecimal text = (list_all is_ascii_digit text ≡ true) × (0 < length text) × (slice_index text 0 ≡ 48 → length text ≡ 1)
+IsDecimal text =
+    (list_all is_ascii_digit text ≡ true)
+    × (0 < length text)
+    × (slice_index text 0 ≡ 48 → length text ≡ 1)

@@ -35,14 +35,16 @@ impl fmt::Display for ScriptFault {
     }
 }
 
-/// The bytes that a text spells: none for `-`, else one for each two hex digits, of either case, the
-/// high four bits first.
+/// The bytes that a text spells: none for `-`, else one for each two hex digits, of either case,
+/// the high four bits first.
 ///
 /// Each other text, also the empty one, is refused with `BadHex`. `Memory` comes where there is no
 /// memory for the bytes.
 pub fn script_bytes(alloc: Global, text: &str) -> Result<Vec<u8>, ScriptFault>
     ensures spelled { IfOk result (λ bytes. Spells text.now bytes.items) }
-    ensures complete { (bytes : List ℕ) → Spells text.now bytes → IfErr result (λ e. e ≡ ScriptFault.Memory) }
+    ensures complete { (bytes : List ℕ)
+        → Spells text.now bytes
+        → IfErr result (λ e. e ≡ ScriptFault.Memory) }
 {
     if text == "-" {
         return Ok(Vec::new(alloc));

@@ -2,11 +2,11 @@
 
 use crate::fault::{Fault, report};
 use crate::files::Files;
-use crate::load::{load, load_script, load_set};
+use crate::loading::{load, load_script, load_set};
 use crate::outcome::Outcome;
 use crate::plan::write_plan;
-use crate::play::play;
 use crate::play_help::SetSize;
+use crate::playing::play;
 use cm_machine::Set;
 use cm_words::{Request, WordsFault};
 use std::alloc::Global;
@@ -16,13 +16,13 @@ use std::io::Write;
 pub const LIMIT: u64 = 1_000_000;
 
 /// Runs the command that the words ask for, and answers its exit status: 0 where it is done, 1 where
-/// something was refused, 2 where the words are no command or ask for help, 3 where a drive trapped, 4
-/// where a file cannot be read or standard output not be written.
+/// something was refused, 2 where the words are no command or ask for help, 3 where a drive trapped,
+/// 4 where a file cannot be read or standard output not be written.
 ///
-/// The words are those after the program's name. Files are read, decoded and validated in their order,
-/// `link` and `play` then link them, and `play` reads its script after that. The first fault ends the
-/// command, with one line on standard error that begins with `error: `; of `play`, also each drive that is
-/// refused or reaches its limit has such a line, and the later ones run.
+/// The words are those after the program's name. Files are read, decoded and validated in their
+/// order, `link` and `play` then link them, and `play` reads its script after that. The first fault
+/// ends the command, with one line on standard error that begins with `error: `; of `play`, also each
+/// drive that is refused or reaches its limit has such a line, and the later ones run.
 pub fn tool<F: Files, O: Write, E: Write>(
     alloc: Global,
     words: &[String],
@@ -101,10 +101,7 @@ fn run_play<'a, F: Files, O: Write, E: Write>(
 ) -> Result<Outcome, Fault<'a>> {
     let linked = load_set(alloc, files, names)?;
     let script = load_script(alloc, files, script, names.len())?;
-    let size = SetSize {
-        components: names.len(),
-        pages: script.pages.len(),
-    };
+    let size = SetSize::new(names.len(), script.pages.as_slice());
     match Set::new(alloc, linked, script.pages.as_slice()) {
         Ok(mut set) => play(alloc, &mut set, script, LIMIT, out, err),
         Err(misuse) => Err(Fault::Set { misuse, size }),

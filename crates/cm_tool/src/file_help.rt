@@ -4,8 +4,8 @@ use cm_binary::{DecodeFault, DecodeReason};
 use cm_validate::{ValidFault, ValidReason};
 use std::fmt;
 
-/// Writes the fault of a file that is no component file: the reason, the place, what the reason says,
-/// and the byte that stands there where the byte itself is at fault.
+/// Writes the fault of a file that is no component file: the reason, the place, what the reason
+/// says, and the byte that stands there where the byte itself is at fault.
 pub fn write_decode_fault<W: fmt::Write>(
     f: &mut fmt::Formatter<W>,
     name: &str,
@@ -20,7 +20,11 @@ pub fn write_decode_fault<W: fmt::Write>(
         _ => write!(f, "{reason}")?,
     }
     match found {
-        Some(byte) if is_of_a_byte(reason) => write!(f, ": found the byte {byte:02X}"),
+        Some(byte) if is_of_a_byte(reason) => write!(f, ": found the byte {byte:02X}")?,
+        _ => {}
+    }
+    match reason {
+        DecodeReason::BadPreamble => write!(f, ", expected 00 61 73 6D 0D 00 01 00 to begin with"),
         _ => Ok(()),
     }
 }
@@ -54,7 +58,8 @@ fn decode_reason_name(reason: DecodeReason) -> &'static str {
     }
 }
 
-/// Writes the fault of a component that is not valid: the reason, the place, and the reason's meaning.
+/// Writes the fault of a component that is not valid: the reason, the place, and what the reason
+/// means.
 pub fn write_valid_fault<W: fmt::Write>(
     f: &mut fmt::Formatter<W>,
     name: &str,
@@ -94,7 +99,7 @@ fn valid_reason_words(reason: ValidReason) -> (&'static str, &'static str) {
         ),
         ValidReason::DuplicateName => (
             "DuplicateName",
-            "two names of one list are the same, but for the case of their letters",
+            "two names that must differ are the same, whatever the case of their letters",
         ),
         ValidReason::NeedsMemory => (
             "NeedsMemory",

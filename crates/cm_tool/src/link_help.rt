@@ -59,8 +59,9 @@ pub fn write_link_fault<W: fmt::Write>(
         f,
         "{reason_name} in component {component}, import {import}: "
     )?;
-    if let LinkReason::Empty | LinkReason::TooMany | LinkReason::Memory = reason {
-        return write!(f, "{meaning}");
+    if matches!(reason, LinkReason::Empty | LinkReason::TooMany) {
+        let found = files.len();
+        return write!(f, "{meaning}, found {found}");
     }
     let importer = files.get(component);
     match importer.and_then(|i| i.imports.get(import).map(|name| (i.file, name.as_str()))) {
@@ -92,8 +93,8 @@ fn write_exporters<W: fmt::Write>(
 /// The name of a reason, and its meaning.
 fn link_reason_words(reason: LinkReason) -> (&'static str, &'static str) {
     match reason {
-        LinkReason::Empty => ("Empty", "a set has at least one component"),
-        LinkReason::TooMany => ("TooMany", "a set has at most 16 components"),
+        LinkReason::Empty => ("Empty", "expected 1 to 16 components"),
+        LinkReason::TooMany => ("TooMany", "expected 1 to 16 components"),
         LinkReason::NoProvider => ("NoProvider", "which no component before it exports"),
         LinkReason::TwoProviders => (
             "TwoProviders",

@@ -3,11 +3,26 @@
 use cm_machine::Misuse;
 use std::fmt;
 
-/// How many components a set has, and how many numbers of pages its script gives.
+/// What a set is to be made of.
 #[derive(Clone, Copy)]
 pub struct SetSize {
+    /// How many components there are.
     pub components: usize,
-    pub pages: usize,
+    /// How many numbers of pages the script gives.
+    pub counts: usize,
+    /// The greatest number of pages, 0 where there is none.
+    pub most_pages: u32,
+}
+
+impl SetSize {
+    /// The size of a set of so many components, for which a script gives these numbers of pages.
+    pub fn new(components: usize, pages: &[u32]) -> SetSize {
+        SetSize {
+            components,
+            counts: pages.len(),
+            most_pages: pages.iter().copied().max().unwrap_or(0),
+        }
+    }
 }
 
 /// A drive: its place in the script, from 0, its root, and the number of components.
@@ -34,16 +49,30 @@ pub fn write_set_fault<W: fmt::Write>(
     misuse: Misuse,
     size: SetSize,
 ) -> fmt::Result {
-    let SetSize { components, pages } = size;
     write_misuse(f, misuse)?;
     write!(f, ": making the set")?;
     match misuse {
-        Misuse::BadPages => write!(
-            f,
-            ": found {pages} numbers after pages, expected one of at most 1024 for each component, \
-            of which there are {components}"
-        ),
+        Misuse::BadPages => write_bad_pages(f, size),
         _ => Ok(()),
+    }
+}
+
+fn write_bad_pages<W: fmt::Write>(f: &mut fmt::Formatter<W>, size: SetSize) -> fmt::Result {
+    let SetSize {
+        components,
+        counts,
+        most_pages,
+    } = size;
+    if counts == components {
+        write!(
+            f,
+            ": found {most_pages} pages, expected at most 1024 for a component"
+        )
+    } else {
+        write!(
+            f,
+            ": found {counts} numbers in pages, expected one for each of {components} components"
+        )
     }
 }
 
@@ -58,7 +87,7 @@ pub fn write_begin_fault<W: fmt::Write>(
     write_drive(f, drive)?;
     match misuse {
         Misuse::Busy => write!(f, ": a drive before it reached its limit"),
-        Misuse::Closed => write!(f, ": a drive before it trapped"),
+        Misuse::Closed => write!(f, ": a trap of a drive before it closed the instance"),
         Misuse::NoInstance => write!(f, ": expected a number below {components}"),
         _ => Ok(()),
     }

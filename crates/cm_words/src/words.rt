@@ -3,10 +3,11 @@
 use clap::error::ErrorKind;
 use clap::{Arg, ArgAction, ArgMatches, Command, Error};
 use std::alloc::{AllocError, Global};
+use std::fmt;
 
 /// The commands, as a line of standard error names them.
-pub const USAGE: &str =
-    "component_tool check FILE | component_tool link FILE.. | component_tool play --script S FILE..";
+pub const USAGE: &str = "component_tool check FILE | component_tool link FILE.. \
+    | component_tool play --script S FILE..";
 
 /// Why words are no command.
 #[derive(Clone, Copy)]
@@ -15,6 +16,15 @@ pub enum WordsFault {
     NoCommand,
     /// There was no memory.
     Memory,
+}
+
+impl fmt::Display for WordsFault {
+    fn fmt<W: fmt::Write>(&self, f: &mut fmt::Formatter<W>) -> fmt::Result {
+        f.write_str(match self {
+            WordsFault::NoCommand => "no command",
+            WordsFault::Memory => "no memory",
+        })
+    }
 }
 
 /// A command, with the names of its files in order.

@@ -6,8 +6,8 @@ use std::io::{BufWriter, Write};
 use std::rt::{Env, Files};
 use std::{env, io};
 
-/// Runs the command of the program's words, which come after its name, on the files of the disk, and
-/// answers its exit status.
+/// Runs the command of the program's words, which come after its name, on the files of the disk,
+/// and answers its exit status.
 pub fn start<R: Env + Files + AllocGlobal, O: Write + Drop, E: Write>(
     rt: &R,
     out: O,

@@ -68,8 +68,8 @@ fn print_events<O: Write>(events: &[Event], out: &mut O) -> io::Result<()> {
     out.flush()
 }
 
-/// How a drive ended whose last event is this one. One that neither ended nor trapped has reached its
-/// limit.
+/// How a drive ended whose last event is this one. One that neither ended nor trapped has reached
+/// its limit.
 fn ending_of(last: Option<&Event>, limit: u64, drive: Drive) -> Result<Outcome, Fault<'static>> {
     match last {
         Some(Event::Ended) => Ok(Outcome::Done),
