@@ -15,14 +15,14 @@ use std::io::Write;
 /// The most moves of a drive.
 pub const LIMIT: u64 = 1_000_000;
 
-/// Runs the command that the words ask for, and answers its exit status: 0 where it is done, 1 where
-/// something was refused, 2 where the words are no command or ask for help, 3 where a drive trapped,
-/// 4 where a file cannot be read or standard output not be written.
+/// Runs the command that the words ask for, and answers its exit status: 0 where it is done, 1
+/// where something was refused, 2 where the words are no command or ask for help, 3 where a drive
+/// trapped, 4 where a file cannot be read or standard output not be written.
 ///
 /// The words are those after the program's name. Files are read, decoded and validated in their
 /// order, `link` and `play` then link them, and `play` reads its script after that. The first fault
-/// ends the command, with one line on standard error that begins with `error: `; of `play`, also each
-/// drive that is refused or reaches its limit has such a line, and the later ones run.
+/// ends the command, with one line on standard error that begins with `error: `; of `play`, also
+/// each drive that is refused or reaches its limit has such a line, and the later ones run.
 pub fn tool<F: Files, O: Write, E: Write>(
     alloc: Global,
     words: &[String],

@@ -4,15 +4,15 @@ use crate::events::write_event;
 use crate::fault::{Fault, report};
 use crate::outcome::Outcome;
 use crate::play_help::Drive;
-use cm_machine::{Event, Guest, Move, Player, Set};
+use cm_machine::{Event, Guest, Player, Set};
 use cm_script::{Script, ScriptGuest};
-use std::alloc::{AllocError, Global};
-use std::collections::VecDeque;
+use std::alloc::Global;
 use std::io;
 use std::io::Write;
 
-/// Plays each drive of a script, in order, for so many moves at most, and prints its events. A drive
-/// that is refused or that reaches its limit has a line on standard error, and the later ones run.
+/// Plays each drive of a script, in order, for so many moves at most, and prints its events. A
+/// drive that is refused or that reaches its limit has a line on standard error, and the later ones
+/// run.
 pub fn play<O: Write, E: Write>(
     alloc: Global,
     set: &mut Set,
@@ -27,7 +27,11 @@ pub fn play<O: Write, E: Write>(
         begins,
     } = script;
     let components = moves.len();
-    let mut seats = seat_guests(alloc, moves)?;
+    let mut seats: Vec<Option<Box<dyn Guest>>> = Vec::with_capacity(alloc, moves.len())?;
+    for moves in moves {
+        let guest: Box<dyn Guest> = Box::new(alloc, ScriptGuest::new(moves))?;
+        seats.push(Some(guest))?;
+    }
     let mut worst = Outcome::Done;
     for (index, root) in begins.into_iter().enumerate() {
         let drive = Drive {
@@ -45,19 +49,6 @@ pub fn play<O: Write, E: Write>(
         worst = worst.max(outcome_of(ending, err));
     }
     Ok(worst)
-}
-
-/// A guest on each seat, with its moves.
-fn seat_guests(
-    alloc: Global,
-    moves: Vec<VecDeque<Move>>,
-) -> Result<Vec<Option<Box<dyn Guest>>>, AllocError> {
-    let mut seats = Vec::with_capacity(alloc, moves.len())?;
-    for moves in moves {
-        let guest: Box<dyn Guest> = Box::new(alloc, ScriptGuest::new(moves))?;
-        seats.push(Some(guest))?;
-    }
-    Ok(seats)
 }
 
 /// Prints the events of a drive.

@@ -17,6 +17,7 @@ impl<'r, R> Disk<'r, R> {
 }
 
 impl<R: rt::Files + AllocGlobal> Files for Disk<'_, R> {
+    // The bytes of a file come from the allocator of `rt`, which is the same one.
     fn read(&mut self, _alloc: Global, name: &str) -> Result<Vec<u8>, FileFault> {
         Ok(fs::read(self.rt, name)?)
     }
