@@ -22,7 +22,7 @@ const MODULE_PREAMBLE: [u8; 8] = [0x00, 0x61, 0x73, 0x6d, 0x01, 0x00, 0x00, 0x00
 
 /// The sections of a component file, in order, within the limits of files. Contracts see them as trees:
 /// names as their bytes, and without where they lie in memory.
-#[derive(Debug, Drop)]
+#[derive(Drop)]
 pub struct Component {
     sections: Vec<Section>,
 }

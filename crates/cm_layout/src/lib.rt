@@ -5,6 +5,7 @@
 mod alignments;
 mod flat_funcs;
 mod flattening;
+pub mod laws;
 mod layout_trees;
 mod offsets;
 mod sizes;

@@ -24,7 +24,7 @@ const MOST_COMPONENTS: usize = 16;
 
 /// A set of components whose imports are all served by components before. Contracts see it as the trees
 /// of the components' files, in order.
-#[derive(Debug, Drop)]
+#[derive(Drop)]
 pub struct Linked {
     components: Vec<Checked>,
     links: Links,

@@ -118,7 +118,7 @@ fn link_imports(
 }
 
 /// The plan of a set, and what each import of each component reaches.
-#[derive(Debug, Drop)]
+#[derive(Drop)]
 pub(crate) struct Links {
     pub plan: Vec<PlanLine>,
     pub targets: Vec<Vec<Option<Reached>>>,

@@ -12,7 +12,7 @@ use std::alloc::AllocError;
 use std::rc::Rc;
 
 /// A lifted function: its component, the core function that is lifted, and its type.
-#[derive(Debug, Drop)]
+#[derive(Drop)]
 pub(crate) struct Reached {
     pub component: u32,
     pub core_func: u32,
@@ -20,7 +20,7 @@ pub(crate) struct Reached {
 }
 
 /// The lifted function that an imported function reaches.
-#[derive(Clone, Copy, Debug)]
+#[derive(Clone, Copy)]
 pub struct Target<'a> {
     /// The place in the set of the component that lifts it.
     pub component: u32,

@@ -31,7 +31,8 @@ value_step (value.List vs) = elements (vals_from vs.items)
 value_step (value.Fields vs) = parts (vals_from vs.items)
 value_step (value.Case i payload) = case_value i payload
 value_step (value.Flags n) = flag_set n
-value_step (value.Handle serial rep resource) = handle (record { serial = serial; rep = rep; resource = resource })
+value_step (value.Handle serial rep resource) =
+    handle (record { serial = serial; rep = rep; resource = resource })
 
 -- the value that a value of the code is
 abbrev pub value_of : Value → Val

@@ -7,8 +7,8 @@ use Rattle.cm_types.specs.Types.{Ty, Fields, Cases, Width, width_bytes, bool, si
 use Rattle.cm_types.specs.Types.{char, string, list, fixed_list, fields, cases, flags, own, borrow}
 use Rattle.cm_types.specs.Types.{no_fields, field, no_cases, plain, carrying}
 
--- a handle on its way: the serial number of the resource that it stands for, the representation, and the
--- resource type
+-- a handle on its way: the serial number of the resource that it stands for, the representation,
+-- and the resource type
 pub record HandleValue : Type 0 where
   pub serial : ℕ
   pub rep : ℕ
@@ -48,7 +48,8 @@ IsScalarValue c = (c < 0x110000) × ((c < 0xD800) ⊎ (0xDFFF < c))
 
 -- a number fits two's complement of this width
 abbrev pub FitsSignedWidth : Width → ℤ → Type 0
-FitsSignedWidth k z = (neg_ℤ (pos (2 ^ (8 * width_bytes k - 1))) ≤ℤ z) × (z <ℤ pos (2 ^ (8 * width_bytes k - 1)))
+FitsSignedWidth k z =
+    (neg_ℤ (pos (2 ^ (8 * width_bytes k - 1))) ≤ℤ z) × (z <ℤ pos (2 ^ (8 * width_bytes k - 1)))
 
 -- a number without sign fits this width
 abbrev pub FitsWidth : Width → ℕ → Type 0

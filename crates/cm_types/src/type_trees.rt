@@ -5,14 +5,14 @@ ghost use Rattle.cm_types.specs.Limits.{IsWithinLimits};
 ghost use Rattle.cm_types.specs.Types.{fields, tuple_type};
 ghost use Rattle.cm_types.specs.TypeTrees.{fields_of, type_of};
 
-use crate::limits::{MOST_DEPTH, MOST_NODES, depth, depth_of_fields, nodes, nodes_of_fields};
+use crate::limits::{MAX_DEPTH, MAX_NODES, depth, depth_of_fields, nodes, nodes_of_fields};
 use crate::names::Label;
 use crate::resource::ResourceId;
 use thiserror::Error;
 
 /// A node of a type tree with all below it (Explainer.md, "Value Types").
 #[cycle(types)]
-#[derive(Debug, Drop)]
+#[derive(Drop)]
 pub enum TypeNode {
     Bool,
     S8,
@@ -49,7 +49,7 @@ pub enum TypeNode {
 
 /// A field of a record, or a parameter of a function.
 #[cycle(types)]
-#[derive(Debug, Drop)]
+#[derive(Drop)]
 pub struct Field {
     pub label: Label,
     pub ty: TypeNode,
@@ -57,7 +57,7 @@ pub struct Field {
 
 /// A case of a variant, with its payload, if it carries one.
 #[cycle(types)]
-#[derive(Debug, Drop)]
+#[derive(Drop)]
 pub struct Case {
     pub label: Label,
     pub payload: Option<TypeNode>,
@@ -68,24 +68,26 @@ pub struct Case {
 #[error("the type is too large")]
 pub struct TooLarge;
 
-/// A type of at most 10,000 nodes that is at most 64 deep (the limits are this project's own choice).
+/// A type of at most 10,000 nodes that is at most 64 deep (the limits are this project's own
+/// choice).
 ///
-/// A leaf has 1 node and depth 1. What holds other types has 1 node more than these have together, and
-/// is 1 deeper than the deepest; a list of fixed length counts its element as often as it holds it.
-#[derive(Debug, Drop)]
+/// A leaf has 1 node and depth 1. What holds other types has 1 node more than these have together,
+/// and is 1 deeper than the deepest; a list of fixed length counts its element as often as it holds
+/// it.
+#[derive(Drop)]
 pub struct TypeTree {
     pub root: TypeNode,
     pub ghost within_limits: { IsWithinLimits (type_of root) },
 }
 
 impl TypeTree {
-    /// The type with this root; `TooLarge` exactly where it is not within the limits, and the root is
-    /// then dropped.
+    /// The type with this root; `TooLarge` exactly where it is not within the limits, and the root
+    /// is then dropped.
     pub fn new(root: TypeNode) -> Result<TypeTree, TooLarge>
-        ensures held { IfOk result (λ tree. tree.root ≡ root) }
+        ensures root { IfOk result (λ tree. tree.root ≡ root) }
         ensures refused { OnErr result (¬ (IsWithinLimits (type_of root))) }
     {
-        if nodes(&root) <= MOST_NODES && depth(&root) <= MOST_DEPTH {
+        if nodes(&root) <= MAX_NODES && depth(&root) <= MAX_DEPTH {
             Ok(TypeTree { root })
         } else {
             Err(TooLarge)
@@ -93,9 +95,9 @@ impl TypeTree {
     }
 }
 
-/// The type of a function with every index expanded: its parameters in order, and its result, if it has
-/// one. The parameters are within the limits of one type as the fields of a tuple are.
-#[derive(Debug, Drop)]
+/// The type of a function with every index expanded: its parameters in order, and its result, if it
+/// has one. The parameters are within the limits of one type as the fields of a tuple are.
+#[derive(Drop)]
 pub struct Func {
     pub params: Vec<Field>,
     pub result: Option<TypeTree>,
@@ -108,9 +110,10 @@ impl Func {
     pub fn new(params: Vec<Field>, answer: Option<TypeTree>) -> Result<Func, TooLarge>
         ensures params { IfOk result (λ func. func.params ≡ params) }
         ensures answer { IfOk result (λ func. func.result ≡ answer) }
-        ensures refused { OnErr result (¬ (IsWithinLimits (fields tuple_type (fields_of params.items)))) }
+        ensures refused { OnErr result
+            (¬ (IsWithinLimits (fields tuple_type (fields_of params.items)))) }
     {
-        if nodes_of_fields(&params) < MOST_NODES && depth_of_fields(&params) < MOST_DEPTH {
+        if nodes_of_fields(&params) < MAX_NODES && depth_of_fields(&params) < MAX_DEPTH {
             Ok(Func {
                 params,
                 result: answer,

@@ -24,7 +24,7 @@ use std::marker::Model;
 
 /// A component that is valid, with tables that tell what its indices stand for. Contracts see it as the
 /// tree of its file.
-#[derive(Debug, Drop)]
+#[derive(Drop)]
 pub struct Checked {
     component: Component,
     tables: Tables,

@@ -11,7 +11,7 @@ use std::alloc::AllocError;
 use std::rc::Rc;
 
 /// What a core function of a component is.
-#[derive(Debug, Drop)]
+#[derive(Drop)]
 pub enum CoreFuncDef {
     /// What a core instance exports under a name.
     Guest {
@@ -27,7 +27,7 @@ pub enum CoreFuncDef {
 }
 
 /// What a function of a component is.
-#[derive(Debug, Drop)]
+#[derive(Drop)]
 pub enum FuncDef {
     /// A core function that was lifted, and the type that it was lifted to.
     Lifted {
@@ -43,7 +43,7 @@ pub enum FuncDef {
 }
 
 /// What stands under an export: a function's index and its type.
-#[derive(Debug, Drop)]
+#[derive(Drop)]
 pub(crate) struct ExportDef {
     pub func: u32,
     pub ty: Rc<Func>,

@@ -11,14 +11,14 @@ use std::collections::BTreeSet;
 use std::marker::Model;
 
 /// A definition under a name.
-#[derive(Debug, Drop)]
+#[derive(Drop)]
 pub(crate) struct Named<T> {
     pub name: ExternName,
     pub definition: T,
 }
 
 /// Definitions under names, in order, with what tells fast whether a name is there.
-#[derive(Debug, Drop)]
+#[derive(Drop)]
 pub(crate) struct NamedList<T> {
     definitions: Vec<Named<T>>,
     names: BTreeSet<String>,

@@ -14,7 +14,7 @@ use std::rc::Rc;
 
 /// What a component imports and exports, its core functions, its functions, and for each export the
 /// function's index.
-#[derive(Debug, Drop)]
+#[derive(Drop)]
 pub(crate) struct Tables {
     pub signature: Signature,
     pub core_funcs: Vec<CoreFuncDef>,
