@@ -7,7 +7,8 @@ use Rattle.cm_grammar.proofs.SpellingLaws.{each_short, flat_map-map}
 use Rattle.cm_component.specs.declared.section.Section.{Section}
 use Rattle.cm_component.specs.Trees.{SectionTree, section_tree}
 use Rattle.cm_binary.specs.File.{file, Spells}
-use Rattle.cm_component.specs.Spelling.{section_spelling, spelling, component_preamble}
+use Rattle.cm_component.specs.Spelling.{section_spelling, spelling}
+use Rattle.cm_component.specs.declared.limits.TheConstants.{COMPONENT_PREAMBLE}
 use Rattle.cm_component.specs.Limits.{limit_fault}
 use Rattle.cm_binary.proofs.FileSpelling.{file_shortens}
 use Rattle.cm_binary.proofs.FileLimits.{limits_parts}
@@ -17,7 +18,7 @@ pub section_small : (sections : List Section) (i : ℕ) (x : Section) → i < le
 section_small sections i x lt e small =
     let one = each_short (λ y. section_spelling (section_tree y)) sections i x lt e in
     let all : length (flat_map section_spelling (map section_tree sections)) ≡ length (flat_map (λ y. section_spelling (section_tree y)) sections) = ap length (flat_map-map section_spelling section_tree sections) in
-    omega (arith, one, all, length-append component_preamble (flat_map section_spelling (map section_tree sections)), small)
+    omega (arith, one, all, length-append COMPONENT_PREAMBLE (flat_map section_spelling (map section_tree sections)), small)
 
 pub file_small : (c : List SectionTree) → limit_fault c ≡ None → length (spelling c) < 2 ^ 32
 file_small c e = omega (arith, (limits_parts c e).bytes)

@@ -14,7 +14,7 @@ use std::alloc::Global;
 
 /// Reads canonical options, of which there must be none.
 #[tactic(auto, unfolding(crate::specs::File::options, crate::specs::File::options_of))]
-fn no_options_of(bytes: &mut Cursor<'_, DecodeReason>) -> Result<(), ReadError<DecodeReason>>
+fn read_no_options(bytes: &mut Cursor<'_, DecodeReason>) -> Result<(), ReadError<DecodeReason>>
     ensures read { Reads options (λ x. x) bytes.old bytes.new result }
     ensures end { bytes.new.end ≡ bytes.old.end }
 {
@@ -29,7 +29,7 @@ fn no_options_of(bytes: &mut Cursor<'_, DecodeReason>) -> Result<(), ReadError<D
 
 /// Reads a canonical definition.
 #[tactic(auto, unfolding(crate::specs::File::canon, crate::specs::File::canon_of))]
-fn canon_from(bytes: &mut Cursor<'_, DecodeReason>) -> Result<Canon, ReadError<DecodeReason>>
+fn read_canon(bytes: &mut Cursor<'_, DecodeReason>) -> Result<Canon, ReadError<DecodeReason>>
     ensures read { Reads canon (λ x. x) bytes.old bytes.new result }
     ensures end { bytes.new.end ≡ bytes.old.end }
 {
@@ -38,13 +38,13 @@ fn canon_from(bytes: &mut Cursor<'_, DecodeReason>) -> Result<Canon, ReadError<D
     match form {
         CanonForm::Lift => {
             let core_func = bytes.number(DecodeReason::BadNumber)?;
-            no_options_of(bytes)?;
+            read_no_options(bytes)?;
             let ty = bytes.number(DecodeReason::BadNumber)?;
             Ok(Canon::Lift { core_func, ty })
         }
         CanonForm::Lower => {
             let func = bytes.number(DecodeReason::BadNumber)?;
-            no_options_of(bytes)?;
+            read_no_options(bytes)?;
             Ok(Canon::Lower { func })
         }
     }
@@ -59,12 +59,12 @@ impl Item<DecodeReason> for Canon {
         _alloc: Global,
         cursor: &mut Cursor<'_, DecodeReason>,
     ) -> Result<Self, ReadError<DecodeReason>> {
-        canon_from(cursor)
+        read_canon(cursor)
     }
 }
 
 /// Reads the contents of a section of canonical definitions.
-pub(crate) fn canons_of(
+pub(crate) fn read_canons(
     alloc: Global,
     bytes: &mut Cursor<'_, DecodeReason>,
 ) -> Result<Vec<Canon>, ReadError<DecodeReason>>

@@ -8,14 +8,14 @@ ghost use Rattle.cm_binary.specs.File.{vector, extern_desc, import_item, export_
 
 use crate::codes::{DescForm, NoDescription};
 use crate::fault::DecodeReason;
-use crate::texts::extern_name_of;
+use crate::texts::read_extern_name;
 use cm_component::{Export, ExternDesc, Import};
 use cm_grammar::{Cursor, Item, ReadError, read_items};
 use std::alloc::Global;
 
 /// Reads the type of an import.
 #[tactic(auto, unfolding(crate::specs::File::extern_desc))]
-fn desc_of(bytes: &mut Cursor<'_, DecodeReason>) -> Result<ExternDesc, ReadError<DecodeReason>>
+fn read_desc(bytes: &mut Cursor<'_, DecodeReason>) -> Result<ExternDesc, ReadError<DecodeReason>>
     ensures read { Reads extern_desc (λ x. x) bytes.old bytes.new result }
     ensures end { bytes.new.end ≡ bytes.old.end }
 {
@@ -25,15 +25,15 @@ fn desc_of(bytes: &mut Cursor<'_, DecodeReason>) -> Result<ExternDesc, ReadError
 
 /// Reads an import.
 #[tactic(auto, unfolding(crate::specs::File::import_item))]
-fn import_from(
+fn read_import(
     alloc: Global,
     bytes: &mut Cursor<'_, DecodeReason>,
 ) -> Result<Import, ReadError<DecodeReason>>
     ensures read { Reads import_item import_tree bytes.old bytes.new result }
     ensures end { bytes.new.end ≡ bytes.old.end }
 {
-    let name = extern_name_of(alloc, bytes)?;
-    let desc = desc_of(bytes)?;
+    let name = read_extern_name(alloc, bytes)?;
+    let desc = read_desc(bytes)?;
     Ok(Import { name, desc })
 }
 
@@ -46,16 +46,17 @@ impl Item<DecodeReason> for Import {
         alloc: Global,
         cursor: &mut Cursor<'_, DecodeReason>,
     ) -> Result<Self, ReadError<DecodeReason>> {
-        import_from(alloc, cursor)
+        read_import(alloc, cursor)
     }
 }
 
 /// Reads the contents of a section of imports.
-pub(crate) fn imports_of(
+pub(crate) fn read_imports(
     alloc: Global,
     bytes: &mut Cursor<'_, DecodeReason>,
 ) -> Result<Vec<Import>, ReadError<DecodeReason>>
-    ensures read { Reads (vector import_item) (λ v. map import_tree v.items) bytes.old bytes.new result }
+    ensures read { Reads (vector import_item)
+        (λ v. map import_tree v.items) bytes.old bytes.new result }
     ensures end { bytes.new.end ≡ bytes.old.end }
 {
     let count = bytes.number(DecodeReason::BadNumber)?;
@@ -64,14 +65,14 @@ pub(crate) fn imports_of(
 
 /// Reads an export.
 #[tactic(auto, unfolding(crate::specs::File::export_item))]
-fn export_from(
+fn read_export(
     alloc: Global,
     bytes: &mut Cursor<'_, DecodeReason>,
 ) -> Result<Export, ReadError<DecodeReason>>
     ensures read { Reads export_item export_tree bytes.old bytes.new result }
     ensures end { bytes.new.end ≡ bytes.old.end }
 {
-    let name = extern_name_of(alloc, bytes)?;
+    let name = read_extern_name(alloc, bytes)?;
     let sort = bytes.code()?;
     let index = bytes.number(DecodeReason::BadNumber)?;
     let NoDescription::Absent = bytes.code()?;
@@ -87,16 +88,17 @@ impl Item<DecodeReason> for Export {
         alloc: Global,
         cursor: &mut Cursor<'_, DecodeReason>,
     ) -> Result<Self, ReadError<DecodeReason>> {
-        export_from(alloc, cursor)
+        read_export(alloc, cursor)
     }
 }
 
 /// Reads the contents of a section of exports.
-pub(crate) fn exports_of(
+pub(crate) fn read_exports(
     alloc: Global,
     bytes: &mut Cursor<'_, DecodeReason>,
 ) -> Result<Vec<Export>, ReadError<DecodeReason>>
-    ensures read { Reads (vector export_item) (λ v. map export_tree v.items) bytes.old bytes.new result }
+    ensures read { Reads (vector export_item)
+        (λ v. map export_tree v.items) bytes.old bytes.new result }
     ensures end { bytes.new.end ≡ bytes.old.end }
 {
     let count = bytes.number(DecodeReason::BadNumber)?;

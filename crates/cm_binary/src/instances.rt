@@ -11,21 +11,21 @@ ghost use Rattle.cm_binary.specs.File.{vector, core_arg, core_instance, alias_of
 
 use crate::codes::{AliasSort, AliasTarget, CoreInstanceForm, other_alias_target};
 use crate::fault::DecodeReason;
-use crate::texts::text_of;
+use crate::texts::read_text;
 use cm_component::{Alias, CoreInstance, CoreInstantiationArg};
 use cm_grammar::{Cursor, Item, ReadError, read_items};
 use std::alloc::Global;
 
 /// Reads a core instance that a module is given.
 #[tactic(auto, unfolding(crate::specs::File::core_arg))]
-fn core_arg_of(
+fn read_core_arg(
     alloc: Global,
     bytes: &mut Cursor<'_, DecodeReason>,
 ) -> Result<CoreInstantiationArg, ReadError<DecodeReason>>
     ensures read { Reads core_arg arg_tree bytes.old bytes.new result }
     ensures end { bytes.new.end ≡ bytes.old.end }
 {
-    let name = text_of(alloc, bytes)?;
+    let name = read_text(alloc, bytes)?;
     bytes.fixed(&[0x12], DecodeReason::UnknownCode)?;
     let instance = bytes.number(DecodeReason::BadNumber)?;
     Ok(CoreInstantiationArg { name, instance })
@@ -40,12 +40,12 @@ impl Item<DecodeReason> for CoreInstantiationArg {
         alloc: Global,
         cursor: &mut Cursor<'_, DecodeReason>,
     ) -> Result<Self, ReadError<DecodeReason>> {
-        core_arg_of(alloc, cursor)
+        read_core_arg(alloc, cursor)
     }
 }
 
 /// Reads what a module is given.
-fn core_args_of(
+fn read_core_args(
     alloc: Global,
     bytes: &mut Cursor<'_, DecodeReason>,
 ) -> Result<Vec<CoreInstantiationArg>, ReadError<DecodeReason>>
@@ -58,7 +58,7 @@ fn core_args_of(
 
 /// Reads a core instance.
 #[tactic(auto, unfolding(crate::specs::File::core_instance))]
-fn core_instance_of(
+fn read_core_instance(
     alloc: Global,
     bytes: &mut Cursor<'_, DecodeReason>,
 ) -> Result<CoreInstance, ReadError<DecodeReason>>
@@ -67,12 +67,13 @@ fn core_instance_of(
 {
     let CoreInstanceForm::Instantiate = bytes.code()?;
     let module = bytes.number(DecodeReason::BadNumber)?;
-    let args = core_args_of(alloc, bytes)?;
+    let args = read_core_args(alloc, bytes)?;
     Ok(CoreInstance::Instantiate { module, args })
 }
 
 impl Item<DecodeReason> for CoreInstance {
-    ghost is_read = { λ e bytes x rest. core_instance.reads e bytes ≡ Ok (core_instance_tree x, rest) };
+    ghost is_read = { λ e bytes x rest. core_instance.reads e bytes
+        ≡ Ok (core_instance_tree x, rest) };
 
     ghost fails = { λ e bytes err. Fails err (core_instance.reads e bytes) };
 
@@ -80,16 +81,17 @@ impl Item<DecodeReason> for CoreInstance {
         alloc: Global,
         cursor: &mut Cursor<'_, DecodeReason>,
     ) -> Result<Self, ReadError<DecodeReason>> {
-        core_instance_of(alloc, cursor)
+        read_core_instance(alloc, cursor)
     }
 }
 
 /// Reads the contents of a section of core instances.
-pub(crate) fn core_instances_of(
+pub(crate) fn read_core_instances(
     alloc: Global,
     bytes: &mut Cursor<'_, DecodeReason>,
 ) -> Result<Vec<CoreInstance>, ReadError<DecodeReason>>
-    ensures read { Reads (vector core_instance) (λ v. map core_instance_tree v.items) bytes.old bytes.new result }
+    ensures read { Reads (vector core_instance)
+        (λ v. map core_instance_tree v.items) bytes.old bytes.new result }
     ensures end { bytes.new.end ≡ bytes.old.end }
 {
     let count = bytes.number(DecodeReason::BadNumber)?;
@@ -98,7 +100,7 @@ pub(crate) fn core_instances_of(
 
 /// Reads an alias of a core definition, behind its sort.
 #[tactic(auto, unfolding(crate::specs::File::alias_of))]
-fn core_alias_of(
+fn read_core_alias(
     alloc: Global,
     bytes: &mut Cursor<'_, DecodeReason>,
 ) -> Result<Alias, ReadError<DecodeReason>>
@@ -108,7 +110,7 @@ fn core_alias_of(
     let sort = bytes.code()?;
     let AliasTarget::CoreInstanceExport = bytes.code()?;
     let instance = bytes.number(DecodeReason::BadNumber)?;
-    let name = text_of(alloc, bytes)?;
+    let name = read_text(alloc, bytes)?;
     Ok(Alias::CoreInstanceExport {
         sort,
         instance,
@@ -118,7 +120,7 @@ fn core_alias_of(
 
 /// The fault of an alias of another definition, behind its sort.
 #[tactic(auto, unfolding(crate::specs::File::alias_of))]
-fn other_alias_of(bytes: &Cursor<'_, DecodeReason>) -> ReadError<DecodeReason>
+fn other_alias_fault(bytes: &Cursor<'_, DecodeReason>) -> ReadError<DecodeReason>
     ensures { Fails result ((alias_of alias_sorts.Other).reads bytes.now.end bytes.now.rest.now) }
 {
     match bytes.rest {
@@ -129,7 +131,7 @@ fn other_alias_of(bytes: &Cursor<'_, DecodeReason>) -> ReadError<DecodeReason>
 
 /// Reads an alias.
 #[tactic(auto, unfolding(crate::specs::File::alias))]
-fn alias_from(
+fn read_alias(
     alloc: Global,
     bytes: &mut Cursor<'_, DecodeReason>,
 ) -> Result<Alias, ReadError<DecodeReason>>
@@ -137,8 +139,8 @@ fn alias_from(
     ensures end { bytes.new.end ≡ bytes.old.end }
 {
     match bytes.code()? {
-        AliasSort::Core => core_alias_of(alloc, bytes),
-        AliasSort::Other => Err(other_alias_of(bytes)),
+        AliasSort::Core => read_core_alias(alloc, bytes),
+        AliasSort::Other => Err(other_alias_fault(bytes)),
     }
 }
 
@@ -151,12 +153,12 @@ impl Item<DecodeReason> for Alias {
         alloc: Global,
         cursor: &mut Cursor<'_, DecodeReason>,
     ) -> Result<Self, ReadError<DecodeReason>> {
-        alias_from(alloc, cursor)
+        read_alias(alloc, cursor)
     }
 }
 
 /// Reads the contents of a section of aliases.
-pub(crate) fn aliases_of(
+pub(crate) fn read_aliases(
     alloc: Global,
     bytes: &mut Cursor<'_, DecodeReason>,
 ) -> Result<Vec<Alias>, ReadError<DecodeReason>>

@@ -1,7 +1,7 @@
 //! Writing the parts of a file, with shortest numbers.
 
 ghost use Rattle.std.specs.Prelude.{◌≡◌, ◌∷◌, ◌++◌, ◌^◌, ◌<◌, [], length, map, OnOk};
-ghost use Rattle.cm_grammar.specs.Spelling.{counted};
+ghost use Rattle.cm_grammar.specs.Spelling.{vec_spelling};
 ghost use Rattle.cm_types.specs.DefTypes.{func_type_tree, def_type_tree};
 ghost use Rattle.cm_component.specs.Trees.{arg_tree, core_instance_tree, alias_tree, import_tree};
 ghost use Rattle.cm_component.specs.Trees.{export_tree};
@@ -18,7 +18,7 @@ use crate::fault::DecodeReason;
 use cm_component::{
     Alias, Canon, CoreInstance, CoreInstantiationArg, CoreSort, Export, ExternDesc, Import, Sort,
 };
-use cm_grammar::{Spelled, write_counted, write_prefixed};
+use cm_grammar::{Spelled, write_blob, write_vec};
 use cm_leb::write_u32;
 use cm_types::{DefType, ExternName, FuncType, LabeledValType, ValType};
 use std::alloc::AllocError;
@@ -28,7 +28,7 @@ fn write_extern_name(out: &mut Vec<u8>, name: &ExternName) -> Result<(), AllocEr
     ensures { OnOk result (out.new.items ≡ out.old.items ++ extern_name_spelling name.now) }
 {
     out.push(0x00)?;
-    write_prefixed(out, name.as_str().as_bytes())
+    write_blob(out, name.as_str().as_bytes())
 }
 
 /// The code of a value type.
@@ -62,69 +62,80 @@ fn write_desc(out: &mut Vec<u8>, desc: ExternDesc) -> Result<(), AllocError>
 
 fn write_func_type(out: &mut Vec<u8>, func: &FuncType) -> Result<(), AllocError>
     requires { length (func_spelling (func_type_tree func.now)) < 2 ^ 32 }
-    ensures { OnOk result (out.new.items ≡ out.old.items ++ func_spelling (func_type_tree func.now)) }
+    ensures { OnOk result
+        (out.new.items ≡ out.old.items ++ func_spelling (func_type_tree func.now)) }
 {
-    write_counted::<DecodeReason, _>(out, &func.params)?;
+    write_vec::<DecodeReason, _>(out, &func.params)?;
     write_result(out, func.result)
 }
 
 fn write_core_args(out: &mut Vec<u8>, items: &[CoreInstantiationArg]) -> Result<(), AllocError>
-    requires { length (counted core_arg_spelling (map arg_tree items.now)) < 2 ^ 32 }
-    ensures { OnOk result (out.new.items ≡ out.old.items ++ counted core_arg_spelling (map arg_tree items.now)) }
+    requires { length (vec_spelling core_arg_spelling (map arg_tree items.now)) < 2 ^ 32 }
+    ensures { OnOk result
+        (out.new.items ≡ out.old.items ++ vec_spelling core_arg_spelling (map arg_tree items.now)) }
 {
-    write_counted::<DecodeReason, _>(out, items)
+    write_vec::<DecodeReason, _>(out, items)
 }
 
 pub(crate) fn write_core_instances(
     out: &mut Vec<u8>,
     items: &[CoreInstance],
 ) -> Result<(), AllocError>
-    requires { length (counted core_instance_spelling (map core_instance_tree items.now)) < 2 ^ 32 }
-    ensures { OnOk result (out.new.items ≡ out.old.items ++ counted core_instance_spelling (map core_instance_tree items.now)) }
+    requires { length (vec_spelling core_instance_spelling
+        (map core_instance_tree items.now)) < 2 ^ 32 }
+    ensures { OnOk result
+        (out.new.items ≡ out.old.items
+        ++ vec_spelling core_instance_spelling (map core_instance_tree items.now)) }
 {
-    write_counted::<DecodeReason, _>(out, items)
+    write_vec::<DecodeReason, _>(out, items)
 }
 
 pub(crate) fn write_aliases(out: &mut Vec<u8>, items: &[Alias]) -> Result<(), AllocError>
-    requires { length (counted alias_spelling (map alias_tree items.now)) < 2 ^ 32 }
-    ensures { OnOk result (out.new.items ≡ out.old.items ++ counted alias_spelling (map alias_tree items.now)) }
+    requires { length (vec_spelling alias_spelling (map alias_tree items.now)) < 2 ^ 32 }
+    ensures { OnOk result
+        (out.new.items ≡ out.old.items ++ vec_spelling alias_spelling (map alias_tree items.now)) }
 {
-    write_counted::<DecodeReason, _>(out, items)
+    write_vec::<DecodeReason, _>(out, items)
 }
 
 pub(crate) fn write_types(out: &mut Vec<u8>, items: &[DefType]) -> Result<(), AllocError>
-    requires { length (counted def_spelling (map def_type_tree items.now)) < 2 ^ 32 }
-    ensures { OnOk result (out.new.items ≡ out.old.items ++ counted def_spelling (map def_type_tree items.now)) }
+    requires { length (vec_spelling def_spelling (map def_type_tree items.now)) < 2 ^ 32 }
+    ensures { OnOk result
+        (out.new.items ≡ out.old.items ++ vec_spelling def_spelling (map def_type_tree items.now)) }
 {
-    write_counted::<DecodeReason, _>(out, items)
+    write_vec::<DecodeReason, _>(out, items)
 }
 
 pub(crate) fn write_imports(out: &mut Vec<u8>, items: &[Import]) -> Result<(), AllocError>
-    requires { length (counted import_spelling (map import_tree items.now)) < 2 ^ 32 }
-    ensures { OnOk result (out.new.items ≡ out.old.items ++ counted import_spelling (map import_tree items.now)) }
+    requires { length (vec_spelling import_spelling (map import_tree items.now)) < 2 ^ 32 }
+    ensures { OnOk result
+        (out.new.items ≡ out.old.items
+        ++ vec_spelling import_spelling (map import_tree items.now)) }
 {
-    write_counted::<DecodeReason, _>(out, items)
+    write_vec::<DecodeReason, _>(out, items)
 }
 
 pub(crate) fn write_exports(out: &mut Vec<u8>, items: &[Export]) -> Result<(), AllocError>
-    requires { length (counted export_spelling (map export_tree items.now)) < 2 ^ 32 }
-    ensures { OnOk result (out.new.items ≡ out.old.items ++ counted export_spelling (map export_tree items.now)) }
+    requires { length (vec_spelling export_spelling (map export_tree items.now)) < 2 ^ 32 }
+    ensures { OnOk result
+        (out.new.items ≡ out.old.items
+        ++ vec_spelling export_spelling (map export_tree items.now)) }
 {
-    write_counted::<DecodeReason, _>(out, items)
+    write_vec::<DecodeReason, _>(out, items)
 }
 
 pub(crate) fn write_canons(out: &mut Vec<u8>, items: &[Canon]) -> Result<(), AllocError>
-    requires { length (counted canon_spelling items.now) < 2 ^ 32 }
-    ensures { OnOk result (out.new.items ≡ out.old.items ++ counted canon_spelling items.now) }
+    requires { length (vec_spelling canon_spelling items.now) < 2 ^ 32 }
+    ensures { OnOk result (out.new.items ≡ out.old.items ++ vec_spelling canon_spelling items.now) }
 {
-    write_counted::<DecodeReason, _>(out, items)
+    write_vec::<DecodeReason, _>(out, items)
 }
 
 impl Spelled<DecodeReason> for CoreInstantiationArg {
     ghost spelling = { λ a. core_arg_spelling (arg_tree a) };
 
     fn write(&self, out: &mut Vec<u8>) -> Result<(), AllocError> {
-        write_prefixed(out, self.name.as_bytes())?;
+        write_blob(out, self.name.as_bytes())?;
         out.push(0x12)?;
         write_u32(out, self.instance)
     }
@@ -160,7 +171,7 @@ impl Spelled<DecodeReason> for Alias {
             } => {
                 out.extend_from_slice(&[0x00, 0x00, 0x01])?;
                 write_u32(out, *instance)?;
-                write_prefixed(out, name.as_bytes())
+                write_blob(out, name.as_bytes())
             }
         }
     }
@@ -172,7 +183,7 @@ impl Spelled<DecodeReason> for LabeledValType {
     ghost spelling = { param_spelling };
 
     fn write(&self, out: &mut Vec<u8>) -> Result<(), AllocError> {
-        write_prefixed(out, self.label.as_str().as_bytes())?;
+        write_blob(out, self.label.as_str().as_bytes())?;
         out.push(val_type_code(self.ty))?;
         Ok(())
     }

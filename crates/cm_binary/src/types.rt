@@ -3,7 +3,7 @@
 ghost use Rattle.cm_grammar.specs.Reading.{Reads};
 ghost use Rattle.std.specs.Prelude.{◌≡◌, ◌-◌, Ok, map};
 ghost use Rattle.cm_grammar.specs.Faults.{Gives, Fails};
-ghost use Rattle.cm_grammar.specs.Grammar.{chain, limited};
+ghost use Rattle.cm_grammar.specs.Grammar.{chain, from_stock};
 ghost use Rattle.cm_binary.specs.declared.fault.DecodeReason.TheVariants as reasons;
 ghost use Rattle.cm_types.specs.DefTypes.{func_type_tree, def_type_tree};
 ghost use Rattle.cm_binary.specs.declared.codes.ResultForm.TheVariants as result_forms;
@@ -12,21 +12,21 @@ ghost use Rattle.cm_binary.specs.File.{def_type, type_defs};
 
 use crate::codes::{ResultForm, TypeForm};
 use crate::fault::DecodeReason;
-use crate::texts::label_of;
+use crate::texts::read_label;
 use cm_grammar::{Cursor, Item, ReadError, read_items};
 use cm_types::{DefType, FuncType, LabeledValType, ValType};
 use std::alloc::Global;
 
 /// Reads a parameter.
 #[tactic(auto, unfolding(crate::specs::File::param))]
-fn param_of(
+fn read_param(
     alloc: Global,
     bytes: &mut Cursor<'_, DecodeReason>,
 ) -> Result<LabeledValType, ReadError<DecodeReason>>
     ensures read { Reads param (λ x. x) bytes.old bytes.new result }
     ensures end { bytes.new.end ≡ bytes.old.end }
 {
-    let label = label_of(alloc, bytes)?;
+    let label = read_label(alloc, bytes)?;
     let ty = bytes.code()?;
     Ok(LabeledValType { label, ty })
 }
@@ -40,12 +40,12 @@ impl Item<DecodeReason> for LabeledValType {
         alloc: Global,
         cursor: &mut Cursor<'_, DecodeReason>,
     ) -> Result<Self, ReadError<DecodeReason>> {
-        param_of(alloc, cursor)
+        read_param(alloc, cursor)
     }
 }
 
 /// Reads the parameters of a function.
-fn params_of(
+fn read_params(
     alloc: Global,
     bytes: &mut Cursor<'_, DecodeReason>,
 ) -> Result<Vec<LabeledValType>, ReadError<DecodeReason>>
@@ -58,7 +58,7 @@ fn params_of(
 
 /// Reads the result of a function.
 #[tactic(auto, unfolding(crate::specs::File::func_result, crate::specs::File::func_result_of))]
-fn result_of(
+fn read_result(
     bytes: &mut Cursor<'_, DecodeReason>,
 ) -> Result<Option<ValType>, ReadError<DecodeReason>>
     ensures read { Reads func_result (λ x. x) bytes.old bytes.new result }
@@ -75,21 +75,21 @@ fn result_of(
 
 /// Reads the type of a function, behind its code.
 #[tactic(auto, unfolding(crate::specs::File::func_type))]
-fn func_type_of(
+fn read_func_type(
     alloc: Global,
     bytes: &mut Cursor<'_, DecodeReason>,
 ) -> Result<FuncType, ReadError<DecodeReason>>
     ensures read { Reads func_type func_type_tree bytes.old bytes.new result }
     ensures end { bytes.new.end ≡ bytes.old.end }
 {
-    let params = params_of(alloc, bytes)?;
-    let result = result_of(bytes)?;
+    let params = read_params(alloc, bytes)?;
+    let result = read_result(bytes)?;
     Ok(FuncType { params, result })
 }
 
 /// Reads a type.
 #[tactic(auto, unfolding(crate::specs::File::def_type))]
-pub(crate) fn def_type_of(
+pub(crate) fn read_def_type(
     alloc: Global,
     bytes: &mut Cursor<'_, DecodeReason>,
 ) -> Result<DefType, ReadError<DecodeReason>>
@@ -97,54 +97,58 @@ pub(crate) fn def_type_of(
     ensures end { bytes.new.end ≡ bytes.old.end }
 {
     let TypeForm::Func = bytes.code()?;
-    let func = func_type_of(alloc, bytes)?;
+    let func = read_func_type(alloc, bytes)?;
     Ok(DefType::Func(func))
 }
 
 /// Reads the types of a section, where `room` more may stand in the file.
 #[tactic(auto, unfolding(crate::specs::File::type_defs))]
-pub(crate) fn types_of(
+pub(crate) fn read_types(
     alloc: Global,
     bytes: &mut Cursor<'_, DecodeReason>,
     room: usize,
 ) -> Result<Vec<DefType>, ReadError<DecodeReason>>
-    ensures read { Reads (type_defs room) (λ v. map def_type_tree v.items) bytes.old bytes.new result }
+    ensures read { Reads (type_defs room)
+        (λ v. map def_type_tree v.items) bytes.old bytes.new result }
     ensures end { bytes.new.end ≡ bytes.old.end }
 {
     let count = bytes.number(DecodeReason::BadNumber)?;
-    limited_types_of(alloc, bytes, count, room)
+    read_types_from_stock(alloc, bytes, count, room)
 }
 
 /// Reads one more type, where `room` more may stand in the file.
 #[tactic(auto, unfolding(crate::specs::File::def_type))]
-fn limited_type_of(
+fn read_type_from_stock(
     alloc: Global,
     bytes: &mut Cursor<'_, DecodeReason>,
     room: usize,
 ) -> Result<DefType, ReadError<DecodeReason>>
-    ensures read { Reads (limited (λ left. def_type) reasons.TooMany room) def_type_tree bytes.old bytes.new result }
+    ensures read { Reads (from_stock (λ left. def_type) reasons.TooMany room) def_type_tree
+        bytes.old bytes.new result }
     ensures end { bytes.new.end ≡ bytes.old.end }
 {
     if room == 0 {
         return Err(bytes.fault(DecodeReason::TooMany));
     }
-    def_type_of(alloc, bytes)
+    read_def_type(alloc, bytes)
 }
 
 /// Reads so many types, where `room` more may stand in the file.
-fn limited_types_of(
+fn read_types_from_stock(
     alloc: Global,
     bytes: &mut Cursor<'_, DecodeReason>,
     count: u32,
     room: usize,
 ) -> Result<Vec<DefType>, ReadError<DecodeReason>>
-    ensures read { Reads (chain (limited (λ left. def_type) reasons.TooMany) (λ left t. left - 1) count room) (λ v. map def_type_tree v.items) bytes.old bytes.new result }
+    ensures read { Reads (chain (from_stock (λ left. def_type) reasons.TooMany)
+        (λ left t. left - 1) count room)
+        (λ v. map def_type_tree v.items) bytes.old bytes.new result }
     ensures end { bytes.new.end ≡ bytes.old.end }
 {
     let mut types = Vec::new(alloc);
     let mut left = room;
     for _ in 0..count {
-        let ty = limited_type_of(alloc, bytes, left)?;
+        let ty = read_type_from_stock(alloc, bytes, left)?;
         types.push(ty)?;
         left = left.saturating_sub(1);
     }

@@ -1,5 +1,5 @@
--- What the parts of a component hold, whatever its sections are: texts are UTF-8, names are names, and indices are numbers
--- of 32 bits.
+-- What the parts of a component hold, whatever its sections are: texts are UTF-8, names are names,
+-- and indices are numbers of 32 bits.
 use Rattle.std.specs.Prelude.{ℕ, ◌^◌, List, Bool, true, ◌&&◌, nat_lt}
 use Rattle.std.specs.List.{list_all}
 use Rattle.std.specs.Str.{is_utf8}

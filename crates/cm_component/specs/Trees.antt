@@ -55,10 +55,12 @@ abbrev pub arg_tree : CoreInstantiationArg → ArgTree
 arg_tree a = record { name = string_bytes a.name; instance = a.instance }
 
 abbrev pub core_instance_tree : CoreInstance → CoreInstanceTree
-core_instance_tree (core_instance.Instantiate module_ args) = instantiate module_ (map arg_tree args.items)
+core_instance_tree (core_instance.Instantiate module_ args) =
+    instantiate module_ (map arg_tree args.items)
 
 abbrev pub alias_tree : Alias → AliasTree
-alias_tree (alias.CoreInstanceExport sort instance name) = core_instance_export sort instance (string_bytes name)
+alias_tree (alias.CoreInstanceExport sort instance name) =
+    core_instance_export sort instance (string_bytes name)
 
 abbrev pub import_tree : Import → ImportTree
 import_tree i = record { name = i.name; desc = i.desc }

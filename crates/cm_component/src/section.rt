@@ -48,13 +48,13 @@ pub struct CoreInstantiationArg {
 }
 
 /// What a core definition is (Binary.md, `core:sort`).
-#[derive(Clone, Copy, Debug, PartialEq, Eq)]
+#[derive(Clone, Copy)]
 pub enum CoreSort {
     Func,
 }
 
 /// What a definition is (Binary.md, `sort`).
-#[derive(Clone, Copy, Debug, PartialEq, Eq)]
+#[derive(Clone, Copy)]
 pub enum Sort {
     Func,
 }
@@ -80,7 +80,7 @@ pub enum Canon {
 }
 
 /// The type of an import (Binary.md, `externdesc`).
-#[derive(Clone, Copy, Debug, PartialEq, Eq)]
+#[derive(Clone, Copy)]
 pub enum ExternDesc {
     /// A function of the type with this index.
     Func(u32),

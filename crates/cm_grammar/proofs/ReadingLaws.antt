@@ -10,7 +10,7 @@ use Rattle.cm_grammar.specs.declared.fault.ReadError.{ReadError}
 use Rattle.cm_grammar.specs.declared.fault.ReadError.TheVariants as errors
 use Rattle.cm_grammar.specs.Faults.{and_then, Fails, Gives}
 use Rattle.cm_grammar.specs.Grammar.{Grammar, number, times, chain, vec}
-use Rattle.cm_grammar.specs.Whole.{Whole, sized, to_end}
+use Rattle.cm_grammar.specs.Whole.{Whole, of_size, to_end}
 use Rattle.cm_grammar.specs.Reading.{EachRead, FailsAmong, part_end, IsInside, behind_part}
 use Rattle.cm_grammar.proofs.Tools.{IsBytes, ok_of}
 use Rattle.cm_grammar.proofs.Laws.{Lawful}
@@ -140,18 +140,18 @@ to_end_done {R} {A} {S} g next front s e bytes total h so_far =
 
 -- ---- parts
 
-sized_inside : {R A X : Type 0} (mismatch : R) (size : ℕ) (w : Whole R A) (view : X → A) (e : End R) (bytes rest : List ℕ) (r : Result X (ReadError R)) → leb size (length bytes) ≡ true → rest ≡ drop size bytes → Gives view r (w.reads (end.Whole mismatch) (take size bytes)) → Gives (λ x. (view x, rest)) (behind_part size e bytes r) ((sized mismatch size w).reads e bytes)
+sized_inside : {R A X : Type 0} (mismatch : R) (size : ℕ) (w : Whole R A) (view : X → A) (e : End R) (bytes rest : List ℕ) (r : Result X (ReadError R)) → leb size (length bytes) ≡ true → rest ≡ drop size bytes → Gives view r (w.reads (end.Whole mismatch) (take size bytes)) → Gives (λ x. (view x, rest)) (behind_part size e bytes r) ((of_size mismatch size w).reads e bytes)
 sized_inside mismatch size w view e bytes rest (Ok x) t s h = rw (t, h, s) refl
 sized_inside mismatch size w view e bytes rest (Err errors.Memory) t s h = tt {0}
 sized_inside {R} {A} {X} mismatch size w view e bytes rest (Err (errors.Fault f)) t s h = rw (t, h, length-drop size bytes) refl
 
-sized_short : {R A X : Type 0} (mismatch : R) (size : ℕ) (w : Whole R A) (view : X → A) (e : End R) (bytes rest : List ℕ) (r : Result X (ReadError R)) → leb size (length bytes) ≡ false → Gives view r (w.reads e bytes) → Gives (λ x. (view x, rest)) (behind_part size e bytes r) ((sized mismatch size w).reads e bytes)
+sized_short : {R A X : Type 0} (mismatch : R) (size : ℕ) (w : Whole R A) (view : X → A) (e : End R) (bytes rest : List ℕ) (r : Result X (ReadError R)) → leb size (length bytes) ≡ false → Gives view r (w.reads e bytes) → Gives (λ x. (view x, rest)) (behind_part size e bytes r) ((of_size mismatch size w).reads e bytes)
 sized_short mismatch size w view e bytes rest (Ok x) t h = rw (t, h) refl
 sized_short mismatch size w view e bytes rest (Err errors.Memory) t h = tt {0}
 sized_short mismatch size w view e bytes rest (Err (errors.Fault f)) t h = rw (t, h) refl
 
 -- What the reading of a part came to, behind it, is what the grammar of so many bytes gives.
-pub gives_sized : {R A X : Type 0} (mismatch : R) (size : ℕ) (w : Whole R A) (view : X → A) (e inner : End R) (bytes part rest : List ℕ) (r : Result X (ReadError R)) → part ≡ take size bytes → inner ≡ part_end mismatch size e bytes → rest ≡ drop size bytes → Gives view r (w.reads inner part) → Gives (λ x. (view x, rest)) (behind_part size e bytes r) ((sized mismatch size w).reads e bytes)
+pub gives_sized : {R A X : Type 0} (mismatch : R) (size : ℕ) (w : Whole R A) (view : X → A) (e inner : End R) (bytes part rest : List ℕ) (r : Result X (ReadError R)) → part ≡ take size bytes → inner ≡ part_end mismatch size e bytes → rest ≡ drop size bytes → Gives view r (w.reads inner part) → Gives (λ x. (view x, rest)) (behind_part size e bytes r) ((of_size mismatch size w).reads e bytes)
 gives_sized mismatch size w view e inner bytes part rest r p q s h =
     elim (cases_Bool (leb size (length bytes))) [
       | inl t ↦ sized_inside mismatch size w view e bytes rest r t s (subst (λ (b : List ℕ). Gives view r (w.reads (end.Whole mismatch) b)) p (subst (λ (i : End _). Gives view r (w.reads i part)) (q ∙ rw t refl) h))

@@ -1,4 +1,5 @@
-//! Grammars of bytes: steps from which a binary format is built, with the laws that make reading exact.
+//! Grammars of bytes: steps from which a binary format is built, with the laws that make reading
+//! exact.
 #![tactic(auto)]
 
 mod cursor;
@@ -9,4 +10,4 @@ mod writing;
 pub use cursor::{Code, Cursor};
 pub use fault::{End, Fault, ReadError};
 pub use several::{Item, read_items};
-pub use writing::{Spelled, write_counted, write_prefixed};
+pub use writing::{Spelled, write_blob, write_vec};

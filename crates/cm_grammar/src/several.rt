@@ -20,7 +20,8 @@ pub trait Item<R: Copy>: Drop + Sized {
 
     /// Reads the value at the front.
     fn read(alloc: Global, cursor: &mut Cursor<'_, R>) -> Result<Self, ReadError<R>>
-        ensures ok { IfOk result (λ x. is_read cursor.old.end cursor.old.rest.now x cursor.new.rest.now) }
+        ensures ok { IfOk result
+            (λ x. is_read cursor.old.end cursor.old.rest.now x cursor.new.rest.now) }
         ensures err { IfErr result (λ e. fails cursor.old.end cursor.old.rest.now e) }
         ensures end { cursor.new.end ≡ cursor.old.end };
 }
@@ -35,7 +36,8 @@ pub fn read_items<R: Copy, T: Item<R>>(
         EachRead (T.is_read cursor.old.end) cursor.old.rest.now v.items cursor.new.rest.now) }
     ensures count { IfOk result (λ v. length v.items ≡ count) }
     ensures err { IfErr result (λ e. (e ≡ errors.Memory)
-        ⊎ FailsAmong (T.is_read cursor.old.end) (T.fails cursor.old.end) count cursor.old.rest.now e) }
+        ⊎ FailsAmong (T.is_read cursor.old.end)
+        (T.fails cursor.old.end) count cursor.old.rest.now e) }
     ensures end { cursor.new.end ≡ cursor.old.end }
 {
     let mut values = Vec::new(alloc);

@@ -1,7 +1,7 @@
 //! Writing values behind one another.
 
 ghost use Rattle.std.specs.Prelude.{◌≡◌, ◌++◌, ◌^◌, ◌<◌, length, OnOk};
-ghost use Rattle.cm_grammar.specs.Spelling.{counted, prefixed};
+ghost use Rattle.cm_grammar.specs.Spelling.{vec_spelling, blob_spelling};
 
 use cm_leb::write_u32;
 use std::alloc::AllocError;
@@ -24,18 +24,18 @@ pub trait Spelled<R> {
 }
 
 /// Appends the number of bytes, and the bytes.
-pub fn write_prefixed(out: &mut Vec<u8>, bytes: &[u8]) -> Result<(), AllocError>
+pub fn write_blob(out: &mut Vec<u8>, bytes: &[u8]) -> Result<(), AllocError>
     requires { length bytes.now < 2 ^ 32 }
-    ensures { OnOk result (out.new.items ≡ out.old.items ++ prefixed bytes.now) }
+    ensures { OnOk result (out.new.items ≡ out.old.items ++ blob_spelling bytes.now) }
 {
     write_u32(out, bytes.len() as u32)?;
     out.extend_from_slice(bytes)
 }
 
 /// Appends the number of values, and the spelling of each.
-pub fn write_counted<R, T: Spelled<R>>(out: &mut Vec<u8>, values: &[T]) -> Result<(), AllocError>
-    requires { length (counted T.spelling values.now) < 2 ^ 32 }
-    ensures { OnOk result (out.new.items ≡ out.old.items ++ counted T.spelling values.now) }
+pub fn write_vec<R, T: Spelled<R>>(out: &mut Vec<u8>, values: &[T]) -> Result<(), AllocError>
+    requires { length (vec_spelling T.spelling values.now) < 2 ^ 32 }
+    ensures { OnOk result (out.new.items ≡ out.old.items ++ vec_spelling T.spelling values.now) }
 {
     write_u32(out, values.len() as u32)?;
     for value in values {

@@ -1,7 +1,7 @@
 //! Steps of a cursor over bytes, each with what is left and the fault that is there.
 
 use crate::same::same;
-use cm_grammar::{Cursor, End, Fault, ReadError, write_prefixed};
+use cm_grammar::{Cursor, End, Fault, ReadError, write_blob};
 use std::test::Fail;
 
 /// Why the bytes of these tests are refused.
@@ -23,9 +23,9 @@ fn steps_of_a_cursor(rt: HostRuntime) {
     same(&rt, cursor.number(BAD), Ok(2));
     same(&rt, cursor.signed(BAD), Ok(-2));
     same(&rt, cursor.fixed(&[0x68], BAD), Ok(()));
-    same(&rt, cursor.begun(&[0x69], BAD), Ok([0x69, 0x80].as_slice()));
-    same(&rt, cursor.begun(&[0x69, 0x81], BAD), fault(2, BAD));
-    same(&rt, cursor.begun(&[0x69, 0x80, 0x00], BAD), fault(0, ENDED));
+    same(&rt, cursor.begins_with(&[0x69], BAD), Ok([0x69, 0x80].as_slice()));
+    same(&rt, cursor.begins_with(&[0x69, 0x81], BAD), fault(2, BAD));
+    same(&rt, cursor.begins_with(&[0x69, 0x80, 0x00], BAD), fault(0, ENDED));
     same(&rt, cursor.raw(1), Ok([0x69].as_slice()));
     same(&rt, cursor.finish(MISMATCH), fault(1, MISMATCH));
     same(&rt, cursor.number(BAD), fault(0, ENDED));
@@ -51,7 +51,7 @@ fn parts_of_a_cursor(rt: HostRuntime) {
 #[test]
 fn what_is_prefixed(rt: HostRuntime) -> Result<(), Fail> {
     let mut out = vec![in rt.alloc(); 7]?;
-    write_prefixed(&mut out, b"hi")?;
+    write_blob(&mut out, b"hi")?;
     same(&rt, out.as_slice(), [7, 2, 0x68, 0x69].as_slice());
     Ok(())
 }

@@ -8,32 +8,36 @@ ghost use Rattle.cm_leb.specs.Writing.{to_two_complement, shortest_signed};
 
 use std::alloc::AllocError;
 
-/// Appends the shortest spelling of a number without a sign: one byte for each seven bits that it has,
-/// and at least one (the core specification, "Integers").
+/// Appends the shortest spelling of a number without a sign: one byte for each seven bits that it
+/// has, and at least one (the core specification, "Integers").
 ///
 /// The one error is that memory was refused; the list is then unchanged.
 pub fn write_u32(out: &mut Vec<u8>, value: u32) -> Result<(), AllocError>
     ensures ok { OnOk result (out.new.items ≡ out.old.items ++ shortest_unsigned value) }
     // So a read from the old end on finds the number, and the new end.
-    ensures stands { OnOk result (StandsUnsigned 32 out.new.items (length out.old.items) value (length out.new.items)) }
+    ensures stands { OnOk result
+        (StandsUnsigned 32 out.new.items (length out.old.items) value (length out.new.items)) }
     ensures spelled { SpellsUnsigned 32 (shortest_unsigned value) value }
-    ensures shortest { (bytes : List ℕ) → SpellsUnsigned 32 bytes value → length (shortest_unsigned value) ≤ length bytes }
+    ensures shortest { (bytes : List ℕ) → SpellsUnsigned 32 bytes value
+        → length (shortest_unsigned value) ≤ length bytes }
     ensures err { OnErr result (out.new.items ≡ out.old.items) }
 {
     put_group(out, spelled_length(value as u64) as usize, value as u64)
 }
 
-/// Appends the shortest spelling of a number of 33 bits with a sign, in two's complement of seven bits
-/// a byte (the core specification, "Integers").
+/// Appends the shortest spelling of a number of 33 bits with a sign, in two's complement of seven
+/// bits a byte (the core specification, "Integers").
 ///
 /// The one error is that memory was refused; the list is then unchanged.
 pub fn write_s33(out: &mut Vec<u8>, value: i64) -> Result<(), AllocError>
     requires { IsWithin 33 value }
     ensures ok { OnOk result (out.new.items ≡ out.old.items ++ shortest_signed value) }
     // So a read from the old end on finds the number, and the new end.
-    ensures stands { OnOk result (StandsSigned 33 out.new.items (length out.old.items) value (length out.new.items)) }
+    ensures stands { OnOk result
+        (StandsSigned 33 out.new.items (length out.old.items) value (length out.new.items)) }
     ensures spelled { SpellsSigned 33 (shortest_signed value) value }
-    ensures shortest { (bytes : List ℕ) → SpellsSigned 33 bytes value → length (shortest_signed value) ≤ length bytes }
+    ensures shortest { (bytes : List ℕ) → SpellsSigned 33 bytes value
+        → length (shortest_signed value) ≤ length bytes }
     ensures err { OnErr result (out.new.items ≡ out.old.items) }
 {
     let length = length_of_s33(value);

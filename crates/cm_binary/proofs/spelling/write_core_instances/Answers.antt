@@ -1,10 +1,10 @@
-use Rattle.cm_grammar.proofs.SpellingLaws.{counted-map}
+use Rattle.cm_grammar.proofs.SpellingLaws.{vec_spelling-map}
 use Rattle.cm_component.specs.Trees.{core_instance_tree}
 use Rattle.cm_component.specs.Spelling.{core_instance_spelling}
 use Rattle.cm_binary.proofs.spelling.write_core_instances.Goals as goal
 
-pub write_counted-requires : goal.write_counted-requires
-write_counted-requires c = rw (counted-map core_instance_spelling core_instance_tree c.args.items.now) at c.requires
+pub write_vec-requires : goal.write_vec-requires
+write_vec-requires c = rw (vec_spelling-map core_instance_spelling core_instance_tree c.args.items.now) at c.requires
 
 pub returns : goal.returns
-returns c = rw (counted-map core_instance_spelling core_instance_tree c.args.items.now) c.write_counted.ensures
+returns c = rw (vec_spelling-map core_instance_spelling core_instance_tree c.args.items.now) c.write_vec.ensures
