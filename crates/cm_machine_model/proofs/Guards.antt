@@ -3,26 +3,27 @@ use Rattle.std.proofs.Common.{◌≡◌, ℕ, Bool, true, false, List, length, O
 use Rattle.std.specs.Prelude.{◌≢◌, not, nat_lt, slice_get, unwrap_or}
 use borrow.Author.Tests.{ltb-true}
 use Rattle.cm_types.specs.declared.core_value.CoreValue.{CoreValue}
-use Rattle.cm_machine.specs.declared.frame.CoreFunction.{CoreFunction}
-use Rattle.cm_machine.specs.declared.frame.CoreFunction.TheVariants as core_function
-use Rattle.cm_machine.specs.declared.frame.Call.{Call}
-use Rattle.cm_machine.specs.declared.frame.Frame.{Frame}
-use Rattle.cm_machine.specs.declared.frame.Purpose.{Purpose}
-use Rattle.cm_machine.specs.declared.frame.Purpose.TheVariants as purpose
-use Rattle.cm_machine.specs.declared.frame.Phase.{Phase}
-use Rattle.cm_machine.specs.declared.frame.Phase.TheVariants as phase
-use Rattle.cm_machine.specs.declared.event.Event.{Event}
-use Rattle.cm_machine.specs.declared.event.Event.TheVariants as event
-use Rattle.cm_machine.specs.declared.event.Trap.TheVariants as trap
-use Rattle.cm_machine.specs.declared.moves.Move.{Move}
-use Rattle.cm_machine.specs.declared.moves.Move.TheVariants as move
-use Rattle.cm_machine.specs.Stack.{actor, top_of}
-use Rattle.cm_machine.specs.State.{State, core_at, is_closed}
-use Rattle.cm_machine.specs.Step.{first, checks, call_checks, are_i32s, may_leave_in, may_leave, may_grow, Calls, Passes, Step}
-use Rattle.cm_machine.specs.Guarded.{MayBeEntered}
-use Rattle.cm_machine.proofs.Valid.{four_pass}
-use Rattle.cm_machine.proofs.Cases.{Goes, traps, passes, wants, steps_by}
-use Rattle.cm_machine.proofs.Calls.{grow_enters_not, return_enters_not}
+use Rattle.cm_machine_model.specs.declared.frame.CoreFunction.{CoreFunction}
+use Rattle.cm_machine_model.specs.declared.frame.CoreFunction.TheVariants as core_function
+use Rattle.cm_machine_model.specs.declared.frame.Call.{Call}
+use Rattle.cm_machine_model.specs.declared.frame.Frame.{Frame}
+use Rattle.cm_machine_model.specs.declared.frame.Purpose.{Purpose}
+use Rattle.cm_machine_model.specs.declared.frame.Purpose.TheVariants as purpose
+use Rattle.cm_machine_model.specs.declared.frame.Phase.{Phase}
+use Rattle.cm_machine_model.specs.declared.frame.Phase.TheVariants as phase
+use Rattle.cm_machine_model.specs.declared.event.Event.{Event}
+use Rattle.cm_machine_model.specs.declared.event.Event.TheVariants as event
+use Rattle.cm_machine_model.specs.declared.event.Trap.TheVariants as trap
+use Rattle.cm_machine_model.specs.declared.moves.Move.{Move}
+use Rattle.cm_machine_model.specs.declared.moves.Move.TheVariants as move
+use Rattle.cm_machine_model.specs.Stack.{actor, top_of}
+use Rattle.cm_machine_model.specs.State.{State, core_func_at, is_closed}
+use Rattle.cm_machine_model.specs.Checks.{first_failed, checks, call_checks, has_core_shape, may_leave_in, may_leave}
+use Rattle.cm_machine_model.specs.Step.{may_grow, Calls, Passes, Step}
+use Rattle.cm_machine_model.specs.Guarded.{MayBeEntered}
+use Rattle.cm_machine_model.proofs.Valid.{four_pass}
+use Rattle.cm_machine_model.proofs.Cases.{Goes, traps, passes, wants, steps_by}
+use Rattle.cm_machine_model.proofs.Passing.{grow_enters_not, return_enters_not}
 
 in_body : (p : Phase) → may_leave_in p ≡ true → p ≡ phase.Body
 in_body phase.Arguments h = absurd cc
@@ -40,12 +41,12 @@ is_open None h is = cc
 is_open (Some true) h is = cc
 is_open (Some false) h is = cc
 
-call_guarded : (s : State) (top : Frame) (args : List CoreValue) (e : Event) (new : State) (f : Option CoreFunction) → top_of s.stack ≡ Some top → first (call_checks s top f args) ≡ None → Calls s top f args e new
+call_guarded : (s : State) (top : Frame) (args : List CoreValue) (e : Event) (new : State) (f : Option CoreFunction) → top_of s.stack ≡ Some top → first_failed (call_checks s top f args) ≡ None → Calls s top f args e new
     → (i g : ℕ) (given : List CoreValue) → e ≡ event.Enter i g given → MayBeEntered s i
 call_guarded s top args e new None is fine c i g given ev = absurd c
 call_guarded s top args e new (Some core_function.Guest) is fine c i g given ev = absurd c
 call_guarded s top args e new (Some (core_function.Lowered l)) is fine c i g given ev =
-    let held = four_pass (are_i32s l.params args) (may_leave top.purpose) (not (is_closed s l.instance)) (nat_lt (length s.stack) 64) trap.CoreShape trap.MayNotLeave trap.CalleeClosed trap.StackFull fine in
+    let held = four_pass (has_core_shape l.params args) (may_leave top.purpose) (not (is_closed s l.instance)) (nat_lt (length s.stack) 64) trap.CoreShape trap.MayNotLeave trap.CalleeClosed trap.StackFull fine in
     let same : event.Enter l.instance l.func args ≡ event.Enter i g given = sym c.0 ∙ ev in
     let same_i : l.instance ≡ i = cc in
     record {
@@ -56,10 +57,10 @@ call_guarded s top args e new (Some (core_function.Lowered l)) is fine c i g giv
       room = ltb-true (length s.stack) 64 held.3;
     }
 
-pass_guarded : (s : State) (m : Move) (e : Event) (new : State) (top : Frame) → top_of s.stack ≡ Some top → first (checks s top m) ≡ None → Passes s top m e new → (i g : ℕ) (given : List CoreValue) → e ≡ event.Enter i g given → MayBeEntered s i
+pass_guarded : (s : State) (m : Move) (e : Event) (new : State) (top : Frame) → top_of s.stack ≡ Some top → first_failed (checks s top m) ≡ None → Passes s top m e new → (i g : ℕ) (given : List CoreValue) → e ≡ event.Enter i g given → MayBeEntered s i
 pass_guarded s (move.Write at bytes) e new top is fine p i g given ev = absurd (let x = p.0 in cc)
 pass_guarded s (move.Grow pages) e new top is fine p i g given ev = absurd (grow_enters_not s top pages (may_grow s top pages) e new i g given p ev)
-pass_guarded s (move.Call func args) e new top is fine p i g given ev = call_guarded s top args.items e new (core_at s.plan (actor top) func) is fine p i g given ev
+pass_guarded s (move.Call func args) e new top is fine p i g given ev = call_guarded s top args.items e new (core_func_at s.core_funcs (actor top) func) is fine p i g given ev
 pass_guarded s (move.Return values) e new top is fine p i g given ev = absurd (return_enters_not top.purpose s values.items e new i g given p ev)
 pass_guarded s move.Unreachable e new top is fine p i g given ev = absurd p
 

@@ -3,10 +3,10 @@ use Rattle.std.proofs.Common.{◌≡◌, ℕ, zero, suc, Bool, true, false, ◌&
 use Rattle.std.specs.List.{list_all}
 use Rattle.cm_types.specs.declared.core_value.CoreValue.{CoreValue}
 use Rattle.cm_types.specs.declared.core_value.CoreValue.TheVariants as core_value
-use Rattle.cm_machine.specs.Step.{are_i32s, is_i32}
+use Rattle.cm_machine_model.specs.Checks.{has_core_shape, is_i32}
 use Rattle.cm_types.specs.Values.{Val, truth, signed_number, number, scalar, text, elements, parts, bare, bearing, flag_set, handle}
-use Rattle.cm_machine.specs.Values.{View, ShowsU32, Denotes, Receives}
-use Rattle.cm_machine.proofs.Valid.{length_of_i32s}
+use Rattle.cm_machine_model.specs.Values.{View, ShowsU32, Denotes, Receives}
+use Rattle.cm_machine_model.proofs.Valid.{length_of_i32s}
 
 right_of_and : (a b : Bool) → (a && b) ≡ true → b ≡ true
 right_of_and true b e = e
@@ -21,7 +21,7 @@ numbers view (suc n) (core_value.I32 k ∷ cs) long all =
     let rest = numbers view n cs (omega (arith, long)) all in
     (number k ∷ rest.0, (refl, rest.1))
 
-pub denoted : (view : View) (n : ℕ) (cs : List CoreValue) → are_i32s n cs ≡ true → (v : List Val) × Denotes view n cs v
+pub denoted : (view : View) (n : ℕ) (cs : List CoreValue) → has_core_shape n cs ≡ true → (v : List Val) × Denotes view n cs v
 denoted view n cs e = numbers view n cs (length_of_i32s n cs e) (right_of_and (length cs == n) (list_all is_i32 cs) e)
 
 pub received : (view other : View) (n : ℕ) (cs : List CoreValue) (v : List Val) → Denotes view n cs v → Receives other n cs v

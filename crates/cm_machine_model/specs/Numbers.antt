@@ -1,9 +1,9 @@
 -- The numbers by which traps and misuses are known (this project's own choice).
 use Rattle.std.specs.Prelude.{ℕ}
-use Rattle.cm_machine.specs.declared.event.Trap.{Trap}
-use Rattle.cm_machine.specs.declared.event.Trap.TheVariants as trap
-use Rattle.cm_machine.specs.declared.event.Misuse.{Misuse}
-use Rattle.cm_machine.specs.declared.event.Misuse.TheVariants as misuse
+use Rattle.cm_machine_model.specs.declared.event.Trap.{Trap}
+use Rattle.cm_machine_model.specs.declared.event.Trap.TheVariants as trap
+use Rattle.cm_machine_model.specs.declared.event.Misuse.{Misuse}
+use Rattle.cm_machine_model.specs.declared.event.Misuse.TheVariants as misuse
 
 abbrev pub trap_number : Trap → ℕ
 trap_number trap.CoreShape = 1

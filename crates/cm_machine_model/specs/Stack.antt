@@ -1,10 +1,10 @@
 -- The stack of frames, the top first.
 use Rattle.std.specs.Prelude.{ℕ, List, [], ◌∷◌, Option, Some, None}
-use Rattle.cm_machine.specs.declared.frame.Frame.{Frame}
-use Rattle.cm_machine.specs.declared.frame.Purpose.{Purpose}
-use Rattle.cm_machine.specs.declared.frame.Purpose.TheVariants as purpose
-use Rattle.cm_machine.specs.declared.frame.Phase.{Phase}
-use Rattle.cm_machine.specs.declared.frame.Phase.TheVariants as phase
+use Rattle.cm_machine_model.specs.declared.frame.Frame.{Frame}
+use Rattle.cm_machine_model.specs.declared.frame.Purpose.{Purpose}
+use Rattle.cm_machine_model.specs.declared.frame.Purpose.TheVariants as purpose
+use Rattle.cm_machine_model.specs.declared.frame.Phase.{Phase}
+use Rattle.cm_machine_model.specs.declared.frame.Phase.TheVariants as phase
 
 abbrev pub top_of : List Frame → Option Frame
 top_of [] = None

@@ -1,18 +1,18 @@
--- What core values denote (CanonicalABI.md, "Flattening", "Lifting" and "Lowering"). So far each parameter
--- and each result is a u32.
+-- What core values denote (CanonicalABI.md, "Flattening", "Lifting" and "Lowering"). So far each
+-- parameter and each result is a u32.
 use Rattle.std.specs.Prelude.{◌≡◌, ℕ, zero, suc, List, [], ◌∷◌}
 use Rattle.cm_types.specs.declared.core_value.CoreValue.{CoreValue}
 use Rattle.cm_types.specs.declared.core_value.CoreValue.TheVariants as core_value
 use Rattle.cm_types.specs.Values.{Val, number}
-use Rattle.cm_machine.specs.Memories.{bytes_of}
-use Rattle.cm_machine.specs.State.{State}
+use Rattle.cm_machine_model.specs.Memories.{memory_at}
+use Rattle.cm_machine_model.specs.State.{State}
 
 -- what an instance's core values are read by: its memory
 pub record View : Type 0 where
   pub memory : List ℕ
 
 abbrev pub view_of : State → ℕ → View
-view_of s instance = record { memory = bytes_of s.memories instance }
+view_of s instance = record { memory = memory_at s.memories instance }
 
 -- A u32 is the number of its i32 slot.
 abbrev pub ShowsU32 : CoreValue → Val → Type 0

@@ -3,15 +3,16 @@
 ghost use Rattle.std.specs.Prelude.{◌≡◌};
 
 use crate::flat::Flat;
-use thiserror::Error;
+use std::error::Error;
+use std::fmt;
 
 /// What the machine answers to a move. Instances, functions and indices count from 0.
-#[derive(Debug, Drop, PartialEq)]
+#[derive(Clone, Debug, Drop, PartialEq)]
 pub enum Event {
     /// The bytes are written.
     Done,
-    /// The memory has grown: its pages before, or `None` where more than 1,024 would result and
-    /// nothing changed.
+    /// The memory has grown: its pages before, or `None` where more than `MAX_PAGES` would
+    /// result and nothing changed.
     Grown(Option<u32>),
     /// The body of this core function of this instance begins, with these arguments.
     Enter {
@@ -49,7 +50,7 @@ pub enum Event {
 }
 
 impl Event {
-    ghost use Rattle.cm_machine.specs.Run.{is_last};
+    ghost use Rattle.cm_machine_model.specs.Run.{is_last};
 
     /// Whether a run stops after this event: the stack is empty then.
     pub fn is_last(&self) -> bool
@@ -59,7 +60,7 @@ impl Event {
     }
 }
 
-/// Why a move was refused. The numbers are those of `Trap::number`.
+/// Why a move was refused.
 #[derive(Clone, Copy, Debug, PartialEq, Eq)]
 pub enum Trap {
     /// A function got or gave other core values than its type has.
@@ -96,7 +97,7 @@ pub enum Trap {
     MayNotLeave,
     /// Two regions that the allocator answered overlap.
     Overlap,
-    /// 64 frames stand on the stack already.
+    /// `MAX_FRAMES` frames stand on the stack already.
     StackFull,
     /// No canonical function has this index.
     UnknownFunction,
@@ -107,7 +108,7 @@ pub enum Trap {
 }
 
 impl Trap {
-    ghost use Rattle.cm_machine.specs.Numbers.{trap_number};
+    ghost use Rattle.cm_machine_model.specs.Numbers.{trap_number};
 
     /// The number by which the trap is known, from 1 for `CoreShape` to 21 for `CalleeClosed`.
     pub fn number(self) -> u8
@@ -115,33 +116,60 @@ impl Trap {
     {
         self as u8
     }
+
+    /// What was wrong, in a few words.
+    fn text(self) -> &'static str {
+        match self {
+            Trap::CoreShape => "core values of another shape than the type of the function",
+            Trap::Unreachable => "the guest stopped",
+            Trap::GuestBounds => "a write past the end of the memory",
+            Trap::PointerBounds => "a pointer past the end of the memory",
+            Trap::Misaligned => "a pointer that is not aligned",
+            Trap::BadChar => "a char that is no Unicode scalar",
+            Trap::BadCase => "a discriminant past the last case",
+            Trap::BadText => "a string that is no text of its encoding",
+            Trap::TooLarge => "strings and lists that are too large",
+            Trap::NoHandle => "no handle at the index",
+            Trap::WrongResource => "a handle of another resource",
+            Trap::StillLent => "a handle that is still lent",
+            Trap::NotOwned => "a handle that is not owned",
+            Trap::TableFull => "a handle table that is full",
+            Trap::BorrowsLeft => "a return with borrowed handles left",
+            Trap::MayNotLeave => "a call by an instance that may not leave",
+            Trap::Overlap => "regions that overlap",
+            Trap::StackFull => "a stack that is full",
+            Trap::UnknownFunction => "a function that is not known",
+            Trap::EngineMemory => "no memory for the machine",
+            Trap::CalleeClosed => "a call of a closed instance",
+        }
+    }
 }
 
-/// Why a call of the machine itself was refused. The state is then unchanged.
-#[derive(Clone, Copy, Debug, PartialEq, Eq, Error)]
+impl fmt::Display for Trap {
+    fn fmt<W: fmt::Write>(&self, f: &mut fmt::Formatter<W>) -> fmt::Result {
+        f.write_str(self.text())
+    }
+}
+
+/// Why a call of the machine itself was refused.
+#[derive(Clone, Copy, Debug, PartialEq, Eq)]
 pub enum Misuse {
-    /// 1: no frame stands on the stack, so no instance acts.
-    #[error("no instance acts")]
+    /// No frame stands on the stack, so no instance acts.
     Idle = 1,
-    /// 2: a frame stands on the stack already.
-    #[error("a call is on the stack")]
+    /// A frame stands on the stack already.
     Busy,
-    /// 3: the instance is closed.
-    #[error("the instance is closed")]
+    /// The instance is closed.
     Closed,
-    /// 4: there is no instance with this number.
-    #[error("there is no such instance")]
+    /// There is no instance with this number.
     NoInstance,
-    /// 5: not one number of pages for each component, or a number above 1,024.
-    #[error("wrong numbers of pages")]
+    /// Not one number of pages for each component, or a number above `MAX_PAGES`.
     BadPages,
-    /// 6: no memory for the set or for the list of events.
-    #[error("out of memory")]
+    /// No memory for the set or for the list of events.
     Memory,
 }
 
 impl Misuse {
-    ghost use Rattle.cm_machine.specs.Numbers.{misuse_number};
+    ghost use Rattle.cm_machine_model.specs.Numbers.{misuse_number};
 
     /// The number by which the misuse is known, from 1 for `Idle` to 6 for `Memory`.
     pub fn number(self) -> u8
@@ -149,4 +177,24 @@ impl Misuse {
     {
         self as u8
     }
+
+    /// What was wrong, in a few words.
+    fn text(self) -> &'static str {
+        match self {
+            Misuse::Idle => "no instance acts",
+            Misuse::Busy => "a call is on the stack",
+            Misuse::Closed => "the instance is closed",
+            Misuse::NoInstance => "there is no such instance",
+            Misuse::BadPages => "wrong numbers of pages",
+            Misuse::Memory => "out of memory",
+        }
+    }
 }
+
+impl fmt::Display for Misuse {
+    fn fmt<W: fmt::Write>(&self, f: &mut fmt::Formatter<W>) -> fmt::Result {
+        f.write_str(self.text())
+    }
+}
+
+impl Error for Misuse {}

@@ -1,30 +1,29 @@
-//! Core values in place: a call passes at most 16 of them.
+//! Core values in place: a call passes at most `MAX_FLAT_PARAMS` of them.
 
 ghost use Rattle.std.specs.Prelude.{◌≡◌, ◌+◌, ◌<◌, ◌≤◌, [], ◌∷◌, ◌++◌, length, IfSome, IfNone};
 ghost use Rattle.cm_types.specs.declared.core_value.CoreValue.{CoreValue};
 
+use crate::limits::MAX_FLAT_PARAMS;
 use arrayvec::ArrayVec;
 use cm_types::CoreValue;
 use std::marker::Model;
 
-/// The most core values that a call passes (CanonicalABI.md, `MAX_FLAT_PARAMS`).
-const MAX_FLAT: usize = 16;
-
-/// At most 16 core values, kept in place: making one takes no memory.
-#[derive(Debug, Drop, PartialEq)]
+/// At most `MAX_FLAT_PARAMS` core values, kept in place: making one takes no memory.
+#[derive(Clone, Debug, Drop, PartialEq)]
 pub struct Flat {
-    values: ArrayVec<CoreValue, 16>,
+    values: ArrayVec<CoreValue, MAX_FLAT_PARAMS>,
 }
 
 impl Model for Flat {
     ghost use Rattle.std.specs.Prelude.{◌≤◌, List, length};
     ghost use Rattle.cm_types.specs.declared.core_value.CoreValue.{CoreValue};
+    ghost use Rattle.cm_machine_model.specs.declared.limits.TheConstants.{MAX_FLAT_PARAMS};
 
     ghost Value = { List CoreValue };
 
     ghost view = { λ f. f.values.items };
 
-    ghost invariant = { λ f. length f.values.items ≤ 16 };
+    ghost invariant = { λ f. length f.values.items ≤ MAX_FLAT_PARAMS };
 
     ghost inverse = { λ xs. record { values = record { items = xs } } };
 }
@@ -48,9 +47,9 @@ impl Flat {
         Flat { values }
     }
 
-    /// The values of a slice of at most 16.
+    /// The values of a slice of at most `MAX_FLAT_PARAMS`.
     pub fn from_slice(slice: &[CoreValue]) -> Flat
-        requires { length slice.now ≤ 16 }
+        requires { length slice.now ≤ MAX_FLAT_PARAMS }
         ensures { result ≡ slice.now }
     {
         let mut values = ArrayVec::new();

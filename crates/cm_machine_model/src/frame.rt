@@ -1,18 +1,18 @@
 //! What stands on the stack.
 
 /// What a core function index of an instance stands for.
-#[derive(Clone, Copy, Debug, PartialEq, Eq)]
+#[derive(Clone, Copy)]
 pub enum CoreFunction {
     /// A function of a core module of the instance's own.
     Guest,
     /// A lowered function: a call of another instance.
-    Lowered(Lowered),
+    Lowered(LoweredFunc),
 }
 
 /// A lowered function as the set was linked: the lifted function that it reaches, and its core
 /// signature. So far each parameter and the result is one `i32`.
-#[derive(Clone, Copy, Debug, PartialEq, Eq)]
-pub struct Lowered {
+#[derive(Clone, Copy)]
+pub struct LoweredFunc {
     /// The instance that is called.
     pub instance: u32,
     /// The core function of that instance that is lifted.
@@ -24,7 +24,7 @@ pub struct Lowered {
 }
 
 /// A frame of the stack.
-#[derive(Clone, Copy, Debug, PartialEq, Eq)]
+#[derive(Clone, Copy)]
 pub struct Frame {
     /// The instance that the frame belongs to.
     pub instance: u32,
@@ -32,7 +32,7 @@ pub struct Frame {
 }
 
 /// Why a frame stands.
-#[derive(Clone, Copy, Debug, PartialEq, Eq)]
+#[derive(Clone, Copy)]
 pub enum Purpose {
     /// A host began it.
     Root,
@@ -43,17 +43,17 @@ pub enum Purpose {
 }
 
 /// A call that has not returned.
-#[derive(Clone, Copy, Debug, PartialEq, Eq)]
+#[derive(Clone, Copy)]
 pub struct Call {
     /// The instance that called.
     pub caller: u32,
     /// The function that it called.
-    pub lowered: Lowered,
+    pub lowered: LoweredFunc,
     pub phase: Phase,
 }
 
 /// How far a call is (CanonicalABI.md, `canon_lift` and `canon_lower`).
-#[derive(Clone, Copy, Debug, PartialEq, Eq)]
+#[derive(Clone, Copy)]
 pub enum Phase {
     /// The callee's allocator makes room for the arguments.
     Arguments,
@@ -66,7 +66,7 @@ pub enum Phase {
 }
 
 /// Where the resource with a serial number is.
-#[derive(Clone, Copy, Debug, PartialEq, Eq)]
+#[derive(Clone, Copy)]
 pub enum Place {
     /// In an instance's handle table, at an index from 1 on.
     InTable { instance: u32, index: u32 },
@@ -79,7 +79,7 @@ pub enum Place {
 }
 
 /// A handle that is lent to a call.
-#[derive(Clone, Copy, Debug, PartialEq, Eq)]
+#[derive(Clone, Copy)]
 pub struct Lend {
     /// The place on the stack of the call's frame.
     pub frame: u32,

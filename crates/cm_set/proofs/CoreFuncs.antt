@@ -16,13 +16,13 @@ use Rattle.cm_validate.specs.Spaces.{CoreFuncTree}
 use Rattle.cm_validate.specs.PassedFlat.{PassesFlat}
 use Rattle.cm_validate.specs.Definitions.{core_func_tree}
 use Rattle.cm_validate.specs.declared.definitions.CoreFuncDef.{CoreFuncDef}
-use Rattle.cm_machine.specs.declared.frame.CoreFunction.{CoreFunction}
+use Rattle.cm_machine_model.specs.declared.frame.CoreFunction.{CoreFunction}
 use Rattle.cm_types.specs.Types.{FuncTy}
 use Rattle.cm_validate.specs.Spaces.{lowered, spaces_of}
 use Rattle.cm_match.specs.Reaches.{LoweredReach}
 use Rattle.cm_match.specs.Targets.{TargetTree}
-use Rattle.cm_machine.specs.State.{IsLinkedBelow, IsPlan, core_at}
-use Rattle.cm_machine.specs.Plan.{function_of, functions_of, functions_from, linked_to, plan_of, StandsFor, LoweredStand}
+use Rattle.cm_machine_model.specs.State.{IsLinkedBelow, AreLinkedBelow, core_func_at}
+use Rattle.cm_set.specs.CoreFuncs.{core_func_of, core_funcs_in, core_funcs_from, core_func_for, core_funcs_of, StandsFor, LoweredStand}
 
 fields_count : (fs : List Field) → param_count (fields_of fs) ≡ length fs
 fields_count [] = refl
@@ -48,55 +48,55 @@ flat_at xs ys i x same all lt is = at_place xs i x (subst (AllByRecursion Passes
     at_place (y ∷ zs) (suc k) z h l e = at_place zs k z h.1 (omega arith) e
 
 -- what stands for a list of definitions stands for their trees
-pub functions_are : (set : List (List SectionTree)) (component : ℕ) (defs : List CoreFuncDef) (trees : List CoreFuncTree) → map core_func_tree defs ≡ trees → map (λ d. function_of set component (core_func_tree d)) defs ≡ map (function_of set component) trees
-functions_are set component defs trees same = sym (map-map (function_of set component) core_func_tree defs) ∙ ap (map (function_of set component)) same
+pub functions_are : (set : List (List SectionTree)) (component : ℕ) (defs : List CoreFuncDef) (trees : List CoreFuncTree) → map core_func_tree defs ≡ trees → map (λ d. core_func_of set component (core_func_tree d)) defs ≡ map (core_func_of set component) trees
+functions_are set component defs trees same = sym (map-map (core_func_of set component) core_func_tree defs) ∙ ap (map (core_func_of set component)) same
 
 pub one_more_below : (component : ℕ) (fs : List CoreFunction) (f : CoreFunction) → AllByRecursion (IsLinkedBelow component) fs → IsLinkedBelow component f → AllByRecursion (IsLinkedBelow component) (fs ++ f ∷ [])
 one_more_below component [] f all one = (one, tt)
 one_more_below component (x ∷ fs) f all one = (all.0, one_more_below component fs f all.1 one)
 
-pub one_more_planned : (k : ℕ) (plan : List (List CoreFunction)) (fs : List CoreFunction) (n : ℕ) → n ≡ k + length plan → IsPlan k plan → AllByRecursion (IsLinkedBelow n) fs → IsPlan k (plan ++ fs ∷ [])
+pub one_more_planned : (k : ℕ) (core_funcs : List (List CoreFunction)) (fs : List CoreFunction) (n : ℕ) → n ≡ k + length core_funcs → AreLinkedBelow k core_funcs → AllByRecursion (IsLinkedBelow n) fs → AreLinkedBelow k (core_funcs ++ fs ∷ [])
 one_more_planned k [] fs n is planned all = (subst (λ (m : ℕ). AllByRecursion (IsLinkedBelow m) fs) (omega (arith, is)) all, tt)
-one_more_planned k (x ∷ plan) fs n is planned all = (planned.0, one_more_planned (k + 1) plan fs n (omega (arith, is)) planned.1 all)
+one_more_planned k (x ∷ core_funcs) fs n is planned all = (planned.0, one_more_planned (k + 1) core_funcs fs n (omega (arith, is)) planned.1 all)
 
-functions_more : (set : List (List SectionTree)) (k : ℕ) (cs : List (List SectionTree)) (c : List SectionTree) → functions_from set k (cs ++ c ∷ []) ≡ functions_from set k cs ++ functions_of set (k + length cs) c ∷ []
-functions_more set k [] c = let here : k ≡ k + 0 = omega arith in ap (λ (n : ℕ). functions_of set n c ∷ []) here
+functions_more : (set : List (List SectionTree)) (k : ℕ) (cs : List (List SectionTree)) (c : List SectionTree) → core_funcs_from set k (cs ++ c ∷ []) ≡ core_funcs_from set k cs ++ core_funcs_in set (k + length cs) c ∷ []
+functions_more set k [] c = let here : k ≡ k + 0 = omega arith in ap (λ (n : ℕ). core_funcs_in set n c ∷ []) here
 functions_more set k (x ∷ cs) c =
     let next : (k + 1) + length cs ≡ k + length (x ∷ cs) = omega arith in
-    ap (λ (xs : List (List CoreFunction)). functions_of set k x ∷ xs) (functions_more set (k + 1) cs c ∙ ap (λ (n : ℕ). functions_from set (k + 1) cs ++ functions_of set n c ∷ []) next)
+    ap (λ (xs : List (List CoreFunction)). core_funcs_in set k x ∷ xs) (functions_more set (k + 1) cs c ∙ ap (λ (n : ℕ). core_funcs_from set (k + 1) cs ++ core_funcs_in set n c ∷ []) next)
 
 -- one component more
-pub next_component : (set : List (List SectionTree)) (i : ℕ) (c : List SectionTree) → i < length set → c ≡ get_or set i c → functions_from set 0 (take (i + 1) set) ≡ functions_from set 0 (take i set) ++ functions_of set i c ∷ []
+pub next_component : (set : List (List SectionTree)) (i : ℕ) (c : List SectionTree) → i < length set → c ≡ get_or set i c → core_funcs_from set 0 (take (i + 1) set) ≡ core_funcs_from set 0 (take i set) ++ core_funcs_in set i c ∷ []
 next_component set i c lt is =
     let long : 0 + length (take i set) ≡ i = omega (arith, length-take i set) in
-    ap (functions_from set 0) (take_more set i c lt ∙ ap (λ (x : List SectionTree). take i set ++ x ∷ []) (sym is)) ∙ functions_more set 0 (take i set) c ∙ ap (λ (n : ℕ). functions_from set 0 (take i set) ++ functions_of set n c ∷ []) long
+    ap (core_funcs_from set 0) (take_more set i c lt ∙ ap (λ (x : List SectionTree). take i set ++ x ∷ []) (sym is)) ∙ functions_more set 0 (take i set) c ∙ ap (λ (n : ℕ). core_funcs_from set 0 (take i set) ++ core_funcs_in set n c ∷ []) long
 
-pub planned_count : (set : List (List SectionTree)) (k : ℕ) (cs : List (List SectionTree)) → length (functions_from set k cs) ≡ length cs
+pub planned_count : (set : List (List SectionTree)) (k : ℕ) (cs : List (List SectionTree)) → length (core_funcs_from set k cs) ≡ length cs
 planned_count set k [] = refl
 planned_count set k (c ∷ cs) = omega (arith, planned_count set (k + 1) cs)
 
-pub one_longer : (plan : List (List CoreFunction)) (fs : List CoreFunction) (n : ℕ) → length plan ≡ n → length (plan ++ fs ∷ []) ≡ n + 1
-one_longer plan fs n is = omega (arith, length-append plan (fs ∷ []), is)
+pub one_longer : (core_funcs : List (List CoreFunction)) (fs : List CoreFunction) (n : ℕ) → length core_funcs ≡ n → length (core_funcs ++ fs ∷ []) ≡ n + 1
+one_longer core_funcs fs n is = omega (arith, length-append core_funcs (fs ∷ []), is)
 
 -- ---- what is lowered
 
 -- the functions of one component of the set
-planned_at : (set : List (List SectionTree)) (k : ℕ) (cs : List (List SectionTree)) (i n : ℕ) (c : List SectionTree) → n ≡ k + i → slice_get cs i ≡ Some c → slice_get (functions_from set k cs) i ≡ Some (functions_of set n c)
+planned_at : (set : List (List SectionTree)) (k : ℕ) (cs : List (List SectionTree)) (i n : ℕ) (c : List SectionTree) → n ≡ k + i → slice_get cs i ≡ Some c → slice_get (core_funcs_from set k cs) i ≡ Some (core_funcs_in set n c)
 planned_at set k [] i n c is e = absurd cc
 planned_at set k (x ∷ cs) zero n c is e =
     let same : x ≡ c = cc in
     let here : k ≡ n = omega (arith, is) in
-    ap Some (ap (functions_of set k) same ∙ ap (λ (m : ℕ). functions_of set m c) here)
+    ap Some (ap (core_funcs_in set k) same ∙ ap (λ (m : ℕ). core_funcs_in set m c) here)
 planned_at set k (x ∷ cs) (suc i) n c is e = planned_at set (k + 1) cs i n c (omega (arith, is)) e
 
 -- each function that is lowered stands for the one that it reaches
-pub lowered_stand : (set : List (List SectionTree)) → LoweredReach set → LoweredStand set (plan_of set)
+pub lowered_stand : (set : List (List SectionTree)) → LoweredReach set → LoweredStand set (core_funcs_of set)
 lowered_stand set reach component core_func import c item ty at is =
     let r = reach component core_func import c item ty at is in
     let here = planned_at set 0 set component component c (omega arith) at in
-    let mapped = slice_get-map (function_of set component) (spaces_of c).core_funcs core_func ∙ ap (option_map (function_of set component)) is in
+    let mapped = slice_get-map (core_func_of set component) (spaces_of c).core_funcs core_func ∙ ap (option_map (core_func_of set component)) is in
     record {
       found = r.found;
       found_is = r.found_is;
-      stands = ap (λ (fs : Option (List CoreFunction)). slice_get (unwrap_or fs []) core_func) here ∙ mapped ∙ ap (λ (t : Option TargetTree). Some (linked_to ty t)) r.found_is;
+      stands = ap (λ (fs : Option (List CoreFunction)). slice_get (unwrap_or fs []) core_func) here ∙ mapped ∙ ap (λ (t : Option TargetTree). Some (core_func_for ty t)) r.found_is;
     }

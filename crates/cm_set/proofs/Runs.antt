@@ -2,11 +2,11 @@
 use Rattle.std.proofs.Common.{◌≡◌, ℕ, suc, ◌+◌, ◌<◌, ◌≤◌, true, false, List, [], ◌∷◌, ◌++◌, length, drop, get_or, refl, sym, ap, subst, ◌∙◌, append_assoc, add-one}
 use Rattle.std.proofs.Math.Seq.{drop-cons}
 use Rattle.std.proofs.lemmas.List.{append-nil, drop_all}
-use Rattle.cm_machine.specs.declared.event.Event.{Event}
-use Rattle.cm_machine.specs.declared.moves.Move.{Move}
-use Rattle.cm_machine.specs.State.{State}
-use Rattle.cm_machine.specs.Step.{Step}
-use Rattle.cm_machine.specs.Run.{Run, is_last}
+use Rattle.cm_machine_model.specs.declared.event.Event.{Event}
+use Rattle.cm_machine_model.specs.declared.moves.Move.{Move}
+use Rattle.cm_machine_model.specs.State.{State}
+use Rattle.cm_machine_model.specs.Step.{Step}
+use Rattle.cm_machine_model.specs.Run.{Run, is_last}
 
 -- the moves from a place on: the one there, and those after it
 from_place : (ms : List Move) (i : ℕ) (m : Move) → i < length ms → m ≡ get_or ms i m → drop i ms ≡ m ∷ drop (i + 1) ms

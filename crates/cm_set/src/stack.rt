@@ -1,15 +1,13 @@
-//! The stack of frames, of at most 64, in room that is made once.
+//! The stack of frames, of at most `MAX_FRAMES`, in room that is made once.
 
 ghost use Rattle.std.specs.Prelude.{◌≡◌, ◌+◌, ◌<◌, ◌≤◌, List, [], ◌∷◌, ◌++◌, length, IfOk, Some};
 ghost use Rattle.std.specs.Prelude.{None, reverse};
-ghost use Rattle.cm_machine.specs.Stack.{top_of, below_top};
+ghost use Rattle.cm_machine_model.specs.Stack.{top_of, below_top};
 
-use crate::frame::Frame;
+use cm_machine_model::MAX_FRAMES;
+use cm_machine_model::state::Frame;
 use std::alloc::{AllocError, Global};
 use std::marker::Model;
-
-/// The most frames of a stack.
-pub const MAX_FRAMES: usize = 64;
 
 /// The frames, seen as a list whose first member is the top.
 #[derive(Drop)]
@@ -19,13 +17,15 @@ pub struct Stack {
 
 impl Model for Stack {
     ghost use Rattle.std.specs.Prelude.{◌≤◌, List, reverse, vec_len, vec_capacity};
-    ghost use Rattle.cm_machine.specs.declared.frame.Frame.{Frame};
+    ghost use Rattle.cm_machine_model.specs.declared.frame.Frame.{Frame};
+    ghost use Rattle.cm_machine_model.specs.declared.limits.TheConstants.{MAX_FRAMES};
 
     ghost Value = { List Frame };
 
     ghost view = { λ s. reverse s.frames.items };
 
-    ghost invariant = { λ s. (vec_len s.frames ≤ 64) × (64 ≤ vec_capacity s.frames) };
+    ghost invariant = { λ s.
+        (vec_len s.frames ≤ MAX_FRAMES) × (MAX_FRAMES ≤ vec_capacity s.frames) };
 }
 
 impl Stack {
@@ -40,7 +40,7 @@ impl Stack {
     /// How many frames stand.
     pub fn len(&self) -> usize
         ensures len { result ≡ length self.now }
-        ensures most { result ≤ 64 }
+        ensures most { result ≤ MAX_FRAMES }
     {
         self.frames.len()
     }
@@ -54,9 +54,10 @@ impl Stack {
 
     /// Puts a frame on top; there is room for it.
     pub fn push(&mut self, frame: Frame)
-        requires { length self.old < 64 }
+        requires { length self.old < MAX_FRAMES }
         ensures { self.new ≡ frame ∷ self.old }
     {
+        // Read first, so that the check knows what holds of the stack.
         let _ = &self.frames;
         match self.frames.push(frame) {
             Ok(()) => {}

@@ -1,5 +1,5 @@
-use Rattle.cm_machine.proofs.HistoryLaws.{acting_told, entries_hold, resumptions_hold, memory_holds, traps_hold, refusals_hold, runs_hold}
-use Rattle.cm_machine.proofs.laws.headline.Goals as goal
+use Rattle.cm_history.proofs.HistoryLaws.{acting_told, entries_hold, resumptions_hold, memory_holds, traps_hold, refusals_hold, runs_hold}
+use Rattle.cm_history.proofs.headline.Goals as goal
 
 pub returns-clause-acting : goal.returns-clause-acting
 returns-clause-acting c = acting_told

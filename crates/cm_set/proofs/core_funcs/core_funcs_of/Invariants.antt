@@ -1,11 +1,11 @@
 use Rattle.std.proofs.Common.{◌≡◌, take, length}
-use Rattle.cm_machine.specs.State.{IsPlan}
-use Rattle.cm_machine.specs.Plan.{functions_from}
-use Rattle.cm_machine.proofs.plan.plan_of.Given as goal
+use Rattle.cm_machine_model.specs.State.{AreLinkedBelow}
+use Rattle.cm_set.specs.CoreFuncs.{core_funcs_from}
+use Rattle.cm_set.proofs.core_funcs.core_funcs_of.Given as goal
 
 abbrev pub invariant-loop-component : goal.invariant-loop-component
 invariant-loop-component l = record {
-  are : l.plan.items ≡ functions_from l.linked 0 (take l.component l.linked);
-  linked : IsPlan 0 l.plan.items;
-  count : length l.plan.items ≡ l.component;
+  are : l.core_funcs.items ≡ core_funcs_from l.linked 0 (take l.component l.linked);
+  linked : AreLinkedBelow 0 l.core_funcs.items;
+  count : length l.core_funcs.items ≡ l.component;
 }

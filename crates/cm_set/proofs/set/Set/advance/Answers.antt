@@ -1,6 +1,6 @@
-use Rattle.cm_machine.proofs.Valid.{actor_inside}
+use Rattle.cm_machine_model.proofs.Valid.{actor_inside}
 use Rattle.std.proofs.Common.{arith}
-use Rattle.cm_machine.proofs.set.Set.advance.Goals as goal
+use Rattle.cm_set.proofs.set.Set.advance.Goals as goal
 
 pub write_memory-requires-clause-there : goal.write_memory-requires-clause-there
 write_memory-requires-clause-there c =

@@ -1,7 +1,7 @@
 use Rattle.std.proofs.Common.{◌≡◌, Some, sym, ◌∙◌, arith}
 use Rattle.std.specs.Prelude.{slice_get}
 use Rattle.std.proofs.lemmas.Option.{slice_get_within}
-use Rattle.cm_machine.proofs.set.Set.begin.Goals as goal
+use Rattle.cm_set.proofs.set.Set.begin.Goals as goal
 
 pub push-requires-clause-inside : goal.push-requires-clause-inside
 push-requires-clause-inside c =

@@ -1,6 +1,6 @@
-use Rattle.cm_machine.proofs.Valid.{actor_inside}
+use Rattle.cm_machine_model.proofs.Valid.{actor_inside}
 use Rattle.std.proofs.Common.{arith}
-use Rattle.cm_machine.proofs.set.Set.grow.Goals as goal
+use Rattle.cm_set.proofs.set.Set.grow.Goals as goal
 
 pub grow_memory-requires-clause-there : goal.grow_memory-requires-clause-there
 grow_memory-requires-clause-there c =

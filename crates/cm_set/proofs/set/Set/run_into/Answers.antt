@@ -1,7 +1,7 @@
 use Rattle.std.proofs.Common.{arith}
 use Rattle.std.proofs.lemmas.Grind.{common_steps}
-use Rattle.cm_machine.proofs.Runs.{stopped, went_on, ended}
-use Rattle.cm_machine.proofs.set.Set.run_into.Goals as goal
+use Rattle.cm_set.proofs.Runs.{stopped, went_on, ended}
+use Rattle.cm_set.proofs.set.Set.run_into.Goals as goal
 
 pub returns-then-last : goal.returns-then-last
 returns-then-last c =

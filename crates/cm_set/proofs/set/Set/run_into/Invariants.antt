@@ -1,9 +1,9 @@
 use Rattle.std.proofs.Common.{◌+◌, ◌<◌, ◌≤◌, List, ◌++◌, length, drop, vec_len}
 use Rattle.std.specs.Prelude.{vec_capacity}
-use Rattle.cm_machine.specs.declared.event.Event.{Event}
-use Rattle.cm_machine.specs.State.{State}
-use Rattle.cm_machine.specs.Run.{Run}
-use Rattle.cm_machine.proofs.set.Set.run_into.Given as goal
+use Rattle.cm_machine_model.specs.declared.event.Event.{Event}
+use Rattle.cm_machine_model.specs.State.{State}
+use Rattle.cm_machine_model.specs.Run.{Run}
+use Rattle.cm_set.proofs.set.Set.run_into.Given as goal
 
 -- what the moves that are left lead to, after the events so far, all the moves lead to
 abbrev pub invariant-loop-made : goal.invariant-loop-made

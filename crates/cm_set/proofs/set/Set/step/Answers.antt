@@ -1,7 +1,7 @@
 use Rattle.std.proofs.Common.{◌≡◌, Some}
-use Rattle.cm_machine.specs.Stack.{top_of}
-use Rattle.cm_machine.proofs.Goes.{goes_on}
-use Rattle.cm_machine.proofs.set.Set.step.Goals as goal
+use Rattle.cm_machine_model.specs.Stack.{top_of}
+use Rattle.cm_machine_model.proofs.Goes.{goes_on}
+use Rattle.cm_set.proofs.set.Set.step.Goals as goal
 
 pub returns-clause-goes_on : goal.returns-clause-goes_on
 returns-clause-goes_on c =
