@@ -1,7 +1,7 @@
 use Rattle.std.proofs.Common.{◌≡◌, true, false, List, [], ◌∷◌, ◌++◌, Some, None, sym, ap, subst, ◌∙◌, arith}
-use Rattle.cm_machine.specs.declared.event.Event.{Event}
-use Rattle.cm_machine.specs.Run.{is_last}
-use Rattle.cm_machine.specs.Player.{last_of, Played}
+use Rattle.cm_machine_model.specs.declared.event.Event.{Event}
+use Rattle.cm_machine_model.specs.Run.{is_last}
+use Rattle.cm_machine.specs.Player.{last_of, IsPlay}
 use Rattle.cm_machine.proofs.Drives.{begins_playing, plays_on, stops_at, runs_out, last_pushed, somebody_acts, last_seen, some_last, last_is_seen}
 use Rattle.cm_machine.proofs.player.play_on.Goals as goal
 
@@ -23,7 +23,7 @@ returns-then-is_last-clause-ok g c first is =
     let items : c.deref.result.now ≡ c.loop.events.items = c.deref.ensures.value ∙ c.reserve.ensures.items in
     let seen = last_seen c.deref.result.now c.loop.events.items (Some c.in-Some.seen.now) items c.in-Some.ensures.value in
     let last : is_last c.in-Some.seen.now ≡ true = sym c.is_last.ensures ∙ c.if-is_last.true in
-    subst (λ (xs : List Event). Played (λ b rest. (goal.Guest-dyn g (b.vtable, b.value)).plays b.value rest) c.args.set.now first c.args.seats.now.items c.args.limit xs c.loop.set c.loop.seats.items) (sym c.reserve.ensures.items)
+    subst (λ (xs : List Event). IsPlay (λ b rest. (goal.Guest-dyn g (b.vtable, b.value)).plays b.value rest) c.args.set.now first c.args.seats.now.items c.args.limit xs c.loop.set c.loop.seats.items) (sym c.reserve.ensures.items)
     (stops_at (λ b rest. (goal.Guest-dyn g (b.vtable, b.value)).plays b.value rest) c.args.set.now first c.args.seats.now.items c.args.limit c.loop.events.items c.loop.set c.loop.seats.items c.loop.counter (c.loop.invariant.playing first is) c.in-Some.seen.now seen last)
 
 pub unreachable-requires-in_default-acting : goal.unreachable-requires-in_default-acting

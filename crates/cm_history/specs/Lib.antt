@@ -1,0 +1,3 @@
+pub mod Acting
+pub mod Calls
+pub mod Headline
