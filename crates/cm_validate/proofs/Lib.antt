@@ -5,6 +5,6 @@ pub mod Order
 pub mod OrderOfSpaces
 pub mod Params
 pub mod Sections
-pub mod Sounds
+pub mod ConsistencyLemmas
 pub mod TableLemmas
-pub mod FlatLemmas
+pub mod FlatParams

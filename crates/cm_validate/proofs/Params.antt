@@ -8,20 +8,20 @@ use Rattle.cm_types.specs.declared.def_types.LabeledValType.{LabeledValType}
 use Rattle.cm_types.specs.TypeTrees.{fields_from, fields_of}
 use Rattle.cm_types.specs.declared.type_trees.Field.{Field}
 use Rattle.cm_validate.specs.Rules.{param_count}
-use Rattle.cm_validate.specs.Spaces.{expanded_value}
+use Rattle.cm_validate.specs.Spaces.{expand_value}
 
 pub counts : (fs : List Field) → param_count (fields_of fs) ≡ length fs
 counts [] = refl
 counts (f ∷ fs) = omega (arith, counts fs)
 
-value_nodes : (v : ValType) → nodes_of (expanded_value v) ≡ 1
+value_nodes : (v : ValType) → nodes_of (expand_value v) ≡ 1
 value_nodes val_type.U32 = refl
 
-value_depth : (v : ValType) → depth_of (expanded_value v) ≡ 1
+value_depth : (v : ValType) → depth_of (expand_value v) ≡ 1
 value_depth val_type.U32 = refl
 
 abbrev pub params_from : List LabeledValType → Fields
-params_from ps = fields_from (map (λ p. (p.label, expanded_value p.ty)) ps)
+params_from ps = fields_from (map (λ p. (p.label, expand_value p.ty)) ps)
 
 params_nodes : (ps : List LabeledValType) → nodes_of_fields (params_from ps) ≡ length ps
 params_nodes [] = refl

@@ -8,7 +8,7 @@ ghost use Rattle.cm_validate.specs.declared.fault.ValidReason.TheVariants as rea
 ghost use Rattle.cm_validate.specs.Definitions.{core_func_tree, func_def_tree};
 ghost use Rattle.cm_component.specs.Trees.{SectionTree};
 ghost use Rattle.cm_validate.specs.Orders.{AreInOrder};
-ghost use Rattle.cm_validate.specs.Sound.{IsSound};
+ghost use Rattle.cm_validate.specs.Consistency.{IsConsistent};
 ghost use Rattle.cm_validate.specs.Spaces.{spaces_of, signature, func_at};
 ghost use Rattle.cm_validate.specs.Valid.{IsValid, IsFaultOf};
 ghost use Rattle.cm_validate.specs.PassedFlat.{PassesFlat};
@@ -48,7 +48,7 @@ impl Checked {
     /// the component is valid, and what that means for its index spaces.
     pub fn signature(&self) -> &Signature
         ensures valid { IsValid self.now }
-        ensures sound { IsSound (spaces_of self.now) }
+        ensures sound { IsConsistent (spaces_of self.now) }
         ensures signature { signature_of result.now ≡ signature (spaces_of self.now) }
     {
         &self.tables.signature
@@ -84,12 +84,6 @@ impl Checked {
         }
     }
 }
-
-/// A law on the definitions, which does nothing: each index space of a component is what its items add
-/// to it, in order (Explainer.md, "Index Spaces").
-pub fn index_spaces()
-    ensures { (sections : List SectionTree) → AreInOrder sections }
-{}
 
 /// The component as one that is valid.
 ///
