@@ -8,9 +8,9 @@ use Rattle.cm_leb.specs.declared.fault.LebFault.TheVariants.{Truncated, TooLong,
 use Rattle.cm_leb.specs.Numbers.{two_complement, greatest_length}
 
 -- What a function returned, seen by view, is what reading gives.
-abbrev pub Matches : {X Y : Type 0} → (X → Y) → Result X LebFault → Result Y LebFault → Type 0
-Matches view (Ok x) read = read ≡ Ok (view x)
-Matches view (Err e) read = read ≡ Err e
+abbrev pub IsReadAs : {X Y : Type 0} → (X → Y) → Result X LebFault → Result Y LebFault → Type 0
+IsReadAs view (Ok x) read = read ≡ Ok (view x)
+IsReadAs view (Err e) read = read ≡ Err e
 
 infixl 10 ◌>>=◌
 abbrev pub ◌>>=◌ : {A B : Type 0} → Result A LebFault → (A → Result B LebFault) → Result B LebFault
