@@ -1,0 +1,128 @@
+//! Rows on layouts.
+
+use crate::types::{read_func, read_tree};
+use cm_layout::{
+    FlatFunc, LayoutTree, Side, align, case_offset, field_offset, flatten, flatten_func, has_cases,
+    has_field, is_number, layout, node_align, node_case_offset, node_field_offset, node_has_cases,
+    node_has_field, node_layout, node_size, size,
+};
+use cm_rows::RowFault;
+use cm_types::{CoreKind, TypeTree};
+use std::alloc::{AllocError, Global};
+
+/// The answer to `whole TYPE`, `fields TYPE`, `payload TYPE`, `tree TYPE`, `node TYPE`, `lift FUNC` or
+/// `lower FUNC`.
+pub fn answer(alloc: Global, words: &[&str]) -> Result<String, RowFault> {
+    match words {
+        ["whole", ty @ ..] => show_whole(alloc, &read_tree(alloc, ty)?),
+        ["fields", ty @ ..] => show_fields(alloc, &read_tree(alloc, ty)?),
+        ["payload", ty @ ..] => show_payload(alloc, &read_tree(alloc, ty)?),
+        ["tree", ty @ ..] => {
+            let mut out = String::new(alloc);
+            write_layout(&mut out, &layout(alloc, &read_tree(alloc, ty)?)?)?;
+            Ok(out)
+        }
+        ["node", ty @ ..] => show_node(alloc, &read_tree(alloc, ty)?),
+        ["lift", func @ ..] => {
+            let func = read_func(alloc, func)?;
+            show_flat_func(alloc, &flatten_func(alloc, &func, Side::Lift)?)
+        }
+        ["lower", func @ ..] => {
+            let func = read_func(alloc, func)?;
+            show_flat_func(alloc, &flatten_func(alloc, &func, Side::Lower)?)
+        }
+        _ => Err(RowFault::NotARow),
+    }
+}
+
+/// Size, alignment and flat kinds.
+fn show_whole(alloc: Global, ty: &TypeTree) -> Result<String, RowFault> {
+    let (size, align) = (size(ty), align(ty));
+    let mut out = format!(in alloc; "size {size}, align {align}, flat")?;
+    write_kinds(&mut out, &flatten(alloc, ty)?)?;
+    Ok(out)
+}
+
+/// The offsets of the fields in order.
+fn show_fields(alloc: Global, ty: &TypeTree) -> Result<String, RowFault> {
+    let mut out = String::from_str(alloc, "at")?;
+    for n in 0..100 {
+        if !has_field(ty, n) {
+            break;
+        }
+        let offset = field_offset(ty, n);
+        write!(out, " {offset}")?;
+    }
+    Ok(out)
+}
+
+fn show_payload(alloc: Global, ty: &TypeTree) -> Result<String, RowFault> {
+    if has_cases(ty) {
+        let offset = case_offset(ty);
+        Ok(format!(in alloc; "at {offset}")?)
+    } else {
+        Ok(String::from_str(alloc, "no cases")?)
+    }
+}
+
+/// What the calls on nodes say: size, alignment, whether it is a number, the offset of the last of the
+/// first three fields, that of the payload, and the layout from byte 64 on.
+fn show_node(alloc: Global, ty: &TypeTree) -> Result<String, RowFault> {
+    let node = &ty.root;
+    let (size, align, is_number) = (node_size(node), node_align(node), is_number(node));
+    let mut out = format!(in alloc; "size {size}, align {align}, number {is_number}")?;
+    if node_has_field(node, 2) {
+        let offset = node_field_offset(node, 2);
+        write!(out, ", field 2 at {offset}")?;
+    }
+    if node_has_cases(node) {
+        let offset = node_case_offset(node);
+        write!(out, ", payload at {offset}")?;
+    }
+    out.push_str(", ")?;
+    write_layout(&mut out, &node_layout(alloc, node, 64)?)?;
+    Ok(out)
+}
+
+/// `(OFFSET SIZE ALIGN: KIND.. PART..)`, with `number` before the kinds of one.
+fn write_layout(out: &mut String, layout: &LayoutTree) -> Result<(), AllocError> {
+    let (offset, size, align) = (layout.offset, layout.size, layout.align);
+    write!(out, "({offset} {size} {align}:")?;
+    if layout.is_number {
+        out.push_str(" number")?;
+    }
+    write_kinds(out, &layout.flat)?;
+    for child in &layout.children {
+        out.push_str(" ")?;
+        write_layout(out, child)?;
+    }
+    out.push_str(")")
+}
+
+/// Writes the kinds, each after a space; none is a `-`.
+fn write_kinds(out: &mut String, kinds: &[CoreKind]) -> Result<(), AllocError> {
+    if kinds.is_empty() {
+        return out.push_str(" -");
+    }
+    for kind in kinds {
+        match kind {
+            CoreKind::I32 => out.push_str(" i32")?,
+            CoreKind::I64 => out.push_str(" i64")?,
+        }
+    }
+    Ok(())
+}
+
+fn show_flat_func(alloc: Global, flat: &FlatFunc) -> Result<String, RowFault> {
+    let mut out = String::from_str(alloc, "params")?;
+    write_kinds(&mut out, &flat.params)?;
+    if flat.spilled_params {
+        out.push_str(" spilled")?;
+    }
+    out.push_str(", results")?;
+    write_kinds(&mut out, &flat.results)?;
+    if flat.spilled_result {
+        out.push_str(" spilled")?;
+    }
+    Ok(out)
+}
