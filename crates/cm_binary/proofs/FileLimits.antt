@@ -1,6 +1,6 @@
 -- A component that has a file is within its limits.
-use Rattle.std.proofs.Common.{◌≡◌, ℕ, zero, suc, ◌+◌, ◌-◌, ◌<◌, ◌≤◌, List, [], ◌∷◌, ◌++◌, length, take, drop, Bool, true, false, ◌&&◌, Option, Some, None, nat_eq, nat_lt, if◌then◌else◌, refl, sym, ap, subst, ◌∙◌, arith}
-use Rattle.std.specs.List.{flat_map, list_all, sum_by, starts_with}
+use Rattle.std.proofs.Common.{◌≡◌, ℕ, zero, suc, ◌-◌, ◌≤◌, List, [], ◌∷◌, ◌++◌, length, drop, Bool, true, false, Option, Some, None, nat_eq, nat_lt, if◌then◌else◌, refl, sym, ap, subst, ◌∙◌, arith}
+use Rattle.std.specs.List.{list_all, sum_by, starts_with}
 use Rattle.std.proofs.lemmas.Bool.{and_parts, and_from, ltb-false, le-ltb, eqb-true, eq-eqb}
 use Rattle.std.proofs.lemmas.List.Sums.{sum_by-cons}
 use Rattle.cm_grammar.specs.Grammar.{Grammar, chain, from_stock}

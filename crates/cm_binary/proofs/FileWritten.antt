@@ -1,21 +1,20 @@
 -- The shortest spelling of a component within its limits is a spelling of it.
-use Rattle.std.proofs.Common.{◌≡◌, ℕ, zero, suc, ◌+◌, ◌-◌, ◌^◌, ◌<◌, ◌≤◌, List, [], ◌∷◌, ◌++◌, length, take, drop, Bool, true, ◌&&◌, Option, Some, None, Ok, nat_eq, nat_lt, refl, sym, ap, subst, ◌∙◌, arith}
-use Rattle.std.specs.List.{flat_map, list_all, sum_by, starts_with}
+use Rattle.std.proofs.Common.{◌≡◌, ℕ, ◌-◌, ◌^◌, ◌<◌, ◌≤◌, List, [], ◌∷◌, ◌++◌, length, drop, true, Option, Some, None, Ok, refl, arith}
+use Rattle.std.specs.List.{flat_map, list_all, sum_by}
 use Rattle.std.specs.Str.{is_utf8}
-use Rattle.std.proofs.lemmas.Bool.{and_parts, ltb-true, eqb-true}
-use Rattle.std.proofs.lemmas.List.{length-append, append-nil}
+use Rattle.std.proofs.lemmas.Bool.{and_parts, ltb-true}
+use Rattle.std.proofs.lemmas.List.{length-append}
 use Rattle.std.proofs.lemmas.List.Sums.{sum_by-cons}
 use Rattle.cm_leb.specs.Writing.{shortest_unsigned}
-use Rattle.cm_grammar.specs.Grammar.{Grammar, done, ◌>>=◌, code, number, raw, check, fixed, vec, from_stock, chain}
-use Rattle.cm_grammar.specs.Whole.{build, exactly, of_size}
+use Rattle.cm_grammar.specs.Grammar.{done, ◌>>=◌, code, raw, check, fixed, vec, from_stock}
+use Rattle.cm_grammar.specs.Whole.{of_size}
 use Rattle.cm_grammar.specs.Spelling.{vec_spelling, blob_spelling}
 use Rattle.cm_grammar.proofs.WrittenLaws.{Writes, AreFine, AreStocked, bind_written, made_written, number_written, vec_written, counted_written, counted_parts, chain_written, each_written, fine_parts, stock_written, text_written}
 use Rattle.cm_types.specs.Names.{is_label}
 use Rattle.cm_types.specs.ExternNames.{is_extern_name}
 use Rattle.cm_types.specs.declared.def_types.ValType.{ValType}
 use Rattle.cm_types.specs.declared.def_types.ValType.TheVariants as val_types
-use Rattle.cm_types.specs.declared.def_types.LabeledValType.{LabeledValType}
-use Rattle.cm_types.specs.DefTypes.{FuncTypeTree, DefTypeTree, func_def}
+use Rattle.cm_types.specs.DefTypes.{DefTypeTree, func_def}
 use Rattle.cm_component.specs.declared.section.Canon.{Canon}
 use Rattle.cm_component.specs.declared.section.Canon.TheVariants as canons
 use Rattle.cm_component.specs.declared.section.CoreSort.{CoreSort}
@@ -29,10 +28,9 @@ use Rattle.cm_component.specs.Trees.{ArgTree, CoreInstanceTree, AliasTree, Impor
 use Rattle.cm_component.specs.Spelling.{extern_name_spelling, core_arg_spelling, core_instance_spelling, alias_spelling, val_type_code, param_spelling, result_spelling, func_spelling, def_spelling, canon_spelling, desc_spelling, import_spelling, export_spelling, contents_spelling, section_id, section_spelling, spelling}
 use Rattle.cm_component.specs.declared.limits.TheConstants.{COMPONENT_PREAMBLE}
 use Rattle.cm_component.specs.Limits.{types_in, has_preamble, limit_fault}
-use Rattle.cm_component.specs.declared.limits.TheConstants.{MAX_TYPES, MAX_FILE_BYTES, MODULE_PREAMBLE}
+use Rattle.cm_component.specs.declared.limits.TheConstants.{MAX_TYPES, MODULE_PREAMBLE}
 use Rattle.cm_component.specs.Parts.{is_index, holds_arg, holds_core_instance, holds_alias, holds_param, holds_func, holds_def, holds_canon, holds_desc, holds_name, holds_import, holds_export, holds}
-use Rattle.cm_binary.specs.declared.fault.DecodeReason.{DecodeReason}
-use Rattle.cm_binary.specs.declared.fault.DecodeReason.TheVariants.{SizeMismatch, BadNumber, BadUtf8, BadName, UnknownCode, TooMany, NotAModule}
+use Rattle.cm_binary.specs.declared.fault.DecodeReason.TheVariants.{SizeMismatch, BadNumber, BadUtf8, BadName, UnknownCode, TooMany}
 use Rattle.cm_binary.specs.declared.codes.SectionKind.{SectionKind}
 use Rattle.cm_binary.specs.declared.codes.SectionKind.TheVariants as kinds
 use Rattle.cm_binary.specs.declared.codes.CoreInstanceForm.TheVariants as core_instance_forms
@@ -45,8 +43,8 @@ use Rattle.cm_binary.specs.declared.codes.DescForm.TheVariants as desc_forms
 use Rattle.cm_binary.specs.declared.codes.NoDescription.TheVariants as descriptions
 use Rattle.cm_binary.specs.Codes.{section_kind, core_instance_form, core_sort, alias_sort, core_alias_target, val_type, type_form, result_form, canon_form, desc_form, export_sort, export_desc}
 use Rattle.cm_binary.specs.File.{index, text, label, extern_name, core_arg, core_instance, alias_of, alias, param, func_result_of, func_result, func_type, def_type, type_defs, options_of, options, canon_of, canon, extern_desc, import_item, export_item, contents, section, sections, component, file, room_after, Spells}
-use Rattle.cm_binary.specs.Nonempty.{core_arg_some, core_instance_some, alias_some, param_some, def_some, canon_some, import_some, export_some}
-use Rattle.cm_binary.proofs.FileLimits.{preamble_read, Limits, limits_parts, room_left}
+use Rattle.cm_binary.proofs.Nonempty.{core_arg_some, core_instance_some, alias_some, param_some, def_some, canon_some, import_some, export_some}
+use Rattle.cm_binary.proofs.FileLimits.{preamble_read, limits_parts, room_left}
 
 -- ---- numbers, texts and names
 

@@ -11,11 +11,8 @@ ghost use Rattle.cm_component.specs.Spelling.{spelling};
 
 use crate::decoding::decode;
 use crate::fault::{DecodeFault, DecodeReason};
-use crate::spelling::{
-    write_aliases, write_canons, write_core_instances, write_exports, write_imports, write_types,
-};
 use cm_component::{COMPONENT_PREAMBLE, Component, Section};
-use cm_grammar::write_blob;
+use cm_grammar::{write_blob, write_vec};
 use std::alloc::{AllocError, Global};
 
 /// Writes a component as a file (Binary.md), with the shortest spelling of each number. Of all the
@@ -46,7 +43,6 @@ pub fn written_and_read(alloc: Global, component: &Component) -> Result<Componen
 
 /// The bytes of a file with these sections.
 fn file_bytes(alloc: Global, sections: &[Section]) -> Result<Vec<u8>, AllocError>
-    requires { length (spelling (map section_tree sections.now)) < 2 ^ 32 }
     ensures { IfOk result (λ v. v.items ≡ spelling (map section_tree sections.now)) }
 {
     let mut out = Vec::new(alloc);
@@ -59,7 +55,6 @@ fn file_bytes(alloc: Global, sections: &[Section]) -> Result<Vec<u8>, AllocError
 
 /// Appends a section: its id, the size of its contents in bytes, and the contents.
 fn write_section(alloc: Global, out: &mut Vec<u8>, section: &Section) -> Result<(), AllocError>
-    requires { length (section_spelling (section_tree section.now)) < 2 ^ 32 }
     ensures { OnOk result
         (out.new.items ≡ out.old.items ++ section_spelling (section_tree section.now)) }
 {
@@ -87,7 +82,6 @@ fn section_id(section: &Section) -> u8
 
 /// Appends the contents of the section.
 fn write_contents(out: &mut Vec<u8>, section: &Section) -> Result<(), AllocError>
-    requires { length (contents_spelling (section_tree section.now)) < 2 ^ 32 }
     ensures { OnOk result
         (out.new.items ≡ out.old.items ++ contents_spelling (section_tree section.now)) }
 {
@@ -97,11 +91,11 @@ fn write_contents(out: &mut Vec<u8>, section: &Section) -> Result<(), AllocError
             out.extend_from_slice(&custom.bytes)
         }
         Section::CoreModule(module) => out.extend_from_slice(module),
-        Section::CoreInstances(items) => write_core_instances(out, items),
-        Section::Aliases(items) => write_aliases(out, items),
-        Section::Types(items) => write_types(out, items),
-        Section::Canons(items) => write_canons(out, items),
-        Section::Imports(items) => write_imports(out, items),
-        Section::Exports(items) => write_exports(out, items),
+        Section::CoreInstances(items) => write_vec::<DecodeReason, _>(out, items),
+        Section::Aliases(items) => write_vec::<DecodeReason, _>(out, items),
+        Section::Types(items) => write_vec::<DecodeReason, _>(out, items),
+        Section::Canons(items) => write_vec::<DecodeReason, _>(out, items),
+        Section::Imports(items) => write_vec::<DecodeReason, _>(out, items),
+        Section::Exports(items) => write_vec::<DecodeReason, _>(out, items),
     }
 }

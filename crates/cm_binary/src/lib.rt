@@ -10,7 +10,6 @@ mod fault;
 mod instances;
 pub mod laws;
 mod sections;
-mod spelling;
 mod texts;
 mod types;
 

@@ -2,97 +2,51 @@
 
 ghost use Rattle.std.specs.Prelude.{◌≡◌, ℕ, map, length};
 ghost use Rattle.cm_grammar.specs.Faults.{Gives};
-ghost use Rattle.cm_grammar.specs.Whole.{of_size};
+ghost use Rattle.cm_grammar.specs.Whole.{exactly, of_size};
 ghost use Rattle.cm_grammar.specs.Reading.{Reads, ReadsAll, IsInside};
 ghost use Rattle.cm_types.specs.DefTypes.{def_type_tree};
 ghost use Rattle.cm_component.specs.Trees.{section_tree};
 ghost use Rattle.cm_binary.specs.declared.fault.DecodeReason.TheVariants as reasons;
 ghost use Rattle.cm_binary.specs.declared.codes.SectionKind.TheVariants as kinds;
-ghost use Rattle.cm_binary.specs.File.{contents, section, sections, room_after};
+ghost use Rattle.cm_binary.specs.File.{vector, type_defs, contents, section, sections};
+ghost use Rattle.cm_binary.specs.File.{room_after};
 
-use crate::canons::read_canons;
 use crate::codes::SectionKind;
-use crate::externs::{read_exports, read_imports};
 use crate::fault::DecodeReason;
-use crate::instances::{read_aliases, read_core_instances};
 use crate::texts::read_text;
 use crate::types::read_types;
 use cm_component::{CustomSection, MAX_TYPES, MODULE_PREAMBLE, Section};
-use cm_grammar::{Cursor, End, ReadError};
+use cm_grammar::{Cursor, End, Form, ReadError, read_vec};
+use cm_types::DefType;
 use std::alloc::Global;
 
-#[tactic(auto, using(cm_grammar::proofs::WholeLaws::ends_fails), unfolding(crate::specs::File::contents))]
-fn read_core_instances_section(
+/// Reads all of a part as a count, and so many items.
+#[tactic(auto, using(cm_grammar::proofs::WholeLaws::ends_fails))]
+fn read_items<T: Form<DecodeReason>>(
     alloc: Global,
     part: &mut Cursor<'_, DecodeReason>,
-) -> Result<Section, ReadError<DecodeReason>>
-    ensures { (room : ℕ) → ReadsAll
-        (contents room kinds.CoreInstances) section_tree part.old result }
+) -> Result<Vec<T>, ReadError<DecodeReason>>
+    ensures { ReadsAll (exactly reasons.SizeMismatch (vector T.grammar)) (λ v. map T.tree v.items)
+        part.old result }
 {
-    let items = read_core_instances(alloc, part)?;
+    let items = read_vec(alloc, part, DecodeReason::BadNumber)?;
     part.finish(DecodeReason::SizeMismatch)?;
-    Ok(Section::CoreInstances(items))
+    Ok(items)
 }
 
-#[tactic(auto, using(cm_grammar::proofs::WholeLaws::ends_fails), unfolding(crate::specs::File::contents))]
-fn read_aliases_section(
-    alloc: Global,
-    part: &mut Cursor<'_, DecodeReason>,
-) -> Result<Section, ReadError<DecodeReason>>
-    ensures { (room : ℕ) → ReadsAll (contents room kinds.Aliases) section_tree part.old result }
-{
-    let items = read_aliases(alloc, part)?;
-    part.finish(DecodeReason::SizeMismatch)?;
-    Ok(Section::Aliases(items))
-}
-
-#[tactic(auto, using(cm_grammar::proofs::WholeLaws::ends_fails), unfolding(crate::specs::File::contents))]
-fn read_canons_section(
-    alloc: Global,
-    part: &mut Cursor<'_, DecodeReason>,
-) -> Result<Section, ReadError<DecodeReason>>
-    ensures { (room : ℕ) → ReadsAll (contents room kinds.Canons) section_tree part.old result }
-{
-    let items = read_canons(alloc, part)?;
-    part.finish(DecodeReason::SizeMismatch)?;
-    Ok(Section::Canons(items))
-}
-
-#[tactic(auto, using(cm_grammar::proofs::WholeLaws::ends_fails), unfolding(crate::specs::File::contents))]
-fn read_imports_section(
-    alloc: Global,
-    part: &mut Cursor<'_, DecodeReason>,
-) -> Result<Section, ReadError<DecodeReason>>
-    ensures { (room : ℕ) → ReadsAll (contents room kinds.Imports) section_tree part.old result }
-{
-    let items = read_imports(alloc, part)?;
-    part.finish(DecodeReason::SizeMismatch)?;
-    Ok(Section::Imports(items))
-}
-
-#[tactic(auto, using(cm_grammar::proofs::WholeLaws::ends_fails), unfolding(crate::specs::File::contents))]
-fn read_exports_section(
-    alloc: Global,
-    part: &mut Cursor<'_, DecodeReason>,
-) -> Result<Section, ReadError<DecodeReason>>
-    ensures { (room : ℕ) → ReadsAll (contents room kinds.Exports) section_tree part.old result }
-{
-    let items = read_exports(alloc, part)?;
-    part.finish(DecodeReason::SizeMismatch)?;
-    Ok(Section::Exports(items))
-}
-
-#[tactic(auto, using(cm_grammar::proofs::WholeLaws::ends_fails), unfolding(crate::specs::File::contents))]
-fn read_types_section(
+/// Reads all of a part as a count, and so many types, where `room` more may stand in the file.
+#[tactic(auto, using(cm_grammar::proofs::WholeLaws::ends_fails))]
+fn read_all_types(
     alloc: Global,
     part: &mut Cursor<'_, DecodeReason>,
     room: usize,
-) -> Result<Section, ReadError<DecodeReason>>
-    ensures { ReadsAll (contents room kinds.Types) section_tree part.old result }
+) -> Result<Vec<DefType>, ReadError<DecodeReason>>
+    ensures { ReadsAll (exactly reasons.SizeMismatch (type_defs room))
+        (λ v. map def_type_tree v.items) part.old result }
 {
-    let items = read_types(alloc, part, room)?;
+    let types = read_types(alloc, part, room)?;
     part.finish(DecodeReason::SizeMismatch)?;
-    Ok(Section::Types(items))
+    Ok(types)
 }
 
 #[tactic(auto, unfolding(crate::specs::File::contents))]
@@ -119,6 +73,7 @@ fn read_core_module_section(
 }
 
 /// Reads the contents of a section, where `room` more types may stand in the file.
+#[tactic(auto, unfolding(crate::specs::File::contents))]
 fn read_contents(
     alloc: Global,
     part: &mut Cursor<'_, DecodeReason>,
@@ -130,12 +85,12 @@ fn read_contents(
     match kind {
         SectionKind::Custom => read_custom_section(alloc, part),
         SectionKind::CoreModule => read_core_module_section(alloc, part),
-        SectionKind::CoreInstances => read_core_instances_section(alloc, part),
-        SectionKind::Aliases => read_aliases_section(alloc, part),
-        SectionKind::Types => read_types_section(alloc, part, room),
-        SectionKind::Canons => read_canons_section(alloc, part),
-        SectionKind::Imports => read_imports_section(alloc, part),
-        SectionKind::Exports => read_exports_section(alloc, part),
+        SectionKind::CoreInstances => Ok(Section::CoreInstances(read_items(alloc, part)?)),
+        SectionKind::Aliases => Ok(Section::Aliases(read_items(alloc, part)?)),
+        SectionKind::Types => Ok(Section::Types(read_all_types(alloc, part, room)?)),
+        SectionKind::Canons => Ok(Section::Canons(read_items(alloc, part)?)),
+        SectionKind::Imports => Ok(Section::Imports(read_items(alloc, part)?)),
+        SectionKind::Exports => Ok(Section::Exports(read_items(alloc, part)?)),
     }
 }
 

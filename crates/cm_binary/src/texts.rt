@@ -1,18 +1,19 @@
 //! Texts, labels and extern names.
 
-ghost use Rattle.cm_grammar.specs.Reading.{Reads};
-ghost use Rattle.std.specs.Prelude.{◌≡◌, true, false, IfOk, MatchOption};
+ghost use Rattle.std.specs.Prelude.{◌≡◌, ◌++◌, true, false, IfOk, OnOk, MatchOption};
 ghost use Rattle.std.specs.Str.{is_utf8};
 ghost use Rattle.std.specs.String.{string_bytes};
 ghost use Rattle.cm_grammar.specs.Faults.{Gives};
 ghost use Rattle.cm_grammar.specs.Grammar.{check, raw};
+ghost use Rattle.cm_grammar.specs.Reading.{Reads};
 ghost use Rattle.cm_types.specs.Names.{is_label};
 ghost use Rattle.cm_types.specs.ExternNames.{is_extern_name};
+ghost use Rattle.cm_component.specs.Spelling.{extern_name_spelling};
 ghost use Rattle.cm_binary.specs.declared.fault.DecodeReason.TheVariants as reasons;
 ghost use Rattle.cm_binary.specs.File.{text, label, extern_name};
 
 use crate::fault::DecodeReason;
-use cm_grammar::{Cursor, ReadError};
+use cm_grammar::{Cursor, ReadError, write_blob};
 use cm_types::{ExternName, Label, NameFault};
 use std::alloc::{AllocError, Global};
 
@@ -119,4 +120,12 @@ pub(crate) fn read_extern_name(
         Some(name) => Ok(name),
         None => Err(fault),
     }
+}
+
+/// Appends an extern name.
+pub(crate) fn write_extern_name(out: &mut Vec<u8>, name: &ExternName) -> Result<(), AllocError>
+    ensures { OnOk result (out.new.items ≡ out.old.items ++ extern_name_spelling name.now) }
+{
+    out.push(0x00)?;
+    write_blob(out, name.as_str().as_bytes())
 }

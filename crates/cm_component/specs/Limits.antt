@@ -1,6 +1,6 @@
 -- The limits of a component file. Those on types and bytes are this project's own; a core module
 -- begins with its preamble (core specification, "Modules").
-use Rattle.std.specs.Prelude.{ℕ, List, [], ◌∷◌, length, Bool, true, Option, Some, None, Result, Ok}
+use Rattle.std.specs.Prelude.{ℕ, List, length, Bool, true, Option, Some, None, Result, Ok}
 use Rattle.std.specs.Prelude.{Err, nat_eq, nat_lt, if◌then◌else◌}
 use Rattle.std.specs.List.{sum_by, list_all, starts_with}
 use Rattle.cm_component.specs.Trees as trees

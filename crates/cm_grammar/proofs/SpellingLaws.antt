@@ -1,7 +1,7 @@
 -- What is written shortly is spelled, and no longer than any spelling.
-use Rattle.std.proofs.Common.{◌≡◌, ℕ, zero, suc, ◌+◌, ◌<◌, ◌≤◌, List, [], ◌∷◌, ◌++◌, length, map, get_or, Result, Ok, refl, sym, ap, subst, ◌∙◌, arith}
+use Rattle.std.proofs.Common.{◌≡◌, ℕ, zero, suc, ◌+◌, ◌<◌, ◌≤◌, List, [], ◌∷◌, ◌++◌, length, Result, Ok, refl, sym, ap, subst, ◌∙◌, arith}
 use Rattle.std.specs.List.{flat_map}
-use Rattle.std.proofs.lemmas.List.{length-append, length-map, append-nil}
+use Rattle.std.proofs.lemmas.List.{length-append, append-nil}
 use Rattle.std.proofs.lemmas.Bool.Decides.{nat_tests}
 use Rattle.cm_leb.specs.Writing.{shortest_unsigned}
 use Rattle.cm_leb.proofs.WritingLaws.{shortest_unsigned-spells, shortest_unsigned-least, shortest_unsigned-length}
@@ -112,27 +112,10 @@ each_shortens g next spell l s (x ∷ xs) bytes h =
 
 -- ---- what the code needs
 
--- One spelling of a list is no longer than all of them.
-pub each_short : {A : Type 0} (spell : A → List ℕ) (xs : List A) (i : ℕ) (x : A) → i < length xs → x ≡ get_or xs i x → length (spell x) ≤ length (flat_map spell xs)
-each_short spell [] i x h e = absurd (omega arith)
-each_short spell (y ∷ ys) zero x h e = rw (flat_map-cons_length spell y ys, e) (omega arith)
-each_short spell (y ∷ ys) (suc i) x h e = omega (arith, each_short spell ys i x (omega (arith, h)) e, flat_map-cons_length spell y ys)
-
-pub each_short_counted : {A : Type 0} (spell : A → List ℕ) (xs : List A) (i : ℕ) (x : A) (limit : ℕ) → i < length xs → x ≡ get_or xs i x → length (vec_spelling spell xs) < limit → length (spell x) < limit
-each_short_counted spell xs i x limit h e lt = omega (arith, each_short spell xs i x h e, length-append (shortest_unsigned (length xs)) (flat_map spell xs), lt)
-
 flat_map_some : {A : Type 0} (spell : A → List ℕ) → ((x : A) → 0 < length (spell x)) → (xs : List A) → length xs ≤ length (flat_map spell xs)
 flat_map_some spell some [] = omega arith
 flat_map_some spell some (x ∷ xs) = omega (arith, some x, flat_map_some spell some xs, flat_map-cons_length spell x xs)
 
-pub flat_map-map : {A B : Type 0} (spell : B → List ℕ) (view : A → B) (xs : List A) → flat_map spell (map view xs) ≡ flat_map (λ x. spell (view x)) xs
-flat_map-map spell view [] = refl
-flat_map-map spell view (x ∷ xs) = ap (λ (b : List ℕ). spell (view x) ++ b) (flat_map-map spell view xs)
-
 -- Where no spelling is empty there are no more things than bytes.
 pub each_some : {A : Type 0} (spell : A → List ℕ) → ((x : A) → 0 < length (spell x)) → (xs : List A) → length xs ≤ length (vec_spelling spell xs)
 each_some spell some xs = omega (arith, flat_map_some spell some xs, length-append (shortest_unsigned (length xs)) (flat_map spell xs))
-
--- The list that is seen and the list of what is seen have one spelling.
-pub vec_spelling-map : {A B : Type 0} (spell : B → List ℕ) (view : A → B) (xs : List A) → vec_spelling spell (map view xs) ≡ vec_spelling (λ x. spell (view x)) xs
-vec_spelling-map spell view xs = rw (length-map xs view, flat_map-map spell view xs) refl

@@ -1,6 +1,5 @@
--- What code that reads by a grammar says of itself: bytes of which a cursor has read a part, and
--- several things one after the other.
-use Rattle.std.specs.Prelude.{◌≡◌, ℕ, ◌<◌, ◌≤◌, ◌-◌, nat_le, if◌then◌else◌, List, [], ◌∷◌, length}
+-- What code that reads by a grammar says of itself: bytes of which a cursor has read a part.
+use Rattle.std.specs.Prelude.{ℕ, ◌≤◌, ◌-◌, nat_le, if◌then◌else◌, List, length}
 use Rattle.std.specs.Prelude.{Result, Ok, Err}
 use Rattle.cm_grammar.specs.declared.fault.End.{End}
 use Rattle.cm_grammar.specs.declared.fault.End.TheVariants as end
@@ -10,19 +9,6 @@ use Rattle.cm_grammar.specs.declared.cursor.Cursor.{Cursor}
 use Rattle.cm_grammar.specs.Faults.{later, want, Gives}
 use Rattle.cm_grammar.specs.Grammar.{Grammar}
 use Rattle.cm_grammar.specs.Whole.{Whole}
-
--- The things were read one after the other, from these bytes up to those.
-abbrev pub EachRead : {A : Type 0} → (List ℕ → A → List ℕ → Type 0) → List ℕ → List A → List ℕ
-    → Type 0
-EachRead IsRead bytes [] rest = rest ≡ bytes
-EachRead IsRead bytes (x ∷ xs) rest =
-    (behind : List ℕ) × IsRead bytes x behind × EachRead IsRead behind xs rest
-
--- Fewer things than wanted were read, and the next one failed.
-abbrev pub FailsAmong : {A R : Type 0} → (List ℕ → A → List ℕ → Type 0)
-    → (List ℕ → ReadError R → Type 0) → ℕ → List ℕ → ReadError R → Type 0
-FailsAmong IsRead Fails count bytes e = (xs : List _) × (behind : List ℕ)
-    × EachRead IsRead bytes xs behind × (length xs < count) × Fails behind e
 
 -- How a part of so many bytes ends: as itself where it is all there, else as the bytes do.
 abbrev pub part_end : {R : Type 0} → R → ℕ → End R → List ℕ → End R

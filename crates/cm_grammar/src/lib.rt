@@ -4,10 +4,8 @@
 
 mod cursor;
 mod fault;
-mod several;
-mod writing;
+mod form;
 
 pub use cursor::{Code, Cursor};
 pub use fault::{End, Fault, ReadError};
-pub use several::{Item, read_items};
-pub use writing::{Spelled, write_blob, write_vec};
+pub use form::{Form, read_vec, write_blob, write_vec};

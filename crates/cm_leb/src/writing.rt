@@ -25,6 +25,17 @@ pub fn write_u32(out: &mut Vec<u8>, value: u32) -> Result<(), AllocError>
     put_group(out, spelled_length(value as u64) as usize, value as u64)
 }
 
+/// Appends a count as [`write_u32`] appends a number. Of a count of 32 bits and more, which no
+/// number spells, the low 35 bits are appended.
+///
+/// The one error is that memory was refused; the list is then unchanged.
+pub fn write_count(out: &mut Vec<u8>, count: usize) -> Result<(), AllocError>
+    ensures ok { OnOk result (out.new.items ≡ out.old.items ++ shortest_unsigned count) }
+    ensures err { OnErr result (out.new.items ≡ out.old.items) }
+{
+    put_group(out, spelled_length(count as u64) as usize, count as u64)
+}
+
 /// Appends the shortest spelling of a number of 33 bits with a sign, in two's complement of seven
 /// bits a byte (the core specification, "Integers").
 ///
