@@ -1,6 +1,6 @@
 -- The code's items as the definitions see them.
 use Rattle.std.proofs.Common.{◌≡◌, Some, ap}
-use Rattle.cm_types.specs.declared.signatures_of.SignatureItem.{SignatureItem}
+use Rattle.cm_types.specs.declared.signatures.SignatureItem.{SignatureItem}
 use Rattle.cm_types.specs.Signatures.{NamedExtern, extern_of, extern_type_of}
 
 same_some : (a b : NamedExtern) → Some a ≡ Some b → a ≡ b

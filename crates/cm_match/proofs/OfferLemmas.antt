@@ -7,7 +7,7 @@ use Rattle.std.specs.Str.{bytes_eq}
 use Rattle.std.specs.BTreeMap.{BTreeMap, get_by_text}
 use Rattle.std.specs.declared.string.String.{String}
 use Rattle.std.specs.declared.alloc.Global.{Global}
-use Rattle.cm_types.specs.declared.signatures_of.SignatureItem.{SignatureItem}
+use Rattle.cm_types.specs.declared.signatures.SignatureItem.{SignatureItem}
 use Rattle.cm_types.specs.Signatures.{NamedExtern, extern_of}
 use Rattle.cm_match.specs.declared.offers.Offer.{Offer}
 use Rattle.cm_match.specs.Links.{ExternAt, extern_at, externs_from}

@@ -2,7 +2,7 @@
 use Rattle.std.proofs.Common.{◌≡◌, ℕ, ◌+◌, ◌<◌, List, [], ◌∷◌, ◌++◌, length, get_or, drop, map, refl, sym, ap, ◌∙◌, append_assoc, append-nil, add-one, drop-cons, subst}
 use Rattle.std.specs.Prelude.{Result, Ok, Err, OnOk, is_ok, is_err, if◌then◌else◌, false}
 use Rattle.cm_types.specs.Signatures.{SignatureTy, extern_of}
-use Rattle.cm_types.specs.declared.signatures_of.SignatureItem.{SignatureItem}
+use Rattle.cm_types.specs.declared.signatures.SignatureItem.{SignatureItem}
 use Rattle.cm_match.specs.declared.fault.LinkReason.{LinkReason}
 use Rattle.cm_match.specs.declared.plan.PlanLine.{PlanLine}
 use Rattle.cm_match.specs.Links.{ExternAt, extern_at, externs_from, imports_from, plan_line, ServesEach, IsServedBy, IsUnservedFor, IsFirstUnserved, Matches}

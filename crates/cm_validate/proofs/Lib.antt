@@ -1,6 +1,7 @@
 pub mod Args
 pub mod Distinct
 pub mod Lifts
+pub mod MemoryPlaces
 pub mod Order
 pub mod OrderOfSpaces
 pub mod Params

@@ -1,8 +1,8 @@
--- The rules that a valid component keeps, item by item (Explainer.md, "Component Definitions" and the
--- sections after it; CanonicalABI.md, "Canonical Definitions"; the numbers of the reasons, their order
--- and the limits are this project's own choice). Each rule is a test that has to hold, under the name
--- that it has in the code and in docs/RULES.md; the tables at the end say which rules an item has to
--- keep, and for which reason it is refused where one is broken.
+-- The rules that a valid component keeps, item by item (Explainer.md, "Component Definitions" and
+-- the sections after it; CanonicalABI.md, "Canonical Definitions"; the numbers of the reasons,
+-- their order and the limits are this project's own choice). Each rule is a test that has to hold,
+-- under the name that it has in the code and in docs/RULES.md; the tables at the end say which
+-- rules an item has to keep, and for which reason it is refused where one is broken.
 use Rattle.std.specs.Prelude.{ℕ, ◌+◌, Bool, true, false, ◌&&◌, not, nat_lt, nat_le, List, [], ◌∷◌}
 use Rattle.std.specs.Prelude.{Option, length, map, slice_get}
 use Rattle.std.specs.List.{list_all, list_any}
@@ -84,8 +84,8 @@ labels_are_distinct params = are_distinct (map (λ p. fold_case p.label) params)
 abbrev pub name_is_new : List ℕ → List (List ℕ) → Bool
 name_is_new name names = not (list_any (λ other. is_same_name other name) names)
 
--- ---- NeedsMemory, NeedsRealloc: so far no canonical definition has options, so it has what it needs
--- where it needs none, that is where the parameters are passed flat
+-- ---- NeedsMemory, NeedsRealloc: so far no canonical definition has options, so it has what it
+-- needs where it needs none, that is where the parameters are passed flat
 
 -- a lift or a lower has the memory that it needs
 abbrev pub has_memory : FuncTy → Bool
@@ -121,8 +121,8 @@ is_imported (imported import item ty) = true
 abbrev pub params_are_within_limits : FuncTypeTree → Bool
 params_are_within_limits f = nat_lt (length f.params) 10000
 
--- ---- the rules of an item: the test, and the reason where it does not hold; the rules of an item stand
--- in the order of their reasons' numbers
+-- ---- the rules of an item: the test, and the reason where it does not hold; the rules of an item
+-- stand in the order of their reasons' numbers
 
 abbrev pub canon_rules : IndexSpaces → Canon → List (Bool × ValidReason)
 canon_rules s (canon.Lift core_func ty) =
@@ -165,4 +165,28 @@ item_rules s (export_item e) =
     (index_is_there e.index (length s.funcs), reason.NoSuchIndex)
     ∷ (name_is_new e.name (map (λ x. x.name) s.exports), reason.DuplicateName)
     ∷ (name_is_plain_label e.name, reason.BadAnnotatedName)
+    ∷ []
+
+-- ---- the rules of an item that are looked at before memory is wanted: those on indices, and all
+-- of a canonical definition
+
+abbrev pub import_rules_before_memory : IndexSpaces → ExternDesc → List (Bool × ValidReason)
+import_rules_before_memory s (desc.Func ty) =
+    (index_is_there ty (length s.types), reason.NoSuchIndex)
+    ∷ []
+
+abbrev pub rules_before_memory : IndexSpaces → Item → List (Bool × ValidReason)
+rules_before_memory s module_item = []
+rules_before_memory s (core_instance_item (instantiate m args)) =
+    (index_is_there m s.modules, reason.NoSuchIndex)
+    ∷ (arg_instances_are_there args (length s.core_instances), reason.NoSuchIndex)
+    ∷ []
+rules_before_memory s (alias_item (core_instance_export sort instance name)) =
+    (index_is_there instance (length s.core_instances), reason.NoSuchIndex)
+    ∷ []
+rules_before_memory s (type_item (func_def f)) = []
+rules_before_memory s (canon_item c) = canon_rules s c
+rules_before_memory s (import_item i) = import_rules_before_memory s i.desc
+rules_before_memory s (export_item e) =
+    (index_is_there e.index (length s.funcs), reason.NoSuchIndex)
     ∷ []

@@ -1,5 +1,5 @@
--- The index spaces of a component: for each sort the definitions that the items before a place add, in
--- order (Explainer.md, "Index Spaces").
+-- The index spaces of a component: for each sort the definitions that the items before a place add,
+-- in order (Explainer.md, "Index Spaces").
 use Rattle.std.specs.Prelude.{ℕ, ◌+◌, List, [], ◌∷◌, ◌++◌, length, map, Option, Some, None}
 use Rattle.std.specs.Prelude.{slice_get, option_map, option_and_then, option_to_list}
 use Rattle.cm_types.specs.DefTypes.{FuncTypeTree, func_def}
@@ -21,10 +21,14 @@ abbrev pub expand_value : ValType → Ty
 expand_value val_type.U32 = unsigned bits_32
 
 abbrev pub expand_func : FuncTypeTree → FuncTy
-expand_func f = record { params = fields_from (map (λ p. (p.label, expand_value p.ty)) f.params); result = option_map expand_value f.result }
+expand_func f =
+    record {
+      params = fields_from (map (λ p. (p.label, expand_value p.ty)) f.params);
+      result = option_map expand_value f.result;
+    }
 
--- what a core function is: what a core instance exports under this name, or an import that was lowered
--- (its number, the item of an imported instance, and its type)
+-- what a core function is: what a core instance exports under this name, or an import that was
+-- lowered (its number, the item of an imported instance, and its type)
 pub data CoreFuncTree : Type 0 where
   guest : ℕ → List ℕ → CoreFuncTree
   lowered : ℕ → Option ℕ → FuncTy → CoreFuncTree
@@ -46,7 +50,8 @@ pub record ExportedFunc : Type 0 where
   pub func : ℕ
   pub ty : FuncTy
 
--- the index spaces, with the imports and the exports; of a core instance the module that it is made of
+-- the index spaces, with the imports and the exports; of a core instance the module that it is made
+-- of
 pub record IndexSpaces : Type 0 where
   pub modules : ℕ
   pub core_instances : List ℕ
@@ -58,7 +63,16 @@ pub record IndexSpaces : Type 0 where
 
 -- before the first item
 abbrev pub empty_spaces : IndexSpaces
-empty_spaces = record { modules = 0; core_instances = []; types = []; core_funcs = []; funcs = []; imports = []; exports = [] }
+empty_spaces =
+    record {
+      modules = 0;
+      core_instances = [];
+      types = [];
+      core_funcs = [];
+      funcs = [];
+      imports = [];
+      exports = [];
+    }
 
 -- the type of a function
 abbrev pub func_type_of : FuncDefTree → FuncTy
@@ -72,15 +86,27 @@ lower_import (imported import item ty) = Some (lowered import item ty)
 
 -- the spaces after a canonical definition
 abbrev pub after_canon : IndexSpaces → Canon → IndexSpaces
-after_canon s (canon.Lift core_func ty) = record s { funcs = s.funcs ++ option_to_list (option_map (lifted core_func) (slice_get s.types ty)) }
-after_canon s (canon.Lower func) = record s { core_funcs = s.core_funcs ++ option_to_list (option_and_then lower_import (slice_get s.funcs func)) }
+after_canon s (canon.Lift core_func ty) =
+    record s {
+      funcs = s.funcs ++ option_to_list (option_map (lifted core_func) (slice_get s.types ty));
+    }
+after_canon s (canon.Lower func) =
+    record s {
+      core_funcs =
+          s.core_funcs ++ option_to_list (option_and_then lower_import (slice_get s.funcs func));
+    }
 
 -- the spaces after an import of this name
 abbrev pub after_import : IndexSpaces → List ℕ → ExternDesc → IndexSpaces
 after_import s name (desc.Func ty) =
     record s {
-      funcs = s.funcs ++ option_to_list (option_map (imported (length s.imports) None) (slice_get s.types ty));
-      imports = s.imports ++ option_to_list (option_map (λ t. record { name = name; ty = t }) (slice_get s.types ty));
+      funcs =
+          s.funcs
+          ++ option_to_list (option_map (imported (length s.imports) None) (slice_get s.types ty));
+      imports =
+          s.imports
+          ++ option_to_list
+            (option_map (λ t. record { name = name; ty = t }) (slice_get s.types ty));
     }
 
 -- the spaces after an export of this name, which gives its function a new index
@@ -88,14 +114,20 @@ abbrev pub after_export : IndexSpaces → List ℕ → ℕ → IndexSpaces
 after_export s name index =
     record s {
       funcs = s.funcs ++ option_to_list (slice_get s.funcs index);
-      exports = s.exports ++ option_to_list (option_map (λ f. record { name = name; func = index; ty = func_type_of f }) (slice_get s.funcs index));
+      exports =
+          s.exports
+          ++ option_to_list
+          (option_map (λ f. record { name = name; func = index; ty = func_type_of f })
+          (slice_get s.funcs index));
     }
 
 -- the spaces after an item
 abbrev pub after_item : IndexSpaces → Item → IndexSpaces
 after_item s module_item = record s { modules = s.modules + 1 }
-after_item s (core_instance_item (instantiate m args)) = record s { core_instances = s.core_instances ++ m ∷ [] }
-after_item s (alias_item (core_instance_export sort instance name)) = record s { core_funcs = s.core_funcs ++ guest instance name ∷ [] }
+after_item s (core_instance_item (instantiate m args)) =
+    record s { core_instances = s.core_instances ++ m ∷ [] }
+after_item s (alias_item (core_instance_export sort instance name)) =
+    record s { core_funcs = s.core_funcs ++ guest instance name ∷ [] }
 after_item s (type_item (func_def f)) = record s { types = s.types ++ expand_func f ∷ [] }
 after_item s (canon_item c) = after_canon s c
 after_item s (import_item i) = after_import s i.name i.desc
@@ -120,7 +152,8 @@ signature s =
 
 -- what the function under an export is
 abbrev pub func_of_export : IndexSpaces → ℕ → Option FuncDefTree
-func_of_export s export = option_and_then (λ e. slice_get s.funcs e.func) (slice_get s.exports export)
+func_of_export s export =
+    option_and_then (λ e. slice_get s.funcs e.func) (slice_get s.exports export)
 
 -- what the function is that is an export of its own, or an item of an exported instance: so far no
 -- component exports instances

@@ -18,7 +18,8 @@ pub enum CoreFuncDef {
         instance: u32,
         name: String,
     },
-    /// An import that was lowered: its number, from 0, the item where it is an instance, and its type.
+    /// An import that was lowered: its number, from 0, the item where it is an instance, and its
+    /// type.
     Lowered {
         import: u32,
         item: Option<u32>,

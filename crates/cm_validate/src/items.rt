@@ -1,6 +1,6 @@
 //! Which rules an item of a section keeps, and what it adds to the index spaces.
 
-ghost use Rattle.std.specs.Prelude.{◌≡◌, [], ◌∷◌, None, IfOk, OnOk, map};
+ghost use Rattle.std.specs.Prelude.{◌≡◌, [], ◌∷◌, None, IfOk, OnOk, OnErr, map};
 ghost use Rattle.cm_types.specs.Funcs.{func_of};
 ghost use Rattle.cm_types.specs.DefTypes.{def_type_tree};
 ghost use Rattle.cm_component.specs.Trees.{instantiate, arg_tree, core_instance_tree, alias_tree};
@@ -10,8 +10,8 @@ ghost use Rattle.cm_validate.specs.declared.fault.ValidReason.TheVariants as rea
 ghost use Rattle.cm_validate.specs.Items.{Item, core_instance_item, alias_item, type_item};
 ghost use Rattle.cm_validate.specs.Items.{canon_item, import_item, export_item};
 ghost use Rattle.cm_validate.specs.Definitions.{core_func_tree};
-ghost use Rattle.cm_validate.specs.Rules.{item_rules, canon_rules, has_memory, has_realloc};
-ghost use Rattle.cm_validate.specs.Rules.{is_guest_function};
+ghost use Rattle.cm_validate.specs.Rules.{item_rules, rules_before_memory, canon_rules};
+ghost use Rattle.cm_validate.specs.Rules.{has_memory, has_realloc, is_guest_function};
 ghost use Rattle.cm_validate.specs.Spaces.{after_item, after_canon};
 ghost use Rattle.cm_validate.specs.SpacesBuilder.{spaces_so_far};
 ghost use Rattle.cm_validate.specs.Valid.{first_broken};
@@ -41,8 +41,11 @@ pub(crate) trait SectionItem {
         alloc: Global,
         spaces: &SpacesBuilder,
     ) -> Result<Option<ValidReason>, AllocError>
-        ensures { IfOk result
-            (λ r. r ≡ first_broken (item_rules (spaces_so_far spaces.now) (item self.now))) };
+        ensures rules { IfOk result
+            (λ r. r ≡ first_broken (item_rules (spaces_so_far spaces.now) (item self.now))) }
+        ensures memory { OnErr result
+            (first_broken (rules_before_memory (spaces_so_far spaces.now) (item self.now))
+            ≡ None) };
 
     /// Adds to the spaces what the item adds.
     fn add(&self, alloc: Global, spaces: &mut SpacesBuilder) -> Result<(), AllocError>
@@ -57,10 +60,14 @@ fn instantiate_fault(
     of_module: u32,
     args: &[CoreInstantiationArg],
 ) -> Result<Option<ValidReason>, AllocError>
-    ensures { IfOk result
+    ensures rules { IfOk result
         (λ r. r
         ≡ first_broken (item_rules (spaces_so_far spaces.now)
         (core_instance_item (instantiate of_module (map arg_tree args.now))))) }
+    ensures memory { OnErr result
+        (first_broken (rules_before_memory (spaces_so_far spaces.now)
+        (core_instance_item (instantiate of_module (map arg_tree args.now))))
+        ≡ None) }
 {
     if !index_is_there(of_module, spaces.modules) {
         Ok(Some(ValidReason::NoSuchIndex))

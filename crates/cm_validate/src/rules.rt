@@ -1,6 +1,6 @@
-//! The rules that a valid component keeps, each under the name that it has in `specs/Rules.antt` and in
-//! docs/RULES.md. `NamedList::name_is_new`, `CoreFuncDef::is_guest_function` and `FuncDef::is_imported`
-//! are the others.
+//! The rules that a valid component keeps, each under the name that it has in `specs/Rules.antt`
+//! and in docs/RULES.md. `NamedList::name_is_new`, `CoreFuncDef::is_guest_function` and
+//! `FuncDef::is_imported` are the others.
 
 ghost use Rattle.std.specs.Prelude.{◌≡◌, ℕ, List, IfOk, OnOk, OnErr, not, cond, true, map};
 ghost use Rattle.std.specs.List.{list_all};
@@ -122,7 +122,8 @@ pub(crate) fn has_memory(ty: &Func) -> bool
     is_flat(ty)
 }
 
-/// Whether a lift to this type has the allocator that it needs: so far it has none, so it may need none.
+/// Whether a lift to this type has the allocator that it needs: so far it has none, so it may need
+/// none.
 pub(crate) fn has_realloc(ty: &Func) -> bool
     ensures { result ≡ has_realloc (func_of ty.now) }
 {

@@ -67,7 +67,8 @@ impl SpacesBuilder {
     /// Whether an import of this name may be added.
     pub fn import_name_is_new(&self, alloc: Global, name: &str) -> Result<bool, AllocError>
         ensures { IfOk result
-            (λ new. new ≡ name_is_new name.now (map (λ i. i.name) (spaces_so_far self.now).imports)) }
+            (λ new. new
+            ≡ name_is_new name.now (map (λ i. i.name) (spaces_so_far self.now).imports)) }
     {
         self.imports.name_is_new(alloc, name)
     }
@@ -75,7 +76,8 @@ impl SpacesBuilder {
     /// Whether an export of this name may be added.
     pub fn export_name_is_new(&self, alloc: Global, name: &str) -> Result<bool, AllocError>
         ensures { IfOk result
-            (λ new. new ≡ name_is_new name.now (map (λ e. e.name) (spaces_so_far self.now).exports)) }
+            (λ new. new
+            ≡ name_is_new name.now (map (λ e. e.name) (spaces_so_far self.now).exports)) }
     {
         self.exports.name_is_new(alloc, name)
     }
