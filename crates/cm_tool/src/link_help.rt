@@ -29,12 +29,6 @@ impl<'a> SignatureNames<'a> {
         })
     }
 
-    /// The file, and the name of its import of this number.
-    fn import(&self, import: usize) -> Option<(&'a str, &str)> {
-        let name = self.imports.get(import)?;
-        Some((self.file, name.as_str()))
-    }
-
     fn has_export(&self, name: &str) -> bool {
         self.exports.iter().any(|export| export.as_str() == name)
     }
@@ -65,20 +59,39 @@ pub fn write_link_fault<W: fmt::Write>(
         f,
         "{reason_name} in component {component}, import {import}: "
     )?;
-    let importer = files.get(component);
-    match (
-        reason,
-        importer.and_then(|importer| importer.import(import)),
-    ) {
-        (LinkReason::Empty | LinkReason::TooMany, _) => {
-            let count = files.len();
-            write!(f, "{meaning}, found {count}")
+    match reason {
+        LinkReason::Empty | LinkReason::TooMany => write_count(f, meaning, files.len()),
+        LinkReason::Memory => f.write_str(meaning),
+        _ => match files.get(component) {
+            Some(importer) => write_import(f, importer, import, meaning, files),
+            None => f.write_str(meaning),
+        },
+    }
+}
+
+fn write_count<W: fmt::Write>(
+    f: &mut fmt::Formatter<W>,
+    meaning: &str,
+    count: usize,
+) -> fmt::Result {
+    write!(f, "{meaning}, found {count}")
+}
+
+/// Writes a file with its import of this number, what is wrong, and the files that export the name.
+fn write_import<W: fmt::Write>(
+    f: &mut fmt::Formatter<W>,
+    importer: &SignatureNames,
+    import: usize,
+    meaning: &str,
+    files: &[SignatureNames],
+) -> fmt::Result {
+    let file = importer.file;
+    match importer.imports.get(import) {
+        Some(name) => {
+            write!(f, "{file} imports \"{name}\", {meaning}")?;
+            write_exporters(f, files, name.as_str())
         }
-        (LinkReason::Memory, _) | (_, None) => write!(f, "{meaning}"),
-        (_, Some((file, name))) => {
-            write!(f, "{file} imports {name:?}, {meaning}")?;
-            write_exporters(f, files, name)
-        }
+        None => f.write_str(meaning),
     }
 }
 
