@@ -12,6 +12,7 @@ pub struct ScriptGuest {
 }
 
 impl ScriptGuest {
+    /// A guest that makes these moves, the front one first.
     pub fn new(moves: VecDeque<Move>) -> ScriptGuest {
         ScriptGuest { moves }
     }

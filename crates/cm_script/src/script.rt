@@ -28,7 +28,7 @@ impl Script {
     ///
     /// Its lines end with LF, which the last one need not. Empty lines are skipped, and each other
     /// one is a statement, of which the first and no other is `pages`. A text with no statement is
-    /// refused in line 1.
+    /// refused in line 1. The first line at fault is answered; nothing is said of a line after it.
     pub fn parse(alloc: Global, text: &str, components: usize) -> Result<Script, ScriptRefusal> {
         let mut reader = ScriptReader::new(alloc, components).map_err(|_| ScriptRefusal {
             line: 1,

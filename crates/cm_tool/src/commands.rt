@@ -8,8 +8,11 @@ use crate::plan::write_plan;
 use crate::play_help::SetSize;
 use crate::playing::play;
 use cm_machine::Set;
+use cm_match::Linked;
+use cm_validate::Checked;
 use cm_words::{Request, WordsFault};
 use std::alloc::Global;
+use std::io;
 use std::io::Write;
 
 /// The most moves of a drive.
@@ -71,12 +74,17 @@ fn run_check<'a, F: Files, O: Write>(
     out: &mut O,
 ) -> Result<Outcome, Fault<'a>> {
     let checked = load(alloc, files, name)?;
-    let signature = checked.signature();
+    write_counts(out, &checked)?;
+    Ok(Outcome::Done)
+}
+
+/// Writes how many imports and exports a component has.
+fn write_counts<O: Write>(out: &mut O, component: &Checked) -> io::Result<()> {
+    let signature = component.signature();
     let imports = signature.imports.len();
     let exports = signature.exports.len();
     writeln!(out, "ok: {imports} imports, {exports} exports")?;
-    out.flush()?;
-    Ok(Outcome::Done)
+    out.flush()
 }
 
 fn run_link<'a, F: Files, O: Write>(
@@ -87,7 +95,6 @@ fn run_link<'a, F: Files, O: Write>(
 ) -> Result<Outcome, Fault<'a>> {
     let linked = load_set(alloc, files, names)?;
     write_plan(out, &linked)?;
-    out.flush()?;
     Ok(Outcome::Done)
 }
 
@@ -101,9 +108,11 @@ fn run_play<'a, F: Files, O: Write, E: Write>(
 ) -> Result<Outcome, Fault<'a>> {
     let linked = load_set(alloc, files, names)?;
     let script = load_script(alloc, files, script, names.len())?;
-    let size = SetSize::new(names.len(), script.pages.as_slice());
-    match Set::new(alloc, linked, script.pages.as_slice()) {
-        Ok(mut set) => play(alloc, &mut set, script, LIMIT, out, err),
-        Err(misuse) => Err(Fault::Set { misuse, size }),
-    }
+    let mut set = make_set(alloc, linked, script.pages.as_slice())?;
+    play(alloc, &mut set, script, LIMIT, out, err)
+}
+
+fn make_set(alloc: Global, linked: Linked, pages: &[u32]) -> Result<Set, Fault<'static>> {
+    let size = SetSize::new(linked.components().len(), pages);
+    Set::new(alloc, linked, pages).map_err(|misuse| Fault::Set { misuse, size })
 }

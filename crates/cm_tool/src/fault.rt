@@ -3,9 +3,9 @@
 ghost use Rattle.std.specs.Prelude.{◌≡◌};
 ghost use Rattle.cm_tool.specs.declared.fault.Fault.TheVariants as fault;
 
-use crate::file_help::{write_decode_fault, write_valid_fault};
+use crate::file_help::{write_bad_utf8, write_decode_fault, write_file_fault, write_valid_fault};
 use crate::files::FileFault;
-use crate::link_help::{FileNames, write_link_fault};
+use crate::link_help::{SignatureNames, write_link_fault};
 use crate::play_help::{Drive, SetSize, write_begin_fault, write_limit, write_set_fault};
 use crate::script_help::{BadLine, write_bad_line};
 use cm_binary::DecodeFault;
@@ -40,10 +40,10 @@ pub enum Fault<'a> {
         name: &'a str,
         fault: ValidFault,
     },
-    /// The components of these files do not link.
+    /// Components do not link, whose names are these.
     Link {
         fault: LinkFault,
-        files: Vec<FileNames<'a>>,
+        names: Vec<SignatureNames<'a>>,
     },
     /// A file that should be text is not UTF-8, from the byte `at` on.
     BadUtf8 {
@@ -118,22 +118,17 @@ impl fmt::Display for Fault<'_> {
     fn fmt<W: fmt::Write>(&self, f: &mut fmt::Formatter<W>) -> fmt::Result {
         match self {
             Fault::Usage => write!(f, "usage: {USAGE}"),
-            Fault::Memory => write!(f, "Memory"),
-            Fault::File { name, fault } => {
-                let reason = fault.name();
-                write!(f, "{name}: {reason}: {fault}")
-            }
+            Fault::Memory => f.write_str("Memory"),
+            Fault::File { name, fault } => write_file_fault(f, name, *fault),
             Fault::Decode { name, fault, found } => write_decode_fault(f, name, *fault, *found),
             Fault::Valid { name, fault } => write_valid_fault(f, name, *fault),
-            Fault::Link { fault, files } => write_link_fault(f, *fault, files.as_slice()),
-            Fault::BadUtf8 { name, at } => {
-                write!(f, "{name}: BadUtf8 at {at}: a script is UTF-8 text")
-            }
+            Fault::Link { fault, names } => write_link_fault(f, *fault, names.as_slice()),
+            Fault::BadUtf8 { name, at } => write_bad_utf8(f, name, *at),
             Fault::Script(bad) => write_bad_line(f, bad),
             Fault::Set { misuse, size } => write_set_fault(f, *misuse, *size),
             Fault::Begin { misuse, drive } => write_begin_fault(f, *misuse, *drive),
             Fault::Limit { limit, drive } => write_limit(f, *limit, *drive),
-            Fault::Output => write!(f, "standard output: Write: it cannot be written"),
+            Fault::Output => f.write_str("standard output: Write: it cannot be written"),
         }
     }
 }

@@ -1,8 +1,28 @@
 //! The lines of faults in one file.
 
+use crate::files::FileFault;
 use cm_binary::{DecodeFault, DecodeReason};
 use cm_validate::{ValidFault, ValidReason};
 use std::fmt;
+
+/// Writes why a file cannot be read.
+pub fn write_file_fault<W: fmt::Write>(
+    f: &mut fmt::Formatter<W>,
+    name: &str,
+    fault: FileFault,
+) -> fmt::Result {
+    let reason_name = fault.name();
+    write!(f, "{name}: {reason_name}: {fault}")
+}
+
+/// Writes from which byte on a script is not UTF-8.
+pub fn write_bad_utf8<W: fmt::Write>(
+    f: &mut fmt::Formatter<W>,
+    name: &str,
+    at: usize,
+) -> fmt::Result {
+    write!(f, "{name}: BadUtf8 at {at}: a script is UTF-8 text")
+}
 
 /// Writes the fault of a file that is no component file: the reason, the place, what the reason
 /// says, and the byte that stands there where the byte itself is at fault.
@@ -20,11 +40,22 @@ pub fn write_decode_fault<W: fmt::Write>(
         _ => write!(f, "{reason}")?,
     }
     match found {
-        Some(byte) if is_of_a_byte(reason) => write!(f, ": found the byte {byte:02X}")?,
-        _ => {}
+        Some(byte) if is_of_a_byte(reason) => write_found(f, reason, byte),
+        _ => Ok(()),
     }
+}
+
+/// Writes the byte that is at fault, and what was expected where a file begins.
+fn write_found<W: fmt::Write>(
+    f: &mut fmt::Formatter<W>,
+    reason: DecodeReason,
+    byte: u8,
+) -> fmt::Result {
+    write!(f, ": found the byte {byte:02X}")?;
     match reason {
-        DecodeReason::BadPreamble => write!(f, ", expected 00 61 73 6D 0D 00 01 00 to begin with"),
+        DecodeReason::BadPreamble => f.write_str(
+            ", expected 00 61 73 6D 0D 00 01 00 to begin with",
+        ),
         _ => Ok(()),
     }
 }

@@ -18,7 +18,7 @@ pub use commands::{LIMIT, tool};
 pub use events::write_event;
 pub use fault::{Fault, report};
 pub use files::{FileFault, Files};
-pub use link_help::FileNames;
+pub use link_help::SignatureNames;
 pub use loading::{load, load_script, load_set};
 pub use outcome::Outcome;
 pub use plan::write_plan;

@@ -8,28 +8,28 @@ use std::fmt;
 
 /// A file, and the names of what its component imports and exports, in order.
 #[derive(Drop)]
-pub struct FileNames<'a> {
+pub struct SignatureNames<'a> {
     file: &'a str,
     imports: Vec<String>,
     exports: Vec<String>,
 }
 
-impl<'a> FileNames<'a> {
+impl<'a> SignatureNames<'a> {
     /// The names of a file's component.
     pub fn new(
         alloc: Global,
         file: &'a str,
         component: &Checked,
-    ) -> Result<FileNames<'a>, AllocError> {
+    ) -> Result<SignatureNames<'a>, AllocError> {
         let signature = component.signature();
-        Ok(FileNames {
+        Ok(SignatureNames {
             file,
             imports: names_of(alloc, signature.imports.as_slice())?,
             exports: names_of(alloc, signature.exports.as_slice())?,
         })
     }
 
-    fn exports(&self, name: &str) -> bool {
+    fn has_export(&self, name: &str) -> bool {
         self.exports.iter().any(|export| export.as_str() == name)
     }
 }
@@ -47,7 +47,7 @@ fn names_of(alloc: Global, items: &[SignatureItem]) -> Result<Vec<String>, Alloc
 pub fn write_link_fault<W: fmt::Write>(
     f: &mut fmt::Formatter<W>,
     fault: LinkFault,
-    files: &[FileNames],
+    files: &[SignatureNames],
 ) -> fmt::Result {
     let LinkFault {
         component,
@@ -59,29 +59,51 @@ pub fn write_link_fault<W: fmt::Write>(
         f,
         "{reason_name} in component {component}, import {import}: "
     )?;
-    if matches!(reason, LinkReason::Empty | LinkReason::TooMany) {
-        let found = files.len();
-        return write!(f, "{meaning}, found {found}");
+    match reason {
+        LinkReason::Empty | LinkReason::TooMany => write_count(f, meaning, files.len()),
+        LinkReason::Memory => f.write_str(meaning),
+        _ => match files.get(component) {
+            Some(importer) => write_import(f, importer, import, meaning, files),
+            None => f.write_str(meaning),
+        },
     }
-    let importer = files.get(component);
-    match importer.and_then(|i| i.imports.get(import).map(|name| (i.file, name.as_str()))) {
-        Some((file, name)) => {
-            write!(f, "{file} imports {name:?}, {meaning}")?;
-            write_exporters(f, files, name)
+}
+
+fn write_count<W: fmt::Write>(
+    f: &mut fmt::Formatter<W>,
+    meaning: &str,
+    count: usize,
+) -> fmt::Result {
+    write!(f, "{meaning}, found {count}")
+}
+
+/// Writes a file with its import of this number, what is wrong, and the files that export the name.
+fn write_import<W: fmt::Write>(
+    f: &mut fmt::Formatter<W>,
+    importer: &SignatureNames,
+    import: usize,
+    meaning: &str,
+    files: &[SignatureNames],
+) -> fmt::Result {
+    let file = importer.file;
+    match importer.imports.get(import) {
+        Some(name) => {
+            write!(f, "{file} imports \"{name}\", {meaning}")?;
+            write_exporters(f, files, name.as_str())
         }
-        None => write!(f, "{meaning}"),
+        None => f.write_str(meaning),
     }
 }
 
 /// Writes the files that export a name, with the places of their components.
 fn write_exporters<W: fmt::Write>(
     f: &mut fmt::Formatter<W>,
-    files: &[FileNames],
+    files: &[SignatureNames],
     name: &str,
 ) -> fmt::Result {
     let mut before = "; exported by ";
     for (component, names) in files.iter().enumerate() {
-        if names.exports(name) {
+        if names.has_export(name) {
             let file = names.file;
             write!(f, "{before}{file} (component {component})")?;
             before = ", ";
@@ -100,11 +122,14 @@ fn link_reason_words(reason: LinkReason) -> (&'static str, &'static str) {
             "TwoProviders",
             "which more than one component before it exports",
         ),
-        LinkReason::MissingExport => ("MissingExport", "and what is exported lacks an item of it"),
-        LinkReason::DifferentType => ("DifferentType", "which is exported with another type"),
+        LinkReason::MissingExport => (
+            "MissingExport",
+            "and the exported instance lacks an item of it",
+        ),
+        LinkReason::DifferentType => ("DifferentType", "and its type is not that of the export"),
         LinkReason::DifferentResource => (
             "DifferentResource",
-            "which is exported with another resource",
+            "and a resource of it is not that of the export",
         ),
         LinkReason::Memory => ("Memory", "there was no memory"),
     }

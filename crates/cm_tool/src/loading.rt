@@ -2,13 +2,13 @@
 
 use crate::fault::Fault;
 use crate::files::Files;
-use crate::link_help::FileNames;
+use crate::link_help::SignatureNames;
 use crate::script_help::BadLine;
 use cm_binary::decode;
 use cm_match::{Linked, link};
 use cm_script::Script;
 use cm_validate::{Checked, validate};
-use std::alloc::Global;
+use std::alloc::{AllocError, Global};
 
 /// The bytes of a file.
 fn read_file<'a, F: Files>(
@@ -42,26 +42,49 @@ pub fn load<'a, F: Files>(
     }
 }
 
+/// The components of some files, with their names.
+#[derive(Drop)]
+struct LoadedFiles<'a> {
+    components: Vec<Checked>,
+    names: Vec<SignatureNames<'a>>,
+}
+
+impl<'a> LoadedFiles<'a> {
+    fn with_capacity(alloc: Global, count: usize) -> Result<LoadedFiles<'a>, AllocError> {
+        Ok(LoadedFiles {
+            components: Vec::with_capacity(alloc, count)?,
+            names: Vec::with_capacity(alloc, count)?,
+        })
+    }
+
+    fn add(&mut self, alloc: Global, file: &'a str, component: Checked) -> Result<(), AllocError> {
+        self.names
+            .push(SignatureNames::new(alloc, file, &component)?)?;
+        self.components.push(component)?;
+        Ok(())
+    }
+
+    fn link(self, alloc: Global) -> Result<Linked, Fault<'a>> {
+        let LoadedFiles { components, names } = self;
+        match link(alloc, components) {
+            Ok(linked) => Ok(linked),
+            Err(fault) => Err(Fault::Link { fault, names }),
+        }
+    }
+}
+
 /// The linked set of some files, which are loaded in order.
 pub fn load_set<'a, F: Files>(
     alloc: Global,
     files: &mut F,
     names: &[&'a str],
 ) -> Result<Linked, Fault<'a>> {
-    let mut components = Vec::with_capacity(alloc, names.len())?;
-    let mut names_of_files = Vec::with_capacity(alloc, names.len())?;
+    let mut loaded = LoadedFiles::with_capacity(alloc, names.len())?;
     for name in names {
-        let checked = load(alloc, files, name)?;
-        names_of_files.push(FileNames::new(alloc, name, &checked)?)?;
-        components.push(checked)?;
+        let component = load(alloc, files, name)?;
+        loaded.add(alloc, name, component)?;
     }
-    match link(alloc, components) {
-        Ok(linked) => Ok(linked),
-        Err(fault) => Err(Fault::Link {
-            fault,
-            files: names_of_files,
-        }),
-    }
+    loaded.link(alloc)
 }
 
 /// The script of a file, for so many components.

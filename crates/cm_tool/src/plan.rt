@@ -16,7 +16,7 @@ pub fn write_plan<O: Write>(out: &mut O, linked: &Linked) -> io::Result<()> {
         } = line;
         writeln!(out, "{importer} {import} <- {provider} {export}")?;
     }
-    Ok(())
+    out.flush()
 }
 
 /// The name of the import of a plan's line. A plan names imports that are there.

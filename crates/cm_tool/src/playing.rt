@@ -4,7 +4,7 @@ use crate::events::write_event;
 use crate::fault::{Fault, report};
 use crate::outcome::Outcome;
 use crate::play_help::Drive;
-use cm_machine::{Event, Guest, Player, Set};
+use cm_machine::{Event, Guest, Misuse, Player, Set};
 use cm_script::{Script, ScriptGuest};
 use std::alloc::Global;
 use std::io;
@@ -39,19 +39,34 @@ pub fn play<O: Write, E: Write>(
             root,
             components,
         };
-        let ending = match Player::drive(alloc, set, &mut seats, root, limit) {
-            Ok(events) => {
-                print_events(events.as_slice(), out)?;
-                ending_of(events.last(), limit, drive)
-            }
-            Err(misuse) => Err(Fault::Begin { misuse, drive }),
-        };
-        worst = worst.max(outcome_of(ending, err));
+        let played = Player::drive(alloc, set, &mut seats, root, limit);
+        worst = worst.max(tell_of_drive(played, drive, limit, out, err)?);
     }
     Ok(worst)
 }
 
-/// Prints the events of a drive.
+/// Prints the events of a drive and answers its outcome. Where it was refused or reached its limit, a
+/// line on standard error says so.
+fn tell_of_drive<O: Write, E: Write>(
+    played: Result<Vec<Event>, Misuse>,
+    drive: Drive,
+    limit: u64,
+    out: &mut O,
+    err: &mut E,
+) -> io::Result<Outcome> {
+    match played {
+        Ok(events) => {
+            print_events(events.as_slice(), out)?;
+            Ok(match events.last() {
+                Some(Event::Ended) => Outcome::Done,
+                Some(Event::Trapped(_)) => Outcome::Trapped,
+                _ => refuse(&Fault::Limit { limit, drive }, err),
+            })
+        }
+        Err(misuse) => Ok(refuse(&Fault::Begin { misuse, drive }, err)),
+    }
+}
+
 fn print_events<O: Write>(events: &[Event], out: &mut O) -> io::Result<()> {
     for event in events {
         write_event(out, event)?;
@@ -59,23 +74,8 @@ fn print_events<O: Write>(events: &[Event], out: &mut O) -> io::Result<()> {
     out.flush()
 }
 
-/// How a drive ended whose last event is this one. One that neither ended nor trapped has reached
-/// its limit.
-fn ending_of(last: Option<&Event>, limit: u64, drive: Drive) -> Result<Outcome, Fault<'static>> {
-    match last {
-        Some(Event::Ended) => Ok(Outcome::Done),
-        Some(Event::Trapped(_)) => Ok(Outcome::Trapped),
-        _ => Err(Fault::Limit { limit, drive }),
-    }
-}
-
-/// The outcome of a drive, whose fault is reported.
-fn outcome_of<E: Write>(ending: Result<Outcome, Fault<'static>>, err: &mut E) -> Outcome {
-    match ending {
-        Ok(outcome) => outcome,
-        Err(fault) => {
-            report(err, &fault);
-            Outcome::Refused
-        }
-    }
+/// Reports the fault of a drive.
+fn refuse<E: Write>(fault: &Fault, err: &mut E) -> Outcome {
+    report(err, fault);
+    Outcome::Refused
 }

@@ -5,7 +5,7 @@ use std::alloc::{AllocError, Global};
 use std::fmt;
 
 /// The most characters of a line that are shown.
-const MOST_SHOWN: usize = 60;
+const MAX_SHOWN: usize = 60;
 
 /// A line of a script that is at fault.
 #[derive(Drop)]
@@ -36,7 +36,7 @@ impl BadLine {
 
 /// What is shown of a line.
 fn beginning_of(line: &str) -> &str {
-    match line.char_indices().nth(MOST_SHOWN) {
+    match line.char_indices().nth(MAX_SHOWN) {
         Some((at, _)) => line.get(..at).unwrap_or(line),
         None => line,
     }
