@@ -14,12 +14,24 @@ pub fn read_bytes(alloc: Global, word: &str) -> Result<Vec<u8>, RowFault> {
     }
     for part in word.split('.') {
         let (times, digits) = split_repeat(part);
-        let part = decode(alloc, digits)?;
-        for _ in 0..times {
-            bytes.extend_from_slice(&part)?;
-        }
+        add_repeated(&mut bytes, alloc, &decode(alloc, digits)?, times)?;
     }
     Ok(bytes)
+}
+
+fn add_repeated(
+    bytes: &mut Vec<u8>,
+    alloc: Global,
+    part: &[u8],
+    times: u32,
+) -> Result<(), AllocError> {
+    if let [byte] = part {
+        return bytes.extend_from_slice(&Vec::from_elem(alloc, *byte, times as usize)?);
+    }
+    for _ in 0..times {
+        bytes.extend_from_slice(part)?;
+    }
+    Ok(())
 }
 
 fn decode(alloc: Global, digits: &str) -> Result<Vec<u8>, RowFault> {
