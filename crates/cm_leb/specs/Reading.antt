@@ -8,9 +8,9 @@ use Rattle.cm_leb.specs.declared.fault.LebFault.TheVariants.{Truncated, TooLong,
 use Rattle.cm_leb.specs.Numbers.{two_complement, greatest_length}
 
 -- What a function returned, seen by view, is what reading gives.
-abbrev pub Matches : {X Y : Type 0} → (X → Y) → Result X LebFault → Result Y LebFault → Type 0
-Matches view (Ok x) read = read ≡ Ok (view x)
-Matches view (Err e) read = read ≡ Err e
+abbrev pub Finds : {X Y : Type 0} → (X → Y) → Result X LebFault → Result Y LebFault → Type 0
+Finds view (Ok x) read = read ≡ Ok (view x)
+Finds view (Err e) read = read ≡ Err e
 
 -- The next step, where the one before did not fail.
 infixl 10 ◌>>=◌
