@@ -48,8 +48,8 @@ use Rattle.cm_binary.specs.Codes.{export_desc}
 abbrev pub Production : Type 0 → Type 1
 Production A = Grammar DecodeReason A
 
-abbrev pub Contents : Type 0 → Type 1
-Contents A = Whole DecodeReason A
+abbrev pub WholeProduction : Type 0 → Type 1
+WholeProduction A = Whole DecodeReason A
 
 -- ---- numbers, texts and names
 
@@ -82,6 +82,8 @@ extern_name = do
 
 -- ---- section 2: core instances
 
+-- An argument of a core instance: its name, the sort of instances, the index
+-- (`core:instantiatearg`).
 unfoldable pub core_arg : Production ArgTree
 core_arg = do
   name ← text
@@ -89,6 +91,7 @@ core_arg = do
   instance ← index
   done (record { name = name; instance = instance })
 
+-- A core instance made of a module, with arguments (`core:instance`).
 unfoldable pub core_instance : Production CoreInstanceTree
 core_instance = do
   form ← code core_instance_form
@@ -98,6 +101,7 @@ core_instance = do
 
 -- ---- section 6: aliases
 
+-- An alias behind its sort.
 unfoldable pub alias_of : AliasSort → Production AliasTree
 alias_of alias_sorts.Core = do
   sort ← code core_sort
@@ -107,6 +111,7 @@ alias_of alias_sorts.Core = do
   done (trees.core_instance_export sort instance name)
 alias_of alias_sorts.Other = code (λ b. Err (other_alias_target b))
 
+-- An alias (`alias`).
 unfoldable pub alias : Production AliasTree
 alias = do
   sort ← code alias_sort
@@ -114,12 +119,14 @@ alias = do
 
 -- ---- section 7: types
 
+-- A parameter: its label, its type (`labelvaltype`).
 unfoldable pub param : Production LabeledValType
 param = do
   name ← label
   ty ← code val_type
   done (record { label = name; ty = ty })
 
+-- The result behind its form.
 unfoldable pub func_result_of : ResultForm → Production (Option ValType)
 func_result_of result_forms.One = do
   ty ← code val_type
@@ -128,17 +135,20 @@ func_result_of result_forms.Zero = do
   nothing ← fixed (0x00 ∷ []) UnknownCode
   done None
 
+-- The result of a function, or that it has none (`resultlist`).
 unfoldable pub func_result : Production (Option ValType)
 func_result = do
   form ← code result_form
   func_result_of form
 
+-- A function's type behind its code: the parameters, the result (`functype`).
 unfoldable pub func_type : Production FuncTypeTree
 func_type = do
   params ← vector param
   result ← func_result
   done (record { params = params; result = result })
 
+-- A type definition (`deftype`).
 unfoldable pub def_type : Production DefTypeTree
 def_type = do
   form ← code type_form
@@ -158,11 +168,13 @@ unfoldable pub options_of : ℕ → Production (Unit {0})
 options_of zero = done tt
 options_of (suc n) = code (λ b. Err (canon_option b))
 
+-- Canonical options (`opts`).
 unfoldable pub options : Production (Unit {0})
 options = do
   n ← index
   options_of n
 
+-- A canonical definition behind its form and the byte 00.
 unfoldable pub canon_of : CanonForm → Production Canon
 canon_of canon_forms.Lift = do
   func ← index
@@ -174,6 +186,7 @@ canon_of canon_forms.Lower = do
   opts ← options
   done (canons.Lower func)
 
+-- A canonical definition (`canon`).
 unfoldable pub canon : Production Canon
 canon = do
   form ← code canon_form
@@ -182,18 +195,21 @@ canon = do
 
 -- ---- sections 10 and 11: imports and exports
 
+-- What is imported (`externdesc`).
 unfoldable pub extern_desc : Production ExternDesc
 extern_desc = do
   form ← code desc_form
   ty ← index
   done (descs.Func ty)
 
+-- An import: its name, what it is (`import`).
 unfoldable pub import_item : Production ImportTree
 import_item = do
   name ← extern_name
   desc ← extern_desc
   done (record { name = name; desc = desc })
 
+-- An export: its name, the sort, the index, whether a description follows (`export`).
 unfoldable pub export_item : Production ExportTree
 export_item = do
   name ← extern_name
@@ -205,7 +221,7 @@ export_item = do
 -- ---- sections, and the file
 
 -- The contents of a section, where so many more types may stand in the file.
-unfoldable pub contents : ℕ → SectionKind → Contents SectionTree
+unfoldable pub contents : ℕ → SectionKind → WholeProduction SectionTree
 contents room kinds.Custom = join text (λ name. build (trees.custom name) remainder)
 contents room kinds.CoreModule = build trees.core_module (begins_with MODULE_PREAMBLE NotAModule)
 contents room kinds.CoreInstances =
@@ -229,15 +245,15 @@ room_after room (trees.types ts) = room - length ts
 room_after room s = room
 
 -- The sections of a file, in any order.
-unfoldable pub sections : ℕ → Contents (List SectionTree)
+unfoldable pub sections : ℕ → WholeProduction (List SectionTree)
 sections room = to_end section room_after room
 
 -- The preamble, and sections to the end.
-unfoldable pub component : Contents (List SectionTree)
+unfoldable pub component : WholeProduction (List SectionTree)
 component = join (fixed COMPONENT_PREAMBLE BadPreamble) (λ preamble. sections MAX_TYPES)
 
 -- A file, of at most so many bytes.
-unfoldable pub file : Contents (List SectionTree)
+unfoldable pub file : WholeProduction (List SectionTree)
 file = at_most MAX_FILE_BYTES TooLong component
 
 -- The bytes are a spelling of the component with these sections.

@@ -49,6 +49,7 @@ fn read_all_types(
     Ok(types)
 }
 
+/// Reads all of a part as a custom section: a name, and bytes to the end.
 #[tactic(auto, unfolding(crate::specs::File::contents))]
 fn read_custom_section(
     alloc: Global,
@@ -61,6 +62,7 @@ fn read_custom_section(
     Ok(Section::Custom(CustomSection { name, bytes }))
 }
 
+/// Reads all of a part as a core module.
 #[tactic(auto, unfolding(crate::specs::File::contents))]
 fn read_core_module_section(
     alloc: Global,

@@ -29,12 +29,13 @@ limit_fault c =
     else if list_all has_preamble c then None
     else Some NotAModule
 
--- The component of these sections, or why it is none.
+-- The sections where there is no fault.
 abbrev pub component_or_fault : List SectionTree → Option LimitFault
     → Result (List SectionTree) LimitFault
 component_or_fault c None = Ok c
 component_or_fault c (Some fault) = Err fault
 
+-- The component of these sections, or the first limit that they do not keep.
 abbrev pub within_limits : List SectionTree → Result (List SectionTree) LimitFault
 within_limits c = component_or_fault c (limit_fault c)
 

@@ -368,13 +368,13 @@ differ_more c text bytes left d = record {
   expected = d.expected;
   tail = d.tail;
   bytes_are = ap (λ (xs : List ℕ). c ∷ xs) d.bytes_are;
-  text_is = ap (λ (xs : List ℕ). c ∷ xs) d.text_is;
+  literal_is = ap (λ (xs : List ℕ). c ∷ xs) d.literal_is;
   differ = d.differ;
   place = d.place;
 }
 
 pub beginning_more : (c : ℕ) (text bytes : List ℕ) → IsBeginning text bytes → IsBeginning (c ∷ text) (c ∷ bytes)
-beginning_more c text bytes h = record { next = h.next; tail = h.tail; text_is = ap (λ (xs : List ℕ). c ∷ xs) h.text_is }
+beginning_more c text bytes h = record { next = h.next; tail = h.tail; literal_is = ap (λ (xs : List ℕ). c ∷ xs) h.literal_is }
 
 fixed_goes_on : {R : Type 0} (c : ℕ) (text : List ℕ) (reason : R) (e : End R) (b : ℕ) (bytes : List ℕ) → b ≡ c → fixed_reads (c ∷ text) reason e (b ∷ bytes) ≡ fixed_reads text reason e bytes
 fixed_goes_on c text reason e b bytes h = let t = eq-eqb b c h in rw t refl
@@ -401,13 +401,13 @@ faulty_more text reason e c bytes f (inr h) = inr (h.0, differ_more c text bytes
 
 fixed_faulty : {R : Type 0} (text : List ℕ) (reason : R) (e : End R) (bytes : List ℕ) (f : Fault R) → fixed_reads text reason e bytes ≡ Err f → (fixed text reason).Faulty e bytes f
 fixed_faulty [] reason e bytes f h = absurd cc
-fixed_faulty {R} (c ∷ text) reason e [] f h = inl (record { next = c; tail = text; text_is = refl }, sym (err_is (Unit {0} × List ℕ) (want e) f h))
+fixed_faulty {R} (c ∷ text) reason e [] f h = inl (record { next = c; tail = text; literal_is = refl }, sym (err_is (Unit {0} × List ℕ) (want e) f h))
 fixed_faulty {R} (c ∷ text) reason e (b ∷ bytes) f h =
     elim (cases_eq b c) [
       | inl q ↦ subst (λ (x : ℕ). (fixed (c ∷ text) reason).Faulty e (x ∷ bytes) f) (sym q) (faulty_more text reason e c bytes f (fixed_faulty text reason e bytes f (sym (fixed_goes_on c text reason e b bytes q) ∙ h)))
       | inr n ↦
           let p = err_is (Unit {0} × List ℕ) (flaw (suc (length bytes)) reason) f (sym (fixed_stops c text reason e b bytes n) ∙ h) in
-          inr (suc (length bytes), record { same = []; found = b; rest = bytes; expected = c; tail = text; bytes_are = refl; text_is = refl; differ = n; place = refl }, sym p)
+          inr (suc (length bytes), record { same = []; found = b; rest = bytes; expected = c; tail = text; bytes_are = refl; literal_is = refl; differ = n; place = refl }, sym p)
     ]
 
 fixed_short : {R : Type 0} (bytes : List ℕ) (next : ℕ) (tail : List ℕ) (reason : R) (e : End R) → fixed_reads (bytes ++ next ∷ tail) reason e bytes ≡ Err (want e)
@@ -426,9 +426,9 @@ fixed_within text reason e bytes f (inl h) = rw (h.1) (omega arith)
 fixed_within text reason e bytes f (inr h) = rw (h.2) (differ_within text bytes h.0 h.1)
 
 fixed_faulty_again : {R : Type 0} (text : List ℕ) (reason : R) (e : End R) (bytes : List ℕ) (f : Fault R) → (fixed text reason).Faulty e bytes f → fixed_reads text reason e bytes ≡ Err f
-fixed_faulty_again text reason e bytes f (inl h) = rw (h.0.text_is, h.1) (fixed_short bytes h.0.next h.0.tail reason e)
+fixed_faulty_again text reason e bytes f (inl h) = rw (h.0.literal_is, h.1) (fixed_short bytes h.0.next h.0.tail reason e)
 fixed_faulty_again text reason e bytes f (inr h) =
-    rw (h.2, h.1.place, h.1.text_is, h.1.bytes_are) (fixed_differ h.1.same h.1.found h.1.rest h.1.expected h.1.tail reason e h.1.differ)
+    rw (h.2, h.1.place, h.1.literal_is, h.1.bytes_are) (fixed_differ h.1.same h.1.found h.1.rest h.1.expected h.1.tail reason e h.1.differ)
 
 fixed_stays : {R : Type 0} (text : List ℕ) (reason r : R) (bytes : List ℕ) (f : Fault R) → (fixed text reason).Faulty (end.Cut r) bytes f → Stays (fixed_reads text reason) r bytes f
 fixed_stays text reason r bytes f (inl h) = inl h.1
@@ -438,7 +438,7 @@ fixed_stays {R} text reason r bytes f (inr h) =
     let parts : bytes ++ more ≡ d.same ++ d.found ∷ (d.rest ++ more) = ap (λ (b : List ℕ). b ++ more) d.bytes_are ∙ append_assoc d.same (d.found ∷ d.rest) more in
     let one = fixed_differ d.same d.found (d.rest ++ more) d.expected d.tail reason e d.differ in
     let place : flaw (suc (length (d.rest ++ more))) reason ≡ later (flaw h.0 reason) (length more) = flaw-later h.0 reason (length more) (suc (length (d.rest ++ more))) (omega (arith, d.place, length-append d.rest more)) in
-    rw (h.2, parts, d.text_is) (one ∙ ap (λ (g : Fault R). err_of (Unit {0} × List ℕ) g) place))
+    rw (h.2, parts, d.literal_is) (one ∙ ap (λ (g : Fault R). err_of (Unit {0} × List ℕ) g) place))
 
 pub fixed_lawful : {R : Type 0} (text : List ℕ) (reason : R) → Lawful (fixed text reason)
 fixed_lawful text reason = record {

@@ -47,13 +47,13 @@ begun_more text reason e bytes c rest f (inr h) = inr (h.0, differ_more c text r
 
 begun_err : {R : Type 0} (text : List ℕ) (reason : R) (e : End R) (bytes rest : List ℕ) (f : Fault R) → begins_with_reads text reason e bytes rest ≡ Err f → BegunFaulty text reason e bytes rest f
 begun_err [] reason e bytes rest f h = absurd cc
-begun_err {R} (c ∷ text) reason e bytes [] f h = inl (record { next = c; tail = text; text_is = refl }, sym (err_is (List ℕ) (too_short reason e bytes) f h))
+begun_err {R} (c ∷ text) reason e bytes [] f h = inl (record { next = c; tail = text; literal_is = refl }, sym (err_is (List ℕ) (too_short reason e bytes) f h))
 begun_err {R} (c ∷ text) reason e bytes (b ∷ rest) f h =
     elim (cases_eq b c) [
       | inl q ↦ subst (λ (x : ℕ). BegunFaulty (c ∷ text) reason e bytes (x ∷ rest) f) (sym q) (begun_more text reason e bytes c rest f (begun_err text reason e bytes rest f (sym (begun_goes_on c text reason e bytes b rest q) ∙ h)))
       | inr n ↦
           let p = err_is (List ℕ) (flaw (length bytes) reason) f (sym (begun_stops c text reason e bytes b rest n) ∙ h) in
-          inr (suc (length rest), record { same = []; found = b; rest = rest; expected = c; tail = text; bytes_are = refl; text_is = refl; differ = n; place = refl }, sym p)
+          inr (suc (length rest), record { same = []; found = b; rest = rest; expected = c; tail = text; bytes_are = refl; literal_is = refl; differ = n; place = refl }, sym p)
     ]
 
 begun_short : {R : Type 0} (rest : List ℕ) (next : ℕ) (tail : List ℕ) (reason : R) (e : End R) (bytes : List ℕ) → begins_with_reads (rest ++ next ∷ tail) reason e bytes rest ≡ Err (too_short reason e bytes)
@@ -65,8 +65,8 @@ begun_differ [] found rest expected tail reason e bytes n = begun_stops expected
 begun_differ (b ∷ same) found rest expected tail reason e bytes n = begun_goes_on b (same ++ expected ∷ tail) reason e bytes b (same ++ found ∷ rest) refl ∙ begun_differ same found rest expected tail reason e bytes n
 
 begun_faulty_again : {R : Type 0} (text : List ℕ) (reason : R) (e : End R) (bytes rest : List ℕ) (f : Fault R) → BegunFaulty text reason e bytes rest f → begins_with_reads text reason e bytes rest ≡ Err f
-begun_faulty_again text reason e bytes rest f (inl h) = rw (h.0.text_is, h.1) (begun_short rest h.0.next h.0.tail reason e bytes)
-begun_faulty_again text reason e bytes rest f (inr h) = rw (h.2, h.1.text_is, h.1.bytes_are) (begun_differ h.1.same h.1.found h.1.rest h.1.expected h.1.tail reason e bytes h.1.differ)
+begun_faulty_again text reason e bytes rest f (inl h) = rw (h.0.literal_is, h.1) (begun_short rest h.0.next h.0.tail reason e bytes)
+begun_faulty_again text reason e bytes rest f (inr h) = rw (h.2, h.1.literal_is, h.1.bytes_are) (begun_differ h.1.same h.1.found h.1.rest h.1.expected h.1.tail reason e bytes h.1.differ)
 
 too_short_within : {R : Type 0} (reason : R) (e : End R) (bytes : List ℕ) (f : Fault R) → f ≡ too_short reason e bytes → f.left ≤ length bytes
 too_short_within reason (end.Whole r) bytes f h = rw h (omega arith)
@@ -83,7 +83,7 @@ begun_stays {R} text reason r bytes f (inr h) =
     inr (λ e more.
     let parts : bytes ++ more ≡ d.same ++ d.found ∷ (d.rest ++ more) = ap (λ (b : List ℕ). b ++ more) d.bytes_are ∙ append_assoc d.same (d.found ∷ d.rest) more in
     let one = begun_differ d.same d.found (d.rest ++ more) d.expected d.tail reason e (bytes ++ more) d.differ in
-    let read : begins_with_reads text reason e (bytes ++ more) (bytes ++ more) ≡ Err (flaw (length (bytes ++ more)) reason) = ap (λ (b : List ℕ). begins_with_reads text reason e (bytes ++ more) b) parts ∙ ap (λ (t : List ℕ). begins_with_reads t reason e (bytes ++ more) (d.same ++ d.found ∷ (d.rest ++ more))) d.text_is ∙ one in
+    let read : begins_with_reads text reason e (bytes ++ more) (bytes ++ more) ≡ Err (flaw (length (bytes ++ more)) reason) = ap (λ (b : List ℕ). begins_with_reads text reason e (bytes ++ more) b) parts ∙ ap (λ (t : List ℕ). begins_with_reads t reason e (bytes ++ more) (d.same ++ d.found ∷ (d.rest ++ more))) d.literal_is ∙ one in
     rw (h.2) (read ∙ ap (λ (g : Fault R). err_of (List ℕ) g) (flaw-later (length bytes) reason (length more) (length (bytes ++ more)) (length-append bytes more))))
 
 pub begins_with_lawful : {R : Type 0} (text : List ℕ) (reason : R) → LawfulWhole (begins_with text reason)

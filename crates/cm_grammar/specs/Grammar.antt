@@ -13,9 +13,9 @@ use Rattle.cm_grammar.specs.declared.fault.Fault.{Fault}
 use Rattle.cm_grammar.specs.declared.fault.End.{End}
 use Rattle.cm_grammar.specs.Faults.{flaw, want, and_then}
 
--- Values that stand at the front of bytes. `Spells x bytes`: the bytes are a spelling of x. `Faulty
--- e bytes f`: the bytes, which end at e, do not begin with a spelling, and f is their first fault.
--- `reads` computes both.
+-- Values that stand at the front of bytes. `Spells x bytes`: the bytes are a spelling of x.
+-- `Faulty e bytes f`: the bytes, which end at e, do not begin with a spelling, and f is their first
+-- fault. `reads` computes both.
 pub record Grammar (R A : Type 0) : Type 1 where
   pub Spells : A → List ℕ → Type 0
   pub Faulty : End R → List ℕ → Fault R → Type 0
@@ -50,7 +50,7 @@ fail reason = record {
   reads = λ e bytes. Err (flaw (length bytes) reason);
 }
 
--- A byte of a table, which says what the byte stands for, or what is wrong with it.
+-- What the answer of a table comes to, with the bytes behind the code.
 abbrev pub code_answer : {R K : Type 0} → List ℕ → Result K R → Result (K × List ℕ) (Fault R)
 code_answer rest (Ok k) = Ok (k, rest)
 code_answer rest (Err reason) = Err (flaw (suc (length rest)) reason)
@@ -60,6 +60,7 @@ abbrev pub code_reads : {R K : Type 0} → (ℕ → Result K R) → End R → Li
 code_reads table e [] = Err (want e)
 code_reads table e (b ∷ rest) = code_answer rest (table b)
 
+-- A byte of a table, which says what the byte stands for, or what is wrong with it.
 abbrev pub code : {R K : Type 0} → (ℕ → Result K R) → Grammar R K
 code table = record {
   Spells = λ k bytes. (b : ℕ) × (bytes ≡ b ∷ []) × (table b ≡ Ok k);
@@ -69,12 +70,13 @@ code table = record {
   reads = code_reads table;
 }
 
--- What the first byte chooses, that byte included.
+-- Reading by the first byte.
 abbrev pub ahead_reads : {R A : Type 0} → (ℕ → Grammar R A) → End R → List ℕ
     → Result (A × List ℕ) (Fault R)
 ahead_reads choice e [] = Err (want e)
 ahead_reads choice e (b ∷ rest) = (choice b).reads e (b ∷ rest)
 
+-- What the first byte chooses, that byte included.
 abbrev pub ahead : {R A : Type 0} → (ℕ → Grammar R A) → Grammar R A
 ahead choice = record {
   Spells = λ x bytes. (b : ℕ) × (rest : List ℕ) × (bytes ≡ b ∷ rest) × (choice b).Spells x bytes;
@@ -133,38 +135,39 @@ check test reason g = record {
       (λ x. if test x.0 then Ok x else Err (flaw (length bytes) reason));
 }
 
--- The bytes and the text first differ where so many bytes of the bytes are left.
-pub record DifferAt (text bytes : List ℕ) (left : ℕ) : Type 0 where
+-- The bytes and the literal first differ where so many bytes of the bytes are left.
+pub record DifferAt (literal bytes : List ℕ) (left : ℕ) : Type 0 where
   pub same : List ℕ
   pub found : ℕ
   pub rest : List ℕ
   pub expected : ℕ
   pub tail : List ℕ
   pub bytes_are : bytes ≡ same ++ found ∷ rest
-  pub text_is : text ≡ same ++ expected ∷ tail
+  pub literal_is : literal ≡ same ++ expected ∷ tail
   pub differ : found ≢ expected
   pub place : left ≡ suc (length rest)
 
--- The bytes are a beginning of the text, and not all of it.
-pub record IsBeginning (text bytes : List ℕ) : Type 0 where
+-- The bytes are a beginning of the literal, and not all of it.
+pub record IsBeginning (literal bytes : List ℕ) : Type 0 where
   pub next : ℕ
   pub tail : List ℕ
-  pub text_is : text ≡ bytes ++ next ∷ tail
+  pub literal_is : literal ≡ bytes ++ next ∷ tail
 
--- This text. A fault is at the first byte that differs.
+-- Reading a literal byte after byte.
 abbrev pub fixed_reads : {R : Type 0} → List ℕ → R → End R → List ℕ
     → Result (Unit {0} × List ℕ) (Fault R)
 fixed_reads [] reason e bytes = Ok (tt, bytes)
-fixed_reads (c ∷ text) reason e [] = Err (want e)
-fixed_reads (c ∷ text) reason e (b ∷ bytes) =
-    if b == c then fixed_reads text reason e bytes else Err (flaw (suc (length bytes)) reason)
+fixed_reads (c ∷ literal) reason e [] = Err (want e)
+fixed_reads (c ∷ literal) reason e (b ∷ bytes) =
+    if b == c then fixed_reads literal reason e bytes else Err (flaw (suc (length bytes)) reason)
 
+-- This literal: these bytes. A fault is at the first byte that differs.
 abbrev pub fixed : {R : Type 0} → List ℕ → R → Grammar R (Unit {0})
-fixed text reason = record {
-  Spells = λ x bytes. bytes ≡ text;
-  Faulty = λ e bytes f. (IsBeginning text bytes × (f ≡ want e))
-      ⊎ ((left : ℕ) × DifferAt text bytes left × (f ≡ flaw left reason));
-  reads = fixed_reads text reason;
+fixed literal reason = record {
+  Spells = λ x bytes. bytes ≡ literal;
+  Faulty = λ e bytes f. (IsBeginning literal bytes × (f ≡ want e))
+      ⊎ ((left : ℕ) × DifferAt literal bytes left × (f ≡ flaw left reason));
+  reads = fixed_reads literal reason;
 }
 
 -- So many things one after the other, each of the grammar that the state says, which goes on to the

@@ -30,11 +30,12 @@ remainder = record {
   reads = λ e bytes. Ok bytes;
 }
 
--- One thing and no byte after it: the first byte after it is a fault.
+-- What a thing with the bytes behind it comes to where none may be there.
 abbrev pub exactly_ends : {R A : Type 0} → R → A × List ℕ → Result A (Fault R)
 exactly_ends surplus (x, []) = Ok x
 exactly_ends surplus (x, b ∷ rest) = Err (flaw (suc (length rest)) surplus)
 
+-- One thing and no byte after it: the first byte after it is a fault.
 abbrev pub exactly : {R A : Type 0} → R → Grammar R A → Whole R A
 exactly surplus g = record {
   Spells = g.Spells;
@@ -55,26 +56,28 @@ join g next = record {
   reads = λ e bytes. and_then (g.reads e bytes) (λ x. (next x.0).reads e x.1);
 }
 
--- Bytes that begin with the text. A fault is at their first byte: where a byte differs, and where
--- the bytes are only a beginning of the text and no more were to come. Where the input cuts them a
--- byte is wanted at its end.
+-- The fault of bytes that are only a beginning of a literal: at their first byte where no more were
+-- to come; where the input cuts them a byte is wanted at its end.
 abbrev pub too_short : {R : Type 0} → R → End R → List ℕ → Fault R
 too_short reason (end.Whole r) bytes = flaw (length bytes) reason
 too_short reason (end.Cut r) bytes = flaw 0 r
 
+-- Comparing a literal with the bytes, byte after byte.
 abbrev pub begins_with_reads : {R : Type 0} → List ℕ → R → End R → List ℕ → List ℕ
     → Result (List ℕ) (Fault R)
 begins_with_reads [] reason e bytes rest = Ok bytes
-begins_with_reads (c ∷ text) reason e bytes [] = Err (too_short reason e bytes)
-begins_with_reads (c ∷ text) reason e bytes (b ∷ rest) = if nat_eq b c
-    then begins_with_reads text reason e bytes rest else Err (flaw (length bytes) reason)
+begins_with_reads (c ∷ literal) reason e bytes [] = Err (too_short reason e bytes)
+begins_with_reads (c ∷ literal) reason e bytes (b ∷ rest) = if nat_eq b c
+    then begins_with_reads literal reason e bytes rest else Err (flaw (length bytes) reason)
 
+-- Bytes that begin with the literal. A fault is at their first byte: where a byte differs, and
+-- where the bytes are too short.
 abbrev pub begins_with : {R : Type 0} → List ℕ → R → Whole R (List ℕ)
-begins_with text reason = record {
-  Spells = λ x bytes. (x ≡ bytes) × ((rest : List ℕ) × (bytes ≡ text ++ rest));
-  Faulty = λ e bytes f. (IsBeginning text bytes × (f ≡ too_short reason e bytes))
-      ⊎ ((left : ℕ) × DifferAt text bytes left × (f ≡ flaw (length bytes) reason));
-  reads = λ e bytes. begins_with_reads text reason e bytes bytes;
+begins_with literal reason = record {
+  Spells = λ x bytes. (x ≡ bytes) × ((rest : List ℕ) × (bytes ≡ literal ++ rest));
+  Faulty = λ e bytes f. (IsBeginning literal bytes × (f ≡ too_short reason e bytes))
+      ⊎ ((left : ℕ) × DifferAt literal bytes left × (f ≡ flaw (length bytes) reason));
+  reads = λ e bytes. begins_with_reads literal reason e bytes bytes;
 }
 
 -- The bytes are spellings of these things, one after the other, each of the grammar that the state
@@ -109,16 +112,18 @@ to_end g next s = record {
   reads = λ e bytes. each_reads g next (length bytes) s e bytes;
 }
 
--- A part of so many bytes, which w spells to its end. Where the bytes end before the part does, a
--- fault inside comes first, and else a byte is wanted at their end.
+-- What the reading of a whole part comes to, with the bytes behind it.
 abbrev pub inside : {R A : Type 0} → List ℕ → Result A (Fault R) → Result (A × List ℕ) (Fault R)
 inside rest (Ok x) = Ok (x, rest)
 inside rest (Err f) = Err (later f (length rest))
 
+-- What the reading of a part that the bytes cut short comes to.
 abbrev pub cut_short : {R A : Type 0} → End R → Result A (Fault R) → Result (A × List ℕ) (Fault R)
 cut_short e (Ok x) = Err (want e)
 cut_short e (Err f) = Err f
 
+-- A part of so many bytes, which w spells to its end. Where the bytes end before the part does, a
+-- fault inside comes first, and else a byte is wanted at their end.
 abbrev pub of_size : {R A : Type 0} → R → ℕ → Whole R A → Grammar R A
 of_size mismatch n w = record {
   Spells = λ x bytes. (length bytes ≡ n) × w.Spells x bytes;
@@ -132,16 +137,18 @@ of_size mismatch n w = record {
       else cut_short e (w.reads e bytes);
 }
 
--- All of the bytes, where they are at most so many. Of more bytes only so many are looked at, and a
--- byte is wanted behind them.
+-- What the reading of as many bytes as the limit allows comes to where more stand behind them.
 abbrev pub too_many : {R A : Type 0} → R → Result A (Fault R) → Result A (Fault R)
 too_many reason (Ok x) = Err (flaw 0 reason)
 too_many reason (Err f) = Err f
 
+-- A fault with so many bytes more behind it.
 abbrev pub and_behind : {R A : Type 0} → ℕ → Result A (Fault R) → Result A (Fault R)
 and_behind more (Ok x) = Ok x
 and_behind more (Err f) = Err (later f more)
 
+-- All of the bytes, where they are at most so many. Of more bytes only so many are looked at, and a
+-- byte is wanted behind them.
 abbrev pub at_most : {R A : Type 0} → ℕ → R → Whole R A → Whole R A
 at_most limit reason w = record {
   Spells = λ x bytes. (length bytes ≤ limit) × w.Spells x bytes;

@@ -108,50 +108,50 @@ impl<'a, R: Copy> Cursor<'a, R> {
         }
     }
 
-    /// Reads this text. A fault of the reason is at the first byte that differs.
-    pub fn fixed(&mut self, text: &[u8], reason: R) -> Result<(), ReadError<R>>
-        ensures read { Reads (fixed text.now reason) (λ x. x) self.old self.new result }
+    /// Reads this literal. A fault of the reason is at the first byte that differs.
+    pub fn fixed(&mut self, literal: &[u8], reason: R) -> Result<(), ReadError<R>>
+        ensures read { Reads (fixed literal.now reason) (λ x. x) self.old self.new result }
         ensures end { self.new.end ≡ self.old.end }
     {
-        match text {
+        match literal {
             [] => Ok(()),
-            [expected, text @ ..] => match self.rest {
+            [expected, literal @ ..] => match self.rest {
                 [] => Err(self.want()),
                 [byte, rest @ ..] => {
                     if byte != expected {
                         return Err(self.fault(reason));
                     }
                     self.rest = rest;
-                    self.fixed(text, reason)
+                    self.fixed(literal, reason)
                 }
             },
         }
     }
 
-    /// All that is left, which begins with this text. A fault of the reason is at its first byte:
-    /// where a byte differs, and where all that was to come is only a beginning of the text. Where
-    /// the input ends before the text does, a byte is wanted there.
-    pub fn begins_with(&self, text: &[u8], reason: R) -> Result<&'a [u8], ReadError<R>>
-        ensures { ReadsAll (begins_with text.now reason) (λ x. x.now) self.now result }
+    /// All that is left, which begins with this literal. A fault of the reason is at its first
+    /// byte: where a byte differs, and where all that was to come is only a beginning of the
+    /// literal. Where the input ends before the literal does, a byte is wanted there.
+    pub fn begins_with(&self, literal: &[u8], reason: R) -> Result<&'a [u8], ReadError<R>>
+        ensures { ReadsAll (begins_with literal.now reason) (λ x. x.now) self.now result }
     {
-        self.compare_rest(text, self.rest, reason)?;
+        self.compare_rest(literal, self.rest, reason)?;
         Ok(self.rest)
     }
 
-    /// Of a text and of what is left, the parts behind what is equal in both.
-    fn compare_rest(&self, text: &[u8], rest: &[u8], reason: R) -> Result<(), ReadError<R>>
+    /// Of a literal and of what is left, the parts behind what is equal in both.
+    fn compare_rest(&self, literal: &[u8], rest: &[u8], reason: R) -> Result<(), ReadError<R>>
         ensures { Gives (λ _. self.now.rest.now) result
-            (begins_with_reads text.now reason self.now.end self.now.rest.now rest.now) }
+            (begins_with_reads literal.now reason self.now.end self.now.rest.now rest.now) }
     {
-        match text {
+        match literal {
             [] => Ok(()),
-            [expected, text @ ..] => match rest {
+            [expected, literal @ ..] => match rest {
                 [] => Err(self.too_short(reason)),
                 [byte, rest @ ..] => {
                     if byte != expected {
                         return Err(self.fault(reason));
                     }
-                    self.compare_rest(text, rest, reason)
+                    self.compare_rest(literal, rest, reason)
                 }
             },
         }

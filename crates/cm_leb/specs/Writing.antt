@@ -16,6 +16,7 @@ unsigned_length n = if nat_lt n (2 ^ 7) then 1
     else (if nat_lt n (2 ^ 14) then 2
     else (if nat_lt n (2 ^ 21) then 3 else (if nat_lt n (2 ^ 28) then 4 else 5)))
 
+-- The shortest spelling of a number of 32 bits.
 abbrev pub shortest_unsigned : ℕ → List ℕ
 shortest_unsigned n = group_of (unsigned_length n) n
 
@@ -30,5 +31,6 @@ abbrev pub to_two_complement : ℕ → ℤ → ℕ
 to_two_complement bits (pos n) = n
 to_two_complement bits (negsuc n) = 2 ^ bits - (n + 1)
 
+-- The shortest spelling of a number of 33 bits with a sign.
 abbrev pub shortest_signed : ℤ → List ℕ
 shortest_signed z = group_of (signed_length z) (to_two_complement (7 * signed_length z) z)

@@ -6,7 +6,7 @@ ghost use Rattle.std.specs.Result.{IsErrOf};
 ghost use Rattle.cm_leb.specs.Numbers.{two_complement, IsTruncated, IsTooLong, HasBadUnsignedBits};
 ghost use Rattle.cm_leb.specs.Numbers.{HasBadSignedBits, BeginsUnsigned, BeginsSigned};
 ghost use Rattle.cm_leb.specs.Numbers.{StandsUnsigned, StandsSigned};
-ghost use Rattle.cm_leb.specs.Reading.{IsReadAs, group_at, unsigned_at, signed_at, unsigned_from};
+ghost use Rattle.cm_leb.specs.Reading.{Finds, group_at, unsigned_at, signed_at, unsigned_from};
 ghost use Rattle.cm_leb.specs.Reading.{signed_from};
 
 use crate::fault::LebFault;
@@ -18,7 +18,7 @@ const GREATEST_LENGTH: usize = 5;
 #[tactic(auto, unfolding(crate::specs::Reading::group_at))]
 fn group(bytes: &[u8], room: usize) -> Result<(u64, &[u8]), LebFault>
     requires { room ≤ 5 }
-    ensures read { IsReadAs (λ x. (x.0, x.1.now)) result (group_at room bytes.now) }
+    ensures read { Finds (λ x. (x.0, x.1.now)) result (group_at room bytes.now) }
     ensures small { IfOk result (λ x. x.0 < 128 ^ room) }
     ensures shorter { IfOk result
         (λ x. (length x.1.now < length bytes.now) × (length bytes.now ≤ length x.1.now + room)) }
@@ -46,7 +46,7 @@ fn group(bytes: &[u8], room: usize) -> Result<(u64, &[u8]), LebFault>
 /// - `TooLong`: the fifth byte says that another one follows.
 /// - `BadLastBits`: the bytes of a number stand in front, and it goes past its type.
 pub fn front_u32(bytes: &[u8]) -> Result<(u32, &[u8]), LebFault>
-    ensures computed { IsReadAs (λ x. (x.0, x.1.now)) result (unsigned_at 32 bytes.now) }
+    ensures computed { Finds (λ x. (x.0, x.1.now)) result (unsigned_at 32 bytes.now) }
     ensures found { IfOk result (λ x. BeginsUnsigned 32 bytes.now x.0 x.1.now) }
     ensures only { (n : ℕ) (rest : List ℕ) → BeginsUnsigned 32 bytes.now n rest
         → IsOkAnd result (λ x. (x.0 ≡ n) × (x.1.now ≡ rest)) }
@@ -59,7 +59,7 @@ pub fn front_u32(bytes: &[u8]) -> Result<(u32, &[u8]), LebFault>
 
 #[tactic(auto, unfolding(crate::specs::Reading::unsigned_at))]
 fn unsigned_front(bytes: &[u8]) -> Result<(u32, &[u8]), LebFault>
-    ensures read { IsReadAs (λ x. (x.0, x.1.now)) result (unsigned_at 32 bytes.now) }
+    ensures read { Finds (λ x. (x.0, x.1.now)) result (unsigned_at 32 bytes.now) }
     ensures shorter { IfOk result (λ x. length x.1.now ≤ length bytes.now) }
 {
     let (digits, rest) = group(bytes, GREATEST_LENGTH)?;
@@ -102,7 +102,7 @@ fn unsigned_from(bytes: &[u8], at: usize) -> Result<(u32, usize), LebFault>
 /// - `TooLong`: the fifth byte says that another one follows.
 /// - `BadLastBits`: the bytes of a number stand in front, and it goes past its type.
 pub fn front_s33(bytes: &[u8]) -> Result<(i64, &[u8]), LebFault>
-    ensures computed { IsReadAs (λ x. (x.0, x.1.now)) result (signed_at 33 bytes.now) }
+    ensures computed { Finds (λ x. (x.0, x.1.now)) result (signed_at 33 bytes.now) }
     ensures found { IfOk result (λ x. BeginsSigned 33 bytes.now x.0 x.1.now) }
     ensures only { (n : ℤ) (rest : List ℕ) → BeginsSigned 33 bytes.now n rest
         → IsOkAnd result (λ x. (x.0 ≡ n) × (x.1.now ≡ rest)) }
@@ -115,7 +115,7 @@ pub fn front_s33(bytes: &[u8]) -> Result<(i64, &[u8]), LebFault>
 
 #[tactic(auto, unfolding(crate::specs::Reading::signed_at))]
 fn signed_front(bytes: &[u8]) -> Result<(i64, &[u8]), LebFault>
-    ensures read { IsReadAs (λ x. (x.0, x.1.now)) result (signed_at 33 bytes.now) }
+    ensures read { Finds (λ x. (x.0, x.1.now)) result (signed_at 33 bytes.now) }
     ensures shorter { IfOk result (λ x. length x.1.now ≤ length bytes.now) }
 {
     let (digits, rest) = group(bytes, GREATEST_LENGTH)?;

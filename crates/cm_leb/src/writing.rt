@@ -112,11 +112,11 @@ fn put_group(out: &mut Vec<u8>, length: usize, digits: u64) -> Result<(), AllocE
     ensures ok { OnOk result (out.new.items ≡ out.old.items ++ group_of length digits) }
     ensures err { OnErr result (out.new.items ≡ out.old.items) }
 {
-    let first = low(digits);
-    let second = low(digits / 128);
-    let third = low(digits / 128 / 128);
-    let fourth = low(digits / 128 / 128 / 128);
-    let fifth = low(digits / 128 / 128 / 128 / 128);
+    let first = low_digit(digits);
+    let second = low_digit(digits / 128);
+    let third = low_digit(digits / 128 / 128);
+    let fourth = low_digit(digits / 128 / 128 / 128);
+    let fifth = low_digit(digits / 128 / 128 / 128 / 128);
     match length {
         1 => out.extend_from_slice(&[first]),
         2 => out.extend_from_slice(&[128 + first, second]),
@@ -127,7 +127,7 @@ fn put_group(out: &mut Vec<u8>, length: usize, digits: u64) -> Result<(), AllocE
 }
 
 /// The last digit in base 128.
-fn low(digits: u64) -> u8
+fn low_digit(digits: u64) -> u8
     ensures { result ≡ digits % 128 }
 {
     (digits % 128) as u8
