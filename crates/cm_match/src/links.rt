@@ -9,7 +9,7 @@ ghost use Rattle.cm_validate.specs.Spaces.{spaces_of, func_at};
 ghost use Rattle.cm_match.specs.declared.fault.LinkReason.TheVariants as reason;
 ghost use Rattle.cm_match.specs.Links.{ExternAt, extern_at, externs_from, exports_from};
 ghost use Rattle.cm_match.specs.Links.{signatures_of, plan_line, IsServedBy, IsUnservedFor};
-ghost use Rattle.cm_match.specs.Links.{IsFirstUnserved, Matches};
+ghost use Rattle.cm_match.specs.Links.{IsFirstUnserved, Matches, ServesUpTo};
 ghost use Rattle.cm_match.specs.Offers.{AreOffers};
 ghost use Rattle.cm_match.specs.Progress.{Progress, imports_of_rest};
 ghost use Rattle.cm_match.specs.Reaches.{IsValidAndConsistent};
@@ -127,7 +127,8 @@ fn link_imports(
         ≡ map (target_of_import components.now (look_up_target targets.now))
         (externs_from at 0 (map extern_of imports.now))) }
     ensures fault { IfErr result
-        (λ f. (f.reason ≡ reason.Memory)
+        (λ f. ((f.reason ≡ reason.Memory)
+        × ServesUpTo (signatures_of components.now) f.component f.import)
         ⊎ IsFirstUnserved (signatures_of components.now) f.component f.import f.reason) }
 {
     let mut row = Vec::new(alloc);
@@ -166,7 +167,8 @@ pub(crate) fn link_all(alloc: Global, components: &[Checked]) -> Result<Links, L
     ensures targets { IfOk result
         (λ l. IsTargetTable l.targets.items components.now (length components.now)) }
     ensures fault { IfErr result
-        (λ f. (f.reason ≡ reason.Memory)
+        (λ f. ((f.reason ≡ reason.Memory)
+        × ServesUpTo (signatures_of components.now) f.component f.import)
         ⊎ IsFirstUnserved (signatures_of components.now) f.component f.import f.reason) }
 {
     let mut offers = BTreeMap::new(alloc);
