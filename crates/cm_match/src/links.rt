@@ -114,7 +114,8 @@ fn link_imports(
     imports: &[SignatureItem],
     plan: &mut Vec<PlanLine>,
 ) -> Result<Vec<Option<SharedTarget>>, LinkFault>
-    requires offers { AreOffers offers.now (exports_from 0 (take at (signatures_of components.now))) }
+    requires offers { AreOffers offers.now
+        (exports_from 0 (take at (signatures_of components.now))) }
     requires so_far { Progress (signatures_of components.now)
         (externs_from at 0 (map extern_of imports.now)
         ++ imports_of_rest (at + 1) components.now)

@@ -47,5 +47,5 @@ returns-then-is_err-clause-fault c =
     inl (
       ap (λ (f : LinkFault). f.reason) c.no_memory.ensures,
       subst (λ (f : LinkFault). ServesUpTo set f.component f.import) (sym c.no_memory.ensures)
-      (serves_component set c.loop-at.at _ (signatures_of (drop (c.loop-at.at + 1) c.args.components.now)) _ c.in-Ok.ensures.so_far),
+          (serves_component set c.loop-at.at _ (signatures_of (drop (c.loop-at.at + 1) c.args.components.now)) _ c.in-Ok.ensures.so_far),
     )

@@ -45,5 +45,5 @@ returns-then-is_err-clause-fault c =
     inl (
       ap (λ (f : LinkFault). f.reason) c.no_memory.ensures,
       subst (λ (f : LinkFault). ServesUpTo set f.component f.import) (sym c.no_memory.ensures)
-      (serves_up_to_import set c.args.at n (map extern_of (drop n c.args.imports.now)) (signatures_of (drop (c.args.at + 1) c.args.components.now)) c.loop-number.plan.items c.loop-number.invariant.so_far),
+          (serves_up_to_import set c.args.at n (map extern_of (drop n c.args.imports.now)) (signatures_of (drop (c.args.at + 1) c.args.components.now)) c.loop-number.plan.items c.loop-number.invariant.so_far),
     )
