@@ -1,7 +1,8 @@
--- Which export of an earlier component each import of a set is linked to (how components are linked is
--- this project's own choice).
-use Rattle.std.specs.Prelude.{◌≡◌, ℕ, zero, suc, ◌+◌, ◌<◌, ◌≤◌, List, [], ◌∷◌, ◌++◌, length, take}
+-- Which export of an earlier component each import of a set is linked to (how components are linked
+-- is this project's own choice).
+use Rattle.std.specs.Prelude.{◌≡◌, ℕ, ◌+◌, ◌<◌, ◌≤◌, ◌⊎◌, List, [], ◌∷◌, ◌++◌, length, take}
 use Rattle.std.specs.Prelude.{map, filter, Option, Some, None, slice_get, option_and_then}
+use Rattle.std.specs.List.{AllByRecursion}
 use Rattle.std.specs.Str.{bytes_eq}
 use Rattle.cm_component.specs.Trees.{SectionTree}
 use Rattle.cm_types.specs.Signatures.{SignatureTy, NamedExtern, ExternTy, func}
@@ -107,27 +108,29 @@ pub record IsFirstUnserved (set : List SignatureTy) (component number : ℕ) (r 
   pub served : ServesEach set front plan
   pub fails : IsUnservedFor set here r
 
--- the fault of a set that can't be linked: an empty set, more than 16 components, or the first import
--- that is not served
+-- the fault of a set that can't be linked: an empty set, more than 16 components, or the first
+-- import that is not served
 abbrev pub IsLinkFault : List SignatureTy → ℕ → ℕ → LinkReason → Type 0
 IsLinkFault set component number reason.Empty = (set ≡ []) × (component ≡ 0) × (number ≡ 0)
 IsLinkFault set component number reason.TooMany =
     (16 < length set) × (component ≡ 0) × (number ≡ 0)
 IsLinkFault set component number r = IsFirstUnserved set component number r
 
--- the imports before that of this number of this component, where components are numbered from here on
-abbrev pub imports_before : ℕ → List SignatureTy → ℕ → ℕ → List ExternAt
-imports_before at [] component number = []
-imports_before at (c ∷ cs) zero number = externs_from at 0 (take number c.imports)
-imports_before at (c ∷ cs) (suc component) number =
-    externs_from at 0 c.imports ++ imports_before (at + 1) cs component number
+-- an import stands at this place, or behind it
+abbrev pub IsFromPlace : ℕ → ℕ → ExternAt → Type 0
+IsFromPlace component number i =
+    (component < i.component) ⊎ ((i.component ≡ component) × (number ≤ i.number))
 
--- the set has 1 to 16 components, and its imports before this one are served
-pub record ServesBefore (set : List SignatureTy) (component number : ℕ) : Type 0 where
+-- the set has 1 to 16 components, and the plan serves its imports up to those from this place on
+pub record ServesUpTo (set : List SignatureTy) (component number : ℕ) : Type 0 where
   pub some : 0 < length set
   pub few : length set ≤ 16
+  pub front : List ExternAt
+  pub rest : List ExternAt
+  pub split : imports_from 0 set ≡ front ++ rest
   pub plan : List PlanLine
-  pub served : ServesEach set (imports_before 0 set component number) plan
+  pub served : ServesEach set front plan
+  pub later : AllByRecursion (IsFromPlace component number) rest
 
 -- the only one of these, where there is just one
 abbrev pub only_of : List ExternAt → Option ExternAt

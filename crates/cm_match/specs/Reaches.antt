@@ -13,8 +13,8 @@ pub record IsValidAndConsistent (c : List SectionTree) : Type 0 where
   pub valid : IsValid c
   pub consistent : IsConsistent (spaces_of c)
 
--- an imported function of this type reaches a lift in an earlier component: of a guest's function, to a
--- type that is equal and whose parameters are passed flat
+-- an imported function of this type reaches a lift in an earlier component: of a guest's function,
+-- to a type that is equal and whose parameters are passed flat
 pub record Reaches
     (set : List (List SectionTree)) (component import : ℕ) (item : Option ℕ) (ty : FuncTy)
     : Type 0 where

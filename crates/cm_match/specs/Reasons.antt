@@ -1,5 +1,5 @@
--- The numbers and the names of the reasons for which a set of components can't be linked (this project's
--- own choice).
+-- The numbers and the names of the reasons for which a set of components can't be linked (this
+-- project's own choice).
 use Rattle.std.specs.Prelude.{ℕ, List, codes}
 use Rattle.cm_match.specs.declared.fault.LinkReason.{LinkReason}
 use Rattle.cm_match.specs.declared.fault.LinkReason.TheVariants as reason

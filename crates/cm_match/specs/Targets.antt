@@ -1,5 +1,5 @@
--- What an imported function comes to in the end, where each component that exports an import again is
--- passed through (this project's own choice).
+-- What an imported function comes to in the end, where each component that exports an import again
+-- is passed through (this project's own choice).
 use Rattle.std.specs.Prelude.{ℕ, zero, suc, ◌==◌, List, length, Option, Some, None, slice_get}
 use Rattle.std.specs.Prelude.{option_map, option_and_then, if◌then◌else◌}
 use Rattle.cm_types.specs.Types.{FuncTy}
@@ -17,7 +17,8 @@ pub record TargetTree : Type 0 where
 abbrev pub find_import : List (List SectionTree) → ℕ → ℕ → Option ExternAt
 find_import set component import =
     option_and_then
-    (λ c. option_map (extern_at component import) (slice_get (signature (spaces_of c)).imports import))
+    (λ c. option_map (extern_at component import)
+    (slice_get (signature (spaces_of c)).imports import))
     (slice_get set component)
 
 -- what the function under an export is
@@ -25,16 +26,16 @@ abbrev pub def_of_export : List (List SectionTree) → ExternAt → Option FuncD
 def_of_export set e =
     option_and_then (λ c. func_at (spaces_of c) e.number None) (slice_get set e.component)
 
--- the target of a function of a component, where `targets` gives those of its imports: a lift is the
--- target itself, and an import that is exported again has the import's
+-- the target of a function of a component, where `targets` gives those of its imports: a lift is
+-- the target itself, and an import that is exported again has the import's
 abbrev pub target_of_def : (ℕ → ℕ → Option TargetTree) → ℕ → FuncDefTree → Option TargetTree
 target_of_def targets component (lifted core_func ty) =
     Some (record { component = component; core_func = core_func; ty = ty })
 target_of_def targets component (imported import None ty) = targets component import
 target_of_def targets component (imported import (Some item) ty) = None
 
--- the target of an import: that of its only candidate, where `targets` gives those of the imports of
--- the components before
+-- the target of an import: that of its only candidate, where `targets` gives those of the imports
+-- of the components before
 abbrev pub target_of_import
     : List (List SectionTree) → (ℕ → ℕ → Option TargetTree) → ExternAt → Option TargetTree
 target_of_import set targets i =

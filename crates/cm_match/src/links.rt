@@ -9,7 +9,7 @@ ghost use Rattle.cm_validate.specs.Spaces.{spaces_of, func_at};
 ghost use Rattle.cm_match.specs.declared.fault.LinkReason.TheVariants as reason;
 ghost use Rattle.cm_match.specs.Links.{ExternAt, extern_at, externs_from, exports_from};
 ghost use Rattle.cm_match.specs.Links.{signatures_of, plan_line, IsServedBy, IsUnservedFor};
-ghost use Rattle.cm_match.specs.Links.{IsFirstUnserved, Matches};
+ghost use Rattle.cm_match.specs.Links.{IsFirstUnserved, Matches, ServesUpTo};
 ghost use Rattle.cm_match.specs.Offers.{AreOffers};
 ghost use Rattle.cm_match.specs.Progress.{Progress, imports_of_rest};
 ghost use Rattle.cm_match.specs.Reaches.{IsValidAndConsistent};
@@ -114,7 +114,8 @@ fn link_imports(
     imports: &[SignatureItem],
     plan: &mut Vec<PlanLine>,
 ) -> Result<Vec<Option<SharedTarget>>, LinkFault>
-    requires offers { AreOffers offers.now (exports_from 0 (take at (signatures_of components.now))) }
+    requires offers { AreOffers offers.now
+        (exports_from 0 (take at (signatures_of components.now))) }
     requires so_far { Progress (signatures_of components.now)
         (externs_from at 0 (map extern_of imports.now)
         ++ imports_of_rest (at + 1) components.now)
@@ -127,7 +128,8 @@ fn link_imports(
         ≡ map (target_of_import components.now (look_up_target targets.now))
         (externs_from at 0 (map extern_of imports.now))) }
     ensures fault { IfErr result
-        (λ f. (f.reason ≡ reason.Memory)
+        (λ f. ((f.reason ≡ reason.Memory)
+        × ServesUpTo (signatures_of components.now) f.component f.import)
         ⊎ IsFirstUnserved (signatures_of components.now) f.component f.import f.reason) }
 {
     let mut row = Vec::new(alloc);
@@ -166,7 +168,8 @@ pub(crate) fn link_all(alloc: Global, components: &[Checked]) -> Result<Links, L
     ensures targets { IfOk result
         (λ l. IsTargetTable l.targets.items components.now (length components.now)) }
     ensures fault { IfErr result
-        (λ f. (f.reason ≡ reason.Memory)
+        (λ f. ((f.reason ≡ reason.Memory)
+        × ServesUpTo (signatures_of components.now) f.component f.import)
         ⊎ IsFirstUnserved (signatures_of components.now) f.component f.import f.reason) }
 {
     let mut offers = BTreeMap::new(alloc);

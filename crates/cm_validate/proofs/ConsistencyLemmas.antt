@@ -1,4 +1,4 @@
--- The index spaces of a valid component are sound.
+-- The index spaces of a valid component are consistent.
 use Rattle.std.proofs.Common.{◌≡◌, ℕ, zero, suc, ◌<◌, Bool, true, false, ◌⊎◌, inl, inr, List, [], ◌∷◌, ◌++◌, length, Option, Some, None, refl, sym, ◌∙◌, ap, subst, append-nil, arith}
 use borrow.Author.Tests.{ltb-true}
 use Rattle.std.specs.Prelude.{nat_lt, slice_get, option_map, option_and_then, option_to_list}
@@ -44,25 +44,25 @@ all_at P (y ∷ xs) (suc k) x p e = all_at P xs k x p.1 e
 
 -- ---- what stands stays
 
-record Keeps (s t : IndexSpaces) : Type 0 where
+record Stays (s t : IndexSpaces) : Type 0 where
   core_funcs : (k : ℕ) (x : CoreFuncTree) → slice_get s.core_funcs k ≡ Some x → slice_get t.core_funcs k ≡ Some x
   funcs : (k : ℕ) (x : FuncDefTree) → slice_get s.funcs k ≡ Some x → slice_get t.funcs k ≡ Some x
   imports : (k : ℕ) (x : ImportedFunc) → slice_get s.imports k ≡ Some x → slice_get t.imports k ≡ Some x
 
-imports_stay : (s t : IndexSpaces) → Keeps s t → (import : ℕ) (ty : FuncTy) → Imports s import ty → Imports t import ty
+imports_stay : (s t : IndexSpaces) → Stays s t → (import : ℕ) (ty : FuncTy) → Imports s import ty → Imports t import ty
 imports_stay s t k import ty i = record { func = i.func; there = k.imports import i.func i.there; same = i.same }
 
-func_stays : (s t : IndexSpaces) → Keeps s t → (f : FuncDefTree) → IsConsistentFunc s f → IsConsistentFunc t f
+func_stays : (s t : IndexSpaces) → Stays s t → (f : FuncDefTree) → IsConsistentFunc s f → IsConsistentFunc t f
 func_stays s t k (lifted core_func ty) p = (record { instance = p.0.instance; name = p.0.name; there = k.core_funcs core_func (guest p.0.instance p.0.name) p.0.there }, p.1)
 func_stays s t k (imported import None ty) p = imports_stay s t k import ty p
 func_stays s t k (imported import (Some item) ty) p = p
 
-core_func_stays : (s t : IndexSpaces) → Keeps s t → (f : CoreFuncTree) → IsConsistentCoreFunc s f → IsConsistentCoreFunc t f
+core_func_stays : (s t : IndexSpaces) → Stays s t → (f : CoreFuncTree) → IsConsistentCoreFunc s f → IsConsistentCoreFunc t f
 core_func_stays s t k (guest instance name) p = tt
 core_func_stays s t k (lowered import None ty) p = (imports_stay s t k import ty p.0, p.1)
 core_func_stays s t k (lowered import (Some item) ty) p = p
 
-export_kept : (s t : IndexSpaces) → Keeps s t → (e : ExportedFunc) → IsConsistentExport s e → IsConsistentExport t e
+export_kept : (s t : IndexSpaces) → Stays s t → (e : ExportedFunc) → IsConsistentExport s e → IsConsistentExport t e
 export_kept s t k e p = record { def = p.def; there = k.funcs e.func p.def p.there; same = p.same }
 
 -- the spaces t are s with these definitions at the ends
@@ -72,7 +72,7 @@ record Grows (s t : IndexSpaces) (cs : List CoreFuncTree) (fs : List FuncDefTree
   imports : t.imports ≡ s.imports ++ is
   exports : t.exports ≡ s.exports ++ es
 
-keeps : (s t : IndexSpaces) (cs : List CoreFuncTree) (fs : List FuncDefTree) (is : List ImportedFunc) (es : List ExportedFunc) → Grows s t cs fs is es → Keeps s t
+keeps : (s t : IndexSpaces) (cs : List CoreFuncTree) (fs : List FuncDefTree) (is : List ImportedFunc) (es : List ExportedFunc) → Grows s t cs fs is es → Stays s t
 keeps s t cs fs is es g =
     record {
       core_funcs = λ k x e. ap (λ xs. slice_get xs k) g.core_funcs ∙ get_more s.core_funcs cs k x e;
@@ -117,25 +117,25 @@ guest_at s core_func inside h =
     let f = get_inside s.core_funcs core_func (ltb-true core_func (length s.core_funcs) inside) in
     guest_is s core_func f.0 f.1 (sym (ap (λ o. option_map_or is_guest_function o true) f.1) ∙ h)
 
--- ---- what each item adds is sound
+-- ---- what each item adds is consistent
 
-lift_sound : (t : IndexSpaces) (core_func : ℕ) (o : Option FuncTy) → IsGuestAt t core_func → option_map_or is_flat o true ≡ true → AllByRecursion (IsConsistentFunc t) (option_to_list (option_map (lifted core_func) o))
-lift_sound t core_func None g flat = tt
-lift_sound t core_func (Some ty) g flat = ((g, flat), tt)
+lift_consistent : (t : IndexSpaces) (core_func : ℕ) (o : Option FuncTy) → IsGuestAt t core_func → option_map_or is_flat o true ≡ true → AllByRecursion (IsConsistentFunc t) (option_to_list (option_map (lifted core_func) o))
+lift_consistent t core_func None g flat = tt
+lift_consistent t core_func (Some ty) g flat = ((g, flat), tt)
 
-lower_sound : (t : IndexSpaces) (o : Option FuncDefTree) → option_map_or (λ f. is_flat (func_type_of f)) o true ≡ true → ((f : FuncDefTree) → o ≡ Some f → IsConsistentFunc t f) → AllByRecursion (IsConsistentCoreFunc t) (option_to_list (option_and_then lower_import o))
-lower_sound t None flat sound = tt
-lower_sound t (Some (lifted core_func ty)) flat sound = tt
-lower_sound t (Some (imported import None ty)) flat sound = ((sound (imported import None ty) refl, flat), tt)
-lower_sound t (Some (imported import (Some item) ty)) flat sound = absurd (sound (imported import (Some item) ty) refl)
+lower_consistent : (t : IndexSpaces) (o : Option FuncDefTree) → option_map_or (λ f. is_flat (func_type_of f)) o true ≡ true → ((f : FuncDefTree) → o ≡ Some f → IsConsistentFunc t f) → AllByRecursion (IsConsistentCoreFunc t) (option_to_list (option_and_then lower_import o))
+lower_consistent t None flat consistent = tt
+lower_consistent t (Some (lifted core_func ty)) flat consistent = tt
+lower_consistent t (Some (imported import None ty)) flat consistent = ((consistent (imported import None ty) refl, flat), tt)
+lower_consistent t (Some (imported import (Some item) ty)) flat consistent = absurd (consistent (imported import (Some item) ty) refl)
 
-import_sound : (s t : IndexSpaces) (name : List ℕ) (o : Option FuncTy) → t.imports ≡ s.imports ++ option_to_list (option_map (λ ty. record { name = name; ty = ty }) o) → AllByRecursion (IsConsistentFunc t) (option_to_list (option_map (imported (length s.imports) None) o))
-import_sound s t name None e = tt
-import_sound s t name (Some ty) e = (record { func = record { name = name; ty = ty }; there = ap (λ xs. slice_get xs (length s.imports)) e ∙ get_end s.imports (record { name = name; ty = ty }); same = refl }, tt)
+import_consistent : (s t : IndexSpaces) (name : List ℕ) (o : Option FuncTy) → t.imports ≡ s.imports ++ option_to_list (option_map (λ ty. record { name = name; ty = ty }) o) → AllByRecursion (IsConsistentFunc t) (option_to_list (option_map (imported (length s.imports) None) o))
+import_consistent s t name None e = tt
+import_consistent s t name (Some ty) e = (record { func = record { name = name; ty = ty }; there = ap (λ xs. slice_get xs (length s.imports)) e ∙ get_end s.imports (record { name = name; ty = ty }); same = refl }, tt)
 
 func_again_consistent : (t : IndexSpaces) (o : Option FuncDefTree) → ((f : FuncDefTree) → o ≡ Some f → IsConsistentFunc t f) → AllByRecursion (IsConsistentFunc t) (option_to_list o)
-func_again_consistent t None sound = tt
-func_again_consistent t (Some f) sound = (sound f refl, tt)
+func_again_consistent t None consistent = tt
+func_again_consistent t (Some f) consistent = (consistent f refl, tt)
 
 export_consistent : (t : IndexSpaces) (name : List ℕ) (index : ℕ) (o : Option FuncDefTree) → ((f : FuncDefTree) → o ≡ Some f → slice_get t.funcs index ≡ Some f) → AllByRecursion (IsConsistentExport t) (option_to_list (option_map (λ f. record { name = name; func = index; ty = func_type_of f }) o))
 export_consistent t name index None there = tt
@@ -148,14 +148,14 @@ consistent_after_canon s (canon.Lift core_func ty) unbroken p =
     let fs = option_to_list (option_map (lifted core_func) (slice_get s.types ty)) in
     let grows : Grows s t [] fs [] [] = record { core_funcs = same s.core_funcs; funcs = refl; imports = same s.imports; exports = same s.exports } in
     let g = guest_at s core_func h.0 h.1.1.1.1.0 in
-    consistent_grows s t [] fs [] [] grows tt (lift_sound t core_func (slice_get s.types ty) (record { instance = g.instance; name = g.name; there = g.there }) h.1.1.0) tt p
+    consistent_grows s t [] fs [] [] grows tt (lift_consistent t core_func (slice_get s.types ty) (record { instance = g.instance; name = g.name; there = g.there }) h.1.1.0) tt p
 consistent_after_canon s (canon.Lower func) unbroken p =
     let h = hold (canon_rules s (canon.Lower func)) unbroken in
     let t = after_canon s (canon.Lower func) in
     let cs = option_to_list (option_and_then lower_import (slice_get s.funcs func)) in
     let grows : Grows s t cs [] [] [] = record { core_funcs = refl; funcs = same s.funcs; imports = same s.imports; exports = same s.exports } in
     let k = keeps s t cs [] [] [] grows in
-    consistent_grows s t cs [] [] [] grows (lower_sound t (slice_get s.funcs func) h.1.0 (λ f e. func_stays s t k f (all_at (IsConsistentFunc s) s.funcs func f p.funcs e))) tt tt p
+    consistent_grows s t cs [] [] [] grows (lower_consistent t (slice_get s.funcs func) h.1.0 (λ f e. func_stays s t k f (all_at (IsConsistentFunc s) s.funcs func f p.funcs e))) tt tt p
 
 consistent_after_import : (s : IndexSpaces) (name : List ℕ) (d : ExternDesc) → IsConsistent s → IsConsistent (after_import s name d)
 consistent_after_import s name (desc.Func ty) p =
@@ -164,7 +164,7 @@ consistent_after_import s name (desc.Func ty) p =
     let fs = option_to_list (option_map (imported (length s.imports) None) o) in
     let is = option_to_list (option_map (λ u. record { name = name; ty = u }) o) in
     let grows : Grows s t [] fs is [] = record { core_funcs = same s.core_funcs; funcs = refl; imports = refl; exports = same s.exports } in
-    consistent_grows s t [] fs is [] grows tt (import_sound s t name o refl) tt p
+    consistent_grows s t [] fs is [] grows tt (import_consistent s t name o refl) tt p
 
 consistent_after_export : (s : IndexSpaces) (name : List ℕ) (index : ℕ) → IsConsistent s → IsConsistent (after_export s name index)
 consistent_after_export s name index p =

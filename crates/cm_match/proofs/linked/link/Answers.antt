@@ -7,6 +7,6 @@ pub returns-in-Err-clause-complete : goal.returns-in-Err-clause-complete
 returns-in-Err-clause-complete c = λ plan m.
     let f = c.in-Err.fault in
     elim c.in-Err.ensures.fault [
-      | inl e ↦ e
+      | inl e ↦ e.0
       | inr u ↦ absurd (unserved_is_no_match (signatures_of c.args.components.items) f.component f.import f.reason plan (subst (λ set. IsFirstUnserved (signatures_of set) f.component f.import f.reason) c.deref.ensures.value u) m)
     ]

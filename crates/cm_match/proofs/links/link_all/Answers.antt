@@ -1,4 +1,4 @@
-use Rattle.std.proofs.Common.{◌≡◌, ◌+◌, ◌++◌, List, length, map, take, sym, subst, ap, refl, ◌∙◌}
+use Rattle.std.proofs.Common.{◌≡◌, ◌+◌, ◌++◌, List, length, map, take, drop, sym, subst, ap, refl, inl, ◌∙◌}
 use Rattle.std.proofs.lemmas.List.{length_push}
 use Rattle.std.proofs.lemmas.Option.{slice_get_read}
 use Rattle.std.specs.List.{AllByRecursion}
@@ -6,10 +6,12 @@ use Rattle.std.specs.Option.{option_map}
 use Rattle.cm_types.specs.Signatures.{extern_of}
 use Rattle.cm_validate.specs.Spaces.{spaces_of, signature}
 use Rattle.cm_match.specs.Reaches.{IsValidAndConsistent}
-use Rattle.cm_match.specs.Links.{ExternAt, externs_from, exports_from, signatures_of}
+use Rattle.cm_match.specs.declared.fault.LinkFault.{LinkFault}
+use Rattle.cm_match.specs.Links.{ExternAt, externs_from, exports_from, signatures_of, ServesUpTo}
 use Rattle.cm_match.specs.Offers.{AreOffers}
 use Rattle.cm_match.specs.TargetTables.{shared_target_tree, look_up_target}
 use Rattle.cm_match.specs.Targets.{target_of_import}
+use Rattle.cm_match.proofs.Places.{serves_component}
 use Rattle.cm_match.proofs.Steps.{pushed, promised}
 use Rattle.cm_match.proofs.TableSteps.{exports_next, next_component, table_grows}
 use Rattle.cm_match.proofs.links.link_all.Goals as goal
@@ -38,3 +40,12 @@ loop-at-preserved c =
       targets = table_grows c.loop-at.targets.items c.push.new.self.items c.in-Ok.row set at component kept c.loop-at.invariant.count
           (slice_get_read set (length set) at component refl c.loop-at-test.true c.index-components-at.is) row c.loop-at.invariant.targets;
     }
+
+pub returns-then-is_err-clause-fault : goal.returns-then-is_err-clause-fault
+returns-then-is_err-clause-fault c =
+    let set = signatures_of c.args.components.now in
+    inl (
+      ap (λ (f : LinkFault). f.reason) c.no_memory.ensures,
+      subst (λ (f : LinkFault). ServesUpTo set f.component f.import) (sym c.no_memory.ensures)
+          (serves_component set c.loop-at.at _ (signatures_of (drop (c.loop-at.at + 1) c.args.components.now)) _ c.in-Ok.ensures.so_far),
+    )
