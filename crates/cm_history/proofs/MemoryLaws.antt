@@ -49,13 +49,13 @@ writes_exactly m at bytes fits = record {
       let inside : at + k < length (take at m ++ bytes) = omega arith in
       let here : at + k - at ≡ k = omega arith in
       get_or-append (take at m ++ bytes) (drop (at + length bytes) m) 0 (at + k) inside ∙ get_or-append_right (take at m) bytes at (at + k) 0 front (omega arith) ∙ ap (λ n. get_or bytes n 0) here;
-  below = λ a lt.
+  before = λ a lt.
       let long = both_length m at bytes fits in
       let front = front_length m at bytes fits in
       let inside : a < length (take at m ++ bytes) = omega arith in
       let first_part : a < length (take at m) = omega arith in
       get_or-append (take at m ++ bytes) (drop (at + length bytes) m) 0 a inside ∙ get_or-append (take at m) bytes 0 a first_part ∙ get_or-take at m a 0 lt;
-  above = λ a le.
+  behind = λ a le.
       let long = both_length m at bytes fits in
       let again : at + length bytes + (a - (at + length bytes)) ≡ a = omega arith in
       get_or-append_right (take at m ++ bytes) (drop (at + length bytes) m) (at + length bytes) a 0 long le ∙ get_or-drop (at + length bytes) m (a - (at + length bytes)) 0 ∙ ap (λ n. get_or m n 0) again;
@@ -108,7 +108,7 @@ grows_change s top pages true e new inside is g =
     let n = length (acting_memory s top) in
     let low : n / 65536 * 65536 ≤ n = omega arith in
     let high : n < (n / 65536 + 1) * 65536 = omega arith in
-    subst (λ (x : Event). ChangesAsTold s (actor top) (move.Grow pages) x new) (sym g.0) (low, high, both.0, both.1)
+    subst (λ (x : Event). ChangesAsTold s (actor top) (move.Grow pages) x new) (sym g.0) ((low, high), both.0, both.1)
 grows_change s top pages false e new inside is g =
     let over = leb-false (length (acting_memory s top) + pages * 65536) 67108864 is in
     subst (λ (x : Event). ChangesAsTold s (actor top) (move.Grow pages) x new) (sym g.0) (over, g.1)

@@ -1,3 +1,4 @@
 pub mod Acting
-pub mod Calls
+pub mod Doing
+pub mod Causes
 pub mod Headline

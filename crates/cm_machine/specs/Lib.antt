@@ -10,6 +10,8 @@ pub use Rattle.cm_machine_model.specs.History
 pub use Rattle.cm_machine_model.specs.Values
 pub use Rattle.cm_machine_model.specs.Guarded
 pub use Rattle.cm_history.specs.Acting
+pub use Rattle.cm_history.specs.Doing
+pub use Rattle.cm_history.specs.Causes
 pub use Rattle.cm_history.specs.Headline
 pub use Rattle.cm_set.specs.CoreFuncs
 pub mod Exchange

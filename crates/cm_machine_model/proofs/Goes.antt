@@ -1,5 +1,5 @@
 -- A step that is not the last leaves a frame on the stack.
-use Rattle.std.proofs.Common.{◌≡◌, ℕ, ◌<◌, inl, inr, Bool, true, false, List, [], ◌∷◌, length, Option, Some, None, refl, ap, subst, ◌∙◌, arith}
+use Rattle.std.proofs.Common.{◌≡◌, ℕ, ◌<◌, inl, inr, Bool, true, false, List, [], ◌∷◌, length, Option, Some, None, refl, sym, ap, subst, ◌∙◌, arith}
 use Rattle.cm_types.specs.declared.core_value.CoreValue.{CoreValue}
 use Rattle.cm_machine_model.specs.declared.frame.CoreFunction.{CoreFunction}
 use Rattle.cm_machine_model.specs.declared.frame.CoreFunction.TheVariants as core_function
@@ -17,7 +17,7 @@ use Rattle.cm_machine_model.specs.declared.moves.Move.TheVariants as move
 use Rattle.cm_machine_model.specs.Stack.{actor, top_of, below_top}
 use Rattle.cm_machine_model.specs.State.{State, StandsOn, IsStack, IsValidState, core_func_at}
 use Rattle.cm_machine_model.specs.Checks.{first_failed, checks}
-use Rattle.cm_machine_model.specs.Step.{may_grow, Grows, Calls, ReturnsIn, Returns, Passes, StepAt}
+use Rattle.cm_machine_model.specs.Step.{may_grow, Grows, Calls, ReturnsIn, Returns, Passes, StepAt, StepOn, Step}
 use Rattle.cm_machine_model.specs.Run.{is_last}
 
 pub stands_some : (fs : List Frame) (top : Frame) → top_of fs ≡ Some top → 0 < length fs
@@ -77,3 +77,11 @@ step_at_on s top m e new None valid is (inr h) open_ = absurd (not_last e _ h.1 
 
 pub goes_on : (s : State) (top : Frame) (m : Move) (e : Event) (new : State) → IsValidState s → top_of s.stack ≡ Some top → StepAt s top m e new (first_failed (checks s top m)) → is_last e ≡ false → 0 < length new.stack
 goes_on s top m e new valid is h open_ = step_at_on s top m e new (first_failed (checks s top m)) valid is h open_
+
+step_on : (fs : List Frame) (s : State) (top : Frame) (m : Move) (e : Event) (new : State) → top_of fs ≡ Some top → StepAt s top m e new (first_failed (checks s top m)) → StepOn fs s m e new
+step_on [] s top m e new is h = absurd cc
+step_on (f ∷ fs) s top m e new is h = let same : f ≡ top = cc in subst (λ (g : Frame). StepAt s g m e new (first_failed (checks s g m))) (sym same) h
+
+-- a step of the frame on top is a step
+pub step_of : (s : State) (top : Frame) (m : Move) (e : Event) (new : State) → top_of s.stack ≡ Some top → StepAt s top m e new (first_failed (checks s top m)) → Step s m e new
+step_of s top m e new is h = step_on s.stack s top m e new is h

@@ -1,7 +1,7 @@
 -- One step of the machine: what a move does that meets no trap (CanonicalABI.md, "canon lift" and
 -- "canon lower").
-use Rattle.std.specs.Prelude.{◌≡◌, ℕ, ◌+◌, ◌*◌, ◌⊎◌, Bool, true, false, nat_le, List, [], ◌∷◌}
-use Rattle.std.specs.Prelude.{length, Option, Some, None, slice_set}
+use Rattle.std.specs.Prelude.{◌≡◌, ℕ, ◌+◌, ◌*◌, ◌⊎◌, ◌&&◌, Bool, true, false, nat_le, nat_lt, List}
+use Rattle.std.specs.Prelude.{[], ◌∷◌, length, Option, Some, None, slice_set}
 use Rattle.cm_types.specs.declared.core_value.CoreValue.{CoreValue}
 use Rattle.cm_machine_model.specs.declared.frame.CoreFunction.{CoreFunction}
 use Rattle.cm_machine_model.specs.declared.frame.CoreFunction.TheVariants as core_function
@@ -84,10 +84,11 @@ Passes s top (move.Call func args) e new =
 Passes s top (move.Return values) e new = Returns top.purpose s values.items e new
 Passes s top move.Unreachable e new = ⊥
 
--- engine memory: the moves for which the machine may find none, a Grow that may go on
+-- engine memory: the moves for which the machine may find none, a Grow by a page or more that may
+-- go on
 abbrev pub may_want_memory : State → Frame → Move → Bool
 may_want_memory s top (move.Write at bytes) = false
-may_want_memory s top (move.Grow pages) = may_grow s top pages
+may_want_memory s top (move.Grow pages) = nat_lt 0 pages && may_grow s top pages
 may_want_memory s top (move.Call func args) = false
 may_want_memory s top (move.Return values) = false
 may_want_memory s top move.Unreachable = false

@@ -55,12 +55,16 @@ impl Memory {
         self.bytes[at..at + bytes.len()].copy_from_slice(bytes);
     }
 
-    /// Adds pages of zeros at the end. A refusal changes nothing.
+    /// Adds pages of zeros at the end; no pages want no memory. A refusal changes nothing.
     pub fn grow(&mut self, pages: u32) -> Result<(), AllocError>
         requires { length self.old + pages * PAGE_SIZE ≤ MAX_MEMORY_SIZE }
         ensures ok { OnOk result (self.new ≡ after_growth self.old pages) }
         ensures err { OnErr result (self.new ≡ self.old) }
+        ensures some { OnErr result (0 < pages) }
     {
+        if pages == 0 {
+            return Ok(());
+        }
         // Read first, so that the check knows what holds of the memory.
         let _ = &self.bytes;
         let bytes = self.bytes.len() + pages as usize * PAGE_SIZE;
@@ -139,6 +143,7 @@ impl Memories {
         ensures ok { OnOk result (self.new ≡ slice_set self.old instance
             (after_growth (memory_at self.old instance) pages)) }
         ensures err { OnErr result (self.new ≡ self.old) }
+        ensures some { OnErr result (0 < pages) }
     {
         let memory = &mut self.memories[instance];
         memory.grow(pages)

@@ -17,6 +17,7 @@ ghost use Rattle.cm_machine_model.specs.Checks.{is_in_guest_bounds, is_callee_op
 ghost use Rattle.cm_machine_model.specs.Step.{after_pop, may_grow, with_memory, Grows, Calls};
 ghost use Rattle.cm_machine_model.specs.Step.{Returns, Passes, may_want_memory, StepAt, Step};
 ghost use Rattle.cm_machine_model.specs.Run.{is_last, after_begin, misuse_of_begin, Run};
+ghost use Rattle.cm_machine_model.specs.History.{begins, moves, IsHistoryOf, GoesOn, RunsAlways};
 ghost use Rattle.cm_set.specs.CoreFuncs.{core_funcs_of, LoweredStand};
 
 use crate::checks::{has_core_shape, may_leave, return_count};
@@ -123,6 +124,8 @@ impl Set {
     /// then.
     pub fn new(alloc: Global, linked: Linked, pages: &[u32]) -> Result<Set, Misuse>
         ensures fresh { IfOk result (λ s. s ≡ fresh_state (core_funcs_of linked) pages.now) }
+        // What happens to the set from here on is a history of what was linked: so far nothing.
+        ensures history { IfOk result (λ s. IsHistoryOf (core_funcs_of linked) pages.now [] s) }
         // Each lowered function stands for the one that it reaches.
         ensures lowered { LoweredStand linked (core_funcs_of linked) }
         ensures accepted { OnOk result (
@@ -184,6 +187,7 @@ impl Set {
     pub fn begin(&mut self, instance: u32) -> Result<Event, Misuse>
         ensures event { IfOk result (λ e. e ≡ Event.Resume instance []) }
         ensures begins { OnOk result (self.new ≡ after_begin self.old instance) }
+        ensures history { IfOk result (λ e. GoesOn self.old (begins instance) e self.new) }
         ensures misuse { result_err result ≡ misuse_of_begin self.old instance }
         ensures err { OnErr result (self.new ≡ self.old) }
     {
@@ -210,6 +214,7 @@ impl Set {
     /// Misuse: `Idle` where the stack is empty. The state is then unchanged.
     pub fn step(&mut self, made: &Move) -> Result<Event, Misuse>
         ensures step { IfOk result (λ e. Step self.old made.now e self.new) }
+        ensures history { IfOk result (λ e. GoesOn self.old (moves made.now) e self.new) }
         ensures goes_on { IfOk result (λ e. is_last e ≡ false → 0 < length self.new.stack) }
         ensures idle { IsErrOf result Misuse.Idle ↔ (self.old.stack ≡ []) }
         ensures only { IfErr result (λ m. m ≡ Misuse.Idle) }
@@ -228,6 +233,8 @@ impl Set {
     /// room for the list. The state is then unchanged.
     pub fn run(&mut self, alloc: Global, moves: &[Move]) -> Result<Vec<Event>, Misuse>
         ensures run { IfOk result (λ events. Run self.old moves.now events.items self.new) }
+        ensures history { IfOk result (λ events.
+            RunsAlways self.old moves.now events.items self.new) }
         ensures idle { IsErrOf result Misuse.Idle
             ↔ ((0 < length moves.now) × (self.old.stack ≡ [])) }
         ensures only { IfErr result (λ m. (m ≡ Misuse.Idle) ⊎ (m ≡ Misuse.Memory)) }
@@ -409,6 +416,7 @@ impl Set {
               (after_growth (memory_at self.old.memories instance) pages);
         }) }
         ensures err { OnErr result (self.new ≡ self.old) }
+        ensures some { OnErr result (0 < pages) }
     {
         self.memories.grow(instance as usize, pages)
     }
@@ -428,6 +436,7 @@ impl Set {
             Grows self.old top.now pages (may_grow self.old top.now pages) e self.new) }
         ensures unchanged { OnErr result (self.new ≡ self.old) }
         ensures wants { OnErr result (may_grow self.old top.now pages ≡ true) }
+        ensures some { OnErr result (0 < pages) }
     {
         let len = self.memory_len(top);
         if len + pages as usize * PAGE_SIZE <= MAX_MEMORY_SIZE {
