@@ -337,12 +337,12 @@ fn core_signatures(rt: HostRuntime) -> Result<(), Fail> {
         (17, Side::Lower, true, (2, 0, true, true)),
     ];
     for (count, side, spilled, want) in rows {
-        let ty = if spilled {
-            TypeNode::String
+        let answer = if spilled {
+            Some(TypeTree::new(TypeNode::String)?)
         } else {
-            TypeNode::Tuple(Vec::new(alloc))
+            None
         };
-        let func = Func::new(numbers(alloc, count)?, Some(TypeTree::new(ty)?))?;
+        let func = Func::new(numbers(alloc, count)?, answer)?;
         let flat = flatten_func(alloc, &func, side)?;
         assert_eq!(rt; counts(&flat), want, "{count} parameters");
     }

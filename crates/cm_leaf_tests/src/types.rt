@@ -3,7 +3,7 @@
 use crate::same::same;
 use cm_types::{
     Case, CoreKind, CoreValue, ExternName, ExternNameForm, Field, Func, Label, NameFault,
-    ResourceId, TooLarge, TypeNode, TypeTree, is_scalar, same_func, same_name, same_type,
+    ResourceId, TypeFault, TypeNode, TypeTree, is_scalar, same_func, same_name, same_type,
 };
 use std::alloc::Global;
 use std::test::Fail;
@@ -172,6 +172,11 @@ fn limits(rt: HostRuntime) -> Result<(), Fail> {
     assert!(rt; !is_within(fixed(alloc, TypeNode::U8, 10_000)?));
     assert!(rt; is_within(lists(alloc, 64)?));
     assert!(rt; !is_within(lists(alloc, 65)?));
+    // Refused and let go without a stack of that depth.
+    assert!(rt; !is_within(lists(alloc, 100_000)?));
+    assert!(rt; !is_within(TypeNode::Tuple(Vec::new(alloc))));
+    assert!(rt; !is_within(TypeNode::Flags(Vec::new(alloc))));
+    assert!(rt; !is_within(fixed(alloc, TypeNode::U8, 0)?));
     // 5 nodes 400 times, and the list: 2,001. Five of these, and the list around: 10,006.
     let small = pair(alloc, lists(alloc, 2)?, lists(alloc, 2)?)?;
     let large = fixed(alloc, fixed(alloc, small, 400)?, 5)?;
@@ -181,7 +186,7 @@ fn limits(rt: HostRuntime) -> Result<(), Fail> {
         label: Label::parse(alloc, "a")?,
         ty: fixed(alloc, TypeNode::U8, 9_999)?,
     })?;
-    same(&rt, Func::new(params, None).err(), Some(TooLarge));
+    same(&rt, Func::new(params, None).err(), Some(TypeFault::TooLarge));
     Ok(())
 }
 
