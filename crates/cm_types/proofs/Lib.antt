@@ -5,3 +5,4 @@ pub mod Nodes
 pub mod Seen
 pub mod SameTypeLemmas
 pub mod SameTypeLaws
+pub mod SpellableLemmas

@@ -7,6 +7,7 @@ pub mod Names
 pub mod TypeTrees
 pub mod Types
 pub mod Limits
+pub mod Spellable
 pub mod Values
 pub mod ValueTrees
 pub mod SameTypes

@@ -24,7 +24,8 @@ mutual
     text : List ℕ → Val
     -- the elements of a list
     elements : Vals → Val
-    -- the fields of a record or a tuple
+    -- the fields of a record or a tuple, and the elements of a list of fixed length, which is the
+    -- tuple of them (CanonicalABI.md, "Despecialization")
     parts : Vals → Val
     -- the case of this number, from 0, without payload and with one
     bare : ℕ → Val
@@ -77,7 +78,7 @@ abbrev mutual
   HasType char (scalar c) = IsScalarValue c
   HasType string (text cs) = AllByRecursion IsScalarValue cs
   HasType (list t) (elements vs) = AllVals (HasType t) vs
-  HasType (fixed_list t n) (elements vs) = (count_of vs ≡ n) × AllVals (HasType t) vs
+  HasType (fixed_list t n) (parts vs) = (count_of vs ≡ n) × AllVals (HasType t) vs
   HasType (fields k fs) (parts vs) = HaveTypes fs vs
   HasType (cases k cs) (bare i) = IsPlainCase cs i
   HasType (cases k cs) (bearing i v) = IsCarriedCase cs i v

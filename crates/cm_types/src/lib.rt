@@ -3,6 +3,7 @@
 
 mod core_value;
 mod def_types;
+mod dismantling;
 mod extern_names;
 pub mod laws;
 mod limits;
@@ -10,6 +11,7 @@ mod names;
 mod resource;
 mod same_types;
 mod signatures;
+mod spellable;
 mod type_trees;
 mod values;
 
@@ -21,5 +23,6 @@ pub use names::{Label, NameFault, same_name};
 pub use resource::ResourceId;
 pub use same_types::{same_func, same_type};
 pub use signatures::{ExternType, InstanceItem, ItemType, Signature, SignatureItem};
-pub use type_trees::{Case, Field, Func, TooLarge, TypeNode, TypeTree};
+pub use spellable::MAX_FLAGS;
+pub use type_trees::{Case, Field, Func, TypeFault, TypeNode, TypeTree};
 pub use values::{Value, is_scalar};

@@ -104,28 +104,26 @@ fn nodes_of_cases(cases: &[Case]) -> u32
     count
 }
 
-fn deeper(depth: u32) -> u32
-    ensures { result ≡ min (1 + depth) (MAX_DEPTH + 1) }
-{
-    if depth <= MAX_DEPTH {
-        depth + 1
-    } else {
-        MAX_DEPTH + 1
-    }
-}
-
-/// The depth, or 65 where it is more than 64.
+/// The depth, or `most` where it is more than that. It looks no deeper than `most`, and so takes no
+/// more of the stack.
 #[cycle(depth)]
-pub(crate) fn depth(ty: &TypeNode) -> u32
-    ensures { result ≡ min (depth_of (type_of ty.now)) (MAX_DEPTH + 1) }
+#[tactic(auto, using(crate::proofs::Nodes::depths))]
+pub(crate) fn depth_up_to(ty: &TypeNode, most: u32) -> u32
+    ensures { result ≡ min (depth_of (type_of ty.now)) most }
 {
+    if most == 0 {
+        return 0;
+    }
+    let below = most - 1;
     match ty {
-        TypeNode::List(element) | TypeNode::Option(element) => deeper(depth(element)),
-        TypeNode::FixedList { element, .. } => deeper(depth(element)),
-        TypeNode::Record(fields) => deeper(depth_of_fields(fields)),
-        TypeNode::Tuple(parts) => deeper(depth_of_parts(parts)),
-        TypeNode::Variant(cases) => deeper(depth_of_cases(cases)),
-        TypeNode::Result { ok, error } => deeper(depth_of_payload(ok).max(depth_of_payload(error))),
+        TypeNode::List(element) | TypeNode::Option(element) => 1 + depth_up_to(element, below),
+        TypeNode::FixedList { element, .. } => 1 + depth_up_to(element, below),
+        TypeNode::Record(fields) => 1 + depth_of_fields_up_to(fields, below),
+        TypeNode::Tuple(parts) => 1 + depth_of_parts(parts, below),
+        TypeNode::Variant(cases) => 1 + depth_of_cases(cases, below),
+        TypeNode::Result { ok, error } => {
+            1 + depth_of_payload(ok, below).max(depth_of_payload(error, below))
+        }
         TypeNode::Bool
         | TypeNode::S8
         | TypeNode::U8
@@ -145,46 +143,46 @@ pub(crate) fn depth(ty: &TypeNode) -> u32
 }
 
 #[cycle(depth)]
-fn depth_of_payload(payload: &Option<Box<TypeNode>>) -> u32
-    ensures { result ≡ min (payload_depth (boxed_payload payload.now)) (MAX_DEPTH + 1) }
+fn depth_of_payload(payload: &Option<Box<TypeNode>>, most: u32) -> u32
+    ensures { result ≡ min (payload_depth (boxed_payload payload.now)) most }
 {
     match payload {
-        Some(ty) => depth(ty),
+        Some(ty) => depth_up_to(ty, most),
         None => 0,
     }
 }
 
 #[cycle(depth)]
-pub(crate) fn depth_of_fields(fields: &[Field]) -> u32
-    ensures { result ≡ min (depth_of_fields (fields_of fields.now)) (MAX_DEPTH + 1) }
+pub(crate) fn depth_of_fields_up_to(fields: &[Field], most: u32) -> u32
+    ensures { result ≡ min (depth_of_fields (fields_of fields.now)) most }
 {
-    let mut most = 0;
+    let mut deepest = 0;
     for field in fields {
-        most = most.max(depth(&field.ty));
+        deepest = deepest.max(depth_up_to(&field.ty, most));
     }
-    most
+    deepest
 }
 
 #[cycle(depth)]
-fn depth_of_parts(parts: &[TypeNode]) -> u32
-    ensures { result ≡ min (depth_of_fields (parts_of parts.now)) (MAX_DEPTH + 1) }
+fn depth_of_parts(parts: &[TypeNode], most: u32) -> u32
+    ensures { result ≡ min (depth_of_fields (parts_of parts.now)) most }
 {
-    let mut most = 0;
+    let mut deepest = 0;
     for part in parts {
-        most = most.max(depth(part));
+        deepest = deepest.max(depth_up_to(part, most));
     }
-    most
+    deepest
 }
 
 #[cycle(depth)]
-fn depth_of_cases(cases: &[Case]) -> u32
-    ensures { result ≡ min (depth_of_cases (cases_of cases.now)) (MAX_DEPTH + 1) }
+fn depth_of_cases(cases: &[Case], most: u32) -> u32
+    ensures { result ≡ min (depth_of_cases (cases_of cases.now)) most }
 {
-    let mut most = 0;
+    let mut deepest = 0;
     for case in cases {
         if let Some(ty) = &case.payload {
-            most = most.max(depth(ty));
+            deepest = deepest.max(depth_up_to(ty, most));
         }
     }
-    most
+    deepest
 }

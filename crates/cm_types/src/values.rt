@@ -17,7 +17,7 @@ pub enum Value {
     String(String),
     /// The elements of a list.
     List(Vec<Value>),
-    /// The fields of a record or a tuple, in order.
+    /// The fields of a record or a tuple, or the elements of a list of fixed length, in order.
     Fields(Vec<Value>),
     /// The case `index`, from 0, of a variant, an enum, an option (none, some) or a result (ok,
     /// error).
