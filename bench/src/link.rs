@@ -1,5 +1,5 @@
-//! Linking a component that exports functions to one that imports and lowers them all, against plain
-//! Rust: from the bytes of the two files on, which are decoded and validated first.
+//! Linking a component that exports functions to one that imports and lowers them all, against
+//! plain Rust: from the bytes of the two files on, which are decoded and validated first.
 
 use crate::measure::{Rival, nanoseconds};
 use crate::{plain, samples};

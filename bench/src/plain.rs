@@ -1,6 +1,6 @@
 //! Component files as a Rust programmer would read, write, check and link them: the forms that
-//! Huxarte carries, by the same rules, with no proofs. A fault is only that there is one; names with
-//! versions are left out.
+//! Huxarte carries, by the same rules, with no proofs. A fault is only that there is one; names
+//! with versions are left out.
 
 use std::collections::{HashMap, HashSet};
 use std::rc::Rc;
