@@ -39,12 +39,19 @@ pub fn run() {
         ("custom", samples::custom),
     ];
     println!("files (a ratio above 1: ours is faster)");
-    println!("{:8} {:18} {:>9} {:>11} {:>11} {:>6}", "file", "task", "bytes", "ours µs", "plain µs", "ratio");
+    println!(
+        "{:8} {:18} {:>9} {:>11} {:>11} {:>6}",
+        "file", "task", "bytes", "ours µs", "plain µs", "ratio"
+    );
     for (kind, file_of) in kinds {
         for size in [1 << 10, 64 << 10, 1 << 20, samples::LARGEST] {
             let file = file_of(size);
             for (name, ours, plain) in tasks {
-                assert!(![0, usize::MAX].contains(&plain_decode(&file)) && file.len() <= samples::LARGEST, "{kind}");
+                assert!(
+                    ![0, usize::MAX].contains(&plain_decode(&file))
+                        && file.len() <= samples::LARGEST,
+                    "{kind}"
+                );
                 assert_eq!(ours(&file), plain(&file), "{kind} {name}");
                 let times = nanoseconds(&mut [
                     Rival::new("ours", || {
@@ -55,7 +62,11 @@ pub fn run() {
                     }),
                 ]);
                 let [ours, plain] = [times[0] / 1e3, times[1] / 1e3];
-                println!("{kind:8} {name:18} {:9} {ours:11.1} {plain:11.1} {:6.2}", file.len(), plain / ours);
+                println!(
+                    "{kind:8} {name:18} {:9} {ours:11.2} {plain:11.2} {:6.2}",
+                    file.len(),
+                    plain / ours
+                );
             }
         }
     }

@@ -1,12 +1,18 @@
-//! Calls from a number to a number, each a call and a return, against a plain machine of the same rules: the same
-//! moves, checks in the same order, events, traps and bounds.
+//! Calls from a number to a number, each a call and a return, against a plain machine of the same
+//! rules: the same moves, checks in the same order, events, traps and bounds.
 
 use crate::measure::{Rival, nanoseconds};
 use crate::samples;
 use std::hint::black_box;
 
 unsafe extern "C" {
-    fn cm_bench_calls(provider: *const u8, provider_size: usize, user: *const u8, user_size: usize, calls: u32) -> u64;
+    fn cm_bench_calls(
+        provider: *const u8,
+        provider_size: usize,
+        user: *const u8,
+        user_size: usize,
+        calls: u32,
+    ) -> u64;
 }
 
 const MOST_FRAMES: usize = 64;
@@ -153,13 +159,17 @@ impl Machine {
     }
 
     fn lowered(&self, top: &Frame, func: u32, args: &[CoreValue]) -> Result<Lowered, Trap> {
-        let Some(CoreFunc::Lowered(lowered)) = self.plan[actor(top) as usize].get(func as usize) else {
+        let Some(CoreFunc::Lowered(lowered)) = self.plan[actor(top) as usize].get(func as usize)
+        else {
             return Err(Trap::UnknownFunction);
         };
         if !are_i32s(lowered.params, args) {
             return Err(Trap::CoreShape);
         }
-        if matches!(top.purpose, Purpose::Call { phase: Phase::Arguments | Phase::Results | Phase::PostReturn, .. }) {
+        if matches!(
+            top.purpose,
+            Purpose::Call { phase: Phase::Arguments | Phase::Results | Phase::PostReturn, .. }
+        ) {
             return Err(Trap::MayNotLeave);
         }
         if self.closed[lowered.instance as usize] {
@@ -177,11 +187,7 @@ impl Machine {
             instance: lowered.instance,
             purpose: Purpose::Call { caller: actor(top), lowered, phase: Phase::Body },
         });
-        Ok(Event::Enter {
-            instance: lowered.instance,
-            func: lowered.func,
-            args: Flat::new(args),
-        })
+        Ok(Event::Enter { instance: lowered.instance, func: lowered.func, args: Flat::new(args) })
     }
 
     fn return_from(&mut self, top: &Frame, values: &[CoreValue]) -> Result<Event, Trap> {
@@ -191,7 +197,9 @@ impl Machine {
         self.stack.pop();
         Ok(match top.purpose {
             Purpose::Root => Event::Ended,
-            Purpose::Call { caller, .. } => Event::Resume { instance: caller, values: Flat::new(values) },
+            Purpose::Call { caller, .. } => {
+                Event::Resume { instance: caller, values: Flat::new(values) }
+            }
         })
     }
 
@@ -200,7 +208,10 @@ impl Machine {
         match made {
             Move::Write { at, bytes } => {
                 let at = *at as usize;
-                memory.get_mut(at..at + bytes.len()).ok_or(Trap::GuestBounds)?.copy_from_slice(bytes);
+                memory
+                    .get_mut(at..at + bytes.len())
+                    .ok_or(Trap::GuestBounds)?
+                    .copy_from_slice(bytes);
                 Ok(Event::Done)
             }
             Move::Grow { pages } => {
@@ -232,7 +243,8 @@ impl Machine {
 /// The number that an event carries, 0 where it carries none.
 fn number_of(event: &Event) -> u64 {
     match event {
-        Event::Enter { args: values, .. } | Event::Resume { values, .. } => match values.as_slice() {
+        Event::Enter { args: values, .. } | Event::Resume { values, .. } => match values.as_slice()
+        {
             [CoreValue::I32(number)] => u64::from(*number),
             _ => 0,
         },
@@ -255,9 +267,16 @@ fn plain(calls: u32) -> Option<u64> {
 
 pub fn run() {
     let [provider, user] = samples::pair(1);
-    let ours = |calls| unsafe { cm_bench_calls(provider.as_ptr(), provider.len(), user.as_ptr(), user.len(), calls) };
-    println!("calls of a function from a number to a number, by step (a ratio above 1: ours is faster)");
-    println!("{:>9} {:>9} {:>9} {:>11} {:>6}", "calls", "ours ms", "plain ms", "ours ns/call", "ratio");
+    let ours = |calls| unsafe {
+        cm_bench_calls(provider.as_ptr(), provider.len(), user.as_ptr(), user.len(), calls)
+    };
+    println!(
+        "calls of a function from a number to a number, by step (a ratio above 1: ours is faster)"
+    );
+    println!(
+        "{:>9} {:>9} {:>9} {:>11} {:>6}",
+        "calls", "ours ms", "plain ms", "ours ns/call", "ratio"
+    );
     for calls in [10_000, 100_000, 1_000_000] {
         assert_eq!(Some(ours(calls)), plain(calls));
         assert_eq!(ours(calls), 83 * u64::from(calls));
@@ -270,6 +289,11 @@ pub fn run() {
             }),
         ]);
         let each = times[0] / f64::from(calls);
-        println!("{calls:9} {:9.3} {:9.3} {each:11.1} {:6.2}", times[0] / 1e6, times[1] / 1e6, times[1] / times[0]);
+        println!(
+            "{calls:9} {:9.3} {:9.3} {each:11.1} {:6.2}",
+            times[0] / 1e6,
+            times[1] / 1e6,
+            times[1] / times[0]
+        );
     }
 }

@@ -1,4 +1,4 @@
-//! Huxarte's parts against independent implementations: a table of ratios for each, measured in one run.
+//! Huxarte's parts against independent implementations: a table of ratios for each, in one run.
 //! Words on the command line name the parts; none means all.
 
 mod files;

@@ -1,5 +1,6 @@
-//! Component files as a Rust programmer would read, write, check and link them: the forms that Huxarte carries, by the
-//! same rules, with no proofs. A fault is only that there is one; names with versions are left out.
+//! Component files as a Rust programmer would read, write, check and link them: the forms that
+//! Huxarte carries, by the same rules, with no proofs. A fault is only that there is one; names
+//! with versions are left out.
 
 use std::collections::{HashMap, HashSet};
 use std::rc::Rc;
@@ -106,8 +107,12 @@ impl<'a> Reader<'a> {
 
 fn is_fragment(text: &str) -> bool {
     match text.as_bytes() {
-        [b'a'..=b'z', rest @ ..] => rest.iter().all(|b| b.is_ascii_lowercase() || b.is_ascii_digit()),
-        [b'A'..=b'Z', rest @ ..] => rest.iter().all(|b| b.is_ascii_uppercase() || b.is_ascii_digit()),
+        [b'a'..=b'z', rest @ ..] => {
+            rest.iter().all(|b| b.is_ascii_lowercase() || b.is_ascii_digit())
+        }
+        [b'A'..=b'Z', rest @ ..] => {
+            rest.iter().all(|b| b.is_ascii_uppercase() || b.is_ascii_digit())
+        }
         _ => false,
     }
 }
@@ -215,7 +220,9 @@ fn section(reader: &mut Reader) -> Option<Section> {
             let bytes = part.bytes(part.rest.len())?.to_vec();
             Section::Custom { name, bytes }
         }
-        1 if part.rest.starts_with(&MODULE) => Section::CoreModule(part.bytes(part.rest.len())?.to_vec()),
+        1 if part.rest.starts_with(&MODULE) => {
+            Section::CoreModule(part.bytes(part.rest.len())?.to_vec())
+        }
         2 => Section::CoreInstances(part.vec(core_instance)?),
         6 => Section::Aliases(part.vec(alias)?),
         7 => Section::Types(part.vec(func_type)?),
@@ -446,7 +453,10 @@ pub fn validate(sections: Vec<Section>) -> Option<Checked> {
             Section::CoreInstances(items) => {
                 for (module, args) in items {
                     let distinct = are_distinct(args.iter().map(|(name, _)| name.as_str()));
-                    if *module >= modules || args.iter().any(|(_, at)| *at >= instances) || !distinct {
+                    if *module >= modules
+                        || args.iter().any(|(_, at)| *at >= instances)
+                        || !distinct
+                    {
                         return None;
                     }
                     instances += 1;
@@ -471,14 +481,17 @@ pub fn validate(sections: Vec<Section>) -> Option<Checked> {
                         Canon::Lift { core_func, ty } => {
                             let ty = types.get(*ty as usize)?;
                             let core = core_funcs.get(*core_func as usize)?;
-                            if ty.params.len() > MOST_PARAMS || !matches!(core, CoreFunc::Guest { .. }) {
+                            if ty.params.len() > MOST_PARAMS
+                                || !matches!(core, CoreFunc::Guest { .. })
+                            {
                                 return None;
                             }
                             funcs.push(FuncDef::Lifted { core_func: *core_func, ty: ty.clone() });
                         }
                         Canon::Lower { func } => match funcs.get(*func as usize)? {
                             FuncDef::Imported { import, ty } if ty.params.len() <= MOST_PARAMS => {
-                                core_funcs.push(CoreFunc::Lowered { import: *import, ty: ty.clone() });
+                                core_funcs
+                                    .push(CoreFunc::Lowered { import: *import, ty: ty.clone() });
                             }
                             _ => return None,
                         },
@@ -502,13 +515,7 @@ pub fn validate(sections: Vec<Section>) -> Option<Checked> {
             }
         }
     }
-    Some(Checked {
-        sections,
-        core_funcs,
-        funcs,
-        imports: imports.list,
-        exports: exports.list,
-    })
+    Some(Checked { sections, core_funcs, funcs, imports: imports.list, exports: exports.list })
 }
 
 /// A line of a plan: which export serves an import, and the lifted function that it reaches.
@@ -528,7 +535,12 @@ pub struct Linked {
 }
 
 /// The lifted function that a component's export is, its own or one that it imported.
-fn reached(components: &[Checked], targets: &[Vec<Option<(usize, u32)>>], provider: usize, export: usize) -> Option<(usize, u32)> {
+fn reached(
+    components: &[Checked],
+    targets: &[Vec<Option<(usize, u32)>>],
+    provider: usize,
+    export: usize,
+) -> Option<(usize, u32)> {
     let component = &components[provider];
     match component.funcs[component.exports[export].1.0 as usize] {
         FuncDef::Lifted { core_func, .. } => Some((provider, core_func)),
@@ -555,7 +567,10 @@ pub fn link(components: Vec<Checked>) -> Option<Linked> {
         }
         targets.push(own);
         for (export, (name, _)) in component.exports.iter().enumerate() {
-            offers.entry(name).and_modify(|offer| offer.2 = true).or_insert((importer, export, false));
+            offers
+                .entry(name)
+                .and_modify(|offer| offer.2 = true)
+                .or_insert((importer, export, false));
         }
     }
     Some(Linked { components, plan })

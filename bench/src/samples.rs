@@ -46,7 +46,8 @@ fn func_type(params: usize, size: usize) -> Vec<u8> {
     [vec![0x40], list(&params), vec![0x00, 0x79]].concat()
 }
 
-/// Types with labels: as many types of 8 parameters as there may be, with labels as long as the size wants.
+/// Types with labels: as many types of 8 parameters as there may be, with labels as long as the
+/// size wants.
 pub fn types(size: usize) -> Vec<u8> {
     let count = (size / 144).clamp(1, 4_000);
     let one = func_type(8, (size / count / 8).max(16) - 3);
@@ -62,7 +63,8 @@ fn name(at: usize) -> String {
 }
 
 fn imports(count: usize) -> Vec<u8> {
-    let items: Vec<Vec<u8>> = (0..count).map(|at| [vec![0x00], text(&name(at)), vec![0x01, 0x00]].concat()).collect();
+    let items: Vec<Vec<u8>> =
+        (0..count).map(|at| [vec![0x00], text(&name(at)), vec![0x01, 0x00]].concat()).collect();
     section(10, &list(&items))
 }
 
@@ -81,10 +83,14 @@ pub fn custom(size: usize) -> Vec<u8> {
     file(&[section(0, &[text("notes"), vec![0xA5; size - 32]].concat())])
 }
 
-/// A component that exports so many functions, which are one lifted function, and one that imports and lowers them all.
+/// A component that exports so many functions, which are one lifted function, and one that imports
+/// and lowers them all.
 pub fn pair(count: usize) -> [Vec<u8>; 2] {
-    let exports: Vec<Vec<u8>> = (0..count).map(|at| [vec![0x00], text(&name(at)), vec![0x01, 0x00, 0x00]].concat()).collect();
-    let lowers: Vec<Vec<u8>> = (0..count).map(|at| [vec![0x01, 0x00], number(at), vec![0x00]].concat()).collect();
+    let exports: Vec<Vec<u8>> = (0..count)
+        .map(|at| [vec![0x00], text(&name(at)), vec![0x01, 0x00, 0x00]].concat())
+        .collect();
+    let lowers: Vec<Vec<u8>> =
+        (0..count).map(|at| [vec![0x01, 0x00], number(at), vec![0x00]].concat()).collect();
     let provider = file(&[
         section(1, &MODULE),
         section(2, &list(&[vec![0x00, 0x00, 0x00]])),
