@@ -80,7 +80,7 @@ pub enum Canon {
 }
 
 /// The type of an import (Binary.md, `externdesc`).
-#[derive(Clone, Copy)]
+#[derive(Clone, Copy, Debug, PartialEq, Eq)]
 pub enum ExternDesc {
     /// A function of the type with this index.
     Func(u32),
