@@ -3,7 +3,8 @@
 use crate::same::same;
 use cm_types::{
     Case, CoreKind, CoreValue, ExternName, ExternNameForm, Field, Func, Label, NameFault,
-    ResourceId, TypeFault, TypeNode, TypeTree, is_scalar, same_func, same_name, same_type,
+    ResourceId, TypeFault, TypeNode, TypeTree, Value, has_type, is_scalar, same_func, same_name,
+    same_type,
 };
 use std::alloc::Global;
 use std::test::Fail;
@@ -186,7 +187,11 @@ fn limits(rt: HostRuntime) -> Result<(), Fail> {
         label: Label::parse(alloc, "a")?,
         ty: fixed(alloc, TypeNode::U8, 9_999)?,
     })?;
-    same(&rt, Func::new(params, None).err(), Some(TypeFault::TooLarge));
+    same(
+        &rt,
+        Func::new(params, None).err(),
+        Some(TypeFault::TooLarge),
+    );
     Ok(())
 }
 
@@ -306,4 +311,89 @@ fn scalars_and_kinds(rt: HostRuntime) {
         assert_eq!(rt; is_scalar(number), want, "at {number}");
     }
     same(&rt, CoreValue::I64(1).kind(), CoreKind::I64);
+}
+
+fn case(alloc: Global, index: u32, payload: Option<Value>) -> Result<Value, Fail> {
+    let payload = match payload {
+        Some(value) => Some(Box::new(alloc, value)?),
+        None => None,
+    };
+    Ok(Value::Case { index, payload })
+}
+
+/// Three numbers.
+fn numbers(alloc: Global) -> Result<Vec<Value>, Fail> {
+    Ok(vec![in alloc; Value::Unsigned(1), Value::Unsigned(2), Value::Unsigned(3)]?)
+}
+
+fn option_of_u8(alloc: Global) -> Result<TypeNode, Fail> {
+    Ok(TypeNode::Option(Box::new(alloc, TypeNode::U8)?))
+}
+
+#[test]
+fn values_of_types(rt: HostRuntime) -> Result<(), Fail> {
+    let alloc = rt.alloc();
+    let list = TypeNode::List(Box::new(alloc, TypeNode::U8)?);
+    let rows = [
+        (TypeNode::S8, Value::Signed(-128), true),
+        (TypeNode::S8, Value::Signed(128), false),
+        (TypeNode::S64, Value::Signed(i64::MIN), true),
+        (TypeNode::U16, Value::Unsigned(65_535), true),
+        (TypeNode::U16, Value::Unsigned(65_536), false),
+        (TypeNode::U8, Value::Signed(1), false),
+        (TypeNode::Char, Value::Char('x'), true),
+        (list, Value::List(numbers(alloc)?), true),
+        (
+            fixed(alloc, TypeNode::U8, 3)?,
+            Value::Fields(numbers(alloc)?),
+            true,
+        ),
+        (
+            fixed(alloc, TypeNode::U8, 2)?,
+            Value::Fields(numbers(alloc)?),
+            false,
+        ),
+        (
+            fixed(alloc, TypeNode::U8, 3)?,
+            Value::List(numbers(alloc)?),
+            false,
+        ),
+        (
+            TypeNode::Flags(one_label(alloc, "a")?),
+            Value::Flags(1),
+            true,
+        ),
+        (
+            TypeNode::Flags(one_label(alloc, "a")?),
+            Value::Flags(2),
+            false,
+        ),
+        (
+            TypeNode::Enum(one_label(alloc, "a")?),
+            case(alloc, 0, None)?,
+            true,
+        ),
+        (
+            TypeNode::Enum(one_label(alloc, "a")?),
+            case(alloc, 1, None)?,
+            false,
+        ),
+        (option_of_u8(alloc)?, case(alloc, 0, None)?, true),
+        (
+            option_of_u8(alloc)?,
+            case(alloc, 1, Some(Value::Unsigned(255)))?,
+            true,
+        ),
+        (
+            option_of_u8(alloc)?,
+            case(alloc, 1, Some(Value::Unsigned(256)))?,
+            false,
+        ),
+        (option_of_u8(alloc)?, case(alloc, 1, None)?, false),
+    ];
+    for (i, (root, value, want)) in rows.into_iter().enumerate() {
+        let ty = TypeTree::new(root)?;
+        assert_eq!(rt; has_type(&value, &ty), want, "row {i}");
+    }
+    Ok(())
 }
