@@ -6,3 +6,5 @@ pub mod Seen
 pub mod SameTypeLemmas
 pub mod SameTypeLaws
 pub mod SpellableLemmas
+pub mod TypedValueLemmas
+pub mod TypedValueLaws

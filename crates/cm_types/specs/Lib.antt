@@ -13,3 +13,4 @@ pub mod ValueTrees
 pub mod SameTypes
 pub mod Funcs
 pub mod Signatures
+pub mod TypedValues

@@ -13,6 +13,7 @@ mod same_types;
 mod signatures;
 mod spellable;
 mod type_trees;
+mod typed_values;
 mod values;
 
 pub use core_value::{CoreKind, CoreValue};
@@ -25,4 +26,5 @@ pub use same_types::{same_func, same_type};
 pub use signatures::{ExternType, InstanceItem, ItemType, Signature, SignatureItem};
 pub use spellable::MAX_FLAGS;
 pub use type_trees::{Case, Field, Func, TypeFault, TypeNode, TypeTree};
+pub use typed_values::has_type;
 pub use values::{Value, is_scalar};

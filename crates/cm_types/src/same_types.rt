@@ -68,7 +68,7 @@ fn resolve(resources: &[ResourceId], id: ResourceId) -> ResourceId
     }
 }
 
-fn same_resource(a: ResourceId, b: ResourceId) -> bool
+pub(crate) fn same_resource(a: ResourceId, b: ResourceId) -> bool
     ensures { result ≡ same_resource a b }
 {
     a.component == b.component && a.number == b.number
