@@ -45,7 +45,7 @@ fn count_for(go: &mut dyn FnMut()) -> u32 {
 /// The nanoseconds of one go of each rival: the least over samples that are taken in turn.
 pub fn nanoseconds(rivals: &mut [Rival]) -> Vec<f64> {
     let counts: Vec<u32> = rivals.iter_mut().map(|r| count_for(&mut r.go)).collect();
-    let are_long = rivals.iter_mut().zip(&counts).any(|(r, n)| *n == 1 && time_of(&mut r.go, 1) > LONG);
+    let are_long = rivals.iter_mut().any(|rival| time_of(&mut rival.go, 1) > LONG);
     let mut least = vec![f64::INFINITY; rivals.len()];
     for _ in 0..if are_long { FEW_SAMPLES } else { SAMPLES } {
         for ((rival, count), least) in rivals.iter_mut().zip(&counts).zip(&mut least) {
