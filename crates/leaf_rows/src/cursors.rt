@@ -16,7 +16,8 @@ enum Reason {
 }
 
 /// The answer to `steps BYTES STEP..`, `part BYTES SIZE STEP..` or `write_prefixed BEFORE BYTES`.
-/// A STEP is `number`, `signed`, `raw:COUNT`, `fixed:BYTES`, `begun:BYTES` or `finish`.
+/// A STEP is `number`, `signed`, `raw:COUNT`, `fixed:BYTES`, `begun:BYTES`, `finish`,
+/// `fault` or `want`.
 pub fn answer(alloc: Global, words: &[&str]) -> Result<String, RowFault> {
     match words {
         ["steps", bytes, steps @ ..] => {
@@ -93,6 +94,8 @@ fn take_step(
             let bytes = cursor.begun(&read_bytes(alloc, operand)?, Reason::Bad);
             write_outcome(out, bytes)?;
         }
+        "fault" => write_error(out, cursor.fault(Reason::Bad))?,
+        "want" => write_error(out, cursor.want())?,
         "finish" => match cursor.finish(Reason::Mismatch) {
             Ok(()) => out.push_str("finished")?,
             Err(error) => write_error(out, error)?,
