@@ -36,13 +36,18 @@ impl Handles {
         }
     }
 
-    /// The answer to `new`, `fill COUNT RESOURCE SERIAL`, `add HANDLE..`, or a call by its name, whose
-    /// words are those of its arguments.
+    /// The answer to `new`, `memory_fault` (the number of the one that no row meets), `fill COUNT
+    /// RESOURCE SERIAL`, `add HANDLE..`, or a call by its name, whose words are those of its
+    /// arguments.
     pub fn answer(&mut self, alloc: Global, words: &[&str]) -> Result<String, RowFault> {
         match words {
             ["new"] => {
                 self.table = Table::new(alloc);
                 Ok(String::from_str(alloc, "empty")?)
+            }
+            ["memory_fault"] => {
+                let number = HandleFault::Memory as u8;
+                Ok(format!(in alloc; "fault {number}")?)
             }
             ["close"] => {
                 self.table.close();
@@ -100,7 +105,8 @@ impl Handles {
         }
     }
 
-    /// Adds so many handles, of which each is to stand at the index after that of the one before it.
+    /// Adds so many handles, of which each is to stand at the index after that of the one before
+    /// it.
     fn fill(&mut self, alloc: Global, count: u32, handle: Handle) -> Result<String, RowFault> {
         let mut last = 0u32;
         for _ in 0..count {
@@ -114,7 +120,8 @@ impl Handles {
         Ok(format!(in alloc; "up to {last}")?)
     }
 
-    /// Takes two handles, says what stands at their indices then, and puts them back, the last one first.
+    /// Takes two handles, says what stands at their indices then, and puts them back, the last one
+    /// first.
     fn take_and_restore(
         &mut self,
         alloc: Global,
@@ -144,7 +151,8 @@ impl Handles {
 
 /// Whether the handle at an index, if one is there, may be lent once more.
 fn may_lend(table: &Table, index: u32) -> bool
-    ensures { IsTrue result → ForSome (handle_at table.now.handles index) (λ handle. handle.lends < 2 ^ 101) }
+    ensures { IsTrue result →
+        ForSome (handle_at table.now.handles index) (λ handle. handle.lends < 2 ^ 101) }
 {
     match table.get(index, RESOURCES[0]) {
         Ok(handle) => handle.lends < 1 << 101,
@@ -156,7 +164,8 @@ fn may_lend(table: &Table, index: u32) -> bool
     }
 }
 
-/// A handle that is lent to no one: `owned RESOURCE SERIAL REP` or `borrowed RESOURCE SERIAL REP CALL`.
+/// A handle that is lent to no one: `owned RESOURCE SERIAL REP` or `borrowed RESOURCE SERIAL REP
+/// CALL`.
 fn read_handle(words: &[&str]) -> Result<Handle, RowFault> {
     let (resource, serial, rep, kind) = match words {
         ["owned", resource, serial, rep] => (resource, serial, rep, HandleKind::Owned),

@@ -10,8 +10,8 @@ use cm_rows::RowFault;
 use cm_types::{CoreKind, TypeTree};
 use std::alloc::{AllocError, Global};
 
-/// The answer to `whole TYPE`, `fields TYPE`, `payload TYPE`, `tree TYPE`, `node TYPE`, `lift FUNC` or
-/// `lower FUNC`.
+/// The answer to `whole TYPE`, `fields TYPE`, `payload TYPE`, `tree TYPE`, `node TYPE`, `lift FUNC`
+/// or `lower FUNC`.
 pub fn answer(alloc: Global, words: &[&str]) -> Result<String, RowFault> {
     match words {
         ["whole", ty @ ..] => show_whole(alloc, &read_tree(alloc, ty)?),
@@ -65,8 +65,8 @@ fn show_payload(alloc: Global, ty: &TypeTree) -> Result<String, RowFault> {
     }
 }
 
-/// What the calls on nodes say: size, alignment, whether it is a number, the offset of the last of the
-/// first three fields, that of the payload, and the layout from byte 64 on.
+/// What the calls on nodes say: size, alignment, whether it is a number, the offset of the last of
+/// the first three fields, that of the payload, and the layout from byte 64 on.
 fn show_node(alloc: Global, ty: &TypeTree) -> Result<String, RowFault> {
     let node = &ty.root;
     let (size, align, is_number) = (node_size(node), node_align(node), is_number(node));

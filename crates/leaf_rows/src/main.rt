@@ -1,4 +1,5 @@
-//! Answers rows by the public calls of the libraries at the bottom, each of which stands on its own.
+//! Answers rows by the public calls of the libraries at the bottom, each of which stands on its
+//! own.
 #![tactic(auto)]
 
 mod cursors;

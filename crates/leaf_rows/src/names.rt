@@ -11,13 +11,13 @@ use std::alloc::Global;
 pub fn answer(alloc: Global, words: &[&str]) -> Result<String, RowFault> {
     match words {
         ["label", text] => match Label::parse(alloc, text) {
-            Ok(label) => show_held(alloc, label.as_str(), label.as_bytes()),
+            Ok(label) => show_text(alloc, label.as_str(), label.as_bytes()),
             Err(fault) => show_fault(alloc, fault),
         },
         ["extern", text] => match ExternName::parse(alloc, text) {
             Ok(name) => {
-                let held = show_held(alloc, name.as_str(), name.as_bytes())?;
-                show_form(alloc, held.as_str(), &name.form())
+                let text = show_text(alloc, name.as_str(), name.as_bytes())?;
+                show_form(alloc, text.as_str(), &name.form())
             }
             Err(fault) => show_fault(alloc, fault),
         },
@@ -41,7 +41,7 @@ fn show_fault(alloc: Global, fault: NameFault) -> Result<String, RowFault> {
 }
 
 /// The text that a name holds, with its bytes where they are others.
-fn show_held(alloc: Global, text: &str, bytes: &[u8]) -> Result<String, RowFault> {
+fn show_text(alloc: Global, text: &str, bytes: &[u8]) -> Result<String, RowFault> {
     if text.as_bytes() == bytes {
         Ok(String::from_str(alloc, text)?)
     } else {
@@ -49,17 +49,17 @@ fn show_held(alloc: Global, text: &str, bytes: &[u8]) -> Result<String, RowFault
     }
 }
 
-fn show_form(alloc: Global, held: &str, form: &ExternNameForm<'_>) -> Result<String, RowFault> {
+fn show_form(alloc: Global, text: &str, form: &ExternNameForm<'_>) -> Result<String, RowFault> {
     Ok(match form {
-        ExternNameForm::Label(label) => format!(in alloc; "{held}: label {label}")?,
+        ExternNameForm::Label(label) => format!(in alloc; "{text}: label {label}")?,
         ExternNameForm::Method { resource, method } => {
-            format!(in alloc; "{held}: method {method} of {resource}")?
+            format!(in alloc; "{text}: method {method} of {resource}")?
         }
         ExternNameForm::Static { resource, function } => {
-            format!(in alloc; "{held}: static {function} of {resource}")?
+            format!(in alloc; "{text}: static {function} of {resource}")?
         }
         ExternNameForm::Constructor { resource } => {
-            format!(in alloc; "{held}: constructor of {resource}")?
+            format!(in alloc; "{text}: constructor of {resource}")?
         }
         ExternNameForm::Interface {
             namespace,
@@ -69,7 +69,7 @@ fn show_form(alloc: Global, held: &str, form: &ExternNameForm<'_>) -> Result<Str
         } => {
             let version = version.unwrap_or("none");
             format!(in alloc;
-                "{held}: interface {interface} of {namespace} {package}, version {version}"
+                "{text}: interface {interface} of {namespace} {package}, version {version}"
             )?
         }
     })

@@ -21,8 +21,8 @@ pub fn answer(alloc: Global, words: &[&str]) -> Result<String, RowFault> {
             let bytes = read_bytes(alloc, bytes)?;
             show_read(alloc, read_s33(&bytes, read_number(at)?))
         }
-        ["write_u32", before, number] => written_u32(alloc, before, read_number(number)?),
-        ["write_s33", before, number] => written_s33(alloc, before, read_number(number)?),
+        ["write_u32", before, number] => show_written_u32(alloc, before, read_number(number)?),
+        ["write_s33", before, number] => show_written_s33(alloc, before, read_number(number)?),
         ["spelled_length", number] => {
             let length = spelled_length(read_number(number)?);
             Ok(length.to_string(alloc)?)
@@ -61,14 +61,14 @@ fn show_fault(alloc: Global, fault: LebFault) -> Result<String, RowFault> {
     Ok(format!(in alloc; "fault {number}")?)
 }
 
-fn written_u32(alloc: Global, before: &str, number: u32) -> Result<String, RowFault> {
+fn show_written_u32(alloc: Global, before: &str, number: u32) -> Result<String, RowFault> {
     let mut out = read_bytes(alloc, before)?;
     write_u32(&mut out, number)?;
     show_bytes(alloc, &out)
 }
 
 /// Only a number of 33 bits with a sign is a row.
-fn written_s33(alloc: Global, before: &str, number: i64) -> Result<String, RowFault> {
+fn show_written_s33(alloc: Global, before: &str, number: i64) -> Result<String, RowFault> {
     if number < -(1 << 32) || number >= 1 << 32 {
         return Err(RowFault::NotARow);
     }

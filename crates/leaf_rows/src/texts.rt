@@ -8,8 +8,8 @@ use cm_text::{
 use std::alloc::{AllocError, Global};
 
 /// The answer to `transcode FROM TO BYTES..`, `scalars FROM BYTES`, `split_first FROM BYTES`,
-/// `append TO NUMBER..`, `constants ENCODING`, `ascii_run BYTES..`, `ascii_units BYTES..`, `widen BYTES`
-/// or `narrow BYTES`.
+/// `append TO NUMBER..`, `constants ENCODING`, `ascii_run BYTES..`, `ascii_units BYTES..`, `widen
+/// BYTES` or `narrow BYTES`.
 pub fn answer(alloc: Global, words: &[&str]) -> Result<String, RowFault> {
     match words {
         ["transcode", from, to, texts @ ..] => transcode_row(alloc, from, to, texts),
@@ -25,8 +25,8 @@ pub fn answer(alloc: Global, words: &[&str]) -> Result<String, RowFault> {
         ["constants", encoding] => constants_row(alloc, encoding),
         ["ascii_run", texts @ ..] => ascii_runs(alloc, texts),
         ["ascii_units", texts @ ..] => ascii_unit_counts(alloc, texts),
-        ["widen", bytes] => widened(alloc, &read_bytes(alloc, bytes)?),
-        ["narrow", units] => narrowed(alloc, &read_bytes(alloc, units)?),
+        ["widen", bytes] => show_wide(alloc, &read_bytes(alloc, bytes)?),
+        ["narrow", units] => show_narrow(alloc, &read_bytes(alloc, units)?),
         _ => Err(RowFault::NotARow),
     }
 }
@@ -159,14 +159,14 @@ fn show_first(alloc: Global, first: Option<(char, &[u8])>) -> Result<String, Row
 
 fn append_row(alloc: Global, to: &str, numbers: &[&str]) -> Result<String, RowFault> {
     match to {
-        "utf8" => appended::<Utf8>(alloc, numbers),
-        "utf16" => appended::<Utf16>(alloc, numbers),
+        "utf8" => append_all::<Utf8>(alloc, numbers),
+        "utf16" => append_all::<Utf16>(alloc, numbers),
         _ => Err(RowFault::NotARow),
     }
 }
 
 /// The text of scalars, whose numbers are in hexadecimal digits.
-fn appended<D: Encoding>(alloc: Global, numbers: &[&str]) -> Result<String, RowFault> {
+fn append_all<D: Encoding>(alloc: Global, numbers: &[&str]) -> Result<String, RowFault> {
     let mut text = Vec::new(alloc);
     for number in numbers {
         let number = u32::from_str_radix(number, 16).map_err(|_| RowFault::NotARow)?;
@@ -206,7 +206,7 @@ fn ascii_unit_counts(alloc: Global, texts: &[&str]) -> Result<String, RowFault> 
 }
 
 /// Only fewer than 1,000 bytes are a row.
-fn widened(alloc: Global, bytes: &[u8]) -> Result<String, RowFault> {
+fn show_wide(alloc: Global, bytes: &[u8]) -> Result<String, RowFault> {
     if bytes.len() >= 1_000 {
         return Err(RowFault::NotARow);
     }
@@ -216,7 +216,7 @@ fn widened(alloc: Global, bytes: &[u8]) -> Result<String, RowFault> {
 }
 
 /// Only units below 0x80 are a row.
-fn narrowed(alloc: Global, units: &[u8]) -> Result<String, RowFault> {
+fn show_narrow(alloc: Global, units: &[u8]) -> Result<String, RowFault> {
     let count = ascii_units(units);
     if units.len() >= 1_000 || units.len() != count.saturating_mul(2) {
         return Err(RowFault::NotARow);

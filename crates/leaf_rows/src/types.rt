@@ -1,10 +1,10 @@
 //! Types as rows spell them, and rows on their limits and their equality.
 //!
 //! A type is words in prefix order: `list`, `option` and `fixed:LENGTH` stand before the type that
-//! they hold, `tuple:COUNT` and `record:LABELS` before those of their fields, `variant:LABELS` before
-//! the payloads of its cases and `result` before its two, where `-` is no payload. Leaves are named,
-//! `enum:LABELS`, `flags:LABELS`, `own:COMPONENT.NUMBER` and `borrow:COMPONENT.NUMBER` among them.
-//! LABELS are joined by commas. `N*` before a word or a label stands for N of them.
+//! they hold, `tuple:COUNT` and `record:LABELS` before those of their fields, `variant:LABELS`
+//! before the payloads of its cases and `result` before its two, where `-` is no payload. Leaves
+//! are named, `enum:LABELS`, `flags:LABELS`, `own:COMPONENT.NUMBER` and `borrow:COMPONENT.NUMBER`
+//! among them. LABELS are joined by commas. `N*` before a word or a label stands for N of them.
 
 use cm_rows::{RowFault, read_number, split_repeat};
 use cm_types::{
@@ -12,8 +12,8 @@ use cm_types::{
 };
 use std::alloc::{AllocError, Global};
 
-/// The answer to `within TYPE`, `within_func FUNC`, `equal TYPE | TYPE ..`, `same LEFT RIGHT TYPE = TYPE`
-/// or `same_func FUNC = FUNC`. LEFT and RIGHT are resources joined by commas, or `-`.
+/// The answer to `within TYPE`, `within_func FUNC`, `equal TYPE | TYPE ..`, `same LEFT RIGHT TYPE =
+/// TYPE` or `same_func FUNC = FUNC`. LEFT and RIGHT are resources joined by commas, or `-`.
 pub fn answer(alloc: Global, words: &[&str]) -> Result<String, RowFault> {
     match words {
         ["within", ty @ ..] => {
@@ -90,8 +90,8 @@ fn split_words<'a, 'b>(
     }
 }
 
-/// The function whose parameters' types stand before `->` and whose result's type, or `-`, after it. Each
-/// parameter is called `a`.
+/// The function whose parameters' types stand before `->` and whose result's type, or `-`, after
+/// it. Each parameter is called `a`.
 pub fn read_func(alloc: Global, words: &[&str]) -> Result<Func, RowFault> {
     let (params, answer) = split_words(words, "->")?;
     let params = fields(alloc, read_types(alloc, params)?)?;

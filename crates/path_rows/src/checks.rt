@@ -6,7 +6,8 @@ use cm_types::{ExternType, Func, SignatureItem};
 use cm_validate::{Checked, CoreFuncDef, FuncDef, ValidFault, ValidReason, validate};
 use std::alloc::{AllocError, Global};
 
-/// The answer to `validate SOURCE`, `core_funcs SOURCE`, `core SOURCE INDEX` or `func SOURCE EXPORT ITEM`.
+/// The answer to `validate SOURCE`, `core_funcs SOURCE`, `core SOURCE INDEX` or `func SOURCE EXPORT
+/// ITEM`.
 pub fn answer(alloc: Global, files: &Files, words: &[&str]) -> Result<String, RowFault> {
     match words {
         ["validate", source] => {

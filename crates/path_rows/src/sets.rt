@@ -47,9 +47,9 @@ impl Sets {
         }
     }
 
-    /// The answer to `target COMPONENT IMPORT ITEM`, `new PAGES..` (which takes the linked set), `begin INSTANCE`,
-    /// `step MOVE`, `run MOVE ; ..`, `acting`, `memory INSTANCE`, `is_closed INSTANCE`, `drives ROOTS LIMIT SEAT | ..`
-    /// or `flat VALUE..`.
+    /// The answer to `target COMPONENT IMPORT ITEM`, `new PAGES..` (which takes the linked set),
+    /// `begin INSTANCE`, `step MOVE`, `run MOVE ; ..`, `acting`, `memory INSTANCE`, `is_closed
+    /// INSTANCE`, `drives ROOTS LIMIT SEAT | ..` or `flat VALUE..`.
     pub fn answer(&mut self, alloc: Global, words: &[&str]) -> Result<String, RowFault> {
         match words {
             ["target", component, import, item] => self.show_target(
@@ -215,8 +215,9 @@ fn read_moves(alloc: Global, words: &[&str]) -> Result<Vec<Move>, RowFault> {
     Ok(moves)
 }
 
-/// For each root what the drive from it answers, which seats have a guest behind it, and which instances are closed
-/// then. A seat is `-` for nobody, or the moves of a guest, which stops after them; `no` seats are none.
+/// For each root what the drive from it answers, which seats have a guest behind it, and which
+/// instances are closed then. A seat is `-` for nobody, or the moves of a guest, which stops after
+/// them; `no` seats are none.
 fn show_drives(
     alloc: Global,
     set: &mut Set,

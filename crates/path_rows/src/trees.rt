@@ -1,9 +1,10 @@
 //! Components as rows spell them: sections joined by `|`, and the items of a section by `;`.
 //!
-//! `custom NAME BYTES`, `module BYTES`, `instances MODULE NAME=INSTANCE.. ; ..`, `aliases INSTANCE NAME ; ..`,
-//! `types func LABEL:u32.. -> u32 ; ..`, `canons lift CORE_FUNC TYPE ; lower FUNC`, `imports NAME TYPE ; ..`
-//! and `exports NAME FUNC ; ..`, where `-` after an arrow is no result. `N*` before `func` stands for so many
-//! types, and before a label for so many parameters, each with its number behind the label.
+//! `custom NAME BYTES`, `module BYTES`, `instances MODULE NAME=INSTANCE.. ; ..`, `aliases INSTANCE
+//! NAME ; ..`, `types func LABEL:u32.. -> u32 ; ..`, `canons lift CORE_FUNC TYPE ; lower FUNC`,
+//! `imports NAME TYPE ; ..` and `exports NAME FUNC ; ..`, where `-` after an arrow is no result.
+//! `N*` before `func` stands for so many types, and before a label for so many parameters, each
+//! with its number behind the label.
 
 use cm_binary::{
     Alias, Canon, CoreInstance, CoreInstantiationArg, CoreSort, CustomSection, Export, ExternDesc,
@@ -45,11 +46,12 @@ fn read_section(alloc: Global, words: &[&str]) -> Result<Section, RowFault> {
 fn read_instances(alloc: Global, words: &[&str]) -> Result<Section, RowFault> {
     let mut instances = Vec::new(alloc);
     for item in words.split(|word| *word == ";") {
-        if let [module, args @ ..] = item {
-            instances.push(CoreInstance::Instantiate {
+        match item {
+            [] => {}
+            [module, args @ ..] => instances.push(CoreInstance::Instantiate {
                 module: read_number(module)?,
                 args: read_args(alloc, args)?,
-            })?;
+            })?,
         }
     }
     Ok(Section::CoreInstances(instances))
@@ -70,12 +72,14 @@ fn read_args(alloc: Global, words: &[&str]) -> Result<Vec<CoreInstantiationArg>,
 fn read_aliases(alloc: Global, words: &[&str]) -> Result<Section, RowFault> {
     let mut aliases = Vec::new(alloc);
     for item in words.split(|word| *word == ";") {
-        if let [instance, name] = item {
-            aliases.push(Alias::CoreInstanceExport {
+        match item {
+            [] => {}
+            [instance, name] => aliases.push(Alias::CoreInstanceExport {
                 sort: CoreSort::Func,
                 instance: read_number(instance)?,
                 name: String::from_str(alloc, name)?,
-            })?;
+            })?,
+            _ => return Err(RowFault::NotARow),
         }
     }
     Ok(Section::Aliases(aliases))
@@ -84,11 +88,15 @@ fn read_aliases(alloc: Global, words: &[&str]) -> Result<Section, RowFault> {
 fn read_types(alloc: Global, words: &[&str]) -> Result<Section, RowFault> {
     let mut types = Vec::new(alloc);
     for item in words.split(|word| *word == ";") {
-        if let [func, params @ .., _, answer] = item {
-            let (times, _) = split_repeat(func);
-            for _ in 0..times {
-                types.push(DefType::Func(read_func(alloc, params, answer)?))?;
+        match item {
+            [] => {}
+            [func, params @ .., _, answer] => {
+                let (times, _) = split_repeat(func);
+                for _ in 0..times {
+                    types.push(DefType::Func(read_func(alloc, params, answer)?))?;
+                }
             }
+            _ => return Err(RowFault::NotARow),
         }
     }
     Ok(Section::Types(types))
@@ -158,6 +166,7 @@ fn read_canons(alloc: Global, words: &[&str]) -> Result<Section, RowFault> {
             ["lower", func] => canons.push(Canon::Lower {
                 func: read_number(func)?,
             })?,
+            [] => {}
             _ => return Err(RowFault::NotARow),
         }
     }
@@ -167,11 +176,13 @@ fn read_canons(alloc: Global, words: &[&str]) -> Result<Section, RowFault> {
 fn read_imports(alloc: Global, words: &[&str]) -> Result<Section, RowFault> {
     let mut imports = Vec::new(alloc);
     for item in words.split(|word| *word == ";") {
-        if let [name, ty] = item {
-            imports.push(Import {
+        match item {
+            [] => {}
+            [name, ty] => imports.push(Import {
                 name: read_name(alloc, name)?,
                 desc: ExternDesc::Func(read_number(ty)?),
-            })?;
+            })?,
+            _ => return Err(RowFault::NotARow),
         }
     }
     Ok(Section::Imports(imports))
@@ -180,12 +191,14 @@ fn read_imports(alloc: Global, words: &[&str]) -> Result<Section, RowFault> {
 fn read_exports(alloc: Global, words: &[&str]) -> Result<Section, RowFault> {
     let mut exports = Vec::new(alloc);
     for item in words.split(|word| *word == ";") {
-        if let [name, index] = item {
-            exports.push(Export {
+        match item {
+            [] => {}
+            [name, index] => exports.push(Export {
                 name: read_name(alloc, name)?,
                 sort: Sort::Func,
                 index: read_number(index)?,
-            })?;
+            })?,
+            _ => return Err(RowFault::NotARow),
         }
     }
     Ok(Section::Exports(exports))

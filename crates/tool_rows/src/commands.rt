@@ -9,7 +9,8 @@ use cm_tool::{Fault, LIMIT, Outcome, load_script, load_set, play, report, tool};
 use cm_words::{Request, USAGE, WordsFault};
 use std::alloc::{AllocError, Global};
 
-/// The answer to `run WORD..`, `cut WORD..`, `words WORD..`, `usage`, `limit`, `limited LIMIT SCRIPT FILE..`.
+/// The answer to `run WORD..`, `cut WORD..`, `words WORD..`, `usage`, `limit`, `limited LIMIT
+/// SCRIPT FILE..`.
 pub fn answer(alloc: Global, files: &mut MemoryFiles, words: &[&str]) -> Result<String, RowFault> {
     match words {
         ["run", words @ ..] => {
@@ -27,7 +28,7 @@ pub fn answer(alloc: Global, files: &mut MemoryFiles, words: &[&str]) -> Result<
         ["usage"] => Ok(String::from_str(alloc, USAGE)?),
         ["limit"] => Ok(LIMIT.to_string(alloc)?),
         ["limited", limit, script, names @ ..] => {
-            limited(alloc, files, read_number(limit)?, script, names)
+            play_limited(alloc, files, read_number(limit)?, script, names)
         }
         _ => Err(RowFault::NotARow),
     }
@@ -70,8 +71,9 @@ fn show_ran(alloc: Global, ran: &Ran) -> Result<String, RowFault> {
     Ok(shown)
 }
 
-/// Runs a command with each room for its standard output that is less than it prints, and shows the first of the
-/// outcomes, and each other one that differs from it, where what was printed is to be as much as had room.
+/// Runs a command with each room for its standard output that is less than it prints, and shows the
+/// first of the outcomes, and each other one that differs from it, where what was printed is to be
+/// as much as had room.
 fn show_cuts(alloc: Global, words: &[String], files: &mut MemoryFiles) -> Result<String, RowFault> {
     let whole = run(alloc, words, files, usize::MAX);
     let length = whole.out.len();
@@ -122,7 +124,7 @@ fn write_names(out: &mut String, names: &[&str]) -> Result<(), AllocError> {
 }
 
 /// Plays a script with another limit of moves than the command has.
-fn limited(
+fn play_limited(
     alloc: Global,
     files: &mut MemoryFiles,
     limit: u64,

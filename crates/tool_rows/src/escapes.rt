@@ -3,8 +3,8 @@
 use cm_rows::RowFault;
 use std::alloc::{AllocError, Global};
 
-/// The text that words spell, one space between them, where `\n`, `\r` and `\t` are the line feed, the carriage
-/// return and the tab.
+/// The text that words spell, one space between them, where `\n`, `\r` and `\t` are the line feed,
+/// the carriage return and the tab.
 pub fn read_text(alloc: Global, words: &[&str]) -> Result<String, RowFault> {
     let mut text = String::new(alloc);
     for (i, word) in words.iter().enumerate() {
@@ -36,7 +36,8 @@ fn read_word(text: &mut String, word: &str) -> Result<(), RowFault> {
     Ok(())
 }
 
-/// Writes bytes as the text that `read_text` reads, or `-` for none; a byte that is no ASCII as `?`.
+/// Writes bytes as the text that `read_text` reads, or `-` for none; a byte that is no ASCII as
+/// `?`.
 pub fn write_text(out: &mut String, bytes: &[u8]) -> Result<(), AllocError> {
     if bytes.is_empty() {
         return out.push_str("-");

@@ -26,8 +26,8 @@ impl MemoryFiles {
         }
     }
 
-    /// The answer to `NAME bytes BYTES`, `NAME text TEXT`, `NAME missing`, `NAME folder`, `NAME forbidden`, `NAME broken`
-    /// or `NAME memory`.
+    /// The answer to `NAME bytes BYTES`, `NAME text TEXT`, `NAME missing`, `NAME folder`, `NAME
+    /// forbidden`, `NAME broken` or `NAME memory`.
     pub fn answer(&mut self, alloc: Global, words: &[&str]) -> Result<String, RowFault> {
         let [name, kind, rest @ ..] = words else {
             return Err(RowFault::NotARow);
