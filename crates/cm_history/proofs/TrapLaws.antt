@@ -1,8 +1,8 @@
 -- A trap has its named cause, and closes exactly what went on.
 use Rattle.std.proofs.Common.{◌≡◌, ℕ, zero, suc, ◌+◌, ◌*◌, ◌<◌, ◌≤◌, ◌⊎◌, inl, inr, Bool, true, false, ◌&&◌, ◌==◌, List, [], ◌∷◌, ◌++◌, length, map, Option, Some, None, Vec, refl, sym, ap, subst, ◌∙◌, arith}
 use Rattle.std.specs.declared.alloc.Global.{Global}
-use Rattle.std.specs.Prelude.{slice_get, slice_set, ◌↔◌, not, nat_le, nat_lt, vec_len, unwrap_or}
-use borrow.Author.Tests.{leb-true, leb-false, ltb-true, ltb-false}
+use Rattle.std.specs.Prelude.{slice_get, slice_set, ◌↔◌, not, nat_le, nat_lt, vec_len, unwrap_or, ◌^◌}
+use borrow.Author.Tests.{leb-true, leb-false, ltb-true, ltb-false, lt-ltb}
 use Rattle.std.proofs.Math.ListN.{length-set}
 use Rattle.std.proofs.lemmas.Bool.{eqb-true, eqb-false, eq-eqb}
 use Rattle.std.specs.List.{AllByRecursion, list_all}
@@ -54,12 +54,13 @@ both_true a b p q = ap (λ (x : Bool). x && b) p ∙ q
 
 all_slots : (cs : List CoreValue) → list_all is_i32 cs ≡ true → AllByRecursion IsSlot cs
 all_slots [] e = tt
-all_slots (core_value.I32 n ∷ cs) e = (tt, all_slots cs e)
+all_slots (core_value.I32 n ∷ cs) e =
+    (ltb-true n (2 ^ 32) (left_of_and (nat_lt n (2 ^ 32)) (list_all is_i32 cs) e), all_slots cs (right_of_and (nat_lt n (2 ^ 32)) (list_all is_i32 cs) e))
 all_slots (core_value.I64 n ∷ cs) e = absurd cc
 
 slots_all : (cs : List CoreValue) → AllByRecursion IsSlot cs → list_all is_i32 cs ≡ true
 slots_all [] all = refl
-slots_all (core_value.I32 n ∷ cs) all = slots_all cs all.1
+slots_all (core_value.I32 n ∷ cs) all = both_true (nat_lt n (2 ^ 32)) (list_all is_i32 cs) (lt-ltb n (2 ^ 32) all.0) (slots_all cs all.1)
 slots_all (core_value.I64 n ∷ cs) all = absurd all.0
 
 shape_slots : (n : ℕ) (cs : List CoreValue) → has_core_shape n cs ≡ true → AreSlots n cs

@@ -2,8 +2,8 @@
 -- events. No check of the machine and no frame is read here (CanonicalABI.md, "canon lift" and
 -- "canon lower"; the order of the traps, their numbers and the limits are this project's own
 -- choice).
-use Rattle.std.specs.Prelude.{◌≡◌, ℕ, ◌+◌, ◌*◌, ◌<◌, ◌≤◌, true, List, [], ◌∷◌, ◌++◌, length, Some}
-use Rattle.std.specs.Prelude.{slice_get}
+use Rattle.std.specs.Prelude.{◌≡◌, ℕ, ◌+◌, ◌*◌, ◌<◌, ◌≤◌, ◌^◌, true, List, [], ◌∷◌, ◌++◌, length}
+use Rattle.std.specs.Prelude.{Some, slice_get}
 use Rattle.std.specs.List.{AllByRecursion}
 use Rattle.cm_types.specs.declared.core_value.CoreValue.{CoreValue}
 use Rattle.cm_types.specs.declared.core_value.CoreValue.TheVariants as core_value
@@ -23,9 +23,9 @@ use Rattle.cm_history.specs.Doing.{Doing, root, placing, body, handing, tidying,
 abbrev pub Reaches : State → ℕ → ℕ → LoweredFunc → Type 0
 Reaches s i func l = core_func_at s.core_funcs i func ≡ Some (core_function.Lowered l)
 
--- A slot of a u32 is an i32.
+-- A slot of a u32 is an i32, below 2 ^ 32.
 abbrev pub IsSlot : CoreValue → Type 0
-IsSlot (core_value.I32 n) = Unit {0}
+IsSlot (core_value.I32 n) = n < 2 ^ 32
 IsSlot (core_value.I64 n) = ⊥
 
 -- These core values are the slots of so many u32s.

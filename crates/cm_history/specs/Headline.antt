@@ -254,7 +254,8 @@ pub record ClosesExactly (old : State) (is : List ℕ) (new : State) : Type 0 wh
   pub no_lends : new.lends ≡ []
   pub same_length : length new.closed ≡ length old.closed
   pub closed : (i : ℕ)
-      → (slice_get new.closed i ≡ Some true) ↔ ((slice_get old.closed i ≡ Some true) ⊎ Contains is i)
+      → (slice_get new.closed i ≡ Some true)
+      ↔ ((slice_get old.closed i ≡ Some true) ⊎ Contains is i)
   pub memories : new.memories ≡ old.memories
 
 -- A trap has its named cause, and closes exactly the instances of what went on.

@@ -1,5 +1,5 @@
 -- A drive, turn by turn.
-use Rattle.std.proofs.Common.{◌≡◌, ◌≢◌, ℕ, ◌+◌, ◌-◌, ◌<◌, ◌⊎◌, inl, inr, ◌==◌, ◌&&◌, Bool, true, false, if◌then◌else◌, List, [], ◌∷◌, ◌++◌, length, Option, Some, None, refl, sym, ap, subst, ◌∙◌, append_assoc, arith}
+use Rattle.std.proofs.Common.{◌≡◌, ◌≢◌, ℕ, ◌+◌, ◌-◌, ◌<◌, ◌≤◌, ◌⊎◌, inl, inr, ◌==◌, ◌&&◌, Bool, true, false, if◌then◌else◌, List, [], ◌∷◌, ◌++◌, length, Option, Some, None, refl, sym, ap, subst, ◌∙◌, append_assoc, arith}
 use Rattle.std.specs.Prelude.{slice_get, not}
 use Rattle.std.specs.Option.{option_map}
 use Rattle.std.proofs.lemmas.Bool.{eqb-true, eqb-false}
@@ -12,8 +12,10 @@ use Rattle.cm_machine.specs.Exchange.{Exchange}
 use Rattle.cm_machine_model.specs.Stack.{actor, top_of}
 use Rattle.cm_machine_model.specs.State.{State}
 use Rattle.cm_machine_model.specs.Step.{Step}
-use Rattle.cm_machine_model.specs.Run.{is_last}
-use Rattle.cm_machine.specs.Player.{Turn, Turns, last_of, exchanges_of, AreStops, TookPart, GoesOnAs, SeatPlays, is_taken, StaysTaken, EndsAt, IsPlay, IsDrive, closes_between, seat_after_close}
+use Rattle.cm_machine_model.specs.declared.event.Misuse.{Misuse}
+use Rattle.cm_machine_model.specs.declared.event.Misuse.TheVariants as misuse
+use Rattle.cm_machine_model.specs.Run.{is_last, misuse_by_closed, misuse_by_stack, misuse_of_begin}
+use Rattle.cm_machine.specs.Player.{Turn, Turns, last_of, exchanges_of, AreStops, TookPart, GoesOnAs, SeatPlays, is_taken, StaysTaken, EndsAt, IsPlay, IsHalt, IsDrive, closes_between, seat_after_close}
 
 stops_join : (xs ys : List Exchange) → AreStops xs → AreStops ys → AreStops (xs ++ ys)
 stops_join [] ys h k = k
@@ -192,6 +194,9 @@ module _ {G : Type 0} (plays : G → List Exchange → Type 0) (start : State) (
       let same : last_of first p.told ≡ e = cc in
       ended_at (inl (ap is_last same ∙ last))
 
+  pub stops_over : is_last (last_of first p.told) ≡ true → IsPlay plays start first old limit events s seats
+  stops_over last = ended_at (inl last)
+
   pub runs_out : count ≡ limit → IsPlay plays start first old limit events s seats
   runs_out is = ended_at (by_limit (is_last (last_of first p.told)) limit (length p.turns) (p.counted ∙ is))
 
@@ -227,3 +232,43 @@ module _ {G : Type 0} (plays : G → List Exchange → Type 0) (start : State) (
 
 pub closed_same : (a b c d : List Bool) → a ≡ b → c ≡ d → (i : ℕ) → closes_between a c i ≡ closes_between b d i
 closed_same a b c d p q i = ap (λ (x : List Bool). closes_between x c i) p ∙ ap (λ (x : List Bool). closes_between b x i) q
+
+-- ---- a drive that finds no memory
+
+pub halts_at : {G : Type 0} (plays : G → List Exchange → Type 0) (start : State) (first : Event) (old : List (Option G)) (limit : ℕ) (events : List Event) (s : State) (seats : List (Option G)) (count : ℕ) → (p : Playing plays start first old events s seats count) → is_last (last_of first p.told) ≡ false → count ≤ limit → IsHalt plays start first old limit s seats
+halts_at plays start first old limit events s seats count p more within = record {
+  turns = p.turns;
+  told = p.told;
+  went = subst (λ (ts : List Turn). Turns start first ts p.told s) (append-nil p.turns) (subst (λ (es : List Event). Turns start first (p.turns ++ []) es s) (append-nil p.told) (p.went [] [] s refl));
+  not_last = more;
+  within = omega (arith, p.counted, within);
+  seats_play = p.seats_play;
+  seats_stay = p.seats_stay;
+}
+
+pub halts_first : {G : Type 0} (plays : G → List Exchange → Type 0) (start : State) (first : Event) (old : List (Option G)) (limit : ℕ) → is_last first ≡ false → IsHalt plays start first old limit start old
+halts_first plays start first old limit more = record {
+  turns = [];
+  told = [];
+  went = refl;
+  not_last = more;
+  within = omega arith;
+  seats_play = λ i. seat_rests plays (slice_get old i);
+  seats_stay = λ i. refl;
+}
+
+pub over_at : (events : List Event) (first : Event) (told : List Event) (o : Option Event) → events ≡ first ∷ told → o ≡ slice_get events (length events - 1) → o ≡ Some (last_of first told)
+over_at events first told o is seen = seen ∙ last_at events first told is
+
+not_memory_by_closed : (o : Option Bool) → misuse_by_closed o ≡ Some misuse.Memory → ⊥
+not_memory_by_closed None e = cc
+not_memory_by_closed (Some true) e = cc
+not_memory_by_closed (Some false) e = cc
+
+not_memory_by_stack : (fs : List Frame) (o : Option Bool) → misuse_by_stack fs (misuse_by_closed o) ≡ Some misuse.Memory → ⊥
+not_memory_by_stack [] o e = not_memory_by_closed o e
+not_memory_by_stack (f ∷ fs) o e = cc
+
+-- no begin is refused for want of memory
+pub begin_not_memory : (s : State) (i : ℕ) (m : Misuse) → misuse_of_begin s i ≡ Some m → m ≡ misuse.Memory → ⊥
+begin_not_memory s i m e is = not_memory_by_stack s.stack (slice_get s.closed i) (e ∙ ap Some is)

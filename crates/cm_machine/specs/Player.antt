@@ -1,5 +1,5 @@
 -- A drive: one root call, played by the guests on their seats.
-use Rattle.std.specs.Prelude.{◌≡◌, ℕ, ◌⊎◌, ◌==◌, ◌&&◌, Bool, true, false, not, unwrap_or}
+use Rattle.std.specs.Prelude.{◌≡◌, ℕ, ◌≤◌, ◌⊎◌, ◌==◌, ◌&&◌, Bool, true, false, not, unwrap_or}
 use Rattle.std.specs.Prelude.{if◌then◌else◌, List, [], ◌∷◌, ◌++◌, length, Option, Some, None}
 use Rattle.std.specs.Prelude.{slice_get}
 use Rattle.std.specs.Option.{option_map}
@@ -120,6 +120,20 @@ pub record IsPlay {G : Type 0} (plays : G → List Exchange → Type 0) (start :
   pub events_are : events ≡ first ∷ told
   pub went : Turns start first turns told new
   pub ends : EndsAt limit (last_of first told) (length turns)
+  pub seats_play : (i : ℕ)
+      → SeatPlays plays (slice_get old_seats i) (slice_get seats i) (exchanges_of i turns)
+  pub seats_stay : (i : ℕ) → StaysTaken (slice_get old_seats i) (slice_get seats i)
+
+-- A drive that found no memory for an event has made some turns, fewer than it may or as many; its
+-- last event is no last one, and each seat holds what those turns left there.
+pub record IsHalt {G : Type 0} (plays : G → List Exchange → Type 0) (start : State)
+    (first : Event) (old_seats : List (Option G)) (limit : ℕ) (new : State)
+    (seats : List (Option G)) : Type 0 where
+  pub turns : List Turn
+  pub told : List Event
+  pub went : Turns start first turns told new
+  pub not_last : is_last (last_of first told) ≡ false
+  pub within : length turns ≤ limit
   pub seats_play : (i : ℕ)
       → SeatPlays plays (slice_get old_seats i) (slice_get seats i) (exchanges_of i turns)
   pub seats_stay : (i : ℕ) → StaysTaken (slice_get old_seats i) (slice_get seats i)

@@ -1,8 +1,8 @@
 //! Guests on their seats, and a drive that plays them.
 
-ghost use Rattle.std.specs.Prelude.{◌≡◌, ◌≢◌, ℕ, ◌<◌, ◌&&◌, not, Err, ◌⊎◌, OnOk, false, ◌↔◌, List};
+ghost use Rattle.std.specs.Prelude.{◌≡◌, ◌≢◌, ℕ, ◌<◌, ◌&&◌, not, Err, ◌⊎◌, OnOk, OnErr, false};
 ghost use Rattle.std.specs.Prelude.{[], ◌∷◌, ◌++◌, length, Option, Some, None, slice_set, IfOk};
-ghost use Rattle.std.specs.Prelude.{IfErr, slice_get, true};
+ghost use Rattle.std.specs.Prelude.{IfErr, slice_get, true, List};
 ghost use Rattle.std.specs.Option.{option_map};
 ghost use Rattle.cm_machine_model.specs.declared.event.Event.{Event};
 ghost use Rattle.cm_machine_model.specs.declared.event.Misuse.{Misuse};
@@ -10,7 +10,8 @@ ghost use Rattle.cm_machine.specs.Exchange.{Exchange};
 ghost use Rattle.cm_machine_model.specs.Stack.{actor, top_of};
 ghost use Rattle.cm_machine_model.specs.Run.{is_last, after_begin, misuse_of_begin};
 ghost use Rattle.cm_machine.specs.Player.{Turn, Turns, last_of, exchanges_of, AreStops, SeatPlays};
-ghost use Rattle.cm_machine.specs.Player.{StaysTaken, EndsAt, IsPlay, IsDrive, closes_between};
+ghost use Rattle.cm_machine.specs.Player.{StaysTaken, EndsAt, IsPlay, IsDrive, IsHalt};
+ghost use Rattle.cm_machine.specs.Player.{closes_between};
 ghost use Rattle.cm_machine.specs.Player.{seat_after_close, is_taken};
 
 use cm_machine_model::{Event, Misuse, Move};
@@ -67,6 +68,17 @@ fn ask_one(seats: &mut Vec<Option<Box<dyn Guest>>>, instance: u32, seen: &Event)
     }
 }
 
+/// Whether the last of these events ends a drive.
+fn is_over(events: &Vec<Event>) -> bool
+    ensures { (first : Event) (told : List Event) → events.now.items ≡ first ∷ told
+        → result ≡ is_last (last_of first told) }
+{
+    match events.last() {
+        Some(event) => event.is_last(),
+        None => false,
+    }
+}
+
 /// Plays a set whose stack is not empty until an event is the last or so many moves were made. Room
 /// for a move's event is made before the move; where there is none, the answer is `Memory`.
 fn play_on(
@@ -81,17 +93,20 @@ fn play_on(
         → IsPlay (λ g rest. plays g rest)
         set.old first seats.old.items limit events.new.items set.new seats.new.items) }
     ensures only { IfErr result (λ m. m ≡ Misuse.Memory) }
+    ensures halt { OnErr result ((first : Event) → events.old.items ≡ first ∷ []
+        → IsHalt (λ g rest. plays g rest)
+        set.old first seats.old.items limit set.new seats.new.items) }
 {
     for _ in 0..limit {
+        if is_over(events) {
+            return Ok(());
+        }
         if events.reserve(1).is_err() {
             return Err(Misuse::Memory);
         }
         let Some(seen) = events.last() else {
             unreachable!()
         };
-        if seen.is_last() {
-            return Ok(());
-        }
         let Some(instance) = set.acting() else {
             unreachable!()
         };
@@ -147,8 +162,9 @@ impl Player {
     /// drops the guests of the instances that it closes and leaves empty seats.
     ///
     /// Misuse: that of `Set::begin`, and set and seats are unchanged; or `Memory` where there is no
-    /// room for an event, and what was begun and moved before stays. Room for the event of `begin`
-    /// is made right after it, room for a move's event before the move.
+    /// room for an event, and set and seats are what the moves made so far left. Room for the event
+    /// of `begin` is made right after it, room for a move's event before the move, and none once an
+    /// event is `Ended` or `Trapped`.
     pub fn drive(
         alloc: Global,
         set: &mut Set,
@@ -168,6 +184,9 @@ impl Player {
             (m ≡ Misuse.Memory) ⊎ (misuse_of_begin set.old root ≡ Some m)) }
         ensures unchanged { IfErr result (λ m. m ≢ Misuse.Memory
             → (set.new ≡ set.old) × (seats.new.items ≡ seats.old.items)) }
+        ensures halt { IfErr result (λ m. m ≡ Misuse.Memory
+            → IsHalt (λ g rest. plays g rest) (after_begin set.old root) (Event.Resume root [])
+            seats.old.items limit set.new seats.new.items) }
     {
         let first = set.begin(root)?;
         let mut events = Vec::new(alloc);

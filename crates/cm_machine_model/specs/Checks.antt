@@ -1,7 +1,7 @@
 -- Which trap a move meets (CanonicalABI.md, "canon lift" and "canon lower"; the order of the checks
 -- and the numbers of the traps are this project's own choice).
-use Rattle.std.specs.Prelude.{ℕ, ◌+◌, ◌==◌, ◌&&◌, Bool, true, false, not, nat_le, nat_lt, List, []}
-use Rattle.std.specs.Prelude.{◌∷◌, if◌then◌else◌, length, Option, Some, None, vec_len}
+use Rattle.std.specs.Prelude.{ℕ, ◌+◌, ◌^◌, ◌==◌, ◌&&◌, Bool, true, false, not, nat_le, nat_lt, List}
+use Rattle.std.specs.Prelude.{[], ◌∷◌, if◌then◌else◌, length, Option, Some, None, vec_len}
 use Rattle.std.specs.List.{list_all}
 use Rattle.cm_types.specs.declared.core_value.CoreValue.{CoreValue}
 use Rattle.cm_types.specs.declared.core_value.CoreValue.TheVariants as core_value
@@ -28,8 +28,9 @@ abbrev pub first_failed : List (Bool × Trap) → Option Trap
 first_failed [] = None
 first_failed (c ∷ cs) = if c.0 then first_failed cs else Some c.1
 
+-- an i32, below 2 ^ 32
 abbrev pub is_i32 : CoreValue → Bool
-is_i32 (core_value.I32 n) = true
+is_i32 (core_value.I32 n) = nat_lt n (2 ^ 32)
 is_i32 (core_value.I64 n) = false
 
 -- core shape: so many core values, each an i32

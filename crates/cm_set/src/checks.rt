@@ -7,12 +7,22 @@ ghost use Rattle.cm_machine_model.specs.Checks.{is_i32, has_core_shape, may_leav
 use cm_machine_model::state::{Frame, Phase, Purpose};
 use cm_types::CoreValue;
 
+/// Whether this is an `i32`.
+fn is_i32(value: &CoreValue) -> bool
+    ensures { result ≡ is_i32 value.now }
+{
+    match *value {
+        // Read as a number, so that the check knows that it is below 2 ^ 32.
+        CoreValue::I32(bits) => bits <= u32::MAX,
+        CoreValue::I64(_) => false,
+    }
+}
+
+/// Whether each of these is an `i32`.
 fn all_i32s(values: &[CoreValue]) -> bool
     ensures { result ≡ list_all is_i32 values.now }
 {
-    values
-        .iter()
-        .all(|value| matches!(value, CoreValue::I32(_)))
+    values.iter().all(is_i32)
 }
 
 /// Whether these are so many core values, each an `i32`.

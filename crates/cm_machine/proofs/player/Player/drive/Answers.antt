@@ -1,10 +1,10 @@
-use Rattle.std.proofs.Common.{◌≡◌, [], ◌∷◌, ap, subst, ◌∙◌}
+use Rattle.std.proofs.Common.{◌≡◌, [], ◌∷◌, refl, sym, ap, subst, ◌∙◌}
 use Rattle.std.specs.Prelude.{slice_get}
 use Rattle.cm_machine_model.specs.declared.event.Event.TheVariants as event
 use Rattle.cm_machine_model.specs.State.{State}
 use Rattle.cm_machine_model.specs.Run.{after_begin}
-use Rattle.cm_machine.specs.Player.{IsPlay, closes_between, seat_after_close}
-use Rattle.cm_machine.proofs.Drives.{whole_drive, taken_after, closed_same}
+use Rattle.cm_machine.specs.Player.{IsPlay, IsHalt, closes_between, seat_after_close}
+use Rattle.cm_machine.proofs.Drives.{halts_first, whole_drive, taken_after, closed_same}
 use Rattle.cm_machine.proofs.player.Player.drive.Goals as goal
 
 pub returns-clause-drive : goal.returns-clause-drive
@@ -24,3 +24,8 @@ returns-clause-emptied g c =
     let same = closed_same c.as_slice.result.now c.args.set.now.closed c.as_slice-2.result.now c.play_on.new.set.closed (c.as_slice.ensures.value ∙ c.closed_flags-before.ensures ∙ ap (λ (s : State). s.closed) is_begun) (c.as_slice-2.ensures.value ∙ c.closed_flags.ensures) in
     taken_after (λ b rest. (goal.Guest-dyn g (b.vtable, b.value)).plays b.value rest) (after_begin c.args.set.now c.args.root) c.args.root c.args.limit c.args.seats.now.items c.play_on.new.events.items c.play_on.new.set c.play_on.new.seats.items played (closes_between c.args.set.now.closed c.play_on.new.set.closed) c.empty_closed.new.seats.items
     (λ i. c.empty_closed.ensures i ∙ ap (λ b. seat_after_close b (slice_get c.play_on.new.seats.items i)) (same i))
+
+pub returns-in_default-clause-halt : goal.returns-in_default-clause-halt
+returns-in_default-clause-halt g c memory =
+    subst (λ (s : State). IsHalt (λ b rest. (goal.Guest-dyn g (b.vtable, b.value)).plays b.value rest) (after_begin c.args.set.now c.args.root) (event.Resume c.args.root []) c.args.seats.now.items c.args.limit s c.args.seats.now.items) (sym c.in_ok-first.ensures.begins)
+    (halts_first (λ b rest. (goal.Guest-dyn g (b.vtable, b.value)).plays b.value rest) (after_begin c.args.set.now c.args.root) (event.Resume c.args.root []) c.args.seats.now.items c.args.limit refl)
