@@ -3,8 +3,8 @@
 
 use crate::same::same;
 use cm_layout::{
-    FlatFunc, LayoutTree, Side, align, case_offset, field_offset, flatten, flatten_func, has_cases,
-    has_field, layout, size,
+    FlatFunc, LayoutTree, Side, align, case_offset, discriminant_size, field_offset, flatten,
+    flatten_func, has_cases, has_field, layout, layout_of_params, size,
 };
 use cm_types::CoreKind::{I32, I64};
 use cm_types::{Case, CoreKind, Field, Func, Label, ResourceId, TypeNode, TypeTree};
@@ -387,5 +387,22 @@ fn layout_trees(rt: HostRuntime) -> Result<(), Fail> {
     };
     same(&rt, figures(none), (8, 0, 1, 0, 0, false));
     same(&rt, figures(some), (8, 8, 8, 1, 0, true));
+    Ok(())
+}
+
+#[test]
+fn parameters_in_memory(rt: HostRuntime) -> Result<(), Fail> {
+    let alloc = rt.alloc();
+    // A byte at 0, and 8 bytes at 8.
+    let types = vec![in alloc; TypeNode::U8, TypeNode::S64]?;
+    let func = Func::new(fields(alloc, types)?, None)?;
+    let whole = layout_of_params(alloc, &func)?;
+    same(&rt, figures(&whole), (0, 16, 8, 2, 2, false));
+    let [_, number] = whole.children.as_slice() else {
+        panic!(rt; "two parameters");
+    };
+    same(&rt, figures(number), (8, 8, 8, 1, 0, true));
+    let choice = TypeTree::new(option(alloc, TypeNode::S64)?)?;
+    same(&rt, discriminant_size(&choice), 1);
     Ok(())
 }
