@@ -135,6 +135,11 @@ abbrev pub HasCases : Ty → Type 0
 HasCases (cases k cs) = ⊤
 HasCases _ = ⊥
 
+-- the size of the number of a case in such a type
+abbrev pub discriminant_size_of : Ty → ℕ
+discriminant_size_of (cases k cs) = discriminant_size (case_count cs)
+discriminant_size_of _ = 0
+
 -- where the payload stands in such a type
 abbrev pub case_offset : Ty → ℕ
 case_offset (cases k cs) = payload_offset cs

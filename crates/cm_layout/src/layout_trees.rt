@@ -3,18 +3,19 @@
 
 ghost use Rattle.std.specs.Prelude.{◌≡◌, ◌≤◌, [], ◌∷◌, IfOk};
 ghost use Rattle.std.specs.Option.{option_map};
-ghost use Rattle.cm_types.specs.Funcs.{tree_type};
+ghost use Rattle.cm_types.specs.Funcs.{func_of, tree_type};
+ghost use Rattle.cm_types.specs.Types.{fields, tuple_type};
 ghost use Rattle.cm_types.specs.Limits.{nodes_of, nodes_of_cases, nodes_of_fields, payload_nodes};
 ghost use Rattle.cm_types.specs.TypeTrees.{boxed_payload, cases_of, fields_of, parts_of, type_of};
 ghost use Rattle.cm_layout.specs.LayoutTys.{children_of, children_of_fields, children_of_payloads};
 ghost use Rattle.cm_layout.specs.LayoutTys.{is_number, layout_at, nothing_at, payload_at};
 ghost use Rattle.cm_layout.specs.LayoutTrees.{tree_of, trees_of};
 
-use crate::alignments::node_align;
-use crate::flattening::push_flat;
+use crate::alignments::{fields_align, node_align};
+use crate::flattening::{push_fields, push_flat};
 use crate::offsets::node_case_offset;
-use crate::sizes::{align_to, node_size};
-use cm_types::{Case, CoreKind, Field, MAX_NODES, TypeNode, TypeTree};
+use crate::sizes::{align_to, fields_end, node_size};
+use cm_types::{Case, CoreKind, Field, Func, MAX_NODES, TypeNode, TypeTree};
 use std::alloc::{AllocError, Global};
 
 /// The layout of a type and of all types in it.
@@ -60,6 +61,27 @@ pub fn layout(alloc: Global, ty: &TypeTree) -> Result<LayoutTree, AllocError>
     ensures { IfOk result (λ l. tree_of l ≡ layout_at 0 (tree_type ty.now)) }
 {
     node_layout(alloc, &ty.root, 0)
+}
+
+/// The layout of the parameters of a function, as that of the tuple of them, which is how they lie
+/// in memory where they are passed by a pointer (CanonicalABI.md, "Flattening"). `AllocError` comes
+/// where there is no memory for it.
+pub fn layout_of_params(alloc: Global, func: &Func) -> Result<LayoutTree, AllocError>
+    ensures { IfOk result (λ l.
+        tree_of l ≡ layout_at 0 (fields tuple_type (func_of func.now).params)) }
+{
+    let mut flat = Vec::new(alloc);
+    push_fields(&mut flat, alloc, &func.params)?;
+    let children = field_children(alloc, &func.params)?;
+    let align = fields_align(&func.params);
+    Ok(LayoutTree {
+        offset: 0,
+        size: align_to(align, fields_end(&func.params)),
+        align,
+        flat,
+        is_number: false,
+        children,
+    })
 }
 
 /// The layout of a type of at most 10,000 nodes that stands `offset` bytes into what holds it, and

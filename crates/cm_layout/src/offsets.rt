@@ -3,7 +3,8 @@
 ghost use Rattle.std.specs.Prelude.{◌≡◌, ◌↔◌, ◌≤◌, ◌<◌, IsTrue, length};
 ghost use Rattle.cm_types.specs.Limits.{nodes_of, nodes_of_fields};
 ghost use Rattle.cm_types.specs.TypeTrees.{fields_of, parts_of, type_of};
-ghost use Rattle.cm_layout.specs.Sizes.{HasCases, HasField, case_offset, field_offset};
+ghost use Rattle.cm_layout.specs.Sizes.{HasCases, HasField, case_offset, discriminant_size_of};
+ghost use Rattle.cm_layout.specs.Sizes.{field_offset};
 ghost use Rattle.cm_layout.specs.Sizes.{field_offset_from};
 
 use crate::alignments::{box_align, discriminant_size, node_align, payloads_align};
@@ -52,6 +53,20 @@ pub fn node_case_offset(ty: &TypeNode) -> u32
         TypeNode::Enum(labels) => discriminant_size(labels.len()),
         TypeNode::Option(some) => align_to(node_align(some), 1),
         TypeNode::Result { ok, error } => align_to(box_align(ok).max(box_align(error)), 1),
+        _ => unreachable!(),
+    }
+}
+
+/// The size in bytes of the number of a case of a variant, an enum, an option or a result.
+pub fn node_discriminant_size(ty: &TypeNode) -> u32
+    requires { HasCases (type_of ty.now) }
+    ensures { result ≡ discriminant_size_of (type_of ty.now) }
+{
+    match ty {
+        TypeNode::Variant(cases) => discriminant_size(cases.len()),
+        TypeNode::Enum(labels) => discriminant_size(labels.len()),
+        TypeNode::Option(_) => 1,
+        TypeNode::Result { .. } => 1,
         _ => unreachable!(),
     }
 }

@@ -3,14 +3,17 @@
 ghost use Rattle.std.specs.Prelude.{◌≡◌, ◌↔◌, ◌*◌, ℕ, IfOk, IsTrue};
 ghost use Rattle.cm_types.specs.Funcs.{tree_type};
 ghost use Rattle.cm_layout.specs.Alignment.{IsLeastMultiple};
-ghost use Rattle.cm_layout.specs.Sizes.{HasCases, HasField, align_of, case_offset, end_before};
+ghost use Rattle.cm_layout.specs.Sizes.{HasCases, HasField, align_of, case_offset};
+ghost use Rattle.cm_layout.specs.Sizes.{discriminant_size_of, end_before};
 ghost use Rattle.cm_layout.specs.Sizes.{field_offset, field_type, fields_in, size_of};
 ghost use Rattle.cm_layout.specs.Sizes.{IsPayloadOffset};
 ghost use Rattle.cm_layout.specs.Flattening.{JoinsSlots, flat_of};
 
 use crate::alignments::node_align;
 use crate::flattening::push_flat;
-use crate::offsets::{node_case_offset, node_field_offset, node_has_cases, node_has_field};
+use crate::offsets::{
+    node_case_offset, node_discriminant_size, node_field_offset, node_has_cases, node_has_field,
+};
 use crate::sizes::node_size;
 use cm_types::{CoreKind, TypeTree};
 use std::alloc::{AllocError, Global};
@@ -55,6 +58,15 @@ pub fn field_offset(ty: &TypeTree, n: usize) -> u32
         (end_before (fields_in (tree_type ty.now)) 0 n) result }
 {
     node_field_offset(&ty.root, n)
+}
+
+/// The size in bytes of the number of a case of a variant, an enum, an option or a result: 1, 2 or
+/// 4 (CanonicalABI.md, "Alignment", `discriminant_type`).
+pub fn discriminant_size(ty: &TypeTree) -> u32
+    requires { HasCases (tree_type ty.now) }
+    ensures { result ≡ discriminant_size_of (tree_type ty.now) }
+{
+    node_discriminant_size(&ty.root)
 }
 
 /// Where the payload of a variant, an enum, an option or a result stands, in bytes from where the
