@@ -4,7 +4,7 @@ use Rattle.cm_types.specs.Signatures.{SignatureTy}
 use Rattle.cm_match.specs.declared.fault.LinkReason.{LinkReason}
 use Rattle.cm_match.specs.declared.fault.LinkReason.TheVariants as reason
 use Rattle.cm_match.specs.declared.plan.PlanLine.{PlanLine}
-use Rattle.cm_match.specs.Links.{ExternAt, candidates, ServesEach, IsServedBy, IsSame, IsUnservedFor, IsFirstUnserved, IsLinkFault, Matches}
+use Rattle.cm_match.specs.Links.{ExternAt, candidates, ServesEach, IsServedBy, IsSame, IsUnservedFor, IsFirstUnserved, Matches}
 
 pub served_at : (set : List SignatureTy) (front : List ExternAt) (i : ExternAt) (rest : List ExternAt) (plan : List PlanLine) → ServesEach set (front ++ i ∷ rest) plan → (e : ExternAt) × IsServedBy set i e
 served_at set [] i rest [] h = absurd h

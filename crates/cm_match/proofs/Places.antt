@@ -1,5 +1,5 @@
 -- Up to which place the imports are served, where memory is wanting.
-use Rattle.std.proofs.Common.{◌≡◌, ℕ, ◌+◌, ◌<◌, ◌≤◌, inl, inr, List, [], ◌∷◌, ◌++◌, refl, arith}
+use Rattle.std.proofs.Common.{ℕ, ◌+◌, ◌<◌, ◌≤◌, inl, inr, List, [], ◌∷◌, ◌++◌, refl, arith}
 use Rattle.std.specs.List.{AllByRecursion}
 use Rattle.cm_types.specs.Signatures.{SignatureTy, NamedExtern}
 use Rattle.cm_match.specs.declared.plan.PlanLine.{PlanLine}

@@ -106,7 +106,7 @@ after_import s name (desc.Func ty) =
       imports =
           s.imports
           ++ option_to_list
-            (option_map (λ t. record { name = name; ty = t }) (slice_get s.types ty));
+          (option_map (λ t. record { name = name; ty = t }) (slice_get s.types ty));
     }
 
 -- the spaces after an export of this name, which gives its function a new index
