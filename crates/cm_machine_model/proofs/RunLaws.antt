@@ -1,7 +1,6 @@
 -- An action and a run extend each history that led to their state.
 use Rattle.std.proofs.Common.{◌≡◌, ℕ, Bool, true, false, List, [], ◌∷◌, length, Option, Some, None, refl, sym, ap, subst, ◌∙◌, arith}
 use Rattle.std.specs.Prelude.{slice_get}
-use Rattle.cm_machine_model.specs.declared.frame.CoreFunction.{CoreFunction}
 use Rattle.cm_machine_model.specs.declared.frame.Frame.{Frame}
 use Rattle.cm_machine_model.specs.declared.frame.Purpose.TheVariants as purpose
 use Rattle.cm_machine_model.specs.declared.event.Event.{Event}
@@ -10,7 +9,7 @@ use Rattle.cm_machine_model.specs.declared.moves.Move.{Move}
 use Rattle.cm_machine_model.specs.State.{State}
 use Rattle.cm_machine_model.specs.Fresh.{fresh_state}
 use Rattle.cm_machine_model.specs.Run.{Run, is_last, misuse_by_closed, misuse_by_stack}
-use Rattle.cm_machine_model.specs.History.{Action, begins, moves, Occurrence, Happens, IsHistory, IsHistoryOf, GoesOn, GoesOnBy, RunsOn, RunsAlways}
+use Rattle.cm_machine_model.specs.History.{Action, begins, moves, Occurrence, Happens, IsHistory, GoesOn, GoesOnBy, RunsOn, RunsAlways}
 
 pub extends_by : (s : State) (a : Action) (e : Event) (new : State) → Happens s a e new → GoesOn s a e new
 extends_by s a e new happens core_funcs pages h is = record {
