@@ -111,11 +111,10 @@ impl Handles {
         let mut last = 0u32;
         for _ in 0..count {
             let rep = last.saturating_add(1);
-            let index = self.table.add(Handle { rep, ..handle });
-            if index != Ok(rep) {
-                return show_index(alloc, index);
+            match self.table.add(Handle { rep, ..handle }) {
+                Ok(index) if index == rep => last = rep,
+                other => return show_index(alloc, other),
             }
-            last = rep;
         }
         Ok(format!(in alloc; "up to {last}")?)
     }
