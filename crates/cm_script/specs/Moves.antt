@@ -1,7 +1,7 @@
 -- What a guest with a script's moves does (this project's own choice).
 use Rattle.std.specs.Prelude.{◌≡◌, List, [], ◌∷◌}
-use Rattle.cm_machine.specs.declared.moves.Move.{Move}
-use Rattle.cm_machine.specs.declared.moves.Move.TheVariants as move
+use Rattle.cm_machine_model.specs.declared.moves.Move.{Move}
+use Rattle.cm_machine_model.specs.declared.moves.Move.TheVariants as move
 use Rattle.cm_machine.specs.Exchange.{Exchange}
 
 -- A guest with these moves makes them in order, whatever it sees, and then only stops.

@@ -23,8 +23,8 @@ fn is_decimal(text: &str) -> bool
     }
 }
 
-/// The number that a word is, at most 4,294,967,295; `None` where the word is not the decimal digits
-/// of such a number, with no sign and no leading zero.
+/// The number that a word is, at most 4,294,967,295; `None` where the word is not the decimal
+/// digits of such a number, with no sign and no leading zero.
 pub fn read_u32(word: &str) -> Option<u32>
     ensures read { IfSome result (λ n. word.now ≡ decimal n) }
     ensures complete { (n : ℕ) → n < 2 ^ 32 → word.now ≡ decimal n → result ≡ Some n }

@@ -88,9 +88,9 @@ pub enum Statement {
 }
 
 impl Statement {
-    /// The statement of a line, whose words stand one space apart. A line of another form is refused
-    /// with `NotAStatement`, a `write` whose bytes are not spelled with `BadHex`; `Memory` comes where
-    /// there is no memory for the statement.
+    /// The statement of a line, whose words stand one space apart. A line of another form is
+    /// refused with `NotAStatement`, a `write` whose bytes are not spelled with `BadHex`; `Memory`
+    /// comes where there is no memory for the statement.
     pub fn parse(alloc: Global, line: &str) -> Result<Statement, LineFault> {
         let words: Vec<&str> = line.split(' ').collect(alloc)?;
         match words.as_slice() {

@@ -45,8 +45,8 @@ pub fn play<O: Write, E: Write>(
     Ok(worst)
 }
 
-/// Prints the events of a drive and answers its outcome. Where it was refused or reached its limit, a
-/// line on standard error says so.
+/// Prints the events of a drive and answers its outcome. Where it was refused or reached its limit,
+/// a line on standard error says so.
 fn tell_of_drive<O: Write, E: Write>(
     played: Result<Vec<Event>, Misuse>,
     drive: Drive,

@@ -1,4 +1,5 @@
--- What a lowered function's core signature comes to, in a valid component (CanonicalABI.md, "Flattening").
+-- What a lowered function's core signature comes to, in a valid component (CanonicalABI.md,
+-- "Flattening").
 use Rattle.std.specs.Prelude.{◌≤◌}
 use Rattle.cm_validate.specs.Rules.{param_count}
 use Rattle.cm_validate.specs.Spaces.{CoreFuncTree, guest, lowered}

@@ -48,8 +48,8 @@ pub enum Request<'a> {
 impl<'a> Request<'a> {
     /// The command that the words ask for. The program's own name is not among them.
     ///
-    /// Words that are no command, or that ask for help, are refused with `NoCommand`; `Memory` comes
-    /// where there is no memory.
+    /// Words that are no command, or that ask for help, are refused with `NoCommand`; `Memory`
+    /// comes where there is no memory.
     pub fn read(alloc: Global, words: &'a [String]) -> Result<Request<'a>, WordsFault> {
         let matches = match_words(alloc, words)?;
         match matches.subcommand() {
