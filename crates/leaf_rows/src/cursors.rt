@@ -1,6 +1,6 @@
 //! Rows on the steps of a cursor over bytes.
 
-use cm_grammar::{Cursor, End, ReadError, write_prefixed};
+use cm_grammar::{Cursor, End, ReadError, write_blob};
 use cm_rows::{RowFault, read_bytes, read_number, write_bytes};
 use std::alloc::{AllocError, Global};
 
@@ -15,8 +15,8 @@ enum Reason {
     Bad,
 }
 
-/// The answer to `steps BYTES STEP..`, `part BYTES SIZE STEP..` or `write_prefixed BEFORE BYTES`.
-/// A STEP is `number`, `signed`, `raw:COUNT`, `fixed:BYTES`, `begun:BYTES`, `finish`,
+/// The answer to `steps BYTES STEP..`, `part BYTES SIZE STEP..` or `write_blob BEFORE BYTES`.
+/// A STEP is `number`, `signed`, `raw:COUNT`, `fixed:BYTES`, `begins_with:BYTES`, `finish`,
 /// `fault` or `want`.
 pub fn answer(alloc: Global, words: &[&str]) -> Result<String, RowFault> {
     match words {
@@ -31,23 +31,15 @@ pub fn answer(alloc: Global, words: &[&str]) -> Result<String, RowFault> {
             let bytes = read_bytes(alloc, bytes)?;
             take_part(alloc, &bytes, read_number(size)?, steps)
         }
-        ["write_prefixed", before, bytes] => {
+        ["write_blob", before, bytes] => {
             let mut written = read_bytes(alloc, before)?;
-            prefix(&mut written, &read_bytes(alloc, bytes)?)?;
+            write_blob(&mut written, &read_bytes(alloc, bytes)?)?;
             let mut out = String::new(alloc);
             write_bytes(&mut out, &written)?;
             Ok(out)
         }
         _ => Err(RowFault::NotARow),
     }
-}
-
-fn prefix(out: &mut Vec<u8>, bytes: &[u8]) -> Result<(), RowFault> {
-    if bytes.len() > 100 {
-        return Err(RowFault::NotARow);
-    }
-    write_prefixed(out, bytes)?;
-    Ok(())
 }
 
 /// Takes the steps in turn, and writes the answer of each and then what is left.
@@ -90,8 +82,8 @@ fn take_step(
             Ok(()) => out.push_str("read")?,
             Err(error) => write_error(out, error)?,
         },
-        "begun" => {
-            let bytes = cursor.begun(&read_bytes(alloc, operand)?, Reason::Bad);
+        "begins_with" => {
+            let bytes = cursor.begins_with(&read_bytes(alloc, operand)?, Reason::Bad);
             write_outcome(out, bytes)?;
         }
         "fault" => write_error(out, cursor.fault(Reason::Bad))?,

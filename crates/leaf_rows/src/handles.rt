@@ -46,7 +46,7 @@ impl Handles {
                 Ok(String::from_str(alloc, "empty")?)
             }
             ["memory_fault"] => {
-                let number = HandleFault::Memory as u8;
+                let number = HandleFault::Memory.number();
                 Ok(format!(in alloc; "fault {number}")?)
             }
             ["close"] => {
@@ -201,7 +201,7 @@ fn show_fault(alloc: Global, fault: HandleFault) -> Result<String, RowFault> {
     match fault {
         HandleFault::Memory => Err(RowFault::Memory),
         fault => {
-            let number = fault as u8;
+            let number = fault.number();
             Ok(format!(in alloc; "fault {number}")?)
         }
     }
@@ -218,7 +218,7 @@ fn write_handle(out: &mut String, outcome: Result<Handle, HandleFault>) -> Resul
     let handle = match outcome {
         Ok(handle) => handle,
         Err(fault) => {
-            let number = fault as u8;
+            let number = fault.number();
             return write!(out, "fault {number}");
         }
     };

@@ -94,7 +94,7 @@ pub fn write_shape(out: &mut String, func: &Func) -> Result<(), AllocError> {
 fn show_core_funcs(alloc: Global, checked: &Checked) -> Result<String, RowFault> {
     let mut out = String::from_str(alloc, "each")?;
     for core_func in checked.core_funcs() {
-        out.push_str(if core_func.is_guest() {
+        out.push_str(if core_func.is_guest_function() {
             " guest"
         } else {
             " lowered"
