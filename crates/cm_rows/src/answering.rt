@@ -1,9 +1,9 @@
-//! The loop of a driver: rows come from standard input, each goes to standard output with its answer.
+//! The loop of a driver: rows come from standard input, each goes to standard output with its
+//! answer.
 
 use crate::fault::RowFault;
 use std::alloc::Global;
 use std::io;
-use std::io::{BufRead, BufReader};
 
 /// What answers rows, in their order.
 pub trait Driver {
@@ -33,11 +33,7 @@ pub fn answer_rows<D: Driver>(
     Ok(())
 }
 
-fn answer_line<D: Driver>(
-    driver: &mut D,
-    alloc: Global,
-    line: &str,
-) -> Result<String, RowFault> {
+fn answer_line<D: Driver>(driver: &mut D, alloc: Global, line: &str) -> Result<String, RowFault> {
     let words: Vec<&str> = line.split(' ').collect(alloc)?;
     driver.answer(alloc, words.as_slice())
 }

@@ -33,21 +33,13 @@ pub fn answer(alloc: Global, words: &[&str]) -> Result<String, RowFault> {
         }
         ["write_blob", before, bytes] => {
             let mut written = read_bytes(alloc, before)?;
-            prefix(&mut written, &read_bytes(alloc, bytes)?)?;
+            write_blob(&mut written, &read_bytes(alloc, bytes)?)?;
             let mut out = String::new(alloc);
             write_bytes(&mut out, &written)?;
             Ok(out)
         }
         _ => Err(RowFault::NotARow),
     }
-}
-
-fn prefix(out: &mut Vec<u8>, bytes: &[u8]) -> Result<(), RowFault> {
-    if bytes.len() > 100 {
-        return Err(RowFault::NotARow);
-    }
-    write_blob(out, bytes)?;
-    Ok(())
 }
 
 /// Takes the steps in turn, and writes the answer of each and then what is left.

@@ -46,7 +46,7 @@ impl Handles {
                 Ok(String::from_str(alloc, "empty")?)
             }
             ["memory_fault"] => {
-                let number = HandleFault::Memory as u8;
+                let number = HandleFault::Memory.number();
                 Ok(format!(in alloc; "fault {number}")?)
             }
             ["close"] => {
@@ -111,11 +111,10 @@ impl Handles {
         let mut last = 0u32;
         for _ in 0..count {
             let rep = last.saturating_add(1);
-            let index = self.table.add(Handle { rep, ..handle });
-            if index != Ok(rep) {
-                return show_index(alloc, index);
+            match self.table.add(Handle { rep, ..handle }) {
+                Ok(index) if index == rep => last = rep,
+                other => return show_index(alloc, other),
             }
-            last = rep;
         }
         Ok(format!(in alloc; "up to {last}")?)
     }
@@ -202,7 +201,7 @@ fn show_fault(alloc: Global, fault: HandleFault) -> Result<String, RowFault> {
     match fault {
         HandleFault::Memory => Err(RowFault::Memory),
         fault => {
-            let number = fault as u8;
+            let number = fault.number();
             Ok(format!(in alloc; "fault {number}")?)
         }
     }
@@ -219,7 +218,7 @@ fn write_handle(out: &mut String, outcome: Result<Handle, HandleFault>) -> Resul
     let handle = match outcome {
         Ok(handle) => handle,
         Err(fault) => {
-            let number = fault as u8;
+            let number = fault.number();
             return write!(out, "fault {number}");
         }
     };

@@ -2,16 +2,17 @@
 
 use crate::types::{read_func, read_tree};
 use cm_layout::{
-    FlatFunc, LayoutTree, Side, align, case_offset, field_offset, flatten, flatten_func, has_cases,
-    has_field, is_number, layout, node_align, node_case_offset, node_field_offset, node_has_cases,
-    node_has_field, node_layout, node_size, size,
+    FlatFunc, LayoutTree, Side, align, case_offset, discriminant_size, field_offset, flatten,
+    flatten_func, has_cases, has_field, is_number, layout, layout_of_params, node_align,
+    node_case_offset, node_discriminant_size, node_field_offset, node_has_cases, node_has_field,
+    node_layout, node_size, size,
 };
 use cm_rows::RowFault;
 use cm_types::{CoreKind, TypeTree};
 use std::alloc::{AllocError, Global};
 
-/// The answer to `whole TYPE`, `fields TYPE`, `payload TYPE`, `tree TYPE`, `node TYPE`, `lift FUNC`
-/// or `lower FUNC`.
+/// The answer to `whole TYPE`, `fields TYPE`, `payload TYPE`, `tree TYPE`, `params FUNC`, `node
+/// TYPE`, `lift FUNC` or `lower FUNC`.
 pub fn answer(alloc: Global, words: &[&str]) -> Result<String, RowFault> {
     match words {
         ["whole", ty @ ..] => show_whole(alloc, &read_tree(alloc, ty)?),
@@ -20,6 +21,14 @@ pub fn answer(alloc: Global, words: &[&str]) -> Result<String, RowFault> {
         ["tree", ty @ ..] => {
             let mut out = String::new(alloc);
             write_layout(&mut out, &layout(alloc, &read_tree(alloc, ty)?)?)?;
+            Ok(out)
+        }
+        ["params", func @ ..] => {
+            let mut out = String::new(alloc);
+            write_layout(
+                &mut out,
+                &layout_of_params(alloc, &read_func(alloc, func)?)?,
+            )?;
             Ok(out)
         }
         ["node", ty @ ..] => show_node(alloc, &read_tree(alloc, ty)?),
@@ -56,10 +65,11 @@ fn show_fields(alloc: Global, ty: &TypeTree) -> Result<String, RowFault> {
     Ok(out)
 }
 
+/// Where the payload stands, and how many bytes the number of the case takes.
 fn show_payload(alloc: Global, ty: &TypeTree) -> Result<String, RowFault> {
     if has_cases(ty) {
-        let offset = case_offset(ty);
-        Ok(format!(in alloc; "at {offset}")?)
+        let (size, offset) = (discriminant_size(ty), case_offset(ty));
+        Ok(format!(in alloc; "at {offset} behind {size}")?)
     } else {
         Ok(String::from_str(alloc, "no cases")?)
     }
@@ -76,8 +86,8 @@ fn show_node(alloc: Global, ty: &TypeTree) -> Result<String, RowFault> {
         write!(out, ", field 2 at {offset}")?;
     }
     if node_has_cases(node) {
-        let offset = node_case_offset(node);
-        write!(out, ", payload at {offset}")?;
+        let (size, offset) = (node_discriminant_size(node), node_case_offset(node));
+        write!(out, ", payload at {offset} behind {size}")?;
     }
     out.push_str(", ")?;
     write_layout(&mut out, &node_layout(alloc, node, 64)?)?;

@@ -9,6 +9,7 @@ mod names;
 mod numbers;
 mod texts;
 mod types;
+mod values;
 
 use cm_rows::{Driver, RowFault, answer_rows};
 use handles::Handles;

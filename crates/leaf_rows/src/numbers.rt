@@ -1,14 +1,16 @@
 //! Rows on numbers in LEB128.
 
 use cm_leb::{
-    LebFault, front_s33, front_u32, read_s33, read_u32, spelled_length, write_s33, write_u32,
+    LebFault, front_s33, front_u32, read_s33, read_u32, spelled_length, write_count, write_s33,
+    write_u32,
 };
 use cm_rows::{RowFault, read_bytes, read_number, write_bytes};
 use std::alloc::Global;
 use std::fmt::Display;
 
 /// The answer to `front_u32 BYTES`, `front_s33 BYTES`, `read_u32 BYTES AT`, `read_s33 BYTES AT`,
-/// `write_u32 BEFORE NUMBER`, `write_s33 BEFORE NUMBER` or `spelled_length NUMBER`.
+/// `write_u32 BEFORE NUMBER`, `write_count BEFORE COUNT`, `write_s33 BEFORE NUMBER` or
+/// `spelled_length NUMBER`.
 pub fn answer(alloc: Global, words: &[&str]) -> Result<String, RowFault> {
     match words {
         ["front_u32", bytes] => show_front(alloc, front_u32(&read_bytes(alloc, bytes)?)),
@@ -22,6 +24,11 @@ pub fn answer(alloc: Global, words: &[&str]) -> Result<String, RowFault> {
             show_read(alloc, read_s33(&bytes, read_number(at)?))
         }
         ["write_u32", before, number] => show_written_u32(alloc, before, read_number(number)?),
+        ["write_count", before, count] => {
+            let mut out = read_bytes(alloc, before)?;
+            write_count(&mut out, read_number(count)?)?;
+            show_bytes(alloc, &out)
+        }
         ["write_s33", before, number] => show_written_s33(alloc, before, read_number(number)?),
         ["spelled_length", number] => {
             let length = spelled_length(read_number(number)?);

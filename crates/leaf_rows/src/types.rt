@@ -6,24 +6,23 @@
 //! are named, `enum:LABELS`, `flags:LABELS`, `own:COMPONENT.NUMBER` and `borrow:COMPONENT.NUMBER`
 //! among them. LABELS are joined by commas. `N*` before a word or a label stands for N of them.
 
+use crate::values::read_value;
 use cm_rows::{RowFault, read_number, split_repeat};
 use cm_types::{
-    Case, Field, Func, Label, NameFault, ResourceId, TypeNode, TypeTree, same_func, same_type,
+    Case, Field, Func, Label, NameFault, ResourceId, TypeFault, TypeNode, TypeTree, has_type,
+    same_func, same_type,
 };
 use std::alloc::{AllocError, Global};
 
-/// The answer to `within TYPE`, `within_func FUNC`, `equal TYPE | TYPE ..`, `same LEFT RIGHT TYPE =
-/// TYPE` or `same_func FUNC = FUNC`. LEFT and RIGHT are resources joined by commas, or `-`.
+/// The answer to `within TYPE`, `within_func TYPE..` (of the parameters), `equal TYPE | TYPE ..`,
+/// `same LEFT RIGHT TYPE = TYPE`, `has TYPE = VALUE` or `same_func FUNC = FUNC`. LEFT and RIGHT are
+/// resources joined by commas, or `-`.
 pub fn answer(alloc: Global, words: &[&str]) -> Result<String, RowFault> {
     match words {
-        ["within", ty @ ..] => {
-            let is_within = TypeTree::new(read_type(alloc, ty)?).is_ok();
-            Ok(is_within.to_string(alloc)?)
-        }
+        ["within", ty @ ..] => { show_limit(alloc, TypeTree::new(read_type(alloc, ty)?).err()) }
         ["within_func", params @ ..] => {
             let params = fields(alloc, read_types(alloc, params)?)?;
-            let is_within = Func::new(params, None).is_ok();
-            Ok(is_within.to_string(alloc)?)
+            show_limit(alloc, Func::new(params, None).err())
         }
         ["equal", types @ ..] => show_equals(alloc, types),
         ["same", left, right, types @ ..] => {
@@ -33,12 +32,28 @@ pub fn answer(alloc: Global, words: &[&str]) -> Result<String, RowFault> {
             let (a, b) = (read_type(alloc, a)?, read_type(alloc, b)?);
             Ok(same_type(&a, &b, &left, &right).to_string(alloc)?)
         }
+        ["has", words @ ..] => {
+            let (ty, value) = split_words(words, "=")?;
+            let ty = read_tree(alloc, ty)?;
+            Ok(has_type(&read_value(alloc, value)?, &ty).to_string(alloc)?)
+        }
         ["same_func", funcs @ ..] => {
             let (a, b) = split_words(funcs, "=")?;
             let (a, b) = (read_func(alloc, a)?, read_func(alloc, b)?);
             Ok(same_func(&a, &b, &[], &[]).to_string(alloc)?)
         }
         _ => Err(RowFault::NotARow),
+    }
+}
+
+/// `within`, or the fault.
+fn show_limit(alloc: Global, fault: Option<TypeFault>) -> Result<String, RowFault> {
+    match fault {
+        None => Ok(String::from_str(alloc, "within")?),
+        Some(fault) => {
+            let number = fault.number();
+            Ok(format!(in alloc; "fault {number}")?)
+        }
     }
 }
 
