@@ -1,4 +1,5 @@
-//! Files of components, for `bench/src/files.rs`. Each call answers a number that depends on what was read.
+//! Files of components, for `bench/src/files.rs`. Each call answers a number that depends on what
+//! was read.
 
 use cm_binary::{decode, encode};
 use cm_validate::{Checked, validate};
@@ -25,7 +26,8 @@ pub(crate) fn checked(alloc: Global, bytes: &[u8]) -> Option<Checked> {
     validate(alloc, component).ok()
 }
 
-/// Decodes and validates a file: how many imports it has, or the greatest number where it is refused.
+/// Decodes and validates a file: how many imports it has, or the greatest number where it is
+/// refused.
 #[unsafe(no_mangle)]
 pub extern "C" fn cm_bench_validate(alloc: Global, bytes: &[u8]) -> usize {
     checked(alloc, bytes).map_or(usize::MAX, |checked| checked.signature().imports.len())

@@ -40,8 +40,9 @@ fn call_all(set: &mut Set, call: &Move, answer: &Move, calls: u32) -> Result<u64
     Ok(sum)
 }
 
-/// Links two files of which the second one calls a function of the first one, from a number to a number,
-/// and makes so many calls of it: the sum of the numbers that went and came, 0 where they are refused.
+/// Links two files of which the second one calls a function of the first one, from a number to a
+/// number, and makes so many calls of it: the sum of the numbers that went and came, 0 where they
+/// are refused.
 #[unsafe(no_mangle)]
 pub extern "C" fn cm_bench_calls(alloc: Global, provider: &[u8], user: &[u8], calls: u32) -> u64 {
     calls_of(alloc, provider, user, calls).unwrap_or(0)

@@ -8,8 +8,9 @@ use cm_validate::Checked;
 use std::alloc::Global;
 use std::{fs, rt};
 
-/// A guest that adds one: where it is entered with a number, it answers the next one. As the root it
-/// calls its core function 0 with 41, and then returns. Where it has no memory for a value, it gives none.
+/// A guest that adds one: where it is entered with a number, it answers the next one. As the root
+/// it calls its core function 0 with 41, and then returns. Where it has no memory for a value, it
+/// gives none.
 #[derive(Drop)]
 struct AddOne(Global);
 
