@@ -15,33 +15,39 @@ use std::alloc::{AllocError, Global};
 /// TYPE`, `lift FUNC` or `lower FUNC`.
 pub fn answer(alloc: Global, words: &[&str]) -> Result<String, RowFault> {
     match words {
-        ["whole", ty @ ..] => show_whole(alloc, &read_tree(alloc, ty)?),
-        ["fields", ty @ ..] => show_fields(alloc, &read_tree(alloc, ty)?),
-        ["payload", ty @ ..] => show_payload(alloc, &read_tree(alloc, ty)?),
-        ["tree", ty @ ..] => {
-            let mut out = String::new(alloc);
-            write_layout(&mut out, &layout(alloc, &read_tree(alloc, ty)?)?)?;
-            Ok(out)
-        }
-        ["params", func @ ..] => {
-            let mut out = String::new(alloc);
-            write_layout(
-                &mut out,
-                &layout_of_params(alloc, &read_func(alloc, func)?)?,
-            )?;
-            Ok(out)
-        }
-        ["node", ty @ ..] => show_node(alloc, &read_tree(alloc, ty)?),
-        ["lift", func @ ..] => {
-            let func = read_func(alloc, func)?;
-            show_flat_func(alloc, &flatten_func(alloc, &func, Side::Lift)?)
-        }
-        ["lower", func @ ..] => {
-            let func = read_func(alloc, func)?;
-            show_flat_func(alloc, &flatten_func(alloc, &func, Side::Lower)?)
+        ["params", func @ ..] => show_params(alloc, func),
+        ["lift", func @ ..] => show_flat_func(alloc, func, Side::Lift),
+        ["lower", func @ ..] => show_flat_func(alloc, func, Side::Lower),
+        [kind, ty @ ..] => {
+            let ty = read_tree(alloc, ty)?;
+            answer_on_type(alloc, kind, &ty)
         }
         _ => Err(RowFault::NotARow),
     }
+}
+
+fn answer_on_type(alloc: Global, kind: &str, ty: &TypeTree) -> Result<String, RowFault> {
+    match kind {
+        "whole" => show_whole(alloc, ty),
+        "fields" => show_fields(alloc, ty),
+        "payload" => show_payload(alloc, ty),
+        "tree" => show_tree(alloc, ty),
+        "node" => show_node(alloc, ty),
+        _ => Err(RowFault::NotARow),
+    }
+}
+
+fn show_tree(alloc: Global, ty: &TypeTree) -> Result<String, RowFault> {
+    let mut out = String::new(alloc);
+    write_layout(&mut out, &layout(alloc, ty)?)?;
+    Ok(out)
+}
+
+fn show_params(alloc: Global, func: &[&str]) -> Result<String, RowFault> {
+    let func = read_func(alloc, func)?;
+    let mut out = String::new(alloc);
+    write_layout(&mut out, &layout_of_params(alloc, &func)?)?;
+    Ok(out)
 }
 
 /// Size, alignment and flat kinds.
@@ -123,16 +129,23 @@ fn write_kinds(out: &mut String, kinds: &[CoreKind]) -> Result<(), AllocError> {
     Ok(())
 }
 
-fn show_flat_func(alloc: Global, flat: &FlatFunc) -> Result<String, RowFault> {
-    let mut out = String::from_str(alloc, "params")?;
-    write_kinds(&mut out, &flat.params)?;
+fn show_flat_func(alloc: Global, func: &[&str], side: Side) -> Result<String, RowFault> {
+    let func = read_func(alloc, func)?;
+    let mut out = String::new(alloc);
+    write_flat_func(&mut out, &flatten_func(alloc, &func, side)?)?;
+    Ok(out)
+}
+
+fn write_flat_func(out: &mut String, flat: &FlatFunc) -> Result<(), AllocError> {
+    out.push_str("params")?;
+    write_kinds(out, &flat.params)?;
     if flat.spilled_params {
         out.push_str(" spilled")?;
     }
     out.push_str(", results")?;
-    write_kinds(&mut out, &flat.results)?;
+    write_kinds(out, &flat.results)?;
     if flat.spilled_result {
         out.push_str(" spilled")?;
     }
-    Ok(out)
+    Ok(())
 }

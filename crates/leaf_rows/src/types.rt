@@ -19,31 +19,48 @@ use std::alloc::{AllocError, Global};
 /// resources joined by commas, or `-`.
 pub fn answer(alloc: Global, words: &[&str]) -> Result<String, RowFault> {
     match words {
-        ["within", ty @ ..] => { show_limit(alloc, TypeTree::new(read_type(alloc, ty)?).err()) }
-        ["within_func", params @ ..] => {
-            let params = fields(alloc, read_types(alloc, params)?)?;
-            show_limit(alloc, Func::new(params, None).err())
-        }
+        ["within", ty @ ..] => show_within(alloc, ty),
+        ["within_func", params @ ..] => show_within_func(alloc, params),
         ["equal", types @ ..] => show_equals(alloc, types),
-        ["same", left, right, types @ ..] => {
-            let left = read_resources(alloc, left)?;
-            let right = read_resources(alloc, right)?;
-            let (a, b) = split_words(types, "=")?;
-            let (a, b) = (read_type(alloc, a)?, read_type(alloc, b)?);
-            Ok(same_type(&a, &b, &left, &right).to_string(alloc)?)
-        }
-        ["has", words @ ..] => {
-            let (ty, value) = split_words(words, "=")?;
-            let ty = read_tree(alloc, ty)?;
-            Ok(has_type(&read_value(alloc, value)?, &ty).to_string(alloc)?)
-        }
-        ["same_func", funcs @ ..] => {
-            let (a, b) = split_words(funcs, "=")?;
-            let (a, b) = (read_func(alloc, a)?, read_func(alloc, b)?);
-            Ok(same_func(&a, &b, &[], &[]).to_string(alloc)?)
-        }
+        ["same", left, right, types @ ..] => show_same(alloc, left, right, types),
+        ["has", words @ ..] => show_has(alloc, words),
+        ["same_func", funcs @ ..] => show_same_func(alloc, funcs),
         _ => Err(RowFault::NotARow),
     }
+}
+
+fn show_bool(alloc: Global, answer: bool) -> Result<String, RowFault> {
+    Ok(answer.to_string(alloc)?)
+}
+
+fn show_within(alloc: Global, ty: &[&str]) -> Result<String, RowFault> {
+    show_limit(alloc, TypeTree::new(read_type(alloc, ty)?).err())
+}
+
+fn show_within_func(alloc: Global, params: &[&str]) -> Result<String, RowFault> {
+    let params = fields(alloc, read_types(alloc, params)?)?;
+    show_limit(alloc, Func::new(params, None).err())
+}
+
+fn show_same(alloc: Global, left: &str, right: &str, types: &[&str]) -> Result<String, RowFault> {
+    let left = read_resources(alloc, left)?;
+    let right = read_resources(alloc, right)?;
+    let (a, b) = split_words(types, "=")?;
+    let (a, b) = (read_type(alloc, a)?, read_type(alloc, b)?);
+    show_bool(alloc, same_type(&a, &b, &left, &right))
+}
+
+fn show_has(alloc: Global, words: &[&str]) -> Result<String, RowFault> {
+    let (ty, value) = split_words(words, "=")?;
+    let ty = read_tree(alloc, ty)?;
+    let value = read_value(alloc, value)?;
+    show_bool(alloc, has_type(&value, &ty))
+}
+
+fn show_same_func(alloc: Global, funcs: &[&str]) -> Result<String, RowFault> {
+    let (a, b) = split_words(funcs, "=")?;
+    let (a, b) = (read_func(alloc, a)?, read_func(alloc, b)?);
+    show_bool(alloc, same_func(&a, &b, &[], &[]))
 }
 
 /// `within`, or the fault.
