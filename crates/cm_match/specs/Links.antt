@@ -9,6 +9,7 @@ use Rattle.cm_types.specs.Signatures.{SignatureTy, NamedExtern, ExternTy, func}
 use Rattle.cm_validate.specs.Spaces.{signature, spaces_of}
 use Rattle.cm_match.specs.declared.fault.LinkReason.{LinkReason}
 use Rattle.cm_match.specs.declared.fault.LinkReason.TheVariants as reason
+use Rattle.cm_match.specs.declared.linked.TheConstants.{MAX_COMPONENTS}
 use Rattle.cm_match.specs.declared.plan.PlanLine.{PlanLine}
 
 -- what the components of a set import and export, in order
@@ -79,10 +80,10 @@ ServesEach set (i ∷ is) (l ∷ ls) =
     ((e : ExternAt) × IsServedBy set i e × (l ≡ plan_line i e)) × ServesEach set is ls
 ServesEach set _ _ = ⊥
 
--- a set of 1 to 16 components whose imports are all served, and its plan
+-- a set of 1 to MAX_COMPONENTS components whose imports are all served, and its plan
 pub record Matches (set : List SignatureTy) (plan : List PlanLine) : Type 0 where
   pub some : 0 < length set
-  pub few : length set ≤ 16
+  pub few : length set ≤ MAX_COMPONENTS
   pub served : ServesEach set (imports_from 0 set) plan
 
 -- why an import is not served
@@ -97,7 +98,7 @@ IsUnservedFor set i _ = ⊥
 pub record IsFirstUnserved (set : List SignatureTy) (component number : ℕ) (r : LinkReason)
     : Type 0 where
   pub some : 0 < length set
-  pub few : length set ≤ 16
+  pub few : length set ≤ MAX_COMPONENTS
   pub front : List ExternAt
   pub here : ExternAt
   pub rest : List ExternAt
@@ -108,12 +109,12 @@ pub record IsFirstUnserved (set : List SignatureTy) (component number : ℕ) (r 
   pub served : ServesEach set front plan
   pub fails : IsUnservedFor set here r
 
--- the fault of a set that can't be linked: an empty set, more than 16 components, or the first
--- import that is not served
+-- the fault of a set that can't be linked: an empty set, more than MAX_COMPONENTS components, or
+-- the first import that is not served
 abbrev pub IsLinkFault : List SignatureTy → ℕ → ℕ → LinkReason → Type 0
 IsLinkFault set component number reason.Empty = (set ≡ []) × (component ≡ 0) × (number ≡ 0)
 IsLinkFault set component number reason.TooMany =
-    (16 < length set) × (component ≡ 0) × (number ≡ 0)
+    (MAX_COMPONENTS < length set) × (component ≡ 0) × (number ≡ 0)
 IsLinkFault set component number r = IsFirstUnserved set component number r
 
 -- an import stands at this place, or behind it
@@ -121,10 +122,11 @@ abbrev pub IsFromPlace : ℕ → ℕ → ExternAt → Type 0
 IsFromPlace component number i =
     (component < i.component) ⊎ ((i.component ≡ component) × (number ≤ i.number))
 
--- the set has 1 to 16 components, and the plan serves its imports up to those from this place on
+-- the set has 1 to MAX_COMPONENTS components, and the plan serves its imports up to those from this
+-- place on
 pub record ServesUpTo (set : List SignatureTy) (component number : ℕ) : Type 0 where
   pub some : 0 < length set
-  pub few : length set ≤ 16
+  pub few : length set ≤ MAX_COMPONENTS
   pub front : List ExternAt
   pub rest : List ExternAt
   pub split : imports_from 0 set ≡ front ++ rest

@@ -2,6 +2,7 @@
 use Rattle.std.specs.Prelude.{◌≡◌, ℕ, ◌<◌, ◌≤◌, List, ◌++◌, length, drop}
 use Rattle.cm_component.specs.Trees.{SectionTree}
 use Rattle.cm_types.specs.Signatures.{SignatureTy}
+use Rattle.cm_match.specs.declared.linked.TheConstants.{MAX_COMPONENTS}
 use Rattle.cm_match.specs.declared.plan.PlanLine.{PlanLine}
 use Rattle.cm_match.specs.Links.{ExternAt, ServesEach, imports_from, signatures_of}
 
@@ -9,7 +10,7 @@ use Rattle.cm_match.specs.Links.{ExternAt, ServesEach, imports_from, signatures_
 pub record Progress (set : List SignatureTy) (rest : List ExternAt) (plan : List PlanLine)
     : Type 0 where
   pub some : 0 < length set
-  pub few : length set ≤ 16
+  pub few : length set ≤ MAX_COMPONENTS
   pub front : List ExternAt
   pub split : imports_from 0 set ≡ front ++ rest
   pub served : ServesEach set front plan

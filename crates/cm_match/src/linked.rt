@@ -58,7 +58,7 @@ impl Linked {
         ensures components { result.now ≡ self.now }
         ensures fine { AllByRecursion IsValidAndConsistent self.now }
         ensures some { 0 < length self.now }
-        ensures few { length self.now ≤ 16 }
+        ensures few { length self.now ≤ MAX_COMPONENTS }
         ensures lowered { LoweredReach self.now }
     {
         &self.components
@@ -123,7 +123,7 @@ pub fn link(alloc: Global, components: Vec<Checked>) -> Result<Linked, LinkFault
 
     ensures empty { components.items ≡ []
         → IsErrOf result (record { component = 0; import = 0; reason = reason.Empty }) }
-    ensures too_many { 16 < length components.items
+    ensures too_many { MAX_COMPONENTS < length components.items
         → IsErrOf result (record { component = 0; import = 0; reason = reason.TooMany }) }
 {
     if components.is_empty() {

@@ -7,6 +7,7 @@ ghost use Rattle.std.specs.List.{AllByRecursion};
 ghost use Rattle.cm_types.specs.Signatures.{extern_of};
 ghost use Rattle.cm_validate.specs.Spaces.{spaces_of, func_at};
 ghost use Rattle.cm_match.specs.declared.fault.LinkReason.TheVariants as reason;
+ghost use Rattle.cm_match.specs.declared.linked.TheConstants.{MAX_COMPONENTS};
 ghost use Rattle.cm_match.specs.Links.{ExternAt, extern_at, externs_from, exports_from};
 ghost use Rattle.cm_match.specs.Links.{signatures_of, plan_line, IsServedBy, IsUnservedFor};
 ghost use Rattle.cm_match.specs.Links.{IsFirstUnserved, Matches, ServesUpTo};
@@ -162,7 +163,7 @@ pub(crate) struct Links {
 /// Links the components of a set in order.
 pub(crate) fn link_all(alloc: Global, components: &[Checked]) -> Result<Links, LinkFault>
     requires some { 0 < length components.now }
-    requires few { length components.now ≤ 16 }
+    requires few { length components.now ≤ MAX_COMPONENTS }
     ensures fine { OnOk result (AllByRecursion IsValidAndConsistent components.now) }
     ensures plan { IfOk result (λ l. Matches (signatures_of components.now) l.plan.items) }
     ensures targets { IfOk result

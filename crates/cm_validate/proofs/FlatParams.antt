@@ -12,6 +12,7 @@ use Rattle.cm_component.specs.declared.section.ExternDesc.{ExternDesc}
 use Rattle.cm_component.specs.declared.section.ExternDesc.TheVariants as desc
 use Rattle.cm_validate.specs.declared.fault.ValidReason.{ValidReason}
 use Rattle.cm_validate.specs.declared.fault.ValidReason.TheVariants as reason
+use Rattle.cm_validate.specs.declared.rules.TheConstants.{MAX_FLAT_PARAMS}
 use Rattle.cm_validate.specs.Items.{Item, all_items, module_item, core_instance_item, alias_item, type_item, canon_item, import_item, export_item}
 use Rattle.cm_validate.specs.Spaces.{IndexSpaces, CoreFuncTree, FuncDefTree, guest, lifted, imported, empty_spaces, after_item, after_items, after_canon, after_import, lower_import, func_type_of, spaces_of}
 use Rattle.cm_validate.specs.Rules.{item_rules, canon_rules, is_flat, param_count}
@@ -28,8 +29,8 @@ lowered_flat None kept = tt
 lowered_flat (Some (lifted core_func ty)) kept = tt
 lowered_flat (Some (imported import item ty)) kept = (by_test (is_flat ty) refl, tt)
   where
-    by_test : (b : Bool) → is_flat ty ≡ b → param_count ty.params ≤ 16
-    by_test true e = leb-true (param_count ty.params) 16 e
+    by_test : (b : Bool) → is_flat ty ≡ b → param_count ty.params ≤ MAX_FLAT_PARAMS
+    by_test true e = leb-true (param_count ty.params) MAX_FLAT_PARAMS e
     by_test false e = absurd (kept e)
 
 canon_flat : (s : IndexSpaces) (c : Canon) → AllByRecursion PassesFlat s.core_funcs → ((r : ValidReason) → IsBroken (canon_rules s c) r → ⊥) → AllByRecursion PassesFlat (after_canon s c).core_funcs

@@ -4,6 +4,7 @@ use Rattle.cm_types.specs.Types.{Fields, fields, tuple_type}
 use Rattle.cm_types.specs.Limits.{IsWithinLimits, nodes_of, nodes_of_fields, depth_of, depth_of_fields}
 use Rattle.cm_types.specs.Spellable.{is_spellable, are_spellable}
 use Rattle.cm_types.specs.declared.def_types.ValType.{ValType}
+use Rattle.cm_types.specs.declared.limits.TheConstants.{MAX_NODES}
 use Rattle.cm_types.specs.declared.def_types.ValType.TheVariants as val_type
 use Rattle.cm_types.specs.declared.def_types.LabeledValType.{LabeledValType}
 use Rattle.cm_types.specs.TypeTrees.{fields_from, fields_of}
@@ -41,5 +42,5 @@ params_spellable [] = refl
 params_spellable (p ∷ ps) = rw (value_spellable p.ty) (params_spellable ps)
 
 -- small parameter lists are within the limits of one type
-pub small_params : (ps : List LabeledValType) → length ps < 10000 → IsWithinLimits (fields tuple_type (params_from ps))
+pub small_params : (ps : List LabeledValType) → length ps < MAX_NODES → IsWithinLimits (fields tuple_type (params_from ps))
 small_params ps small = (omega (arith, params_nodes ps), omega (arith, params_depth ps))

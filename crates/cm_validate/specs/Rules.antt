@@ -15,6 +15,7 @@ use Rattle.cm_types.specs.ExternNames.{form_of}
 use Rattle.cm_types.specs.Types.{FuncTy, Fields, no_fields, field}
 use Rattle.cm_types.specs.DefTypes.{FuncTypeTree, func_def}
 use Rattle.cm_types.specs.declared.def_types.LabeledValType.{LabeledValType}
+use Rattle.cm_types.specs.declared.limits.TheConstants.{MAX_NODES}
 use Rattle.cm_component.specs.Trees.{ArgTree, instantiate, core_instance_export}
 use Rattle.cm_component.specs.declared.section.Canon.{Canon}
 use Rattle.cm_component.specs.declared.section.Canon.TheVariants as canon
@@ -22,6 +23,7 @@ use Rattle.cm_component.specs.declared.section.ExternDesc.{ExternDesc}
 use Rattle.cm_component.specs.declared.section.ExternDesc.TheVariants as desc
 use Rattle.cm_validate.specs.declared.fault.ValidReason.{ValidReason}
 use Rattle.cm_validate.specs.declared.fault.ValidReason.TheVariants as reason
+use Rattle.cm_validate.specs.declared.rules.TheConstants.{MAX_FLAT_PARAMS}
 use Rattle.cm_validate.specs.Items.{Item, module_item, core_instance_item, alias_item, type_item}
 use Rattle.cm_validate.specs.Items.{canon_item, import_item, export_item}
 use Rattle.cm_validate.specs.Spaces.{IndexSpaces, CoreFuncTree, FuncDefTree, guest, lowered, lifted}
@@ -51,10 +53,10 @@ abbrev pub param_count : Fields → ℕ
 param_count no_fields = 0
 param_count (field label ty fs) = param_count fs + 1
 
--- whether the parameters are passed flat: 16 of u32 at most, else they would stand in memory
--- (CanonicalABI.md, "Flattening")
+-- whether the parameters are passed flat: MAX_FLAT_PARAMS of u32 at most, else they would stand in
+-- memory (CanonicalABI.md, "Flattening")
 abbrev pub is_flat : FuncTy → Bool
-is_flat f = nat_le (param_count f.params) 16
+is_flat f = nat_le (param_count f.params) MAX_FLAT_PARAMS
 
 -- a rule on what stands under an index: where nothing stands there, that alone is broken
 abbrev pub if_there : {A : Type 0} → (A → Bool) → Option A → Bool
@@ -117,9 +119,10 @@ is_imported (imported import item ty) = true
 
 -- ---- TooLarge
 
--- a parameter list counts as a tuple: a node above those of the parameters, 10,000 together at most
+-- a parameter list counts as a tuple: a node above those of the parameters, MAX_NODES together at
+-- most
 abbrev pub params_are_within_limits : FuncTypeTree → Bool
-params_are_within_limits f = nat_lt (length f.params) 10000
+params_are_within_limits f = nat_lt (length f.params) MAX_NODES
 
 -- ---- the rules of an item: the test, and the reason where it does not hold; the rules of an item
 -- stand in the order of their reasons' numbers

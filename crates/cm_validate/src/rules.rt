@@ -16,15 +16,12 @@ ghost use Rattle.cm_validate.specs.Rules.{has_memory, has_realloc, name_is_plain
 ghost use Rattle.cm_validate.specs.Rules.{params_are_within_limits, param_count};
 
 use cm_component::CoreInstantiationArg;
-use cm_types::{ExternName, ExternNameForm, Func, FuncType, LabeledValType};
+use cm_types::{ExternName, ExternNameForm, Func, FuncType, LabeledValType, MAX_NODES};
 use std::alloc::{AllocError, Global};
 use std::collections::BTreeSet;
 
 /// The most parameters that are passed flat (CanonicalABI.md, "Flattening").
-const MAX_FLAT_PARAMS: usize = 16;
-
-/// The most nodes of a type, of which the parameter list is one (this project's own choice).
-const MAX_NODES: usize = 10_000;
+pub const MAX_FLAT_PARAMS: usize = 16;
 
 /// Whether an index is below the count of what stands before the item.
 pub(crate) fn index_is_there(index: u32, count: usize) -> bool
@@ -140,9 +137,9 @@ pub(crate) fn name_is_plain_label(name: &ExternName) -> bool
     }
 }
 
-/// Whether the parameter list is within the limits of one type.
+/// Whether the parameter list, which is a node of its own, is within the limits of one type.
 pub(crate) fn params_are_within_limits(ty: &FuncType) -> bool
     ensures { result ≡ params_are_within_limits (func_type_tree ty.now) }
 {
-    ty.params.len() < MAX_NODES
+    ty.params.len() < MAX_NODES as usize
 }
