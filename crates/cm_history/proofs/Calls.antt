@@ -2,7 +2,7 @@
 -- event.
 use Rattle.std.proofs.Common.{◌≡◌, ℕ, suc, ◌<◌, ◌⊎◌, inl, inr, Bool, true, false, List, [], ◌∷◌, length, Option, Some, None, Vec, refl, sym, ap, subst, ◌∙◌, arith}
 use Rattle.std.specs.declared.alloc.Global.{Global}
-use Rattle.std.specs.Prelude.{slice_get}
+use Rattle.std.specs.Prelude.{slice_get, ◌≤◌}
 use borrow.Author.Tests.{ltb-true}
 use Rattle.cm_types.specs.declared.core_value.CoreValue.{CoreValue}
 use Rattle.cm_machine_model.specs.declared.frame.CoreFunction.{CoreFunction}
@@ -26,7 +26,7 @@ use Rattle.cm_machine_model.specs.State.{State, StandsOn, core_func_at, after_tr
 use Rattle.cm_machine_model.specs.Checks.{first_failed, checks, call_checks, has_core_shape, result_count, return_count, return_count_in}
 use Rattle.cm_machine_model.specs.Step.{may_grow, Grows, Calls, Returns, Passes}
 use Rattle.cm_machine_model.specs.Run.{misuse_of_begin}
-use Rattle.cm_machine_model.specs.Values.{view_of, Receives}
+use Rattle.cm_machine_model.specs.Values.{params, results, flat_limit, view_of, Receives}
 use Rattle.cm_machine_model.specs.History.{Action, begins, moves, Occurrence, Happens}
 use Rattle.cm_history.specs.Acting.{acts}
 use Rattle.cm_history.specs.Doing.{LoweredCall, BodyReturn, Doing, root, body, instance_of, below, core_func_by_index, lowered_call, with_body, after_call, body_return, after_return, unless_last, after_move, doing}
@@ -47,10 +47,10 @@ call_goes_on h s carried top func args e new l is there tells =
     ap (λ (y : Event). after_call (lowered_call s (acts h) args (core_func_by_index s (acts h) func)) (acts h) y (doing h)) tells
     ∙ ap (λ (y : Option LoweredCall). with_body y (doing h)) last
 
-entry_of : (s : State) (caller : ℕ) (l : LoweredFunc) (args : List CoreValue) (ds : List Doing) (new : State) → has_core_shape l.params args ≡ true → Enters (body (record { caller = caller; lowered = l; args = args; state = s }) [] ∷ ds) l.instance l.func args new
-entry_of s caller l args ds new shape =
-    let v = denoted (view_of s caller) l.params args shape in
-    (refl, refl, (v.0, v.1, received (view_of s caller) (view_of new l.instance) l.params args v.0 v.1))
+entry_of : (s : State) (caller : ℕ) (l : LoweredFunc) (args : List CoreValue) (ds : List Doing) (new : State) → l.params ≤ flat_limit params → has_core_shape l.params args ≡ true → Enters (body (record { caller = caller; lowered = l; args = args; state = s }) [] ∷ ds) l.instance l.func args new
+entry_of s caller l args ds new flat shape =
+    let v = denoted (view_of s caller) params l.params args flat shape in
+    (refl, refl, (v.0, v.1, received (view_of s caller) (view_of new l.instance) params l.params args v.0 v.1))
 
 call_enters : (h : List Occurrence) (s : State) (carried : Carried h s) (top : Frame) (func : ℕ) (args : Vec CoreValue Global) (e : Event) (new : State) (f : Option CoreFunction) → top_of s.stack ≡ Some top → core_func_at s.core_funcs (actor top) func ≡ f → first_failed (call_checks s top f args.items) ≡ None → Calls s top f args.items e new
     → (i g : ℕ) (given : List CoreValue) → e ≡ event.Enter i g given → Enters (after_move (acts h) s (move.Call func args) e (doing h)) i g given new
@@ -68,7 +68,7 @@ call_enters h s carried top func args e new (Some (core_function.Lowered l)) is 
     (subst (λ (j : ℕ). Enters (body x [] ∷ doing h) j g given new) same_i
     (subst (λ (j : ℕ). Enters (body x [] ∷ doing h) l.instance j given new) same_g
     (subst (λ (j : List CoreValue). Enters (body x [] ∷ doing h) l.instance l.func j new) same_args
-    (entry_of s (actor top) l args.items (doing h) new fits.shape))))
+    (entry_of s (actor top) l args.items (doing h) new fits.flat fits.shape))))
 
 pass_enters : (h : List Occurrence) (s : State) (carried : Carried h s) (m : Move) (e : Event) (new : State) (top : Frame) → top_of s.stack ≡ Some top → first_failed (checks s top m) ≡ None → Passes s top m e new → (i f : ℕ) (args : List CoreValue) → e ≡ event.Enter i f args → Enters (after_move (acts h) s m e (doing h)) i f args new
 pass_enters h s carried (move.Write at bytes) e new top is fine p i f args ev = absurd (let x = p.0 in cc)
@@ -99,14 +99,19 @@ same_return s a callee values r is e =
     let there : body_return s (Some callee) values ≡ Some r = subst (λ (x : Option ℕ). body_return s x values ≡ Some r) is e in
     cc
 
+one_result : (l : LoweredFunc) (b : Bool) → l.has_result ≡ b → result_count l ≤ flat_limit results
+one_result l true e = rw e (omega arith)
+one_result l false e = rw e (omega arith)
+
 -- a body's return hands its values to the caller
 takes_result : (s : State) (top : Frame) (call : Call) (x : LoweredCall) (values : List CoreValue) (new : State) → actor top ≡ top.instance → call.phase ≡ phase.Body → call.lowered.instance ≡ top.instance → call.caller ≡ x.caller → call.lowered ≡ x.lowered → has_core_shape (return_count_in call.phase call.lowered) values ≡ true → TakesResult x (record { callee = actor top; values = values; state = s }) call.caller values new
 takes_result s top call x values new itself in_body stands same_caller same_lowered shape0 =
     let counts : return_count_in call.phase call.lowered ≡ result_count x.lowered = ap (λ (p : Phase). return_count_in p call.lowered) in_body ∙ ap result_count same_lowered in
     let shape : has_core_shape (result_count x.lowered) values ≡ true = subst (λ (n : ℕ). has_core_shape n values ≡ true) counts shape0 in
-    let v = denoted (view_of s (actor top)) (result_count x.lowered) values shape in
+    let flat = one_result x.lowered x.lowered.has_result refl in
+    let v = denoted (view_of s (actor top)) results (result_count x.lowered) values flat shape in
     let callee : actor top ≡ x.lowered.instance = itself ∙ sym stands ∙ ap (λ (l : LoweredFunc). l.instance) same_lowered in
-    (sym same_caller, callee, (v.0, v.1, received (view_of s (actor top)) (view_of new x.caller) (result_count x.lowered) values v.0 v.1))
+    (sym same_caller, callee, (v.0, v.1, received (view_of s (actor top)) (view_of new x.caller) results (result_count x.lowered) values v.0 v.1))
 
 told_resumes : (h : List Occurrence) (s : State) (carried : Carried h s) (top : Frame) (values : List CoreValue) (new : State) (call : Call) → top_of s.stack ≡ Some top → top.purpose ≡ purpose.Call call → call.phase ≡ phase.Body → has_core_shape (return_count top.purpose) values ≡ true → (d : Doing) (rest : List Doing) → doing h ≡ d ∷ rest → Told top.purpose top.instance d → Resumes (doing h) (record { callee = actor top; values = values; state = s }) call.caller values new
 told_resumes h s carried top values new call is its in_body shape d rest are (by_root p d_is) = absurd (cc (p, its))

@@ -1,7 +1,8 @@
 -- What is kept along a history: who acts and what goes on, as the events tell it, is what stands on the
 -- stack, and each instance on the stack is open.
 use Rattle.std.proofs.Common.{◌≡◌, ℕ, zero, suc, ◌<◌, Bool, true, false, List, [], ◌∷◌, length, map, Option, Some, None, refl, sym, ap, subst, ◌∙◌, arith}
-use Rattle.std.specs.Prelude.{slice_get, unwrap_or, not}
+use Rattle.std.specs.Prelude.{slice_get, unwrap_or, not, ◌≤◌}
+use Rattle.cm_machine_model.specs.declared.limits.TheConstants.{MAX_FLAT_PARAMS}
 use Rattle.std.specs.Option.{option_map}
 use Rattle.std.specs.List.{AllByRecursion}
 use Rattle.std.proofs.lemmas.Option.{slice_get_within}
@@ -172,6 +173,7 @@ open_inside (c ∷ cs) (suc i) lt h = open_inside cs i (omega (arith, lt)) h
 
 -- what holds where a call of this lowered function meets no trap
 pub record CallFits (h : List Occurrence) (s : State) (top : Frame) (l : LoweredFunc) (args : List CoreValue) : Type 0 where
+  pub flat : l.params ≤ MAX_FLAT_PARAMS
   pub shape : has_core_shape l.params args ≡ true
   pub leaves : may_leave top.purpose ≡ true
   pub callee : slice_get s.closed l.instance ≡ Some false
@@ -183,7 +185,7 @@ call_fits_told h s top func l args carried is there fine =
     let top_fine = top_is_fine s top carried.valid is in
     let linked = lowered_at s (actor top) func l carried.valid there in
     let inside : l.instance < length s.closed = omega (arith, linked.0, top_fine.inside, top_fine.itself, carried.valid.closed) in
-    record { shape = held.0; leaves = held.1; callee = open_inside s.closed l.instance inside held.2; room = held.3 }
+    record { flat = linked.1; shape = held.0; leaves = held.1; callee = open_inside s.closed l.instance inside held.2; room = held.3 }
 
 -- ---- one step
 

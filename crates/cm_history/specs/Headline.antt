@@ -17,8 +17,8 @@ use Rattle.cm_machine_model.specs.declared.limits.TheConstants.{MAX_FRAMES, MAX_
 use Rattle.cm_machine_model.specs.Memories.{memory_at}
 use Rattle.cm_machine_model.specs.Stack.{actor, top_of}
 use Rattle.cm_machine_model.specs.State.{State}
-use Rattle.cm_machine_model.specs.Checks.{result_count}
-use Rattle.cm_machine_model.specs.Values.{view_of, Denotes, Receives}
+use Rattle.cm_machine_model.specs.Values.{params, results, view_of, param_types, result_types}
+use Rattle.cm_machine_model.specs.Values.{Denotes, Receives}
 use Rattle.cm_machine_model.specs.History.{Action, begins, moves, Occurrence, IsHistoryOf}
 use Rattle.cm_history.specs.Acting.{acts}
 use Rattle.cm_history.specs.Doing.{LoweredCall, BodyReturn, Asked, Doing, root, placing, body}
@@ -110,23 +110,25 @@ BeginsByCall (x ∷ h) = (d : Doing) → doing (x ∷ h) ≡ d ∷ doing h
 
 -- ---- entries
 
--- These values were denoted in the caller's view at the call, by its core values.
-abbrev pub WasSent : LoweredCall → List Val → Type 0
-WasSent x v = Denotes (view_of x.state x.caller) x.lowered.params x.args v
+-- This value, the tuple of the arguments, was denoted in the caller's view at the call, by its core
+-- values.
+abbrev pub WasSent : LoweredCall → Val → Type 0
+WasSent x v = Denotes (view_of x.state x.caller) params (param_types x.lowered) x.args v
 
--- These values are received in the callee's view now, by these core values.
-abbrev pub ReceivesArgs : State → LoweredCall → List CoreValue → List Val → Type 0
-ReceivesArgs new x args v = Receives (view_of new x.lowered.instance) x.lowered.params args v
+-- This value is received in the callee's view now, by these core values.
+abbrev pub ReceivesArgs : State → LoweredCall → List CoreValue → Val → Type 0
+ReceivesArgs new x args v =
+    Receives (view_of new x.lowered.instance) params (param_types x.lowered) args v
 
--- The function is the one that the latest call reaches, and one list of values was sent at that
--- call and is received now.
+-- The function is the one that the latest call reaches, and one value was sent at that call and is
+-- received now.
 abbrev pub Enters : List Doing → ℕ → ℕ → List CoreValue → State → Type 0
 Enters [] i f args new = ⊥
 Enters (root j ∷ ds) i f args new = ⊥
 Enters (placing x asked ∷ ds) i f args new = ⊥
 Enters (body x asked ∷ ds) i f args new =
     (x.lowered.instance ≡ i) × (x.lowered.func ≡ f)
-    × ((v : List Val) × WasSent x v × ReceivesArgs new x args v)
+    × ((v : Val) × WasSent x v × ReceivesArgs new x args v)
 Enters (handing x asked back more ∷ ds) i f args new = ⊥
 Enters (tidying x asked back more ∷ ds) i f args new = ⊥
 Enters (destroys dropper j ∷ ds) i f args new = ⊥
@@ -139,20 +141,22 @@ EntersRightly (x ∷ h) = (i f : ℕ) (args : List CoreValue) → x.event ≡ ev
 
 -- ---- resumptions
 
--- These values were denoted in the callee's view at its body's return, by the returned core values.
-abbrev pub WasReturned : LoweredCall → BodyReturn → List Val → Type 0
-WasReturned x r v = Denotes (view_of r.state r.callee) (result_count x.lowered) r.values v
+-- This value, the tuple of the results, was denoted in the callee's view at its body's return, by
+-- the returned core values.
+abbrev pub WasReturned : LoweredCall → BodyReturn → Val → Type 0
+WasReturned x r v = Denotes (view_of r.state r.callee) results (result_types x.lowered) r.values v
 
--- These values are received in the caller's view now, by these core values.
-abbrev pub ReceivesResult : State → LoweredCall → List CoreValue → List Val → Type 0
-ReceivesResult new x values v = Receives (view_of new x.caller) (result_count x.lowered) values v
+-- This value is received in the caller's view now, by these core values.
+abbrev pub ReceivesResult : State → LoweredCall → List CoreValue → Val → Type 0
+ReceivesResult new x values v =
+    Receives (view_of new x.caller) results (result_types x.lowered) values v
 
--- This instance called, the callee's body returned so, and one list of values was returned and is
--- received now.
+-- This instance called, the callee's body returned so, and one value was returned and is received
+-- now.
 abbrev pub TakesResult : LoweredCall → BodyReturn → ℕ → List CoreValue → State → Type 0
 TakesResult x r i values new =
     (x.caller ≡ i) × (r.callee ≡ x.lowered.instance)
-    × ((v : List Val) × WasReturned x r v × ReceivesResult new x values v)
+    × ((v : Val) × WasReturned x r v × ReceivesResult new x values v)
 
 -- the return that this action is, if it is one
 abbrev pub return_by : State → Option ℕ → Action → Option BodyReturn

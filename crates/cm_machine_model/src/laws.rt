@@ -2,13 +2,14 @@
 
 ghost use Rattle.std.specs.Prelude.{◌≡◌, ℕ, List};
 ghost use Rattle.cm_types.specs.declared.core_value.CoreValue.{CoreValue};
+ghost use Rattle.cm_types.specs.Types.{Ty};
 ghost use Rattle.cm_types.specs.Values.{Val};
 ghost use Rattle.cm_machine_model.specs.declared.event.Event.TheVariants as event;
 ghost use Rattle.cm_machine_model.specs.declared.moves.Move.{Move};
 ghost use Rattle.cm_machine_model.specs.State.{State};
 ghost use Rattle.cm_machine_model.specs.Step.{Step};
 ghost use Rattle.cm_machine_model.specs.Guarded.{MayBeEntered};
-ghost use Rattle.cm_machine_model.specs.Values.{View, Denotes};
+ghost use Rattle.cm_machine_model.specs.Values.{View, Way, Denotes};
 
 /// A function is entered only by an instance that may leave, in an instance that is open, and where
 /// there is room on the stack. This is a law on the definition of a step, over all states, those
@@ -18,8 +19,8 @@ pub fn entries_are_guarded()
         → Step s m (event.Enter instance func args) new → MayBeEntered s instance }
 {}
 
-/// Core values denote at most one list of values.
+/// Core values denote at most one value of a list of types.
 pub fn denotations_are_unique()
-    ensures { (view : View) (count : ℕ) (slots : List CoreValue) (v w : List Val)
-        → Denotes view count slots v → Denotes view count slots w → v ≡ w }
+    ensures { (view : View) (way : Way) (types : List Ty) (slots : List CoreValue) (v w : Val)
+        → Denotes view way types slots v → Denotes view way types slots w → v ≡ w }
 {}

@@ -14,7 +14,8 @@ mod moves;
 pub use event::{Event, Misuse, Trap};
 pub use flat::Flat;
 pub use limits::{
-    MAX_FLAT_PARAMS, MAX_FRAMES, MAX_INSTANCES, MAX_MEMORY_SIZE, MAX_PAGES, PAGE_SIZE,
+    MAX_FLAT_PARAMS, MAX_FLAT_RESULTS, MAX_FRAMES, MAX_INSTANCES, MAX_MEMORY_SIZE, MAX_PAGES,
+    PAGE_SIZE,
 };
 pub use moves::Move;
 

@@ -17,3 +17,6 @@ pub const MAX_INSTANCES: usize = 16;
 
 /// The most core values that a call passes (CanonicalABI.md, `MAX_FLAT_PARAMS`).
 pub const MAX_FLAT_PARAMS: usize = 16;
+
+/// The most core values that a call gives back (CanonicalABI.md, `MAX_FLAT_RESULTS`).
+pub const MAX_FLAT_RESULTS: usize = 1;
