@@ -18,11 +18,11 @@ use Rattle.cm_validate.specs.Definitions.{core_func_tree}
 use Rattle.cm_validate.specs.declared.definitions.CoreFuncDef.{CoreFuncDef}
 use Rattle.cm_machine_model.specs.declared.frame.CoreFunction.{CoreFunction}
 use Rattle.cm_types.specs.Types.{FuncTy}
-use Rattle.cm_validate.specs.Spaces.{lowered, spaces_of}
+use Rattle.cm_validate.specs.Spaces.{guest, lowered, spaces_of}
 use Rattle.cm_match.specs.Reaches.{LoweredReach}
 use Rattle.cm_match.specs.Targets.{TargetTree}
 use Rattle.cm_machine_model.specs.State.{IsLinkedBelow, AreLinkedBelow, core_func_at}
-use Rattle.cm_set.specs.CoreFuncs.{core_func_of, core_funcs_in, core_funcs_from, core_func_for, core_funcs_of, StandsFor, LoweredStand}
+use Rattle.cm_set.specs.CoreFuncs.{HasTarget, core_func_of, core_funcs_in, core_funcs_from, core_func_for, core_funcs_of, StandsFor, LoweredStand}
 
 fields_count : (fs : List Field) → param_count (fields_of fs) ≡ length fs
 fields_count [] = refl
@@ -38,14 +38,28 @@ is_some_map f (Some x) = refl
 pub has_some : (f : Func) → is_some (func_of f).result ≡ is_some f.result
 has_some f = is_some_map tree_type f.result
 
--- each core function of a checked component passes its parameters flat
-pub flat_at : (xs : List CoreFuncDef) (ys : List CoreFuncTree) (i : ℕ) (x : CoreFuncDef) → map core_func_tree xs ≡ ys → AllByRecursion PassesFlat ys → i < length xs → x ≡ get_or xs i x → PassesFlat (core_func_tree x)
-flat_at xs ys i x same all lt is = at_place xs i x (subst (AllByRecursion PassesFlat) (sym same) all) lt is
+-- what holds of each core function's tree holds of the one at a place
+pub holds_at : (P : CoreFuncTree → Type 0) (xs : List CoreFuncDef) (ys : List CoreFuncTree) (i : ℕ) (x : CoreFuncDef) → map core_func_tree xs ≡ ys → AllByRecursion P ys → i < length xs → x ≡ get_or xs i x → P (core_func_tree x)
+holds_at P xs ys i x same all lt is = at_place xs i x (subst (AllByRecursion P) (sym same) all) lt is
   where
-    at_place : (zs : List CoreFuncDef) (k : ℕ) (z : CoreFuncDef) → AllByRecursion PassesFlat (map core_func_tree zs) → k < length zs → z ≡ get_or zs k z → PassesFlat (core_func_tree z)
+    at_place : (zs : List CoreFuncDef) (k : ℕ) (z : CoreFuncDef) → AllByRecursion P (map core_func_tree zs) → k < length zs → z ≡ get_or zs k z → P (core_func_tree z)
     at_place [] k z h l e = absurd (omega arith)
-    at_place (y ∷ zs) zero z h l e = subst (λ (w : CoreFuncDef). PassesFlat (core_func_tree w)) (sym e) h.0
+    at_place (y ∷ zs) zero z h l e = subst (λ (w : CoreFuncDef). P (core_func_tree w)) (sym e) h.0
     at_place (y ∷ zs) (suc k) z h l e = at_place zs k z h.1 (omega arith) e
+
+each_by_slice : {A : Type 0} (P : A → Type 0) (xs : List A) → ((i : ℕ) (x : A) → slice_get xs i ≡ Some x → P x) → AllByRecursion P xs
+each_by_slice P [] at = tt
+each_by_slice P (x ∷ xs) at = (at zero x refl, each_by_slice P xs (λ i y e. at (suc i) y e))
+
+has_target : (set : List (List SectionTree)) (component : ℕ) (c : List SectionTree) → LoweredReach set → slice_get set component ≡ Some c → (i : ℕ) (f : CoreFuncTree) → slice_get (spaces_of c).core_funcs i ≡ Some f → HasTarget set component f
+has_target set component c reach is i (guest instance name) there = tt
+has_target set component c reach is i (lowered import item ty) there =
+    let r = reach component i import c item ty is there in
+    (r.found, r.found_is)
+
+-- in a linked set each function that a component lowers reaches a lifted one
+pub all_have_targets : (set : List (List SectionTree)) (component : ℕ) (c : List SectionTree) → LoweredReach set → slice_get set component ≡ Some c → AllByRecursion (HasTarget set component) (spaces_of c).core_funcs
+all_have_targets set component c reach is = each_by_slice (HasTarget set component) (spaces_of c).core_funcs (has_target set component c reach is)
 
 -- what stands for a list of definitions stands for their trees
 pub functions_are : (set : List (List SectionTree)) (component : ℕ) (defs : List CoreFuncDef) (trees : List CoreFuncTree) → map core_func_tree defs ≡ trees → map (λ d. core_func_of set component (core_func_tree d)) defs ≡ map (core_func_of set component) trees

@@ -25,6 +25,12 @@ abbrev pub core_func_for : FuncTy → Option TargetTree → CoreFunction
 core_func_for ty None = core_function.Guest
 core_func_for ty (Some t) = core_function.Lowered (lowered_to ty t)
 
+-- Where a core function of this component is lowered, it reaches a lifted function.
+abbrev pub HasTarget : List (List SectionTree) → ℕ → CoreFuncTree → Type 0
+HasTarget set component (guest instance name) = Unit {0}
+HasTarget set component (lowered import item ty) =
+    (t : TargetTree) × (target set component import item ≡ Some t)
+
 -- what a core function of this component of the set stands for
 abbrev pub core_func_of : List (List SectionTree) → ℕ → CoreFuncTree → CoreFunction
 core_func_of set component (guest instance name) = core_function.Guest

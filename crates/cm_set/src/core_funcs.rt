@@ -7,7 +7,8 @@ ghost use Rattle.cm_validate.specs.Rules.{param_count};
 ghost use Rattle.cm_validate.specs.Definitions.{core_func_tree};
 ghost use Rattle.cm_validate.specs.PassedFlat.{PassesFlat};
 ghost use Rattle.cm_machine_model.specs.State.{IsLinkedBelow, AreLinkedBelow};
-ghost use Rattle.cm_set.specs.CoreFuncs.{core_func_of, core_funcs_in, core_funcs_of};
+ghost use Rattle.cm_validate.specs.Spaces.{spaces_of};
+ghost use Rattle.cm_set.specs.CoreFuncs.{HasTarget, core_func_of, core_funcs_in, core_funcs_of};
 
 use cm_machine_model::state::{CoreFunction, LoweredFunc};
 use cm_machine_model::{MAX_FLAT_PARAMS, MAX_INSTANCES};
@@ -67,7 +68,8 @@ fn has_result(ty: &Func) -> bool
 
 /// What a core function of component `component` stands for.
 fn core_func_of(linked: &Linked, component: u32, function: &CoreFuncDef) -> CoreFunction
-    requires { PassesFlat (core_func_tree function.now) }
+    requires flat { PassesFlat (core_func_tree function.now) }
+    requires linked { HasTarget linked.now component (core_func_tree function.now) }
     ensures is { result ≡ core_func_of linked.now component (core_func_tree function.now) }
     ensures below { IsLinkedBelow component result }
 {
@@ -82,7 +84,7 @@ fn core_func_of(linked: &Linked, component: u32, function: &CoreFuncDef) -> Core
                 params: param_count(ty),
                 has_result: has_result(ty),
             }),
-            None => CoreFunction::Guest,
+            None => unreachable!(),
         },
     }
 }
@@ -94,6 +96,8 @@ fn core_funcs_in(
     component: u32,
     checked: &Checked,
 ) -> Result<CoreFunctions, AllocError>
+    requires linked { AllByRecursion (HasTarget linked.now component)
+        (spaces_of checked.now).core_funcs }
     ensures are { IfOk result (λ fs. fs ≡ core_funcs_in linked.now component checked.now) }
     ensures below { IfOk result (λ fs. AllByRecursion (IsLinkedBelow component) fs) }
 {

@@ -3,8 +3,19 @@ use Rattle.cm_component.specs.Trees.{SectionTree}
 use Rattle.cm_machine_model.specs.declared.frame.CoreFunction.{CoreFunction}
 use Rattle.cm_machine_model.specs.State.{AreLinkedBelow}
 use Rattle.cm_set.specs.CoreFuncs.{core_funcs_from}
-use Rattle.cm_set.proofs.CoreFuncs.{next_component, one_more_planned, one_longer}
+use Rattle.cm_set.proofs.CoreFuncs.{next_component, one_more_planned, one_longer, all_have_targets}
+use Rattle.std.proofs.Common.{Some, refl}
+use Rattle.std.specs.Prelude.{slice_get}
+use Rattle.std.proofs.lemmas.Option.{slice_get_read}
 use Rattle.cm_set.proofs.core_funcs.core_funcs_of.Goals as goal
+
+pub core_funcs_in-requires : goal.core_funcs_in-requires
+core_funcs_in-requires c =
+    let same : c.components-components.result.now ≡ c.args.linked.now = c.components-components.ensures.components in
+    let here : slice_get c.args.linked.now c.loop-component.component ≡ Some c.index-components-component.result =
+    subst (λ (xs : List (List SectionTree)). slice_get xs c.loop-component.component ≡ Some c.index-components-component.result) same
+    (slice_get_read c.components-components.result.now (length c.components-components.result.now) c.loop-component.component c.index-components-component.result refl c.loop-component-test.true c.index-components-component.is) in
+    record { linked = all_have_targets c.args.linked.now c.loop-component.component c.index-components-component.result c.components-components.ensures.lowered here }
 
 pub loop-component-preserved : goal.loop-component-preserved
 loop-component-preserved c =
