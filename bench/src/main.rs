@@ -1,14 +1,25 @@
-//! Huxarte's parts against independent implementations: a table of ratios for each, measured in one run.
+//! Huxarte's parts against independent implementations: a table of ratios for each, in one run.
 //! Words on the command line name the parts; none means all.
 
+mod files;
 mod handles;
 mod heap;
+mod link;
+mod machine;
 mod measure;
+mod plain;
+mod samples;
 mod text;
 
 fn main() {
     let wanted: Vec<String> = std::env::args().skip(1).collect();
-    let parts: [(&str, fn()); 2] = [("text", text::run), ("handles", handles::run)];
+    let parts: [(&str, fn()); 5] = [
+        ("text", text::run),
+        ("handles", handles::run),
+        ("files", files::run),
+        ("link", link::run),
+        ("machine", machine::run),
+    ];
     for (name, run) in parts {
         if wanted.is_empty() || wanted.iter().any(|word| word == name) {
             run();

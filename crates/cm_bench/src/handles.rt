@@ -1,5 +1,5 @@
-//! Handle tables, for `bench/src/handles.rs`. Each call makes a table of its own, and answers a number
-//! that depends on all that the calls of the table answered.
+//! Handle tables, for `bench/src/handles.rs`. Each call makes a table of its own, and answers a
+//! number that depends on all that the calls of the table answered.
 
 use cm_handles::{Handle, HandleKind, Table};
 use cm_types::ResourceId;

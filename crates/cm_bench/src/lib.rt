@@ -1,5 +1,7 @@
 //! What the benchmarks in `bench/` call: a few functions on numbers and byte slices.
 #![tactic(auto)]
 
+mod files;
 mod handles;
+mod sets;
 mod text;

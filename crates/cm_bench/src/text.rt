@@ -27,7 +27,8 @@ pub extern "C" fn cm_bench_check_utf16(source: &[u8]) -> bool
 
 /// Checks a text, computes its size and writes it; answers whether the target has that size.
 fn convert<S: Source, D: Encoding>(source: &[u8], target: &mut [u8]) -> bool
-    ensures { IsTrue result → (scalars : List ℕ) × IsText S.has S.spell scalars source.now × IsText D.has D.spell scalars target.new }
+    ensures { IsTrue result → (scalars : List ℕ)
+        × IsText S.has S.spell scalars source.now × IsText D.has D.spell scalars target.new }
 {
     match cm_text::transcoded_size::<S, D>(source) {
         Ok(size) if size == target.len() => {

@@ -2,9 +2,9 @@
 use Rattle.std.proofs.Common.{ℕ, zero, suc, length, ap, arith}
 use Rattle.std.proofs.lemmas.List.{length-append}
 use Rattle.cm_grammar.specs.Grammar.{number}
-use Rattle.cm_grammar.proofs.Laws.{Lawful, done_lawful, bind_lawful, code_lawful, number_lawful, raw_lawful, checked_lawful, fixed_lawful, vec_lawful, chain_lawful, limited_lawful}
-use Rattle.cm_grammar.proofs.WholeLaws.{LawfulWhole, made_lawful, remainder_lawful, exactly_lawful, joined_lawful}
-use Rattle.cm_grammar.proofs.PartLaws.{begun_lawful, sized_lawful}
+use Rattle.cm_grammar.proofs.Laws.{Lawful, done_lawful, bind_lawful, code_lawful, number_lawful, raw_lawful, check_lawful, fixed_lawful, vec_lawful, chain_lawful, from_stock_lawful}
+use Rattle.cm_grammar.proofs.WholeLaws.{LawfulWhole, build_lawful, remainder_lawful, exactly_lawful, join_lawful}
+use Rattle.cm_grammar.proofs.PartLaws.{begins_with_lawful, of_size_lawful}
 use Rattle.cm_grammar.proofs.EndLaws.{IsNonempty, to_end_lawful, at_most_lawful}
 use Rattle.cm_binary.specs.declared.fault.DecodeReason.TheVariants.{BadNumber}
 use Rattle.cm_binary.specs.declared.codes.SectionKind.{SectionKind}
@@ -16,22 +16,22 @@ use Rattle.cm_binary.specs.declared.codes.ResultForm.TheVariants as result_forms
 use Rattle.cm_binary.specs.declared.codes.CanonForm.{CanonForm}
 use Rattle.cm_binary.specs.declared.codes.CanonForm.TheVariants as canon_forms
 use Rattle.cm_binary.specs.File.{text, label, extern_name, core_arg, core_instance, alias_of, alias, param, func_result_of, func_result, func_type, def_type, type_defs, options_of, options, canon_of, canon, extern_desc, import_item, export_item, contents, section, sections, component, file, room_after}
-use Rattle.cm_component.specs.Limits.{type_limit}
+use Rattle.cm_component.specs.declared.limits.TheConstants.{MAX_TYPES}
 
 pub index_lawful : Lawful (number BadNumber)
 index_lawful = number_lawful BadNumber
 
 pub text_lawful : Lawful text
 unfolding text
-text_lawful = bind_lawful _ _ index_lawful (λ n. checked_lawful _ _ _ (raw_lawful n))
+text_lawful = bind_lawful _ _ index_lawful (λ n. check_lawful _ _ _ (raw_lawful n))
 
 pub label_lawful : Lawful label
 unfolding label
-label_lawful = bind_lawful _ _ index_lawful (λ n. checked_lawful _ _ _ (checked_lawful _ _ _ (raw_lawful n)))
+label_lawful = bind_lawful _ _ index_lawful (λ n. check_lawful _ _ _ (check_lawful _ _ _ (raw_lawful n)))
 
 pub extern_name_lawful : Lawful extern_name
 unfolding extern_name
-extern_name_lawful = bind_lawful _ _ (fixed_lawful _ _) (λ plain. bind_lawful _ _ index_lawful (λ n. checked_lawful _ _ _ (checked_lawful _ _ _ (raw_lawful n))))
+extern_name_lawful = bind_lawful _ _ (fixed_lawful _ _) (λ plain. bind_lawful _ _ index_lawful (λ n. check_lawful _ _ _ (check_lawful _ _ _ (raw_lawful n))))
 
 pub core_arg_lawful : Lawful core_arg
 unfolding core_arg
@@ -73,7 +73,7 @@ def_type_lawful = bind_lawful _ _ (code_lawful _) (λ form. bind_lawful _ _ func
 
 pub type_defs_lawful : (room : ℕ) → Lawful (type_defs room)
 unfolding type_defs
-type_defs_lawful room = bind_lawful _ _ index_lawful (λ n. chain_lawful _ _ (λ left. limited_lawful _ _ (λ l. def_type_lawful) left) n room)
+type_defs_lawful room = bind_lawful _ _ index_lawful (λ n. chain_lawful _ _ (λ left. from_stock_lawful _ _ (λ l. def_type_lawful) left) n room)
 
 pub options_of_lawful : (n : ℕ) → Lawful (options_of n)
 unfolding options_of
@@ -107,18 +107,18 @@ export_lawful = bind_lawful _ _ extern_name_lawful (λ name. bind_lawful _ _ (co
 
 pub contents_lawful : (room : ℕ) (kind : SectionKind) → LawfulWhole (contents room kind)
 unfolding contents
-contents_lawful room kinds.Custom = joined_lawful _ _ text_lawful (λ name. made_lawful _ _ remainder_lawful)
-contents_lawful room kinds.CoreModule = made_lawful _ _ (begun_lawful _ _)
-contents_lawful room kinds.CoreInstances = made_lawful _ _ (exactly_lawful _ _ (vec_lawful _ _ core_instance_lawful))
-contents_lawful room kinds.Aliases = made_lawful _ _ (exactly_lawful _ _ (vec_lawful _ _ alias_lawful))
-contents_lawful room kinds.Types = made_lawful _ _ (exactly_lawful _ _ (type_defs_lawful room))
-contents_lawful room kinds.Canons = made_lawful _ _ (exactly_lawful _ _ (vec_lawful _ _ canon_lawful))
-contents_lawful room kinds.Imports = made_lawful _ _ (exactly_lawful _ _ (vec_lawful _ _ import_lawful))
-contents_lawful room kinds.Exports = made_lawful _ _ (exactly_lawful _ _ (vec_lawful _ _ export_lawful))
+contents_lawful room kinds.Custom = join_lawful _ _ text_lawful (λ name. build_lawful _ _ remainder_lawful)
+contents_lawful room kinds.CoreModule = build_lawful _ _ (begins_with_lawful _ _)
+contents_lawful room kinds.CoreInstances = build_lawful _ _ (exactly_lawful _ _ (vec_lawful _ _ core_instance_lawful))
+contents_lawful room kinds.Aliases = build_lawful _ _ (exactly_lawful _ _ (vec_lawful _ _ alias_lawful))
+contents_lawful room kinds.Types = build_lawful _ _ (exactly_lawful _ _ (type_defs_lawful room))
+contents_lawful room kinds.Canons = build_lawful _ _ (exactly_lawful _ _ (vec_lawful _ _ canon_lawful))
+contents_lawful room kinds.Imports = build_lawful _ _ (exactly_lawful _ _ (vec_lawful _ _ import_lawful))
+contents_lawful room kinds.Exports = build_lawful _ _ (exactly_lawful _ _ (vec_lawful _ _ export_lawful))
 
 pub section_lawful : (room : ℕ) → Lawful (section room)
 unfolding section
-section_lawful room = bind_lawful _ _ (code_lawful _) (λ kind. bind_lawful _ _ index_lawful (λ size. sized_lawful _ size _ (contents_lawful room kind)))
+section_lawful room = bind_lawful _ _ (code_lawful _) (λ kind. bind_lawful _ _ index_lawful (λ size. of_size_lawful _ size _ (contents_lawful room kind)))
 
 -- A section has at least its id.
 pub section_nonempty : (room : ℕ) → IsNonempty (section room)
@@ -131,7 +131,7 @@ sections_lawful room = to_end_lawful section room_after section_lawful section_n
 
 pub component_lawful : LawfulWhole component
 unfolding component
-component_lawful = joined_lawful _ _ (fixed_lawful _ _) (λ preamble. sections_lawful type_limit)
+component_lawful = join_lawful _ _ (fixed_lawful _ _) (λ preamble. sections_lawful MAX_TYPES)
 
 pub file_lawful : LawfulWhole file
 unfolding file

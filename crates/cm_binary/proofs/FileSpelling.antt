@@ -6,10 +6,10 @@ use Rattle.std.proofs.lemmas.List.{length-append}
 use Rattle.cm_leb.specs.Numbers.{SpellsUnsigned}
 use Rattle.cm_leb.specs.Writing.{shortest_unsigned}
 use Rattle.cm_leb.proofs.WritingLaws.{shortest_unsigned-spells, shortest_unsigned-least}
-use Rattle.cm_grammar.specs.Grammar.{Grammar, done, ◌>>=◌, code, raw, checked, fixed, vec, limited}
-use Rattle.cm_grammar.specs.Whole.{made, exactly, sized}
-use Rattle.cm_grammar.specs.Spelling.{counted, prefixed}
-use Rattle.cm_grammar.proofs.SpellingLaws.{Short, ShortWhole, Shortens, ShortensWhole, bind_short, made_short, code_short, fixed_short, number_shortens, vec_shortens, counted_shortens, limited_shortens, text_shortens, each_shortens, shortest_unsigned-mono}
+use Rattle.cm_grammar.specs.Grammar.{Grammar, done, ◌>>=◌, code, raw, check, fixed, vec, from_stock}
+use Rattle.cm_grammar.specs.Whole.{build, exactly, of_size}
+use Rattle.cm_grammar.specs.Spelling.{vec_spelling, blob_spelling}
+use Rattle.cm_grammar.proofs.SpellingLaws.{Short, ShortWhole, Shortens, ShortensWhole, bind_short, made_short, code_short, fixed_short, number_shortens, vec_shortens, counted_shortens, from_stock_shortens, text_shortens, each_shortens, shortest_unsigned-mono}
 use Rattle.cm_types.specs.Names.{is_label}
 use Rattle.cm_types.specs.ExternNames.{is_extern_name}
 use Rattle.cm_types.specs.declared.def_types.ValType.{ValType}
@@ -48,25 +48,26 @@ use Rattle.cm_binary.specs.declared.codes.NoDescription.{NoDescription}
 use Rattle.cm_binary.specs.declared.codes.NoDescription.TheVariants as descriptions
 use Rattle.cm_binary.specs.Codes.{section_kind, core_instance_form, core_sort, alias_sort, core_alias_target, val_type, type_form, result_form, canon_form, desc_form, export_sort, export_desc}
 use Rattle.cm_binary.specs.File.{index, text, label, extern_name, core_arg, core_instance, alias_of, alias, param, func_result_of, func_result, func_type, def_type, type_defs, options_of, options, canon_of, canon, extern_desc, import_item, export_item, contents, section, sections, component, file, room_after}
-use Rattle.cm_component.specs.Limits.{type_limit}
-use Rattle.cm_component.specs.Spelling.{extern_name_spelling, core_arg_spelling, core_instance_spelling, alias_spelling, val_type_code, param_spelling, result_spelling, func_spelling, def_spelling, canon_spelling, desc_spelling, import_spelling, export_spelling, contents_spelling, section_id, section_spelling, spelling, component_preamble}
+use Rattle.cm_component.specs.declared.limits.TheConstants.{MAX_TYPES}
+use Rattle.cm_component.specs.Spelling.{extern_name_spelling, core_arg_spelling, core_instance_spelling, alias_spelling, val_type_code, param_spelling, result_spelling, func_spelling, def_spelling, canon_spelling, desc_spelling, import_spelling, export_spelling, contents_spelling, section_id, section_spelling, spelling}
+use Rattle.cm_component.specs.declared.limits.TheConstants.{COMPONENT_PREAMBLE}
 
-utf8_plain : (n : ℕ) (x bytes : List ℕ) → (checked is_utf8 BadUtf8 (raw n)).Spells x bytes → (bytes ≡ x) × (length x ≡ n)
+utf8_plain : (n : ℕ) (x bytes : List ℕ) → (check is_utf8 BadUtf8 (raw n)).Spells x bytes → (bytes ≡ x) × (length x ≡ n)
 utf8_plain n x bytes s = (sym s.0.1, ap length s.0.1 ∙ s.0.0)
 
-pub text_shortens_is : Shortens text prefixed
+pub text_shortens_is : Shortens text blob_spelling
 unfolding text
-text_shortens_is = text_shortens BadNumber (λ n. checked is_utf8 BadUtf8 (raw n)) utf8_plain
+text_shortens_is = text_shortens BadNumber (λ n. check is_utf8 BadUtf8 (raw n)) utf8_plain
 
-pub label_shortens : Shortens label prefixed
+pub label_shortens : Shortens label blob_spelling
 unfolding label
-label_shortens = text_shortens BadNumber (λ n. checked is_label BadName (checked is_utf8 BadUtf8 (raw n))) (λ n x bytes s. utf8_plain n x bytes s.0)
+label_shortens = text_shortens BadNumber (λ n. check is_label BadName (check is_utf8 BadUtf8 (raw n))) (λ n x bytes s. utf8_plain n x bytes s.0)
 
 pub extern_name_shortens : Shortens extern_name extern_name_spelling
 unfolding extern_name
 extern_name_shortens x bytes s =
-    let name = text_shortens BadNumber (λ n. checked is_extern_name BadName (checked is_utf8 BadUtf8 (raw n))) (λ n y b t. utf8_plain n y b t.0) x s.2 s.4 in
-    bind_short (fixed (0 ∷ []) UnknownCode) _ s.0 x bytes s.1 s.2 (0 ∷ []) (prefixed x) (fixed_short (0 ∷ []) UnknownCode s.0 s.1 s.3) name s.5
+    let name = text_shortens BadNumber (λ n. check is_extern_name BadName (check is_utf8 BadUtf8 (raw n))) (λ n y b t. utf8_plain n y b t.0) x s.2 s.4 in
+    bind_short (fixed (0 ∷ []) UnknownCode) _ s.0 x bytes s.1 s.2 (0 ∷ []) (blob_spelling x) (fixed_short (0 ∷ []) UnknownCode s.0 s.1 s.3) name s.5
 
 pub core_arg_shortens : Shortens core_arg core_arg_spelling
 unfolding core_arg
@@ -74,7 +75,7 @@ core_arg_shortens x bytes s =
     let made : ArgTree = record { name = s.0; instance = s.4.4.0 } in
     let last = made_short index (λ i. record { name = s.0; instance = i }) s.4.4.0 s.4.2 s.4.4.1 s.4.4.2 (shortest_unsigned s.4.4.0) (number_shortens BadNumber s.4.4.0 s.4.4.1 s.4.4.3) s.4.4.5 in
     let second = bind_short (fixed (18 ∷ []) UnknownCode) _ s.4.0 made s.2 s.4.1 s.4.2 (18 ∷ []) (shortest_unsigned s.4.4.0) (fixed_short (18 ∷ []) UnknownCode s.4.0 s.4.1 s.4.3) last s.4.5 in
-    subst (λ (y : ArgTree). Short core_arg y bytes (core_arg_spelling y)) (sym s.4.4.4.0) (bind_short text _ s.0 made bytes s.1 s.2 (prefixed s.0) (18 ∷ shortest_unsigned s.4.4.0) (text_shortens_is s.0 s.1 s.3) second s.5)
+    subst (λ (y : ArgTree). Short core_arg y bytes (core_arg_spelling y)) (sym s.4.4.4.0) (bind_short text _ s.0 made bytes s.1 s.2 (blob_spelling s.0) (18 ∷ shortest_unsigned s.4.4.0) (text_shortens_is s.0 s.1 s.3) second s.5)
 
 -- ---- core instances and aliases
 
@@ -86,9 +87,9 @@ unfolding core_instance
 core_instance_shortens x bytes s =
     let args = vec_shortens BadNumber core_arg core_arg_spelling core_arg_shortens s.4.4.0 s.4.4.1 s.4.4.3 in
     let made : CoreInstanceTree = trees.instantiate s.4.0 s.4.4.0 in
-    let last = made_short (vec BadNumber core_arg) (λ a. trees.instantiate s.4.0 a) s.4.4.0 s.4.2 s.4.4.1 s.4.4.2 (counted core_arg_spelling s.4.4.0) args s.4.4.5 in
-    let second = bind_short index (λ m. vec BadNumber core_arg >>= λ a. done (trees.instantiate m a)) s.4.0 made s.2 s.4.1 s.4.2 (shortest_unsigned s.4.0) (counted core_arg_spelling s.4.4.0) (number_shortens BadNumber s.4.0 s.4.1 s.4.3) last s.4.5 in
-    subst (λ (y : CoreInstanceTree). Short core_instance y bytes (core_instance_spelling y)) (sym s.4.4.4.0) (bind_short (code core_instance_form) _ s.0 made bytes s.1 s.2 (0 ∷ []) (shortest_unsigned s.4.0 ++ counted core_arg_spelling s.4.4.0) (code_short core_instance_form s.0 0 s.1 (core_instance_byte s.0) s.3) second s.5)
+    let last = made_short (vec BadNumber core_arg) (λ a. trees.instantiate s.4.0 a) s.4.4.0 s.4.2 s.4.4.1 s.4.4.2 (vec_spelling core_arg_spelling s.4.4.0) args s.4.4.5 in
+    let second = bind_short index (λ m. vec BadNumber core_arg >>= λ a. done (trees.instantiate m a)) s.4.0 made s.2 s.4.1 s.4.2 (shortest_unsigned s.4.0) (vec_spelling core_arg_spelling s.4.4.0) (number_shortens BadNumber s.4.0 s.4.1 s.4.3) last s.4.5 in
+    subst (λ (y : CoreInstanceTree). Short core_instance y bytes (core_instance_spelling y)) (sym s.4.4.4.0) (bind_short (code core_instance_form) _ s.0 made bytes s.1 s.2 (0 ∷ []) (shortest_unsigned s.4.0 ++ vec_spelling core_arg_spelling s.4.4.0) (code_short core_instance_form s.0 0 s.1 (core_instance_byte s.0) s.3) second s.5)
 
 core_sort_byte : (sort : CoreSort) → core_sort 0 ≡ Ok sort
 core_sort_byte core_sorts.Func = refl
@@ -98,7 +99,7 @@ target_byte targets.CoreInstanceExport = refl
 
 -- Behind the sort of an alias.
 abbrev alias_rest : AliasTree → List ℕ
-alias_rest (trees.core_instance_export sort instance name) = 0 ∷ 1 ∷ (shortest_unsigned instance ++ prefixed name)
+alias_rest (trees.core_instance_export sort instance name) = 0 ∷ 1 ∷ (shortest_unsigned instance ++ blob_spelling name)
 
 alias_of_shortens : (sort : AliasSort) (x : AliasTree) (bytes : List ℕ) → (alias_of sort).Spells x bytes → Short (alias_of sort) x bytes (alias_rest x) × (alias_sort 0 ≡ Ok sort)
 unfolding alias_of
@@ -107,10 +108,10 @@ alias_of_shortens alias_sorts.Core x bytes s =
     let u = t.4 in
     let v = u.4 in
     let made : AliasTree = trees.core_instance_export s.0 u.0 v.0 in
-    let last = made_short text (λ n. trees.core_instance_export s.0 u.0 n) v.0 u.2 v.1 v.2 (prefixed v.0) (text_shortens_is v.0 v.1 v.3) v.5 in
-    let third = bind_short index _ u.0 made t.2 u.1 u.2 (shortest_unsigned u.0) (prefixed v.0) (number_shortens BadNumber u.0 u.1 u.3) last u.5 in
-    let second = bind_short (code core_alias_target) _ t.0 made s.2 t.1 t.2 (1 ∷ []) (shortest_unsigned u.0 ++ prefixed v.0) (code_short core_alias_target t.0 1 t.1 (target_byte t.0) t.3) third t.5 in
-    (subst (λ (y : AliasTree). Short (alias_of alias_sorts.Core) y bytes (alias_rest y)) (sym v.4.0) (bind_short (code core_sort) _ s.0 made bytes s.1 s.2 (0 ∷ []) (1 ∷ (shortest_unsigned u.0 ++ prefixed v.0)) (code_short core_sort s.0 0 s.1 (core_sort_byte s.0) s.3) second s.5), refl)
+    let last = made_short text (λ n. trees.core_instance_export s.0 u.0 n) v.0 u.2 v.1 v.2 (blob_spelling v.0) (text_shortens_is v.0 v.1 v.3) v.5 in
+    let third = bind_short index _ u.0 made t.2 u.1 u.2 (shortest_unsigned u.0) (blob_spelling v.0) (number_shortens BadNumber u.0 u.1 u.3) last u.5 in
+    let second = bind_short (code core_alias_target) _ t.0 made s.2 t.1 t.2 (1 ∷ []) (shortest_unsigned u.0 ++ blob_spelling v.0) (code_short core_alias_target t.0 1 t.1 (target_byte t.0) t.3) third t.5 in
+    (subst (λ (y : AliasTree). Short (alias_of alias_sorts.Core) y bytes (alias_rest y)) (sym v.4.0) (bind_short (code core_sort) _ s.0 made bytes s.1 s.2 (0 ∷ []) (1 ∷ (shortest_unsigned u.0 ++ blob_spelling v.0)) (code_short core_sort s.0 0 s.1 (core_sort_byte s.0) s.3) second s.5), refl)
 alias_of_shortens alias_sorts.Other x bytes s = let e = s.2 in absurd cc
 
 alias_whole : (x : AliasTree) → 0 ∷ alias_rest x ≡ alias_spelling x
@@ -136,7 +137,7 @@ param_shortens x bytes s =
     let t = s.4 in
     let made : LabeledValType = record { label = s.0; ty = t.0 } in
     let last = made_short (code val_type) (λ y. record { label = s.0; ty = y }) t.0 s.2 t.1 t.2 (val_type_code t.0 ∷ []) (val_type_shortens t.0 t.1 t.3) t.5 in
-    subst (λ (y : LabeledValType). Short param y bytes (param_spelling y)) (sym t.4.0) (bind_short label (λ n. code val_type >>= λ y. done (record { label = n; ty = y })) s.0 made bytes s.1 s.2 (prefixed s.0) (val_type_code t.0 ∷ []) (label_shortens s.0 s.1 s.3) last s.5)
+    subst (λ (y : LabeledValType). Short param y bytes (param_spelling y)) (sym t.4.0) (bind_short label (λ n. code val_type >>= λ y. done (record { label = n; ty = y })) s.0 made bytes s.1 s.2 (blob_spelling s.0) (val_type_code t.0 ∷ []) (label_shortens s.0 s.1 s.3) last s.5)
 
 func_result_cases : (form : ResultForm) (x : Option ValType) (bytes front rest : List ℕ) → (code result_form).Spells form front → (func_result_of form).Spells x rest → bytes ≡ front ++ rest → Short func_result x bytes (result_spelling x)
 unfolding func_result func_result_of
@@ -158,7 +159,7 @@ func_type_shortens x bytes s =
     let t = s.4 in
     let made : FuncTypeTree = record { params = s.0; result = t.0 } in
     let last = made_short func_result (λ r. record { params = s.0; result = r }) t.0 s.2 t.1 t.2 (result_spelling t.0) (func_result_shortens t.0 t.1 t.3) t.5 in
-    subst (λ (y : FuncTypeTree). Short func_type y bytes (func_spelling y)) (sym t.4.0) (bind_short (vec BadNumber param) _ s.0 made bytes s.1 s.2 (counted param_spelling s.0) (result_spelling t.0) (vec_shortens BadNumber param param_spelling param_shortens s.0 s.1 s.3) last s.5)
+    subst (λ (y : FuncTypeTree). Short func_type y bytes (func_spelling y)) (sym t.4.0) (bind_short (vec BadNumber param) _ s.0 made bytes s.1 s.2 (vec_spelling param_spelling s.0) (result_spelling t.0) (vec_shortens BadNumber param param_spelling param_shortens s.0 s.1 s.3) last s.5)
 
 type_byte : (f : TypeForm) → type_form 64 ≡ Ok f
 type_byte type_forms.Func = refl
@@ -170,9 +171,9 @@ def_type_shortens x bytes s =
     let last = made_short func_type func_def t.0 s.2 t.1 t.2 (func_spelling t.0) (func_type_shortens t.0 t.1 t.3) t.5 in
     subst (λ (y : DefTypeTree). Short def_type y bytes (def_spelling y)) (sym t.4.0) (bind_short (code type_form) _ s.0 (func_def t.0) bytes s.1 s.2 (64 ∷ []) (func_spelling t.0) (code_short type_form s.0 64 s.1 (type_byte s.0) s.3) last s.5)
 
-pub type_defs_shortens : (room : ℕ) → Shortens (type_defs room) (counted def_spelling)
+pub type_defs_shortens : (room : ℕ) → Shortens (type_defs room) (vec_spelling def_spelling)
 unfolding type_defs
-type_defs_shortens room x bytes s = counted_shortens BadNumber (limited (λ left. def_type) TooMany) (λ left t. left - 1) room def_spelling (limited_shortens (λ left. def_type) TooMany def_spelling (λ left. def_type_shortens)) x bytes s
+type_defs_shortens room x bytes s = counted_shortens BadNumber (from_stock (λ left. def_type) TooMany) (λ left t. left - 1) room def_spelling (from_stock_shortens (λ left. def_type) TooMany def_spelling (λ left. def_type_shortens)) x bytes s
 
 -- ---- canonical definitions
 
@@ -270,7 +271,7 @@ export_shortens x bytes s =
 -- ---- sections
 
 -- All of a section's contents.
-closed_short : {A B : Type 0} (make : A → B) (g : Grammar DecodeReason A) (y : A) (bytes short : List ℕ) → Short g y bytes short → ShortWhole (made make (exactly SizeMismatch g)) (make y) bytes short
+closed_short : {A B : Type 0} (make : A → B) (g : Grammar DecodeReason A) (y : A) (bytes short : List ℕ) → Short g y bytes short → ShortWhole (build make (exactly SizeMismatch g)) (make y) bytes short
 closed_short make g y bytes short s = record { spelled = (y, s.spelled, refl); shorter = s.shorter }
 
 -- The contents are spelled shortly, and the id names them.
@@ -282,9 +283,9 @@ unfolding contents
 contents_shortens room kinds.Custom x bytes s =
     let name = text_shortens_is s.0 s.1 s.3 in
     let same : s.2 ≡ s.4.0 = sym s.4.1 in
-    let whole : ShortWhole (contents room kinds.Custom) (trees.custom s.0 s.4.0) bytes (prefixed s.0 ++ s.4.0) = record {
-      spelled = (s.0, prefixed s.0, s.4.0, name.spelled, (s.4.0, refl, refl), refl);
-      shorter = omega (arith, name.shorter, length-append (prefixed s.0) s.4.0, ap length same, ap length s.5, length-append s.1 s.2);
+    let whole : ShortWhole (contents room kinds.Custom) (trees.custom s.0 s.4.0) bytes (blob_spelling s.0 ++ s.4.0) = record {
+      spelled = (s.0, blob_spelling s.0, s.4.0, name.spelled, (s.4.0, refl, refl), refl);
+      shorter = omega (arith, name.shorter, length-append (blob_spelling s.0) s.4.0, ap length same, ap length s.5, length-append s.1 s.2);
     } in
     subst (ShortContents room kinds.Custom bytes) (sym s.4.2) (whole, refl)
 contents_shortens room kinds.CoreModule x bytes s =
@@ -293,15 +294,15 @@ contents_shortens room kinds.CoreModule x bytes s =
       shorter = omega (arith, ap length s.1.0);
     } in
     subst (ShortContents room kinds.CoreModule bytes) (sym s.2) (whole, refl)
-contents_shortens room kinds.CoreInstances x bytes s = subst (ShortContents room kinds.CoreInstances bytes) (sym s.2) (closed_short trees.core_instances (vec BadNumber core_instance) s.0 bytes (counted core_instance_spelling s.0) (vec_shortens BadNumber core_instance core_instance_spelling core_instance_shortens s.0 bytes s.1), refl)
-contents_shortens room kinds.Aliases x bytes s = subst (ShortContents room kinds.Aliases bytes) (sym s.2) (closed_short trees.aliases (vec BadNumber alias) s.0 bytes (counted alias_spelling s.0) (vec_shortens BadNumber alias alias_spelling alias_shortens s.0 bytes s.1), refl)
-contents_shortens room kinds.Types x bytes s = subst (ShortContents room kinds.Types bytes) (sym s.2) (closed_short trees.types (type_defs room) s.0 bytes (counted def_spelling s.0) (type_defs_shortens room s.0 bytes s.1), refl)
-contents_shortens room kinds.Canons x bytes s = subst (ShortContents room kinds.Canons bytes) (sym s.2) (closed_short trees.canons (vec BadNumber canon) s.0 bytes (counted canon_spelling s.0) (vec_shortens BadNumber canon canon_spelling canon_shortens s.0 bytes s.1), refl)
-contents_shortens room kinds.Imports x bytes s = subst (ShortContents room kinds.Imports bytes) (sym s.2) (closed_short trees.imports (vec BadNumber import_item) s.0 bytes (counted import_spelling s.0) (vec_shortens BadNumber import_item import_spelling import_shortens s.0 bytes s.1), refl)
-contents_shortens room kinds.Exports x bytes s = subst (ShortContents room kinds.Exports bytes) (sym s.2) (closed_short trees.exports (vec BadNumber export_item) s.0 bytes (counted export_spelling s.0) (vec_shortens BadNumber export_item export_spelling export_shortens s.0 bytes s.1), refl)
+contents_shortens room kinds.CoreInstances x bytes s = subst (ShortContents room kinds.CoreInstances bytes) (sym s.2) (closed_short trees.core_instances (vec BadNumber core_instance) s.0 bytes (vec_spelling core_instance_spelling s.0) (vec_shortens BadNumber core_instance core_instance_spelling core_instance_shortens s.0 bytes s.1), refl)
+contents_shortens room kinds.Aliases x bytes s = subst (ShortContents room kinds.Aliases bytes) (sym s.2) (closed_short trees.aliases (vec BadNumber alias) s.0 bytes (vec_spelling alias_spelling s.0) (vec_shortens BadNumber alias alias_spelling alias_shortens s.0 bytes s.1), refl)
+contents_shortens room kinds.Types x bytes s = subst (ShortContents room kinds.Types bytes) (sym s.2) (closed_short trees.types (type_defs room) s.0 bytes (vec_spelling def_spelling s.0) (type_defs_shortens room s.0 bytes s.1), refl)
+contents_shortens room kinds.Canons x bytes s = subst (ShortContents room kinds.Canons bytes) (sym s.2) (closed_short trees.canons (vec BadNumber canon) s.0 bytes (vec_spelling canon_spelling s.0) (vec_shortens BadNumber canon canon_spelling canon_shortens s.0 bytes s.1), refl)
+contents_shortens room kinds.Imports x bytes s = subst (ShortContents room kinds.Imports bytes) (sym s.2) (closed_short trees.imports (vec BadNumber import_item) s.0 bytes (vec_spelling import_spelling s.0) (vec_shortens BadNumber import_item import_spelling import_shortens s.0 bytes s.1), refl)
+contents_shortens room kinds.Exports x bytes s = subst (ShortContents room kinds.Exports bytes) (sym s.2) (closed_short trees.exports (vec BadNumber export_item) s.0 bytes (vec_spelling export_spelling s.0) (vec_shortens BadNumber export_item export_spelling export_shortens s.0 bytes s.1), refl)
 
 -- A part of another size.
-sized_short : (room : ℕ) (kind : SectionKind) (x : SectionTree) (bytes : List ℕ) → ShortWhole (contents room kind) x bytes (contents_spelling x) → Short (sized SizeMismatch (length (contents_spelling x)) (contents room kind)) x bytes (contents_spelling x)
+sized_short : (room : ℕ) (kind : SectionKind) (x : SectionTree) (bytes : List ℕ) → ShortWhole (contents room kind) x bytes (contents_spelling x) → Short (of_size SizeMismatch (length (contents_spelling x)) (contents room kind)) x bytes (contents_spelling x)
 sized_short room kind x bytes s = record { spelled = (refl, s.spelled); shorter = s.shorter }
 
 size_short : (size less : ℕ) (bytes : List ℕ) → SpellsUnsigned 32 bytes size → less ≤ size → Short index less bytes (shortest_unsigned less)
@@ -317,8 +318,8 @@ section_shortens room x bytes s =
     let c = contents_shortens room s.0 x t.2 t.4.1 in
     let text = contents_spelling x in
     let first = size_short t.0 (length text) t.1 t.3 (omega (arith, c.0.shorter, t.4.0)) in
-    let second = bind_short index (λ size. sized SizeMismatch size (contents room s.0)) (length text) x s.2 t.1 t.2 (shortest_unsigned (length text)) text first (sized_short room s.0 x t.2 c.0) t.5 in
-    bind_short (code section_kind) (λ kind. index >>= λ size. sized SizeMismatch size (contents room kind)) s.0 x bytes s.1 s.2 (section_id x ∷ []) (prefixed text) (code_short section_kind s.0 (section_id x) s.1 c.1 s.3) second s.5
+    let second = bind_short index (λ size. of_size SizeMismatch size (contents room s.0)) (length text) x s.2 t.1 t.2 (shortest_unsigned (length text)) text first (sized_short room s.0 x t.2 c.0) t.5 in
+    bind_short (code section_kind) (λ kind. index >>= λ size. of_size SizeMismatch size (contents room kind)) s.0 x bytes s.1 s.2 (section_id x ∷ []) (blob_spelling text) (code_short section_kind s.0 (section_id x) s.1 c.1 s.3) second s.5
 
 pub sections_shortens : (room : ℕ) → ShortensWhole (sections room) (flat_map section_spelling)
 unfolding sections
@@ -329,9 +330,9 @@ sections_shortens room xs bytes s =
 pub component_shortens : ShortensWhole component spelling
 unfolding component
 component_shortens c bytes s =
-    let t = sections_shortens type_limit c s.2 s.4 in
+    let t = sections_shortens MAX_TYPES c s.2 s.4 in
     record {
-      spelled = (s.0, component_preamble, flat_map section_spelling c, refl, t.spelled, refl);
+      spelled = (s.0, COMPONENT_PREAMBLE, flat_map section_spelling c, refl, t.spelled, refl);
       shorter = omega (arith, t.shorter, ap length s.5, length-append s.1 s.2, ap length s.3);
     }
 

@@ -1,21 +1,20 @@
 -- The shortest spelling of a component within its limits is a spelling of it.
-use Rattle.std.proofs.Common.{◌≡◌, ℕ, zero, suc, ◌+◌, ◌-◌, ◌^◌, ◌<◌, ◌≤◌, List, [], ◌∷◌, ◌++◌, length, take, drop, Bool, true, ◌&&◌, Option, Some, None, Ok, nat_eq, nat_lt, refl, sym, ap, subst, ◌∙◌, arith}
-use Rattle.std.specs.List.{flat_map, list_all, sum_by, starts_with}
+use Rattle.std.proofs.Common.{◌≡◌, ℕ, ◌-◌, ◌^◌, ◌<◌, ◌≤◌, List, [], ◌∷◌, ◌++◌, length, drop, true, Option, Some, None, Ok, refl, arith}
+use Rattle.std.specs.List.{flat_map, list_all, sum_by}
 use Rattle.std.specs.Str.{is_utf8}
-use Rattle.std.proofs.lemmas.Bool.{and_parts, ltb-true, eqb-true}
-use Rattle.std.proofs.lemmas.List.{length-append, append-nil}
+use Rattle.std.proofs.lemmas.Bool.{and_parts, ltb-true}
+use Rattle.std.proofs.lemmas.List.{length-append}
 use Rattle.std.proofs.lemmas.List.Sums.{sum_by-cons}
 use Rattle.cm_leb.specs.Writing.{shortest_unsigned}
-use Rattle.cm_grammar.specs.Grammar.{Grammar, done, ◌>>=◌, code, number, raw, checked, fixed, vec, limited, chain}
-use Rattle.cm_grammar.specs.Whole.{made, exactly, sized}
-use Rattle.cm_grammar.specs.Spelling.{counted, prefixed}
+use Rattle.cm_grammar.specs.Grammar.{done, ◌>>=◌, code, raw, check, fixed, vec, from_stock}
+use Rattle.cm_grammar.specs.Whole.{of_size}
+use Rattle.cm_grammar.specs.Spelling.{vec_spelling, blob_spelling}
 use Rattle.cm_grammar.proofs.WrittenLaws.{Writes, AreFine, AreStocked, bind_written, made_written, number_written, vec_written, counted_written, counted_parts, chain_written, each_written, fine_parts, stock_written, text_written}
 use Rattle.cm_types.specs.Names.{is_label}
 use Rattle.cm_types.specs.ExternNames.{is_extern_name}
 use Rattle.cm_types.specs.declared.def_types.ValType.{ValType}
 use Rattle.cm_types.specs.declared.def_types.ValType.TheVariants as val_types
-use Rattle.cm_types.specs.declared.def_types.LabeledValType.{LabeledValType}
-use Rattle.cm_types.specs.DefTypes.{FuncTypeTree, DefTypeTree, func_def}
+use Rattle.cm_types.specs.DefTypes.{DefTypeTree, func_def}
 use Rattle.cm_component.specs.declared.section.Canon.{Canon}
 use Rattle.cm_component.specs.declared.section.Canon.TheVariants as canons
 use Rattle.cm_component.specs.declared.section.CoreSort.{CoreSort}
@@ -26,11 +25,12 @@ use Rattle.cm_component.specs.declared.section.ExternDesc.{ExternDesc}
 use Rattle.cm_component.specs.declared.section.ExternDesc.TheVariants as descs
 use Rattle.cm_component.specs.Trees as trees
 use Rattle.cm_component.specs.Trees.{ArgTree, CoreInstanceTree, AliasTree, ImportTree, ExportTree, SectionTree}
-use Rattle.cm_component.specs.Spelling.{extern_name_spelling, core_arg_spelling, core_instance_spelling, alias_spelling, val_type_code, param_spelling, result_spelling, func_spelling, def_spelling, canon_spelling, desc_spelling, import_spelling, export_spelling, contents_spelling, section_id, section_spelling, spelling, component_preamble}
-use Rattle.cm_component.specs.Limits.{type_limit, byte_limit, module_preamble, types_in, is_begun, limit_fault}
+use Rattle.cm_component.specs.Spelling.{extern_name_spelling, core_arg_spelling, core_instance_spelling, alias_spelling, val_type_code, param_spelling, result_spelling, func_spelling, def_spelling, canon_spelling, desc_spelling, import_spelling, export_spelling, contents_spelling, section_id, section_spelling, spelling}
+use Rattle.cm_component.specs.declared.limits.TheConstants.{COMPONENT_PREAMBLE}
+use Rattle.cm_component.specs.Limits.{types_in, has_preamble, limit_fault}
+use Rattle.cm_component.specs.declared.limits.TheConstants.{MAX_TYPES, MODULE_PREAMBLE}
 use Rattle.cm_component.specs.Parts.{is_index, holds_arg, holds_core_instance, holds_alias, holds_param, holds_func, holds_def, holds_canon, holds_desc, holds_name, holds_import, holds_export, holds}
-use Rattle.cm_binary.specs.declared.fault.DecodeReason.{DecodeReason}
-use Rattle.cm_binary.specs.declared.fault.DecodeReason.TheVariants.{SizeMismatch, BadNumber, BadUtf8, BadName, UnknownCode, TooMany, NotAModule}
+use Rattle.cm_binary.specs.declared.fault.DecodeReason.TheVariants.{SizeMismatch, BadNumber, BadUtf8, BadName, UnknownCode, TooMany}
 use Rattle.cm_binary.specs.declared.codes.SectionKind.{SectionKind}
 use Rattle.cm_binary.specs.declared.codes.SectionKind.TheVariants as kinds
 use Rattle.cm_binary.specs.declared.codes.CoreInstanceForm.TheVariants as core_instance_forms
@@ -43,27 +43,27 @@ use Rattle.cm_binary.specs.declared.codes.DescForm.TheVariants as desc_forms
 use Rattle.cm_binary.specs.declared.codes.NoDescription.TheVariants as descriptions
 use Rattle.cm_binary.specs.Codes.{section_kind, core_instance_form, core_sort, alias_sort, core_alias_target, val_type, type_form, result_form, canon_form, desc_form, export_sort, export_desc}
 use Rattle.cm_binary.specs.File.{index, text, label, extern_name, core_arg, core_instance, alias_of, alias, param, func_result_of, func_result, func_type, def_type, type_defs, options_of, options, canon_of, canon, extern_desc, import_item, export_item, contents, section, sections, component, file, room_after, Spells}
-use Rattle.cm_binary.specs.Nonempty.{core_arg_some, core_instance_some, alias_some, param_some, def_some, canon_some, import_some, export_some}
-use Rattle.cm_binary.proofs.FileLimits.{preamble_read, Limits, limits_parts, room_left}
+use Rattle.cm_binary.proofs.Nonempty.{core_arg_some, core_instance_some, alias_some, param_some, def_some, canon_some, import_some, export_some}
+use Rattle.cm_binary.proofs.FileLimits.{preamble_read, limits_parts, room_left}
 
 -- ---- numbers, texts and names
 
 index_writes : (n : ℕ) → is_index n ≡ true → index.Spells n (shortest_unsigned n)
 index_writes n h = number_written BadNumber n (ltb-true n (2 ^ 32) h)
 
-text_writes : Writes text is_utf8 prefixed
+text_writes : Writes text is_utf8 blob_spelling
 unfolding text
-text_writes x h lt = text_written BadNumber (λ n. checked is_utf8 BadUtf8 (raw n)) x lt ((refl, refl), h)
+text_writes x h lt = text_written BadNumber (λ n. check is_utf8 BadUtf8 (raw n)) x lt ((refl, refl), h)
 
-label_writes : (x : List ℕ) → is_utf8 x ≡ true → is_label x ≡ true → length (prefixed x) < 2 ^ 32 → label.Spells x (prefixed x)
+label_writes : (x : List ℕ) → is_utf8 x ≡ true → is_label x ≡ true → length (blob_spelling x) < 2 ^ 32 → label.Spells x (blob_spelling x)
 unfolding label
-label_writes x utf8 name lt = text_written BadNumber (λ n. checked is_label BadName (checked is_utf8 BadUtf8 (raw n))) x lt (((refl, refl), utf8), name)
+label_writes x utf8 name lt = text_written BadNumber (λ n. check is_label BadName (check is_utf8 BadUtf8 (raw n))) x lt (((refl, refl), utf8), name)
 
 extern_name_writes : Writes extern_name holds_name extern_name_spelling
 unfolding extern_name
 extern_name_writes x h lt =
     let both = and_parts (is_utf8 x) (is_extern_name x) h in
-    bind_written (fixed (0 ∷ []) UnknownCode) (λ u. index >>= λ n. checked is_extern_name BadName (checked is_utf8 BadUtf8 (raw n))) tt x (0 ∷ []) (prefixed x) refl (text_written BadNumber (λ n. checked is_extern_name BadName (checked is_utf8 BadUtf8 (raw n))) x (omega (arith, lt)) (((refl, refl), both.0), both.1))
+    bind_written (fixed (0 ∷ []) UnknownCode) (λ u. index >>= λ n. check is_extern_name BadName (check is_utf8 BadUtf8 (raw n))) tt x (0 ∷ []) (blob_spelling x) refl (text_written BadNumber (λ n. check is_extern_name BadName (check is_utf8 BadUtf8 (raw n))) x (omega (arith, lt)) (((refl, refl), both.0), both.1))
 
 -- ---- core instances and aliases
 
@@ -71,20 +71,20 @@ core_arg_writes : Writes core_arg holds_arg core_arg_spelling
 unfolding core_arg
 core_arg_writes x h lt =
     let both = and_parts (is_utf8 x.name) (is_index x.instance) h in
-    let lengths = length-append (prefixed x.name) (18 ∷ shortest_unsigned x.instance) in
+    let lengths = length-append (blob_spelling x.name) (18 ∷ shortest_unsigned x.instance) in
     let last = made_written index (λ i. record { name = x.name; instance = i }) x.instance (shortest_unsigned x.instance) (index_writes x.instance both.1) in
     let second = bind_written (fixed (18 ∷ []) UnknownCode) (λ u. index >>= λ i. done (record { name = x.name; instance = i })) tt x (18 ∷ []) (shortest_unsigned x.instance) refl last in
-    bind_written text (λ n. fixed (18 ∷ []) UnknownCode >>= λ u. index >>= λ i. done (record { name = n; instance = i })) x.name x (prefixed x.name) (18 ∷ shortest_unsigned x.instance) (text_writes x.name both.0 (omega (arith, lengths, lt))) second
+    bind_written text (λ n. fixed (18 ∷ []) UnknownCode >>= λ u. index >>= λ i. done (record { name = n; instance = i })) x.name x (blob_spelling x.name) (18 ∷ shortest_unsigned x.instance) (text_writes x.name both.0 (omega (arith, lengths, lt))) second
 
 pub core_instance_writes : Writes core_instance holds_core_instance core_instance_spelling
 unfolding core_instance
 core_instance_writes (trees.instantiate m args) h lt =
     let both = and_parts (is_index m) (list_all holds_arg args) h in
-    let lengths = length-append (shortest_unsigned m) (counted core_arg_spelling args) in
+    let lengths = length-append (shortest_unsigned m) (vec_spelling core_arg_spelling args) in
     let list = vec_written BadNumber core_arg holds_arg core_arg_spelling core_arg_some core_arg_writes args both.1 (omega (arith, lengths, lt)) in
-    let last = made_written (vec BadNumber core_arg) (λ a. trees.instantiate m a) args (counted core_arg_spelling args) list in
-    let second = bind_written index (λ i. vec BadNumber core_arg >>= λ a. done (trees.instantiate i a)) m (trees.instantiate m args) (shortest_unsigned m) (counted core_arg_spelling args) (index_writes m both.0) last in
-    bind_written (code core_instance_form) (λ form. index >>= λ i. vec BadNumber core_arg >>= λ a. done (trees.instantiate i a)) core_instance_forms.Instantiate (trees.instantiate m args) (0 ∷ []) (shortest_unsigned m ++ counted core_arg_spelling args) (0, refl, refl) second
+    let last = made_written (vec BadNumber core_arg) (λ a. trees.instantiate m a) args (vec_spelling core_arg_spelling args) list in
+    let second = bind_written index (λ i. vec BadNumber core_arg >>= λ a. done (trees.instantiate i a)) m (trees.instantiate m args) (shortest_unsigned m) (vec_spelling core_arg_spelling args) (index_writes m both.0) last in
+    bind_written (code core_instance_form) (λ form. index >>= λ i. vec BadNumber core_arg >>= λ a. done (trees.instantiate i a)) core_instance_forms.Instantiate (trees.instantiate m args) (0 ∷ []) (shortest_unsigned m ++ vec_spelling core_arg_spelling args) (0, refl, refl) second
 
 core_sort_code : (sort : CoreSort) → core_sort 0 ≡ Ok sort
 core_sort_code core_sorts.Func = refl
@@ -94,12 +94,12 @@ unfolding alias alias_of
 alias_writes (trees.core_instance_export sort i name) h lt =
     let both = and_parts (is_index i) (is_utf8 name) h in
     let made : AliasTree = trees.core_instance_export sort i name in
-    let lengths = length-append (shortest_unsigned i) (prefixed name) in
-    let last = made_written text (λ n. trees.core_instance_export sort i n) name (prefixed name) (text_writes name both.1 (omega (arith, lengths, lt))) in
-    let third = bind_written index (λ j. text >>= λ n. done (trees.core_instance_export sort j n)) i made (shortest_unsigned i) (prefixed name) (index_writes i both.0) last in
-    let second = bind_written (code core_alias_target) (λ target. index >>= λ j. text >>= λ n. done (trees.core_instance_export sort j n)) targets.CoreInstanceExport made (1 ∷ []) (shortest_unsigned i ++ prefixed name) (1, refl, refl) third in
-    let first = bind_written (code core_sort) (λ k. code core_alias_target >>= λ target. index >>= λ j. text >>= λ n. done (trees.core_instance_export k j n)) sort made (0 ∷ []) (1 ∷ (shortest_unsigned i ++ prefixed name)) (0, refl, core_sort_code sort) second in
-    bind_written (code alias_sort) alias_of alias_sorts.Core made (0 ∷ []) (0 ∷ 1 ∷ (shortest_unsigned i ++ prefixed name)) (0, refl, refl) first
+    let lengths = length-append (shortest_unsigned i) (blob_spelling name) in
+    let last = made_written text (λ n. trees.core_instance_export sort i n) name (blob_spelling name) (text_writes name both.1 (omega (arith, lengths, lt))) in
+    let third = bind_written index (λ j. text >>= λ n. done (trees.core_instance_export sort j n)) i made (shortest_unsigned i) (blob_spelling name) (index_writes i both.0) last in
+    let second = bind_written (code core_alias_target) (λ target. index >>= λ j. text >>= λ n. done (trees.core_instance_export sort j n)) targets.CoreInstanceExport made (1 ∷ []) (shortest_unsigned i ++ blob_spelling name) (1, refl, refl) third in
+    let first = bind_written (code core_sort) (λ k. code core_alias_target >>= λ target. index >>= λ j. text >>= λ n. done (trees.core_instance_export k j n)) sort made (0 ∷ []) (1 ∷ (shortest_unsigned i ++ blob_spelling name)) (0, refl, core_sort_code sort) second in
+    bind_written (code alias_sort) alias_of alias_sorts.Core made (0 ∷ []) (0 ∷ 1 ∷ (shortest_unsigned i ++ blob_spelling name)) (0, refl, refl) first
 
 -- ---- types
 
@@ -110,9 +110,9 @@ param_writes : Writes param holds_param param_spelling
 unfolding param
 param_writes x h lt =
     let both = and_parts (is_utf8 x.label) (is_label x.label) h in
-    let lengths = length-append (prefixed x.label) (val_type_code x.ty ∷ []) in
+    let lengths = length-append (blob_spelling x.label) (val_type_code x.ty ∷ []) in
     let last = made_written (code val_type) (λ y. record { label = x.label; ty = y }) x.ty (val_type_code x.ty ∷ []) (val_type_writes x.ty) in
-    bind_written label (λ n. code val_type >>= λ y. done (record { label = n; ty = y })) x.label x (prefixed x.label) (val_type_code x.ty ∷ []) (label_writes x.label both.0 both.1 (omega (arith, lengths, lt))) last
+    bind_written label (λ n. code val_type >>= λ y. done (record { label = n; ty = y })) x.label x (blob_spelling x.label) (val_type_code x.ty ∷ []) (label_writes x.label both.0 both.1 (omega (arith, lengths, lt))) last
 
 func_result_writes : (x : Option ValType) → func_result.Spells x (result_spelling x)
 unfolding func_result func_result_of
@@ -122,10 +122,10 @@ func_result_writes None = bind_written (code result_form) func_result_of result_
 func_type_writes : Writes func_type holds_func func_spelling
 unfolding func_type
 func_type_writes x h lt =
-    let lengths = length-append (counted param_spelling x.params) (result_spelling x.result) in
+    let lengths = length-append (vec_spelling param_spelling x.params) (result_spelling x.result) in
     let params = vec_written BadNumber param holds_param param_spelling param_some param_writes x.params h (omega (arith, lengths, lt)) in
     let last = made_written func_result (λ r. record { params = x.params; result = r }) x.result (result_spelling x.result) (func_result_writes x.result) in
-    bind_written (vec BadNumber param) (λ ps. func_result >>= λ r. done (record { params = ps; result = r })) x.params x (counted param_spelling x.params) (result_spelling x.result) params last
+    bind_written (vec BadNumber param) (λ ps. func_result >>= λ r. done (record { params = ps; result = r })) x.params x (vec_spelling param_spelling x.params) (result_spelling x.result) params last
 
 pub def_type_writes : Writes def_type holds_def def_spelling
 unfolding def_type
@@ -181,21 +181,21 @@ export_writes x h lt =
 
 -- ---- sections
 
-type_defs_writes : (room : ℕ) (items : List DefTypeTree) → list_all holds_def items ≡ true → length items ≤ room → length (counted def_spelling items) < 2 ^ 32 → (type_defs room).Spells items (counted def_spelling items)
+type_defs_writes : (room : ℕ) (items : List DefTypeTree) → list_all holds_def items ≡ true → length items ≤ room → length (vec_spelling def_spelling items) < 2 ^ 32 → (type_defs room).Spells items (vec_spelling def_spelling items)
 unfolding type_defs
 type_defs_writes room items h le lt =
     let parts = counted_parts holds_def def_spelling def_some items h lt in
-    counted_written BadNumber (limited (λ left. def_type) TooMany) (λ left t. left - 1) room def_spelling items parts.0
-    (chain_written (limited (λ left. def_type) TooMany) (λ left t. left - 1) def_spelling (AreStocked holds_def def_spelling) (stock_written def_type TooMany holds_def def_spelling def_type_writes) room items (le, parts.1))
+    counted_written BadNumber (from_stock (λ left. def_type) TooMany) (λ left t. left - 1) room def_spelling items parts.0
+    (chain_written (from_stock (λ left. def_type) TooMany) (λ left t. left - 1) def_spelling (AreStocked holds_def def_spelling) (stock_written def_type TooMany holds_def def_spelling def_type_writes) room items (le, parts.1))
 
 -- The contents are spelled so, by the production that the id names.
 abbrev WritesContents : ℕ → SectionTree → Type 0
 WritesContents room x = (kind : SectionKind) × (contents room kind).Spells x (contents_spelling x) × (section_kind (section_id x) ≡ Ok kind)
 
-contents_writes : (room : ℕ) (x : SectionTree) → holds x ≡ true → is_begun x ≡ true → types_in x ≤ room → length (contents_spelling x) < 2 ^ 32 → WritesContents room x
+contents_writes : (room : ℕ) (x : SectionTree) → holds x ≡ true → has_preamble x ≡ true → types_in x ≤ room → length (contents_spelling x) < 2 ^ 32 → WritesContents room x
 unfolding contents
-contents_writes room (trees.custom name bytes) h b le lt = (kinds.Custom, (name, prefixed name, bytes, text_writes name h (omega (arith, length-append (prefixed name) bytes, lt)), (bytes, refl, refl), refl), refl)
-contents_writes room (trees.core_module bytes) h b le lt = (kinds.CoreModule, (bytes, (refl, (drop (length module_preamble) bytes, preamble_read module_preamble bytes b)), refl), refl)
+contents_writes room (trees.custom name bytes) h b le lt = (kinds.Custom, (name, blob_spelling name, bytes, text_writes name h (omega (arith, length-append (blob_spelling name) bytes, lt)), (bytes, refl, refl), refl), refl)
+contents_writes room (trees.core_module bytes) h b le lt = (kinds.CoreModule, (bytes, (refl, (drop (length MODULE_PREAMBLE) bytes, preamble_read MODULE_PREAMBLE bytes b)), refl), refl)
 contents_writes room (trees.core_instances items) h b le lt = (kinds.CoreInstances, (items, vec_written BadNumber core_instance holds_core_instance core_instance_spelling core_instance_some core_instance_writes items h lt, refl), refl)
 contents_writes room (trees.aliases items) h b le lt = (kinds.Aliases, (items, vec_written BadNumber alias holds_alias alias_spelling alias_some alias_writes items h lt, refl), refl)
 contents_writes room (trees.types items) h b le lt = (kinds.Types, (items, type_defs_writes room items h le lt, refl), refl)
@@ -203,23 +203,23 @@ contents_writes room (trees.canons items) h b le lt = (kinds.Canons, (items, vec
 contents_writes room (trees.imports items) h b le lt = (kinds.Imports, (items, vec_written BadNumber import_item holds_import import_spelling import_some import_writes items h lt, refl), refl)
 contents_writes room (trees.exports items) h b le lt = (kinds.Exports, (items, vec_written BadNumber export_item holds_export export_spelling export_some export_writes items h lt, refl), refl)
 
-section_writes : (room : ℕ) (x : SectionTree) → holds x ≡ true → is_begun x ≡ true → types_in x ≤ room → length (section_spelling x) < 2 ^ 32 → (section room).Spells x (section_spelling x)
+section_writes : (room : ℕ) (x : SectionTree) → holds x ≡ true → has_preamble x ≡ true → types_in x ≤ room → length (section_spelling x) < 2 ^ 32 → (section room).Spells x (section_spelling x)
 unfolding section
 section_writes room x h b le lt =
     let text = contents_spelling x in
     let lengths = length-append (shortest_unsigned (length text)) text in
     let small : length text < 2 ^ 32 = omega (arith, lengths, lt) in
     let c = contents_writes room x h b le small in
-    let part = bind_written index (λ size. sized SizeMismatch size (contents room c.0)) (length text) x (shortest_unsigned (length text)) text (number_written BadNumber (length text) small) (refl, c.1) in
-    bind_written (code section_kind) (λ kind. index >>= λ size. sized SizeMismatch size (contents room kind)) c.0 x (section_id x ∷ []) (prefixed text) (section_id x, refl, c.2) part
+    let part = bind_written index (λ size. of_size SizeMismatch size (contents room c.0)) (length text) x (shortest_unsigned (length text)) text (number_written BadNumber (length text) small) (refl, c.1) in
+    bind_written (code section_kind) (λ kind. index >>= λ size. of_size SizeMismatch size (contents room kind)) c.0 x (section_id x ∷ []) (blob_spelling text) (section_id x, refl, c.2) part
 
 -- Sections that keep their limits, where so many more types may stand.
 abbrev AreWithin : ℕ → List SectionTree → Type 0
-AreWithin room c = (sum_by types_in c ≤ room) × (list_all is_begun c ≡ true) × AreFine holds section_spelling c
+AreWithin room c = (sum_by types_in c ≤ room) × (list_all has_preamble c ≡ true) × AreFine holds section_spelling c
 
 section_step : (room : ℕ) (x : SectionTree) (xs : List SectionTree) → AreWithin room (x ∷ xs) → (section room).Spells x (section_spelling x) × AreWithin (room_after room x) xs
 section_step room x xs h =
-    let begun = and_parts (is_begun x) (list_all is_begun xs) h.1 in
+    let begun = and_parts (has_preamble x) (list_all has_preamble xs) h.1 in
     let fine = fine_parts holds section_spelling x xs h.2 in
     let sum = sum_by-cons types_in x xs in
     (section_writes room x fine.0 begun.0 (omega (arith, sum, h.0)) fine.1, (omega (arith, sum, h.0, room_left room x), begun.1, fine.2))
@@ -230,6 +230,6 @@ pub file_written : (c : List SectionTree) → limit_fault c ≡ None → list_al
 unfolding file component sections
 file_written c e h =
     let limits = limits_parts c e in
-    let lengths = length-append component_preamble (flat_map section_spelling c) in
-    let all = each_written section room_after section_spelling AreWithin section_step type_limit c (limits.types, limits.begun, (h, omega (arith, lengths, limits.bytes))) in
-    (limits.bytes, (tt, component_preamble, flat_map section_spelling c, refl, all, refl))
+    let lengths = length-append COMPONENT_PREAMBLE (flat_map section_spelling c) in
+    let all = each_written section room_after section_spelling AreWithin section_step MAX_TYPES c (limits.types, limits.begun, (h, omega (arith, lengths, limits.bytes))) in
+    (limits.bytes, (tt, COMPONENT_PREAMBLE, flat_map section_spelling c, refl, all, refl))

@@ -3,6 +3,7 @@ pub mod FileLaws
 pub mod LoopLaws
 pub mod DecodeLaws
 pub mod FileSpelling
+pub mod Nonempty
 pub mod FileLimits
 pub mod FileWritten
 pub mod EncodeLaws

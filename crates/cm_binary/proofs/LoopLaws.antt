@@ -1,40 +1,18 @@
--- The loops over the types of a section and over the sections of a file.
-use Rattle.std.proofs.Common.{◌≡◌, ℕ, ◌+◌, ◌-◌, ◌<◌, List, [], ◌∷◌, ◌++◌, length, map, Result, Ok, refl, ap, arith}
+-- The loop over the sections of a file.
+use Rattle.std.proofs.Common.{◌≡◌, ℕ, ◌<◌, List, [], ◌∷◌, ◌++◌, length, map, Result, Ok, ap, arith}
 use Rattle.std.proofs.lemmas.List.{map_push, length-append}
 use Rattle.cm_grammar.specs.declared.fault.Fault.{Fault}
 use Rattle.cm_grammar.specs.declared.fault.End.{End}
 use Rattle.cm_grammar.specs.declared.fault.ReadError.{ReadError}
 use Rattle.cm_grammar.specs.Faults.{Fails}
-use Rattle.cm_grammar.specs.Grammar.{Grammar, chain, limited}
 use Rattle.cm_grammar.specs.Whole.{to_end}
 use Rattle.cm_grammar.proofs.Tools.{IsBytes, IsBytes-after}
-use Rattle.cm_grammar.proofs.ReadingLaws.{with_front, chain_more, chain_fails, with_each, to_end_more, to_end_fails}
-use Rattle.cm_types.specs.declared.def_types.DefType.{DefType}
-use Rattle.cm_types.specs.DefTypes.{DefTypeTree, def_type_tree}
+use Rattle.cm_grammar.proofs.ReadingLaws.{with_each, to_end_more, to_end_fails}
 use Rattle.cm_component.specs.declared.section.Section.{Section}
 use Rattle.cm_component.specs.Trees.{SectionTree, section_tree}
 use Rattle.cm_binary.specs.declared.fault.DecodeReason.{DecodeReason}
-use Rattle.cm_binary.specs.declared.fault.DecodeReason.TheVariants.{TooMany}
-use Rattle.cm_binary.specs.File.{def_type, section, room_after}
+use Rattle.cm_binary.specs.File.{section, room_after}
 use Rattle.cm_binary.proofs.FileLaws.{section_lawful, section_nonempty}
-
--- The types of a section, where so many more may stand in the file.
-abbrev pub types_from : ℕ → ℕ → Grammar DecodeReason (List DefTypeTree)
-types_from n left = chain (limited (λ l. def_type) TooMany) (λ l t. l - 1) n left
-
-pub types_more : (items pushed : List DefType) (ty : DefType) (count i left behind_left : ℕ) (e behind_e : End DecodeReason) (bytes behind : List ℕ) (total : Result (List DefTypeTree × List ℕ) (Fault DecodeReason))
-    → pushed ≡ items ++ ty ∷ [] → behind_e ≡ e → behind_left ≡ left - 1 → i < count
-    → (limited (λ l. def_type) TooMany left).reads e bytes ≡ Ok (def_type_tree ty, behind)
-    → with_front (map def_type_tree items) ((types_from (count - i) left).reads e bytes) ≡ total
-    → with_front (map def_type_tree pushed) ((types_from (count - (i + 1)) behind_left).reads behind_e behind) ≡ total
-types_more items pushed ty count i left behind_left e behind_e bytes behind total push same fewer lt h so_far =
-    let more = chain_more (limited (λ l. def_type) TooMany) (λ l t. l - 1) (map def_type_tree items) (count - i) (count - (i + 1)) left (left - 1) e bytes (def_type_tree ty) behind total (omega arith) refl h so_far in
-    rw (push, map_push def_type_tree items ty, same, fewer) more
-
-pub types_fail : (items : List DefType) (count i left : ℕ) (e : End DecodeReason) (bytes : List ℕ) (err : ReadError DecodeReason) (total : Result (List DefTypeTree × List ℕ) (Fault DecodeReason))
-    → i < count → Fails err ((limited (λ l. def_type) TooMany left).reads e bytes)
-    → with_front (map def_type_tree items) ((types_from (count - i) left).reads e bytes) ≡ total → Fails err total
-types_fail items count i left e bytes err total lt h so_far = chain_fails (limited (λ l. def_type) TooMany) (λ l t. l - 1) (map def_type_tree items) (count - i) (count - (i + 1)) left e bytes err total (omega arith) h so_far
 
 pub section_shorter : (room : ℕ) (e : End DecodeReason) (bytes : List ℕ) (x : SectionTree) (behind : List ℕ) → IsBytes bytes → (section room).reads e bytes ≡ Ok (x, behind) → length behind < length bytes
 section_shorter room e bytes x behind fits h =

@@ -14,12 +14,15 @@ Accepts answer c = MatchResult answer (λ v. v ≡ c) (λ f. f.reason ≡ Memory
 
 -- The answer is a fault of this reason at this place, or that memory was refused.
 abbrev pub Refuses : Result (List SectionTree) DecodeFault → ℕ → DecodeReason → Type 0
-Refuses answer at reason = MatchResult answer (λ v. ⊥) (λ f. (f.reason ≡ Memory) ⊎ ((f.at ≡ at) × (f.reason ≡ reason)))
+Refuses answer at reason =
+    MatchResult answer (λ v. ⊥) (λ f. (f.reason ≡ Memory) ⊎ ((f.at ≡ at) × (f.reason ≡ reason)))
 
 -- The answer is what reading gives, with the place of a fault counted from the front.
-abbrev pub Answers : List ℕ → Result (List SectionTree) DecodeFault → Result (List SectionTree) (Fault DecodeReason) → Type 0
+abbrev pub Answers : List ℕ → Result (List SectionTree) DecodeFault
+    → Result (List SectionTree) (Fault DecodeReason) → Type 0
 Answers bytes (Ok c) read = read ≡ Ok c
-Answers bytes (Err f) read = (f.reason ≡ Memory) ⊎ ((left : ℕ) × (f.at + left ≡ length bytes) × (read ≡ Err (flaw left f.reason)))
+Answers bytes (Err f) read = (f.reason ≡ Memory)
+    ⊎ ((left : ℕ) × (f.at + left ≡ length bytes) × (read ≡ Err (flaw left f.reason)))
 
 -- The numbers of the list are bytes.
 abbrev pub AreBytes : List ℕ → Type 0

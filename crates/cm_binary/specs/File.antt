@@ -1,14 +1,15 @@
--- The grammar of component files (Binary.md), production by production, in its names and order: which bytes spell which
--- tree, and what is the first fault of bytes that spell none. `x ← g` reads one thing, and the next line what stands
--- behind it.
+-- The grammar of component files (Binary.md), production by production, in its names and order:
+-- which bytes spell which tree, and what is the first fault of bytes that spell none. `x ← g` reads
+-- one thing, and the next line what stands behind it.
 use Rattle.std.specs.Prelude.{◌≡◌, ℕ, zero, suc, ◌+◌, ◌-◌, List, [], ◌∷◌, length, Option, Some}
 use Rattle.std.specs.Prelude.{None, Err}
 use Rattle.std.specs.Str.{is_utf8}
 use Rattle.cm_grammar.specs.declared.fault.End.TheVariants as end
 use Rattle.cm_grammar.specs.Faults.{flaw}
-use Rattle.cm_grammar.specs.Grammar.{Grammar, done, ◌>>=◌, code, number, raw, checked, fixed, vec}
-use Rattle.cm_grammar.specs.Grammar.{chain, limited}
-use Rattle.cm_grammar.specs.Whole.{Whole, made, remainder, exactly, joined, begun, to_end, sized}
+use Rattle.cm_grammar.specs.Grammar.{Grammar, done, ◌>>=◌, code, number, raw, check, fixed, vec}
+use Rattle.cm_grammar.specs.Grammar.{chain, from_stock}
+use Rattle.cm_grammar.specs.Whole.{Whole, build, remainder, exactly, join, begins_with, to_end}
+use Rattle.cm_grammar.specs.Whole.{of_size}
 use Rattle.cm_grammar.specs.Whole.{at_most}
 use Rattle.cm_types.specs.Names.{is_label}
 use Rattle.cm_types.specs.ExternNames.{is_extern_name}
@@ -22,8 +23,9 @@ use Rattle.cm_component.specs.declared.section.ExternDesc.TheVariants as descs
 use Rattle.cm_component.specs.Trees as trees
 use Rattle.cm_component.specs.Trees.{ArgTree, CoreInstanceTree, AliasTree, ImportTree, ExportTree}
 use Rattle.cm_component.specs.Trees.{SectionTree}
-use Rattle.cm_component.specs.Spelling.{component_preamble}
-use Rattle.cm_component.specs.Limits.{type_limit, byte_limit, module_preamble}
+use Rattle.cm_component.specs.declared.limits.TheConstants.{COMPONENT_PREAMBLE}
+use Rattle.cm_component.specs.declared.limits.TheConstants.{MAX_TYPES, MAX_FILE_BYTES}
+use Rattle.cm_component.specs.declared.limits.TheConstants.{MODULE_PREAMBLE}
 use Rattle.cm_binary.specs.declared.fault.DecodeReason.{DecodeReason}
 use Rattle.cm_binary.specs.declared.fault.DecodeReason.TheVariants.{BadPreamble, Truncated}
 use Rattle.cm_binary.specs.declared.fault.DecodeReason.TheVariants.{BadNumber, SizeMismatch}
@@ -46,8 +48,8 @@ use Rattle.cm_binary.specs.Codes.{export_desc}
 abbrev pub Production : Type 0 → Type 1
 Production A = Grammar DecodeReason A
 
-abbrev pub Contents : Type 0 → Type 1
-Contents A = Whole DecodeReason A
+abbrev pub WholeProduction : Type 0 → Type 1
+WholeProduction A = Whole DecodeReason A
 
 -- ---- numbers, texts and names
 
@@ -63,30 +65,33 @@ vector g = vec BadNumber g
 unfoldable pub text : Production (List ℕ)
 text = do
   n ← index
-  checked is_utf8 BadUtf8 (raw n)
+  check is_utf8 BadUtf8 (raw n)
 
 -- A text that is a label.
 unfoldable pub label : Production (List ℕ)
 label = do
   n ← index
-  checked is_label BadName (checked is_utf8 BadUtf8 (raw n))
+  check is_label BadName (check is_utf8 BadUtf8 (raw n))
 
 -- The byte 00, and a text that is an extern name.
 unfoldable pub extern_name : Production (List ℕ)
 extern_name = do
-  plain ← fixed (0 ∷ []) UnknownCode
+  plain ← fixed (0x00 ∷ []) UnknownCode
   n ← index
-  checked is_extern_name BadName (checked is_utf8 BadUtf8 (raw n))
+  check is_extern_name BadName (check is_utf8 BadUtf8 (raw n))
 
 -- ---- section 2: core instances
 
+-- An argument of a core instance: its name, the sort of instances, the index
+-- (`core:instantiatearg`).
 unfoldable pub core_arg : Production ArgTree
 core_arg = do
   name ← text
-  sort ← fixed (18 ∷ []) UnknownCode
+  sort ← fixed (0x12 ∷ []) UnknownCode
   instance ← index
   done (record { name = name; instance = instance })
 
+-- A core instance made of a module, with arguments (`core:instance`).
 unfoldable pub core_instance : Production CoreInstanceTree
 core_instance = do
   form ← code core_instance_form
@@ -96,6 +101,7 @@ core_instance = do
 
 -- ---- section 6: aliases
 
+-- An alias behind its sort.
 unfoldable pub alias_of : AliasSort → Production AliasTree
 alias_of alias_sorts.Core = do
   sort ← code core_sort
@@ -105,6 +111,7 @@ alias_of alias_sorts.Core = do
   done (trees.core_instance_export sort instance name)
 alias_of alias_sorts.Other = code (λ b. Err (other_alias_target b))
 
+-- An alias (`alias`).
 unfoldable pub alias : Production AliasTree
 alias = do
   sort ← code alias_sort
@@ -112,31 +119,36 @@ alias = do
 
 -- ---- section 7: types
 
+-- A parameter: its label, its type (`labelvaltype`).
 unfoldable pub param : Production LabeledValType
 param = do
   name ← label
   ty ← code val_type
   done (record { label = name; ty = ty })
 
+-- The result behind its form.
 unfoldable pub func_result_of : ResultForm → Production (Option ValType)
 func_result_of result_forms.One = do
   ty ← code val_type
   done (Some ty)
 func_result_of result_forms.Zero = do
-  nothing ← fixed (0 ∷ []) UnknownCode
+  nothing ← fixed (0x00 ∷ []) UnknownCode
   done None
 
+-- The result of a function, or that it has none (`resultlist`).
 unfoldable pub func_result : Production (Option ValType)
 func_result = do
   form ← code result_form
   func_result_of form
 
+-- A function's type behind its code: the parameters, the result (`functype`).
 unfoldable pub func_type : Production FuncTypeTree
 func_type = do
   params ← vector param
   result ← func_result
   done (record { params = params; result = result })
 
+-- A type definition (`deftype`).
 unfoldable pub def_type : Production DefTypeTree
 def_type = do
   form ← code type_form
@@ -147,7 +159,7 @@ def_type = do
 unfoldable pub type_defs : ℕ → Production (List DefTypeTree)
 type_defs room = do
   n ← index
-  chain (limited (λ left. def_type) TooMany) (λ left t. left - 1) n room
+  chain (from_stock (λ left. def_type) TooMany) (λ left t. left - 1) n room
 
 -- ---- section 8: canonical definitions
 
@@ -156,11 +168,13 @@ unfoldable pub options_of : ℕ → Production (Unit {0})
 options_of zero = done tt
 options_of (suc n) = code (λ b. Err (canon_option b))
 
+-- Canonical options (`opts`).
 unfoldable pub options : Production (Unit {0})
 options = do
   n ← index
   options_of n
 
+-- A canonical definition behind its form and the byte 00.
 unfoldable pub canon_of : CanonForm → Production Canon
 canon_of canon_forms.Lift = do
   func ← index
@@ -172,26 +186,30 @@ canon_of canon_forms.Lower = do
   opts ← options
   done (canons.Lower func)
 
+-- A canonical definition (`canon`).
 unfoldable pub canon : Production Canon
 canon = do
   form ← code canon_form
-  sort ← fixed (0 ∷ []) UnknownCode
+  sort ← fixed (0x00 ∷ []) UnknownCode
   canon_of form
 
 -- ---- sections 10 and 11: imports and exports
 
+-- What is imported (`externdesc`).
 unfoldable pub extern_desc : Production ExternDesc
 extern_desc = do
   form ← code desc_form
   ty ← index
   done (descs.Func ty)
 
+-- An import: its name, what it is (`import`).
 unfoldable pub import_item : Production ImportTree
 import_item = do
   name ← extern_name
   desc ← extern_desc
   done (record { name = name; desc = desc })
 
+-- An export: its name, the sort, the index, whether a description follows (`export`).
 unfoldable pub export_item : Production ExportTree
 export_item = do
   name ← extern_name
@@ -203,22 +221,23 @@ export_item = do
 -- ---- sections, and the file
 
 -- The contents of a section, where so many more types may stand in the file.
-unfoldable pub contents : ℕ → SectionKind → Contents SectionTree
-contents room kinds.Custom = joined text (λ name. made (trees.custom name) remainder)
-contents room kinds.CoreModule = made trees.core_module (begun module_preamble NotAModule)
-contents room kinds.CoreInstances = made trees.core_instances (exactly SizeMismatch (vector core_instance))
-contents room kinds.Aliases = made trees.aliases (exactly SizeMismatch (vector alias))
-contents room kinds.Types = made trees.types (exactly SizeMismatch (type_defs room))
-contents room kinds.Canons = made trees.canons (exactly SizeMismatch (vector canon))
-contents room kinds.Imports = made trees.imports (exactly SizeMismatch (vector import_item))
-contents room kinds.Exports = made trees.exports (exactly SizeMismatch (vector export_item))
+unfoldable pub contents : ℕ → SectionKind → WholeProduction SectionTree
+contents room kinds.Custom = join text (λ name. build (trees.custom name) remainder)
+contents room kinds.CoreModule = build trees.core_module (begins_with MODULE_PREAMBLE NotAModule)
+contents room kinds.CoreInstances =
+    build trees.core_instances (exactly SizeMismatch (vector core_instance))
+contents room kinds.Aliases = build trees.aliases (exactly SizeMismatch (vector alias))
+contents room kinds.Types = build trees.types (exactly SizeMismatch (type_defs room))
+contents room kinds.Canons = build trees.canons (exactly SizeMismatch (vector canon))
+contents room kinds.Imports = build trees.imports (exactly SizeMismatch (vector import_item))
+contents room kinds.Exports = build trees.exports (exactly SizeMismatch (vector export_item))
 
 -- The id of the section, its size in bytes, and contents of that size.
 unfoldable pub section : ℕ → Production SectionTree
 section room = do
   kind ← code section_kind
   size ← index
-  sized SizeMismatch size (contents room kind)
+  of_size SizeMismatch size (contents room kind)
 
 -- How many more types may stand in the file behind the section.
 abbrev pub room_after : ℕ → SectionTree → ℕ
@@ -226,16 +245,16 @@ room_after room (trees.types ts) = room - length ts
 room_after room s = room
 
 -- The sections of a file, in any order.
-unfoldable pub sections : ℕ → Contents (List SectionTree)
+unfoldable pub sections : ℕ → WholeProduction (List SectionTree)
 sections room = to_end section room_after room
 
 -- The preamble, and sections to the end.
-unfoldable pub component : Contents (List SectionTree)
-component = joined (fixed component_preamble BadPreamble) (λ preamble. sections type_limit)
+unfoldable pub component : WholeProduction (List SectionTree)
+component = join (fixed COMPONENT_PREAMBLE BadPreamble) (λ preamble. sections MAX_TYPES)
 
 -- A file, of at most so many bytes.
-unfoldable pub file : Contents (List SectionTree)
-file = at_most byte_limit TooLong component
+unfoldable pub file : WholeProduction (List SectionTree)
+file = at_most MAX_FILE_BYTES TooLong component
 
 -- The bytes are a spelling of the component with these sections.
 abbrev pub Spells : List SectionTree → List ℕ → Type 0
@@ -243,4 +262,5 @@ Spells c bytes = file.Spells c bytes
 
 -- The bytes are no component file, and this is their first fault, met reading byte after byte.
 abbrev pub FirstFault : List ℕ → ℕ → DecodeReason → Type 0
-FirstFault bytes at reason = (left : ℕ) × (at + left ≡ length bytes) × file.Faulty (end.Cut Truncated) bytes (flaw left reason)
+FirstFault bytes at reason = (left : ℕ) × (at + left ≡ length bytes)
+    × file.Faulty (end.Cut Truncated) bytes (flaw left reason)

@@ -2,4 +2,3 @@ pub mod Reasons
 pub mod Codes
 pub mod File
 pub mod Answers
-pub mod Nonempty

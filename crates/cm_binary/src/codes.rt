@@ -12,7 +12,7 @@ use cm_grammar::Code;
 use cm_types::ValType;
 
 /// What a section holds.
-#[derive(Clone, Copy, Debug, PartialEq, Eq)]
+#[derive(Clone, Copy)]
 pub enum SectionKind {
     Custom,
     CoreModule,
@@ -25,52 +25,52 @@ pub enum SectionKind {
 }
 
 /// How a core instance is made.
-#[derive(Clone, Copy, Debug, PartialEq, Eq)]
+#[derive(Clone, Copy)]
 pub enum CoreInstanceForm {
     Instantiate,
 }
 
 /// What is aliased.
-#[derive(Clone, Copy, Debug, PartialEq, Eq)]
+#[derive(Clone, Copy)]
 pub enum AliasSort {
     Core,
     Other,
 }
 
 /// Where an alias of a core definition comes from.
-#[derive(Clone, Copy, Debug, PartialEq, Eq)]
+#[derive(Clone, Copy)]
 pub enum AliasTarget {
     CoreInstanceExport,
 }
 
 /// Which type is defined.
-#[derive(Clone, Copy, Debug, PartialEq, Eq)]
+#[derive(Clone, Copy)]
 pub enum TypeForm {
     Func,
 }
 
 /// How many results a function has.
-#[derive(Clone, Copy, Debug, PartialEq, Eq)]
+#[derive(Clone, Copy)]
 pub enum ResultForm {
     One,
     Zero,
 }
 
 /// Which canonical definition stands there.
-#[derive(Clone, Copy, Debug, PartialEq, Eq)]
+#[derive(Clone, Copy)]
 pub enum CanonForm {
     Lift,
     Lower,
 }
 
 /// What an import describes.
-#[derive(Clone, Copy, Debug, PartialEq, Eq)]
+#[derive(Clone, Copy)]
 pub enum DescForm {
     Func,
 }
 
 /// That an export has no description.
-#[derive(Clone, Copy, Debug, PartialEq, Eq)]
+#[derive(Clone, Copy)]
 pub enum NoDescription {
     Absent,
 }
@@ -80,18 +80,18 @@ impl Code<DecodeReason> for SectionKind {
 
     fn from_byte(byte: u8) -> Result<SectionKind, DecodeReason> {
         match byte {
-            0 => Ok(SectionKind::Custom),
-            1 => Ok(SectionKind::CoreModule),
-            2 => Ok(SectionKind::CoreInstances),
-            3 => Err(DecodeReason::Unsupported(Feature::CoreTypes)),
-            4 => Err(DecodeReason::Unsupported(Feature::NestedComponents)),
-            5 => Err(DecodeReason::Unsupported(Feature::Instances)),
-            6 => Ok(SectionKind::Aliases),
-            7 => Ok(SectionKind::Types),
-            8 => Ok(SectionKind::Canons),
-            9 => Err(DecodeReason::Unsupported(Feature::Start)),
-            10 => Ok(SectionKind::Imports),
-            11 => Ok(SectionKind::Exports),
+            0x00 => Ok(SectionKind::Custom),
+            0x01 => Ok(SectionKind::CoreModule),
+            0x02 => Ok(SectionKind::CoreInstances),
+            0x03 => Err(DecodeReason::Unsupported(Feature::CoreTypes)),
+            0x04 => Err(DecodeReason::Unsupported(Feature::NestedComponents)),
+            0x05 => Err(DecodeReason::Unsupported(Feature::Instances)),
+            0x06 => Ok(SectionKind::Aliases),
+            0x07 => Ok(SectionKind::Types),
+            0x08 => Ok(SectionKind::Canons),
+            0x09 => Err(DecodeReason::Unsupported(Feature::Start)),
+            0x0a => Ok(SectionKind::Imports),
+            0x0b => Ok(SectionKind::Exports),
             _ => Err(DecodeReason::UnknownCode),
         }
     }
@@ -102,8 +102,8 @@ impl Code<DecodeReason> for CoreInstanceForm {
 
     fn from_byte(byte: u8) -> Result<CoreInstanceForm, DecodeReason> {
         match byte {
-            0 => Ok(CoreInstanceForm::Instantiate),
-            1 => Err(DecodeReason::Unsupported(Feature::CoreInstanceOfExports)),
+            0x00 => Ok(CoreInstanceForm::Instantiate),
+            0x01 => Err(DecodeReason::Unsupported(Feature::CoreInstanceOfExports)),
             _ => Err(DecodeReason::UnknownCode),
         }
     }
@@ -126,9 +126,9 @@ impl Code<DecodeReason> for AliasSort {
 
     fn from_byte(byte: u8) -> Result<AliasSort, DecodeReason> {
         match byte {
-            0 => Ok(AliasSort::Core),
-            1 | 3 | 5 => Ok(AliasSort::Other),
-            2 | 4 => Err(DecodeReason::Unsupported(Feature::Sort)),
+            0x00 => Ok(AliasSort::Core),
+            0x01 | 0x03 | 0x05 => Ok(AliasSort::Other),
+            0x02 | 0x04 => Err(DecodeReason::Unsupported(Feature::Sort)),
             _ => Err(DecodeReason::UnknownCode),
         }
     }
@@ -139,8 +139,8 @@ impl Code<DecodeReason> for AliasTarget {
 
     fn from_byte(byte: u8) -> Result<AliasTarget, DecodeReason> {
         match byte {
-            1 => Ok(AliasTarget::CoreInstanceExport),
-            0 | 2 => Err(DecodeReason::Unsupported(Feature::AliasTarget)),
+            0x01 => Ok(AliasTarget::CoreInstanceExport),
+            0x00 | 0x02 => Err(DecodeReason::Unsupported(Feature::AliasTarget)),
             _ => Err(DecodeReason::UnknownCode),
         }
     }
@@ -178,8 +178,8 @@ impl Code<DecodeReason> for ResultForm {
 
     fn from_byte(byte: u8) -> Result<ResultForm, DecodeReason> {
         match byte {
-            0 => Ok(ResultForm::One),
-            1 => Ok(ResultForm::Zero),
+            0x00 => Ok(ResultForm::One),
+            0x01 => Ok(ResultForm::Zero),
             _ => Err(DecodeReason::UnknownCode),
         }
     }
@@ -190,9 +190,9 @@ impl Code<DecodeReason> for CanonForm {
 
     fn from_byte(byte: u8) -> Result<CanonForm, DecodeReason> {
         match byte {
-            0 => Ok(CanonForm::Lift),
-            1 => Ok(CanonForm::Lower),
-            2..=4 => Err(DecodeReason::Unsupported(Feature::ResourceCanon)),
+            0x00 => Ok(CanonForm::Lift),
+            0x01 => Ok(CanonForm::Lower),
+            0x02..=0x04 => Err(DecodeReason::Unsupported(Feature::ResourceCanon)),
             _ => Err(DecodeReason::UnknownCode),
         }
     }
@@ -203,8 +203,8 @@ impl Code<DecodeReason> for DescForm {
 
     fn from_byte(byte: u8) -> Result<DescForm, DecodeReason> {
         match byte {
-            1 => Ok(DescForm::Func),
-            0..=5 => Err(DecodeReason::Unsupported(Feature::Description)),
+            0x01 => Ok(DescForm::Func),
+            0x00..=0x05 => Err(DecodeReason::Unsupported(Feature::Description)),
             _ => Err(DecodeReason::UnknownCode),
         }
     }
@@ -215,8 +215,8 @@ impl Code<DecodeReason> for Sort {
 
     fn from_byte(byte: u8) -> Result<Sort, DecodeReason> {
         match byte {
-            1 => Ok(Sort::Func),
-            0..=5 => Err(DecodeReason::Unsupported(Feature::Sort)),
+            0x01 => Ok(Sort::Func),
+            0x00..=0x05 => Err(DecodeReason::Unsupported(Feature::Sort)),
             _ => Err(DecodeReason::UnknownCode),
         }
     }
@@ -227,8 +227,8 @@ impl Code<DecodeReason> for NoDescription {
 
     fn from_byte(byte: u8) -> Result<NoDescription, DecodeReason> {
         match byte {
-            0 => Ok(NoDescription::Absent),
-            1 => Err(DecodeReason::Unsupported(Feature::ExportDescription)),
+            0x00 => Ok(NoDescription::Absent),
+            0x01 => Err(DecodeReason::Unsupported(Feature::ExportDescription)),
             _ => Err(DecodeReason::UnknownCode),
         }
     }
@@ -239,7 +239,7 @@ pub fn other_alias_target(byte: u8) -> DecodeReason
     ensures { result ≡ other_alias_target byte }
 {
     match byte {
-        0..=2 => DecodeReason::Unsupported(Feature::AliasTarget),
+        0x00..=0x02 => DecodeReason::Unsupported(Feature::AliasTarget),
         _ => DecodeReason::UnknownCode,
     }
 }
@@ -249,7 +249,7 @@ pub fn canon_option(byte: u8) -> DecodeReason
     ensures { result ≡ canon_option byte }
 {
     match byte {
-        0..=5 => DecodeReason::Unsupported(Feature::CanonicalOption),
+        0x00..=0x05 => DecodeReason::Unsupported(Feature::CanonicalOption),
         _ => DecodeReason::UnknownCode,
     }
 }

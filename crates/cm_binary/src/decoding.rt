@@ -12,43 +12,39 @@ ghost use Rattle.cm_binary.specs.File.{component, file, Spells, FirstFault};
 ghost use Rattle.cm_binary.specs.Answers.{Accepts, Refuses, Answers};
 
 use crate::fault::{DecodeFault, DecodeReason};
-use crate::sections::sections_of;
-use cm_component::{Component, Section};
+use crate::sections::read_sections;
+use cm_component::{COMPONENT_PREAMBLE, Component, MAX_FILE_BYTES, Section};
 use cm_grammar::{Cursor, End, Fault, ReadError};
 use std::alloc::Global;
-
-/// The first eight bytes of a component.
-const COMPONENT_PREAMBLE: [u8; 8] = [0x00, 0x61, 0x73, 0x6d, 0x0d, 0x00, 0x01, 0x00];
-
-/// The most bytes of a file, a limit of this project's own.
-const BYTE_LIMIT: usize = 16_777_216;
 
 /// Reads a component file (Binary.md), whose bytes these are, all of them.
 ///
 /// Of the standard's forms these are carried: custom sections, core modules, core instances made of
 /// modules, aliases of core functions out of core instances, function types over `u32`, lift and
 /// lower without options, imports and exports of functions. At every other form of the standard the
-/// fault is `Unsupported`, at the byte that names it. [`DecodeReason`] says at which byte each other
-/// fault is.
+/// fault is `Unsupported`, at the byte that names it. [`DecodeReason`] says at which byte each
+/// other fault is.
 pub fn decode(alloc: Global, bytes: &[u8]) -> Result<Component, DecodeFault>
     // What is read is spelled so.
     ensures found { IfOk result (λ c. Spells c bytes.now) }
     // What is spelled so is read, unless memory runs out.
     ensures only { (c : List SectionTree) → Spells c bytes.now → Accepts result c }
     // A fault is the first one, at its place.
-    ensures fault { IfErr result (λ f. (f.reason ≡ reasons.Memory) ⊎ FirstFault bytes.now f.at f.reason) }
+    ensures fault { IfErr result
+        (λ f. (f.reason ≡ reasons.Memory) ⊎ FirstFault bytes.now f.at f.reason) }
     // The first fault is given, unless memory runs out.
-    ensures first { (at : ℕ) (reason : DecodeReason) → FirstFault bytes.now at reason → Refuses result at reason }
+    ensures first { (at : ℕ) (reason : DecodeReason) → FirstFault bytes.now at reason
+        → Refuses result at reason }
 {
-    component_of(alloc, bytes)
+    read_component(alloc, bytes)
 }
 
 /// The component that the bytes spell.
-fn component_of(alloc: Global, bytes: &[u8]) -> Result<Component, DecodeFault>
+fn read_component(alloc: Global, bytes: &[u8]) -> Result<Component, DecodeFault>
     ensures { Answers bytes.now result (file.reads (end.Cut reasons.Truncated) bytes.now) }
 {
-    match file_of(alloc, bytes) {
-        Ok(sections) => Ok(component_within(sections)),
+    match read_file(alloc, bytes) {
+        Ok(sections) => Ok(component_within_limits(sections)),
         Err(ReadError::Fault(fault)) => Err(DecodeFault {
             at: bytes.len() - fault.left,
             reason: fault.reason,
@@ -61,7 +57,7 @@ fn component_of(alloc: Global, bytes: &[u8]) -> Result<Component, DecodeFault>
 }
 
 /// The component of sections that keep the limits.
-fn component_within(sections: Vec<Section>) -> Component
+fn component_within_limits(sections: Vec<Section>) -> Component
     requires { limit_fault (map section_tree sections.items) ≡ None }
     ensures { result ≡ map section_tree sections.items }
 {
@@ -73,15 +69,16 @@ fn component_within(sections: Vec<Section>) -> Component
 
 /// The sections of a file. A fault is inside it.
 #[tactic(auto, unfolding(crate::specs::File::file))]
-fn file_of(alloc: Global, bytes: &[u8]) -> Result<Vec<Section>, ReadError<DecodeReason>>
-    ensures read { Gives (λ v. map section_tree v.items) result (file.reads (end.Cut reasons.Truncated) bytes.now) }
+fn read_file(alloc: Global, bytes: &[u8]) -> Result<Vec<Section>, ReadError<DecodeReason>>
+    ensures read { Gives (λ v. map section_tree v.items) result
+        (file.reads (end.Cut reasons.Truncated) bytes.now) }
     ensures inside { IsInside (length bytes.now) result }
 {
-    if bytes.len() <= BYTE_LIMIT {
-        return unlimited_file_of(alloc, bytes, End::Cut(DecodeReason::Truncated));
+    if bytes.len() <= MAX_FILE_BYTES {
+        return read_unlimited_file(alloc, bytes, End::Cut(DecodeReason::Truncated));
     }
-    let (front, behind) = bytes.split_at(BYTE_LIMIT);
-    match unlimited_file_of(alloc, front, End::Cut(DecodeReason::TooLong)) {
+    let (front, behind) = bytes.split_at(MAX_FILE_BYTES);
+    match read_unlimited_file(alloc, front, End::Cut(DecodeReason::TooLong)) {
         Ok(_) => Err(ReadError::Fault(Fault {
             left: behind.len(),
             reason: DecodeReason::TooLong,
@@ -95,7 +92,7 @@ fn file_of(alloc: Global, bytes: &[u8]) -> Result<Vec<Section>, ReadError<Decode
 }
 
 /// The sections of bytes that end so, however many bytes they are. A fault is inside them.
-fn unlimited_file_of(
+fn read_unlimited_file(
     alloc: Global,
     bytes: &[u8],
     end: End<DecodeReason>,
@@ -103,12 +100,12 @@ fn unlimited_file_of(
     ensures read { Gives (λ v. map section_tree v.items) result (component.reads end bytes.now) }
     ensures inside { IsInside (length bytes.now) result }
 {
-    preamble_and_sections_of(alloc, bytes, end)
+    read_preamble_and_sections(alloc, bytes, end)
 }
 
 /// The sections behind the preamble.
 #[tactic(auto, unfolding(crate::specs::File::component))]
-fn preamble_and_sections_of(
+fn read_preamble_and_sections(
     alloc: Global,
     bytes: &[u8],
     end: End<DecodeReason>,
@@ -117,5 +114,5 @@ fn preamble_and_sections_of(
 {
     let mut cursor = Cursor::new(bytes, end);
     cursor.fixed(&COMPONENT_PREAMBLE, DecodeReason::BadPreamble)?;
-    sections_of(alloc, cursor.rest, cursor.end)
+    read_sections(alloc, cursor.rest, cursor.end)
 }

@@ -1,21 +1,48 @@
 //! Imports and exports.
 
-ghost use Rattle.cm_grammar.specs.Reading.{Reads};
-ghost use Rattle.std.specs.Prelude.{◌≡◌, Ok, map};
+ghost use Rattle.std.specs.Prelude.{◌≡◌, ◌++◌, Ok, map, OnOk};
 ghost use Rattle.cm_grammar.specs.Faults.{Gives, Fails};
-ghost use Rattle.cm_component.specs.Trees.{import_tree, export_tree};
-ghost use Rattle.cm_binary.specs.File.{vector, extern_desc, import_item, export_item};
+ghost use Rattle.cm_grammar.specs.Reading.{Reads};
+ghost use Rattle.cm_component.specs.Trees.{ImportTree, import_tree, ExportTree, export_tree};
+ghost use Rattle.cm_component.specs.Spelling.{desc_spelling, import_spelling, export_spelling};
+ghost use Rattle.cm_binary.specs.File.{extern_desc, import_item, export_item};
 
 use crate::codes::{DescForm, NoDescription};
 use crate::fault::DecodeReason;
-use crate::texts::extern_name_of;
-use cm_component::{Export, ExternDesc, Import};
-use cm_grammar::{Cursor, Item, ReadError, read_items};
-use std::alloc::Global;
+use crate::texts::{read_extern_name, write_extern_name};
+use cm_component::{Export, ExternDesc, Import, Sort};
+use cm_grammar::{Cursor, Form, ReadError};
+use cm_leb::write_u32;
+use std::alloc::{AllocError, Global};
+
+impl Form<DecodeReason> for Import {
+    ghost Tree = { ImportTree };
+
+    ghost tree = { import_tree };
+
+    ghost grammar = { import_item };
+
+    ghost spelling = { import_spelling };
+
+    #[tactic(auto, unfolding(crate::specs::File::import_item))]
+    fn read(
+        alloc: Global,
+        bytes: &mut Cursor<'_, DecodeReason>,
+    ) -> Result<Self, ReadError<DecodeReason>> {
+        let name = read_extern_name(alloc, bytes)?;
+        let desc = read_desc(bytes)?;
+        Ok(Import { name, desc })
+    }
+
+    fn write(&self, out: &mut Vec<u8>) -> Result<(), AllocError> {
+        write_extern_name(out, &self.name)?;
+        write_desc(out, self.desc)
+    }
+}
 
 /// Reads the type of an import.
 #[tactic(auto, unfolding(crate::specs::File::extern_desc))]
-fn desc_of(bytes: &mut Cursor<'_, DecodeReason>) -> Result<ExternDesc, ReadError<DecodeReason>>
+fn read_desc(bytes: &mut Cursor<'_, DecodeReason>) -> Result<ExternDesc, ReadError<DecodeReason>>
     ensures read { Reads extern_desc (λ x. x) bytes.old bytes.new result }
     ensures end { bytes.new.end ≡ bytes.old.end }
 {
@@ -23,82 +50,45 @@ fn desc_of(bytes: &mut Cursor<'_, DecodeReason>) -> Result<ExternDesc, ReadError
     Ok(ExternDesc::Func(bytes.number(DecodeReason::BadNumber)?))
 }
 
-/// Reads an import.
-#[tactic(auto, unfolding(crate::specs::File::import_item))]
-fn import_from(
-    alloc: Global,
-    bytes: &mut Cursor<'_, DecodeReason>,
-) -> Result<Import, ReadError<DecodeReason>>
-    ensures read { Reads import_item import_tree bytes.old bytes.new result }
-    ensures end { bytes.new.end ≡ bytes.old.end }
+/// Appends the type of an import.
+fn write_desc(out: &mut Vec<u8>, desc: ExternDesc) -> Result<(), AllocError>
+    ensures { OnOk result (out.new.items ≡ out.old.items ++ desc_spelling desc) }
 {
-    let name = extern_name_of(alloc, bytes)?;
-    let desc = desc_of(bytes)?;
-    Ok(Import { name, desc })
-}
-
-impl Item<DecodeReason> for Import {
-    ghost is_read = { λ e bytes x rest. import_item.reads e bytes ≡ Ok (import_tree x, rest) };
-
-    ghost fails = { λ e bytes err. Fails err (import_item.reads e bytes) };
-
-    fn read(
-        alloc: Global,
-        cursor: &mut Cursor<'_, DecodeReason>,
-    ) -> Result<Self, ReadError<DecodeReason>> {
-        import_from(alloc, cursor)
+    match desc {
+        ExternDesc::Func(ty) => {
+            out.push(0x01)?;
+            write_u32(out, ty)
+        }
     }
 }
 
-/// Reads the contents of a section of imports.
-pub(crate) fn imports_of(
-    alloc: Global,
-    bytes: &mut Cursor<'_, DecodeReason>,
-) -> Result<Vec<Import>, ReadError<DecodeReason>>
-    ensures read { Reads (vector import_item) (λ v. map import_tree v.items) bytes.old bytes.new result }
-    ensures end { bytes.new.end ≡ bytes.old.end }
-{
-    let count = bytes.number(DecodeReason::BadNumber)?;
-    read_items(alloc, bytes, count)
-}
+impl Form<DecodeReason> for Export {
+    ghost Tree = { ExportTree };
 
-/// Reads an export.
-#[tactic(auto, unfolding(crate::specs::File::export_item))]
-fn export_from(
-    alloc: Global,
-    bytes: &mut Cursor<'_, DecodeReason>,
-) -> Result<Export, ReadError<DecodeReason>>
-    ensures read { Reads export_item export_tree bytes.old bytes.new result }
-    ensures end { bytes.new.end ≡ bytes.old.end }
-{
-    let name = extern_name_of(alloc, bytes)?;
-    let sort = bytes.code()?;
-    let index = bytes.number(DecodeReason::BadNumber)?;
-    let NoDescription::Absent = bytes.code()?;
-    Ok(Export { name, sort, index })
-}
+    ghost tree = { export_tree };
 
-impl Item<DecodeReason> for Export {
-    ghost is_read = { λ e bytes x rest. export_item.reads e bytes ≡ Ok (export_tree x, rest) };
+    ghost grammar = { export_item };
 
-    ghost fails = { λ e bytes err. Fails err (export_item.reads e bytes) };
+    ghost spelling = { export_spelling };
 
+    #[tactic(auto, unfolding(crate::specs::File::export_item))]
     fn read(
         alloc: Global,
-        cursor: &mut Cursor<'_, DecodeReason>,
+        bytes: &mut Cursor<'_, DecodeReason>,
     ) -> Result<Self, ReadError<DecodeReason>> {
-        export_from(alloc, cursor)
+        let name = read_extern_name(alloc, bytes)?;
+        let sort = bytes.code()?;
+        let index = bytes.number(DecodeReason::BadNumber)?;
+        let NoDescription::Absent = bytes.code()?;
+        Ok(Export { name, sort, index })
     }
-}
 
-/// Reads the contents of a section of exports.
-pub(crate) fn exports_of(
-    alloc: Global,
-    bytes: &mut Cursor<'_, DecodeReason>,
-) -> Result<Vec<Export>, ReadError<DecodeReason>>
-    ensures read { Reads (vector export_item) (λ v. map export_tree v.items) bytes.old bytes.new result }
-    ensures end { bytes.new.end ≡ bytes.old.end }
-{
-    let count = bytes.number(DecodeReason::BadNumber)?;
-    read_items(alloc, bytes, count)
+    fn write(&self, out: &mut Vec<u8>) -> Result<(), AllocError> {
+        let Sort::Func = self.sort;
+        write_extern_name(out, &self.name)?;
+        out.push(0x01)?;
+        write_u32(out, self.index)?;
+        out.push(0x00)?;
+        Ok(())
+    }
 }

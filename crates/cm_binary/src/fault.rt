@@ -1,49 +1,39 @@
 //! Why bytes are no component file.
 
-use thiserror::Error;
+use std::error::Error;
+use std::fmt;
 
-/// Why bytes are refused, by the number of the reason. At which byte the fault then is: [`DecodeFault`].
-#[derive(Clone, Copy, Debug, PartialEq, Eq, Error)]
+/// Why bytes are refused, by the number of the reason. At which byte the fault then is:
+/// [`DecodeFault`].
+#[derive(Clone, Copy, Debug, PartialEq, Eq)]
 pub enum DecodeReason {
     /// The file does not begin with the preamble of a component: the first differing byte.
-    #[error("no preamble of a component")]
     BadPreamble,
     /// The input ends before the file does: the input's length.
-    #[error("the input ends too early")]
     Truncated,
     /// A number that takes too many bytes or is too large: its first byte.
-    #[error("a number that is too long or too large")]
     BadNumber,
     /// The contents of a section are not as long as it says: the first byte that they leave, or the
     /// section's end where they want more.
-    #[error("a section whose contents are of another length")]
     SizeMismatch,
     /// A byte without a meaning at its place: that byte.
-    #[error("an unknown code")]
     UnknownCode,
     /// A form of the standard that is not carried: the byte that names it.
-    #[error("not supported: {0}")]
     Unsupported(Feature),
     /// A text that is not UTF-8: its first byte.
-    #[error("a text that is not UTF-8")]
     BadUtf8,
     /// A text that is no name where one is wanted: its first byte.
-    #[error("a text that is no name")]
     BadName,
     /// A core module without its preamble: its first byte.
-    #[error("no core module")]
     NotAModule,
-    /// More than 4,096 types: the first byte of the first one over, also where that byte is missing.
-    #[error("more than 4096 types")]
+    /// More than 4,096 types: the first byte of the first one over, also where that byte is
+    /// missing.
     TooMany,
     /// More than 16,777,216 bytes: 16,777,216.
-    #[error("more than 16777216 bytes")]
     TooLong,
     /// The reader failed: the bytes read before.
-    #[error("the reader failed")]
     Read,
     /// There was no memory. Nothing is said of the place.
-    #[error("no memory")]
     Memory,
 }
 
@@ -73,45 +63,98 @@ impl DecodeReason {
     }
 }
 
+impl DecodeReason {
+    /// What is wrong, in a few words.
+    fn text(self) -> &'static str {
+        match self {
+            DecodeReason::BadPreamble => "no preamble of a component",
+            DecodeReason::Truncated => "the input ends too early",
+            DecodeReason::BadNumber => "a number that is too long or too large",
+            DecodeReason::SizeMismatch => "a section whose contents are of another length",
+            DecodeReason::UnknownCode => "an unknown code",
+            DecodeReason::Unsupported(_) => "not supported",
+            DecodeReason::BadUtf8 => "a text that is not UTF-8",
+            DecodeReason::BadName => "a text that is no name",
+            DecodeReason::NotAModule => "no core module",
+            DecodeReason::TooMany => "more than 4096 types",
+            DecodeReason::TooLong => "more than 16777216 bytes",
+            DecodeReason::Read => "the reader failed",
+            DecodeReason::Memory => "no memory",
+        }
+    }
+}
+
+impl fmt::Display for DecodeReason {
+    fn fmt<W: fmt::Write>(&self, f: &mut fmt::Formatter<W>) -> fmt::Result {
+        match self {
+            DecodeReason::Unsupported(feature) => write!(f, "{}: {feature}", self.text()),
+            reason => f.write_str(reason.text()),
+        }
+    }
+}
+
+impl Error for DecodeReason {}
+
 /// A form of the standard that is not carried.
-#[derive(Clone, Copy, Debug, PartialEq, Eq, Error)]
+#[derive(Clone, Copy, Debug, PartialEq, Eq)]
 pub enum Feature {
-    #[error("core type sections")]
     CoreTypes,
-    #[error("components in components")]
     NestedComponents,
-    #[error("instance sections")]
     Instances,
-    #[error("start sections")]
     Start,
-    #[error("core instances made of exports")]
     CoreInstanceOfExports,
-    #[error("a core sort other than functions")]
     CoreSort,
-    #[error("a sort other than functions")]
     Sort,
-    #[error("an alias of another target")]
     AliasTarget,
-    #[error("types other than those of functions")]
     TypeDefinition,
-    #[error("value types other than u32")]
     ValueType,
-    #[error("type indices as value types")]
     ValueTypeIndex,
-    #[error("canonical definitions of resources")]
     ResourceCanon,
-    #[error("canonical options")]
     CanonicalOption,
-    #[error("a description other than that of a function")]
     Description,
-    #[error("an export with a description")]
     ExportDescription,
 }
 
+impl Feature {
+    /// What is not carried, in a few words.
+    fn text(self) -> &'static str {
+        match self {
+            Feature::CoreTypes => "core type sections",
+            Feature::NestedComponents => "components in components",
+            Feature::Instances => "instance sections",
+            Feature::Start => "start sections",
+            Feature::CoreInstanceOfExports => "core instances made of exports",
+            Feature::CoreSort => "a core sort other than functions",
+            Feature::Sort => "a sort other than functions",
+            Feature::AliasTarget => "an alias of another target",
+            Feature::TypeDefinition => "types other than those of functions",
+            Feature::ValueType => "value types other than u32",
+            Feature::ValueTypeIndex => "type indices as value types",
+            Feature::ResourceCanon => "canonical definitions of resources",
+            Feature::CanonicalOption => "canonical options",
+            Feature::Description => "a description other than that of a function",
+            Feature::ExportDescription => "an export with a description",
+        }
+    }
+}
+
+impl fmt::Display for Feature {
+    fn fmt<W: fmt::Write>(&self, f: &mut fmt::Formatter<W>) -> fmt::Result {
+        f.write_str(self.text())
+    }
+}
+
 /// Why bytes are no component file, and the place of the fault, counted in bytes from 0.
-#[derive(Clone, Copy, Debug, PartialEq, Eq, Error)]
-#[error("{reason} at {at}")]
+#[derive(Clone, Copy, Debug, PartialEq, Eq)]
 pub struct DecodeFault {
     pub at: usize,
     pub reason: DecodeReason,
 }
+
+impl fmt::Display for DecodeFault {
+    fn fmt<W: fmt::Write>(&self, f: &mut fmt::Formatter<W>) -> fmt::Result {
+        write!(f, "{} at {}", self.reason, self.at)
+    }
+}
+
+impl Error for DecodeFault {}

@@ -1,104 +1,121 @@
 //! Core instances and aliases.
 
-ghost use Rattle.cm_grammar.specs.Reading.{Reads};
 ghost use Rattle.std.specs.Prelude.{◌≡◌, Ok, Err, map};
 ghost use Rattle.cm_grammar.specs.Faults.{Gives, Fails};
 ghost use Rattle.cm_grammar.specs.Grammar.{code};
-ghost use Rattle.cm_component.specs.Trees.{arg_tree, core_instance_tree, alias_tree};
+ghost use Rattle.cm_grammar.specs.Reading.{Reads};
+ghost use Rattle.cm_component.specs.Trees.{ArgTree, arg_tree, CoreInstanceTree, core_instance_tree};
+ghost use Rattle.cm_component.specs.Trees.{AliasTree, alias_tree};
+ghost use Rattle.cm_component.specs.Spelling.{core_arg_spelling, core_instance_spelling};
+ghost use Rattle.cm_component.specs.Spelling.{alias_spelling};
 ghost use Rattle.cm_binary.specs.Codes.{other_alias_target};
 ghost use Rattle.cm_binary.specs.declared.codes.AliasSort.TheVariants as alias_sorts;
 ghost use Rattle.cm_binary.specs.File.{vector, core_arg, core_instance, alias_of, alias};
 
 use crate::codes::{AliasSort, AliasTarget, CoreInstanceForm, other_alias_target};
 use crate::fault::DecodeReason;
-use crate::texts::text_of;
-use cm_component::{Alias, CoreInstance, CoreInstantiationArg};
-use cm_grammar::{Cursor, Item, ReadError, read_items};
-use std::alloc::Global;
+use crate::texts::read_text;
+use cm_component::{Alias, CoreInstance, CoreInstantiationArg, CoreSort};
+use cm_grammar::{Cursor, Form, ReadError, read_vec, write_blob, write_vec};
+use cm_leb::write_u32;
+use std::alloc::{AllocError, Global};
 
-/// Reads a core instance that a module is given.
-#[tactic(auto, unfolding(crate::specs::File::core_arg))]
-fn core_arg_of(
-    alloc: Global,
-    bytes: &mut Cursor<'_, DecodeReason>,
-) -> Result<CoreInstantiationArg, ReadError<DecodeReason>>
-    ensures read { Reads core_arg arg_tree bytes.old bytes.new result }
-    ensures end { bytes.new.end ≡ bytes.old.end }
-{
-    let name = text_of(alloc, bytes)?;
-    bytes.fixed(&[0x12], DecodeReason::UnknownCode)?;
-    let instance = bytes.number(DecodeReason::BadNumber)?;
-    Ok(CoreInstantiationArg { name, instance })
-}
+impl Form<DecodeReason> for CoreInstantiationArg {
+    ghost Tree = { ArgTree };
 
-impl Item<DecodeReason> for CoreInstantiationArg {
-    ghost is_read = { λ e bytes x rest. core_arg.reads e bytes ≡ Ok (arg_tree x, rest) };
+    ghost tree = { arg_tree };
 
-    ghost fails = { λ e bytes err. Fails err (core_arg.reads e bytes) };
+    ghost grammar = { core_arg };
 
+    ghost spelling = { core_arg_spelling };
+
+    #[tactic(auto, unfolding(crate::specs::File::core_arg))]
     fn read(
         alloc: Global,
-        cursor: &mut Cursor<'_, DecodeReason>,
+        bytes: &mut Cursor<'_, DecodeReason>,
     ) -> Result<Self, ReadError<DecodeReason>> {
-        core_arg_of(alloc, cursor)
+        let name = read_text(alloc, bytes)?;
+        bytes.fixed(&[0x12], DecodeReason::UnknownCode)?;
+        let instance = bytes.number(DecodeReason::BadNumber)?;
+        Ok(CoreInstantiationArg { name, instance })
+    }
+
+    fn write(&self, out: &mut Vec<u8>) -> Result<(), AllocError> {
+        write_blob(out, self.name.as_bytes())?;
+        out.push(0x12)?;
+        write_u32(out, self.instance)
     }
 }
 
-/// Reads what a module is given.
-fn core_args_of(
-    alloc: Global,
-    bytes: &mut Cursor<'_, DecodeReason>,
-) -> Result<Vec<CoreInstantiationArg>, ReadError<DecodeReason>>
-    ensures read { Reads (vector core_arg) (λ v. map arg_tree v.items) bytes.old bytes.new result }
-    ensures end { bytes.new.end ≡ bytes.old.end }
-{
-    let count = bytes.number(DecodeReason::BadNumber)?;
-    read_items(alloc, bytes, count)
-}
+impl Form<DecodeReason> for CoreInstance {
+    ghost Tree = { CoreInstanceTree };
 
-/// Reads a core instance.
-#[tactic(auto, unfolding(crate::specs::File::core_instance))]
-fn core_instance_of(
-    alloc: Global,
-    bytes: &mut Cursor<'_, DecodeReason>,
-) -> Result<CoreInstance, ReadError<DecodeReason>>
-    ensures read { Reads core_instance core_instance_tree bytes.old bytes.new result }
-    ensures end { bytes.new.end ≡ bytes.old.end }
-{
-    let CoreInstanceForm::Instantiate = bytes.code()?;
-    let module = bytes.number(DecodeReason::BadNumber)?;
-    let args = core_args_of(alloc, bytes)?;
-    Ok(CoreInstance::Instantiate { module, args })
-}
+    ghost tree = { core_instance_tree };
 
-impl Item<DecodeReason> for CoreInstance {
-    ghost is_read = { λ e bytes x rest. core_instance.reads e bytes ≡ Ok (core_instance_tree x, rest) };
+    ghost grammar = { core_instance };
 
-    ghost fails = { λ e bytes err. Fails err (core_instance.reads e bytes) };
+    ghost spelling = { core_instance_spelling };
 
+    #[tactic(auto, unfolding(crate::specs::File::core_instance))]
     fn read(
         alloc: Global,
-        cursor: &mut Cursor<'_, DecodeReason>,
+        bytes: &mut Cursor<'_, DecodeReason>,
     ) -> Result<Self, ReadError<DecodeReason>> {
-        core_instance_of(alloc, cursor)
+        let CoreInstanceForm::Instantiate = bytes.code()?;
+        let module = bytes.number(DecodeReason::BadNumber)?;
+        let args = read_vec(alloc, bytes, DecodeReason::BadNumber)?;
+        Ok(CoreInstance::Instantiate { module, args })
+    }
+
+    fn write(&self, out: &mut Vec<u8>) -> Result<(), AllocError> {
+        match self {
+            CoreInstance::Instantiate { module, args } => {
+                out.push(0x00)?;
+                write_u32(out, *module)?;
+                write_vec::<DecodeReason, _>(out, args)
+            }
+        }
     }
 }
 
-/// Reads the contents of a section of core instances.
-pub(crate) fn core_instances_of(
-    alloc: Global,
-    bytes: &mut Cursor<'_, DecodeReason>,
-) -> Result<Vec<CoreInstance>, ReadError<DecodeReason>>
-    ensures read { Reads (vector core_instance) (λ v. map core_instance_tree v.items) bytes.old bytes.new result }
-    ensures end { bytes.new.end ≡ bytes.old.end }
-{
-    let count = bytes.number(DecodeReason::BadNumber)?;
-    read_items(alloc, bytes, count)
+impl Form<DecodeReason> for Alias {
+    ghost Tree = { AliasTree };
+
+    ghost tree = { alias_tree };
+
+    ghost grammar = { alias };
+
+    ghost spelling = { alias_spelling };
+
+    #[tactic(auto, unfolding(crate::specs::File::alias))]
+    fn read(
+        alloc: Global,
+        bytes: &mut Cursor<'_, DecodeReason>,
+    ) -> Result<Self, ReadError<DecodeReason>> {
+        match bytes.code()? {
+            AliasSort::Core => read_core_alias(alloc, bytes),
+            AliasSort::Other => Err(other_alias_fault(bytes)),
+        }
+    }
+
+    fn write(&self, out: &mut Vec<u8>) -> Result<(), AllocError> {
+        match self {
+            Alias::CoreInstanceExport {
+                sort: CoreSort::Func,
+                instance,
+                name,
+            } => {
+                out.extend_from_slice(&[0x00, 0x00, 0x01])?;
+                write_u32(out, *instance)?;
+                write_blob(out, name.as_bytes())
+            }
+        }
+    }
 }
 
 /// Reads an alias of a core definition, behind its sort.
 #[tactic(auto, unfolding(crate::specs::File::alias_of))]
-fn core_alias_of(
+fn read_core_alias(
     alloc: Global,
     bytes: &mut Cursor<'_, DecodeReason>,
 ) -> Result<Alias, ReadError<DecodeReason>>
@@ -108,7 +125,7 @@ fn core_alias_of(
     let sort = bytes.code()?;
     let AliasTarget::CoreInstanceExport = bytes.code()?;
     let instance = bytes.number(DecodeReason::BadNumber)?;
-    let name = text_of(alloc, bytes)?;
+    let name = read_text(alloc, bytes)?;
     Ok(Alias::CoreInstanceExport {
         sort,
         instance,
@@ -118,51 +135,11 @@ fn core_alias_of(
 
 /// The fault of an alias of another definition, behind its sort.
 #[tactic(auto, unfolding(crate::specs::File::alias_of))]
-fn other_alias_of(bytes: &Cursor<'_, DecodeReason>) -> ReadError<DecodeReason>
+fn other_alias_fault(bytes: &Cursor<'_, DecodeReason>) -> ReadError<DecodeReason>
     ensures { Fails result ((alias_of alias_sorts.Other).reads bytes.now.end bytes.now.rest.now) }
 {
     match bytes.rest {
         [] => bytes.want(),
         [byte, ..] => bytes.fault(other_alias_target(*byte)),
     }
-}
-
-/// Reads an alias.
-#[tactic(auto, unfolding(crate::specs::File::alias))]
-fn alias_from(
-    alloc: Global,
-    bytes: &mut Cursor<'_, DecodeReason>,
-) -> Result<Alias, ReadError<DecodeReason>>
-    ensures read { Reads alias alias_tree bytes.old bytes.new result }
-    ensures end { bytes.new.end ≡ bytes.old.end }
-{
-    match bytes.code()? {
-        AliasSort::Core => core_alias_of(alloc, bytes),
-        AliasSort::Other => Err(other_alias_of(bytes)),
-    }
-}
-
-impl Item<DecodeReason> for Alias {
-    ghost is_read = { λ e bytes x rest. alias.reads e bytes ≡ Ok (alias_tree x, rest) };
-
-    ghost fails = { λ e bytes err. Fails err (alias.reads e bytes) };
-
-    fn read(
-        alloc: Global,
-        cursor: &mut Cursor<'_, DecodeReason>,
-    ) -> Result<Self, ReadError<DecodeReason>> {
-        alias_from(alloc, cursor)
-    }
-}
-
-/// Reads the contents of a section of aliases.
-pub(crate) fn aliases_of(
-    alloc: Global,
-    bytes: &mut Cursor<'_, DecodeReason>,
-) -> Result<Vec<Alias>, ReadError<DecodeReason>>
-    ensures read { Reads (vector alias) (λ v. map alias_tree v.items) bytes.old bytes.new result }
-    ensures end { bytes.new.end ≡ bytes.old.end }
-{
-    let count = bytes.number(DecodeReason::BadNumber)?;
-    read_items(alloc, bytes, count)
 }

@@ -8,9 +8,8 @@ mod encoding;
 mod externs;
 mod fault;
 mod instances;
-mod laws;
+pub mod laws;
 mod sections;
-mod spelling;
 mod texts;
 mod types;
 
@@ -21,4 +20,3 @@ pub use cm_component::{
 pub use decoding::decode;
 pub use encoding::{encode, written_and_read};
 pub use fault::{DecodeFault, DecodeReason, Feature};
-pub use laws::first_fault_stays;

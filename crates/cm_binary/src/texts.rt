@@ -1,24 +1,26 @@
 //! Texts, labels and extern names.
 
-ghost use Rattle.cm_grammar.specs.Reading.{Reads};
-ghost use Rattle.std.specs.Prelude.{◌≡◌, true, false, IfOk, MatchOption};
+ghost use Rattle.std.specs.Prelude.{◌≡◌, ◌++◌, true, false, IfOk, OnOk, MatchOption};
 ghost use Rattle.std.specs.Str.{is_utf8};
 ghost use Rattle.std.specs.String.{string_bytes};
 ghost use Rattle.cm_grammar.specs.Faults.{Gives};
-ghost use Rattle.cm_grammar.specs.Grammar.{checked, raw};
+ghost use Rattle.cm_grammar.specs.Grammar.{check, raw};
+ghost use Rattle.cm_grammar.specs.Reading.{Reads};
 ghost use Rattle.cm_types.specs.Names.{is_label};
 ghost use Rattle.cm_types.specs.ExternNames.{is_extern_name};
+ghost use Rattle.cm_component.specs.Spelling.{extern_name_spelling};
 ghost use Rattle.cm_binary.specs.declared.fault.DecodeReason.TheVariants as reasons;
 ghost use Rattle.cm_binary.specs.File.{text, label, extern_name};
 
 use crate::fault::DecodeReason;
-use cm_grammar::{Cursor, ReadError};
+use cm_grammar::{Cursor, ReadError, write_blob};
 use cm_types::{ExternName, Label, NameFault};
 use std::alloc::{AllocError, Global};
 
 /// The bytes as a text, if they are UTF-8.
 fn as_text(bytes: &[u8]) -> Option<&str>
-    ensures { MatchOption result (is_utf8 bytes.now ≡ false) (λ s. (s.now ≡ bytes.now) × (is_utf8 bytes.now ≡ true)) }
+    ensures { MatchOption result (is_utf8 bytes.now ≡ false)
+        (λ s. (s.now ≡ bytes.now) × (is_utf8 bytes.now ≡ true)) }
 {
     match simdutf8::compat::from_utf8(bytes) {
         Ok(text) => Some(text),
@@ -27,11 +29,12 @@ fn as_text(bytes: &[u8]) -> Option<&str>
 }
 
 /// Reads a text of so many bytes.
-fn utf8_of<'a>(
+fn read_utf8<'a>(
     bytes: &mut Cursor<'a, DecodeReason>,
     length: u32,
 ) -> Result<&'a str, ReadError<DecodeReason>>
-    ensures read { Reads (checked is_utf8 reasons.BadUtf8 (raw length)) (λ x. x.now) bytes.old bytes.new result }
+    ensures read { Reads (check is_utf8 reasons.BadUtf8 (raw length))
+        (λ x. x.now) bytes.old bytes.new result }
     ensures end { bytes.new.end ≡ bytes.old.end }
 {
     let fault = bytes.fault(DecodeReason::BadUtf8);
@@ -44,7 +47,7 @@ fn utf8_of<'a>(
 
 /// Reads a text.
 #[tactic(auto, unfolding(crate::specs::File::text))]
-pub(crate) fn text_of(
+pub(crate) fn read_text(
     alloc: Global,
     bytes: &mut Cursor<'_, DecodeReason>,
 ) -> Result<String, ReadError<DecodeReason>>
@@ -52,13 +55,15 @@ pub(crate) fn text_of(
     ensures end { bytes.new.end ≡ bytes.old.end }
 {
     let length = bytes.number(DecodeReason::BadNumber)?;
-    let text = utf8_of(bytes, length)?;
+    let text = read_utf8(bytes, length)?;
     Ok(String::from_str(alloc, text)?)
 }
 
 /// The text as a label, if it is one.
 fn as_label(alloc: Global, text: &str) -> Result<Option<Label>, AllocError>
-    ensures { IfOk result (λ o. MatchOption o (is_label text.now ≡ false) (λ l. (l ≡ text.now) × (is_label text.now ≡ true))) }
+    ensures { IfOk result
+        (λ o. MatchOption o (is_label text.now ≡ false)
+        (λ l. (l ≡ text.now) × (is_label text.now ≡ true))) }
 {
     match Label::parse(alloc, text) {
         Ok(label) => Ok(Some(label)),
@@ -69,7 +74,7 @@ fn as_label(alloc: Global, text: &str) -> Result<Option<Label>, AllocError>
 
 /// Reads a label.
 #[tactic(auto, unfolding(crate::specs::File::label))]
-pub(crate) fn label_of(
+pub(crate) fn read_label(
     alloc: Global,
     bytes: &mut Cursor<'_, DecodeReason>,
 ) -> Result<Label, ReadError<DecodeReason>>
@@ -78,7 +83,7 @@ pub(crate) fn label_of(
 {
     let length = bytes.number(DecodeReason::BadNumber)?;
     let fault = bytes.fault(DecodeReason::BadName);
-    let text = utf8_of(bytes, length)?;
+    let text = read_utf8(bytes, length)?;
     match as_label(alloc, text)? {
         Some(label) => Ok(label),
         None => Err(fault),
@@ -87,7 +92,9 @@ pub(crate) fn label_of(
 
 /// The text as an extern name, if it is one.
 fn as_extern_name(alloc: Global, text: &str) -> Result<Option<ExternName>, AllocError>
-    ensures { IfOk result (λ o. MatchOption o (is_extern_name text.now ≡ false) (λ n. (n ≡ text.now) × (is_extern_name text.now ≡ true))) }
+    ensures { IfOk result
+        (λ o. MatchOption o (is_extern_name text.now ≡ false)
+        (λ n. (n ≡ text.now) × (is_extern_name text.now ≡ true))) }
 {
     match ExternName::parse(alloc, text) {
         Ok(name) => Ok(Some(name)),
@@ -98,7 +105,7 @@ fn as_extern_name(alloc: Global, text: &str) -> Result<Option<ExternName>, Alloc
 
 /// Reads an extern name.
 #[tactic(auto, unfolding(crate::specs::File::extern_name))]
-pub(crate) fn extern_name_of(
+pub(crate) fn read_extern_name(
     alloc: Global,
     bytes: &mut Cursor<'_, DecodeReason>,
 ) -> Result<ExternName, ReadError<DecodeReason>>
@@ -108,9 +115,17 @@ pub(crate) fn extern_name_of(
     bytes.fixed(&[0x00], DecodeReason::UnknownCode)?;
     let length = bytes.number(DecodeReason::BadNumber)?;
     let fault = bytes.fault(DecodeReason::BadName);
-    let text = utf8_of(bytes, length)?;
+    let text = read_utf8(bytes, length)?;
     match as_extern_name(alloc, text)? {
         Some(name) => Ok(name),
         None => Err(fault),
     }
+}
+
+/// Appends an extern name.
+pub(crate) fn write_extern_name(out: &mut Vec<u8>, name: &ExternName) -> Result<(), AllocError>
+    ensures { OnOk result (out.new.items ≡ out.old.items ++ extern_name_spelling name.now) }
+{
+    out.push(0x00)?;
+    write_blob(out, name.as_str().as_bytes())
 }

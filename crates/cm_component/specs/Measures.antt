@@ -2,5 +2,5 @@
 use Rattle.std.specs.Prelude.{ℕ, ◌-◌, ◌^◌, min}
 
 -- The count, or the greatest number of 64 bits where it is more.
-abbrev pub capped : ℕ → ℕ
-capped n = min n (2 ^ 64 - 1)
+abbrev pub saturate : ℕ → ℕ
+saturate n = min n (2 ^ 64 - 1)

@@ -17,28 +17,31 @@ use Rattle.cm_component.specs.declared.section.ExternDesc.{ExternDesc}
 use Rattle.cm_component.specs.declared.section.Import.{Import}
 use Rattle.cm_component.specs.declared.section.Export.{Export}
 
--- a core instance given to a module under a name
+-- A core instance given to a module under a name (`core:instantiatearg`).
 pub record ArgTree : Type 0 where
   pub name : List ℕ
   pub instance : ℕ
 
--- a core module with what it is given
+-- A core module with what it is given (`core:instance`).
 pub data CoreInstanceTree : Type 0 where
   instantiate : ℕ → List ArgTree → CoreInstanceTree
 
--- what a core instance exports: the sort, the instance, the name
+-- What a core instance exports: the sort, the instance, the name (`alias`).
 pub data AliasTree : Type 0 where
   core_instance_export : CoreSort → ℕ → List ℕ → AliasTree
 
+-- An import: its name, what it is (`import`).
 pub record ImportTree : Type 0 where
   pub name : List ℕ
   pub desc : ExternDesc
 
+-- An export: its name, the sort, the index (`export`).
 pub record ExportTree : Type 0 where
   pub name : List ℕ
   pub sort : Sort
   pub index : ℕ
 
+-- A section: its items; of a custom section the name and the bytes, of a core module the bytes.
 pub data SectionTree : Type 0 where
   custom : List ℕ → List ℕ → SectionTree
   core_module : List ℕ → SectionTree
@@ -55,10 +58,12 @@ abbrev pub arg_tree : CoreInstantiationArg → ArgTree
 arg_tree a = record { name = string_bytes a.name; instance = a.instance }
 
 abbrev pub core_instance_tree : CoreInstance → CoreInstanceTree
-core_instance_tree (core_instance.Instantiate module_ args) = instantiate module_ (map arg_tree args.items)
+core_instance_tree (core_instance.Instantiate module_ args) =
+    instantiate module_ (map arg_tree args.items)
 
 abbrev pub alias_tree : Alias → AliasTree
-alias_tree (alias.CoreInstanceExport sort instance name) = core_instance_export sort instance (string_bytes name)
+alias_tree (alias.CoreInstanceExport sort instance name) =
+    core_instance_export sort instance (string_bytes name)
 
 abbrev pub import_tree : Import → ImportTree
 import_tree i = record { name = i.name; desc = i.desc }

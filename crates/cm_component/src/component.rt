@@ -3,26 +3,17 @@
 ghost use Rattle.std.specs.Prelude.{◌≡◌, None, map, true};
 ghost use Rattle.std.specs.List.{list_all};
 ghost use Rattle.cm_component.specs.Trees.{section_tree};
-ghost use Rattle.cm_component.specs.Limits.{is_begun, limit_fault, limited};
+ghost use Rattle.cm_component.specs.Limits.{has_preamble, limit_fault, within_limits};
 ghost use Rattle.cm_component.specs.Parts.{holds};
 
-use crate::limits::LimitFault;
+use crate::limits::{LimitFault, MAX_FILE_BYTES, MAX_TYPES, MODULE_PREAMBLE};
 use crate::measuring::{file_length, types_in_all};
 use crate::section::Section;
 use std::marker::Model;
 
-/// The most types of a file, a limit of this project's own.
-const TYPE_LIMIT: u64 = 4_096;
-
-/// The most bytes of a file, a limit of this project's own.
-const BYTE_LIMIT: u64 = 16_777_216;
-
-/// The first eight bytes of a core module, version 1.
-const MODULE_PREAMBLE: [u8; 8] = [0x00, 0x61, 0x73, 0x6d, 0x01, 0x00, 0x00, 0x00];
-
-/// The sections of a component file, in order, within the limits of files. Contracts see them as trees:
-/// names as their bytes, and without where they lie in memory.
-#[derive(Debug, Drop)]
+/// The sections of a component file, in order, within the limits of files. Contracts see them as
+/// trees: names as their bytes, and without where they lie in memory.
+#[derive(Drop)]
 pub struct Component {
     sections: Vec<Section>,
 }
@@ -38,7 +29,9 @@ impl Model for Component {
 
     ghost view = { λ c. map section_tree c.sections.items };
 
-    ghost invariant = { λ c. (limit_fault (map section_tree c.sections.items) ≡ None) × (list_all holds (map section_tree c.sections.items) ≡ true) };
+    ghost invariant = { λ c.
+        (limit_fault (map section_tree c.sections.items) ≡ None)
+        × (list_all holds (map section_tree c.sections.items) ≡ true) };
 }
 
 impl Component {
@@ -48,7 +41,7 @@ impl Component {
     /// 16,777,216 bytes (`TooLong`), and a core module that does not begin with its preamble
     /// (`NotAModule`), in this order. Sections that are refused are dropped.
     pub fn new(sections: Vec<Section>) -> Result<Component, LimitFault>
-        ensures { result ≡ limited (map section_tree sections.items) }
+        ensures { result ≡ within_limits (map section_tree sections.items) }
     {
         match limit_fault(&sections) {
             Some(fault) => Err(fault),
@@ -72,11 +65,11 @@ fn limit_fault(sections: &[Section]) -> Option<LimitFault>
     ensures holds { list_all holds (map section_tree sections.now) ≡ true }
 {
     let length = file_length(sections);
-    if types_in_all(sections) > TYPE_LIMIT {
+    if types_in_all(sections) > MAX_TYPES as u64 {
         Some(LimitFault::TooMany)
-    } else if length > BYTE_LIMIT {
+    } else if length > MAX_FILE_BYTES as u64 {
         Some(LimitFault::TooLong)
-    } else if are_begun(sections) {
+    } else if have_preambles(sections) {
         None
     } else {
         Some(LimitFault::NotAModule)
@@ -84,11 +77,11 @@ fn limit_fault(sections: &[Section]) -> Option<LimitFault>
 }
 
 /// Whether each core module begins with its preamble.
-fn are_begun(sections: &[Section]) -> bool
-    ensures { result ≡ list_all is_begun (map section_tree sections.now) }
+fn have_preambles(sections: &[Section]) -> bool
+    ensures { result ≡ list_all has_preamble (map section_tree sections.now) }
 {
     for section in sections {
-        if !is_begun(section) {
+        if !has_preamble(section) {
             return false;
         }
     }
@@ -96,8 +89,8 @@ fn are_begun(sections: &[Section]) -> bool
 }
 
 /// Whether the section is no core module, or one that begins with its preamble.
-fn is_begun(section: &Section) -> bool
-    ensures { result ≡ is_begun (section_tree section.now) }
+fn has_preamble(section: &Section) -> bool
+    ensures { result ≡ has_preamble (section_tree section.now) }
 {
     match section {
         Section::CoreModule(bytes) => bytes.starts_with(&MODULE_PREAMBLE),

@@ -4,10 +4,11 @@
 mod component;
 mod limits;
 mod measuring;
+mod part;
 mod section;
 
 pub use component::Component;
-pub use limits::LimitFault;
+pub use limits::{COMPONENT_PREAMBLE, LimitFault, MAX_FILE_BYTES, MAX_TYPES, MODULE_PREAMBLE};
 pub use section::{
     Alias, Canon, CoreInstance, CoreInstantiationArg, CoreSort, CustomSection, Export, ExternDesc,
     Import, Section, Sort,

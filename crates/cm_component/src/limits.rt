@@ -1,5 +1,17 @@
 //! The limits of a component file.
 
+/// The most types of a component file, a limit of this project's own.
+pub const MAX_TYPES: usize = 4_096;
+
+/// The most bytes of a component file, a limit of this project's own.
+pub const MAX_FILE_BYTES: usize = 16_777_216;
+
+/// The first eight bytes of a core module, version 1 (core specification, "Modules").
+pub const MODULE_PREAMBLE: [u8; 8] = [0x00, 0x61, 0x73, 0x6d, 0x01, 0x00, 0x00, 0x00];
+
+/// The first eight bytes of a component (Binary.md, "Component Definitions").
+pub const COMPONENT_PREAMBLE: [u8; 8] = [0x00, 0x61, 0x73, 0x6d, 0x0d, 0x00, 0x01, 0x00];
+
 /// Why sections make no component. The limits on types and bytes are this project's own.
 #[derive(Clone, Copy, Debug, PartialEq, Eq, thiserror::Error)]
 pub enum LimitFault {

@@ -4,10 +4,14 @@ ghost use Rattle.std.specs.Prelude.{◌≡◌, ◌++◌, ◌∷◌, ℕ, [], len
 ghost use Rattle.std.specs.Str.{is_utf8};
 ghost use Rattle.std.specs.List.{flat_map, list_all, sum_by};
 ghost use Rattle.cm_leb.specs.Writing.{shortest_unsigned};
-ghost use Rattle.cm_grammar.specs.Spelling.{counted, prefixed};
+ghost use Rattle.cm_grammar.specs.Spelling.{vec_spelling, blob_spelling};
 ghost use Rattle.cm_types.specs.DefTypes.{func_type_tree, def_type_tree};
-ghost use Rattle.cm_component.specs.Trees.{arg_tree, core_instance_tree, alias_tree, import_tree};
-ghost use Rattle.cm_component.specs.Trees.{export_tree, section_tree};
+ghost use Rattle.cm_types.specs.DefTypes.{DefTypeTree};
+ghost use Rattle.cm_types.specs.declared.def_types.LabeledValType.{LabeledValType};
+ghost use Rattle.cm_component.specs.declared.section.Canon.{Canon};
+ghost use Rattle.cm_component.specs.Trees.{ArgTree, arg_tree, CoreInstanceTree, core_instance_tree};
+ghost use Rattle.cm_component.specs.Trees.{AliasTree, alias_tree, ImportTree, import_tree};
+ghost use Rattle.cm_component.specs.Trees.{ExportTree, export_tree, SectionTree, section_tree};
 ghost use Rattle.cm_component.specs.Spelling.{extern_name_spelling, core_arg_spelling};
 ghost use Rattle.cm_component.specs.Spelling.{core_instance_spelling, alias_spelling};
 ghost use Rattle.cm_component.specs.Spelling.{param_spelling, result_spelling, func_spelling};
@@ -19,48 +23,15 @@ ghost use Rattle.cm_component.specs.Parts.{holds_arg, holds_core_instance, holds
 ghost use Rattle.cm_component.specs.Parts.{holds_param, holds_func, holds_def, holds_canon};
 ghost use Rattle.cm_component.specs.Parts.{holds_desc, holds_name, holds_import, holds_export};
 ghost use Rattle.cm_component.specs.Parts.{holds};
-ghost use Rattle.cm_component.specs.Measures.{capped};
+ghost use Rattle.cm_component.specs.Measures.{saturate};
 
+use crate::limits::COMPONENT_PREAMBLE;
+use crate::part::{Part, length_of_all, length_of_vec};
 use crate::section::{
     Alias, Canon, CoreInstance, CoreInstantiationArg, Export, ExternDesc, Import, Section,
 };
 use cm_leb::spelled_length;
 use cm_types::{DefType, ExternName, FuncType, LabeledValType, ValType};
-
-/// A part of a file. Its length is that of its shortest spelling, in bytes, or `u64::MAX` where it is
-/// more.
-trait Part {
-    ghost use Rattle.std.specs.Prelude.{ℕ, List, Bool};
-
-    ghost spelling: { Self → List ℕ };
-
-    // What the part holds.
-    ghost holds: { Self → Bool };
-
-    fn length(&self) -> u64
-        ensures length { result ≡ capped (length (spelling self.now)) }
-        ensures holds { holds self.now ≡ true };
-}
-
-/// The length of parts behind one another.
-fn length_of_all<T: Part>(parts: &[T]) -> u64
-    ensures length { result ≡ capped (length (flat_map T.spelling parts.now)) }
-    ensures holds { list_all T.holds parts.now ≡ true }
-{
-    let mut total: u64 = 0;
-    for part in parts {
-        total = total.saturating_add(part.length());
-    }
-    total
-}
-
-/// The length of parts behind their count.
-fn counted_length<T: Part>(parts: &[T]) -> u64
-    ensures length { result ≡ capped (length (counted T.spelling parts.now)) }
-    ensures holds { list_all T.holds parts.now ≡ true }
-{
-    number_length(parts.len() as u64).saturating_add(length_of_all(parts))
-}
 
 /// The length of a number.
 fn number_length(number: u64) -> u64
@@ -70,34 +41,32 @@ fn number_length(number: u64) -> u64
 }
 
 /// The length of bytes behind their number.
-fn prefixed_length(bytes: &[u8]) -> u64
-    ensures { result ≡ capped (length (prefixed bytes.now)) }
+fn blob_length(bytes: &[u8]) -> u64
+    ensures { result ≡ saturate (length (blob_spelling bytes.now)) }
 {
     number_length(bytes.len() as u64).saturating_add(bytes.len() as u64)
 }
 
 /// The length of a text behind its length.
 fn text_length(text: &str) -> u64
-    ensures length { result ≡ capped (length (prefixed text.now)) }
+    ensures length { result ≡ saturate (length (blob_spelling text.now)) }
     ensures utf8 { is_utf8 text.now ≡ true }
 {
-    prefixed_length(text.as_bytes())
+    blob_length(text.as_bytes())
 }
 
 fn extern_name_length(name: &ExternName) -> u64
-    ensures length { result ≡ capped (length (extern_name_spelling name.now)) }
+    ensures length { result ≡ saturate (length (extern_name_spelling name.now)) }
     ensures holds { holds_name name.now ≡ true }
 {
-    prefixed_length(name.as_bytes()).saturating_add(1)
+    blob_length(name.as_bytes()).saturating_add(1)
 }
 
+/// The length of the result of a function: a byte for whether there is one, and a byte behind it.
 fn result_length(result_type: Option<ValType>) -> u64
     ensures { result ≡ length (result_spelling result_type) }
 {
-    match result_type {
-        Some(_) => 2,
-        None => 2,
-    }
+    2
 }
 
 fn desc_length(desc: ExternDesc) -> u64
@@ -109,59 +78,21 @@ fn desc_length(desc: ExternDesc) -> u64
     }
 }
 
-fn core_args_length(items: &[CoreInstantiationArg]) -> u64
-    ensures length { result ≡ capped (length (counted core_arg_spelling (map arg_tree items.now))) }
-    ensures holds { list_all holds_arg (map arg_tree items.now) ≡ true }
-{
-    counted_length(items)
-}
-
-fn core_instances_length(items: &[CoreInstance]) -> u64
-    ensures length { result ≡ capped (length (counted core_instance_spelling (map core_instance_tree items.now))) }
-    ensures holds { list_all holds_core_instance (map core_instance_tree items.now) ≡ true }
-{
-    counted_length(items)
-}
-
-fn aliases_length(items: &[Alias]) -> u64
-    ensures length { result ≡ capped (length (counted alias_spelling (map alias_tree items.now))) }
-    ensures holds { list_all holds_alias (map alias_tree items.now) ≡ true }
-{
-    counted_length(items)
-}
-
-fn types_length(items: &[DefType]) -> u64
-    ensures length { result ≡ capped (length (counted def_spelling (map def_type_tree items.now))) }
-    ensures holds { list_all holds_def (map def_type_tree items.now) ≡ true }
-{
-    counted_length(items)
-}
-
-fn imports_length(items: &[Import]) -> u64
-    ensures length { result ≡ capped (length (counted import_spelling (map import_tree items.now))) }
-    ensures holds { list_all holds_import (map import_tree items.now) ≡ true }
-{
-    counted_length(items)
-}
-
-fn exports_length(items: &[Export]) -> u64
-    ensures length { result ≡ capped (length (counted export_spelling (map export_tree items.now))) }
-    ensures holds { list_all holds_export (map export_tree items.now) ≡ true }
-{
-    counted_length(items)
-}
-
 fn func_length(func: &FuncType) -> u64
-    ensures length { result ≡ capped (length (func_spelling (func_type_tree func.now))) }
+    ensures length { result ≡ saturate (length (func_spelling (func_type_tree func.now))) }
     ensures holds { holds_func (func_type_tree func.now) ≡ true }
 {
-    counted_length(&func.params).saturating_add(result_length(func.result))
+    length_of_vec(&func.params).saturating_add(result_length(func.result))
 }
 
 impl Part for CoreInstantiationArg {
-    ghost spelling = { λ a. core_arg_spelling (arg_tree a) };
+    ghost Tree = { ArgTree };
 
-    ghost holds = { λ a. holds_arg (arg_tree a) };
+    ghost tree = { arg_tree };
+
+    ghost spelling = { core_arg_spelling };
+
+    ghost holds = { holds_arg };
 
     fn length(&self) -> u64 {
         text_length(&self.name).saturating_add(1 + number_length(u64::from(self.instance)))
@@ -169,23 +100,31 @@ impl Part for CoreInstantiationArg {
 }
 
 impl Part for CoreInstance {
-    ghost spelling = { λ i. core_instance_spelling (core_instance_tree i) };
+    ghost Tree = { CoreInstanceTree };
 
-    ghost holds = { λ i. holds_core_instance (core_instance_tree i) };
+    ghost tree = { core_instance_tree };
+
+    ghost spelling = { core_instance_spelling };
+
+    ghost holds = { holds_core_instance };
 
     fn length(&self) -> u64 {
         match self {
             CoreInstance::Instantiate { module, args } => {
-                (1 + number_length(u64::from(*module))).saturating_add(core_args_length(args))
+                (1 + number_length(u64::from(*module))).saturating_add(length_of_vec(args))
             }
         }
     }
 }
 
 impl Part for Alias {
-    ghost spelling = { λ a. alias_spelling (alias_tree a) };
+    ghost Tree = { AliasTree };
 
-    ghost holds = { λ a. holds_alias (alias_tree a) };
+    ghost tree = { alias_tree };
+
+    ghost spelling = { alias_spelling };
+
+    ghost holds = { holds_alias };
 
     fn length(&self) -> u64 {
         match self {
@@ -199,19 +138,27 @@ impl Part for Alias {
 }
 
 impl Part for LabeledValType {
+    ghost Tree = { LabeledValType };
+
+    ghost tree = { λ p. p };
+
     ghost spelling = { param_spelling };
 
     ghost holds = { holds_param };
 
     fn length(&self) -> u64 {
-        prefixed_length(self.label.as_bytes()).saturating_add(1)
+        blob_length(self.label.as_bytes()).saturating_add(1)
     }
 }
 
 impl Part for DefType {
-    ghost spelling = { λ t. def_spelling (def_type_tree t) };
+    ghost Tree = { DefTypeTree };
 
-    ghost holds = { λ t. holds_def (def_type_tree t) };
+    ghost tree = { def_type_tree };
+
+    ghost spelling = { def_spelling };
+
+    ghost holds = { holds_def };
 
     fn length(&self) -> u64 {
         match self {
@@ -221,6 +168,10 @@ impl Part for DefType {
 }
 
 impl Part for Canon {
+    ghost Tree = { Canon };
+
+    ghost tree = { λ c. c };
+
     ghost spelling = { canon_spelling };
 
     ghost holds = { holds_canon };
@@ -236,9 +187,13 @@ impl Part for Canon {
 }
 
 impl Part for Import {
-    ghost spelling = { λ i. import_spelling (import_tree i) };
+    ghost Tree = { ImportTree };
 
-    ghost holds = { λ i. holds_import (import_tree i) };
+    ghost tree = { import_tree };
+
+    ghost spelling = { import_spelling };
+
+    ghost holds = { holds_import };
 
     fn length(&self) -> u64 {
         extern_name_length(&self.name).saturating_add(desc_length(self.desc))
@@ -246,9 +201,13 @@ impl Part for Import {
 }
 
 impl Part for Export {
-    ghost spelling = { λ e. export_spelling (export_tree e) };
+    ghost Tree = { ExportTree };
 
-    ghost holds = { λ e. holds_export (export_tree e) };
+    ghost tree = { export_tree };
+
+    ghost spelling = { export_spelling };
+
+    ghost holds = { holds_export };
 
     fn length(&self) -> u64 {
         extern_name_length(&self.name).saturating_add(2 + number_length(u64::from(self.index)))
@@ -256,9 +215,13 @@ impl Part for Export {
 }
 
 impl Part for Section {
-    ghost spelling = { λ s. section_spelling (section_tree s) };
+    ghost Tree = { SectionTree };
 
-    ghost holds = { λ s. holds (section_tree s) };
+    ghost tree = { section_tree };
+
+    ghost spelling = { section_spelling };
+
+    ghost holds = { holds };
 
     fn length(&self) -> u64 {
         let contents = contents_length(self);
@@ -268,7 +231,7 @@ impl Part for Section {
 
 /// The length of a section's contents.
 fn contents_length(section: &Section) -> u64
-    ensures length { result ≡ capped (length (contents_spelling (section_tree section.now))) }
+    ensures length { result ≡ saturate (length (contents_spelling (section_tree section.now))) }
     ensures holds { holds (section_tree section.now) ≡ true }
 {
     match section {
@@ -276,21 +239,21 @@ fn contents_length(section: &Section) -> u64
             text_length(&custom.name).saturating_add(custom.bytes.len() as u64)
         }
         Section::CoreModule(bytes) => bytes.len() as u64,
-        Section::CoreInstances(items) => core_instances_length(items),
-        Section::Aliases(items) => aliases_length(items),
-        Section::Types(items) => types_length(items),
-        Section::Canons(items) => counted_length(items),
-        Section::Imports(items) => imports_length(items),
-        Section::Exports(items) => exports_length(items),
+        Section::CoreInstances(items) => length_of_vec(items),
+        Section::Aliases(items) => length_of_vec(items),
+        Section::Types(items) => length_of_vec(items),
+        Section::Canons(items) => length_of_vec(items),
+        Section::Imports(items) => length_of_vec(items),
+        Section::Exports(items) => length_of_vec(items),
     }
 }
 
 /// The length of the file with these sections, in bytes.
 pub(crate) fn file_length(sections: &[Section]) -> u64
-    ensures length { result ≡ capped (length (spelling (map section_tree sections.now))) }
+    ensures length { result ≡ saturate (length (spelling (map section_tree sections.now))) }
     ensures holds { list_all holds (map section_tree sections.now) ≡ true }
 {
-    length_of_all(sections).saturating_add(8)
+    length_of_all(sections).saturating_add(COMPONENT_PREAMBLE.len() as u64)
 }
 
 /// How many types a section adds.
@@ -305,7 +268,7 @@ fn types_in(section: &Section) -> u64
 
 /// How many types the sections add, or `u64::MAX` where it is more.
 pub(crate) fn types_in_all(sections: &[Section]) -> u64
-    ensures { result ≡ capped (sum_by types_in (map section_tree sections.now)) }
+    ensures { result ≡ saturate (sum_by types_in (map section_tree sections.now)) }
 {
     let mut total: u64 = 0;
     for section in sections {

@@ -3,7 +3,7 @@
 use cm_types::{DefType, ExternName};
 
 /// One section of a file (Binary.md, "Component Definitions").
-#[derive(Debug, Drop)]
+#[derive(Drop)]
 pub enum Section {
     /// Section 0: a name, and bytes that have no meaning here.
     Custom(CustomSection),
@@ -24,14 +24,14 @@ pub enum Section {
 }
 
 /// A custom section (Binary.md, "Custom Sections").
-#[derive(Debug, Drop)]
+#[derive(Drop)]
 pub struct CustomSection {
     pub name: String,
     pub bytes: Vec<u8>,
 }
 
 /// A core instance (Binary.md, "Core Instance Definitions").
-#[derive(Debug, Drop)]
+#[derive(Drop)]
 pub enum CoreInstance {
     /// A core module with an instance for each name that it imports from.
     Instantiate {
@@ -41,26 +41,26 @@ pub enum CoreInstance {
 }
 
 /// A core instance given to a module under a name.
-#[derive(Debug, Drop)]
+#[derive(Drop)]
 pub struct CoreInstantiationArg {
     pub name: String,
     pub instance: u32,
 }
 
 /// What a core definition is (Binary.md, `core:sort`).
-#[derive(Clone, Copy, Debug, PartialEq, Eq)]
+#[derive(Clone, Copy)]
 pub enum CoreSort {
     Func,
 }
 
 /// What a definition is (Binary.md, `sort`).
-#[derive(Clone, Copy, Debug, PartialEq, Eq)]
+#[derive(Clone, Copy)]
 pub enum Sort {
     Func,
 }
 
 /// A definition taken from elsewhere (Binary.md, "Alias Definitions").
-#[derive(Debug, Drop)]
+#[derive(Drop)]
 pub enum Alias {
     /// What a core instance exports under this name.
     CoreInstanceExport {
@@ -71,7 +71,7 @@ pub enum Alias {
 }
 
 /// A canonical definition (Binary.md, "Canonical Definitions").
-#[derive(Debug, Drop)]
+#[derive(Drop)]
 pub enum Canon {
     /// A core function as a function of this type.
     Lift { core_func: u32, ty: u32 },
@@ -87,14 +87,14 @@ pub enum ExternDesc {
 }
 
 /// An import (Binary.md, "Import and Export Definitions").
-#[derive(Debug, Drop)]
+#[derive(Drop)]
 pub struct Import {
     pub name: ExternName,
     pub desc: ExternDesc,
 }
 
 /// An export (Binary.md, "Import and Export Definitions").
-#[derive(Debug, Drop)]
+#[derive(Drop)]
 pub struct Export {
     pub name: ExternName,
     pub sort: Sort,

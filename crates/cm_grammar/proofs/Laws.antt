@@ -12,7 +12,7 @@ use Rattle.cm_grammar.specs.declared.fault.Fault.{Fault}
 use Rattle.cm_grammar.specs.declared.fault.End.{End}
 use Rattle.cm_grammar.specs.declared.fault.End.TheVariants as end
 use Rattle.cm_grammar.specs.Faults.{flaw, later, want}
-use Rattle.cm_grammar.specs.Grammar.{Grammar, done, ◌>>=◌, fail, coded, code_reads, code, ahead_reads, ahead, number_fault, number_reads, number, signed, raw, checked, DifferAt, IsBeginning, fixed_reads, fixed, chain, times, limited, vec, blob}
+use Rattle.cm_grammar.specs.Grammar.{Grammar, done, ◌>>=◌, fail, code_answer, code_reads, code, ahead_reads, ahead, number_fault, number_reads, number, signed, raw, check, DifferAt, IsBeginning, fixed_reads, fixed, chain, times, from_stock, vec, blob}
 use Rattle.cm_grammar.proofs.Tools.{IsBytes, IsBytes-after, ok_of, err_of, ok_is, err_is, then_ok, then_err, then_from_ok, then_from_err, cond_ok, cond_err, flaw-later, parts_behind}
 
 -- A spelling of x in front, and the rest.
@@ -119,13 +119,13 @@ bind_lawful {R} {A} {B} g next l m = record {
 
 -- ---- a byte of a table
 
-coded_ok : {R K : Type 0} (rest : List ℕ) (t : Result K R) (k : K) (after : List ℕ) → coded rest t ≡ Ok (k, after) → (t ≡ Ok k) × (rest ≡ after)
+coded_ok : {R K : Type 0} (rest : List ℕ) (t : Result K R) (k : K) (after : List ℕ) → code_answer rest t ≡ Ok (k, after) → (t ≡ Ok k) × (rest ≡ after)
 coded_ok {R} {K} rest (Ok j) k after e =
     let p = ok_is (Fault R) (j, rest) (k, after) e in
     (ap (λ (q : K × List ℕ). ok_of R q.0) p, ap (λ (q : K × List ℕ). q.1) p)
 coded_ok rest (Err r) k after e = absurd cc
 
-coded_err : {R K : Type 0} (rest : List ℕ) (t : Result K R) (f : Fault R) → coded rest t ≡ Err f → (reason : R) × (t ≡ Err reason) × (f ≡ flaw (suc (length rest)) reason)
+coded_err : {R K : Type 0} (rest : List ℕ) (t : Result K R) (f : Fault R) → code_answer rest t ≡ Err f → (reason : R) × (t ≡ Err reason) × (f ≡ flaw (suc (length rest)) reason)
 coded_err rest (Ok j) f e = absurd cc
 coded_err {R} {K} rest (Err r) f e = (r, refl, sym (err_is (K × List ℕ) (flaw (suc (length rest)) r) f e))
 
@@ -143,7 +143,7 @@ code_within : {R K : Type 0} (table : ℕ → Result K R) (e : End R) (bytes : L
 code_within {R} {K} table e [] f h = let p = err_is (K × List ℕ) (want e) f h in rw (← p) (omega arith)
 code_within table e (b ∷ bytes) f h = let p = coded_err bytes (table b) f h in rw (p.2) (omega arith)
 
-coded_later : {R K : Type 0} (rest : List ℕ) (t : Result K R) (reason : R) (f : Fault R) (more : List ℕ) → t ≡ Err reason → f ≡ flaw (suc (length rest)) reason → coded (rest ++ more) t ≡ Err (later f (length more))
+coded_later : {R K : Type 0} (rest : List ℕ) (t : Result K R) (reason : R) (f : Fault R) (more : List ℕ) → t ≡ Err reason → f ≡ flaw (suc (length rest)) reason → code_answer (rest ++ more) t ≡ Err (later f (length more))
 coded_later {R} {K} rest t reason f more p q = rw (p, q) (ap (λ (d : Fault R). err_of (K × List ℕ) d) (flaw-later (suc (length rest)) reason (length more) (suc (length (rest ++ more))) (omega (arith, length-append rest more))))
 
 code_stays : {R K : Type 0} (table : ℕ → Result K R) (r : R) (bytes : List ℕ) (f : Fault R) → code_reads table (end.Cut r) bytes ≡ Err f → Stays (code_reads table) r bytes f
@@ -319,13 +319,13 @@ raw_lawful {R} n = record {
 test_stays : {R A : Type 0} (b : Bool) (bytes more : List ℕ) (x : A) (f : Fault R) (reason : R) → b ≡ false → flaw (length bytes) reason ≡ f → cond b (ok_of (Fault R) x) (Err (flaw (length (bytes ++ more)) reason)) ≡ Err (later f (length more))
 test_stays {R} {A} b bytes more x f reason p q = rw (p, ← q) (ap (λ (g : Fault R). err_of A g) (flaw-later (length bytes) reason (length more) (length (bytes ++ more)) (length-append bytes more)))
 
-pub checked_lawful : {R A : Type 0} (test : A → Bool) (reason : R) (g : Grammar R A) → Lawful g → Lawful (checked test reason g)
-checked_lawful {R} {A} test reason g l = record {
+pub check_lawful : {R A : Type 0} (test : A → Bool) (reason : R) (g : Grammar R A) → Lawful g → Lawful (check test reason g)
+check_lawful {R} {A} test reason g l = record {
   takes = λ e bytes y rest fits h.
       let q = then_ok (g.reads e bytes) (λ (x : A × List ℕ). cond (test x.0) (Ok x) (Err (flaw (length bytes) reason))) (y, rest) h in
       let c = cond_ok (test q.0.0) (flaw (length bytes) reason) q.0 (y, rest) q.2 in
       let t = l.takes e bytes q.0.0 q.0.1 fits q.1 in
-      subst (λ (p : A × List ℕ). Takes (checked test reason g) p.0 bytes p.1) c.1 (record { front = t.front; spells = (t.spells, c.0); parts = t.parts });
+      subst (λ (p : A × List ℕ). Takes (check test reason g) p.0 bytes p.1) c.1 (record { front = t.front; spells = (t.spells, c.0); parts = t.parts });
   again = λ e x front rest s. rw (l.again e x front rest s.0, s.1) refl;
   faulty = λ e bytes f fits h.
       elim (then_err (g.reads e bytes) (λ (x : A × List ℕ). cond (test x.0) (Ok x) (Err (flaw (length bytes) reason))) f h) [
@@ -368,13 +368,13 @@ differ_more c text bytes left d = record {
   expected = d.expected;
   tail = d.tail;
   bytes_are = ap (λ (xs : List ℕ). c ∷ xs) d.bytes_are;
-  text_is = ap (λ (xs : List ℕ). c ∷ xs) d.text_is;
+  literal_is = ap (λ (xs : List ℕ). c ∷ xs) d.literal_is;
   differ = d.differ;
   place = d.place;
 }
 
 pub beginning_more : (c : ℕ) (text bytes : List ℕ) → IsBeginning text bytes → IsBeginning (c ∷ text) (c ∷ bytes)
-beginning_more c text bytes h = record { next = h.next; tail = h.tail; text_is = ap (λ (xs : List ℕ). c ∷ xs) h.text_is }
+beginning_more c text bytes h = record { next = h.next; tail = h.tail; literal_is = ap (λ (xs : List ℕ). c ∷ xs) h.literal_is }
 
 fixed_goes_on : {R : Type 0} (c : ℕ) (text : List ℕ) (reason : R) (e : End R) (b : ℕ) (bytes : List ℕ) → b ≡ c → fixed_reads (c ∷ text) reason e (b ∷ bytes) ≡ fixed_reads text reason e bytes
 fixed_goes_on c text reason e b bytes h = let t = eq-eqb b c h in rw t refl
@@ -401,13 +401,13 @@ faulty_more text reason e c bytes f (inr h) = inr (h.0, differ_more c text bytes
 
 fixed_faulty : {R : Type 0} (text : List ℕ) (reason : R) (e : End R) (bytes : List ℕ) (f : Fault R) → fixed_reads text reason e bytes ≡ Err f → (fixed text reason).Faulty e bytes f
 fixed_faulty [] reason e bytes f h = absurd cc
-fixed_faulty {R} (c ∷ text) reason e [] f h = inl (record { next = c; tail = text; text_is = refl }, sym (err_is (Unit {0} × List ℕ) (want e) f h))
+fixed_faulty {R} (c ∷ text) reason e [] f h = inl (record { next = c; tail = text; literal_is = refl }, sym (err_is (Unit {0} × List ℕ) (want e) f h))
 fixed_faulty {R} (c ∷ text) reason e (b ∷ bytes) f h =
     elim (cases_eq b c) [
       | inl q ↦ subst (λ (x : ℕ). (fixed (c ∷ text) reason).Faulty e (x ∷ bytes) f) (sym q) (faulty_more text reason e c bytes f (fixed_faulty text reason e bytes f (sym (fixed_goes_on c text reason e b bytes q) ∙ h)))
       | inr n ↦
           let p = err_is (Unit {0} × List ℕ) (flaw (suc (length bytes)) reason) f (sym (fixed_stops c text reason e b bytes n) ∙ h) in
-          inr (suc (length bytes), record { same = []; found = b; rest = bytes; expected = c; tail = text; bytes_are = refl; text_is = refl; differ = n; place = refl }, sym p)
+          inr (suc (length bytes), record { same = []; found = b; rest = bytes; expected = c; tail = text; bytes_are = refl; literal_is = refl; differ = n; place = refl }, sym p)
     ]
 
 fixed_short : {R : Type 0} (bytes : List ℕ) (next : ℕ) (tail : List ℕ) (reason : R) (e : End R) → fixed_reads (bytes ++ next ∷ tail) reason e bytes ≡ Err (want e)
@@ -426,9 +426,9 @@ fixed_within text reason e bytes f (inl h) = rw (h.1) (omega arith)
 fixed_within text reason e bytes f (inr h) = rw (h.2) (differ_within text bytes h.0 h.1)
 
 fixed_faulty_again : {R : Type 0} (text : List ℕ) (reason : R) (e : End R) (bytes : List ℕ) (f : Fault R) → (fixed text reason).Faulty e bytes f → fixed_reads text reason e bytes ≡ Err f
-fixed_faulty_again text reason e bytes f (inl h) = rw (h.0.text_is, h.1) (fixed_short bytes h.0.next h.0.tail reason e)
+fixed_faulty_again text reason e bytes f (inl h) = rw (h.0.literal_is, h.1) (fixed_short bytes h.0.next h.0.tail reason e)
 fixed_faulty_again text reason e bytes f (inr h) =
-    rw (h.2, h.1.place, h.1.text_is, h.1.bytes_are) (fixed_differ h.1.same h.1.found h.1.rest h.1.expected h.1.tail reason e h.1.differ)
+    rw (h.2, h.1.place, h.1.literal_is, h.1.bytes_are) (fixed_differ h.1.same h.1.found h.1.rest h.1.expected h.1.tail reason e h.1.differ)
 
 fixed_stays : {R : Type 0} (text : List ℕ) (reason r : R) (bytes : List ℕ) (f : Fault R) → (fixed text reason).Faulty (end.Cut r) bytes f → Stays (fixed_reads text reason) r bytes f
 fixed_stays text reason r bytes f (inl h) = inl h.1
@@ -438,7 +438,7 @@ fixed_stays {R} text reason r bytes f (inr h) =
     let parts : bytes ++ more ≡ d.same ++ d.found ∷ (d.rest ++ more) = ap (λ (b : List ℕ). b ++ more) d.bytes_are ∙ append_assoc d.same (d.found ∷ d.rest) more in
     let one = fixed_differ d.same d.found (d.rest ++ more) d.expected d.tail reason e d.differ in
     let place : flaw (suc (length (d.rest ++ more))) reason ≡ later (flaw h.0 reason) (length more) = flaw-later h.0 reason (length more) (suc (length (d.rest ++ more))) (omega (arith, d.place, length-append d.rest more)) in
-    rw (h.2, parts, d.text_is) (one ∙ ap (λ (g : Fault R). err_of (Unit {0} × List ℕ) g) place))
+    rw (h.2, parts, d.literal_is) (one ∙ ap (λ (g : Fault R). err_of (Unit {0} × List ℕ) g) place))
 
 pub fixed_lawful : {R : Type 0} (text : List ℕ) (reason : R) → Lawful (fixed text reason)
 fixed_lawful text reason = record {
@@ -459,9 +459,9 @@ chain_lawful g next l (suc n) s = bind_lawful (g s) _ (l s) (λ x. bind_lawful (
 pub times_lawful : {R A : Type 0} (g : Grammar R A) → Lawful g → (n : ℕ) → Lawful (times g n)
 times_lawful g l n = chain_lawful (λ (s : Unit {0}). g) (λ s x. s) (λ s. l) n tt
 
-pub limited_lawful : {R A : Type 0} (g : ℕ → Grammar R A) (reason : R) → ((room : ℕ) → Lawful (g room)) → (room : ℕ) → Lawful (limited g reason room)
-limited_lawful g reason l zero = fail_lawful reason
-limited_lawful g reason l (suc room) = l room
+pub from_stock_lawful : {R A : Type 0} (g : ℕ → Grammar R A) (reason : R) → ((room : ℕ) → Lawful (g room)) → (room : ℕ) → Lawful (from_stock g reason room)
+from_stock_lawful g reason l zero = fail_lawful reason
+from_stock_lawful g reason l (suc room) = l room
 
 pub vec_lawful : {R A : Type 0} (bad : R) (g : Grammar R A) → Lawful g → Lawful (vec bad g)
 vec_lawful bad g l = bind_lawful (number bad) _ (number_lawful bad) (λ n. times_lawful g l n)

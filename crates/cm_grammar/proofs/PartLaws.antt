@@ -7,23 +7,23 @@ use Rattle.cm_grammar.specs.declared.fault.End.{End}
 use Rattle.cm_grammar.specs.declared.fault.End.TheVariants as end
 use Rattle.cm_grammar.specs.Faults.{flaw, later, want}
 use Rattle.cm_grammar.specs.Grammar.{DifferAt, IsBeginning}
-use Rattle.cm_grammar.specs.Whole.{Whole, too_short, begun_reads, begun, inside, cut_short, sized}
+use Rattle.cm_grammar.specs.Whole.{Whole, too_short, begins_with_reads, begins_with, inside, cut_short, of_size}
 use Rattle.cm_grammar.proofs.Tools.{IsBytes, IsBytes-take, ok_of, err_of, ok_is, err_is, flaw-later, later-later}
 use Rattle.cm_grammar.proofs.Laws.{Takes, Stays, Lawful, differ_more, beginning_more}
 use Rattle.cm_grammar.proofs.WholeLaws.{LawfulWhole}
 
 -- ---- bytes that begin with a text
 
-begun_goes_on : {R : Type 0} (c : ℕ) (text : List ℕ) (reason : R) (e : End R) (bytes : List ℕ) (b : ℕ) (rest : List ℕ) → b ≡ c → begun_reads (c ∷ text) reason e bytes (b ∷ rest) ≡ begun_reads text reason e bytes rest
+begun_goes_on : {R : Type 0} (c : ℕ) (text : List ℕ) (reason : R) (e : End R) (bytes : List ℕ) (b : ℕ) (rest : List ℕ) → b ≡ c → begins_with_reads (c ∷ text) reason e bytes (b ∷ rest) ≡ begins_with_reads text reason e bytes rest
 begun_goes_on c text reason e bytes b rest h = let t = eq-eqb b c h in rw t refl
 
-begun_stops : {R : Type 0} (c : ℕ) (text : List ℕ) (reason : R) (e : End R) (bytes : List ℕ) (b : ℕ) (rest : List ℕ) → (b ≡ c → ⊥) → begun_reads (c ∷ text) reason e bytes (b ∷ rest) ≡ Err (flaw (length bytes) reason)
+begun_stops : {R : Type 0} (c : ℕ) (text : List ℕ) (reason : R) (e : End R) (bytes : List ℕ) (b : ℕ) (rest : List ℕ) → (b ≡ c → ⊥) → begins_with_reads (c ∷ text) reason e bytes (b ∷ rest) ≡ Err (flaw (length bytes) reason)
 begun_stops c text reason e bytes b rest h = let t = ne_eqb b c h in rw t refl
 
 cons_same : (b c : ℕ) (rest tail : List ℕ) → b ≡ c → rest ≡ tail → b ∷ rest ≡ c ∷ tail
 cons_same b c rest tail p q = cc
 
-begun_ok : {R : Type 0} (text : List ℕ) (reason : R) (e : End R) (bytes rest x : List ℕ) → begun_reads text reason e bytes rest ≡ Ok x → (x ≡ bytes) × ((tail : List ℕ) × (rest ≡ text ++ tail))
+begun_ok : {R : Type 0} (text : List ℕ) (reason : R) (e : End R) (bytes rest x : List ℕ) → begins_with_reads text reason e bytes rest ≡ Ok x → (x ≡ bytes) × ((tail : List ℕ) × (rest ≡ text ++ tail))
 begun_ok {R} [] reason e bytes rest x h = (sym (ok_is (Fault R) bytes x h), (rest, refl))
 begun_ok (c ∷ text) reason e bytes [] x h = absurd cc
 begun_ok (c ∷ text) reason e bytes (b ∷ rest) x h =
@@ -34,7 +34,7 @@ begun_ok (c ∷ text) reason e bytes (b ∷ rest) x h =
       | inr n ↦ let q = begun_stops c text reason e bytes b rest n in absurd cc
     ]
 
-begun_again : {R : Type 0} (text : List ℕ) (reason : R) (e : End R) (bytes tail : List ℕ) → begun_reads text reason e bytes (text ++ tail) ≡ Ok bytes
+begun_again : {R : Type 0} (text : List ℕ) (reason : R) (e : End R) (bytes tail : List ℕ) → begins_with_reads text reason e bytes (text ++ tail) ≡ Ok bytes
 begun_again [] reason e bytes tail = refl
 begun_again (c ∷ text) reason e bytes tail = begun_goes_on c text reason e bytes c (text ++ tail) refl ∙ begun_again text reason e bytes tail
 
@@ -45,28 +45,28 @@ begun_more : {R : Type 0} (text : List ℕ) (reason : R) (e : End R) (bytes : Li
 begun_more text reason e bytes c rest f (inl h) = inl (beginning_more c text rest h.0, h.1)
 begun_more text reason e bytes c rest f (inr h) = inr (h.0, differ_more c text rest h.0 h.1, h.2)
 
-begun_err : {R : Type 0} (text : List ℕ) (reason : R) (e : End R) (bytes rest : List ℕ) (f : Fault R) → begun_reads text reason e bytes rest ≡ Err f → BegunFaulty text reason e bytes rest f
+begun_err : {R : Type 0} (text : List ℕ) (reason : R) (e : End R) (bytes rest : List ℕ) (f : Fault R) → begins_with_reads text reason e bytes rest ≡ Err f → BegunFaulty text reason e bytes rest f
 begun_err [] reason e bytes rest f h = absurd cc
-begun_err {R} (c ∷ text) reason e bytes [] f h = inl (record { next = c; tail = text; text_is = refl }, sym (err_is (List ℕ) (too_short reason e bytes) f h))
+begun_err {R} (c ∷ text) reason e bytes [] f h = inl (record { next = c; tail = text; literal_is = refl }, sym (err_is (List ℕ) (too_short reason e bytes) f h))
 begun_err {R} (c ∷ text) reason e bytes (b ∷ rest) f h =
     elim (cases_eq b c) [
       | inl q ↦ subst (λ (x : ℕ). BegunFaulty (c ∷ text) reason e bytes (x ∷ rest) f) (sym q) (begun_more text reason e bytes c rest f (begun_err text reason e bytes rest f (sym (begun_goes_on c text reason e bytes b rest q) ∙ h)))
       | inr n ↦
           let p = err_is (List ℕ) (flaw (length bytes) reason) f (sym (begun_stops c text reason e bytes b rest n) ∙ h) in
-          inr (suc (length rest), record { same = []; found = b; rest = rest; expected = c; tail = text; bytes_are = refl; text_is = refl; differ = n; place = refl }, sym p)
+          inr (suc (length rest), record { same = []; found = b; rest = rest; expected = c; tail = text; bytes_are = refl; literal_is = refl; differ = n; place = refl }, sym p)
     ]
 
-begun_short : {R : Type 0} (rest : List ℕ) (next : ℕ) (tail : List ℕ) (reason : R) (e : End R) (bytes : List ℕ) → begun_reads (rest ++ next ∷ tail) reason e bytes rest ≡ Err (too_short reason e bytes)
+begun_short : {R : Type 0} (rest : List ℕ) (next : ℕ) (tail : List ℕ) (reason : R) (e : End R) (bytes : List ℕ) → begins_with_reads (rest ++ next ∷ tail) reason e bytes rest ≡ Err (too_short reason e bytes)
 begun_short [] next tail reason e bytes = refl
 begun_short (b ∷ rest) next tail reason e bytes = begun_goes_on b (rest ++ next ∷ tail) reason e bytes b rest refl ∙ begun_short rest next tail reason e bytes
 
-begun_differ : {R : Type 0} (same : List ℕ) (found : ℕ) (rest : List ℕ) (expected : ℕ) (tail : List ℕ) (reason : R) (e : End R) (bytes : List ℕ) → (found ≡ expected → ⊥) → begun_reads (same ++ expected ∷ tail) reason e bytes (same ++ found ∷ rest) ≡ Err (flaw (length bytes) reason)
+begun_differ : {R : Type 0} (same : List ℕ) (found : ℕ) (rest : List ℕ) (expected : ℕ) (tail : List ℕ) (reason : R) (e : End R) (bytes : List ℕ) → (found ≡ expected → ⊥) → begins_with_reads (same ++ expected ∷ tail) reason e bytes (same ++ found ∷ rest) ≡ Err (flaw (length bytes) reason)
 begun_differ [] found rest expected tail reason e bytes n = begun_stops expected tail reason e bytes found rest n
 begun_differ (b ∷ same) found rest expected tail reason e bytes n = begun_goes_on b (same ++ expected ∷ tail) reason e bytes b (same ++ found ∷ rest) refl ∙ begun_differ same found rest expected tail reason e bytes n
 
-begun_faulty_again : {R : Type 0} (text : List ℕ) (reason : R) (e : End R) (bytes rest : List ℕ) (f : Fault R) → BegunFaulty text reason e bytes rest f → begun_reads text reason e bytes rest ≡ Err f
-begun_faulty_again text reason e bytes rest f (inl h) = rw (h.0.text_is, h.1) (begun_short rest h.0.next h.0.tail reason e bytes)
-begun_faulty_again text reason e bytes rest f (inr h) = rw (h.2, h.1.text_is, h.1.bytes_are) (begun_differ h.1.same h.1.found h.1.rest h.1.expected h.1.tail reason e bytes h.1.differ)
+begun_faulty_again : {R : Type 0} (text : List ℕ) (reason : R) (e : End R) (bytes rest : List ℕ) (f : Fault R) → BegunFaulty text reason e bytes rest f → begins_with_reads text reason e bytes rest ≡ Err f
+begun_faulty_again text reason e bytes rest f (inl h) = rw (h.0.literal_is, h.1) (begun_short rest h.0.next h.0.tail reason e bytes)
+begun_faulty_again text reason e bytes rest f (inr h) = rw (h.2, h.1.literal_is, h.1.bytes_are) (begun_differ h.1.same h.1.found h.1.rest h.1.expected h.1.tail reason e bytes h.1.differ)
 
 too_short_within : {R : Type 0} (reason : R) (e : End R) (bytes : List ℕ) (f : Fault R) → f ≡ too_short reason e bytes → f.left ≤ length bytes
 too_short_within reason (end.Whole r) bytes f h = rw h (omega arith)
@@ -76,20 +76,20 @@ begun_within : {R : Type 0} (text : List ℕ) (reason : R) (e : End R) (bytes re
 begun_within text reason e bytes rest f (inl h) = too_short_within reason e bytes f h.1
 begun_within text reason e bytes rest f (inr h) = rw (h.2) (omega arith)
 
-begun_stays : {R : Type 0} (text : List ℕ) (reason r : R) (bytes : List ℕ) (f : Fault R) → BegunFaulty text reason (end.Cut r) bytes bytes f → Stays (begun text reason).reads r bytes f
+begun_stays : {R : Type 0} (text : List ℕ) (reason r : R) (bytes : List ℕ) (f : Fault R) → BegunFaulty text reason (end.Cut r) bytes bytes f → Stays (begins_with text reason).reads r bytes f
 begun_stays text reason r bytes f (inl h) = inl h.1
 begun_stays {R} text reason r bytes f (inr h) =
     let d = h.1 in
     inr (λ e more.
     let parts : bytes ++ more ≡ d.same ++ d.found ∷ (d.rest ++ more) = ap (λ (b : List ℕ). b ++ more) d.bytes_are ∙ append_assoc d.same (d.found ∷ d.rest) more in
     let one = begun_differ d.same d.found (d.rest ++ more) d.expected d.tail reason e (bytes ++ more) d.differ in
-    let read : begun_reads text reason e (bytes ++ more) (bytes ++ more) ≡ Err (flaw (length (bytes ++ more)) reason) = ap (λ (b : List ℕ). begun_reads text reason e (bytes ++ more) b) parts ∙ ap (λ (t : List ℕ). begun_reads t reason e (bytes ++ more) (d.same ++ d.found ∷ (d.rest ++ more))) d.text_is ∙ one in
+    let read : begins_with_reads text reason e (bytes ++ more) (bytes ++ more) ≡ Err (flaw (length (bytes ++ more)) reason) = ap (λ (b : List ℕ). begins_with_reads text reason e (bytes ++ more) b) parts ∙ ap (λ (t : List ℕ). begins_with_reads t reason e (bytes ++ more) (d.same ++ d.found ∷ (d.rest ++ more))) d.literal_is ∙ one in
     rw (h.2) (read ∙ ap (λ (g : Fault R). err_of (List ℕ) g) (flaw-later (length bytes) reason (length more) (length (bytes ++ more)) (length-append bytes more))))
 
-pub begun_lawful : {R : Type 0} (text : List ℕ) (reason : R) → LawfulWhole (begun text reason)
-begun_lawful {R} text reason = record {
+pub begins_with_lawful : {R : Type 0} (text : List ℕ) (reason : R) → LawfulWhole (begins_with text reason)
+begins_with_lawful {R} text reason = record {
   takes = λ e bytes x fits h. begun_ok text reason e bytes bytes x h;
-  again = λ e x bytes s. let k = begun_again text reason e bytes s.1.0 in rw (s.0) (ap (λ (b : List ℕ). begun_reads text reason e bytes b) s.1.1 ∙ k);
+  again = λ e x bytes s. let k = begun_again text reason e bytes s.1.0 in rw (s.0) (ap (λ (b : List ℕ). begins_with_reads text reason e bytes b) s.1.1 ∙ k);
   faulty = λ e bytes f fits h. begun_err text reason e bytes bytes f h;
   faulty_again = λ e bytes f h. begun_faulty_again text reason e bytes bytes f h;
   within = λ e bytes f fits h. begun_within text reason e bytes bytes f (begun_err text reason e bytes bytes f h);
@@ -116,16 +116,16 @@ cut_not_ok : {R A : Type 0} (e : End R) (t : Result A (Fault R)) (x : A × List 
 cut_not_ok e (Ok y) x h = cc
 cut_not_ok e (Err d) x h = cc
 
-sized_whole : {R A : Type 0} (mismatch : R) (n : ℕ) (w : Whole R A) (e : End R) (bytes : List ℕ) → n ≤ length bytes → (sized mismatch n w).reads e bytes ≡ inside (drop n bytes) (w.reads (end.Whole mismatch) (take n bytes))
+sized_whole : {R A : Type 0} (mismatch : R) (n : ℕ) (w : Whole R A) (e : End R) (bytes : List ℕ) → n ≤ length bytes → (of_size mismatch n w).reads e bytes ≡ inside (drop n bytes) (w.reads (end.Whole mismatch) (take n bytes))
 sized_whole mismatch n w e bytes h = let t = le-leb n (length bytes) h in rw t refl
 
-sized_cut : {R A : Type 0} (mismatch : R) (n : ℕ) (w : Whole R A) (e : End R) (bytes : List ℕ) → length bytes < n → (sized mismatch n w).reads e bytes ≡ cut_short e (w.reads e bytes)
+sized_cut : {R A : Type 0} (mismatch : R) (n : ℕ) (w : Whole R A) (e : End R) (bytes : List ℕ) → length bytes < n → (of_size mismatch n w).reads e bytes ≡ cut_short e (w.reads e bytes)
 sized_cut mismatch n w e bytes h = let t = lt-leb n (length bytes) h in rw t refl
 
 pub cases_le : (n m : ℕ) → (n ≤ m) ⊎ (m < n)
 cases_le n m = elim (cases_Bool (leb n m)) [ inl t ↦ inl (leb-true n m t) | inr f ↦ inr (leb-false n m f) ]
 
-sized_takes : {R A : Type 0} (mismatch : R) (n : ℕ) (w : Whole R A) → LawfulWhole w → (e : End R) (bytes : List ℕ) (x : A) (rest : List ℕ) → IsBytes bytes → (sized mismatch n w).reads e bytes ≡ Ok (x, rest) → Takes (sized mismatch n w) x bytes rest
+sized_takes : {R A : Type 0} (mismatch : R) (n : ℕ) (w : Whole R A) → LawfulWhole w → (e : End R) (bytes : List ℕ) (x : A) (rest : List ℕ) → IsBytes bytes → (of_size mismatch n w).reads e bytes ≡ Ok (x, rest) → Takes (of_size mismatch n w) x bytes rest
 sized_takes mismatch n w l e bytes x rest fits h =
     elim (cases_le n (length bytes)) [
       | inl le ↦
@@ -138,7 +138,7 @@ sized_takes mismatch n w l e bytes x rest fits h =
       | inr lt ↦ absurd (cut_not_ok e (w.reads e bytes) (x, rest) (sym (sized_cut mismatch n w e bytes lt) ∙ h))
     ]
 
-sized_faulty : {R A : Type 0} (mismatch : R) (n : ℕ) (w : Whole R A) → LawfulWhole w → (e : End R) (bytes : List ℕ) (f : Fault R) → IsBytes bytes → (sized mismatch n w).reads e bytes ≡ Err f → (sized mismatch n w).Faulty e bytes f
+sized_faulty : {R A : Type 0} (mismatch : R) (n : ℕ) (w : Whole R A) → LawfulWhole w → (e : End R) (bytes : List ℕ) (f : Fault R) → IsBytes bytes → (of_size mismatch n w).reads e bytes ≡ Err f → (of_size mismatch n w).Faulty e bytes f
 sized_faulty mismatch n w l e bytes f fits h =
     elim (cases_le n (length bytes)) [
       | inl le ↦
@@ -151,14 +151,14 @@ sized_faulty mismatch n w l e bytes f fits h =
           ]
     ]
 
-sized_faulty_again : {R A : Type 0} (mismatch : R) (n : ℕ) (w : Whole R A) → LawfulWhole w → (e : End R) (bytes : List ℕ) (f : Fault R) → (sized mismatch n w).Faulty e bytes f → (sized mismatch n w).reads e bytes ≡ Err f
+sized_faulty_again : {R A : Type 0} (mismatch : R) (n : ℕ) (w : Whole R A) → LawfulWhole w → (e : End R) (bytes : List ℕ) (f : Fault R) → (of_size mismatch n w).Faulty e bytes f → (of_size mismatch n w).reads e bytes ≡ Err f
 sized_faulty_again mismatch n w l e bytes f (inl h) =
     let le : n ≤ length (h.0 ++ h.1) = omega (arith, length-append h.0 h.1, h.3) in
     rw (h.4, h.6) (sized_whole mismatch n w e (h.0 ++ h.1) le ∙ rw (take_at h.0 h.1 n h.3, drop_at h.0 h.1 n h.3, l.faulty_again (end.Whole mismatch) h.0 h.2 h.5) refl)
 sized_faulty_again mismatch n w l e bytes f (inr (lt, inl h)) = sized_cut mismatch n w e bytes lt ∙ rw (l.faulty_again e bytes f h) refl
 sized_faulty_again mismatch n w l e bytes f (inr (lt, inr h)) = sized_cut mismatch n w e bytes lt ∙ rw (l.again e h.0 bytes h.1, h.2) refl
 
-sized_within : {R A : Type 0} (mismatch : R) (n : ℕ) (w : Whole R A) → LawfulWhole w → (e : End R) (bytes : List ℕ) (f : Fault R) → IsBytes bytes → (sized mismatch n w).reads e bytes ≡ Err f → f.left ≤ length bytes
+sized_within : {R A : Type 0} (mismatch : R) (n : ℕ) (w : Whole R A) → LawfulWhole w → (e : End R) (bytes : List ℕ) (f : Fault R) → IsBytes bytes → (of_size mismatch n w).reads e bytes ≡ Err f → f.left ≤ length bytes
 sized_within mismatch n w l e bytes f fits h =
     elim (cases_le n (length bytes)) [
       | inl le ↦
@@ -188,7 +188,7 @@ inside_later : {R A : Type 0} (rest : List ℕ) (t : Result A (Fault R)) (inner 
 inside_later {R} {A} rest t inner out p q = rw (p) (ap (λ (g : Fault R). err_of (A × List ℕ) g) q)
 
 -- A fault that stays whatever follows stays where the part becomes whole, and where it does not.
-sized_grown : {R A : Type 0} (mismatch : R) (n : ℕ) (w : Whole R A) (bytes : List ℕ) (f : Fault R) → length bytes < n → ((e : End R) (more : List ℕ) → w.reads e (bytes ++ more) ≡ Err (later f (length more))) → (e : End R) (more : List ℕ) → (sized mismatch n w).reads e (bytes ++ more) ≡ Err (later f (length more))
+sized_grown : {R A : Type 0} (mismatch : R) (n : ℕ) (w : Whole R A) (bytes : List ℕ) (f : Fault R) → length bytes < n → ((e : End R) (more : List ℕ) → w.reads e (bytes ++ more) ≡ Err (later f (length more))) → (e : End R) (more : List ℕ) → (of_size mismatch n w).reads e (bytes ++ more) ≡ Err (later f (length more))
 sized_grown {R} {A} mismatch n w bytes f lt k e more =
     elim (cases_le n (length (bytes ++ more))) [
       | inl le ↦
@@ -199,7 +199,7 @@ sized_grown {R} {A} mismatch n w bytes f lt k e more =
       | inr short ↦ sized_cut mismatch n w e (bytes ++ more) short ∙ rw (k e more) refl
     ]
 
-sized_stays : {R A : Type 0} (mismatch : R) (n : ℕ) (w : Whole R A) → LawfulWhole w → (r : R) (bytes : List ℕ) (f : Fault R) → IsBytes bytes → (sized mismatch n w).reads (end.Cut r) bytes ≡ Err f → Stays (sized mismatch n w).reads r bytes f
+sized_stays : {R A : Type 0} (mismatch : R) (n : ℕ) (w : Whole R A) → LawfulWhole w → (r : R) (bytes : List ℕ) (f : Fault R) → IsBytes bytes → (of_size mismatch n w).reads (end.Cut r) bytes ≡ Err f → Stays (of_size mismatch n w).reads r bytes f
 sized_stays {R} {A} mismatch n w l r bytes f fits h =
     elim (cases_le n (length bytes)) [
       | inl le ↦
@@ -219,8 +219,8 @@ sized_stays {R} {A} mismatch n w l r bytes f fits h =
           ]
     ]
 
-pub sized_lawful : {R A : Type 0} (mismatch : R) (n : ℕ) (w : Whole R A) → LawfulWhole w → Lawful (sized mismatch n w)
-sized_lawful mismatch n w l = record {
+pub of_size_lawful : {R A : Type 0} (mismatch : R) (n : ℕ) (w : Whole R A) → LawfulWhole w → Lawful (of_size mismatch n w)
+of_size_lawful mismatch n w l = record {
   takes = sized_takes mismatch n w l;
   again = λ e x front rest s.
       let le : n ≤ length (front ++ rest) = omega (arith, length-append front rest, s.0) in

@@ -1,13 +1,13 @@
 -- What is written shortly is spelled, and no longer than any spelling.
-use Rattle.std.proofs.Common.{◌≡◌, ℕ, zero, suc, ◌+◌, ◌<◌, ◌≤◌, List, [], ◌∷◌, ◌++◌, length, map, get_or, Result, Ok, refl, sym, ap, subst, ◌∙◌, arith}
+use Rattle.std.proofs.Common.{◌≡◌, ℕ, zero, suc, ◌+◌, ◌<◌, ◌≤◌, List, [], ◌∷◌, ◌++◌, length, Result, Ok, refl, sym, ap, subst, ◌∙◌, arith}
 use Rattle.std.specs.List.{flat_map}
-use Rattle.std.proofs.lemmas.List.{length-append, length-map, append-nil}
+use Rattle.std.proofs.lemmas.List.{length-append, append-nil}
 use Rattle.std.proofs.lemmas.Bool.Decides.{nat_tests}
 use Rattle.cm_leb.specs.Writing.{shortest_unsigned}
 use Rattle.cm_leb.proofs.WritingLaws.{shortest_unsigned-spells, shortest_unsigned-least, shortest_unsigned-length}
-use Rattle.cm_grammar.specs.Grammar.{Grammar, done, ◌>>=◌, code, number, fixed, chain, limited, vec}
+use Rattle.cm_grammar.specs.Grammar.{Grammar, done, ◌>>=◌, code, number, fixed, chain, from_stock, vec}
 use Rattle.cm_grammar.specs.Whole.{Whole, to_end}
-use Rattle.cm_grammar.specs.Spelling.{counted, prefixed}
+use Rattle.cm_grammar.specs.Spelling.{vec_spelling, blob_spelling}
 
 -- The text spells x, and takes no more bytes than these.
 pub record Short {R A : Type 0} (g : Grammar R A) (x : A) (bytes text : List ℕ) : Type 0 where
@@ -76,23 +76,23 @@ pub chain_count : {R A S : Type 0} (g : S → Grammar R A) (next : S → A → S
 chain_count g next zero s xs bytes h = ap length h.0
 chain_count g next (suc n) s xs bytes h = ap length h.4.4.0 ∙ ap suc (chain_count g next n (next s h.0) h.4.0 h.4.1 h.4.3)
 
-pub limited_shortens : {R A : Type 0} (g : ℕ → Grammar R A) (reason : R) (spell : A → List ℕ) → ((room : ℕ) → Shortens (g room) spell) → (room : ℕ) → Shortens (limited g reason room) spell
-limited_shortens g reason spell l zero x bytes h = absurd h
-limited_shortens g reason spell l (suc room) x bytes h = record { spelled = (l room x bytes h).spelled; shorter = (l room x bytes h).shorter }
+pub from_stock_shortens : {R A : Type 0} (g : ℕ → Grammar R A) (reason : R) (spell : A → List ℕ) → ((room : ℕ) → Shortens (g room) spell) → (room : ℕ) → Shortens (from_stock g reason room) spell
+from_stock_shortens g reason spell l zero x bytes h = absurd h
+from_stock_shortens g reason spell l (suc room) x bytes h = record { spelled = (l room x bytes h).spelled; shorter = (l room x bytes h).shorter }
 
 -- A count, and so many things with a state.
-pub counted_shortens : {R A S : Type 0} (bad : R) (g : S → Grammar R A) (next : S → A → S) (s : S) (spell : A → List ℕ) → ((s : S) → Shortens (g s) spell) → Shortens (number bad >>= λ n. chain g next n s) (counted spell)
+pub counted_shortens : {R A S : Type 0} (bad : R) (g : S → Grammar R A) (next : S → A → S) (s : S) (spell : A → List ℕ) → ((s : S) → Shortens (g s) spell) → Shortens (number bad >>= λ n. chain g next n s) (vec_spelling spell)
 counted_shortens {R} {A} {S} bad g next s spell l xs bytes h =
     let count = chain_count g next h.0 s xs h.2 h.4 in
     let more = chain_shortens g next spell l h.0 s xs h.2 h.4 in
     let first : Short (number bad) h.0 h.1 (shortest_unsigned (length xs)) = subst (λ (n : ℕ). Short (number bad) h.0 h.1 (shortest_unsigned n)) (sym count) (number_shortens bad h.0 h.1 h.3) in
     bind_short (number bad) (λ n. chain g next n s) h.0 xs bytes h.1 h.2 (shortest_unsigned (length xs)) (flat_map spell xs) first more h.5
 
-pub vec_shortens : {R A : Type 0} (bad : R) (g : Grammar R A) (spell : A → List ℕ) → Shortens g spell → Shortens (vec bad g) (counted spell)
+pub vec_shortens : {R A : Type 0} (bad : R) (g : Grammar R A) (spell : A → List ℕ) → Shortens g spell → Shortens (vec bad g) (vec_spelling spell)
 vec_shortens bad g spell l xs bytes h = counted_shortens bad (λ (s : Unit {0}). g) (λ s x. s) tt spell (λ s. l) xs bytes h
 
 -- A length, and a text of so many bytes that passes a test, or two.
-pub text_shortens : {R : Type 0} (bad : R) (body : ℕ → Grammar R (List ℕ)) → ((n : ℕ) (x bytes : List ℕ) → (body n).Spells x bytes → (bytes ≡ x) × (length x ≡ n)) → Shortens (number bad >>= body) prefixed
+pub text_shortens : {R : Type 0} (bad : R) (body : ℕ → Grammar R (List ℕ)) → ((n : ℕ) (x bytes : List ℕ) → (body n).Spells x bytes → (bytes ≡ x) × (length x ≡ n)) → Shortens (number bad >>= body) blob_spelling
 text_shortens {R} bad body plain x bytes h =
     let p = plain h.0 x h.2 h.4 in
     let first : Short (number bad) h.0 h.1 (shortest_unsigned (length x)) = subst (λ (n : ℕ). Short (number bad) h.0 h.1 (shortest_unsigned n)) (sym p.1) (number_shortens bad h.0 h.1 h.3) in
@@ -112,27 +112,10 @@ each_shortens g next spell l s (x ∷ xs) bytes h =
 
 -- ---- what the code needs
 
--- One spelling of a list is no longer than all of them.
-pub each_short : {A : Type 0} (spell : A → List ℕ) (xs : List A) (i : ℕ) (x : A) → i < length xs → x ≡ get_or xs i x → length (spell x) ≤ length (flat_map spell xs)
-each_short spell [] i x h e = absurd (omega arith)
-each_short spell (y ∷ ys) zero x h e = rw (flat_map-cons_length spell y ys, e) (omega arith)
-each_short spell (y ∷ ys) (suc i) x h e = omega (arith, each_short spell ys i x (omega (arith, h)) e, flat_map-cons_length spell y ys)
-
-pub each_short_counted : {A : Type 0} (spell : A → List ℕ) (xs : List A) (i : ℕ) (x : A) (limit : ℕ) → i < length xs → x ≡ get_or xs i x → length (counted spell xs) < limit → length (spell x) < limit
-each_short_counted spell xs i x limit h e lt = omega (arith, each_short spell xs i x h e, length-append (shortest_unsigned (length xs)) (flat_map spell xs), lt)
-
 flat_map_some : {A : Type 0} (spell : A → List ℕ) → ((x : A) → 0 < length (spell x)) → (xs : List A) → length xs ≤ length (flat_map spell xs)
 flat_map_some spell some [] = omega arith
 flat_map_some spell some (x ∷ xs) = omega (arith, some x, flat_map_some spell some xs, flat_map-cons_length spell x xs)
 
-pub flat_map-map : {A B : Type 0} (spell : B → List ℕ) (view : A → B) (xs : List A) → flat_map spell (map view xs) ≡ flat_map (λ x. spell (view x)) xs
-flat_map-map spell view [] = refl
-flat_map-map spell view (x ∷ xs) = ap (λ (b : List ℕ). spell (view x) ++ b) (flat_map-map spell view xs)
-
 -- Where no spelling is empty there are no more things than bytes.
-pub each_some : {A : Type 0} (spell : A → List ℕ) → ((x : A) → 0 < length (spell x)) → (xs : List A) → length xs ≤ length (counted spell xs)
+pub each_some : {A : Type 0} (spell : A → List ℕ) → ((x : A) → 0 < length (spell x)) → (xs : List A) → length xs ≤ length (vec_spelling spell xs)
 each_some spell some xs = omega (arith, flat_map_some spell some xs, length-append (shortest_unsigned (length xs)) (flat_map spell xs))
-
--- The list that is seen and the list of what is seen have one spelling.
-pub counted-map : {A B : Type 0} (spell : B → List ℕ) (view : A → B) (xs : List A) → counted spell (map view xs) ≡ counted (λ x. spell (view x)) xs
-counted-map spell view xs = rw (length-map xs view, flat_map-map spell view xs) refl

@@ -6,7 +6,7 @@ use Rattle.cm_grammar.specs.declared.fault.End.{End}
 use Rattle.cm_grammar.specs.declared.fault.End.TheVariants as end
 use Rattle.cm_grammar.specs.Faults.{flaw, later, and_then}
 use Rattle.cm_grammar.specs.Grammar.{Grammar}
-use Rattle.cm_grammar.specs.Whole.{Whole, made, remainder, exactly_ends, exactly, joined}
+use Rattle.cm_grammar.specs.Whole.{Whole, build, remainder, exactly_ends, exactly, join}
 use Rattle.cm_grammar.proofs.Tools.{IsBytes, IsBytes-after, ok_of, err_of, ok_is, err_is, then_ok, then_err, then_from_ok, then_from_err, flaw-later}
 use Rattle.cm_grammar.proofs.Laws.{Stays, Lawful, ok_stays}
 
@@ -30,21 +30,21 @@ remainder_lawful {R} = record {
   stays = λ r bytes f fits h. absurd cc;
 }
 
-made_err : {R A B : Type 0} (make : A → B) (t : Result A (Fault R)) (f : Fault R) → and_then t (λ x. ok_of (Fault R) (make x)) ≡ Err f → t ≡ Err f
-made_err make (Ok x) f h = absurd cc
-made_err {R} {A} {B} make (Err d) f h = ap (λ (g : Fault R). err_of A g) (err_is B d f h)
+build_err : {R A B : Type 0} (make : A → B) (t : Result A (Fault R)) (f : Fault R) → and_then t (λ x. ok_of (Fault R) (make x)) ≡ Err f → t ≡ Err f
+build_err make (Ok x) f h = absurd cc
+build_err {R} {A} {B} make (Err d) f h = ap (λ (g : Fault R). err_of A g) (err_is B d f h)
 
-pub made_lawful : {R A B : Type 0} (make : A → B) (w : Whole R A) → LawfulWhole w → LawfulWhole (made make w)
-made_lawful {R} {A} {B} make w l = record {
+pub build_lawful : {R A B : Type 0} (make : A → B) (w : Whole R A) → LawfulWhole w → LawfulWhole (build make w)
+build_lawful {R} {A} {B} make w l = record {
   takes = λ e bytes y fits h.
       let q = then_ok (w.reads e bytes) (λ (x : A). Ok (make x)) y h in
       (q.0, l.takes e bytes q.0 fits q.1, sym (ok_is (Fault R) (make q.0) y q.2));
   again = λ e y bytes s. rw (l.again e s.0 bytes s.1, s.2) refl;
-  faulty = λ e bytes f fits h. l.faulty e bytes f fits (made_err make (w.reads e bytes) f h);
+  faulty = λ e bytes f fits h. l.faulty e bytes f fits (build_err make (w.reads e bytes) f h);
   faulty_again = λ e bytes f h. rw (l.faulty_again e bytes f h) refl;
-  within = λ e bytes f fits h. l.within e bytes f fits (made_err make (w.reads e bytes) f h);
+  within = λ e bytes f fits h. l.within e bytes f fits (build_err make (w.reads e bytes) f h);
   stays = λ r bytes f fits h.
-      elim (l.stays r bytes f fits (made_err make (w.reads (end.Cut r) bytes) f h)) [
+      elim (l.stays r bytes f fits (build_err make (w.reads (end.Cut r) bytes) f h)) [
         | inl k ↦ inl k
         | inr k ↦ inr (λ e more. rw (k e more) refl)
       ];
@@ -119,8 +119,8 @@ exactly_lawful {R} {A} surplus g l = record {
 
 -- ---- one thing, and all the rest
 
-pub joined_lawful : {R A B : Type 0} (g : Grammar R A) (next : A → Whole R B) → Lawful g → ((x : A) → LawfulWhole (next x)) → LawfulWhole (joined g next)
-joined_lawful {R} {A} {B} g next l m = record {
+pub join_lawful : {R A B : Type 0} (g : Grammar R A) (next : A → Whole R B) → Lawful g → ((x : A) → LawfulWhole (next x)) → LawfulWhole (join g next)
+join_lawful {R} {A} {B} g next l m = record {
   takes = λ e bytes y fits h.
       let q = then_ok (g.reads e bytes) (λ (x : A × List ℕ). (next x.0).reads e x.1) y h in
       let t = l.takes e bytes q.0.0 q.0.1 fits q.1 in

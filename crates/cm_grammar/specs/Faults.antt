@@ -1,4 +1,5 @@
--- Faults in bytes that are read from the front on, and what a reader that also needs memory may answer.
+-- Faults in bytes that are read from the front on, and what a reader that also needs memory may
+-- answer.
 use Rattle.std.specs.Prelude.{◌≡◌, ℕ, ◌+◌, Result, Ok, Err}
 use Rattle.cm_grammar.specs.declared.fault.Fault.{Fault}
 use Rattle.cm_grammar.specs.declared.fault.End.{End}
@@ -15,13 +16,13 @@ abbrev pub later : {R : Type 0} → Fault R → ℕ → Fault R
 later f more = flaw (f.left + more) f.reason
 
 -- Why a byte past the end is missing.
-abbrev pub wanted : {R : Type 0} → End R → R
-wanted (end.Whole reason) = reason
-wanted (end.Cut reason) = reason
+abbrev pub want_reason : {R : Type 0} → End R → R
+want_reason (end.Whole reason) = reason
+want_reason (end.Cut reason) = reason
 
 -- A byte is wanted where the bytes end.
 abbrev pub want : {R : Type 0} → End R → Fault R
-want e = flaw 0 (wanted e)
+want e = flaw 0 (want_reason e)
 
 -- The next step, where the one before did not fail.
 abbrev pub and_then : {A B E : Type 0} → Result A E → (A → Result B E) → Result B E

@@ -1,6 +1,5 @@
--- What code that reads by a grammar says of itself: bytes of which a cursor has read a part, and several things one after
--- the other.
-use Rattle.std.specs.Prelude.{◌≡◌, ℕ, ◌<◌, ◌≤◌, ◌-◌, nat_le, if◌then◌else◌, List, [], ◌∷◌, length}
+-- What code that reads by a grammar says of itself: bytes of which a cursor has read a part.
+use Rattle.std.specs.Prelude.{ℕ, ◌≤◌, ◌-◌, nat_le, if◌then◌else◌, List, length}
 use Rattle.std.specs.Prelude.{Result, Ok, Err}
 use Rattle.cm_grammar.specs.declared.fault.End.{End}
 use Rattle.cm_grammar.specs.declared.fault.End.TheVariants as end
@@ -10,15 +9,6 @@ use Rattle.cm_grammar.specs.declared.cursor.Cursor.{Cursor}
 use Rattle.cm_grammar.specs.Faults.{later, want, Gives}
 use Rattle.cm_grammar.specs.Grammar.{Grammar}
 use Rattle.cm_grammar.specs.Whole.{Whole}
-
--- The things were read one after the other, from these bytes up to those.
-abbrev pub EachRead : {A : Type 0} → (List ℕ → A → List ℕ → Type 0) → List ℕ → List A → List ℕ → Type 0
-EachRead IsRead bytes [] rest = rest ≡ bytes
-EachRead IsRead bytes (x ∷ xs) rest = (behind : List ℕ) × IsRead bytes x behind × EachRead IsRead behind xs rest
-
--- Fewer things than wanted were read, and the next one failed.
-abbrev pub FailsAmong : {A R : Type 0} → (List ℕ → A → List ℕ → Type 0) → (List ℕ → ReadError R → Type 0) → ℕ → List ℕ → ReadError R → Type 0
-FailsAmong IsRead Fails count bytes e = (xs : List _) × (behind : List ℕ) × EachRead IsRead bytes xs behind × (length xs < count) × Fails behind e
 
 -- How a part of so many bytes ends: as itself where it is all there, else as the bytes do.
 abbrev pub part_end : {R : Type 0} → R → ℕ → End R → List ℕ → End R
@@ -31,15 +21,20 @@ IsInside size (Err errors.Memory) = Unit {0}
 IsInside size (Err (errors.Fault f)) = f.left ≤ size
 
 -- What the reading of a part comes to behind it.
-abbrev pub behind_part : {R X : Type 0} → ℕ → End R → List ℕ → Result X (ReadError R) → Result X (ReadError R)
-behind_part size e bytes (Ok x) = if nat_le size (length bytes) then Ok x else Err (errors.Fault (want e))
+abbrev pub behind_part : {R X : Type 0} → ℕ → End R → List ℕ → Result X (ReadError R)
+    → Result X (ReadError R)
+behind_part size e bytes (Ok x) =
+    if nat_le size (length bytes) then Ok x else Err (errors.Fault (want e))
 behind_part size e bytes (Err errors.Memory) = Err errors.Memory
-behind_part size e bytes (Err (errors.Fault f)) = if nat_le size (length bytes) then Err (errors.Fault (later f (length bytes - size))) else Err (errors.Fault f)
+behind_part size e bytes (Err (errors.Fault f)) = if nat_le size (length bytes)
+    then Err (errors.Fault (later f (length bytes - size))) else Err (errors.Fault f)
 
 -- What was read between these two states of a cursor is what the grammar gives, seen by view.
-abbrev pub Reads : {R A X : Type 0} → Grammar R A → (X → A) → Cursor R → Cursor R → Result X (ReadError R) → Type 0
+abbrev pub Reads : {R A X : Type 0} → Grammar R A → (X → A) → Cursor R → Cursor R
+    → Result X (ReadError R) → Type 0
 Reads g view old new r = Gives (λ x. (view x, new.rest.now)) r (g.reads old.end old.rest.now)
 
 -- What was read of all that is left is what the grammar gives, seen by view.
-abbrev pub ReadsAll : {R A X : Type 0} → Whole R A → (X → A) → Cursor R → Result X (ReadError R) → Type 0
+abbrev pub ReadsAll : {R A X : Type 0} → Whole R A → (X → A) → Cursor R → Result X (ReadError R)
+    → Type 0
 ReadsAll w view old r = Gives view r (w.reads old.end old.rest.now)

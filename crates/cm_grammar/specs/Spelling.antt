@@ -4,9 +4,9 @@ use Rattle.std.specs.List.{flat_map}
 use Rattle.cm_leb.specs.Writing.{shortest_unsigned}
 
 -- The number of things, and the things one after the other.
-abbrev pub counted : {A : Type 0} → (A → List ℕ) → List A → List ℕ
-counted spell xs = shortest_unsigned (length xs) ++ flat_map spell xs
+abbrev pub vec_spelling : {A : Type 0} → (A → List ℕ) → List A → List ℕ
+vec_spelling spell xs = shortest_unsigned (length xs) ++ flat_map spell xs
 
 -- The number of bytes, and the bytes.
-abbrev pub prefixed : List ℕ → List ℕ
-prefixed bytes = shortest_unsigned (length bytes) ++ bytes
+abbrev pub blob_spelling : List ℕ → List ℕ
+blob_spelling bytes = shortest_unsigned (length bytes) ++ bytes

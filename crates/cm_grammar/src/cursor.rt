@@ -5,7 +5,7 @@ ghost use Rattle.std.specs.Prelude.{OnErr, IfErr};
 ghost use Rattle.cm_grammar.specs.Reading.{Reads, ReadsAll, part_end, IsInside, behind_part};
 ghost use Rattle.cm_grammar.specs.Faults.{Gives, flaw, want};
 ghost use Rattle.cm_grammar.specs.Grammar.{number, signed, raw, code, fixed};
-ghost use Rattle.cm_grammar.specs.Whole.{begun, begun_reads, too_short};
+ghost use Rattle.cm_grammar.specs.Whole.{begins_with, begins_with_reads, too_short};
 ghost use Rattle.cm_grammar.specs.declared.fault.ReadError.TheVariants as errors;
 
 use crate::fault::{End, Fault, ReadError};
@@ -13,7 +13,7 @@ use cm_leb::{LebFault, front_s33, front_u32};
 
 /// Bytes of which a part was read: what is left, and how it ends. After an error nothing is said of
 /// what is left.
-#[derive(Clone, Copy, Debug)]
+#[derive(Clone, Copy)]
 pub struct Cursor<'a, R> {
     pub rest: &'a [u8],
     pub end: End<R>,
@@ -108,50 +108,50 @@ impl<'a, R: Copy> Cursor<'a, R> {
         }
     }
 
-    /// Reads this text. A fault of the reason is at the first byte that differs.
-    pub fn fixed(&mut self, text: &[u8], reason: R) -> Result<(), ReadError<R>>
-        ensures read { Reads (fixed text.now reason) (λ x. x) self.old self.new result }
+    /// Reads this literal. A fault of the reason is at the first byte that differs.
+    pub fn fixed(&mut self, literal: &[u8], reason: R) -> Result<(), ReadError<R>>
+        ensures read { Reads (fixed literal.now reason) (λ x. x) self.old self.new result }
         ensures end { self.new.end ≡ self.old.end }
     {
-        match text {
+        match literal {
             [] => Ok(()),
-            [expected, text @ ..] => match self.rest {
+            [expected, literal @ ..] => match self.rest {
                 [] => Err(self.want()),
                 [byte, rest @ ..] => {
                     if byte != expected {
                         return Err(self.fault(reason));
                     }
                     self.rest = rest;
-                    self.fixed(text, reason)
+                    self.fixed(literal, reason)
                 }
             },
         }
     }
 
-    /// All that is left, which begins with this text. A fault of the reason is at its first byte:
-    /// where a byte differs, and where all that was to come is only a beginning of the text. Where
-    /// the input ends before the text does, a byte is wanted there.
-    pub fn begun(&self, text: &[u8], reason: R) -> Result<&'a [u8], ReadError<R>>
-        ensures { ReadsAll (begun text.now reason) (λ x. x.now) self.now result }
+    /// All that is left, which begins with this literal. A fault of the reason is at its first
+    /// byte: where a byte differs, and where all that was to come is only a beginning of the
+    /// literal. Where the input ends before the literal does, a byte is wanted there.
+    pub fn begins_with(&self, literal: &[u8], reason: R) -> Result<&'a [u8], ReadError<R>>
+        ensures { ReadsAll (begins_with literal.now reason) (λ x. x.now) self.now result }
     {
-        self.begun_behind(text, self.rest, reason)?;
+        self.compare_rest(literal, self.rest, reason)?;
         Ok(self.rest)
     }
 
-    /// Of a text and of what is left, the parts behind what is equal in both.
-    fn begun_behind(&self, text: &[u8], rest: &[u8], reason: R) -> Result<(), ReadError<R>>
+    /// Of a literal and of what is left, the parts behind what is equal in both.
+    fn compare_rest(&self, literal: &[u8], rest: &[u8], reason: R) -> Result<(), ReadError<R>>
         ensures { Gives (λ _. self.now.rest.now) result
-            (begun_reads text.now reason self.now.end self.now.rest.now rest.now) }
+            (begins_with_reads literal.now reason self.now.end self.now.rest.now rest.now) }
     {
-        match text {
+        match literal {
             [] => Ok(()),
-            [expected, text @ ..] => match rest {
+            [expected, literal @ ..] => match rest {
                 [] => Err(self.too_short(reason)),
                 [byte, rest @ ..] => {
                     if byte != expected {
                         return Err(self.fault(reason));
                     }
-                    self.begun_behind(text, rest, reason)
+                    self.compare_rest(literal, rest, reason)
                 }
             },
         }
@@ -160,7 +160,8 @@ impl<'a, R: Copy> Cursor<'a, R> {
     /// That nothing is left; else the next byte is a fault of the reason.
     pub fn finish(&self, surplus: R) -> Result<(), ReadError<R>>
         ensures ok { OnOk result (self.now.rest.now ≡ []) }
-        ensures err { IfErr result (λ e. e ≡ errors.Fault (flaw (length self.now.rest.now) surplus)) }
+        ensures err { IfErr result
+            (λ e. e ≡ errors.Fault (flaw (length self.now.rest.now) surplus)) }
         ensures some { OnErr result (0 < length self.now.rest.now) }
     {
         match self.rest {
@@ -169,8 +170,8 @@ impl<'a, R: Copy> Cursor<'a, R> {
         }
     }
 
-    /// A part of so many bytes, which ends at a want of the reason `mismatch`; where fewer are left,
-    /// these, which end as they do here.
+    /// A part of so many bytes, which ends at a want of the reason `mismatch`; where fewer are
+    /// left, these, which end as they do here.
     pub fn part(&self, size: u32, mismatch: R) -> Cursor<'a, R>
         ensures rest { result.rest.now ≡ take size self.now.rest.now }
         ensures end { result.end ≡ part_end mismatch size self.now.end self.now.rest.now }

@@ -5,7 +5,8 @@ ghost use Rattle.cm_grammar.specs.declared.fault.ReadError.TheVariants.{Memory};
 
 use std::alloc::{AllocError, AllocFailed};
 
-/// A fault in bytes: its reason, and how many bytes stand between its place and the end of the bytes.
+/// A fault in bytes: its reason, and how many bytes stand between its place and the end of the
+/// bytes.
 #[derive(Clone, Copy, Debug, PartialEq, Eq)]
 pub struct Fault<R> {
     pub left: usize,
@@ -13,7 +14,7 @@ pub struct Fault<R> {
 }
 
 /// How bytes end, with the reason for want of a byte there.
-#[derive(Clone, Copy, Debug, PartialEq, Eq)]
+#[derive(Clone, Copy)]
 pub enum End<R> {
     /// The bytes are all of a section: more were never to come.
     Whole(R),

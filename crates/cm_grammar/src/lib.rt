@@ -1,12 +1,11 @@
-//! Grammars of bytes: steps from which a binary format is built, with the laws that make reading exact.
+//! Grammars of bytes: steps from which a binary format is built, with the laws that make reading
+//! exact.
 #![tactic(auto)]
 
 mod cursor;
 mod fault;
-mod several;
-mod writing;
+mod form;
 
 pub use cursor::{Code, Cursor};
 pub use fault::{End, Fault, ReadError};
-pub use several::{Item, read_items};
-pub use writing::{Spelled, write_counted, write_prefixed};
+pub use form::{Form, read_vec, write_blob, write_vec};

@@ -1,4 +1,4 @@
 pub mod SoundHandles
-pub mod LinkedEntries
+pub mod ThreadedSlots
 pub mod TableSteps
 pub mod ClosingTable

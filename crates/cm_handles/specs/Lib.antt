@@ -1,2 +1,3 @@
+pub mod Faults
 pub mod Handles
-pub mod Entries
+pub mod Slots

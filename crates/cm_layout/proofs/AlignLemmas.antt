@@ -2,12 +2,12 @@
 use Rattle.std.proofs.Common.{◌≡◌, ℕ, suc, ◌≤◌, max, List, [], ◌∷◌, length, map, Option, Some, None, nat_le, refl, ap, ◌∙◌, arith, inl, inr}
 use Rattle.std.proofs.lemmas.Bool.{cases_Bool}
 use Rattle.std.proofs.lemmas.List.{length-map}
-use Rattle.cm_types.specs.Types.{Ty, Fields, Cases, CasesKind, Width, bits_8, bits_16, bits_32, bits_64, bytes_of, bool, signed, unsigned, char, string, list, fixed_list, fields, cases, flags, own, borrow, no_fields, field, no_cases, plain, carrying}
+use Rattle.cm_types.specs.Types.{Ty, Fields, Cases, CasesKind, Width, bits_8, bits_16, bits_32, bits_64, width_bytes, bool, signed, unsigned, char, string, list, fixed_list, fields, cases, flags, own, borrow, no_fields, field, no_cases, plain, carrying}
 use Rattle.cm_types.specs.TypeTrees.{CaseOf, case_before, cases_from, plain_from, case_of, cases_of}
 use Rattle.cm_types.specs.declared.type_trees.Case.{Case}
 use Rattle.cm_layout.specs.Sizes.{align_of, align_of_fields, align_of_payloads, align_of_payload, case_count, discriminant_size, flags_size}
 
-width_pos : (w : Width) → 1 ≤ bytes_of w
+width_pos : (w : Width) → 1 ≤ width_bytes w
 width_pos bits_8 = omega arith
 width_pos bits_16 = omega arith
 width_pos bits_32 = omega arith

@@ -6,9 +6,9 @@ use Rattle.cm_types.specs.declared.core_value.CoreKind.TheVariants.{I32, I64}
 use Rattle.cm_types.specs.Types.{Ty, Cases, CasesKind, no_cases, plain, carrying, cases}
 use Rattle.cm_types.specs.TypeTrees.{plain_from, case_before, case_of, cases_of}
 use Rattle.cm_types.specs.declared.type_trees.Case.{Case}
-use Rattle.cm_layout.specs.Flattening.{copies, join, joined, flat_of, flat_of_cases, flat_of_payload}
+use Rattle.cm_layout.specs.Flattening.{copies, join, join_slots, flat_of, flat_of_cases, flat_of_payload}
 
-pub joined_nil : (xs : List CoreKind) → joined xs [] ≡ xs
+pub joined_nil : (xs : List CoreKind) → join_slots xs [] ≡ xs
 joined_nil [] = refl
 joined_nil (x ∷ xs) = refl
 
@@ -16,18 +16,18 @@ join_assoc : (a b c : CoreKind) → join (join a b) c ≡ join a (join b c)
 join_assoc I32 b c = refl
 join_assoc I64 b c = refl
 
-pub joined_assoc : (xs ys zs : List CoreKind) → joined (joined xs ys) zs ≡ joined xs (joined ys zs)
+pub joined_assoc : (xs ys zs : List CoreKind) → join_slots (join_slots xs ys) zs ≡ join_slots xs (join_slots ys zs)
 joined_assoc [] ys zs = refl
 joined_assoc (x ∷ xs) [] zs = refl
 joined_assoc (x ∷ xs) (y ∷ ys) [] = refl
 joined_assoc (x ∷ xs) (y ∷ ys) (z ∷ zs) =
-    ap (λ k. k ∷ joined (joined xs ys) zs) (join_assoc x y z) ∙ ap (λ ks. join x (join y z) ∷ ks) (joined_assoc xs ys zs)
+    ap (λ k. k ∷ join_slots (join_slots xs ys) zs) (join_assoc x y z) ∙ ap (λ ks. join x (join y z) ∷ ks) (joined_assoc xs ys zs)
 
 pub flat_plain : (ls : List (List ℕ)) → flat_of_cases (plain_from ls) ≡ []
 flat_plain [] = refl
 flat_plain (l ∷ ls) = flat_plain ls
 
-pub flat_before : (l : List ℕ) (o : Option Ty) (cs : Cases) → flat_of_cases (case_before l o cs) ≡ joined (flat_of_payload o) (flat_of_cases cs)
+pub flat_before : (l : List ℕ) (o : Option Ty) (cs : Cases) → flat_of_cases (case_before l o cs) ≡ join_slots (flat_of_payload o) (flat_of_cases cs)
 flat_before l None cs = refl
 flat_before l (Some t) cs = refl
 
@@ -39,7 +39,7 @@ pub copies_more : (n : ℕ) (xs : List CoreKind) → copies (n + 1) xs ≡ copie
 copies_more n xs = rw add-one (sym (copies_end n xs))
 
 -- past the shorter list only the longer one is left
-pub joined_rest : (c : ℕ) (xs ys : List CoreKind) → c ≡ min (length xs) (length ys) → joined (drop c xs) (drop c ys) ≡ drop c xs ++ drop c ys
+pub joined_rest : (c : ℕ) (xs ys : List CoreKind) → c ≡ min (length xs) (length ys) → join_slots (drop c xs) (drop c ys) ≡ drop c xs ++ drop c ys
 joined_rest zero [] ys e = refl
 joined_rest zero (x ∷ xs) [] e = sym (append-nil (x ∷ xs))
 joined_rest zero (x ∷ xs) (y ∷ ys) e = absurd (omega arith)
@@ -55,7 +55,7 @@ option_flat k l m t = ap (λ ks. I32 ∷ ks) (joined_nil (flat_of t))
 pub enum_flat : (k : CasesKind) (ls : List (List ℕ)) → flat_of (cases k (plain_from ls)) ≡ I32 ∷ []
 enum_flat k ls = ap (λ ks. I32 ∷ ks) (flat_plain ls)
 
-pub result_flat : (k : CasesKind) (l m : List ℕ) (o p : Option Ty) → flat_of (cases k (case_before l o (case_before m p no_cases))) ≡ I32 ∷ joined (flat_of_payload o) (flat_of_payload p)
+pub result_flat : (k : CasesKind) (l m : List ℕ) (o p : Option Ty) → flat_of (cases k (case_before l o (case_before m p no_cases))) ≡ I32 ∷ join_slots (flat_of_payload o) (flat_of_payload p)
 result_flat k l m o p =
     rw (flat_before l o (case_before m p no_cases), flat_before m p no_cases, joined_nil (flat_of_payload p)) refl
 
@@ -67,29 +67,29 @@ rest_of : (c : ℕ) (xs : List CoreKind) → take (length xs - c) (drop c xs) �
 rest_of c xs = take_all (length xs - c) (drop c xs) (omega (arith, length-drop c xs))
 
 -- the joined part, and the rest of both
-pub joined_end : (i c : ℕ) (s t u xs ys : List CoreKind) → i ≡ c → c ≡ min (length xs) (length ys) → s ++ joined (drop i xs) (drop i ys) ≡ joined xs ys
-    → t ≡ s ++ take (length xs - c) (drop c xs) → u ≡ t ++ take (length ys - c) (drop c ys) → u ≡ joined xs ys
+pub joined_end : (i c : ℕ) (s t u xs ys : List CoreKind) → i ≡ c → c ≡ min (length xs) (length ys) → s ++ join_slots (drop i xs) (drop i ys) ≡ join_slots xs ys
+    → t ≡ s ++ take (length xs - c) (drop c xs) → u ≡ t ++ take (length ys - c) (drop c ys) → u ≡ join_slots xs ys
 joined_end i c s t u xs ys d e h f g =
     g ∙ rw (rest_of c ys, f, rest_of c xs)
-    (append_assoc s (drop c xs) (drop c ys) ∙ ap (λ z. s ++ z) (sym (joined_rest c xs ys e)) ∙ ap (λ k. s ++ joined (drop k xs) (drop k ys)) (sym d) ∙ h)
+    (append_assoc s (drop c xs) (drop c ys) ∙ ap (λ z. s ++ z) (sym (joined_rest c xs ys e)) ∙ ap (λ k. s ++ join_slots (drop k xs) (drop k ys)) (sym d) ∙ h)
 
 -- nothing is left to join
-pub joined_all : (i : ℕ) (cs : List Case) (s w : List CoreKind) → length cs ≤ i → joined s (flat_of_cases (cases_of (drop i cs))) ≡ w → s ≡ w
+pub joined_all : (i : ℕ) (cs : List Case) (s w : List CoreKind) → length cs ≤ i → join_slots s (flat_of_cases (cases_of (drop i cs))) ≡ w → s ≡ w
 joined_all i cs s w le h = let e : drop i cs ≡ [] = drop_all i cs le in sym (rw e (joined_nil s)) ∙ h
 
 -- one more case was joined
-pub joined_more : (i : ℕ) (cs : List Case) (x : Case) (s t w : List CoreKind) → i < length cs → x ≡ get_or cs i x → t ≡ joined s (flat_of_payload (case_of x).1)
-    → joined s (flat_of_cases (cases_of (drop i cs))) ≡ w → joined t (flat_of_cases (cases_of (drop (i + 1) cs))) ≡ w
+pub joined_more : (i : ℕ) (cs : List Case) (x : Case) (s t w : List CoreKind) → i < length cs → x ≡ get_or cs i x → t ≡ join_slots s (flat_of_payload (case_of x).1)
+    → join_slots s (flat_of_cases (cases_of (drop i cs))) ≡ w → join_slots t (flat_of_cases (cases_of (drop (i + 1) cs))) ≡ w
 joined_more i cs x s t w lt e f h =
     let d : drop i cs ≡ x ∷ drop (i + 1) cs = rw (add-one, drop-cons cs i x lt, ← e) refl in
     rw f (joined_assoc s (flat_of_payload (case_of x).1) (flat_of_cases (cases_of (drop (i + 1) cs)))
-    ∙ ap (joined s) (sym (flat_before (case_of x).0 (case_of x).1 (cases_of (drop (i + 1) cs))))
-    ∙ ap (λ ds. joined s (flat_of_cases (cases_of ds))) (sym d) ∙ h)
+    ∙ ap (join_slots s) (sym (flat_before (case_of x).0 (case_of x).1 (cases_of (drop (i + 1) cs))))
+    ∙ ap (λ ds. join_slots s (flat_of_cases (cases_of ds))) (sym d) ∙ h)
 
 pub copied : (n : ℕ) (out a b xs : List CoreKind) → a ≡ out ++ copies n xs → b ≡ a ++ xs → b ≡ out ++ copies (n + 1) xs
 copied n out a b xs e f = f ∙ rw e (append_assoc out (copies n xs) xs ∙ ap (λ z. out ++ z) (sym (copies_more n xs)))
 
-pub both_joined : (w k x y a b o p : List CoreKind) → w ≡ k → k ≡ joined x y → x ≡ a → y ≡ b → a ≡ o → b ≡ p → w ≡ joined o p
+pub both_joined : (w k x y a b o p : List CoreKind) → w ≡ k → k ≡ join_slots x y → x ≡ a → y ≡ b → a ≡ o → b ≡ p → w ≡ join_slots o p
 both_joined w k x y a b o p d e f g h i = d ∙ e ∙ rw (f ∙ h, g ∙ i) refl
 
 pub ruleset flats = (joined_nil, joined_assoc, flat_plain, option_flat, enum_flat, result_flat, joined_rest, copies_more)

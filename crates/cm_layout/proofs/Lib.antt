@@ -1,5 +1,5 @@
 pub mod AlignLemmas
 pub mod SizeLemmas
-pub mod PlaceLaws
+pub mod OffsetLaws
 pub mod FlatLemmas
 pub mod SlotLaws

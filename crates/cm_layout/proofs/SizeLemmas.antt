@@ -2,23 +2,23 @@
 use Rattle.std.proofs.Common.{◌≡◌, ℕ, zero, suc, ◌+◌, ◌-◌, ◌*◌, ◌/◌, ◌≤◌, ◌<◌, max, List, [], ◌∷◌, length, Option, Some, None, nat_le, refl, ap, ◌∙◌, arith, inl, inr}
 use Rattle.std.proofs.Math.Nat.{div-mul-le_self, lt-div-mul-add, mul-le-mul_left, mul-le-mul_right}
 use Rattle.std.proofs.lemmas.Bool.{cases_Bool, cases_lt}
-use Rattle.cm_types.specs.Types.{Ty, Fields, Cases, CasesKind, Width, bits_8, bits_16, bits_32, bits_64, bytes_of, bool, signed, unsigned, char, string, list, fixed_list, fields, cases, flags, own, borrow, no_fields, field, no_cases, plain, carrying}
+use Rattle.cm_types.specs.Types.{Ty, Fields, Cases, CasesKind, Width, bits_8, bits_16, bits_32, bits_64, width_bytes, bool, signed, unsigned, char, string, list, fixed_list, fields, cases, flags, own, borrow, no_fields, field, no_cases, plain, carrying}
 use Rattle.cm_types.specs.TypeTrees.{case_before, plain_from}
 use Rattle.cm_types.specs.Limits.{nodes_of, nodes_of_fields, nodes_of_cases, payload_nodes}
-use Rattle.cm_layout.specs.Places.{place, IsPlace}
+use Rattle.cm_layout.specs.Alignment.{align_to, IsLeastMultiple}
 use Rattle.cm_layout.specs.Sizes.{align_of, align_of_fields, align_of_payloads, align_of_payload, case_count, discriminant_size, flags_size, size_of, end_of, greatest_payload, payload_offset, size_of_payload}
 use Rattle.cm_layout.proofs.AlignLemmas.{align_pos, fields_align_pos, payloads_align_pos, discriminant_pos, flags_pos, count_before, count_of_cases, count_plain, align_before, align_plain, payload_align_pos}
 use Rattle.cm_types.proofs.Nodes.{before_nodes}
 
 -- ---- places
 
-pub place_above : (a e : ℕ) → 1 ≤ a → e ≤ place a e
+pub place_above : (a e : ℕ) → 1 ≤ a → e ≤ align_to a e
 place_above a e p =
     let z : 0 < a = omega arith in
     let h : e + (a - 1) < (e + (a - 1)) / a * a + a = lt-div-mul-add z in
     omega arith
 
-pub place_near : (a e : ℕ) → 1 ≤ a → place a e ≤ e + (a - 1)
+pub place_near : (a e : ℕ) → 1 ≤ a → align_to a e ≤ e + (a - 1)
 place_near a e p = div-mul-le_self (e + (a - 1)) a
 
 below_next : (q a e j : ℕ) → 1 ≤ a → q * a ≤ e + (a - 1) → e ≤ j * a → j < q → ⊥
@@ -26,7 +26,7 @@ below_next q a e j p h k l =
     let m : suc j * a ≤ q * a = mul-le-mul_right a (omega arith) in
     omega arith
 
-place_least : (a e j : ℕ) → 1 ≤ a → e ≤ j * a → place a e ≤ j * a
+place_least : (a e j : ℕ) → 1 ≤ a → e ≤ j * a → align_to a e ≤ j * a
 place_least a e j p h =
     let q = (e + (a - 1)) / a in
     let near : (e + (a - 1)) / a * a ≤ e + (a - 1) = div-mul-le_self (e + (a - 1)) a in
@@ -36,12 +36,12 @@ place_least a e j p h =
     ]
 
 -- a place is the least multiple that is not below the end
-pub is_place : (a e : ℕ) → 1 ≤ a → IsPlace a e (place a e)
+pub is_place : (a e : ℕ) → 1 ≤ a → IsLeastMultiple a e (align_to a e)
 is_place a e p = record { multiple = ((e + (a - 1)) / a, refl); above = place_above a e p; least = λ j h. place_least a e j p h }
 
 -- ---- bounds
 
-width_small : (w : Width) → bytes_of w ≤ 8
+width_small : (w : Width) → width_bytes w ≤ 8
 width_small bits_8 = omega arith
 width_small bits_16 = omega arith
 width_small bits_32 = omega arith
@@ -84,7 +84,7 @@ mutual
   payloads_align_small (carrying l t cs) = omega (arith, align_small t, payloads_align_small cs)
 
 -- the place of a type is at most 7 above
-pub place_of_type : (t : Ty) (e : ℕ) → place (align_of t) e ≤ e + 7
+pub place_of_type : (t : Ty) (e : ℕ) → align_to (align_of t) e ≤ e + 7
 place_of_type t e = omega (arith, place_near (align_of t) e (align_pos t), align_small t, align_pos t)
 
 pub repeated_small : (n s x : ℕ) → s + 7 ≤ 32 * x → n * s + 7 ≤ 32 * (1 + max n 1 * x)
@@ -123,7 +123,7 @@ mutual
 
   pub end_small : (fs : Fields) (at : ℕ) → end_of fs at ≤ at + 32 * nodes_of_fields fs
   end_small no_fields at = omega arith
-  end_small (field l t fs) at = omega (arith, end_small fs (place (align_of t) at + size_of t), place_of_type t at, size_small t)
+  end_small (field l t fs) at = omega (arith, end_small fs (align_to (align_of t) at + size_of t), place_of_type t at, size_small t)
 
   pub payload_small : (cs : Cases) → greatest_payload cs ≤ 32 * nodes_of_cases cs
   payload_small no_cases = omega arith
@@ -141,7 +141,7 @@ pub fixed_room : (u t v : Ty) (n s : ℕ) → u ≡ fixed_list t n → v ≡ t �
 fixed_room u t v n s e f h = rw e (repeated_small n s (nodes_of t) (rw (← f) h))
 
 -- a variant, from its parts
-pub variant_size_is : (k : CasesKind) (cs : Cases) (r d a b : ℕ) → r ≡ place (max d a) (place a d + b) → d ≡ discriminant_size (case_count cs) → a ≡ align_of_payloads cs → b ≡ greatest_payload cs → r ≡ size_of (cases k cs)
+pub variant_size_is : (k : CasesKind) (cs : Cases) (r d a b : ℕ) → r ≡ align_to (max d a) (align_to a d + b) → d ≡ discriminant_size (case_count cs) → a ≡ align_of_payloads cs → b ≡ greatest_payload cs → r ≡ size_of (cases k cs)
 variant_size_is k cs r d a b e f g h = e ∙ rw (f, g, h) refl
 
 pub greatest_before : (l : List ℕ) (o : Option Ty) (cs : Cases) → greatest_payload (case_before l o cs) ≡ max (size_of_payload o) (greatest_payload cs)
@@ -164,7 +164,7 @@ pub two_nodes : (k : CasesKind) (l m : List ℕ) (o p : Option Ty) → nodes_of 
 two_nodes k l m o p = rw (before_nodes l o (case_before m p no_cases), before_nodes m p no_cases) (omega arith)
 
 -- an enum is as large as its discriminant
-enum_place : (n : ℕ) → discriminant_size n ≡ place (max (discriminant_size n) 1) (place 1 (discriminant_size n) + 0)
+enum_place : (n : ℕ) → discriminant_size n ≡ align_to (max (discriminant_size n) 1) (align_to 1 (discriminant_size n) + 0)
 enum_place n = elim (cases_Bool (nat_le n 256)) [
   | inl y ↦ rw y refl
   | inr b ↦ elim (cases_Bool (nat_le n 65536)) [ inl y ↦ rw (b, y) refl | inr c ↦ rw (b, c) refl ]

@@ -3,20 +3,20 @@ use Rattle.std.proofs.Common.{◌≡◌, ℕ, zero, suc, List, [], ◌∷◌, in
 use Rattle.cm_types.specs.declared.core_value.CoreKind.{CoreKind}
 use Rattle.cm_types.specs.declared.core_value.CoreKind.TheVariants.{I32, I64}
 use Rattle.cm_types.specs.Types.{Ty, Cases, cases, no_cases, plain, carrying}
-use Rattle.cm_layout.specs.Flattening.{join, joined, flat_of, flat_of_cases, slot, IsGreatestSlot, JoinsSlots}
+use Rattle.cm_layout.specs.Flattening.{join, join_slots, flat_of, flat_of_cases, slot, IsGreatestSlot, JoinsSlots}
 
 -- two slots joined
-abbrev join_slots : Option CoreKind → Option CoreKind → Option CoreKind
-join_slots None o = o
-join_slots (Some j) None = Some j
-join_slots (Some j) (Some k) = Some (join j k)
+abbrev join_options : Option CoreKind → Option CoreKind → Option CoreKind
+join_options None o = o
+join_options (Some j) None = Some j
+join_options (Some j) (Some k) = Some (join j k)
 
-joined_slot : (xs ys : List CoreKind) (n : ℕ) → slot (joined xs ys) n ≡ join_slots (slot xs n) (slot ys n)
+joined_slot : (xs ys : List CoreKind) (n : ℕ) → slot (join_slots xs ys) n ≡ join_options (slot xs n) (slot ys n)
 joined_slot [] ys n = refl
 joined_slot (x ∷ xs) [] zero = refl
 joined_slot (x ∷ xs) [] (suc n) = none_right (slot xs n)
   where
-    none_right : (o : Option CoreKind) → o ≡ join_slots o None
+    none_right : (o : Option CoreKind) → o ≡ join_options o None
     none_right None = refl
     none_right (Some k) = refl
 joined_slot (x ∷ xs) (y ∷ ys) zero = refl
@@ -37,7 +37,7 @@ none_some : (k : CoreKind) → None ≡ Some k → ⊥
 none_some k e = cc
 
 -- the greatest of one payload's slot and the others' is theirs joined
-step : (l : List ℕ) (t : Ty) (cs : Cases) (n : ℕ) (a b : Option CoreKind) → slot (flat_of t) n ≡ a → IsGreatestSlot cs n b → IsGreatestSlot (carrying l t cs) n (join_slots a b)
+step : (l : List ℕ) (t : Ty) (cs : Cases) (n : ℕ) (a b : Option CoreKind) → slot (flat_of t) n ≡ a → IsGreatestSlot cs n b → IsGreatestSlot (carrying l t cs) n (join_options a b)
 step l t cs n None None e g = λ k h. elim h [ inl f ↦ none_some k (sym e ∙ f) | inr f ↦ g k f ]
 step l t cs n None (Some j) e g = (inr g.0, λ k h. elim h [ inl f ↦ absurd (none_some k (sym e ∙ f)) | inr f ↦ g.1 k f ])
 step l t cs n (Some i) None e g = (inl e, λ k h. elim h [ inl f ↦ ap (λ x. join x i) (some_is k i (sym f ∙ e)) ∙ join_same i | inr f ↦ absurd (g k f) ])

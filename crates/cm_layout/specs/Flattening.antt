@@ -17,10 +17,10 @@ join I32 k = k
 join I64 k = I64
 
 -- two lists of kinds, joined slot by slot
-abbrev pub joined : List CoreKind → List CoreKind → List CoreKind
-joined [] ys = ys
-joined (x ∷ xs) [] = x ∷ xs
-joined (x ∷ xs) (y ∷ ys) = join x y ∷ joined xs ys
+abbrev pub join_slots : List CoreKind → List CoreKind → List CoreKind
+join_slots [] ys = ys
+join_slots (x ∷ xs) [] = x ∷ xs
+join_slots (x ∷ xs) (y ∷ ys) = join x y ∷ join_slots xs ys
 
 -- the kind of a number of this width
 abbrev pub number_kind : Width → CoreKind
@@ -54,7 +54,7 @@ abbrev mutual
   pub flat_of_cases : Cases → List CoreKind
   flat_of_cases no_cases = []
   flat_of_cases (plain l cs) = flat_of_cases cs
-  flat_of_cases (carrying l t cs) = joined (flat_of t) (flat_of_cases cs)
+  flat_of_cases (carrying l t cs) = join_slots (flat_of t) (flat_of_cases cs)
 
 -- those of a payload, if there is one
 abbrev pub flat_of_payload : Option Ty → List CoreKind
@@ -75,10 +75,12 @@ SlotOfSome no_cases n k = ⊥
 SlotOfSome (plain l cs) n k = SlotOfSome cs n k
 SlotOfSome (carrying l t cs) n k = (slot (flat_of t) n ≡ Some k) ⊎ SlotOfSome cs n k
 
--- a kind is the greatest that some payload has in a slot, 32 bits below 64, or no payload has the slot
+-- a kind is the greatest that some payload has in a slot, 32 bits below 64, or no payload has the
+-- slot
 abbrev pub IsGreatestSlot : Cases → ℕ → Option CoreKind → Type 0
 IsGreatestSlot cs n None = (k : CoreKind) → SlotOfSome cs n k → ⊥
-IsGreatestSlot cs n (Some k) = SlotOfSome cs n k × ((j : CoreKind) → SlotOfSome cs n j → join j k ≡ k)
+IsGreatestSlot cs n (Some k) =
+    SlotOfSome cs n k × ((j : CoreKind) → SlotOfSome cs n j → join j k ≡ k)
 
 -- what has cases is the number of the case, and then slot by slot the greatest kind
 abbrev pub JoinsSlots : Ty → List CoreKind → Type 0

@@ -4,12 +4,13 @@ use Rattle.cm_types.specs.declared.core_value.CoreKind.{CoreKind}
 use Rattle.cm_types.specs.Types.{Ty, Fields, Cases, variant_type, option_type, result_type, signed}
 use Rattle.cm_types.specs.Types.{unsigned, list, fixed_list, fields, cases, no_fields, field}
 use Rattle.cm_types.specs.Types.{no_cases, plain, carrying}
-use Rattle.cm_layout.specs.Places.{place}
+use Rattle.cm_layout.specs.Alignment.{align_to}
 use Rattle.cm_layout.specs.Sizes.{align_of, size_of, payload_offset}
 use Rattle.cm_layout.specs.Flattening.{flat_of}
 
 mutual
-  -- where it stands in what holds it, size, alignment, flat kinds, whether it is a number, and what it holds
+  -- where it stands in what holds it, size, alignment, flat kinds, whether it is a number, and what
+  -- it holds
   pub data LayoutTy : Type 0 where
     layout : ℕ → ℕ → ℕ → List CoreKind → Bool → Layouts → LayoutTy
 
@@ -33,11 +34,12 @@ nothing_at at = layout at 0 1 [] false no_layouts
 
 -- the layout of a type that stands here, with these in it
 abbrev pub layout_of : ℕ → Ty → List LayoutTy → LayoutTy
-layout_of at t within = layout at (size_of t) (align_of t) (flat_of t) (is_number t) (layouts_from within)
+layout_of at t within =
+    layout at (size_of t) (align_of t) (flat_of t) (is_number t) (layouts_from within)
 
 abbrev mutual
-  -- the layouts of what a type holds: the element of a list, the fields of a record or a tuple, and for
-  -- each case of a variant, an option or a result what it carries
+  -- the layouts of what a type holds: the element of a list, the fields of a record or a tuple, and
+  -- for each case of a variant, an option or a result what it carries
   pub children_of : Ty → List LayoutTy
   children_of (list t) = layout_of 0 t (children_of t) ∷ []
   children_of (fixed_list t n) = layout_of 0 t (children_of t) ∷ []
@@ -50,13 +52,16 @@ abbrev mutual
   -- those of fields, if what is before them ends here
   pub children_of_fields : Fields → ℕ → List LayoutTy
   children_of_fields no_fields at = []
-  children_of_fields (field l t fs) at = layout_of (place (align_of t) at) t (children_of t) ∷ children_of_fields fs (place (align_of t) at + size_of t)
+  children_of_fields (field l t fs) at =
+      layout_of (align_to (align_of t) at) t (children_of t)
+      ∷ children_of_fields fs (align_to (align_of t) at + size_of t)
 
   -- those of cases, whose payloads stand here
   pub children_of_payloads : ℕ → Cases → List LayoutTy
   children_of_payloads at no_cases = []
   children_of_payloads at (plain l cs) = nothing_at at ∷ children_of_payloads at cs
-  children_of_payloads at (carrying l t cs) = layout_of at t (children_of t) ∷ children_of_payloads at cs
+  children_of_payloads at (carrying l t cs) =
+      layout_of at t (children_of t) ∷ children_of_payloads at cs
 
 -- the layout of a type that stands here
 abbrev pub layout_at : ℕ → Ty → LayoutTy

@@ -1,4 +1,4 @@
-pub mod Places
+pub mod Alignment
 pub mod Sizes
 pub mod Flattening
 pub mod FlatFuncs

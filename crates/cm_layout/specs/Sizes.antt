@@ -1,10 +1,12 @@
--- Sizes and alignments of values in memory, in bytes (CanonicalABI.md, "Alignment" and "Element Size").
+-- Sizes and alignments of values in memory, in bytes (CanonicalABI.md, "Alignment" and "Element
+-- Size").
 use Rattle.std.specs.Prelude.{ℕ, zero, suc, ◌+◌, ◌*◌, ◌<◌, ⊤, max, nat_le, if◌then◌else◌, length}
 use Rattle.std.specs.Prelude.{Option, Some, None}
-use Rattle.cm_types.specs.Types.{Ty, Fields, Cases, bytes_of, bool, signed, unsigned, char, string}
+use Rattle.cm_types.specs.Types.{Ty, Fields, Cases, width_bytes, bool, signed, unsigned, char}
+use Rattle.cm_types.specs.Types.{string}
 use Rattle.cm_types.specs.Types.{list, fixed_list, fields, cases, flags, own, borrow, no_fields}
 use Rattle.cm_types.specs.Types.{field, no_cases, plain, carrying}
-use Rattle.cm_layout.specs.Places.{IsPlace, place}
+use Rattle.cm_layout.specs.Alignment.{IsLeastMultiple, align_to}
 
 -- how many cases
 abbrev pub case_count : Cases → ℕ
@@ -24,8 +26,8 @@ abbrev mutual
   -- the alignment of a type
   pub align_of : Ty → ℕ
   align_of bool = 1
-  align_of (signed w) = bytes_of w
-  align_of (unsigned w) = bytes_of w
+  align_of (signed w) = width_bytes w
+  align_of (unsigned w) = width_bytes w
   align_of char = 4
   align_of string = 4
   align_of (list t) = 4
@@ -49,28 +51,29 @@ abbrev mutual
 
 -- where the payload of a variant stands
 abbrev pub payload_offset : Cases → ℕ
-payload_offset cs = place (align_of_payloads cs) (discriminant_size (case_count cs))
+payload_offset cs = align_to (align_of_payloads cs) (discriminant_size (case_count cs))
 
 abbrev mutual
   -- the size of a type
   pub size_of : Ty → ℕ
   size_of bool = 1
-  size_of (signed w) = bytes_of w
-  size_of (unsigned w) = bytes_of w
+  size_of (signed w) = width_bytes w
+  size_of (unsigned w) = width_bytes w
   size_of char = 4
   size_of string = 8
   size_of (list t) = 8
   size_of (fixed_list t n) = n * size_of t
-  size_of (fields k fs) = place (align_of_fields fs) (end_of fs 0)
-  size_of (cases k cs) = place (align_of (cases k cs)) (payload_offset cs + greatest_payload cs)
+  size_of (fields k fs) = align_to (align_of_fields fs) (end_of fs 0)
+  size_of (cases k cs) = align_to (align_of (cases k cs)) (payload_offset cs + greatest_payload cs)
   size_of (flags ls) = flags_size (length ls)
   size_of (own r) = 4
   size_of (borrow r) = 4
 
-  -- where fields end, if the field before them ends here: each stands at its place
+  -- where fields end, if the field before them ends here: each stands at the least multiple of its
+  -- alignment
   pub end_of : Fields → ℕ → ℕ
   end_of no_fields at = at
-  end_of (field l t fs) at = end_of fs (place (align_of t) at + size_of t)
+  end_of (field l t fs) at = end_of fs (align_to (align_of t) at + size_of t)
 
   -- the size of the greatest payload
   pub greatest_payload : Cases → ℕ
@@ -79,10 +82,11 @@ abbrev mutual
   greatest_payload (carrying l t cs) = max (size_of t) (greatest_payload cs)
 
 -- where field n stands, if the field before these ends here
-abbrev pub field_place : Fields → ℕ → ℕ → ℕ
-field_place no_fields at n = at
-field_place (field l t fs) at zero = place (align_of t) at
-field_place (field l t fs) at (suc n) = field_place fs (place (align_of t) at + size_of t) n
+abbrev pub field_offset_from : Fields → ℕ → ℕ → ℕ
+field_offset_from no_fields at n = at
+field_offset_from (field l t fs) at zero = align_to (align_of t) at
+field_offset_from (field l t fs) at (suc n) =
+    field_offset_from fs (align_to (align_of t) at + size_of t) n
 
 -- how many fields
 abbrev pub field_count : Fields → ℕ
@@ -107,7 +111,7 @@ field_type (field l t fs) (suc n) = field_type fs n
 -- where what stands before field n ends, if the field before all ends here
 abbrev pub end_before : Fields → ℕ → ℕ → ℕ
 end_before fs at zero = at
-end_before fs at (suc n) = field_place fs at n + size_of (field_type fs n)
+end_before fs at (suc n) = field_offset_from fs at n + size_of (field_type fs n)
 
 -- ---- what can be asked of a type
 
@@ -118,7 +122,7 @@ HasField _ n = ⊥
 
 -- where field n stands in a record or a tuple
 abbrev pub field_offset : Ty → ℕ → ℕ
-field_offset (fields k fs) n = field_place fs 0 n
+field_offset (fields k fs) n = field_offset_from fs 0 n
 field_offset _ n = 0
 
 -- the fields of a record or a tuple
@@ -131,12 +135,18 @@ abbrev pub HasCases : Ty → Type 0
 HasCases (cases k cs) = ⊤
 HasCases _ = ⊥
 
+-- the size of the number of a case in such a type
+abbrev pub discriminant_size_of : Ty → ℕ
+discriminant_size_of (cases k cs) = discriminant_size (case_count cs)
+discriminant_size_of _ = 0
+
 -- where the payload stands in such a type
 abbrev pub case_offset : Ty → ℕ
 case_offset (cases k cs) = payload_offset cs
 case_offset _ = 0
 
 -- the payload stands at the least multiple of the payloads' alignment behind the number of the case
-abbrev pub IsPayloadPlace : Ty → ℕ → Type 0
-IsPayloadPlace (cases k cs) at = IsPlace (align_of_payloads cs) (discriminant_size (case_count cs)) at
-IsPayloadPlace _ at = ⊥
+abbrev pub IsPayloadOffset : Ty → ℕ → Type 0
+IsPayloadOffset (cases k cs) at =
+    IsLeastMultiple (align_of_payloads cs) (discriminant_size (case_count cs)) at
+IsPayloadOffset _ at = ⊥

@@ -17,8 +17,8 @@ pub const MAX_FLAT_PARAMS: usize = 16;
 /// How many core values may pass the result of a function.
 pub const MAX_FLAT_RESULTS: usize = 1;
 
-/// Which core function: the one that a component lifts, or the one that it gets for a function that it
-/// lowers.
+/// Which core function: the one that a component lifts, or the one that it gets for a function that
+/// it lowers.
 #[derive(Clone, Copy, Debug, PartialEq, Eq)]
 pub enum Side {
     Lift,
@@ -26,14 +26,14 @@ pub enum Side {
 }
 
 /// The signature of a core function.
-#[derive(Debug, Drop)]
+#[derive(Drop)]
 pub struct FlatFunc {
     pub params: Vec<CoreKind>,
     pub results: Vec<CoreKind>,
     /// Whether the parameters are passed as one pointer to their tuple in memory.
     pub spilled_params: bool,
-    /// Whether the result is passed in memory: a lifted function answers a pointer to it, a lowered one
-    /// takes the pointer as its last parameter and answers nothing.
+    /// Whether the result is passed in memory: a lifted function answers a pointer to it, a lowered
+    /// one takes the pointer as its last parameter and answers nothing.
     pub spilled_result: bool,
 }
 
@@ -45,8 +45,10 @@ impl FlatFunc {
         results: Vec<CoreKind>,
         side: Side,
     ) -> Result<FlatFunc, AllocError>
-        ensures lift { side ≡ Side.Lift → IfOk result (λ f. flat_func_of f ≡ lifted_func params.items results.items) }
-        ensures lower { side ≡ Side.Lower → IfOk result (λ f. flat_func_of f ≡ lowered_func params.items results.items) }
+        ensures lift { side ≡ Side.Lift
+            → IfOk result (λ f. flat_func_of f ≡ lifted_func params.items results.items) }
+        ensures lower { side ≡ Side.Lower
+            → IfOk result (λ f. flat_func_of f ≡ lowered_func params.items results.items) }
     {
         let spilled_params = params.len() > MAX_FLAT_PARAMS;
         let spilled_result = results.len() > MAX_FLAT_RESULTS;
@@ -77,8 +79,8 @@ impl FlatFunc {
 
 /// The core signature of a function. More than 16 flat parameters are one pointer to their tuple. A
 /// result of more than 1 flat value is answered by a pointer to it where the function is lifted; a
-/// lowered function takes that pointer as its last parameter and answers nothing. `AllocError` comes
-/// where there is no memory for the lists (CanonicalABI.md, "Flattening").
+/// lowered function takes that pointer as its last parameter and answers nothing. `AllocError`
+/// comes where there is no memory for the lists (CanonicalABI.md, "Flattening").
 pub fn flatten_func(alloc: Global, func: &Func, side: Side) -> Result<FlatFunc, AllocError>
     ensures { IfOk result (λ f. flat_func_of f ≡ flat_func side (func_of func.now)) }
 {

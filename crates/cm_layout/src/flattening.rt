@@ -4,7 +4,7 @@ ghost use Rattle.std.specs.Prelude.{◌≡◌, ◌++◌, IfOk, OnOk};
 ghost use Rattle.std.specs.Option.{option_map};
 ghost use Rattle.cm_types.specs.TypeTrees.{boxed_payload, cases_of, fields_of, parts_of, type_of};
 ghost use Rattle.cm_layout.specs.Flattening.{copies, flat_of, flat_of_cases, flat_of_fields};
-ghost use Rattle.cm_layout.specs.Flattening.{flat_of_payload, join, joined};
+ghost use Rattle.cm_layout.specs.Flattening.{flat_of_payload, join, join_slots};
 
 use cm_types::{Case, CoreKind, Field, TypeNode};
 use std::alloc::{AllocError, Global};
@@ -19,8 +19,8 @@ fn join(a: CoreKind, b: CoreKind) -> CoreKind
 }
 
 #[tactic(auto, using(crate::proofs::FlatLemmas::flats))]
-fn joined(alloc: Global, a: &[CoreKind], b: &[CoreKind]) -> Result<Vec<CoreKind>, AllocError>
-    ensures { IfOk result (λ v. v.items ≡ joined a.now b.now) }
+fn join_slots(alloc: Global, a: &[CoreKind], b: &[CoreKind]) -> Result<Vec<CoreKind>, AllocError>
+    ensures { IfOk result (λ v. v.items ≡ join_slots a.now b.now) }
 {
     let both = a.len().min(b.len());
     let mut slots = Vec::new(alloc);
@@ -76,7 +76,7 @@ pub(crate) fn push_flat(
             out.push(CoreKind::I32)?;
             let ok_kinds = flat_box(alloc, ok)?;
             let error_kinds = flat_box(alloc, error)?;
-            let kinds = joined(alloc, &ok_kinds, &error_kinds)?;
+            let kinds = join_slots(alloc, &ok_kinds, &error_kinds)?;
             out.extend_from_slice(&kinds)?
         }
         TypeNode::Bool
@@ -152,13 +152,14 @@ fn join_payload(
     slots: Vec<CoreKind>,
     payload: &Option<TypeNode>,
 ) -> Result<Vec<CoreKind>, AllocError>
-    ensures { IfOk result (λ v. v.items ≡ joined slots.items (flat_of_payload (option_map type_of payload.now))) }
+    ensures { IfOk result (λ v.
+        v.items ≡ join_slots slots.items (flat_of_payload (option_map type_of payload.now))) }
 {
     match payload {
         Some(ty) => {
             let mut kinds = Vec::new(alloc);
             push_flat(&mut kinds, alloc, ty)?;
-            joined(alloc, &slots, &kinds)
+            join_slots(alloc, &slots, &kinds)
         }
         None => Ok(slots),
     }

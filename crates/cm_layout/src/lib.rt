@@ -5,6 +5,7 @@
 mod alignments;
 mod flat_funcs;
 mod flattening;
+pub mod laws;
 mod layout_trees;
 mod offsets;
 mod sizes;
@@ -12,7 +13,11 @@ mod whole_types;
 
 pub use alignments::node_align;
 pub use flat_funcs::{FlatFunc, MAX_FLAT_PARAMS, MAX_FLAT_RESULTS, Side, flatten_func};
-pub use layout_trees::{LayoutTree, is_number, layout, node_layout};
-pub use offsets::{node_case_offset, node_field_offset, node_has_cases, node_has_field};
+pub use layout_trees::{LayoutTree, is_number, layout, layout_of_params, node_layout};
+pub use offsets::{
+    node_case_offset, node_discriminant_size, node_field_offset, node_has_cases, node_has_field,
+};
 pub use sizes::node_size;
-pub use whole_types::{align, case_offset, field_offset, flatten, has_cases, has_field, size};
+pub use whole_types::{
+    align, case_offset, discriminant_size, field_offset, flatten, has_cases, has_field, size,
+};

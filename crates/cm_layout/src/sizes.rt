@@ -3,31 +3,31 @@
 ghost use Rattle.std.specs.Prelude.{◌≡◌, ◌≤◌, ◌<◌, ◌+◌, ◌*◌, ◌^◌, max};
 ghost use Rattle.cm_types.specs.Limits.{nodes_of, nodes_of_cases, nodes_of_fields, payload_nodes};
 ghost use Rattle.cm_types.specs.TypeTrees.{boxed_payload, cases_of, fields_of, parts_of, type_of};
-ghost use Rattle.cm_layout.specs.Places.{place};
+ghost use Rattle.cm_layout.specs.Alignment.{align_to};
 ghost use Rattle.cm_layout.specs.Sizes.{discriminant_size, end_of, greatest_payload, size_of};
 ghost use Rattle.cm_layout.specs.Sizes.{size_of_payload};
 
 use crate::alignments::{
     box_align, discriminant_size, fields_align, flags_size, node_align, parts_align, payloads_align,
 };
-use cm_types::{Case, Field, TypeNode};
+use cm_types::{Case, Field, MAX_NODES, TypeNode};
 
 /// The least multiple of `align` that is not below `end`.
-pub(crate) fn place(align: u32, end: u32) -> u32
+pub(crate) fn align_to(align: u32, end: u32) -> u32
     requires some { 1 ≤ align }
     requires fits { end + align < 2 ^ 32 }
-    ensures value { result ≡ place align end }
+    ensures value { result ≡ align_to align end }
     ensures near { result + 1 ≤ end + align }
 {
     (end + (align - 1)) / align * align
 }
 
-/// The size in bytes of a type of at most 10,000 nodes (CanonicalABI.md, "Element Size"): below 320,000,
-/// since each node adds at most 32 bytes.
+/// The size in bytes of a type of at most 10,000 nodes (CanonicalABI.md, "Element Size"): below
+/// 320,000, since each node adds at most 32 bytes.
 #[cycle(size)]
 #[tactic(auto, using(crate::proofs::SizeLemmas::sizes))]
 pub fn node_size(ty: &TypeNode) -> u32
-    requires within { nodes_of (type_of ty.now) ≤ 10000 }
+    requires within { nodes_of (type_of ty.now) ≤ MAX_NODES }
     ensures value { result ≡ size_of (type_of ty.now) }
     ensures small { result + 7 ≤ 32 * nodes_of (type_of ty.now) }
 {
@@ -38,8 +38,8 @@ pub fn node_size(ty: &TypeNode) -> u32
             4,
         TypeNode::S64 | TypeNode::U64 | TypeNode::String | TypeNode::List(_) => 8,
         TypeNode::FixedList { element, length } => *length * node_size(element),
-        TypeNode::Record(fields) => place(fields_align(fields), fields_end(fields)),
-        TypeNode::Tuple(parts) => place(parts_align(parts), parts_end(parts)),
+        TypeNode::Record(fields) => align_to(fields_align(fields), fields_end(fields)),
+        TypeNode::Tuple(parts) => align_to(parts_align(parts), parts_end(parts)),
         TypeNode::Variant(cases) => variant_size(
             discriminant_size(cases.len()),
             payloads_align(cases),
@@ -56,25 +56,25 @@ pub fn node_size(ty: &TypeNode) -> u32
     }
 }
 
-/// The size of a variant with a discriminant of this size, payloads with this greatest alignment and
-/// this greatest size.
+/// The size of a variant with a discriminant of this size, payloads with this greatest alignment
+/// and this greatest size.
 fn variant_size(discriminant: u32, align: u32, payload: u32) -> u32
     requires some { 1 ≤ align }
     requires disc { discriminant ≤ 4 }
     requires small { align ≤ 8 }
     requires fits { payload ≤ 320000 }
-    ensures { result ≡ place (max discriminant align) (place align discriminant + payload) }
+    ensures { result ≡ align_to (max discriminant align) (align_to align discriminant + payload) }
 {
-    place(
+    align_to(
         discriminant.max(align),
-        place(align, discriminant) + payload,
+        align_to(align, discriminant) + payload,
     )
 }
 
 #[cycle(size)]
 #[tactic(auto, using(crate::proofs::SizeLemmas::sizes))]
 fn box_size(payload: &Option<Box<TypeNode>>) -> u32
-    requires within { payload_nodes (boxed_payload payload.now) ≤ 10000 }
+    requires within { payload_nodes (boxed_payload payload.now) ≤ MAX_NODES }
     ensures value { result ≡ size_of_payload (boxed_payload payload.now) }
     ensures small { result ≤ 32 * payload_nodes (boxed_payload payload.now) }
 {
@@ -87,13 +87,13 @@ fn box_size(payload: &Option<Box<TypeNode>>) -> u32
 #[cycle(size)]
 #[tactic(auto, using(crate::proofs::SizeLemmas::sizes))]
 pub(crate) fn fields_end(fields: &[Field]) -> u32
-    requires within { nodes_of_fields (fields_of fields.now) ≤ 10000 }
+    requires within { nodes_of_fields (fields_of fields.now) ≤ MAX_NODES }
     ensures value { result ≡ end_of (fields_of fields.now) 0 }
     ensures small { result ≤ 32 * nodes_of_fields (fields_of fields.now) }
 {
     let mut end = 0;
     for field in fields {
-        end = place(node_align(&field.ty), end) + node_size(&field.ty);
+        end = align_to(node_align(&field.ty), end) + node_size(&field.ty);
     }
     end
 }
@@ -101,13 +101,13 @@ pub(crate) fn fields_end(fields: &[Field]) -> u32
 #[cycle(size)]
 #[tactic(auto, using(crate::proofs::SizeLemmas::sizes))]
 pub(crate) fn parts_end(parts: &[TypeNode]) -> u32
-    requires within { nodes_of_fields (parts_of parts.now) ≤ 10000 }
+    requires within { nodes_of_fields (parts_of parts.now) ≤ MAX_NODES }
     ensures value { result ≡ end_of (parts_of parts.now) 0 }
     ensures small { result ≤ 32 * nodes_of_fields (parts_of parts.now) }
 {
     let mut end = 0;
     for part in parts {
-        end = place(node_align(part), end) + node_size(part);
+        end = align_to(node_align(part), end) + node_size(part);
     }
     end
 }
@@ -115,7 +115,7 @@ pub(crate) fn parts_end(parts: &[TypeNode]) -> u32
 #[cycle(size)]
 #[tactic(auto, using(crate::proofs::SizeLemmas::sizes))]
 fn greatest_payload(cases: &[Case]) -> u32
-    requires within { nodes_of_cases (cases_of cases.now) ≤ 10000 }
+    requires within { nodes_of_cases (cases_of cases.now) ≤ MAX_NODES }
     ensures value { result ≡ greatest_payload (cases_of cases.now) }
     ensures small { result ≤ 32 * nodes_of_cases (cases_of cases.now) }
 {

@@ -2,15 +2,18 @@
 
 ghost use Rattle.std.specs.Prelude.{◌≡◌, ◌↔◌, ◌*◌, ℕ, IfOk, IsTrue};
 ghost use Rattle.cm_types.specs.Funcs.{tree_type};
-ghost use Rattle.cm_layout.specs.Places.{IsPlace};
-ghost use Rattle.cm_layout.specs.Sizes.{HasCases, HasField, align_of, case_offset, end_before};
+ghost use Rattle.cm_layout.specs.Alignment.{IsLeastMultiple};
+ghost use Rattle.cm_layout.specs.Sizes.{HasCases, HasField, align_of, case_offset};
+ghost use Rattle.cm_layout.specs.Sizes.{discriminant_size_of, end_before};
 ghost use Rattle.cm_layout.specs.Sizes.{field_offset, field_type, fields_in, size_of};
-ghost use Rattle.cm_layout.specs.Sizes.{IsPayloadPlace};
+ghost use Rattle.cm_layout.specs.Sizes.{IsPayloadOffset};
 ghost use Rattle.cm_layout.specs.Flattening.{JoinsSlots, flat_of};
 
 use crate::alignments::node_align;
 use crate::flattening::push_flat;
-use crate::offsets::{node_case_offset, node_field_offset, node_has_cases, node_has_field};
+use crate::offsets::{
+    node_case_offset, node_discriminant_size, node_field_offset, node_has_cases, node_has_field,
+};
 use crate::sizes::node_size;
 use cm_types::{CoreKind, TypeTree};
 use std::alloc::{AllocError, Global};
@@ -30,37 +33,49 @@ pub fn size(ty: &TypeTree) -> u32
     node_size(&ty.root)
 }
 
-/// Whether the type is a record or a tuple with a field `n`, from 0, so that `field_offset` may be asked.
+/// Whether the type is a record or a tuple with a field `n`, from 0, so that `field_offset` may be
+/// asked.
 pub fn has_field(ty: &TypeTree, n: usize) -> bool
     ensures { IsTrue result ↔ HasField (tree_type ty.now) n }
 {
     node_has_field(&ty.root, n)
 }
 
-/// Whether the type is a variant, an enum, an option or a result, so that `case_offset` may be asked.
+/// Whether the type is a variant, an enum, an option or a result, so that `case_offset` may be
+/// asked.
 pub fn has_cases(ty: &TypeTree) -> bool
     ensures { IsTrue result ↔ HasCases (tree_type ty.now) }
 {
     node_has_cases(&ty.root)
 }
 
-/// Where field `n`, from 0, of a record or a tuple stands, in bytes from where the whole does: at the
-/// least multiple of the field's alignment that is not below the end of what is before it.
+/// Where field `n`, from 0, of a record or a tuple stands, in bytes from where the whole does: at
+/// the least multiple of the field's alignment that is not below the end of what is before it.
 pub fn field_offset(ty: &TypeTree, n: usize) -> u32
     requires { HasField (tree_type ty.now) n }
     ensures value { result ≡ field_offset (tree_type ty.now) n }
-    ensures least { IsPlace (align_of (field_type (fields_in (tree_type ty.now)) n)) (end_before (fields_in (tree_type ty.now)) 0 n) result }
+    ensures least { IsLeastMultiple (align_of (field_type (fields_in (tree_type ty.now)) n))
+        (end_before (fields_in (tree_type ty.now)) 0 n) result }
 {
     node_field_offset(&ty.root, n)
 }
 
-/// Where the payload of a variant, an enum, an option or a result stands, in bytes from where the whole
-/// does: at the least multiple of the greatest alignment of a payload that is not below the end of the
-/// number of the case.
+/// The size in bytes of the number of a case of a variant, an enum, an option or a result: 1, 2 or
+/// 4 (CanonicalABI.md, "Alignment", `discriminant_type`).
+pub fn discriminant_size(ty: &TypeTree) -> u32
+    requires { HasCases (tree_type ty.now) }
+    ensures { result ≡ discriminant_size_of (tree_type ty.now) }
+{
+    node_discriminant_size(&ty.root)
+}
+
+/// Where the payload of a variant, an enum, an option or a result stands, in bytes from where the
+/// whole does: at the least multiple of the greatest alignment of a payload that is not below the
+/// end of the number of the case.
 pub fn case_offset(ty: &TypeTree) -> u32
     requires { HasCases (tree_type ty.now) }
     ensures value { result ≡ case_offset (tree_type ty.now) }
-    ensures least { IsPayloadPlace (tree_type ty.now) result }
+    ensures least { IsPayloadOffset (tree_type ty.now) result }
 {
     node_case_offset(&ty.root)
 }

@@ -9,7 +9,7 @@ use Rattle.std.proofs.lemmas.List.{length-append, length-drop, take_at, take-app
 use Rattle.cm_leb.specs.declared.fault.LebFault.{LebFault}
 use Rattle.cm_leb.specs.declared.fault.LebFault.TheVariants.{Truncated, TooLong, BadLastBits}
 use Rattle.cm_leb.specs.Numbers.{IsGroup, digits_value, greatest_length, two_complement, IsWithin, SpellsSigned, BeginsSigned, StandsSigned, IsSignedFault}
-use Rattle.cm_leb.specs.Reading.{group_at, is_within, in_signed_range, signed_at, signed_from, Gives}
+use Rattle.cm_leb.specs.Reading.{group_at, is_within, in_signed_range, signed_at, signed_from, Finds}
 use Rattle.cm_leb.proofs.Laws.{IsBytes, IsBytes-drop, IsDigitsFault, ok_is, bind_ok, bind_err, group_takes, group_again, group_faulty, group_truncated, group_too_long}
 
 -- The test says what it is named for.
@@ -94,26 +94,26 @@ signed_faulty_again bits bytes BadLastBits h =
 
 -- ---- in the words of the contracts
 
-pub is_found : {X : Type 0} (bits : ℕ) (bytes : List ℕ) (view : X → ℤ × List ℕ) (r : Result X LebFault) → IsBytes bytes → Gives view r (signed_at bits bytes) → IfOk r (λ x. BeginsSigned bits bytes (view x).0 (view x).1)
+pub is_found : {X : Type 0} (bits : ℕ) (bytes : List ℕ) (view : X → ℤ × List ℕ) (r : Result X LebFault) → IsBytes bytes → Finds view r (signed_at bits bytes) → IfOk r (λ x. BeginsSigned bits bytes (view x).0 (view x).1)
 is_found bits bytes view (Ok x) fits given = signed_takes bits bytes (view x).0 (view x).1 fits given
 is_found bits bytes view (Err e) fits given = tt {0}
 
 begins : (bits : ℕ) (bytes : List ℕ) (n : ℤ) (rest : List ℕ) → BeginsSigned bits bytes n rest → signed_at bits bytes ≡ Ok (n, rest)
 begins bits bytes n rest b = rw b.parts (signed_again bits b.front n rest b.spells)
 
-pub is_only : {X : Type 0} (bits : ℕ) (bytes : List ℕ) (view : X → ℤ × List ℕ) (r : Result X LebFault) → Gives view r (signed_at bits bytes) → (n : ℤ) (rest : List ℕ) → BeginsSigned bits bytes n rest → IsOkAnd r (λ x. ((view x).0 ≡ n) × ((view x).1 ≡ rest))
+pub is_only : {X : Type 0} (bits : ℕ) (bytes : List ℕ) (view : X → ℤ × List ℕ) (r : Result X LebFault) → Finds view r (signed_at bits bytes) → (n : ℤ) (rest : List ℕ) → BeginsSigned bits bytes n rest → IsOkAnd r (λ x. ((view x).0 ≡ n) × ((view x).1 ≡ rest))
 is_only bits bytes view (Ok x) given n rest b =
     let e = ok_is (view x) (n, rest) (sym given ∙ begins bits bytes n rest b) in
     (ap (λ (p : ℤ × List ℕ). p.0) e, ap (λ (p : ℤ × List ℕ). p.1) e)
 is_only bits bytes view (Err e) given n rest b = let p = begins bits bytes n rest b in absurd cc
 
-given_err : {X : Type 0} (bits : ℕ) (bytes : List ℕ) (view : X → ℤ × List ℕ) (r : Result X LebFault) (f : LebFault) → Gives view r (signed_at bits bytes) → signed_at bits bytes ≡ Err f → r ≡ Err f
+given_err : {X : Type 0} (bits : ℕ) (bytes : List ℕ) (view : X → ℤ × List ℕ) (r : Result X LebFault) (f : LebFault) → Finds view r (signed_at bits bytes) → signed_at bits bytes ≡ Err f → r ≡ Err f
 given_err bits bytes view (Ok x) f given e = absurd cc
 given_err bits bytes view (Err d) f given e = cc
 
-pub is_fault : {X : Type 0} (bits : ℕ) (bytes : List ℕ) (view : X → ℤ × List ℕ) (r : Result X LebFault) (f : LebFault) → IsBytes bytes → Gives view r (signed_at bits bytes) → IsErrOf r f ↔ IsSignedFault bits f bytes
+pub is_fault : {X : Type 0} (bits : ℕ) (bytes : List ℕ) (view : X → ℤ × List ℕ) (r : Result X LebFault) (f : LebFault) → IsBytes bytes → Finds view r (signed_at bits bytes) → IsErrOf r f ↔ IsSignedFault bits f bytes
 is_fault bits bytes view r f fits given = (
-  λ e. signed_faulty bits bytes f fits (subst (λ (x : Result _ LebFault). Gives view x (signed_at bits bytes)) e given),
+  λ e. signed_faulty bits bytes f fits (subst (λ (x : Result _ LebFault). Finds view x (signed_at bits bytes)) e given),
   λ h. given_err bits bytes view r f given (signed_faulty_again bits bytes f h),
 )
 

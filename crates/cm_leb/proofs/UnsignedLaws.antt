@@ -7,7 +7,7 @@ use Rattle.std.proofs.lemmas.List.{length-append, length-drop, take_at, take-app
 use Rattle.cm_leb.specs.declared.fault.LebFault.{LebFault}
 use Rattle.cm_leb.specs.declared.fault.LebFault.TheVariants.{Truncated, TooLong, BadLastBits}
 use Rattle.cm_leb.specs.Numbers.{IsGroup, digits_value, greatest_length, SpellsUnsigned, BeginsUnsigned, StandsUnsigned, IsUnsignedFault}
-use Rattle.cm_leb.specs.Reading.{group_at, in_range, unsigned_at, unsigned_from, Gives}
+use Rattle.cm_leb.specs.Reading.{group_at, in_range, unsigned_at, unsigned_from, Finds}
 use Rattle.cm_leb.proofs.Laws.{IsBytes, IsBytes-drop, IsDigitsFault, ok_is, bind_ok, bind_err, group_takes, group_again, group_faulty, group_truncated, group_too_long}
 
 in_range_ok : (bits : ℕ) (x y : ℕ × List ℕ) → in_range bits x ≡ Ok y → (x.0 < 2 ^ bits) × (x ≡ y)
@@ -64,26 +64,26 @@ unsigned_faulty_again bits bytes BadLastBits h =
 
 -- ---- in the words of the contracts
 
-pub is_found : {X : Type 0} (bits : ℕ) (bytes : List ℕ) (view : X → ℕ × List ℕ) (r : Result X LebFault) → IsBytes bytes → Gives view r (unsigned_at bits bytes) → IfOk r (λ x. BeginsUnsigned bits bytes (view x).0 (view x).1)
+pub is_found : {X : Type 0} (bits : ℕ) (bytes : List ℕ) (view : X → ℕ × List ℕ) (r : Result X LebFault) → IsBytes bytes → Finds view r (unsigned_at bits bytes) → IfOk r (λ x. BeginsUnsigned bits bytes (view x).0 (view x).1)
 is_found bits bytes view (Ok x) fits given = unsigned_takes bits bytes (view x).0 (view x).1 fits given
 is_found bits bytes view (Err e) fits given = tt {0}
 
 begins : (bits : ℕ) (bytes : List ℕ) (n : ℕ) (rest : List ℕ) → BeginsUnsigned bits bytes n rest → unsigned_at bits bytes ≡ Ok (n, rest)
 begins bits bytes n rest b = rw b.parts (unsigned_again bits b.front n rest b.spells)
 
-pub is_only : {X : Type 0} (bits : ℕ) (bytes : List ℕ) (view : X → ℕ × List ℕ) (r : Result X LebFault) → Gives view r (unsigned_at bits bytes) → (n : ℕ) (rest : List ℕ) → BeginsUnsigned bits bytes n rest → IsOkAnd r (λ x. ((view x).0 ≡ n) × ((view x).1 ≡ rest))
+pub is_only : {X : Type 0} (bits : ℕ) (bytes : List ℕ) (view : X → ℕ × List ℕ) (r : Result X LebFault) → Finds view r (unsigned_at bits bytes) → (n : ℕ) (rest : List ℕ) → BeginsUnsigned bits bytes n rest → IsOkAnd r (λ x. ((view x).0 ≡ n) × ((view x).1 ≡ rest))
 is_only bits bytes view (Ok x) given n rest b =
     let e = ok_is (view x) (n, rest) (sym given ∙ begins bits bytes n rest b) in
     (ap (λ (p : ℕ × List ℕ). p.0) e, ap (λ (p : ℕ × List ℕ). p.1) e)
 is_only bits bytes view (Err e) given n rest b = let p = begins bits bytes n rest b in absurd cc
 
-given_err : {X : Type 0} (bits : ℕ) (bytes : List ℕ) (view : X → ℕ × List ℕ) (r : Result X LebFault) (f : LebFault) → Gives view r (unsigned_at bits bytes) → unsigned_at bits bytes ≡ Err f → r ≡ Err f
+given_err : {X : Type 0} (bits : ℕ) (bytes : List ℕ) (view : X → ℕ × List ℕ) (r : Result X LebFault) (f : LebFault) → Finds view r (unsigned_at bits bytes) → unsigned_at bits bytes ≡ Err f → r ≡ Err f
 given_err bits bytes view (Ok x) f given e = absurd cc
 given_err bits bytes view (Err d) f given e = cc
 
-pub is_fault : {X : Type 0} (bits : ℕ) (bytes : List ℕ) (view : X → ℕ × List ℕ) (r : Result X LebFault) (f : LebFault) → IsBytes bytes → Gives view r (unsigned_at bits bytes) → IsErrOf r f ↔ IsUnsignedFault bits f bytes
+pub is_fault : {X : Type 0} (bits : ℕ) (bytes : List ℕ) (view : X → ℕ × List ℕ) (r : Result X LebFault) (f : LebFault) → IsBytes bytes → Finds view r (unsigned_at bits bytes) → IsErrOf r f ↔ IsUnsignedFault bits f bytes
 is_fault bits bytes view r f fits given = (
-  λ e. unsigned_faulty bits bytes f fits (subst (λ (x : Result _ LebFault). Gives view x (unsigned_at bits bytes)) e given),
+  λ e. unsigned_faulty bits bytes f fits (subst (λ (x : Result _ LebFault). Finds view x (unsigned_at bits bytes)) e given),
   λ h. given_err bits bytes view r f given (unsigned_faulty_again bits bytes f h),
 )
 

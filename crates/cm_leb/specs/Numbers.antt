@@ -1,5 +1,5 @@
--- Numbers in LEB128: which bytes spell a number, and what is wrong with bytes that do not (Binary.md by way of the core
--- specification, "Integers").
+-- Numbers in LEB128: which bytes spell a number, and what is wrong with bytes that do not
+-- (Binary.md by way of the core specification, "Integers").
 use Rattle.cm_leb.specs.declared.fault.LebFault.{LebFault}
 use Rattle.cm_leb.specs.declared.fault.LebFault.TheVariants.{Truncated, TooLong, BadLastBits}
 use Rattle.std.specs.Prelude.{◌≡◌, ℕ, ◌+◌, ◌-◌, ◌*◌, ◌/◌, ◌%◌, ◌^◌, ◌<◌, ◌≤◌, List, [], ◌∷◌, ◌++◌}
@@ -37,7 +37,8 @@ pub record IsWithin (bits : ℕ) (z : ℤ) : Type 0 where
   pub low : neg_ℤ (pos (2 ^ (bits - 1))) ≤ℤ z
   pub high : z <ℤ pos (2 ^ (bits - 1))
 
--- The bytes spell z, a number of so many bits with a sign: the digits stand for it in two's complement.
+-- The bytes spell z, a number of so many bits with a sign: the digits stand for it in two's
+-- complement.
 pub record SpellsSigned (bits : ℕ) (bytes : List ℕ) (z : ℤ) : Type 0 where
   pub group : IsGroup bytes
   pub short : length bytes ≤ greatest_length bits
@@ -55,7 +56,8 @@ IsTruncated bits bytes = (length bytes < greatest_length bits) × AllGoOn bytes
 
 -- The byte at the greatest length still says that another one follows.
 abbrev pub IsTooLong : ℕ → List ℕ → Type 0
-IsTooLong bits bytes = (greatest_length bits ≤ length bytes) × AllGoOn (take (greatest_length bits) bytes)
+IsTooLong bits bytes =
+    (greatest_length bits ≤ length bytes) × AllGoOn (take (greatest_length bits) bytes)
 
 -- A number's bytes stand in front, and their digits are no number of so many bits without a sign.
 pub record HasBadUnsignedBits (bits : ℕ) (bytes : List ℕ) : Type 0 where
@@ -110,3 +112,9 @@ pub record BeginsSigned (bits : ℕ) (bytes : List ℕ) (z : ℤ) (rest : List �
   pub front : List ℕ
   pub spells : SpellsSigned bits front z
   pub parts : bytes ≡ front ++ rest
+
+-- The number by which a fault is known, this project's own.
+abbrev pub fault_number : LebFault → ℕ
+fault_number Truncated = 1
+fault_number TooLong = 2
+fault_number BadLastBits = 3

@@ -2,7 +2,7 @@
 
 use thiserror::Error;
 
-/// What is wrong with the bytes of a number, by its number.
+/// What is wrong with the bytes of a number (the core specification, "Integers").
 #[derive(Clone, Copy, Debug, PartialEq, Eq, Error)]
 pub enum LebFault {
     /// The bytes end before the number does.
@@ -10,8 +10,20 @@ pub enum LebFault {
     Truncated = 1,
     /// The fifth byte says that another one follows.
     #[error("a number of more than five bytes")]
-    TooLong = 2,
+    TooLong,
     /// The number's bits go past its type.
     #[error("a number that is too large for its type")]
-    BadLastBits = 3,
+    BadLastBits,
+}
+
+impl LebFault {
+    ghost use Rattle.std.specs.Prelude.{◌≡◌};
+    ghost use Rattle.cm_leb.specs.Numbers.{fault_number};
+
+    /// The number by which the fault is known, from 1 for `Truncated` to 3 for `BadLastBits`.
+    pub fn number(self) -> u8
+        ensures { result ≡ fault_number self }
+    {
+        self as u8
+    }
 }

@@ -6,7 +6,7 @@ ghost use Rattle.std.specs.Result.{IsErrOf};
 ghost use Rattle.cm_leb.specs.Numbers.{two_complement, IsTruncated, IsTooLong, HasBadUnsignedBits};
 ghost use Rattle.cm_leb.specs.Numbers.{HasBadSignedBits, BeginsUnsigned, BeginsSigned};
 ghost use Rattle.cm_leb.specs.Numbers.{StandsUnsigned, StandsSigned};
-ghost use Rattle.cm_leb.specs.Reading.{Gives, group_at, unsigned_at, signed_at, unsigned_from};
+ghost use Rattle.cm_leb.specs.Reading.{Finds, group_at, unsigned_at, signed_at, unsigned_from};
 ghost use Rattle.cm_leb.specs.Reading.{signed_from};
 
 use crate::fault::LebFault;
@@ -18,9 +18,10 @@ const GREATEST_LENGTH: usize = 5;
 #[tactic(auto, unfolding(crate::specs::Reading::group_at))]
 fn group(bytes: &[u8], room: usize) -> Result<(u64, &[u8]), LebFault>
     requires { room ≤ 5 }
-    ensures read { Gives (λ x. (x.0, x.1.now)) result (group_at room bytes.now) }
+    ensures read { Finds (λ x. (x.0, x.1.now)) result (group_at room bytes.now) }
     ensures small { IfOk result (λ x. x.0 < 128 ^ room) }
-    ensures shorter { IfOk result (λ x. (length x.1.now < length bytes.now) × (length bytes.now ≤ length x.1.now + room)) }
+    ensures shorter { IfOk result
+        (λ x. (length x.1.now < length bytes.now) × (length bytes.now ≤ length x.1.now + room)) }
 {
     if room == 0 {
         return Err(LebFault::TooLong);
@@ -37,16 +38,18 @@ fn group(bytes: &[u8], room: usize) -> Result<(u64, &[u8]), LebFault>
     }
 }
 
-/// Reads the number of 32 bits without a sign at the front of the bytes: the number, and the bytes after it (the
-/// core specification, "Integers"). A number need not be spelled as shortly as it can be.
+/// Reads the number of 32 bits without a sign at the front of the bytes: the number, and the bytes
+/// after it (the core specification, "Integers"). A number need not be spelled as shortly as it can
+/// be.
 ///
 /// - `Truncated`: the bytes end before the number does.
 /// - `TooLong`: the fifth byte says that another one follows.
 /// - `BadLastBits`: the bytes of a number stand in front, and it goes past its type.
 pub fn front_u32(bytes: &[u8]) -> Result<(u32, &[u8]), LebFault>
-    ensures computed { Gives (λ x. (x.0, x.1.now)) result (unsigned_at 32 bytes.now) }
+    ensures computed { Finds (λ x. (x.0, x.1.now)) result (unsigned_at 32 bytes.now) }
     ensures found { IfOk result (λ x. BeginsUnsigned 32 bytes.now x.0 x.1.now) }
-    ensures only { (n : ℕ) (rest : List ℕ) → BeginsUnsigned 32 bytes.now n rest → IsOkAnd result (λ x. (x.0 ≡ n) × (x.1.now ≡ rest)) }
+    ensures only { (n : ℕ) (rest : List ℕ) → BeginsUnsigned 32 bytes.now n rest
+        → IsOkAnd result (λ x. (x.0 ≡ n) × (x.1.now ≡ rest)) }
     ensures truncated { IsErrOf result LebFault.Truncated ↔ IsTruncated 32 bytes.now }
     ensures too_long { IsErrOf result LebFault.TooLong ↔ IsTooLong 32 bytes.now }
     ensures bad_last_bits { IsErrOf result LebFault.BadLastBits ↔ HasBadUnsignedBits 32 bytes.now }
@@ -56,7 +59,7 @@ pub fn front_u32(bytes: &[u8]) -> Result<(u32, &[u8]), LebFault>
 
 #[tactic(auto, unfolding(crate::specs::Reading::unsigned_at))]
 fn unsigned_front(bytes: &[u8]) -> Result<(u32, &[u8]), LebFault>
-    ensures read { Gives (λ x. (x.0, x.1.now)) result (unsigned_at 32 bytes.now) }
+    ensures read { Finds (λ x. (x.0, x.1.now)) result (unsigned_at 32 bytes.now) }
     ensures shorter { IfOk result (λ x. length x.1.now ≤ length bytes.now) }
 {
     let (digits, rest) = group(bytes, GREATEST_LENGTH)?;
@@ -66,15 +69,16 @@ fn unsigned_front(bytes: &[u8]) -> Result<(u32, &[u8]), LebFault>
     Ok((digits as u32, rest))
 }
 
-/// Reads the number of 32 bits without a sign that begins at `at`, counted from 0: the number, and the place after it.
-/// The faults are those of [`front_u32`] for the bytes from `at` on, of which there are none where `at` is not
-/// inside the slice.
+/// Reads the number of 32 bits without a sign that begins at `at`, counted from 0: the number, and
+/// the place after it. The faults are those of [`front_u32`] for the bytes from `at` on, of which
+/// there are none where `at` is not inside the slice.
 pub fn read_u32(bytes: &[u8], at: usize) -> Result<(u32, usize), LebFault>
     ensures found { IfOk result (λ x. StandsUnsigned 32 bytes.now at x.0 x.1) }
     ensures only { (n : ℕ) (end : ℕ) → StandsUnsigned 32 bytes.now at n end → result ≡ Ok (n, end) }
     ensures truncated { IsErrOf result LebFault.Truncated ↔ IsTruncated 32 (drop at bytes.now) }
     ensures too_long { IsErrOf result LebFault.TooLong ↔ IsTooLong 32 (drop at bytes.now) }
-    ensures bad_last_bits { IsErrOf result LebFault.BadLastBits ↔ HasBadUnsignedBits 32 (drop at bytes.now) }
+    ensures bad_last_bits { IsErrOf result LebFault.BadLastBits
+        ↔ HasBadUnsignedBits 32 (drop at bytes.now) }
 {
     unsigned_from(bytes, at)
 }
@@ -90,16 +94,18 @@ fn unsigned_from(bytes: &[u8], at: usize) -> Result<(u32, usize), LebFault>
     Ok((number, bytes.len() - rest.len()))
 }
 
-/// Reads the number of 33 bits with a sign at the front of the bytes: the number, and the bytes after it (the
-/// core specification, "Integers"). A number need not be spelled as shortly as it can be.
+/// Reads the number of 33 bits with a sign at the front of the bytes: the number, and the bytes
+/// after it (the core specification, "Integers"). A number need not be spelled as shortly as it can
+/// be.
 ///
 /// - `Truncated`: the bytes end before the number does.
 /// - `TooLong`: the fifth byte says that another one follows.
 /// - `BadLastBits`: the bytes of a number stand in front, and it goes past its type.
 pub fn front_s33(bytes: &[u8]) -> Result<(i64, &[u8]), LebFault>
-    ensures computed { Gives (λ x. (x.0, x.1.now)) result (signed_at 33 bytes.now) }
+    ensures computed { Finds (λ x. (x.0, x.1.now)) result (signed_at 33 bytes.now) }
     ensures found { IfOk result (λ x. BeginsSigned 33 bytes.now x.0 x.1.now) }
-    ensures only { (n : ℤ) (rest : List ℕ) → BeginsSigned 33 bytes.now n rest → IsOkAnd result (λ x. (x.0 ≡ n) × (x.1.now ≡ rest)) }
+    ensures only { (n : ℤ) (rest : List ℕ) → BeginsSigned 33 bytes.now n rest
+        → IsOkAnd result (λ x. (x.0 ≡ n) × (x.1.now ≡ rest)) }
     ensures truncated { IsErrOf result LebFault.Truncated ↔ IsTruncated 33 bytes.now }
     ensures too_long { IsErrOf result LebFault.TooLong ↔ IsTooLong 33 bytes.now }
     ensures bad_last_bits { IsErrOf result LebFault.BadLastBits ↔ HasBadSignedBits 33 bytes.now }
@@ -109,7 +115,7 @@ pub fn front_s33(bytes: &[u8]) -> Result<(i64, &[u8]), LebFault>
 
 #[tactic(auto, unfolding(crate::specs::Reading::signed_at))]
 fn signed_front(bytes: &[u8]) -> Result<(i64, &[u8]), LebFault>
-    ensures read { Gives (λ x. (x.0, x.1.now)) result (signed_at 33 bytes.now) }
+    ensures read { Finds (λ x. (x.0, x.1.now)) result (signed_at 33 bytes.now) }
     ensures shorter { IfOk result (λ x. length x.1.now ≤ length bytes.now) }
 {
     let (digits, rest) = group(bytes, GREATEST_LENGTH)?;
@@ -121,15 +127,16 @@ fn signed_front(bytes: &[u8]) -> Result<(i64, &[u8]), LebFault>
     Ok((number, rest))
 }
 
-/// Reads the number of 33 bits with a sign that begins at `at`, counted from 0: the number, and the place after it.
-/// The faults are those of [`front_s33`] for the bytes from `at` on, of which there are none where `at` is not
-/// inside the slice.
+/// Reads the number of 33 bits with a sign that begins at `at`, counted from 0: the number, and the
+/// place after it. The faults are those of [`front_s33`] for the bytes from `at` on, of which there
+/// are none where `at` is not inside the slice.
 pub fn read_s33(bytes: &[u8], at: usize) -> Result<(i64, usize), LebFault>
     ensures found { IfOk result (λ x. StandsSigned 33 bytes.now at x.0 x.1) }
     ensures only { (n : ℤ) (end : ℕ) → StandsSigned 33 bytes.now at n end → result ≡ Ok (n, end) }
     ensures truncated { IsErrOf result LebFault.Truncated ↔ IsTruncated 33 (drop at bytes.now) }
     ensures too_long { IsErrOf result LebFault.TooLong ↔ IsTooLong 33 (drop at bytes.now) }
-    ensures bad_last_bits { IsErrOf result LebFault.BadLastBits ↔ HasBadSignedBits 33 (drop at bytes.now) }
+    ensures bad_last_bits { IsErrOf result LebFault.BadLastBits
+        ↔ HasBadSignedBits 33 (drop at bytes.now) }
 {
     signed_from(bytes, at)
 }

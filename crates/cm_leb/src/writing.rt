@@ -8,32 +8,47 @@ ghost use Rattle.cm_leb.specs.Writing.{to_two_complement, shortest_signed};
 
 use std::alloc::AllocError;
 
-/// Appends the shortest spelling of a number without a sign: one byte for each seven bits that it has,
-/// and at least one (the core specification, "Integers").
+/// Appends the shortest spelling of a number without a sign: one byte for each seven bits that it
+/// has, and at least one (the core specification, "Integers").
 ///
 /// The one error is that memory was refused; the list is then unchanged.
 pub fn write_u32(out: &mut Vec<u8>, value: u32) -> Result<(), AllocError>
     ensures ok { OnOk result (out.new.items ≡ out.old.items ++ shortest_unsigned value) }
     // So a read from the old end on finds the number, and the new end.
-    ensures stands { OnOk result (StandsUnsigned 32 out.new.items (length out.old.items) value (length out.new.items)) }
+    ensures stands { OnOk result
+        (StandsUnsigned 32 out.new.items (length out.old.items) value (length out.new.items)) }
     ensures spelled { SpellsUnsigned 32 (shortest_unsigned value) value }
-    ensures shortest { (bytes : List ℕ) → SpellsUnsigned 32 bytes value → length (shortest_unsigned value) ≤ length bytes }
+    ensures shortest { (bytes : List ℕ) → SpellsUnsigned 32 bytes value
+        → length (shortest_unsigned value) ≤ length bytes }
     ensures err { OnErr result (out.new.items ≡ out.old.items) }
 {
     put_group(out, spelled_length(value as u64) as usize, value as u64)
 }
 
-/// Appends the shortest spelling of a number of 33 bits with a sign, in two's complement of seven bits
-/// a byte (the core specification, "Integers").
+/// Appends a count as [`write_u32`] appends a number. Of a count of 32 bits and more, which no
+/// number spells, the low 35 bits are appended.
+///
+/// The one error is that memory was refused; the list is then unchanged.
+pub fn write_count(out: &mut Vec<u8>, count: usize) -> Result<(), AllocError>
+    ensures ok { OnOk result (out.new.items ≡ out.old.items ++ shortest_unsigned count) }
+    ensures err { OnErr result (out.new.items ≡ out.old.items) }
+{
+    put_group(out, spelled_length(count as u64) as usize, count as u64)
+}
+
+/// Appends the shortest spelling of a number of 33 bits with a sign, in two's complement of seven
+/// bits a byte (the core specification, "Integers").
 ///
 /// The one error is that memory was refused; the list is then unchanged.
 pub fn write_s33(out: &mut Vec<u8>, value: i64) -> Result<(), AllocError>
     requires { IsWithin 33 value }
     ensures ok { OnOk result (out.new.items ≡ out.old.items ++ shortest_signed value) }
     // So a read from the old end on finds the number, and the new end.
-    ensures stands { OnOk result (StandsSigned 33 out.new.items (length out.old.items) value (length out.new.items)) }
+    ensures stands { OnOk result
+        (StandsSigned 33 out.new.items (length out.old.items) value (length out.new.items)) }
     ensures spelled { SpellsSigned 33 (shortest_signed value) value }
-    ensures shortest { (bytes : List ℕ) → SpellsSigned 33 bytes value → length (shortest_signed value) ≤ length bytes }
+    ensures shortest { (bytes : List ℕ) → SpellsSigned 33 bytes value
+        → length (shortest_signed value) ≤ length bytes }
     ensures err { OnErr result (out.new.items ≡ out.old.items) }
 {
     let length = length_of_s33(value);
@@ -97,11 +112,11 @@ fn put_group(out: &mut Vec<u8>, length: usize, digits: u64) -> Result<(), AllocE
     ensures ok { OnOk result (out.new.items ≡ out.old.items ++ group_of length digits) }
     ensures err { OnErr result (out.new.items ≡ out.old.items) }
 {
-    let first = low(digits);
-    let second = low(digits / 128);
-    let third = low(digits / 128 / 128);
-    let fourth = low(digits / 128 / 128 / 128);
-    let fifth = low(digits / 128 / 128 / 128 / 128);
+    let first = low_digit(digits);
+    let second = low_digit(digits / 128);
+    let third = low_digit(digits / 128 / 128);
+    let fourth = low_digit(digits / 128 / 128 / 128);
+    let fifth = low_digit(digits / 128 / 128 / 128 / 128);
     match length {
         1 => out.extend_from_slice(&[first]),
         2 => out.extend_from_slice(&[128 + first, second]),
@@ -112,7 +127,7 @@ fn put_group(out: &mut Vec<u8>, length: usize, digits: u64) -> Result<(), AllocE
 }
 
 /// The last digit in base 128.
-fn low(digits: u64) -> u8
+fn low_digit(digits: u64) -> u8
     ensures { result ≡ digits % 128 }
 {
     (digits % 128) as u8

@@ -1,26 +1,28 @@
 -- A drive, turn by turn.
-use Rattle.std.proofs.Common.{◌≡◌, ◌≢◌, ℕ, ◌+◌, ◌-◌, ◌<◌, ◌⊎◌, inl, inr, ◌==◌, ◌&&◌, Bool, true, false, if◌then◌else◌, List, [], ◌∷◌, ◌++◌, length, Option, Some, None, refl, sym, ap, subst, ◌∙◌, append_assoc, arith}
+use Rattle.std.proofs.Common.{◌≡◌, ◌≢◌, ℕ, ◌+◌, ◌-◌, ◌<◌, ◌≤◌, ◌⊎◌, inl, inr, ◌==◌, ◌&&◌, Bool, true, false, if◌then◌else◌, List, [], ◌∷◌, ◌++◌, length, Option, Some, None, refl, sym, ap, subst, ◌∙◌, append_assoc, arith}
 use Rattle.std.specs.Prelude.{slice_get, not}
 use Rattle.std.specs.Option.{option_map}
 use Rattle.std.proofs.lemmas.Bool.{eqb-true, eqb-false}
 use Rattle.std.proofs.lemmas.List.{append-nil, length-append}
-use Rattle.cm_machine.specs.declared.frame.Frame.{Frame}
-use Rattle.cm_machine.specs.declared.event.Event.{Event}
-use Rattle.cm_machine.specs.declared.event.Event.TheVariants as event
-use Rattle.cm_machine.specs.declared.moves.Move.{Move}
+use Rattle.cm_machine_model.specs.declared.frame.Frame.{Frame}
+use Rattle.cm_machine_model.specs.declared.event.Event.{Event}
+use Rattle.cm_machine_model.specs.declared.event.Event.TheVariants as event
+use Rattle.cm_machine_model.specs.declared.moves.Move.{Move}
 use Rattle.cm_machine.specs.Exchange.{Exchange}
-use Rattle.cm_machine.specs.Stack.{actor, top_of}
-use Rattle.cm_machine.specs.State.{State}
-use Rattle.cm_machine.specs.Step.{Step}
-use Rattle.cm_machine.specs.Run.{is_last}
-use Rattle.cm_machine.specs.Player.{Turn, Turns, last_of, exchanges_of, AreStops, Answered, GoesOnAs, SeatPlays, is_taken, StaysTaken, EndsAt, Played, IsDrive, closed_since, emptied_if}
+use Rattle.cm_machine_model.specs.Stack.{actor, top_of}
+use Rattle.cm_machine_model.specs.State.{State}
+use Rattle.cm_machine_model.specs.Step.{Step}
+use Rattle.cm_machine_model.specs.declared.event.Misuse.{Misuse}
+use Rattle.cm_machine_model.specs.declared.event.Misuse.TheVariants as misuse
+use Rattle.cm_machine_model.specs.Run.{is_last, misuse_by_closed, misuse_by_stack, misuse_of_begin}
+use Rattle.cm_machine.specs.Player.{Turn, Turns, last_of, exchanges_of, AreStops, TookPart, GoesOnAs, SeatPlays, is_taken, StaysTaken, EndsAt, IsPlay, IsHalt, IsDrive, closes_between, seat_after_close}
 
 stops_join : (xs ys : List Exchange) → AreStops xs → AreStops ys → AreStops (xs ++ ys)
 stops_join [] ys h k = k
 stops_join (x ∷ xs) ys h k = (h.0, stops_join xs ys h.1 k)
 
-join_answered : {G : Type 0} (plays : G → List Exchange → Type 0) (g h : G) (xs ys : List Exchange) → Answered plays g xs → GoesOnAs plays g h xs → Answered plays h ys → Answered plays g (xs ++ ys)
-join_answered plays g h xs ys a b (inl none) = subst (λ (zs : List Exchange). Answered plays g (xs ++ zs)) (sym none) (rw (append-nil xs) a)
+join_answered : {G : Type 0} (plays : G → List Exchange → Type 0) (g h : G) (xs ys : List Exchange) → TookPart plays g xs → GoesOnAs plays g h xs → TookPart plays h ys → TookPart plays g (xs ++ ys)
+join_answered plays g h xs ys a b (inl none) = subst (λ (zs : List Exchange). TookPart plays g (xs ++ zs)) (sym none) (rw (append-nil xs) a)
 join_answered plays g h xs ys a b (inr p) = inr (b ys p)
 
 -- A seat that took part in two runs of exchanges, one after the other, and held its guest between them.
@@ -46,7 +48,7 @@ seat_rests plays (Some (Some g)) = (inl refl, λ rest r. r)
 seat_rests plays (Some None) = tt
 seat_rests plays None = tt
 
-pub seat_empties : {G : Type 0} (plays : G → List Exchange → Type 0) (c : Bool) (a b : Option (Option G)) (xs : List Exchange) → SeatPlays plays a b xs → SeatPlays plays a (emptied_if c b) xs
+pub seat_empties : {G : Type 0} (plays : G → List Exchange → Type 0) (c : Bool) (a b : Option (Option G)) (xs : List Exchange) → SeatPlays plays a b xs → SeatPlays plays a (seat_after_close c b) xs
 seat_empties plays false a b xs p = p
 seat_empties plays true a None xs p = p
 seat_empties plays true (Some (Some g)) (Some (Some h)) xs p = p.0
@@ -55,7 +57,7 @@ seat_empties plays true (Some None) (Some (Some h)) xs p = absurd p
 seat_empties plays true (Some None) (Some None) xs p = p
 seat_empties plays true None (Some b) xs p = absurd p
 
-pub taken_empties : {G : Type 0} (c : Bool) (a : Option (Option G)) → is_taken (emptied_if c a) ≡ (is_taken a && not c)
+pub taken_empties : {G : Type 0} (c : Bool) (a : Option (Option G)) → is_taken (seat_after_close c a) ≡ (is_taken a && not c)
 taken_empties true (Some (Some g)) = refl
 taken_empties true (Some None) = refl
 taken_empties true None = refl
@@ -175,7 +177,7 @@ by_limit true limit moves is = inl refl
 by_limit false limit moves is = inr (refl, is)
 
 module _ {G : Type 0} (plays : G → List Exchange → Type 0) (start : State) (first : Event) (old : List (Option G)) (limit : ℕ) (events : List Event) (s : State) (seats : List (Option G)) (count : ℕ) (p : Playing plays start first old events s seats count) where
-  ended_at : EndsAt limit (last_of first p.told) (length p.turns) → Played plays start first old limit events s seats
+  ended_at : EndsAt limit (last_of first p.told) (length p.turns) → IsPlay plays start first old limit events s seats
   ended_at ends = record {
     turns = p.turns;
     told = p.told;
@@ -186,13 +188,16 @@ module _ {G : Type 0} (plays : G → List Exchange → Type 0) (start : State) (
     seats_stay = p.seats_stay;
   }
 
-  pub stops_at : (e : Event) → slice_get events (length events - 1) ≡ Some e → is_last e ≡ true → Played plays start first old limit events s seats
+  pub stops_at : (e : Event) → slice_get events (length events - 1) ≡ Some e → is_last e ≡ true → IsPlay plays start first old limit events s seats
   stops_at e is last =
       let there = last_at events first p.told p.events_are in
       let same : last_of first p.told ≡ e = cc in
       ended_at (inl (ap is_last same ∙ last))
 
-  pub runs_out : count ≡ limit → Played plays start first old limit events s seats
+  pub stops_over : is_last (last_of first p.told) ≡ true → IsPlay plays start first old limit events s seats
+  stops_over last = ended_at (inl last)
+
+  pub runs_out : count ≡ limit → IsPlay plays start first old limit events s seats
   runs_out is = ended_at (by_limit (is_last (last_of first p.told)) limit (length p.turns) (p.counted ∙ is))
 
 pub somebody_acts : (stack : List Frame) → 0 < length stack → option_map actor (top_of stack) ≡ None → ⊥
@@ -211,7 +216,7 @@ last_is_seen events seen there first told is = let here = last_at events first t
 
 -- ---- the whole drive
 
-module _ {G : Type 0} (plays : G → List Exchange → Type 0) (start : State) (root limit : ℕ) (old : List (Option G)) (events : List Event) (s : State) (seats : List (Option G)) (p : Played plays start (event.Resume root []) old limit events s seats) (f : ℕ → Bool) (left : List (Option G)) (emptied : (i : ℕ) → slice_get left i ≡ emptied_if (f i) (slice_get seats i)) where
+module _ {G : Type 0} (plays : G → List Exchange → Type 0) (start : State) (root limit : ℕ) (old : List (Option G)) (events : List Event) (s : State) (seats : List (Option G)) (p : IsPlay plays start (event.Resume root []) old limit events s seats) (f : ℕ → Bool) (left : List (Option G)) (emptied : (i : ℕ) → slice_get left i ≡ seat_after_close (f i) (slice_get seats i)) where
   pub whole_drive : IsDrive plays root limit start old events s left
   whole_drive = record {
     turns = p.turns;
@@ -225,5 +230,45 @@ module _ {G : Type 0} (plays : G → List Exchange → Type 0) (start : State) (
   pub taken_after : (i : ℕ) → is_taken (slice_get left i) ≡ (is_taken (slice_get old i) && not (f i))
   taken_after i = ap is_taken (emptied i) ∙ taken_empties (f i) (slice_get seats i) ∙ ap (λ b. b && not (f i)) (p.seats_stay i)
 
-pub closed_same : (a b c d : List Bool) → a ≡ b → c ≡ d → (i : ℕ) → closed_since a c i ≡ closed_since b d i
-closed_same a b c d p q i = ap (λ (x : List Bool). closed_since x c i) p ∙ ap (λ (x : List Bool). closed_since b x i) q
+pub closed_same : (a b c d : List Bool) → a ≡ b → c ≡ d → (i : ℕ) → closes_between a c i ≡ closes_between b d i
+closed_same a b c d p q i = ap (λ (x : List Bool). closes_between x c i) p ∙ ap (λ (x : List Bool). closes_between b x i) q
+
+-- ---- a drive that finds no memory
+
+pub halts_at : {G : Type 0} (plays : G → List Exchange → Type 0) (start : State) (first : Event) (old : List (Option G)) (limit : ℕ) (events : List Event) (s : State) (seats : List (Option G)) (count : ℕ) → (p : Playing plays start first old events s seats count) → is_last (last_of first p.told) ≡ false → count ≤ limit → IsHalt plays start first old limit s seats
+halts_at plays start first old limit events s seats count p more within = record {
+  turns = p.turns;
+  told = p.told;
+  went = subst (λ (ts : List Turn). Turns start first ts p.told s) (append-nil p.turns) (subst (λ (es : List Event). Turns start first (p.turns ++ []) es s) (append-nil p.told) (p.went [] [] s refl));
+  not_last = more;
+  within = omega (arith, p.counted, within);
+  seats_play = p.seats_play;
+  seats_stay = p.seats_stay;
+}
+
+pub halts_first : {G : Type 0} (plays : G → List Exchange → Type 0) (start : State) (first : Event) (old : List (Option G)) (limit : ℕ) → is_last first ≡ false → IsHalt plays start first old limit start old
+halts_first plays start first old limit more = record {
+  turns = [];
+  told = [];
+  went = refl;
+  not_last = more;
+  within = omega arith;
+  seats_play = λ i. seat_rests plays (slice_get old i);
+  seats_stay = λ i. refl;
+}
+
+pub over_at : (events : List Event) (first : Event) (told : List Event) (o : Option Event) → events ≡ first ∷ told → o ≡ slice_get events (length events - 1) → o ≡ Some (last_of first told)
+over_at events first told o is seen = seen ∙ last_at events first told is
+
+not_memory_by_closed : (o : Option Bool) → misuse_by_closed o ≡ Some misuse.Memory → ⊥
+not_memory_by_closed None e = cc
+not_memory_by_closed (Some true) e = cc
+not_memory_by_closed (Some false) e = cc
+
+not_memory_by_stack : (fs : List Frame) (o : Option Bool) → misuse_by_stack fs (misuse_by_closed o) ≡ Some misuse.Memory → ⊥
+not_memory_by_stack [] o e = not_memory_by_closed o e
+not_memory_by_stack (f ∷ fs) o e = cc
+
+-- no begin is refused for want of memory
+pub begin_not_memory : (s : State) (i : ℕ) (m : Misuse) → misuse_of_begin s i ≡ Some m → m ≡ misuse.Memory → ⊥
+begin_not_memory s i m e is = not_memory_by_stack s.stack (slice_get s.closed i) (e ∙ ap Some is)

@@ -1,17 +1,2 @@
-pub mod Valid
-pub mod Goes
-pub mod Runs
-pub mod Cases
-pub mod Kept
-pub mod Carried
-pub mod Values
-pub mod Calls
-pub mod MemoryLaws
-pub mod TrapLaws
-pub mod Passing
-pub mod RunLaws
-pub mod HistoryLaws
 pub mod Drives
 pub mod Seats
-pub mod Plans
-pub mod Guards

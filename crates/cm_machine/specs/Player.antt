@@ -1,18 +1,18 @@
 -- A drive: one root call, played by the guests on their seats.
-use Rattle.std.specs.Prelude.{◌≡◌, ℕ, ◌⊎◌, ◌==◌, ◌&&◌, Bool, true, false, not, unwrap_or}
+use Rattle.std.specs.Prelude.{◌≡◌, ℕ, ◌≤◌, ◌⊎◌, ◌==◌, ◌&&◌, Bool, true, false, not, unwrap_or}
 use Rattle.std.specs.Prelude.{if◌then◌else◌, List, [], ◌∷◌, ◌++◌, length, Option, Some, None}
 use Rattle.std.specs.Prelude.{slice_get}
 use Rattle.std.specs.Option.{option_map}
 use Rattle.std.specs.List.{AllByRecursion}
-use Rattle.cm_machine.specs.declared.event.Event.{Event}
-use Rattle.cm_machine.specs.declared.event.Event.TheVariants as event
-use Rattle.cm_machine.specs.declared.moves.Move.{Move}
-use Rattle.cm_machine.specs.declared.moves.Move.TheVariants as move
+use Rattle.cm_machine_model.specs.declared.event.Event.{Event}
+use Rattle.cm_machine_model.specs.declared.event.Event.TheVariants as event
+use Rattle.cm_machine_model.specs.declared.moves.Move.{Move}
+use Rattle.cm_machine_model.specs.declared.moves.Move.TheVariants as move
 use Rattle.cm_machine.specs.Exchange.{Exchange}
-use Rattle.cm_machine.specs.Stack.{actor, top_of}
-use Rattle.cm_machine.specs.State.{State}
-use Rattle.cm_machine.specs.Step.{Step}
-use Rattle.cm_machine.specs.Run.{is_last}
+use Rattle.cm_machine_model.specs.Stack.{actor, top_of}
+use Rattle.cm_machine_model.specs.State.{State}
+use Rattle.cm_machine_model.specs.Step.{Step}
+use Rattle.cm_machine_model.specs.Run.{is_last}
 
 -- one turn of a drive: the instance that acted, the event that it saw, the move that was made
 pub record Turn : Type 0 where
@@ -20,13 +20,16 @@ pub record Turn : Type 0 where
   pub seen : Event
   pub made : Move
 
--- From the state s, where this event was seen last, these turns lead to these events and this new state.
--- Each turn is the acting instance's; it sees the event before it, which was not the last.
+-- From the state s, where this event was seen last, these turns lead to these events and this new
+-- state. Each turn is the acting instance's; it sees the event before it, which was not the last.
 abbrev pub Turns : State → Event → List Turn → List Event → State → Type 0
 Turns s seen [] [] new = new ≡ s
 Turns s seen [] (e ∷ es) new = ⊥
 Turns s seen (t ∷ ts) [] new = ⊥
-Turns s seen (t ∷ ts) (e ∷ es) new = (t.seen ≡ seen) × (is_last seen ≡ false) × (option_map actor (top_of s.stack) ≡ Some t.by) × ((mid : State) × Step s t.made e mid × Turns mid e ts es new)
+Turns s seen (t ∷ ts) (e ∷ es) new =
+    (t.seen ≡ seen) × (is_last seen ≡ false)
+    × (option_map actor (top_of s.stack) ≡ Some t.by)
+    × ((mid : State) × Step s t.made e mid × Turns mid e ts es new)
 
 -- the last of these events, the first one where no others are
 abbrev pub last_of : Event → List Event → Event
@@ -36,25 +39,30 @@ last_of e (x ∷ xs) = last_of x xs
 -- what the instance i saw and made
 abbrev pub exchanges_of : ℕ → List Turn → List Exchange
 exchanges_of i [] = []
-exchanges_of i (t ∷ ts) = if t.by == i then record { seen = t.seen; made = t.made } ∷ exchanges_of i ts else exchanges_of i ts
+exchanges_of i (t ∷ ts) =
+    if t.by == i
+    then record { seen = t.seen; made = t.made } ∷ exchanges_of i ts
+    else exchanges_of i ts
 
 -- each of these exchanges is a stop
 abbrev pub AreStops : List Exchange → Type 0
 AreStops xs = AllByRecursion (λ x. x.made ≡ move.Unreachable) xs
 
 -- A guest took part in these exchanges, as its interface means it.
-abbrev pub Answered : {G : Type 0} → (G → List Exchange → Type 0) → G → List Exchange → Type 0
-Answered plays g told = (told ≡ []) ⊎ plays g told
+abbrev pub TookPart : {G : Type 0} → (G → List Exchange → Type 0) → G → List Exchange → Type 0
+TookPart plays g told = (told ≡ []) ⊎ plays g told
 
 -- What took part in these exchanges is now h: what h may go on with, g may after them.
 abbrev pub GoesOnAs : {G : Type 0} → (G → List Exchange → Type 0) → G → G → List Exchange → Type 0
 GoesOnAs plays g h told = (rest : List Exchange) → plays h rest → plays g (told ++ rest)
 
--- What became of a seat: a guest there took part in these exchanges, and the seat holds what it is now, or
--- nothing any more. An empty or missing seat only stops, and stays so.
-abbrev pub SeatPlays : {G : Type 0} → (G → List Exchange → Type 0) → Option (Option G) → Option (Option G) → List Exchange → Type 0
-SeatPlays plays (Some (Some g)) (Some (Some h)) told = Answered plays g told × GoesOnAs plays g h told
-SeatPlays plays (Some (Some g)) (Some None) told = Answered plays g told
+-- What became of a seat: a guest there took part in these exchanges, and the seat holds what it is
+-- now, or nothing any more. An empty or missing seat only stops, and stays so.
+abbrev pub SeatPlays : {G : Type 0} → (G → List Exchange → Type 0)
+    → Option (Option G) → Option (Option G) → List Exchange → Type 0
+SeatPlays plays (Some (Some g)) (Some (Some h)) told =
+    TookPart plays g told × GoesOnAs plays g h told
+SeatPlays plays (Some (Some g)) (Some None) told = TookPart plays g told
 SeatPlays plays (Some (Some g)) None told = ⊥
 SeatPlays plays (Some None) (Some (Some h)) told = ⊥
 SeatPlays plays (Some None) (Some None) told = AreStops told
@@ -78,33 +86,54 @@ EndsAt limit last moves = (is_last last ≡ true) ⊎ ((is_last last ≡ false) 
 
 -- ---- a whole drive
 
--- From the state after `begin`, with these seats, these events, this new state and these new seats are a
--- drive: some turns, each of the acting instance and each answered by its guest, whose events follow the
--- first one, and which end where a drive ends.
-pub record IsDrive {G : Type 0} (plays : G → List Exchange → Type 0) (root limit : ℕ) (start : State) (old_seats : List (Option G)) (events : List Event) (new : State) (seats : List (Option G)) : Type 0 where
+-- From the state after `begin`, with these seats, these events, this new state and these new seats
+-- are a drive: some turns, each of the acting instance and each answered by its guest, whose events
+-- follow the first one, and which end where a drive ends.
+pub record IsDrive {G : Type 0} (plays : G → List Exchange → Type 0) (root limit : ℕ)
+    (start : State) (old_seats : List (Option G)) (events : List Event) (new : State)
+    (seats : List (Option G)) : Type 0 where
   pub turns : List Turn
   pub told : List Event
   pub events_are : events ≡ event.Resume root [] ∷ told
   pub went : Turns start (event.Resume root []) turns told new
   pub ends : EndsAt limit (last_of (event.Resume root []) told) (length turns)
-  pub seats_play : (i : ℕ) → SeatPlays plays (slice_get old_seats i) (slice_get seats i) (exchanges_of i turns)
+  pub seats_play : (i : ℕ)
+      → SeatPlays plays (slice_get old_seats i) (slice_get seats i) (exchanges_of i turns)
 
 -- whether an instance is closed in the new state and was not in the old one
-abbrev pub closed_since : List Bool → List Bool → ℕ → Bool
-closed_since old new i = unwrap_or (slice_get new i) false && not (unwrap_or (slice_get old i) false)
+abbrev pub closes_between : List Bool → List Bool → ℕ → Bool
+closes_between old new i =
+    unwrap_or (slice_get new i) false && not (unwrap_or (slice_get old i) false)
 
 -- a seat, emptied where this says so
-abbrev pub emptied_if : {G : Type 0} → Bool → Option (Option G) → Option (Option G)
-emptied_if true (Some seat) = Some None
-emptied_if true None = None
-emptied_if false seat = seat
+abbrev pub seat_after_close : {G : Type 0} → Bool → Option (Option G) → Option (Option G)
+seat_after_close true (Some seat) = Some None
+seat_after_close true None = None
+seat_after_close false seat = seat
 
 -- The same before the seats are emptied.
-pub record Played {G : Type 0} (plays : G → List Exchange → Type 0) (start : State) (first : Event) (old_seats : List (Option G)) (limit : ℕ) (events : List Event) (new : State) (seats : List (Option G)) : Type 0 where
+pub record IsPlay {G : Type 0} (plays : G → List Exchange → Type 0) (start : State)
+    (first : Event) (old_seats : List (Option G)) (limit : ℕ) (events : List Event) (new : State)
+    (seats : List (Option G)) : Type 0 where
   pub turns : List Turn
   pub told : List Event
   pub events_are : events ≡ first ∷ told
   pub went : Turns start first turns told new
   pub ends : EndsAt limit (last_of first told) (length turns)
-  pub seats_play : (i : ℕ) → SeatPlays plays (slice_get old_seats i) (slice_get seats i) (exchanges_of i turns)
+  pub seats_play : (i : ℕ)
+      → SeatPlays plays (slice_get old_seats i) (slice_get seats i) (exchanges_of i turns)
+  pub seats_stay : (i : ℕ) → StaysTaken (slice_get old_seats i) (slice_get seats i)
+
+-- A drive that found no memory for an event has made some turns, fewer than it may or as many; its
+-- last event is no last one, and each seat holds what those turns left there.
+pub record IsHalt {G : Type 0} (plays : G → List Exchange → Type 0) (start : State)
+    (first : Event) (old_seats : List (Option G)) (limit : ℕ) (new : State)
+    (seats : List (Option G)) : Type 0 where
+  pub turns : List Turn
+  pub told : List Event
+  pub went : Turns start first turns told new
+  pub not_last : is_last (last_of first told) ≡ false
+  pub within : length turns ≤ limit
+  pub seats_play : (i : ℕ)
+      → SeatPlays plays (slice_get old_seats i) (slice_get seats i) (exchanges_of i turns)
   pub seats_stay : (i : ℕ) → StaysTaken (slice_get old_seats i) (slice_get seats i)

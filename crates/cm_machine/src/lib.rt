@@ -1,24 +1,27 @@
 //! The machine that runs the calls between the components of a linked set.
+//!
+//! `Set` is a linked set that runs, a move at a time. `Player::drive` plays one by guests. What
+//! holds of every history of a set says `laws::headline`.
 #![tactic(auto)]
 
-mod checks;
-mod event;
-mod flat;
-mod frame;
-mod laws;
-mod memory;
-mod moves;
-mod plan;
 mod player;
-mod set;
-mod setup;
-mod stack;
-mod step;
 
-pub use event::{Event, Misuse, Trap};
-pub use flat::Flat;
-pub use frame::{Call, CoreFunction, Frame, Lend, Lowered, Phase, Place, Purpose};
-pub use laws::{entries_are_guarded, headline};
-pub use moves::Move;
+pub use cm_machine_model::{
+    Event, Flat, MAX_FLAT_PARAMS, MAX_FRAMES, MAX_INSTANCES, MAX_MEMORY_SIZE, MAX_PAGES, Misuse,
+    Move, PAGE_SIZE, Trap,
+};
+pub use cm_set::Set;
 pub use player::{Guest, Player};
-pub use set::Set;
+
+/// What holds of every history of a set, and of every step.
+pub mod laws {
+    pub use cm_history::headline;
+    pub use cm_machine_model::laws::{denotations_are_unique, entries_are_guarded};
+}
+
+/// What a state is made of: types that only contracts name.
+pub mod state {
+    pub use cm_machine_model::state::{
+        Call, CoreFunction, Frame, Lend, LoweredFunc, Phase, Place, Purpose,
+    };
+}

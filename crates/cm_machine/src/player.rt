@@ -1,21 +1,21 @@
 //! Guests on their seats, and a drive that plays them.
 
-ghost use Rattle.std.specs.Prelude.{◌≡◌, ◌≢◌, ℕ, ◌<◌, ◌&&◌, not, Err, ◌⊎◌, OnOk, false, ◌↔◌, List};
+ghost use Rattle.std.specs.Prelude.{◌≡◌, ◌≢◌, ℕ, ◌<◌, ◌&&◌, not, Err, ◌⊎◌, OnOk, OnErr, false};
 ghost use Rattle.std.specs.Prelude.{[], ◌∷◌, ◌++◌, length, Option, Some, None, slice_set, IfOk};
-ghost use Rattle.std.specs.Prelude.{IfErr, slice_get, true};
+ghost use Rattle.std.specs.Prelude.{IfErr, slice_get, true, List};
 ghost use Rattle.std.specs.Option.{option_map};
-ghost use Rattle.cm_machine.specs.declared.event.Event.{Event};
-ghost use Rattle.cm_machine.specs.declared.event.Misuse.{Misuse};
+ghost use Rattle.cm_machine_model.specs.declared.event.Event.{Event};
+ghost use Rattle.cm_machine_model.specs.declared.event.Misuse.{Misuse};
 ghost use Rattle.cm_machine.specs.Exchange.{Exchange};
-ghost use Rattle.cm_machine.specs.Stack.{actor, top_of};
-ghost use Rattle.cm_machine.specs.Run.{is_last, begun, misuse_of_begin};
+ghost use Rattle.cm_machine_model.specs.Stack.{actor, top_of};
+ghost use Rattle.cm_machine_model.specs.Run.{is_last, after_begin, misuse_of_begin};
 ghost use Rattle.cm_machine.specs.Player.{Turn, Turns, last_of, exchanges_of, AreStops, SeatPlays};
-ghost use Rattle.cm_machine.specs.Player.{StaysTaken, EndsAt, Played, IsDrive, closed_since};
-ghost use Rattle.cm_machine.specs.Player.{emptied_if, is_taken};
+ghost use Rattle.cm_machine.specs.Player.{StaysTaken, EndsAt, IsPlay, IsDrive, IsHalt};
+ghost use Rattle.cm_machine.specs.Player.{closes_between};
+ghost use Rattle.cm_machine.specs.Player.{seat_after_close, is_taken};
 
-use crate::event::{Event, Misuse};
-use crate::moves::Move;
-use crate::set::Set;
+use cm_machine_model::{Event, Misuse, Move};
+use cm_set::Set;
 use std::alloc::Global;
 
 /// A guest: what the core module of an instance does, as a list of moves.
@@ -26,13 +26,15 @@ pub trait Guest: Drop {
 
     /// The move that the guest makes where its instance acts and this was the last event.
     fn next(&mut self, seen: &Event) -> Move
-        ensures goes_on { (rest : List Exchange) → plays self.new rest → plays self.old (record { seen = seen.now; made = result } ∷ rest) }
+        ensures goes_on { (rest : List Exchange) → plays self.new rest
+            → plays self.old (record { seen = seen.now; made = result } ∷ rest) }
         ensures answers { plays self.old (record { seen = seen.now; made = result } ∷ []) };
 }
 
 /// Asks a guest.
 fn ask(guest: &mut Box<dyn Guest>, seen: &Event) -> Move
-    ensures goes_on { (rest : List Exchange) → plays guest.new rest → plays guest.old (record { seen = seen.now; made = result } ∷ rest) }
+    ensures goes_on { (rest : List Exchange) → plays guest.new rest
+        → plays guest.old (record { seen = seen.now; made = result } ∷ rest) }
     ensures answers { plays guest.old (record { seen = seen.now; made = result } ∷ []) }
 {
     guest.next(seen)
@@ -40,7 +42,8 @@ fn ask(guest: &mut Box<dyn Guest>, seen: &Event) -> Move
 
 /// Asks the guest on a seat; an empty seat stops.
 fn ask_seat(seat: &mut Option<Box<dyn Guest>>, seen: &Event) -> Move
-    ensures plays { SeatPlays (λ g rest. plays g rest) (Some seat.old) (Some seat.new) (record { seen = seen.now; made = result } ∷ []) }
+    ensures plays { SeatPlays (λ g rest. plays g rest) (Some seat.old) (Some seat.new)
+        (record { seen = seen.now; made = result } ∷ []) }
     ensures stays { StaysTaken (Some seat.old) (Some seat.new) }
 {
     match seat {
@@ -51,9 +54,13 @@ fn ask_seat(seat: &mut Option<Box<dyn Guest>>, seen: &Event) -> Move
 
 /// Asks the guest on an instance's seat; an empty or missing seat stops. No other seat changes.
 fn ask_one(seats: &mut Vec<Option<Box<dyn Guest>>>, instance: u32, seen: &Event) -> Move
-    ensures plays { SeatPlays (λ g rest. plays g rest) (slice_get seats.old.items instance) (slice_get seats.new.items instance) (record { seen = seen.now; made = result } ∷ []) }
-    ensures stays { StaysTaken (slice_get seats.old.items instance) (slice_get seats.new.items instance) }
-    ensures others { (i : ℕ) → i ≢ instance → slice_get seats.new.items i ≡ slice_get seats.old.items i }
+    ensures plays { SeatPlays (λ g rest. plays g rest)
+        (slice_get seats.old.items instance) (slice_get seats.new.items instance)
+        (record { seen = seen.now; made = result } ∷ []) }
+    ensures stays { StaysTaken
+        (slice_get seats.old.items instance) (slice_get seats.new.items instance) }
+    ensures others { (i : ℕ) → i ≢ instance
+        → slice_get seats.new.items i ≡ slice_get seats.old.items i }
 {
     match seats.get_mut(instance as usize) {
         Some(seat) => ask_seat(seat, seen),
@@ -61,8 +68,19 @@ fn ask_one(seats: &mut Vec<Option<Box<dyn Guest>>>, instance: u32, seen: &Event)
     }
 }
 
-/// Plays a set whose stack is not empty until an event is the last or so many moves were made. Room for a
-/// move's event is made before the move; where there is none, the answer is `Memory`.
+/// Whether the last of these events ends a drive.
+fn is_over(events: &Vec<Event>) -> bool
+    ensures { (first : Event) (told : List Event) → events.now.items ≡ first ∷ told
+        → result ≡ is_last (last_of first told) }
+{
+    match events.last() {
+        Some(event) => event.is_last(),
+        None => false,
+    }
+}
+
+/// Plays a set whose stack is not empty until an event is the last or so many moves were made. Room
+/// for a move's event is made before the move; where there is none, the answer is `Memory`.
 fn play_on(
     set: &mut Set,
     seats: &mut Vec<Option<Box<dyn Guest>>>,
@@ -71,19 +89,24 @@ fn play_on(
 ) -> Result<(), Misuse>
     requires one { (e : Event) × (events.old.items ≡ e ∷ []) × (is_last e ≡ false) }
     requires stands { 0 < length set.old.stack }
-    ensures ok { OnOk result ((first : Event) → events.old.items ≡ first ∷ [] → Played (λ g rest. plays g rest) set.old first seats.old.items limit events.new.items set.new seats.new.items) }
+    ensures ok { OnOk result ((first : Event) → events.old.items ≡ first ∷ []
+        → IsPlay (λ g rest. plays g rest)
+        set.old first seats.old.items limit events.new.items set.new seats.new.items) }
     ensures only { IfErr result (λ m. m ≡ Misuse.Memory) }
+    ensures halt { OnErr result ((first : Event) → events.old.items ≡ first ∷ []
+        → IsHalt (λ g rest. plays g rest)
+        set.old first seats.old.items limit set.new seats.new.items) }
 {
     for _ in 0..limit {
+        if is_over(events) {
+            return Ok(());
+        }
         if events.reserve(1).is_err() {
             return Err(Misuse::Memory);
         }
         let Some(seen) = events.last() else {
             unreachable!()
         };
-        if seen.is_last() {
-            return Ok(());
-        }
         let Some(instance) = set.acting() else {
             unreachable!()
         };
@@ -100,10 +123,11 @@ fn play_on(
 }
 
 /// Whether these flags say that an instance is closed now and was not before.
-fn closed_since(before: &[bool], after: &[bool], instance: usize) -> bool
-    ensures { result ≡ closed_since before.now after.now instance }
+fn closes_between(before: &[bool], after: &[bool], instance: usize) -> bool
+    ensures { result ≡ closes_between before.now after.now instance }
 {
-    after.get(instance).copied().unwrap_or(false) && !before.get(instance).copied().unwrap_or(false)
+    let was_closed = before.get(instance).copied().unwrap_or(false);
+    after.get(instance).copied().unwrap_or(false) && !was_closed
 }
 
 /// Drops the guest on a seat.
@@ -116,10 +140,11 @@ fn empty_seat(seats: &mut Vec<Option<Box<dyn Guest>>>, seat: usize)
 
 /// Empties the seats of the instances that these flags say are closed now and were not before.
 fn empty_closed(seats: &mut Vec<Option<Box<dyn Guest>>>, before: &[bool], after: &[bool])
-    ensures { (i : ℕ) → slice_get seats.new.items i ≡ emptied_if (closed_since before.now after.now i) (slice_get seats.old.items i) }
+    ensures { (i : ℕ) → slice_get seats.new.items i
+        ≡ seat_after_close (closes_between before.now after.now i) (slice_get seats.old.items i) }
 {
     for i in 0..seats.len() {
-        let closes = closed_since(before, after, i);
+        let closes = closes_between(before, after, i);
         if closes {
             empty_seat(seats, i);
         }
@@ -130,15 +155,16 @@ fn empty_closed(seats: &mut Vec<Option<Box<dyn Guest>>>, before: &[bool], after:
 pub struct Player;
 
 impl Player {
-    /// Begins a root call of the instance `root`, and asks the acting instance's guest for one move after
-    /// the other, handing it the last event, until an event is `Ended` or `Trapped` or `limit` moves were
-    /// made. Answers the events, that of `begin` first. The seat of an instance is the one at its place in
-    /// `seats`; an empty or missing seat moves `Unreachable`. A trap drops the guests of the instances that
-    /// it closes and leaves empty seats.
+    /// Begins a root call of the instance `root`, and asks the acting instance's guest for one move
+    /// after the other, handing it the last event, until an event is `Ended` or `Trapped` or
+    /// `limit` moves were made. Answers the events, that of `begin` first. The seat of an instance
+    /// is the one at its place in `seats`; an empty or missing seat moves `Unreachable`. A trap
+    /// drops the guests of the instances that it closes and leaves empty seats.
     ///
-    /// Misuse: that of `Set::begin`, and set and seats are unchanged; or `Memory` where there is no room
-    /// for an event, and what was begun and moved before stays. Room for the event of `begin` is made right
-    /// after it, room for a move's event before the move.
+    /// Misuse: that of `Set::begin`, and set and seats are unchanged; or `Memory` where there is no
+    /// room for an event, and set and seats are what the moves made so far left. Room for the event
+    /// of `begin` is made right after it, room for a move's event before the move, and none once an
+    /// event is `Ended` or `Trapped`.
     pub fn drive(
         alloc: Global,
         set: &mut Set,
@@ -146,12 +172,21 @@ impl Player {
         root: u32,
         limit: u64,
     ) -> Result<Vec<Event>, Misuse>
-        ensures drive { IfOk result (λ events. IsDrive (λ g rest. plays g rest) root limit (begun set.old root) seats.old.items events.items set.new seats.new.items) }
-        ensures emptied { OnOk result ((i : ℕ) → is_taken (slice_get seats.new.items i) ≡ (is_taken (slice_get seats.old.items i) && not (closed_since set.old.closed set.new.closed i))) }
+        ensures drive { IfOk result (λ events.
+            IsDrive (λ g rest. plays g rest) root limit (after_begin set.old root)
+            seats.old.items events.items set.new seats.new.items) }
+        ensures emptied { OnOk result ((i : ℕ) → is_taken (slice_get seats.new.items i)
+            ≡ (is_taken (slice_get seats.old.items i)
+            && not (closes_between set.old.closed set.new.closed i))) }
         ensures begins { OnOk result (misuse_of_begin set.old root ≡ None) }
         ensures misuse { (m : Misuse) → misuse_of_begin set.old root ≡ Some m → result ≡ Err m }
-        ensures only { IfErr result (λ m. (m ≡ Misuse.Memory) ⊎ (misuse_of_begin set.old root ≡ Some m)) }
-        ensures unchanged { IfErr result (λ m. m ≢ Misuse.Memory → (set.new ≡ set.old) × (seats.new.items ≡ seats.old.items)) }
+        ensures only { IfErr result (λ m.
+            (m ≡ Misuse.Memory) ⊎ (misuse_of_begin set.old root ≡ Some m)) }
+        ensures unchanged { IfErr result (λ m. m ≢ Misuse.Memory
+            → (set.new ≡ set.old) × (seats.new.items ≡ seats.old.items)) }
+        ensures halt { IfErr result (λ m. m ≡ Misuse.Memory
+            → IsHalt (λ g rest. plays g rest) (after_begin set.old root) (Event.Resume root [])
+            seats.old.items limit set.new seats.new.items) }
     {
         let first = set.begin(root)?;
         let mut events = Vec::new(alloc);

@@ -4,18 +4,18 @@ use Rattle.cm_types.specs.Signatures.{SignatureTy}
 use Rattle.cm_match.specs.declared.fault.LinkReason.{LinkReason}
 use Rattle.cm_match.specs.declared.fault.LinkReason.TheVariants as reason
 use Rattle.cm_match.specs.declared.plan.PlanLine.{PlanLine}
-use Rattle.cm_match.specs.Links.{Entry, candidates, AreServed, IsServed, IsSame, Fails, IsFirstUnserved, IsLinkFault, Matches}
+use Rattle.cm_match.specs.Links.{ExternAt, candidates, ServesEach, IsServedBy, IsSame, IsUnservedFor, IsFirstUnserved, Matches}
 
-pub served_at : (set : List SignatureTy) (front : List Entry) (i : Entry) (rest : List Entry) (plan : List PlanLine) → AreServed set (front ++ i ∷ rest) plan → (e : Entry) × IsServed set i e
+pub served_at : (set : List SignatureTy) (front : List ExternAt) (i : ExternAt) (rest : List ExternAt) (plan : List PlanLine) → ServesEach set (front ++ i ∷ rest) plan → (e : ExternAt) × IsServedBy set i e
 served_at set [] i rest [] h = absurd h
 served_at set [] i rest (l ∷ ls) h = (h.0.0, h.0.1)
 served_at set (j ∷ front) i rest [] h = absurd h
 served_at set (j ∷ front) i rest (l ∷ ls) h = served_at set front i rest ls h.1
 
-same_first : (a b : Entry) (cs : List Entry) → cs ≡ a ∷ [] → cs ≡ b ∷ [] → a ≡ b
+same_first : (a b : ExternAt) (cs : List ExternAt) → cs ≡ a ∷ [] → cs ≡ b ∷ [] → a ≡ b
 same_first a b cs p q = let e : a ∷ [] ≡ b ∷ [] = sym p ∙ q in cc
 
-not_both : (set : List SignatureTy) (i e : Entry) (r : LinkReason) → Fails set i r → IsServed set i e → ⊥
+not_both : (set : List SignatureTy) (i e : ExternAt) (r : LinkReason) → IsUnservedFor set i r → IsServedBy set i e → ⊥
 not_both set i e reason.Empty f s = f
 not_both set i e reason.TooMany f s = f
 not_both set i e reason.NoProvider f s = let no : e ∷ [] ≡ [] = sym s.only ∙ f in absurd cc
@@ -27,5 +27,5 @@ not_both set i e reason.Memory f s = f
 
 pub unserved_is_no_match : (set : List SignatureTy) (component number : ℕ) (r : LinkReason) (plan : List PlanLine) → IsFirstUnserved set component number r → Matches set plan → ⊥
 unserved_is_no_match set component number r plan f m =
-    let s = served_at set f.front f.entry f.rest plan (subst (λ is. AreServed set is plan) f.split m.served) in
-    not_both set f.entry s.0 r f.fails s.1
+    let s = served_at set f.front f.here f.rest plan (subst (λ is. ServesEach set is plan) f.split m.served) in
+    not_both set f.here s.0 r f.fails s.1

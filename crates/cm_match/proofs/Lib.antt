@@ -3,6 +3,7 @@ pub mod Candidates
 pub mod ChooseLemmas
 pub mod Faults
 pub mod OfferLemmas
+pub mod Places
 pub mod ReachLemmas
 pub mod SameLemmas
 pub mod Steps

@@ -8,10 +8,10 @@ use Rattle.std.proofs.lemmas.Option.{slice_get-map}
 use Rattle.cm_component.specs.Trees.{SectionTree}
 use Rattle.cm_types.specs.Signatures.{SignatureTy, NamedExtern}
 use Rattle.cm_validate.specs.Spaces.{FuncDefTree, lifted, imported, spaces_of, signature}
-use Rattle.cm_match.specs.declared.reached.Reached.{Reached}
-use Rattle.cm_match.specs.Links.{Entry, entry, entries, exports_from, only, candidates, signatures}
-use Rattle.cm_match.specs.Reached.{reached_tree, table, IsTable}
-use Rattle.cm_match.specs.Targets.{TargetTree, follow, leads, reach, import_entry, export_def}
+use Rattle.cm_match.specs.declared.target.SharedTarget.{SharedTarget}
+use Rattle.cm_match.specs.Links.{ExternAt, extern_at, externs_from, exports_from, only_of, candidates, signatures_of}
+use Rattle.cm_match.specs.TargetTables.{shared_target_tree, look_up_target, IsTargetTable}
+use Rattle.cm_match.specs.Targets.{TargetTree, target_of_def, target_of_import, target_within, find_import, def_of_export}
 
 -- ---- the exports
 
@@ -20,20 +20,20 @@ taken_next f [] n x lt is = absurd (omega arith)
 taken_next f (y ∷ ys) zero x lt is = ap (λ z. f z ∷ []) (sym is)
 taken_next f (y ∷ ys) (suc n) x lt is = ap (λ zs. f y ∷ zs) (taken_next f ys n x (omega arith) is)
 
-exports_snoc : (component : ℕ) (cs : List SignatureTy) (c : SignatureTy) → exports_from component (cs ++ c ∷ []) ≡ exports_from component cs ++ entries (component + length cs) 0 c.exports
-exports_snoc component [] c = append-nil (entries component 0 c.exports) ∙ ap (λ k. entries k 0 c.exports) (omega arith)
+exports_snoc : (component : ℕ) (cs : List SignatureTy) (c : SignatureTy) → exports_from component (cs ++ c ∷ []) ≡ exports_from component cs ++ externs_from (component + length cs) 0 c.exports
+exports_snoc component [] c = append-nil (externs_from component 0 c.exports) ∙ ap (λ k. externs_from k 0 c.exports) (omega arith)
 exports_snoc component (d ∷ cs) c =
     let same : (component + 1) + length cs ≡ component + length (d ∷ cs) = omega arith in
-    ap (λ es. entries component 0 d.exports ++ es) (exports_snoc (component + 1) cs c ∙ ap (λ k. exports_from (component + 1) cs ++ entries k 0 c.exports) same)
-    ∙ sym (append_assoc (entries component 0 d.exports) (exports_from (component + 1) cs) (entries (component + length (d ∷ cs)) 0 c.exports))
+    ap (λ es. externs_from component 0 d.exports ++ es) (exports_snoc (component + 1) cs c ∙ ap (λ k. exports_from (component + 1) cs ++ externs_from k 0 c.exports) same)
+    ∙ sym (append_assoc (externs_from component 0 d.exports) (exports_from (component + 1) cs) (externs_from (component + length (d ∷ cs)) 0 c.exports))
 
-pub exports_next : (set : List (List SectionTree)) (at : ℕ) (c : List SectionTree) → at < length set → c ≡ get_or set at c → exports_from 0 (take (at + 1) (signatures set)) ≡ exports_from 0 (take at (signatures set)) ++ entries at 0 (signature (spaces_of c)).exports
+pub exports_next : (set : List (List SectionTree)) (at : ℕ) (c : List SectionTree) → at < length set → c ≡ get_or set at c → exports_from 0 (take (at + 1) (signatures_of set)) ≡ exports_from 0 (take at (signatures_of set)) ++ externs_from at 0 (signature (spaces_of c)).exports
 exports_next set at c lt is =
-    let long : 0 + length (take at (signatures set)) ≡ at = simp (length-take, length-map) (omega arith) in
-    ap (λ k. exports_from 0 (take k (signatures set))) (add-one at)
+    let long : 0 + length (take at (signatures_of set)) ≡ at = simp (length-take, length-map) (omega arith) in
+    ap (λ k. exports_from 0 (take k (signatures_of set))) (add-one at)
     ∙ ap (exports_from 0) (taken_next (λ d. signature (spaces_of d)) set at c lt is)
-    ∙ exports_snoc 0 (take at (signatures set)) (signature (spaces_of c))
-    ∙ ap (λ k. exports_from 0 (take at (signatures set)) ++ entries k 0 (signature (spaces_of c)).exports) long
+    ∙ exports_snoc 0 (take at (signatures_of set)) (signature (spaces_of c))
+    ∙ ap (λ k. exports_from 0 (take at (signatures_of set)) ++ externs_from k 0 (signature (spaces_of c)).exports) long
 
 pub next_component : {A : Type 0} (xs : List A) (n : ℕ) (x : A) → n < length xs → x ≡ get_or xs n x → drop n xs ≡ x ∷ drop (n + 1) xs
 next_component xs n x lt is = rw (add-one, drop-cons xs n x lt, ← is) refl
@@ -50,27 +50,27 @@ get_elsewhere [] x (suc k) ne = refl
 get_elsewhere (y ∷ ys) x zero ne = refl
 get_elsewhere (y ∷ ys) x (suc k) ne = get_elsewhere ys x k (λ e. ne (ap suc e))
 
-get_entries : (component n : ℕ) (xs : List NamedExtern) (k : ℕ) → slice_get (entries component n xs) k ≡ option_map (entry component (n + k)) (slice_get xs k)
-get_entries component n [] k = refl
-get_entries component n (x ∷ xs) zero = ap (λ m. Some (entry component m x)) (omega arith)
-get_entries component n (x ∷ xs) (suc k) =
+get-externs_from : (component n : ℕ) (xs : List NamedExtern) (k : ℕ) → slice_get (externs_from component n xs) k ≡ option_map (extern_at component (n + k)) (slice_get xs k)
+get-externs_from component n [] k = refl
+get-externs_from component n (x ∷ xs) zero = ap (λ m. Some (extern_at component m x)) (omega arith)
+get-externs_from component n (x ∷ xs) (suc k) =
     let same : (n + 1) + k ≡ n + suc k = omega arith in
-    get_entries component (n + 1) xs k ∙ ap (λ m. option_map (entry component m) (slice_get xs k)) same
+    get-externs_from component (n + 1) xs k ∙ ap (λ m. option_map (extern_at component m) (slice_get xs k)) same
 
 -- reaching goes by what is reached alone
-follow_same : (f g : ℕ → ℕ → Option TargetTree) (component : ℕ) (d : Option FuncDefTree) → ((c i : ℕ) → f c i ≡ g c i) → option_and_then (follow f component) d ≡ option_and_then (follow g component) d
-follow_same f g component None same = refl
-follow_same f g component (Some (lifted core_func ty)) same = refl
-follow_same f g component (Some (imported import None ty)) same = same component import
-follow_same f g component (Some (imported import (Some item) ty)) same = refl
+target_of_def-same : (f g : ℕ → ℕ → Option TargetTree) (component : ℕ) (d : Option FuncDefTree) → ((c i : ℕ) → f c i ≡ g c i) → option_and_then (target_of_def f component) d ≡ option_and_then (target_of_def g component) d
+target_of_def-same f g component None same = refl
+target_of_def-same f g component (Some (lifted core_func ty)) same = refl
+target_of_def-same f g component (Some (imported import None ty)) same = same component import
+target_of_def-same f g component (Some (imported import (Some item) ty)) same = refl
 
-leads_by : (set : List (List SectionTree)) (f g : ℕ → ℕ → Option TargetTree) (o : Option Entry) → ((c i : ℕ) → f c i ≡ g c i) → option_and_then (λ e. option_and_then (follow f e.component) (export_def set e)) o ≡ option_and_then (λ e. option_and_then (follow g e.component) (export_def set e)) o
-leads_by set f g None same = refl
-leads_by set f g (Some e) same = follow_same f g e.component (export_def set e) same
+target_of_import-by : (set : List (List SectionTree)) (f g : ℕ → ℕ → Option TargetTree) (o : Option ExternAt) → ((c i : ℕ) → f c i ≡ g c i) → option_and_then (λ e. option_and_then (target_of_def f e.component) (def_of_export set e)) o ≡ option_and_then (λ e. option_and_then (target_of_def g e.component) (def_of_export set e)) o
+target_of_import-by set f g None same = refl
+target_of_import-by set f g (Some e) same = target_of_def-same f g e.component (def_of_export set e) same
 
-leads_same : (set : List (List SectionTree)) (f g : ℕ → ℕ → Option TargetTree) (o : Option Entry) → ((c i : ℕ) → f c i ≡ g c i) → option_and_then (leads set f) o ≡ option_and_then (leads set g) o
-leads_same set f g None same = refl
-leads_same set f g (Some i) same = leads_by set f g (only (candidates (signatures set) i)) same
+target_of_import-same : (set : List (List SectionTree)) (f g : ℕ → ℕ → Option TargetTree) (o : Option ExternAt) → ((c i : ℕ) → f c i ≡ g c i) → option_and_then (target_of_import set f) o ≡ option_and_then (target_of_import set g) o
+target_of_import-same set f g None same = refl
+target_of_import-same set f g (Some i) same = target_of_import-by set f g (only_of (candidates (signatures_of set) i)) same
 
 abbrev joined : {A : Type 0} → Option (Option A) → Option A
 joined None = None
@@ -90,37 +90,37 @@ same_of c n e = search (rules, tests)
 apart_of : (c n : ℕ) → (c == n) ≡ false → c ≢ n
 apart_of c n e = search (rules, tests)
 
-pub table_on : (old new : List (Vec (Option Reached) Global)) (v : Vec (Option Reached) Global) (set : List (List SectionTree)) (at : ℕ) (c : List SectionTree)
+pub table_grows : (old new : List (Vec (Option SharedTarget) Global)) (v : Vec (Option SharedTarget) Global) (set : List (List SectionTree)) (at : ℕ) (c : List SectionTree)
     → new ≡ old ++ v ∷ [] → length old ≡ at → slice_get set at ≡ Some c
-    → map (option_map reached_tree) v.items ≡ map (leads set (table old)) (entries at 0 (signature (spaces_of c)).imports)
-    → IsTable old set at → IsTable new set (at + 1)
-table_on old new v set at c pushed long there row before = λ component import.
+    → map (option_map shared_target_tree) v.items ≡ map (target_of_import set (look_up_target old)) (externs_from at 0 (signature (spaces_of c)).imports)
+    → IsTargetTable old set at → IsTargetTable new set (at + 1)
+table_grows old new v set at c pushed long there row before = λ component import.
     let imports = (signature (spaces_of c)).imports in
-    let grown : reach set (at + 1) component import ≡ (if component == at then option_and_then (leads set (reach set at)) (import_entry set component import) else reach set at component import) = ap (λ k. reach set k component import) (add-one at) in
+    let grown : target_within set (at + 1) component import ≡ (if component == at then option_and_then (target_of_import set (target_within set at)) (find_import set component import) else target_within set at component import) = ap (λ k. target_within set k component import) (add-one at) in
     elim (bool_cases (component == at)) [
       | inl h ↦
           let same : component ≡ at = same_of component at h in
           let here : slice_get new component ≡ Some v = ap (slice_get new) (same ∙ sym long) ∙ ap (λ xs. slice_get xs (length old)) pushed ∙ get_end old v in
-          let got : option_and_then (option_map reached_tree) (slice_get v.items import) ≡ option_and_then (leads set (table old)) (option_map (entry at import) (slice_get imports import)) =
-          and_then_joined (option_map reached_tree) (slice_get v.items import)
-          ∙ ap joined (sym (slice_get-map (option_map reached_tree) v.items import))
+          let got : option_and_then (option_map shared_target_tree) (slice_get v.items import) ≡ option_and_then (target_of_import set (look_up_target old)) (option_map (extern_at at import) (slice_get imports import)) =
+          and_then_joined (option_map shared_target_tree) (slice_get v.items import)
+          ∙ ap joined (sym (slice_get-map (option_map shared_target_tree) v.items import))
           ∙ ap (λ xs. joined (slice_get xs import)) row
-          ∙ ap joined (slice_get-map (leads set (table old)) (entries at 0 imports) import)
-          ∙ sym (and_then_joined (leads set (table old)) (slice_get (entries at 0 imports) import))
-          ∙ ap (option_and_then (leads set (table old))) (get_entries at 0 imports import ∙ ap (λ m. option_map (entry at m) (slice_get imports import)) (omega arith))
+          ∙ ap joined (slice_get-map (target_of_import set (look_up_target old)) (externs_from at 0 imports) import)
+          ∙ sym (and_then_joined (target_of_import set (look_up_target old)) (slice_get (externs_from at 0 imports) import))
+          ∙ ap (option_and_then (target_of_import set (look_up_target old))) (get-externs_from at 0 imports import ∙ ap (λ m. option_map (extern_at at m) (slice_get imports import)) (omega arith))
           in
-          let wanted : import_entry set component import ≡ option_map (entry at import) (slice_get imports import) = ap (λ k. import_entry set k import) same ∙ ap (option_and_then (λ d. option_map (entry at import) (slice_get (signature (spaces_of d)).imports import))) there in
-          ap (option_and_then (λ xs. option_and_then (option_map reached_tree) (slice_get xs.items import))) here
+          let wanted : find_import set component import ≡ option_map (extern_at at import) (slice_get imports import) = ap (λ k. find_import set k import) same ∙ ap (option_and_then (λ d. option_map (extern_at at import) (slice_get (signature (spaces_of d)).imports import))) there in
+          ap (option_and_then (λ xs. option_and_then (option_map shared_target_tree) (slice_get xs.items import))) here
           ∙ got
-          ∙ leads_same set (table old) (reach set at) (option_map (entry at import) (slice_get imports import)) before
-          ∙ sym (ap (option_and_then (leads set (reach set at))) wanted)
-          ∙ sym (ap (λ t. if t then option_and_then (leads set (reach set at)) (import_entry set component import) else reach set at component import) h)
+          ∙ target_of_import-same set (look_up_target old) (target_within set at) (option_map (extern_at at import) (slice_get imports import)) before
+          ∙ sym (ap (option_and_then (target_of_import set (target_within set at))) wanted)
+          ∙ sym (ap (λ t. if t then option_and_then (target_of_import set (target_within set at)) (find_import set component import) else target_within set at component import) h)
           ∙ sym grown
       | inr h ↦
           let ne : component ≢ length old = λ e. apart_of component at h (e ∙ long) in
-          ap (λ xs. table xs component import) pushed
-          ∙ ap (option_and_then (λ xs. option_and_then (option_map reached_tree) (slice_get xs.items import))) (get_elsewhere old v component ne)
+          ap (λ xs. look_up_target xs component import) pushed
+          ∙ ap (option_and_then (λ xs. option_and_then (option_map shared_target_tree) (slice_get xs.items import))) (get_elsewhere old v component ne)
           ∙ before component import
-          ∙ sym (ap (λ t. if t then option_and_then (leads set (reach set at)) (import_entry set component import) else reach set at component import) h)
+          ∙ sym (ap (λ t. if t then option_and_then (target_of_import set (target_within set at)) (find_import set component import) else target_within set at component import) h)
           ∙ sym grown
     ]

@@ -4,11 +4,12 @@ use Rattle.std.specs.List.{AllByRecursion}
 use Rattle.cm_component.specs.Trees.{SectionTree}
 use Rattle.cm_match.specs.declared.links.Links.{Links}
 use Rattle.cm_match.specs.Links as links
-use Rattle.cm_match.specs.Reaches.{IsFine}
-use Rattle.cm_match.specs.Reached.{IsTable}
+use Rattle.cm_match.specs.Reaches.{IsValidAndConsistent}
+use Rattle.cm_match.specs.TargetTables.{IsTargetTable}
 
--- the components are valid, the plan serves each import, and the table says what each import reaches
-pub record IsLinked (set : List (List SectionTree)) (found : Links) : Type 0 where
-  pub fine : AllByRecursion IsFine set
-  pub plan : links.Matches (links.signatures set) found.plan.items
-  pub targets : IsTable found.targets.items set (length set)
+-- the components are valid, the plan serves each import, and the table has the target of each
+-- import
+pub record IsLinked (set : List (List SectionTree)) (made : Links) : Type 0 where
+  pub fine : AllByRecursion IsValidAndConsistent set
+  pub plan : links.Matches (links.signatures_of set) made.plan.items
+  pub targets : IsTargetTable made.targets.items set (length set)

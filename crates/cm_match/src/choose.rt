@@ -4,8 +4,8 @@ ghost use Rattle.std.specs.Prelude.{◌≡◌, ◌↔◌, IsTrue, IfOk, IfErr, t
 ghost use Rattle.std.specs.Option.{option_map};
 ghost use Rattle.cm_types.specs.Funcs.{func_of};
 ghost use Rattle.cm_types.specs.Signatures.{extern_of, extern_type_of};
-ghost use Rattle.cm_match.specs.Links.{Entry, entry, exports_from, export_at, signatures, IsSame};
-ghost use Rattle.cm_match.specs.Links.{IsServed, Fails};
+ghost use Rattle.cm_match.specs.Links.{ExternAt, extern_at, exports_from, export_at};
+ghost use Rattle.cm_match.specs.Links.{signatures_of, IsSame, IsServedBy, IsUnservedFor};
 ghost use Rattle.cm_match.specs.Offers.{AreOffers};
 
 use crate::fault::LinkReason;
@@ -15,22 +15,23 @@ use cm_validate::Checked;
 use std::collections::BTreeMap;
 
 fn export_at(components: &[Checked], provider: usize, export: usize) -> Option<&SignatureItem>
-    ensures { option_map (λ i. extern_of i.now) result ≡ export_at (signatures components.now) provider export }
+    ensures { option_map (λ i. extern_of i.now) result
+        ≡ export_at (signatures_of components.now) provider export }
 {
     components.get(provider)?.signature().exports.get(export)
 }
 
-fn same_funcs(a: &Func, b: &Func) -> bool
+fn is_same_func(a: &Func, b: &Func) -> bool
     ensures { IsTrue result ↔ (func_of a.now ≡ func_of b.now) }
 {
     same_func(a, b, &[], &[])
 }
 
-fn same_desc(a: &ExternType, b: &ExternType) -> bool
+fn is_same(a: &ExternType, b: &ExternType) -> bool
     ensures { IsTrue result ↔ IsSame (extern_type_of a.now) (extern_type_of b.now) }
 {
     match (a, b) {
-        (ExternType::Func(a), ExternType::Func(b)) => same_funcs(a, b),
+        (ExternType::Func(a), ExternType::Func(b)) => is_same_func(a, b),
         _ => false,
     }
 }
@@ -43,10 +44,17 @@ pub(crate) fn choose(
     number: usize,
     import: &SignatureItem,
 ) -> Result<Offer, LinkReason>
-    requires { AreOffers offers.now (exports_from 0 (take at (signatures components.now))) }
-    ensures served { IfOk result (λ o. (e : Entry) × IsServed (signatures components.now) (entry at number (extern_of import.now)) e × (o.provider ≡ e.component) × (o.export ≡ e.number)) }
-    ensures fails { IfErr result (λ r. Fails (signatures components.now) (entry at number (extern_of import.now)) r) }
+    requires { AreOffers offers.now (exports_from 0 (take at (signatures_of components.now))) }
+    ensures served { IfOk result
+        (λ o. (e : ExternAt)
+        × IsServedBy (signatures_of components.now)
+        (extern_at at number (extern_of import.now)) e
+        × (o.provider ≡ e.component) × (o.export ≡ e.number)) }
+    ensures unserved { IfErr result
+        (λ r. IsUnservedFor (signatures_of components.now)
+        (extern_at at number (extern_of import.now)) r) }
 {
+    // The clauses alone name `number`: the answer does not turn on it.
     let _ = number;
     let Some(offer) = offers.get(import.name.as_str()) else {
         return Err(LinkReason::NoProvider);
@@ -57,7 +65,7 @@ pub(crate) fn choose(
     let Some(export) = export_at(components, offer.provider, offer.export) else {
         unreachable!();
     };
-    if same_desc(&export.desc, &import.desc) {
+    if is_same(&export.desc, &import.desc) {
         Ok(*offer)
     } else {
         Err(LinkReason::DifferentType)

@@ -7,9 +7,9 @@ mod linked;
 mod links;
 mod offers;
 mod plan;
-mod reached;
+mod target;
 
 pub use fault::{LinkFault, LinkReason};
-pub use linked::{Linked, link};
+pub use linked::{Linked, MAX_COMPONENTS, link};
 pub use plan::PlanLine;
-pub use reached::Target;
+pub use target::Target;

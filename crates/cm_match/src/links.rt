@@ -7,59 +7,83 @@ ghost use Rattle.std.specs.List.{AllByRecursion};
 ghost use Rattle.cm_types.specs.Signatures.{extern_of};
 ghost use Rattle.cm_validate.specs.Spaces.{spaces_of, func_at};
 ghost use Rattle.cm_match.specs.declared.fault.LinkReason.TheVariants as reason;
-ghost use Rattle.cm_match.specs.Links.{Entry, entry, entries, exports_from, signatures, line};
-ghost use Rattle.cm_match.specs.Links.{IsServed, Fails, IsFirstUnserved, Matches};
+ghost use Rattle.cm_match.specs.declared.linked.TheConstants.{MAX_COMPONENTS};
+ghost use Rattle.cm_match.specs.Links.{ExternAt, extern_at, externs_from, exports_from};
+ghost use Rattle.cm_match.specs.Links.{signatures_of, plan_line, IsServedBy, IsUnservedFor};
+ghost use Rattle.cm_match.specs.Links.{IsFirstUnserved, Matches, ServesUpTo};
 ghost use Rattle.cm_match.specs.Offers.{AreOffers};
 ghost use Rattle.cm_match.specs.Progress.{Progress, imports_of_rest};
-ghost use Rattle.cm_match.specs.Reached.{reached_tree, table, IsTable};
-ghost use Rattle.cm_match.specs.Reaches.{IsFine};
-ghost use Rattle.cm_match.specs.Targets.{follow, leads};
+ghost use Rattle.cm_match.specs.Reaches.{IsValidAndConsistent};
+ghost use Rattle.cm_match.specs.TargetTables.{shared_target_tree, look_up_target};
+ghost use Rattle.cm_match.specs.TargetTables.{IsTargetTable};
+ghost use Rattle.cm_match.specs.Targets.{target_of_def, target_of_import};
 
 use crate::choose::choose;
 use crate::fault::{LinkFault, LinkReason};
 use crate::offers::{Offer, add_offers};
 use crate::plan::PlanLine;
-use crate::reached::{Reached, follow_export, index};
+use crate::target::{SharedTarget, index, target_of_export};
 use cm_types::SignatureItem;
 use cm_validate::Checked;
 use std::alloc::{AllocError, Global};
 use std::collections::BTreeMap;
 
-/// The plan's line for an import that is linked to what is offered, and what it reaches.
+/// The plan's line for an import that is linked to what is offered, and the import's target.
 fn line_to(
     components: &[Checked],
-    targets: &[Vec<Option<Reached>>],
+    targets: &[Vec<Option<SharedTarget>>],
     at: usize,
     number: usize,
     offer: &Offer,
-) -> Result<(PlanLine, Option<Reached>), AllocError>
-    ensures { IfOk result (λ r. (r.0 ≡ record { importer = at; import = number; provider = offer.now.provider; export = offer.now.export })
-        × (option_map reached_tree r.1 ≡ option_and_then (follow (table targets.now) offer.now.provider) (option_and_then (λ c. func_at (spaces_of c) offer.now.export None) (slice_get components.now offer.now.provider)))) }
+) -> Result<(PlanLine, Option<SharedTarget>), AllocError>
+    ensures line { IfOk result
+        (λ r. r.0
+        ≡ record {
+          importer = at;
+          import = number;
+          provider = offer.now.provider;
+          export = offer.now.export;
+        }) }
+    ensures target { IfOk result
+        (λ r. option_map shared_target_tree r.1
+        ≡ option_and_then (target_of_def (look_up_target targets.now) offer.now.provider)
+        (option_and_then (λ c. func_at (spaces_of c) offer.now.export None)
+        (slice_get components.now offer.now.provider))) }
 {
     let export = index(offer.export)?;
-    let reached = follow_export(components, targets, offer.provider, export)?;
+    let target = target_of_export(components, targets, offer.provider, export)?;
     let line = PlanLine {
         importer: index(at)?,
         import: index(number)?,
         provider: index(offer.provider)?,
         export,
     };
-    Ok((line, reached))
+    Ok((line, target))
 }
 
-/// The plan's line for import `number` of component `at`, and what it reaches; or why there is none.
+/// The plan's line for import `number` of component `at`, and its target; or why there is none.
 fn link_import(
     components: &[Checked],
     offers: &BTreeMap<String, Offer>,
-    targets: &[Vec<Option<Reached>>],
+    targets: &[Vec<Option<SharedTarget>>],
     at: usize,
     number: usize,
     import: &SignatureItem,
-) -> Result<(PlanLine, Option<Reached>), LinkReason>
-    requires { AreOffers offers.now (exports_from 0 (take at (signatures components.now))) }
-    ensures served { IfOk result (λ r. (e : Entry) × IsServed (signatures components.now) (entry at number (extern_of import.now)) e × (r.0 ≡ line (entry at number (extern_of import.now)) e)) }
-    ensures reached { IfOk result (λ r. option_map reached_tree r.1 ≡ leads components.now (table targets.now) (entry at number (extern_of import.now))) }
-    ensures fault { IfErr result (λ r. (r ≡ reason.Memory) ⊎ Fails (signatures components.now) (entry at number (extern_of import.now)) r) }
+) -> Result<(PlanLine, Option<SharedTarget>), LinkReason>
+    requires { AreOffers offers.now (exports_from 0 (take at (signatures_of components.now))) }
+    ensures served { IfOk result
+        (λ r. (e : ExternAt)
+        × IsServedBy (signatures_of components.now)
+        (extern_at at number (extern_of import.now)) e
+        × (r.0 ≡ plan_line (extern_at at number (extern_of import.now)) e)) }
+    ensures target { IfOk result
+        (λ r. option_map shared_target_tree r.1
+        ≡ target_of_import components.now (look_up_target targets.now)
+        (extern_at at number (extern_of import.now))) }
+    ensures fault { IfErr result
+        (λ r. (r ≡ reason.Memory)
+        ⊎ IsUnservedFor (signatures_of components.now)
+        (extern_at at number (extern_of import.now)) r) }
 {
     match choose(components, offers, at, number, import) {
         Ok(offer) => match line_to(components, targets, at, number, &offer) {
@@ -70,9 +94,9 @@ fn link_import(
     }
 }
 
-/// The fault where there is no memory at an import.
+/// The fault where there is no memory at an import, or past the last one of a component.
 fn no_memory(component: usize, import: usize) -> LinkFault
-    ensures { result.reason ≡ reason.Memory }
+    ensures { result ≡ record { component = component; import = import; reason = reason.Memory } }
 {
     LinkFault {
         component,
@@ -81,27 +105,39 @@ fn no_memory(component: usize, import: usize) -> LinkFault
     }
 }
 
-/// Links the imports of component `at`: adds their lines to the plan, and answers what each reaches.
+/// Links the imports of component `at`: adds their lines to the plan, and answers their targets.
 fn link_imports(
     alloc: Global,
     components: &[Checked],
     offers: &BTreeMap<String, Offer>,
-    targets: &[Vec<Option<Reached>>],
+    targets: &[Vec<Option<SharedTarget>>],
     at: usize,
     imports: &[SignatureItem],
     plan: &mut Vec<PlanLine>,
-) -> Result<Vec<Option<Reached>>, LinkFault>
-    requires offers { AreOffers offers.now (exports_from 0 (take at (signatures components.now))) }
-    requires so_far { Progress (signatures components.now) (entries at 0 (map extern_of imports.now) ++ imports_of_rest (at + 1) components.now) plan.old.items }
-    ensures so_far { OnOk result (Progress (signatures components.now) (imports_of_rest (at + 1) components.now) plan.new.items) }
-    ensures reached { IfOk result (λ v. map (option_map reached_tree) v.items ≡ map (leads components.now (table targets.now)) (entries at 0 (map extern_of imports.now))) }
-    ensures fault { IfErr result (λ f. (f.reason ≡ reason.Memory) ⊎ IsFirstUnserved (signatures components.now) f.component f.import f.reason) }
+) -> Result<Vec<Option<SharedTarget>>, LinkFault>
+    requires offers { AreOffers offers.now
+        (exports_from 0 (take at (signatures_of components.now))) }
+    requires so_far { Progress (signatures_of components.now)
+        (externs_from at 0 (map extern_of imports.now)
+        ++ imports_of_rest (at + 1) components.now)
+        plan.old.items }
+    ensures so_far { OnOk result
+        (Progress (signatures_of components.now) (imports_of_rest (at + 1) components.now)
+        plan.new.items) }
+    ensures targets { IfOk result
+        (λ v. map (option_map shared_target_tree) v.items
+        ≡ map (target_of_import components.now (look_up_target targets.now))
+        (externs_from at 0 (map extern_of imports.now))) }
+    ensures fault { IfErr result
+        (λ f. ((f.reason ≡ reason.Memory)
+        × ServesUpTo (signatures_of components.now) f.component f.import)
+        ⊎ IsFirstUnserved (signatures_of components.now) f.component f.import f.reason) }
 {
-    let mut reached = Vec::new(alloc);
+    let mut row = Vec::new(alloc);
     for (number, import) in imports.iter().enumerate() {
         match link_import(components, offers, targets, at, number, import) {
             Ok((line, target)) => {
-                if plan.push(line).is_err() || reached.push(target).is_err() {
+                if plan.push(line).is_err() || row.push(target).is_err() {
                     return Err(no_memory(at, number));
                 }
             }
@@ -114,31 +150,35 @@ fn link_imports(
             }
         }
     }
-    Ok(reached)
+    Ok(row)
 }
 
-/// The plan of a set, and what each import of each component reaches.
-#[derive(Debug, Drop)]
+/// The plan of a set, and the target of each import of each component.
+#[derive(Drop)]
 pub(crate) struct Links {
     pub plan: Vec<PlanLine>,
-    pub targets: Vec<Vec<Option<Reached>>>,
+    pub targets: Vec<Vec<Option<SharedTarget>>>,
 }
 
 /// Links the components of a set in order.
 pub(crate) fn link_all(alloc: Global, components: &[Checked]) -> Result<Links, LinkFault>
     requires some { 0 < length components.now }
-    requires few { length components.now ≤ 16 }
-    ensures fine { OnOk result (AllByRecursion IsFine components.now) }
-    ensures plan { IfOk result (λ l. Matches (signatures components.now) l.plan.items) }
-    ensures targets { IfOk result (λ l. IsTable l.targets.items components.now (length components.now)) }
-    ensures fault { IfErr result (λ f. (f.reason ≡ reason.Memory) ⊎ IsFirstUnserved (signatures components.now) f.component f.import f.reason) }
+    requires few { length components.now ≤ MAX_COMPONENTS }
+    ensures fine { OnOk result (AllByRecursion IsValidAndConsistent components.now) }
+    ensures plan { IfOk result (λ l. Matches (signatures_of components.now) l.plan.items) }
+    ensures targets { IfOk result
+        (λ l. IsTargetTable l.targets.items components.now (length components.now)) }
+    ensures fault { IfErr result
+        (λ f. ((f.reason ≡ reason.Memory)
+        × ServesUpTo (signatures_of components.now) f.component f.import)
+        ⊎ IsFirstUnserved (signatures_of components.now) f.component f.import f.reason) }
 {
     let mut offers = BTreeMap::new(alloc);
     let mut plan = Vec::new(alloc);
     let mut targets = Vec::new(alloc);
     for (at, component) in components.iter().enumerate() {
         let signature = component.signature();
-        let reached = match link_imports(
+        let row = match link_imports(
             alloc,
             components,
             &offers,
@@ -147,13 +187,13 @@ pub(crate) fn link_all(alloc: Global, components: &[Checked]) -> Result<Links, L
             &signature.imports,
             &mut plan,
         ) {
-            Ok(reached) => reached,
+            Ok(row) => row,
             Err(fault) => return Err(fault),
         };
-        if targets.push(reached).is_err()
+        if targets.push(row).is_err()
             || add_offers(alloc, &mut offers, at, &signature.exports).is_err()
         {
-            return Err(no_memory(at, 0));
+            return Err(no_memory(at, signature.imports.len()));
         }
     }
     Ok(Links { plan, targets })

@@ -1,5 +1,5 @@
--- What the kernels look at in units of UTF-16 (this project's own choice: these words are of private contracts,
--- and no public one).
+-- What the kernels look at in units of UTF-16 (this project's own choice: these words are of
+-- private contracts, and no public one).
 use Rattle.std.specs.Prelude.{ℕ, List, [], ◌∷◌, if◌then◌else◌, ◌==◌, ◌||◌, Bool, nat_lt, nat_le}
 
 -- the second byte of each unit

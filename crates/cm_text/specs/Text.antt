@@ -1,6 +1,7 @@
--- Texts and their spellings in bytes (the Unicode Standard, section 3.9, "Unicode Encoding Forms", and
--- section 3.10, "Unicode Encoding Schemes"; CanonicalABI.md, "Loading" and "Storing" of strings).
--- An encoding is given by the scalars that have a spelling and by the bytes of each spelling.
+-- Texts and their spellings in bytes (the Unicode Standard, section 3.9, "Unicode Encoding Forms",
+-- and section 3.10, "Unicode Encoding Schemes"; CanonicalABI.md, "Loading" and "Storing" of
+-- strings). An encoding is given by the scalars that have a spelling and by the bytes of each
+-- spelling.
 use Rattle.std.specs.Prelude.{◌≡◌, ℕ, ◌<◌, List, ◌++◌, length, take}
 use Rattle.std.specs.List.{AllByRecursion, flat_map}
 
@@ -14,23 +15,27 @@ abbrev pub IsSomeText : (ℕ → Type 0) → (ℕ → List ℕ) → List ℕ →
 IsSomeText has spell bytes = (scalars : List ℕ) × IsText has spell scalars bytes
 
 -- the first n bytes are the longest beginning that is a text, and at least one byte follows
-pub record IsTextUpTo (has : ℕ → Type 0) (spell : ℕ → List ℕ) (bytes : List ℕ) (n : ℕ) : Type 0 where
+pub record IsTextUpTo (has : ℕ → Type 0) (spell : ℕ
+    → List ℕ) (bytes : List ℕ) (n : ℕ) : Type 0 where
   pub short : n < length bytes
   pub front : IsSomeText has spell (take n bytes)
   pub longest : (m : ℕ) (scalars : List ℕ) → n < m → IsText has spell scalars (take m bytes) → ⊥
 
 -- the bytes are a text that takes this many bytes in another spelling
-pub record IsTextOfSize (has : ℕ → Type 0) (spell spell_to : ℕ → List ℕ) (bytes : List ℕ) (size : ℕ) : Type 0 where
+pub record IsTextOfSize (has : ℕ → Type 0) (spell spell_to : ℕ
+    → List ℕ) (bytes : List ℕ) (size : ℕ) : Type 0 where
   pub scalars : List ℕ
   pub text : IsText has spell scalars bytes
   pub size_is : length (flat_map spell_to scalars) ≡ size
 
 -- the other bytes are the same text in another spelling
 abbrev pub IsSameText : (ℕ → Type 0) → (ℕ → List ℕ) → (ℕ → List ℕ) → List ℕ → List ℕ → Type 0
-IsSameText has spell spell_to bytes other = (scalars : List ℕ) → IsText has spell scalars bytes → other ≡ flat_map spell_to scalars
+IsSameText has spell spell_to bytes other =
+    (scalars : List ℕ) → IsText has spell scalars bytes → other ≡ flat_map spell_to scalars
 
 -- the bytes begin with the spelling of a scalar, which takes this many of them
-pub record BeginsWith (has : ℕ → Type 0) (spell : ℕ → List ℕ) (bytes : List ℕ) (c size : ℕ) : Type 0 where
+pub record BeginsWith (has : ℕ → Type 0) (spell : ℕ
+    → List ℕ) (bytes : List ℕ) (c size : ℕ) : Type 0 where
   pub spelled : has c
   pub rest : List ℕ
   pub is : bytes ≡ spell c ++ rest

@@ -26,5 +26,6 @@ is_well_formed_utf8 (a ∷ b ∷ c ∷ d ∷ e ∷ bytes) = false
 abbrev pub is_well_formed_utf16 : List ℕ → Bool
 is_well_formed_utf16 [] = false
 is_well_formed_utf16 (u ∷ []) = is_in_range 0x0000 0xD7FF u || is_in_range 0xE000 0xFFFF u
-is_well_formed_utf16 (high ∷ low ∷ []) = is_in_range 0xD800 0xDBFF high && is_in_range 0xDC00 0xDFFF low
+is_well_formed_utf16 (high ∷ low ∷ []) =
+    is_in_range 0xD800 0xDBFF high && is_in_range 0xDC00 0xDFFF low
 is_well_formed_utf16 (a ∷ b ∷ c ∷ us) = false

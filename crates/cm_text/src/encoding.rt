@@ -23,10 +23,12 @@ pub trait Encoding: Source {
         ensures ok { OnOk result (out.new.items ≡ out.old.items ++ Self.spell scalar) }
         ensures err { OnErr result (out.new.items ≡ out.old.items) };
 
-    /// How many bytes a text of `S` takes in this encoding; else IllFormed as the check of `S` answers it.
+    /// How many bytes a text of `S` takes in this encoding; else IllFormed as the check of `S`
+    /// answers it.
     fn measure<S: Source>(bytes: &[u8]) -> Result<usize, TextFault>
         ensures ok { IfOk result (IsTextOfSize S.has S.spell Self.spell bytes.now) }
-        ensures ill_formed { IfErr result (λ e. IsIllFormed e (IsTextUpTo S.has S.spell bytes.now)) };
+        ensures ill_formed { IfErr result (λ e.
+            IsIllFormed e (IsTextUpTo S.has S.spell bytes.now)) };
 
     /// Writes a text of `S` in this encoding into a slice of its size here.
     fn write<S: Source>(bytes: &[u8], out: &mut [u8])
@@ -36,7 +38,8 @@ pub trait Encoding: Source {
     /// Each scalar has a spelling.
     ghost every: { (c : ℕ) → IsScalar c → Self.has c };
 
-    /// A spelling takes no more bytes than the greatest growth of its units in UTF-16, than which no
-    /// encoding has fewer.
-    ghost grows: { (c : ℕ) → IsScalar c → length (Self.spell c) ≤ GREATEST_GROWTH * length (encode_utf16 c) };
+    /// A spelling takes no more bytes than the greatest growth of its units in UTF-16, than which
+    /// no encoding has fewer.
+    ghost grows: { (c : ℕ) → IsScalar c
+        → length (Self.spell c) ≤ GREATEST_GROWTH * length (encode_utf16 c) };
 }

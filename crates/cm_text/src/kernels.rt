@@ -45,14 +45,15 @@ pub(crate) fn run_in(bytes: &[u8], at: usize) -> usize
     run_of(u8x16::from_slice(&bytes[at..]))
 }
 
-/// Writes the sixteen bytes from `at` on as units of UTF-16 from `to` on, and answers how many of them
-/// come before the first that is not ASCII.
+/// Writes the sixteen bytes from `at` on as units of UTF-16 from `to` on, and answers how many of
+/// them come before the first that is not ASCII.
 #[inline(always)]
 pub(crate) fn widen_in(bytes: &[u8], at: usize, out: &mut [u8], to: usize) -> usize
     requires within { at + 16 ≤ length bytes.now }
     requires room { to + 32 ≤ length out.old }
     ensures run { result ≡ prefix_len is_ascii (chunk at 16 bytes.now) }
-    ensures written { take (to + 32) out.new ≡ take to out.old ++ flat_map wide (chunk at 16 bytes.now) }
+    ensures written { take (to + 32) out.new ≡ take to out.old
+        ++ flat_map wide (chunk at 16 bytes.now) }
 {
     let lanes = u8x16::from_slice(&bytes[at..]);
     let (low, high) = lanes.interleave(u8x16::splat(0));
@@ -73,45 +74,48 @@ pub(crate) fn units_at(bytes: &[u8], at: usize) -> (u8x16, u8x16)
     front.deinterleave(back)
 }
 
-/// The first byte of each unit of these first and second bytes, and 0xFF where the second is not 0, so that the
-/// lane is below 0x80 where the unit is.
+/// The first byte of each unit of these first and second bytes, and 0xFF where the second is not 0,
+/// so that the lane is below 0x80 where the unit is.
 #[inline(always)]
-pub(crate) fn marked(low: u8x16, high: u8x16) -> u8x16
+pub(crate) fn marks_of(low: u8x16, high: u8x16) -> u8x16
     ensures { result ≡ zip2 mark low high }
 {
     high.simd_ne(u8x16::splat(0))
         .select(u8x16::splat(0xFF), low)
 }
 
-/// How many of the sixteen units of these first and second bytes come before the first that is not ASCII.
+/// How many of the sixteen units of these first and second bytes come before the first that is not
+/// ASCII.
 #[inline(always)]
 fn run_of_units(low: u8x16, high: u8x16) -> usize
     ensures { result ≡ prefix_len is_ascii (zip2 unit low high) }
 {
-    run_of(marked(low, high))
+    run_of(marks_of(low, high))
 }
 
-/// Writes the first bytes of the sixteen units of UTF-16 from `at` on from `to` on, and answers how many
-/// of the units come before the first that is not ASCII.
+/// Writes the first bytes of the sixteen units of UTF-16 from `at` on from `to` on, and answers how
+/// many of the units come before the first that is not ASCII.
 #[inline(always)]
 pub(crate) fn narrow_in(bytes: &[u8], at: usize, out: &mut [u8], to: usize) -> usize
     requires within { at + 32 ≤ length bytes.now }
     requires room { to + 16 ≤ length out.old }
     ensures run { result ≡ prefix_len is_ascii (units (chunk at 32 bytes.now)) }
-    ensures written { take (to + 16) out.new ≡ take to out.old ++ first_bytes (chunk at 32 bytes.now) }
+    ensures written { take (to + 16) out.new ≡ take to out.old
+        ++ first_bytes (chunk at 32 bytes.now) }
 {
     let (low, high) = units_at(bytes, at);
     low.copy_to_slice(&mut out[to..]);
     run_of_units(low, high)
 }
 
-/// Writes the run of ASCII from `at` on as units of UTF-16 from `to` on, sixteen at a time, and answers its
-/// length. What lies behind may be written too.
+/// Writes the run of ASCII from `at` on as units of UTF-16 from `to` on, sixteen at a time, and
+/// answers its length. What lies behind may be written too.
 fn widen_long_run(bytes: &[u8], at: usize, out: &mut [u8], to: usize) -> usize
     requires within { at ≤ length bytes.now }
     requires room { to + 2 * ascii_run (drop at bytes.now) ≤ length out.old }
     ensures run { result ≡ ascii_run (drop at bytes.now) }
-    ensures written { take (to + 2 * result) out.new ≡ take to out.old ++ flat_map wide (take result (drop at bytes.now)) }
+    ensures written { take (to + 2 * result) out.new ≡ take to out.old
+        ++ flat_map wide (take result (drop at bytes.now)) }
 {
     let mut run = 0;
     while bytes.len() - (at + run) >= LANES && out.len() - (to + 2 * run) >= 2 * LANES {
@@ -129,8 +133,8 @@ fn widen_long_run(bytes: &[u8], at: usize, out: &mut [u8], to: usize) -> usize
     run
 }
 
-/// Writes the run of ASCII from `at` on, or its first sixteen bytes, as units of UTF-16 from `to` on, and answers
-/// how many.
+/// Writes the run of ASCII from `at` on, or its first sixteen bytes, as units of UTF-16 from `to`
+/// on, and answers how many.
 #[inline(always)]
 fn widen_few(bytes: &[u8], at: usize, out: &mut [u8], to: usize) -> usize
     requires within { at ≤ length bytes.now }
@@ -138,8 +142,10 @@ fn widen_few(bytes: &[u8], at: usize, out: &mut [u8], to: usize) -> usize
     ensures run { result < 16 → result ≡ ascii_run (drop at bytes.now) }
     ensures most { result ≤ 16 }
     ensures within { at + result ≤ length bytes.now }
-    ensures left { result + ascii_run (drop (at + result) bytes.now) ≡ ascii_run (drop at bytes.now) }
-    ensures written { take (to + 2 * result) out.new ≡ take to out.old ++ flat_map wide (take result (drop at bytes.now)) }
+    ensures left { result + ascii_run (drop (at + result) bytes.now)
+        ≡ ascii_run (drop at bytes.now) }
+    ensures written { take (to + 2 * result) out.new ≡ take to out.old
+        ++ flat_map wide (take result (drop at bytes.now)) }
 {
     let mut run = 0;
     while run < LANES && at + run < bytes.len() && bytes[at + run] < 0x80 {
@@ -150,14 +156,16 @@ fn widen_few(bytes: &[u8], at: usize, out: &mut [u8], to: usize) -> usize
     run
 }
 
-/// Writes the run of ASCII from `at` on as units of UTF-16 from `to` on, and answers its length: one by one where
-/// it is short, as in most texts that are not ASCII as a whole. What lies behind may be written too.
+/// Writes the run of ASCII from `at` on as units of UTF-16 from `to` on, and answers its length:
+/// one by one where it is short, as in most texts that are not ASCII as a whole. What lies behind
+/// may be written too.
 #[inline(always)]
 pub(crate) fn widen_run(bytes: &[u8], at: usize, out: &mut [u8], to: usize) -> usize
     requires within { at ≤ length bytes.now }
     requires room { to + 2 * ascii_run (drop at bytes.now) ≤ length out.old }
     ensures run { result ≡ ascii_run (drop at bytes.now) }
-    ensures written { take (to + 2 * result) out.new ≡ take to out.old ++ flat_map wide (take result (drop at bytes.now)) }
+    ensures written { take (to + 2 * result) out.new ≡ take to out.old
+        ++ flat_map wide (take result (drop at bytes.now)) }
 {
     let few = widen_few(bytes, at, out, to);
     if few < LANES {
@@ -166,13 +174,14 @@ pub(crate) fn widen_run(bytes: &[u8], at: usize, out: &mut [u8], to: usize) -> u
     few + widen_long_run(bytes, at + few, out, to + 2 * few)
 }
 
-/// Writes the run of ASCII units from `at` on as bytes from `to` on, sixteen at a time, and answers how many
-/// units it has. What lies behind may be written too.
+/// Writes the run of ASCII units from `at` on as bytes from `to` on, sixteen at a time, and answers
+/// how many units it has. What lies behind may be written too.
 fn narrow_long_run(bytes: &[u8], at: usize, out: &mut [u8], to: usize) -> usize
     requires within { at ≤ length bytes.now }
     requires room { to + ascii_units (drop at bytes.now) ≤ length out.old }
     ensures run { result ≡ ascii_units (drop at bytes.now) }
-    ensures written { take (to + result) out.new ≡ take to out.old ++ first_bytes (take (2 * result) (drop at bytes.now)) }
+    ensures written { take (to + result) out.new ≡ take to out.old
+        ++ first_bytes (take (2 * result) (drop at bytes.now)) }
 {
     let mut run = 0;
     while bytes.len() - (at + 2 * run) >= 2 * LANES && out.len() - (to + run) >= LANES {
@@ -192,7 +201,8 @@ fn narrow_long_run(bytes: &[u8], at: usize, out: &mut [u8], to: usize) -> usize
     run
 }
 
-/// Writes the run of ASCII units from `at` on, or its first sixteen, as bytes from `to` on, and answers how many.
+/// Writes the run of ASCII units from `at` on, or its first sixteen, as bytes from `to` on, and
+/// answers how many.
 #[inline(always)]
 fn narrow_few(bytes: &[u8], at: usize, out: &mut [u8], to: usize) -> usize
     requires within { at ≤ length bytes.now }
@@ -200,8 +210,10 @@ fn narrow_few(bytes: &[u8], at: usize, out: &mut [u8], to: usize) -> usize
     ensures run { result < 16 → result ≡ ascii_units (drop at bytes.now) }
     ensures most { result ≤ 16 }
     ensures within { at + 2 * result ≤ length bytes.now }
-    ensures left { result + ascii_units (drop (at + 2 * result) bytes.now) ≡ ascii_units (drop at bytes.now) }
-    ensures written { take (to + result) out.new ≡ take to out.old ++ first_bytes (take (2 * result) (drop at bytes.now)) }
+    ensures left { result + ascii_units (drop (at + 2 * result) bytes.now)
+        ≡ ascii_units (drop at bytes.now) }
+    ensures written { take (to + result) out.new ≡ take to out.old
+        ++ first_bytes (take (2 * result) (drop at bytes.now)) }
 {
     let mut run = 0;
     while run < LANES && bytes.len() - (at + 2 * run) >= 2 {
@@ -215,14 +227,16 @@ fn narrow_few(bytes: &[u8], at: usize, out: &mut [u8], to: usize) -> usize
     run
 }
 
-/// Writes the run of ASCII units from `at` on as bytes from `to` on, and answers how many units it has: one by one
-/// where it is short, as in most texts that are not ASCII as a whole. What lies behind may be written too.
+/// Writes the run of ASCII units from `at` on as bytes from `to` on, and answers how many units it
+/// has: one by one where it is short, as in most texts that are not ASCII as a whole. What lies
+/// behind may be written too.
 #[inline(always)]
 pub(crate) fn narrow_run(bytes: &[u8], at: usize, out: &mut [u8], to: usize) -> usize
     requires within { at ≤ length bytes.now }
     requires room { to + ascii_units (drop at bytes.now) ≤ length out.old }
     ensures run { result ≡ ascii_units (drop at bytes.now) }
-    ensures written { take (to + result) out.new ≡ take to out.old ++ first_bytes (take (2 * result) (drop at bytes.now)) }
+    ensures written { take (to + result) out.new ≡ take to out.old
+        ++ first_bytes (take (2 * result) (drop at bytes.now)) }
 {
     let few = narrow_few(bytes, at, out, to);
     if few < LANES {
@@ -319,8 +333,8 @@ fn ascii_unit_blocks(bytes: &[u8]) -> usize
     count
 }
 
-/// The number of units in the longest beginning of `bytes` in which each unit of UTF-16, little end first,
-/// is below 0x80. An odd last byte is no unit.
+/// The number of units in the longest beginning of `bytes` in which each unit of UTF-16, little end
+/// first, is below 0x80. An odd last byte is no unit.
 pub fn ascii_units(bytes: &[u8]) -> usize
     ensures { result ≡ ascii_units bytes.now }
 {
@@ -338,8 +352,8 @@ pub fn ascii_units(bytes: &[u8]) -> usize
     count
 }
 
-/// Writes each byte as the unit of UTF-16 of its value, little end first: the byte, and then 0. It asks for an
-/// output of twice the length.
+/// Writes each byte as the unit of UTF-16 of its value, little end first: the byte, and then 0. It
+/// asks for an output of twice the length.
 pub fn widen(bytes: &[u8], out: &mut [u8])
     requires { length out.old ≡ 2 * length bytes.now }
     ensures { out.new ≡ flat_map wide bytes.now }
@@ -356,8 +370,8 @@ pub fn widen(bytes: &[u8], out: &mut [u8])
     }
 }
 
-/// Writes the first byte of each unit of UTF-16. It asks for units below 0x80 alone, as `ascii_units` tells, and
-/// for an output of half the length.
+/// Writes the first byte of each unit of UTF-16. It asks for units below 0x80 alone, as
+/// `ascii_units` tells, and for an output of half the length.
 pub fn narrow(bytes: &[u8], out: &mut [u8])
     requires ascii { ascii_units bytes.now ≡ length out.old }
     requires half { length bytes.now ≡ 2 * length out.old }
@@ -394,11 +408,12 @@ fn plain_in(bytes: &[u8], at: usize) -> usize
     run_below(below_e0(high), 0xD8)
 }
 
-/// The bytes after some units of UTF-16 that are no surrogates. Where fewer than sixteen units are left, or the
-/// first is a surrogate, that may be none.
+/// The bytes after some units of UTF-16 that are no surrogates. Where fewer than sixteen units are
+/// left, or the first is a surrogate, that may be none.
 #[inline(always)]
 pub(crate) fn after_plain_units(bytes: &[u8]) -> &[u8]
-    ensures { (scalars : List ℕ) × AllByRecursion IsScalar scalars × (bytes.now ≡ flat_map spell_utf16 scalars ++ result.now) }
+    ensures { (scalars : List ℕ) × AllByRecursion IsScalar scalars
+        × (bytes.now ≡ flat_map spell_utf16 scalars ++ result.now) }
 {
     let mut at = 0;
     while bytes.len() - at >= 2 * LANES {

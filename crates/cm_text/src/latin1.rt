@@ -4,8 +4,8 @@ ghost use Rattle.cm_text.specs.Latin1.{HasLatin1, spell_latin1};
 
 use crate::{Source, TextFault, sizes, writes};
 
-/// Latin-1: one byte a scalar below 0x100, so that no bytes are ill-formed. Texts are only read from it. Its
-/// alignment is that of the encoding `latin1+utf16`.
+/// Latin-1: one byte a scalar below 0x100, so that no bytes are ill-formed. Texts are only read
+/// from it. Its alignment is that of the encoding `latin1+utf16`.
 #[derive(Clone, Copy, Debug, PartialEq, Eq)]
 pub struct Latin1;
 

@@ -11,7 +11,7 @@ ghost use Rattle.cm_text.specs.Text.{IsText, IsSomeText};
 ghost use Rattle.cm_text.specs.Utf16.{unit, units, spell_utf16};
 ghost use Rattle.cm_text.specs.Utf8.{spell_utf8};
 
-use crate::kernels::{LANES, marked, units_at};
+use crate::kernels::{LANES, marks_of, units_at};
 use crate::utf16::unit;
 use std::simd::prelude::*;
 
@@ -53,7 +53,8 @@ fn units_begun_in(bytes: &[u8], at: usize) -> usize
 /// How many bytes a text in UTF-8 takes in UTF-16.
 pub(crate) fn utf8_in_utf16(bytes: &[u8]) -> usize
     requires { IsSomeText IsScalar spell_utf8 bytes.now }
-    ensures { (scalars : List ℕ) → IsText IsScalar spell_utf8 scalars bytes.now → result ≡ length (flat_map spell_utf16 scalars) }
+    ensures { (scalars : List ℕ) → IsText IsScalar spell_utf8 scalars bytes.now
+        → result ≡ length (flat_map spell_utf16 scalars) }
 {
     let mut units = 0;
     let mut at = 0;
@@ -91,8 +92,8 @@ fn bytes_taken(unit: u32) -> usize
 fn bytes_taken_of(low: u8x16, high: u8x16) -> usize
     ensures { result ≡ sum_by bytes_taken (zip2 unit low high) }
 {
-    let marked = marked(low, high);
-    LANES + count_from(marked, 0x80) + count_from(high, 0x08) + count_from(high, 0xE0)
+    let marks = marks_of(low, high);
+    LANES + count_from(marks, 0x80) + count_from(high, 0x08) + count_from(high, 0xE0)
         - count_from(high, 0xD8)
 }
 
@@ -109,7 +110,8 @@ fn bytes_taken_in(bytes: &[u8], at: usize) -> usize
 /// How many bytes a text in UTF-16 takes in UTF-8.
 pub(crate) fn utf16_in_utf8(bytes: &[u8]) -> usize
     requires { IsSomeText IsScalar spell_utf16 bytes.now }
-    ensures { (scalars : List ℕ) → IsText IsScalar spell_utf16 scalars bytes.now → result ≡ length (flat_map spell_utf8 scalars) }
+    ensures { (scalars : List ℕ) → IsText IsScalar spell_utf16 scalars bytes.now
+        → result ≡ length (flat_map spell_utf8 scalars) }
 {
     let mut size = 0;
     let mut count = 0;
@@ -144,7 +146,8 @@ fn latin1_taken_in(bytes: &[u8], at: usize) -> usize
 /// How many bytes a text in Latin-1 takes in UTF-8.
 pub(crate) fn latin1_in_utf8(bytes: &[u8]) -> usize
     requires { IsSomeText HasLatin1 spell_latin1 bytes.now }
-    ensures { (scalars : List ℕ) → IsText HasLatin1 spell_latin1 scalars bytes.now → result ≡ length (flat_map spell_utf8 scalars) }
+    ensures { (scalars : List ℕ) → IsText HasLatin1 spell_latin1 scalars bytes.now
+        → result ≡ length (flat_map spell_utf8 scalars) }
 {
     let mut size = 0;
     let mut at = 0;

@@ -12,8 +12,8 @@ ghost use Rattle.cm_text.specs.Utf16.{spell_utf16};
 use crate::TextFault;
 use std::alloc::Global;
 
-/// An encoding that texts are read from: some scalars have a spelling, which is a list of bytes, and the
-/// text of a list of scalars is their spellings, one after another.
+/// An encoding that texts are read from: some scalars have a spelling, which is a list of bytes,
+/// and the text of a list of scalars is their spellings, one after another.
 pub trait Source {
     /// The scalars that have a spelling.
     ghost has: { ℕ → Type 0 };
@@ -33,13 +33,15 @@ pub trait Source {
     /// The alignment of a string in a memory, in bytes.
     const ALIGNMENT: usize;
 
-    /// The first scalar and the bytes after it; None where no scalar begins the bytes, as where there are
-    /// none.
+    /// The first scalar and the bytes after it; None where no scalar begins the bytes, as where
+    /// there are none.
     fn split_first(bytes: &[u8]) -> Option<(char, &[u8])>
         ensures some { IfSome result (λ x. has x.0 × (bytes.now ≡ spell x.0 ++ x.1.now)) }
-        ensures none { IfNone result ((c : ℕ) (rest : List ℕ) → has c → bytes.now ≡ spell c ++ rest → ⊥) };
+        ensures none { IfNone result ((c : ℕ) (rest : List ℕ) → has c → bytes.now ≡ spell c ++ rest
+            → ⊥) };
 
-    /// Whether the bytes are a text; else IllFormed at the length of the longest beginning that is one.
+    /// Whether the bytes are a text; else IllFormed at the length of the longest beginning that is
+    /// one.
     fn check(bytes: &[u8]) -> Result<(), TextFault>
         ensures ok { OnOk result (IsSomeText has spell bytes.now) }
         ensures ill_formed { IfErr result (λ e. IsIllFormed e (IsTextUpTo has spell bytes.now)) };
@@ -64,8 +66,8 @@ pub trait Source {
         requires { IsTextOfSize has spell spell_utf16 bytes.now (length out.old) }
         ensures { IsSameText has spell spell_utf16 bytes.now out.new };
 
-    /// The scalars of the text, in order; else IllFormed at the length of the longest beginning that is a
-    /// text, or Memory.
+    /// The scalars of the text, in order; else IllFormed at the length of the longest beginning
+    /// that is a text, or Memory.
     final fn scalars(alloc: Global, bytes: &[u8]) -> Result<Vec<char>, TextFault>
         ensures ok { IfOk result (λ v. IsText has spell v.items bytes.now) }
         ensures ill_formed { IfErr result (λ e. IfIllFormed e (IsTextUpTo has spell bytes.now)) }
@@ -90,11 +92,13 @@ pub trait Source {
     ghost only_scalars: { (c : ℕ) → has c → IsScalar c };
 
     /// A spelling is one or more whole units, no fewer than UTF-16 takes.
-    ghost whole_units: { (c : ℕ) → has c → (n : ℕ) × (length (spell c) ≡ UNIT_SIZE * n) × (length (encode_utf16 c) ≤ n) };
+    ghost whole_units: { (c : ℕ) → has c
+        → (n : ℕ) × (length (spell c) ≡ UNIT_SIZE * n) × (length (encode_utf16 c) ≤ n) };
 
     /// A spelling has a byte or more.
     ghost some_byte: { (c : ℕ) → has c → 0 < length (spell c) };
 
     /// Bytes begin with the spelling of one scalar at most.
-    ghost one_spelling: { (c d : ℕ) (x y : List ℕ) → has c → has d → spell c ++ x ≡ spell d ++ y → c ≡ d };
+    ghost one_spelling: { (c d : ℕ) (x y : List ℕ) → has c → has d → spell c ++ x ≡ spell d ++ y
+        → c ≡ d };
 }

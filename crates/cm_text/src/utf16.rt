@@ -99,7 +99,8 @@ impl Encoding for Utf16 {
 #[inline(always)]
 fn split_first_utf16(bytes: &[u8]) -> Option<(char, &[u8])>
     ensures some { IfSome result (λ x. IsScalar x.0 × (bytes.now ≡ spell_utf16 x.0 ++ x.1.now)) }
-    ensures none { IfNone result ((c : ℕ) (rest : List ℕ) → IsScalar c → bytes.now ≡ spell_utf16 c ++ rest → ⊥) }
+    ensures none { IfNone result ((c : ℕ) (rest : List ℕ) → IsScalar c
+        → bytes.now ≡ spell_utf16 c ++ rest → ⊥) }
 {
     let [a, b, rest @ ..] = bytes else {
         return None;
@@ -122,7 +123,8 @@ fn split_first_utf16(bytes: &[u8]) -> Option<(char, &[u8])>
 /// Whether the bytes are a text: units that are no surrogates are passed sixteen at a time.
 fn check_utf16(bytes: &[u8]) -> Result<(), TextFault>
     ensures ok { OnOk result (IsSomeText IsScalar spell_utf16 bytes.now) }
-    ensures ill_formed { IfErr result (λ e. IsIllFormed e (IsTextUpTo IsScalar spell_utf16 bytes.now)) }
+    ensures ill_formed { IfErr result (λ e.
+        IsIllFormed e (IsTextUpTo IsScalar spell_utf16 bytes.now)) }
 {
     let mut rest = after_plain_units(bytes);
     while !rest.is_empty() {

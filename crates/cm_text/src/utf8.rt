@@ -32,7 +32,7 @@ impl Source for Utf8 {
 
     fn split_first(bytes: &[u8]) -> Option<(char, &[u8])> {
         match bstr::decode_utf8(bytes) {
-            (Some(scalar), size) => Some((scalar, after(bytes, size))),
+            (Some(scalar), size) => Some((scalar, bytes_after(bytes, size))),
             (None, _) => None,
         }
     }
@@ -100,7 +100,8 @@ impl Encoding for Utf8 {
 /// Whether the bytes are a text.
 fn check_utf8(bytes: &[u8]) -> Result<(), TextFault>
     ensures ok { OnOk result (IsSomeText IsScalar spell_utf8 bytes.now) }
-    ensures ill_formed { IfErr result (λ e. IsIllFormed e (IsTextUpTo IsScalar spell_utf8 bytes.now)) }
+    ensures ill_formed { IfErr result (λ e.
+        IsIllFormed e (IsTextUpTo IsScalar spell_utf8 bytes.now)) }
 {
     match simdutf8::compat::from_utf8(bytes) {
         Ok(_) => Ok(()),
@@ -112,7 +113,7 @@ fn check_utf8(bytes: &[u8]) -> Result<(), TextFault>
 
 /// The bytes after the first few.
 #[inline(always)]
-fn after(bytes: &[u8], size: usize) -> &[u8]
+fn bytes_after(bytes: &[u8], size: usize) -> &[u8]
     requires { size ≤ length bytes.now }
     ensures { result.now ≡ drop size bytes.now }
 {

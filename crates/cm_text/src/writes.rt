@@ -12,7 +12,8 @@ use crate::kernels::{ascii_run, narrow, narrow_run, widen, widen_run};
 use crate::utf8::{put_utf8, utf8_scalar_at};
 use crate::utf16::{put_utf16, unit, utf16_scalar_at};
 
-/// Writes a text in UTF-8 in UTF-16. Where it takes two bytes for each of its own, all of it is ASCII.
+/// Writes a text in UTF-8 in UTF-16. Where it takes two bytes for each of its own, all of it is
+/// ASCII.
 pub(crate) fn utf8_to_utf16(bytes: &[u8], out: &mut [u8])
     requires { IsTextOfSize IsScalar spell_utf8 spell_utf16 bytes.now (length out.old) }
     ensures { IsSameText IsScalar spell_utf8 spell_utf16 bytes.now out.new }
@@ -66,7 +67,8 @@ fn copy_run(bytes: &[u8], at: usize, out: &mut [u8], to: usize) -> usize
     requires within { at ≤ length bytes.now }
     requires room { to + ascii_run (drop at bytes.now) ≤ length out.old }
     ensures run { result ≡ ascii_run (drop at bytes.now) }
-    ensures written { take (to + result) out.new ≡ take to out.old ++ take result (drop at bytes.now) }
+    ensures written { take (to + result) out.new ≡ take to out.old
+        ++ take result (drop at bytes.now) }
 {
     let rest = &bytes[at..];
     let run = ascii_run(rest);

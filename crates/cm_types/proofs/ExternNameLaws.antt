@@ -7,7 +7,7 @@ use Rattle.cm_types.specs.declared.names.NameFault.{NameFault}
 use Rattle.cm_types.specs.declared.names.NameFault.TheVariants as fault
 use Rattle.cm_types.specs.Names.{IsLabel, label_fault}
 use Rattle.cm_types.specs.Faults.{fault_number}
-use Rattle.cm_types.specs.ExternNames.{NameTree, plain, method, static, constructor, interface, spelling, HasLabels, IsExternName, version_suffix, is_version, cut, cut_or_all, without_front, is_bracketed, is_interface_mark, member, interface_parts, interface_of, unannotated, form_of, least_fault, labels_fault, version_fault, version_of, parts_fault, extern_name_fault, is_extern_name}
+use Rattle.cm_types.specs.ExternNames.{NameTree, plain, method, static, constructor, interface, name_spelling, HasLabels, IsExternName, version_suffix, is_version, cut, cut_or_all, without_front, is_bracketed, is_interface_mark, member, interface_parts, interface_of, unannotated_form, form_of, least_fault, labels_fault, version_fault, version_of, parts_fault, extern_name_fault, is_extern_name}
 use Rattle.cm_types.proofs.Cuts.{Lacks, cut_at, cut_none}
 use Rattle.cm_types.proofs.Labels.{label_is, label_passes, label_fine, fine_label, label_lacks, lacks_append, lacks_cons}
 
@@ -19,7 +19,7 @@ first_is [] l = absurd (true≢false (sym (label_passes [] l)))
 first_is (b ∷ bs) l = (b, bs, refl, label_lacks 91 (b ∷ bs) refl (λ e. omega arith) l 0 (omega arith))
 
 -- a text that does not begin with a bracket has no annotation
-no_annotation : (b : ℕ) (bs : List ℕ) → b ≢ 91 → form_of (b ∷ bs) ≡ unannotated (b ∷ bs)
+no_annotation : (b : ℕ) (bs : List ℕ) → b ≢ 91 → form_of (b ∷ bs) ≡ unannotated_form (b ∷ bs)
 no_annotation b bs n = rw (ne_eqb b 91 n) refl
 
 lacks_marks : (text : List ℕ) → Lacks 58 text → Lacks 47 text → Lacks 64 text → list_any is_interface_mark text ≡ false
@@ -50,21 +50,21 @@ unversioned ns pkg name l m n =
     (lacks_append 64 pkg (47 ∷ name) (label_lacks 64 pkg refl (λ e. omega arith) m)
     (lacks_cons 64 47 name (λ e. omega arith) (label_lacks 64 name refl (λ e. omega arith) n))))
 
-interface_again : (ns pkg name : List ℕ) (version : Option (List ℕ)) → IsLabel ns → IsLabel pkg → IsLabel name → interface_of (spelling (interface ns pkg name version)) ≡ interface ns pkg name version
+interface_again : (ns pkg name : List ℕ) (version : Option (List ℕ)) → IsLabel ns → IsLabel pkg → IsLabel name → interface_of (name_spelling (interface ns pkg name version)) ≡ interface ns pkg name version
 interface_again ns pkg name None l m n =
     rw (append-nil name, cut_none 64 (ns ++ 58 ∷ (pkg ++ 47 ∷ name)) (unversioned ns pkg name l m n)) (parts_again None ns pkg name l m)
 interface_again ns pkg name (Some v) l m n =
     let e : ns ++ 58 ∷ (pkg ++ 47 ∷ (name ++ 64 ∷ v)) ≡ (ns ++ 58 ∷ (pkg ++ 47 ∷ name)) ++ 64 ∷ v = sym (simp append_assoc) in
     ap interface_of e ∙ rw (cut_at 64 (ns ++ 58 ∷ (pkg ++ 47 ∷ name)) v (unversioned ns pkg name l m n)) (parts_again (Some v) ns pkg name l m)
 
-no_annotation_of : (text : List ℕ) (b : ℕ) (bs : List ℕ) → text ≡ b ∷ bs → b ≢ 91 → form_of text ≡ unannotated text
-no_annotation_of text b bs e n = ap form_of e ∙ no_annotation b bs n ∙ ap unannotated (sym e)
+no_annotation_of : (text : List ℕ) (b : ℕ) (bs : List ℕ) → text ≡ b ∷ bs → b ≢ 91 → form_of text ≡ unannotated_form text
+no_annotation_of text b bs e n = ap form_of e ∙ no_annotation b bs n ∙ ap unannotated_form (sym e)
 
 no_bracket : (text : List ℕ) (b : ℕ) (bs : List ℕ) → text ≡ b ∷ bs → b ≢ 91 → is_bracketed text ≡ false
 no_bracket text b bs e n = ap is_bracketed e ∙ ne_eqb b 91 n
 
 -- an extern name shows the form that it spells
-pub form_again : (t : NameTree) → HasLabels t → form_of (spelling t) ≡ Some t
+pub form_again : (t : NameTree) → HasLabels t → form_of (name_spelling t) ≡ Some t
 form_again (plain l) h =
     let f = first_is l h in
     no_annotation_of l f.0 f.1 f.2 f.3 ∙ rw (no_bracket l f.0 f.1 f.2 f.3, label_unmarked l h) refl
@@ -73,7 +73,7 @@ form_again (static r m) h = rw (dot_cut r m h.0) refl
 form_again (constructor r) h = refl
 form_again (interface ns pkg name version) h =
     let f = first_is ns h.0 in
-    let text = spelling (interface ns pkg name version) in
+    let text = name_spelling (interface ns pkg name version) in
     let rest = 58 ∷ (pkg ++ 47 ∷ (name ++ version_suffix version)) in
     let e : text ≡ f.0 ∷ (f.1 ++ rest) = ap (λ x. x ++ rest) f.2 in
     no_annotation_of text f.0 (f.1 ++ rest) e f.3
@@ -193,7 +193,7 @@ no_empty_rest : (text : List ℕ) → label_fault (cut_or_all 47 text).0 ≡ Non
 no_empty_rest text h e = let k = rw e at h in cc
 
 -- the parts of an interface without fault are those at the marks
-parts_back : (version : Option (List ℕ)) (text : List ℕ) → labels_fault (interface_parts version text) ≡ None → spelling (interface_parts version text) ≡ text ++ version_suffix version
+parts_back : (version : Option (List ℕ)) (text : List ℕ) → labels_fault (interface_parts version text) ≡ None → name_spelling (interface_parts version text) ≡ text ++ version_suffix version
 parts_back version text h =
     let first : List ℕ × List ℕ = cut_or_all 58 text in
     let second : List ℕ × List ℕ = cut_or_all 47 (cut_or_all 58 text).1 in
@@ -203,17 +203,17 @@ parts_back version text h =
     let inner = rejoined 47 (cut_or_all 58 text).1 (cut 47 (cut_or_all 58 text).1) refl (no_empty_label _ q.1) in
     sym (ap (λ x. x ++ version_suffix version) (outer ∙ ap (λ x. (cut_or_all 58 text).0 ++ 58 ∷ x) inner) ∙ simp append_assoc)
 
-interface_back : (text : List ℕ) (o : Option (List ℕ × List ℕ)) → cut 64 text ≡ o → parts_fault (option_map_or (λ p. interface_parts (Some p.1) p.0) o (interface_parts None text)) ≡ None → spelling (option_map_or (λ p. interface_parts (Some p.1) p.0) o (interface_parts None text)) ≡ text
+interface_back : (text : List ℕ) (o : Option (List ℕ × List ℕ)) → cut 64 text ≡ o → parts_fault (option_map_or (λ p. interface_parts (Some p.1) p.0) o (interface_parts None text)) ≡ None → name_spelling (option_map_or (λ p. interface_parts (Some p.1) p.0) o (interface_parts None text)) ≡ text
 interface_back text None e h = parts_back None text h ∙ append-nil text
 interface_back text (Some p) e h = parts_back (Some p.1) p.0 (none_least _ _ h).0 ∙ sym (cut_back 64 text p e)
 
-unannotated_back : (text : List ℕ) (t : NameTree) → unannotated text ≡ Some t → parts_fault t ≡ None → spelling t ≡ text
+unannotated_back : (text : List ℕ) (t : NameTree) → unannotated_form text ≡ Some t → parts_fault t ≡ None → name_spelling t ≡ text
 unannotated_back text t f h = elim (cases_Bool (is_bracketed text)) [
   | inl b ↦ let k = rw b at f in cc
   | inr b ↦ elim (cases_Bool (list_any is_interface_mark text)) [
     | inl m ↦ let k = rw (b, m) at f in let e : interface_of text ≡ t = cc in
-        ap spelling (sym e) ∙ interface_back text (cut 64 text) refl (ap parts_fault e ∙ h)
-    | inr m ↦ let k = rw (b, m) at f in let e : plain text ≡ t = cc in ap spelling (sym e)
+        ap name_spelling (sym e) ∙ interface_back text (cut 64 text) refl (ap parts_fault e ∙ h)
+    | inr m ↦ let k = rw (b, m) at f in let e : plain text ≡ t = cc in ap name_spelling (sym e)
   ]
 ]
 
@@ -222,20 +222,20 @@ member_back make rest t None e h = cc
 member_back make rest t (Some p) e h = (p.0, p.1, cut_back 46 rest p e, cc)
 
 form_back : (text : List ℕ) (t : NameTree) (a b c : Option (List ℕ)) → without_front (codes "[method]") text ≡ a → without_front (codes "[static]") text ≡ b → without_front (codes "[constructor]") text ≡ c
-    → option_map_or (member method) a (option_map_or (member static) b (option_map_or (λ r. Some (constructor r)) c (unannotated text))) ≡ Some t → parts_fault t ≡ None → spelling t ≡ text
+    → option_map_or (member method) a (option_map_or (member static) b (option_map_or (λ r. Some (constructor r)) c (unannotated_form text))) ≡ Some t → parts_fault t ≡ None → name_spelling t ≡ text
 form_back text t (Some rest) b c p q r f h =
     let m = member_back method rest t (cut 46 rest) refl f in
-    ap spelling (sym m.3) ∙ ap (λ x. codes "[method]" ++ x) (sym m.2) ∙ sym (front_back (codes "[method]") text rest p)
+    ap name_spelling (sym m.3) ∙ ap (λ x. codes "[method]" ++ x) (sym m.2) ∙ sym (front_back (codes "[method]") text rest p)
 form_back text t None (Some rest) c p q r f h =
     let m = member_back static rest t (cut 46 rest) refl f in
-    ap spelling (sym m.3) ∙ ap (λ x. codes "[static]" ++ x) (sym m.2) ∙ sym (front_back (codes "[static]") text rest q)
+    ap name_spelling (sym m.3) ∙ ap (λ x. codes "[static]" ++ x) (sym m.2) ∙ sym (front_back (codes "[static]") text rest q)
 form_back text t None None (Some rest) p q r f h =
     let e : constructor rest ≡ t = cc in
-    ap spelling (sym e) ∙ sym (front_back (codes "[constructor]") text rest r)
+    ap name_spelling (sym e) ∙ sym (front_back (codes "[constructor]") text rest r)
 form_back text t None None None p q r f h = unannotated_back text t f h
 
 -- the form of a text, where its parts have no fault, is spelled as the text
-pub form_spelled : (text : List ℕ) (t : NameTree) → form_of text ≡ Some t → parts_fault t ≡ None → spelling t ≡ text
+pub form_spelled : (text : List ℕ) (t : NameTree) → form_of text ≡ Some t → parts_fault t ≡ None → name_spelling t ≡ text
 form_spelled text t f h = form_back text t (without_front (codes "[method]") text) (without_front (codes "[static]") text) (without_front (codes "[constructor]") text) refl refl refl f h
 
 fault_is : (text : List ℕ) (o : Option NameTree) → form_of text ≡ o → option_map_or parts_fault o (Some fault.BadAnnotation) ≡ None → (t : NameTree) × (form_of text ≡ Some t) × (parts_fault t ≡ None)
@@ -265,7 +265,7 @@ pub test_fine : (text : List ℕ) → is_extern_name text ≡ true → extern_na
 test_fine text h = none_is (extern_name_fault text) h
 
 -- the form of an extern name is spelled as the name, and its parts are labels
-pub form_fine : (text : List ℕ) (t : NameTree) → is_extern_name text ≡ true → form_of text ≡ Some t → (spelling t ≡ text) × HasLabels t
+pub form_fine : (text : List ℕ) (t : NameTree) → is_extern_name text ≡ true → form_of text ≡ Some t → (name_spelling t ≡ text) × HasLabels t
 form_fine text t h f =
     let p : parts_fault t ≡ None = sym (ap (λ o. option_map_or parts_fault o (Some fault.BadAnnotation)) f) ∙ test_fine text h in
     (form_spelled text t f p, parts_labels t p)

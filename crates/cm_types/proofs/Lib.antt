@@ -5,3 +5,6 @@ pub mod Nodes
 pub mod Seen
 pub mod SameTypeLemmas
 pub mod SameTypeLaws
+pub mod SpellableLemmas
+pub mod TypedValueLemmas
+pub mod TypedValueLaws

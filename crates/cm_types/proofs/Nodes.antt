@@ -1,9 +1,9 @@
 -- Counting nodes up to a cap.
-use Rattle.std.proofs.Common.{◌≡◌, ℕ, zero, suc, ◌+◌, ◌*◌, ◌≤◌, ◌<◌, min, max, List, [], ◌∷◌, Option, Some, None, refl, ◌∙◌, arith, inl, inr, ◌⊎◌}
+use Rattle.std.proofs.Common.{◌≡◌, ℕ, zero, suc, ◌+◌, ◌*◌, ◌≤◌, ◌<◌, ◌-◌, min, max, List, [], ◌∷◌, Option, Some, None, refl, ◌∙◌, arith, inl, inr, ◌⊎◌}
 use Rattle.std.proofs.lemmas.Bool.{cases_lt}
 use Rattle.cm_types.specs.Types.{Ty, Cases, no_cases}
 use Rattle.cm_types.specs.TypeTrees.{plain_from, case_before}
-use Rattle.cm_types.specs.Limits.{depth_of_cases, nodes_of_cases, payload_nodes}
+use Rattle.cm_types.specs.Limits.{depth_of_cases, nodes_of_cases, payload_nodes, payload_depth}
 
 pub plain_nodes : (ls : List (List ℕ)) → nodes_of_cases (plain_from ls) ≡ 0
 plain_nodes [] = refl
@@ -16,6 +16,16 @@ before_nodes l (Some t) cs = refl
 pub plain_depth : (ls : List (List ℕ)) → depth_of_cases (plain_from ls) ≡ 0
 plain_depth [] = refl
 plain_depth (l ∷ ls) = plain_depth ls
+
+pub before_depth : (l : List ℕ) (o : Option Ty) (cs : Cases) → depth_of_cases (case_before l o cs) ≡ max (payload_depth o) (depth_of_cases cs)
+before_depth l None cs = omega arith
+before_depth l (Some t) cs = refl
+
+pub result_depth : (r a b most : ℕ) (k l : List ℕ) (ok error : Option Ty) → 0 < most → r ≡ max a b → a ≡ min (payload_depth ok) (most - 1) → b ≡ min (payload_depth error) (most - 1)
+    → 1 + r ≡ min (1 + depth_of_cases (case_before k ok (case_before l error no_cases))) most
+result_depth r a b most k l ok error some e f g = rw (before_depth k ok (case_before l error no_cases), before_depth l error no_cases) (omega arith)
+
+pub ruleset depths = (plain_depth, before_depth)
 
 small_or_not : (x : ℕ) → (x < 10001) ⊎ (10001 ≤ x)
 small_or_not x = cases_lt x 10001

@@ -13,7 +13,7 @@ make_func ps r = record { params = ps; result = r }
 
 -- ---- yes only where they are equal
 
-resource_sound : (r s : ResourceId) → same_resource r s ≡ true → r ≡ s
+pub resource_sound : (r s : ResourceId) → same_resource r s ≡ true → r ≡ s
 resource_sound r s h =
     let p = and_parts _ _ h in
     ap (λ n. record { component = n; number = r.number }) (eqb-true r.component s.component p.0)
@@ -63,7 +63,7 @@ labels_sound _ _ h = absurd (false≢true h)
 resource_same : (r : ResourceId) → same_resource r r ≡ true
 resource_same r = and_from _ _ (eq-eqb r.component r.component refl) (eq-eqb r.number r.number refl)
 
-resource_complete : (r s : ResourceId) → r ≡ s → same_resource r s ≡ true
+pub resource_complete : (r s : ResourceId) → r ≡ s → same_resource r s ≡ true
 resource_complete r s e = ap (same_resource r) (sym e) ∙ resource_same r
 
 fields_kind_same : (j : FieldsKind) → same_fields_kind j j ≡ true

@@ -1,7 +1,7 @@
 -- What type each kind of node is.
 use Rattle.std.proofs.Common.{◌≡◌, ℕ, Option, Box, Vec, Global, rules, codes}
 use Rattle.std.specs.Option.{option_map}
-use Rattle.cm_types.specs.Types.{list, fixed_list, fields, cases, flags, record_type, tuple_type, variant_type, enum_type, option_type, result_type, no_cases, plain, carrying}
+use Rattle.cm_types.specs.Types.{string, list, fixed_list, fields, cases, flags, record_type, tuple_type, variant_type, enum_type, option_type, result_type, no_cases, plain, carrying}
 use Rattle.cm_types.specs.TypeTrees.{type_of, field_of, case_of, fields_of, parts_of, cases_of, plain_from, case_before, boxed_payload}
 use Rattle.cm_types.specs.declared.names.Label.{Label}
 use Rattle.cm_types.specs.declared.type_trees.TypeNode.{TypeNode, the_lemmas}
@@ -27,6 +27,9 @@ seen_Variant v = search (rules, the_lemmas)
 
 pub seen_Enum : (v : Vec Label Global) → type_of (leaf.Enum v) ≡ cases enum_type (plain_from v.items)
 seen_Enum v = search (rules, the_lemmas)
+
+pub seen_StringType : type_of leaf.String ≡ string
+seen_StringType = search (rules, the_lemmas)
 
 pub seen_Flags : (v : Vec Label Global) → type_of (leaf.Flags v) ≡ flags v.items
 seen_Flags v = search (rules, the_lemmas)

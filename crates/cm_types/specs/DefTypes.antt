@@ -1,5 +1,5 @@
--- Types as a component file writes them, without where they lie in memory: lists in place of vectors,
--- and each label as its bytes (Binary.md, "Type Definitions").
+-- Types as a component file writes them, without where they lie in memory: lists in place of
+-- vectors, and each label as its bytes (Binary.md, "Type Definitions").
 use Rattle.std.specs.Prelude.{List, Option}
 use Rattle.cm_types.specs.declared.def_types.ValType.{ValType}
 use Rattle.cm_types.specs.declared.def_types.LabeledValType.{LabeledValType}

@@ -16,4 +16,5 @@ form_tree (form.Label l) = plain l.now
 form_tree (form.Method r m) = method r.now m.now
 form_tree (form.Static r m) = static r.now m.now
 form_tree (form.Constructor r) = constructor r.now
-form_tree (form.Interface ns pkg name version) = interface ns.now pkg.now name.now (option_copied version)
+form_tree (form.Interface ns pkg name version) =
+    interface ns.now pkg.now name.now (option_copied version)

@@ -1,7 +1,8 @@
--- Extern names: the names of imports and exports, and of an instance's items (Binary.md, "Import and
--- Export Definitions"; Explainer.md, "Import and Export Definitions").
+-- Extern names: the names of imports and exports, and of an instance's items (Binary.md, "Import
+-- and Export Definitions"; Explainer.md, "Import and Export Definitions").
 use Rattle.std.specs.Prelude.{◌≡◌, ℕ, Bool, false, ◌||◌, ◌==◌, List, [], ◌∷◌, ◌++◌, Option, Some}
-use Rattle.std.specs.Prelude.{None, is_none, IfSome, IsTrue, codes, is_ok, nat_le, if◌then◌else◌}
+use Rattle.std.specs.Prelude.{None, unwrap_or, is_none, IfSome, IsTrue, codes, is_ok, nat_le}
+use Rattle.std.specs.Prelude.{if◌then◌else◌}
 use Rattle.std.specs.List.{list_any}
 use Rattle.std.specs.Option.{option_map, option_map_or}
 use Rattle.semver.specs.Parse.{version_parts}
@@ -29,12 +30,13 @@ version_suffix None = []
 version_suffix (Some v) = 64 ∷ v
 
 -- how an extern name is spelled: 46 is `.`, 58 is `:`, 47 is `/`
-abbrev pub spelling : NameTree → List ℕ
-spelling (plain l) = l
-spelling (method r m) = codes "[method]" ++ r ++ 46 ∷ m
-spelling (static r m) = codes "[static]" ++ r ++ 46 ∷ m
-spelling (constructor r) = codes "[constructor]" ++ r
-spelling (interface ns pkg name version) = ns ++ 58 ∷ (pkg ++ 47 ∷ (name ++ version_suffix version))
+abbrev pub name_spelling : NameTree → List ℕ
+name_spelling (plain l) = l
+name_spelling (method r m) = codes "[method]" ++ r ++ 46 ∷ m
+name_spelling (static r m) = codes "[static]" ++ r ++ 46 ∷ m
+name_spelling (constructor r) = codes "[constructor]" ++ r
+name_spelling (interface ns pkg name version) =
+    ns ++ 58 ∷ (pkg ++ 47 ∷ (name ++ version_suffix version))
 
 -- a version is a text that the crate semver reads as one
 unfoldable pub is_version : List ℕ → Bool
@@ -46,13 +48,15 @@ HasLabels (plain l) = IsLabel l
 HasLabels (method r m) = IsLabel r × IsLabel m
 HasLabels (static r m) = IsLabel r × IsLabel m
 HasLabels (constructor r) = IsLabel r
-HasLabels (interface ns pkg name version) = IsLabel ns × IsLabel pkg × IsLabel name × IfSome version (λ v. IsTrue (is_version v))
+HasLabels (interface ns pkg name version) =
+    IsLabel ns × IsLabel pkg × IsLabel name × IfSome version (λ v. IsTrue (is_version v))
 
 -- an extern name is the spelling of a name whose parts are labels
 abbrev pub IsExternName : List ℕ → Type 0
-IsExternName text = (t : NameTree) × HasLabels t × (spelling t ≡ text)
+IsExternName text = (t : NameTree) × HasLabels t × (name_spelling t ≡ text)
 
--- ---- the same as a test: the form that a text shows is read off first, and then its parts are looked at
+-- ---- the same as a test: the form that a text shows is read off first, and then its parts are
+-- looked at
 
 -- what follows this front of a text, if it has it
 abbrev pub without_front : List ℕ → List ℕ → Option (List ℕ)
@@ -86,7 +90,8 @@ interface_parts version text =
 
 -- the version is what follows the first `@`
 abbrev pub interface_of : List ℕ → NameTree
-interface_of text = option_map_or (λ p. interface_parts (Some p.1) p.0) (cut 64 text) (interface_parts None text)
+interface_of text =
+    option_map_or (λ p. interface_parts (Some p.1) p.0) (cut 64 text) (interface_parts None text)
 
 -- whether a text begins with `[`
 abbrev pub is_bracketed : List ℕ → Bool
@@ -94,8 +99,8 @@ is_bracketed [] = false
 is_bracketed (b ∷ bs) = b == 91
 
 -- the form of a text without annotation
-abbrev pub unannotated : List ℕ → Option NameTree
-unannotated text =
+abbrev pub unannotated_form : List ℕ → Option NameTree
+unannotated_form text =
     if is_bracketed text then None
     else if list_any is_interface_mark text then Some (interface_of text)
     else Some (plain text)
@@ -106,7 +111,7 @@ form_of text =
     option_map_or (member method) (without_front (codes "[method]") text) (
     option_map_or (member static) (without_front (codes "[static]") text) (
     option_map_or (λ r. Some (constructor r)) (without_front (codes "[constructor]") text) (
-    unannotated text)))
+    unannotated_form text)))
 
 -- of two faults the one with the smaller number, if there is any
 abbrev pub least_fault : Option NameFault → Option NameFault → Option NameFault
@@ -125,7 +130,8 @@ labels_fault (plain l) = label_fault l
 labels_fault (method r m) = least_fault (label_fault r) (label_fault m)
 labels_fault (static r m) = least_fault (label_fault r) (label_fault m)
 labels_fault (constructor r) = label_fault r
-labels_fault (interface ns pkg name version) = least_fault (label_fault ns) (least_fault (label_fault pkg) (label_fault name))
+labels_fault (interface ns pkg name version) =
+    least_fault (label_fault ns) (least_fault (label_fault pkg) (label_fault name))
 
 -- the version of a name
 abbrev pub version_of : NameTree → Option (List ℕ)
@@ -137,7 +143,9 @@ version_of (interface ns pkg name version) = version
 
 -- what is wrong with the parts of a name
 abbrev pub parts_fault : NameTree → Option NameFault
-parts_fault t = option_map_or (λ v. least_fault (labels_fault t) (version_fault v)) (version_of t) (labels_fault t)
+parts_fault t =
+    option_map_or (λ v.
+    least_fault (labels_fault t) (version_fault v)) (version_of t) (labels_fault t)
 
 -- why a text is no extern name, if it is none: of several reasons the one with the smallest number
 abbrev pub extern_name_fault : List ℕ → Option NameFault
@@ -146,3 +154,11 @@ extern_name_fault text = option_map_or parts_fault (form_of text) (Some fault.Ba
 -- whether a text is an extern name
 abbrev pub is_extern_name : List ℕ → Bool
 is_extern_name text = is_none (extern_name_fault text)
+
+-- the version of a name, empty where it has none
+abbrev pub version_text : NameTree → List ℕ
+version_text t = unwrap_or (version_of t) []
+
+-- the version that a text shows, empty where it shows none
+abbrev pub version_in : List ℕ → List ℕ
+version_in text = option_map_or version_text (form_of text) []

@@ -7,8 +7,10 @@ pub mod Names
 pub mod TypeTrees
 pub mod Types
 pub mod Limits
+pub mod Spellable
 pub mod Values
 pub mod ValueTrees
 pub mod SameTypes
 pub mod Funcs
 pub mod Signatures
+pub mod TypedValues

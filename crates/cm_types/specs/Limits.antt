@@ -1,12 +1,13 @@
 -- How large a type is, and the limits within which types stay (this project's own choice).
 use Rattle.std.specs.Prelude.{ℕ, ◌+◌, ◌*◌, ◌≤◌, max, Option, Some, None}
+use Rattle.cm_types.specs.declared.limits.TheConstants.{MAX_NODES, MAX_DEPTH}
 use Rattle.cm_types.specs.Types.{Ty, Fields, Cases, list, fixed_list, fields, cases, no_fields}
 use Rattle.cm_types.specs.Types.{field, no_cases, plain, carrying}
 
 abbrev mutual
-  -- the nodes of a type: 1 for a leaf, and for what holds other types 1 more than these have together.
-  -- A list of fixed length counts its element as often as it holds it; the length 0, which no valid type
-  -- has, counts as 1.
+  -- the nodes of a type: 1 for a leaf, and for what holds other types 1 more than these have
+  -- together. A list of fixed length counts its element as often as it holds it; the length 0,
+  -- which no valid type has, counts as 1.
   pub nodes_of : Ty → ℕ
   nodes_of (list t) = 1 + nodes_of t
   nodes_of (fixed_list t n) = 1 + max n 1 * nodes_of t
@@ -24,7 +25,8 @@ abbrev mutual
   nodes_of_cases (carrying l t cs) = nodes_of t + nodes_of_cases cs
 
 abbrev mutual
-  -- the depth of a type: 1 for a leaf, and for what holds other types 1 more than the deepest of these
+  -- the depth of a type: 1 for a leaf, and for what holds other types 1 more than the deepest of
+  -- these
   pub depth_of : Ty → ℕ
   depth_of (list t) = 1 + depth_of t
   depth_of (fixed_list t n) = 1 + depth_of t
@@ -43,7 +45,7 @@ abbrev mutual
 
 -- the limits on one type: 10,000 nodes and a depth of 64
 abbrev pub IsWithinLimits : Ty → Type 0
-IsWithinLimits t = (nodes_of t ≤ 10000) × (depth_of t ≤ 64)
+IsWithinLimits t = (nodes_of t ≤ MAX_NODES) × (depth_of t ≤ MAX_DEPTH)
 
 -- the nodes and the depth of a payload
 abbrev pub payload_nodes : Option Ty → ℕ

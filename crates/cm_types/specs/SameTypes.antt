@@ -36,7 +36,8 @@ abbrev mutual
 
 -- the type of a function with each resource replaced
 abbrev pub resolved_func : List ResourceId → FuncTy → FuncTy
-resolved_func rs f = record { params = resolved_fields rs f.params; result = option_map (resolved rs) f.result }
+resolved_func rs f =
+    record { params = resolved_fields rs f.params; result = option_map (resolved rs) f.result }
 
 -- ---- the same as a test
 
@@ -86,13 +87,15 @@ abbrev mutual
 
   pub same_fields : List ResourceId → List ResourceId → Fields → Fields → Bool
   same_fields rs ss no_fields no_fields = true
-  same_fields rs ss (field k t fs) (field l u gs) = bytes_eq k l && same_type rs ss t u && same_fields rs ss fs gs
+  same_fields rs ss (field k t fs) (field l u gs) =
+      bytes_eq k l && same_type rs ss t u && same_fields rs ss fs gs
   same_fields rs ss _ _ = false
 
   pub same_cases : List ResourceId → List ResourceId → Cases → Cases → Bool
   same_cases rs ss no_cases no_cases = true
   same_cases rs ss (plain k cs) (plain l ds) = bytes_eq k l && same_cases rs ss cs ds
-  same_cases rs ss (carrying k t cs) (carrying l u ds) = bytes_eq k l && same_type rs ss t u && same_cases rs ss cs ds
+  same_cases rs ss (carrying k t cs) (carrying l u ds) =
+      bytes_eq k l && same_type rs ss t u && same_cases rs ss cs ds
   same_cases rs ss _ _ = false
 
 abbrev pub same_payload : List ResourceId → List ResourceId → Option Ty → Option Ty → Bool
@@ -100,7 +103,8 @@ same_payload rs ss None None = true
 same_payload rs ss (Some t) (Some u) = same_type rs ss t u
 same_payload rs ss _ _ = false
 
-abbrev pub same_case : List ResourceId → List ResourceId → List ℕ × Option Ty → List ℕ × Option Ty → Bool
+abbrev pub same_case : List ResourceId → List ResourceId → List ℕ × Option Ty → List ℕ × Option Ty
+    → Bool
 same_case rs ss c d = bytes_eq c.0 d.0 && same_payload rs ss c.1 d.1
 
 abbrev pub same_func : List ResourceId → List ResourceId → FuncTy → FuncTy → Bool

@@ -1,5 +1,5 @@
--- What a component imports and exports, without where it lies in memory (Binary.md, "Import and Export
--- Definitions").
+-- What a component imports and exports, without where it lies in memory (Binary.md, "Import and
+-- Export Definitions").
 use Rattle.std.specs.Prelude.{ℕ, List, map}
 use Rattle.cm_types.specs.Types.{Ty, FuncTy}
 use Rattle.cm_types.specs.Funcs.{tree_type, func_of}
@@ -12,8 +12,8 @@ use Rattle.cm_types.specs.declared.signatures.InstanceItem.{InstanceItem}
 use Rattle.cm_types.specs.declared.signatures.ItemType.{ItemType}
 use Rattle.cm_types.specs.declared.signatures.ItemType.TheVariants as item
 
--- what an item of an instance is: a function, a type equal to another one, a resource equal to another
--- one, or a fresh resource
+-- what an item of an instance is: a function, a type equal to another one, a resource equal to
+-- another one, or a fresh resource
 pub data ItemTy : Type 0 where
   func_item : FuncTy → ItemTy
   equal_type : Ty → ItemTy
@@ -59,4 +59,5 @@ abbrev pub extern_of : SignatureItem → NamedExtern
 extern_of i = record { name = i.name; desc = extern_type_of i.desc }
 
 abbrev pub signature_of : Signature → SignatureTy
-signature_of s = record { imports = map extern_of s.imports.items; exports = map extern_of s.exports.items }
+signature_of s =
+    record { imports = map extern_of s.imports.items; exports = map extern_of s.exports.items }

@@ -47,9 +47,9 @@ plain_from [] = no_cases
 plain_from (l ∷ ls) = plain l (plain_from ls)
 
 -- what is behind a box, if there is one
-abbrev pub unboxed : Option (Box Ty Global) → Option Ty
-unboxed None = None
-unboxed (Some b) = Some b.value
+abbrev pub box_content : Option (Box Ty Global) → Option Ty
+box_content None = None
+box_content (Some b) = Some b.value
 
 -- a node, given the types of the nodes below it
 abbrev pub type_step : node.TypeNode-F Ty CaseOf TypedLabel → Ty
@@ -71,8 +71,12 @@ type_step (node.Tuple ts) = fields tuple_type (parts_from ts.items)
 type_step (node.Variant cs) = cases variant_type (cases_from cs.items)
 type_step (node.Enum ls) = cases enum_type (plain_from ls.items)
 type_step (node.Flags ls) = flags ls.items
-type_step (node.Option t) = cases option_type (plain (codes "none") (carrying (codes "some") t.value no_cases))
-type_step (node.Result ok error) = cases result_type (case_before (codes "ok") (unboxed ok) (case_before (codes "error") (unboxed error) no_cases))
+type_step (node.Option t) =
+    cases option_type (plain (codes "none") (carrying (codes "some") t.value no_cases))
+type_step (node.Result ok error) =
+    cases result_type
+    (case_before (codes "ok") (box_content ok)
+    (case_before (codes "error") (box_content error) no_cases))
 type_step (node.Own r) = own r
 type_step (node.Borrow r) = borrow r
 

@@ -28,9 +28,9 @@ width_bytes bits_16 = 2
 width_bytes bits_32 = 4
 width_bytes bits_64 = 8
 
--- Types. As CanonicalABI.md despecializes them, a tuple is fields without labels, an enum is cases without
--- payloads, an option the cases `none` and `some`, a result the cases `ok` and `error`; the kind keeps
--- apart what the standard does.
+-- Types. As CanonicalABI.md despecializes them, a tuple is fields without labels, an enum is cases
+-- without payloads, an option the cases `none` and `some`, a result the cases `ok` and `error`; the
+-- kind keeps apart what the standard does.
 mutual
   pub data Ty : Type 0 where
     bool : Ty
@@ -59,7 +59,8 @@ mutual
     plain : List ℕ → Cases → Cases
     carrying : List ℕ → Ty → Cases → Cases
 
--- the type of a function: labels and types of its parameters, and the type of its result, if it has one
+-- the type of a function: labels and types of its parameters, and the type of its result, if it has
+-- one
 pub record FuncTy : Type 0 where
   pub params : Fields
   pub result : Option Ty

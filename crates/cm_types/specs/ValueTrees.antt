@@ -31,7 +31,8 @@ value_step (value.List vs) = elements (vals_from vs.items)
 value_step (value.Fields vs) = parts (vals_from vs.items)
 value_step (value.Case i payload) = case_value i payload
 value_step (value.Flags n) = flag_set n
-value_step (value.Handle serial rep resource) = handle (record { serial = serial; rep = rep; resource = resource })
+value_step (value.Handle serial rep resource) =
+    handle (record { serial = serial; rep = rep; resource = resource })
 
 -- the value that a value of the code is
 abbrev pub value_of : Value → Val
@@ -39,3 +40,13 @@ value_of = fold-Value Val value_step
 
 abbrev pub values_of : List Value → Vals
 values_of vs = vals_from (map value_of vs)
+
+-- what is behind a box of the code, if there is one
+abbrev pub boxed_value : Option (Box Value Global) → Option Val
+boxed_value None = None
+boxed_value (Some b) = Some (value_of b.value)
+
+-- a case with what it carries, if it carries anything
+abbrev pub payload_value : ℕ → Option Val → Val
+payload_value i None = bare i
+payload_value i (Some v) = bearing i v

@@ -7,8 +7,8 @@ use Rattle.cm_types.specs.Types.{Ty, Fields, Cases, Width, width_bytes, bool, si
 use Rattle.cm_types.specs.Types.{char, string, list, fixed_list, fields, cases, flags, own, borrow}
 use Rattle.cm_types.specs.Types.{no_fields, field, no_cases, plain, carrying}
 
--- a handle on its way: the serial number of the resource that it stands for, the representation, and the
--- resource type
+-- a handle on its way: the serial number of the resource that it stands for, the representation,
+-- and the resource type
 pub record HandleValue : Type 0 where
   pub serial : ℕ
   pub rep : ℕ
@@ -24,7 +24,8 @@ mutual
     text : List ℕ → Val
     -- the elements of a list
     elements : Vals → Val
-    -- the fields of a record or a tuple
+    -- the fields of a record or a tuple, and the elements of a list of fixed length, which is the
+    -- tuple of them (CanonicalABI.md, "Despecialization")
     parts : Vals → Val
     -- the case of this number, from 0, without payload and with one
     bare : ℕ → Val
@@ -48,7 +49,8 @@ IsScalarValue c = (c < 0x110000) × ((c < 0xD800) ⊎ (0xDFFF < c))
 
 -- a number fits two's complement of this width
 abbrev pub FitsSignedWidth : Width → ℤ → Type 0
-FitsSignedWidth k z = (neg_ℤ (pos (2 ^ (8 * width_bytes k - 1))) ≤ℤ z) × (z <ℤ pos (2 ^ (8 * width_bytes k - 1)))
+FitsSignedWidth k z =
+    (neg_ℤ (pos (2 ^ (8 * width_bytes k - 1))) ≤ℤ z) × (z <ℤ pos (2 ^ (8 * width_bytes k - 1)))
 
 -- a number without sign fits this width
 abbrev pub FitsWidth : Width → ℕ → Type 0
@@ -76,7 +78,7 @@ abbrev mutual
   HasType char (scalar c) = IsScalarValue c
   HasType string (text cs) = AllByRecursion IsScalarValue cs
   HasType (list t) (elements vs) = AllVals (HasType t) vs
-  HasType (fixed_list t n) (elements vs) = (count_of vs ≡ n) × AllVals (HasType t) vs
+  HasType (fixed_list t n) (parts vs) = (count_of vs ≡ n) × AllVals (HasType t) vs
   HasType (fields k fs) (parts vs) = HaveTypes fs vs
   HasType (cases k cs) (bare i) = IsPlainCase cs i
   HasType (cases k cs) (bearing i v) = IsCarriedCase cs i v

@@ -9,21 +9,21 @@ pub enum ValType {
 }
 
 /// A parameter: its label and its type.
-#[derive(Debug, Drop)]
+#[derive(Drop)]
 pub struct LabeledValType {
     pub label: Label,
     pub ty: ValType,
 }
 
 /// The type of a function: its parameters in order, and its result, if it has one.
-#[derive(Debug, Drop)]
+#[derive(Drop)]
 pub struct FuncType {
     pub params: Vec<LabeledValType>,
     pub result: Option<ValType>,
 }
 
 /// A type definition.
-#[derive(Debug, Drop)]
+#[derive(Drop)]
 pub enum DefType {
     Func(FuncType),
 }

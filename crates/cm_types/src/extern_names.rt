@@ -1,6 +1,8 @@
 //! Extern names: the names of imports and exports, and of an instance's items.
 
-ghost use Rattle.std.specs.Prelude.{◌≡◌, IfOk, IfErr, ◌⊎◌, Some, None, ◌<◌, option_copied, IsTrue};
+ghost use Rattle.std.specs.Prelude.{◌≡◌, IfOk, IfErr, ◌⊎◌, Some, None, ◌<◌, option_copied};
+ghost use Rattle.std.specs.Prelude.{IsTrue, [], Ok, Err};
+ghost use Rattle.cm_types.specs.declared.names.NameFault.{NameFault};
 ghost use Rattle.std.specs.Option.{option_map};
 ghost use Rattle.std.specs.List.{list_any};
 ghost use Rattle.semver.specs.Parse.{memory_error};
@@ -9,8 +11,9 @@ ghost use Rattle.cm_types.specs.ExternNames.{cut, cut_or_all, extern_name_fault,
 ghost use Rattle.cm_types.specs.ExternNames.{interface_of, interface_parts, is_bracketed};
 ghost use Rattle.cm_types.specs.ExternNames.{is_interface_mark, is_version, labels_fault};
 ghost use Rattle.cm_types.specs.ExternNames.{least_fault, member, method, parts_fault, static};
-ghost use Rattle.cm_types.specs.ExternNames.{spelling, unannotated, version_fault, without_front};
-ghost use Rattle.cm_types.specs.ExternNames.{HasLabels};
+ghost use Rattle.cm_types.specs.ExternNames.{name_spelling, unannotated_form, version_fault};
+ghost use Rattle.cm_types.specs.ExternNames.{without_front};
+ghost use Rattle.cm_types.specs.ExternNames.{HasLabels, version_in, version_text};
 ghost use Rattle.cm_types.specs.ExternNameForms.{form_tree, pair_view};
 
 use crate::names::{NameFault, label_fault};
@@ -19,7 +22,7 @@ use std::alloc::{AllocError, Global};
 use std::marker::Model;
 
 /// What an extern name says, part by part.
-#[derive(Clone, Copy, Debug)]
+#[derive(Clone, Copy)]
 pub enum ExternNameForm<'a> {
     /// A plain label.
     Label(&'a str),
@@ -49,9 +52,9 @@ pub enum ExternNameForm<'a> {
 /// The name of an import, of an export or of an instance's item: a plain label, a method, a static
 /// function or the constructor of a resource, or an interface with or without a version.
 ///
-/// Contracts see an extern name as the bytes of its text, which are an extern name by the grammar of
-/// Explainer.md, "Import and Export Definitions".
-#[derive(Debug, Drop)]
+/// Contracts see an extern name as the bytes of its text, which are an extern name by the grammar
+/// of Explainer.md, "Import and Export Definitions".
+#[derive(Drop)]
 pub struct ExternName {
     text: String,
 }
@@ -81,12 +84,16 @@ impl ExternName {
     /// `BadAnnotation` where it begins with `[` and not with `[method]` or `[static]` and two parts
     /// at a dot, or with `[constructor]`, and `BadVersion` where what follows `@` is no version.
     /// A text with `:`, `/` or `@` is read as an interface name. `Memory` comes where the copy of
-    /// the text or the reading of its version finds no memory.
+    /// the text or the reading of its version finds no memory: so a faulty text that shows no
+    /// version is refused with its own fault.
     pub fn parse(alloc: Global, text: &str) -> Result<ExternName, NameFault>
-        ensures held { IfOk result (λ name. name ≡ text.now) }
+        ensures text { IfOk result (λ name. name ≡ text.now) }
         ensures accepted { IfOk result (λ _. IsExternName text.now) }
         ensures complete { IsExternName text.now → IfErr result (λ e. e ≡ name_fault.Memory) }
-        ensures refused { IfErr result (λ e. (e ≡ name_fault.Memory) ⊎ (extern_name_fault text.now ≡ Some e)) }
+        ensures refused { IfErr result (λ e.
+            (e ≡ name_fault.Memory) ⊎ (extern_name_fault text.now ≡ Some e)) }
+        ensures faulty { (e : NameFault) → extern_name_fault text.now ≡ Some e
+            → version_in text.now ≡ [] → result ≡ Err e }
     {
         match extern_name_fault(alloc, text) {
             Err(AllocError) => Err(NameFault::Memory),
@@ -115,10 +122,11 @@ impl ExternName {
         self.text.as_bytes()
     }
 
-    /// The form of the name, with its parts: what is spelled as the name, and whose parts are labels.
+    /// The form of the name, with its parts: what is spelled as the name, and whose parts are
+    /// labels.
     pub fn form(&self) -> ExternNameForm<'_>
         ensures read { form_of self.now ≡ Some (form_tree result) }
-        ensures spelled { spelling (form_tree result) ≡ self.now }
+        ensures spelled { name_spelling (form_tree result) ≡ self.now }
         ensures labels { HasLabels (form_tree result) }
     {
         match form_of(self.text.as_str()) {
@@ -161,7 +169,8 @@ fn reads_as_version(alloc: Global, text: &str) -> Result<bool, AllocError>
 }
 
 fn version_fault(alloc: Global, text: &str) -> Result<Option<NameFault>, AllocError>
-    ensures { IfOk result (λ f. f ≡ version_fault text.now) }
+    ensures value { IfOk result (λ f. f ≡ version_fault text.now) }
+    ensures exact { text.now ≡ [] → result ≡ Ok (version_fault text.now) }
 {
     if text.is_empty() {
         Ok(Some(NameFault::Empty))
@@ -229,8 +238,8 @@ fn interface_of(text: &str) -> ExternNameForm<'_>
     }
 }
 
-fn unannotated(text: &str) -> Option<ExternNameForm<'_>>
-    ensures { option_map form_tree result ≡ unannotated text.now }
+fn unannotated_form(text: &str) -> Option<ExternNameForm<'_>>
+    ensures { option_map form_tree result ≡ unannotated_form text.now }
 {
     if is_bracketed(text) {
         None
@@ -265,7 +274,7 @@ fn form_of(text: &str) -> Option<ExternNameForm<'_>>
     } else if let Some(resource) = without_front(text, "[constructor]") {
         Some(ExternNameForm::Constructor { resource })
     } else {
-        unannotated(text)
+        unannotated_form(text)
     }
 }
 
@@ -296,7 +305,9 @@ fn labels_fault(form: &ExternNameForm<'_>) -> Option<NameFault>
 }
 
 fn parts_fault(alloc: Global, form: &ExternNameForm<'_>) -> Result<Option<NameFault>, AllocError>
-    ensures { IfOk result (λ f. f ≡ parts_fault (form_tree form.now)) }
+    ensures value { IfOk result (λ f. f ≡ parts_fault (form_tree form.now)) }
+    ensures exact { version_text (form_tree form.now) ≡ []
+        → result ≡ Ok (parts_fault (form_tree form.now)) }
 {
     let labels = labels_fault(form);
     match form {
@@ -309,7 +320,8 @@ fn parts_fault(alloc: Global, form: &ExternNameForm<'_>) -> Result<Option<NameFa
 }
 
 fn extern_name_fault(alloc: Global, text: &str) -> Result<Option<NameFault>, AllocError>
-    ensures { IfOk result (λ f. f ≡ extern_name_fault text.now) }
+    ensures value { IfOk result (λ f. f ≡ extern_name_fault text.now) }
+    ensures exact { version_in text.now ≡ [] → result ≡ Ok (extern_name_fault text.now) }
 {
     match form_of(text) {
         Some(form) => parts_fault(alloc, &form),

@@ -9,34 +9,37 @@ ghost use Rattle.cm_types.specs.Limits.{payload_nodes};
 use crate::type_trees::{Case, Field, TypeNode};
 
 /// The most nodes that a type may have.
-pub const MOST_NODES: u32 = 10_000;
+pub const MAX_NODES: u32 = 10_000;
 
 /// The depth that a type may have.
-pub const MOST_DEPTH: u32 = 64;
+pub const MAX_DEPTH: u32 = 64;
 
-fn capped(count: u64) -> u32
-    ensures { result ≡ min count 10001 }
+/// The count, or one over the limit where it is more than the limit.
+fn count_up_to_one_over(count: u64) -> u32
+    ensures { result ≡ min count (MAX_NODES + 1) }
 {
-    count.min(10_001) as u32
+    count.min(u64::from(MAX_NODES) + 1) as u32
 }
 
 #[tactic(auto, using(crate::proofs::Nodes::nodes))]
 /// The number of nodes, or 10,001 where there are more than that.
 #[cycle(nodes)]
 pub(crate) fn nodes(ty: &TypeNode) -> u32
-    ensures { result ≡ min (nodes_of (type_of ty.now)) 10001 }
+    ensures { result ≡ min (nodes_of (type_of ty.now)) (MAX_NODES + 1) }
 {
     match ty {
-        TypeNode::List(element) => capped(1 + u64::from(nodes(element))),
+        TypeNode::List(element) => count_up_to_one_over(1 + u64::from(nodes(element))),
         TypeNode::FixedList { element, length } => {
-            capped(1 + u64::from((*length).max(1)) * u64::from(nodes(element)))
+            count_up_to_one_over(1 + u64::from((*length).max(1)) * u64::from(nodes(element)))
         }
-        TypeNode::Record(fields) => capped(1 + u64::from(nodes_of_fields(fields))),
-        TypeNode::Tuple(parts) => capped(1 + u64::from(nodes_of_parts(parts))),
-        TypeNode::Variant(cases) => capped(1 + u64::from(nodes_of_cases(cases))),
-        TypeNode::Option(some) => capped(1 + u64::from(nodes(some))),
+        TypeNode::Record(fields) => count_up_to_one_over(1 + u64::from(nodes_of_fields(fields))),
+        TypeNode::Tuple(parts) => count_up_to_one_over(1 + u64::from(nodes_of_parts(parts))),
+        TypeNode::Variant(cases) => count_up_to_one_over(1 + u64::from(nodes_of_cases(cases))),
+        TypeNode::Option(some) => count_up_to_one_over(1 + u64::from(nodes(some))),
         TypeNode::Result { ok, error } => {
-            capped(1 + u64::from(nodes_of_payload(ok)) + u64::from(nodes_of_payload(error)))
+            count_up_to_one_over(
+                1 + u64::from(nodes_of_payload(ok)) + u64::from(nodes_of_payload(error)),
+            )
         }
         TypeNode::Bool
         | TypeNode::S8
@@ -58,7 +61,7 @@ pub(crate) fn nodes(ty: &TypeNode) -> u32
 
 #[cycle(nodes)]
 fn nodes_of_payload(payload: &Option<Box<TypeNode>>) -> u32
-    ensures { result ≡ min (payload_nodes (boxed_payload payload.now)) 10001 }
+    ensures { result ≡ min (payload_nodes (boxed_payload payload.now)) (MAX_NODES + 1) }
 {
     match payload {
         Some(ty) => nodes(ty),
@@ -68,57 +71,59 @@ fn nodes_of_payload(payload: &Option<Box<TypeNode>>) -> u32
 
 #[cycle(nodes)]
 pub(crate) fn nodes_of_fields(fields: &[Field]) -> u32
-    ensures { result ≡ min (nodes_of_fields (fields_of fields.now)) 10001 }
+    ensures { result ≡ min (nodes_of_fields (fields_of fields.now)) (MAX_NODES + 1) }
 {
     let mut count = 0;
     for field in fields {
-        count = capped(u64::from(count) + u64::from(nodes(&field.ty)));
+        count = count_up_to_one_over(u64::from(count) + u64::from(nodes(&field.ty)));
     }
     count
 }
 
 #[cycle(nodes)]
 fn nodes_of_parts(parts: &[TypeNode]) -> u32
-    ensures { result ≡ min (nodes_of_fields (parts_of parts.now)) 10001 }
+    ensures { result ≡ min (nodes_of_fields (parts_of parts.now)) (MAX_NODES + 1) }
 {
     let mut count = 0;
     for part in parts {
-        count = capped(u64::from(count) + u64::from(nodes(part)));
+        count = count_up_to_one_over(u64::from(count) + u64::from(nodes(part)));
     }
     count
 }
 
 #[cycle(nodes)]
 fn nodes_of_cases(cases: &[Case]) -> u32
-    ensures { result ≡ min (nodes_of_cases (cases_of cases.now)) 10001 }
+    ensures { result ≡ min (nodes_of_cases (cases_of cases.now)) (MAX_NODES + 1) }
 {
     let mut count = 0;
     for case in cases {
         if let Some(ty) = &case.payload {
-            count = capped(u64::from(count) + u64::from(nodes(ty)));
+            count = count_up_to_one_over(u64::from(count) + u64::from(nodes(ty)));
         }
     }
     count
 }
 
-fn deeper(depth: u32) -> u32
-    ensures { result ≡ min (1 + depth) 65 }
-{
-    if depth < 65 { depth + 1 } else { 65 }
-}
-
-/// The depth, or 65 where it is more than 64.
+/// The depth, or `most` where it is more than that. It looks no deeper than `most`, and so takes no
+/// more of the stack.
 #[cycle(depth)]
-pub(crate) fn depth(ty: &TypeNode) -> u32
-    ensures { result ≡ min (depth_of (type_of ty.now)) 65 }
+#[tactic(auto, using(crate::proofs::Nodes::depths))]
+pub(crate) fn depth_up_to(ty: &TypeNode, most: u32) -> u32
+    ensures { result ≡ min (depth_of (type_of ty.now)) most }
 {
+    if most == 0 {
+        return 0;
+    }
+    let below = most - 1;
     match ty {
-        TypeNode::List(element) | TypeNode::Option(element) => deeper(depth(element)),
-        TypeNode::FixedList { element, .. } => deeper(depth(element)),
-        TypeNode::Record(fields) => deeper(depth_of_fields(fields)),
-        TypeNode::Tuple(parts) => deeper(depth_of_parts(parts)),
-        TypeNode::Variant(cases) => deeper(depth_of_cases(cases)),
-        TypeNode::Result { ok, error } => deeper(depth_of_payload(ok).max(depth_of_payload(error))),
+        TypeNode::List(element) | TypeNode::Option(element) => 1 + depth_up_to(element, below),
+        TypeNode::FixedList { element, .. } => 1 + depth_up_to(element, below),
+        TypeNode::Record(fields) => 1 + depth_of_fields_up_to(fields, below),
+        TypeNode::Tuple(parts) => 1 + depth_of_parts(parts, below),
+        TypeNode::Variant(cases) => 1 + depth_of_cases(cases, below),
+        TypeNode::Result { ok, error } => {
+            1 + depth_of_payload(ok, below).max(depth_of_payload(error, below))
+        }
         TypeNode::Bool
         | TypeNode::S8
         | TypeNode::U8
@@ -138,46 +143,46 @@ pub(crate) fn depth(ty: &TypeNode) -> u32
 }
 
 #[cycle(depth)]
-fn depth_of_payload(payload: &Option<Box<TypeNode>>) -> u32
-    ensures { result ≡ min (payload_depth (boxed_payload payload.now)) 65 }
+fn depth_of_payload(payload: &Option<Box<TypeNode>>, most: u32) -> u32
+    ensures { result ≡ min (payload_depth (boxed_payload payload.now)) most }
 {
     match payload {
-        Some(ty) => depth(ty),
+        Some(ty) => depth_up_to(ty, most),
         None => 0,
     }
 }
 
 #[cycle(depth)]
-pub(crate) fn depth_of_fields(fields: &[Field]) -> u32
-    ensures { result ≡ min (depth_of_fields (fields_of fields.now)) 65 }
+pub(crate) fn depth_of_fields_up_to(fields: &[Field], most: u32) -> u32
+    ensures { result ≡ min (depth_of_fields (fields_of fields.now)) most }
 {
-    let mut most = 0;
+    let mut deepest = 0;
     for field in fields {
-        most = most.max(depth(&field.ty));
+        deepest = deepest.max(depth_up_to(&field.ty, most));
     }
-    most
+    deepest
 }
 
 #[cycle(depth)]
-fn depth_of_parts(parts: &[TypeNode]) -> u32
-    ensures { result ≡ min (depth_of_fields (parts_of parts.now)) 65 }
+fn depth_of_parts(parts: &[TypeNode], most: u32) -> u32
+    ensures { result ≡ min (depth_of_fields (parts_of parts.now)) most }
 {
-    let mut most = 0;
+    let mut deepest = 0;
     for part in parts {
-        most = most.max(depth(part));
+        deepest = deepest.max(depth_up_to(part, most));
     }
-    most
+    deepest
 }
 
 #[cycle(depth)]
-fn depth_of_cases(cases: &[Case]) -> u32
-    ensures { result ≡ min (depth_of_cases (cases_of cases.now)) 65 }
+fn depth_of_cases(cases: &[Case], most: u32) -> u32
+    ensures { result ≡ min (depth_of_cases (cases_of cases.now)) most }
 {
-    let mut most = 0;
+    let mut deepest = 0;
     for case in cases {
         if let Some(ty) = &case.payload {
-            most = most.max(depth(ty));
+            deepest = deepest.max(depth_up_to(ty, most));
         }
     }
-    most
+    deepest
 }

@@ -40,12 +40,12 @@ impl NameFault {
 }
 
 /// One or more words and acronyms joined by hyphens, as `get-HTTP-body`: a word is a lower-case
-/// letter and then lower-case letters and digits, an acronym an upper-case letter and then upper-case
-/// letters and digits (after WIT.md, "Identifiers"; that every fragment begins with a letter is this
-/// project's own choice).
+/// letter and then lower-case letters and digits, an acronym an upper-case letter and then
+/// upper-case letters and digits (after WIT.md, "Identifiers"; that every fragment begins with a
+/// letter is this project's own choice).
 ///
 /// Contracts see a label as the bytes of its text.
-#[derive(Debug, Drop)]
+#[derive(Drop)]
 pub struct Label {
     text: String,
 }
@@ -74,10 +74,11 @@ impl Label {
     /// An empty text is refused with `Empty`, another text that is no label with `BadFragment`, and
     /// a label with `Memory` where there is no memory for its copy. Only a label takes memory.
     pub fn parse(alloc: Global, text: &str) -> Result<Label, NameFault>
-        ensures held { IfOk result (λ label. label ≡ text.now) }
+        ensures text { IfOk result (λ label. label ≡ text.now) }
         ensures accepted { IfOk result (λ _. IsLabel text.now) }
         ensures complete { IsLabel text.now → IfErr result (λ e. e ≡ name_fault.Memory) }
-        ensures refused { IfErr result (λ e. (e ≡ name_fault.Memory) ⊎ (label_fault text.now ≡ Some e)) }
+        ensures refused { IfErr result (λ e.
+            (e ≡ name_fault.Memory) ⊎ (label_fault text.now ≡ Some e)) }
         ensures faulty { (e : NameFault) → label_fault text.now ≡ Some e → result ≡ Err e }
     {
         match label_fault(text) {

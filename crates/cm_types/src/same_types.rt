@@ -14,22 +14,24 @@ use crate::names::Label;
 use crate::resource::ResourceId;
 use crate::type_trees::{Case, Field, Func, TypeNode, TypeTree};
 
-/// Whether two types are equal, labels as texts, once each resource is replaced by what stands for it:
-/// in `a` by the member of `left` at the number of the resource, in `b` by that of `right`. A resource
-/// whose number is past the end of its list stands for itself.
+/// Whether two types are equal, labels as texts, once each resource is replaced by what stands for
+/// it: in `a` by the member of `left` at the number of the resource, in `b` by that of `right`. A
+/// resource whose number is past the end of its list stands for itself.
 ///
 /// A record and a tuple, a variant, an enum, an option and a result are different types, also where
 /// they have the same fields or cases.
 pub fn same_type(a: &TypeNode, b: &TypeNode, left: &[ResourceId], right: &[ResourceId]) -> bool
-    ensures { IsTrue result ↔ (resolved left.now (type_of a.now) ≡ resolved right.now (type_of b.now)) }
+    ensures { IsTrue result
+        ↔ (resolved left.now (type_of a.now) ≡ resolved right.now (type_of b.now)) }
 {
     same_node(a, b, left, right)
 }
 
-/// Whether two functions have the same type: equal labels and types of parameters, in order, and equal
-/// results, as `same_type` tells it.
+/// Whether two functions have the same type: equal labels and types of parameters, in order, and
+/// equal results, as `same_type` tells it.
 pub fn same_func(a: &Func, b: &Func, left: &[ResourceId], right: &[ResourceId]) -> bool
-    ensures { IsTrue result ↔ (resolved_func left.now (func_of a.now) ≡ resolved_func right.now (func_of b.now)) }
+    ensures { IsTrue result
+        ↔ (resolved_func left.now (func_of a.now) ≡ resolved_func right.now (func_of b.now)) }
 {
     same_parts_of_func(a, b, left, right)
 }
@@ -47,7 +49,8 @@ fn same_results(
     left: &[ResourceId],
     right: &[ResourceId],
 ) -> bool
-    ensures { result ≡ same_payload left.now right.now (option_map tree_type a.now) (option_map tree_type b.now) }
+    ensures { result ≡ same_payload left.now right.now (option_map tree_type a.now)
+        (option_map tree_type b.now) }
 {
     match (a, b) {
         (Some(x), Some(y)) => same_node(&x.root, &y.root, left, right),
@@ -65,7 +68,7 @@ fn resolve(resources: &[ResourceId], id: ResourceId) -> ResourceId
     }
 }
 
-fn same_resource(a: ResourceId, b: ResourceId) -> bool
+pub(crate) fn same_resource(a: ResourceId, b: ResourceId) -> bool
     ensures { result ≡ same_resource a b }
 {
     a.component == b.component && a.number == b.number
@@ -222,7 +225,8 @@ fn same_payload(
     left: &[ResourceId],
     right: &[ResourceId],
 ) -> bool
-    ensures { result ≡ same_payload left.now right.now (option_map type_of a.now) (option_map type_of b.now) }
+    ensures { result ≡ same_payload left.now right.now (option_map type_of a.now)
+        (option_map type_of b.now) }
 {
     match (a, b) {
         (Some(x), Some(y)) => same_node(x, y, left, right),

@@ -6,21 +6,21 @@ use crate::type_trees::{Func, TypeTree};
 use std::rc::Rc;
 
 /// What a component imports and exports, each in the order of its file.
-#[derive(Debug, Drop)]
+#[derive(Drop)]
 pub struct Signature {
     pub imports: Vec<SignatureItem>,
     pub exports: Vec<SignatureItem>,
 }
 
 /// An import or an export of a component.
-#[derive(Debug, Drop)]
+#[derive(Drop)]
 pub struct SignatureItem {
     pub name: ExternName,
     pub desc: ExternType,
 }
 
 /// What an import or an export is (Binary.md, "Import and Export Definitions").
-#[derive(Debug, Drop)]
+#[derive(Drop)]
 pub enum ExternType {
     /// A function; its type may be shared with others.
     Func(Rc<Func>),
@@ -29,7 +29,7 @@ pub enum ExternType {
 }
 
 /// An item of an instance.
-#[derive(Debug, Drop)]
+#[derive(Drop)]
 pub struct InstanceItem {
     pub name: ExternName,
     pub desc: ItemType,
@@ -37,7 +37,7 @@ pub struct InstanceItem {
 
 /// What an item of an instance is: a function, or a type, which is equal to another type or a fresh
 /// resource.
-#[derive(Debug, Drop)]
+#[derive(Drop)]
 pub enum ItemType {
     /// A function; its type may be shared with others.
     Func(Rc<Func>),

@@ -1,18 +1,24 @@
 //! Types as finite trees, with every index of a file expanded.
 
-ghost use Rattle.std.specs.Prelude.{◌≡◌, IfOk, OnErr};
+ghost use Rattle.std.specs.Prelude.{◌≡◌, IfOk, IsErrOf, true, false};
+ghost use Rattle.cm_types.specs.Faults.{type_fault_number};
 ghost use Rattle.cm_types.specs.Limits.{IsWithinLimits};
+ghost use Rattle.cm_types.specs.Spellable.{are_spellable, is_spellable};
 ghost use Rattle.cm_types.specs.Types.{fields, tuple_type};
 ghost use Rattle.cm_types.specs.TypeTrees.{fields_of, type_of};
 
-use crate::limits::{MOST_DEPTH, MOST_NODES, depth, depth_of_fields, nodes, nodes_of_fields};
+use crate::dismantling::dismantle;
+use crate::limits::{
+    MAX_DEPTH, MAX_NODES, depth_of_fields_up_to, depth_up_to, nodes, nodes_of_fields,
+};
 use crate::names::Label;
 use crate::resource::ResourceId;
+use crate::spellable::{are_spellable, is_spellable};
 use thiserror::Error;
 
 /// A node of a type tree with all below it (Explainer.md, "Value Types").
 #[cycle(types)]
-#[derive(Debug, Drop)]
+#[derive(Drop)]
 pub enum TypeNode {
     Bool,
     S8,
@@ -49,7 +55,7 @@ pub enum TypeNode {
 
 /// A field of a record, or a parameter of a function.
 #[cycle(types)]
-#[derive(Debug, Drop)]
+#[derive(Drop)]
 pub struct Field {
     pub label: Label,
     pub ty: TypeNode,
@@ -57,66 +63,104 @@ pub struct Field {
 
 /// A case of a variant, with its payload, if it carries one.
 #[cycle(types)]
-#[derive(Debug, Drop)]
+#[derive(Drop)]
 pub struct Case {
     pub label: Label,
     pub payload: Option<TypeNode>,
 }
 
-/// A type is refused since it has more than 10,000 nodes or is more than 64 deep.
+/// Why a type is refused, the most basic reason first.
 #[derive(Clone, Copy, Debug, PartialEq, Eq, Error)]
-#[error("the type is too large")]
-pub struct TooLarge;
+pub enum TypeFault {
+    /// The type has more than 10,000 nodes or is more than 64 deep.
+    #[error("the type is too large")]
+    TooLarge = 1,
+    /// No file can spell the type.
+    #[error("the type has no fields, no cases, no labels or too many, or no elements")]
+    NotSpellable = 2,
+}
 
-/// A type of at most 10,000 nodes that is at most 64 deep (the limits are this project's own choice).
+impl TypeFault {
+    /// The number by which the fault is known: 1 for `TooLarge`, 2 for `NotSpellable`.
+    pub fn number(self) -> u8
+        ensures { result ≡ type_fault_number self }
+    {
+        self as u8
+    }
+}
+
+/// A type of at most 10,000 nodes that is at most 64 deep (the limits are this project's own
+/// choice), and that a component file can spell: with one element or more in each list of fixed
+/// length, one field or case or more in each record, tuple, variant and enum, and from 1 to 32
+/// labels in each flags type (Binary.md, "Type Definitions").
 ///
-/// A leaf has 1 node and depth 1. What holds other types has 1 node more than these have together, and
-/// is 1 deeper than the deepest; a list of fixed length counts its element as often as it holds it.
-#[derive(Debug, Drop)]
+/// A leaf has 1 node and depth 1. What holds other types has 1 node more than these have together,
+/// and is 1 deeper than the deepest; a list of fixed length counts its element as often as it holds
+/// it.
+#[derive(Drop)]
 pub struct TypeTree {
     pub root: TypeNode,
     pub ghost within_limits: { IsWithinLimits (type_of root) },
+    pub ghost spellable: { is_spellable (type_of root) ≡ true },
 }
 
 impl TypeTree {
-    /// The type with this root; `TooLarge` exactly where it is not within the limits, and the root is
-    /// then dropped.
-    pub fn new(root: TypeNode) -> Result<TypeTree, TooLarge>
-        ensures held { IfOk result (λ tree. tree.root ≡ root) }
-        ensures refused { OnErr result (¬ (IsWithinLimits (type_of root))) }
+    /// The type with this root; `TooLarge` where it is not within the limits, else `NotSpellable`
+    /// where no file can spell it, and the root is then let go. Neither takes more of the stack for
+    /// a root that is deeper than the limit.
+    pub fn new(root: TypeNode) -> Result<TypeTree, TypeFault>
+        ensures root { IfOk result (λ tree. tree.root ≡ root) }
+        ensures too_large { IsErrOf result TypeFault.TooLarge → ¬ (IsWithinLimits (type_of root)) }
+        ensures not_spellable { IsErrOf result TypeFault.NotSpellable
+            → IsWithinLimits (type_of root) × (is_spellable (type_of root) ≡ false) }
     {
-        if nodes(&root) <= MOST_NODES && depth(&root) <= MOST_DEPTH {
-            Ok(TypeTree { root })
+        if depth_up_to(&root, MAX_DEPTH + 1) > MAX_DEPTH || nodes(&root) > MAX_NODES {
+            dismantle(root);
+            Err(TypeFault::TooLarge)
+        } else if !is_spellable(&root) {
+            Err(TypeFault::NotSpellable)
         } else {
-            Err(TooLarge)
+            Ok(TypeTree { root })
         }
     }
 }
 
-/// The type of a function with every index expanded: its parameters in order, and its result, if it has
-/// one. The parameters are within the limits of one type as the fields of a tuple are.
-#[derive(Debug, Drop)]
+/// The type of a function with every index expanded: its parameters in order, and its result, if it
+/// has one. The parameters are within the limits of one type as the fields of a tuple are, and a
+/// file can spell the type of each.
+#[derive(Drop)]
 pub struct Func {
     pub params: Vec<Field>,
     pub result: Option<TypeTree>,
     pub ghost within_limits: { IsWithinLimits (fields tuple_type (fields_of params.items)) },
+    pub ghost spellable: { are_spellable (fields_of params.items) ≡ true },
 }
 
 impl Func {
-    /// The type of a function with these parameters and this result; `TooLarge` exactly where the
-    /// parameters are not within the limits as the fields of a tuple, and all is then dropped.
-    pub fn new(params: Vec<Field>, answer: Option<TypeTree>) -> Result<Func, TooLarge>
+    /// The type of a function with these parameters and this result; `TooLarge` where the
+    /// parameters are not within the limits as the fields of a tuple, else `NotSpellable` where no
+    /// file can spell the type of one, and all is then let go. Neither takes more of the stack for
+    /// a parameter that is deeper than the limit.
+    pub fn new(params: Vec<Field>, answer: Option<TypeTree>) -> Result<Func, TypeFault>
         ensures params { IfOk result (λ func. func.params ≡ params) }
         ensures answer { IfOk result (λ func. func.result ≡ answer) }
-        ensures refused { OnErr result (¬ (IsWithinLimits (fields tuple_type (fields_of params.items)))) }
+        ensures too_large { IsErrOf result TypeFault.TooLarge
+            → ¬ (IsWithinLimits (fields tuple_type (fields_of params.items))) }
+        ensures not_spellable { IsErrOf result TypeFault.NotSpellable
+            → IsWithinLimits (fields tuple_type (fields_of params.items))
+            × (are_spellable (fields_of params.items) ≡ false) }
     {
-        if nodes_of_fields(&params) < MOST_NODES && depth_of_fields(&params) < MOST_DEPTH {
+        let is_deep = depth_of_fields_up_to(&params, MAX_DEPTH) == MAX_DEPTH;
+        if is_deep || nodes_of_fields(&params) >= MAX_NODES {
+            dismantle(TypeNode::Record(params));
+            Err(TypeFault::TooLarge)
+        } else if !are_spellable(&params) {
+            Err(TypeFault::NotSpellable)
+        } else {
             Ok(Func {
                 params,
                 result: answer,
             })
-        } else {
-            Err(TooLarge)
         }
     }
 }

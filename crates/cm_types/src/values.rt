@@ -6,7 +6,7 @@ ghost use Rattle.cm_types.specs.Values.{IsScalarValue};
 use crate::resource::ResourceId;
 
 /// A value of a component (Explainer.md, "Value Types").
-#[derive(Debug, Drop)]
+#[derive(Drop)]
 pub enum Value {
     Bool(bool),
     /// A number of one of the types s8, s16, s32 and s64.
@@ -17,9 +17,10 @@ pub enum Value {
     String(String),
     /// The elements of a list.
     List(Vec<Value>),
-    /// The fields of a record or a tuple, in order.
+    /// The fields of a record or a tuple, or the elements of a list of fixed length, in order.
     Fields(Vec<Value>),
-    /// The case `index`, from 0, of a variant, an enum, an option (none, some) or a result (ok, error).
+    /// The case `index`, from 0, of a variant, an enum, an option (none, some) or a result (ok,
+    /// error).
     Case {
         index: u32,
         payload: Option<Box<Value>>,

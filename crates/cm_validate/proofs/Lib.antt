@@ -1,10 +1,11 @@
 pub mod Args
 pub mod Distinct
 pub mod Lifts
+pub mod MemoryPlaces
 pub mod Order
 pub mod OrderOfSpaces
 pub mod Params
 pub mod Sections
-pub mod Sounds
+pub mod ConsistencyLemmas
 pub mod TableLemmas
-pub mod FlatLemmas
+pub mod FlatParams

@@ -10,24 +10,24 @@ use Rattle.cm_component.specs.declared.section.ExternDesc.TheVariants as desc
 use Rattle.cm_validate.specs.declared.fault.ValidReason.{ValidReason}
 use Rattle.cm_validate.specs.Reasons.{reason_number}
 use Rattle.cm_validate.specs.Items.{Item, items_of, all_items, module_item, core_instance_item, alias_item, type_item, canon_item, import_item, export_item}
-use Rattle.cm_validate.specs.Spaces.{Space, nothing, grown, after}
-use Rattle.cm_validate.specs.Rules.{rules, canon_rules, import_rules}
-use Rattle.cm_validate.specs.Valid.{IsBroken, IsValidFrom, IsValid, IsFirstFault, IsFaultOf, first, or_later, items_fault, sections_fault}
+use Rattle.cm_validate.specs.Spaces.{IndexSpaces, empty_spaces, after_item, after_items}
+use Rattle.cm_validate.specs.Rules.{item_rules, canon_rules, import_rules}
+use Rattle.cm_validate.specs.Valid.{IsBroken, IsValidFrom, IsValid, IsFirstFault, IsFaultOf, first_broken, or_later, items_fault, sections_fault}
 
-pub after_append : (s : Space) (xs ys : List Item) → after s (xs ++ ys) ≡ after (after s xs) ys
-after_append s [] ys = refl
-after_append s (x ∷ xs) ys = after_append (grown s x) xs ys
+pub after_items-append : (s : IndexSpaces) (xs ys : List Item) → after_items s (xs ++ ys) ≡ after_items (after_items s xs) ys
+after_items-append s [] ys = refl
+after_items-append s (x ∷ xs) ys = after_items-append (after_item s x) xs ys
 
 -- ---- the walk
 
-pub goes_on_fault : (at : ℕ) (s t : Space) (x : SectionTree) (xs : List SectionTree) (all : Option (ℕ × (ℕ × ValidReason))) → items_fault 0 s (items_of x) ≡ None → t ≡ after s (items_of x) → sections_fault at s (x ∷ xs) ≡ all → sections_fault (at + 1) t xs ≡ all
+pub goes_on_fault : (at : ℕ) (s t : IndexSpaces) (x : SectionTree) (xs : List SectionTree) (all : Option (ℕ × (ℕ × ValidReason))) → items_fault 0 s (items_of x) ≡ None → t ≡ after_items s (items_of x) → sections_fault at s (x ∷ xs) ≡ all → sections_fault (at + 1) t xs ≡ all
 goes_on_fault at s t x xs all fine e before =
     ap (λ z. sections_fault (at + 1) z xs) e
-    ∙ sym (ap (λ o. or_later o (sections_fault (at + 1) (after s (items_of x)) xs) at) fine)
+    ∙ sym (ap (λ o. or_later o (sections_fault (at + 1) (after_items s (items_of x)) xs) at) fine)
     ∙ before
 
-pub goes_on_spaces : (s t : Space) (x : SectionTree) (xs : List SectionTree) (all : Space) → t ≡ after s (items_of x) → after s (all_items (x ∷ xs)) ≡ all → after t (all_items xs) ≡ all
-goes_on_spaces s t x xs all e before = ap (λ z. after z (all_items xs)) e ∙ sym (after_append s (items_of x) (all_items xs)) ∙ before
+pub goes_on_spaces : (s t : IndexSpaces) (x : SectionTree) (xs : List SectionTree) (all : IndexSpaces) → t ≡ after_items s (items_of x) → after_items s (all_items (x ∷ xs)) ≡ all → after_items t (all_items xs) ≡ all
+goes_on_spaces s t x xs all e before = ap (λ z. after_items z (all_items xs)) e ∙ sym (after_items-append s (items_of x) (all_items xs)) ∙ before
 
 -- ---- the rules of one item
 
@@ -42,22 +42,22 @@ bool_cases true = inl refl
 bool_cases false = inr refl
 
 -- where the first rule that is broken is none, none is broken
-pub none_broken : (cs : List (Bool × ValidReason)) (r : ValidReason) → first cs ≡ None → IsBroken cs r → ⊥
+pub none_broken : (cs : List (Bool × ValidReason)) (r : ValidReason) → first_broken cs ≡ None → IsBroken cs r → ⊥
 none_broken [] r e b = b
-none_broken (c ∷ cs) r e (inl b) = let f : Some c.1 ≡ None = if_false c.0 (first cs) (Some c.1) None b.0 e in absurd cc
+none_broken (c ∷ cs) r e (inl b) = let f : Some c.1 ≡ None = if_false c.0 (first_broken cs) (Some c.1) None b.0 e in absurd cc
 none_broken (c ∷ cs) r e (inr b) =
     elim (bool_cases c.0) [
-      | inl h ↦ none_broken cs r (if_true c.0 (first cs) (Some c.1) None h e) b
-      | inr h ↦ let f : Some c.1 ≡ None = if_false c.0 (first cs) (Some c.1) None h e in absurd cc
+      | inl h ↦ none_broken cs r (if_true c.0 (first_broken cs) (Some c.1) None h e) b
+      | inr h ↦ let f : Some c.1 ≡ None = if_false c.0 (first_broken cs) (Some c.1) None h e in absurd cc
     ]
 
 -- the first rule that is broken is broken
-pub first_is_broken : (cs : List (Bool × ValidReason)) (r : ValidReason) → first cs ≡ Some r → IsBroken cs r
+pub first_is_broken : (cs : List (Bool × ValidReason)) (r : ValidReason) → first_broken cs ≡ Some r → IsBroken cs r
 first_is_broken [] r e = absurd cc
 first_is_broken (c ∷ cs) r e =
     elim (bool_cases c.0) [
-      | inl h ↦ inr (first_is_broken cs r (if_true c.0 (first cs) (Some c.1) (Some r) h e))
-      | inr h ↦ let f : Some c.1 ≡ Some r = if_false c.0 (first cs) (Some c.1) (Some r) h e in inl (h, cc)
+      | inl h ↦ inr (first_is_broken cs r (if_true c.0 (first_broken cs) (Some c.1) (Some r) h e))
+      | inr h ↦ let f : Some c.1 ≡ Some r = if_false c.0 (first_broken cs) (Some c.1) (Some r) h e in inl (h, cc)
     ]
 
 -- no reason of these rules has a smaller number
@@ -76,29 +76,29 @@ from_below n (c ∷ cs) q above (inl b) = subst (λ r. n ≤ reason_number r) b.
 from_below n (c ∷ cs) q above (inr b) = from_below n cs q above.1 b
 
 -- of the rules that are broken the first has the least reason
-pub first_is_least : (cs : List (Bool × ValidReason)) (r q : ValidReason) → AreOrdered cs → first cs ≡ Some r → IsBroken cs q → reason_number r ≤ reason_number q
+pub first_is_least : (cs : List (Bool × ValidReason)) (r q : ValidReason) → AreOrdered cs → first_broken cs ≡ Some r → IsBroken cs q → reason_number r ≤ reason_number q
 first_is_least [] r q ordered e b = absurd b
 first_is_least (c ∷ cs) r q ordered e (inl b) =
-    let f : Some c.1 ≡ Some r = if_false c.0 (first cs) (Some c.1) (Some r) b.0 e in
+    let f : Some c.1 ≡ Some r = if_false c.0 (first_broken cs) (Some c.1) (Some r) b.0 e in
     let same : r ≡ q = cc in
     subst (λ z. reason_number r ≤ reason_number z) same (omega arith)
 first_is_least (c ∷ cs) r q ordered e (inr b) =
     elim (bool_cases c.0) [
-      | inl h ↦ first_is_least cs r q ordered.1 (if_true c.0 (first cs) (Some c.1) (Some r) h e) b
+      | inl h ↦ first_is_least cs r q ordered.1 (if_true c.0 (first_broken cs) (Some c.1) (Some r) h e) b
       | inr h ↦
-          let f : Some c.1 ≡ Some r = if_false c.0 (first cs) (Some c.1) (Some r) h e in
+          let f : Some c.1 ≡ Some r = if_false c.0 (first_broken cs) (Some c.1) (Some r) h e in
           let same : c.1 ≡ r = cc in
           subst (λ z. reason_number z ≤ reason_number q) same (from_below (reason_number c.1) cs q ordered.0 b)
     ]
 
-canon_ordered : (s : Space) (c : Canon) → AreOrdered (canon_rules s c)
+canon_ordered : (s : IndexSpaces) (c : Canon) → AreOrdered (canon_rules s c)
 canon_ordered s (canon.Lift core_func ty) = search std_rules
 canon_ordered s (canon.Lower func) = search std_rules
 
-import_ordered : (s : Space) (name : List ℕ) (d : ExternDesc) → AreOrdered (import_rules s name d)
+import_ordered : (s : IndexSpaces) (name : List ℕ) (d : ExternDesc) → AreOrdered (import_rules s name d)
 import_ordered s name (desc.Func ty) = search std_rules
 
-pub ordered : (s : Space) (x : Item) → AreOrdered (rules s x)
+pub ordered : (s : IndexSpaces) (x : Item) → AreOrdered (item_rules s x)
 ordered s module_item = tt
 ordered s (core_instance_item (instantiate m args)) = search std_rules
 ordered s (alias_item (core_instance_export sort instance name)) = search std_rules
@@ -116,16 +116,16 @@ none_in_nothing : (front : List Item) (x : Item) (rest : List Item) → [] ≡ f
 none_in_nothing [] x rest e = absurd cc
 none_in_nothing (f ∷ fs) x rest e = absurd cc
 
-valid_nil : (s : Space) → IsValidFrom s []
+valid_nil : (s : IndexSpaces) → IsValidFrom s []
 valid_nil s = λ front x rest r e b. none_in_nothing front x rest e
 
-valid_cons : (s : Space) (x : Item) (xs : List Item) → first (rules s x) ≡ None → IsValidFrom (grown s x) xs
-    → (front : List Item) (y : Item) (rest : List Item) (r : ValidReason) → x ∷ xs ≡ front ++ y ∷ rest → IsBroken (rules (after s front) y) r → ⊥
-valid_cons s x xs fine valid [] y rest r e b = let same : y ≡ x = cc in none_broken (rules s x) r fine (subst (λ (z : Item). IsBroken (rules s z) r) same b)
+valid_cons : (s : IndexSpaces) (x : Item) (xs : List Item) → first_broken (item_rules s x) ≡ None → IsValidFrom (after_item s x) xs
+    → (front : List Item) (y : Item) (rest : List Item) (r : ValidReason) → x ∷ xs ≡ front ++ y ∷ rest → IsBroken (item_rules (after_items s front) y) r → ⊥
+valid_cons s x xs fine valid [] y rest r e b = let same : y ≡ x = cc in none_broken (item_rules s x) r fine (subst (λ (z : Item). IsBroken (item_rules s z) r) same b)
 valid_cons s x xs fine valid (f ∷ fs) y rest r e b =
     let same : f ≡ x = cc in
     let split : xs ≡ fs ++ y ∷ rest = cc in
-    valid fs y rest r split (subst (λ (z : Item). IsBroken (rules (after (grown s z) fs) y) r) same b)
+    valid fs y rest r split (subst (λ (z : Item). IsBroken (item_rules (after_items (after_item s z) fs) y) r) same b)
 
 option_cases : {A : Type 0} (o : Option A) → (o ≡ None) ⊎ ((a : A) × (o ≡ Some a))
 option_cases None = inl refl
@@ -148,15 +148,15 @@ later_some : {A : Type 0} (o : Option A) (later all : Option (ℕ × A)) (at : �
 later_some o later all at a h e = sym (ap (λ p. or_later p later at) h) ∙ e
 
 -- no fault is found: these items, and then those after them, are valid
-pub append_valid : (at : ℕ) (s : Space) (xs ys : List Item) → items_fault at s xs ≡ None → IsValidFrom (after s xs) ys → IsValidFrom s (xs ++ ys)
+pub append_valid : (at : ℕ) (s : IndexSpaces) (xs ys : List Item) → items_fault at s xs ≡ None → IsValidFrom (after_items s xs) ys → IsValidFrom s (xs ++ ys)
 append_valid at s [] ys e valid = valid
 append_valid at s (x ∷ xs) ys e valid =
-    elim (option_cases (first (rules s x))) [
-      | inl h ↦ valid_cons s x (xs ++ ys) h (append_valid (at + 1) (grown s x) xs ys (later_none (first (rules s x)) _ None at h e) valid)
-      | inr h ↦ let f : found_at at h.0 ≡ None = later_some (first (rules s x)) (items_fault (at + 1) (grown s x) xs) None at h.0 h.1 e in absurd cc
+    elim (option_cases (first_broken (item_rules s x))) [
+      | inl h ↦ valid_cons s x (xs ++ ys) h (append_valid (at + 1) (after_item s x) xs ys (later_none (first_broken (item_rules s x)) _ None at h e) valid)
+      | inr h ↦ let f : found_at at h.0 ≡ None = later_some (first_broken (item_rules s x)) (items_fault (at + 1) (after_item s x) xs) None at h.0 h.1 e in absurd cc
     ]
 
-later_fault : (s : Space) (x : Item) (xs : List Item) (j : ℕ) (r : ValidReason) → first (rules s x) ≡ None → IsFirstFault (grown s x) xs j r → IsFirstFault s (x ∷ xs) (j + 1) r
+later_fault : (s : IndexSpaces) (x : Item) (xs : List Item) (j : ℕ) (r : ValidReason) → first_broken (item_rules s x) ≡ None → IsFirstFault (after_item s x) xs j r → IsFirstFault s (x ∷ xs) (j + 1) r
 later_fault s x xs j r fine f =
     record {
       front = x ∷ f.front;
@@ -169,7 +169,7 @@ later_fault s x xs j r fine f =
       least = f.least;
     }
 
-first_fault : (s : Space) (x : Item) (xs : List Item) (r : ValidReason) → first (rules s x) ≡ Some r → IsFirstFault s (x ∷ xs) 0 r
+first_fault : (s : IndexSpaces) (x : Item) (xs : List Item) (r : ValidReason) → first_broken (item_rules s x) ≡ Some r → IsFirstFault s (x ∷ xs) 0 r
 first_fault s x xs r e =
     record {
       front = [];
@@ -178,20 +178,20 @@ first_fault s x xs r e =
       split = refl;
       place = refl;
       before = valid_nil s;
-      broken = first_is_broken (rules s x) r e;
-      least = λ q b. first_is_least (rules s x) r q (ordered s x) e b;
+      broken = first_is_broken (item_rules s x) r e;
+      least = λ q b. first_is_least (item_rules s x) r q (ordered s x) e b;
     }
 
 -- the fault that is found is the first
-pub found_in_items : (at : ℕ) (s : Space) (xs : List Item) (k : ℕ) (r : ValidReason) → items_fault at s xs ≡ Some (k, r) → (j : ℕ) × (k ≡ at + j) × IsFirstFault s xs j r
+pub found_in_items : (at : ℕ) (s : IndexSpaces) (xs : List Item) (k : ℕ) (r : ValidReason) → items_fault at s xs ≡ Some (k, r) → (j : ℕ) × (k ≡ at + j) × IsFirstFault s xs j r
 found_in_items at s [] k r e = absurd cc
 found_in_items at s (x ∷ xs) k r e =
-    elim (option_cases (first (rules s x))) [
+    elim (option_cases (first_broken (item_rules s x))) [
       | inl h ↦
-          let f = found_in_items (at + 1) (grown s x) xs k r (later_none (first (rules s x)) _ (Some (k, r)) at h e) in
+          let f = found_in_items (at + 1) (after_item s x) xs k r (later_none (first_broken (item_rules s x)) _ (Some (k, r)) at h e) in
           (f.0 + 1, omega (arith, f.1), later_fault s x xs f.0 r h f.2)
       | inr h ↦
-          let f : found_at at h.0 ≡ found_at k r = later_some (first (rules s x)) (items_fault (at + 1) (grown s x) xs) (Some (k, r)) at h.0 h.1 e in
+          let f : found_at at h.0 ≡ found_at k r = later_some (first_broken (item_rules s x)) (items_fault (at + 1) (after_item s x) xs) (Some (k, r)) at h.0 h.1 e in
           let same = same_pair at k h.0 r f in
           (0, omega (arith, same.0), subst (IsFirstFault s (x ∷ xs) 0) same.1 (first_fault s x xs h.0 h.1))
     ]
@@ -199,25 +199,25 @@ found_in_items at s (x ∷ xs) k r e =
 -- ---- the sections
 
 -- the first fault of sections that are walked from these spaces on
-pub record IsFaultFrom (s : Space) (sections : List SectionTree) (section item : ℕ) (r : ValidReason) : Type 0 where
+pub record IsFaultFrom (s : IndexSpaces) (sections : List SectionTree) (section item : ℕ) (r : ValidReason) : Type 0 where
   pub before : List SectionTree
   pub faulty : SectionTree
   pub behind : List SectionTree
   pub split : sections ≡ before ++ faulty ∷ behind
   pub place : length before ≡ section
   pub fine : IsValidFrom s (all_items before)
-  pub here : IsFirstFault (after s (all_items before)) (items_of faulty) item r
+  pub here : IsFirstFault (after_items s (all_items before)) (items_of faulty) item r
 
 -- sections in which no fault is found are valid
-pub none_found : (at : ℕ) (s : Space) (xs : List SectionTree) → sections_fault at s xs ≡ None → IsValidFrom s (all_items xs)
+pub none_found : (at : ℕ) (s : IndexSpaces) (xs : List SectionTree) → sections_fault at s xs ≡ None → IsValidFrom s (all_items xs)
 none_found at s [] e = valid_nil s
 none_found at s (x ∷ xs) e =
     elim (option_cases (items_fault 0 s (items_of x))) [
-      | inl h ↦ append_valid 0 s (items_of x) (all_items xs) h (none_found (at + 1) (after s (items_of x)) xs (later_none (items_fault 0 s (items_of x)) _ None at h e))
-      | inr h ↦ let f : found_at at h.0 ≡ None = later_some (items_fault 0 s (items_of x)) (sections_fault (at + 1) (after s (items_of x)) xs) None at h.0 h.1 e in absurd cc
+      | inl h ↦ append_valid 0 s (items_of x) (all_items xs) h (none_found (at + 1) (after_items s (items_of x)) xs (later_none (items_fault 0 s (items_of x)) _ None at h e))
+      | inr h ↦ let f : found_at at h.0 ≡ None = later_some (items_fault 0 s (items_of x)) (sections_fault (at + 1) (after_items s (items_of x)) xs) None at h.0 h.1 e in absurd cc
     ]
 
-later_section : (s : Space) (x : SectionTree) (xs : List SectionTree) (j i : ℕ) (r : ValidReason) → items_fault 0 s (items_of x) ≡ None → IsFaultFrom (after s (items_of x)) xs j i r → IsFaultFrom s (x ∷ xs) (j + 1) i r
+later_section : (s : IndexSpaces) (x : SectionTree) (xs : List SectionTree) (j i : ℕ) (r : ValidReason) → items_fault 0 s (items_of x) ≡ None → IsFaultFrom (after_items s (items_of x)) xs j i r → IsFaultFrom s (x ∷ xs) (j + 1) i r
 later_section s x xs j i r fine f =
     record {
       before = x ∷ f.before;
@@ -226,10 +226,10 @@ later_section s x xs j i r fine f =
       split = ap (λ ys. x ∷ ys) f.split;
       place = add-one-length (length f.before) j f.place;
       fine = append_valid 0 s (items_of x) (all_items f.before) fine f.fine;
-      here = subst (λ t. IsFirstFault t (items_of f.faulty) i r) (sym (after_append s (items_of x) (all_items f.before))) f.here;
+      here = subst (λ t. IsFirstFault t (items_of f.faulty) i r) (sym (after_items-append s (items_of x) (all_items f.before))) f.here;
     }
 
-first_section : (s : Space) (x : SectionTree) (xs : List SectionTree) (i : ℕ) (r : ValidReason) → items_fault 0 s (items_of x) ≡ Some (i, r) → IsFaultFrom s (x ∷ xs) 0 i r
+first_section : (s : IndexSpaces) (x : SectionTree) (xs : List SectionTree) (i : ℕ) (r : ValidReason) → items_fault 0 s (items_of x) ≡ Some (i, r) → IsFaultFrom s (x ∷ xs) 0 i r
 first_section s x xs i r e =
     let f = found_in_items 0 s (items_of x) i r e in
     let same : f.0 ≡ i = omega (arith, f.1) in
@@ -243,22 +243,22 @@ first_section s x xs i r e =
       here = subst (λ n. IsFirstFault s (items_of x) n r) same f.2;
     }
 
-found : (at : ℕ) (s : Space) (xs : List SectionTree) (k i : ℕ) (r : ValidReason) → sections_fault at s xs ≡ Some (k, (i, r)) → (j : ℕ) × (k ≡ at + j) × IsFaultFrom s xs j i r
+found : (at : ℕ) (s : IndexSpaces) (xs : List SectionTree) (k i : ℕ) (r : ValidReason) → sections_fault at s xs ≡ Some (k, (i, r)) → (j : ℕ) × (k ≡ at + j) × IsFaultFrom s xs j i r
 found at s [] k i r e = absurd cc
 found at s (x ∷ xs) k i r e =
     elim (option_cases (items_fault 0 s (items_of x))) [
       | inl h ↦
-          let f = found (at + 1) (after s (items_of x)) xs k i r (later_none (items_fault 0 s (items_of x)) _ (Some (k, (i, r))) at h e) in
+          let f = found (at + 1) (after_items s (items_of x)) xs k i r (later_none (items_fault 0 s (items_of x)) _ (Some (k, (i, r))) at h e) in
           (f.0 + 1, omega (arith, f.1), later_section s x xs f.0 i r h f.2)
       | inr h ↦
-          let same = same_pair at k h.0 (i, r) (later_some (items_fault 0 s (items_of x)) (sections_fault (at + 1) (after s (items_of x)) xs) (Some (k, (i, r))) at h.0 h.1 e) in
+          let same = same_pair at k h.0 (i, r) (later_some (items_fault 0 s (items_of x)) (sections_fault (at + 1) (after_items s (items_of x)) xs) (Some (k, (i, r))) at h.0 h.1 e) in
           (0, omega (arith, same.0), first_section s x xs i r (h.1 ∙ ap (λ a. Some a) same.1))
     ]
 
 -- the fault that is found is that of the component
-pub fault_found : (xs : List SectionTree) (k i : ℕ) (r : ValidReason) → sections_fault 0 nothing xs ≡ Some (k, (i, r)) → IsFaultOf xs k i r
+pub fault_found : (xs : List SectionTree) (k i : ℕ) (r : ValidReason) → sections_fault 0 empty_spaces xs ≡ Some (k, (i, r)) → IsFaultOf xs k i r
 fault_found xs k i r e =
-    let f = found 0 nothing xs k i r e in
+    let f = found 0 empty_spaces xs k i r e in
     let same : f.0 ≡ k = omega (arith, f.1) in
     record {
       before = f.2.before;
@@ -272,19 +272,19 @@ fault_found xs k i r e =
 
 -- ---- a component with a fault is not valid
 
-all_items_append : (xs ys : List SectionTree) → all_items (xs ++ ys) ≡ all_items xs ++ all_items ys
-all_items_append [] ys = refl
-all_items_append (x ∷ xs) ys = ap (λ zs. items_of x ++ zs) (all_items_append xs ys) ∙ sym (append_assoc (items_of x) (all_items xs) (all_items ys))
+all_items-append : (xs ys : List SectionTree) → all_items (xs ++ ys) ≡ all_items xs ++ all_items ys
+all_items-append [] ys = refl
+all_items-append (x ∷ xs) ys = ap (λ zs. items_of x ++ zs) (all_items-append xs ys) ∙ sym (append_assoc (items_of x) (all_items xs) (all_items ys))
 
 pub fault_is_broken : (xs : List SectionTree) (k i : ℕ) (r : ValidReason) → IsFaultOf xs k i r → IsValid xs → ⊥
 fault_is_broken xs k i r f valid =
     let h = f.here in
     let split : all_items xs ≡ (all_items f.before ++ h.front) ++ h.item ∷ (h.rest ++ all_items f.behind) =
     ap all_items f.split
-    ∙ all_items_append f.before (f.faulty ∷ f.behind)
+    ∙ all_items-append f.before (f.faulty ∷ f.behind)
     ∙ ap (λ zs. all_items f.before ++ (zs ++ all_items f.behind)) h.split
     ∙ ap (λ zs. all_items f.before ++ zs) (append_assoc h.front (h.item ∷ h.rest) (all_items f.behind))
     ∙ sym (append_assoc (all_items f.before) h.front (h.item ∷ (h.rest ++ all_items f.behind)))
     in
     valid (all_items f.before ++ h.front) h.item (h.rest ++ all_items f.behind) r split
-    (subst (λ t. IsBroken (rules t h.item) r) (sym (after_append nothing (all_items f.before) h.front)) h.broken)
+    (subst (λ t. IsBroken (item_rules t h.item) r) (sym (after_items-append empty_spaces (all_items f.before) h.front)) h.broken)

@@ -21,8 +21,8 @@ abbrev pub func_def_tree : FuncDef → FuncDefTree
 func_def_tree (func_def.Lifted core_func ty) = lifted core_func (func_of ty.value)
 func_def_tree (func_def.Imported import item ty) = imported import item (func_of ty.value)
 
-abbrev pub imported_func : List ℕ × Rc Func Global → ImportedFunc
-imported_func d = record { name = d.0; ty = func_of d.1.value }
+abbrev pub import_func : List ℕ × Rc Func Global → ImportedFunc
+import_func d = record { name = d.0; ty = func_of d.1.value }
 
-abbrev pub exported_func : List ℕ × ExportDef → ExportedFunc
-exported_func d = record { name = d.0; func = d.1.func; ty = func_of d.1.ty.value }
+abbrev pub export_func : List ℕ × ExportDef → ExportedFunc
+export_func d = record { name = d.0; func = d.1.func; ty = func_of d.1.ty.value }

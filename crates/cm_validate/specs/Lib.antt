@@ -5,8 +5,8 @@ pub mod Orders
 pub mod PassedFlat
 pub mod Reasons
 pub mod Rules
-pub mod Sound
+pub mod Consistency
 pub mod Spaces
-pub mod SpacesOf
+pub mod SpacesBuilder
 pub mod Tables
 pub mod Valid

@@ -1,5 +1,5 @@
--- The index spaces of a component: for each sort the definitions that the items before a place add, in
--- order (Explainer.md, "Index Spaces").
+-- The index spaces of a component: for each sort the definitions that the items before a place add,
+-- in order (Explainer.md, "Index Spaces").
 use Rattle.std.specs.Prelude.{ℕ, ◌+◌, List, [], ◌∷◌, ◌++◌, length, map, Option, Some, None}
 use Rattle.std.specs.Prelude.{slice_get, option_map, option_and_then, option_to_list}
 use Rattle.cm_types.specs.DefTypes.{FuncTypeTree, func_def}
@@ -17,14 +17,18 @@ use Rattle.cm_validate.specs.Items.{Item, module_item, core_instance_item, alias
 use Rattle.cm_validate.specs.Items.{canon_item, import_item, export_item, all_items}
 
 -- a value type, and the type of a function, with every index expanded
-abbrev pub expanded_value : ValType → Ty
-expanded_value val_type.U32 = unsigned bits_32
+abbrev pub expand_value : ValType → Ty
+expand_value val_type.U32 = unsigned bits_32
 
-abbrev pub expanded : FuncTypeTree → FuncTy
-expanded f = record { params = fields_from (map (λ p. (p.label, expanded_value p.ty)) f.params); result = option_map expanded_value f.result }
+abbrev pub expand_func : FuncTypeTree → FuncTy
+expand_func f =
+    record {
+      params = fields_from (map (λ p. (p.label, expand_value p.ty)) f.params);
+      result = option_map expand_value f.result;
+    }
 
--- what a core function is: what a core instance exports under this name, or an import that was lowered
--- (its number, the item of an imported instance, and its type)
+-- what a core function is: what a core instance exports under this name, or an import that was
+-- lowered (its number, the item of an imported instance, and its type)
 pub data CoreFuncTree : Type 0 where
   guest : ℕ → List ℕ → CoreFuncTree
   lowered : ℕ → Option ℕ → FuncTy → CoreFuncTree
@@ -46,8 +50,9 @@ pub record ExportedFunc : Type 0 where
   pub func : ℕ
   pub ty : FuncTy
 
--- the index spaces, with the imports and the exports; of a core instance the module that it is made of
-pub record Space : Type 0 where
+-- the index spaces, with the imports and the exports; of a core instance the module that it is made
+-- of
+pub record IndexSpaces : Type 0 where
   pub modules : ℕ
   pub core_instances : List ℕ
   pub types : List FuncTy
@@ -57,8 +62,17 @@ pub record Space : Type 0 where
   pub exports : List ExportedFunc
 
 -- before the first item
-abbrev pub nothing : Space
-nothing = record { modules = 0; core_instances = []; types = []; core_funcs = []; funcs = []; imports = []; exports = [] }
+abbrev pub empty_spaces : IndexSpaces
+empty_spaces =
+    record {
+      modules = 0;
+      core_instances = [];
+      types = [];
+      core_funcs = [];
+      funcs = [];
+      imports = [];
+      exports = [];
+    }
 
 -- the type of a function
 abbrev pub func_type_of : FuncDefTree → FuncTy
@@ -66,52 +80,70 @@ func_type_of (lifted core_func ty) = ty
 func_type_of (imported import item ty) = ty
 
 -- a function that comes to an import, as a core function
-abbrev pub lowered_import : FuncDefTree → Option CoreFuncTree
-lowered_import (lifted core_func ty) = None
-lowered_import (imported import item ty) = Some (lowered import item ty)
+abbrev pub lower_import : FuncDefTree → Option CoreFuncTree
+lower_import (lifted core_func ty) = None
+lower_import (imported import item ty) = Some (lowered import item ty)
 
 -- the spaces after a canonical definition
-abbrev pub after_canon : Space → Canon → Space
-after_canon s (canon.Lift core_func ty) = record s { funcs = s.funcs ++ option_to_list (option_map (lifted core_func) (slice_get s.types ty)) }
-after_canon s (canon.Lower func) = record s { core_funcs = s.core_funcs ++ option_to_list (option_and_then lowered_import (slice_get s.funcs func)) }
+abbrev pub after_canon : IndexSpaces → Canon → IndexSpaces
+after_canon s (canon.Lift core_func ty) =
+    record s {
+      funcs = s.funcs ++ option_to_list (option_map (lifted core_func) (slice_get s.types ty));
+    }
+after_canon s (canon.Lower func) =
+    record s {
+      core_funcs =
+          s.core_funcs ++ option_to_list (option_and_then lower_import (slice_get s.funcs func));
+    }
 
 -- the spaces after an import of this name
-abbrev pub after_import : Space → List ℕ → ExternDesc → Space
+abbrev pub after_import : IndexSpaces → List ℕ → ExternDesc → IndexSpaces
 after_import s name (desc.Func ty) =
     record s {
-      funcs = s.funcs ++ option_to_list (option_map (imported (length s.imports) None) (slice_get s.types ty));
-      imports = s.imports ++ option_to_list (option_map (λ t. record { name = name; ty = t }) (slice_get s.types ty));
+      funcs =
+          s.funcs
+          ++ option_to_list (option_map (imported (length s.imports) None) (slice_get s.types ty));
+      imports =
+          s.imports
+          ++ option_to_list
+          (option_map (λ t. record { name = name; ty = t }) (slice_get s.types ty));
     }
 
 -- the spaces after an export of this name, which gives its function a new index
-abbrev pub after_export : Space → List ℕ → ℕ → Space
+abbrev pub after_export : IndexSpaces → List ℕ → ℕ → IndexSpaces
 after_export s name index =
     record s {
       funcs = s.funcs ++ option_to_list (slice_get s.funcs index);
-      exports = s.exports ++ option_to_list (option_map (λ f. record { name = name; func = index; ty = func_type_of f }) (slice_get s.funcs index));
+      exports =
+          s.exports
+          ++ option_to_list
+          (option_map (λ f. record { name = name; func = index; ty = func_type_of f })
+          (slice_get s.funcs index));
     }
 
 -- the spaces after an item
-abbrev pub grown : Space → Item → Space
-grown s module_item = record s { modules = s.modules + 1 }
-grown s (core_instance_item (instantiate m args)) = record s { core_instances = s.core_instances ++ m ∷ [] }
-grown s (alias_item (core_instance_export sort instance name)) = record s { core_funcs = s.core_funcs ++ guest instance name ∷ [] }
-grown s (type_item (func_def f)) = record s { types = s.types ++ expanded f ∷ [] }
-grown s (canon_item c) = after_canon s c
-grown s (import_item i) = after_import s i.name i.desc
-grown s (export_item e) = after_export s e.name e.index
+abbrev pub after_item : IndexSpaces → Item → IndexSpaces
+after_item s module_item = record s { modules = s.modules + 1 }
+after_item s (core_instance_item (instantiate m args)) =
+    record s { core_instances = s.core_instances ++ m ∷ [] }
+after_item s (alias_item (core_instance_export sort instance name)) =
+    record s { core_funcs = s.core_funcs ++ guest instance name ∷ [] }
+after_item s (type_item (func_def f)) = record s { types = s.types ++ expand_func f ∷ [] }
+after_item s (canon_item c) = after_canon s c
+after_item s (import_item i) = after_import s i.name i.desc
+after_item s (export_item e) = after_export s e.name e.index
 
 -- the spaces after these items
-abbrev pub after : Space → List Item → Space
-after s [] = s
-after s (x ∷ xs) = after (grown s x) xs
+abbrev pub after_items : IndexSpaces → List Item → IndexSpaces
+after_items s [] = s
+after_items s (x ∷ xs) = after_items (after_item s x) xs
 
 -- the spaces of a whole component
-abbrev pub spaces_of : List SectionTree → Space
-spaces_of sections = after nothing (all_items sections)
+abbrev pub spaces_of : List SectionTree → IndexSpaces
+spaces_of sections = after_items empty_spaces (all_items sections)
 
 -- what a component imports and exports
-abbrev pub signature : Space → SignatureTy
+abbrev pub signature : IndexSpaces → SignatureTy
 signature s =
     record {
       imports = map (λ i. record { name = i.name; desc = func_extern i.ty }) s.imports;
@@ -119,11 +151,12 @@ signature s =
     }
 
 -- what the function under an export is
-abbrev pub func_of_export : Space → ℕ → Option FuncDefTree
-func_of_export s export = option_and_then (λ e. slice_get s.funcs e.func) (slice_get s.exports export)
+abbrev pub func_of_export : IndexSpaces → ℕ → Option FuncDefTree
+func_of_export s export =
+    option_and_then (λ e. slice_get s.funcs e.func) (slice_get s.exports export)
 
 -- what the function is that is an export of its own, or an item of an exported instance: so far no
 -- component exports instances
-abbrev pub func_at : Space → ℕ → Option ℕ → Option FuncDefTree
+abbrev pub func_at : IndexSpaces → ℕ → Option ℕ → Option FuncDefTree
 func_at s export None = func_of_export s export
 func_at s export (Some item) = None

@@ -1,16 +1,14 @@
 //! Components that are valid.
 
-ghost use Rattle.std.specs.Prelude.{◌≡◌, ◌⊎◌, List, IfOk, OnOk, IfErr, map, slice_get};
+ghost use Rattle.std.specs.Prelude.{◌≡◌, ◌⊎◌, IfOk, OnOk, IfErr, map, slice_get};
 ghost use Rattle.std.specs.List.{AllByRecursion};
 ghost use Rattle.std.specs.Option.{option_map};
 ghost use Rattle.cm_types.specs.Signatures.{signature_of};
 ghost use Rattle.cm_validate.specs.declared.fault.ValidReason.TheVariants as reason;
 ghost use Rattle.cm_validate.specs.Definitions.{core_func_tree, func_def_tree};
-ghost use Rattle.cm_component.specs.Trees.{SectionTree};
-ghost use Rattle.cm_validate.specs.Orders.{AreInOrder};
-ghost use Rattle.cm_validate.specs.Sound.{IsSound};
-ghost use Rattle.cm_validate.specs.Spaces.{spaces_of, signature, func_at};
-ghost use Rattle.cm_validate.specs.Valid.{IsValid, IsFaultOf};
+ghost use Rattle.cm_validate.specs.Consistency.{IsConsistent};
+ghost use Rattle.cm_validate.specs.Spaces.{empty_spaces, spaces_of, signature, func_at};
+ghost use Rattle.cm_validate.specs.Valid.{IsValid, IsFaultOf, MayLackMemoryIn};
 ghost use Rattle.cm_validate.specs.PassedFlat.{PassesFlat};
 
 use crate::definitions::{CoreFuncDef, FuncDef};
@@ -22,9 +20,9 @@ use cm_types::Signature;
 use std::alloc::{AllocError, Global};
 use std::marker::Model;
 
-/// A component that is valid, with tables that tell what its indices stand for. Contracts see it as the
-/// tree of its file.
-#[derive(Debug, Drop)]
+/// A component that is valid, with tables that tell what its indices stand for. Contracts see it as
+/// the tree of its file. None of its methods takes memory.
+#[derive(Drop)]
 pub struct Checked {
     component: Component,
     tables: Tables,
@@ -44,11 +42,11 @@ impl Model for Checked {
 }
 
 impl Checked {
-    /// What the component imports and exports, in the order of the file. Callers learn here, too, that
-    /// the component is valid, and what that means for its index spaces.
+    /// What the component imports and exports, in the order of the file. Callers learn here, too,
+    /// that the component is valid, and what that means for its index spaces.
     pub fn signature(&self) -> &Signature
         ensures valid { IsValid self.now }
-        ensures sound { IsSound (spaces_of self.now) }
+        ensures consistent { IsConsistent (spaces_of self.now) }
         ensures signature { signature_of result.now ≡ signature (spaces_of self.now) }
     {
         &self.tables.signature
@@ -56,7 +54,8 @@ impl Checked {
 
     /// What the core function with index `core_func`, from 0, is, or None where there is none.
     pub fn core(&self, core_func: u32) -> Option<&CoreFuncDef>
-        ensures { option_map (λ f. core_func_tree f.now) result ≡ slice_get (spaces_of self.now).core_funcs core_func }
+        ensures { option_map (λ f. core_func_tree f.now) result
+            ≡ slice_get (spaces_of self.now).core_funcs core_func }
     {
         self.tables.core_funcs.get(core_func as usize)
     }
@@ -69,11 +68,12 @@ impl Checked {
         &self.tables.core_funcs
     }
 
-    /// What the function under the export with number `export`, from 0, is. `item` is the place in an
-    /// exported instance, and None for a function that is an export of its own; None is the answer where
-    /// there is no such function.
+    /// What the function under the export with number `export`, from 0, is. `item` is the place in
+    /// an exported instance, and None for a function that is an export of its own; None is the
+    /// answer where there is no such function.
     pub fn func(&self, export: u32, item: Option<u32>) -> Option<&FuncDef>
-        ensures { option_map (λ f. func_def_tree f.now) result ≡ func_at (spaces_of self.now) export item }
+        ensures { option_map (λ f. func_def_tree f.now) result
+            ≡ func_at (spaces_of self.now) export item }
     {
         match item {
             Some(_) => None,
@@ -85,24 +85,25 @@ impl Checked {
     }
 }
 
-/// A law on the definitions, which does nothing: each index space of a component is what its items add
-/// to it, in order (Explainer.md, "Index Spaces").
-pub fn index_spaces()
-    ensures { (sections : List SectionTree) → AreInOrder sections }
-{}
-
 /// The component as one that is valid.
 ///
-/// A component that is not valid is refused with its first fault: the least section, the least item in
-/// it, and of the rules that the item breaks the one whose reason has the smallest number (Explainer.md;
-/// the reasons, their numbers and this order are this project's own choice). `Memory` comes where there
-/// is no memory for the tables, at the item that was looked at then, or past the last section. The
-/// component is dropped where it is refused.
+/// A component that is not valid is dropped and refused with its first fault: the least section,
+/// the least item in it, and of the rules that the item breaks the one whose reason has the
+/// smallest number (Explainer.md, "Component Definitions"; CanonicalABI.md, "Canonical
+/// Definitions"; the reasons, their numbers and this order are this project's own choice).
+/// docs/RULES.md has the table of rules.
+///
+/// `Memory` comes where there is no memory for the tables: at an item, if those before it break no
+/// rule and it breaks none that is looked at before memory is wanted (indices, and all rules of a
+/// canonical definition); or at item 0 behind the last section, if no item breaks a rule.
 pub fn validate(alloc: Global, component: Component) -> Result<Checked, ValidFault>
-    ensures held { IfOk result (λ c. c ≡ component) }
-    ensures accepted { OnOk result (IsValid component) }
+    ensures component { IfOk result (λ c. c ≡ component) }
+    ensures valid { OnOk result (IsValid component) }
     ensures complete { IsValid component → IfErr result (λ f. f.reason ≡ reason.Memory) }
-    ensures refused { IfErr result (λ f. (f.reason ≡ reason.Memory) ⊎ IsFaultOf component f.section f.item f.reason) }
+    ensures fault { IfErr result
+        (λ f. ((f.reason ≡ reason.Memory)
+        × MayLackMemoryIn empty_spaces component f.section f.item)
+        ⊎ IsFaultOf component f.section f.item f.reason) }
 {
     match walk_all(alloc, component.sections()) {
         Ok(spaces) => match tables_of(alloc, spaces) {

@@ -4,8 +4,8 @@ ghost use Rattle.std.specs.Prelude.{◌≡◌, IfOk, map, true};
 ghost use Rattle.cm_types.specs.TypeTrees.{field_of, type_of};
 ghost use Rattle.cm_types.specs.Funcs.{func_of, tree_type};
 ghost use Rattle.cm_types.specs.DefTypes.{func_type_tree};
-ghost use Rattle.cm_validate.specs.Rules.{is_small};
-ghost use Rattle.cm_validate.specs.Spaces.{expanded, expanded_value};
+ghost use Rattle.cm_validate.specs.Rules.{params_are_within_limits};
+ghost use Rattle.cm_validate.specs.Spaces.{expand_func, expand_value};
 
 use cm_types::{
     ExternName, Field, Func, FuncType, Label, LabeledValType, TypeNode, TypeTree, ValType,
@@ -13,7 +13,7 @@ use cm_types::{
 use std::alloc::{AllocError, Global};
 
 fn expand_value(ty: ValType) -> TypeNode
-    ensures { type_of result ≡ expanded_value ty }
+    ensures { type_of result ≡ expand_value ty }
 {
     match ty {
         ValType::U32 => TypeNode::U32,
@@ -21,7 +21,7 @@ fn expand_value(ty: ValType) -> TypeNode
 }
 
 fn expand_result(ty: ValType) -> TypeTree
-    ensures { tree_type result ≡ expanded_value ty }
+    ensures { tree_type result ≡ expand_value ty }
 {
     TypeTree {
         root: expand_value(ty),
@@ -42,7 +42,8 @@ fn copy_label(alloc: Global, label: &Label) -> Result<Label, AllocError>
 }
 
 fn expand_params(alloc: Global, params: &[LabeledValType]) -> Result<Vec<Field>, AllocError>
-    ensures { IfOk result (λ fs. map field_of fs.items ≡ map (λ p. (p.label, expanded_value p.ty)) params.now) }
+    ensures { IfOk result
+        (λ fs. map field_of fs.items ≡ map (λ p. (p.label, expand_value p.ty)) params.now) }
 {
     let mut fields = Vec::with_capacity(alloc, params.len())?;
     for param in params {
@@ -55,9 +56,9 @@ fn expand_params(alloc: Global, params: &[LabeledValType]) -> Result<Vec<Field>,
 }
 
 /// The type with every index expanded.
-pub(crate) fn expand(alloc: Global, ty: &FuncType) -> Result<Func, AllocError>
-    requires { is_small (func_type_tree ty.now) ≡ true }
-    ensures { IfOk result (λ f. func_of f ≡ expanded (func_type_tree ty.now)) }
+pub(crate) fn expand_func(alloc: Global, ty: &FuncType) -> Result<Func, AllocError>
+    requires { params_are_within_limits (func_type_tree ty.now) ≡ true }
+    ensures { IfOk result (λ f. func_of f ≡ expand_func (func_type_tree ty.now)) }
 {
     Ok(Func {
         params: expand_params(alloc, &ty.params)?,

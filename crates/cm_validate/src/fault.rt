@@ -1,69 +1,51 @@
 //! Why a component is not valid.
 
 ghost use Rattle.std.specs.Prelude.{◌≡◌};
-ghost use Rattle.cm_validate.specs.Reasons.{reason_number};
+ghost use Rattle.cm_validate.specs.Reasons.{reason_name, reason_number};
 
-use thiserror::Error;
+use std::error::Error;
+use std::fmt;
 
-/// The rule that an item of a component breaks.
-#[derive(Clone, Copy, Debug, PartialEq, Eq, Error)]
+/// The rule that an item of a component breaks. docs/RULES.md has the table of rules.
+#[derive(Clone, Copy, PartialEq, Eq)]
 pub enum ValidReason {
     /// An index, or a name of an export, that nothing before the item has.
-    #[error("no such index")]
     NoSuchIndex = 1,
     /// What stands under an index is of another sort than is needed.
-    #[error("wrong sort")]
     WrongSort = 2,
     /// A record, variant, tuple, enum or set of flags that is empty.
-    #[error("empty type")]
     EmptyType = 3,
     /// More than 32 flags.
-    #[error("too many flags")]
     TooManyFlags = 4,
     /// A function's result that holds a borrow.
-    #[error("a borrow in a result")]
     BorrowInResult = 5,
     /// Two names of one list that are the same, where they must differ.
-    #[error("duplicate name")]
     DuplicateName = 6,
     /// A lift or lower without the memory that it needs.
-    #[error("memory is needed")]
     NeedsMemory = 7,
     /// A lift or lower without the allocator that it needs.
-    #[error("realloc is needed")]
     NeedsRealloc = 8,
     /// A canonical option that is given twice.
-    #[error("option given twice")]
     OptionTwice = 9,
     /// A canonical option where it may not stand.
-    #[error("option not allowed")]
     OptionNotAllowed = 10,
     /// A core function that is no guest's, where a guest's is needed.
-    #[error("not a guest's function")]
     NotGuestFunction = 11,
     /// A memory other than the component's first.
-    #[error("a second memory")]
     SecondMemory = 12,
     /// A resource that the component does not define.
-    #[error("not a resource of its own")]
     NotOwnResource = 13,
     /// A name of a form that may not stand there.
-    #[error("bad annotated name")]
     BadAnnotatedName = 14,
     /// There was no memory.
-    #[error("no memory")]
     Memory = 15,
     /// A lowered function that does not come from an import.
-    #[error("not imported")]
     NotImported = 16,
     /// An expanded type past the limits.
-    #[error("too large")]
     TooLarge = 17,
     /// An item of a form that is not carried so far.
-    #[error("not carried so far")]
     NotYet = 18,
     /// An encoding that strings are not stored in.
-    #[error("stores latin1")]
     StoresLatin1 = 19,
 }
 
@@ -74,13 +56,80 @@ impl ValidReason {
     {
         self as u8
     }
+
+    /// The word by which the reason is known, as `NoSuchIndex`.
+    pub fn name(self) -> &'static str
+        ensures { result.now ≡ reason_name self }
+    {
+        match self {
+            ValidReason::NoSuchIndex => "NoSuchIndex",
+            ValidReason::WrongSort => "WrongSort",
+            ValidReason::EmptyType => "EmptyType",
+            ValidReason::TooManyFlags => "TooManyFlags",
+            ValidReason::BorrowInResult => "BorrowInResult",
+            ValidReason::DuplicateName => "DuplicateName",
+            ValidReason::NeedsMemory => "NeedsMemory",
+            ValidReason::NeedsRealloc => "NeedsRealloc",
+            ValidReason::OptionTwice => "OptionTwice",
+            ValidReason::OptionNotAllowed => "OptionNotAllowed",
+            ValidReason::NotGuestFunction => "NotGuestFunction",
+            ValidReason::SecondMemory => "SecondMemory",
+            ValidReason::NotOwnResource => "NotOwnResource",
+            ValidReason::BadAnnotatedName => "BadAnnotatedName",
+            ValidReason::Memory => "Memory",
+            ValidReason::NotImported => "NotImported",
+            ValidReason::TooLarge => "TooLarge",
+            ValidReason::NotYet => "NotYet",
+            ValidReason::StoresLatin1 => "StoresLatin1",
+        }
+    }
+
+    /// What the reason means, in a few words.
+    fn text(self) -> &'static str {
+        match self {
+            ValidReason::NoSuchIndex => "no such index",
+            ValidReason::WrongSort => "wrong sort",
+            ValidReason::EmptyType => "empty type",
+            ValidReason::TooManyFlags => "too many flags",
+            ValidReason::BorrowInResult => "a borrow in a result",
+            ValidReason::DuplicateName => "duplicate name",
+            ValidReason::NeedsMemory => "memory is needed",
+            ValidReason::NeedsRealloc => "realloc is needed",
+            ValidReason::OptionTwice => "option given twice",
+            ValidReason::OptionNotAllowed => "option not allowed",
+            ValidReason::NotGuestFunction => "not a guest's function",
+            ValidReason::SecondMemory => "a second memory",
+            ValidReason::NotOwnResource => "not a resource of its own",
+            ValidReason::BadAnnotatedName => "bad annotated name",
+            ValidReason::Memory => "no memory",
+            ValidReason::NotImported => "not imported",
+            ValidReason::TooLarge => "too large",
+            ValidReason::NotYet => "not carried so far",
+            ValidReason::StoresLatin1 => "stores latin1",
+        }
+    }
 }
 
+impl fmt::Debug for ValidReason {
+    fn fmt<W: fmt::Write>(&self, f: &mut fmt::Formatter<W>) -> fmt::Result {
+        write!(f, "{}", self.name())
+    }
+}
+
+impl fmt::Display for ValidReason {
+    fn fmt<W: fmt::Write>(&self, f: &mut fmt::Formatter<W>) -> fmt::Result {
+        write!(f, "{}", self.text())
+    }
+}
+
+impl Error for ValidReason {}
+
 /// Why and where a component is not valid.
-#[derive(Clone, Copy, Debug, PartialEq, Eq, Error)]
+#[derive(Clone, Copy, Debug, PartialEq, Eq, thiserror::Error)]
 #[error("{reason} in section {section}, item {item}")]
 pub struct ValidFault {
-    /// The section, from 0, custom sections counted.
+    /// The section, from 0, custom sections counted. With `Memory` it may be the count of sections,
+    /// where the tables of a valid component were made.
     pub section: usize,
     /// The item in the section, from 0; a section that is one item has item 0.
     pub item: usize,

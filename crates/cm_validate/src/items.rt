@@ -1,7 +1,6 @@
-//! What an item of a section has to keep, and what it adds to the index spaces.
+//! Which rules an item of a section keeps, and what it adds to the index spaces.
 
-ghost use Rattle.std.specs.Prelude.{◌≡◌, ℕ, [], ◌∷◌, None, IfOk, OnOk, length, map, nat_lt};
-ghost use Rattle.std.specs.List.{list_all};
+ghost use Rattle.std.specs.Prelude.{◌≡◌, [], ◌∷◌, None, IfOk, OnOk, OnErr, map};
 ghost use Rattle.cm_types.specs.Funcs.{func_of};
 ghost use Rattle.cm_types.specs.DefTypes.{def_type_tree};
 ghost use Rattle.cm_component.specs.Trees.{instantiate, arg_tree, core_instance_tree, alias_tree};
@@ -10,68 +9,74 @@ ghost use Rattle.cm_component.specs.declared.section.Canon.TheVariants as canon;
 ghost use Rattle.cm_validate.specs.declared.fault.ValidReason.TheVariants as reason;
 ghost use Rattle.cm_validate.specs.Items.{Item, core_instance_item, alias_item, type_item};
 ghost use Rattle.cm_validate.specs.Items.{canon_item, import_item, export_item};
-ghost use Rattle.cm_validate.specs.Definitions.{func_def_tree, core_func_tree};
-ghost use Rattle.cm_validate.specs.Rules.{rules, canon_rules, is_flat, is_guest, is_plain_label};
-ghost use Rattle.cm_validate.specs.Spaces.{grown, after_canon, func_type_of};
-ghost use Rattle.cm_validate.specs.SpacesOf.{space_of};
-ghost use Rattle.cm_validate.specs.Valid.{first};
+ghost use Rattle.cm_validate.specs.Definitions.{core_func_tree};
+ghost use Rattle.cm_validate.specs.Rules.{item_rules, rules_before_memory, canon_rules};
+ghost use Rattle.cm_validate.specs.Rules.{has_memory, has_realloc, is_guest_function};
+ghost use Rattle.cm_validate.specs.Spaces.{after_item, after_canon};
+ghost use Rattle.cm_validate.specs.SpacesBuilder.{spaces_so_far};
+ghost use Rattle.cm_validate.specs.Valid.{first_broken};
 
-use crate::definitions::{CoreFuncDef, ExportDef, FuncDef, param_count};
-use crate::expand::expand;
+use crate::definitions::{CoreFuncDef, ExportDef, FuncDef};
+use crate::expand::expand_func;
 use crate::fault::ValidReason;
-use crate::spaces::Spaces;
-use crate::texts::{arg_names_are_distinct, labels_are_distinct};
+use crate::rules::{
+    arg_instances_are_there, arg_names_are_distinct, has_memory, has_realloc, index_is_there,
+    labels_are_distinct, name_is_plain_label, params_are_within_limits,
+};
+use crate::spaces_builder::SpacesBuilder;
 use cm_component::{
     Alias, Canon, CoreInstance, CoreInstantiationArg, Export, ExternDesc, Import, Sort,
 };
-use cm_types::{DefType, ExternName, ExternNameForm, Func};
+use cm_types::{DefType, Func};
 use std::alloc::{AllocError, Global};
 use std::rc::Rc;
-
-/// The most parameters that are passed flat.
-const MOST_FLAT_PARAMS: usize = 16;
-
-/// The most nodes of a type, of which the parameter list is one.
-const MOST_NODES: usize = 10_000;
 
 /// An item of a section that holds several.
 pub(crate) trait SectionItem {
     ghost item: { Self → Item };
 
     /// The reason of the first rule that the item breaks after what was read before it.
-    fn broken_rule(&self, alloc: Global, spaces: &Spaces) -> Result<Option<ValidReason>, AllocError>
-        ensures { IfOk result (λ r. r ≡ first (rules (space_of spaces.now) (item self.now))) };
+    fn broken_rule(
+        &self,
+        alloc: Global,
+        spaces: &SpacesBuilder,
+    ) -> Result<Option<ValidReason>, AllocError>
+        ensures rules { IfOk result
+            (λ r. r ≡ first_broken (item_rules (spaces_so_far spaces.now) (item self.now))) }
+        ensures memory { OnErr result
+            (first_broken (rules_before_memory (spaces_so_far spaces.now) (item self.now))
+            ≡ None) };
 
     /// Adds to the spaces what the item adds.
-    fn add(&self, alloc: Global, spaces: &mut Spaces) -> Result<(), AllocError>
-        requires { first (rules (space_of spaces.old) (item self.now)) ≡ None }
-        ensures { OnOk result (space_of spaces.new ≡ grown (space_of spaces.old) (item self.now)) };
-}
-
-fn have_instances(args: &[CoreInstantiationArg], spaces: &Spaces) -> bool
-    ensures { result ≡ list_all (λ a. nat_lt a.instance (length (space_of spaces.now).core_instances)) args.now }
-{
-    args.iter().all(|a| spaces.has_core_instance(a.instance))
+    fn add(&self, alloc: Global, spaces: &mut SpacesBuilder) -> Result<(), AllocError>
+        requires { first_broken (item_rules (spaces_so_far spaces.old) (item self.now)) ≡ None }
+        ensures { OnOk result
+            (spaces_so_far spaces.new ≡ after_item (spaces_so_far spaces.old) (item self.now)) };
 }
 
 fn instantiate_fault(
     alloc: Global,
-    spaces: &Spaces,
+    spaces: &SpacesBuilder,
     of_module: u32,
     args: &[CoreInstantiationArg],
 ) -> Result<Option<ValidReason>, AllocError>
-    ensures { IfOk result (λ r. r ≡ first (rules (space_of spaces.now) (core_instance_item (instantiate of_module (map arg_tree args.now))))) }
+    ensures rules { IfOk result
+        (λ r. r
+        ≡ first_broken (item_rules (spaces_so_far spaces.now)
+        (core_instance_item (instantiate of_module (map arg_tree args.now))))) }
+    ensures memory { OnErr result
+        (first_broken (rules_before_memory (spaces_so_far spaces.now)
+        (core_instance_item (instantiate of_module (map arg_tree args.now))))
+        ≡ None) }
 {
-    if !spaces.has_module(of_module) {
-        return Ok(Some(ValidReason::NoSuchIndex));
-    }
-    if !have_instances(args, spaces) {
-        return Ok(Some(ValidReason::NoSuchIndex));
-    }
-    if arg_names_are_distinct(alloc, args)? {
-        Ok(None)
-    } else {
+    if !index_is_there(of_module, spaces.modules) {
+        Ok(Some(ValidReason::NoSuchIndex))
+    } else if !arg_instances_are_there(args, spaces.core_instances.len()) {
+        Ok(Some(ValidReason::NoSuchIndex))
+    } else if !arg_names_are_distinct(alloc, args)? {
         Ok(Some(ValidReason::DuplicateName))
+    } else {
+        Ok(None)
     }
 }
 
@@ -81,13 +86,13 @@ impl SectionItem for CoreInstance {
     fn broken_rule(
         &self,
         alloc: Global,
-        spaces: &Spaces,
+        spaces: &SpacesBuilder,
     ) -> Result<Option<ValidReason>, AllocError> {
         let CoreInstance::Instantiate { module, args } = self;
         instantiate_fault(alloc, spaces, *module, args)
     }
 
-    fn add(&self, _alloc: Global, spaces: &mut Spaces) -> Result<(), AllocError> {
+    fn add(&self, _alloc: Global, spaces: &mut SpacesBuilder) -> Result<(), AllocError> {
         let CoreInstance::Instantiate { module, .. } = self;
         spaces.add_core_instance(*module)
     }
@@ -99,17 +104,17 @@ impl SectionItem for Alias {
     fn broken_rule(
         &self,
         _alloc: Global,
-        spaces: &Spaces,
+        spaces: &SpacesBuilder,
     ) -> Result<Option<ValidReason>, AllocError> {
         let Alias::CoreInstanceExport { instance, .. } = self;
-        if spaces.has_core_instance(*instance) {
-            Ok(None)
-        } else {
+        if !index_is_there(*instance, spaces.core_instances.len()) {
             Ok(Some(ValidReason::NoSuchIndex))
+        } else {
+            Ok(None)
         }
     }
 
-    fn add(&self, alloc: Global, spaces: &mut Spaces) -> Result<(), AllocError> {
+    fn add(&self, alloc: Global, spaces: &mut SpacesBuilder) -> Result<(), AllocError> {
         let Alias::CoreInstanceExport { instance, name, .. } = self;
         spaces.add_core_func(CoreFuncDef::Guest {
             instance: *instance,
@@ -124,38 +129,46 @@ impl SectionItem for DefType {
     fn broken_rule(
         &self,
         alloc: Global,
-        _spaces: &Spaces,
+        _spaces: &SpacesBuilder,
     ) -> Result<Option<ValidReason>, AllocError> {
         let DefType::Func(ty) = self;
         if !labels_are_distinct(alloc, &ty.params)? {
             Ok(Some(ValidReason::DuplicateName))
-        } else if ty.params.len() >= MOST_NODES {
+        } else if !params_are_within_limits(ty) {
             Ok(Some(ValidReason::TooLarge))
         } else {
             Ok(None)
         }
     }
 
-    fn add(&self, alloc: Global, spaces: &mut Spaces) -> Result<(), AllocError> {
+    fn add(&self, alloc: Global, spaces: &mut SpacesBuilder) -> Result<(), AllocError> {
         let DefType::Func(ty) = self;
-        spaces.add_type(Rc::new(alloc, expand(alloc, ty)?)?)
+        spaces.add_type(Rc::new(alloc, expand_func(alloc, ty)?)?)
     }
 }
 
+/// The fault of a lift of this core function to this type, which are both there.
 fn lifting_fault(core_func: &CoreFuncDef, ty: &Func) -> Option<ValidReason>
-    ensures { result ≡ first ((is_flat (func_of ty.now), reason.NeedsMemory) ∷ (is_flat (func_of ty.now), reason.NeedsRealloc) ∷ (is_guest (core_func_tree core_func.now), reason.NotGuestFunction) ∷ []) }
+    ensures { result
+        ≡ first_broken ((has_memory (func_of ty.now), reason.NeedsMemory)
+        ∷ (has_realloc (func_of ty.now), reason.NeedsRealloc)
+        ∷ (is_guest_function (core_func_tree core_func.now), reason.NotGuestFunction)
+        ∷ []) }
 {
-    if param_count(ty) > MOST_FLAT_PARAMS {
+    if !has_memory(ty) {
         Some(ValidReason::NeedsMemory)
-    } else if core_func.is_guest() {
-        None
-    } else {
+    } else if !has_realloc(ty) {
+        Some(ValidReason::NeedsRealloc)
+    } else if !core_func.is_guest_function() {
         Some(ValidReason::NotGuestFunction)
+    } else {
+        None
     }
 }
 
-fn lift_fault(spaces: &Spaces, core_func: u32, ty: u32) -> Option<ValidReason>
-    ensures { result ≡ first (canon_rules (space_of spaces.now) (canon.Lift core_func ty)) }
+fn lift_fault(spaces: &SpacesBuilder, core_func: u32, ty: u32) -> Option<ValidReason>
+    ensures { result
+        ≡ first_broken (canon_rules (spaces_so_far spaces.now) (canon.Lift core_func ty)) }
 {
     let Some(core_func) = spaces.core_func(core_func) else {
         return Some(ValidReason::NoSuchIndex);
@@ -166,24 +179,25 @@ fn lift_fault(spaces: &Spaces, core_func: u32, ty: u32) -> Option<ValidReason>
     lifting_fault(core_func, ty)
 }
 
-fn lower_fault(spaces: &Spaces, func: u32) -> Option<ValidReason>
-    ensures { result ≡ first (canon_rules (space_of spaces.now) (canon.Lower func)) }
+fn lower_fault(spaces: &SpacesBuilder, func: u32) -> Option<ValidReason>
+    ensures { result ≡ first_broken (canon_rules (spaces_so_far spaces.now) (canon.Lower func)) }
 {
     let Some(func) = spaces.func(func) else {
         return Some(ValidReason::NoSuchIndex);
     };
-    if param_count(func.ty()) > MOST_FLAT_PARAMS {
+    if !has_memory(func.ty()) {
         Some(ValidReason::NeedsMemory)
+    } else if !func.is_imported() {
+        Some(ValidReason::NotImported)
     } else {
-        match func {
-            FuncDef::Imported { .. } => None,
-            FuncDef::Lifted { .. } => Some(ValidReason::NotImported),
-        }
+        None
     }
 }
 
-fn add_lift(spaces: &mut Spaces, core_func: u32, ty: u32) -> Result<(), AllocError>
-    ensures { OnOk result (space_of spaces.new ≡ after_canon (space_of spaces.old) (canon.Lift core_func ty)) }
+fn add_lift(spaces: &mut SpacesBuilder, core_func: u32, ty: u32) -> Result<(), AllocError>
+    ensures { OnOk result
+        (spaces_so_far spaces.new
+        ≡ after_canon (spaces_so_far spaces.old) (canon.Lift core_func ty)) }
 {
     match spaces.ty(ty) {
         Some(ty) => {
@@ -194,8 +208,9 @@ fn add_lift(spaces: &mut Spaces, core_func: u32, ty: u32) -> Result<(), AllocErr
     }
 }
 
-fn add_lower(spaces: &mut Spaces, func: u32) -> Result<(), AllocError>
-    ensures { OnOk result (space_of spaces.new ≡ after_canon (space_of spaces.old) (canon.Lower func)) }
+fn add_lower(spaces: &mut SpacesBuilder, func: u32) -> Result<(), AllocError>
+    ensures { OnOk result
+        (spaces_so_far spaces.new ≡ after_canon (spaces_so_far spaces.old) (canon.Lower func)) }
 {
     match spaces.func(func) {
         Some(FuncDef::Imported { import, item, ty }) => {
@@ -216,7 +231,7 @@ impl SectionItem for Canon {
     fn broken_rule(
         &self,
         _alloc: Global,
-        spaces: &Spaces,
+        spaces: &SpacesBuilder,
     ) -> Result<Option<ValidReason>, AllocError> {
         match self {
             Canon::Lift { core_func, ty } => Ok(lift_fault(spaces, *core_func, *ty)),
@@ -224,20 +239,11 @@ impl SectionItem for Canon {
         }
     }
 
-    fn add(&self, _alloc: Global, spaces: &mut Spaces) -> Result<(), AllocError> {
+    fn add(&self, _alloc: Global, spaces: &mut SpacesBuilder) -> Result<(), AllocError> {
         match self {
             Canon::Lift { core_func, ty } => add_lift(spaces, *core_func, *ty),
             Canon::Lower { func } => add_lower(spaces, *func),
         }
-    }
-}
-
-fn is_plain_label(name: &ExternName) -> bool
-    ensures { result ≡ is_plain_label name.now }
-{
-    match name.form() {
-        ExternNameForm::Label(_) => true,
-        _ => false,
     }
 }
 
@@ -247,21 +253,21 @@ impl SectionItem for Import {
     fn broken_rule(
         &self,
         alloc: Global,
-        spaces: &Spaces,
+        spaces: &SpacesBuilder,
     ) -> Result<Option<ValidReason>, AllocError> {
         let ExternDesc::Func(ty) = self.desc;
-        if spaces.ty(ty).is_none() {
+        if !index_is_there(ty, spaces.types.len()) {
             Ok(Some(ValidReason::NoSuchIndex))
-        } else if !spaces.is_new_import(alloc, self.name.as_str())? {
+        } else if !spaces.import_name_is_new(alloc, self.name.as_str())? {
             Ok(Some(ValidReason::DuplicateName))
-        } else if !is_plain_label(&self.name) {
+        } else if !name_is_plain_label(&self.name) {
             Ok(Some(ValidReason::BadAnnotatedName))
         } else {
             Ok(None)
         }
     }
 
-    fn add(&self, alloc: Global, spaces: &mut Spaces) -> Result<(), AllocError> {
+    fn add(&self, alloc: Global, spaces: &mut SpacesBuilder) -> Result<(), AllocError> {
         let ExternDesc::Func(ty) = self.desc;
         match spaces.ty(ty) {
             Some(ty) => {
@@ -285,21 +291,21 @@ impl SectionItem for Export {
     fn broken_rule(
         &self,
         alloc: Global,
-        spaces: &Spaces,
+        spaces: &SpacesBuilder,
     ) -> Result<Option<ValidReason>, AllocError> {
         let Sort::Func = self.sort;
-        if spaces.func(self.index).is_none() {
+        if !index_is_there(self.index, spaces.funcs.len()) {
             Ok(Some(ValidReason::NoSuchIndex))
-        } else if !spaces.is_new_export(alloc, self.name.as_str())? {
+        } else if !spaces.export_name_is_new(alloc, self.name.as_str())? {
             Ok(Some(ValidReason::DuplicateName))
-        } else if !is_plain_label(&self.name) {
+        } else if !name_is_plain_label(&self.name) {
             Ok(Some(ValidReason::BadAnnotatedName))
         } else {
             Ok(None)
         }
     }
 
-    fn add(&self, alloc: Global, spaces: &mut Spaces) -> Result<(), AllocError> {
+    fn add(&self, alloc: Global, spaces: &mut SpacesBuilder) -> Result<(), AllocError> {
         let Sort::Func = self.sort;
         match spaces.func(self.index) {
             Some(func) => {

@@ -6,12 +6,14 @@ mod definitions;
 mod expand;
 mod fault;
 mod items;
+pub mod laws;
 mod named;
-mod spaces;
+mod rules;
+mod spaces_builder;
 mod tables;
-mod texts;
 mod walk;
 
-pub use checked::{Checked, index_spaces, validate};
+pub use checked::{Checked, validate};
 pub use definitions::{CoreFuncDef, FuncDef};
 pub use fault::{ValidFault, ValidReason};
+pub use rules::MAX_FLAT_PARAMS;

@@ -1,24 +1,24 @@
 //! Lists of definitions under names.
 
 ghost use Rattle.std.specs.Prelude.{◌≡◌, List, [], ◌∷◌, ◌++◌, IfOk, OnOk, length, map};
-ghost use Rattle.cm_validate.specs.Rules.{is_new_name};
+ghost use Rattle.cm_validate.specs.Rules.{name_is_new};
 
 use crate::expand::copy_name;
-use crate::texts::{add_text, folded};
+use crate::rules::{add_text, fold_case};
 use cm_types::ExternName;
 use std::alloc::{AllocError, Global};
 use std::collections::BTreeSet;
 use std::marker::Model;
 
 /// A definition under a name.
-#[derive(Debug, Drop)]
+#[derive(Drop)]
 pub(crate) struct Named<T> {
     pub name: ExternName,
     pub definition: T,
 }
 
 /// Definitions under names, in order, with what tells fast whether a name is there.
-#[derive(Debug, Drop)]
+#[derive(Drop)]
 pub(crate) struct NamedList<T> {
     definitions: Vec<Named<T>>,
     names: BTreeSet<String>,
@@ -60,10 +60,10 @@ impl<T> NamedList<T> {
     }
 
     /// Whether no definition stands under a name that is the same without ASCII case.
-    pub fn is_new(&self, alloc: Global, name: &str) -> Result<bool, AllocError>
-        ensures { IfOk result (λ new. new ≡ is_new_name name.now (map (λ d. d.0) self.now)) }
+    pub fn name_is_new(&self, alloc: Global, name: &str) -> Result<bool, AllocError>
+        ensures { IfOk result (λ new. new ≡ name_is_new name.now (map (λ d. d.0) self.now)) }
     {
-        let key = folded(alloc, name)?;
+        let key = fold_case(alloc, name)?;
         Ok(!self.names.contains(key.as_str()))
     }
 
@@ -73,12 +73,13 @@ impl<T> NamedList<T> {
         T: Drop,
         ensures { OnOk result (self.new ≡ self.old ++ (name.now, definition) ∷ []) }
     {
-        let key = folded(alloc, name.as_str())?;
+        let key = fold_case(alloc, name.as_str())?;
         let name = copy_name(alloc, name)?;
         self.definitions.reserve(1)?;
         add_text(&mut self.names, key)?;
         match self.definitions.push(Named { name, definition }) {
             Ok(()) => Ok(()),
+            // Room was reserved.
             Err(_) => unreachable!(),
         }
     }

@@ -2,19 +2,19 @@
 
 ghost use Rattle.std.specs.Prelude.{◌≡◌, IfOk, map};
 ghost use Rattle.cm_types.specs.declared.signatures.ExternType.TheVariants as extern;
-ghost use Rattle.cm_validate.specs.SpacesOf.{space_of};
+ghost use Rattle.cm_validate.specs.SpacesBuilder.{spaces_so_far};
 ghost use Rattle.cm_validate.specs.Tables.{AreTables};
 
 use crate::definitions::{CoreFuncDef, ExportDef, FuncDef};
 use crate::named::{Named, NamedList};
-use crate::spaces::Spaces;
+use crate::spaces_builder::SpacesBuilder;
 use cm_types::{ExternType, Func, Signature, SignatureItem};
 use std::alloc::{AllocError, Global};
 use std::rc::Rc;
 
 /// What a component imports and exports, its core functions, its functions, and for each export the
 /// function's index.
-#[derive(Debug, Drop)]
+#[derive(Drop)]
 pub(crate) struct Tables {
     pub signature: Signature,
     pub core_funcs: Vec<CoreFuncDef>,
@@ -26,7 +26,9 @@ fn import_items(
     alloc: Global,
     imports: Vec<Named<Rc<Func>>>,
 ) -> Result<Vec<SignatureItem>, AllocError>
-    ensures { IfOk result (λ items. items.items ≡ map (λ d. record { name = d.name; desc = extern.Func d.definition }) imports.items) }
+    ensures { IfOk result
+        (λ items. items.items
+        ≡ map (λ d. record { name = d.name; desc = extern.Func d.definition }) imports.items) }
 {
     imports
         .into_iter()
@@ -41,7 +43,10 @@ fn export_items(
     alloc: Global,
     exports: Vec<Named<ExportDef>>,
 ) -> Result<Vec<SignatureItem>, AllocError>
-    ensures { IfOk result (λ items. items.items ≡ map (λ d. record { name = d.name; desc = extern.Func d.definition.ty }) exports.items) }
+    ensures { IfOk result
+        (λ items. items.items
+        ≡ map (λ d. record { name = d.name; desc = extern.Func d.definition.ty })
+        exports.items) }
 {
     exports
         .into_iter()
@@ -59,10 +64,10 @@ fn export_funcs(alloc: Global, exports: &[Named<ExportDef>]) -> Result<Vec<u32>,
 }
 
 /// The tables of these spaces.
-pub(crate) fn tables_of(alloc: Global, spaces: Spaces) -> Result<Tables, AllocError>
-    ensures { IfOk result (λ t. AreTables t (space_of spaces)) }
+pub(crate) fn tables_of(alloc: Global, spaces: SpacesBuilder) -> Result<Tables, AllocError>
+    ensures { IfOk result (λ t. AreTables t (spaces_so_far spaces)) }
 {
-    let Spaces {
+    let SpacesBuilder {
         core_funcs,
         funcs,
         imports,

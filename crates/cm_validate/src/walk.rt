@@ -4,26 +4,35 @@ ghost use Rattle.std.specs.Prelude.{◌≡◌, ◌+◌, ◌⊎◌, map, None, So
 ghost use Rattle.cm_component.specs.Trees.{section_tree};
 ghost use Rattle.cm_validate.specs.declared.fault.ValidReason.TheVariants as reason;
 ghost use Rattle.cm_validate.specs.Items.{items_of};
-ghost use Rattle.cm_validate.specs.Rules.{rules};
-ghost use Rattle.cm_validate.specs.Spaces.{after, grown, nothing, spaces_of};
-ghost use Rattle.cm_validate.specs.SpacesOf.{space_of};
-ghost use Rattle.cm_validate.specs.Valid.{first, items_fault, sections_fault};
+ghost use Rattle.cm_validate.specs.Rules.{item_rules, rules_before_memory};
+ghost use Rattle.cm_validate.specs.Spaces.{after_items, after_item, empty_spaces, spaces_of};
+ghost use Rattle.cm_validate.specs.SpacesBuilder.{spaces_so_far};
+ghost use Rattle.cm_validate.specs.Valid.{first_broken, items_fault, sections_fault};
+ghost use Rattle.cm_validate.specs.Valid.{MayLackMemory, MayLackMemoryIn};
 
 use crate::fault::{ValidFault, ValidReason};
 use crate::items::SectionItem;
-use crate::spaces::Spaces;
+use crate::spaces_builder::SpacesBuilder;
 use cm_component::Section;
 use std::alloc::{AllocError, Global};
 
 /// Adds an item to the spaces, or gives the reason why it may not stand there.
+#[tactic(auto, using(crate::proofs::MemoryPlaces::unbroken_before_memory))]
 fn take_item<T: SectionItem>(
     alloc: Global,
     item: &T,
-    spaces: &mut Spaces,
+    spaces: &mut SpacesBuilder,
 ) -> Result<(), ValidReason>
-    ensures fine { OnOk result (first (rules (space_of spaces.old) (T.item item.now)) ≡ None) }
-    ensures grows { OnOk result (space_of spaces.new ≡ grown (space_of spaces.old) (T.item item.now)) }
-    ensures fault { IfErr result (λ r. (r ≡ reason.Memory) ⊎ (first (rules (space_of spaces.old) (T.item item.now)) ≡ Some r)) }
+    ensures fine { OnOk result
+        (first_broken (item_rules (spaces_so_far spaces.old) (T.item item.now))
+        ≡ None) }
+    ensures adds { OnOk result
+        (spaces_so_far spaces.new ≡ after_item (spaces_so_far spaces.old) (T.item item.now)) }
+    ensures fault { IfErr result
+        (λ r. ((r ≡ reason.Memory)
+        × (first_broken (rules_before_memory (spaces_so_far spaces.old) (T.item item.now))
+        ≡ None))
+        ⊎ (first_broken (item_rules (spaces_so_far spaces.old) (T.item item.now)) ≡ Some r)) }
 {
     match item.broken_rule(alloc, spaces) {
         Ok(None) => match item.add(alloc, spaces) {
@@ -40,12 +49,20 @@ fn walk<T: SectionItem>(
     alloc: Global,
     section: usize,
     items: &[T],
-    spaces: &mut Spaces,
+    spaces: &mut SpacesBuilder,
 ) -> Result<(), ValidFault>
-    ensures fine { OnOk result (items_fault 0 (space_of spaces.old) (map T.item items.now) ≡ None) }
-    ensures grows { OnOk result (space_of spaces.new ≡ after (space_of spaces.old) (map T.item items.now)) }
+    ensures fine { OnOk result
+        (items_fault 0 (spaces_so_far spaces.old) (map T.item items.now)
+        ≡ None) }
+    ensures adds { OnOk result
+        (spaces_so_far spaces.new
+        ≡ after_items (spaces_so_far spaces.old) (map T.item items.now)) }
     ensures place { IfErr result (λ f. f.section ≡ section) }
-    ensures fault { IfErr result (λ f. (f.reason ≡ reason.Memory) ⊎ (items_fault 0 (space_of spaces.old) (map T.item items.now) ≡ Some (f.item, f.reason))) }
+    ensures fault { IfErr result
+        (λ f. ((f.reason ≡ reason.Memory)
+        × MayLackMemory (spaces_so_far spaces.old) (map T.item items.now) f.item)
+        ⊎ (items_fault 0 (spaces_so_far spaces.old) (map T.item items.now)
+        ≡ Some (f.item, f.reason))) }
 {
     for (at, item) in items.iter().enumerate() {
         match take_item(alloc, item, spaces) {
@@ -62,10 +79,14 @@ fn walk<T: SectionItem>(
     Ok(())
 }
 
-fn walk_module(section: usize, spaces: &mut Spaces) -> Result<(), ValidFault>
-    ensures grows { OnOk result (space_of spaces.new ≡ record (space_of spaces.old) { modules = (space_of spaces.old).modules + 1 }) }
+fn walk_module(section: usize, spaces: &mut SpacesBuilder) -> Result<(), ValidFault>
+    ensures adds { OnOk result
+        (spaces_so_far spaces.new
+        ≡ record (spaces_so_far spaces.old) {
+          modules = (spaces_so_far spaces.old).modules + 1;
+        }) }
     ensures place { IfErr result (λ f. f.section ≡ section) }
-    ensures fault { IfErr result (λ f. f.reason ≡ reason.Memory) }
+    ensures fault { IfErr result (λ f. (f.reason ≡ reason.Memory) × (f.item ≡ 0)) }
 {
     match spaces.add_module() {
         Ok(()) => Ok(()),
@@ -82,12 +103,20 @@ fn walk_section(
     alloc: Global,
     at: usize,
     section: &Section,
-    spaces: &mut Spaces,
+    spaces: &mut SpacesBuilder,
 ) -> Result<(), ValidFault>
-    ensures fine { OnOk result (items_fault 0 (space_of spaces.old) (items_of (section_tree section.now)) ≡ None) }
-    ensures grows { OnOk result (space_of spaces.new ≡ after (space_of spaces.old) (items_of (section_tree section.now))) }
+    ensures fine { OnOk result
+        (items_fault 0 (spaces_so_far spaces.old) (items_of (section_tree section.now)) ≡ None) }
+    ensures adds { OnOk result
+        (spaces_so_far spaces.new
+        ≡ after_items (spaces_so_far spaces.old) (items_of (section_tree section.now))) }
     ensures place { IfErr result (λ f. f.section ≡ at) }
-    ensures fault { IfErr result (λ f. (f.reason ≡ reason.Memory) ⊎ (items_fault 0 (space_of spaces.old) (items_of (section_tree section.now)) ≡ Some (f.item, f.reason))) }
+    ensures fault { IfErr result
+        (λ f. ((f.reason ≡ reason.Memory)
+        × MayLackMemory (spaces_so_far spaces.old) (items_of (section_tree section.now))
+        f.item)
+        ⊎ (items_fault 0 (spaces_so_far spaces.old) (items_of (section_tree section.now))
+        ≡ Some (f.item, f.reason))) }
 {
     match section {
         Section::Custom(_) => Ok(()),
@@ -102,12 +131,20 @@ fn walk_section(
 }
 
 /// The index spaces of a component of these sections, or its first fault.
-pub(crate) fn walk_all(alloc: Global, sections: &[Section]) -> Result<Spaces, ValidFault>
-    ensures fine { OnOk result (sections_fault 0 nothing (map section_tree sections.now) ≡ None) }
-    ensures spaces { IfOk result (λ s. space_of s ≡ spaces_of (map section_tree sections.now)) }
-    ensures fault { IfErr result (λ f. (f.reason ≡ reason.Memory) ⊎ (sections_fault 0 nothing (map section_tree sections.now) ≡ Some (f.section, (f.item, f.reason)))) }
+pub(crate) fn walk_all(alloc: Global, sections: &[Section]) -> Result<SpacesBuilder, ValidFault>
+    ensures fine { OnOk result
+        (sections_fault 0 empty_spaces (map section_tree sections.now)
+        ≡ None) }
+    ensures spaces { IfOk result
+        (λ s. spaces_so_far s
+        ≡ spaces_of (map section_tree sections.now)) }
+    ensures fault { IfErr result
+        (λ f. ((f.reason ≡ reason.Memory)
+        × MayLackMemoryIn empty_spaces (map section_tree sections.now) f.section f.item)
+        ⊎ (sections_fault 0 empty_spaces (map section_tree sections.now)
+        ≡ Some (f.section, (f.item, f.reason)))) }
 {
-    let mut spaces = Spaces::new(alloc);
+    let mut spaces = SpacesBuilder::new(alloc);
     for (at, section) in sections.iter().enumerate() {
         match walk_section(alloc, at, section, &mut spaces) {
             Ok(()) => {}

@@ -1,14 +1,13 @@
 //! The program on the machine that it runs on.
 
-use crate::commands::tool;
-use crate::fault::{Fault, report};
-use crate::files::Disk;
+use crate::disk::Disk;
+use cm_tool::{Fault, report, tool};
 use std::io::{BufWriter, Write};
 use std::rt::{Env, Files};
 use std::{env, io};
 
-/// Runs the command of the program's words, which come after its name, on the files of the disk, and
-/// answers its exit status.
+/// Runs the command of the program's words, which come after its name, on the files of the disk,
+/// and answers its exit status.
 pub fn start<R: Env + Files + AllocGlobal, O: Write + Drop, E: Write>(
     rt: &R,
     out: O,

@@ -1,9 +1,6 @@
-use Rattle.cm_binary.proofs.EncodeLaws.{file_small, is_spelled, is_shortest}
+use Rattle.cm_binary.proofs.EncodeLaws.{is_spelled, is_shortest}
 use Rattle.cm_binary.proofs.FileWritten.{file_written}
 use Rattle.cm_binary.proofs.encoding.encode.Goals as goal
-
-pub file_bytes-requires : goal.file_bytes-requires
-file_bytes-requires c = rw c.sections.ensures.sections (file_small c.args.component.now c.sections.ensures.limits)
 
 pub returns-clause-spelled : goal.returns-clause-spelled
 returns-clause-spelled c = is_spelled (λ v. v.items) c.args.component.now c.file_bytes.result (file_written c.args.component.now c.sections.ensures.limits c.sections.ensures.parts) (rw c.sections.ensures.sections at c.file_bytes.ensures)

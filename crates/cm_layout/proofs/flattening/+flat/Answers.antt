@@ -4,7 +4,7 @@ use Rattle.cm_types.specs.declared.core_value.CoreKind.TheVariants.{I32}
 use Rattle.cm_types.specs.Types.{enum_type, option_type, result_type}
 use Rattle.cm_types.specs.TypeTrees.{type_of, boxed_payload, cases_of}
 use Rattle.cm_types.proofs.Seen.{seen_Enum, seen_Option, seen_Result, seen_case}
-use Rattle.cm_layout.specs.Flattening.{flat_of, flat_of_cases, flat_of_payload, joined}
+use Rattle.cm_layout.specs.Flattening.{flat_of, flat_of_cases, flat_of_payload, join_slots}
 use Rattle.cm_layout.proofs.FlatLemmas.{enum_flat, option_flat, result_flat, pushed_both, both_joined, joined_all, joined_more}
 use Rattle.cm_layout.proofs.flattening.+flat.Goals as goal
 
@@ -28,7 +28,7 @@ push_flat-returns-in_ok-extend_from_slice-in-Result t c =
     let oks = c.in_ok-ok_kinds-in-Result.ok_kinds in
     let errors = c.in_ok-error_kinds-in-Result.error_kinds in
     rw (ap type_of c.in-Result.is ∙ seen_Result c.in-Result.ok c.in-Result.error, result_flat result_type (codes "ok") (codes "error") (boxed_payload c.in-Result.ok) (boxed_payload c.in-Result.error))
-    (pushed_both I32 c.args.out.now.items c.push-in-Result.new.self.items c.extend_from_slice-in-Result.new.self.items c.deref-in-Result-3.result.now (joined (flat_of_payload o) (flat_of_payload p))
+    (pushed_both I32 c.args.out.now.items c.push-in-Result.new.self.items c.extend_from_slice-in-Result.new.self.items c.deref-in-Result-3.result.now (join_slots (flat_of_payload o) (flat_of_payload p))
     c.in_ok-push-in-Result.ensures.items c.in_ok-extend_from_slice-in-Result.ensures.items
     (both_joined c.deref-in-Result-3.result.now kinds.items c.deref-in-Result.result.now c.deref-in-Result-2.result.now oks.items errors.items (flat_of_payload o) (flat_of_payload p)
     c.deref-in-Result-3.ensures.value c.in_ok-kinds-in-Result.ensures c.deref-in-Result.ensures.value c.deref-in-Result-2.ensures.value c.in_ok-ok_kinds-in-Result.ensures c.in_ok-error_kinds-in-Result.ensures))
@@ -43,4 +43,4 @@ flat_payloads-loop-case-preserved t c =
     let x : Case = c.case-item.result in
     let s = c.loop-case.slots in
     joined_more c.loop-case.case-index c.args.cases.now x c.loop-case.slots.items c.in_ok-slots.slots.items (flat_of_cases (cases_of c.args.cases.now))
-    lt c.case-item.is (c.in_ok-slots.ensures ∙ ap (λ o. joined s.items (flat_of_payload o)) (sym (seen_case x))) c.loop-case.invariant
+    lt c.case-item.is (c.in_ok-slots.ensures ∙ ap (λ o. join_slots s.items (flat_of_payload o)) (sym (seen_case x))) c.loop-case.invariant

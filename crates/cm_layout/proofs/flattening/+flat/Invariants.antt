@@ -1,6 +1,6 @@
 use Rattle.std.proofs.Common.{◌≡◌, ◌++◌, drop}
 use Rattle.cm_types.specs.TypeTrees.{fields_of, parts_of, cases_of}
-use Rattle.cm_layout.specs.Flattening.{flat_of_fields, flat_of_cases, joined}
+use Rattle.cm_layout.specs.Flattening.{flat_of_fields, flat_of_cases, join_slots}
 use Rattle.cm_layout.proofs.flattening.+flat.Given as goal
 
 -- what was pushed, with what is left
@@ -15,4 +15,4 @@ invariant-push_parts-loop-part l =
 -- what was joined, joined with what is left
 abbrev pub invariant-flat_payloads-loop-case : goal.invariant-flat_payloads-loop-case
 invariant-flat_payloads-loop-case l =
-    joined l.slots.items (flat_of_cases (cases_of (drop l.case-index l.cases))) ≡ flat_of_cases (cases_of l.cases)
+    join_slots l.slots.items (flat_of_cases (cases_of (drop l.case-index l.cases))) ≡ flat_of_cases (cases_of l.cases)

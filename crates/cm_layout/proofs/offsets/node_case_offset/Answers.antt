@@ -3,7 +3,7 @@ use Rattle.cm_types.specs.TypeTrees.{type_of, cases_of}
 use Rattle.cm_types.proofs.Seen.{seen_Variant, seen_Enum}
 use Rattle.cm_layout.specs.Sizes.{align_of_payloads, case_count, discriminant_size}
 use Rattle.cm_layout.proofs.AlignLemmas.{count_of_cases}
-use Rattle.cm_layout.proofs.PlaceLaws.{variant_offset, enum_offset}
+use Rattle.cm_layout.proofs.OffsetLaws.{variant_offset, enum_offset}
 use Rattle.cm_layout.proofs.offsets.node_case_offset.Goals as goal
 
 pub returns-in-Variant : goal.returns-in-Variant
@@ -11,7 +11,7 @@ returns-in-Variant c =
     let v = c.in-Variant.cases in
     let count : c.len.result ≡ case_count (cases_of v.items) = omega (arith, c.len.ensures, v.ok.0, count_of_cases v.items) in
     rw (ap type_of c.in-Variant.is ∙ seen_Variant c.in-Variant.cases)
-    (variant_offset (cases_of v.items) c.place.result c.discriminant_size.result c.payloads_align.result c.place.ensures.value
+    (variant_offset (cases_of v.items) c.align_to.result c.discriminant_size.result c.payloads_align.result c.align_to.ensures.value
     (c.discriminant_size.ensures.value ∙ ap discriminant_size count)
     (c.payloads_align.ensures.value ∙ ap (λ cs. align_of_payloads (cases_of cs)) c.deref.ensures.value))
 

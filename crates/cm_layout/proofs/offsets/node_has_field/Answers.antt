@@ -2,7 +2,7 @@ use Rattle.std.proofs.Common.{◌≡◌, ◌∙◌, ap, arith, ℕ, ◌<◌, IsT
 use Rattle.std.proofs.lemmas.Bool.{ltb-true, lt-ltb}
 use Rattle.cm_types.specs.TypeTrees.{type_of}
 use Rattle.cm_types.proofs.Seen.{seen_Record, seen_Tuple}
-use Rattle.cm_layout.proofs.PlaceLaws.{count_fields, count_parts}
+use Rattle.cm_layout.proofs.OffsetLaws.{count_fields, count_parts}
 use Rattle.cm_layout.proofs.offsets.node_has_field.Goals as goal
 
 below : (n len count : ℕ) → count ≡ len → (IsTrue (nat_lt n len) → n < count) × (n < count → IsTrue (nat_lt n len))

@@ -1,5 +1,5 @@
 use Rattle.cm_types.specs.Funcs.{tree_type}
-use Rattle.cm_layout.proofs.PlaceLaws.{payload_law}
+use Rattle.cm_layout.proofs.OffsetLaws.{payload_law}
 use Rattle.cm_layout.proofs.whole_types.case_offset.Goals as goal
 
 pub returns-clause-least : goal.returns-clause-least

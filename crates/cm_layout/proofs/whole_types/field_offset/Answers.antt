@@ -1,5 +1,5 @@
 use Rattle.cm_types.specs.Funcs.{tree_type}
-use Rattle.cm_layout.proofs.PlaceLaws.{field_law}
+use Rattle.cm_layout.proofs.OffsetLaws.{field_law}
 use Rattle.cm_layout.proofs.whole_types.field_offset.Goals as goal
 
 pub returns-clause-least : goal.returns-clause-least

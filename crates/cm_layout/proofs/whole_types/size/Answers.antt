@@ -1,6 +1,6 @@
 use Rattle.std.proofs.Common.{◌∙◌}
 use Rattle.cm_types.specs.Funcs.{tree_type}
-use Rattle.cm_layout.proofs.PlaceLaws.{size_multiple}
+use Rattle.cm_layout.proofs.OffsetLaws.{size_multiple}
 use Rattle.cm_layout.proofs.whole_types.size.Goals as goal
 
 pub returns-clause-multiple : goal.returns-clause-multiple

@@ -1,6 +1,6 @@
 use Rattle.std.proofs.Common.{◌≡◌, ◌<◌, false, List, [], ◌∷◌, length}
-use Rattle.cm_machine.specs.declared.event.Event.{Event}
-use Rattle.cm_machine.specs.Run.{is_last}
+use Rattle.cm_machine_model.specs.declared.event.Event.{Event}
+use Rattle.cm_machine_model.specs.Run.{is_last}
 use Rattle.cm_machine.specs.Player.{last_of}
 use Rattle.cm_machine.proofs.Drives.{Playing}
 use Rattle.cm_machine.proofs.player.play_on.Given as goal

@@ -1,7 +1,7 @@
-use Rattle.std.proofs.Common.{◌≡◌, ◌++◌, ◌∙◌, sym, arith, length, take, drop}
+use Rattle.std.proofs.Common.{◌≡◌, ◌++◌, Err, ap, ◌∙◌, sym, arith, length, take, drop}
 use Rattle.std.proofs.lemmas.List.{take-append-le, take_all}
-use Rattle.cm_text.proofs.FaultLemmas.{only_memory}
-use Rattle.cm_text.proofs.TextLemmas.{all-weaker}
+use Rattle.cm_text.proofs.FaultLemmas.{only_memory, only_fault}
+use Rattle.cm_text.proofs.TextLemmas.{all-weaker, not_text}
 use Rattle.cm_text.proofs.transcoding.transcode.Goals as goal
 
 pub returns-in-Err-clause-only : goal.returns-in-Err-clause-only
@@ -24,3 +24,19 @@ returns-clause-ok g c =
         is = sym (whole ∙ c.write.ensures sized.scalars sized.text);
       },
     )
+
+pub returns-in-Err-clause-exact : goal.returns-in-Err-clause-exact
+returns-in-Err-clause-exact g c =
+    λ at up. ap Err (only_fault g.S.Source.has g.S.Source.spell c.args.bytes.now c.in-Err.fault at c.in-Err.ensures.ill_formed up)
+
+pub returns-in-Err-from_elem-clause-exact : goal.returns-in-Err-from_elem-clause-exact
+returns-in-Err-from_elem-clause-exact g c =
+    let met = g.met.S.Source in
+    let sized = c.in-Ok.ensures.ok in
+    λ at up. absurd (not_text g.S.Source.has g.S.Source.spell (record { some_byte = met.some_byte; one_spelling = met.one_spelling }) c.args.bytes.now sized.scalars at up sized.text)
+
+pub returns-clause-exact : goal.returns-clause-exact
+returns-clause-exact g c =
+    let met = g.met.S.Source in
+    let sized = c.in-Ok.ensures.ok in
+    λ at up. absurd (not_text g.S.Source.has g.S.Source.spell (record { some_byte = met.some_byte; one_spelling = met.one_spelling }) c.args.bytes.now sized.scalars at up sized.text)

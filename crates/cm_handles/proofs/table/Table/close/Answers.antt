@@ -12,7 +12,7 @@ loop-at-init c =
       closing = closing_start c.args.self.now.handles sound.handles;
       room = refl;
       sound = sound;
-      count = omega (arith, slots_length s.entries.items s.first s.free _ c.args.self.now c.self.view_is, s.entries.ok.0);
+      count = omega (arith, slots_length s.slots.items s.first s.free _ c.args.self.now c.self.view_is, s.slots.ok.0);
     }
 
 pub loop-at-preserved : goal.loop-at-preserved

@@ -1,7 +1,7 @@
 -- The component is valid, so each function that it lowers passes its parameters flat.
 use Rattle.std.proofs.Common.{subst}
 use Rattle.cm_validate.specs.Valid.{IsValid}
-use Rattle.cm_validate.proofs.FlatLemmas.{all_flat}
+use Rattle.cm_validate.proofs.FlatParams.{all_flat}
 use Rattle.cm_validate.proofs.checked.Checked.core_funcs.Goals as goal
 
 pub returns-clause-flat : goal.returns-clause-flat

@@ -1,8 +1,8 @@
 use Rattle.std.proofs.Common.{subst}
-use Rattle.cm_validate.specs.Sound.{IsSound}
+use Rattle.cm_validate.specs.Consistency.{IsConsistent}
 use Rattle.cm_validate.specs.Spaces.{spaces_of}
-use Rattle.cm_validate.proofs.Sounds.{valid_is_sound}
+use Rattle.cm_validate.proofs.ConsistencyLemmas.{valid_is_consistent}
 use Rattle.cm_validate.proofs.checked.Checked.signature.Goals as goal
 
-pub returns-clause-sound : goal.returns-clause-sound
-returns-clause-sound c = subst (λ sections. IsSound (spaces_of sections)) c.self.view_is (valid_is_sound c.self.inside.component c.self.invariant.valid)
+pub returns-clause-consistent : goal.returns-clause-consistent
+returns-clause-consistent c = subst (λ sections. IsConsistent (spaces_of sections)) c.self.view_is (valid_is_consistent c.self.inside.component c.self.invariant.valid)

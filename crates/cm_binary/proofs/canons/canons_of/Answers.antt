@@ -1,7 +1,0 @@
-use Rattle.cm_grammar.proofs.ReadingLaws.{gives_vec_same}
-use Rattle.cm_binary.specs.declared.fault.DecodeReason.TheVariants.{BadNumber}
-use Rattle.cm_binary.specs.File.{canon}
-use Rattle.cm_binary.proofs.canons.canons_of.Goals as goal
-
-pub returns-clause-read : goal.returns-clause-read
-returns-clause-read c = gives_vec_same BadNumber canon (λ v. v.items) c.args.bytes.now.end _ c.args.bytes.now.rest.now _ _ _ c.read_items.result c.in_ok-count.ensures.read c.in_ok-count.ensures.end c.read_items.ensures.ok c.read_items.ensures.count c.read_items.ensures.err

@@ -1,0 +1,5 @@
+pub mod Carried
+pub mod Calls
+pub mod MemoryLaws
+pub mod TrapLaws
+pub mod HistoryLaws

@@ -1,0 +1,4 @@
+pub mod Acting
+pub mod Doing
+pub mod Causes
+pub mod Headline

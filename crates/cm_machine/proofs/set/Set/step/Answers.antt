@@ -1,9 +1,0 @@
-use Rattle.std.proofs.Common.{◌≡◌, Some}
-use Rattle.cm_machine.specs.Stack.{top_of}
-use Rattle.cm_machine.proofs.Goes.{goes_on}
-use Rattle.cm_machine.proofs.set.Set.step.Goals as goal
-
-pub returns-clause-goes_on : goal.returns-clause-goes_on
-returns-clause-goes_on c =
-    let is : top_of c.args.self.now.stack ≡ Some c.in-Some.top = cc in
-    goes_on c.args.self.now c.in-Some.top c.args.made.now c.step_at.result c.step_at.new.self c.top.ensures.valid is c.step_at.ensures

@@ -1,0 +1,68 @@
+//! Core values in place: a call passes at most `MAX_FLAT_PARAMS` of them.
+
+ghost use Rattle.std.specs.Prelude.{◌≡◌, ◌+◌, ◌<◌, ◌≤◌, [], ◌∷◌, ◌++◌, length, IfSome, IfNone};
+ghost use Rattle.cm_types.specs.declared.core_value.CoreValue.{CoreValue};
+
+use crate::limits::MAX_FLAT_PARAMS;
+use arrayvec::ArrayVec;
+use cm_types::CoreValue;
+use std::marker::Model;
+
+/// At most `MAX_FLAT_PARAMS` core values, kept in place: making one takes no memory.
+#[derive(Clone, Debug, Drop, PartialEq)]
+pub struct Flat {
+    values: ArrayVec<CoreValue, MAX_FLAT_PARAMS>,
+}
+
+impl Model for Flat {
+    ghost use Rattle.std.specs.Prelude.{◌≤◌, List, length};
+    ghost use Rattle.cm_types.specs.declared.core_value.CoreValue.{CoreValue};
+    ghost use Rattle.cm_machine_model.specs.declared.limits.TheConstants.{MAX_FLAT_PARAMS};
+
+    ghost Value = { List CoreValue };
+
+    ghost view = { λ f. f.values.items };
+
+    ghost invariant = { λ f. length f.values.items ≤ MAX_FLAT_PARAMS };
+
+    ghost inverse = { λ xs. record { values = record { items = xs } } };
+}
+
+impl Flat {
+    /// No values.
+    pub fn new() -> Flat
+        ensures { result ≡ [] }
+    {
+        Flat {
+            values: ArrayVec::new(),
+        }
+    }
+
+    /// One value.
+    pub fn one(value: CoreValue) -> Flat
+        ensures { result ≡ value ∷ [] }
+    {
+        let mut values = ArrayVec::new();
+        values.push(value);
+        Flat { values }
+    }
+
+    /// The values of a slice of at most `MAX_FLAT_PARAMS`.
+    pub fn from_slice(slice: &[CoreValue]) -> Flat
+        requires { length slice.now ≤ MAX_FLAT_PARAMS }
+        ensures { result ≡ slice.now }
+    {
+        let mut values = ArrayVec::new();
+        for value in slice {
+            values.push(*value);
+        }
+        Flat { values }
+    }
+
+    /// The values, in order.
+    pub fn as_slice(&self) -> &[CoreValue]
+        ensures { result.now ≡ self.now }
+    {
+        self.values.as_slice()
+    }
+}

@@ -1,0 +1,12 @@
+//! What the drivers of test rows share: a row is a line of words, and is answered by a line.
+#![tactic(auto)]
+
+mod answering;
+mod bytes;
+mod fault;
+mod words;
+
+pub use answering::{Driver, answer_rows};
+pub use bytes::{read_bytes, write_bytes, write_units};
+pub use fault::RowFault;
+pub use words::{read_number, split_repeat};

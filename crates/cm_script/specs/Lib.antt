@@ -1,0 +1,4 @@
+pub mod Faults
+pub mod HexBytes
+pub mod Moves
+pub mod Numbers

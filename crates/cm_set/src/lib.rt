@@ -1,0 +1,15 @@
+//! A linked set that runs.
+#![tactic(auto)]
+
+mod checks;
+mod core_funcs;
+mod memory;
+mod set;
+mod setup;
+mod stack;
+
+pub use cm_machine_model::{
+    Event, Flat, MAX_FLAT_PARAMS, MAX_FRAMES, MAX_INSTANCES, MAX_MEMORY_SIZE, MAX_PAGES, Misuse,
+    Move, PAGE_SIZE, Trap,
+};
+pub use set::Set;

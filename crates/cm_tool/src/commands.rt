@@ -1,0 +1,118 @@
+//! The commands.
+
+use crate::fault::{Fault, report};
+use crate::files::Files;
+use crate::loading::{load, load_script, load_set};
+use crate::outcome::Outcome;
+use crate::plan::write_plan;
+use crate::play_help::SetSize;
+use crate::playing::play;
+use cm_machine::Set;
+use cm_match::Linked;
+use cm_validate::Checked;
+use cm_words::{Request, WordsFault};
+use std::alloc::Global;
+use std::io;
+use std::io::Write;
+
+/// The most moves of a drive.
+pub const LIMIT: u64 = 1_000_000;
+
+/// Runs the command that the words ask for, and answers its exit status: 0 where it is done, 1
+/// where something was refused, 2 where the words are no command or ask for help, 3 where a drive
+/// trapped, 4 where a file cannot be read or standard output not be written.
+///
+/// The words are those after the program's name. Files are read, decoded and validated in their
+/// order, `link` and `play` then link them, and `play` reads its script after that. The first fault
+/// ends the command, with one line on standard error that begins with `error: `; of `play`, also
+/// each drive that is refused or reaches its limit has such a line, and the later ones run.
+pub fn tool<F: Files, O: Write, E: Write>(
+    alloc: Global,
+    words: &[String],
+    files: &mut F,
+    out: &mut O,
+    err: &mut E,
+) -> u8 {
+    match run(alloc, words, files, out, err) {
+        Ok(outcome) => outcome.status(),
+        Err(fault) => {
+            report(err, &fault);
+            fault.status()
+        }
+    }
+}
+
+fn run<'a, F: Files, O: Write, E: Write>(
+    alloc: Global,
+    words: &'a [String],
+    files: &mut F,
+    out: &mut O,
+    err: &mut E,
+) -> Result<Outcome, Fault<'a>> {
+    match read_words(alloc, words)? {
+        Request::Check { file } => run_check(alloc, file, files, out),
+        Request::Link { files: names } => run_link(alloc, names.as_slice(), files, out),
+        Request::Play {
+            script,
+            files: names,
+        } => run_play(alloc, script, names.as_slice(), files, out, err),
+    }
+}
+
+fn read_words<'a>(alloc: Global, words: &'a [String]) -> Result<Request<'a>, Fault<'a>> {
+    match Request::read(alloc, words) {
+        Ok(request) => Ok(request),
+        Err(WordsFault::NoCommand) => Err(Fault::Usage),
+        Err(WordsFault::Memory) => Err(Fault::Memory),
+    }
+}
+
+fn run_check<'a, F: Files, O: Write>(
+    alloc: Global,
+    name: &'a str,
+    files: &mut F,
+    out: &mut O,
+) -> Result<Outcome, Fault<'a>> {
+    let checked = load(alloc, files, name)?;
+    write_counts(out, &checked)?;
+    Ok(Outcome::Done)
+}
+
+/// Writes how many imports and exports a component has.
+fn write_counts<O: Write>(out: &mut O, component: &Checked) -> io::Result<()> {
+    let signature = component.signature();
+    let imports = signature.imports.len();
+    let exports = signature.exports.len();
+    writeln!(out, "ok: {imports} imports, {exports} exports")?;
+    out.flush()
+}
+
+fn run_link<'a, F: Files, O: Write>(
+    alloc: Global,
+    names: &[&'a str],
+    files: &mut F,
+    out: &mut O,
+) -> Result<Outcome, Fault<'a>> {
+    let linked = load_set(alloc, files, names)?;
+    write_plan(out, &linked)?;
+    Ok(Outcome::Done)
+}
+
+fn run_play<'a, F: Files, O: Write, E: Write>(
+    alloc: Global,
+    script: &'a str,
+    names: &[&'a str],
+    files: &mut F,
+    out: &mut O,
+    err: &mut E,
+) -> Result<Outcome, Fault<'a>> {
+    let linked = load_set(alloc, files, names)?;
+    let script = load_script(alloc, files, script, names.len())?;
+    let mut set = make_set(alloc, linked, script.pages.as_slice())?;
+    play(alloc, &mut set, script, LIMIT, out, err)
+}
+
+fn make_set(alloc: Global, linked: Linked, pages: &[u32]) -> Result<Set, Fault<'static>> {
+    let size = SetSize::new(linked.components().len(), pages);
+    Set::new(alloc, linked, pages).map_err(|misuse| Fault::Set { misuse, size })
+}

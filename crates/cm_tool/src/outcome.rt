@@ -1,0 +1,23 @@
+//! How a command ends that no fault ends.
+
+/// The end of a command, or of one drive, the better one first.
+#[derive(Clone, Copy, PartialEq, Eq, PartialOrd, Ord)]
+pub enum Outcome {
+    /// All was done.
+    Done,
+    /// A drive was refused, or reached its limit.
+    Refused,
+    /// A drive trapped.
+    Trapped,
+}
+
+impl Outcome {
+    /// The exit status.
+    pub fn status(self) -> u8 {
+        match self {
+            Outcome::Done => 0,
+            Outcome::Refused => 1,
+            Outcome::Trapped => 3,
+        }
+    }
+}

@@ -1,0 +1,127 @@
+//! Letting a type go that is too deep to be dropped as it is.
+
+use crate::type_trees::{Case, Field, TypeNode};
+use std::mem;
+
+/// The last type that a node holds, if it holds one, and the node with what was above it in the
+/// place of that type. Nothing else needs the stack or memory.
+fn go_down(node: TypeNode, above: TypeNode) -> (Option<TypeNode>, TypeNode) {
+    match node {
+        TypeNode::List(element) | TypeNode::Option(element) => (
+            Some(Box::into_inner(element)),
+            above,
+        ),
+        TypeNode::FixedList { element, .. } => (Some(Box::into_inner(element)), above),
+        TypeNode::Record(fields) => below_fields(fields, above),
+        TypeNode::Tuple(parts) => below_parts(parts, above),
+        TypeNode::Variant(cases) => below_cases(cases, above),
+        TypeNode::Result { ok, error } => below_result(ok, error, above),
+        _ => (None, above),
+    }
+}
+
+fn below_fields(mut fields: Vec<Field>, above: TypeNode) -> (Option<TypeNode>, TypeNode) {
+    match fields.last_mut() {
+        Some(last) => {
+            let down = mem::replace(&mut last.ty, above);
+            (Some(down), TypeNode::Record(fields))
+        }
+        None => (None, above),
+    }
+}
+
+fn below_parts(mut parts: Vec<TypeNode>, above: TypeNode) -> (Option<TypeNode>, TypeNode) {
+    match parts.last_mut() {
+        Some(last) => {
+            let down = mem::replace(last, above);
+            (Some(down), TypeNode::Tuple(parts))
+        }
+        None => (None, above),
+    }
+}
+
+fn below_cases(mut cases: Vec<Case>, above: TypeNode) -> (Option<TypeNode>, TypeNode) {
+    match cases.last_mut() {
+        Some(
+            Case {
+                payload: Some(last),
+                ..
+            },
+        ) => {
+            let down = mem::replace(last, above);
+            (Some(down), TypeNode::Variant(cases))
+        }
+        Some(_) => {
+            cases.pop();
+            (Some(TypeNode::Variant(cases)), above)
+        }
+        None => (None, above),
+    }
+}
+
+fn below_result(
+    ok: Option<Box<TypeNode>>,
+    error: Option<Box<TypeNode>>,
+    above: TypeNode,
+) -> (Option<TypeNode>, TypeNode) {
+    match ok {
+        Some(mut first) => {
+            let down = mem::replace(&mut *first, above);
+            let ok = Some(first);
+            (Some(down), TypeNode::Result { ok, error })
+        }
+        None => match error {
+            Some(second) => (Some(Box::into_inner(second)), above),
+            None => (None, above),
+        },
+    }
+}
+
+/// The node above, without the place that it was left by, and what is above it; none at the top.
+fn go_up(above: TypeNode) -> Option<(TypeNode, TypeNode)> {
+    match above {
+        TypeNode::Record(mut fields) => {
+            let Field { ty, .. } = fields.pop()?;
+            Some((TypeNode::Record(fields), ty))
+        }
+        TypeNode::Tuple(mut parts) => {
+            let ty = parts.pop()?;
+            Some((TypeNode::Tuple(parts), ty))
+        }
+        TypeNode::Variant(mut cases) => {
+            let Case { payload, .. } = cases.pop()?;
+            Some((TypeNode::Variant(cases), payload?))
+        }
+        TypeNode::Result { ok, error } => {
+            let ty = Box::into_inner(ok?);
+            Some((TypeNode::Result { ok: None, error }, ty))
+        }
+        _ => None,
+    }
+}
+
+/// Lets a type go, however deep: node by node, each freed before the next, without memory and with
+/// none of the stack that a drop takes for each level.
+pub(crate) fn dismantle(root: TypeNode) {
+    let mut node = root;
+    // The nodes that the node stood in, each in the place of the type that was taken out of the
+    // next.
+    let mut above = TypeNode::Bool;
+    // A tree has fewer nodes than memory has bytes, so that the loop ends by a return.
+    for _ in 0..u64::MAX {
+        let (down, next) = go_down(node, above);
+        match down {
+            Some(ty) => {
+                node = ty;
+                above = next;
+            }
+            None => match go_up(next) {
+                Some((rest, outer)) => {
+                    node = rest;
+                    above = outer;
+                }
+                None => return,
+            },
+        }
+    }
+}

@@ -1,3 +1,0 @@
-pub mod HexBytes
-pub mod Moves
-pub mod Numbers

@@ -1,0 +1,61 @@
+//! A host: it links two components through the crates, and runs them with guests of its own.
+#![tactic(auto)]
+
+use anyhow::Result;
+use cm_machine::{Event, Guest, Move, Player, Set};
+use cm_types::CoreValue;
+use cm_validate::Checked;
+use std::alloc::Global;
+use std::{fs, rt};
+
+/// A guest that adds one: where it is entered with a number, it answers the next one. As the root
+/// it calls its core function 0 with 41, and then returns. Where it has no memory for a value, it
+/// gives none.
+#[derive(Drop)]
+struct AddOne(Global);
+
+impl AddOne {
+    fn one(&self, number: u32) -> Vec<CoreValue> {
+        Vec::from_array(self.0, [CoreValue::I32(number)]).unwrap_or(Vec::new(self.0))
+    }
+}
+
+impl Guest for AddOne {
+    // Nothing is promised of what it does: what is proved of the machine holds all the same.
+    ghost plays = { λ _ _. Unit {0} };
+
+    fn next(&mut self, seen: &Event) -> Move {
+        let values = match seen {
+            Event::Enter { args, .. } => match args.as_slice() {
+                [CoreValue::I32(x)] => self.one(x.wrapping_add(1)),
+                _ => Vec::new(self.0),
+            },
+            Event::Resume { values, .. } if values.as_slice().is_empty() => {
+                let args = self.one(41);
+                return Move::Call { func: 0, args };
+            }
+            _ => Vec::new(self.0),
+        };
+        Move::Return { values }
+    }
+}
+
+fn load<R: rt::Files + AllocGlobal>(rt: &R, name: &str) -> Result<Checked> {
+    let bytes = fs::read(rt, name)?;
+    let component = cm_binary::decode(rt.alloc(), bytes.as_slice())?;
+    Ok(cm_validate::validate(rt.alloc(), component)?)
+}
+
+fn main(rt: HostRuntime) -> Result<()> {
+    let alloc = rt.alloc();
+    let components = [load(&rt, "provider.wasm")?, load(&rt, "user.wasm")?];
+    let linked = cm_match::link(alloc, Vec::from_array(alloc, components)?)?;
+    let mut set = Set::new(alloc, linked, &[0, 0])?;
+    let provider: Box<dyn Guest> = Box::new(alloc, AddOne(alloc))?;
+    let user: Box<dyn Guest> = Box::new(alloc, AddOne(alloc))?;
+    let mut seats = Vec::from_array(alloc, [Some(provider), Some(user)])?;
+    for event in &Player::drive(alloc, &mut set, &mut seats, 1, 100)? {
+        println!(rt; "{event:?}")?;
+    }
+    Ok(())
+}

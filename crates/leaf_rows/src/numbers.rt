@@ -1,0 +1,91 @@
+//! Rows on numbers in LEB128.
+
+use cm_leb::{
+    LebFault, front_s33, front_u32, read_s33, read_u32, spelled_length, write_count, write_s33,
+    write_u32,
+};
+use cm_rows::{RowFault, read_bytes, read_number, write_bytes};
+use std::alloc::Global;
+use std::fmt::Display;
+
+/// The answer to `front_u32 BYTES`, `front_s33 BYTES`, `read_u32 BYTES AT`, `read_s33 BYTES AT`,
+/// `write_u32 BEFORE NUMBER`, `write_count BEFORE COUNT`, `write_s33 BEFORE NUMBER` or
+/// `spelled_length NUMBER`.
+pub fn answer(alloc: Global, words: &[&str]) -> Result<String, RowFault> {
+    match words {
+        ["front_u32", bytes] => show_front(alloc, front_u32(&read_bytes(alloc, bytes)?)),
+        ["front_s33", bytes] => show_front(alloc, front_s33(&read_bytes(alloc, bytes)?)),
+        ["read_u32", bytes, at] => {
+            let bytes = read_bytes(alloc, bytes)?;
+            show_read(alloc, read_u32(&bytes, read_number(at)?))
+        }
+        ["read_s33", bytes, at] => {
+            let bytes = read_bytes(alloc, bytes)?;
+            show_read(alloc, read_s33(&bytes, read_number(at)?))
+        }
+        ["write_u32", before, number] => show_written_u32(alloc, before, read_number(number)?),
+        ["write_count", before, count] => {
+            let mut out = read_bytes(alloc, before)?;
+            write_count(&mut out, read_number(count)?)?;
+            show_bytes(alloc, &out)
+        }
+        ["write_s33", before, number] => show_written_s33(alloc, before, read_number(number)?),
+        ["spelled_length", number] => {
+            let length = spelled_length(read_number(number)?);
+            Ok(length.to_string(alloc)?)
+        }
+        _ => Err(RowFault::NotARow),
+    }
+}
+
+/// `NUMBER, COUNT left`, or the fault.
+fn show_front<T: Display + Drop>(
+    alloc: Global,
+    front: Result<(T, &[u8]), LebFault>,
+) -> Result<String, RowFault> {
+    match front {
+        Ok((number, rest)) => {
+            let left = rest.len();
+            Ok(format!(in alloc; "{number}, {left} left")?)
+        }
+        Err(fault) => show_fault(alloc, fault),
+    }
+}
+
+/// `NUMBER, then AT`, or the fault.
+fn show_read<T: Display + Drop>(
+    alloc: Global,
+    read: Result<(T, usize), LebFault>,
+) -> Result<String, RowFault> {
+    match read {
+        Ok((number, end)) => Ok(format!(in alloc; "{number}, then {end}")?),
+        Err(fault) => show_fault(alloc, fault),
+    }
+}
+
+fn show_fault(alloc: Global, fault: LebFault) -> Result<String, RowFault> {
+    let number = fault as u8;
+    Ok(format!(in alloc; "fault {number}")?)
+}
+
+fn show_written_u32(alloc: Global, before: &str, number: u32) -> Result<String, RowFault> {
+    let mut out = read_bytes(alloc, before)?;
+    write_u32(&mut out, number)?;
+    show_bytes(alloc, &out)
+}
+
+/// Only a number of 33 bits with a sign is a row.
+fn show_written_s33(alloc: Global, before: &str, number: i64) -> Result<String, RowFault> {
+    if number < -(1 << 32) || number >= 1 << 32 {
+        return Err(RowFault::NotARow);
+    }
+    let mut out = read_bytes(alloc, before)?;
+    write_s33(&mut out, number)?;
+    show_bytes(alloc, &out)
+}
+
+fn show_bytes(alloc: Global, bytes: &[u8]) -> Result<String, RowFault> {
+    let mut text = String::new(alloc);
+    write_bytes(&mut text, bytes)?;
+    Ok(text)
+}

@@ -1,0 +1,321 @@
+//! Types as rows spell them, and rows on their limits and their equality.
+//!
+//! A type is words in prefix order: `list`, `option` and `fixed:LENGTH` stand before the type that
+//! they hold, `tuple:COUNT` and `record:LABELS` before those of their fields, `variant:LABELS`
+//! before the payloads of its cases and `result` before its two, where `-` is no payload. Leaves
+//! are named, `enum:LABELS`, `flags:LABELS`, `own:COMPONENT.NUMBER` and `borrow:COMPONENT.NUMBER`
+//! among them. LABELS are joined by commas. `N*` before a word or a label stands for N of them.
+
+use crate::values::read_value;
+use cm_rows::{RowFault, read_number, split_repeat};
+use cm_types::{
+    Case, Field, Func, Label, NameFault, ResourceId, TypeFault, TypeNode, TypeTree, has_type,
+    same_func, same_type,
+};
+use std::alloc::{AllocError, Global};
+
+/// The answer to `within TYPE`, `within_func TYPE..` (of the parameters), `equal TYPE | TYPE ..`,
+/// `same LEFT RIGHT TYPE = TYPE`, `has TYPE = VALUE` or `same_func FUNC = FUNC`. LEFT and RIGHT are
+/// resources joined by commas, or `-`.
+pub fn answer(alloc: Global, words: &[&str]) -> Result<String, RowFault> {
+    match words {
+        ["within", ty @ ..] => show_within(alloc, ty),
+        ["within_func", params @ ..] => show_within_func(alloc, params),
+        ["equal", types @ ..] => show_equals(alloc, types),
+        ["same", left, right, types @ ..] => show_same(alloc, left, right, types),
+        ["has", words @ ..] => show_has(alloc, words),
+        ["same_func", funcs @ ..] => show_same_func(alloc, funcs),
+        _ => Err(RowFault::NotARow),
+    }
+}
+
+fn show_bool(alloc: Global, answer: bool) -> Result<String, RowFault> {
+    Ok(answer.to_string(alloc)?)
+}
+
+fn show_within(alloc: Global, ty: &[&str]) -> Result<String, RowFault> {
+    show_limit(alloc, TypeTree::new(read_type(alloc, ty)?).err())
+}
+
+fn show_within_func(alloc: Global, params: &[&str]) -> Result<String, RowFault> {
+    let params = fields(alloc, read_types(alloc, params)?)?;
+    show_limit(alloc, Func::new(params, None).err())
+}
+
+fn show_same(alloc: Global, left: &str, right: &str, types: &[&str]) -> Result<String, RowFault> {
+    let left = read_resources(alloc, left)?;
+    let right = read_resources(alloc, right)?;
+    let (a, b) = split_words(types, "=")?;
+    let (a, b) = (read_type(alloc, a)?, read_type(alloc, b)?);
+    show_bool(alloc, same_type(&a, &b, &left, &right))
+}
+
+fn show_has(alloc: Global, words: &[&str]) -> Result<String, RowFault> {
+    let (ty, value) = split_words(words, "=")?;
+    let ty = read_tree(alloc, ty)?;
+    let value = read_value(alloc, value)?;
+    show_bool(alloc, has_type(&value, &ty))
+}
+
+fn show_same_func(alloc: Global, funcs: &[&str]) -> Result<String, RowFault> {
+    let (a, b) = split_words(funcs, "=")?;
+    let (a, b) = (read_func(alloc, a)?, read_func(alloc, b)?);
+    show_bool(alloc, same_func(&a, &b, &[], &[]))
+}
+
+/// `within`, or the fault.
+fn show_limit(alloc: Global, fault: Option<TypeFault>) -> Result<String, RowFault> {
+    match fault {
+        None => Ok(String::from_str(alloc, "within")?),
+        Some(fault) => {
+            let number = fault.number();
+            Ok(format!(in alloc; "fault {number}")?)
+        }
+    }
+}
+
+/// For each type its place, from 0, and then the places of the types that are equal to it.
+fn show_equals(alloc: Global, words: &[&str]) -> Result<String, RowFault> {
+    let left = read_several(alloc, words)?;
+    let right = read_several(alloc, words)?;
+    let mut out = String::new(alloc);
+    for (i, a) in left.iter().enumerate() {
+        if i > 0 {
+            out.push_str(" ")?;
+        }
+        write!(out, "{i}:")?;
+        write_equals(&mut out, a, &right)?;
+    }
+    Ok(out)
+}
+
+fn write_equals(out: &mut String, ty: &TypeNode, others: &[TypeNode]) -> Result<(), AllocError> {
+    for (i, other) in others.iter().enumerate() {
+        if same_type(ty, other, &[], &[]) {
+            write!(out, "{i}")?;
+        }
+    }
+    Ok(())
+}
+
+fn read_several(alloc: Global, words: &[&str]) -> Result<Vec<TypeNode>, RowFault> {
+    let mut types = Vec::new(alloc);
+    for words in words.split(|word| *word == "|") {
+        types.push(read_type(alloc, words)?)?;
+    }
+    Ok(types)
+}
+
+/// The words before and after the first that is `mark`.
+fn split_words<'a, 'b>(
+    words: &'a [&'b str],
+    mark: &str,
+) -> Result<(&'a [&'b str], &'a [&'b str]), RowFault> {
+    let place = words
+        .iter()
+        .position(|word| *word == mark)
+        .ok_or(RowFault::NotARow)?;
+    let (before, after) = words.split_at(place);
+    match after {
+        [_, after @ ..] => Ok((before, after)),
+        [] => Err(RowFault::NotARow),
+    }
+}
+
+/// The function whose parameters' types stand before `->` and whose result's type, or `-`, after
+/// it. Each parameter is called `a`.
+pub fn read_func(alloc: Global, words: &[&str]) -> Result<Func, RowFault> {
+    let (params, answer) = split_words(words, "->")?;
+    let params = fields(alloc, read_types(alloc, params)?)?;
+    let answer = match answer {
+        ["-"] => None,
+        words => Some(read_tree(alloc, words)?),
+    };
+    Func::new(params, answer).map_err(|_| RowFault::NotARow)
+}
+
+fn fields(alloc: Global, types: Vec<TypeNode>) -> Result<Vec<Field>, RowFault> {
+    let mut fields = Vec::new(alloc);
+    for ty in types {
+        let label = read_label(alloc, "a")?;
+        fields.push(Field { label, ty })?;
+    }
+    Ok(fields)
+}
+
+/// The type that words spell, which is to be within the limits.
+pub fn read_tree(alloc: Global, words: &[&str]) -> Result<TypeTree, RowFault> {
+    TypeTree::new(read_type(alloc, words)?).map_err(|_| RowFault::NotARow)
+}
+
+fn read_type(alloc: Global, words: &[&str]) -> Result<TypeNode, RowFault> {
+    let mut types = read_types(alloc, words)?;
+    match types.pop() {
+        Some(ty) if types.is_empty() => Ok(ty),
+        _ => Err(RowFault::NotARow),
+    }
+}
+
+/// The types that words spell, one after another.
+fn read_types(alloc: Global, words: &[&str]) -> Result<Vec<TypeNode>, RowFault> {
+    let mut stack = TypeStack {
+        payloads: Vec::new(alloc),
+    };
+    for word in words.iter().rev() {
+        let (times, word) = split_repeat(word);
+        for _ in 0..times {
+            stack.push_word(alloc, word)?;
+        }
+    }
+    let count = stack.payloads.len();
+    stack.pop_several(alloc, count)
+}
+
+/// The types, or places of no type, that are read so far, from the last one of the row on.
+#[derive(Drop)]
+struct TypeStack {
+    payloads: Vec<Option<TypeNode>>,
+}
+
+impl TypeStack {
+    fn push_word(&mut self, alloc: Global, word: &str) -> Result<(), RowFault> {
+        let payload = match word.split_once(':') {
+            Some((name, operand)) => Some(self.with_operand(alloc, name, operand)?),
+            None if word == "-" => None,
+            None => Some(self.plain(alloc, word)?),
+        };
+        self.payloads.push(payload)?;
+        Ok(())
+    }
+
+    fn plain(&mut self, alloc: Global, word: &str) -> Result<TypeNode, RowFault> {
+        Ok(match word {
+            "list" => TypeNode::List(Box::new(alloc, self.pop()?)?),
+            "option" => TypeNode::Option(Box::new(alloc, self.pop()?)?),
+            "result" => {
+                let ok = self.pop_boxed(alloc)?;
+                let error = self.pop_boxed(alloc)?;
+                TypeNode::Result { ok, error }
+            }
+            word => read_leaf(word)?,
+        })
+    }
+
+    fn with_operand(
+        &mut self,
+        alloc: Global,
+        name: &str,
+        operand: &str,
+    ) -> Result<TypeNode, RowFault> {
+        Ok(match name {
+            "fixed" => TypeNode::FixedList {
+                element: Box::new(alloc, self.pop()?)?,
+                length: read_number(operand)?,
+            },
+            "tuple" => TypeNode::Tuple(self.pop_several(alloc, read_number(operand)?)?),
+            "record" => TypeNode::Record(self.pop_fields(alloc, operand)?),
+            "variant" => TypeNode::Variant(self.pop_cases(alloc, operand)?),
+            "enum" => TypeNode::Enum(read_labels(alloc, operand)?),
+            "flags" => TypeNode::Flags(read_labels(alloc, operand)?),
+            "own" => TypeNode::Own(read_resource(operand)?),
+            "borrow" => TypeNode::Borrow(read_resource(operand)?),
+            _ => return Err(RowFault::NotARow),
+        })
+    }
+
+    fn pop_payload(&mut self) -> Result<Option<TypeNode>, RowFault> {
+        self.payloads.pop().ok_or(RowFault::NotARow)
+    }
+
+    fn pop(&mut self) -> Result<TypeNode, RowFault> {
+        self.pop_payload()?.ok_or(RowFault::NotARow)
+    }
+
+    fn pop_boxed(&mut self, alloc: Global) -> Result<Option<Box<TypeNode>>, RowFault> {
+        Ok(match self.pop_payload()? {
+            Some(ty) => Some(Box::new(alloc, ty)?),
+            None => None,
+        })
+    }
+
+    fn pop_several(&mut self, alloc: Global, count: usize) -> Result<Vec<TypeNode>, RowFault> {
+        let mut types = Vec::new(alloc);
+        for _ in 0..count {
+            types.push(self.pop()?)?;
+        }
+        Ok(types)
+    }
+
+    fn pop_fields(&mut self, alloc: Global, labels: &str) -> Result<Vec<Field>, RowFault> {
+        let mut fields = Vec::new(alloc);
+        for label in read_labels(alloc, labels)? {
+            let ty = self.pop()?;
+            fields.push(Field { label, ty })?;
+        }
+        Ok(fields)
+    }
+
+    fn pop_cases(&mut self, alloc: Global, labels: &str) -> Result<Vec<Case>, RowFault> {
+        let mut cases = Vec::new(alloc);
+        for label in read_labels(alloc, labels)? {
+            let payload = self.pop_payload()?;
+            cases.push(Case { label, payload })?;
+        }
+        Ok(cases)
+    }
+}
+
+fn read_leaf(word: &str) -> Result<TypeNode, RowFault> {
+    Ok(match word {
+        "bool" => TypeNode::Bool,
+        "s8" => TypeNode::S8,
+        "u8" => TypeNode::U8,
+        "s16" => TypeNode::S16,
+        "u16" => TypeNode::U16,
+        "s32" => TypeNode::S32,
+        "u32" => TypeNode::U32,
+        "s64" => TypeNode::S64,
+        "u64" => TypeNode::U64,
+        "char" => TypeNode::Char,
+        "string" => TypeNode::String,
+        _ => return Err(RowFault::NotARow),
+    })
+}
+
+fn read_labels(alloc: Global, text: &str) -> Result<Vec<Label>, RowFault> {
+    let mut labels = Vec::new(alloc);
+    for part in text.split(',') {
+        let (times, label) = split_repeat(part);
+        for _ in 0..times {
+            labels.push(read_label(alloc, label)?)?;
+        }
+    }
+    Ok(labels)
+}
+
+fn read_label(alloc: Global, text: &str) -> Result<Label, RowFault> {
+    match Label::parse(alloc, text) {
+        Ok(label) => Ok(label),
+        Err(NameFault::Memory) => Err(RowFault::Memory),
+        Err(_) => Err(RowFault::NotARow),
+    }
+}
+
+/// The resource `COMPONENT.NUMBER`.
+pub fn read_resource(text: &str) -> Result<ResourceId, RowFault> {
+    let (component, number) = text.split_once('.').ok_or(RowFault::NotARow)?;
+    Ok(ResourceId {
+        component: read_number(component)?,
+        number: read_number(number)?,
+    })
+}
+
+fn read_resources(alloc: Global, text: &str) -> Result<Vec<ResourceId>, RowFault> {
+    let mut resources = Vec::new(alloc);
+    if text != "-" {
+        for part in text.split(',') {
+            resources.push(read_resource(part)?)?;
+        }
+    }
+    Ok(resources)
+}

@@ -1,0 +1,156 @@
+//! Rows on files: reading and writing them.
+
+use crate::trees::{read_sections, write_sections};
+use cm_binary::{Component, DecodeFault, DecodeReason, decode, encode, written_and_read};
+use cm_rows::{RowFault, read_bytes, read_number, write_bytes};
+use std::alloc::{AllocError, Global};
+
+/// Files that rows have named.
+#[derive(Drop)]
+pub struct Files {
+    named: Vec<NamedFile>,
+}
+
+#[derive(Drop)]
+struct NamedFile {
+    name: String,
+    bytes: Vec<u8>,
+}
+
+impl Files {
+    pub fn new(alloc: Global) -> Files {
+        Files {
+            named: Vec::new(alloc),
+        }
+    }
+
+    /// The bytes of a source: of the file that `@NAME` names, or those that the word spells.
+    pub fn read(&self, alloc: Global, source: &str) -> Result<Vec<u8>, RowFault> {
+        let Some(name) = source.strip_prefix('@') else {
+            return read_bytes(alloc, source);
+        };
+        let file = self
+            .named
+            .iter()
+            .rev()
+            .find(|file| file.name.as_str() == name)
+            .ok_or(RowFault::NotARow)?;
+        Ok(file.bytes.clone()?)
+    }
+
+    /// The component of a source, which is to have one.
+    pub fn component(&self, alloc: Global, source: &str) -> Result<Component, RowFault> {
+        let bytes = self.read(alloc, source)?;
+        decode(alloc, &bytes).map_err(|fault| match fault.reason {
+            DecodeReason::Memory => RowFault::Memory,
+            _ => RowFault::NotARow,
+        })
+    }
+
+    fn name(&mut self, alloc: Global, name: &str, bytes: Vec<u8>) -> Result<String, RowFault> {
+        let length = bytes.len();
+        let name = String::from_str(alloc, name)?;
+        self.named.push(NamedFile { name, bytes })?;
+        Ok(format!(in alloc; "{length} bytes")?)
+    }
+
+    /// The answer to `name NAME BYTES`, `component NAME SECTIONS`, `decode SOURCE`, `changed SOURCE
+    /// AT BYTES`, `beginnings SOURCE`, `encode SOURCE` or `written_and_read SOURCE`.
+    pub fn answer(&mut self, alloc: Global, words: &[&str]) -> Result<String, RowFault> {
+        match words {
+            ["name", name, bytes] => {
+                let bytes = read_bytes(alloc, bytes)?;
+                self.name(alloc, name, bytes)
+            }
+            ["component", name, sections @ ..] => self.build(alloc, name, sections),
+            ["decode", source] => show_decoded(alloc, &self.read(alloc, source)?),
+            ["changed", source, at, bytes] => {
+                let mut file = self.read(alloc, source)?;
+                let bytes = read_bytes(alloc, bytes)?;
+                change(&mut file, read_number(at)?, &bytes);
+                show_decoded(alloc, &file)
+            }
+            ["beginnings", source] => show_beginnings(alloc, &self.read(alloc, source)?),
+            ["encode", source] => {
+                let component = self.component(alloc, source)?;
+                let mut out = String::new(alloc);
+                write_bytes(&mut out, &encode(alloc, &component)?)?;
+                Ok(out)
+            }
+            ["written_and_read", source] => {
+                let component = self.component(alloc, source)?;
+                show_outcome(alloc, written_and_read(alloc, &component))
+            }
+            _ => Err(RowFault::NotARow),
+        }
+    }
+
+    /// Makes a component of sections, and names its file.
+    fn build(&mut self, alloc: Global, name: &str, sections: &[&str]) -> Result<String, RowFault> {
+        match Component::new(read_sections(alloc, sections)?) {
+            Ok(component) => {
+                let bytes = encode(alloc, &component)?;
+                self.name(alloc, name, bytes)
+            }
+            Err(fault) => {
+                let number = fault.number();
+                Ok(format!(in alloc; "fault {number}")?)
+            }
+        }
+    }
+}
+
+/// Writes bytes over those of a file from `at` on.
+fn change(file: &mut Vec<u8>, at: usize, bytes: &[u8]) {
+    for (place, byte) in file.iter_mut().skip(at).zip(bytes) {
+        *place = *byte;
+    }
+}
+
+fn show_decoded(alloc: Global, bytes: &[u8]) -> Result<String, RowFault> {
+    show_outcome(alloc, decode(alloc, bytes))
+}
+
+/// `component:` and its sections, or the fault.
+fn show_outcome(
+    alloc: Global,
+    outcome: Result<Component, DecodeFault>,
+) -> Result<String, RowFault> {
+    let mut out = String::new(alloc);
+    match outcome {
+        Ok(component) => {
+            out.push_str("component: ")?;
+            write_sections(&mut out, component.sections())?;
+        }
+        Err(fault) if fault.reason.number() == DecodeReason::Memory.number() => {
+            return Err(RowFault::Memory);
+        }
+        Err(fault) => write_fault(&mut out, &fault)?,
+    }
+    Ok(out)
+}
+
+/// `fault NUMBER at PLACE`, and of a form that is not carried which one it is.
+fn write_fault(out: &mut String, fault: &DecodeFault) -> Result<(), AllocError> {
+    let (number, at) = (fault.reason.number(), fault.at);
+    write!(out, "fault {number} at {at}")?;
+    match fault.reason {
+        DecodeReason::Unsupported(feature) => write!(out, ", {feature}"),
+        _ => Ok(()),
+    }
+}
+
+/// For each length below that of the file, the fault of so many bytes of it, or `whole`.
+fn show_beginnings(alloc: Global, file: &[u8]) -> Result<String, RowFault> {
+    let mut out = String::from_str(alloc, "below the length:")?;
+    for length in 0..file.len() {
+        match decode(alloc, &file[..length]) {
+            Ok(_) => out.push_str(" whole")?,
+            Err(fault) => {
+                let (number, at) = (fault.reason.number(), fault.at);
+                write!(out, " {number}@{at}")?;
+            }
+        }
+    }
+    Ok(out)
+}

@@ -1,0 +1,96 @@
+//! Rows on the lines that events print.
+
+use crate::escapes::write_text;
+use cm_machine::{Event, Flat, Trap};
+use cm_rows::{RowFault, read_number};
+use cm_tool::write_event;
+use cm_types::CoreValue;
+use std::alloc::Global;
+
+/// The line of an event, whose words are its parts.
+pub fn answer(alloc: Global, words: &[&str]) -> Result<String, RowFault> {
+    let event = read_event(alloc, words)?;
+    let mut line = Vec::new(alloc);
+    if write_event(&mut line, &event).is_err() {
+        return Err(RowFault::Memory);
+    }
+    let mut out = String::new(alloc);
+    write_text(&mut out, &line)?;
+    Ok(out)
+}
+
+fn read_event(alloc: Global, words: &[&str]) -> Result<Event, RowFault> {
+    match words {
+        ["Done"] => Ok(Event::Done),
+        ["Ended"] => Ok(Event::Ended),
+        ["Grown", "none"] => Ok(Event::Grown(None)),
+        ["Grown", pages] => Ok(Event::Grown(Some(read_number(pages)?))),
+        ["Trapped", trap] => Ok(Event::Trapped(read_trap(trap)?)),
+        ["Dtor", instance, func, rep] => Ok(Event::Dtor {
+            instance: read_number(instance)?,
+            func: read_number(func)?,
+            rep: read_number(rep)?,
+        }),
+        ["Resume", instance, values @ ..] => Ok(Event::Resume {
+            instance: read_number(instance)?,
+            values: read_flat(alloc, values)?,
+        }),
+        [name, instance, func, args @ ..] => read_call(
+            name,
+            read_number(instance)?,
+            read_number(func)?,
+            read_flat(alloc, args)?,
+        ),
+        _ => Err(RowFault::NotARow),
+    }
+}
+
+fn read_call(name: &str, instance: u32, func: u32, args: Flat) -> Result<Event, RowFault> {
+    match name {
+        "Enter" => Ok(Event::Enter {
+            instance,
+            func,
+            args,
+        }),
+        "Realloc" => Ok(Event::Realloc {
+            instance,
+            func,
+            args,
+        }),
+        "PostReturn" => Ok(Event::PostReturn {
+            instance,
+            func,
+            args,
+        }),
+        _ => Err(RowFault::NotARow),
+    }
+}
+
+fn read_trap(name: &str) -> Result<Trap, RowFault> {
+    match name {
+        "CoreShape" => Ok(Trap::CoreShape),
+        "Unreachable" => Ok(Trap::Unreachable),
+        "CalleeClosed" => Ok(Trap::CalleeClosed),
+        _ => Err(RowFault::NotARow),
+    }
+}
+
+/// At most 16 values.
+fn read_flat(alloc: Global, words: &[&str]) -> Result<Flat, RowFault> {
+    let mut values = Vec::new(alloc);
+    for word in words {
+        values.push(read_value(word)?)?;
+    }
+    if values.len() > 16 {
+        return Err(RowFault::NotARow);
+    }
+    Ok(Flat::from_slice(&values))
+}
+
+fn read_value(word: &str) -> Result<CoreValue, RowFault> {
+    match word.split_once(':') {
+        Some(("i32", number)) => Ok(CoreValue::I32(read_number(number)?)),
+        Some(("i64", number)) => Ok(CoreValue::I64(read_number(number)?)),
+        _ => Err(RowFault::NotARow),
+    }
+}
