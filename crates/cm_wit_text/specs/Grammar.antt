@@ -20,8 +20,8 @@ first_or [] next = next
 first_or (t ∷ ts) next = Some t
 
 -- Values that stand at the front of tokens. `Spells x ts next`: the tokens are a spelling of x
--- where next is the token behind them (none: the text ends). `reads` gives the value at the front and the
--- tokens behind it, or the first fault.
+-- where next is the token behind them (none: the text ends). `reads` gives the value at the front
+-- and the tokens behind it, or the first fault.
 pub record Grammar (A : Type 0) : Type 1 where
   pub Spells : A → List Token → Option Token → Type 0
   pub reads : List Token → Result (A × List Token) Fault

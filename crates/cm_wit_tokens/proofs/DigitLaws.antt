@@ -15,3 +15,5 @@ digits_go_on n ds i lt fits = rw (drop_more ds i 0 lt, lt-ltb (n * 10 + (get_or 
 pub digits_end : (n : ℕ) (ds : List ℕ) (i : ℕ) → length ds ≤ i → from_digits n (drop i ds) ≡ Some n
 unfolding from_digits
 digits_end n ds i le = rw (drop_all i ds le) refl
+
+pub ruleset digit_laws = (digits_refused, digits_go_on, digits_end)

@@ -54,3 +54,5 @@ goes_past_token ts behind_at rest all f n g e w =
       enough = omega (arith, length-drop n rest, g.enough, t.1, w.0, w.1);
       same = ap (λ (tokens : List Token). record { tokens = tokens; stop = later.stop }) (append_assoc ts (here ∷ []) later.tokens) ∙ (sym (ap (behind ts) t.2) ∙ g.same);
     }
+
+pub ruleset lexed_laws = (goes_at_first, goes_past_gap, goes_past_token)

@@ -74,3 +74,5 @@ run_within k (b ∷ rest) = within_step k b rest (belongs k b rest) refl (run_wi
 pub run_empty : (k : Run) (b : ℕ) (rest : List ℕ) → belongs k b rest ≡ false → run_length k (b ∷ rest) ≡ zero
 unfolding run_length
 run_empty k b rest h = rw h refl
+
+pub ruleset run_laws = (run_goes, run_stops, run_at_end)

@@ -69,7 +69,7 @@ fn version_form(alloc: Global, text: &str) -> Result<Option<Form>, AllocError>
 
 /// The number that digits are, behind a number that those before them are; `None` where it is above
 /// 4,294,967,295.
-#[tactic(auto, using(crate::proofs::DigitLaws::digits_refused, crate::proofs::DigitLaws::digits_go_on, crate::proofs::DigitLaws::digits_end))]
+#[tactic(auto, using(crate::proofs::DigitLaws::digit_laws))]
 fn from_digits(digits: &[u8]) -> Option<u32>
     ensures { result ≡ from_digits 0 digits.now }
 {

@@ -19,7 +19,7 @@ pub struct Lexed {
 }
 
 impl Lexed {
-    #[tactic(auto, using(crate::proofs::LexedLaws::goes_at_first, crate::proofs::LexedLaws::goes_past_gap, crate::proofs::LexedLaws::goes_past_token))]
+    #[tactic(auto, using(crate::proofs::LexedLaws::lexed_laws))]
     /// The tokens of a text, in time linear in it. Refused only where there is no memory.
     pub fn of_text(alloc: Global, text: &[u8]) -> Result<Lexed, AllocError>
         ensures { IfOk result (λ tokens. lexed_view tokens ≡ lexed text.now) }

@@ -35,7 +35,7 @@ impl Run {
     }
 
     /// How many bytes of the front of a text are a run.
-    #[tactic(auto, using(crate::proofs::RunLaws::run_goes, crate::proofs::RunLaws::run_stops, crate::proofs::RunLaws::run_at_end))]
+    #[tactic(auto, using(crate::proofs::RunLaws::run_laws))]
     pub fn length(self, text: &[u8]) -> usize
         ensures length { result ≡ run_length self text.now }
         ensures within { result ≤ length text.now }
