@@ -16,6 +16,17 @@ abbrev pub types_in : SectionTree → ℕ
 types_in (trees.types ts) = length ts
 types_in s = 0
 
+-- How many items stand in a section: a custom section has none, a core module is one.
+abbrev pub items_in : SectionTree → ℕ
+items_in (trees.custom name bytes) = 0
+items_in (trees.core_module bytes) = 1
+items_in (trees.core_instances items) = length items
+items_in (trees.aliases items) = length items
+items_in (trees.types items) = length items
+items_in (trees.canons items) = length items
+items_in (trees.imports items) = length items
+items_in (trees.exports items) = length items
+
 -- A core module begins with its preamble.
 abbrev pub has_preamble : SectionTree → Bool
 has_preamble (trees.core_module bytes) = starts_with nat_eq bytes MODULE_PREAMBLE

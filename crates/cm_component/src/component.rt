@@ -1,10 +1,11 @@
 //! A component file's tree.
 
-ghost use Rattle.std.specs.Prelude.{◌≡◌, None, map, true};
-ghost use Rattle.std.specs.List.{list_all};
+ghost use Rattle.std.specs.Prelude.{◌≡◌, ◌≤◌, None, map, true};
+ghost use Rattle.std.specs.List.{list_all, sum_by};
 ghost use Rattle.cm_component.specs.Trees.{section_tree};
-ghost use Rattle.cm_component.specs.Limits.{has_preamble, limit_fault, within_limits};
+ghost use Rattle.cm_component.specs.Limits.{has_preamble, items_in, limit_fault, within_limits};
 ghost use Rattle.cm_component.specs.Parts.{holds};
+ghost use Rattle.cm_component.specs.declared.limits.TheConstants.{MAX_FILE_BYTES};
 
 use crate::limits::{LimitFault, MAX_FILE_BYTES, MAX_TYPES, MODULE_PREAMBLE};
 use crate::measuring::{file_length, types_in_all};
@@ -49,10 +50,12 @@ impl Component {
         }
     }
 
-    /// The sections, in order.
+    /// The sections, in order. They have fewer items than their shortest file has bytes, and so at
+    /// most 16,777,216 together.
     pub fn sections(&self) -> &[Section]
         ensures sections { map section_tree result.now ≡ self.now }
         ensures limits { limit_fault self.now ≡ None }
+        ensures few { sum_by items_in self.now ≤ MAX_FILE_BYTES }
         ensures parts { list_all holds self.now ≡ true }
     {
         &self.sections

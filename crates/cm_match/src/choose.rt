@@ -1,7 +1,8 @@
 //! The export that an import is linked to.
 
-ghost use Rattle.std.specs.Prelude.{◌≡◌, ◌↔◌, IsTrue, IfOk, IfErr, take};
+ghost use Rattle.std.specs.Prelude.{◌≡◌, ◌<◌, ◌↔◌, IsTrue, IfOk, IfErr, IfSome, length, take};
 ghost use Rattle.std.specs.Option.{option_map};
+ghost use Rattle.cm_component.specs.declared.limits.TheConstants.{MAX_FILE_BYTES};
 ghost use Rattle.cm_types.specs.Funcs.{func_of};
 ghost use Rattle.cm_types.specs.Signatures.{extern_of, extern_type_of};
 ghost use Rattle.cm_match.specs.Links.{ExternAt, extern_at, exports_from, export_at};
@@ -15,8 +16,10 @@ use cm_validate::Checked;
 use std::collections::BTreeMap;
 
 fn export_at(components: &[Checked], provider: usize, export: usize) -> Option<&SignatureItem>
-    ensures { option_map (λ i. extern_of i.now) result
+    ensures item { option_map (λ i. extern_of i.now) result
         ≡ export_at (signatures_of components.now) provider export }
+    ensures provider { IfSome result (λ _. provider < length components.now) }
+    ensures export { IfSome result (λ _. export < MAX_FILE_BYTES) }
 {
     components.get(provider)?.signature().exports.get(export)
 }
@@ -50,6 +53,8 @@ pub(crate) fn choose(
         × IsServedBy (signatures_of components.now)
         (extern_at at number (extern_of import.now)) e
         × (o.provider ≡ e.component) × (o.export ≡ e.number)) }
+    ensures provider { IfOk result (λ o. o.provider < length components.now) }
+    ensures export { IfOk result (λ o. o.export < MAX_FILE_BYTES) }
     ensures unserved { IfErr result
         (λ r. IsUnservedFor (signatures_of components.now)
         (extern_at at number (extern_of import.now)) r) }

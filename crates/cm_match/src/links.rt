@@ -4,6 +4,7 @@ ghost use Rattle.std.specs.Prelude.{◌≡◌, ◌+◌, ◌<◌, ◌≤◌, ◌�
 ghost use Rattle.std.specs.Prelude.{take, slice_get, option_and_then, None};
 ghost use Rattle.std.specs.Option.{option_map};
 ghost use Rattle.std.specs.List.{AllByRecursion};
+ghost use Rattle.cm_component.specs.declared.limits.TheConstants.{MAX_FILE_BYTES};
 ghost use Rattle.cm_types.specs.Signatures.{extern_of};
 ghost use Rattle.cm_validate.specs.Spaces.{spaces_of, func_at};
 ghost use Rattle.cm_match.specs.declared.fault.LinkReason.TheVariants as reason;
@@ -36,6 +37,11 @@ fn line_to(
     number: usize,
     offer: &Offer,
 ) -> Result<(PlanLine, Option<SharedTarget>), AllocError>
+    requires few { length components.now ≤ MAX_COMPONENTS }
+    requires at { at < length components.now }
+    requires number { number < MAX_FILE_BYTES }
+    requires provider { offer.now.provider < length components.now }
+    requires export { offer.now.export < MAX_FILE_BYTES }
     ensures line { IfOk result
         (λ r. r.0
         ≡ record {
@@ -50,12 +56,12 @@ fn line_to(
         (option_and_then (λ c. func_at (spaces_of c) offer.now.export None)
         (slice_get components.now offer.now.provider))) }
 {
-    let export = index(offer.export)?;
+    let export = index(offer.export);
     let target = target_of_export(components, targets, offer.provider, export)?;
     let line = PlanLine {
-        importer: index(at)?,
-        import: index(number)?,
-        provider: index(offer.provider)?,
+        importer: index(at),
+        import: index(number),
+        provider: index(offer.provider),
         export,
     };
     Ok((line, target))
@@ -70,7 +76,11 @@ fn link_import(
     number: usize,
     import: &SignatureItem,
 ) -> Result<(PlanLine, Option<SharedTarget>), LinkReason>
-    requires { AreOffers offers.now (exports_from 0 (take at (signatures_of components.now))) }
+    requires few { length components.now ≤ MAX_COMPONENTS }
+    requires at { at < length components.now }
+    requires number { number < MAX_FILE_BYTES }
+    requires offers { AreOffers offers.now
+        (exports_from 0 (take at (signatures_of components.now))) }
     ensures served { IfOk result
         (λ r. (e : ExternAt)
         × IsServedBy (signatures_of components.now)
@@ -115,6 +125,9 @@ fn link_imports(
     imports: &[SignatureItem],
     plan: &mut Vec<PlanLine>,
 ) -> Result<Vec<Option<SharedTarget>>, LinkFault>
+    requires few { length components.now ≤ MAX_COMPONENTS }
+    requires at { at < length components.now }
+    requires imports { length imports.now ≤ MAX_FILE_BYTES }
     requires offers { AreOffers offers.now
         (exports_from 0 (take at (signatures_of components.now))) }
     requires so_far { Progress (signatures_of components.now)

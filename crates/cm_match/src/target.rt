@@ -1,8 +1,10 @@
 //! What imports come to in the end.
 
-ghost use Rattle.std.specs.Prelude.{◌≡◌, None, IfOk, slice_get, option_and_then};
+ghost use Rattle.std.specs.Prelude.{◌≡◌, ◌<◌, ◌≤◌, ◌^◌, None, IfOk, length, slice_get};
+ghost use Rattle.std.specs.Prelude.{option_and_then};
 ghost use Rattle.std.specs.Option.{option_map};
 ghost use Rattle.cm_validate.specs.Spaces.{spaces_of, func_at};
+ghost use Rattle.cm_match.specs.declared.linked.TheConstants.{MAX_COMPONENTS};
 ghost use Rattle.cm_match.specs.Targets.{target_of_def};
 ghost use Rattle.cm_match.specs.TargetTables.{shared_target_tree, look_up_target};
 
@@ -44,10 +46,11 @@ impl SharedTarget {
 }
 
 /// The number as an index; a file within its limits has no greater one.
-pub(crate) fn index(number: usize) -> Result<u32, AllocError>
-    ensures { IfOk result (λ index. index ≡ number) }
+pub(crate) fn index(number: usize) -> u32
+    requires { number < 2 ^ 32 }
+    ensures { result ≡ number }
 {
-    u32::try_from(number).map_err(|_| AllocError)
+    number as u32
 }
 
 /// The target of an import of a component, by the table.
@@ -70,6 +73,7 @@ pub(crate) fn target_of_export(
     provider: usize,
     export: u32,
 ) -> Result<Option<SharedTarget>, AllocError>
+    requires { length components.now ≤ MAX_COMPONENTS }
     ensures { IfOk result
         (λ t. option_map shared_target_tree t
         ≡ option_and_then (target_of_def (look_up_target targets.now) provider)
@@ -82,7 +86,7 @@ pub(crate) fn target_of_export(
     match component.func(export, None) {
         None => Ok(None),
         Some(FuncDef::Lifted { core_func, ty }) => Ok(Some(SharedTarget {
-            component: index(provider)?,
+            component: index(provider),
             core_func: *core_func,
             ty: ty.clone()?,
         })),

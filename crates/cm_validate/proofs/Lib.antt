@@ -9,3 +9,4 @@ pub mod Sections
 pub mod ConsistencyLemmas
 pub mod TableLemmas
 pub mod FlatParams
+pub mod RoomLemmas

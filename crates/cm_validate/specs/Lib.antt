@@ -10,3 +10,4 @@ pub mod Spaces
 pub mod SpacesBuilder
 pub mod Tables
 pub mod Valid
+pub mod Room

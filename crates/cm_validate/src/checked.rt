@@ -1,8 +1,9 @@
 //! Components that are valid.
 
-ghost use Rattle.std.specs.Prelude.{◌≡◌, ◌⊎◌, IfOk, OnOk, IfErr, map, slice_get};
+ghost use Rattle.std.specs.Prelude.{◌≡◌, ◌≤◌, ◌⊎◌, IfOk, OnOk, IfErr, length, map, slice_get};
 ghost use Rattle.std.specs.List.{AllByRecursion};
 ghost use Rattle.std.specs.Option.{option_map};
+ghost use Rattle.cm_component.specs.declared.limits.TheConstants.{MAX_FILE_BYTES};
 ghost use Rattle.cm_types.specs.Signatures.{signature_of};
 ghost use Rattle.cm_validate.specs.declared.fault.ValidReason.TheVariants as reason;
 ghost use Rattle.cm_validate.specs.Definitions.{core_func_tree, func_def_tree};
@@ -43,11 +44,14 @@ impl Model for Checked {
 
 impl Checked {
     /// What the component imports and exports, in the order of the file. Callers learn here, too,
-    /// that the component is valid, and what that means for its index spaces.
+    /// that the component is valid, and what that means for its index spaces. There are no more
+    /// imports than a file may have bytes, 16,777,216, and no more exports.
     pub fn signature(&self) -> &Signature
         ensures valid { IsValid self.now }
         ensures consistent { IsConsistent (spaces_of self.now) }
         ensures signature { signature_of result.now ≡ signature (spaces_of self.now) }
+        ensures few_imports { length (signature (spaces_of self.now)).imports ≤ MAX_FILE_BYTES }
+        ensures few_exports { length (signature (spaces_of self.now)).exports ≤ MAX_FILE_BYTES }
     {
         &self.tables.signature
     }

@@ -8,7 +8,8 @@ ghost use Rattle.cm_validate.specs.Rules.{params_are_within_limits};
 ghost use Rattle.cm_validate.specs.Spaces.{expand_func, expand_value};
 
 use cm_types::{
-    ExternName, Field, Func, FuncType, Label, LabeledValType, TypeNode, TypeTree, ValType,
+    ExternName, Field, Func, FuncType, Label, LabeledValType, NameFault, TypeNode, TypeTree,
+    ValType,
 };
 use std::alloc::{AllocError, Global};
 
@@ -32,13 +33,21 @@ fn expand_result(ty: ValType) -> TypeTree
 pub(crate) fn copy_name(alloc: Global, name: &ExternName) -> Result<ExternName, AllocError>
     ensures { IfOk result (λ n. n ≡ name.now) }
 {
-    ExternName::parse(alloc, name.as_str()).map_err(|_| AllocError)
+    match ExternName::parse(alloc, name.as_str()) {
+        Ok(copy) => Ok(copy),
+        Err(NameFault::Memory) => Err(AllocError),
+        Err(_) => unreachable!(),
+    }
 }
 
 fn copy_label(alloc: Global, label: &Label) -> Result<Label, AllocError>
     ensures { IfOk result (λ l. l ≡ label.now) }
 {
-    Label::parse(alloc, label.as_str()).map_err(|_| AllocError)
+    match Label::parse(alloc, label.as_str()) {
+        Ok(copy) => Ok(copy),
+        Err(NameFault::Memory) => Err(AllocError),
+        Err(_) => unreachable!(),
+    }
 }
 
 fn expand_params(alloc: Global, params: &[LabeledValType]) -> Result<Vec<Field>, AllocError>

@@ -12,6 +12,7 @@ ghost use Rattle.cm_validate.specs.Items.{canon_item, import_item, export_item};
 ghost use Rattle.cm_validate.specs.Definitions.{core_func_tree};
 ghost use Rattle.cm_validate.specs.Rules.{item_rules, rules_before_memory, canon_rules};
 ghost use Rattle.cm_validate.specs.Rules.{has_memory, has_realloc, is_guest_function};
+ghost use Rattle.cm_validate.specs.Room.{HasRoom};
 ghost use Rattle.cm_validate.specs.Spaces.{after_item, after_canon};
 ghost use Rattle.cm_validate.specs.SpacesBuilder.{spaces_so_far};
 ghost use Rattle.cm_validate.specs.Valid.{first_broken};
@@ -49,7 +50,9 @@ pub(crate) trait SectionItem {
 
     /// Adds to the spaces what the item adds.
     fn add(&self, alloc: Global, spaces: &mut SpacesBuilder) -> Result<(), AllocError>
-        requires { first_broken (item_rules (spaces_so_far spaces.old) (item self.now)) ≡ None }
+        requires fine { first_broken (item_rules (spaces_so_far spaces.old) (item self.now))
+            ≡ None }
+        requires room { HasRoom (spaces_so_far spaces.old) (item self.now ∷ []) }
         ensures { OnOk result
             (spaces_so_far spaces.new ≡ after_item (spaces_so_far spaces.old) (item self.now)) };
 }
@@ -269,10 +272,11 @@ impl SectionItem for Import {
 
     fn add(&self, alloc: Global, spaces: &mut SpacesBuilder) -> Result<(), AllocError> {
         let ExternDesc::Func(ty) = self.desc;
+        let import = spaces.import_count() as u32;
         match spaces.ty(ty) {
             Some(ty) => {
                 let def = FuncDef::Imported {
-                    import: u32::try_from(spaces.import_count()).map_err(|_| AllocError)?,
+                    import,
                     item: None,
                     ty: ty.clone()?,
                 };

@@ -1,9 +1,10 @@
 //! The index spaces of a component, as far as it was read.
 
-ghost use Rattle.std.specs.Prelude.{◌≡◌, ◌+◌, [], ◌∷◌, ◌++◌, IfOk, OnOk, OnErr, length, map};
+ghost use Rattle.std.specs.Prelude.{◌≡◌, ◌+◌, ◌<◌, [], ◌∷◌, ◌++◌, IfOk, OnOk, OnErr, length, map};
 ghost use Rattle.std.specs.Prelude.{slice_get};
 ghost use Rattle.std.specs.Option.{option_map};
 ghost use Rattle.cm_types.specs.Funcs.{func_of};
+ghost use Rattle.cm_component.specs.declared.limits.TheConstants.{MAX_FILE_BYTES};
 ghost use Rattle.cm_validate.specs.Rules.{name_is_new};
 ghost use Rattle.cm_validate.specs.Definitions.{core_func_tree, func_def_tree};
 ghost use Rattle.cm_validate.specs.Spaces.{empty_spaces};
@@ -88,15 +89,14 @@ impl SpacesBuilder {
         self.imports.len()
     }
 
-    pub fn add_module(&mut self) -> Result<(), AllocError>
-        ensures { OnOk result
-            (spaces_so_far self.new
+    pub fn add_module(&mut self)
+        requires { (spaces_so_far self.old).modules < MAX_FILE_BYTES }
+        ensures { spaces_so_far self.new
             ≡ record (spaces_so_far self.old) {
               modules = (spaces_so_far self.old).modules + 1;
-            }) }
+            } }
     {
-        self.modules = self.modules.checked_add(1).ok_or(AllocError)?;
-        Ok(())
+        self.modules += 1;
     }
 
     pub fn add_core_instance(&mut self, of_module: u32) -> Result<(), AllocError>

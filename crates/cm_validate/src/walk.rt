@@ -1,9 +1,10 @@
 //! The walk over a component's sections, to the first fault.
 
-ghost use Rattle.std.specs.Prelude.{◌≡◌, ◌+◌, ◌⊎◌, map, None, Some, IfOk, OnOk, IfErr};
+ghost use Rattle.std.specs.Prelude.{◌≡◌, ◌+◌, ◌⊎◌, [], ◌∷◌, map, None, Some, IfOk, OnOk, IfErr};
 ghost use Rattle.cm_component.specs.Trees.{section_tree};
 ghost use Rattle.cm_validate.specs.declared.fault.ValidReason.TheVariants as reason;
-ghost use Rattle.cm_validate.specs.Items.{items_of};
+ghost use Rattle.cm_validate.specs.Items.{all_items, items_of};
+ghost use Rattle.cm_validate.specs.Room.{HasRoom};
 ghost use Rattle.cm_validate.specs.Rules.{item_rules, rules_before_memory};
 ghost use Rattle.cm_validate.specs.Spaces.{after_items, after_item, empty_spaces, spaces_of};
 ghost use Rattle.cm_validate.specs.SpacesBuilder.{spaces_so_far};
@@ -23,6 +24,7 @@ fn take_item<T: SectionItem>(
     item: &T,
     spaces: &mut SpacesBuilder,
 ) -> Result<(), ValidReason>
+    requires { HasRoom (spaces_so_far spaces.old) (T.item item.now ∷ []) }
     ensures fine { OnOk result
         (first_broken (item_rules (spaces_so_far spaces.old) (T.item item.now))
         ≡ None) }
@@ -51,6 +53,7 @@ fn walk<T: SectionItem>(
     items: &[T],
     spaces: &mut SpacesBuilder,
 ) -> Result<(), ValidFault>
+    requires { HasRoom (spaces_so_far spaces.old) (map T.item items.now) }
     ensures fine { OnOk result
         (items_fault 0 (spaces_so_far spaces.old) (map T.item items.now)
         ≡ None) }
@@ -79,25 +82,6 @@ fn walk<T: SectionItem>(
     Ok(())
 }
 
-fn walk_module(section: usize, spaces: &mut SpacesBuilder) -> Result<(), ValidFault>
-    ensures adds { OnOk result
-        (spaces_so_far spaces.new
-        ≡ record (spaces_so_far spaces.old) {
-          modules = (spaces_so_far spaces.old).modules + 1;
-        }) }
-    ensures place { IfErr result (λ f. f.section ≡ section) }
-    ensures fault { IfErr result (λ f. (f.reason ≡ reason.Memory) × (f.item ≡ 0)) }
-{
-    match spaces.add_module() {
-        Ok(()) => Ok(()),
-        Err(AllocError) => Err(ValidFault {
-            section,
-            item: 0,
-            reason: ValidReason::Memory,
-        }),
-    }
-}
-
 #[tactic(auto, using(crate::proofs::Sections::seen))]
 fn walk_section(
     alloc: Global,
@@ -105,6 +89,7 @@ fn walk_section(
     section: &Section,
     spaces: &mut SpacesBuilder,
 ) -> Result<(), ValidFault>
+    requires { HasRoom (spaces_so_far spaces.old) (items_of (section_tree section.now)) }
     ensures fine { OnOk result
         (items_fault 0 (spaces_so_far spaces.old) (items_of (section_tree section.now)) ≡ None) }
     ensures adds { OnOk result
@@ -120,7 +105,10 @@ fn walk_section(
 {
     match section {
         Section::Custom(_) => Ok(()),
-        Section::CoreModule(_) => walk_module(at, spaces),
+        Section::CoreModule(_) => {
+            spaces.add_module();
+            Ok(())
+        }
         Section::CoreInstances(items) => walk(alloc, at, items, spaces),
         Section::Aliases(items) => walk(alloc, at, items, spaces),
         Section::Types(items) => walk(alloc, at, items, spaces),
@@ -132,6 +120,7 @@ fn walk_section(
 
 /// The index spaces of a component of these sections, or its first fault.
 pub(crate) fn walk_all(alloc: Global, sections: &[Section]) -> Result<SpacesBuilder, ValidFault>
+    requires { HasRoom empty_spaces (all_items (map section_tree sections.now)) }
     ensures fine { OnOk result
         (sections_fault 0 empty_spaces (map section_tree sections.now)
         ≡ None) }

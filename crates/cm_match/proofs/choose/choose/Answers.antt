@@ -25,7 +25,7 @@ unreachable-requires c =
     let i = extern_at c.args.at c.args.number (extern_of c.args.import.now) in
     let o = one_offer (candidates set i) c.in-Some.offer.now (sym (c.requires c.args.import.now.name) ∙ ap (get_by_text c.args.offers.now) (sym c.as_str.ensures.text) ∙ sym c.in-Some.ensures.value) c.if-offer.false in
     let there : export_at set c.in-Some.offer.now.provider c.in-Some.offer.now.export ≡ Some o.candidate.item = ap (λ p. export_at set p c.in-Some.offer.now.export) o.provider_is ∙ ap (export_at set o.candidate.component) o.export_is ∙ found set i o.candidate o.only in
-    let no : None ≡ Some o.candidate.item = c.in_default-export_at.ensures ∙ there in
+    let no : None ≡ Some o.candidate.item = c.in_default-export_at.ensures.item ∙ there in
     absurd cc
 
 pub returns-then-is_same-clause-served : goal.returns-then-is_same-clause-served
@@ -34,7 +34,7 @@ returns-then-is_same-clause-served c =
     let i = extern_at c.args.at c.args.number (extern_of c.args.import.now) in
     let o = one_offer (candidates set i) c.in-Some.offer.now (sym (c.requires c.args.import.now.name) ∙ ap (get_by_text c.args.offers.now) (sym c.as_str.ensures.text) ∙ sym c.in-Some.ensures.value) c.if-offer.false in
     let there : export_at set c.in-Some.offer.now.provider c.in-Some.offer.now.export ≡ Some o.candidate.item = ap (λ p. export_at set p c.in-Some.offer.now.export) o.provider_is ∙ ap (export_at set o.candidate.component) o.export_is ∙ found set i o.candidate o.only in
-    let same = seen_item c.in-Some-export_at.export.now o.candidate.item (c.in-Some-export_at.ensures ∙ there) in
+    let same = seen_item c.in-Some-export_at.export.now o.candidate.item (c.in-Some-export_at.ensures.item ∙ there) in
     (o.candidate, record { only = o.only; same = subst (λ d. IsSame d (extern_type_of c.args.import.now.desc)) same (c.is_same.ensures.0 c.if-is_same.true) }, o.provider_is, o.export_is)
 
 pub returns-else-is_same-clause-unserved : goal.returns-else-is_same-clause-unserved
@@ -43,5 +43,5 @@ returns-else-is_same-clause-unserved c =
     let i = extern_at c.args.at c.args.number (extern_of c.args.import.now) in
     let o = one_offer (candidates set i) c.in-Some.offer.now (sym (c.requires c.args.import.now.name) ∙ ap (get_by_text c.args.offers.now) (sym c.as_str.ensures.text) ∙ sym c.in-Some.ensures.value) c.if-offer.false in
     let there : export_at set c.in-Some.offer.now.provider c.in-Some.offer.now.export ≡ Some o.candidate.item = ap (λ p. export_at set p c.in-Some.offer.now.export) o.provider_is ∙ ap (export_at set o.candidate.component) o.export_is ∙ found set i o.candidate o.only in
-    let same = seen_item c.in-Some-export_at.export.now o.candidate.item (c.in-Some-export_at.ensures ∙ there) in
+    let same = seen_item c.in-Some-export_at.export.now o.candidate.item (c.in-Some-export_at.ensures.item ∙ there) in
     (o.candidate, o.only, λ h. let s = subst (λ d. IsSame d (extern_type_of c.args.import.now.desc)) (sym same) h in let t = c.is_same.ensures.1 s in false≢true (sym c.if-is_same.false ∙ t))

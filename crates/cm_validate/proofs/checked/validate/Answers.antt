@@ -4,12 +4,16 @@ use Rattle.cm_validate.specs.Tables.{AreTables}
 use Rattle.cm_validate.specs.Valid.{sections_fault, MayLackMemoryIn}
 use Rattle.cm_validate.proofs.Order.{none_found, fault_found, fault_is_broken}
 use Rattle.cm_validate.proofs.MemoryPlaces.{lacks_behind}
+use Rattle.cm_validate.specs.Items.{all_items}
+use Rattle.cm_validate.specs.Room.{HasRoom}
+use Rattle.cm_validate.proofs.RoomLemmas.{room_for_file, room_of_file}
 use Rattle.cm_validate.proofs.checked.validate.Goals as goal
 
 pub invariant_of-result : goal.invariant_of-result
 invariant_of-result c =
     record {
       valid = none_found 0 empty_spaces c.args.component (ap (sections_fault 0 empty_spaces) (sym c.sections.ensures.sections) ∙ c.in-Ok.ensures.fine);
+      room = room_of_file c.args.component c.sections.ensures.few;
       of_spaces = subst (AreTables c.in-Ok-tables_of.tables) (c.in-Ok.ensures.spaces ∙ ap spaces_of c.sections.ensures.sections) c.in-Ok-tables_of.ensures;
     }
 
@@ -34,3 +38,6 @@ returns-in-Err-clause-complete c = λ valid.
 pub returns-in-Err-tables_of-clause-fault : goal.returns-in-Err-tables_of-clause-fault
 returns-in-Err-tables_of-clause-fault c =
     inl (refl, lacks_behind c.sections-in-Err-tables_of.result.now c.args.component (length c.sections-in-Err-tables_of.result.now) c.sections-in-Err-tables_of.ensures.sections refl (ap (sections_fault 0 empty_spaces) (sym c.sections.ensures.sections) ∙ c.in-Ok.ensures.fine))
+
+pub walk_all-requires : goal.walk_all-requires
+walk_all-requires c = subst (λ xs. HasRoom empty_spaces (all_items xs)) (sym c.sections.ensures.sections) (room_for_file c.args.component c.sections.ensures.few)
