@@ -5,6 +5,7 @@ ghost use Rattle.cm_wit_text.specs.declared.fault.ReadError.TheVariants.{Memory}
 ghost use Rattle.cm_wit_text.specs.Faults.{reason_number};
 
 use std::alloc::{AllocError, AllocFailed};
+use std::fmt;
 
 /// Why a text is refused.
 #[derive(Clone, Copy, PartialEq, Eq)]
@@ -34,6 +35,26 @@ impl WitReason {
     {
         self as u8
     }
+
+    /// What is wrong, in a few words.
+    fn text(self) -> &'static str {
+        match self {
+            WitReason::BadToken => "no token begins here",
+            WitReason::Unexpected => "another token was expected",
+            WitReason::Duplicate => "a name stands twice",
+            WitReason::UnknownName => "nothing declares this name",
+            WitReason::Cycle => "a declaration leads to itself",
+            WitReason::Unsupported => "a form that is not read",
+            WitReason::TooDeep => "a type more than 64 deep",
+            WitReason::Memory => "no memory",
+        }
+    }
+}
+
+impl fmt::Display for WitReason {
+    fn fmt<W: fmt::Write>(&self, f: &mut fmt::Formatter<W>) -> fmt::Result {
+        write!(f, "{}", self.text())
+    }
 }
 
 /// Why a text is refused, and where: the byte, counted from 0, at which the fault's token stands,
@@ -42,6 +63,13 @@ impl WitReason {
 pub struct WitFault {
     pub at: usize,
     pub reason: WitReason,
+}
+
+impl fmt::Display for WitFault {
+    fn fmt<W: fmt::Write>(&self, f: &mut fmt::Formatter<W>) -> fmt::Result {
+        let WitFault { at, reason } = self;
+        write!(f, "{reason} at {at}")
+    }
 }
 
 /// Why nothing was read. A fault is at the place where the reader stands.
