@@ -2,7 +2,7 @@
 -- stack, and each instance on the stack is open.
 use Rattle.std.proofs.Common.{◌≡◌, ℕ, zero, suc, ◌<◌, Bool, true, false, List, [], ◌∷◌, length, map, Option, Some, None, refl, sym, ap, subst, ◌∙◌, arith}
 use Rattle.std.specs.Prelude.{slice_get, unwrap_or, not, ◌≤◌}
-use Rattle.cm_machine_model.specs.declared.limits.TheConstants.{MAX_FLAT_PARAMS}
+use Rattle.cm_types.specs.declared.limits.TheConstants.{MAX_FLAT_PARAMS}
 use Rattle.std.specs.Option.{option_map}
 use Rattle.std.specs.List.{AllByRecursion}
 use Rattle.std.proofs.lemmas.Option.{slice_get_within}

@@ -4,7 +4,7 @@ use Rattle.cm_types.specs.declared.core_value.CoreKind.{CoreKind}
 use Rattle.cm_types.specs.declared.core_value.CoreKind.TheVariants.{I32}
 use Rattle.cm_types.specs.Types.{FuncTy}
 use Rattle.cm_layout.specs.Flattening.{flat_of_fields, flat_of_payload}
-use Rattle.cm_layout.specs.declared.flat_funcs.TheConstants.{MAX_FLAT_PARAMS, MAX_FLAT_RESULTS}
+use Rattle.cm_types.specs.declared.limits.TheConstants.{MAX_FLAT_PARAMS, MAX_FLAT_RESULTS}
 use Rattle.cm_layout.specs.declared.flat_funcs.Side.{Side}
 use Rattle.cm_layout.specs.declared.flat_funcs.Side.TheVariants.{Lift, Lower}
 use Rattle.cm_layout.specs.declared.flat_funcs.FlatFunc.{FlatFunc}

@@ -8,14 +8,8 @@ ghost use Rattle.cm_layout.specs.Flattening.{flat_of_payload};
 ghost use Rattle.cm_layout.specs.FlatFuncs.{flat_func, flat_func_of, lifted_func, lowered_func};
 
 use crate::flattening::{push_fields, push_flat};
-use cm_types::{CoreKind, Func, TypeTree};
+use cm_types::{CoreKind, Func, MAX_FLAT_PARAMS, MAX_FLAT_RESULTS, TypeTree};
 use std::alloc::{AllocError, Global};
-
-/// How many core values may pass the parameters of a function.
-pub const MAX_FLAT_PARAMS: usize = 16;
-
-/// How many core values may pass the result of a function.
-pub const MAX_FLAT_RESULTS: usize = 1;
 
 /// Which core function: the one that a component lifts, or the one that it gets for a function that
 /// it lowers.

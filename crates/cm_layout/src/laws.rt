@@ -3,7 +3,7 @@
 
 ghost use Rattle.std.specs.Prelude.{◌≡◌};
 
-use crate::flat_funcs::{MAX_FLAT_PARAMS, MAX_FLAT_RESULTS};
+use cm_types::{MAX_FLAT_PARAMS, MAX_FLAT_RESULTS};
 
 /// At most 16 core values pass the parameters of a function, and at most 1 its result
 /// (CanonicalABI.md, "Flattening").

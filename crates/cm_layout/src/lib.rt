@@ -12,7 +12,8 @@ mod sizes;
 mod whole_types;
 
 pub use alignments::node_align;
-pub use flat_funcs::{FlatFunc, MAX_FLAT_PARAMS, MAX_FLAT_RESULTS, Side, flatten_func};
+pub use cm_types::{MAX_FLAT_PARAMS, MAX_FLAT_RESULTS};
+pub use flat_funcs::{FlatFunc, Side, flatten_func};
 pub use layout_trees::{LayoutTree, is_number, layout, layout_of_params, node_layout};
 pub use offsets::{
     node_case_offset, node_discriminant_size, node_field_offset, node_has_cases, node_has_field,

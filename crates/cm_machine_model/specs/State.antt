@@ -11,7 +11,8 @@ use Rattle.cm_machine_model.specs.declared.frame.Phase.TheVariants as phase
 use Rattle.cm_machine_model.specs.declared.frame.Place.{Place}
 use Rattle.cm_machine_model.specs.declared.frame.Place.TheVariants as place
 use Rattle.cm_machine_model.specs.declared.frame.Lend.{Lend}
-use Rattle.cm_machine_model.specs.declared.limits.TheConstants.{MAX_FLAT_PARAMS, MAX_INSTANCES}
+use Rattle.cm_types.specs.declared.limits.TheConstants.{MAX_FLAT_PARAMS}
+use Rattle.cm_machine_model.specs.declared.limits.TheConstants.{MAX_INSTANCES}
 use Rattle.cm_handles.specs.Handles.{Handles, no_handles, after_close}
 use Rattle.cm_machine_model.specs.Stack.{top_of}
 

@@ -8,7 +8,7 @@ use Rattle.cm_types.specs.Types.{Ty, unsigned, bits_32}
 use Rattle.cm_types.specs.Values.{Val, Vals, number, parts, no_vals, val}
 use Rattle.cm_handles.specs.Handles.{Handles, no_handles}
 use Rattle.cm_machine_model.specs.declared.frame.LoweredFunc.{LoweredFunc}
-use Rattle.cm_machine_model.specs.declared.limits.TheConstants.{MAX_FLAT_PARAMS, MAX_FLAT_RESULTS}
+use Rattle.cm_types.specs.declared.limits.TheConstants.{MAX_FLAT_PARAMS, MAX_FLAT_RESULTS}
 use Rattle.cm_machine_model.specs.Checks.{result_count}
 use Rattle.cm_machine_model.specs.Memories.{memory_at}
 use Rattle.cm_machine_model.specs.State.{State}

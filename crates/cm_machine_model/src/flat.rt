@@ -3,9 +3,8 @@
 ghost use Rattle.std.specs.Prelude.{◌≡◌, ◌+◌, ◌<◌, ◌≤◌, [], ◌∷◌, ◌++◌, length, IfSome, IfNone};
 ghost use Rattle.cm_types.specs.declared.core_value.CoreValue.{CoreValue};
 
-use crate::limits::MAX_FLAT_PARAMS;
 use arrayvec::ArrayVec;
-use cm_types::CoreValue;
+use cm_types::{CoreValue, MAX_FLAT_PARAMS};
 use std::marker::Model;
 
 /// At most `MAX_FLAT_PARAMS` core values, kept in place: making one takes no memory.
@@ -17,7 +16,7 @@ pub struct Flat {
 impl Model for Flat {
     ghost use Rattle.std.specs.Prelude.{◌≤◌, List, length};
     ghost use Rattle.cm_types.specs.declared.core_value.CoreValue.{CoreValue};
-    ghost use Rattle.cm_machine_model.specs.declared.limits.TheConstants.{MAX_FLAT_PARAMS};
+    ghost use Rattle.cm_types.specs.declared.limits.TheConstants.{MAX_FLAT_PARAMS};
 
     ghost Value = { List CoreValue };
 

@@ -11,12 +11,10 @@ pub mod laws;
 mod limits;
 mod moves;
 
+pub use cm_types::{MAX_FLAT_PARAMS, MAX_FLAT_RESULTS};
 pub use event::{Event, Misuse, Trap};
 pub use flat::Flat;
-pub use limits::{
-    MAX_FLAT_PARAMS, MAX_FLAT_RESULTS, MAX_FRAMES, MAX_INSTANCES, MAX_MEMORY_SIZE, MAX_PAGES,
-    PAGE_SIZE,
-};
+pub use limits::{MAX_FRAMES, MAX_INSTANCES, MAX_MEMORY_SIZE, MAX_PAGES, PAGE_SIZE};
 pub use moves::Move;
 
 /// What a state is made of: types that only contracts name.

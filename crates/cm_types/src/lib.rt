@@ -19,7 +19,7 @@ mod values;
 pub use core_value::{CoreKind, CoreValue};
 pub use def_types::{DefType, FuncType, LabeledValType, ValType};
 pub use extern_names::{ExternName, ExternNameForm};
-pub use limits::{MAX_DEPTH, MAX_NODES};
+pub use limits::{MAX_DEPTH, MAX_FLAT_PARAMS, MAX_FLAT_RESULTS, MAX_NODES};
 pub use names::{Label, NameFault, same_name};
 pub use resource::ResourceId;
 pub use same_types::{same_func, same_type};

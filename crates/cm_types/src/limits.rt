@@ -14,6 +14,14 @@ pub const MAX_NODES: u32 = 10_000;
 /// The depth that a type may have.
 pub const MAX_DEPTH: u32 = 64;
 
+/// The most core values that the parameters of a function are passed as (CanonicalABI.md,
+/// `MAX_FLAT_PARAMS`).
+pub const MAX_FLAT_PARAMS: usize = 16;
+
+/// The most core values that a function's result is passed as (CanonicalABI.md,
+/// `MAX_FLAT_RESULTS`).
+pub const MAX_FLAT_RESULTS: usize = 1;
+
 /// The count, or one over the limit where it is more than the limit.
 fn count_up_to_one_over(count: u64) -> u32
     ensures { result ≡ min count (MAX_NODES + 1) }

@@ -12,7 +12,7 @@ use Rattle.cm_component.specs.declared.section.ExternDesc.{ExternDesc}
 use Rattle.cm_component.specs.declared.section.ExternDesc.TheVariants as desc
 use Rattle.cm_validate.specs.declared.fault.ValidReason.{ValidReason}
 use Rattle.cm_validate.specs.declared.fault.ValidReason.TheVariants as reason
-use Rattle.cm_validate.specs.declared.rules.TheConstants.{MAX_FLAT_PARAMS}
+use Rattle.cm_types.specs.declared.limits.TheConstants.{MAX_FLAT_PARAMS}
 use Rattle.cm_validate.specs.Items.{Item, all_items, module_item, core_instance_item, alias_item, type_item, canon_item, import_item, export_item}
 use Rattle.cm_validate.specs.Spaces.{IndexSpaces, CoreFuncTree, FuncDefTree, guest, lifted, imported, empty_spaces, after_item, after_items, after_canon, after_import, lower_import, func_type_of, spaces_of}
 use Rattle.cm_validate.specs.Rules.{item_rules, canon_rules, is_flat, param_count}

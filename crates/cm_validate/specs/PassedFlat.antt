@@ -1,7 +1,7 @@
 -- What a lowered function's core signature comes to, in a valid component (CanonicalABI.md,
 -- "Flattening").
 use Rattle.std.specs.Prelude.{◌≤◌}
-use Rattle.cm_validate.specs.declared.rules.TheConstants.{MAX_FLAT_PARAMS}
+use Rattle.cm_types.specs.declared.limits.TheConstants.{MAX_FLAT_PARAMS}
 use Rattle.cm_validate.specs.Rules.{param_count}
 use Rattle.cm_validate.specs.Spaces.{CoreFuncTree, guest, lowered}
 

@@ -23,7 +23,7 @@ use Rattle.cm_component.specs.declared.section.ExternDesc.{ExternDesc}
 use Rattle.cm_component.specs.declared.section.ExternDesc.TheVariants as desc
 use Rattle.cm_validate.specs.declared.fault.ValidReason.{ValidReason}
 use Rattle.cm_validate.specs.declared.fault.ValidReason.TheVariants as reason
-use Rattle.cm_validate.specs.declared.rules.TheConstants.{MAX_FLAT_PARAMS}
+use Rattle.cm_types.specs.declared.limits.TheConstants.{MAX_FLAT_PARAMS}
 use Rattle.cm_validate.specs.Items.{Item, module_item, core_instance_item, alias_item, type_item}
 use Rattle.cm_validate.specs.Items.{canon_item, import_item, export_item}
 use Rattle.cm_validate.specs.Spaces.{IndexSpaces, CoreFuncTree, FuncDefTree, guest, lowered, lifted}

@@ -16,4 +16,3 @@ mod walk;
 pub use checked::{Checked, validate};
 pub use definitions::{CoreFuncDef, FuncDef};
 pub use fault::{ValidFault, ValidReason};
-pub use rules::MAX_FLAT_PARAMS;

@@ -16,12 +16,11 @@ ghost use Rattle.cm_validate.specs.Rules.{has_memory, has_realloc, name_is_plain
 ghost use Rattle.cm_validate.specs.Rules.{params_are_within_limits, param_count};
 
 use cm_component::CoreInstantiationArg;
-use cm_types::{ExternName, ExternNameForm, Func, FuncType, LabeledValType, MAX_NODES};
+use cm_types::{
+    ExternName, ExternNameForm, Func, FuncType, LabeledValType, MAX_FLAT_PARAMS, MAX_NODES,
+};
 use std::alloc::{AllocError, Global};
 use std::collections::BTreeSet;
-
-/// The most parameters that are passed flat (CanonicalABI.md, "Flattening").
-pub const MAX_FLAT_PARAMS: usize = 16;
 
 /// Whether an index is below the count of what stands before the item.
 pub(crate) fn index_is_there(index: u32, count: usize) -> bool
