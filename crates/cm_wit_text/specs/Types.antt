@@ -1,4 +1,5 @@
 -- Types (WIT.md, "Item: `ty`").
+use Rattle.cm_types.specs.declared.limits.TheConstants.{MAX_DEPTH}
 use Rattle.std.specs.Prelude.{ℕ, zero, suc, Bool, List, [], ◌∷◌, Option, Some, None, Result, Ok}
 use Rattle.std.specs.Prelude.{Err}
 use Rattle.std.specs.Prelude.{is_ok, if◌then◌else◌}
@@ -180,6 +181,6 @@ unfoldable pub ty : Bool → ℕ → Grammar Ty
 ty borrows zero = token (λ f. too_deep (start_in borrows f))
 ty borrows (suc room) = token (start_in borrows) >>= λ h. rest_of (ty borrows room) h
 
--- a type is at most 64 deep (this project's own choice)
+-- a type is at most MAX_DEPTH deep (this project's own choice)
 abbrev pub most_depth : ℕ
-most_depth = 64
+most_depth = MAX_DEPTH

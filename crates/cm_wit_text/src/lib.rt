@@ -14,4 +14,4 @@ pub use cursor::Cursor;
 pub use fault::{ReadError, WitFault, WitReason};
 pub use name::Name;
 pub use signatures::{Func, Path, Typed};
-pub use types::{MOST_DEPTH, Primitive, WitType};
+pub use types::{Primitive, WitType};

@@ -13,7 +13,7 @@ use crate::fault::ReadError;
 use crate::items::{Item, read_items};
 use crate::name::Name;
 use crate::signatures::{Func, Path, Typed};
-use crate::types::MOST_DEPTH;
+use cm_types::MAX_DEPTH;
 use cm_wit_tokens::{Form, Operator, Token, Version};
 use std::alloc::Global;
 
@@ -49,7 +49,7 @@ impl Cursor {
     {
         let name = self.name()?;
         self.expect(Operator::Colon)?;
-        let ty = self.ty(alloc, true, MOST_DEPTH)?;
+        let ty = self.ty(alloc, true, MAX_DEPTH)?;
         Ok(Typed { name, ty })
     }
 
@@ -75,7 +75,7 @@ impl Cursor {
         let params = self.params(alloc)?;
         if self.next_is(Operator::Arrow) {
             self.expect(Operator::Arrow)?;
-            let result = Some(self.ty(alloc, false, MOST_DEPTH)?);
+            let result = Some(self.ty(alloc, false, MAX_DEPTH)?);
             Ok(Func { params, result })
         } else {
             Ok(Func {

@@ -8,9 +8,6 @@ ghost use Rattle.cm_wit_text.specs.TypeViews.{head_tree};
 use crate::name::Name;
 use cm_wit_tokens::{Form, Keyword};
 
-/// How deep a type may be (this project's own choice).
-pub const MOST_DEPTH: u32 = 64;
-
 /// A type that holds no other (WIT.md, "Item: `ty`").
 #[derive(Clone, Copy)]
 pub enum Primitive {
