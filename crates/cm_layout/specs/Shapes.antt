@@ -1,6 +1,6 @@
 -- The layout of a type and of all types in it, as one tree (CanonicalABI.md, "Alignment", "Element
 -- Size" and "Flattening").
-use Rattle.std.specs.Prelude.{ℕ, zero, suc, ◌+◌, length, List}
+use Rattle.std.specs.Prelude.{ℕ, ◌+◌, length, List, [], ◌∷◌, Option, Some, None}
 use Rattle.cm_types.specs.Types.{Ty, Fields, Cases, width_bytes, bool, signed, unsigned, char}
 use Rattle.cm_types.specs.Types.{string, list, fixed_list, fields, cases, flags, own, borrow}
 use Rattle.cm_types.specs.Types.{tuple_type, no_fields, field, no_cases, plain, carrying}
@@ -45,6 +45,21 @@ pub record LayoutTy : Type 0 where
   pub head : Head
   pub shape : Shape
 
+-- fields from a list, each with where it stands
+abbrev pub parts_from : List (ℕ × LayoutTy) → Parts
+parts_from [] = no_parts
+parts_from (p ∷ ps) = part p.0 p.1.head p.1.shape (parts_from ps)
+
+-- what one case carries, if anything, and others
+abbrev pub payload_before : Option LayoutTy → Payloads → Payloads
+payload_before None ps = nothing ps
+payload_before (Some l) ps = carried l.head l.shape ps
+
+-- what cases carry, from a list
+abbrev pub payloads_from : List (Option LayoutTy) → Payloads
+payloads_from [] = no_payloads
+payloads_from (p ∷ ps) = payload_before p (payloads_from ps)
+
 -- size and alignment in bytes, how many core values pass it, and whether it is plain bytes
 abbrev pub head_of : Ty → Head
 head_of t =
@@ -65,30 +80,28 @@ abbrev mutual
   shape_of_type string = string_shape
   shape_of_type (list t) = list_shape (head_of t) (shape_of_type t)
   shape_of_type (fixed_list t n) = fixed_list_shape (head_of t) (shape_of_type t) n
-  shape_of_type (fields k fs) = fields_shape (parts_at fs 0)
+  shape_of_type (fields k fs) = fields_shape (parts_from (parts_at fs 0))
   shape_of_type (cases k cs) =
-      cases_shape (discriminant_size (case_count cs)) (payload_offset cs) (payloads_of cs)
+      cases_shape (discriminant_size (case_count cs)) (payload_offset cs)
+      (payloads_from (payloads_of cs))
   shape_of_type (flags ls) = leaf_shape (leaf.Flags (length ls) (flags_size (length ls)))
   shape_of_type (own r) = handle_shape (handle.Own r)
   shape_of_type (borrow r) = handle_shape (handle.Borrow r)
 
-  -- those of fields, if what is before them ends here
-  pub parts_at : Fields → ℕ → Parts
-  parts_at no_fields at = no_parts
+  -- the fields, if what is before them ends here
+  pub parts_at : Fields → ℕ → List (ℕ × LayoutTy)
+  parts_at no_fields at = []
   parts_at (field l t fs) at =
-      part (align_to (align_of t) at) (head_of t) (shape_of_type t)
-      (parts_at fs (align_to (align_of t) at + size_of t))
+      (align_to (align_of t) at, record { head = head_of t; shape = shape_of_type t })
+      ∷ parts_at fs (align_to (align_of t) at + size_of t)
 
-  -- those of what cases carry
-  pub payloads_of : Cases → Payloads
-  payloads_of no_cases = no_payloads
-  payloads_of (plain l cs) = nothing (payloads_of cs)
-  payloads_of (carrying l t cs) = carried (head_of t) (shape_of_type t) (payloads_of cs)
+  -- what the cases carry
+  pub payloads_of : Cases → List (Option LayoutTy)
+  payloads_of no_cases = []
+  payloads_of (plain l cs) = None ∷ payloads_of cs
+  payloads_of (carrying l t cs) =
+      Some (record { head = head_of t; shape = shape_of_type t }) ∷ payloads_of cs
 
 -- the layout of a type
 abbrev pub layout_at : Ty → LayoutTy
 layout_at t = record { head = head_of t; shape = shape_of_type t }
-
--- the layout of fields, as of the tuple of them
-abbrev pub layout_of_fields_at : Fields → LayoutTy
-layout_of_fields_at fs = layout_at (fields tuple_type fs)
