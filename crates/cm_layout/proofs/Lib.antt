@@ -8,3 +8,4 @@ pub mod LaidLaws
 pub mod WidthLaws
 pub mod BulkLaws
 pub mod MarkLaws
+pub mod HeadLaws

@@ -16,7 +16,7 @@ join_long [] ys = omega arith
 join_long (x ∷ xs) [] = omega arith
 join_long (x ∷ xs) (y ∷ ys) = omega (arith, join_long xs ys)
 
-repeated_narrow : (n w x : ℕ) → w ≤ 2 * x → n * w ≤ 2 * (1 + max n 1 * x)
+pub repeated_narrow : (n w x : ℕ) → w ≤ 2 * x → n * w ≤ 2 * (1 + max n 1 * x)
 repeated_narrow zero w x h = omega arith
 repeated_narrow (suc m) w x h =
     let k : suc m * w ≤ suc m * (2 * x) = mul-le-mul_left (suc m) h in

@@ -3,4 +3,5 @@ pub mod Sizes
 pub mod Flattening
 pub mod PlainBytes
 pub mod Shapes
+pub mod Heads
 pub mod Laid

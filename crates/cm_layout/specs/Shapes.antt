@@ -70,6 +70,10 @@ head_of t =
       is_bulk = is_bulk t;
     }
 
+-- those of fields, as of the tuple of them
+abbrev pub head_of_fields : Fields → Head
+head_of_fields fs = head_of (fields tuple_type fs)
+
 abbrev mutual
   -- the shape of a type
   pub shape_of_type : Ty → Shape
@@ -105,3 +109,7 @@ abbrev mutual
 -- the layout of a type
 abbrev pub layout_at : Ty → LayoutTy
 layout_at t = record { head = head_of t; shape = shape_of_type t }
+
+-- that of fields, as of the tuple of them
+abbrev pub layout_of_fields_at : Fields → LayoutTy
+layout_of_fields_at fs = layout_at (fields tuple_type fs)

@@ -38,6 +38,19 @@ impl CasesSoFar {
         }
     }
 
+    /// These and those.
+    pub(crate) fn beside(self, others: CasesSoFar) -> CasesSoFar
+        ensures size { result.size ≡ max self.size others.size }
+        ensures align { result.align ≡ max self.align others.align }
+        ensures width { result.width ≡ max self.width others.width }
+    {
+        CasesSoFar {
+            size: self.size.max(others.size),
+            align: self.align.max(others.align),
+            width: self.width.max(others.width),
+        }
+    }
+
     /// Where the payload stands, behind the number of the case.
     pub(crate) fn offset(self, discriminant: u32) -> u32
         requires some { 1 ≤ self.align }

@@ -7,6 +7,7 @@ mod fields;
 mod heads;
 pub mod laws;
 mod layouts;
+mod measures;
 
 pub use cm_types::{MAX_FLAT_PARAMS, MAX_FLAT_RESULTS};
 pub use heads::Head;

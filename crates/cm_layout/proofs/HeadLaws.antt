@@ -1,0 +1,180 @@
+-- What loops over fields and cases keep, and what it gives in the end.
+use Rattle.std.proofs.Common.{◌≡◌, ℕ, zero, suc, ◌+◌, ◌*◌, ◌≤◌, ◌<◌, max, Bool, true, false, ◌&&◌, List, [], ◌∷◌, ◌++◌, length, Option, Some, None, refl, sym, ap, ◌∙◌, arith, ◌||◌, length-append}
+use Rattle.std.proofs.Math.Bool.{and-true}
+use Rattle.std.proofs.lemmas.Bool.{ne_eqb}
+use Rattle.std.specs.Prelude.{◌==◌}
+use Rattle.cm_types.specs.Types.{Ty, Fields, Cases, FieldsKind, CasesKind, fixed_list, fields, cases, flags, no_fields, field, no_cases, plain, carrying}
+use Rattle.cm_types.specs.TypeTrees.{case_before, plain_from}
+use Rattle.cm_types.specs.Limits.{nodes_of, nodes_of_fields, nodes_of_cases, payload_nodes}
+use Rattle.cm_layout.specs.Alignment.{align_to}
+use Rattle.cm_layout.specs.Sizes.{align_of, align_of_fields, align_of_payloads, case_count, discriminant_size, flags_size, size_of, end_of, greatest_payload}
+use Rattle.cm_layout.specs.Flattening.{flat_of, flat_of_fields, flat_of_cases, flat_of_payload}
+use Rattle.cm_layout.specs.PlainBytes.{is_bulk}
+use Rattle.cm_layout.specs.Heads.{AreGreatestOf, IsTakenBy}
+use Rattle.cm_layout.specs.declared.fields.FieldsSoFar.{FieldsSoFar}
+use Rattle.cm_layout.specs.declared.cases.CasesSoFar.{CasesSoFar}
+use Rattle.cm_layout.specs.declared.heads.Head.{Head}
+use Rattle.cm_layout.proofs.AlignLemmas.{align_before, payload_align_pos, enum_align, flags_pos, align_pos, fields_align_pos, payloads_align_pos}
+use Rattle.cm_layout.proofs.Seen.{before_nodes}
+use Rattle.cm_layout.proofs.FlatLemmas.{flat_plain}
+use Rattle.cm_layout.proofs.SizeLemmas.{two_nodes, enum_size, greatest_before, align_small, fields_align_small, payloads_align_small, size_small, end_small, payload_small, repeated_small, element_nodes}
+use Rattle.cm_layout.proofs.WidthLaws.{copies_long, join_long, repeated_narrow, narrow, fields_narrow, cases_narrow}
+use Rattle.cm_layout.proofs.BulkLaws.{fills, fields_bulk, fixed_list_bulk, cases_not_bulk}
+
+-- what fields take so far, with these left of all
+pub record IsBegun (s : FieldsSoFar) (rest all : Fields) : Type 0 where
+  pub positive : 1 ≤ s.align
+  pub near : s.align ≤ 8
+  pub room : s.end + 32 * nodes_of_fields rest ≤ 320000
+  pub space : s.width + 2 * nodes_of_fields rest ≤ 20000
+  pub end : end_of rest s.end ≡ end_of all 0
+  pub align : max s.align (align_of_fields rest) ≡ align_of_fields all
+  pub width : s.width + length (flat_of_fields rest) ≡ length (flat_of_fields all)
+  pub is_bulk : (s.is_bulk && fills rest s.end) ≡ fills all 0
+
+-- what the payloads of cases take so far, with these left of all
+pub record IsBegunCases (s : CasesSoFar) (rest all : Cases) : Type 0 where
+  pub positive : 1 ≤ s.align
+  pub near : s.align ≤ 8
+  pub few : nodes_of_cases rest ≤ 10000
+  pub size : max s.size (greatest_payload rest) ≡ greatest_payload all
+  pub align : max s.align (align_of_payloads rest) ≡ align_of_payloads all
+  pub width : max s.width (length (flat_of_cases rest)) ≡ length (flat_of_cases all)
+
+-- of so many elements
+pub repeated_room : (n s x : ℕ) → s + 7 ≤ 32 * x → 1 + max n 1 * x ≤ 10000 → n * s < 4294967296
+repeated_room n s x h k = omega (arith, repeated_small n s x h)
+
+pub repeated_space : (n w x : ℕ) → w ≤ 2 * x → 1 + max n 1 * x ≤ 10000 → n * w < 4294967296
+repeated_space n w x h k = omega (arith, repeated_narrow n w x h)
+
+-- ---- from numbers to what a type takes
+
+pub taken : (t : Ty) (h : Head) → h.size ≡ size_of t → h.align ≡ align_of t → h.width ≡ length (flat_of t) → h.is_bulk ≡ is_bulk t → IsTakenBy t h
+taken t h e f g i =
+    record {
+      size = e;
+      align = f;
+      width = g;
+      is_bulk = i;
+      small = rw e (size_small t);
+      narrow = rw g (narrow t);
+      positive = rw f (align_pos t);
+      near = rw f (align_small t);
+    }
+
+-- a list of fixed length, from its element
+pub fixed_list_taken : (t : Ty) (n : ℕ) (e h : Head) → IsTakenBy t e → h.size ≡ n * e.size → h.align ≡ e.align → h.width ≡ n * e.width → h.is_bulk ≡ ((n == 0) || e.is_bulk) → IsTakenBy (fixed_list t n) h
+fixed_list_taken t n e h i f g k l =
+    taken (fixed_list t n) h
+    (f ∙ ap (λ x. n * x) i.size)
+    (g ∙ i.align)
+    (k ∙ ap (λ x. n * x) i.width ∙ sym (copies_long n (flat_of t)))
+    (l ∙ ap (λ b. (n == 0) || b) i.is_bulk ∙ sym (fixed_list_bulk t n))
+
+-- cases, from the greatest of what they carry
+pub cases_taken : (k : CasesKind) (cs : Cases) (s : CasesSoFar) (d : ℕ) (h : Head) → AreGreatestOf cs s → d ≡ discriminant_size (case_count cs)
+    → h.size ≡ align_to (max d s.align) (align_to s.align d + s.size) → h.align ≡ max d s.align → h.width ≡ 1 + s.width → h.is_bulk ≡ false → IsTakenBy (cases k cs) h
+cases_taken k cs s d h g e f i j l =
+    taken (cases k cs) h (f ∙ rw (g.align, g.size, e) refl) (i ∙ rw (g.align, e) refl) (j ∙ ap (λ x. 1 + x) g.width ∙ omega arith) (l ∙ sym (cases_not_bulk k cs))
+
+-- fields, once none is left
+pub fields_taken : (k : FieldsKind) (fs : Fields) (s : FieldsSoFar) (h : Head) → IsBegun s no_fields fs
+    → h.size ≡ align_to s.align s.end → h.align ≡ s.align → h.width ≡ s.width → h.is_bulk ≡ (s.is_bulk && (align_to s.align s.end == s.end)) → IsTakenBy (fields k fs) h
+fields_taken k fs s h b e f g i =
+    let a : s.align ≡ align_of_fields fs = omega (arith, b.align, b.positive) in
+    let w : s.width ≡ length (flat_of_fields fs) = omega (arith, b.width) in
+    taken (fields k fs) h (e ∙ rw (a, b.end) refl) (f ∙ a) (g ∙ w)
+    (i ∙ ap (λ c. c && (align_to s.align s.end == s.end)) (sym (and-true s.is_bulk) ∙ b.is_bulk) ∙ rw (a, b.end) refl ∙ fields_bulk k fs)
+
+-- one more case, from what it carries
+pub cases_begun : (l m : List ℕ) (p : Option Ty) (rest all : Cases) (s o r : CasesSoFar) → IsBegunCases s (case_before l p rest) all → AreGreatestOf (case_before m p no_cases) o
+    → r.size ≡ max s.size o.size → r.align ≡ max s.align o.align → r.width ≡ max s.width o.width → IsBegunCases r rest all
+cases_begun l m None rest all s o r b g e f i =
+    record {
+      positive = omega (arith, b.positive);
+      near = omega (arith, b.near, g.near);
+      few = b.few;
+      size = omega (arith, b.size, g.size);
+      align = omega (arith, b.align, g.align, payloads_align_pos rest);
+      width = omega (arith, b.width, g.width);
+    }
+cases_begun l m (Some t) rest all s o r b g e f i =
+    let w : length (flat_of_cases (carrying m t no_cases)) ≡ length (flat_of t) = join_long (flat_of t) [] ∙ omega arith in
+    let v : length (flat_of_cases (carrying l t rest)) ≡ max (length (flat_of t)) (length (flat_of_cases rest)) = join_long (flat_of t) (flat_of_cases rest) in
+    record {
+      positive = omega (arith, b.positive);
+      near = omega (arith, b.near, g.near);
+      few = omega (arith, b.few);
+      size = omega (arith, b.size, g.size);
+      align = omega (arith, b.align, g.align, align_pos t);
+      width = omega (arith, b.width, g.width, w, v);
+    }
+
+-- the bounds follow from the numbers
+greatest_of : (cs : Cases) (s : CasesSoFar) → s.size ≡ greatest_payload cs → s.align ≡ align_of_payloads cs → s.width ≡ length (flat_of_cases cs) → AreGreatestOf cs s
+greatest_of cs s e f g =
+    record {
+      size = e;
+      align = f;
+      width = g;
+      small = rw e (payload_small cs);
+      narrow = rw g (cases_narrow cs);
+      positive = rw f (payloads_align_pos cs);
+      near = rw f (payloads_align_small cs);
+    }
+
+-- once no case is left
+pub cases_ended : (all : Cases) (s : CasesSoFar) → IsBegunCases s no_cases all → AreGreatestOf all s
+cases_ended all s b = greatest_of all s (omega (arith, b.size)) (omega (arith, b.align, b.positive)) (omega (arith, b.width))
+
+width_before : (l : List ℕ) (p : Option Ty) (cs : Cases) → length (flat_of_cases (case_before l p cs)) ≡ max (length (flat_of_payload p)) (length (flat_of_cases cs))
+width_before l None cs = omega arith
+width_before l (Some t) cs = join_long (flat_of t) (flat_of_cases cs)
+
+-- nothing, or one payload
+pub none_greatest : (l : List ℕ) (s : CasesSoFar) → s ≡ record { size = 0; align = 1; width = 0 } → AreGreatestOf (plain l no_cases) s
+none_greatest l s e = greatest_of (plain l no_cases) s (ap (λ x. x.size) e) (ap (λ x. x.align) e) (ap (λ x. x.width) e)
+
+pub one_greatest : (l m : List ℕ) (t : Ty) (h : Head) (n s : CasesSoFar) → n ≡ record { size = 0; align = 1; width = 0 } → IsTakenBy t h
+    → s.size ≡ max n.size h.size → s.align ≡ max n.align h.align → s.width ≡ max n.width h.width → AreGreatestOf (plain l (carrying m t no_cases)) s
+one_greatest l m t h n s o k e f g =
+    greatest_of (plain l (carrying m t no_cases)) s
+    (e ∙ rw (o, k.size) (omega arith))
+    (f ∙ rw (o, k.align) (omega (arith, align_pos t)))
+    (g ∙ rw (o, k.width) (omega (arith, join_long (flat_of t) [])))
+
+-- what two cases carry, from what each does
+pub both_greatest : (l m a b : List ℕ) (p q : Option Ty) (o r s : CasesSoFar) → AreGreatestOf (case_before a p no_cases) o → AreGreatestOf (case_before b q no_cases) r
+    → s.size ≡ max o.size r.size → s.align ≡ max o.align r.align → s.width ≡ max o.width r.width → AreGreatestOf (case_before l p (case_before m q no_cases)) s
+both_greatest l m a b p q o r s g h e f i =
+    greatest_of (case_before l p (case_before m q no_cases)) s
+    (e ∙ rw (g.size, h.size, greatest_before a p no_cases, greatest_before b q no_cases, greatest_before l p (case_before m q no_cases), greatest_before m q no_cases) (omega arith))
+    (f ∙ rw (g.align, h.align, align_before a p no_cases, align_before b q no_cases, align_before l p (case_before m q no_cases), align_before m q no_cases) (omega (arith, payload_align_pos p, payload_align_pos q)))
+    (i ∙ rw (g.width, h.width, width_before a p no_cases, width_before b q no_cases, width_before l p (case_before m q no_cases), width_before m q no_cases) (omega arith))
+
+-- a result has room for what its cases carry
+pub result_room : (u : Ty) (k : CasesKind) (l m a b : List ℕ) (p q : Option Ty) (o r : CasesSoFar) → u ≡ cases k (case_before l p (case_before m q no_cases)) → nodes_of u ≤ 10000
+    → AreGreatestOf (case_before a p no_cases) o → AreGreatestOf (case_before b q no_cases) r → (max o.size r.size ≤ 320000) × (max o.width r.width ≤ 20000)
+result_room u k l m a b p q o r e h g i =
+    let n : nodes_of u ≡ 1 + (payload_nodes p + payload_nodes q) = ap nodes_of e ∙ two_nodes k l m p q in
+    let x : nodes_of_cases (case_before a p no_cases) ≡ payload_nodes p + 0 = before_nodes a p no_cases in
+    let y : nodes_of_cases (case_before b q no_cases) ≡ payload_nodes q + 0 = before_nodes b q no_cases in
+    (omega (arith, g.small, i.small), omega (arith, g.narrow, i.narrow))
+
+-- ---- enums and flags
+
+pub enum_taken : (k : CasesKind) (ls : List (List ℕ)) (n d : ℕ) (h : Head) → n ≡ length ls → d ≡ discriminant_size n → h ≡ record { size = d; align = d; width = 1; is_bulk = false } → IsTakenBy (cases k (plain_from ls)) h
+enum_taken k ls n d h e f g =
+    taken (cases k (plain_from ls)) h
+    (enum_size k h.size n ls (ap (λ x. x.size) g ∙ f) e)
+    (enum_align k h.align n ls (ap (λ x. x.align) g ∙ f) e)
+    (ap (λ x. x.width) g ∙ omega (arith, ap length (flat_plain ls)))
+    (ap (λ x. x.is_bulk) g ∙ sym (cases_not_bulk k (plain_from ls)))
+
+pub flags_taken : (ls : List (List ℕ)) (n d : ℕ) (h : Head) → n ≡ length ls → d ≡ flags_size n → h ≡ record { size = d; align = d; width = 1; is_bulk = false } → IsTakenBy (flags ls) h
+flags_taken ls n d h e f g =
+    taken (flags ls) h (ap (λ x. x.size) g ∙ f ∙ ap flags_size e) (ap (λ x. x.align) g ∙ f ∙ ap flags_size e) (ap (λ x. x.width) g)
+    (ap (λ x. x.is_bulk) g ∙ sym (ne_eqb 0 (flags_size (length ls)) (λ z. absurd (omega (arith, flags_pos (length ls))))))
+
+pub ruleset heads = (align_pos, fields_align_pos, payloads_align_pos, align_small, fields_align_small, payloads_align_small, size_small, end_small, payload_small, narrow, fields_narrow, cases_narrow, copies_long, join_long, element_nodes, taken)

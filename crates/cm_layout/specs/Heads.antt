@@ -1,0 +1,32 @@
+-- What a value of a type takes, as the code's numbers of 32 bits (CanonicalABI.md, "Alignment",
+-- "Element Size" and "Flattening"). Each node adds at most 32 bytes and 2 core values, so that no sum
+-- of such numbers of one type overflows.
+use Rattle.std.specs.Prelude.{◌≡◌, ℕ, ◌+◌, ◌*◌, ◌≤◌, length}
+use Rattle.cm_types.specs.Types.{Ty, Cases}
+use Rattle.cm_types.specs.Limits.{nodes_of, nodes_of_cases}
+use Rattle.cm_layout.specs.Sizes.{align_of, align_of_payloads, greatest_payload, size_of}
+use Rattle.cm_layout.specs.Flattening.{flat_of, flat_of_cases}
+use Rattle.cm_layout.specs.PlainBytes.{is_bulk}
+use Rattle.cm_layout.specs.declared.heads.Head.{Head}
+use Rattle.cm_layout.specs.declared.cases.CasesSoFar.{CasesSoFar}
+
+-- a type takes this, which is within bounds
+pub record IsTakenBy (t : Ty) (h : Head) : Type 0 where
+  pub size : h.size ≡ size_of t
+  pub align : h.align ≡ align_of t
+  pub width : h.width ≡ length (flat_of t)
+  pub is_bulk : h.is_bulk ≡ is_bulk t
+  pub small : h.size + 7 ≤ 32 * nodes_of t
+  pub narrow : h.width ≤ 2 * nodes_of t
+  pub positive : 1 ≤ h.align
+  pub near : h.align ≤ 8
+
+-- of what cases carry each number is the greatest, which is within bounds
+pub record AreGreatestOf (cs : Cases) (s : CasesSoFar) : Type 0 where
+  pub size : s.size ≡ greatest_payload cs
+  pub align : s.align ≡ align_of_payloads cs
+  pub width : s.width ≡ length (flat_of_cases cs)
+  pub small : s.size ≤ 32 * nodes_of_cases cs
+  pub narrow : s.width ≤ 2 * nodes_of_cases cs
+  pub positive : 1 ≤ s.align
+  pub near : s.align ≤ 8
