@@ -1,5 +1,5 @@
 -- Which types are plain bytes.
-use Rattle.std.proofs.Common.{◌≡◌, ℕ, zero, suc, ◌+◌, ◌*◌, ◌≤◌, ◌<◌, Bool, true, false, ◌&&◌, ◌||◌, refl, sym, ap, ◌∙◌, arith, inl, inr}
+use Rattle.std.proofs.Common.{add-zero, ◌≡◌, ℕ, zero, suc, ◌+◌, ◌*◌, ◌≤◌, ◌<◌, Bool, true, false, ◌&&◌, ◌||◌, refl, sym, ap, ◌∙◌, arith, inl, inr}
 use Rattle.std.proofs.lemmas.Bool.{eqb-true, eq-eqb, ne_eqb, or_right, or_cases}
 use Rattle.std.proofs.lemmas.Bool.Decides.{nat_tests}
 use Rattle.std.specs.Prelude.{◌==◌}
@@ -49,13 +49,15 @@ fills_is (field l t fs) at =
     ∙ one_more (number_bytes t) (size_of t) p at (number_bytes_of_fields fs) (end_of fs (p + size_of t)) (numbers_fit t) (place_above (align_of t) at (align_pos t)) (fields_fit fs (p + size_of t))
 
 -- the same of a whole of size s, where the fields end at e
-whole_fills : (m e s : ℕ) → m ≤ e → e ≤ s → (((m + 0) == e) && (s == e)) ≡ (m == s)
+whole_fills : (m e s : ℕ) → m ≤ e → e ≤ s → ((m == e) && (s == e)) ≡ (m == s)
 whole_fills m e s h k = grind (arith, nat_tests)
 
-pub fields_bulk : (k : FieldsKind) (fs : Fields) → (fills fs 0 && (size_of (fields k fs) == end_of fs 0)) ≡ is_bulk (fields k fs)
+pub fills_from_start : (fs : Fields) → fills fs 0 ≡ (number_bytes_of_fields fs == end_of fs 0)
+fills_from_start fs = fills_is fs 0 ∙ ap (λ m. m == end_of fs 0) (add-zero (number_bytes_of_fields fs))
+
+pub fields_bulk : (k : FieldsKind) (fs : Fields) → ((number_bytes_of_fields fs == end_of fs 0) && (size_of (fields k fs) == end_of fs 0)) ≡ is_bulk (fields k fs)
 fields_bulk k fs =
-    ap (λ b. b && (size_of (fields k fs) == end_of fs 0)) (fills_is fs 0)
-    ∙ whole_fills (number_bytes_of_fields fs) (end_of fs 0) (size_of (fields k fs)) (omega (arith, fields_fit fs 0)) (place_above (align_of_fields fs) (end_of fs 0) (fields_align_pos fs))
+    whole_fills (number_bytes_of_fields fs) (end_of fs 0) (size_of (fields k fs)) (omega (arith, fields_fit fs 0)) (place_above (align_of_fields fs) (end_of fs 0) (fields_align_pos fs))
 
 same_products : (n x y : ℕ) → x ≤ y → ((n * x) == (n * y)) ≡ ((n == 0) || (x == y))
 same_products zero x y h = eq-eqb (0 * x) (0 * y) (omega arith)

@@ -10,7 +10,7 @@ use Rattle.cm_layout.specs.Alignment.{align_to}
 use Rattle.cm_layout.specs.Sizes.{align_of, align_of_fields, align_of_payloads, case_count, discriminant_size, flags_size, size_of, end_of, greatest_payload}
 use Rattle.cm_layout.specs.Flattening.{flat_of, flat_of_fields, flat_of_cases, flat_of_payload}
 use Rattle.cm_layout.specs.PlainBytes.{is_bulk}
-use Rattle.cm_layout.specs.Heads.{AreGreatestOf, IsTakenBy}
+use Rattle.cm_layout.specs.Heads.{AreGreatestOf, IsTakenBy, TakeTogether}
 use Rattle.cm_layout.specs.declared.fields.FieldsSoFar.{FieldsSoFar}
 use Rattle.cm_layout.specs.declared.cases.CasesSoFar.{CasesSoFar}
 use Rattle.cm_layout.specs.declared.heads.Head.{Head}
@@ -19,7 +19,7 @@ use Rattle.cm_layout.proofs.Seen.{before_nodes}
 use Rattle.cm_layout.proofs.FlatLemmas.{flat_plain}
 use Rattle.cm_layout.proofs.SizeLemmas.{two_nodes, enum_size, greatest_before, align_small, fields_align_small, payloads_align_small, size_small, end_small, payload_small, repeated_small, element_nodes}
 use Rattle.cm_layout.proofs.WidthLaws.{copies_long, join_long, repeated_narrow, narrow, fields_narrow, cases_narrow}
-use Rattle.cm_layout.proofs.BulkLaws.{fills, fields_bulk, fixed_list_bulk, cases_not_bulk}
+use Rattle.cm_layout.proofs.BulkLaws.{fills, fills_from_start, fields_bulk, fixed_list_bulk, cases_not_bulk}
 
 -- what fields take so far, with these left of all
 pub record IsBegun (s : FieldsSoFar) (rest all : Fields) : Type 0 where
@@ -79,13 +79,19 @@ cases_taken k cs s d h g e f i j l =
     taken (cases k cs) h (f ∙ rw (g.align, g.size, e) refl) (i ∙ rw (g.align, e) refl) (j ∙ ap (λ x. 1 + x) g.width ∙ omega arith) (l ∙ sym (cases_not_bulk k cs))
 
 -- fields, once none is left
-pub fields_taken : (k : FieldsKind) (fs : Fields) (s : FieldsSoFar) (h : Head) → IsBegun s no_fields fs
+pub together : (fs : Fields) (s : FieldsSoFar) → IsBegun s no_fields fs → TakeTogether fs s
+together fs s b =
+    record {
+      end = b.end;
+      align = omega (arith, b.align, b.positive);
+      width = omega (arith, b.width);
+      is_bulk = sym (and-true s.is_bulk) ∙ b.is_bulk ∙ fills_from_start fs;
+    }
+
+pub fields_taken : (k : FieldsKind) (fs : Fields) (s : FieldsSoFar) (h : Head) → TakeTogether fs s
     → h.size ≡ align_to s.align s.end → h.align ≡ s.align → h.width ≡ s.width → h.is_bulk ≡ (s.is_bulk && (align_to s.align s.end == s.end)) → IsTakenBy (fields k fs) h
 fields_taken k fs s h b e f g i =
-    let a : s.align ≡ align_of_fields fs = omega (arith, b.align, b.positive) in
-    let w : s.width ≡ length (flat_of_fields fs) = omega (arith, b.width) in
-    taken (fields k fs) h (e ∙ rw (a, b.end) refl) (f ∙ a) (g ∙ w)
-    (i ∙ ap (λ c. c && (align_to s.align s.end == s.end)) (sym (and-true s.is_bulk) ∙ b.is_bulk) ∙ rw (a, b.end) refl ∙ fields_bulk k fs)
+    taken (fields k fs) h (e ∙ rw (b.align, b.end) refl) (f ∙ b.align) (g ∙ b.width) (i ∙ rw (b.is_bulk, b.align, b.end) (fields_bulk k fs))
 
 -- one more case, from what it carries
 pub cases_begun : (l m : List ℕ) (p : Option Ty) (rest all : Cases) (s o r : CasesSoFar) → IsBegunCases s (case_before l p rest) all → AreGreatestOf (case_before m p no_cases) o

@@ -5,11 +5,11 @@ use Rattle.std.specs.Prelude.{◌==◌}
 use Rattle.cm_types.specs.Types.{Ty, Fields, Cases, FieldsKind, CasesKind, bool, signed, unsigned, char, string, list, fixed_list, fields, cases, flags, own, borrow, no_fields, field, no_cases, plain, carrying}
 use Rattle.cm_layout.specs.Alignment.{align_to}
 use Rattle.cm_layout.specs.Sizes.{align_of, align_of_fields, flags_size, size_of, end_of}
-use Rattle.cm_layout.specs.PlainBytes.{is_bulk}
+use Rattle.cm_layout.specs.PlainBytes.{number_bytes_of_fields, is_bulk}
 use Rattle.cm_layout.specs.Shapes.{head_of, shape_of_type, parts_at, parts_from, payloads_of, payloads_from}
 use Rattle.cm_layout.specs.Laid.{IsNumbers, AreNumbers, IsMarked, ArePartsMarked, ArePayloadsMarked}
 use Rattle.cm_layout.proofs.AlignLemmas.{flags_pos}
-use Rattle.cm_layout.proofs.BulkLaws.{fills, fields_bulk, fixed_list_bulk, cases_not_bulk}
+use Rattle.cm_layout.proofs.BulkLaws.{fills, fills_from_start, fields_bulk, fixed_list_bulk, cases_not_bulk}
 
 -- a length of 0 or elements that are numbers
 fixed_list_numbers : (t : Ty) (n : ℕ) → (IsTrue (is_bulk t) → IsNumbers (size_of t) (shape_of_type t)) → IsTrue ((n == 0) || is_bulk t) → 0 < n → IsNumbers (size_of t) (shape_of_type t)
@@ -28,8 +28,8 @@ mutual
   to_numbers (list t) h = cc
   to_numbers (fixed_list t n) h = (refl, fixed_list_numbers t n (to_numbers t) (sym (fixed_list_bulk t n) ∙ h))
   to_numbers (fields k fs) h =
-      let b = and_parts (fills fs 0) (size_of (fields k fs) == end_of fs 0) (fields_bulk k fs ∙ h) in
-      to_part_numbers fs 0 (size_of (fields k fs)) b.0 (eqb-true (size_of (fields k fs)) (end_of fs 0) b.1)
+      let b = and_parts (number_bytes_of_fields fs == end_of fs 0) (size_of (fields k fs) == end_of fs 0) (fields_bulk k fs ∙ h) in
+      to_part_numbers fs 0 (size_of (fields k fs)) (fills_from_start fs ∙ b.0) (eqb-true (size_of (fields k fs)) (end_of fs 0) b.1)
   to_numbers (cases k cs) h = let e : is_bulk (cases k cs) ≡ false = cases_not_bulk k cs in cc
   to_numbers (flags ls) h = let e : 0 ≡ flags_size (length ls) = eqb-true 0 (flags_size (length ls)) h in absurd (omega (arith, flags_pos (length ls)))
   to_numbers (own r) h = cc
@@ -59,7 +59,7 @@ mutual
   ]
   from_numbers (fields k fs) h =
       let b = from_part_numbers fs 0 (size_of (fields k fs)) h in
-      sym (fields_bulk k fs) ∙ and_from (fills fs 0) (size_of (fields k fs) == end_of fs 0) b.0 (eq-eqb (size_of (fields k fs)) (end_of fs 0) b.1)
+      sym (fields_bulk k fs) ∙ and_from (number_bytes_of_fields fs == end_of fs 0) (size_of (fields k fs) == end_of fs 0) (sym (fills_from_start fs) ∙ b.0) (eq-eqb (size_of (fields k fs)) (end_of fs 0) b.1)
   from_numbers (cases k cs) h = absurd h
   from_numbers (flags ls) h = absurd h
   from_numbers (own r) h = absurd h

@@ -61,7 +61,7 @@ parts_taken (t ∷ ts) (suc n) = omega (arith, parts_taken ts n)
 pub variant_offset : (cs : Cases) (r d a : ℕ) → r ≡ align_to a d → d ≡ discriminant_size (case_count cs) → a ≡ align_of_payloads cs → r ≡ payload_offset cs
 variant_offset cs r d a e f g = e ∙ rw (f, g) refl
 
-discriminant_place : (n : ℕ) → discriminant_size n ≡ align_to 1 (discriminant_size n)
+pub discriminant_place : (n : ℕ) → discriminant_size n ≡ align_to 1 (discriminant_size n)
 discriminant_place n = elim (cases_Bool (nat_le n 256)) [
   | inl y ↦ rw y refl
   | inr b ↦ elim (cases_Bool (nat_le n 65536)) [ inl y ↦ rw (b, y) refl | inr c ↦ rw (b, c) refl ]

@@ -4,4 +4,5 @@ pub mod Flattening
 pub mod PlainBytes
 pub mod Shapes
 pub mod Heads
+pub mod Layouts
 pub mod Laid

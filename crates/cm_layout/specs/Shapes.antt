@@ -1,6 +1,6 @@
 -- The layout of a type and of all types in it, as one tree (CanonicalABI.md, "Alignment", "Element
 -- Size" and "Flattening").
-use Rattle.std.specs.Prelude.{ℕ, ◌+◌, length, List, [], ◌∷◌, Option, Some, None}
+use Rattle.std.specs.Prelude.{ℕ, ◌+◌, length, List, [], ◌∷◌, Option, Some, None, true, false}
 use Rattle.cm_types.specs.Types.{Ty, Fields, Cases, width_bytes, bool, signed, unsigned, char}
 use Rattle.cm_types.specs.Types.{string, list, fixed_list, fields, cases, flags, own, borrow}
 use Rattle.cm_types.specs.Types.{tuple_type, no_fields, field, no_cases, plain, carrying}
@@ -59,6 +59,14 @@ payload_before (Some l) ps = carried l.head l.shape ps
 abbrev pub payloads_from : List (Option LayoutTy) → Payloads
 payloads_from [] = no_payloads
 payloads_from (p ∷ ps) = payload_before p (payloads_from ps)
+
+-- what a leaf takes
+abbrev pub leaf_head : Leaf → Head
+leaf_head leaf.Bool = record { size = 1; align = 1; width = 1; is_bulk = false }
+leaf_head (leaf.Signed w) = record { size = w; align = w; width = 1; is_bulk = true }
+leaf_head (leaf.Unsigned w) = record { size = w; align = w; width = 1; is_bulk = true }
+leaf_head leaf.Char = record { size = 4; align = 4; width = 1; is_bulk = false }
+leaf_head (leaf.Flags n w) = record { size = w; align = w; width = 1; is_bulk = false }
 
 -- size and alignment in bytes, how many core values pass it, and whether it is plain bytes
 abbrev pub head_of : Ty → Head

@@ -1,11 +1,10 @@
-//! What can be known of a type before any value: made once, and asked without another walk over the
-//! type.
+//! Layouts: what is known of a type and of all types in it before any value, as one tree.
 
 use crate::heads::Head;
 use cm_types::ResourceId;
 use std::rc::Rc;
 
-/// A type that holds no other one, and is passed as one core value.
+/// A type that holds no other one and is passed as one core value, handles aside.
 #[derive(Clone, Copy)]
 pub enum Leaf {
     Bool,
@@ -15,7 +14,7 @@ pub enum Leaf {
     Unsigned(u32),
     Char,
     /// A set of so many labels, in so many bytes.
-    Flags { labels: u32, bytes: u32 },
+    Flags { labels: usize, bytes: u32 },
 }
 
 /// What a handle is to its resource.
@@ -25,11 +24,14 @@ pub enum HandleType {
     Borrow(ResourceId),
 }
 
-/// The layout of a type and of all types in it.
+/// The layout of a type and of all types in it: a walk over a value goes down it alone, and needs
+/// no type beside it. What is below it is shared.
 #[cycle(layouts)]
 #[derive(Drop)]
 pub struct Layout {
+    /// What the type takes in memory and in core values.
     pub head: Head,
+    /// What the type is.
     pub form: Form,
 }
 
@@ -39,21 +41,28 @@ pub struct Layout {
 pub enum Form {
     Leaf(Leaf),
     String,
-    /// The elements of a list, which lie elsewhere, one behind the other.
+    /// A list, whose elements lie elsewhere, one behind the other: the layout of one.
     List(Rc<Layout>),
     /// So many elements, which lie in place, one behind the other.
     FixedList { element: Rc<Layout>, length: u32 },
-    /// The fields of a record or a tuple.
+    /// The fields of a record or a tuple, in order.
     Fields(Rc<Vec<Part>>),
-    /// The cases of a variant, an option or a result: the size in bytes of the number of a case,
-    /// where the payload stands, in bytes from where the whole does, and each case's payload.
+    /// The cases of a variant, an option or a result.
     Cases {
+        /// The size in bytes of the number of a case.
         discriminant: u32,
+        /// Where the payload stands, in bytes from where the whole does.
         offset: u32,
+        /// What each case carries, in order.
         payloads: Rc<Vec<Payload>>,
     },
-    /// The cases of an enum: the size in bytes of the number of a case, and how many they are.
-    Enum { discriminant: u32, count: u32 },
+    /// The cases of an enum, which carry nothing.
+    Enum {
+        /// The size in bytes of the number of a case.
+        discriminant: u32,
+        /// How many cases there are.
+        count: usize,
+    },
     Handle(HandleType),
 }
 

@@ -7,7 +7,9 @@ mod fields;
 mod heads;
 pub mod laws;
 mod layouts;
+mod makers;
 mod measures;
+mod wholes;
 
 pub use cm_types::{MAX_FLAT_PARAMS, MAX_FLAT_RESULTS};
 pub use heads::Head;

@@ -7,7 +7,7 @@ use Rattle.cm_layout.specs.Sizes.{discriminant_size}
 use Rattle.cm_layout.proofs.SizeLemmas.{two_cases}
 use Rattle.cm_layout.proofs.AlignLemmas.{count_of_cases}
 use Rattle.cm_layout.proofs.Seen.{seen_case, seen_Result}
-use Rattle.cm_layout.proofs.HeadLaws.{fixed_list_taken, fields_taken, cases_taken, cases_begun, cases_ended, one_greatest, both_greatest, result_room}
+use Rattle.cm_layout.proofs.HeadLaws.{fixed_list_taken, fields_taken, together, cases_taken, cases_begun, cases_ended, one_greatest, both_greatest, result_room}
 use Rattle.cm_layout.proofs.measures.+heads.Goals as goal
 
 pub fixed_list_head-returns : goal.fixed_list_head-returns
@@ -17,12 +17,12 @@ fixed_list_head-returns t c =
 pub fields_head-returns : goal.fields_head-returns
 fields_head-returns t c =
     let none : drop c.loop-field.field-index c.args.row.now ≡ [] = drop_all c.loop-field.field-index c.args.row.now c.loop-field-test.false in
-    fields_taken record_type (fields_of c.args.row.now) c.loop-field.so_far c.whole.result (rw none at c.loop-field.invariant) c.whole.ensures.size c.whole.ensures.align c.whole.ensures.width c.whole.ensures.is_bulk
+    fields_taken record_type (fields_of c.args.row.now) c.loop-field.so_far c.whole.result (together (fields_of c.args.row.now) c.loop-field.so_far (rw none at c.loop-field.invariant)) c.whole.ensures.size c.whole.ensures.align c.whole.ensures.width c.whole.ensures.is_bulk
 
 pub parts_head-returns : goal.parts_head-returns
 parts_head-returns t c =
     let none : drop c.loop-part.part-index c.args.row.now ≡ [] = drop_all c.loop-part.part-index c.args.row.now c.loop-part-test.false in
-    fields_taken tuple_type (parts_of c.args.row.now) c.loop-part.so_far c.whole.result (rw none at c.loop-part.invariant) c.whole.ensures.size c.whole.ensures.align c.whole.ensures.width c.whole.ensures.is_bulk
+    fields_taken tuple_type (parts_of c.args.row.now) c.loop-part.so_far c.whole.result (together (parts_of c.args.row.now) c.loop-part.so_far (rw none at c.loop-part.invariant)) c.whole.ensures.size c.whole.ensures.align c.whole.ensures.width c.whole.ensures.is_bulk
 
 pub cases_head-returns : goal.cases_head-returns
 cases_head-returns t c =
