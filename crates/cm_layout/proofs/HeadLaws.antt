@@ -1,6 +1,6 @@
 -- What loops over fields and cases keep, and what it gives in the end.
 use Rattle.std.proofs.Common.{◌≡◌, ℕ, zero, suc, ◌+◌, ◌*◌, ◌≤◌, ◌<◌, max, Bool, true, false, ◌&&◌, List, [], ◌∷◌, ◌++◌, length, Option, Some, None, refl, sym, ap, ◌∙◌, arith, ◌||◌, length-append}
-use Rattle.std.proofs.Math.Bool.{and-true}
+use Rattle.std.proofs.Math.Bool.{and-true, and_assoc}
 use Rattle.std.proofs.lemmas.Bool.{ne_eqb}
 use Rattle.std.specs.Prelude.{◌==◌}
 use Rattle.cm_types.specs.Types.{Ty, Fields, Cases, FieldsKind, CasesKind, fixed_list, fields, cases, flags, no_fields, field, no_cases, plain, carrying}
@@ -17,8 +17,8 @@ use Rattle.cm_layout.specs.declared.heads.Head.{Head}
 use Rattle.cm_layout.proofs.AlignLemmas.{align_before, payload_align_pos, enum_align, flags_pos, align_pos, fields_align_pos, payloads_align_pos}
 use Rattle.cm_layout.proofs.Seen.{before_nodes}
 use Rattle.cm_layout.proofs.FlatLemmas.{flat_plain}
-use Rattle.cm_layout.proofs.SizeLemmas.{two_nodes, enum_size, greatest_before, align_small, fields_align_small, payloads_align_small, size_small, end_small, payload_small, repeated_small, element_nodes}
-use Rattle.cm_layout.proofs.WidthLaws.{copies_long, join_long, repeated_narrow, narrow, fields_narrow, cases_narrow}
+use Rattle.cm_layout.proofs.SizeLemmas.{two_nodes, enum_size, greatest_before, align_small, fields_align_small, payloads_align_small, size_small, end_small, payload_small, place_of_type, element_nodes}
+use Rattle.cm_layout.proofs.WidthLaws.{copies_long, join_long, narrow, fields_narrow, cases_narrow}
 use Rattle.cm_layout.proofs.BulkLaws.{fills, fills_from_start, fields_bulk, fixed_list_bulk, cases_not_bulk}
 
 -- what fields take so far, with these left of all
@@ -40,13 +40,6 @@ pub record IsBegunCases (s : CasesSoFar) (rest all : Cases) : Type 0 where
   pub size : max s.size (greatest_payload rest) ≡ greatest_payload all
   pub align : max s.align (align_of_payloads rest) ≡ align_of_payloads all
   pub width : max s.width (length (flat_of_cases rest)) ≡ length (flat_of_cases all)
-
--- of so many elements
-pub repeated_room : (n s x : ℕ) → s + 7 ≤ 32 * x → 1 + max n 1 * x ≤ 10000 → n * s < 4294967296
-repeated_room n s x h k = omega (arith, repeated_small n s x h)
-
-pub repeated_space : (n w x : ℕ) → w ≤ 2 * x → 1 + max n 1 * x ≤ 10000 → n * w < 4294967296
-repeated_space n w x h k = omega (arith, repeated_narrow n w x h)
 
 -- ---- from numbers to what a type takes
 
@@ -77,6 +70,41 @@ pub cases_taken : (k : CasesKind) (cs : Cases) (s : CasesSoFar) (d : ℕ) (h : H
     → h.size ≡ align_to (max d s.align) (align_to s.align d + s.size) → h.align ≡ max d s.align → h.width ≡ 1 + s.width → h.is_bulk ≡ false → IsTakenBy (cases k cs) h
 cases_taken k cs s d h g e f i j l =
     taken (cases k cs) h (f ∙ rw (g.align, g.size, e) refl) (i ∙ rw (g.align, e) refl) (j ∙ ap (λ x. 1 + x) g.width ∙ omega arith) (l ∙ sym (cases_not_bulk k cs))
+
+-- fields, of which none is taken yet
+pub none_begun : (all : Fields) (s : FieldsSoFar) → s ≡ record { end = 0; align = 1; width = 0; is_bulk = true } → nodes_of_fields all ≤ 10000 → IsBegun s all all
+none_begun all s e h = begun_from all s (ap (λ x. x.end) e) (ap (λ x. x.align) e) (ap (λ x. x.width) e) (ap (λ x. x.is_bulk) e) h
+  where
+    begun_from : (all : Fields) (s : FieldsSoFar) → s.end ≡ 0 → s.align ≡ 1 → s.width ≡ 0 → s.is_bulk ≡ true → nodes_of_fields all ≤ 10000 → IsBegun s all all
+    begun_from all s e f g i h =
+        record {
+          positive = omega arith;
+          near = omega arith;
+          room = omega arith;
+          space = omega arith;
+          end = ap (end_of all) e;
+          align = omega (arith, fields_align_pos all);
+          width = omega arith;
+          is_bulk = rw (i, e) refl;
+        }
+
+-- one more field
+pub more_begun : (l : List ℕ) (t : Ty) (rest all : Fields) (s r : FieldsSoFar) (h : Head) → IsBegun s (field l t rest) all → IsTakenBy t h
+    → r.end ≡ align_to h.align s.end + h.size → r.align ≡ max s.align h.align → r.width ≡ s.width + h.width → r.is_bulk ≡ (s.is_bulk && (h.is_bulk && (align_to h.align s.end == s.end))) → IsBegun r rest all
+more_begun l t rest all s r h b k e f g i =
+    let p : r.end ≡ align_to (align_of t) s.end + size_of t = e ∙ rw (k.align, k.size) refl in
+    let near : align_to (align_of t) s.end ≤ s.end + 7 = place_of_type t s.end in
+    let w : length (flat_of_fields (field l t rest)) ≡ length (flat_of t) + length (flat_of_fields rest) = length-append (flat_of t) (flat_of_fields rest) in
+    record {
+      positive = omega (arith, b.positive);
+      near = omega (arith, b.near, k.near);
+      room = omega (arith, b.room, k.small, k.size);
+      space = omega (arith, b.space, k.narrow);
+      end = rw p b.end;
+      align = omega (arith, b.align, k.align);
+      width = omega (arith, b.width, k.width, w);
+      is_bulk = rw (i, k.is_bulk, k.align, p) (and_assoc s.is_bulk (is_bulk t && (align_to (align_of t) s.end == s.end)) (fills rest (align_to (align_of t) s.end + size_of t)) ∙ b.is_bulk);
+    }
 
 -- fields, once none is left
 pub together : (fs : Fields) (s : FieldsSoFar) → IsBegun s no_fields fs → TakeTogether fs s

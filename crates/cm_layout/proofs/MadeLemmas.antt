@@ -1,5 +1,6 @@
 -- What layout each form of the code makes.
-use Rattle.std.proofs.Common.{◌≡◌, ℕ, Bool, zero, suc, List, [], ◌∷◌, length, map, max, Option, Some, None, Vec, Global, rules, refl, sym, ap, ◌∙◌}
+use Rattle.std.proofs.Common.{◌≡◌, ℕ, Bool, zero, suc, List, [], ◌∷◌, ◌++◌, length, map, max, Option, Some, None, Vec, Global, rules, refl, sym, ap, ◌∙◌, append_assoc}
+use Rattle.std.proofs.lemmas.List.{map-append}
 use Rattle.std.specs.declared.rc.Rc.{Rc}
 use Rattle.std.specs.Option.{option_map}
 use Rattle.cm_types.specs.Types.{Ty, Fields, Cases, CasesKind, FieldsKind, cases, fields, no_cases, plain, carrying}
@@ -9,6 +10,7 @@ use Rattle.cm_layout.specs.declared.cases.CasesSoFar.{CasesSoFar}
 use Rattle.cm_layout.specs.declared.layouts.Form.{Form, the_lemmas}
 use Rattle.cm_layout.specs.declared.layouts.Form.TheViews as view
 use Rattle.cm_layout.specs.declared.layouts.Form.TheVariants as form
+use Rattle.cm_layout.specs.declared.layouts.Payload.TheVariants as payload
 use Rattle.cm_layout.specs.declared.layouts.Layout.{Layout, out-Layout}
 use Rattle.cm_layout.specs.declared.layouts.Part.{Part}
 use Rattle.cm_layout.specs.declared.layouts.Payload.{Payload}
@@ -16,8 +18,8 @@ use Rattle.cm_layout.specs.Alignment.{align_to}
 use Rattle.cm_layout.specs.Flattening.{flat_of}
 use Rattle.cm_layout.specs.PlainBytes.{is_bulk}
 use Rattle.cm_layout.specs.Heads.{AreGreatestOf, IsTakenBy}
-use Rattle.cm_layout.specs.Layouts.{layout_of, shape_of, part_of, payload_of, nothings, IsLayoutOf}
-use Rattle.cm_layout.specs.Shapes.{LayoutTy, fields_shape, cases_shape, parts_from, payloads_from, payloads_of, head_of, shape_of_type, layout_at, payload_before}
+use Rattle.cm_layout.specs.Layouts.{layout_of, shape_of, part_of, payload_of, nothings, IsLayoutOf, PlacedLayout}
+use Rattle.cm_layout.specs.Shapes.{LayoutTy, fixed_list_shape, fields_shape, cases_shape, parts_from, payloads_from, payloads_of, head_of, shape_of_type, layout_at, payload_before}
 use Rattle.cm_layout.specs.Sizes.{size_of, align_of, case_count, discriminant_size, payload_offset}
 use Rattle.cm_layout.proofs.AlignLemmas.{count_plain, align_plain}
 use Rattle.cm_layout.proofs.HeadLaws.{taken, one_greatest}
@@ -95,3 +97,31 @@ carried_greatest (Some t) l n s e o f g h =
     taken_of t h e = taken t h (ap (λ x. x.size) e) (ap (λ x. x.align) e) (ap (λ x. x.width) e) (ap (λ x. x.is_bulk) e)
     plain_apart : (t : Ty) (s : CasesSoFar) → AreGreatestOf (plain [] (carrying [] t no_cases)) s → AreGreatestOf (carrying [] t no_cases) s
     plain_apart t s g = record { size = g.size; align = g.align; width = g.width; small = g.small; narrow = g.narrow; positive = g.positive; near = g.near }
+
+-- ---- lists of what was made
+
+seen_part : (o : ℕ) (l : Layout) → part_of (view.roll-Part (record { offset = o; layout = l })) ≡ (o, layout_of l)
+seen_part o l = search (rules, the_lemmas)
+
+pub more_made : (t : Ty) (o at : ℕ) (l : Layout) (xs ys : List Part) (rest : List PlacedLayout) → IsLayoutOf t l → o ≡ at → ys ≡ xs ++ view.roll-Part (record { offset = o; layout = l }) ∷ []
+    → map part_of ys ++ rest ≡ map part_of xs ++ ((at, layout_at t) ∷ rest)
+more_made t o at l xs ys rest k e f =
+    let x : Part = view.roll-Part (record { offset = o; layout = l }) in
+    ap (λ zs. map part_of zs ++ rest) f ∙ ap (λ zs. zs ++ rest) (map-append part_of xs (x ∷ [])) ∙ append_assoc (map part_of xs) (part_of x ∷ []) rest
+    ∙ ap (λ p. map part_of xs ++ (p ∷ rest)) (seen_part o l ∙ rw (e, k.value) refl)
+
+pub more_payloads : (p : Option Ty) (x : Payload) (xs ys : List Payload) (rest : List (Option LayoutTy)) → payload_of x ≡ option_map layout_at p → ys ≡ xs ++ x ∷ []
+    → map payload_of ys ++ rest ≡ map payload_of xs ++ (option_map layout_at p ∷ rest)
+more_payloads p x xs ys rest e f =
+    ap (λ zs. map payload_of zs ++ rest) f ∙ ap (λ zs. zs ++ rest) (map-append payload_of xs (x ∷ [])) ∙ append_assoc (map payload_of xs) (payload_of x ∷ []) rest
+    ∙ ap (λ q. map payload_of xs ++ (q ∷ rest)) e
+
+pub payloads_before : (l : List ℕ) (p : Option Ty) (cs : Cases) → payloads_of (case_before l p cs) ≡ option_map layout_at p ∷ payloads_of cs
+payloads_before l None cs = refl
+payloads_before l (Some t) cs = refl
+
+pub made_FixedList : (b : Rc Layout Global) (n : ℕ) → shape_of (view.FixedList b n) ≡ fixed_list_shape (layout_of b.value).head (layout_of b.value).shape n
+made_FixedList b n = search (rules, the_lemmas)
+
+pub seen_Nothing : payload_of payload.Nothing ≡ None
+seen_Nothing = search (rules, the_lemmas)
