@@ -109,11 +109,17 @@ more_begun l t rest all s r h b k e f g i =
 -- fields, once none is left
 pub together : (fs : Fields) (s : FieldsSoFar) → IsBegun s no_fields fs → TakeTogether fs s
 together fs s b =
+    let a : s.align ≡ align_of_fields fs = omega (arith, b.align, b.positive) in
+    let w : s.width ≡ length (flat_of_fields fs) = omega (arith, b.width) in
     record {
       end = b.end;
-      align = omega (arith, b.align, b.positive);
-      width = omega (arith, b.width);
+      align = a;
+      width = w;
       is_bulk = sym (and-true s.is_bulk) ∙ b.is_bulk ∙ fills_from_start fs;
+      small = rw b.end (omega (arith, end_small fs 0));
+      narrow = rw w (fields_narrow fs);
+      positive = b.positive;
+      near = b.near;
     }
 
 pub fields_taken : (k : FieldsKind) (fs : Fields) (s : FieldsSoFar) (h : Head) → TakeTogether fs s

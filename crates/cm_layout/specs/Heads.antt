@@ -3,7 +3,7 @@
 -- of such numbers of one type overflows.
 use Rattle.std.specs.Prelude.{◌≡◌, ℕ, ◌+◌, ◌*◌, ◌≤◌, ◌==◌, length}
 use Rattle.cm_types.specs.Types.{Ty, Fields, Cases}
-use Rattle.cm_types.specs.Limits.{nodes_of, nodes_of_cases}
+use Rattle.cm_types.specs.Limits.{nodes_of, nodes_of_cases, nodes_of_fields}
 use Rattle.cm_layout.specs.Sizes.{align_of, align_of_fields, align_of_payloads, end_of}
 use Rattle.cm_layout.specs.Sizes.{greatest_payload, size_of}
 use Rattle.cm_layout.specs.Flattening.{flat_of, flat_of_cases, flat_of_fields}
@@ -33,9 +33,13 @@ pub record AreGreatestOf (cs : Cases) (s : CasesSoFar) : Type 0 where
   pub positive : 1 ≤ s.align
   pub near : s.align ≤ 8
 
--- fields, one behind the other, take this
+-- fields, one behind the other, take this, which is within bounds
 pub record TakeTogether (fs : Fields) (s : FieldsSoFar) : Type 0 where
   pub end : s.end ≡ end_of fs 0
   pub align : s.align ≡ align_of_fields fs
   pub width : s.width ≡ length (flat_of_fields fs)
   pub is_bulk : s.is_bulk ≡ (number_bytes_of_fields fs == end_of fs 0)
+  pub small : s.end ≤ 32 * nodes_of_fields fs
+  pub narrow : s.width ≤ 2 * nodes_of_fields fs
+  pub positive : 1 ≤ s.align
+  pub near : s.align ≤ 8

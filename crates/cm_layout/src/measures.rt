@@ -8,7 +8,7 @@ ghost use Rattle.cm_types.specs.Types.{flags, no_cases, option_type, plain, reco
 ghost use Rattle.cm_types.specs.Types.{result_type, tuple_type, variant_type};
 ghost use Rattle.cm_types.specs.TypeTrees.{case_before, cases_of, fields_of, parts_of, plain_from};
 ghost use Rattle.cm_types.specs.TypeTrees.{shared_payload, type_of};
-ghost use Rattle.cm_layout.specs.Heads.{AreGreatestOf, IsTakenBy};
+ghost use Rattle.cm_layout.specs.Heads.{AreGreatestOf, IsTakenBy, TakeTogether};
 
 use crate::cases::CasesSoFar;
 use crate::fields::FieldsSoFar;
@@ -32,8 +32,8 @@ pub(crate) fn node_head(ty: &TypeNode) -> Head
         TypeNode::Char | TypeNode::Own(_) | TypeNode::Borrow(_) => Head::unit(4),
         TypeNode::String | TypeNode::List(_) => Head::pointer_and_length(),
         TypeNode::FixedList { element, length } => fixed_list_head(element, *length),
-        TypeNode::Record(fields) => fields_head(fields),
-        TypeNode::Tuple(parts) => parts_head(parts),
+        TypeNode::Record(fields) => fields_so_far(fields).whole(),
+        TypeNode::Tuple(parts) => parts_so_far(parts).whole(),
         TypeNode::Variant(cases) => cases_head(cases),
         TypeNode::Enum(labels) => enum_head(labels),
         TypeNode::Flags(labels) => flags_head(labels),
@@ -51,31 +51,32 @@ fn fixed_list_head(element: &TypeNode, count: u32) -> Head
     node_head(element).repeated(count)
 }
 
-/// What the record or tuple of these fields takes, which has at most 10,000 nodes.
+/// What these fields take, which have at most 10,000 nodes.
 #[cycle(heads)]
 #[tactic(auto, using(crate::proofs::HeadLaws::heads))]
-pub(crate) fn fields_head(row: &[Field]) -> Head
-    requires within { nodes_of (fields record_type (fields_of row.now)) ≤ MAX_NODES }
-    ensures { IsTakenBy (fields record_type (fields_of row.now)) result }
+pub(crate) fn fields_so_far(row: &[Field]) -> FieldsSoFar
+    requires within { nodes_of_fields (fields_of row.now) ≤ MAX_NODES }
+    ensures { TakeTogether (fields_of row.now) result }
 {
     let mut so_far = FieldsSoFar::none();
     for field in row {
         so_far.push(node_head(&field.ty));
     }
-    so_far.whole()
+    so_far
 }
 
+/// The same of the parts of a tuple.
 #[cycle(heads)]
 #[tactic(auto, using(crate::proofs::HeadLaws::heads))]
-fn parts_head(row: &[TypeNode]) -> Head
-    requires within { nodes_of (fields tuple_type (parts_of row.now)) ≤ MAX_NODES }
-    ensures { IsTakenBy (fields tuple_type (parts_of row.now)) result }
+pub(crate) fn parts_so_far(row: &[TypeNode]) -> FieldsSoFar
+    requires within { nodes_of_fields (parts_of row.now) ≤ MAX_NODES }
+    ensures { TakeTogether (parts_of row.now) result }
 {
     let mut so_far = FieldsSoFar::none();
     for part in row {
         so_far.push(node_head(part));
     }
-    so_far.whole()
+    so_far
 }
 
 #[cycle(heads)]
