@@ -1,7 +1,7 @@
 -- What loops over fields and cases keep, and what it gives in the end.
-use Rattle.std.proofs.Common.{◌≡◌, ℕ, zero, suc, ◌+◌, ◌*◌, ◌≤◌, ◌<◌, max, Bool, true, false, ◌&&◌, List, [], ◌∷◌, ◌++◌, length, Option, Some, None, refl, sym, ap, ◌∙◌, arith, ◌||◌, length-append}
-use Rattle.std.proofs.Math.Bool.{and-true, and_assoc}
-use Rattle.std.proofs.lemmas.Bool.{ne_eqb}
+use Rattle.std.proofs.Common.{◌≡◌, ℕ, zero, suc, ◌+◌, ◌*◌, ◌≤◌, ◌<◌, max, Bool, true, false, ◌&&◌, List, [], ◌∷◌, ◌++◌, length, Option, Some, None, refl, sym, ap, ◌∙◌, arith, ◌||◌, zero-add, length-append}
+use Rattle.std.proofs.lemmas.Bool.{eq-eqb, ne_eqb}
+use Rattle.std.proofs.lemmas.Bool.Decides.{nat_tests}
 use Rattle.std.specs.Prelude.{◌==◌}
 use Rattle.cm_types.specs.Types.{Ty, Fields, Cases, FieldsKind, CasesKind, fixed_list, fields, cases, flags, no_fields, field, no_cases, plain, carrying}
 use Rattle.cm_types.specs.TypeTrees.{case_before, plain_from}
@@ -9,37 +9,17 @@ use Rattle.cm_types.specs.Limits.{nodes_of, nodes_of_fields, nodes_of_cases, pay
 use Rattle.cm_layout.specs.Alignment.{align_to}
 use Rattle.cm_layout.specs.Sizes.{align_of, align_of_fields, align_of_payloads, case_count, discriminant_size, flags_size, size_of, end_of, greatest_payload}
 use Rattle.cm_layout.specs.Flattening.{flat_of, flat_of_fields, flat_of_cases, flat_of_payload}
-use Rattle.cm_layout.specs.PlainBytes.{is_bulk}
-use Rattle.cm_layout.specs.Heads.{AreGreatestOf, IsTakenBy, TakeTogether}
+use Rattle.cm_layout.specs.PlainBytes.{is_bulk, number_bytes, number_bytes_of_fields}
+use Rattle.cm_layout.specs.Heads.{AreGreatestOf, IsTakenBy, LeavesCases, LeavesFields, TakeTogether}
 use Rattle.cm_layout.specs.declared.fields.FieldsSoFar.{FieldsSoFar}
 use Rattle.cm_layout.specs.declared.cases.CasesSoFar.{CasesSoFar}
 use Rattle.cm_layout.specs.declared.heads.Head.{Head}
 use Rattle.cm_layout.proofs.AlignLemmas.{align_before, payload_align_pos, enum_align, flags_pos, align_pos, fields_align_pos, payloads_align_pos}
 use Rattle.cm_layout.proofs.Seen.{before_nodes}
 use Rattle.cm_layout.proofs.FlatLemmas.{flat_plain}
-use Rattle.cm_layout.proofs.SizeLemmas.{two_nodes, enum_size, greatest_before, align_small, fields_align_small, payloads_align_small, size_small, end_small, payload_small, place_of_type, element_nodes}
+use Rattle.cm_layout.proofs.SizeLemmas.{place_above, two_nodes, enum_size, greatest_before, align_small, fields_align_small, payloads_align_small, size_small, end_small, payload_small, place_of_type, element_nodes}
 use Rattle.cm_layout.proofs.WidthLaws.{copies_long, join_long, narrow, fields_narrow, cases_narrow}
-use Rattle.cm_layout.proofs.BulkLaws.{fills, fills_from_start, fields_bulk, fixed_list_bulk, cases_not_bulk}
-
--- what fields take so far, with these left of all
-pub record IsBegun (s : FieldsSoFar) (rest all : Fields) : Type 0 where
-  pub positive : 1 ≤ s.align
-  pub near : s.align ≤ 8
-  pub room : s.end + 32 * nodes_of_fields rest ≤ 320000
-  pub space : s.width + 2 * nodes_of_fields rest ≤ 20000
-  pub end : end_of rest s.end ≡ end_of all 0
-  pub align : max s.align (align_of_fields rest) ≡ align_of_fields all
-  pub width : s.width + length (flat_of_fields rest) ≡ length (flat_of_fields all)
-  pub is_bulk : (s.is_bulk && fills rest s.end) ≡ fills all 0
-
--- what the payloads of cases take so far, with these left of all
-pub record IsBegunCases (s : CasesSoFar) (rest all : Cases) : Type 0 where
-  pub positive : 1 ≤ s.align
-  pub near : s.align ≤ 8
-  pub few : nodes_of_cases rest ≤ 10000
-  pub size : max s.size (greatest_payload rest) ≡ greatest_payload all
-  pub align : max s.align (align_of_payloads rest) ≡ align_of_payloads all
-  pub width : max s.width (length (flat_of_cases rest)) ≡ length (flat_of_cases all)
+use Rattle.cm_layout.proofs.BulkLaws.{numbers_fit, fields_bulk, fixed_list_bulk, cases_not_bulk}
 
 -- ---- from numbers to what a type takes
 
@@ -72,52 +52,61 @@ cases_taken k cs s d h g e f i j l =
     taken (cases k cs) h (f ∙ rw (g.align, g.size, e) refl) (i ∙ rw (g.align, e) refl) (j ∙ ap (λ x. 1 + x) g.width ∙ omega arith) (l ∙ sym (cases_not_bulk k cs))
 
 -- fields, of which none is taken yet
-pub none_begun : (all : Fields) (s : FieldsSoFar) → s ≡ record { end = 0; align = 1; width = 0; is_bulk = true } → nodes_of_fields all ≤ 10000 → IsBegun s all all
-none_begun all s e h = begun_from all s (ap (λ x. x.end) e) (ap (λ x. x.align) e) (ap (λ x. x.width) e) (ap (λ x. x.is_bulk) e) h
+pub no_field_taken : (all : Fields) (s : FieldsSoFar) → s ≡ record { end = 0; align = 1; width = 0; is_bulk = true } → nodes_of_fields all ≤ 10000 → LeavesFields all all s
+no_field_taken all s e h = from_start all s (ap (λ x. x.end) e) (ap (λ x. x.align) e) (ap (λ x. x.width) e) (ap (λ x. x.is_bulk) e) h
   where
-    begun_from : (all : Fields) (s : FieldsSoFar) → s.end ≡ 0 → s.align ≡ 1 → s.width ≡ 0 → s.is_bulk ≡ true → nodes_of_fields all ≤ 10000 → IsBegun s all all
-    begun_from all s e f g i h =
+    from_start : (all : Fields) (s : FieldsSoFar) → s.end ≡ 0 → s.align ≡ 1 → s.width ≡ 0 → s.is_bulk ≡ true → nodes_of_fields all ≤ 10000 → LeavesFields all all s
+    from_start all s e f g i h =
         record {
-          positive = omega arith;
-          near = omega arith;
-          room = omega arith;
-          space = omega arith;
           end = ap (end_of all) e;
           align = omega (arith, fields_align_pos all);
           width = omega arith;
-          is_bulk = rw (i, e) refl;
+          is_bulk = i ∙ sym (eq-eqb (number_bytes_of_fields all) (number_bytes_of_fields all + s.end) (omega arith));
+          fit = omega arith;
+          room = omega arith;
+          space = omega arith;
+          positive = omega arith;
+          near = omega arith;
         }
 
+-- a field with x bytes of numbers and s bytes stands at p, behind what ends at e; all have n bytes of numbers, and those behind it m
+one_more_bulk : (n m x s p e : ℕ) → x ≤ s → e ≤ p → n ≤ x + m + e → ((n == (x + m + e)) && ((x == s) && (p == e))) ≡ (n == (m + (p + s)))
+one_more_bulk n m x s p e h k l = grind (arith, nat_tests)
+
 -- one more field
-pub more_begun : (l : List ℕ) (t : Ty) (rest all : Fields) (s r : FieldsSoFar) (h : Head) → IsBegun s (field l t rest) all → IsTakenBy t h
-    → r.end ≡ align_to h.align s.end + h.size → r.align ≡ max s.align h.align → r.width ≡ s.width + h.width → r.is_bulk ≡ (s.is_bulk && (h.is_bulk && (align_to h.align s.end == s.end))) → IsBegun r rest all
-more_begun l t rest all s r h b k e f g i =
+pub field_taken : (l : List ℕ) (t : Ty) (all rest : Fields) (s r : FieldsSoFar) (h : Head) → LeavesFields all (field l t rest) s → IsTakenBy t h
+    → r.end ≡ align_to h.align s.end + h.size → r.align ≡ max s.align h.align → r.width ≡ s.width + h.width → r.is_bulk ≡ (s.is_bulk && (h.is_bulk && (align_to h.align s.end == s.end))) → LeavesFields all rest r
+field_taken l t all rest s r h b k e f g i =
     let p : r.end ≡ align_to (align_of t) s.end + size_of t = e ∙ rw (k.align, k.size) refl in
     let near : align_to (align_of t) s.end ≤ s.end + 7 = place_of_type t s.end in
+    let above : s.end ≤ align_to (align_of t) s.end = place_above (align_of t) s.end (align_pos t) in
     let w : length (flat_of_fields (field l t rest)) ≡ length (flat_of t) + length (flat_of_fields rest) = length-append (flat_of t) (flat_of_fields rest) in
     record {
-      positive = omega (arith, b.positive);
-      near = omega (arith, b.near, k.near);
-      room = omega (arith, b.room, k.small, k.size);
-      space = omega (arith, b.space, k.narrow);
       end = rw p b.end;
       align = omega (arith, b.align, k.align);
       width = omega (arith, b.width, k.width, w);
-      is_bulk = rw (i, k.is_bulk, k.align, p) (and_assoc s.is_bulk (is_bulk t && (align_to (align_of t) s.end == s.end)) (fills rest (align_to (align_of t) s.end + size_of t)) ∙ b.is_bulk);
+      is_bulk =
+          i ∙ rw (b.is_bulk, k.is_bulk, k.align, p)
+          (one_more_bulk (number_bytes_of_fields all) (number_bytes_of_fields rest) (number_bytes t) (size_of t) (align_to (align_of t) s.end) s.end (numbers_fit t) above b.fit);
+      fit = omega (arith, b.fit, numbers_fit t);
+      room = omega (arith, b.room, k.small, k.size);
+      space = omega (arith, b.space, k.narrow);
+      positive = omega (arith, b.positive);
+      near = omega (arith, b.near, k.near);
     }
 
 -- fields, once none is left
-pub together : (fs : Fields) (s : FieldsSoFar) → IsBegun s no_fields fs → TakeTogether fs s
-together fs s b =
-    let a : s.align ≡ align_of_fields fs = omega (arith, b.align, b.positive) in
-    let w : s.width ≡ length (flat_of_fields fs) = omega (arith, b.width) in
+pub fields_all_taken : (all : Fields) (s : FieldsSoFar) → LeavesFields all no_fields s → TakeTogether all s
+fields_all_taken all s b =
+    let a : s.align ≡ align_of_fields all = omega (arith, b.align, b.positive) in
+    let w : s.width ≡ length (flat_of_fields all) = omega (arith, b.width) in
     record {
       end = b.end;
       align = a;
       width = w;
-      is_bulk = sym (and-true s.is_bulk) ∙ b.is_bulk ∙ fills_from_start fs;
-      small = rw b.end (omega (arith, end_small fs 0));
-      narrow = rw w (fields_narrow fs);
+      is_bulk = b.is_bulk ∙ rw b.end (ap (λ m. number_bytes_of_fields all == m) (zero-add (end_of all 0)));
+      small = rw b.end (omega (arith, end_small all 0));
+      narrow = rw w (fields_narrow all);
       positive = b.positive;
       near = b.near;
     }
@@ -127,28 +116,38 @@ pub fields_taken : (k : FieldsKind) (fs : Fields) (s : FieldsSoFar) (h : Head) �
 fields_taken k fs s h b e f g i =
     taken (fields k fs) h (e ∙ rw (b.align, b.end) refl) (f ∙ b.align) (g ∙ b.width) (i ∙ rw (b.is_bulk, b.align, b.end) (fields_bulk k fs))
 
+-- cases, of which none is taken yet
+pub no_case_taken : (all : Cases) (s : CasesSoFar) → s ≡ record { size = 0; align = 1; width = 0 } → nodes_of_cases all ≤ 10000 → LeavesCases all all s
+no_case_taken all s e h = from_start all s (ap (λ x. x.size) e) (ap (λ x. x.align) e) (ap (λ x. x.width) e) h
+  where
+    from_start : (all : Cases) (s : CasesSoFar) → s.size ≡ 0 → s.align ≡ 1 → s.width ≡ 0 → nodes_of_cases all ≤ 10000 → LeavesCases all all s
+    from_start all s e f g h =
+        record { size = omega arith; align = omega (arith, payloads_align_pos all); width = omega arith; room = h; few = h; positive = omega arith; near = omega arith }
+
 -- one more case, from what it carries
-pub cases_begun : (l m : List ℕ) (p : Option Ty) (rest all : Cases) (s o r : CasesSoFar) → IsBegunCases s (case_before l p rest) all → AreGreatestOf (case_before m p no_cases) o
-    → r.size ≡ max s.size o.size → r.align ≡ max s.align o.align → r.width ≡ max s.width o.width → IsBegunCases r rest all
-cases_begun l m None rest all s o r b g e f i =
+pub case_taken : (l m : List ℕ) (p : Option Ty) (all rest : Cases) (s o r : CasesSoFar) → LeavesCases all (case_before l p rest) s → AreGreatestOf (case_before m p no_cases) o
+    → r.size ≡ max s.size o.size → r.align ≡ max s.align o.align → r.width ≡ max s.width o.width → LeavesCases all rest r
+case_taken l m None all rest s o r b g e f i =
     record {
-      positive = omega (arith, b.positive);
-      near = omega (arith, b.near, g.near);
-      few = b.few;
       size = omega (arith, b.size, g.size);
       align = omega (arith, b.align, g.align, payloads_align_pos rest);
       width = omega (arith, b.width, g.width);
+      room = b.room;
+      few = b.few;
+      positive = omega (arith, b.positive);
+      near = omega (arith, b.near, g.near);
     }
-cases_begun l m (Some t) rest all s o r b g e f i =
+case_taken l m (Some t) all rest s o r b g e f i =
     let w : length (flat_of_cases (carrying m t no_cases)) ≡ length (flat_of t) = join_long (flat_of t) [] ∙ omega arith in
     let v : length (flat_of_cases (carrying l t rest)) ≡ max (length (flat_of t)) (length (flat_of_cases rest)) = join_long (flat_of t) (flat_of_cases rest) in
     record {
-      positive = omega (arith, b.positive);
-      near = omega (arith, b.near, g.near);
-      few = omega (arith, b.few);
       size = omega (arith, b.size, g.size);
       align = omega (arith, b.align, g.align, align_pos t);
       width = omega (arith, b.width, g.width, w, v);
+      room = b.room;
+      few = omega (arith, b.few);
+      positive = omega (arith, b.positive);
+      near = omega (arith, b.near, g.near);
     }
 
 -- the bounds follow from the numbers
@@ -165,8 +164,8 @@ greatest_of cs s e f g =
     }
 
 -- once no case is left
-pub cases_ended : (all : Cases) (s : CasesSoFar) → IsBegunCases s no_cases all → AreGreatestOf all s
-cases_ended all s b = greatest_of all s (omega (arith, b.size)) (omega (arith, b.align, b.positive)) (omega (arith, b.width))
+pub cases_all_taken : (all : Cases) (s : CasesSoFar) → LeavesCases all no_cases s → AreGreatestOf all s
+cases_all_taken all s b = greatest_of all s (omega (arith, b.size)) (omega (arith, b.align, b.positive)) (omega (arith, b.width))
 
 width_before : (l : List ℕ) (p : Option Ty) (cs : Cases) → length (flat_of_cases (case_before l p cs)) ≡ max (length (flat_of_payload p)) (length (flat_of_cases cs))
 width_before l None cs = omega arith

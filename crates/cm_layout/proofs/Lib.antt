@@ -9,4 +9,4 @@ pub mod WidthLaws
 pub mod BulkLaws
 pub mod MarkLaws
 pub mod HeadLaws
-pub mod MadeLemmas
+pub mod LayoutLemmas

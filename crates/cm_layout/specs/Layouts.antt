@@ -1,14 +1,17 @@
 -- The layouts that the code's are.
-use Rattle.std.specs.Prelude.{◌≡◌, ℕ, zero, suc, List, map, Option, Some, None}
-use Rattle.cm_types.specs.Types.{Ty}
-use Rattle.cm_layout.specs.Heads.{IsTakenBy}
+use Rattle.std.specs.Prelude.{◌≡◌, ℕ, zero, suc, List, ◌++◌, map, Option, Some, None}
+use Rattle.cm_types.specs.Types.{Fields, Cases}
+use Rattle.cm_layout.specs.Heads.{LeavesCases, LeavesFields}
 use Rattle.cm_layout.specs.Shapes.{LayoutTy, Shape, Payloads, leaf_shape, string_shape, list_shape}
 use Rattle.cm_layout.specs.Shapes.{fixed_list_shape, fields_shape, cases_shape, handle_shape}
-use Rattle.cm_layout.specs.Shapes.{no_payloads, nothing, parts_from, payloads_from, layout_at}
+use Rattle.cm_layout.specs.Shapes.{no_payloads, nothing, parts_at, parts_from}
+use Rattle.cm_layout.specs.Shapes.{payloads_from, payloads_of}
+use Rattle.cm_layout.specs.declared.builders.FieldsBuilder.{FieldsBuilder}
+use Rattle.cm_layout.specs.declared.builders.CasesBuilder.{CasesBuilder}
 use Rattle.cm_layout.specs.declared.layouts.Form.{Form}
 use Rattle.cm_layout.specs.declared.layouts.Form.TheOpen as form
 use Rattle.cm_layout.specs.declared.layouts.Form.TheFolds.{fold-Form, fold-Layout, fold-Part, fold-Payload}
-use Rattle.cm_layout.specs.declared.layouts.Layout.{Layout, out-Layout}
+use Rattle.cm_layout.specs.declared.layouts.Layout.{Layout}
 use Rattle.cm_layout.specs.declared.layouts.Part.{Part}
 use Rattle.cm_layout.specs.declared.layouts.Payload.{Payload}
 
@@ -65,7 +68,12 @@ part_of =
     fold-Part Shape (Option LayoutTy) LayoutTy PlacedLayout
     form_step payload_step layout_step part_step
 
--- a layout of the code is that of a type
-pub record IsLayoutOf (t : Ty) (l : Layout) : Type 0 where
-  pub value : layout_of l ≡ layout_at t
-  pub taken : IsTakenBy t (out-Layout l).head
+-- of all fields some are laid out: these are left, and there is room for them
+pub record IsLayingFields (all rest : Fields) (b : FieldsBuilder) : Type 0 where
+  pub numbers : LeavesFields all rest b.so_far
+  pub parts : map part_of b.parts.items ++ parts_at rest b.so_far.end ≡ parts_at all 0
+
+-- of all cases some are laid out: these are left, and there is room for them
+pub record IsLayingCases (all rest : Cases) (b : CasesBuilder) : Type 0 where
+  pub numbers : LeavesCases all rest b.so_far
+  pub payloads : map payload_of b.payloads.items ++ payloads_of rest ≡ payloads_of all

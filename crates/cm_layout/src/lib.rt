@@ -2,15 +2,16 @@
 //! "Element Size" and "Flattening").
 #![tactic(auto)]
 
+mod builders;
 mod cases;
 mod fields;
 mod heads;
 pub mod laws;
 mod layouts;
-mod makers;
-mod measures;
-mod wholes;
 
+mod measures;
+
+pub use builders::{CasesBuilder, FieldsBuilder};
 pub use cm_types::{MAX_FLAT_PARAMS, MAX_FLAT_RESULTS};
 pub use heads::Head;
 pub use layouts::{Form, HandleType, Layout, Leaf, Part, Payload};

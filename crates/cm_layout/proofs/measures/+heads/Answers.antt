@@ -7,7 +7,7 @@ use Rattle.cm_layout.specs.Sizes.{discriminant_size}
 use Rattle.cm_layout.proofs.SizeLemmas.{two_cases}
 use Rattle.cm_layout.proofs.AlignLemmas.{count_of_cases}
 use Rattle.cm_layout.proofs.Seen.{seen_case, seen_field, seen_Record, seen_Tuple, seen_Result}
-use Rattle.cm_layout.proofs.HeadLaws.{fixed_list_taken, more_begun, fields_taken, together, cases_taken, cases_begun, cases_ended, one_greatest, both_greatest, result_room}
+use Rattle.cm_layout.proofs.HeadLaws.{fixed_list_taken, field_taken, fields_taken, fields_all_taken, cases_taken, case_taken, cases_all_taken, one_greatest, both_greatest, result_room}
 use Rattle.cm_layout.proofs.measures.+heads.Goals as goal
 
 pub fixed_list_head-returns : goal.fixed_list_head-returns
@@ -22,7 +22,7 @@ fields_so_far-loop-field-preserved t c =
     let lt : i < length fs = c.loop-field-test.true in
     let next : drop i fs ≡ x ∷ drop (i + 1) fs = rw (add-one, drop-cons fs i x lt, ← c.field-item.is) refl in
     let p = c.push.ensures in
-    more_begun (field_of x).0 (field_of x).1 (fields_of (drop (i + 1) fs)) (fields_of fs) c.loop-field.so_far c.push.new.self c.node_head.result (rw next at c.loop-field.invariant) (rw (seen_field x) c.node_head.ensures)
+    field_taken (field_of x).0 (field_of x).1 (fields_of fs) (fields_of (drop (i + 1) fs)) c.loop-field.so_far c.push.new.self c.node_head.result (rw next at c.loop-field.invariant) (rw (seen_field x) c.node_head.ensures)
     p.end p.align p.width p.is_bulk
 
 pub parts_so_far-loop-part-preserved : goal.parts_so_far-loop-part-preserved
@@ -33,18 +33,18 @@ parts_so_far-loop-part-preserved t c =
     let lt : i < length ts = c.loop-part-test.true in
     let next : drop i ts ≡ x ∷ drop (i + 1) ts = rw (add-one, drop-cons ts i x lt, ← c.part-item.is) refl in
     let p = c.push.ensures in
-    more_begun [] (type_of x) (parts_of (drop (i + 1) ts)) (parts_of ts) c.loop-part.so_far c.push.new.self c.node_head.result (rw next at c.loop-part.invariant) c.node_head.ensures
+    field_taken [] (type_of x) (parts_of ts) (parts_of (drop (i + 1) ts)) c.loop-part.so_far c.push.new.self c.node_head.result (rw next at c.loop-part.invariant) c.node_head.ensures
     p.end p.align p.width p.is_bulk
 
 pub fields_so_far-returns : goal.fields_so_far-returns
 fields_so_far-returns t c =
     let none : drop c.loop-field.field-index c.args.row.now ≡ [] = drop_all c.loop-field.field-index c.args.row.now c.loop-field-test.false in
-    together (fields_of c.args.row.now) c.loop-field.so_far (rw none at c.loop-field.invariant)
+    fields_all_taken (fields_of c.args.row.now) c.loop-field.so_far (rw none at c.loop-field.invariant)
 
 pub parts_so_far-returns : goal.parts_so_far-returns
 parts_so_far-returns t c =
     let none : drop c.loop-part.part-index c.args.row.now ≡ [] = drop_all c.loop-part.part-index c.args.row.now c.loop-part-test.false in
-    together (parts_of c.args.row.now) c.loop-part.so_far (rw none at c.loop-part.invariant)
+    fields_all_taken (parts_of c.args.row.now) c.loop-part.so_far (rw none at c.loop-part.invariant)
 
 pub node_head-returns-in-Record : goal.node_head-returns-in-Record
 node_head-returns-in-Record t c =
@@ -75,13 +75,13 @@ cases_so_far-loop-case-preserved t c =
     let x = c.case-item.result in
     let lt : i < length cs = c.loop-case-test.true in
     let next : drop i cs ≡ x ∷ drop (i + 1) cs = rw (add-one, drop-cons cs i x lt, ← c.case-item.is) refl in
-    cases_begun (case_of x).0 (codes "") (case_of x).1 (cases_of (drop (i + 1) cs)) (cases_of cs) c.loop-case.so_far c.payload_so_far.result c.beside-so_far.result
+    case_taken (case_of x).0 (codes "") (case_of x).1 (cases_of cs) (cases_of (drop (i + 1) cs)) c.loop-case.so_far c.payload_so_far.result c.beside-so_far.result
     (rw next at c.loop-case.invariant) (rw (seen_case x) c.payload_so_far.ensures) c.beside-so_far.ensures.size c.beside-so_far.ensures.align c.beside-so_far.ensures.width
 
 pub cases_so_far-returns : goal.cases_so_far-returns
 cases_so_far-returns t c =
     let none : drop c.loop-case.case-index c.args.row.now ≡ [] = drop_all c.loop-case.case-index c.args.row.now c.loop-case-test.false in
-    cases_ended (cases_of c.args.row.now) c.loop-case.so_far (rw none at c.loop-case.invariant)
+    cases_all_taken (cases_of c.args.row.now) c.loop-case.so_far (rw none at c.loop-case.invariant)
 
 pub option_head-returns : goal.option_head-returns
 option_head-returns t c =

@@ -1,6 +1,6 @@
 use Rattle.std.proofs.Common.{◌∙◌, ap, sym}
 use Rattle.cm_layout.specs.Layouts.{payload_of}
-use Rattle.cm_layout.proofs.MadeLemmas.{seen_Carried, carried_greatest}
+use Rattle.cm_layout.proofs.LayoutLemmas.{seen_Carried, carried_greatest}
 use Rattle.cm_layout.proofs.layouts.Payload.so_far.Goals as goal
 
 pub returns-in-Carried : goal.returns-in-Carried
