@@ -8,7 +8,7 @@ use Rattle.cm_types.specs.TypeTrees.{case_before, plain_from}
 use Rattle.cm_types.specs.Limits.{nodes_of, nodes_of_fields, nodes_of_cases, payload_nodes}
 use Rattle.cm_layout.specs.Alignment.{align_to}
 use Rattle.cm_layout.specs.Sizes.{align_of, align_of_fields, align_of_payloads, case_count, discriminant_size, flags_size, size_of, end_of, greatest_payload}
-use Rattle.cm_layout.specs.Flattening.{flat_of, flat_of_fields, flat_of_cases, flat_of_payload}
+use Rattle.cm_layout.specs.Flattening.{copies, flat_of, flat_of_fields, flat_of_cases, flat_of_payload}
 use Rattle.cm_layout.specs.PlainBytes.{is_bulk, number_bytes, number_bytes_of_fields}
 use Rattle.cm_layout.specs.Heads.{AreGreatestOf, IsTakenBy, LeavesCases, LeavesFields, TakeTogether}
 use Rattle.cm_layout.specs.declared.fields.FieldsSoFar.{FieldsSoFar}
@@ -44,6 +44,13 @@ fixed_list_taken t n e h i f g k l =
     (g ∙ i.align)
     (k ∙ ap (λ x. n * x) i.width ∙ sym (copies_long n (flat_of t)))
     (l ∙ ap (λ b. (n == 0) || b) i.is_bulk ∙ sym (fixed_list_bulk t n))
+
+-- there is room for so many elements
+pub fixed_list_room : (t : Ty) (n : ℕ) (e : Head) → nodes_of (fixed_list t n) ≤ 10000 → IsTakenBy t e → (n * e.size < 4294967296) × (n * e.width < 4294967296)
+fixed_list_room t n e h k =
+    let s : n * e.size ≡ n * size_of t = ap (λ x. n * x) k.size in
+    let w : n * e.width ≡ length (copies n (flat_of t)) = ap (λ x. n * x) k.width ∙ sym (copies_long n (flat_of t)) in
+    (omega (arith, s, size_small (fixed_list t n)), omega (arith, w, narrow (fixed_list t n)))
 
 -- cases, from the greatest of what they carry
 pub cases_taken : (k : CasesKind) (cs : Cases) (s : CasesSoFar) (d : ℕ) (h : Head) → AreGreatestOf cs s → d ≡ discriminant_size (case_count cs)

@@ -68,6 +68,10 @@ leaf_head (leaf.Unsigned w) = record { size = w; align = w; width = 1; is_bulk =
 leaf_head leaf.Char = record { size = 4; align = 4; width = 1; is_bulk = false }
 leaf_head (leaf.Flags n w) = record { size = w; align = w; width = 1; is_bulk = false }
 
+-- what a handle takes
+abbrev pub handle_head : Head
+handle_head = record { size = 4; align = 4; width = 1; is_bulk = false }
+
 -- size and alignment in bytes, how many core values pass it, and whether it is plain bytes
 abbrev pub head_of : Ty → Head
 head_of t =

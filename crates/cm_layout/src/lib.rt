@@ -8,8 +8,8 @@ mod fields;
 mod heads;
 pub mod laws;
 mod layouts;
-
 mod measures;
+mod steps;
 
 pub use builders::{CasesBuilder, FieldsBuilder};
 pub use cm_types::{MAX_FLAT_PARAMS, MAX_FLAT_RESULTS};
