@@ -1,6 +1,7 @@
 pub mod Alignment
 pub mod Sizes
 pub mod Flattening
+pub mod FlatFuncs
 pub mod PlainBytes
 pub mod Shapes
 pub mod Heads

@@ -5,9 +5,11 @@
 mod builders;
 mod cases;
 mod fields;
+mod flattening;
 mod heads;
 pub mod laws;
 mod layouts;
+mod makers;
 mod measures;
 mod steps;
 
