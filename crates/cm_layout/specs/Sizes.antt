@@ -150,3 +150,11 @@ abbrev pub IsPayloadOffset : Ty → ℕ → Type 0
 IsPayloadOffset (cases k cs) at =
     IsLeastMultiple (align_of_payloads cs) (discriminant_size (case_count cs)) at
 IsPayloadOffset _ at = ⊥
+
+-- the size of what has fields or cases is the least multiple of its alignment that is not below the
+-- end of the last field, or of the greatest payload
+abbrev pub IsWholeSize : Ty → ℕ → Type 0
+IsWholeSize (fields k fs) n = IsLeastMultiple (align_of_fields fs) (end_of fs 0) n
+IsWholeSize (cases k cs) n =
+    IsLeastMultiple (align_of (cases k cs)) (payload_offset cs + greatest_payload cs) n
+IsWholeSize _ n = ⊤

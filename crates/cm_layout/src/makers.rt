@@ -2,19 +2,52 @@
 
 ghost use Rattle.std.specs.Prelude.{◌≡◌, ◌≤◌, IfOk, OnOk, List, Option, codes, ℕ};
 ghost use Rattle.std.specs.Option.{option_map};
+ghost use Rattle.cm_types.specs.Funcs.{func_of, tree_type};
 ghost use Rattle.cm_types.specs.Limits.{nodes_of, nodes_of_cases, nodes_of_fields, payload_nodes};
 ghost use Rattle.cm_types.specs.Types.{CasesKind, Ty, carrying, cases, fields, no_cases};
 ghost use Rattle.cm_types.specs.Types.{option_type, plain, record_type, tuple_type, variant_type};
 ghost use Rattle.cm_types.specs.TypeTrees.{case_before, cases_of, fields_of, parts_of};
 ghost use Rattle.cm_types.specs.TypeTrees.{shared_payload, type_of};
-ghost use Rattle.cm_layout.specs.Layouts.{IsLayingCases, layout_of, payload_of};
-ghost use Rattle.cm_layout.specs.Shapes.{layout_at};
+ghost use Rattle.cm_layout.specs.Laid.{IsMarked, Laid};
+ghost use Rattle.cm_layout.specs.Layouts.{layout_of, payload_of};
+ghost use Rattle.cm_layout.specs.Shapes.{layout_at, layout_of_fields_at};
 
 use crate::builders::{CasesBuilder, FieldsBuilder};
 use crate::layouts::{HandleType, Layout, Leaf, Payload};
-use cm_types::{Case, Field, MAX_NODES, TypeNode};
+use cm_types::{Case, Field, Func, MAX_NODES, TypeNode, TypeTree};
 use std::alloc::{AllocError, Global};
 use std::rc::Rc;
+
+/// The layout of a type and of all types in it. `AllocError` comes where there is no memory for it.
+pub fn layout(alloc: Global, ty: &TypeTree) -> Result<Layout, AllocError>
+    ensures value { IfOk result (λ l. layout_of l ≡ layout_at (tree_type ty.now)) }
+    ensures laid { IfOk result (λ l. Laid (layout_of l).head.size (layout_of l).shape) }
+    ensures marked { IfOk result (λ l. IsMarked (layout_of l).head (layout_of l).shape) }
+{
+    node_layout(alloc, &ty.root)
+}
+
+/// The layout of the parameters of a function, as that of the tuple of them, which is how they lie
+/// in memory where they are passed by a pointer (CanonicalABI.md, "Flattening"). `AllocError` comes
+/// where there is no memory for it.
+pub fn layout_of_params(alloc: Global, func: &Func) -> Result<Layout, AllocError>
+    ensures value { IfOk result (λ l. layout_of l ≡ layout_of_fields_at (func_of func.now).params) }
+    ensures laid { IfOk result (λ l. Laid (layout_of l).head.size (layout_of l).shape) }
+    ensures marked { IfOk result (λ l. IsMarked (layout_of l).head (layout_of l).shape) }
+{
+    layout_of_fields(alloc, &func.params)
+}
+
+/// The layout of fields of at most 10,000 nodes together, as that of the tuple of them. `AllocError`
+/// comes where there is no memory for it.
+pub fn layout_of_fields(alloc: Global, fields: &[Field]) -> Result<Layout, AllocError>
+    requires within { nodes_of_fields (fields_of fields.now) ≤ MAX_NODES }
+    ensures value { IfOk result (λ l. layout_of l ≡ layout_of_fields_at (fields_of fields.now)) }
+    ensures laid { IfOk result (λ l. Laid (layout_of l).head.size (layout_of l).shape) }
+    ensures marked { IfOk result (λ l. IsMarked (layout_of l).head (layout_of l).shape) }
+{
+    fields_layout(alloc, fields)
+}
 
 /// The layout of a type of at most 10,000 nodes.
 #[cycle(layout)]

@@ -114,7 +114,7 @@ fn option_head(some: &TypeNode) -> Head
 
 #[cycle(heads)]
 #[tactic(auto, using(crate::proofs::HeadLaws::heads))]
-fn shared_so_far(payload: &Option<Rc<TypeNode>>) -> CasesSoFar
+pub(crate) fn shared_so_far(payload: &Option<Rc<TypeNode>>) -> CasesSoFar
     requires within { payload_nodes (shared_payload payload.now) ≤ MAX_NODES }
     ensures { AreGreatestOf (case_before (codes "") (shared_payload payload.now) no_cases) result }
 {
