@@ -10,3 +10,5 @@ pub mod BulkLaws
 pub mod MarkLaws
 pub mod HeadLaws
 pub mod LayoutLemmas
+pub mod LawsOfLayouts
+pub mod NumberLaws
