@@ -1,6 +1,6 @@
 //! What a component imports and exports, with every index expanded.
 
-use crate::extern_names::ExternName;
+use cm_names::ExternName;
 use crate::resource::ResourceId;
 use crate::type_trees::{Func, TypeTree};
 use std::rc::Rc;

@@ -11,7 +11,7 @@ use crate::dismantling::{dismantle, dismantle_fields};
 use crate::limits::{
     MAX_DEPTH, MAX_NODES, depth_of_fields_up_to, depth_up_to, nodes, nodes_of_fields,
 };
-use crate::names::Label;
+use cm_names::Label;
 use crate::resource::ResourceId;
 use crate::spellable::{are_spellable, is_spellable};
 use std::alloc::AllocError;

@@ -8,10 +8,9 @@
 
 use crate::values::read_value;
 use cm_rows::{RowFault, read_number, split_repeat};
-use cm_types::{
-    Case, Field, Func, Label, NameFault, ResourceId, TypeFault, TypeNode, TypeTree, has_type,
-    same_func, same_type,
-};
+use cm_same_types::{same_func, same_type};
+use cm_types::{Case, Field, Func, Label, NameFault, ResourceId, TypeFault, TypeNode, TypeTree};
+use cm_values::has_type;
 use std::alloc::{AllocError, Global};
 use std::rc::Rc;
 
