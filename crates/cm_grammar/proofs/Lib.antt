@@ -6,3 +6,4 @@ pub mod EndLaws
 pub mod ReadingLaws
 pub mod SpellingLaws
 pub mod WrittenLaws
+pub mod WantLaws
