@@ -7,3 +7,4 @@ pub mod ReadingLaws
 pub mod SpellingLaws
 pub mod WrittenLaws
 pub mod WantLaws
+pub mod AnswerLaws
