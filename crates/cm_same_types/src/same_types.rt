@@ -140,7 +140,8 @@ fn same_shared(
     left: &[ResourceId],
     right: &[ResourceId],
 ) -> bool
-    ensures { result ≡ same_payload left.now right.now (shared_payload a.now) (shared_payload b.now) }
+    ensures { result ≡ same_payload left.now right.now (shared_payload a.now)
+        (shared_payload b.now) }
 {
     match (a, b) {
         (Some(x), Some(y)) => same_node(x, y, left, right),

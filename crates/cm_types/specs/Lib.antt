@@ -8,6 +8,7 @@ pub mod TypeTrees
 pub mod Types
 pub mod Limits
 pub mod Spellable
+pub mod Holds
 pub mod Resources
 pub mod Resolved
 pub mod Values
