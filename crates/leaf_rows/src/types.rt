@@ -1,18 +1,19 @@
 //! Types as rows spell them, and rows on their limits and their equality.
 //!
 //! A type is words in prefix order: `list`, `option` and `fixed:LENGTH` stand before the type that
-//! they hold, `tuple:COUNT` and `record:LABELS` before those of their fields, `variant:LABELS`
-//! before the payloads of its cases and `result` before its two, where `-` is no payload. Leaves
-//! are named, `enum:LABELS`, `flags:LABELS`, `own:COMPONENT.NUMBER` and `borrow:COMPONENT.NUMBER`
-//! among them. LABELS are joined by commas. `N*` before a word or a label stands for N of them.
+//! they hold, `twice` before the one that a tuple of two shares, `tuple:COUNT` and `record:LABELS`
+//! before those of their fields, `variant:LABELS` before the payloads of its cases and `result`
+//! before its two, where `-` is no payload. Leaves are named, `enum:LABELS`, `flags:LABELS`,
+//! `own:COMPONENT.NUMBER` and `borrow:COMPONENT.NUMBER` among them. LABELS are joined by commas.
+//! `N*` before a word or a label stands for N of them.
 
 use crate::values::read_value;
 use cm_rows::{RowFault, read_number, split_repeat};
-use cm_types::{
-    Case, Field, Func, Label, NameFault, ResourceId, TypeFault, TypeNode, TypeTree, has_type,
-    same_func, same_type,
-};
+use cm_same_types::{same_func, same_type};
+use cm_types::{Case, Field, Func, Label, NameFault, ResourceId, TypeFault, TypeNode, TypeTree};
+use cm_values::has_type;
 use std::alloc::{AllocError, Global};
+use std::rc::Rc;
 
 /// The answer to `within TYPE`, `within_func TYPE..` (of the parameters), `equal TYPE | TYPE ..`,
 /// `same LEFT RIGHT TYPE = TYPE`, `has TYPE = VALUE` or `same_func FUNC = FUNC`. LEFT and RIGHT are
@@ -190,11 +191,15 @@ impl TypeStack {
 
     fn plain(&mut self, alloc: Global, word: &str) -> Result<TypeNode, RowFault> {
         Ok(match word {
-            "list" => TypeNode::List(Box::new(alloc, self.pop()?)?),
-            "option" => TypeNode::Option(Box::new(alloc, self.pop()?)?),
+            "list" => TypeNode::List(Rc::new(alloc, self.pop()?)?),
+            "option" => TypeNode::Option(Rc::new(alloc, self.pop()?)?),
+            "twice" => {
+                let part = self.pop()?;
+                TypeNode::Tuple(Rc::new(alloc, vec![in alloc; part.share()?, part]?)?)
+            }
             "result" => {
-                let ok = self.pop_boxed(alloc)?;
-                let error = self.pop_boxed(alloc)?;
+                let ok = self.pop_shared(alloc)?;
+                let error = self.pop_shared(alloc)?;
                 TypeNode::Result { ok, error }
             }
             word => read_leaf(word)?,
@@ -209,14 +214,17 @@ impl TypeStack {
     ) -> Result<TypeNode, RowFault> {
         Ok(match name {
             "fixed" => TypeNode::FixedList {
-                element: Box::new(alloc, self.pop()?)?,
+                element: Rc::new(alloc, self.pop()?)?,
                 length: read_number(operand)?,
             },
-            "tuple" => TypeNode::Tuple(self.pop_several(alloc, read_number(operand)?)?),
-            "record" => TypeNode::Record(self.pop_fields(alloc, operand)?),
-            "variant" => TypeNode::Variant(self.pop_cases(alloc, operand)?),
-            "enum" => TypeNode::Enum(read_labels(alloc, operand)?),
-            "flags" => TypeNode::Flags(read_labels(alloc, operand)?),
+            "tuple" => TypeNode::Tuple(Rc::new(
+                alloc,
+                self.pop_several(alloc, read_number(operand)?)?,
+            )?),
+            "record" => TypeNode::Record(Rc::new(alloc, self.pop_fields(alloc, operand)?)?),
+            "variant" => TypeNode::Variant(Rc::new(alloc, self.pop_cases(alloc, operand)?)?),
+            "enum" => TypeNode::Enum(Rc::new(alloc, read_labels(alloc, operand)?)?),
+            "flags" => TypeNode::Flags(Rc::new(alloc, read_labels(alloc, operand)?)?),
             "own" => TypeNode::Own(read_resource(operand)?),
             "borrow" => TypeNode::Borrow(read_resource(operand)?),
             _ => return Err(RowFault::NotARow),
@@ -231,9 +239,9 @@ impl TypeStack {
         self.pop_payload()?.ok_or(RowFault::NotARow)
     }
 
-    fn pop_boxed(&mut self, alloc: Global) -> Result<Option<Box<TypeNode>>, RowFault> {
+    fn pop_shared(&mut self, alloc: Global) -> Result<Option<Rc<TypeNode>>, RowFault> {
         Ok(match self.pop_payload()? {
-            Some(ty) => Some(Box::new(alloc, ty)?),
+            Some(ty) => Some(Rc::new(alloc, ty)?),
             None => None,
         })
     }
