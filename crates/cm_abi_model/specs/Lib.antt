@@ -4,3 +4,8 @@ pub mod Texts
 pub mod Shows
 pub mod FlatShows
 pub mod Denotes
+pub mod Parts
+pub mod Requests
+pub mod Stores
+pub mod Receives
+pub mod Taken

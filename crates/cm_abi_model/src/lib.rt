@@ -7,5 +7,7 @@
 
 mod encoding;
 pub mod laws;
+mod request;
 
 pub use encoding::StringEncoding;
+pub use request::Request;
