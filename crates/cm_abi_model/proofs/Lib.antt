@@ -1,1 +1,3 @@
 pub mod OneValue
+pub mod StoredBytes
+pub mod StoredShows

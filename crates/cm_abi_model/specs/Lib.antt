@@ -7,5 +7,6 @@ pub mod Denotes
 pub mod Parts
 pub mod Requests
 pub mod Stores
+pub mod Regions
 pub mod Receives
 pub mod Taken

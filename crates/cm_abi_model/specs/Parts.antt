@@ -1,7 +1,6 @@
 -- What of a value lies elsewhere in memory, and what is counted (CanonicalABI.md, "Storing" of
 -- lists and strings; the counts are this project's own choice).
-use Rattle.std.specs.Prelude.{ℕ, zero, suc, ◌+◌, ◌*◌, ◌/◌, List, [], ◌∷◌, ◌++◌, length}
-use Rattle.std.specs.List.{flat_map}
+use Rattle.std.specs.Prelude.{ℕ, zero, suc, ◌+◌, ◌<◌, ◌^◌, ⊤, List, [], ◌∷◌, ◌++◌}
 use Rattle.cm_types.specs.Types.{Ty, Fields, Cases, list, fixed_list, fields, cases, no_fields}
 use Rattle.cm_types.specs.Types.{field, no_cases, plain, carrying}
 use Rattle.cm_types.specs.Values.{Val, Vals, no_vals, val, truth, signed_number, number, scalar}
@@ -81,3 +80,22 @@ abbrev mutual
   pub handle_count_each : Vals → ℕ
   handle_count_each no_vals = 0
   handle_count_each (val v vs) = handle_count v + handle_count_each vs
+
+abbrev mutual
+  -- the numbers of the cases in a value fit 32 bits
+  pub CasesFit : Val → Type 0
+  CasesFit (bare i) = i < 2 ^ 32
+  CasesFit (bearing i v) = (i < 2 ^ 32) × CasesFit v
+  CasesFit (elements vs) = AllCasesFit vs
+  CasesFit (parts vs) = AllCasesFit vs
+  CasesFit (truth b) = ⊤
+  CasesFit (signed_number z) = ⊤
+  CasesFit (number n) = ⊤
+  CasesFit (scalar c) = ⊤
+  CasesFit (text cs) = ⊤
+  CasesFit (flag_set n) = ⊤
+  CasesFit (handle h) = ⊤
+
+  pub AllCasesFit : Vals → Type 0
+  AllCasesFit no_vals = ⊤
+  AllCasesFit (val v vs) = CasesFit v × AllCasesFit vs

@@ -1,6 +1,6 @@
 -- What the receiver of a call has once a value was lowered (CanonicalABI.md, "Lowering").
-use Rattle.std.specs.Prelude.{◌≡◌, ℕ, zero, suc, ◌+◌, ◌*◌, ◌<◌, ◌≤◌, ◌⊎◌, ⊤, Bool, true, false}
-use Rattle.std.specs.Prelude.{if◌then◌else◌, List, [], ◌∷◌, ◌++◌, map, Contains, Some}
+use Rattle.std.specs.Prelude.{◌≡◌, ℕ, zero, suc, ◌+◌, ◌^◌, ◌<◌, ⊤, Bool, true, false, length}
+use Rattle.std.specs.Prelude.{if◌then◌else◌, List, [], ◌∷◌, ◌++◌, map, Some}
 use Rattle.cm_types.specs.declared.core_value.CoreKind.{CoreKind}
 use Rattle.cm_types.specs.declared.core_value.CoreKind.TheVariants as kind
 use Rattle.cm_types.specs.declared.core_value.CoreValue.{CoreValue}
@@ -11,7 +11,7 @@ use Rattle.cm_types.specs.Types.{no_fields, field, no_cases, plain, carrying}
 use Rattle.cm_types.specs.Values.{Val, Vals, HandleValue, no_vals, val, truth, signed_number}
 use Rattle.cm_types.specs.Values.{number, scalar, text, elements, parts, bare, bearing, flag_set}
 use Rattle.cm_types.specs.Values.{handle, count_of, HasType}
-use Rattle.cm_handles.specs.Handles.{handle_at}
+use Rattle.cm_handles.specs.Handles.{IsSoundHandles, handle_at}
 use Rattle.cm_handles.specs.declared.handle.HandleKind.{HandleKind}
 use Rattle.cm_handles.specs.declared.handle.HandleKind.TheVariants.{Owned, Borrowed}
 use Rattle.cm_types.specs.CoreValues.{kind_of}
@@ -20,8 +20,12 @@ use Rattle.cm_layout.specs.Sizes.{size_of}
 use Rattle.cm_layout.specs.Flattening.{flat_of, flat_of_fields}
 use Rattle.cm_abi_model.specs.Views.{View, Way, implements}
 use Rattle.cm_abi_model.specs.FlatShows.{width_of}
-use Rattle.cm_abi_model.specs.Parts.{part_count, handle_count}
-use Rattle.cm_abi_model.specs.Requests.{text_bytes, text_units, is_spilled, tuple_of}
+use Rattle.cm_abi_model.specs.Parts.{part_count, handle_count, CasesFit}
+use Rattle.cm_abi_model.specs.Requests.{text_bytes, text_units, stored_charset}
+use Rattle.cm_abi_model.specs.Requests.{IsStored, call_parts}
+use Rattle.cm_abi_model.specs.Regions.{ArePlaced}
+use Rattle.cm_types.specs.Spellable.{are_spellable}
+use Rattle.cm_abi_model.specs.Requests.{is_spilled, tuple_of}
 use Rattle.cm_abi_model.specs.Stores.{Placed, Storing, Given, place_of, number_of, Holds, placed}
 use Rattle.cm_abi_model.specs.Stores.{from_signed, store_each, stored, IsBeside}
 
@@ -71,12 +75,18 @@ abbrev mutual
   slots_of_payload g (carrying l t cs) zero v s k h = slots_of g t v s k h
   slots_of_payload g (carrying l t cs) (suc i) v s k h = slots_of_payload g cs i v s k h
 
--- what the slots hold: the numbers that are put in them, and 0 in those that none is put in
-abbrev pub AreNumbers : List CoreKind → List CoreValue → List Placed → Type 0
-AreNumbers kinds slots puts =
-    (map kind_of slots ≡ kinds)
-    × ((k n : ℕ) → Contains puts (k, n) → slot_at slots k ≡ n)
-    × ((k : ℕ) → IsBeside k puts → slot_at slots k ≡ 0)
+-- slots have each of these numbers at its place
+abbrev pub SlotsHold : List CoreValue → List Placed → Type 0
+SlotsHold slots [] = ⊤
+SlotsHold slots (n ∷ ns) = (slot_at slots n.0 ≡ n.1) × SlotsHold slots ns
+
+-- what the slots hold: they are of these kinds, have the numbers that are put in them, and 0 in
+-- those that none is put in
+pub record AreNumbers (kinds : List CoreKind) (slots : List CoreValue) (puts : List Placed)
+    : Type 0 where
+  pub of_kinds : map kind_of slots ≡ kinds
+  pub numbers : SlotsHold slots puts
+  pub others : (k : ℕ) → IsBeside k puts → slot_at slots k ≡ 0
 
 -- ---- bytes behind the pointers in core values
 
@@ -162,6 +172,13 @@ abbrev pub StandsFor : View → ℕ → HandleLeaf → Type 0
 StandsFor w n (owned_leaf h) = HasHandle w n Owned h
 StandsFor w n (borrowed_leaf h) = StandsForBorrow (implements w h.resource) w n h
 
+-- no handle that is borrowed is to a resource that the view implements
+abbrev pub NoneImplemented : View → List HandleLeaf → Type 0
+NoneImplemented w [] = ⊤
+NoneImplemented w (owned_leaf h ∷ leaves) = NoneImplemented w leaves
+NoneImplemented w (borrowed_leaf h ∷ leaves) =
+    (implements w h.resource ≡ false) × NoneImplemented w leaves
+
 -- each of the numbers from this one on stands for its handle
 abbrev pub AllStand : View → Given → ℕ → List HandleLeaf → Type 0
 AllStand w g h [] = ⊤
@@ -189,6 +206,18 @@ call_numbers g way types v =
 pub record Receives (w : View) (way : Way) (types : Fields) (slots : List CoreValue) (g : Given)
     (v : Val) : Type 0 where
   pub typed : HasType (tuple_of types) v
+  pub stored_in : g.charset ≡ stored_charset w.encoding
   pub numbers : AreNumbers (call_kinds way types) slots (call_numbers g way types v)
   pub bytes : Holds w.memory (call_bytes g way types v)
   pub handles : AllStand w g 0 (leaves_in (tuple_of types) v)
+
+-- What is given for a lowering serves it: the receiver stores strings in its encoding, its memory is
+-- counted in 32 bits, its table is sound, the types can be spelled, the value's cases are counted in
+-- 32 bits, and every part has a place in the memory.
+pub record Serves (w : View) (way : Way) (types : Fields) (g : Given) (v : Val) : Type 0 where
+  pub stores : IsStored w.encoding
+  pub memory : length w.memory < 2 ^ 32
+  pub table : IsSoundHandles w.table
+  pub spellable : are_spellable types ≡ true
+  pub cases : CasesFit v
+  pub places : ArePlaced w.encoding (length w.memory) g 0 (call_parts way types v)

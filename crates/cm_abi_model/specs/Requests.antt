@@ -1,7 +1,7 @@
 -- The memory that a lowering asks for (CanonicalABI.md, "Storing" of lists and strings; that all of
 -- it is asked for before anything is stored, in reading order and in these sizes, is this project's
 -- own choice).
-use Rattle.std.specs.Prelude.{ℕ, ◌+◌, ◌*◌, ◌/◌, Bool, true, false, List, [], ◌∷◌, ◌++◌, map}
+use Rattle.std.specs.Prelude.{ℕ, ◌*◌, ◌/◌, ⊤, Bool, true, false, List, [], ◌∷◌, ◌++◌, map}
 use Rattle.std.specs.Prelude.{length, nat_lt, if◌then◌else◌}
 use Rattle.std.specs.List.{flat_map}
 use Rattle.cm_types.specs.Types.{Ty, Fields, fields, tuple_type}
@@ -30,6 +30,12 @@ abbrev pub stored_charset : StringEncoding → Charset
 stored_charset encoding.Utf8 = utf8
 stored_charset encoding.Utf16 = utf16
 stored_charset encoding.Latin1OrUtf16 = utf16
+
+-- strings may be stored in it
+abbrev pub IsStored : StringEncoding → Type 0
+IsStored encoding.Utf8 = ⊤
+IsStored encoding.Utf16 = ⊤
+IsStored encoding.Latin1OrUtf16 = ⊥
 
 -- the bytes of a string, and how many units it has
 abbrev pub text_bytes : Charset → List ℕ → List ℕ

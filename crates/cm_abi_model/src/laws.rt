@@ -6,7 +6,10 @@ ghost use Rattle.cm_types.specs.declared.core_value.CoreValue.{CoreValue};
 ghost use Rattle.cm_types.specs.Types.{Fields, Ty};
 ghost use Rattle.cm_types.specs.Values.{Val};
 ghost use Rattle.cm_abi_model.specs.Denotes.{Denotes};
+ghost use Rattle.cm_abi_model.specs.Receives.{NoneImplemented, Receives, Serves, leaves_in};
+ghost use Rattle.cm_abi_model.specs.Requests.{tuple_of};
 ghost use Rattle.cm_abi_model.specs.Shows.{Shows};
+ghost use Rattle.cm_abi_model.specs.Stores.{Given};
 ghost use Rattle.cm_abi_model.specs.Views.{View, Way};
 
 use cm_text::laws::one_list_of_scalars;
@@ -23,3 +26,11 @@ pub fn denotations_are_unique()
     one_list_of_scalars::<Utf16>();
     one_list_of_scalars::<Latin1>();
 }
+
+/// What a receiver has once a value was lowered denotes that value, where no handle was passed as
+/// its representation. (Where one was, its number is no index of the receiver's table.)
+pub fn what_is_received_is_denoted()
+    ensures { (w : View) (way : Way) (types : Fields) (slots : List CoreValue) (g : Given) (v : Val)
+        → Receives w way types slots g v → Serves w way types g v
+        → NoneImplemented w (leaves_in (tuple_of types) v) → Denotes w way types slots v }
+{}
