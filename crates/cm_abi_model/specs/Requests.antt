@@ -3,7 +3,7 @@
 -- own choice).
 use Rattle.std.specs.Prelude.{ℕ, ◌*◌, ◌/◌, ⊤, Bool, true, false, List, [], ◌∷◌, ◌++◌, map}
 use Rattle.std.specs.Prelude.{length, nat_lt, if◌then◌else◌}
-use Rattle.std.specs.List.{flat_map}
+use Rattle.std.specs.List.{AllByRecursion, flat_map}
 use Rattle.cm_types.specs.Types.{Ty, Fields, fields, tuple_type}
 use Rattle.cm_types.specs.Values.{Val}
 use Rattle.cm_layout.specs.Sizes.{align_of, size_of}
@@ -11,7 +11,7 @@ use Rattle.cm_layout.specs.Flattening.{flat_of_fields}
 use Rattle.cm_abi_model.specs.declared.encoding.StringEncoding.{StringEncoding}
 use Rattle.cm_abi_model.specs.declared.encoding.StringEncoding.TheVariants as encoding
 use Rattle.cm_abi_model.specs.declared.request.Request.{Request}
-use Rattle.cm_abi_model.specs.Texts.{Charset, utf8, utf16, latin1, spell, unit_size, text_align}
+use Rattle.cm_abi_model.specs.Texts.{Charset, Has, utf8, utf16, latin1, spell, unit_size, text_align}
 use Rattle.cm_abi_model.specs.Parts.{Part, text_part, element_part, parts_in}
 use Rattle.cm_abi_model.specs.Views.{Way, flat_limit}
 
@@ -66,6 +66,17 @@ abbrev pub part_sizes : Charset → Charset → Part → List ℕ
 part_sizes source target (text_part scalars) =
     text_sizes source target (text_units source scalars) (length (text_bytes target scalars))
 part_sizes source target (element_part count size align) = count * size ∷ []
+
+-- the last of sizes
+abbrev pub last_size : List ℕ → ℕ
+last_size [] = 0
+last_size (size ∷ []) = size
+last_size (size ∷ next ∷ sizes) = last_size (next ∷ sizes)
+
+-- a part can come from a source: the scalars of a string are spelled there
+abbrev pub HasScalars : Charset → Part → Type 0
+HasScalars source (text_part scalars) = AllByRecursion (Has source) scalars
+HasScalars source (element_part count size align) = ⊤
 
 -- the alignment of a part
 abbrev pub part_align : StringEncoding → Part → ℕ

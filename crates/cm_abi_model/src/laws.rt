@@ -7,7 +7,12 @@ ghost use Rattle.cm_types.specs.Types.{Fields, Ty};
 ghost use Rattle.cm_types.specs.Values.{Val};
 ghost use Rattle.cm_abi_model.specs.Denotes.{Denotes};
 ghost use Rattle.cm_abi_model.specs.Receives.{NoneImplemented, Receives, Serves, leaves_in};
-ghost use Rattle.cm_abi_model.specs.Requests.{tuple_of};
+ghost use Rattle.cm_abi_model.specs.Parts.{Part};
+ghost use Rattle.cm_abi_model.specs.Regions.{part_size};
+ghost use Rattle.cm_abi_model.specs.Requests.{HasScalars, IsStored, last_size, part_sizes};
+ghost use Rattle.cm_abi_model.specs.Requests.{stored_charset, tuple_of};
+ghost use Rattle.cm_abi_model.specs.Texts.{Charset};
+ghost use Rattle.cm_abi_model.specs.declared.encoding.StringEncoding.{StringEncoding};
 ghost use Rattle.cm_abi_model.specs.Shows.{Shows};
 ghost use Rattle.cm_abi_model.specs.Stores.{Given};
 ghost use Rattle.cm_abi_model.specs.Views.{View, Way};
@@ -33,4 +38,11 @@ pub fn what_is_received_is_denoted()
     ensures { (w : View) (way : Way) (types : Fields) (slots : List CoreValue) (g : Given) (v : Val)
         → Receives w way types slots g v → Serves w way types g v
         → NoneImplemented w (leaves_in (tuple_of types) v) → Denotes w way types slots v }
+{}
+
+/// The last size that is asked for a part is the size that it takes where it is stored.
+pub fn requests_end_exact()
+    ensures { (source : Charset) (target : StringEncoding) (part : Part) → IsStored target
+        → HasScalars source part
+        → last_size (part_sizes source (stored_charset target) part) ≡ part_size target part }
 {}
