@@ -1,21 +1,9 @@
 -- Faults in texts that are read token by token, and what a reader that needs memory may answer.
-use Rattle.std.specs.Prelude.{◌≡◌, ℕ, List, Result, Ok, Err}
+use Rattle.std.specs.Prelude.{◌≡◌, List, Result, Ok, Err}
 use Rattle.cm_wit_tokens.specs.declared.token.Token.{Token}
 use Rattle.cm_wit_grammar.specs.declared.fault.WitReason.{WitReason}
-use Rattle.cm_wit_grammar.specs.declared.fault.WitReason.TheVariants as reason
 use Rattle.cm_wit_grammar.specs.declared.fault.ReadError.{ReadError}
 use Rattle.cm_wit_grammar.specs.declared.fault.ReadError.TheVariants as errors
-
--- the numbers of the reasons (this project's own choice)
-abbrev pub reason_number : WitReason → ℕ
-reason_number reason.BadToken = 1
-reason_number reason.Unexpected = 2
-reason_number reason.Duplicate = 3
-reason_number reason.UnknownName = 4
-reason_number reason.Cycle = 5
-reason_number reason.Unsupported = 6
-reason_number reason.TooDeep = 7
-reason_number reason.Memory = 8
 
 -- A fault: the tokens from its place on, none where the text ends there, and the reason.
 pub record Fault : Type 0 where

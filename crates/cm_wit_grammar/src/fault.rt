@@ -3,7 +3,7 @@
 ghost use Rattle.std.specs.Prelude.{◌≡◌};
 ghost use Rattle.cm_wit_grammar.specs.declared.fault.ReadError.TheVariants.{Memory};
 ghost use Rattle.cm_wit_grammar.specs.declared.fault.WitReason.TheVariants.{Memory as NoMemory};
-ghost use Rattle.cm_wit_grammar.specs.Faults.{reason_number};
+ghost use Rattle.cm_wit_grammar.specs.Reasons.{reason_name, reason_number};
 
 use std::alloc::{AllocError, AllocFailed};
 use std::fmt;
@@ -35,6 +35,22 @@ impl WitReason {
         ensures { result ≡ reason_number self }
     {
         self as u8
+    }
+
+    /// The word by which the reason is known, as `UnknownName`.
+    pub fn name(self) -> &'static str
+        ensures { result.now ≡ reason_name self }
+    {
+        match self {
+            WitReason::BadToken => "BadToken",
+            WitReason::Unexpected => "Unexpected",
+            WitReason::Duplicate => "Duplicate",
+            WitReason::UnknownName => "UnknownName",
+            WitReason::Cycle => "Cycle",
+            WitReason::Unsupported => "Unsupported",
+            WitReason::TooDeep => "TooDeep",
+            WitReason::Memory => "Memory",
+        }
     }
 
     /// What is wrong, in a few words.
