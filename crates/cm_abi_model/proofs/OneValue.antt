@@ -50,8 +50,8 @@ pub both : {A : Type 0} (make : A → Val) {F : A → Type 0} {u v : Val} → ((
 both make one x y = x.value ∙ ap make (one x.content y.content x.fact y.fact) ∙ sym y.value
 
 as_bool : (w : View) (p : ℕ) (v : Val) → Shows w bool p v → Is truth (λ a. Shows w bool p (truth a)) v
-as_bool w p  (truth a) h = record { content = a; value = refl; fact = h }
-as_bool w p  v h = absurd h
+as_bool w p (truth a) h = record { content = a; value = refl; fact = h }
+as_bool w p v h = absurd h
 
 as_signed : (w : View) (p : ℕ) (k : Width) (v : Val) → Shows w (signed k) p v → Is signed_number (λ a. Shows w (signed k) p (signed_number a)) v
 as_signed w p k (signed_number a) h = record { content = a; value = refl; fact = h }
@@ -62,12 +62,12 @@ as_unsigned w p k (number a) h = record { content = a; value = refl; fact = h }
 as_unsigned w p k v h = absurd h
 
 as_char : (w : View) (p : ℕ) (v : Val) → Shows w char p v → Is scalar (λ a. Shows w char p (scalar a)) v
-as_char w p  (scalar a) h = record { content = a; value = refl; fact = h }
-as_char w p  v h = absurd h
+as_char w p (scalar a) h = record { content = a; value = refl; fact = h }
+as_char w p v h = absurd h
 
 as_string : (w : View) (p : ℕ) (v : Val) → Shows w string p v → Is text (λ a. Shows w string p (text a)) v
-as_string w p  (text a) h = record { content = a; value = refl; fact = h }
-as_string w p  v h = absurd h
+as_string w p (text a) h = record { content = a; value = refl; fact = h }
+as_string w p v h = absurd h
 
 as_list : (w : View) (p : ℕ) (t : Ty) (v : Val) → Shows w (list t) p v → Is elements (λ a. Shows w (list t) p (elements a)) v
 as_list w p t (elements a) h = record { content = a; value = refl; fact = h }
@@ -93,7 +93,6 @@ as_borrow : (w : View) (p : ℕ) (r : ResourceId) (v : Val) → Shows w (borrow 
 as_borrow w p r (handle a) h = record { content = a; value = refl; fact = h }
 as_borrow w p r v h = absurd h
 
-
 as_case : (w : View) (p : ℕ) (k : CasesKind) (cs : Cases) (v : Val) → Shows w (cases k cs) p v
     → ((i : ℕ) × (v ≡ bare i) × (number_at (discriminant_size (case_count cs)) w.memory p ≡ i) × IsPlainCase cs i)
     ⊎ ((i : ℕ) × (a : Val) × (v ≡ bearing i a) × (number_at (discriminant_size (case_count cs)) w.memory p ≡ i) × ShowsPayload w cs (p + payload_offset cs) i a)
@@ -110,8 +109,8 @@ flat_as_case w s p k cs (bearing i a) h = inr (i, a, refl, h.0, h.1)
 flat_as_case w s p k cs v h = absurd h
 
 flat_as_bool : (w : View) (s : List CoreValue) (p : ℕ) (v : Val) → FlatShows w s bool p v → Is truth (λ a. FlatShows w s bool p (truth a)) v
-flat_as_bool w s p  (truth a) h = record { content = a; value = refl; fact = h }
-flat_as_bool w s p  v h = absurd h
+flat_as_bool w s p (truth a) h = record { content = a; value = refl; fact = h }
+flat_as_bool w s p v h = absurd h
 
 flat_as_signed : (w : View) (s : List CoreValue) (p : ℕ) (k : Width) (v : Val) → FlatShows w s (signed k) p v → Is signed_number (λ a. FlatShows w s (signed k) p (signed_number a)) v
 flat_as_signed w s p k (signed_number a) h = record { content = a; value = refl; fact = h }
@@ -122,12 +121,12 @@ flat_as_unsigned w s p k (number a) h = record { content = a; value = refl; fact
 flat_as_unsigned w s p k v h = absurd h
 
 flat_as_char : (w : View) (s : List CoreValue) (p : ℕ) (v : Val) → FlatShows w s char p v → Is scalar (λ a. FlatShows w s char p (scalar a)) v
-flat_as_char w s p  (scalar a) h = record { content = a; value = refl; fact = h }
-flat_as_char w s p  v h = absurd h
+flat_as_char w s p (scalar a) h = record { content = a; value = refl; fact = h }
+flat_as_char w s p v h = absurd h
 
 flat_as_string : (w : View) (s : List CoreValue) (p : ℕ) (v : Val) → FlatShows w s string p v → Is text (λ a. FlatShows w s string p (text a)) v
-flat_as_string w s p  (text a) h = record { content = a; value = refl; fact = h }
-flat_as_string w s p  v h = absurd h
+flat_as_string w s p (text a) h = record { content = a; value = refl; fact = h }
+flat_as_string w s p v h = absurd h
 
 flat_as_list : (w : View) (s : List CoreValue) (p : ℕ) (t : Ty) (v : Val) → FlatShows w s (list t) p v → Is elements (λ a. FlatShows w s (list t) p (elements a)) v
 flat_as_list w s p t (elements a) h = record { content = a; value = refl; fact = h }
@@ -152,7 +151,6 @@ flat_as_own w s p r v h = absurd h
 flat_as_borrow : (w : View) (s : List CoreValue) (p : ℕ) (r : ResourceId) (v : Val) → FlatShows w s (borrow r) p v → Is handle (λ a. FlatShows w s (borrow r) p (handle a)) v
 flat_as_borrow w s p r (handle a) h = record { content = a; value = refl; fact = h }
 flat_as_borrow w s p r v h = absurd h
-
 
 -- a value of a type with cases, where what each case carries is one
 abbrev ACase : Cases → (ℕ → Val → Type 0) → ℕ → Val → Type 0

@@ -125,7 +125,7 @@ signed_back half all (negsuc n) e fits =
     let small : n + 1 ≤ half = grind (arith, ints, fits.0) in (
       omega (arith, small, e),
       ap (λ b. if b then pos (all - (n + 1)) else neg_ℤ (pos (all - (all - (n + 1))))) (le-ltb (all - (n + 1)) half (omega (arith, small, e)))
-      ∙ ap (λ m. neg_ℤ (pos m)) {x = all - (all - (n + 1))} {y = suc n} (omega (arith, small, e)),
+          ∙ ap (λ m. neg_ℤ (pos m)) {x = all - (all - (n + 1))} {y = suc n} (omega (arith, small, e)),
     )
 
 from_is : (bytes : ℕ) (z : ℤ) → from_signed bytes z ≡ lowered (2 ^ (8 * bytes)) z
@@ -291,7 +291,7 @@ module _ (w : View) (g : Given) (in_memory : length w.memory < 2 ^ 32) (is_store
         let held = holds_split w.memory (placed p (bytes_of (discriminant_size (case_count cs)) i)) _ f.held in (
           number_fit (discriminant_size (case_count cs)) p i (case_fits (case_count cs) i (carried_below cs i v typed) small.0) held.0,
           payload_shown cs (and_parts _ _ ok).1 i v (p + payload_offset cs) k h typed small.1
-          (record { held = held.1; placed = f.placed; stand = f.stand; none = f.none }),
+              (record { held = held.1; placed = f.placed; stand = f.stand; none = f.none }),
         )
     stored_shown (flags ls) ok (flag_set n) p k h typed small f =
         let few : length ls ≤ 32 = leb-true (length ls) 32 (and_parts _ _ ok).1 in
@@ -368,7 +368,7 @@ module _ (w : View) (g : Given) (in_memory : length w.memory < 2 ^ 32) (is_store
   flat_each_shown : (t : Ty) → ((v : Val) (s k h : ℕ) → HasType t v → CasesFit v → Passed t v s k h → FlatShows w slots t s v)
       → (vs : Vals) (s k h : ℕ) → AllVals (HasType t) vs → AllCasesFit vs
       → FlatFit (store_each (slots_of g t) (width_of t) vs s k h) (behind_each (behind g t) vs k h) (parts_each (parts_in t) vs)
-        (leaves_each (leaves_in t) vs) k h
+      (leaves_each (leaves_in t) vs) k h
       → ShowEach (FlatShows w slots t) (width_of t) s vs
   flat_each_shown t one no_vals s k h typed small f = tt {0}
   flat_each_shown t one (val v vs) s k h typed small f =

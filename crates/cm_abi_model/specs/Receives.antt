@@ -160,7 +160,7 @@ abbrev pub HasHandle : View → ℕ → HandleKind → HandleValue → Type 0
 HasHandle w index kind h =
     handle_at w.table index
     ≡ Some (record
-      { resource = h.resource; serial = h.serial; lends = 0; rep = h.rep; kind = kind })
+    { resource = h.resource; serial = h.serial; lends = 0; rep = h.rep; kind = kind })
 
 -- The number stands for the handle: it is the index of one that owns the resource; of one that is
 -- borrowed for this call; or the representation, where the receiver implements the resource.
@@ -211,9 +211,9 @@ pub record Receives (w : View) (way : Way) (types : Fields) (slots : List CoreVa
   pub bytes : Holds w.memory (call_bytes g way types v)
   pub handles : AllStand w g 0 (leaves_in (tuple_of types) v)
 
--- What is given for a lowering serves it: the receiver stores strings in its encoding, its memory is
--- counted in 32 bits, its table is sound, the types can be spelled, the value's cases are counted in
--- 32 bits, and every part has a place in the memory.
+-- What is given for a lowering serves it: the receiver stores strings in its encoding, its memory
+-- is counted in 32 bits, its table is sound, the types can be spelled, the value's cases are
+-- counted in 32 bits, and every part has a place in the memory.
 pub record Serves (w : View) (way : Way) (types : Fields) (g : Given) (v : Val) : Type 0 where
   pub stores : IsStored w.encoding
   pub memory : length w.memory < 2 ^ 32

@@ -127,7 +127,7 @@ abbrev pub call_parts : Way → Fields → Val → List Part
 call_parts way types v =
     if is_spilled way types
     then element_part 1 (size_of (tuple_of types)) (align_of (tuple_of types))
-      ∷ parts_in (tuple_of types) v
+    ∷ parts_in (tuple_of types) v
     else parts_in (tuple_of types) v
 
 -- what lowering the tuple of these types asks for. The tuple of results is answered by the pointer

@@ -98,7 +98,7 @@ abbrev mutual
   stored_fields g (field l t fs) (val v vs) p end k h =
       stored g t v (p + align_to (align_of t) end) k h
       ++ stored_fields g fs vs p (align_to (align_of t) end + size_of t)
-         (k + part_count v) (h + handle_count v)
+      (k + part_count v) (h + handle_count v)
 
   -- those of what the case of this number carries
   pub stored_payload : Given → Cases → ℕ → Val → ℕ → ℕ → ℕ → List Placed

@@ -1,5 +1,5 @@
--- What lifting a value takes from its giver (CanonicalABI.md, "Lifting" of own and borrow; the limit
--- on content is this project's own choice).
+-- What lifting a value takes from its giver (CanonicalABI.md, "Lifting" of own and borrow; the
+-- limit on content is this project's own choice).
 use Rattle.std.specs.Prelude.{◌≡◌, ℕ, zero, suc, ◌+◌, ◌*◌, ◌≤◌, List, [], ◌∷◌, ◌++◌, length}
 use Rattle.std.specs.Prelude.{Contains, slice_get, Some, map, sum, if◌then◌else◌}
 use Rattle.cm_types.specs.declared.core_value.CoreValue.{CoreValue}
@@ -119,7 +119,7 @@ MAX_CONTENT = 16_777_216
 pub record CanGo (table : Handles) (ms : List Met) : Type 0 where
   pub once : IsDistinct (taken_of ms)
   pub free : (index : ℕ) (h : Handle) → Contains (taken_of ms) index
-    → handle_at table index ≡ Some h → h.lends ≡ 0
+      → handle_at table index ≡ Some h → h.lends ≡ 0
   pub apart : (index : ℕ) → Contains (taken_of ms) index → Contains (lent_of ms) index → ⊥
   pub small : content_of ms ≤ MAX_CONTENT
 

@@ -73,4 +73,4 @@ pub record ShowsText (e : StringEncoding) (memory : List ℕ) (at n : ℕ) (scal
   pub aligned : IsAligned (text_align e) at
   pub inside : at + text_size e n ≤ length memory
   pub text : IsText (Has (charset_of e n)) (spell (charset_of e n)) scalars
-    (bytes_from memory at (text_size e n))
+      (bytes_from memory at (text_size e n))

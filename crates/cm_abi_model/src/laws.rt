@@ -23,7 +23,8 @@ use cm_text::{Latin1, Utf8, Utf16};
 /// In a view, the bytes at an address show at most one value of a type, and core values denote at
 /// most one value of the types of a call.
 pub fn denotations_are_unique()
-    ensures shown { (w : View) (t : Ty) (p : ℕ) (u v : Val) → Shows w t p u → Shows w t p v → u ≡ v }
+    ensures shown { (w : View) (t : Ty) (p : ℕ) (u v : Val) → Shows w t p u → Shows w t p v
+        → u ≡ v }
     ensures denoted { (w : View) (way : Way) (types : Fields) (slots : List CoreValue) (u v : Val)
         → Denotes w way types slots u → Denotes w way types slots v → u ≡ v }
 {
