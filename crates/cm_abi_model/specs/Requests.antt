@@ -11,7 +11,8 @@ use Rattle.cm_layout.specs.Flattening.{flat_of_fields}
 use Rattle.cm_abi_model.specs.declared.encoding.StringEncoding.{StringEncoding}
 use Rattle.cm_abi_model.specs.declared.encoding.StringEncoding.TheVariants as encoding
 use Rattle.cm_abi_model.specs.declared.request.Request.{Request}
-use Rattle.cm_abi_model.specs.Texts.{Charset, Has, utf8, utf16, latin1, spell, unit_size, text_align}
+use Rattle.cm_abi_model.specs.Texts.{Charset, Has, utf8, utf16, latin1, spell, unit_size}
+use Rattle.cm_abi_model.specs.Texts.{text_align}
 use Rattle.cm_abi_model.specs.Parts.{Part, text_part, element_part, parts_in}
 use Rattle.cm_abi_model.specs.Views.{Way, flat_limit}
 
