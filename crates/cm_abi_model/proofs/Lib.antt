@@ -1,4 +1,5 @@
 pub mod OneValue
 pub mod StoredBytes
 pub mod SizesAskedFor
+pub mod StoredRegions
 pub mod StoredShows

@@ -1,10 +1,10 @@
 -- Where a receiver's allocator puts the parts of a value (CanonicalABI.md, "Storing" of lists and
 -- strings; that regions are apart is this project's own choice).
-use Rattle.std.specs.Prelude.{◌≡◌, ℕ, ◌+◌, ◌*◌, ◌^◌, ◌<◌, ◌≤◌, ⊤, List, [], ◌∷◌, length}
+use Rattle.std.specs.Prelude.{◌≡◌, ℕ, ◌+◌, ◌*◌, ◌^◌, ◌<◌, ◌≤◌, ◌⊎◌, ⊤, List, [], ◌∷◌, length}
 use Rattle.cm_abi_model.specs.declared.encoding.StringEncoding.{StringEncoding}
 use Rattle.cm_abi_model.specs.Parts.{Part, text_part, element_part}
 use Rattle.cm_abi_model.specs.Requests.{part_align, stored_charset, text_bytes}
-use Rattle.cm_abi_model.specs.Stores.{Given, place_of}
+use Rattle.cm_abi_model.specs.Stores.{Given, Placed, place_of}
 use Rattle.cm_abi_model.specs.Texts.{IsAligned}
 
 -- how many bytes a part takes where it is stored
@@ -30,3 +30,18 @@ ArePlaced target memory_length g k [] = ⊤
 ArePlaced target memory_length g k (part ∷ parts) =
     IsPlaced target memory_length (place_of g k) part
     × ArePlaced target memory_length g (k + 1) parts
+
+-- an address is in a region of so many bytes
+abbrev pub IsIn : ℕ → ℕ → ℕ → Type 0
+IsIn at size a = (at ≤ a) × (a < at + size)
+
+-- an address is in the region of one of the parts, from the one of this number on
+abbrev pub IsInPart : StringEncoding → Given → ℕ → List Part → ℕ → Type 0
+IsInPart target g k [] a = ⊥
+IsInPart target g k (part ∷ parts) a =
+    IsIn (place_of g k) (part_size target part) a ⊎ IsInPart target g (k + 1) parts a
+
+-- each of these bytes stands at an address of which the fact holds
+abbrev pub AllAt : (ℕ → Type 0) → List Placed → Type 0
+AllAt P [] = ⊤
+AllAt P (b ∷ bs) = P b.0 × AllAt P bs

@@ -4,13 +4,13 @@
 ghost use Rattle.std.specs.Prelude.{◌≡◌, ℕ, List};
 ghost use Rattle.cm_types.specs.declared.core_value.CoreValue.{CoreValue};
 ghost use Rattle.cm_types.specs.Types.{Fields, Ty};
-ghost use Rattle.cm_types.specs.Values.{Val};
+ghost use Rattle.cm_types.specs.Values.{HasType, Val};
 ghost use Rattle.cm_abi_model.specs.Denotes.{Denotes};
-ghost use Rattle.cm_abi_model.specs.Receives.{NoneImplemented, Receives, Serves, leaves_in};
+ghost use Rattle.cm_abi_model.specs.Receives.{NoneImplemented, Receives, Serves, call_bytes, leaves_in};
 ghost use Rattle.cm_abi_model.specs.Parts.{Part};
-ghost use Rattle.cm_abi_model.specs.Regions.{part_size};
+ghost use Rattle.cm_abi_model.specs.Regions.{AllAt, IsInPart, part_size};
 ghost use Rattle.cm_abi_model.specs.Requests.{HasScalars, IsStored, last_size, part_sizes};
-ghost use Rattle.cm_abi_model.specs.Requests.{stored_charset, tuple_of};
+ghost use Rattle.cm_abi_model.specs.Requests.{call_parts, stored_charset, tuple_of};
 ghost use Rattle.cm_abi_model.specs.Texts.{Charset};
 ghost use Rattle.cm_abi_model.specs.declared.encoding.StringEncoding.{StringEncoding};
 ghost use Rattle.cm_abi_model.specs.Shows.{Shows};
@@ -46,4 +46,12 @@ pub fn requests_end_exact()
     ensures { (source : Charset) (target : StringEncoding) (part : Part) → IsStored target
         → HasScalars source part
         → last_size (part_sizes source (stored_charset target) part) ≡ part_size target part }
+{}
+
+/// Each byte that a lowering stores lies in the region of one of the parts of the call, where the
+/// given places are.
+pub fn what_is_stored_lies_in_regions()
+    ensures { (way : Way) (types : Fields) (g : Given) (v : Val) (target : StringEncoding)
+        → HasType (tuple_of types) v → g.charset ≡ stored_charset target
+        → AllAt (IsInPart target g 0 (call_parts way types v)) (call_bytes g way types v) }
 {}
