@@ -1,5 +1,6 @@
 pub mod OneValue
 pub mod StoredBytes
 pub mod SizesAskedFor
+pub mod StoredOnce
 pub mod StoredRegions
 pub mod StoredShows

@@ -1,18 +1,17 @@
 -- The same bytes and the same slots show one value.
-use Rattle.std.proofs.Common.{◌≡◌, ℕ, zero, suc, ℤ, ◌+◌, ◌*◌, ◌%◌, ◌^◌, ◌≤◌, ◌<◌, ◌⊎◌, Bool, not, ◌==◌, List, length, Option, Some, refl, sym, ap, subst, ◌∙◌, arith, inl, inr}
+use Rattle.std.proofs.Common.{◌≡◌, ℕ, zero, suc, ◌+◌, ◌⊎◌, List, Some, refl, sym, ap, subst, ◌∙◌, arith, inl, inr}
 use Rattle.cm_types.specs.declared.core_value.CoreValue.{CoreValue}
 use Rattle.cm_types.specs.declared.resource.ResourceId.{ResourceId}
-use Rattle.cm_types.specs.Types.{Width, FieldsKind, CasesKind, Ty, Fields, Cases, width_bytes, bool, signed, unsigned, char, string, list, fixed_list, fields, cases, flags, own, borrow, no_fields, field, no_cases, plain, carrying, tuple_type}
-use Rattle.cm_types.specs.Values.{Val, Vals, HandleValue, no_vals, val, truth, signed_number, number, scalar, text, elements, parts, bare, bearing, flag_set, handle, count_of, IsPlainCase, IsScalarValue}
-use Rattle.cm_handles.specs.Handles.{Handles, handle_at}
+use Rattle.cm_types.specs.Types.{Width, FieldsKind, CasesKind, Ty, Fields, Cases, bool, signed, unsigned, char, string, list, fixed_list, fields, cases, flags, own, borrow, no_fields, field, no_cases, plain, carrying, tuple_type}
+use Rattle.cm_types.specs.Values.{Val, Vals, HandleValue, no_vals, val, truth, signed_number, number, scalar, text, elements, parts, bare, bearing, flag_set, handle, count_of, IsPlainCase}
+use Rattle.cm_handles.specs.Handles.{Handles}
 use Rattle.cm_handles.specs.declared.handle.Handle.{Handle}
-use Rattle.cm_layout.specs.Alignment.{align_to}
-use Rattle.cm_layout.specs.Sizes.{align_of, size_of, case_count, discriminant_size, flags_size, payload_offset}
+use Rattle.cm_layout.specs.Sizes.{case_count, discriminant_size, payload_offset}
 use Rattle.cm_text.specs.Text.{IsText}
 use Rattle.cm_abi_model.specs.Numbers.{number_at, wrapped_at}
-use Rattle.cm_abi_model.specs.Views.{View, Way, flat_limit}
-use Rattle.cm_abi_model.specs.Texts.{Charset, Has, spell, charset_of, ShowsText}
-use Rattle.cm_abi_model.specs.Shows.{Shows, ShowFields, ShowsPayload, ShowEach, ShowsElements, ShowsHandle, ShowsOwned}
+use Rattle.cm_abi_model.specs.Views.{View, Way}
+use Rattle.cm_abi_model.specs.Texts.{Charset, Has, spell}
+use Rattle.cm_abi_model.specs.Shows.{Shows, ShowFields, ShowsPayload, ShowEach, ShowsHandle}
 use Rattle.cm_abi_model.specs.FlatShows.{FlatShows, FlatShowFields, FlatShowsPayload}
 use Rattle.cm_abi_model.specs.Denotes.{Denotes}
 

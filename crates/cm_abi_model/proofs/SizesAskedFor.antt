@@ -1,9 +1,8 @@
 -- The last size that is asked for a part is the one that it takes.
-use Rattle.std.proofs.Common.{◌≡◌, ℕ, ◌+◌, ◌-◌, ◌*◌, ◌/◌, ◌<◌, ◌≤◌, Bool, true, false, List, [], ◌∷◌, ◌++◌, length, refl, sym, ap, ◌∙◌, arith, length-append, inl, inr}
+use Rattle.std.proofs.Common.{◌≡◌, ℕ, ◌*◌, ◌/◌, ◌≤◌, List, [], ◌∷◌, length, refl, sym, ap, ◌∙◌, arith, length-append, inl, inr}
 use Rattle.std.specs.Prelude.{nat_lt, if◌then◌else◌}
-use Rattle.std.proofs.lemmas.Bool.{cases_Bool, ltb-true, ltb-false}
+use Rattle.std.proofs.lemmas.Bool.{cases_Bool, ltb-false}
 use Rattle.std.proofs.lemmas.Bool.Decides.{nat_tests}
-use Rattle.std.specs.Char.{IsScalar}
 use Rattle.std.specs.Char.Escape.{encode_utf16}
 use Rattle.std.specs.List.{AllByRecursion, flat_map}
 use Rattle.cm_text.specs.Latin1.{HasLatin1, spell_latin1}
@@ -16,7 +15,7 @@ use Rattle.cm_abi_model.specs.declared.encoding.StringEncoding.TheVariants as en
 use Rattle.cm_abi_model.specs.Parts.{Part, text_part, element_part}
 use Rattle.cm_abi_model.specs.Regions.{part_size}
 use Rattle.cm_abi_model.specs.Requests.{IsStored, HasScalars, last_size, shrunk, text_sizes, text_bytes, text_units, part_sizes, stored_charset}
-use Rattle.cm_abi_model.specs.Texts.{Charset, Has, spell, unit_size, utf8, utf16, latin1}
+use Rattle.cm_abi_model.specs.Texts.{Charset, Has, utf8, utf16, latin1}
 
 -- strings are kept in it
 abbrev IsKept : Charset → Type 0

@@ -1,5 +1,5 @@
 -- What is stored of a value lies in its own place and in the regions of its parts.
-use Rattle.std.proofs.Common.{◌≡◌, ℕ, zero, suc, ◌+◌, ◌-◌, ◌*◌, ◌/◌, ◌<◌, ◌≤◌, ◌⊎◌, inl, inr, Bool, true, false, List, [], ◌∷◌, ◌++◌, length, refl, sym, ap, subst, ◌∙◌, arith, length-append}
+use Rattle.std.proofs.Common.{◌≡◌, ℕ, zero, suc, ◌+◌, ◌-◌, ◌*◌, ◌/◌, ◌≤◌, ◌⊎◌, inl, inr, Bool, List, [], ◌∷◌, ◌++◌, length, refl, sym, subst, arith}
 use Rattle.std.specs.Prelude.{max, if◌then◌else◌}
 use Rattle.std.proofs.Math.Nat.{lt-div-mul-add}
 use Rattle.std.proofs.lemmas.Bool.{cases_Bool}
@@ -9,9 +9,9 @@ use Rattle.cm_types.specs.Values.{Val, Vals, no_vals, val, truth, signed_number,
 use Rattle.cm_layout.specs.Alignment.{align_to}
 use Rattle.cm_layout.specs.Sizes.{align_of, align_of_fields, align_of_payloads, size_of, end_of, greatest_payload, case_count, discriminant_size, flags_size, payload_offset}
 use Rattle.cm_abi_model.specs.declared.encoding.StringEncoding.{StringEncoding}
-use Rattle.cm_abi_model.specs.Parts.{Part, text_part, element_part, parts_in, parts_in_fields, parts_in_payload, parts_each, part_count, part_count_each, handle_count}
+use Rattle.cm_abi_model.specs.Parts.{Part, text_part, element_part, parts_in, parts_in_fields, parts_in_payload, parts_each, part_count, handle_count}
 use Rattle.cm_abi_model.specs.Receives.{behind, behind_each, behind_fields, behind_payload, call_bytes}
-use Rattle.cm_abi_model.specs.Regions.{IsIn, IsInPart, AllAt, part_size}
+use Rattle.cm_abi_model.specs.Regions.{IsIn, IsInPart, AllAt}
 use Rattle.cm_abi_model.specs.Requests.{stored_charset, text_bytes, is_spilled, tuple_of, call_parts}
 use Rattle.cm_abi_model.specs.Stores.{Placed, Given, place_of, placed, bytes_of, pointer_bytes, store_each, stored, stored_fields, stored_payload}
 use Rattle.cm_abi_model.specs.Views.{Way}
@@ -19,15 +19,15 @@ use Rattle.cm_abi_model.proofs.StoredShows.{counted}
 
 -- ---- bytes at addresses
 
-all_append : (P : ℕ → Type 0) (xs ys : List Placed) → AllAt P xs → AllAt P ys → AllAt P (xs ++ ys)
+pub all_append : (P : ℕ → Type 0) (xs ys : List Placed) → AllAt P xs → AllAt P ys → AllAt P (xs ++ ys)
 all_append P [] ys x y = y
 all_append P (b ∷ xs) ys x y = (x.0, all_append P xs ys x.1 y)
 
-all_weaker : (P Q : ℕ → Type 0) → ((a : ℕ) → P a → Q a) → (xs : List Placed) → AllAt P xs → AllAt Q xs
+pub all_weaker : (P Q : ℕ → Type 0) → ((a : ℕ) → P a → Q a) → (xs : List Placed) → AllAt P xs → AllAt Q xs
 all_weaker P Q h [] x = x
 all_weaker P Q h (b ∷ xs) x = (h b.0 x.0, all_weaker P Q h xs x.1)
 
-all_placed : (at : ℕ) (bs : List ℕ) → AllAt (IsIn at (length bs)) (placed at bs)
+pub all_placed : (at : ℕ) (bs : List ℕ) → AllAt (IsIn at (length bs)) (placed at bs)
 all_placed at [] = tt {0}
 all_placed at (b ∷ bs) = (
   (omega arith, omega arith),
@@ -40,15 +40,15 @@ unfolding bytes_of
 bytes_count zero x = refl
 bytes_count (suc n) x = omega (arith, bytes_count n (x / 256))
 
-number_inside : (n at x : ℕ) → AllAt (IsIn at n) (placed at (bytes_of n x))
+pub number_inside : (n at x : ℕ) → AllAt (IsIn at n) (placed at (bytes_of n x))
 number_inside n at x = subst (λ m. AllAt (IsIn at m) (placed at (bytes_of n x))) (bytes_count n x) (all_placed at (bytes_of n x))
 
 -- ---- sizes
 
-max_left : (a b : ℕ) → a ≤ max a b
+pub max_left : (a b : ℕ) → a ≤ max a b
 max_left a b = omega arith
 
-max_right : (a b : ℕ) → b ≤ max a b
+pub max_right : (a b : ℕ) → b ≤ max a b
 max_right a b = omega arith
 
 discriminant_some : (n : ℕ) → 1 ≤ discriminant_size n
@@ -63,11 +63,11 @@ width_some bits_16 = omega arith
 width_some bits_32 = omega arith
 width_some bits_64 = omega arith
 
-aligned_behind : (a e : ℕ) → 1 ≤ a → e ≤ align_to a e
+pub aligned_behind : (a e : ℕ) → 1 ≤ a → e ≤ align_to a e
 aligned_behind a e some = omega (arith, some, lt-div-mul-add {a = e + (a - 1)} {b = a} (omega (arith, some)))
 
 mutual
-  align_some : (t : Ty) → 1 ≤ align_of t
+  pub align_some : (t : Ty) → 1 ≤ align_of t
   align_some bool = omega arith
   align_some (signed w) = width_some w
   align_some (unsigned w) = width_some w
@@ -82,22 +82,22 @@ mutual
   align_some (own r) = omega arith
   align_some (borrow r) = omega arith
 
-  fields_align_some : (fs : Fields) → 1 ≤ align_of_fields fs
+  pub fields_align_some : (fs : Fields) → 1 ≤ align_of_fields fs
   fields_align_some no_fields = omega arith
   fields_align_some (field l t fs) = omega (arith, align_some t, max_left (align_of t) (align_of_fields fs))
 
-payloads_align_some : (cs : Cases) → 1 ≤ align_of_payloads cs
+pub payloads_align_some : (cs : Cases) → 1 ≤ align_of_payloads cs
 payloads_align_some no_cases = omega arith
 payloads_align_some (plain l cs) = payloads_align_some cs
 payloads_align_some (carrying l t cs) = omega (arith, align_some t, max_left (align_of t) (align_of_payloads cs))
 
-end_behind : (fs : Fields) (at : ℕ) → at ≤ end_of fs at
+pub end_behind : (fs : Fields) (at : ℕ) → at ≤ end_of fs at
 end_behind no_fields at = omega arith
 end_behind (field l t fs) at =
     omega (arith, aligned_behind (align_of t) at (align_some t), end_behind fs (align_to (align_of t) at + size_of t))
 
 -- what has cases ends behind its greatest payload
-cases_end : (cs : Cases) (n : ℕ) → n ≡ max (discriminant_size (case_count cs)) (align_of_payloads cs)
+pub cases_end : (cs : Cases) (n : ℕ) → n ≡ max (discriminant_size (case_count cs)) (align_of_payloads cs)
     → payload_offset cs + greatest_payload cs ≤ align_to n (payload_offset cs + greatest_payload cs)
 cases_end cs n e =
     aligned_behind n (payload_offset cs + greatest_payload cs)
@@ -105,37 +105,37 @@ cases_end cs n e =
 
 module _ (target : StringEncoding) (g : Given) (charset : g.charset ≡ stored_charset target) where
   -- in the regions of parts among others
-  in_left : (ps qs : List Part) (k a : ℕ) → IsInPart target g k ps a → IsInPart target g k (ps ++ qs) a
+  pub in_left : (ps qs : List Part) (k a : ℕ) → IsInPart target g k ps a → IsInPart target g k (ps ++ qs) a
   in_left [] qs k a h = absurd h
   in_left (p ∷ ps) qs k a (inl h) = inl h
   in_left (p ∷ ps) qs k a (inr h) = inr (in_left ps qs (k + 1) a h)
 
-  in_right : (ps qs : List Part) (k n a : ℕ) → length ps ≡ n → IsInPart target g (k + n) qs a → IsInPart target g k (ps ++ qs) a
+  pub in_right : (ps qs : List Part) (k n a : ℕ) → length ps ≡ n → IsInPart target g (k + n) qs a → IsInPart target g k (ps ++ qs) a
   in_right [] qs k n a e h = subst (λ i. IsInPart target g i qs a) (omega (arith, e)) h
   in_right (p ∷ ps) qs k n a e h =
       inr (in_right ps qs (k + 1) (n - 1) a (omega (arith, e)) (subst (λ i. IsInPart target g i qs a) (omega (arith, e)) h))
 
   -- in a place, or in the regions of parts
-  abbrev Near : ℕ → ℕ → ℕ → List Part → ℕ → Type 0
+  abbrev pub Near : ℕ → ℕ → ℕ → List Part → ℕ → Type 0
   Near p size k ps a = IsIn p size a ⊎ IsInPart target g k ps a
 
-  near_left : (p size q more : ℕ) (k : ℕ) (ps qs : List Part) → q ≤ p → p + size ≤ q + more → (a : ℕ) → Near p size k ps a
+  pub near_left : (p size q more : ℕ) (k : ℕ) (ps qs : List Part) → q ≤ p → p + size ≤ q + more → (a : ℕ) → Near p size k ps a
       → Near q more k (ps ++ qs) a
   near_left p size q more k ps qs low high a (inl h) = inl (omega (arith, low, h.0), omega (arith, high, h.1))
   near_left p size q more k ps qs low high a (inr h) = inr (in_left ps qs k a h)
 
-  near_right : (p size q more : ℕ) (k n : ℕ) (ps qs : List Part) → length ps ≡ n → q ≤ p → p + size ≤ q + more → (a : ℕ)
+  pub near_right : (p size q more : ℕ) (k n : ℕ) (ps qs : List Part) → length ps ≡ n → q ≤ p → p + size ≤ q + more → (a : ℕ)
       → Near p size (k + n) qs a → Near q more k (ps ++ qs) a
   near_right p size q more k n ps qs e low high a (inl h) = inl (omega (arith, low, h.0), omega (arith, high, h.1))
   near_right p size q more k n ps qs e low high a (inr h) = inr (in_right ps qs k n a e h)
 
-  near_own : (p size q more : ℕ) (k : ℕ) (ps : List Part) → q ≤ p → p + size ≤ q + more → (a : ℕ) → IsIn p size a → Near q more k ps a
+  pub near_own : (p size q more : ℕ) (k : ℕ) (ps : List Part) → q ≤ p → p + size ≤ q + more → (a : ℕ) → IsIn p size a → Near q more k ps a
   near_own p size q more k ps low high a h = inl (omega (arith, low, h.0), omega (arith, high, h.1))
 
-  abbrev Inside : Ty → Val → ℕ → ℕ → ℕ → Type 0
+  abbrev pub Inside : Ty → Val → ℕ → ℕ → ℕ → Type 0
   Inside t v p k h = AllAt (Near p (size_of t) k (parts_in t v)) (stored g t v p k h)
 
-  each_inside : (t : Ty) → ((v : Val) (p k h : ℕ) → HasType t v → Inside t v p k h) → (vs : Vals) (p k h : ℕ) → AllVals (HasType t) vs
+  pub each_inside : (t : Ty) → ((v : Val) (p k h : ℕ) → HasType t v → Inside t v p k h) → (vs : Vals) (p k h : ℕ) → AllVals (HasType t) vs
       → AllAt (Near p (count_of vs * size_of t) k (parts_each (parts_in t) vs)) (store_each (stored g t) (size_of t) vs p k h)
   each_inside t one no_vals p k h typed = tt {0}
   each_inside t one (val v vs) p k h typed =
@@ -153,11 +153,11 @@ module _ (target : StringEncoding) (g : Given) (charset : g.charset ≡ stored_c
       mul-suc : (n s : ℕ) → (1 + n) * s ≡ s + n * s
       mul-suc n s = grind arith
 
-  near_same : (p size q more : ℕ) (k : ℕ) (ps : List Part) → q ≤ p → p + size ≤ q + more → (a : ℕ) → Near p size k ps a → Near q more k ps a
+  pub near_same : (p size q more : ℕ) (k : ℕ) (ps : List Part) → q ≤ p → p + size ≤ q + more → (a : ℕ) → Near p size k ps a → Near q more k ps a
   near_same p size q more k ps low high a (inl h) = inl (omega (arith, low, h.0), omega (arith, high, h.1))
   near_same p size q more k ps low high a (inr h) = inr h
 
-  own_inside : (n p q more x k : ℕ) (ps : List Part) → q ≤ p → p + n ≤ q + more → AllAt (Near q more k ps) (placed p (bytes_of n x))
+  pub own_inside : (n p q more x k : ℕ) (ps : List Part) → q ≤ p → p + n ≤ q + more → AllAt (Near q more k ps) (placed p (bytes_of n x))
   own_inside n p q more x k ps low high =
       all_weaker (IsIn p n) _ (near_own p n q more k ps low high) (placed p (bytes_of n x)) (number_inside n p x)
 
@@ -166,16 +166,16 @@ module _ (target : StringEncoding) (g : Given) (charset : g.charset ≡ stored_c
       all_append _ (placed p (bytes_of 4 at)) _ (own_inside 4 p p 8 at k ps (omega arith) (omega arith))
       (own_inside 4 (p + 4) p 8 n k ps (omega arith) (omega arith))
 
-  text_inside : (cs : List ℕ) (k a : ℕ) → IsIn (place_of g k) (length (text_bytes g.charset cs)) a
+  pub text_inside : (cs : List ℕ) (k a : ℕ) → IsIn (place_of g k) (length (text_bytes g.charset cs)) a
       → IsInPart target g k (text_part cs ∷ []) a
   text_inside cs k a h = inl (subst (λ c. IsIn (place_of g k) (length (text_bytes c cs)) a) charset h)
 
-  elements_inside : (count size align k : ℕ) (ps : List Part) (a : ℕ) → Near (place_of g k) (count * size) (k + 1) ps a
+  pub elements_inside : (count size align k : ℕ) (ps : List Part) (a : ℕ) → Near (place_of g k) (count * size) (k + 1) ps a
       → IsInPart target g k (element_part count size align ∷ ps) a
   elements_inside count size align k ps a (inl h) = inl h
   elements_inside count size align k ps a (inr h) = inr h
 
-  cases_room : (c : Cases) (n : ℕ) → n ≡ max (discriminant_size (case_count c)) (align_of_payloads c)
+  pub cases_room : (c : Cases) (n : ℕ) → n ≡ max (discriminant_size (case_count c)) (align_of_payloads c)
       → discriminant_size (case_count c) ≤ align_to n (payload_offset c + greatest_payload c)
   cases_room c n e =
       omega (arith, cases_end c n e, aligned_behind (align_of_payloads c) (discriminant_size (case_count c)) (payloads_align_some c))
@@ -200,7 +200,7 @@ module _ (target : StringEncoding) (g : Given) (charset : g.charset ≡ stored_c
         (each_inside t (inside t) vs p k h typed.1)
     inside (fields c fs) (parts vs) p k h typed =
         all_weaker _ _
-        (near_same p (end_of fs 0) p (align_to (align_of_fields fs) (end_of fs 0)) k (parts_in_fields fs vs) (omega arith)
+        (near_same (p + 0) (end_of fs 0 - 0) p (align_to (align_of_fields fs) (end_of fs 0)) k (parts_in_fields fs vs) (omega arith)
         (omega (arith, aligned_behind (align_of_fields fs) (end_of fs 0) (fields_align_some fs)))) _
         (fields_inside fs vs p 0 k h typed)
     inside (cases c cs) (bare i) p k h typed =
@@ -216,24 +216,26 @@ module _ (target : StringEncoding) (g : Given) (charset : g.charset ≡ stored_c
     inside (borrow r) (handle e) p k h typed = own_inside 4 p p 4 _ k [] (omega arith) (omega arith)
     inside t v p k h typed = absurd typed
 
-    fields_inside : (fs : Fields) (vs : Vals) (p end k h : ℕ) → HaveTypes fs vs
-        → AllAt (Near p (end_of fs end) k (parts_in_fields fs vs)) (stored_fields g fs vs p end k h)
+    pub fields_inside : (fs : Fields) (vs : Vals) (p end k h : ℕ) → HaveTypes fs vs
+        → AllAt (Near (p + end) (end_of fs end - end) k (parts_in_fields fs vs)) (stored_fields g fs vs p end k h)
     fields_inside no_fields no_vals p end k h typed = tt {0}
     fields_inside no_fields (val v vs) p end k h typed = absurd typed
     fields_inside (field l t fs) no_vals p end k h typed = absurd typed
     fields_inside (field l t fs) (val v vs) p end k h typed =
         let q = align_to (align_of t) end in
         let past = end_behind fs (q + size_of t) in
+        let low = aligned_behind (align_of t) end (align_some t) in
+        let room = end_of fs (q + size_of t) - end in
         all_append _ (stored g t v (p + q) k h) _
         (all_weaker _ _
-        (near_left (p + q) (size_of t) p (end_of fs (q + size_of t)) k (parts_in t v) (parts_in_fields fs vs) (omega arith) (omega (arith, past))) _
+        (near_left (p + q) (size_of t) (p + end) room k (parts_in t v) (parts_in_fields fs vs) (omega (arith, low)) (omega (arith, past, low))) _
         (inside t v (p + q) k h typed.0))
         (all_weaker _ _
-        (near_right p (end_of fs (q + size_of t)) p (end_of fs (q + size_of t)) k (part_count v) (parts_in t v) (parts_in_fields fs vs)
-        (counted t v typed.0).0 (omega arith) (omega arith)) _
+        (near_right (p + (q + size_of t)) (end_of fs (q + size_of t) - (q + size_of t)) (p + end) room k (part_count v) (parts_in t v)
+        (parts_in_fields fs vs) (counted t v typed.0).0 (omega (arith, low)) (omega (arith, past, low))) _
         (fields_inside fs vs p (q + size_of t) (k + part_count v) (h + handle_count v) typed.1))
 
-    payload_inside : (cs : Cases) (i : ℕ) (v : Val) (p k h : ℕ) → IsCarriedCase cs i v
+    pub payload_inside : (cs : Cases) (i : ℕ) (v : Val) (p k h : ℕ) → IsCarriedCase cs i v
         → AllAt (Near p (greatest_payload cs) k (parts_in_payload cs i v)) (stored_payload g cs i v p k h)
     payload_inside no_cases i v p k h typed = absurd typed
     payload_inside (plain l cs) zero v p k h typed = absurd typed
@@ -250,7 +252,7 @@ module _ (target : StringEncoding) (g : Given) (charset : g.charset ≡ stored_c
 
   -- ---- behind core values
 
-  behind_each_inside : (t : Ty) → ((v : Val) (k h : ℕ) → HasType t v → AllAt (IsInPart target g k (parts_in t v)) (behind g t v k h))
+  pub behind_each_inside : (t : Ty) → ((v : Val) (k h : ℕ) → HasType t v → AllAt (IsInPart target g k (parts_in t v)) (behind g t v k h))
       → (vs : Vals) (k h : ℕ) → AllVals (HasType t) vs
       → AllAt (IsInPart target g k (parts_each (parts_in t) vs)) (behind_each (behind g t) vs k h)
   behind_each_inside t one no_vals k h typed = tt {0}
@@ -261,7 +263,7 @@ module _ (target : StringEncoding) (g : Given) (charset : g.charset ≡ stored_c
       (behind_each_inside t one vs (k + part_count v) (h + handle_count v) typed.1))
 
   mutual
-    behind_inside : (t : Ty) (v : Val) (k h : ℕ) → HasType t v → AllAt (IsInPart target g k (parts_in t v)) (behind g t v k h)
+    pub behind_inside : (t : Ty) (v : Val) (k h : ℕ) → HasType t v → AllAt (IsInPart target g k (parts_in t v)) (behind g t v k h)
     behind_inside bool (truth b) k h typed = tt {0}
     behind_inside (signed w) (signed_number z) k h typed = tt {0}
     behind_inside (unsigned w) (number n) k h typed = tt {0}
@@ -281,7 +283,7 @@ module _ (target : StringEncoding) (g : Given) (charset : g.charset ≡ stored_c
     behind_inside (borrow r) (handle e) k h typed = tt {0}
     behind_inside t v k h typed = absurd typed
 
-    behind_fields_inside : (fs : Fields) (vs : Vals) (k h : ℕ) → HaveTypes fs vs
+    pub behind_fields_inside : (fs : Fields) (vs : Vals) (k h : ℕ) → HaveTypes fs vs
         → AllAt (IsInPart target g k (parts_in_fields fs vs)) (behind_fields g fs vs k h)
     behind_fields_inside no_fields no_vals k h typed = tt {0}
     behind_fields_inside no_fields (val v vs) k h typed = absurd typed
@@ -292,7 +294,7 @@ module _ (target : StringEncoding) (g : Given) (charset : g.charset ≡ stored_c
         (all_weaker _ _ (λ a. in_right (parts_in t v) (parts_in_fields fs vs) k (part_count v) a (counted t v typed.0).0) _
         (behind_fields_inside fs vs (k + part_count v) (h + handle_count v) typed.1))
 
-    behind_payload_inside : (cs : Cases) (i : ℕ) (v : Val) (k h : ℕ) → IsCarriedCase cs i v
+    pub behind_payload_inside : (cs : Cases) (i : ℕ) (v : Val) (k h : ℕ) → IsCarriedCase cs i v
         → AllAt (IsInPart target g k (parts_in_payload cs i v)) (behind_payload g cs i v k h)
     behind_payload_inside no_cases i v k h typed = absurd typed
     behind_payload_inside (plain l cs) zero v k h typed = absurd typed

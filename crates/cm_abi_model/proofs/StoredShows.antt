@@ -1,6 +1,6 @@
 -- What is stored of a value shows it.
-use Rattle.std.proofs.Common.{◌≡◌, ℕ, zero, suc, ℤ, pos, negsuc, ◌+◌, ◌-◌, ◌*◌, ◌/◌, ◌%◌, ◌^◌, ◌<◌, ◌≤◌, Bool, true, false, List, [], ◌∷◌, ◌++◌, length, Option, Some, None, slice_index, slice_index_or, not, ◌==◌, refl, sym, ap, subst, ◌∙◌, arith, length-append}
-use Rattle.std.proofs.Common.{◌⊎◌, inl, inr}
+use Rattle.std.proofs.Common.{◌≡◌, ℕ, zero, suc, ℤ, pos, negsuc, ◌+◌, ◌-◌, ◌*◌, ◌%◌, ◌^◌, ◌<◌, ◌≤◌, Bool, true, false, List, [], ◌∷◌, ◌++◌, length, Some, None, slice_index, not, ◌==◌, refl, sym, ap, subst, ◌∙◌, arith, length-append}
+use Rattle.std.proofs.Common.{inl, inr}
 use Rattle.std.proofs.lemmas.Int.{ints}
 use Rattle.std.proofs.Math.Nat.{mod-eq_of_lt, pow-le-pow_right}
 use Rattle.std.specs.Prelude.{nat_lt, if◌then◌else◌, neg_ℤ, ◌≤ℤ◌, ◌<ℤ◌}
@@ -10,24 +10,23 @@ use Rattle.std.proofs.lemmas.Bool.Decides.{nat_tests}
 use Rattle.cm_types.specs.declared.resource.ResourceId.{ResourceId}
 use Rattle.cm_types.specs.Spellable.{is_spellable, are_spellable, are_spellable_payloads}
 use Rattle.cm_types.specs.Types.{Ty, Fields, Cases, Width, bits_8, bits_16, bits_32, bits_64, width_bytes, bool, signed, unsigned, char, string, list, fixed_list, fields, cases, flags, own, borrow, no_fields, field, no_cases, plain, carrying}
-use Rattle.cm_types.specs.Values.{Val, Vals, HandleValue, no_vals, val, truth, signed_number, number, scalar, text, elements, parts, bare, bearing, flag_set, handle, count_of, HasType, HaveTypes, IsCarriedCase, IsPlainCase, AllVals, IsScalarValue, FitsSignedWidth}
+use Rattle.cm_types.specs.Values.{Val, Vals, HandleValue, no_vals, val, truth, signed_number, number, scalar, text, elements, parts, bare, bearing, flag_set, handle, count_of, HasType, HaveTypes, IsCarriedCase, IsPlainCase, AllVals, FitsSignedWidth}
 use Rattle.cm_handles.specs.Handles.{Handles, IsSoundHandles, handle_at}
 use Rattle.cm_handles.specs.declared.handle.Handle.{Handle}
 use Rattle.cm_handles.specs.declared.handle.HandleKind.{HandleKind}
 use Rattle.cm_handles.specs.declared.handle.HandleKind.TheVariants.{Owned, Borrowed}
-use Rattle.cm_layout.specs.Alignment.{align_to}
 use Rattle.cm_layout.specs.Sizes.{align_of, size_of, case_count, discriminant_size, flags_size, payload_offset}
 use Rattle.cm_abi_model.specs.Numbers.{number_at, as_signed, slot_at, wrapped_at}
 use Rattle.cm_abi_model.specs.FlatShows.{FlatShows, FlatShowFields, FlatShowsPayload, width_of}
 use Rattle.cm_types.specs.declared.core_value.CoreValue.{CoreValue}
-use Rattle.cm_abi_model.specs.Parts.{Part, text_part, element_part, parts_in, parts_in_fields, parts_in_payload, parts_each, part_count, part_count_each, handle_count, handle_count_each, CasesFit, AllCasesFit}
-use Rattle.cm_abi_model.specs.Receives.{HandleLeaf, owned_leaf, borrowed_leaf, Receives, Serves, put, SlotsHold, slot_bytes, slots_of, slots_of_fields, slots_of_payload, behind, behind_each, behind_fields, behind_payload, leaves_in, leaves_in_fields, leaves_in_payload, leaves_each, AllStand, StandsFor, StandsForBorrow, HasHandle, NoneImplemented}
-use Rattle.cm_abi_model.specs.Regions.{ArePlaced, IsPlaced}
+use Rattle.cm_abi_model.specs.Parts.{Part, element_part, parts_in, parts_in_fields, parts_in_payload, parts_each, part_count, part_count_each, handle_count, handle_count_each, CasesFit, AllCasesFit}
+use Rattle.cm_abi_model.specs.Receives.{HandleLeaf, owned_leaf, borrowed_leaf, Receives, Serves, put, SlotsHold, slot_bytes, slots_of, slots_of_fields, slots_of_payload, behind, behind_each, behind_fields, behind_payload, leaves_in, leaves_in_fields, leaves_in_payload, leaves_each, AllStand, StandsForBorrow, NoneImplemented}
+use Rattle.cm_abi_model.specs.Regions.{ArePlaced}
 use Rattle.cm_abi_model.specs.Requests.{IsStored, stored_charset, text_bytes, text_units, is_spilled, tuple_of}
 use Rattle.cm_abi_model.specs.Denotes.{Denotes}
-use Rattle.cm_abi_model.specs.Shows.{Shows, ShowFields, ShowsPayload, ShowEach, ShowsElements, ShowsHandle, ShowsOwned}
+use Rattle.cm_abi_model.specs.Shows.{Shows, ShowFields, ShowsPayload, ShowEach, ShowsHandle, ShowsOwned}
 use Rattle.cm_abi_model.specs.Stores.{Placed, Given, place_of, number_of, placed, bytes_of, from_signed, pointer_bytes, store_each, stored, stored_fields, stored_payload, Holds}
-use Rattle.cm_abi_model.specs.Views.{View, Way, implements}
+use Rattle.cm_abi_model.specs.Views.{View, Way}
 use Rattle.cm_abi_model.proofs.StoredBytes.{holds_split, number_held, text_shown, units_fit}
 
 -- ---- how many parts and handles

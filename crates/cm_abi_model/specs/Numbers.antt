@@ -1,7 +1,6 @@
 -- Numbers in memory and in core values (CanonicalABI.md, "Loading" and "Flattening").
-use Rattle.std.specs.Prelude.{ℕ, zero, suc, ℤ, pos, neg_ℤ, ◌+◌, ◌*◌, ◌-◌, ◌/◌, ◌%◌, ◌^◌, List, []}
-use Rattle.std.specs.Prelude.{◌∷◌, ◌++◌, slice_index, slice_index_or, nat_lt, if◌then◌else◌}
-use Rattle.cm_types.specs.Types.{Width, width_bytes}
+use Rattle.std.specs.Prelude.{ℕ, zero, suc, ℤ, pos, neg_ℤ, ◌+◌, ◌*◌, ◌-◌, ◌%◌, ◌^◌, List}
+use Rattle.std.specs.Prelude.{slice_index, slice_index_or, nat_lt, if◌then◌else◌}
 use Rattle.cm_types.specs.declared.core_value.CoreValue.{CoreValue}
 use Rattle.cm_types.specs.declared.core_value.CoreValue.TheVariants as core_value
 

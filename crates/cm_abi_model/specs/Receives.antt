@@ -17,7 +17,7 @@ use Rattle.cm_handles.specs.declared.handle.HandleKind.TheVariants.{Owned, Borro
 use Rattle.cm_types.specs.CoreValues.{kind_of}
 use Rattle.cm_abi_model.specs.Numbers.{slot_at}
 use Rattle.cm_layout.specs.Sizes.{size_of}
-use Rattle.cm_layout.specs.Flattening.{flat_of, flat_of_fields}
+use Rattle.cm_layout.specs.Flattening.{flat_of_fields}
 use Rattle.cm_abi_model.specs.Views.{View, Way, implements}
 use Rattle.cm_abi_model.specs.FlatShows.{width_of}
 use Rattle.cm_abi_model.specs.Parts.{part_count, handle_count, CasesFit}
@@ -26,7 +26,7 @@ use Rattle.cm_abi_model.specs.Requests.{IsStored, call_parts}
 use Rattle.cm_abi_model.specs.Regions.{ArePlaced}
 use Rattle.cm_types.specs.Spellable.{are_spellable}
 use Rattle.cm_abi_model.specs.Requests.{is_spilled, tuple_of}
-use Rattle.cm_abi_model.specs.Stores.{Placed, Storing, Given, place_of, number_of, Holds, placed}
+use Rattle.cm_abi_model.specs.Stores.{Placed, Given, place_of, number_of, Holds, placed}
 use Rattle.cm_abi_model.specs.Stores.{from_signed, store_each, stored, IsBeside}
 
 -- ---- core values

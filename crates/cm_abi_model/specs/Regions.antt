@@ -1,6 +1,6 @@
 -- Where a receiver's allocator puts the parts of a value (CanonicalABI.md, "Storing" of lists and
 -- strings; that regions are apart is this project's own choice).
-use Rattle.std.specs.Prelude.{◌≡◌, ℕ, ◌+◌, ◌*◌, ◌^◌, ◌<◌, ◌≤◌, ◌⊎◌, ⊤, List, [], ◌∷◌, length}
+use Rattle.std.specs.Prelude.{ℕ, ◌+◌, ◌*◌, ◌^◌, ◌<◌, ◌≤◌, ◌⊎◌, ⊤, List, [], ◌∷◌, length}
 use Rattle.cm_abi_model.specs.declared.encoding.StringEncoding.{StringEncoding}
 use Rattle.cm_abi_model.specs.Parts.{Part, text_part, element_part}
 use Rattle.cm_abi_model.specs.Requests.{part_align, stored_charset, text_bytes}
@@ -40,6 +40,14 @@ abbrev pub IsInPart : StringEncoding → Given → ℕ → List Part → ℕ →
 IsInPart target g k [] a = ⊥
 IsInPart target g k (part ∷ parts) a =
     IsIn (place_of g k) (part_size target part) a ⊎ IsInPart target g (k + 1) parts a
+
+-- the regions of parts, from the one of this number on, have no address in common
+abbrev pub AreApart : StringEncoding → Given → ℕ → List Part → Type 0
+AreApart target g k [] = ⊤
+AreApart target g k (part ∷ parts) =
+    ((a : ℕ) → IsIn (place_of g k) (part_size target part) a → IsInPart target g (k + 1) parts a
+    → ⊥)
+    × AreApart target g (k + 1) parts
 
 -- each of these bytes stands at an address of which the fact holds
 abbrev pub AllAt : (ℕ → Type 0) → List Placed → Type 0

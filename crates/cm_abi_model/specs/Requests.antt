@@ -1,7 +1,7 @@
 -- The memory that a lowering asks for (CanonicalABI.md, "Storing" of lists and strings; that all of
 -- it is asked for before anything is stored, in reading order and in these sizes, is this project's
 -- own choice).
-use Rattle.std.specs.Prelude.{ℕ, ◌*◌, ◌/◌, ⊤, Bool, true, false, List, [], ◌∷◌, ◌++◌, map}
+use Rattle.std.specs.Prelude.{ℕ, ◌*◌, ◌/◌, ⊤, Bool, true, false, List, [], ◌∷◌, ◌++◌}
 use Rattle.std.specs.Prelude.{length, nat_lt, if◌then◌else◌}
 use Rattle.std.specs.List.{AllByRecursion, flat_map}
 use Rattle.cm_types.specs.Types.{Ty, Fields, fields, tuple_type}

@@ -2,8 +2,8 @@
 -- no other. Of the values that a type could be read from it stores the least: a bool as 0 or 1, no
 -- bit beside the labels of flags, nothing in the room beside a chosen payload, and no padding.
 use Rattle.std.specs.Prelude.{◌≡◌, ℕ, zero, suc, ℤ, pos, negsuc, ◌+◌, ◌*◌, ◌-◌, ◌/◌, ◌%◌, ◌^◌}
-use Rattle.std.specs.Prelude.{◌<◌, ⊤, Bool, if◌then◌else◌, List, [], ◌∷◌, ◌++◌, length}
-use Rattle.std.specs.Prelude.{slice_index}
+use Rattle.std.specs.Prelude.{⊤, if◌then◌else◌, List, [], ◌∷◌, ◌++◌, length}
+use Rattle.std.specs.Prelude.{slice_index, slice_set}
 use Rattle.cm_types.specs.Types.{Ty, Fields, Cases, width_bytes, bool, signed, unsigned, char}
 use Rattle.cm_types.specs.Types.{string, list, fixed_list, fields, cases, flags, own, borrow}
 use Rattle.cm_types.specs.Types.{no_fields, field, no_cases, plain, carrying}
@@ -13,7 +13,7 @@ use Rattle.cm_layout.specs.Alignment.{align_to}
 use Rattle.cm_layout.specs.Sizes.{align_of, size_of, case_count, discriminant_size, flags_size}
 use Rattle.cm_layout.specs.Sizes.{payload_offset}
 use Rattle.cm_abi_model.specs.Texts.{Charset}
-use Rattle.cm_abi_model.specs.Parts.{part_count, part_count_each, handle_count, handle_count_each}
+use Rattle.cm_abi_model.specs.Parts.{part_count, handle_count}
 use Rattle.cm_abi_model.specs.Requests.{text_bytes, text_units}
 
 -- an address with a byte
@@ -107,6 +107,11 @@ abbrev mutual
   stored_payload g (plain l cs) (suc i) v p k h = stored_payload g cs i v p k h
   stored_payload g (carrying l t cs) zero v p k h = stored g t v p k h
   stored_payload g (carrying l t cs) (suc i) v p k h = stored_payload g cs i v p k h
+
+-- memory after these bytes were stored, one after another
+abbrev pub poke : List Placed → List ℕ → List ℕ
+poke [] memory = memory
+poke (b ∷ bs) memory = poke bs (slice_set memory b.0 b.1)
 
 -- memory has each of these bytes at its address
 abbrev pub Holds : List ℕ → List Placed → Type 0

@@ -1,7 +1,7 @@
 -- What lifting a value takes from its giver (CanonicalABI.md, "Lifting" of own and borrow; the
 -- limit on content is this project's own choice).
-use Rattle.std.specs.Prelude.{◌≡◌, ℕ, zero, suc, ◌+◌, ◌*◌, ◌≤◌, List, [], ◌∷◌, ◌++◌, length}
-use Rattle.std.specs.Prelude.{Contains, slice_get, Some, map, sum, if◌then◌else◌}
+use Rattle.std.specs.Prelude.{◌≡◌, ℕ, zero, suc, ◌+◌, ◌*◌, ◌≤◌, List, [], ◌∷◌, ◌++◌}
+use Rattle.std.specs.Prelude.{Contains, Some, if◌then◌else◌}
 use Rattle.cm_types.specs.declared.core_value.CoreValue.{CoreValue}
 use Rattle.cm_types.specs.Types.{Ty, Fields, Cases, string, list, fixed_list, fields, cases, own}
 use Rattle.cm_types.specs.Types.{borrow, no_fields, field, no_cases, plain, carrying}

@@ -1,5 +1,5 @@
 -- What an adapter sees of an instance (CanonicalABI.md, "Lifting and Lowering Context").
-use Rattle.std.specs.Prelude.{◌≡◌, ℕ, List, Bool, ◌==◌}
+use Rattle.std.specs.Prelude.{ℕ, List, Bool, ◌==◌}
 use Rattle.cm_types.specs.declared.resource.ResourceId.{ResourceId}
 use Rattle.cm_types.specs.declared.limits.TheConstants.{MAX_FLAT_PARAMS, MAX_FLAT_RESULTS}
 use Rattle.cm_handles.specs.Handles.{Handles}

@@ -1,7 +1,7 @@
 //! What holds of the definitions, as laws: each function here does nothing, and its contract is the
 //! law.
 
-ghost use Rattle.std.specs.Prelude.{◌≡◌, ℕ, List};
+ghost use Rattle.std.specs.Prelude.{◌≡◌, ℕ, List, length};
 ghost use Rattle.cm_types.specs.declared.core_value.CoreValue.{CoreValue};
 ghost use Rattle.cm_types.specs.Types.{Fields, Ty};
 ghost use Rattle.cm_types.specs.Values.{HasType, Val};
@@ -9,13 +9,13 @@ ghost use Rattle.cm_abi_model.specs.Denotes.{Denotes};
 ghost use Rattle.cm_abi_model.specs.Receives.{NoneImplemented, Receives, Serves};
 ghost use Rattle.cm_abi_model.specs.Receives.{call_bytes, leaves_in};
 ghost use Rattle.cm_abi_model.specs.Parts.{Part};
-ghost use Rattle.cm_abi_model.specs.Regions.{AllAt, IsInPart, part_size};
+ghost use Rattle.cm_abi_model.specs.Regions.{AllAt, AreApart, ArePlaced, IsInPart, part_size};
 ghost use Rattle.cm_abi_model.specs.Requests.{HasScalars, IsStored, last_size, part_sizes};
 ghost use Rattle.cm_abi_model.specs.Requests.{call_parts, stored_charset, tuple_of};
 ghost use Rattle.cm_abi_model.specs.Texts.{Charset};
 ghost use Rattle.cm_abi_model.specs.declared.encoding.StringEncoding.{StringEncoding};
 ghost use Rattle.cm_abi_model.specs.Shows.{Shows};
-ghost use Rattle.cm_abi_model.specs.Stores.{Given};
+ghost use Rattle.cm_abi_model.specs.Stores.{Framed, Given, Holds, poke};
 ghost use Rattle.cm_abi_model.specs.Views.{View, Way};
 
 use cm_text::laws::one_list_of_scalars;
@@ -55,4 +55,15 @@ pub fn what_is_stored_lies_in_regions()
     ensures { (way : Way) (types : Fields) (g : Given) (v : Val) (target : StringEncoding)
         → HasType (tuple_of types) v → g.charset ≡ stored_charset target
         → AllAt (IsInPart target g 0 (call_parts way types v)) (call_bytes g way types v) }
+{}
+
+/// Where the places are inside a memory and apart, storing a value leaves each of its bytes at its
+/// address, and changes no other.
+pub fn what_is_stored_stays()
+    ensures { (way : Way) (types : Fields) (g : Given) (v : Val) (target : StringEncoding)
+        (memory : List ℕ) → HasType (tuple_of types) v → g.charset ≡ stored_charset target
+        → ArePlaced target (length memory) g 0 (call_parts way types v)
+        → AreApart target g 0 (call_parts way types v)
+        → Holds (poke (call_bytes g way types v) memory) (call_bytes g way types v)
+        × Framed memory (poke (call_bytes g way types v) memory) (call_bytes g way types v) }
 {}
