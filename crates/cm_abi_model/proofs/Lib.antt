@@ -1,3 +1,4 @@
+pub mod InTurn
 pub mod OneValue
 pub mod StoredBytes
 pub mod SizesAskedFor

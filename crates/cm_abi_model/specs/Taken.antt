@@ -1,13 +1,13 @@
 -- What lifting a value takes from its giver (CanonicalABI.md, "Lifting" of own and borrow; the
 -- limit on content is this project's own choice).
-use Rattle.std.specs.Prelude.{◌≡◌, ℕ, zero, suc, ◌+◌, ◌*◌, ◌≤◌, List, [], ◌∷◌, ◌++◌}
+use Rattle.std.specs.Prelude.{◌≡◌, ℕ, zero, suc, ◌+◌, ◌-◌, ◌*◌, ◌≤◌, ⊤, List, [], ◌∷◌, ◌++◌}
 use Rattle.std.specs.Prelude.{Contains, Some, if◌then◌else◌}
 use Rattle.cm_types.specs.declared.core_value.CoreValue.{CoreValue}
 use Rattle.cm_types.specs.Types.{Ty, Fields, Cases, string, list, fixed_list, fields, cases, own}
 use Rattle.cm_types.specs.Types.{borrow, no_fields, field, no_cases, plain, carrying}
 use Rattle.cm_types.specs.Values.{Val, Vals, no_vals, val, text, elements, parts, bearing, handle}
 use Rattle.cm_types.specs.Values.{count_of}
-use Rattle.cm_handles.specs.Handles.{Handles, IsDistinct, handle_at}
+use Rattle.cm_handles.specs.Handles.{Handles, IsDistinct, after_lend, after_release, handle_at}
 use Rattle.cm_handles.specs.declared.handle.Handle.{Handle}
 use Rattle.cm_layout.specs.Alignment.{align_to}
 use Rattle.cm_layout.specs.Sizes.{align_of, size_of, payload_offset}
@@ -115,14 +115,61 @@ abbrev pub MAX_CONTENT : ℕ
 MAX_CONTENT = 16_777_216
 
 -- What was met can be handed over: no handle is owned twice, none that is to be owned is lent to a
--- call, or to be borrowed as well, and the content is within the limit.
-pub record CanGo (table : Handles) (ms : List Met) : Type 0 where
+-- call, or to be borrowed as well, and the content is at most so much.
+pub record CanGo (table : Handles) (most : ℕ) (ms : List Met) : Type 0 where
   pub once : IsDistinct (taken_of ms)
   pub free : (index : ℕ) (h : Handle) → Contains (taken_of ms) index
       → handle_at table index ≡ Some h → h.lends ≡ 0
   pub apart : (index : ℕ) → Contains (taken_of ms) index → Contains (lent_of ms) index → ⊥
-  pub small : content_of ms ≤ MAX_CONTENT
+  pub small : content_of ms ≤ most
 
 -- the value that a call's core values denote can be handed over
 abbrev pub Transferable : View → Way → Fields → List CoreValue → Val → Type 0
-Transferable w way types slots v = CanGo w.table (met w way types slots v)
+Transferable w way types slots v = CanGo w.table MAX_CONTENT (met w way types slots v)
+
+-- ---- the same one after another
+
+-- the handles after something was met: an own handle goes, a borrowed one is lent once more
+abbrev pub after_one : Handles → Met → Handles
+after_one t (content n) = t
+after_one t (taken i) = after_release t i
+after_one t (lent i) = after_lend t i
+
+-- the handles after all that was met
+abbrev pub after_met : Handles → List Met → Handles
+after_met t [] = t
+after_met t (m ∷ ms) = after_met (after_one t m) ms
+
+-- a handle stands at an index, lent to nobody
+pub record IsFree (t : Handles) (index : ℕ) : Type 0 where
+  pub entry : Handle
+  pub stands : handle_at t index ≡ Some entry
+  pub not_lent : entry.lends ≡ 0
+
+-- some handle stands at an index
+abbrev pub IsThere : Handles → ℕ → Type 0
+IsThere t index = (h : Handle) × (handle_at t index ≡ Some h)
+
+-- one thing can be handed over now, with so much content left: there is room for it; its handle
+-- stands, to be owned lent to nobody
+abbrev pub GoesNow : Handles → ℕ → Met → Type 0
+GoesNow t left (content n) = n ≤ left
+GoesNow t left (taken i) = IsFree t i
+GoesNow t left (lent i) = IsThere t i
+
+abbrev pub left_after : ℕ → Met → ℕ
+left_after left (content n) = left - n
+left_after left (taken i) = left
+left_after left (lent i) = left
+
+-- everything can be handed over, one thing after another
+abbrev pub GoesInTurn : Handles → ℕ → List Met → Type 0
+GoesInTurn t left [] = ⊤
+GoesInTurn t left (m ∷ ms) = GoesNow t left m × GoesInTurn (after_one t m) (left_after left m) ms
+
+-- each index that is met has a handle
+abbrev pub AllThere : Handles → List Met → Type 0
+AllThere t [] = ⊤
+AllThere t (content n ∷ ms) = AllThere t ms
+AllThere t (taken i ∷ ms) = IsThere t i × AllThere t ms
+AllThere t (lent i ∷ ms) = IsThere t i × AllThere t ms

@@ -1,8 +1,9 @@
 //! What holds of the definitions, as laws: each function here does nothing, and its contract is the
 //! law.
 
-ghost use Rattle.std.specs.Prelude.{◌≡◌, ℕ, List, length};
+ghost use Rattle.std.specs.Prelude.{◌≡◌, ◌↔◌, ℕ, List, length};
 ghost use Rattle.cm_types.specs.declared.core_value.CoreValue.{CoreValue};
+ghost use Rattle.cm_handles.specs.Handles.{Handles};
 ghost use Rattle.cm_types.specs.Types.{Fields, Ty};
 ghost use Rattle.cm_types.specs.Values.{HasType, Val};
 ghost use Rattle.cm_abi_model.specs.Denotes.{Denotes};
@@ -12,6 +13,7 @@ ghost use Rattle.cm_abi_model.specs.Parts.{Part};
 ghost use Rattle.cm_abi_model.specs.Regions.{AllAt, AreApart, ArePlaced, IsInPart, part_size};
 ghost use Rattle.cm_abi_model.specs.Requests.{HasScalars, IsStored, last_size, part_sizes};
 ghost use Rattle.cm_abi_model.specs.Requests.{call_parts, stored_charset, tuple_of};
+ghost use Rattle.cm_abi_model.specs.Taken.{AllThere, CanGo, GoesInTurn, Met};
 ghost use Rattle.cm_abi_model.specs.Texts.{Charset};
 ghost use Rattle.cm_abi_model.specs.declared.encoding.StringEncoding.{StringEncoding};
 ghost use Rattle.cm_abi_model.specs.Shows.{Shows};
@@ -66,4 +68,11 @@ pub fn what_is_stored_stays()
         → AreApart target g 0 (call_parts way types v)
         → Holds (poke (call_bytes g way types v) memory) (call_bytes g way types v)
         × Framed memory (poke (call_bytes g way types v) memory) (call_bytes g way types v) }
+{}
+
+/// Where each handle that is met stands, all can be handed over exactly where one thing after
+/// another can: looking at one at a time, with the table as it is then, misses nothing.
+pub fn handing_over_goes_in_turn()
+    ensures { (t : Handles) (most : ℕ) (ms : List Met) → AllThere t ms
+        → CanGo t most ms ↔ GoesInTurn t most ms }
 {}
