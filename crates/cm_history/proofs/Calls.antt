@@ -1,6 +1,6 @@
 -- At each entry and each resumption the value is the one that was sent; each move is answered by its own
 -- event.
-use Rattle.std.proofs.Common.{◌≡◌, ℕ, suc, ◌<◌, ◌⊎◌, inl, inr, Bool, true, false, List, [], ◌∷◌, length, Option, Some, None, Vec, refl, sym, ap, subst, ◌∙◌, arith}
+use Rattle.std.proofs.Common.{◌≡◌, ℕ, ◌<◌, ◌⊎◌, inl, inr, Bool, true, false, List, [], ◌∷◌, length, Option, Some, None, Vec, refl, sym, ap, subst, ◌∙◌, arith}
 use Rattle.std.specs.declared.alloc.Global.{Global}
 use Rattle.std.specs.Prelude.{slice_get, ◌≤◌}
 use borrow.Author.Tests.{ltb-true}
@@ -22,11 +22,10 @@ use Rattle.cm_machine_model.specs.declared.limits.TheConstants.{MAX_FRAMES}
 use Rattle.cm_machine_model.specs.declared.moves.Move.{Move}
 use Rattle.cm_machine_model.specs.declared.moves.Move.TheVariants as move
 use Rattle.cm_machine_model.specs.Stack.{actor, top_of, below_top}
-use Rattle.cm_machine_model.specs.State.{State, StandsOn, core_func_at, after_trap}
+use Rattle.cm_machine_model.specs.State.{State, StandsOn, core_func_at}
 use Rattle.cm_machine_model.specs.Checks.{first_failed, checks, call_checks, has_core_shape, result_count, return_count, return_count_in}
 use Rattle.cm_machine_model.specs.Step.{may_grow, Grows, Calls, Returns, Passes}
-use Rattle.cm_machine_model.specs.Run.{misuse_of_begin}
-use Rattle.cm_machine_model.specs.Values.{params, results, flat_limit, view_of, Receives}
+use Rattle.cm_machine_model.specs.Values.{params, results, flat_limit, view_of}
 use Rattle.cm_machine_model.specs.History.{Action, begins, moves, Occurrence, Happens}
 use Rattle.cm_history.specs.Acting.{acts}
 use Rattle.cm_history.specs.Doing.{LoweredCall, BodyReturn, Doing, root, body, instance_of, below, core_func_by_index, lowered_call, with_body, after_call, body_return, after_return, unless_last, after_move, doing}
@@ -36,7 +35,7 @@ use Rattle.cm_machine_model.proofs.Valid.{top_is_fine}
 use Rattle.cm_machine_model.proofs.Passing.{grow_enters_not, return_enters_not}
 use Rattle.cm_machine_model.proofs.Cases.{Goes, traps, passes, wants, steps_by, body_returns, returns_new}
 use Rattle.cm_machine_model.proofs.Values.{denoted, received}
-use Rattle.cm_history.proofs.Carried.{Carried, trapped_none, Told, by_root, by_call, TopTold, top_told, told_length, acting_top, calls_lowered, call_fits_told, CallFits, stands_below, begun_open, begun_empty}
+use Rattle.cm_history.proofs.Carried.{Carried, trapped_none, Told, by_root, by_call, top_told, told_length, acting_top, calls_lowered, call_fits_told, stands_below, begun_open, begun_empty}
 
 -- ---- a call
 

@@ -23,7 +23,7 @@ use Rattle.cm_machine_model.specs.declared.event.Trap.TheVariants as trap
 use Rattle.cm_machine_model.specs.declared.moves.Move.{Move}
 use Rattle.cm_machine_model.specs.declared.moves.Move.TheVariants as move
 use Rattle.cm_machine_model.specs.Stack.{actor, top_of, below_top}
-use Rattle.cm_machine_model.specs.State.{State, StandsOn, IsStack, IsValidState, core_func_at, is_closed, after_trap}
+use Rattle.cm_machine_model.specs.State.{State, StandsOn, IsStack, IsValidState, core_func_at, after_trap}
 use Rattle.cm_machine_model.specs.Checks.{first_failed, checks, call_checks, has_core_shape, may_leave, is_callee_open, has_stack_room}
 use Rattle.cm_machine_model.specs.Step.{may_grow, call_frame, Grows, Calls, Returns, Passes, Step}
 use Rattle.cm_machine_model.specs.Run.{after_begin, misuse_by_closed, misuse_by_stack, misuse_of_begin}
@@ -272,7 +272,7 @@ begin_carried h s i e new carried b =
     (subst (λ (x : Event). Carried (record { before = s; action = begins i; event = x; after = after_begin s i } ∷ h) (after_begin s i)) (sym b.1)
     (record { valid = valid_begun s i carried.valid b.0; acting = refl; told = (by_root refl refl, tt); all_open = (begun_open s i b.0, tt) }))
 
-happens_carried : (h : List Occurrence) (s : State) (a : Action) (e : Event) (new : State) → Carried h s → Happens s a e new → Carried (record { before = s; action = a; event = e; after = new } ∷ h) new
+pub happens_carried : (h : List Occurrence) (s : State) (a : Action) (e : Event) (new : State) → Carried h s → Happens s a e new → Carried (record { before = s; action = a; event = e; after = new } ∷ h) new
 happens_carried h s (begins i) e new carried b = begin_carried h s i e new carried b
 happens_carried h s (moves m) e new carried b = step_carried h s m e new carried b
 

@@ -1,5 +1,5 @@
 -- The sentences of the headline, for the latest entry of each history.
-use Rattle.std.proofs.Common.{◌≡◌, ℕ, ◌≤◌, Bool, true, false, ◌&&◌, ◌==◌, List, [], ◌∷◌, length, map, Option, Some, None, refl, sym, ap, subst, ◌∙◌}
+use Rattle.std.proofs.Common.{◌≡◌, ℕ, ◌≤◌, Bool, true, false, ◌&&◌, ◌==◌, List, [], ◌∷◌, length, Option, Some, None, refl, sym, ap, subst, ◌∙◌}
 use Rattle.std.specs.Prelude.{nat_le, slice_get}
 use Rattle.std.specs.List.{list_all}
 use Rattle.std.specs.Option.{option_map}
@@ -15,7 +15,7 @@ use Rattle.cm_machine_model.specs.declared.moves.Move.{Move}
 use Rattle.cm_machine_model.specs.declared.moves.Move.TheVariants as move
 use Rattle.cm_machine_model.specs.Stack.{actor, top_of}
 use Rattle.cm_machine_model.specs.State.{State, AreLinkedBelow, IsValidState, core_func_at}
-use Rattle.cm_machine_model.specs.Step.{may_grow, Grows, Calls, Passes, Step}
+use Rattle.cm_machine_model.specs.Step.{may_grow, Grows, Calls, Passes}
 use Rattle.cm_machine_model.specs.Run.{Run}
 use Rattle.cm_machine_model.specs.Fresh.{fresh_state, zeros, are_page_counts}
 use Rattle.cm_machine_model.specs.History.{Action, begins, moves, Occurrence, Happens, IsHistory, IsHistoryOf, RunsOn}
@@ -23,11 +23,13 @@ use Rattle.cm_machine_model.proofs.Cases.{Goes, traps, passes, wants, steps_by, 
 use Rattle.cm_machine_model.proofs.Valid.{fine_top}
 use Rattle.cm_machine_model.proofs.RunLaws.{runs_on}
 use Rattle.cm_history.specs.Acting.{acts}
-use Rattle.cm_history.specs.Headline.{StandsAsTold, BeginsRightly, AnswersRightly, ClosesByTraps, NoneClosedActs, BeginsByCall, EntersRightly, ResumesRightly, ChangesMemoryRightly, TrapsRightly, TrapsAtACause}
+use Rattle.cm_history.specs.Headline.{StandsAsTold, BeginsRightly, AnswersRightly, ClosesByTraps, NoneClosedActs, BeginsByCall, EntersRightly, ResumesRightly, ChangesMemoryRightly, TrapsRightly, TrapsAtACause, EndsRightly, RefusesBegins, HasNoHandles, StartsWith}
 use Rattle.cm_history.proofs.Carried.{Carried, history_carried, stands_told, open_top, acting_is}
 use Rattle.cm_history.proofs.Calls.{enters, resumes, answers, begins_rightly, closes_by_traps, begins_by_call}
 use Rattle.cm_history.proofs.MemoryLaws.{changes}
 use Rattle.cm_history.proofs.TrapLaws.{traps_rightly, must_trap}
+use Rattle.cm_history.proofs.Ending.{ends}
+use Rattle.cm_history.proofs.Starting.{refuses, no_handle, starts_with}
 
 left_true : (a b : Bool) → (a && b) ≡ true → a ≡ true
 left_true true b e = refl
@@ -140,3 +142,16 @@ calls_hold = latest BeginsByCall tt (λ h x carried happens. begins_by_call h x.
 
 pub runs_hold : (core_funcs : List (List CoreFunction)) (pages : List ℕ) (h : List Occurrence) (s : State) (ms : List Move) (es : List Event) (new : State) → IsHistoryOf core_funcs pages h s → Run s ms es new → RunsOn (fresh_state core_funcs pages) h ms es new
 runs_hold core_funcs pages h s ms es new is run = runs_on (fresh_state core_funcs pages) h s ms es new is.history run
+
+pub ends_hold : (core_funcs : List (List CoreFunction)) (pages : List ℕ) (h : List Occurrence) (s : State) → IsHistoryOf core_funcs pages h s → EndsRightly h
+ends_hold = latest EndsRightly tt (λ h x carried happens. ends h x.before x.action x.event x.after carried happens)
+
+pub begin_refusals_hold : (core_funcs : List (List CoreFunction)) (pages : List ℕ) (h : List Occurrence) (s : State) → IsHistoryOf core_funcs pages h s → RefusesBegins h s
+begin_refusals_hold core_funcs pages h s is = refuses h s (carried_of core_funcs pages h s is)
+
+pub handles_hold : (core_funcs : List (List CoreFunction)) (pages : List ℕ) (h : List Occurrence) (s : State) → IsHistoryOf core_funcs pages h s → HasNoHandles s
+handles_hold core_funcs pages h s is = no_handle s (carried_of core_funcs pages h s is).valid
+
+pub starts_hold : (core_funcs : List (List CoreFunction)) (pages : List ℕ) (s : State) → IsHistoryOf core_funcs pages [] s → (i count : ℕ) → slice_get pages i ≡ Some count → StartsWith s i count
+starts_hold core_funcs pages s is =
+    starts_with core_funcs pages s (eqb-true (length pages) (length core_funcs) (left_true (length pages == length core_funcs) (list_all (λ p. nat_le p 1024) pages) is.pages_fit)) is.history

@@ -3,3 +3,5 @@ pub mod Calls
 pub mod MemoryLaws
 pub mod TrapLaws
 pub mod HistoryLaws
+pub mod Ending
+pub mod Starting

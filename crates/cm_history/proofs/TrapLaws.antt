@@ -1,20 +1,18 @@
 -- A trap has its named cause, and closes exactly what went on.
 use Rattle.std.proofs.Common.{◌≡◌, ℕ, zero, suc, ◌+◌, ◌*◌, ◌<◌, ◌≤◌, ◌⊎◌, inl, inr, Bool, true, false, ◌&&◌, ◌==◌, List, [], ◌∷◌, ◌++◌, length, map, Option, Some, None, Vec, refl, sym, ap, subst, ◌∙◌, arith}
 use Rattle.std.specs.declared.alloc.Global.{Global}
-use Rattle.std.specs.Prelude.{slice_get, slice_set, ◌↔◌, not, nat_le, nat_lt, vec_len, unwrap_or, ◌^◌}
+use Rattle.std.specs.Prelude.{slice_get, slice_set, ◌↔◌, not, nat_lt, vec_len, unwrap_or, ◌^◌}
 use borrow.Author.Tests.{leb-true, leb-false, ltb-true, ltb-false, lt-ltb}
 use Rattle.std.proofs.Math.ListN.{length-set}
-use Rattle.std.proofs.lemmas.Bool.{eqb-true, eqb-false, eq-eqb}
+use Rattle.std.proofs.lemmas.Bool.{eqb-true, eq-eqb}
 use Rattle.std.specs.List.{AllByRecursion, list_all}
 use Rattle.cm_types.specs.declared.core_value.CoreValue.{CoreValue}
 use Rattle.cm_types.specs.declared.core_value.CoreValue.TheVariants as core_value
 use Rattle.cm_machine_model.specs.declared.frame.CoreFunction.{CoreFunction}
 use Rattle.cm_machine_model.specs.declared.frame.CoreFunction.TheVariants as core_function
 use Rattle.cm_machine_model.specs.declared.frame.LoweredFunc.{LoweredFunc}
-use Rattle.cm_machine_model.specs.declared.frame.Call.{Call}
 use Rattle.cm_machine_model.specs.declared.frame.Frame.{Frame}
 use Rattle.cm_machine_model.specs.declared.frame.Purpose.{Purpose}
-use Rattle.cm_machine_model.specs.declared.frame.Purpose.TheVariants as purpose
 use Rattle.cm_machine_model.specs.declared.frame.Phase.{Phase}
 use Rattle.cm_machine_model.specs.declared.event.Event.{Event}
 use Rattle.cm_machine_model.specs.declared.event.Event.TheVariants as event
@@ -23,18 +21,17 @@ use Rattle.cm_machine_model.specs.declared.event.Trap.TheVariants as trap
 use Rattle.cm_machine_model.specs.declared.limits.TheConstants.{MAX_FRAMES}
 use Rattle.cm_machine_model.specs.declared.moves.Move.{Move}
 use Rattle.cm_machine_model.specs.declared.moves.Move.TheVariants as move
-use Rattle.cm_machine_model.specs.Memories.{memory_at}
 use Rattle.cm_machine_model.specs.Stack.{actor, top_of, below_top}
-use Rattle.cm_machine_model.specs.State.{State, StandsOn, IsStack, IsValidState, core_func_at, is_closed, after_trap, closed_after_trap}
+use Rattle.cm_machine_model.specs.State.{State, StandsOn, IsStack, core_func_at, after_trap, closed_after_trap}
 use Rattle.cm_machine_model.specs.Checks.{first_failed, checks, call_checks, is_i32, has_core_shape, may_leave, is_callee_open, has_stack_room, is_in_guest_bounds, acting_memory, result_count, return_count, return_count_in}
-use Rattle.cm_machine_model.specs.Step.{may_want_memory, may_grow, Step}
+use Rattle.cm_machine_model.specs.Step.{may_want_memory, may_grow}
 use Rattle.cm_machine_model.specs.History.{Action, begins, moves, Occurrence, Happens}
 use Rattle.cm_machine_model.proofs.Cases.{Goes, traps, passes, wants, steps_by}
 use Rattle.cm_machine_model.proofs.Passing.{passes_no_trap}
 use Rattle.cm_machine_model.proofs.Kept.{length_closed}
 use Rattle.cm_history.specs.Acting.{acts}
-use Rattle.cm_history.specs.Doing.{LoweredCall, Asked, Doing, root, body, instance_of, doing}
-use Rattle.cm_history.specs.Causes.{Reaches, IsSlot, AreSlots, slots_back, MayCall, CallCause, Cause, order, IsFirst}
+use Rattle.cm_history.specs.Doing.{Doing, instance_of, doing}
+use Rattle.cm_history.specs.Causes.{Reaches, IsSlot, AreSlots, slots_back, CallCause, Cause, order, IsFirst}
 use Rattle.cm_history.specs.Headline.{NamesItsCause, Contains, ClosesExactly, TrapsRightly, TrapsAtACause}
 use Rattle.cm_history.proofs.Carried.{Carried, Told, by_root, by_call, TopTold, top_told, told_length, acting_top, acting_is, stands_told, stands_below}
 use Rattle.cm_history.proofs.Calls.{may_call_told}

@@ -5,6 +5,7 @@ use Rattle.std.specs.List.{AllByRecursion}
 use Rattle.std.specs.Option.{option_map}
 use Rattle.cm_types.specs.declared.core_value.CoreValue.{CoreValue}
 use Rattle.cm_types.specs.Values.{Val}
+use Rattle.cm_handles.specs.Handles.{handle_at}
 use Rattle.cm_machine_model.specs.declared.frame.CoreFunction.{CoreFunction}
 use Rattle.cm_machine_model.specs.declared.frame.CoreFunction.TheVariants as core_function
 use Rattle.cm_machine_model.specs.declared.event.Event.{Event}
@@ -13,15 +14,18 @@ use Rattle.cm_machine_model.specs.declared.event.Trap.{Trap}
 use Rattle.cm_machine_model.specs.declared.event.Trap.TheVariants as trap
 use Rattle.cm_machine_model.specs.declared.moves.Move.{Move}
 use Rattle.cm_machine_model.specs.declared.moves.Move.TheVariants as move
+use Rattle.cm_machine_model.specs.declared.event.Misuse.{Misuse}
+use Rattle.cm_machine_model.specs.declared.event.Misuse.TheVariants as misuse
 use Rattle.cm_machine_model.specs.declared.limits.TheConstants.{MAX_FRAMES, MAX_PAGES, PAGE_SIZE}
 use Rattle.cm_machine_model.specs.Memories.{memory_at}
 use Rattle.cm_machine_model.specs.Stack.{actor, top_of}
 use Rattle.cm_machine_model.specs.State.{State}
+use Rattle.cm_machine_model.specs.Run.{is_last, misuse_of_begin}
 use Rattle.cm_machine_model.specs.Values.{params, results, view_of, param_types, result_types}
 use Rattle.cm_machine_model.specs.Values.{Denotes, Receives}
 use Rattle.cm_machine_model.specs.History.{Action, begins, moves, Occurrence, IsHistoryOf}
 use Rattle.cm_history.specs.Acting.{acts}
-use Rattle.cm_history.specs.Doing.{LoweredCall, BodyReturn, Asked, Doing, root, placing, body}
+use Rattle.cm_history.specs.Doing.{LoweredCall, BodyReturn, Doing, root, placing, body}
 use Rattle.cm_history.specs.Doing.{handing, tidying, destroys, instance_of, core_func_by_index}
 use Rattle.cm_history.specs.Doing.{body_return, doing}
 use Rattle.cm_history.specs.Causes.{MayCall, Cause, order, IsFirst}
@@ -38,6 +42,23 @@ abbrev pub BeginsRightly : List Occurrence → Type 0
 BeginsRightly [] = Unit {0}
 BeginsRightly (x ∷ h) = (i : ℕ) → x.action ≡ begins i
     → (doing h ≡ []) × (slice_get x.before.closed i ≡ Some false) × (x.event ≡ event.Resume i [])
+
+-- Why a host may not begin a root call now: something goes on, else a trap has closed the instance,
+-- else there is none; else it may.
+pub record IsMisuseOf (ds : List Doing) (flag : Option Bool) (m : Option Misuse) : Type 0 where
+  pub busy : ds ≢ [] → m ≡ Some misuse.Busy
+  pub closed : ds ≡ [] → flag ≡ Some true → m ≡ Some misuse.Closed
+  pub missing : ds ≡ [] → flag ≡ None → m ≡ Some misuse.NoInstance
+  pub none : ds ≡ [] → flag ≡ Some false → m ≡ None
+
+-- A begin is refused for its reason, and for none where there is none.
+abbrev pub RefusesBegins : List Occurrence → State → Type 0
+RefusesBegins h s = (i : ℕ) → IsMisuseOf (doing h) (slice_get s.closed i) (misuse_of_begin s i)
+
+-- An event is a last one exactly where nothing goes on after it.
+abbrev pub EndsRightly : List Occurrence → Type 0
+EndsRightly [] = Unit {0}
+EndsRightly (x ∷ h) = (is_last x.event ≡ true) ↔ (doing (x ∷ h) ≡ [])
 
 -- A body that begins, by a call or when its arguments are placed.
 abbrev pub IsEntry : Event → Type 0
@@ -274,6 +295,21 @@ abbrev pub TrapsAtACause : List Occurrence → Type 0
 TrapsAtACause [] = Unit {0}
 TrapsAtACause (x ∷ h) = (m : Move) (i : ℕ) (t : Trap) → x.action ≡ moves m → acts h ≡ Some i
     → IsFirst (order m) (Cause x.before (doing h) i m) t → x.event ≡ event.Trapped t
+
+-- ---- what a set starts with
+
+-- This instance has a memory of so many pages of zeros, and is open.
+pub record StartsWith (s : State) (i pages : ℕ) : Type 0 where
+  pub size : length (memory_at s.memories i) ≡ pages * PAGE_SIZE
+  pub zeros : (a : ℕ) → slice_index (memory_at s.memories i) a ≡ 0
+  pub is_open : slice_get s.closed i ≡ Some false
+
+-- No function that can be linked takes or gives a handle, so far: no instance has one, no resource
+-- was made, and nothing is lent.
+pub record HasNoHandles (s : State) : Type 0 where
+  pub none_stand : (i index : ℕ) → handle_at (view_of s i).table index ≡ None
+  pub none_made : s.owners ≡ []
+  pub none_lent : s.lends ≡ []
 
 -- ---- each history
 

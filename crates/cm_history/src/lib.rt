@@ -1,7 +1,7 @@
 //! What holds of every history of a linked set: laws alone, no code.
 #![tactic(auto)]
 
-ghost use Rattle.std.specs.Prelude.{◌≡◌, ℕ, List};
+ghost use Rattle.std.specs.Prelude.{◌≡◌, ℕ, List, [], Some, slice_get};
 ghost use Rattle.cm_machine_model.specs.declared.event.Event.{Event};
 ghost use Rattle.cm_machine_model.specs.declared.frame.CoreFunction.{CoreFunction};
 ghost use Rattle.cm_machine_model.specs.declared.moves.Move.{Move};
@@ -13,6 +13,7 @@ ghost use Rattle.cm_history.specs.Headline.{Always, ActsAsTold, StandsAsTold, Be
 ghost use Rattle.cm_history.specs.Headline.{AnswersRightly, ClosesByTraps, NoneClosedActs};
 ghost use Rattle.cm_history.specs.Headline.{EntersRightly, ResumesRightly, ChangesMemoryRightly};
 ghost use Rattle.cm_history.specs.Headline.{TrapsRightly, TrapsAtACause, BeginsByCall};
+ghost use Rattle.cm_history.specs.Headline.{RefusesBegins, EndsRightly, StartsWith, HasNoHandles};
 
 /// The headline, a clause a sentence: for each set that can be linked, and each history of it from
 /// `Set::new` on, whatever the guests did. The clauses of `Set::new`, `Set::begin`, `Set::step` and
@@ -26,10 +27,18 @@ pub fn headline()
     ensures keeps { (core_funcs : List (List CoreFunction)) (pages : List ℕ)
         (h : List Occurrence) (s : State)
         → IsHistoryOf core_funcs pages h s → s.core_funcs ≡ core_funcs }
+    // A set starts with the memories of zeros that were asked for, and with open instances.
+    ensures starts { (core_funcs : List (List CoreFunction)) (pages : List ℕ) (s : State)
+        → IsHistoryOf core_funcs pages [] s
+        → (i count : ℕ) → slice_get pages i ≡ Some count → StartsWith s i count }
     // A host begins a root call where nothing goes on, in an instance that is there and open.
     ensures begins { Always (λ h s. BeginsRightly h) }
+    // It is refused for its reason, and for none where there is none.
+    ensures begin_refusals { Always RefusesBegins }
     // Each move is answered by its own event, or traps.
     ensures answers { Always (λ h s. AnswersRightly h) }
+    // An event is a last one exactly where nothing goes on after it.
+    ensures ends { Always (λ h s. EndsRightly h) }
     // No instance closes but by a trap, and none opens again.
     ensures closes { Always (λ h s. ClosesByTraps h) }
     // The instance that acts is there and open.
@@ -45,6 +54,8 @@ pub fn headline()
     ensures resumptions { Always (λ h s. ResumesRightly h) }
     // No step but a write or a growth changes a memory, and it changes exactly what it says.
     ensures memory { Always (λ h s. ChangesMemoryRightly h) }
+    // No instance has a handle, so far.
+    ensures handles { Always (λ h s. HasNoHandles s) }
     // A trap has its named cause, empties the stack, closes exactly the instances of what went on,
     // and leaves memories alone.
     ensures traps { Always (λ h s. TrapsRightly h) }

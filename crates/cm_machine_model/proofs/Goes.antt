@@ -63,7 +63,7 @@ returns_on (purpose.Destructor dropper) s top values e new valid is its h open_ 
         let its2 : f.purpose ≡ purpose.Destructor d = ap (λ (g : Frame). g.purpose) same ∙ is2 in
         subst (λ (p : Purpose). StandsOn p f.instance fs) its2 h2.1
 
-passes_on : (s : State) (top : Frame) (m : Move) (e : Event) (new : State) → IsValidState s → top_of s.stack ≡ Some top → Passes s top m e new → is_last e ≡ false → 0 < length new.stack
+pub passes_on : (s : State) (top : Frame) (m : Move) (e : Event) (new : State) → IsValidState s → top_of s.stack ≡ Some top → Passes s top m e new → is_last e ≡ false → 0 < length new.stack
 passes_on s top (move.Write at bytes) e new valid is h open_ = rw (h.1) (stands_some s.stack top is)
 passes_on s top (move.Grow pages) e new valid is h open_ = grows_on s top pages (may_grow s top pages) e new (stands_some s.stack top is) h
 passes_on s top (move.Call func args) e new valid is h open_ = calls_on s top (core_func_at s.core_funcs (actor top) func) args.items e new h

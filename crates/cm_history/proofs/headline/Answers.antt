@@ -1,4 +1,4 @@
-use Rattle.cm_history.proofs.HistoryLaws.{acting_told, standing_told, kept_for_good, begins_hold, answers_hold, closing_holds, none_closed_acts, calls_hold, entries_hold, resumptions_hold, memory_holds, traps_hold, refusals_hold, runs_hold}
+use Rattle.cm_history.proofs.HistoryLaws.{acting_told, standing_told, kept_for_good, begins_hold, answers_hold, closing_holds, none_closed_acts, calls_hold, entries_hold, resumptions_hold, memory_holds, traps_hold, refusals_hold, runs_hold, ends_hold, begin_refusals_hold, handles_hold, starts_hold}
 use Rattle.cm_history.proofs.headline.Goals as goal
 
 pub returns-clause-acting : goal.returns-clause-acting
@@ -42,3 +42,15 @@ returns-clause-refusals c = refusals_hold
 
 pub returns-clause-runs : goal.returns-clause-runs
 returns-clause-runs c = runs_hold
+
+pub returns-clause-ends : goal.returns-clause-ends
+returns-clause-ends c = ends_hold
+
+pub returns-clause-begin_refusals : goal.returns-clause-begin_refusals
+returns-clause-begin_refusals c = begin_refusals_hold
+
+pub returns-clause-handles : goal.returns-clause-handles
+returns-clause-handles c = handles_hold
+
+pub returns-clause-starts : goal.returns-clause-starts
+returns-clause-starts c = starts_hold
