@@ -126,6 +126,7 @@ fn write_head(out: &mut String, head: Head) -> Result<(), AllocError> {
 }
 
 /// `(SIZE/ALIGN/WIDTH FORM)`.
+#[cycle(layouts)]
 fn write_layout(out: &mut String, layout: &Layout) -> Result<(), AllocError> {
     out.push_str("(")?;
     write_head(out, layout.head)?;
@@ -182,6 +183,7 @@ fn write_handle(out: &mut String, handle: HandleType) -> Result<(), AllocError> 
 }
 
 /// ` OFFSET:LAYOUT` for each field.
+#[cycle(layouts)]
 fn write_parts(out: &mut String, parts: &[Part]) -> Result<(), AllocError> {
     out.push_str(" fields")?;
     for part in parts {
@@ -193,6 +195,7 @@ fn write_parts(out: &mut String, parts: &[Part]) -> Result<(), AllocError> {
 }
 
 /// A layout for each case that carries one, and `-` for each other one.
+#[cycle(layouts)]
 fn write_payloads(out: &mut String, payloads: &[Payload]) -> Result<(), AllocError> {
     for payload in payloads {
         match payload {
