@@ -1,9 +1,9 @@
 //! Laws of component files.
 
 ghost use Rattle.std.specs.Prelude.{◌≡◌, ◌≢◌, ℕ, List, ◌++◌};
-ghost use Rattle.cm_binary.specs.declared.fault.DecodeReason.{DecodeReason};
-ghost use Rattle.cm_binary.specs.declared.fault.DecodeReason.TheVariants as reasons;
-ghost use Rattle.cm_binary.specs.File.{FirstFault};
+ghost use Rattle.cm_reading.specs.declared.fault.DecodeReason.{DecodeReason};
+ghost use Rattle.cm_reading.specs.declared.fault.DecodeReason.TheVariants as reasons;
+ghost use Rattle.cm_reading.specs.File.{FirstFault};
 ghost use Rattle.cm_binary.specs.Answers.{AreBytes};
 
 /// A first fault stays the first fault whatever follows the bytes, unless it is that the input ends
