@@ -4,5 +4,5 @@ pub mod WholeLaws
 pub mod PartLaws
 pub mod EndLaws
 pub mod ReadingLaws
-pub mod SpellingLaws
+pub mod LeastLaws
 pub mod WrittenLaws
