@@ -4,3 +4,6 @@ pub mod Nonempty
 pub mod FileLimits
 pub mod FileWritten
 pub mod EncodeLaws
+pub mod CodeWants
+pub mod FileWants
+pub mod OneAnswer

@@ -7,6 +7,7 @@ use Rattle.cm_component.specs.Trees.{SectionTree}
 use Rattle.cm_reading.specs.declared.fault.DecodeFault.{DecodeFault}
 use Rattle.cm_reading.specs.declared.fault.DecodeReason.{DecodeReason}
 use Rattle.cm_reading.specs.declared.fault.DecodeReason.TheVariants.{Memory}
+use Rattle.cm_reading.specs.File.{Spells, FirstFault}
 
 -- The answer is this component, or that memory was refused.
 abbrev pub Accepts : Result (List SectionTree) DecodeFault → List SectionTree → Type 0
@@ -27,3 +28,13 @@ Answers bytes (Err f) read = (f.reason ≡ Memory)
 -- The numbers of the list are bytes.
 abbrev pub AreBytes : List ℕ → Type 0
 AreBytes bytes = (i : ℕ) → slice_index bytes i < 256
+
+-- What bytes come to: the component that they spell, or their first fault.
+abbrev pub IsAnswer : List ℕ → Result (List SectionTree) DecodeFault → Type 0
+IsAnswer bytes (Ok c) = Spells c bytes
+IsAnswer bytes (Err f) = FirstFault bytes f.at f.reason
+
+-- Bytes come to this, and to nothing else.
+abbrev pub IsOnlyAnswer : List ℕ → Result (List SectionTree) DecodeFault → Type 0
+IsOnlyAnswer bytes answer = IsAnswer bytes answer
+    × ((other : Result (List SectionTree) DecodeFault) → IsAnswer bytes other → other ≡ answer)

@@ -6,3 +6,5 @@ pub mod EndLaws
 pub mod ReadingLaws
 pub mod LeastLaws
 pub mod WrittenLaws
+pub mod WantLaws
+pub mod AnswerLaws

@@ -1,11 +1,12 @@
 //! Alignments, in bytes.
 
 ghost use Rattle.std.specs.Prelude.{◌≡◌, ◌≤◌};
-ghost use Rattle.cm_types.specs.TypeTrees.{boxed_payload, cases_of, fields_of, parts_of, type_of};
+ghost use Rattle.cm_types.specs.TypeTrees.{shared_payload, cases_of, fields_of, parts_of, type_of};
 ghost use Rattle.cm_layout.specs.Sizes.{align_of, align_of_fields, align_of_payload};
 ghost use Rattle.cm_layout.specs.Sizes.{align_of_payloads, discriminant_size, flags_size};
 
 use cm_types::{Case, Field, TypeNode};
+use std::rc::Rc;
 
 pub(crate) fn discriminant_size(cases: usize) -> u32
     ensures value { result ≡ discriminant_size cases }
@@ -59,14 +60,14 @@ pub fn node_align(ty: &TypeNode) -> u32
         TypeNode::Enum(labels) => discriminant_size(labels.len()),
         TypeNode::Flags(labels) => flags_size(labels.len()),
         TypeNode::Option(some) => node_align(some),
-        TypeNode::Result { ok, error } => box_align(ok).max(box_align(error)),
+        TypeNode::Result { ok, error } => shared_align(ok).max(shared_align(error)),
     }
 }
 
 #[cycle(align)]
 #[tactic(auto, using(crate::proofs::AlignLemmas::aligns))]
-pub(crate) fn box_align(payload: &Option<Box<TypeNode>>) -> u32
-    ensures value { result ≡ align_of_payload (boxed_payload payload.now) }
+pub(crate) fn shared_align(payload: &Option<Rc<TypeNode>>) -> u32
+    ensures value { result ≡ align_of_payload (shared_payload payload.now) }
     ensures positive { 1 ≤ result }
     ensures small { result ≤ 8 }
 {

@@ -2,12 +2,13 @@
 
 ghost use Rattle.std.specs.Prelude.{◌≡◌, ◌++◌, IfOk, OnOk};
 ghost use Rattle.std.specs.Option.{option_map};
-ghost use Rattle.cm_types.specs.TypeTrees.{boxed_payload, cases_of, fields_of, parts_of, type_of};
+ghost use Rattle.cm_types.specs.TypeTrees.{shared_payload, cases_of, fields_of, parts_of, type_of};
 ghost use Rattle.cm_layout.specs.Flattening.{copies, flat_of, flat_of_cases, flat_of_fields};
 ghost use Rattle.cm_layout.specs.Flattening.{flat_of_payload, join, join_slots};
 
 use cm_types::{Case, CoreKind, Field, TypeNode};
 use std::alloc::{AllocError, Global};
+use std::rc::Rc;
 
 fn join(a: CoreKind, b: CoreKind) -> CoreKind
     ensures { result ≡ join a b }
@@ -74,8 +75,8 @@ pub(crate) fn push_flat(
         }
         TypeNode::Result { ok, error } => {
             out.push(CoreKind::I32)?;
-            let ok_kinds = flat_box(alloc, ok)?;
-            let error_kinds = flat_box(alloc, error)?;
+            let ok_kinds = flat_shared(alloc, ok)?;
+            let error_kinds = flat_shared(alloc, error)?;
             let kinds = join_slots(alloc, &ok_kinds, &error_kinds)?;
             out.extend_from_slice(&kinds)?
         }
@@ -97,8 +98,8 @@ pub(crate) fn push_flat(
 
 #[cycle(flat)]
 #[tactic(auto, using(crate::proofs::FlatLemmas::flats))]
-fn flat_box(alloc: Global, payload: &Option<Box<TypeNode>>) -> Result<Vec<CoreKind>, AllocError>
-    ensures { IfOk result (λ v. v.items ≡ flat_of_payload (boxed_payload payload.now)) }
+fn flat_shared(alloc: Global, payload: &Option<Rc<TypeNode>>) -> Result<Vec<CoreKind>, AllocError>
+    ensures { IfOk result (λ v. v.items ≡ flat_of_payload (shared_payload payload.now)) }
 {
     let mut kinds = Vec::new(alloc);
     if let Some(ty) = payload {

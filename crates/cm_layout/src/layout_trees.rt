@@ -6,7 +6,7 @@ ghost use Rattle.std.specs.Option.{option_map};
 ghost use Rattle.cm_types.specs.Funcs.{func_of, tree_type};
 ghost use Rattle.cm_types.specs.Types.{fields, tuple_type};
 ghost use Rattle.cm_types.specs.Limits.{nodes_of, nodes_of_cases, nodes_of_fields, payload_nodes};
-ghost use Rattle.cm_types.specs.TypeTrees.{boxed_payload, cases_of, fields_of, parts_of, type_of};
+ghost use Rattle.cm_types.specs.TypeTrees.{shared_payload, cases_of, fields_of, parts_of, type_of};
 ghost use Rattle.cm_layout.specs.LayoutTys.{children_of, children_of_fields, children_of_payloads};
 ghost use Rattle.cm_layout.specs.LayoutTys.{is_number, layout_at, nothing_at, payload_at};
 ghost use Rattle.cm_layout.specs.LayoutTrees.{tree_of, trees_of};
@@ -17,6 +17,7 @@ use crate::offsets::node_case_offset;
 use crate::sizes::{align_to, fields_end, node_size};
 use cm_types::{Case, CoreKind, Field, Func, MAX_NODES, TypeNode, TypeTree};
 use std::alloc::{AllocError, Global};
+use std::rc::Rc;
 
 /// The layout of a type and of all types in it.
 #[derive(Drop)]
@@ -154,8 +155,8 @@ fn children(alloc: Global, ty: &TypeNode) -> Result<Vec<LayoutTree>, AllocError>
             let at = node_case_offset(ty);
             two(
                 alloc,
-                box_layout(alloc, ok, at)?,
-                box_layout(alloc, error, at)?,
+                shared_layout(alloc, ok, at)?,
+                shared_layout(alloc, error, at)?,
             )
         }
         TypeNode::Bool
@@ -177,13 +178,13 @@ fn children(alloc: Global, ty: &TypeNode) -> Result<Vec<LayoutTree>, AllocError>
 }
 
 #[cycle(layout)]
-fn box_layout(
+fn shared_layout(
     alloc: Global,
-    payload: &Option<Box<TypeNode>>,
+    payload: &Option<Rc<TypeNode>>,
     offset: u32,
 ) -> Result<LayoutTree, AllocError>
-    requires within { payload_nodes (boxed_payload payload.now) ≤ MAX_NODES }
-    ensures { IfOk result (λ l. tree_of l ≡ payload_at offset (boxed_payload payload.now)) }
+    requires within { payload_nodes (shared_payload payload.now) ≤ MAX_NODES }
+    ensures { IfOk result (λ l. tree_of l ≡ payload_at offset (shared_payload payload.now)) }
 {
     match payload {
         Some(ty) => node_layout(alloc, ty, offset),

@@ -7,7 +7,7 @@ ghost use Rattle.cm_layout.specs.Sizes.{HasCases, HasField, case_offset, discrim
 ghost use Rattle.cm_layout.specs.Sizes.{field_offset};
 ghost use Rattle.cm_layout.specs.Sizes.{field_offset_from};
 
-use crate::alignments::{box_align, discriminant_size, node_align, payloads_align};
+use crate::alignments::{shared_align, discriminant_size, node_align, payloads_align};
 use crate::sizes::{align_to, fields_end, parts_end};
 use cm_types::{Field, MAX_NODES, TypeNode};
 
@@ -52,7 +52,7 @@ pub fn node_case_offset(ty: &TypeNode) -> u32
         TypeNode::Variant(cases) => align_to(payloads_align(cases), discriminant_size(cases.len())),
         TypeNode::Enum(labels) => discriminant_size(labels.len()),
         TypeNode::Option(some) => align_to(node_align(some), 1),
-        TypeNode::Result { ok, error } => align_to(box_align(ok).max(box_align(error)), 1),
+        TypeNode::Result { ok, error } => align_to(shared_align(ok).max(shared_align(error)), 1),
         _ => unreachable!(),
     }
 }

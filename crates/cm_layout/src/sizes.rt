@@ -2,15 +2,16 @@
 
 ghost use Rattle.std.specs.Prelude.{◌≡◌, ◌≤◌, ◌<◌, ◌+◌, ◌*◌, ◌^◌, max};
 ghost use Rattle.cm_types.specs.Limits.{nodes_of, nodes_of_cases, nodes_of_fields, payload_nodes};
-ghost use Rattle.cm_types.specs.TypeTrees.{boxed_payload, cases_of, fields_of, parts_of, type_of};
+ghost use Rattle.cm_types.specs.TypeTrees.{shared_payload, cases_of, fields_of, parts_of, type_of};
 ghost use Rattle.cm_layout.specs.Alignment.{align_to};
 ghost use Rattle.cm_layout.specs.Sizes.{discriminant_size, end_of, greatest_payload, size_of};
 ghost use Rattle.cm_layout.specs.Sizes.{size_of_payload};
 
 use crate::alignments::{
-    box_align, discriminant_size, fields_align, flags_size, node_align, parts_align, payloads_align,
+    shared_align, discriminant_size, fields_align, flags_size, node_align, parts_align, payloads_align,
 };
 use cm_types::{Case, Field, MAX_NODES, TypeNode};
+use std::rc::Rc;
 
 /// The least multiple of `align` that is not below `end`.
 pub(crate) fn align_to(align: u32, end: u32) -> u32
@@ -50,8 +51,8 @@ pub fn node_size(ty: &TypeNode) -> u32
         TypeNode::Option(some) => variant_size(1, node_align(some), node_size(some)),
         TypeNode::Result { ok, error } => variant_size(
             1,
-            box_align(ok).max(box_align(error)),
-            box_size(ok).max(box_size(error)),
+            shared_align(ok).max(shared_align(error)),
+            shared_size(ok).max(shared_size(error)),
         ),
     }
 }
@@ -73,10 +74,10 @@ fn variant_size(discriminant: u32, align: u32, payload: u32) -> u32
 
 #[cycle(size)]
 #[tactic(auto, using(crate::proofs::SizeLemmas::sizes))]
-fn box_size(payload: &Option<Box<TypeNode>>) -> u32
-    requires within { payload_nodes (boxed_payload payload.now) ≤ MAX_NODES }
-    ensures value { result ≡ size_of_payload (boxed_payload payload.now) }
-    ensures small { result ≤ 32 * payload_nodes (boxed_payload payload.now) }
+fn shared_size(payload: &Option<Rc<TypeNode>>) -> u32
+    requires within { payload_nodes (shared_payload payload.now) ≤ MAX_NODES }
+    ensures value { result ≡ size_of_payload (shared_payload payload.now) }
+    ensures small { result ≤ 32 * payload_nodes (shared_payload payload.now) }
 {
     match payload {
         Some(ty) => node_size(ty),

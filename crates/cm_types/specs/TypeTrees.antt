@@ -1,7 +1,7 @@
 -- The types that the code's trees are.
 use Rattle.std.specs.Prelude.{ℕ, List, [], ◌∷◌, map, Option, Some, None, codes}
 use Rattle.std.specs.declared.alloc.Global.{Global}
-use Rattle.std.specs.declared.boxed.Box.{Box}
+use Rattle.std.specs.declared.rc.Rc.{Rc}
 use Rattle.cm_types.specs.Types.{Ty, Fields, Cases, bool, signed, unsigned, char, string, list}
 use Rattle.cm_types.specs.Types.{fixed_list, fields, cases, flags, own, borrow, no_fields, field}
 use Rattle.cm_types.specs.Types.{no_cases, plain, carrying, record_type, tuple_type, variant_type}
@@ -46,10 +46,10 @@ abbrev pub plain_from : List (List ℕ) → Cases
 plain_from [] = no_cases
 plain_from (l ∷ ls) = plain l (plain_from ls)
 
--- what is behind a box, if there is one
-abbrev pub box_content : Option (Box Ty Global) → Option Ty
-box_content None = None
-box_content (Some b) = Some b.value
+-- what is shared, if there is anything
+abbrev pub shared_content : Option (Rc Ty Global) → Option Ty
+shared_content None = None
+shared_content (Some b) = Some b.value
 
 -- a node, given the types of the nodes below it
 abbrev pub type_step : node.TypeNode-F Ty CaseOf TypedLabel → Ty
@@ -66,17 +66,17 @@ type_step node.Char = char
 type_step node.String = string
 type_step (node.List t) = list t.value
 type_step (node.FixedList t n) = fixed_list t.value n
-type_step (node.Record fs) = fields record_type (fields_from fs.items)
-type_step (node.Tuple ts) = fields tuple_type (parts_from ts.items)
-type_step (node.Variant cs) = cases variant_type (cases_from cs.items)
-type_step (node.Enum ls) = cases enum_type (plain_from ls.items)
-type_step (node.Flags ls) = flags ls.items
+type_step (node.Record fs) = fields record_type (fields_from fs.value.items)
+type_step (node.Tuple ts) = fields tuple_type (parts_from ts.value.items)
+type_step (node.Variant cs) = cases variant_type (cases_from cs.value.items)
+type_step (node.Enum ls) = cases enum_type (plain_from ls.value.items)
+type_step (node.Flags ls) = flags ls.value.items
 type_step (node.Option t) =
     cases option_type (plain (codes "none") (carrying (codes "some") t.value no_cases))
 type_step (node.Result ok error) =
     cases result_type
-    (case_before (codes "ok") (box_content ok)
-    (case_before (codes "error") (box_content error) no_cases))
+    (case_before (codes "ok") (shared_content ok)
+    (case_before (codes "error") (shared_content error) no_cases))
 type_step (node.Own r) = own r
 type_step (node.Borrow r) = borrow r
 
@@ -107,7 +107,7 @@ parts_of ts = parts_from (map type_of ts)
 abbrev pub cases_of : List Case → Cases
 cases_of cs = cases_from (map case_of cs)
 
--- the type behind a box of the code, if there is one
-abbrev pub boxed_payload : Option (Box TypeNode Global) → Option Ty
-boxed_payload None = None
-boxed_payload (Some b) = Some (type_of b.value)
+-- the type that a shared node of the code is, if there is one
+abbrev pub shared_payload : Option (Rc TypeNode Global) → Option Ty
+shared_payload None = None
+shared_payload (Some b) = Some (type_of b.value)

@@ -2,16 +2,15 @@
 
 use crate::type_trees::{Case, Field, TypeNode};
 use std::mem;
+use std::rc::Rc;
 
 /// The last type that a node holds, if it holds one, and the node with what was above it in the
-/// place of that type. Nothing else needs the stack or memory.
+/// place of that type. What others hold too stays with them, and nothing is below it here. Nothing
+/// else needs the stack or memory.
 fn go_down(node: TypeNode, above: TypeNode) -> (Option<TypeNode>, TypeNode) {
     match node {
-        TypeNode::List(element) | TypeNode::Option(element) => (
-            Some(Box::into_inner(element)),
-            above,
-        ),
-        TypeNode::FixedList { element, .. } => (Some(Box::into_inner(element)), above),
+        TypeNode::List(element) | TypeNode::Option(element) => (Rc::into_inner(element), above),
+        TypeNode::FixedList { element, .. } => (Rc::into_inner(element), above),
         TypeNode::Record(fields) => below_fields(fields, above),
         TypeNode::Tuple(parts) => below_parts(parts, above),
         TypeNode::Variant(cases) => below_cases(cases, above),
@@ -20,58 +19,70 @@ fn go_down(node: TypeNode, above: TypeNode) -> (Option<TypeNode>, TypeNode) {
     }
 }
 
-fn below_fields(mut fields: Vec<Field>, above: TypeNode) -> (Option<TypeNode>, TypeNode) {
-    match fields.last_mut() {
-        Some(last) => {
-            let down = mem::replace(&mut last.ty, above);
-            (Some(down), TypeNode::Record(fields))
-        }
+fn below_fields(mut fields: Rc<Vec<Field>>, above: TypeNode) -> (Option<TypeNode>, TypeNode) {
+    match Rc::get_mut(&mut fields) {
+        Some(list) => match list.last_mut() {
+            Some(last) => {
+                let down = mem::replace(&mut last.ty, above);
+                (Some(down), TypeNode::Record(fields))
+            }
+            None => (None, above),
+        },
         None => (None, above),
     }
 }
 
-fn below_parts(mut parts: Vec<TypeNode>, above: TypeNode) -> (Option<TypeNode>, TypeNode) {
-    match parts.last_mut() {
-        Some(last) => {
-            let down = mem::replace(last, above);
-            (Some(down), TypeNode::Tuple(parts))
-        }
+fn below_parts(mut parts: Rc<Vec<TypeNode>>, above: TypeNode) -> (Option<TypeNode>, TypeNode) {
+    match Rc::get_mut(&mut parts) {
+        Some(list) => match list.last_mut() {
+            Some(last) => {
+                let down = mem::replace(last, above);
+                (Some(down), TypeNode::Tuple(parts))
+            }
+            None => (None, above),
+        },
         None => (None, above),
     }
 }
 
-fn below_cases(mut cases: Vec<Case>, above: TypeNode) -> (Option<TypeNode>, TypeNode) {
-    match cases.last_mut() {
-        Some(
-            Case {
-                payload: Some(last),
-                ..
-            },
-        ) => {
-            let down = mem::replace(last, above);
-            (Some(down), TypeNode::Variant(cases))
-        }
-        Some(_) => {
-            cases.pop();
-            (Some(TypeNode::Variant(cases)), above)
-        }
+fn below_cases(mut cases: Rc<Vec<Case>>, above: TypeNode) -> (Option<TypeNode>, TypeNode) {
+    match Rc::get_mut(&mut cases) {
+        Some(list) => match list.last_mut() {
+            Some(
+                Case {
+                    payload: Some(last),
+                    ..
+                },
+            ) => {
+                let down = mem::replace(last, above);
+                (Some(down), TypeNode::Variant(cases))
+            }
+            Some(_) => {
+                list.pop();
+                (Some(TypeNode::Variant(cases)), above)
+            }
+            None => (None, above),
+        },
         None => (None, above),
     }
 }
 
 fn below_result(
-    ok: Option<Box<TypeNode>>,
-    error: Option<Box<TypeNode>>,
+    ok: Option<Rc<TypeNode>>,
+    error: Option<Rc<TypeNode>>,
     above: TypeNode,
 ) -> (Option<TypeNode>, TypeNode) {
     match ok {
-        Some(mut first) => {
-            let down = mem::replace(&mut *first, above);
-            let ok = Some(first);
-            (Some(down), TypeNode::Result { ok, error })
-        }
+        Some(mut first) => match Rc::get_mut(&mut first) {
+            Some(ty) => {
+                let down = mem::replace(ty, above);
+                let ok = Some(first);
+                (Some(down), TypeNode::Result { ok, error })
+            }
+            None => (Some(TypeNode::Result { ok: None, error }), above),
+        },
         None => match error {
-            Some(second) => (Some(Box::into_inner(second)), above),
+            Some(second) => (Rc::into_inner(second), above),
             None => (None, above),
         },
     }
@@ -81,19 +92,19 @@ fn below_result(
 fn go_up(above: TypeNode) -> Option<(TypeNode, TypeNode)> {
     match above {
         TypeNode::Record(mut fields) => {
-            let Field { ty, .. } = fields.pop()?;
+            let Field { ty, .. } = Rc::get_mut(&mut fields)?.pop()?;
             Some((TypeNode::Record(fields), ty))
         }
         TypeNode::Tuple(mut parts) => {
-            let ty = parts.pop()?;
+            let ty = Rc::get_mut(&mut parts)?.pop()?;
             Some((TypeNode::Tuple(parts), ty))
         }
         TypeNode::Variant(mut cases) => {
-            let Case { payload, .. } = cases.pop()?;
+            let Case { payload, .. } = Rc::get_mut(&mut cases)?.pop()?;
             Some((TypeNode::Variant(cases), payload?))
         }
         TypeNode::Result { ok, error } => {
-            let ty = Box::into_inner(ok?);
+            let ty = Rc::into_inner(ok?)?;
             Some((TypeNode::Result { ok: None, error }, ty))
         }
         _ => None,
@@ -123,5 +134,12 @@ pub(crate) fn dismantle(root: TypeNode) {
                 None => return,
             },
         }
+    }
+}
+
+/// Lets the types of fields go, however deep.
+pub(crate) fn dismantle_fields(fields: Vec<Field>) {
+    for field in fields {
+        dismantle(field.ty);
     }
 }

@@ -1,12 +1,13 @@
 //! How large a type is, counted no further than its limits.
 
 ghost use Rattle.std.specs.Prelude.{◌≡◌, ◌≤◌, ◌+◌, min};
-ghost use Rattle.cm_types.specs.TypeTrees.{boxed_payload, cases_of, fields_of, parts_of, type_of};
+ghost use Rattle.cm_types.specs.TypeTrees.{shared_payload, cases_of, fields_of, parts_of, type_of};
 ghost use Rattle.cm_types.specs.Limits.{depth_of, depth_of_cases, depth_of_fields, nodes_of};
 ghost use Rattle.cm_types.specs.Limits.{nodes_of_cases, nodes_of_fields, payload_depth};
 ghost use Rattle.cm_types.specs.Limits.{payload_nodes};
 
 use crate::type_trees::{Case, Field, TypeNode};
+use std::rc::Rc;
 
 /// The most nodes that a type may have.
 pub const MAX_NODES: u32 = 10_000;
@@ -68,8 +69,8 @@ pub(crate) fn nodes(ty: &TypeNode) -> u32
 }
 
 #[cycle(nodes)]
-fn nodes_of_payload(payload: &Option<Box<TypeNode>>) -> u32
-    ensures { result ≡ min (payload_nodes (boxed_payload payload.now)) (MAX_NODES + 1) }
+fn nodes_of_payload(payload: &Option<Rc<TypeNode>>) -> u32
+    ensures { result ≡ min (payload_nodes (shared_payload payload.now)) (MAX_NODES + 1) }
 {
     match payload {
         Some(ty) => nodes(ty),
@@ -151,8 +152,8 @@ pub(crate) fn depth_up_to(ty: &TypeNode, most: u32) -> u32
 }
 
 #[cycle(depth)]
-fn depth_of_payload(payload: &Option<Box<TypeNode>>, most: u32) -> u32
-    ensures { result ≡ min (payload_depth (boxed_payload payload.now)) most }
+fn depth_of_payload(payload: &Option<Rc<TypeNode>>, most: u32) -> u32
+    ensures { result ≡ min (payload_depth (shared_payload payload.now)) most }
 {
     match payload {
         Some(ty) => depth_up_to(ty, most),

@@ -7,12 +7,13 @@ ghost use Rattle.cm_types.specs.SameTypes.{resolve, resolved, resolved_func, sam
 ghost use Rattle.cm_types.specs.SameTypes.{same_fields, same_func, same_labels, same_payload};
 ghost use Rattle.cm_types.specs.SameTypes.{same_resource, same_type};
 ghost use Rattle.cm_types.specs.Funcs.{func_of, tree_type};
-ghost use Rattle.cm_types.specs.TypeTrees.{boxed_payload, case_of, cases_of, fields_of, parts_of};
+ghost use Rattle.cm_types.specs.TypeTrees.{shared_payload, case_of, cases_of, fields_of, parts_of};
 ghost use Rattle.cm_types.specs.TypeTrees.{type_of};
 
 use crate::names::Label;
 use crate::resource::ResourceId;
 use crate::type_trees::{Case, Field, Func, TypeNode, TypeTree};
+use std::rc::Rc;
 
 /// Whether two types are equal, labels as texts, once each resource is replaced by what stands for
 /// it: in `a` by the member of `left` at the number of the resource, in `b` by that of `right`. A
@@ -137,7 +138,7 @@ fn same_node(a: &TypeNode, b: &TypeNode, left: &[ResourceId], right: &[ResourceI
                 ok: y,
                 error: y_error,
             },
-        ) => same_boxes(x, y, left, right) && same_boxes(x_error, y_error, left, right),
+        ) => same_shared(x, y, left, right) && same_shared(x_error, y_error, left, right),
         (TypeNode::Own(x), TypeNode::Own(y)) => same_resource(
             resolve(left, *x),
             resolve(right, *y),
@@ -150,13 +151,13 @@ fn same_node(a: &TypeNode, b: &TypeNode, left: &[ResourceId], right: &[ResourceI
 }
 
 #[cycle(same)]
-fn same_boxes(
-    a: &Option<Box<TypeNode>>,
-    b: &Option<Box<TypeNode>>,
+fn same_shared(
+    a: &Option<Rc<TypeNode>>,
+    b: &Option<Rc<TypeNode>>,
     left: &[ResourceId],
     right: &[ResourceId],
 ) -> bool
-    ensures { result ≡ same_payload left.now right.now (boxed_payload a.now) (boxed_payload b.now) }
+    ensures { result ≡ same_payload left.now right.now (shared_payload a.now) (shared_payload b.now) }
 {
     match (a, b) {
         (Some(x), Some(y)) => same_node(x, y, left, right),

@@ -4,11 +4,12 @@ ghost use Rattle.std.specs.Prelude.{◌≡◌};
 ghost use Rattle.cm_types.specs.Spellable.{are_spellable, are_spellable_payloads};
 ghost use Rattle.cm_types.specs.Spellable.{has_no_cases, has_no_fields};
 ghost use Rattle.cm_types.specs.Spellable.{is_spellable, is_spellable_payload};
-ghost use Rattle.cm_types.specs.TypeTrees.{boxed_payload, cases_of, fields_of, parts_of};
+ghost use Rattle.cm_types.specs.TypeTrees.{shared_payload, cases_of, fields_of, parts_of};
 ghost use Rattle.cm_types.specs.TypeTrees.{plain_from, type_of};
 
 use crate::names::Label;
 use crate::type_trees::{Case, Field, TypeNode};
+use std::rc::Rc;
 
 /// The most labels that flags may have (Binary.md, "Type Definitions").
 pub const MAX_FLAGS: usize = 32;
@@ -84,8 +85,8 @@ pub(crate) fn is_spellable(ty: &TypeNode) -> bool
 }
 
 #[cycle(spellable)]
-fn is_spellable_payload(payload: &Option<Box<TypeNode>>) -> bool
-    ensures { result ≡ is_spellable_payload (boxed_payload payload.now) }
+fn is_spellable_payload(payload: &Option<Rc<TypeNode>>) -> bool
+    ensures { result ≡ is_spellable_payload (shared_payload payload.now) }
 {
     match payload {
         Some(ty) => is_spellable(ty),

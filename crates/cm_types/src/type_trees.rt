@@ -7,16 +7,19 @@ ghost use Rattle.cm_types.specs.Spellable.{are_spellable, is_spellable};
 ghost use Rattle.cm_types.specs.Types.{fields, tuple_type};
 ghost use Rattle.cm_types.specs.TypeTrees.{fields_of, type_of};
 
-use crate::dismantling::dismantle;
+use crate::dismantling::{dismantle, dismantle_fields};
 use crate::limits::{
     MAX_DEPTH, MAX_NODES, depth_of_fields_up_to, depth_up_to, nodes, nodes_of_fields,
 };
 use crate::names::Label;
 use crate::resource::ResourceId;
 use crate::spellable::{are_spellable, is_spellable};
+use std::alloc::AllocError;
+use std::rc::Rc;
 use thiserror::Error;
 
-/// A node of a type tree with all below it (Explainer.md, "Value Types").
+/// A node of a type tree with all below it (Explainer.md, "Value Types"). What is below it is
+/// shared: a type that stands in several places is one.
 #[cycle(types)]
 #[derive(Drop)]
 pub enum TypeNode {
@@ -32,25 +35,64 @@ pub enum TypeNode {
     Char,
     String,
     /// A list whose elements lie elsewhere.
-    List(Box<TypeNode>),
+    List(Rc<TypeNode>),
     /// A list of exactly `length` elements, which lie in place.
     FixedList {
-        element: Box<TypeNode>,
+        element: Rc<TypeNode>,
         length: u32,
     },
-    Record(Vec<Field>),
-    Tuple(Vec<TypeNode>),
-    Variant(Vec<Case>),
+    Record(Rc<Vec<Field>>),
+    Tuple(Rc<Vec<TypeNode>>),
+    Variant(Rc<Vec<Case>>),
     /// The labels of its cases.
-    Enum(Vec<Label>),
-    Flags(Vec<Label>),
-    Option(Box<TypeNode>),
+    Enum(Rc<Vec<Label>>),
+    Flags(Rc<Vec<Label>>),
+    Option(Rc<TypeNode>),
     Result {
-        ok: Option<Box<TypeNode>>,
-        error: Option<Box<TypeNode>>,
+        ok: Option<Rc<TypeNode>>,
+        error: Option<Rc<TypeNode>>,
     },
     Own(ResourceId),
     Borrow(ResourceId),
+}
+
+impl TypeNode {
+    /// The same type once more: what is below it is shared with this one. `AllocError` comes where
+    /// it is shared too often to be counted, which is 2^64 times.
+    pub fn share(&self) -> Result<TypeNode, AllocError>
+        ensures { IfOk result (λ node. type_of node ≡ type_of self.now) }
+    {
+        Ok(match self {
+            TypeNode::Bool => TypeNode::Bool,
+            TypeNode::S8 => TypeNode::S8,
+            TypeNode::U8 => TypeNode::U8,
+            TypeNode::S16 => TypeNode::S16,
+            TypeNode::U16 => TypeNode::U16,
+            TypeNode::S32 => TypeNode::S32,
+            TypeNode::U32 => TypeNode::U32,
+            TypeNode::S64 => TypeNode::S64,
+            TypeNode::U64 => TypeNode::U64,
+            TypeNode::Char => TypeNode::Char,
+            TypeNode::String => TypeNode::String,
+            TypeNode::List(element) => TypeNode::List(element.clone()?),
+            TypeNode::FixedList { element, length } => TypeNode::FixedList {
+                element: element.clone()?,
+                length: *length,
+            },
+            TypeNode::Record(fields) => TypeNode::Record(fields.clone()?),
+            TypeNode::Tuple(parts) => TypeNode::Tuple(parts.clone()?),
+            TypeNode::Variant(cases) => TypeNode::Variant(cases.clone()?),
+            TypeNode::Enum(labels) => TypeNode::Enum(labels.clone()?),
+            TypeNode::Flags(labels) => TypeNode::Flags(labels.clone()?),
+            TypeNode::Option(some) => TypeNode::Option(some.clone()?),
+            TypeNode::Result { ok, error } => TypeNode::Result {
+                ok: ok.clone()?,
+                error: error.clone()?,
+            },
+            TypeNode::Own(id) => TypeNode::Own(*id),
+            TypeNode::Borrow(id) => TypeNode::Borrow(*id),
+        })
+    }
 }
 
 /// A field of a record, or a parameter of a function.
@@ -105,6 +147,8 @@ pub struct TypeTree {
 }
 
 impl TypeTree {
+    ghost use Rattle.cm_types.specs.Funcs.{tree_type};
+
     /// The type with this root; `TooLarge` where it is not within the limits, else `NotSpellable`
     /// where no file can spell it, and the root is then let go. Neither takes more of the stack for
     /// a root that is deeper than the limit.
@@ -122,6 +166,15 @@ impl TypeTree {
         } else {
             Ok(TypeTree { root })
         }
+    }
+
+    /// The same type once more, shared with this one. `AllocError` comes where it is shared too
+    /// often to be counted.
+    pub fn share(&self) -> Result<TypeTree, AllocError>
+        ensures { IfOk result (λ tree. tree_type tree ≡ tree_type self.now) }
+    {
+        let root = self.root.share()?;
+        Ok(TypeTree { root })
     }
 }
 
@@ -152,7 +205,7 @@ impl Func {
     {
         let is_deep = depth_of_fields_up_to(&params, MAX_DEPTH) == MAX_DEPTH;
         if is_deep || nodes_of_fields(&params) >= MAX_NODES {
-            dismantle(TypeNode::Record(params));
+            dismantle_fields(params);
             Err(TypeFault::TooLarge)
         } else if !are_spellable(&params) {
             Err(TypeFault::NotSpellable)

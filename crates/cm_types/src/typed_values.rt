@@ -3,7 +3,7 @@
 ghost use Rattle.std.specs.Prelude.{◌≡◌, ◌↔◌, ◌^◌, IsTrue, codes, length, nat_eq, nat_lt};
 ghost use Rattle.std.specs.Option.{option_map};
 ghost use Rattle.cm_types.specs.Funcs.{tree_type};
-ghost use Rattle.cm_types.specs.TypeTrees.{boxed_payload, cases_of, fields_of, parts_of, type_of};
+ghost use Rattle.cm_types.specs.TypeTrees.{shared_payload, cases_of, fields_of, parts_of, type_of};
 ghost use Rattle.cm_types.specs.TypedValues.{all_vals, has_type, have_types, is_between};
 ghost use Rattle.cm_types.specs.TypedValues.{is_scalar_value, payload_has_type};
 ghost use Rattle.cm_types.specs.Values.{HasType, count_of};
@@ -16,6 +16,7 @@ use crate::names::Label;
 use crate::same_types::same_resource;
 use crate::type_trees::{Case, Field, TypeNode, TypeTree};
 use crate::values::Value;
+use std::rc::Rc;
 
 /// Whether the value has the type (Explainer.md, "Value Types"). A list of fixed length has the
 /// tuple of its elements as its value, `Value::Fields`.
@@ -102,8 +103,8 @@ fn node_has_type(ty: &TypeNode, value: &Value) -> bool
             option_has_type(some, *index, payload)
         }
         (TypeNode::Result { ok, error }, Value::Case { index, payload }) => match *index {
-            0 => boxed_payload_has_type(ok, payload),
-            1 => boxed_payload_has_type(error, payload),
+            0 => shared_payload_has_type(ok, payload),
+            1 => shared_payload_has_type(error, payload),
             _ => false,
         },
         (TypeNode::Flags(labels), Value::Flags(bits)) => fits_flags(*bits, labels.len()),
@@ -186,8 +187,8 @@ fn payload_has_type(ty: &Option<TypeNode>, payload: &Option<Box<Value>>) -> bool
 }
 
 #[cycle(typed)]
-fn boxed_payload_has_type(ty: &Option<Box<TypeNode>>, payload: &Option<Box<Value>>) -> bool
-    ensures { result ≡ payload_has_type (boxed_payload ty.now) (boxed_value payload.now) }
+fn shared_payload_has_type(ty: &Option<Rc<TypeNode>>, payload: &Option<Box<Value>>) -> bool
+    ensures { result ≡ payload_has_type (shared_payload ty.now) (boxed_value payload.now) }
 {
     match (ty, payload) {
         (Some(ty), Some(value)) => node_has_type(ty, value),

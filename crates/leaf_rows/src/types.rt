@@ -13,6 +13,7 @@ use cm_types::{
     same_func, same_type,
 };
 use std::alloc::{AllocError, Global};
+use std::rc::Rc;
 
 /// The answer to `within TYPE`, `within_func TYPE..` (of the parameters), `equal TYPE | TYPE ..`,
 /// `same LEFT RIGHT TYPE = TYPE`, `has TYPE = VALUE` or `same_func FUNC = FUNC`. LEFT and RIGHT are
@@ -190,11 +191,11 @@ impl TypeStack {
 
     fn plain(&mut self, alloc: Global, word: &str) -> Result<TypeNode, RowFault> {
         Ok(match word {
-            "list" => TypeNode::List(Box::new(alloc, self.pop()?)?),
-            "option" => TypeNode::Option(Box::new(alloc, self.pop()?)?),
+            "list" => TypeNode::List(Rc::new(alloc, self.pop()?)?),
+            "option" => TypeNode::Option(Rc::new(alloc, self.pop()?)?),
             "result" => {
-                let ok = self.pop_boxed(alloc)?;
-                let error = self.pop_boxed(alloc)?;
+                let ok = self.pop_shared(alloc)?;
+                let error = self.pop_shared(alloc)?;
                 TypeNode::Result { ok, error }
             }
             word => read_leaf(word)?,
@@ -209,14 +210,17 @@ impl TypeStack {
     ) -> Result<TypeNode, RowFault> {
         Ok(match name {
             "fixed" => TypeNode::FixedList {
-                element: Box::new(alloc, self.pop()?)?,
+                element: Rc::new(alloc, self.pop()?)?,
                 length: read_number(operand)?,
             },
-            "tuple" => TypeNode::Tuple(self.pop_several(alloc, read_number(operand)?)?),
-            "record" => TypeNode::Record(self.pop_fields(alloc, operand)?),
-            "variant" => TypeNode::Variant(self.pop_cases(alloc, operand)?),
-            "enum" => TypeNode::Enum(read_labels(alloc, operand)?),
-            "flags" => TypeNode::Flags(read_labels(alloc, operand)?),
+            "tuple" => TypeNode::Tuple(Rc::new(
+                alloc,
+                self.pop_several(alloc, read_number(operand)?)?,
+            )?),
+            "record" => TypeNode::Record(Rc::new(alloc, self.pop_fields(alloc, operand)?)?),
+            "variant" => TypeNode::Variant(Rc::new(alloc, self.pop_cases(alloc, operand)?)?),
+            "enum" => TypeNode::Enum(Rc::new(alloc, read_labels(alloc, operand)?)?),
+            "flags" => TypeNode::Flags(Rc::new(alloc, read_labels(alloc, operand)?)?),
             "own" => TypeNode::Own(read_resource(operand)?),
             "borrow" => TypeNode::Borrow(read_resource(operand)?),
             _ => return Err(RowFault::NotARow),
@@ -231,9 +235,9 @@ impl TypeStack {
         self.pop_payload()?.ok_or(RowFault::NotARow)
     }
 
-    fn pop_boxed(&mut self, alloc: Global) -> Result<Option<Box<TypeNode>>, RowFault> {
+    fn pop_shared(&mut self, alloc: Global) -> Result<Option<Rc<TypeNode>>, RowFault> {
         Ok(match self.pop_payload()? {
-            Some(ty) => Some(Box::new(alloc, ty)?),
+            Some(ty) => Some(Rc::new(alloc, ty)?),
             None => None,
         })
     }

@@ -2,7 +2,7 @@ use Rattle.std.proofs.Common.{◌∙◌, sym, ap, codes, arith, length, ◌<◌}
 use Rattle.cm_types.specs.declared.type_trees.Case.{Case}
 use Rattle.cm_types.specs.declared.core_value.CoreKind.TheVariants.{I32}
 use Rattle.cm_types.specs.Types.{enum_type, option_type, result_type}
-use Rattle.cm_types.specs.TypeTrees.{type_of, boxed_payload, cases_of}
+use Rattle.cm_types.specs.TypeTrees.{type_of, shared_payload, cases_of}
 use Rattle.cm_types.proofs.Seen.{seen_Enum, seen_Option, seen_Result, seen_case}
 use Rattle.cm_layout.specs.Flattening.{flat_of, flat_of_cases, flat_of_payload, join_slots}
 use Rattle.cm_layout.proofs.FlatLemmas.{enum_flat, option_flat, result_flat, pushed_both, both_joined, joined_all, joined_more}
@@ -10,7 +10,7 @@ use Rattle.cm_layout.proofs.flattening.+flat.Goals as goal
 
 pub push_flat-returns-in_ok-push-in-Enum : goal.push_flat-returns-in_ok-push-in-Enum
 push_flat-returns-in_ok-push-in-Enum t c =
-    let v = c.in-Enum.field-0 in
+    let v = c.in-Enum.field-0.value in
     rw (ap type_of c.in-Enum.is ∙ seen_Enum c.in-Enum.field-0, enum_flat enum_type v.items) c.in_ok-push-in-Enum.ensures.items
 
 pub push_flat-returns-in_ok-push_flat-in-Option : goal.push_flat-returns-in_ok-push_flat-in-Option
@@ -22,12 +22,12 @@ push_flat-returns-in_ok-push_flat-in-Option t c =
 
 pub push_flat-returns-in_ok-extend_from_slice-in-Result : goal.push_flat-returns-in_ok-extend_from_slice-in-Result
 push_flat-returns-in_ok-extend_from_slice-in-Result t c =
-    let o = boxed_payload c.in-Result.ok in
-    let p = boxed_payload c.in-Result.error in
+    let o = shared_payload c.in-Result.ok in
+    let p = shared_payload c.in-Result.error in
     let kinds = c.in_ok-kinds-in-Result.kinds in
     let oks = c.in_ok-ok_kinds-in-Result.ok_kinds in
     let errors = c.in_ok-error_kinds-in-Result.error_kinds in
-    rw (ap type_of c.in-Result.is ∙ seen_Result c.in-Result.ok c.in-Result.error, result_flat result_type (codes "ok") (codes "error") (boxed_payload c.in-Result.ok) (boxed_payload c.in-Result.error))
+    rw (ap type_of c.in-Result.is ∙ seen_Result c.in-Result.ok c.in-Result.error, result_flat result_type (codes "ok") (codes "error") (shared_payload c.in-Result.ok) (shared_payload c.in-Result.error))
     (pushed_both I32 c.args.out.now.items c.push-in-Result.new.self.items c.extend_from_slice-in-Result.new.self.items c.deref-in-Result-3.result.now (join_slots (flat_of_payload o) (flat_of_payload p))
     c.in_ok-push-in-Result.ensures.items c.in_ok-extend_from_slice-in-Result.ensures.items
     (both_joined c.deref-in-Result-3.result.now kinds.items c.deref-in-Result.result.now c.deref-in-Result-2.result.now oks.items errors.items (flat_of_payload o) (flat_of_payload p)

@@ -1,4 +1,4 @@
-use Rattle.std.proofs.Common.{◌≡◌, ◌∙◌, ap, arith, ℕ, ◌<◌, IsTrue, nat_lt}
+use Rattle.std.proofs.Common.{◌≡◌, ◌∙◌, ap, arith, ℕ, ◌<◌, IsTrue, nat_lt, vec_len}
 use Rattle.std.proofs.lemmas.Bool.{ltb-true, lt-ltb}
 use Rattle.cm_types.specs.TypeTrees.{type_of}
 use Rattle.cm_types.proofs.Seen.{seen_Record, seen_Tuple}
@@ -10,12 +10,12 @@ below n len count e = (λ h. omega (arith, ltb-true n len h), λ h. lt-ltb n len
 
 pub returns-in-Record : goal.returns-in-Record
 returns-in-Record c =
-    let v = c.in-Record.fields in
+    let v = c.in-Record.fields.value in
     rw (ap type_of c.in-Record.is ∙ seen_Record c.in-Record.fields)
-    (below c.args.n c.len.result _ (omega (arith, count_fields v.items, c.len.ensures, v.ok.0)))
+    (below c.args.n c.len.result _ (omega (arith, count_fields v.items, c.len.ensures ∙ ap vec_len c.deref.ensures, v.ok.0)))
 
 pub returns-in-Tuple : goal.returns-in-Tuple
 returns-in-Tuple c =
-    let v = c.in-Tuple.parts in
+    let v = c.in-Tuple.parts.value in
     rw (ap type_of c.in-Tuple.is ∙ seen_Tuple c.in-Tuple.parts)
-    (below c.args.n c.len-in-Tuple.result _ (omega (arith, count_parts v.items, c.len-in-Tuple.ensures, v.ok.0)))
+    (below c.args.n c.len-in-Tuple.result _ (omega (arith, count_parts v.items, c.len-in-Tuple.ensures ∙ ap vec_len c.deref-in-Tuple.ensures, v.ok.0)))

@@ -1,5 +1,5 @@
 use Rattle.std.proofs.Common.{◌∙◌, ap, min, codes, refl}
-use Rattle.cm_types.specs.TypeTrees.{type_of, boxed_payload}
+use Rattle.cm_types.specs.TypeTrees.{type_of, shared_payload}
 use Rattle.cm_types.specs.Limits.{nodes_of}
 use Rattle.cm_types.proofs.Nodes.{fixed_count, result_count, plain_nodes}
 use Rattle.cm_types.proofs.Seen.{seen_FixedList, seen_Result, seen_Enum}
@@ -15,8 +15,8 @@ nodes-returns-in-FixedList t c =
 pub nodes-returns-in-Result : goal.nodes-returns-in-Result
 nodes-returns-in-Result t c =
     rw (ap type_of c.in-Result.is ∙ seen_Result c.in-Result.ok c.in-Result.error)
-    (result_count c.count_up_to_one_over-in-Result.result c.from-in-Result.result c.from-in-Result-2.result (codes "ok") (codes "error") (boxed_payload c.in-Result.ok) (boxed_payload c.in-Result.error)
+    (result_count c.count_up_to_one_over-in-Result.result c.from-in-Result.result c.from-in-Result-2.result (codes "ok") (codes "error") (shared_payload c.in-Result.ok) (shared_payload c.in-Result.error)
     c.count_up_to_one_over-in-Result.ensures (c.from-in-Result.ensures ∙ c.nodes_of_payload.ensures) (c.from-in-Result-2.ensures ∙ c.nodes_of_payload-in-Result.ensures))
 
 pub nodes-returns-in-Enum : goal.nodes-returns-in-Enum
-nodes-returns-in-Enum t c = rw (ap type_of c.in-Enum.is ∙ seen_Enum c.in-Enum.field-0, plain_nodes c.in-Enum.field-0.items) refl
+nodes-returns-in-Enum t c = rw (ap type_of c.in-Enum.is ∙ seen_Enum c.in-Enum.field-0, plain_nodes c.in-Enum.field-0.value.items) refl

@@ -18,5 +18,5 @@ same_node-returns-in-Enum-Enum t c =
     let x = c.in-Enum-Enum.x in
     let y = c.in-Enum-Enum.y in
     rw (ap type_of c.in-Enum-Enum.is-0 ∙ seen_Enum c.in-Enum-Enum.x, ap type_of c.in-Enum-Enum.is-1 ∙ seen_Enum c.in-Enum-Enum.y)
-    (enums_same c.args.left.now c.args.right.now c.same_labels.result c.deref-in-Enum-Enum.result.now c.deref-in-Enum-Enum-2.result.now x.items y.items
-    c.same_labels.ensures c.deref-in-Enum-Enum.ensures.value c.deref-in-Enum-Enum-2.ensures.value)
+    (enums_same c.args.left.now c.args.right.now c.same_labels.result c.deref-in-Enum-Enum-2.result.now c.deref-in-Enum-Enum-4.result.now x.value.items y.value.items
+    c.same_labels.ensures (c.deref-in-Enum-Enum-2.ensures.value ∙ ap (λ v. v.items) c.deref-in-Enum-Enum.ensures) (c.deref-in-Enum-Enum-4.ensures.value ∙ ap (λ v. v.items) c.deref-in-Enum-Enum-3.ensures))

@@ -3,7 +3,7 @@ use Rattle.std.proofs.lemmas.Str.{IsUtf8-had}
 use Rattle.std.proofs.lemmas.Str.{scalars-chars}
 use Rattle.std.specs.Str.{chars}
 use Rattle.std.specs.String.{string_bytes}
-use Rattle.cm_types.specs.TypeTrees.{type_of, field_of, case_of, boxed_payload}
+use Rattle.cm_types.specs.TypeTrees.{type_of, field_of, case_of, shared_payload}
 use Rattle.cm_types.specs.ValueTrees.{value_of, boxed_value}
 use Rattle.cm_types.specs.Types.{variant_type}
 use Rattle.cm_types.specs.TypedValues.{payload_has_type}

@@ -1,0 +1,70 @@
+-- No table refuses a byte for want of one.
+use Rattle.std.proofs.Common.{◌≡◌, Bool, true, false, cond, Result, Ok, Err}
+use Rattle.cm_grammar.proofs.WantLaws.{Never}
+use Rattle.cm_reading.specs.declared.fault.DecodeReason.{DecodeReason}
+use Rattle.cm_reading.specs.declared.fault.DecodeReason.TheVariants.{Truncated, UnknownCode, Unsupported}
+use Rattle.cm_reading.specs.declared.fault.Feature.{Feature}
+use Rattle.cm_reading.specs.Codes.{section_kind, core_instance_form, core_sort, alias_sort, core_alias_target, other_alias_target, type_form, val_type, result_form, canon_form, canon_option, desc_form, export_sort, export_desc}
+
+-- The answer is no want of a byte.
+abbrev IsNot : {K : Type 0} → Result K DecodeReason → Type 0
+IsNot t = t ≡ Err Truncated → ⊥
+
+either : {K : Type 0} (b : Bool) (s t : Result K DecodeReason) → IsNot s → IsNot t → IsNot (cond b s t)
+either true s t p q = p
+either false s t p q = q
+
+known : {K : Type 0} (k : K) → IsNot (Ok k)
+known k e = absurd cc
+
+unknown : {K : Type 0} → IsNot {K = K} (Err UnknownCode)
+unknown e = absurd cc
+
+unsupported : {K : Type 0} (feature : Feature) → IsNot {K = K} (Err (Unsupported feature))
+unsupported feature e = absurd cc
+
+either_reason : {K : Type 0} (b : Bool) (s t : DecodeReason) → IsNot {K = K} (Err s) → IsNot {K = K} (Err t) → IsNot {K = K} (Err (cond b s t))
+either_reason true s t p q = p
+either_reason false s t p q = q
+
+pub section_kind_never : Never Truncated section_kind
+section_kind_never b = search (either, known, unknown, unsupported) depth 20
+
+pub core_instance_form_never : Never Truncated core_instance_form
+core_instance_form_never b = search (either, known, unknown, unsupported) depth 20
+
+pub core_sort_never : Never Truncated core_sort
+core_sort_never b = search (either, known, unknown, unsupported) depth 20
+
+pub alias_sort_never : Never Truncated alias_sort
+alias_sort_never b = search (either, known, unknown, unsupported) depth 20
+
+pub core_alias_target_never : Never Truncated core_alias_target
+core_alias_target_never b = search (either, known, unknown, unsupported) depth 20
+
+pub type_form_never : Never Truncated type_form
+type_form_never b = search (either, known, unknown, unsupported) depth 20
+
+pub val_type_never : Never Truncated val_type
+val_type_never b = search (either, known, unknown, unsupported) depth 20
+
+pub result_form_never : Never Truncated result_form
+result_form_never b = search (either, known, unknown, unsupported) depth 20
+
+pub canon_form_never : Never Truncated canon_form
+canon_form_never b = search (either, known, unknown, unsupported) depth 20
+
+pub desc_form_never : Never Truncated desc_form
+desc_form_never b = search (either, known, unknown, unsupported) depth 20
+
+pub export_sort_never : Never Truncated export_sort
+export_sort_never b = search (either, known, unknown, unsupported) depth 20
+
+pub export_desc_never : Never Truncated export_desc
+export_desc_never b = search (either, known, unknown, unsupported) depth 20
+
+pub other_alias_target_never : {K : Type 0} → Never {K = K} Truncated (λ b. Err (other_alias_target b))
+other_alias_target_never b = either_reason _ _ _ (unsupported _) unknown
+
+pub canon_option_never : {K : Type 0} → Never {K = K} Truncated (λ b. Err (canon_option b))
+canon_option_never b = either_reason _ _ _ (unsupported _) unknown
