@@ -1,8 +1,12 @@
 pub mod DecodeLaws
-pub mod FileSpelling
-pub mod Nonempty
-pub mod FileLimits
-pub mod FileWritten
+pub mod Texts
+pub mod Instances
+pub mod Aliases
+pub mod Types
+pub mod Canons
+pub mod Externs
+pub mod Sections
+pub mod File
 pub mod EncodeLaws
 pub mod CodeWants
 pub mod FileWants

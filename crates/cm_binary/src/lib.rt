@@ -6,8 +6,9 @@ mod encoding;
 pub mod laws;
 
 pub use cm_component::{
-    Alias, Canon, Component, CoreInstance, CoreInstantiationArg, CoreSort, CustomSection, Export,
-    ExternDesc, Import, LimitFault, Section, Sort,
+    Alias, Canon, CanonOption, Component, CoreInlineExport, CoreInstance, CoreInstantiationArg,
+    CoreSort, CustomSection, Export, ExportSort, ExternDesc, Import, InlineExport, Instance,
+    InstanceExportSort, LimitFault, OuterType, Section,
 };
 pub use cm_reading::{DecodeFault, DecodeReason, Feature};
 pub use decoding::decode;

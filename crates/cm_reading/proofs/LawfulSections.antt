@@ -9,7 +9,7 @@ use Rattle.cm_reading.specs.declared.codes.SectionKind.{SectionKind}
 use Rattle.cm_reading.specs.declared.codes.SectionKind.TheVariants as kinds
 use Rattle.cm_reading.specs.Sections.{contents, section, sections, room_after}
 use Rattle.cm_reading.proofs.LawfulTexts.{index_lawful, text_lawful}
-use Rattle.cm_reading.proofs.LawfulInstances.{core_instance_lawful}
+use Rattle.cm_reading.proofs.LawfulInstances.{core_instance_lawful, instance_lawful}
 use Rattle.cm_reading.proofs.LawfulAliases.{alias_lawful}
 use Rattle.cm_reading.proofs.LawfulTypes.{type_defs_lawful}
 use Rattle.cm_reading.proofs.LawfulCanons.{canon_lawful}
@@ -20,6 +20,7 @@ unfolding contents
 contents_lawful room kinds.Custom = join_lawful _ _ text_lawful (λ name. build_lawful _ _ remainder_lawful)
 contents_lawful room kinds.CoreModule = build_lawful _ _ (begins_with_lawful _ _)
 contents_lawful room kinds.CoreInstances = build_lawful _ _ (exactly_lawful _ _ (vec_lawful _ _ core_instance_lawful))
+contents_lawful room kinds.Instances = build_lawful _ _ (exactly_lawful _ _ (vec_lawful _ _ instance_lawful))
 contents_lawful room kinds.Aliases = build_lawful _ _ (exactly_lawful _ _ (vec_lawful _ _ alias_lawful))
 contents_lawful room kinds.Types = build_lawful _ _ (exactly_lawful _ _ (type_defs_lawful room))
 contents_lawful room kinds.Canons = build_lawful _ _ (exactly_lawful _ _ (vec_lawful _ _ canon_lawful))

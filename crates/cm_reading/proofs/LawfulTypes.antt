@@ -1,10 +1,10 @@
 -- Types are read exactly.
 use Rattle.std.proofs.Common.{ℕ}
-use Rattle.cm_grammar.proofs.Laws.{Lawful, done_lawful, bind_lawful, code_lawful, fixed_lawful, vec_lawful, chain_lawful, from_stock_lawful}
+use Rattle.cm_grammar.proofs.Laws.{Lawful, done_lawful, bind_lawful, code_lawful, fixed_lawful, vec_lawful, from_stock_lawful, stocked_lawful}
 use Rattle.cm_reading.specs.declared.codes.ResultForm.{ResultForm}
 use Rattle.cm_reading.specs.declared.codes.ResultForm.TheVariants as result_forms
-use Rattle.cm_reading.specs.Types.{param, func_result_of, func_result, func_type, def_type, type_defs}
-use Rattle.cm_reading.proofs.LawfulTexts.{index_lawful, label_lawful}
+use Rattle.cm_reading.specs.Types.{param, func_result_of, func_result, func_type, def_type, def_type_from, type_defs}
+use Rattle.cm_reading.proofs.LawfulTexts.{label_lawful}
 
 pub param_lawful : Lawful param
 unfolding param
@@ -27,6 +27,10 @@ pub def_type_lawful : Lawful def_type
 unfolding def_type
 def_type_lawful = bind_lawful _ _ (code_lawful _) (λ form. bind_lawful _ _ func_type_lawful (λ func. done_lawful _))
 
-pub type_defs_lawful : (room : ℕ) → Lawful (type_defs room)
+pub def_type_from_lawful : (stock : ℕ) → Lawful (def_type_from stock)
+unfolding def_type_from
+def_type_from_lawful stock = from_stock_lawful _ _ (λ left. def_type_lawful) stock
+
+pub type_defs_lawful : (stock : ℕ) → Lawful (type_defs stock)
 unfolding type_defs
-type_defs_lawful room = bind_lawful _ _ index_lawful (λ n. chain_lawful _ _ (λ left. from_stock_lawful _ _ (λ l. def_type_lawful) left) n room)
+type_defs_lawful stock = stocked_lawful _ _ _ def_type_from_lawful stock

@@ -3,10 +3,12 @@
 use Rattle.std.specs.Prelude.{ℕ, nat_le, ◌==◌, ◌&&◌, ◌||◌, Bool, Result, Ok, Err, if◌then◌else◌}
 use Rattle.cm_types.specs.declared.def_types.ValType.{ValType}
 use Rattle.cm_types.specs.declared.def_types.ValType.TheVariants as val_types
-use Rattle.cm_component.specs.declared.section.CoreSort.{CoreSort}
-use Rattle.cm_component.specs.declared.section.CoreSort.TheVariants as core_sorts
-use Rattle.cm_component.specs.declared.section.Sort.{Sort}
-use Rattle.cm_component.specs.declared.section.Sort.TheVariants as sorts
+use Rattle.cm_component.specs.declared.instances.CoreSort.{CoreSort}
+use Rattle.cm_component.specs.declared.instances.CoreSort.TheVariants as core_sorts
+use Rattle.cm_component.specs.declared.instances.InstanceExportSort.{InstanceExportSort}
+use Rattle.cm_component.specs.declared.instances.InstanceExportSort.TheVariants as instance_sorts
+use Rattle.cm_component.specs.declared.externs.ExportSort.{ExportSort}
+use Rattle.cm_component.specs.declared.externs.ExportSort.TheVariants as export_sorts
 use Rattle.cm_reading.specs.declared.fault.DecodeReason.{DecodeReason}
 use Rattle.cm_reading.specs.declared.fault.DecodeReason.TheVariants.{UnknownCode, Unsupported}
 use Rattle.cm_reading.specs.declared.fault.Feature.TheVariants as features
@@ -14,16 +16,24 @@ use Rattle.cm_reading.specs.declared.codes.SectionKind.{SectionKind}
 use Rattle.cm_reading.specs.declared.codes.SectionKind.TheVariants as kinds
 use Rattle.cm_reading.specs.declared.codes.CoreInstanceForm.{CoreInstanceForm}
 use Rattle.cm_reading.specs.declared.codes.CoreInstanceForm.TheVariants as forms
+use Rattle.cm_reading.specs.declared.codes.InstanceForm.{InstanceForm}
+use Rattle.cm_reading.specs.declared.codes.InstanceForm.TheVariants as instance_forms
 use Rattle.cm_reading.specs.declared.codes.AliasSort.{AliasSort}
 use Rattle.cm_reading.specs.declared.codes.AliasSort.TheVariants as alias_sorts
-use Rattle.cm_reading.specs.declared.codes.AliasTarget.{AliasTarget}
-use Rattle.cm_reading.specs.declared.codes.AliasTarget.TheVariants as targets
+use Rattle.cm_reading.specs.declared.codes.CoreAliasTarget.{CoreAliasTarget}
+use Rattle.cm_reading.specs.declared.codes.CoreAliasTarget.TheVariants as core_targets
+use Rattle.cm_reading.specs.declared.codes.FuncAliasTarget.{FuncAliasTarget}
+use Rattle.cm_reading.specs.declared.codes.FuncAliasTarget.TheVariants as func_targets
+use Rattle.cm_reading.specs.declared.codes.TypeAliasTarget.{TypeAliasTarget}
+use Rattle.cm_reading.specs.declared.codes.TypeAliasTarget.TheVariants as type_targets
 use Rattle.cm_reading.specs.declared.codes.TypeForm.{TypeForm}
 use Rattle.cm_reading.specs.declared.codes.TypeForm.TheVariants as type_forms
 use Rattle.cm_reading.specs.declared.codes.ResultForm.{ResultForm}
 use Rattle.cm_reading.specs.declared.codes.ResultForm.TheVariants as result_forms
 use Rattle.cm_reading.specs.declared.codes.CanonForm.{CanonForm}
 use Rattle.cm_reading.specs.declared.codes.CanonForm.TheVariants as canon_forms
+use Rattle.cm_reading.specs.declared.codes.OptionForm.{OptionForm}
+use Rattle.cm_reading.specs.declared.codes.OptionForm.TheVariants as option_forms
 use Rattle.cm_reading.specs.declared.codes.DescForm.{DescForm}
 use Rattle.cm_reading.specs.declared.codes.DescForm.TheVariants as desc_forms
 use Rattle.cm_reading.specs.declared.codes.NoDescription.{NoDescription}
@@ -41,7 +51,7 @@ section_kind b =
     else if b == 0x02 then Ok kinds.CoreInstances
     else if b == 0x03 then Err (Unsupported features.CoreTypes)
     else if b == 0x04 then Err (Unsupported features.NestedComponents)
-    else if b == 0x05 then Err (Unsupported features.Instances)
+    else if b == 0x05 then Ok kinds.Instances
     else if b == 0x06 then Ok kinds.Aliases
     else if b == 0x07 then Ok kinds.Types
     else if b == 0x08 then Ok kinds.Canons
@@ -54,7 +64,7 @@ section_kind b =
 abbrev pub core_instance_form : ℕ → Result CoreInstanceForm DecodeReason
 core_instance_form b =
     if b == 0x00 then Ok forms.Instantiate
-    else if b == 0x01 then Err (Unsupported features.CoreInstanceOfExports)
+    else if b == 0x01 then Ok forms.Exports
     else Err UnknownCode
 
 -- The core sorts ("Core Instance Definitions"): function, table, memory, global; type, module,
@@ -62,27 +72,58 @@ core_instance_form b =
 abbrev pub core_sort : ℕ → Result CoreSort DecodeReason
 core_sort b =
     if b == 0x00 then Ok core_sorts.Func
-    else if is_from 0x01 0x03 b || is_from 0x10 0x12 b then Err (Unsupported features.CoreSort)
+    else if b == 0x01 then Ok core_sorts.Table
+    else if b == 0x02 then Ok core_sorts.Memory
+    else if b == 0x03 then Ok core_sorts.Global
+    else if is_from 0x10 0x12 b then Err (Unsupported features.CoreSort)
+    else Err UnknownCode
+
+-- The forms of an instance ("Instance Definitions").
+abbrev pub instance_form : ℕ → Result InstanceForm DecodeReason
+instance_form b =
+    if b == 0x00 then Err (Unsupported features.InstanceOfComponent)
+    else if b == 0x01 then Ok instance_forms.Exports
+    else Err UnknownCode
+
+-- The sorts that an instance exports ("Instance Definitions").
+abbrev pub instance_export_sort : ℕ → Result InstanceExportSort DecodeReason
+instance_export_sort b =
+    if b == 0x01 then Ok instance_sorts.Func
+    else if b == 0x03 then Ok instance_sorts.Type
+    else if is_from 0x00 0x05 b then Err (Unsupported features.Sort)
     else Err UnknownCode
 
 -- The sorts in an alias ("Instance Definitions"): core, function, value, type, component, instance.
 abbrev pub alias_sort : ℕ → Result AliasSort DecodeReason
 alias_sort b =
     if b == 0x00 then Ok alias_sorts.Core
-    else if b == 0x01 || b == 0x03 || b == 0x05 then Ok alias_sorts.Other
+    else if b == 0x01 then Ok alias_sorts.Func
+    else if b == 0x03 then Ok alias_sorts.Type
+    else if b == 0x05 then Ok alias_sorts.Instance
     else if b == 0x02 || b == 0x04 then Err (Unsupported features.Sort)
     else Err UnknownCode
 
--- The target of an alias whose sort is a core sort ("Alias Definitions").
-abbrev pub core_alias_target : ℕ → Result AliasTarget DecodeReason
-core_alias_target b =
-    if b == 0x01 then Ok targets.CoreInstanceExport
-    else if b == 0x00 || b == 0x02 then Err (Unsupported features.AliasTarget)
-    else Err UnknownCode
+-- Why the target of an alias is refused ("Alias Definitions"): an export of an instance, one of a
+-- core instance or an outer definition that the sort of the alias cannot have; else no target.
+abbrev pub no_alias_target : ℕ → DecodeReason
+no_alias_target b = if is_from 0x00 0x02 b then Unsupported features.AliasTarget else UnknownCode
 
--- The target of another alias, which is not carried.
-abbrev pub other_alias_target : ℕ → DecodeReason
-other_alias_target b = if is_from 0x00 0x02 b then Unsupported features.AliasTarget else UnknownCode
+-- The target of an alias whose sort is a core sort ("Alias Definitions").
+abbrev pub core_alias_target : ℕ → Result CoreAliasTarget DecodeReason
+core_alias_target b =
+    if b == 0x01 then Ok core_targets.CoreInstanceExport else Err (no_alias_target b)
+
+-- The target of an alias of a function ("Alias Definitions").
+abbrev pub func_alias_target : ℕ → Result FuncAliasTarget DecodeReason
+func_alias_target b =
+    if b == 0x00 then Ok func_targets.InstanceExport else Err (no_alias_target b)
+
+-- The target of an alias of a type ("Alias Definitions").
+abbrev pub type_alias_target : ℕ → Result TypeAliasTarget DecodeReason
+type_alias_target b =
+    if b == 0x00 then Ok type_targets.InstanceExport
+    else if b == 0x02 then Ok type_targets.OuterType
+    else Err (no_alias_target b)
 
 -- A primitive type that is listed ("Type Definitions").
 abbrev pub is_primitive : ℕ → Bool
@@ -122,24 +163,35 @@ abbrev pub canon_form : ℕ → Result CanonForm DecodeReason
 canon_form b =
     if b == 0x00 then Ok canon_forms.Lift
     else if b == 0x01 then Ok canon_forms.Lower
-    else if is_from 0x02 0x04 b then Err (Unsupported features.ResourceCanon)
+    else if b == 0x02 then Ok canon_forms.ResourceNew
+    else if b == 0x03 then Ok canon_forms.ResourceDrop
+    else if b == 0x04 then Ok canon_forms.ResourceRep
     else Err UnknownCode
 
--- The canonical options ("Canonical Definitions"), of which none is carried.
-abbrev pub canon_option : ℕ → DecodeReason
-canon_option b = if is_from 0x00 0x05 b then Unsupported features.CanonicalOption else UnknownCode
+-- The canonical options ("Canonical Definitions").
+abbrev pub option_form : ℕ → Result OptionForm DecodeReason
+option_form b =
+    if b == 0x00 then Ok option_forms.Utf8
+    else if b == 0x01 then Ok option_forms.Utf16
+    else if b == 0x02 then Ok option_forms.Latin1Utf16
+    else if b == 0x03 then Ok option_forms.Memory
+    else if b == 0x04 then Ok option_forms.Realloc
+    else if b == 0x05 then Ok option_forms.PostReturn
+    else Err UnknownCode
 
 -- The descriptions of imports ("Import and Export Definitions").
 abbrev pub desc_form : ℕ → Result DescForm DecodeReason
 desc_form b =
     if b == 0x01 then Ok desc_forms.Func
+    else if b == 0x05 then Ok desc_forms.Instance
     else if is_from 0x00 0x05 b then Err (Unsupported features.Description)
     else Err UnknownCode
 
 -- The sorts of exports ("Import and Export Definitions").
-abbrev pub export_sort : ℕ → Result Sort DecodeReason
+abbrev pub export_sort : ℕ → Result ExportSort DecodeReason
 export_sort b =
-    if b == 0x01 then Ok sorts.Func
+    if b == 0x01 then Ok export_sorts.Func
+    else if b == 0x05 then Ok export_sorts.Instance
     else if is_from 0x00 0x05 b then Err (Unsupported features.Sort)
     else Err UnknownCode
 

@@ -38,9 +38,14 @@ label = do
   n ← index
   check is_label BadName (check is_utf8 BadUtf8 (raw n))
 
--- The byte 00, and a text that is an extern name.
+-- A text that is an extern name.
+unfoldable pub plain_name : Production (List ℕ)
+plain_name = do
+  n ← index
+  check is_extern_name BadName (check is_utf8 BadUtf8 (raw n))
+
+-- The byte 00, and a text that is an extern name (`importname`, `exportname`).
 unfoldable pub extern_name : Production (List ℕ)
 extern_name = do
   plain ← fixed (0x00 ∷ []) UnknownCode
-  n ← index
-  check is_extern_name BadName (check is_utf8 BadUtf8 (raw n))
+  plain_name

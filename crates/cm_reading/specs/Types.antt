@@ -1,10 +1,11 @@
 -- Types (Binary.md, "Type Definitions").
-use Rattle.std.specs.Prelude.{ℕ, ◌-◌, List, [], ◌∷◌, Option, Some, None}
-use Rattle.cm_grammar.specs.Grammar.{done, ◌>>=◌, code, fixed, chain, from_stock}
+use Rattle.std.specs.Prelude.{ℕ, List, [], ◌∷◌, Option, Some, None}
+use Rattle.cm_grammar.specs.Grammar.{done, ◌>>=◌, code, fixed, from_stock, stocked}
 use Rattle.cm_types.specs.declared.def_types.ValType.{ValType}
 use Rattle.cm_types.specs.declared.def_types.LabeledValType.{LabeledValType}
 use Rattle.cm_types.specs.DefTypes.{FuncTypeTree, DefTypeTree, func_def}
-use Rattle.cm_reading.specs.declared.fault.DecodeReason.TheVariants.{UnknownCode, TooMany}
+use Rattle.cm_component.specs.Limits.{types_in_def}
+use Rattle.cm_reading.specs.declared.fault.DecodeReason.TheVariants.{UnknownCode, TooMany, BadNumber}
 use Rattle.cm_reading.specs.declared.codes.ResultForm.{ResultForm}
 use Rattle.cm_reading.specs.declared.codes.ResultForm.TheVariants as result_forms
 use Rattle.cm_reading.specs.Codes.{type_form, val_type, result_form}
@@ -46,8 +47,10 @@ def_type = do
   func ← func_type
   done (func_def func)
 
--- The types of a section, where so many more may stand in the file.
+-- A type definition, of which so many may stand.
+unfoldable pub def_type_from : ℕ → Production DefTypeTree
+def_type_from stock = from_stock (λ left. def_type) TooMany stock
+
+-- The types of a section, of which so many may stand.
 unfoldable pub type_defs : ℕ → Production (List DefTypeTree)
-type_defs room = do
-  n ← index
-  chain (from_stock (λ left. def_type) TooMany) (λ left t. left - 1) n room
+type_defs stock = stocked BadNumber def_type_from types_in_def stock

@@ -1,13 +1,15 @@
 //! The bytes that name forms, place by place.
 
 ghost use Rattle.std.specs.Prelude.{◌≡◌};
-ghost use Rattle.cm_reading.specs.Codes.{section_kind, core_instance_form, core_sort, alias_sort};
-ghost use Rattle.cm_reading.specs.Codes.{core_alias_target, other_alias_target, type_form};
-ghost use Rattle.cm_reading.specs.Codes.{val_type, result_form, canon_form, canon_option};
-ghost use Rattle.cm_reading.specs.Codes.{desc_form, export_sort, export_desc};
+ghost use Rattle.cm_reading.specs.Codes.{section_kind, core_instance_form, core_sort};
+ghost use Rattle.cm_reading.specs.Codes.{instance_form, instance_export_sort, alias_sort};
+ghost use Rattle.cm_reading.specs.Codes.{core_alias_target, func_alias_target, type_alias_target};
+ghost use Rattle.cm_reading.specs.Codes.{no_alias_target, type_form, val_type, result_form};
+ghost use Rattle.cm_reading.specs.Codes.{canon_form, option_form, desc_form, export_sort};
+ghost use Rattle.cm_reading.specs.Codes.{export_desc};
 
 use crate::fault::{DecodeReason, Feature};
-use cm_component::{CoreSort, Sort};
+use cm_component::{CoreSort, ExportSort, InstanceExportSort};
 use cm_grammar::Code;
 use cm_types::ValType;
 
@@ -17,6 +19,7 @@ pub enum SectionKind {
     Custom,
     CoreModule,
     CoreInstances,
+    Instances,
     Aliases,
     Types,
     Canons,
@@ -28,19 +31,41 @@ pub enum SectionKind {
 #[derive(Clone, Copy)]
 pub enum CoreInstanceForm {
     Instantiate,
+    Exports,
+}
+
+/// How an instance is made.
+#[derive(Clone, Copy)]
+pub enum InstanceForm {
+    Exports,
 }
 
 /// What is aliased.
 #[derive(Clone, Copy)]
 pub enum AliasSort {
     Core,
-    Other,
+    Func,
+    Type,
+    Instance,
 }
 
 /// Where an alias of a core definition comes from.
 #[derive(Clone, Copy)]
-pub enum AliasTarget {
+pub enum CoreAliasTarget {
     CoreInstanceExport,
+}
+
+/// Where an alias of a function comes from.
+#[derive(Clone, Copy)]
+pub enum FuncAliasTarget {
+    InstanceExport,
+}
+
+/// Where an alias of a type comes from.
+#[derive(Clone, Copy)]
+pub enum TypeAliasTarget {
+    InstanceExport,
+    OuterType,
 }
 
 /// Which type is defined.
@@ -61,12 +86,27 @@ pub enum ResultForm {
 pub enum CanonForm {
     Lift,
     Lower,
+    ResourceNew,
+    ResourceDrop,
+    ResourceRep,
+}
+
+/// Which canonical option stands there.
+#[derive(Clone, Copy)]
+pub enum OptionForm {
+    Utf8,
+    Utf16,
+    Latin1Utf16,
+    Memory,
+    Realloc,
+    PostReturn,
 }
 
 /// What an import describes.
 #[derive(Clone, Copy)]
 pub enum DescForm {
     Func,
+    Instance,
 }
 
 /// That an export has no description.
@@ -85,7 +125,7 @@ impl Code<DecodeReason> for SectionKind {
             0x02 => Ok(SectionKind::CoreInstances),
             0x03 => Err(DecodeReason::Unsupported(Feature::CoreTypes)),
             0x04 => Err(DecodeReason::Unsupported(Feature::NestedComponents)),
-            0x05 => Err(DecodeReason::Unsupported(Feature::Instances)),
+            0x05 => Ok(SectionKind::Instances),
             0x06 => Ok(SectionKind::Aliases),
             0x07 => Ok(SectionKind::Types),
             0x08 => Ok(SectionKind::Canons),
@@ -103,7 +143,7 @@ impl Code<DecodeReason> for CoreInstanceForm {
     fn from_byte(byte: u8) -> Result<CoreInstanceForm, DecodeReason> {
         match byte {
             0x00 => Ok(CoreInstanceForm::Instantiate),
-            0x01 => Err(DecodeReason::Unsupported(Feature::CoreInstanceOfExports)),
+            0x01 => Ok(CoreInstanceForm::Exports),
             _ => Err(DecodeReason::UnknownCode),
         }
     }
@@ -115,7 +155,35 @@ impl Code<DecodeReason> for CoreSort {
     fn from_byte(byte: u8) -> Result<CoreSort, DecodeReason> {
         match byte {
             0x00 => Ok(CoreSort::Func),
-            0x01..=0x03 | 0x10..=0x12 => Err(DecodeReason::Unsupported(Feature::CoreSort)),
+            0x01 => Ok(CoreSort::Table),
+            0x02 => Ok(CoreSort::Memory),
+            0x03 => Ok(CoreSort::Global),
+            0x10..=0x12 => Err(DecodeReason::Unsupported(Feature::CoreSort)),
+            _ => Err(DecodeReason::UnknownCode),
+        }
+    }
+}
+
+impl Code<DecodeReason> for InstanceForm {
+    ghost table = { instance_form };
+
+    fn from_byte(byte: u8) -> Result<InstanceForm, DecodeReason> {
+        match byte {
+            0x00 => Err(DecodeReason::Unsupported(Feature::InstanceOfComponent)),
+            0x01 => Ok(InstanceForm::Exports),
+            _ => Err(DecodeReason::UnknownCode),
+        }
+    }
+}
+
+impl Code<DecodeReason> for InstanceExportSort {
+    ghost table = { instance_export_sort };
+
+    fn from_byte(byte: u8) -> Result<InstanceExportSort, DecodeReason> {
+        match byte {
+            0x01 => Ok(InstanceExportSort::Func),
+            0x03 => Ok(InstanceExportSort::Type),
+            0x00..=0x05 => Err(DecodeReason::Unsupported(Feature::Sort)),
             _ => Err(DecodeReason::UnknownCode),
         }
     }
@@ -127,21 +195,45 @@ impl Code<DecodeReason> for AliasSort {
     fn from_byte(byte: u8) -> Result<AliasSort, DecodeReason> {
         match byte {
             0x00 => Ok(AliasSort::Core),
-            0x01 | 0x03 | 0x05 => Ok(AliasSort::Other),
+            0x01 => Ok(AliasSort::Func),
+            0x03 => Ok(AliasSort::Type),
+            0x05 => Ok(AliasSort::Instance),
             0x02 | 0x04 => Err(DecodeReason::Unsupported(Feature::Sort)),
             _ => Err(DecodeReason::UnknownCode),
         }
     }
 }
 
-impl Code<DecodeReason> for AliasTarget {
+impl Code<DecodeReason> for CoreAliasTarget {
     ghost table = { core_alias_target };
 
-    fn from_byte(byte: u8) -> Result<AliasTarget, DecodeReason> {
+    fn from_byte(byte: u8) -> Result<CoreAliasTarget, DecodeReason> {
         match byte {
-            0x01 => Ok(AliasTarget::CoreInstanceExport),
-            0x00 | 0x02 => Err(DecodeReason::Unsupported(Feature::AliasTarget)),
-            _ => Err(DecodeReason::UnknownCode),
+            0x01 => Ok(CoreAliasTarget::CoreInstanceExport),
+            _ => Err(no_alias_target(byte)),
+        }
+    }
+}
+
+impl Code<DecodeReason> for FuncAliasTarget {
+    ghost table = { func_alias_target };
+
+    fn from_byte(byte: u8) -> Result<FuncAliasTarget, DecodeReason> {
+        match byte {
+            0x00 => Ok(FuncAliasTarget::InstanceExport),
+            _ => Err(no_alias_target(byte)),
+        }
+    }
+}
+
+impl Code<DecodeReason> for TypeAliasTarget {
+    ghost table = { type_alias_target };
+
+    fn from_byte(byte: u8) -> Result<TypeAliasTarget, DecodeReason> {
+        match byte {
+            0x00 => Ok(TypeAliasTarget::InstanceExport),
+            0x02 => Ok(TypeAliasTarget::OuterType),
+            _ => Err(no_alias_target(byte)),
         }
     }
 }
@@ -192,7 +284,25 @@ impl Code<DecodeReason> for CanonForm {
         match byte {
             0x00 => Ok(CanonForm::Lift),
             0x01 => Ok(CanonForm::Lower),
-            0x02..=0x04 => Err(DecodeReason::Unsupported(Feature::ResourceCanon)),
+            0x02 => Ok(CanonForm::ResourceNew),
+            0x03 => Ok(CanonForm::ResourceDrop),
+            0x04 => Ok(CanonForm::ResourceRep),
+            _ => Err(DecodeReason::UnknownCode),
+        }
+    }
+}
+
+impl Code<DecodeReason> for OptionForm {
+    ghost table = { option_form };
+
+    fn from_byte(byte: u8) -> Result<OptionForm, DecodeReason> {
+        match byte {
+            0x00 => Ok(OptionForm::Utf8),
+            0x01 => Ok(OptionForm::Utf16),
+            0x02 => Ok(OptionForm::Latin1Utf16),
+            0x03 => Ok(OptionForm::Memory),
+            0x04 => Ok(OptionForm::Realloc),
+            0x05 => Ok(OptionForm::PostReturn),
             _ => Err(DecodeReason::UnknownCode),
         }
     }
@@ -204,18 +314,20 @@ impl Code<DecodeReason> for DescForm {
     fn from_byte(byte: u8) -> Result<DescForm, DecodeReason> {
         match byte {
             0x01 => Ok(DescForm::Func),
+            0x05 => Ok(DescForm::Instance),
             0x00..=0x05 => Err(DecodeReason::Unsupported(Feature::Description)),
             _ => Err(DecodeReason::UnknownCode),
         }
     }
 }
 
-impl Code<DecodeReason> for Sort {
+impl Code<DecodeReason> for ExportSort {
     ghost table = { export_sort };
 
-    fn from_byte(byte: u8) -> Result<Sort, DecodeReason> {
+    fn from_byte(byte: u8) -> Result<ExportSort, DecodeReason> {
         match byte {
-            0x01 => Ok(Sort::Func),
+            0x01 => Ok(ExportSort::Func),
+            0x05 => Ok(ExportSort::Instance),
             0x00..=0x05 => Err(DecodeReason::Unsupported(Feature::Sort)),
             _ => Err(DecodeReason::UnknownCode),
         }
@@ -234,22 +346,12 @@ impl Code<DecodeReason> for NoDescription {
     }
 }
 
-/// Why the target of an alias of another sort is refused.
-pub fn other_alias_target(byte: u8) -> DecodeReason
-    ensures { result ≡ other_alias_target byte }
+/// Why the target of an alias is refused.
+pub fn no_alias_target(byte: u8) -> DecodeReason
+    ensures { result ≡ no_alias_target byte }
 {
     match byte {
         0x00..=0x02 => DecodeReason::Unsupported(Feature::AliasTarget),
-        _ => DecodeReason::UnknownCode,
-    }
-}
-
-/// Why a canonical option is refused.
-pub fn canon_option(byte: u8) -> DecodeReason
-    ensures { result ≡ canon_option byte }
-{
-    match byte {
-        0x00..=0x05 => DecodeReason::Unsupported(Feature::CanonicalOption),
         _ => DecodeReason::UnknownCode,
     }
 }

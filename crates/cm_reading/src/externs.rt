@@ -3,8 +3,9 @@
 ghost use Rattle.std.specs.Prelude.{◌≡◌, Ok};
 ghost use Rattle.cm_grammar.specs.Faults.{Gives};
 ghost use Rattle.cm_grammar.specs.Reading.{Reads};
-ghost use Rattle.cm_component.specs.Trees.{ImportTree, import_tree, ExportTree, export_tree};
-ghost use Rattle.cm_reading.specs.Externs.{extern_desc, import_item, export_item};
+ghost use Rattle.cm_component.specs.declared.externs.Import.{Import};
+ghost use Rattle.cm_component.specs.declared.externs.Export.{Export};
+ghost use Rattle.cm_reading.specs.Externs.{extern_desc, extern_desc_of, import_item, export_item};
 
 use crate::codes::{DescForm, NoDescription};
 use crate::fault::DecodeReason;
@@ -14,9 +15,9 @@ use cm_grammar::{Cursor, Form, ReadError};
 use std::alloc::Global;
 
 impl Form<DecodeReason> for Import {
-    ghost Tree = { ImportTree };
+    ghost Tree = { Import };
 
-    ghost tree = { import_tree };
+    ghost tree = { λ i. i };
 
     ghost grammar = { import_item };
 
@@ -32,19 +33,23 @@ impl Form<DecodeReason> for Import {
 }
 
 /// Reads the type of an import.
-#[tactic(auto, unfolding(crate::specs::Externs::extern_desc))]
+#[tactic(auto, unfolding(
+    crate::specs::Externs::extern_desc, crate::specs::Externs::extern_desc_of
+))]
 fn read_desc(bytes: &mut Cursor<'_, DecodeReason>) -> Result<ExternDesc, ReadError<DecodeReason>>
     ensures read { Reads extern_desc (λ x. x) bytes.old bytes.new result }
     ensures end { bytes.new.end ≡ bytes.old.end }
 {
-    let DescForm::Func = bytes.code()?;
-    Ok(ExternDesc::Func(bytes.number(DecodeReason::BadNumber)?))
+    match bytes.code()? {
+        DescForm::Func => Ok(ExternDesc::Func(bytes.number(DecodeReason::BadNumber)?)),
+        DescForm::Instance => Ok(ExternDesc::Instance(bytes.number(DecodeReason::BadNumber)?)),
+    }
 }
 
 impl Form<DecodeReason> for Export {
-    ghost Tree = { ExportTree };
+    ghost Tree = { Export };
 
-    ghost tree = { export_tree };
+    ghost tree = { λ e. e };
 
     ghost grammar = { export_item };
 

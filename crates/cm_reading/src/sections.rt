@@ -15,9 +15,8 @@ ghost use Rattle.cm_reading.specs.Sections.{contents, section, sections, room_af
 use crate::codes::SectionKind;
 use crate::fault::DecodeReason;
 use crate::texts::read_text;
-use crate::types::read_types;
-use cm_component::{CustomSection, MAX_TYPES, MODULE_PREAMBLE, Section};
-use cm_grammar::{Cursor, End, Form, ReadError, read_vec};
+use cm_component::{CustomSection, MAX_TYPES, MODULE_PREAMBLE, Section, types_in};
+use cm_grammar::{Cursor, End, Form, ReadError, read_stocked, read_vec};
 use cm_types::DefType;
 use std::alloc::Global;
 
@@ -36,7 +35,8 @@ fn read_items<T: Form<DecodeReason>>(
 }
 
 /// Reads all of a part as a count, and so many types, where `room` more may stand in the file.
-#[tactic(auto, using(cm_grammar::proofs::WholeLaws::ends_fails))]
+#[tactic(auto, using(cm_grammar::proofs::WholeLaws::ends_fails),
+    unfolding(crate::specs::Types::type_defs))]
 fn read_all_types(
     alloc: Global,
     part: &mut Cursor<'_, DecodeReason>,
@@ -45,7 +45,7 @@ fn read_all_types(
     ensures { ReadsAll (exactly reasons.SizeMismatch (type_defs room))
         (λ v. map def_type_tree v.items) part.old result }
 {
-    let types = read_types(alloc, part, room)?;
+    let types = read_stocked(alloc, part, DecodeReason::BadNumber, room)?;
     part.finish(DecodeReason::SizeMismatch)?;
     Ok(types)
 }
@@ -89,6 +89,7 @@ fn read_contents(
         SectionKind::Custom => read_custom_section(alloc, part),
         SectionKind::CoreModule => read_core_module_section(alloc, part),
         SectionKind::CoreInstances => Ok(Section::CoreInstances(read_items(alloc, part)?)),
+        SectionKind::Instances => Ok(Section::Instances(read_items(alloc, part)?)),
         SectionKind::Aliases => Ok(Section::Aliases(read_items(alloc, part)?)),
         SectionKind::Types => Ok(Section::Types(read_all_types(alloc, part, room)?)),
         SectionKind::Canons => Ok(Section::Canons(read_items(alloc, part)?)),
@@ -147,10 +148,7 @@ fn read_section(
 fn room_after(room: usize, section: &Section) -> usize
     ensures { result ≡ room_after room (section_tree section.now) }
 {
-    match section {
-        Section::Types(types) => room.saturating_sub(types.len()),
-        _ => room,
-    }
+    room.saturating_sub(types_in(section) as usize)
 }
 
 /// Reads sections to the end of the bytes, which end so.

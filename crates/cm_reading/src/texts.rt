@@ -9,7 +9,7 @@ ghost use Rattle.cm_grammar.specs.Reading.{Reads};
 ghost use Rattle.cm_types.specs.Names.{is_label};
 ghost use Rattle.cm_types.specs.ExternNames.{is_extern_name};
 ghost use Rattle.cm_reading.specs.declared.fault.DecodeReason.TheVariants as reasons;
-ghost use Rattle.cm_reading.specs.Texts.{text, label, extern_name};
+ghost use Rattle.cm_reading.specs.Texts.{text, label, plain_name, extern_name};
 
 use crate::fault::DecodeReason;
 use cm_grammar::{Cursor, ReadError};
@@ -102,7 +102,7 @@ fn as_extern_name(alloc: Global, text: &str) -> Result<Option<ExternName>, Alloc
     }
 }
 
-/// Reads an extern name.
+/// Reads an extern name behind a byte.
 #[tactic(auto, unfolding(crate::specs::Texts::extern_name))]
 pub(crate) fn read_extern_name(
     alloc: Global,
@@ -112,6 +112,18 @@ pub(crate) fn read_extern_name(
     ensures end { bytes.new.end ≡ bytes.old.end }
 {
     bytes.fixed(&[0x00], DecodeReason::UnknownCode)?;
+    read_plain_name(alloc, bytes)
+}
+
+/// Reads an extern name.
+#[tactic(auto, unfolding(crate::specs::Texts::plain_name))]
+pub(crate) fn read_plain_name(
+    alloc: Global,
+    bytes: &mut Cursor<'_, DecodeReason>,
+) -> Result<ExternName, ReadError<DecodeReason>>
+    ensures read { Reads plain_name (λ x. x) bytes.old bytes.new result }
+    ensures end { bytes.new.end ≡ bytes.old.end }
+{
     let length = bytes.number(DecodeReason::BadNumber)?;
     let fault = bytes.fault(DecodeReason::BadName);
     let text = read_utf8(bytes, length)?;

@@ -41,6 +41,7 @@ fn section_id(section: &Section) -> u8
         Section::Custom(_) => 0x00,
         Section::CoreModule(_) => 0x01,
         Section::CoreInstances(_) => 0x02,
+        Section::Instances(_) => 0x05,
         Section::Aliases(_) => 0x06,
         Section::Types(_) => 0x07,
         Section::Canons(_) => 0x08,
@@ -61,6 +62,7 @@ fn write_contents(out: &mut Vec<u8>, section: &Section) -> Result<(), AllocError
         }
         Section::CoreModule(module) => out.extend_from_slice(module),
         Section::CoreInstances(items) => write_vec(out, items),
+        Section::Instances(items) => write_vec(out, items),
         Section::Aliases(items) => write_vec(out, items),
         Section::Types(items) => write_vec(out, items),
         Section::Canons(items) => write_vec(out, items),

@@ -1,5 +1,5 @@
 use Rattle.cm_binary.proofs.EncodeLaws.{is_spelled, is_shortest}
-use Rattle.cm_binary.proofs.FileWritten.{file_written}
+use Rattle.cm_binary.proofs.File.{file_written}
 use Rattle.cm_binary.proofs.encoding.encode.Goals as goal
 
 pub returns-clause-spelled : goal.returns-clause-spelled
