@@ -1,0 +1,11 @@
+//! Numbers for types: each type once, so that two types are equal exactly where their numbers are.
+#![tactic(auto)]
+
+mod definitions;
+mod key;
+mod nodes;
+mod numbers;
+mod texts;
+
+pub use definitions::{CaseDef, Def, FieldDef, FuncDef};
+pub use numbers::Numbers;
