@@ -1,5 +1,5 @@
 -- The types of definitions, one after the other.
-use Rattle.std.proofs.Common.{◌≡◌, ℕ, zero, suc, ◌+◌, ◌-◌, ◌<◌, ◌≤◌, ◌⊎◌, inl, inr, List, [], ◌∷◌, ◌++◌, length, take, get_or, Option, Some, None, refl, sym, ap, subst, ◌∙◌, arith, append_assoc, length-append}
+use Rattle.std.proofs.Common.{◌≡◌, ℕ, zero, suc, ◌+◌, ◌-◌, ◌<◌, ◌≤◌, ◌⊎◌, inl, inr, List, [], ◌∷◌, ◌++◌, length, take, get_or, Option, Some, None, refl, sym, ap, subst, ◌∙◌, arith, append_assoc, length-append, length-take}
 use Rattle.std.specs.Prelude.{slice_index, slice_index_or}
 use Rattle.std.proofs.Math.Seq.{take-suc}
 use Rattle.std.proofs.Math.ListN.{get_or-append}
@@ -66,3 +66,16 @@ module _ (t : Numbering) (row : List ResourceId) (ts : List Ty) (ns : List ℕ) 
     as_many = omega (arith, length-append ts (x ∷ []), length-append ns (n ∷ []), are.as_many);
     each = λ i lt. each_by i (below_or_at i (length ts) (omega (arith, lt, length-append ts (x ∷ []))));
   }
+
+in_order_after : (place : ℕ) (ds : List Def) (d : Def) → AreInOrder place ds → HasPartsBelow (place + length ds) d → AreInOrder place (ds ++ d ∷ [])
+in_order_after place [] d h below = let here : place + 0 ≡ place = omega arith in (subst (λ (n : ℕ). HasPartsBelow n d) here below, tt)
+in_order_after place (e ∷ ds) d h below =
+    let here : place + length (e ∷ ds) ≡ place + 1 + length ds = omega arith in
+    (h.0, in_order_after (place + 1) ds d h.1 (subst (λ (n : ℕ). HasPartsBelow n d) here below))
+
+-- one more definition that has its parts before it
+pub in_order_more : (ds : List Def) (i : ℕ) (d : Def) → i < length ds → d ≡ get_or ds i d → AreInOrder 0 (take i ds) → HasPartsBelow i d → AreInOrder 0 (take (i + 1) ds)
+in_order_more ds i d lt is h below =
+    let more : take (i + 1) ds ≡ take i ds ++ d ∷ [] = (let e : i + 1 ≡ suc i = omega arith in ap (λ (n : ℕ). take n ds) e) ∙ take-suc ds i d lt ∙ ap (λ (x : Def). take i ds ++ x ∷ []) (sym is) in
+    let long : i ≡ 0 + length (take i ds) = simp length-take (omega arith) in
+    subst (AreInOrder 0) (sym more) (in_order_after 0 (take i ds) d h (subst (λ (n : ℕ). HasPartsBelow n d) long below))

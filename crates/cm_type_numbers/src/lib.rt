@@ -3,9 +3,10 @@
 
 mod definitions;
 mod key;
+pub mod laws;
 mod nodes;
 mod numbers;
 mod texts;
 
-pub use definitions::{CaseDef, Def, FieldDef, FuncDef};
+pub use definitions::{CaseDef, Def, FieldDef, FuncDef, are_in_order};
 pub use numbers::Numbers;
