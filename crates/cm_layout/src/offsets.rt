@@ -7,7 +7,7 @@ ghost use Rattle.cm_layout.specs.Sizes.{HasCases, HasField, case_offset, discrim
 ghost use Rattle.cm_layout.specs.Sizes.{field_offset};
 ghost use Rattle.cm_layout.specs.Sizes.{field_offset_from};
 
-use crate::alignments::{shared_align, discriminant_size, node_align, payloads_align};
+use crate::alignments::{discriminant_size, node_align, payloads_align, shared_align};
 use crate::sizes::{align_to, fields_end, parts_end};
 use cm_types::{Field, MAX_NODES, TypeNode};
 

@@ -8,7 +8,8 @@ ghost use Rattle.cm_layout.specs.Sizes.{discriminant_size, end_of, greatest_payl
 ghost use Rattle.cm_layout.specs.Sizes.{size_of_payload};
 
 use crate::alignments::{
-    shared_align, discriminant_size, fields_align, flags_size, node_align, parts_align, payloads_align,
+    discriminant_size, fields_align, flags_size, node_align, parts_align, payloads_align,
+    shared_align,
 };
 use cm_types::{Case, Field, MAX_NODES, TypeNode};
 use std::rc::Rc;

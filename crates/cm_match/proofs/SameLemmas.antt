@@ -2,7 +2,7 @@
 use Rattle.std.proofs.Common.{◌≡◌, [], Option, Some, None, refl, ap, ◌∙◌}
 use Rattle.std.specs.Option.{option_map}
 use Rattle.cm_types.specs.Types.{Ty, FuncTy, Fields, Cases, bool, signed, unsigned, char, string, list, fixed_list, fields, cases, flags, own, borrow, no_fields, field, no_cases, plain, carrying}
-use Rattle.cm_types.specs.SameTypes.{resolved, resolved_fields, resolved_cases, resolved_func}
+use Rattle.cm_types.specs.Resolved.{resolved, resolved_fields, resolved_cases, resolved_func}
 
 mutual
   resolved_nothing : (t : Ty) → resolved [] t ≡ t

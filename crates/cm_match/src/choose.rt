@@ -11,7 +11,8 @@ ghost use Rattle.cm_match.specs.Offers.{AreOffers};
 
 use crate::fault::LinkReason;
 use crate::offers::Offer;
-use cm_types::{ExternType, Func, SignatureItem, same_func};
+use cm_same_types::same_func;
+use cm_types::{ExternType, Func, SignatureItem};
 use cm_validate::Checked;
 use std::collections::BTreeMap;
 

@@ -1,7 +1,6 @@
 -- What the test for types that a file can spell computes on lists of cases.
-use Rattle.std.proofs.Common.{◌≡◌, ℕ, Bool, true, false, not, ◌&&◌, List, [], ◌∷◌, ◌<◌, ◌≤◌, length, map, arith, sym, ap, ◌∙◌, Option, Some, None, refl}
-use Rattle.std.proofs.lemmas.List.{length-map}
-use Rattle.cm_types.specs.Types.{Ty, Cases, no_cases}
+use Rattle.std.proofs.Common.{◌≡◌, ℕ, Bool, true, false, not, ◌&&◌, List, [], ◌∷◌, ◌≤◌, length, map, arith, sym, ap, ◌∙◌, Option, Some, None, refl}
+use Rattle.cm_types.specs.Types.{Ty, Cases}
 use Rattle.cm_types.specs.TypeTrees.{TypedLabel, CaseOf, fields_from, parts_from, cases_from, plain_from, case_before}
 use Rattle.cm_types.specs.Spellable.{has_no_fields, has_no_cases, are_spellable_payloads, is_spellable_payload}
 

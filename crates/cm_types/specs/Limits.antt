@@ -43,9 +43,20 @@ abbrev mutual
   depth_of_cases (plain l cs) = depth_of_cases cs
   depth_of_cases (carrying l t cs) = max (depth_of t) (depth_of_cases cs)
 
+-- a type has at most so many nodes, and is at most so deep
+abbrev pub IsWithin : ℕ → ℕ → Ty → Type 0
+IsWithin most depth t = (nodes_of t ≤ most) × (depth_of t ≤ depth)
+
+-- the same of fields and of cases together
+abbrev pub AreFieldsWithin : ℕ → ℕ → Fields → Type 0
+AreFieldsWithin most depth fs = (nodes_of_fields fs ≤ most) × (depth_of_fields fs ≤ depth)
+
+abbrev pub AreCasesWithin : ℕ → ℕ → Cases → Type 0
+AreCasesWithin most depth cs = (nodes_of_cases cs ≤ most) × (depth_of_cases cs ≤ depth)
+
 -- the limits on one type: 10,000 nodes and a depth of 64
 abbrev pub IsWithinLimits : Ty → Type 0
-IsWithinLimits t = (nodes_of t ≤ MAX_NODES) × (depth_of t ≤ MAX_DEPTH)
+IsWithinLimits t = IsWithin MAX_NODES MAX_DEPTH t
 
 -- the nodes and the depth of a payload
 abbrev pub payload_nodes : Option Ty → ℕ
@@ -55,3 +66,6 @@ payload_nodes (Some t) = nodes_of t
 abbrev pub payload_depth : Option Ty → ℕ
 payload_depth None = 0
 payload_depth (Some t) = depth_of t
+
+abbrev pub IsPayloadWithin : ℕ → ℕ → Option Ty → Type 0
+IsPayloadWithin most depth p = (payload_nodes p ≤ most) × (payload_depth p ≤ depth)

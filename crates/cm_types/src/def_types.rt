@@ -1,6 +1,6 @@
 //! Types as a component file writes them: a part that is a type of its own stands as an index.
 
-use crate::names::Label;
+use cm_names::Label;
 
 /// A value type in a file (Binary.md, "Type Definitions").
 #[derive(Clone, Copy, Debug, PartialEq, Eq)]

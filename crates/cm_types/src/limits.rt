@@ -1,10 +1,10 @@
 //! How large a type is, counted no further than its limits.
 
-ghost use Rattle.std.specs.Prelude.{◌≡◌, ◌≤◌, ◌+◌, min};
-ghost use Rattle.cm_types.specs.TypeTrees.{shared_payload, cases_of, fields_of, parts_of, type_of};
-ghost use Rattle.cm_types.specs.Limits.{depth_of, depth_of_cases, depth_of_fields, nodes_of};
-ghost use Rattle.cm_types.specs.Limits.{nodes_of_cases, nodes_of_fields, payload_depth};
-ghost use Rattle.cm_types.specs.Limits.{payload_nodes};
+ghost use Rattle.std.specs.Prelude.{◌*◌, ◌≤◌, max};
+ghost use Rattle.std.specs.Option.{SomeIff, option_map};
+ghost use Rattle.cm_types.specs.TypeTrees.{cases_of, fields_of, parts_of, shared_payload, type_of};
+ghost use Rattle.cm_types.specs.Limits.{AreCasesWithin, AreFieldsWithin, IsPayloadWithin, IsWithin};
+ghost use Rattle.cm_types.specs.Limits.{nodes_of, nodes_of_cases, nodes_of_fields, payload_nodes};
 
 use crate::type_trees::{Case, Field, TypeNode};
 use std::rc::Rc;
@@ -23,32 +23,45 @@ pub const MAX_FLAT_PARAMS: usize = 16;
 /// `MAX_FLAT_RESULTS`).
 pub const MAX_FLAT_RESULTS: usize = 1;
 
-/// The count, or one over the limit where it is more than the limit.
-fn count_up_to_one_over(count: u64) -> u32
-    ensures { result ≡ min count (MAX_NODES + 1) }
+/// The number of nodes of a type that has at most `most` nodes and is at most `depth` deep; none
+/// for another. It looks at no more than `most` nodes, however often one is shared, and takes no
+/// more of the stack than `depth` levels do.
+#[cycle(within)]
+#[tactic(auto, using(crate::proofs::Nodes::within))]
+pub(crate) fn nodes_within(ty: &TypeNode, most: u32, depth: u32) -> Option<u32>
+    ensures { SomeIff result (IsWithin most depth (type_of ty.now)) (nodes_of (type_of ty.now)) }
 {
-    count.min(u64::from(MAX_NODES) + 1) as u32
-}
-
-#[tactic(auto, using(crate::proofs::Nodes::nodes))]
-/// The number of nodes, or 10,001 where there are more than that.
-#[cycle(nodes)]
-pub(crate) fn nodes(ty: &TypeNode) -> u32
-    ensures { result ≡ min (nodes_of (type_of ty.now)) (MAX_NODES + 1) }
-{
+    if most == 0 || depth == 0 {
+        return None;
+    }
+    let most = most - 1;
+    let depth = depth - 1;
     match ty {
-        TypeNode::List(element) => count_up_to_one_over(1 + u64::from(nodes(element))),
+        TypeNode::List(element) | TypeNode::Option(element) => {
+            let below = nodes_within(element, most, depth)?;
+            Some(1 + below)
+        }
         TypeNode::FixedList { element, length } => {
-            count_up_to_one_over(1 + u64::from((*length).max(1)) * u64::from(nodes(element)))
+            let below = nodes_within(element, most, depth)?;
+            let all = times_within(below, *length, most)?;
+            Some(1 + all)
         }
-        TypeNode::Record(fields) => count_up_to_one_over(1 + u64::from(nodes_of_fields(fields))),
-        TypeNode::Tuple(parts) => count_up_to_one_over(1 + u64::from(nodes_of_parts(parts))),
-        TypeNode::Variant(cases) => count_up_to_one_over(1 + u64::from(nodes_of_cases(cases))),
-        TypeNode::Option(some) => count_up_to_one_over(1 + u64::from(nodes(some))),
+        TypeNode::Record(fields) => {
+            let below = nodes_of_fields_within(fields, most, depth)?;
+            Some(1 + below)
+        }
+        TypeNode::Tuple(parts) => {
+            let below = nodes_of_parts_within(parts, most, depth)?;
+            Some(1 + below)
+        }
+        TypeNode::Variant(cases) => {
+            let below = nodes_of_cases_within(cases, most, depth)?;
+            Some(1 + below)
+        }
         TypeNode::Result { ok, error } => {
-            count_up_to_one_over(
-                1 + u64::from(nodes_of_payload(ok)) + u64::from(nodes_of_payload(error)),
-            )
+            let first = nodes_of_payload_within(ok, most, depth)?;
+            let second = nodes_of_payload_within(error, most - first, depth)?;
+            Some(1 + first + second)
         }
         TypeNode::Bool
         | TypeNode::S8
@@ -63,135 +76,82 @@ pub(crate) fn nodes(ty: &TypeNode) -> u32
         | TypeNode::String
         | TypeNode::Flags(_)
         | TypeNode::Own(_)
-        | TypeNode::Borrow(_) => 1,
-        TypeNode::Enum(_) => 1,
+        | TypeNode::Borrow(_) => Some(1),
+        TypeNode::Enum(_) => Some(1),
     }
 }
 
-#[cycle(nodes)]
-fn nodes_of_payload(payload: &Option<Rc<TypeNode>>) -> u32
-    ensures { result ≡ min (payload_nodes (shared_payload payload.now)) (MAX_NODES + 1) }
+/// So many nodes `length` times over, and once where `length` is 0, if that is at most `most`.
+fn times_within(nodes: u32, length: u32, most: u32) -> Option<u32>
+    ensures { SomeIff result (max length 1 * nodes ≤ most) (max length 1 * nodes) }
+{
+    let all = u64::from(length.max(1)) * u64::from(nodes);
+    if all <= u64::from(most) {
+        Some(all as u32)
+    } else {
+        None
+    }
+}
+
+#[cycle(within)]
+fn nodes_of_payload_within(payload: &Option<Rc<TypeNode>>, most: u32, depth: u32) -> Option<u32>
+    ensures { SomeIff result (IsPayloadWithin most depth (shared_payload payload.now))
+        (payload_nodes (shared_payload payload.now)) }
 {
     match payload {
-        Some(ty) => nodes(ty),
-        None => 0,
+        Some(ty) => nodes_within(ty, most, depth),
+        None => Some(0),
     }
 }
 
-#[cycle(nodes)]
-pub(crate) fn nodes_of_fields(fields: &[Field]) -> u32
-    ensures { result ≡ min (nodes_of_fields (fields_of fields.now)) (MAX_NODES + 1) }
+/// The number of nodes that fields have together, if it is at most `most` and none is more than
+/// `depth` deep.
+#[cycle(within)]
+pub(crate) fn nodes_of_fields_within(fields: &[Field], most: u32, depth: u32) -> Option<u32>
+    ensures { SomeIff result (AreFieldsWithin most depth (fields_of fields.now))
+        (nodes_of_fields (fields_of fields.now)) }
 {
     let mut count = 0;
     for field in fields {
-        count = count_up_to_one_over(u64::from(count) + u64::from(nodes(&field.ty)));
+        let more = nodes_within(&field.ty, most - count, depth)?;
+        count += more;
     }
-    count
+    Some(count)
 }
 
-#[cycle(nodes)]
-fn nodes_of_parts(parts: &[TypeNode]) -> u32
-    ensures { result ≡ min (nodes_of_fields (parts_of parts.now)) (MAX_NODES + 1) }
+#[cycle(within)]
+fn nodes_of_parts_within(parts: &[TypeNode], most: u32, depth: u32) -> Option<u32>
+    ensures { SomeIff result (AreFieldsWithin most depth (parts_of parts.now))
+        (nodes_of_fields (parts_of parts.now)) }
 {
     let mut count = 0;
     for part in parts {
-        count = count_up_to_one_over(u64::from(count) + u64::from(nodes(part)));
+        let more = nodes_within(part, most - count, depth)?;
+        count += more;
     }
-    count
+    Some(count)
 }
 
-#[cycle(nodes)]
-fn nodes_of_cases(cases: &[Case]) -> u32
-    ensures { result ≡ min (nodes_of_cases (cases_of cases.now)) (MAX_NODES + 1) }
+#[cycle(within)]
+fn nodes_of_cases_within(cases: &[Case], most: u32, depth: u32) -> Option<u32>
+    ensures { SomeIff result (AreCasesWithin most depth (cases_of cases.now))
+        (nodes_of_cases (cases_of cases.now)) }
 {
     let mut count = 0;
     for case in cases {
-        if let Some(ty) = &case.payload {
-            count = count_up_to_one_over(u64::from(count) + u64::from(nodes(ty)));
-        }
+        let more = nodes_of_case_within(&case.payload, most - count, depth)?;
+        count += more;
     }
-    count
+    Some(count)
 }
 
-/// The depth, or `most` where it is more than that. It looks no deeper than `most`, and so takes no
-/// more of the stack.
-#[cycle(depth)]
-#[tactic(auto, using(crate::proofs::Nodes::depths))]
-pub(crate) fn depth_up_to(ty: &TypeNode, most: u32) -> u32
-    ensures { result ≡ min (depth_of (type_of ty.now)) most }
-{
-    if most == 0 {
-        return 0;
-    }
-    let below = most - 1;
-    match ty {
-        TypeNode::List(element) | TypeNode::Option(element) => 1 + depth_up_to(element, below),
-        TypeNode::FixedList { element, .. } => 1 + depth_up_to(element, below),
-        TypeNode::Record(fields) => 1 + depth_of_fields_up_to(fields, below),
-        TypeNode::Tuple(parts) => 1 + depth_of_parts(parts, below),
-        TypeNode::Variant(cases) => 1 + depth_of_cases(cases, below),
-        TypeNode::Result { ok, error } => {
-            1 + depth_of_payload(ok, below).max(depth_of_payload(error, below))
-        }
-        TypeNode::Bool
-        | TypeNode::S8
-        | TypeNode::U8
-        | TypeNode::S16
-        | TypeNode::U16
-        | TypeNode::S32
-        | TypeNode::U32
-        | TypeNode::S64
-        | TypeNode::U64
-        | TypeNode::Char
-        | TypeNode::String
-        | TypeNode::Flags(_)
-        | TypeNode::Own(_)
-        | TypeNode::Borrow(_) => 1,
-        TypeNode::Enum(_) => 1,
-    }
-}
-
-#[cycle(depth)]
-fn depth_of_payload(payload: &Option<Rc<TypeNode>>, most: u32) -> u32
-    ensures { result ≡ min (payload_depth (shared_payload payload.now)) most }
+#[cycle(within)]
+fn nodes_of_case_within(payload: &Option<TypeNode>, most: u32, depth: u32) -> Option<u32>
+    ensures { SomeIff result (IsPayloadWithin most depth (option_map type_of payload.now))
+        (payload_nodes (option_map type_of payload.now)) }
 {
     match payload {
-        Some(ty) => depth_up_to(ty, most),
-        None => 0,
+        Some(ty) => nodes_within(ty, most, depth),
+        None => Some(0),
     }
-}
-
-#[cycle(depth)]
-pub(crate) fn depth_of_fields_up_to(fields: &[Field], most: u32) -> u32
-    ensures { result ≡ min (depth_of_fields (fields_of fields.now)) most }
-{
-    let mut deepest = 0;
-    for field in fields {
-        deepest = deepest.max(depth_up_to(&field.ty, most));
-    }
-    deepest
-}
-
-#[cycle(depth)]
-fn depth_of_parts(parts: &[TypeNode], most: u32) -> u32
-    ensures { result ≡ min (depth_of_fields (parts_of parts.now)) most }
-{
-    let mut deepest = 0;
-    for part in parts {
-        deepest = deepest.max(depth_up_to(part, most));
-    }
-    deepest
-}
-
-#[cycle(depth)]
-fn depth_of_cases(cases: &[Case], most: u32) -> u32
-    ensures { result ≡ min (depth_of_cases (cases_of cases.now)) most }
-{
-    let mut deepest = 0;
-    for case in cases {
-        if let Some(ty) = &case.payload {
-            deepest = deepest.max(depth_up_to(ty, most));
-        }
-    }
-    deepest
 }

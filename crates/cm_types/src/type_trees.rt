@@ -8,12 +8,10 @@ ghost use Rattle.cm_types.specs.Types.{fields, tuple_type};
 ghost use Rattle.cm_types.specs.TypeTrees.{fields_of, type_of};
 
 use crate::dismantling::{dismantle, dismantle_fields};
-use crate::limits::{
-    MAX_DEPTH, MAX_NODES, depth_of_fields_up_to, depth_up_to, nodes, nodes_of_fields,
-};
-use crate::names::Label;
+use crate::limits::{MAX_DEPTH, MAX_NODES, nodes_of_fields_within, nodes_within};
 use crate::resource::ResourceId;
 use crate::spellable::{are_spellable, is_spellable};
+use cm_names::Label;
 use std::alloc::AllocError;
 use std::rc::Rc;
 use thiserror::Error;
@@ -158,7 +156,7 @@ impl TypeTree {
         ensures not_spellable { IsErrOf result TypeFault.NotSpellable
             → IsWithinLimits (type_of root) × (is_spellable (type_of root) ≡ false) }
     {
-        if depth_up_to(&root, MAX_DEPTH + 1) > MAX_DEPTH || nodes(&root) > MAX_NODES {
+        if nodes_within(&root, MAX_NODES, MAX_DEPTH).is_none() {
             dismantle(root);
             Err(TypeFault::TooLarge)
         } else if !is_spellable(&root) {
@@ -203,8 +201,7 @@ impl Func {
             → IsWithinLimits (fields tuple_type (fields_of params.items))
             × (are_spellable (fields_of params.items) ≡ false) }
     {
-        let is_deep = depth_of_fields_up_to(&params, MAX_DEPTH) == MAX_DEPTH;
-        if is_deep || nodes_of_fields(&params) >= MAX_NODES {
+        if nodes_of_fields_within(&params, MAX_NODES - 1, MAX_DEPTH - 1).is_none() {
             dismantle_fields(params);
             Err(TypeFault::TooLarge)
         } else if !are_spellable(&params) {

@@ -1,9 +1,3 @@
-pub mod Tools
-pub mod Laws
-pub mod StepLaws
-pub mod ItemLaws
-pub mod TypeLaws
-pub mod TypesSeen
-pub mod WholeLaws
-pub mod SignatureLaws
-pub mod LoopLaws
+pub mod InterfaceLaws
+pub mod WorldLaws
+pub mod FileLaws

@@ -1,10 +1,6 @@
-pub mod Faults
-pub mod Grammar
-pub mod Reading
-pub mod Exact
-pub mod Parts
-pub mod Types
-pub mod TypeViews
-pub mod Whole
-pub mod Signatures
-pub mod SignatureViews
+pub mod Trees
+pub mod Views
+pub mod Heads
+pub mod Interfaces
+pub mod Worlds
+pub mod Files

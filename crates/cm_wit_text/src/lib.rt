@@ -1,17 +1,17 @@
-//! WIT texts: the packages that their tokens are.
+//! Packages, as WIT texts write them.
 #![tactic(auto)]
 
-mod cursor;
-mod fault;
-mod items;
-mod name;
-mod signature_reader;
-mod signatures;
-mod type_reader;
-mod types;
+mod file;
+mod file_reader;
+mod heads;
+mod interface_reader;
+mod interfaces;
+mod world_reader;
+mod worlds;
 
-pub use cursor::Cursor;
-pub use fault::{ReadError, WitFault, WitReason};
-pub use name::Name;
-pub use signatures::{Func, Path, Typed};
-pub use types::{Primitive, WitType};
+pub use cm_wit_grammar::{ReadError, WitFault, WitReason};
+pub use cm_wit_types::{Func, Path, Primitive, Typed, WitType};
+pub use file::{FileItem, WitFile};
+pub use file_reader::read_file;
+pub use interfaces::{Case, Interface, InterfaceItem, ResourceFunc, TypeDef, Use, UsedName};
+pub use worlds::{World, WorldExtern, WorldItem};

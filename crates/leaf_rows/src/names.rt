@@ -1,9 +1,8 @@
 //! Rows on names.
 
 use cm_rows::{RowFault, read_number};
-use cm_types::{
-    CoreKind, CoreValue, ExternName, ExternNameForm, Label, NameFault, is_scalar, same_name,
-};
+use cm_types::{CoreKind, CoreValue, ExternName, ExternNameForm, Label, NameFault, same_name};
+use cm_values::is_scalar;
 use std::alloc::Global;
 
 /// The answer to `label TEXT`, `extern TEXT`, `same TEXT TEXT`, `is_scalar NUMBER` or

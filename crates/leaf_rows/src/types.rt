@@ -1,17 +1,17 @@
 //! Types as rows spell them, and rows on their limits and their equality.
 //!
 //! A type is words in prefix order: `list`, `option` and `fixed:LENGTH` stand before the type that
-//! they hold, `tuple:COUNT` and `record:LABELS` before those of their fields, `variant:LABELS`
-//! before the payloads of its cases and `result` before its two, where `-` is no payload. Leaves
-//! are named, `enum:LABELS`, `flags:LABELS`, `own:COMPONENT.NUMBER` and `borrow:COMPONENT.NUMBER`
-//! among them. LABELS are joined by commas. `N*` before a word or a label stands for N of them.
+//! they hold, `twice` before the one that a tuple of two shares, `tuple:COUNT` and `record:LABELS`
+//! before those of their fields, `variant:LABELS` before the payloads of its cases and `result`
+//! before its two, where `-` is no payload. Leaves are named, `enum:LABELS`, `flags:LABELS`,
+//! `own:COMPONENT.NUMBER` and `borrow:COMPONENT.NUMBER` among them. LABELS are joined by commas.
+//! `N*` before a word or a label stands for N of them.
 
 use crate::values::read_value;
 use cm_rows::{RowFault, read_number, split_repeat};
-use cm_types::{
-    Case, Field, Func, Label, NameFault, ResourceId, TypeFault, TypeNode, TypeTree, has_type,
-    same_func, same_type,
-};
+use cm_same_types::{same_func, same_type};
+use cm_types::{Case, Field, Func, Label, NameFault, ResourceId, TypeFault, TypeNode, TypeTree};
+use cm_values::has_type;
 use std::alloc::{AllocError, Global};
 use std::rc::Rc;
 
@@ -193,6 +193,10 @@ impl TypeStack {
         Ok(match word {
             "list" => TypeNode::List(Rc::new(alloc, self.pop()?)?),
             "option" => TypeNode::Option(Rc::new(alloc, self.pop()?)?),
+            "twice" => {
+                let part = self.pop()?;
+                TypeNode::Tuple(Rc::new(alloc, vec![in alloc; part.share()?, part]?)?)
+            }
             "result" => {
                 let ok = self.pop_shared(alloc)?;
                 let error = self.pop_shared(alloc)?;

@@ -5,7 +5,7 @@
 //! `signed:NUMBER`, `unsigned:NUMBER`, `char:CHAR`, `string:TEXT` and `flags:NUMBER`.
 
 use cm_rows::{RowFault, read_number};
-use cm_types::Value;
+use cm_values::Value;
 use std::alloc::Global;
 
 /// The value that words spell.

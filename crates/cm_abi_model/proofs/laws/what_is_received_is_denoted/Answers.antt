@@ -1,0 +1,5 @@
+use Rattle.cm_abi_model.proofs.StoredShows.{denoted}
+use Rattle.cm_abi_model.proofs.laws.what_is_received_is_denoted.Goals as goal
+
+pub returns : goal.returns
+returns c = denoted

@@ -1,0 +1,12 @@
+pub mod Numbers
+pub mod Views
+pub mod Texts
+pub mod Shows
+pub mod FlatShows
+pub mod Denotes
+pub mod Parts
+pub mod Requests
+pub mod Stores
+pub mod Regions
+pub mod Receives
+pub mod Taken

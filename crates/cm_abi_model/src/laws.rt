@@ -1,0 +1,78 @@
+//! What holds of the definitions, as laws: each function here does nothing, and its contract is the
+//! law.
+
+ghost use Rattle.std.specs.Prelude.{◌≡◌, ◌↔◌, ℕ, List, length};
+ghost use Rattle.cm_types.specs.declared.core_value.CoreValue.{CoreValue};
+ghost use Rattle.cm_handles.specs.Handles.{Handles};
+ghost use Rattle.cm_types.specs.Types.{Fields, Ty};
+ghost use Rattle.cm_types.specs.Values.{HasType, Val};
+ghost use Rattle.cm_abi_model.specs.Denotes.{Denotes};
+ghost use Rattle.cm_abi_model.specs.Receives.{NoneImplemented, Receives, Serves};
+ghost use Rattle.cm_abi_model.specs.Receives.{call_bytes, leaves_in};
+ghost use Rattle.cm_abi_model.specs.Parts.{Part};
+ghost use Rattle.cm_abi_model.specs.Regions.{AllAt, AreApart, ArePlaced, IsInPart, part_size};
+ghost use Rattle.cm_abi_model.specs.Requests.{HasScalars, IsStored, last_size, part_sizes};
+ghost use Rattle.cm_abi_model.specs.Requests.{call_parts, stored_charset, tuple_of};
+ghost use Rattle.cm_abi_model.specs.Taken.{AllThere, CanGo, GoesInTurn, Met};
+ghost use Rattle.cm_abi_model.specs.Texts.{Charset};
+ghost use Rattle.cm_abi_model.specs.declared.encoding.StringEncoding.{StringEncoding};
+ghost use Rattle.cm_abi_model.specs.Shows.{Shows};
+ghost use Rattle.cm_abi_model.specs.Stores.{Framed, Given, Holds, poke};
+ghost use Rattle.cm_abi_model.specs.Views.{View, Way};
+
+use cm_text::laws::one_list_of_scalars;
+use cm_text::{Latin1, Utf8, Utf16};
+
+/// In a view, the bytes at an address show at most one value of a type, and core values denote at
+/// most one value of the types of a call.
+pub fn denotations_are_unique()
+    ensures shown { (w : View) (t : Ty) (p : ℕ) (u v : Val) → Shows w t p u → Shows w t p v
+        → u ≡ v }
+    ensures denoted { (w : View) (way : Way) (types : Fields) (slots : List CoreValue) (u v : Val)
+        → Denotes w way types slots u → Denotes w way types slots v → u ≡ v }
+{
+    one_list_of_scalars::<Utf8>();
+    one_list_of_scalars::<Utf16>();
+    one_list_of_scalars::<Latin1>();
+}
+
+/// What a receiver has once a value was lowered denotes that value, where no handle was passed as
+/// its representation. (Where one was, its number is no index of the receiver's table.)
+pub fn what_is_received_is_denoted()
+    ensures { (w : View) (way : Way) (types : Fields) (slots : List CoreValue) (g : Given) (v : Val)
+        → Receives w way types slots g v → Serves w way types g v
+        → NoneImplemented w (leaves_in (tuple_of types) v) → Denotes w way types slots v }
+{}
+
+/// The last size that is asked for a part is the size that it takes where it is stored.
+pub fn requests_end_exact()
+    ensures { (source : Charset) (target : StringEncoding) (part : Part) → IsStored target
+        → HasScalars source part
+        → last_size (part_sizes source (stored_charset target) part) ≡ part_size target part }
+{}
+
+/// Each byte that a lowering stores lies in the region of one of the parts of the call, where the
+/// given places are.
+pub fn what_is_stored_lies_in_regions()
+    ensures { (way : Way) (types : Fields) (g : Given) (v : Val) (target : StringEncoding)
+        → HasType (tuple_of types) v → g.charset ≡ stored_charset target
+        → AllAt (IsInPart target g 0 (call_parts way types v)) (call_bytes g way types v) }
+{}
+
+/// Where the places are inside a memory and apart, storing a value leaves each of its bytes at its
+/// address, and changes no other.
+pub fn what_is_stored_stays()
+    ensures { (way : Way) (types : Fields) (g : Given) (v : Val) (target : StringEncoding)
+        (memory : List ℕ) → HasType (tuple_of types) v → g.charset ≡ stored_charset target
+        → ArePlaced target (length memory) g 0 (call_parts way types v)
+        → AreApart target g 0 (call_parts way types v)
+        → Holds (poke (call_bytes g way types v) memory) (call_bytes g way types v)
+        × Framed memory (poke (call_bytes g way types v) memory) (call_bytes g way types v) }
+{}
+
+/// Where each handle that is met stands, all can be handed over exactly where one thing after
+/// another can: looking at one at a time, with the table as it is then, misses nothing.
+pub fn handing_over_goes_in_turn()
+    ensures { (t : Handles) (most : ℕ) (ms : List Met) → AllThere t ms
+        → CanGo t most ms ↔ GoesInTurn t most ms }
+{}

@@ -1,0 +1,13 @@
+//! What core values and bytes in memory say about values of components, and what a lowering stores:
+//! the Canonical ABI in definitions, with laws.
+//!
+//! Nothing runs here but plain data: `cm_lifting` reads values by these definitions, `cm_lowering`
+//! writes them.
+#![tactic(auto)]
+
+mod encoding;
+pub mod laws;
+mod request;
+
+pub use encoding::StringEncoding;
+pub use request::Request;

@@ -1,0 +1,7 @@
+use Rattle.std.proofs.Common.{ap, ◌∙◌}
+use Rattle.cm_names.specs.Names.{is_label}
+use Rattle.cm_names.proofs.Labels.{label_is}
+use Rattle.cm_names.proofs.names.Label.as_str.Goals as goal
+
+pub returns-clause-label : goal.returns-clause-label
+returns-clause-label c = label_is _ (ap is_label c.as_str.ensures.value ∙ c.self.invariant)

@@ -1,0 +1,4 @@
+pub mod ResourceLaws
+pub mod Seen
+pub mod SameTypeLemmas
+pub mod SameTypeLaws

@@ -1,0 +1,4 @@
+pub mod ResourceLaws
+pub mod Seen
+pub mod TypedValueLemmas
+pub mod TypedValueLaws

@@ -1,0 +1,2 @@
+pub mod ValueTrees
+pub mod TypedValues

@@ -1,0 +1,8 @@
+pub mod Tools
+pub mod Laws
+pub mod StepLaws
+pub mod ListLaws
+pub mod LoopLaws
+pub mod MostLaws
+pub mod WholeLaws
+pub mod TextLaws

@@ -1,0 +1,3 @@
+pub mod TypeLaws
+pub mod TypesSeen
+pub mod SignatureLaws

@@ -1,0 +1,4 @@
+pub mod Types
+pub mod TypeViews
+pub mod Signatures
+pub mod SignatureViews

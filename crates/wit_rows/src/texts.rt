@@ -1,0 +1,56 @@
+//! Texts of several lines, as rows write them.
+
+use cm_rows::RowFault;
+use std::alloc::{AllocError, Global};
+
+/// The text that words stand for, one blank apart: `~n` is a line feed, `~r` a carriage return,
+/// `~t` a tab, and `~N(PART)` stands for N times the part, which has no `)`.
+pub fn read_text(alloc: Global, words: &[&str]) -> Result<String, RowFault> {
+    let mut text = String::new(alloc);
+    for (index, word) in words.iter().enumerate() {
+        if index > 0 {
+            text.push_str(" ")?;
+        }
+        add_word(&mut text, word)?;
+    }
+    Ok(text)
+}
+
+fn add_word(text: &mut String, word: &str) -> Result<(), RowFault> {
+    let mut parts = word.split('~');
+    if let Some(plain) = parts.next() {
+        text.push_str(plain)?;
+    }
+    for part in parts {
+        add_part(text, part)?;
+    }
+    Ok(())
+}
+
+/// Adds what stands behind a `~`.
+fn add_part(text: &mut String, part: &str) -> Result<(), RowFault> {
+    if let Some(rest) = part.strip_prefix('n') {
+        return add_both(text, "\n", rest);
+    }
+    if let Some(rest) = part.strip_prefix('r') {
+        return add_both(text, "\r", rest);
+    }
+    if let Some(rest) = part.strip_prefix('t') {
+        return add_both(text, "\t", rest);
+    }
+    let Some((times, rest)) = part.split_once('(') else {
+        return Err(RowFault::NotARow);
+    };
+    let Some((repeated, rest)) = rest.split_once(')') else {
+        return Err(RowFault::NotARow);
+    };
+    for _ in 0..cm_rows::read_number::<u32>(times)? {
+        text.push_str(repeated)?;
+    }
+    Ok(text.push_str(rest)?)
+}
+
+fn add_both(text: &mut String, first: &str, second: &str) -> Result<(), RowFault> {
+    text.push_str(first)?;
+    Ok(text.push_str(second)?)
+}
