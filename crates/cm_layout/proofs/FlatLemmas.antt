@@ -1,12 +1,14 @@
 -- Flat kinds, joined and repeated.
-use Rattle.std.proofs.Common.{◌≡◌, ℕ, zero, suc, ◌+◌, ◌-◌, ◌≤◌, ◌<◌, min, List, [], ◌∷◌, ◌++◌, length, take, drop, get_or, Option, Some, None, refl, sym, ap, ◌∙◌, arith, append_assoc, append-nil, drop-cons, add-one}
-use Rattle.std.proofs.lemmas.List.{drop_all, take_all, length-drop}
+use Rattle.std.proofs.Common.{◌≡◌, ℕ, zero, suc, ◌+◌, ◌≤◌, ◌<◌, List, [], ◌∷◌, ◌++◌, length, get_or, Option, Some, None, refl, sym, ap, ◌∙◌, arith, append_assoc, append-nil, max, length-append, add-one, zero-add}
+use Rattle.cm_layout.proofs.WidthLaws.{join_long}
+use Rattle.std.proofs.Math.ListN.{set}
+use Rattle.std.proofs.Math.Nat.{suc-add}
 use Rattle.cm_types.specs.declared.core_value.CoreKind.{CoreKind}
 use Rattle.cm_types.specs.declared.core_value.CoreKind.TheVariants.{I32, I64}
 use Rattle.cm_types.specs.Types.{Ty, Cases, CasesKind, no_cases, plain, carrying, cases}
 use Rattle.cm_types.specs.TypeTrees.{plain_from, case_before, case_of, cases_of}
 use Rattle.cm_types.specs.declared.type_trees.Case.{Case}
-use Rattle.cm_layout.specs.Flattening.{copies, join, join_slots, flat_of, flat_of_cases, flat_of_payload}
+use Rattle.cm_layout.specs.Flattening.{JoinedFrom, copies, join, join_slots, join_from, flat_of, flat_of_cases, flat_of_payload}
 
 pub joined_nil : (xs : List CoreKind) → join_slots xs [] ≡ xs
 joined_nil [] = refl
@@ -38,15 +40,6 @@ copies_end (suc n) xs = append_assoc xs (copies n xs) xs ∙ ap (λ ys. xs ++ ys
 pub copies_more : (n : ℕ) (xs : List CoreKind) → copies (n + 1) xs ≡ copies n xs ++ xs
 copies_more n xs = rw add-one (sym (copies_end n xs))
 
--- past the shorter list only the longer one is left
-pub joined_rest : (c : ℕ) (xs ys : List CoreKind) → c ≡ min (length xs) (length ys) → join_slots (drop c xs) (drop c ys) ≡ drop c xs ++ drop c ys
-joined_rest zero [] ys e = refl
-joined_rest zero (x ∷ xs) [] e = sym (append-nil (x ∷ xs))
-joined_rest zero (x ∷ xs) (y ∷ ys) e = absurd (omega arith)
-joined_rest (suc c) [] ys e = absurd (omega arith)
-joined_rest (suc c) (x ∷ xs) [] e = absurd (omega arith)
-joined_rest (suc c) (x ∷ xs) (y ∷ ys) e = joined_rest c xs ys (omega arith)
-
 -- ---- what each arm answers
 
 pub option_flat : (k : CasesKind) (l m : List ℕ) (t : Ty) → flat_of (cases k (plain l (carrying m t no_cases))) ≡ I32 ∷ flat_of t
@@ -59,37 +52,129 @@ pub result_flat : (k : CasesKind) (l m : List ℕ) (o p : Option Ty) → flat_of
 result_flat k l m o p =
     rw (flat_before l o (case_before m p no_cases), flat_before m p no_cases, joined_nil (flat_of_payload p)) refl
 
--- a kind was pushed, and then others
-pub pushed_both : (k : CoreKind) (out a b ks js : List CoreKind) → a ≡ out ++ k ∷ [] → b ≡ a ++ ks → ks ≡ js → b ≡ out ++ k ∷ js
-pushed_both k out a b ks js e f g = f ∙ rw (e, g) (append_assoc out (k ∷ []) js)
+-- ---- slots joined one after another
 
-rest_of : (c : ℕ) (xs : List CoreKind) → take (length xs - c) (drop c xs) ≡ drop c xs
-rest_of c xs = take_all (length xs - c) (drop c xs) (omega (arith, length-drop c xs))
+end_joined : (ks js : List CoreKind) → join_from (length ks) ks js ≡ ks ++ js
+end_joined [] js = refl
+end_joined (k ∷ ks) js = ap (λ zs. k ∷ zs) (end_joined ks js)
 
--- the joined part, and the rest of both
-pub joined_end : (i c : ℕ) (s t u xs ys : List CoreKind) → i ≡ c → c ≡ min (length xs) (length ys) → s ++ join_slots (drop i xs) (drop i ys) ≡ join_slots xs ys
-    → t ≡ s ++ take (length xs - c) (drop c xs) → u ≡ t ++ take (length ys - c) (drop c ys) → u ≡ join_slots xs ys
-joined_end i c s t u xs ys d e h f g =
-    g ∙ rw (rest_of c ys, f, rest_of c xs)
-    (append_assoc s (drop c xs) (drop c ys) ∙ ap (λ z. s ++ z) (sym (joined_rest c xs ys e)) ∙ ap (λ k. s ++ join_slots (drop k xs) (drop k ys)) (sym d) ∙ h)
+behind_start : (xs ks js : List CoreKind) → join_from (length ks) (join_slots xs ks) js ≡ join_slots xs (ks ++ js)
+behind_start xs [] js = ap (λ zs. join_slots zs js) (joined_nil xs)
+behind_start [] (k ∷ ks) js = ap (λ zs. k ∷ zs) (end_joined ks js)
+behind_start (x ∷ xs) (k ∷ ks) js = ap (λ zs. join x k ∷ zs) (behind_start xs ks js)
 
--- nothing is left to join
-pub joined_all : (i : ℕ) (cs : List Case) (s w : List CoreKind) → length cs ≤ i → join_slots s (flat_of_cases (cases_of (drop i cs))) ≡ w → s ≡ w
-joined_all i cs s w le h = let e : drop i cs ≡ [] = drop_all i cs le in sym (rw e (joined_nil s)) ∙ h
+-- behind what was joined
+pub joined_behind : (at : ℕ) (xs ks js : List CoreKind) → at ≤ length xs → join_from (at + length ks) (join_from at xs ks) js ≡ join_from at xs (ks ++ js)
+joined_behind zero xs ks js h = ap (λ n. join_from n (join_slots xs ks) js) (zero-add (length ks)) ∙ behind_start xs ks js
+joined_behind (suc n) [] ks js h = absurd (omega arith)
+joined_behind (suc n) (x ∷ xs) ks js h = ap (λ m. join_from m (x ∷ join_from n xs ks) js) (suc-add n (length ks)) ∙ ap (λ zs. x ∷ zs) (joined_behind n xs ks js (omega arith))
 
--- one more case was joined
-pub joined_more : (i : ℕ) (cs : List Case) (x : Case) (s t w : List CoreKind) → i < length cs → x ≡ get_or cs i x → t ≡ join_slots s (flat_of_payload (case_of x).1)
-    → join_slots s (flat_of_cases (cases_of (drop i cs))) ≡ w → join_slots t (flat_of_cases (cases_of (drop (i + 1) cs))) ≡ w
-joined_more i cs x s t w lt e f h =
-    let d : drop i cs ≡ x ∷ drop (i + 1) cs = rw (add-one, drop-cons cs i x lt, ← e) refl in
-    rw f (joined_assoc s (flat_of_payload (case_of x).1) (flat_of_cases (cases_of (drop (i + 1) cs)))
-    ∙ ap (join_slots s) (sym (flat_before (case_of x).0 (case_of x).1 (cases_of (drop (i + 1) cs))))
-    ∙ ap (λ ds. join_slots s (flat_of_cases (cases_of ds))) (sym d) ∙ h)
+-- in the same place as what was joined
+pub joined_over : (at : ℕ) (xs ks js : List CoreKind) → at ≤ length xs → join_from at (join_from at xs ks) js ≡ join_from at xs (join_slots ks js)
+joined_over zero xs ks js h = joined_assoc xs ks js
+joined_over (suc n) [] ks js h = absurd (omega arith)
+joined_over (suc n) (x ∷ xs) ks js h = ap (λ zs. x ∷ zs) (joined_over n xs ks js (omega arith))
 
-pub copied : (n : ℕ) (out a b xs : List CoreKind) → a ≡ out ++ copies n xs → b ≡ a ++ xs → b ≡ out ++ copies (n + 1) xs
-copied n out a b xs e f = f ∙ rw e (append_assoc out (copies n xs) xs ∙ ap (λ z. out ++ z) (sym (copies_more n xs)))
+pub joined_none : (at : ℕ) (xs : List CoreKind) → join_from at xs [] ≡ xs
+joined_none zero xs = joined_nil xs
+joined_none (suc n) [] = refl
+joined_none (suc n) (x ∷ xs) = ap (λ zs. x ∷ zs) (joined_none n xs)
 
-pub both_joined : (w k x y a b o p : List CoreKind) → w ≡ k → k ≡ join_slots x y → x ≡ a → y ≡ b → a ≡ o → b ≡ p → w ≡ join_slots o p
-both_joined w k x y a b o p d e f g h i = d ∙ e ∙ rw (f ∙ h, g ∙ i) refl
+-- how many slots there are then
+joined_length : (at : ℕ) (xs ks : List CoreKind) → at ≤ length xs → length (join_from at xs ks) ≡ max (length xs) (at + length ks)
+joined_length zero xs ks h = omega (arith, join_long xs ks)
+joined_length (suc n) [] ks h = absurd (omega arith)
+joined_length (suc n) (x ∷ xs) ks h = omega (arith, joined_length n xs ks (omega arith))
 
-pub ruleset flats = (joined_nil, joined_assoc, flat_plain, option_flat, enum_flat, result_flat, joined_rest, copies_more)
+-- one slot
+pub joined_end : (xs : List CoreKind) (k : CoreKind) → join_from (length xs) xs (k ∷ []) ≡ xs ++ k ∷ []
+joined_end xs k = end_joined xs (k ∷ [])
+
+pub joined_here : (at : ℕ) (xs : List CoreKind) (k x : CoreKind) → at < length xs → join_from at xs (k ∷ []) ≡ set xs at (join (get_or xs at x) k)
+joined_here zero [] k x h = absurd (omega arith)
+joined_here zero (y ∷ ys) k x h = ap (λ zs. join y k ∷ zs) (joined_nil ys)
+joined_here (suc n) [] k x h = absurd (omega arith)
+joined_here (suc n) (y ∷ ys) k x h = ap (λ zs. y ∷ zs) (joined_here n ys k x (omega arith))
+
+-- ---- what was joined
+
+pub joined_is : (at : ℕ) (xs ks ys : List CoreKind) (n : ℕ) → at ≤ length xs → ys ≡ join_from at xs ks → n ≡ at + length ks → JoinedFrom at xs ks ys n
+joined_is at xs ks ys n h e f = record { slots = e; end = f; within = omega (arith, ap length e, joined_length at xs ks h) }
+
+pub joined_nothing : (at : ℕ) (xs : List CoreKind) → at ≤ length xs → JoinedFrom at xs [] xs at
+joined_nothing at xs h = joined_is at xs [] xs at h (sym (joined_none at xs)) (omega arith)
+
+-- one behind the other
+pub joined_then : (at m n : ℕ) (xs ks ys js zs : List CoreKind) → at ≤ length xs → JoinedFrom at xs ks ys m → JoinedFrom m ys js zs n → JoinedFrom at xs (ks ++ js) zs n
+joined_then at m n xs ks ys js zs h a b =
+    joined_is at xs (ks ++ js) zs n h
+    (b.slots ∙ rw (a.slots, a.end) (joined_behind at xs ks js h))
+    (b.end ∙ rw a.end (omega (arith, length-append ks js)))
+
+-- one over the other
+pub joined_both : (at m n e : ℕ) (xs ks ys js zs : List CoreKind) → at ≤ length xs → JoinedFrom at xs ks ys m → JoinedFrom at ys js zs n → e ≡ max m n → JoinedFrom at xs (join_slots ks js) zs e
+joined_both at m n e xs ks ys js zs h a b f =
+    joined_is at xs (join_slots ks js) zs e h
+    (b.slots ∙ rw a.slots (joined_over at xs ks js h))
+    (f ∙ omega (arith, a.end, b.end, join_long ks js))
+
+-- the same kinds, told otherwise
+pub joined_same : (at n : ℕ) (xs ks js ys : List CoreKind) → ks ≡ js → JoinedFrom at xs ks ys n → JoinedFrom at xs js ys n
+joined_same at n xs ks js ys e a = record { slots = rw (← e) a.slots; end = rw (← e) a.end; within = a.within }
+
+-- one kind, into a slot that is there or a new one
+pub joined_slot_here : (at : ℕ) (xs ys : List CoreKind) (k j x : CoreKind) → at < length xs → j ≡ join (get_or xs at x) k → ys ≡ set xs at j → JoinedFrom at xs (k ∷ []) ys (at + 1)
+joined_slot_here at xs ys k j x lt e f = joined_is at xs (k ∷ []) ys (at + 1) (omega arith) (f ∙ ap (set xs at) e ∙ sym (joined_here at xs k x lt)) refl
+
+pub joined_slot_end : (at : ℕ) (xs ys : List CoreKind) (k : CoreKind) → at ≡ length xs → ys ≡ xs ++ k ∷ [] → JoinedFrom at xs (k ∷ []) ys (at + 1)
+joined_slot_end at xs ys k e f = joined_is at xs (k ∷ []) ys (at + 1) (omega arith) (f ∙ rw e (sym (joined_end xs k))) refl
+
+-- ---- loops
+
+-- of all kinds some were joined, one behind the other: these are left
+pub record LeavesBehind (at : ℕ) (xs all rest ys : List CoreKind) (next : ℕ) : Type 0 where
+  pub slots : join_from next ys rest ≡ join_from at xs all
+  pub end : next + length rest ≡ at + length all
+  pub within : next ≤ length ys
+
+pub all_behind : (at : ℕ) (xs all : List CoreKind) → at ≤ length xs → LeavesBehind at xs all all xs at
+all_behind at xs all h = record { slots = refl; end = refl; within = h }
+
+pub more_behind : (at m n : ℕ) (xs all ks rest ys zs : List CoreKind) → LeavesBehind at xs all (ks ++ rest) ys m → JoinedFrom m ys ks zs n → LeavesBehind at xs all rest zs n
+more_behind at m n xs all ks rest ys zs b j =
+    record {
+      slots = rw (j.slots, j.end) (joined_behind m ys ks rest b.within) ∙ b.slots;
+      end = omega (arith, j.end, b.end, length-append ks rest);
+      within = j.within;
+    }
+
+pub none_behind : (at n : ℕ) (xs all ys : List CoreKind) → LeavesBehind at xs all [] ys n → JoinedFrom at xs all ys n
+none_behind at n xs all ys b = record { slots = sym (joined_none n ys) ∙ b.slots; end = omega (arith, b.end); within = b.within }
+
+-- of all kinds some were joined, one over the other: these are left
+pub record LeavesOver (at : ℕ) (xs all rest ys : List CoreKind) (next : ℕ) : Type 0 where
+  pub slots : join_from at ys rest ≡ join_from at xs all
+  pub end : max next (at + length rest) ≡ at + length all
+  pub above : at ≤ next
+  pub within : next ≤ length ys
+
+pub all_over : (at : ℕ) (xs all : List CoreKind) → at ≤ length xs → LeavesOver at xs all all xs at
+all_over at xs all h = record { slots = refl; end = omega arith; above = omega arith; within = h }
+
+pub more_over : (at m n e : ℕ) (xs all ks rest ys zs : List CoreKind) → LeavesOver at xs all (join_slots ks rest) ys m → JoinedFrom at ys ks zs n → e ≡ max m n → LeavesOver at xs all rest zs e
+more_over at m n e xs all ks rest ys zs b j f =
+    let h : at ≤ length ys = omega (arith, b.above, b.within) in
+    record {
+      slots = rw j.slots (joined_over at ys ks rest h) ∙ b.slots;
+      end = omega (arith, j.end, b.end, b.above, join_long ks rest);
+      above = omega (arith, b.above);
+      within = omega (arith, b.within, j.within, ap length j.slots, joined_length at ys ks h);
+    }
+
+pub none_over : (at n : ℕ) (xs all ys : List CoreKind) → LeavesOver at xs all [] ys n → JoinedFrom at xs all ys n
+none_over at n xs all ys b = record { slots = sym (joined_none at ys) ∙ b.slots; end = omega (arith, b.end, b.above); within = b.within }
+
+pub more_copies : (at m n i : ℕ) (xs ks ys zs : List CoreKind) → at ≤ length xs → JoinedFrom at xs (copies i ks) ys m → JoinedFrom m ys ks zs n → JoinedFrom at xs (copies (i + 1) ks) zs n
+more_copies at m n i xs ks ys zs h a b = joined_same at n xs (copies i ks ++ ks) (copies (i + 1) ks) zs (sym (copies_more i ks)) (joined_then at m n xs (copies i ks) ys ks zs h a b)
+
+pub ruleset flats = (joined_nil, flat_plain, joined_none)

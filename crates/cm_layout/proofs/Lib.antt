@@ -1,5 +1,14 @@
+pub mod Seen
 pub mod AlignLemmas
 pub mod SizeLemmas
 pub mod OffsetLaws
 pub mod FlatLemmas
 pub mod SlotLaws
+pub mod LaidLaws
+pub mod WidthLaws
+pub mod BulkLaws
+pub mod MarkLaws
+pub mod HeadLaws
+pub mod LayoutLemmas
+pub mod LawsOfLayouts
+pub mod NumberLaws

@@ -5,11 +5,11 @@ use Rattle.std.proofs.Math.Nat.{mul_assoc}
 use Rattle.std.proofs.lemmas.List.{length-map}
 use Rattle.cm_types.specs.Types.{Ty, Fields, Cases, width_bytes, bool, signed, unsigned, char, string, list, fixed_list, fields, cases, flags, own, borrow, no_fields, field}
 use Rattle.cm_types.specs.TypeTrees.{TypedLabel, fields_from, parts_from, plain_from, field_of, type_of, fields_of, parts_of}
-use Rattle.cm_types.specs.Limits.{nodes_of_fields}
+use Rattle.cm_types.specs.Limits.{nodes_of, nodes_of_fields}
 use Rattle.cm_types.specs.declared.type_trees.TypeNode.{TypeNode}
 use Rattle.cm_types.specs.declared.type_trees.Field.{Field}
 use Rattle.cm_layout.specs.Alignment.{align_to, IsLeastMultiple}
-use Rattle.cm_layout.specs.Sizes.{align_of, align_of_payloads, case_count, discriminant_size, payload_offset, size_of, end_of, field_offset_from, field_count, field_type, end_before, HasField, fields_in, field_offset, HasCases, IsPayloadOffset, case_offset, align_of_fields, flags_size, greatest_payload}
+use Rattle.cm_layout.specs.Sizes.{IsWholeSize, align_of, align_of_payloads, case_count, discriminant_size, payload_offset, size_of, end_of, field_offset_from, field_count, field_type, end_before, HasField, fields_in, field_offset, HasCases, IsPayloadOffset, case_offset, align_of_fields, flags_size, greatest_payload}
 use Rattle.cm_layout.proofs.AlignLemmas.{align_pos, fields_align_pos, payloads_align_pos, count_plain, align_plain}
 use Rattle.cm_layout.proofs.SizeLemmas.{is_place}
 
@@ -46,22 +46,33 @@ part_place_is (t ∷ ts) at zero x lt e = ap (λ y. align_to (align_of (type_of 
 part_place_is (t ∷ ts) at (suc n) x lt e = part_place_is ts (align_to (align_of (type_of t)) at + size_of (type_of t)) n x (omega arith) e
 
 -- the fields before n have no more nodes than all have
-pub fields_taken : (fs : List Field) (n : ℕ) → nodes_of_fields (fields_of (take n fs)) ≤ nodes_of_fields (fields_of fs)
-fields_taken [] zero = omega arith
-fields_taken [] (suc n) = omega arith
-fields_taken (f ∷ fs) zero = omega arith
-fields_taken (f ∷ fs) (suc n) = omega (arith, fields_taken fs n)
+pub fields_before : (fs : List Field) (n : ℕ) → nodes_of_fields (fields_of (take n fs)) ≤ nodes_of_fields (fields_of fs)
+fields_before [] zero = omega arith
+fields_before [] (suc n) = omega arith
+fields_before (f ∷ fs) zero = omega arith
+fields_before (f ∷ fs) (suc n) = omega (arith, fields_before fs n)
 
-pub parts_taken : (ts : List TypeNode) (n : ℕ) → nodes_of_fields (parts_of (take n ts)) ≤ nodes_of_fields (parts_of ts)
-parts_taken [] zero = omega arith
-parts_taken [] (suc n) = omega arith
-parts_taken (t ∷ ts) zero = omega arith
-parts_taken (t ∷ ts) (suc n) = omega (arith, parts_taken ts n)
+pub parts_before : (ts : List TypeNode) (n : ℕ) → nodes_of_fields (parts_of (take n ts)) ≤ nodes_of_fields (parts_of ts)
+parts_before [] zero = omega arith
+parts_before [] (suc n) = omega arith
+parts_before (t ∷ ts) zero = omega arith
+parts_before (t ∷ ts) (suc n) = omega (arith, parts_before ts n)
+
+-- the fields before n, and field n, have no more nodes than all have
+pub fields_up_to : (fs : List Field) (n : ℕ) (x : Field) → n < length fs → x ≡ get_or fs n x → nodes_of_fields (fields_of (take n fs)) + nodes_of (field_of x).1 ≤ nodes_of_fields (fields_of fs)
+fields_up_to [] n x lt e = absurd (omega arith)
+fields_up_to (f ∷ fs) zero x lt e = let g : nodes_of (field_of x).1 ≡ nodes_of (field_of f).1 = ap (λ (y : Field). nodes_of (field_of y).1) e in omega arith
+fields_up_to (f ∷ fs) (suc n) x lt e = omega (arith, fields_up_to fs n x (omega arith) e)
+
+pub parts_up_to : (ts : List TypeNode) (n : ℕ) (x : TypeNode) → n < length ts → x ≡ get_or ts n x → nodes_of_fields (parts_of (take n ts)) + nodes_of (type_of x) ≤ nodes_of_fields (parts_of ts)
+parts_up_to [] n x lt e = absurd (omega arith)
+parts_up_to (t ∷ ts) zero x lt e = let g : nodes_of (type_of x) ≡ nodes_of (type_of t) = ap (λ (y : TypeNode). nodes_of (type_of y)) e in omega arith
+parts_up_to (t ∷ ts) (suc n) x lt e = omega (arith, parts_up_to ts n x (omega arith) e)
 
 pub variant_offset : (cs : Cases) (r d a : ℕ) → r ≡ align_to a d → d ≡ discriminant_size (case_count cs) → a ≡ align_of_payloads cs → r ≡ payload_offset cs
 variant_offset cs r d a e f g = e ∙ rw (f, g) refl
 
-discriminant_place : (n : ℕ) → discriminant_size n ≡ align_to 1 (discriminant_size n)
+pub discriminant_place : (n : ℕ) → discriminant_size n ≡ align_to 1 (discriminant_size n)
 discriminant_place n = elim (cases_Bool (nat_le n 256)) [
   | inl y ↦ rw y refl
   | inr b ↦ elim (cases_Bool (nat_le n 65536)) [ inl y ↦ rw (b, y) refl | inr c ↦ rw (b, c) refl ]
@@ -69,8 +80,6 @@ discriminant_place n = elim (cases_Bool (nat_le n 256)) [
 
 pub enum_offset : (r n : ℕ) (ls : List (List ℕ)) → r ≡ discriminant_size n → n ≡ length ls → r ≡ payload_offset (plain_from ls)
 enum_offset r n ls e f = rw (count_plain ls, align_plain ls) (e ∙ ap discriminant_size f ∙ discriminant_place (length ls))
-
-pub ruleset places = (fields_taken, parts_taken)
 
 -- ---- laws of whole types
 
@@ -105,3 +114,9 @@ size_multiple (cases k cs) = (is_place (align_of (cases k cs)) (payload_offset c
 size_multiple (flags ls) = once (flags_size (length ls))
 size_multiple (own r) = once 4
 size_multiple (borrow r) = once 4
+
+-- a size is the least multiple behind all that is held
+pub whole_law : (t : Ty) → IsWholeSize t (size_of t)
+whole_law (fields k fs) = is_place (align_of_fields fs) (end_of fs 0) (fields_align_pos fs)
+whole_law (cases k cs) = is_place (align_of (cases k cs)) (payload_offset cs + greatest_payload cs) (align_pos (cases k cs))
+whole_law _ = tt

@@ -6,9 +6,10 @@ use Rattle.cm_types.specs.Types.{Ty, Fields, Cases, CasesKind, Width, bits_8, bi
 use Rattle.cm_types.specs.TypeTrees.{case_before, plain_from}
 use Rattle.cm_types.specs.Limits.{nodes_of, nodes_of_fields, nodes_of_cases, payload_nodes}
 use Rattle.cm_layout.specs.Alignment.{align_to, IsLeastMultiple}
+use Rattle.cm_layout.proofs.Seen.{before_nodes}
 use Rattle.cm_layout.specs.Sizes.{align_of, align_of_fields, align_of_payloads, align_of_payload, case_count, discriminant_size, flags_size, size_of, end_of, greatest_payload, payload_offset, size_of_payload}
 use Rattle.cm_layout.proofs.AlignLemmas.{align_pos, fields_align_pos, payloads_align_pos, discriminant_pos, flags_pos, count_before, count_of_cases, count_plain, align_before, align_plain, payload_align_pos}
-use Rattle.cm_types.proofs.Nodes.{before_nodes}
+
 
 -- ---- places
 

@@ -1,5 +1,5 @@
 -- The core values that a value is passed as (CanonicalABI.md, "Flattening").
-use Rattle.std.specs.Prelude.{◌≡◌, ℕ, zero, suc, List, [], ◌∷◌, ◌++◌, ◌⊎◌, ⊤, Option, Some, None}
+use Rattle.std.specs.Prelude.{◌≡◌, ℕ, zero, suc, ◌+◌, ◌≤◌, List, [], ◌∷◌, ◌++◌, length, ◌⊎◌, ⊤, Option, Some, None}
 use Rattle.cm_types.specs.declared.core_value.CoreKind.{CoreKind}
 use Rattle.cm_types.specs.declared.core_value.CoreKind.TheVariants.{I32, I64}
 use Rattle.cm_types.specs.Types.{Ty, Fields, Cases, Width, bits_8, bits_16, bits_32, bits_64, bool}
@@ -21,6 +21,12 @@ abbrev pub join_slots : List CoreKind → List CoreKind → List CoreKind
 join_slots [] ys = ys
 join_slots (x ∷ xs) [] = x ∷ xs
 join_slots (x ∷ xs) (y ∷ ys) = join x y ∷ join_slots xs ys
+
+-- the same from a slot on: the slots before it stay
+abbrev pub join_from : ℕ → List CoreKind → List CoreKind → List CoreKind
+join_from zero xs ys = join_slots xs ys
+join_from (suc n) [] ys = ys
+join_from (suc n) (x ∷ xs) ys = x ∷ join_from n xs ys
 
 -- the kind of a number of this width
 abbrev pub number_kind : Width → CoreKind
@@ -55,6 +61,12 @@ abbrev mutual
   flat_of_cases no_cases = []
   flat_of_cases (plain l cs) = flat_of_cases cs
   flat_of_cases (carrying l t cs) = join_slots (flat_of t) (flat_of_cases cs)
+
+-- kinds were joined into slots from a slot on, and end at another
+pub record JoinedFrom (at : ℕ) (old joined new : List CoreKind) (next : ℕ) : Type 0 where
+  pub slots : new ≡ join_from at old joined
+  pub end : next ≡ at + length joined
+  pub within : next ≤ length new
 
 -- those of a payload, if there is one
 abbrev pub flat_of_payload : Option Ty → List CoreKind

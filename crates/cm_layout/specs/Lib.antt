@@ -2,5 +2,8 @@ pub mod Alignment
 pub mod Sizes
 pub mod Flattening
 pub mod FlatFuncs
-pub mod LayoutTys
-pub mod LayoutTrees
+pub mod PlainBytes
+pub mod Shapes
+pub mod Heads
+pub mod Layouts
+pub mod Laid

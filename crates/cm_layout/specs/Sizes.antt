@@ -1,6 +1,6 @@
 -- Sizes and alignments of values in memory, in bytes (CanonicalABI.md, "Alignment" and "Element
 -- Size").
-use Rattle.std.specs.Prelude.{ℕ, zero, suc, ◌+◌, ◌*◌, ◌<◌, ⊤, max, nat_le, if◌then◌else◌, length}
+use Rattle.std.specs.Prelude.{◌≡◌, ℕ, zero, suc, ◌+◌, ◌*◌, ◌<◌, ◌≤◌, ◌⊎◌, ⊤, max, nat_le, if◌then◌else◌, length}
 use Rattle.std.specs.Prelude.{Option, Some, None}
 use Rattle.cm_types.specs.Types.{Ty, Fields, Cases, width_bytes, bool, signed, unsigned, char}
 use Rattle.cm_types.specs.Types.{string}
@@ -150,3 +150,17 @@ abbrev pub IsPayloadOffset : Ty → ℕ → Type 0
 IsPayloadOffset (cases k cs) at =
     IsLeastMultiple (align_of_payloads cs) (discriminant_size (case_count cs)) at
 IsPayloadOffset _ at = ⊥
+
+-- the size of what has fields or cases is the least multiple of its alignment that is not below the
+-- end of the last field, or of the greatest payload
+abbrev pub IsWholeSize : Ty → ℕ → Type 0
+IsWholeSize (fields k fs) n = IsLeastMultiple (align_of_fields fs) (end_of fs 0) n
+IsWholeSize (cases k cs) n =
+    IsLeastMultiple (align_of (cases k cs)) (payload_offset cs + greatest_payload cs) n
+IsWholeSize _ n = ⊤
+
+-- the least of 1, 2 and 4 bytes of which something holds
+pub record IsLeastBytes (holds : ℕ → Type 0) (bytes : ℕ) : Type 0 where
+  pub one_of : (bytes ≡ 1) ⊎ (bytes ≡ 2) ⊎ (bytes ≡ 4)
+  pub enough : holds bytes
+  pub least : (b : ℕ) → (b ≡ 1) ⊎ (b ≡ 2) ⊎ (b ≡ 4) → holds b → bytes ≤ b

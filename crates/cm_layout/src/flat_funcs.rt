@@ -1,14 +1,14 @@
 //! The core signatures of functions.
 
-ghost use Rattle.std.specs.Prelude.{◌≡◌, [], ◌∷◌, ◌++◌, IfOk};
-ghost use Rattle.cm_types.specs.Funcs.{func_of, tree_type};
+ghost use Rattle.std.specs.Prelude.{◌≡◌, ◌∷◌, [], IfOk, OnOk, if◌then◌else◌, length};
+ghost use Rattle.cm_types.specs.Funcs.{func_of};
 ghost use Rattle.cm_types.specs.declared.core_value.CoreKind.TheVariants.{I32};
-ghost use Rattle.std.specs.Option.{option_map};
-ghost use Rattle.cm_layout.specs.Flattening.{flat_of_payload};
-ghost use Rattle.cm_layout.specs.FlatFuncs.{flat_func, flat_func_of, lifted_func, lowered_func};
+ghost use Rattle.cm_layout.specs.Flattening.{flat_of_fields, flat_of_payload};
+ghost use Rattle.cm_layout.specs.FlatFuncs.{flat_func, flat_func_of};
 
-use crate::flattening::{push_fields, push_flat};
-use cm_types::{CoreKind, Func, MAX_FLAT_PARAMS, MAX_FLAT_RESULTS, TypeTree};
+use crate::flattening::{join_fields, join_flat};
+use crate::measures::{fields_so_far, node_head};
+use cm_types::{CoreKind, Func, MAX_FLAT_PARAMS, MAX_FLAT_RESULTS};
 use std::alloc::{AllocError, Global};
 
 /// Which core function: the one that a component lifts, or the one that it gets for a function that
@@ -31,46 +31,6 @@ pub struct FlatFunc {
     pub spilled_result: bool,
 }
 
-impl FlatFunc {
-    /// The core signature of a function on this side.
-    fn new(
-        alloc: Global,
-        params: Vec<CoreKind>,
-        results: Vec<CoreKind>,
-        side: Side,
-    ) -> Result<FlatFunc, AllocError>
-        ensures lift { side ≡ Side.Lift
-            → IfOk result (λ f. flat_func_of f ≡ lifted_func params.items results.items) }
-        ensures lower { side ≡ Side.Lower
-            → IfOk result (λ f. flat_func_of f ≡ lowered_func params.items results.items) }
-    {
-        let spilled_params = params.len() > MAX_FLAT_PARAMS;
-        let spilled_result = results.len() > MAX_FLAT_RESULTS;
-        let mut params = if spilled_params {
-            pointer(alloc)?
-        } else {
-            params
-        };
-        let results = if spilled_result {
-            match side {
-                Side::Lift => pointer(alloc)?,
-                Side::Lower => {
-                    params.push(CoreKind::I32)?;
-                    Vec::new(alloc)
-                }
-            }
-        } else {
-            results
-        };
-        Ok(FlatFunc {
-            params,
-            results,
-            spilled_params,
-            spilled_result,
-        })
-    }
-}
-
 /// The core signature of a function. More than 16 flat parameters are one pointer to their tuple. A
 /// result of more than 1 flat value is answered by a pointer to it where the function is lifted; a
 /// lowered function takes that pointer as its last parameter and answers nothing. `AllocError`
@@ -78,24 +38,63 @@ impl FlatFunc {
 pub fn flatten_func(alloc: Global, func: &Func, side: Side) -> Result<FlatFunc, AllocError>
     ensures { IfOk result (λ f. flat_func_of f ≡ flat_func side (func_of func.now)) }
 {
-    let mut params = Vec::new(alloc);
-    push_fields(&mut params, alloc, &func.params)?;
-    let results = flat_result(alloc, &func.result)?;
-    FlatFunc::new(alloc, params, results, side)
+    let spilled_params = params_width(func) > MAX_FLAT_PARAMS;
+    let spilled_result = result_width(func) > MAX_FLAT_RESULTS;
+    let mut params = flat_params(alloc, func, spilled_params)?;
+    let mut results = Vec::new(alloc);
+    if !spilled_result {
+        join_result(&mut results, func)?;
+    } else if side == Side::Lift {
+        results.push(CoreKind::I32)?;
+    } else {
+        params.push(CoreKind::I32)?;
+    }
+    Ok(FlatFunc {
+        params,
+        results,
+        spilled_params,
+        spilled_result,
+    })
 }
 
-fn pointer(alloc: Global) -> Result<Vec<CoreKind>, AllocError>
-    ensures { IfOk result (λ v. v.items ≡ I32 ∷ []) }
+/// How many core values pass the parameters, if all are passed.
+fn params_width(func: &Func) -> usize
+    ensures { result ≡ length (flat_of_fields (func_of func.now).params) }
 {
-    Ok(vec![in alloc; CoreKind::I32]?)
+    fields_so_far(&func.params).width as usize
 }
 
-fn flat_result(alloc: Global, ty: &Option<TypeTree>) -> Result<Vec<CoreKind>, AllocError>
-    ensures { IfOk result (λ v. v.items ≡ flat_of_payload (option_map tree_type ty.now)) }
+/// How many core values pass the result, if all are passed.
+fn result_width(func: &Func) -> usize
+    ensures { result ≡ length (flat_of_payload (func_of func.now).result) }
+{
+    match &func.result {
+        Some(ty) => node_head(&ty.root).width as usize,
+        None => 0,
+    }
+}
+
+/// The parameters, or a pointer to them where they are spilled.
+fn flat_params(alloc: Global, func: &Func, is_spilled: bool) -> Result<Vec<CoreKind>, AllocError>
+    ensures { IfOk result (λ v. v.items
+        ≡ (if is_spilled then I32 ∷ [] else flat_of_fields (func_of func.now).params)) }
 {
     let mut kinds = Vec::new(alloc);
-    if let Some(ty) = ty {
-        push_flat(&mut kinds, alloc, &ty.root)?;
+    if is_spilled {
+        kinds.push(CoreKind::I32)?;
+    } else {
+        join_fields(&mut kinds, 0, &func.params)?;
     }
     Ok(kinds)
+}
+
+/// Puts the result's core values into an empty list.
+fn join_result(kinds: &mut Vec<CoreKind>, func: &Func) -> Result<(), AllocError>
+    requires { kinds.old.items ≡ [] }
+    ensures { OnOk result (kinds.new.items ≡ flat_of_payload (func_of func.now).result) }
+{
+    if let Some(ty) = &func.result {
+        join_flat(kinds, 0, &ty.root)?;
+    }
+    Ok(())
 }

@@ -1,13 +1,14 @@
-//! The core values that a value is passed as.
+//! The core values that a value is passed as, each written once: what cases carry is joined in the
+//! list where it is to stand.
 
-ghost use Rattle.std.specs.Prelude.{◌≡◌, ◌++◌, IfOk, OnOk};
+ghost use Rattle.std.specs.Prelude.{◌≡◌, ◌+◌, ◌∷◌, ◌≤◌, [], IfOk, length};
 ghost use Rattle.std.specs.Option.{option_map};
-ghost use Rattle.cm_types.specs.TypeTrees.{shared_payload, cases_of, fields_of, parts_of, type_of};
+ghost use Rattle.cm_types.specs.TypeTrees.{cases_of, fields_of, parts_of, shared_payload, type_of};
 ghost use Rattle.cm_layout.specs.Flattening.{copies, flat_of, flat_of_cases, flat_of_fields};
-ghost use Rattle.cm_layout.specs.Flattening.{flat_of_payload, join, join_slots};
+ghost use Rattle.cm_layout.specs.Flattening.{JoinedFrom, flat_of_payload, join};
 
 use cm_types::{Case, CoreKind, Field, TypeNode};
-use std::alloc::{AllocError, Global};
+use std::alloc::AllocError;
 use std::rc::Rc;
 
 fn join(a: CoreKind, b: CoreKind) -> CoreKind
@@ -19,66 +20,50 @@ fn join(a: CoreKind, b: CoreKind) -> CoreKind
     }
 }
 
+/// Joins one core value into the slot `at`, and answers the next slot.
 #[tactic(auto, using(crate::proofs::FlatLemmas::flats))]
-fn join_slots(alloc: Global, a: &[CoreKind], b: &[CoreKind]) -> Result<Vec<CoreKind>, AllocError>
-    ensures { IfOk result (λ v. v.items ≡ join_slots a.now b.now) }
+fn join_kind(kinds: &mut Vec<CoreKind>, at: usize, kind: CoreKind) -> Result<usize, AllocError>
+    requires { at ≤ length kinds.old.items }
+    ensures { IfOk result (JoinedFrom at kinds.old.items (kind ∷ []) kinds.new.items) }
 {
-    let both = a.len().min(b.len());
-    let mut slots = Vec::new(alloc);
-    for i in 0..both {
-        slots.push(join(a[i], b[i]))?;
+    if at < kinds.len() {
+        kinds[at] = join(kinds[at], kind);
+    } else {
+        kinds.push(kind)?;
     }
-    slots.extend_from_slice(&a[both..])?;
-    slots.extend_from_slice(&b[both..])?;
-    Ok(slots)
+    Ok(at + 1)
 }
 
-#[tactic(auto, using(crate::proofs::FlatLemmas::flats))]
-fn push_copies(out: &mut Vec<CoreKind>, kinds: &[CoreKind], count: u32) -> Result<(), AllocError>
-    ensures { OnOk result (out.new.items ≡ out.old.items ++ copies count kinds.now) }
-{
-    for _copy in 0..count {
-        out.extend_from_slice(kinds)?;
-    }
-    Ok(())
-}
-
+/// Joins the core values of a type into the slots from `at` on, and answers where they end.
 #[cycle(flat)]
 #[tactic(auto, using(crate::proofs::FlatLemmas::flats))]
-pub(crate) fn push_flat(
-    out: &mut Vec<CoreKind>,
-    alloc: Global,
+pub(crate) fn join_flat(
+    kinds: &mut Vec<CoreKind>,
+    at: usize,
     ty: &TypeNode,
-) -> Result<(), AllocError>
-    ensures { OnOk result (out.new.items ≡ out.old.items ++ flat_of (type_of ty.now)) }
+) -> Result<usize, AllocError>
+    requires { at ≤ length kinds.old.items }
+    ensures { IfOk result (JoinedFrom at kinds.old.items (flat_of (type_of ty.now)) kinds.new.items) }
 {
     match ty {
-        TypeNode::S64 | TypeNode::U64 => out.push(CoreKind::I64)?,
-        TypeNode::String | TypeNode::List(_) => {
-            out.extend_from_slice(&[CoreKind::I32, CoreKind::I32])?
-        }
-        TypeNode::FixedList { element, length } => {
-            let mut kinds = Vec::new(alloc);
-            push_flat(&mut kinds, alloc, element)?;
-            push_copies(out, &kinds, *length)?
-        }
-        TypeNode::Record(fields) => push_fields(out, alloc, fields)?,
-        TypeNode::Tuple(parts) => push_parts(out, alloc, parts)?,
+        TypeNode::S64 | TypeNode::U64 => join_kind(kinds, at, CoreKind::I64),
+        TypeNode::String | TypeNode::List(_) => join_pair(kinds, at),
+        TypeNode::FixedList { element, length } => join_copies(kinds, at, element, *length),
+        TypeNode::Record(fields) => join_fields(kinds, at, fields),
+        TypeNode::Tuple(parts) => join_parts(kinds, at, parts),
         TypeNode::Variant(cases) => {
-            out.push(CoreKind::I32)?;
-            let kinds = flat_payloads(alloc, cases)?;
-            out.extend_from_slice(&kinds)?
+            let payload = join_kind(kinds, at, CoreKind::I32)?;
+            join_cases(kinds, payload, cases)
         }
         TypeNode::Option(some) => {
-            out.push(CoreKind::I32)?;
-            push_flat(out, alloc, some)?
+            let payload = join_kind(kinds, at, CoreKind::I32)?;
+            join_flat(kinds, payload, some)
         }
         TypeNode::Result { ok, error } => {
-            out.push(CoreKind::I32)?;
-            let ok_kinds = flat_shared(alloc, ok)?;
-            let error_kinds = flat_shared(alloc, error)?;
-            let kinds = join_slots(alloc, &ok_kinds, &error_kinds)?;
-            out.extend_from_slice(&kinds)?
+            let payload = join_kind(kinds, at, CoreKind::I32)?;
+            let ok_end = join_shared(kinds, payload, ok)?;
+            let error_end = join_shared(kinds, payload, error)?;
+            Ok(ok_end.max(error_end))
         }
         TypeNode::Bool
         | TypeNode::S8
@@ -90,78 +75,122 @@ pub(crate) fn push_flat(
         | TypeNode::Char
         | TypeNode::Flags(_)
         | TypeNode::Own(_)
-        | TypeNode::Borrow(_) => out.push(CoreKind::I32)?,
-        TypeNode::Enum(_) => out.push(CoreKind::I32)?,
+        | TypeNode::Borrow(_) => join_kind(kinds, at, CoreKind::I32),
+        TypeNode::Enum(_) => join_kind(kinds, at, CoreKind::I32),
     }
-    Ok(())
+}
+
+/// Joins a pointer and a length.
+#[tactic(auto, using(crate::proofs::FlatLemmas::flats))]
+fn join_pair(kinds: &mut Vec<CoreKind>, at: usize) -> Result<usize, AllocError>
+    requires { at ≤ length kinds.old.items }
+    ensures { IfOk result
+        (JoinedFrom at kinds.old.items (CoreKind.I32 ∷ CoreKind.I32 ∷ []) kinds.new.items) }
+{
+    let next = join_kind(kinds, at, CoreKind::I32)?;
+    join_kind(kinds, next, CoreKind::I32)
 }
 
 #[cycle(flat)]
 #[tactic(auto, using(crate::proofs::FlatLemmas::flats))]
-fn flat_shared(alloc: Global, payload: &Option<Rc<TypeNode>>) -> Result<Vec<CoreKind>, AllocError>
-    ensures { IfOk result (λ v. v.items ≡ flat_of_payload (shared_payload payload.now)) }
+fn join_copies(
+    kinds: &mut Vec<CoreKind>,
+    at: usize,
+    element: &TypeNode,
+    count: u32,
+) -> Result<usize, AllocError>
+    requires { at ≤ length kinds.old.items }
+    ensures { IfOk result (JoinedFrom at kinds.old.items
+        (copies count (flat_of (type_of element.now))) kinds.new.items) }
 {
-    let mut kinds = Vec::new(alloc);
-    if let Some(ty) = payload {
-        push_flat(&mut kinds, alloc, ty)?;
+    let mut end = at;
+    for _copy in 0..count {
+        end = join_flat(kinds, end, element)?;
     }
-    Ok(kinds)
+    Ok(end)
+}
+
+/// The same of fields.
+#[cycle(flat)]
+#[tactic(auto, using(crate::proofs::FlatLemmas::flats))]
+pub(crate) fn join_fields(
+    kinds: &mut Vec<CoreKind>,
+    at: usize,
+    row: &[Field],
+) -> Result<usize, AllocError>
+    requires { at ≤ length kinds.old.items }
+    ensures { IfOk result
+        (JoinedFrom at kinds.old.items (flat_of_fields (fields_of row.now)) kinds.new.items) }
+{
+    let mut end = at;
+    for field in row {
+        end = join_flat(kinds, end, &field.ty)?;
+    }
+    Ok(end)
 }
 
 #[cycle(flat)]
 #[tactic(auto, using(crate::proofs::FlatLemmas::flats))]
-pub(crate) fn push_fields(
-    out: &mut Vec<CoreKind>,
-    alloc: Global,
-    fields: &[Field],
-) -> Result<(), AllocError>
-    ensures { OnOk result (out.new.items ≡ out.old.items ++ flat_of_fields (fields_of fields.now)) }
+fn join_parts(
+    kinds: &mut Vec<CoreKind>,
+    at: usize,
+    row: &[TypeNode],
+) -> Result<usize, AllocError>
+    requires { at ≤ length kinds.old.items }
+    ensures { IfOk result
+        (JoinedFrom at kinds.old.items (flat_of_fields (parts_of row.now)) kinds.new.items) }
 {
-    for field in fields {
-        push_flat(out, alloc, &field.ty)?;
+    let mut end = at;
+    for part in row {
+        end = join_flat(kinds, end, part)?;
     }
-    Ok(())
+    Ok(end)
 }
 
 #[cycle(flat)]
 #[tactic(auto, using(crate::proofs::FlatLemmas::flats))]
-fn push_parts(out: &mut Vec<CoreKind>, alloc: Global, parts: &[TypeNode]) -> Result<(), AllocError>
-    ensures { OnOk result (out.new.items ≡ out.old.items ++ flat_of_fields (parts_of parts.now)) }
+fn join_cases(kinds: &mut Vec<CoreKind>, at: usize, row: &[Case]) -> Result<usize, AllocError>
+    requires { at ≤ length kinds.old.items }
+    ensures { IfOk result
+        (JoinedFrom at kinds.old.items (flat_of_cases (cases_of row.now)) kinds.new.items) }
 {
-    for part in parts {
-        push_flat(out, alloc, part)?;
+    let mut end = at;
+    for case in row {
+        end = end.max(join_payload(kinds, at, &case.payload)?);
     }
-    Ok(())
-}
-
-#[cycle(flat)]
-#[tactic(auto, using(crate::proofs::FlatLemmas::flats))]
-fn flat_payloads(alloc: Global, cases: &[Case]) -> Result<Vec<CoreKind>, AllocError>
-    ensures { IfOk result (λ v. v.items ≡ flat_of_cases (cases_of cases.now)) }
-{
-    let mut slots = Vec::new(alloc);
-    for case in cases {
-        slots = join_payload(alloc, slots, &case.payload)?;
-    }
-    Ok(slots)
+    Ok(end)
 }
 
 #[cycle(flat)]
 #[tactic(auto, using(crate::proofs::FlatLemmas::flats))]
 fn join_payload(
-    alloc: Global,
-    slots: Vec<CoreKind>,
+    kinds: &mut Vec<CoreKind>,
+    at: usize,
     payload: &Option<TypeNode>,
-) -> Result<Vec<CoreKind>, AllocError>
-    ensures { IfOk result (λ v.
-        v.items ≡ join_slots slots.items (flat_of_payload (option_map type_of payload.now))) }
+) -> Result<usize, AllocError>
+    requires { at ≤ length kinds.old.items }
+    ensures { IfOk result (JoinedFrom at kinds.old.items
+        (flat_of_payload (option_map type_of payload.now)) kinds.new.items) }
 {
     match payload {
-        Some(ty) => {
-            let mut kinds = Vec::new(alloc);
-            push_flat(&mut kinds, alloc, ty)?;
-            join_slots(alloc, &slots, &kinds)
-        }
-        None => Ok(slots),
+        Some(ty) => join_flat(kinds, at, ty),
+        None => Ok(at),
+    }
+}
+
+#[cycle(flat)]
+#[tactic(auto, using(crate::proofs::FlatLemmas::flats))]
+fn join_shared(
+    kinds: &mut Vec<CoreKind>,
+    at: usize,
+    payload: &Option<Rc<TypeNode>>,
+) -> Result<usize, AllocError>
+    requires { at ≤ length kinds.old.items }
+    ensures { IfOk result (JoinedFrom at kinds.old.items
+        (flat_of_payload (shared_payload payload.now)) kinds.new.items) }
+{
+    match payload {
+        Some(ty) => join_flat(kinds, at, ty),
+        None => Ok(at),
     }
 }

@@ -2,23 +2,26 @@
 //! "Element Size" and "Flattening").
 #![tactic(auto)]
 
-mod alignments;
+mod builders;
+mod cases;
+mod fields;
 mod flat_funcs;
 mod flattening;
+mod heads;
 pub mod laws;
-mod layout_trees;
+mod layouts;
+mod makers;
+mod measures;
 mod offsets;
-mod sizes;
+mod steps;
 mod whole_types;
 
-pub use alignments::node_align;
+pub use builders::{CasesBuilder, FieldsBuilder};
 pub use cm_types::{MAX_FLAT_PARAMS, MAX_FLAT_RESULTS};
 pub use flat_funcs::{FlatFunc, Side, flatten_func};
-pub use layout_trees::{LayoutTree, is_number, layout, layout_of_params, node_layout};
-pub use offsets::{
-    node_case_offset, node_discriminant_size, node_field_offset, node_has_cases, node_has_field,
-};
-pub use sizes::node_size;
+pub use heads::Head;
+pub use layouts::{Form, HandleType, Layout, Leaf, Part, Payload};
+pub use makers::{layout, layout_of_fields, layout_of_params};
 pub use whole_types::{
-    align, case_offset, discriminant_size, field_offset, flatten, has_cases, has_field, size,
+    align, case_offset, discriminant_size, field_offset, flatten, has_cases, has_field, head, size,
 };

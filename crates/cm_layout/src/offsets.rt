@@ -4,33 +4,33 @@ ghost use Rattle.std.specs.Prelude.{◌≡◌, ◌↔◌, ◌≤◌, ◌<◌, Is
 ghost use Rattle.cm_types.specs.Limits.{nodes_of, nodes_of_fields};
 ghost use Rattle.cm_types.specs.TypeTrees.{fields_of, parts_of, type_of};
 ghost use Rattle.cm_layout.specs.Sizes.{HasCases, HasField, case_offset, discriminant_size_of};
-ghost use Rattle.cm_layout.specs.Sizes.{field_offset};
-ghost use Rattle.cm_layout.specs.Sizes.{field_offset_from};
+ghost use Rattle.cm_layout.specs.Sizes.{field_offset, field_offset_from};
 
-use crate::alignments::{discriminant_size, node_align, payloads_align, shared_align};
-use crate::sizes::{align_to, fields_end, parts_end};
+use crate::cases::CasesSoFar;
+use crate::heads::discriminant_size;
+use crate::measures::{cases_so_far, fields_so_far, node_head, parts_so_far, shared_so_far};
 use cm_types::{Field, MAX_NODES, TypeNode};
 
-#[tactic(auto, using(crate::proofs::OffsetLaws::places))]
-fn field_offset_in(fields: &[Field], n: usize) -> u32
-    requires there { n < length fields.now }
-    requires within { nodes_of_fields (fields_of fields.now) ≤ MAX_NODES }
-    ensures { result ≡ field_offset_from (fields_of fields.now) 0 n }
+fn field_offset_in(row: &[Field], n: usize) -> u32
+    requires there { n < length row.now }
+    requires within { nodes_of_fields (fields_of row.now) ≤ MAX_NODES }
+    ensures { result ≡ field_offset_from (fields_of row.now) 0 n }
 {
-    align_to(node_align(&fields[n].ty), fields_end(&fields[..n]))
+    let mut so_far = fields_so_far(&row[..n]);
+    so_far.push(node_head(&row[n].ty))
 }
 
-#[tactic(auto, using(crate::proofs::OffsetLaws::places))]
-fn part_offset_in(parts: &[TypeNode], n: usize) -> u32
-    requires there { n < length parts.now }
-    requires within { nodes_of_fields (parts_of parts.now) ≤ MAX_NODES }
-    ensures { result ≡ field_offset_from (parts_of parts.now) 0 n }
+fn part_offset_in(row: &[TypeNode], n: usize) -> u32
+    requires there { n < length row.now }
+    requires within { nodes_of_fields (parts_of row.now) ≤ MAX_NODES }
+    ensures { result ≡ field_offset_from (parts_of row.now) 0 n }
 {
-    align_to(node_align(&parts[n]), parts_end(&parts[..n]))
+    let mut so_far = parts_so_far(&row[..n]);
+    so_far.push(node_head(&row[n]))
 }
 
-/// Where field `n`, from 0, of a record or a tuple stands, in bytes from where the whole does.
-pub fn node_field_offset(ty: &TypeNode, n: usize) -> u32
+/// Where field `n`, from 0, of a record or a tuple stands.
+pub(crate) fn node_field_offset(ty: &TypeNode, n: usize) -> u32
     requires there { HasField (type_of ty.now) n }
     requires within { nodes_of (type_of ty.now) ≤ MAX_NODES }
     ensures { result ≡ field_offset (type_of ty.now) n }
@@ -42,23 +42,25 @@ pub fn node_field_offset(ty: &TypeNode, n: usize) -> u32
     }
 }
 
-/// Where the payload of a variant, an enum, an option or a result stands, in bytes from where the
-/// whole does.
-pub fn node_case_offset(ty: &TypeNode) -> u32
-    requires { HasCases (type_of ty.now) }
+/// Where the payload of a variant, an enum, an option or a result stands.
+pub(crate) fn node_case_offset(ty: &TypeNode) -> u32
+    requires there { HasCases (type_of ty.now) }
+    requires within { nodes_of (type_of ty.now) ≤ MAX_NODES }
     ensures { result ≡ case_offset (type_of ty.now) }
 {
     match ty {
-        TypeNode::Variant(cases) => align_to(payloads_align(cases), discriminant_size(cases.len())),
+        TypeNode::Variant(cases) => cases_so_far(cases).offset(discriminant_size(cases.len())),
         TypeNode::Enum(labels) => discriminant_size(labels.len()),
-        TypeNode::Option(some) => align_to(node_align(some), 1),
-        TypeNode::Result { ok, error } => align_to(shared_align(ok).max(shared_align(error)), 1),
+        TypeNode::Option(some) => CasesSoFar::none().with(node_head(some)).offset(1),
+        TypeNode::Result { ok, error } => {
+            shared_so_far(ok).beside(shared_so_far(error)).offset(1)
+        }
         _ => unreachable!(),
     }
 }
 
 /// The size in bytes of the number of a case of a variant, an enum, an option or a result.
-pub fn node_discriminant_size(ty: &TypeNode) -> u32
+pub(crate) fn node_discriminant_size(ty: &TypeNode) -> u32
     requires { HasCases (type_of ty.now) }
     ensures { result ≡ discriminant_size_of (type_of ty.now) }
 {
@@ -72,7 +74,7 @@ pub fn node_discriminant_size(ty: &TypeNode) -> u32
 }
 
 /// Whether a type is a record or a tuple with a field `n`, from 0.
-pub fn node_has_field(ty: &TypeNode, n: usize) -> bool
+pub(crate) fn node_has_field(ty: &TypeNode, n: usize) -> bool
     ensures { IsTrue result ↔ HasField (type_of ty.now) n }
 {
     match ty {
@@ -83,7 +85,7 @@ pub fn node_has_field(ty: &TypeNode, n: usize) -> bool
 }
 
 /// Whether a type is a variant, an enum, an option or a result.
-pub fn node_has_cases(ty: &TypeNode) -> bool
+pub(crate) fn node_has_cases(ty: &TypeNode) -> bool
     ensures { IsTrue result ↔ HasCases (type_of ty.now) }
 {
     match ty {

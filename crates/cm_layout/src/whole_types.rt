@@ -1,36 +1,45 @@
-//! The layout of whole types.
+//! What can be asked of a whole type.
 
 ghost use Rattle.std.specs.Prelude.{◌≡◌, ◌↔◌, ◌*◌, ℕ, IfOk, IsTrue};
 ghost use Rattle.cm_types.specs.Funcs.{tree_type};
 ghost use Rattle.cm_layout.specs.Alignment.{IsLeastMultiple};
-ghost use Rattle.cm_layout.specs.Sizes.{HasCases, HasField, align_of, case_offset};
-ghost use Rattle.cm_layout.specs.Sizes.{discriminant_size_of, end_before};
-ghost use Rattle.cm_layout.specs.Sizes.{field_offset, field_type, fields_in, size_of};
-ghost use Rattle.cm_layout.specs.Sizes.{IsPayloadOffset};
 ghost use Rattle.cm_layout.specs.Flattening.{JoinsSlots, flat_of};
+ghost use Rattle.cm_layout.specs.Shapes.{head_of};
+ghost use Rattle.cm_layout.specs.Sizes.{HasCases, HasField, IsPayloadOffset, IsWholeSize, align_of};
+ghost use Rattle.cm_layout.specs.Sizes.{case_offset, discriminant_size_of, end_before};
+ghost use Rattle.cm_layout.specs.Sizes.{field_offset, field_type, fields_in, size_of};
 
-use crate::alignments::node_align;
-use crate::flattening::push_flat;
+use crate::flattening::join_flat;
+use crate::heads::Head;
+use crate::measures::node_head;
 use crate::offsets::{
     node_case_offset, node_discriminant_size, node_field_offset, node_has_cases, node_has_field,
 };
-use crate::sizes::node_size;
 use cm_types::{CoreKind, TypeTree};
 use std::alloc::{AllocError, Global};
+
+/// What a value of a type takes, in memory and in core values, without another walk over the type
+/// for each number.
+pub fn head(ty: &TypeTree) -> Head
+    ensures { result ≡ head_of (tree_type ty.now) }
+{
+    node_head(&ty.root)
+}
 
 /// The alignment of a type in bytes: 1, 2, 4 or 8 (CanonicalABI.md, "Alignment").
 pub fn align(ty: &TypeTree) -> u32
     ensures { result ≡ align_of (tree_type ty.now) }
 {
-    node_align(&ty.root)
+    node_head(&ty.root).align
 }
 
 /// The size of a type in bytes, a multiple of its alignment (CanonicalABI.md, "Element Size").
 pub fn size(ty: &TypeTree) -> u32
     ensures value { result ≡ size_of (tree_type ty.now) }
     ensures multiple { (k : ℕ) × (result ≡ k * align_of (tree_type ty.now)) }
+    ensures whole { IsWholeSize (tree_type ty.now) result }
 {
-    node_size(&ty.root)
+    node_head(&ty.root).size
 }
 
 /// Whether the type is a record or a tuple with a field `n`, from 0, so that `field_offset` may be
@@ -87,6 +96,6 @@ pub fn flatten(alloc: Global, ty: &TypeTree) -> Result<Vec<CoreKind>, AllocError
     ensures slots { IfOk result (λ kinds. JoinsSlots (tree_type ty.now) kinds.items) }
 {
     let mut kinds = Vec::new(alloc);
-    push_flat(&mut kinds, alloc, &ty.root)?;
+    join_flat(&mut kinds, 0, &ty.root)?;
     Ok(kinds)
 }

@@ -1,7 +1,7 @@
 use Rattle.std.proofs.Common.{◌≡◌, ◌∙◌, ap, arith, ℕ, ◌<◌, IsTrue, nat_lt, vec_len}
 use Rattle.std.proofs.lemmas.Bool.{ltb-true, lt-ltb}
 use Rattle.cm_types.specs.TypeTrees.{type_of}
-use Rattle.cm_types.proofs.Seen.{seen_Record, seen_Tuple}
+use Rattle.cm_layout.proofs.Seen.{seen_Record, seen_Tuple}
 use Rattle.cm_layout.proofs.OffsetLaws.{count_fields, count_parts}
 use Rattle.cm_layout.proofs.offsets.node_has_field.Goals as goal
 

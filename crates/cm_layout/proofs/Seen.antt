@@ -1,0 +1,61 @@
+-- What type each kind of node is.
+use Rattle.std.proofs.Common.{◌≡◌, ℕ, ◌+◌, List, [], ◌∷◌, Option, Some, None, Vec, Global, rules, codes, refl, arith}
+use Rattle.std.specs.Option.{option_map}
+use Rattle.std.specs.declared.rc.Rc.{Rc}
+use Rattle.cm_types.specs.Types.{Ty, Cases, string, list, fixed_list, fields, cases, flags, record_type, tuple_type, variant_type, enum_type, option_type, result_type, no_cases, plain, carrying}
+use Rattle.cm_types.specs.Limits.{nodes_of_cases, payload_nodes}
+use Rattle.cm_types.specs.TypeTrees.{type_of, field_of, case_of, fields_of, parts_of, cases_of, plain_from, case_before, shared_payload}
+use Rattle.cm_types.specs.declared.names.Label.{Label}
+use Rattle.cm_types.specs.declared.type_trees.TypeNode.{TypeNode, the_lemmas}
+use Rattle.cm_types.specs.declared.type_trees.TypeNode.TheViews as node
+use Rattle.cm_types.specs.declared.type_trees.TypeNode.TheVariants as leaf
+use Rattle.cm_types.specs.declared.type_trees.Field.{Field, out-Field}
+use Rattle.cm_types.specs.declared.type_trees.Case.{Case, out-Case}
+
+pub seen_List : (b : Rc TypeNode Global) → type_of (node.List b) ≡ list (type_of b.value)
+seen_List b = search (rules, the_lemmas)
+
+pub seen_FixedList : (b : Rc TypeNode Global) (n : ℕ) → type_of (node.FixedList b n) ≡ fixed_list (type_of b.value) n
+seen_FixedList b n = search (rules, the_lemmas)
+
+pub seen_Record : (v : Rc (Vec Field Global) Global) → type_of (node.Record v) ≡ fields record_type (fields_of v.value.items)
+seen_Record v = search (rules, the_lemmas)
+
+pub seen_Tuple : (v : Rc (Vec TypeNode Global) Global) → type_of (node.Tuple v) ≡ fields tuple_type (parts_of v.value.items)
+seen_Tuple v = search (rules, the_lemmas)
+
+pub seen_Variant : (v : Rc (Vec Case Global) Global) → type_of (node.Variant v) ≡ cases variant_type (cases_of v.value.items)
+seen_Variant v = search (rules, the_lemmas)
+
+pub seen_Enum : (v : Rc (Vec Label Global) Global) → type_of (leaf.Enum v) ≡ cases enum_type (plain_from v.value.items)
+seen_Enum v = search (rules, the_lemmas)
+
+pub seen_StringType : type_of leaf.String ≡ string
+seen_StringType = search (rules, the_lemmas)
+
+pub seen_Flags : (v : Rc (Vec Label Global) Global) → type_of (leaf.Flags v) ≡ flags v.value.items
+seen_Flags v = search (rules, the_lemmas)
+
+pub seen_Option : (b : Rc TypeNode Global) → type_of (node.Option b) ≡ cases option_type (plain (codes "none") (carrying (codes "some") (type_of b.value) no_cases))
+seen_Option b = search (rules, the_lemmas)
+
+pub seen_Result : (ok error : Option (Rc TypeNode Global)) → type_of (node.Result ok error) ≡ cases result_type (case_before (codes "ok") (shared_payload ok) (case_before (codes "error") (shared_payload error) no_cases))
+seen_Result ok error = search (rules, the_lemmas)
+
+-- the type of a field
+pub seen_field : (f : Field) → (field_of f).1 ≡ type_of (out-Field f).ty
+seen_field f = search (rules, the_lemmas)
+
+-- the payload of a case
+pub seen_case : (c : Case) → (case_of c).1 ≡ option_map type_of (out-Case c).payload
+seen_case c = search (rules, the_lemmas)
+
+-- ---- nodes of cases made from lists
+
+pub plain_nodes : (ls : List (List ℕ)) → nodes_of_cases (plain_from ls) ≡ 0
+plain_nodes [] = refl
+plain_nodes (l ∷ ls) = plain_nodes ls
+
+pub before_nodes : (l : List ℕ) (o : Option Ty) (cs : Cases) → nodes_of_cases (case_before l o cs) ≡ payload_nodes o + nodes_of_cases cs
+before_nodes l None cs = omega arith
+before_nodes l (Some t) cs = refl
