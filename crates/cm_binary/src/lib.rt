@@ -20,3 +20,4 @@ pub use cm_component::{
 pub use decoding::decode;
 pub use encoding::{encode, written_and_read};
 pub use fault::{DecodeFault, DecodeReason, Feature};
+pub use sections::{read_section, room_after};
