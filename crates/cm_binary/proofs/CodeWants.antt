@@ -1,10 +1,10 @@
 -- No table refuses a byte for want of one.
 use Rattle.std.proofs.Common.{◌≡◌, Bool, true, false, cond, Result, Ok, Err}
 use Rattle.cm_grammar.proofs.WantLaws.{Never}
-use Rattle.cm_binary.specs.declared.fault.DecodeReason.{DecodeReason}
-use Rattle.cm_binary.specs.declared.fault.DecodeReason.TheVariants.{Truncated, UnknownCode, Unsupported}
-use Rattle.cm_binary.specs.declared.fault.Feature.{Feature}
-use Rattle.cm_binary.specs.Codes.{section_kind, core_instance_form, core_sort, alias_sort, core_alias_target, other_alias_target, type_form, val_type, result_form, canon_form, canon_option, desc_form, export_sort, export_desc}
+use Rattle.cm_reading.specs.declared.fault.DecodeReason.{DecodeReason}
+use Rattle.cm_reading.specs.declared.fault.DecodeReason.TheVariants.{Truncated, UnknownCode, Unsupported}
+use Rattle.cm_reading.specs.declared.fault.Feature.{Feature}
+use Rattle.cm_reading.specs.Codes.{section_kind, core_instance_form, core_sort, alias_sort, core_alias_target, other_alias_target, type_form, val_type, result_form, canon_form, canon_option, desc_form, export_sort, export_desc}
 
 -- The answer is no want of a byte.
 abbrev IsNot : {K : Type 0} → Result K DecodeReason → Type 0

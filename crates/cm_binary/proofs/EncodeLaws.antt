@@ -2,7 +2,7 @@
 use Rattle.std.proofs.Common.{◌≡◌, ℕ, ◌≤◌, List, length, Result, Ok, Err, sym, ap, subst, arith}
 use Rattle.std.specs.Prelude.{IfOk}
 use Rattle.cm_component.specs.Trees.{SectionTree}
-use Rattle.cm_binary.specs.File.{Spells}
+use Rattle.cm_reading.specs.File.{Spells}
 use Rattle.cm_component.specs.Spelling.{spelling}
 use Rattle.cm_binary.proofs.FileSpelling.{file_shortens}
 

@@ -12,9 +12,11 @@ use Rattle.cm_component.specs.Limits.{types_in, has_preamble, limit_fault}
 use Rattle.cm_component.specs.declared.limits.TheConstants.{MAX_TYPES, MAX_FILE_BYTES, MODULE_PREAMBLE}
 use Rattle.cm_component.specs.declared.limits.LimitFault.{LimitFault}
 use Rattle.cm_component.specs.declared.limits.LimitFault.TheVariants.{TooMany, TooLong, NotAModule}
-use Rattle.cm_binary.specs.declared.codes.SectionKind.{SectionKind}
-use Rattle.cm_binary.specs.declared.codes.SectionKind.TheVariants as kinds
-use Rattle.cm_binary.specs.File.{def_type, type_defs, contents, section, sections, component, file, room_after, Spells}
+use Rattle.cm_reading.specs.declared.codes.SectionKind.{SectionKind}
+use Rattle.cm_reading.specs.declared.codes.SectionKind.TheVariants as kinds
+use Rattle.cm_reading.specs.Types.{def_type, type_defs}
+use Rattle.cm_reading.specs.Sections.{contents, section, sections, room_after}
+use Rattle.cm_reading.specs.File.{component, file, Spells}
 use Rattle.cm_binary.proofs.FileSpelling.{file_shortens}
 
 -- ---- core modules

@@ -26,28 +26,35 @@ use Rattle.cm_component.specs.declared.section.ExternDesc.{ExternDesc}
 use Rattle.cm_component.specs.declared.section.ExternDesc.TheVariants as descs
 use Rattle.cm_component.specs.Trees as trees
 use Rattle.cm_component.specs.Trees.{ArgTree, CoreInstanceTree, AliasTree, ImportTree, ExportTree, SectionTree}
-use Rattle.cm_binary.specs.declared.fault.DecodeReason.{DecodeReason}
-use Rattle.cm_binary.specs.declared.codes.SectionKind.{SectionKind}
-use Rattle.cm_binary.specs.declared.codes.SectionKind.TheVariants as kinds
-use Rattle.cm_binary.specs.declared.fault.DecodeReason.TheVariants.{SizeMismatch, BadNumber, BadUtf8, BadName, UnknownCode, TooMany}
-use Rattle.cm_binary.specs.declared.codes.CoreInstanceForm.{CoreInstanceForm}
-use Rattle.cm_binary.specs.declared.codes.CoreInstanceForm.TheVariants as core_instance_forms
-use Rattle.cm_binary.specs.declared.codes.AliasSort.{AliasSort}
-use Rattle.cm_binary.specs.declared.codes.AliasSort.TheVariants as alias_sorts
-use Rattle.cm_binary.specs.declared.codes.AliasTarget.{AliasTarget}
-use Rattle.cm_binary.specs.declared.codes.AliasTarget.TheVariants as targets
-use Rattle.cm_binary.specs.declared.codes.TypeForm.{TypeForm}
-use Rattle.cm_binary.specs.declared.codes.TypeForm.TheVariants as type_forms
-use Rattle.cm_binary.specs.declared.codes.ResultForm.{ResultForm}
-use Rattle.cm_binary.specs.declared.codes.ResultForm.TheVariants as result_forms
-use Rattle.cm_binary.specs.declared.codes.CanonForm.{CanonForm}
-use Rattle.cm_binary.specs.declared.codes.CanonForm.TheVariants as canon_forms
-use Rattle.cm_binary.specs.declared.codes.DescForm.{DescForm}
-use Rattle.cm_binary.specs.declared.codes.DescForm.TheVariants as desc_forms
-use Rattle.cm_binary.specs.declared.codes.NoDescription.{NoDescription}
-use Rattle.cm_binary.specs.declared.codes.NoDescription.TheVariants as descriptions
-use Rattle.cm_binary.specs.Codes.{section_kind, core_instance_form, core_sort, alias_sort, core_alias_target, val_type, type_form, result_form, canon_form, desc_form, export_sort, export_desc}
-use Rattle.cm_binary.specs.File.{index, text, label, extern_name, core_arg, core_instance, alias_of, alias, param, func_result_of, func_result, func_type, def_type, type_defs, options_of, options, canon_of, canon, extern_desc, import_item, export_item, contents, section, sections, component, file, room_after}
+use Rattle.cm_reading.specs.declared.fault.DecodeReason.{DecodeReason}
+use Rattle.cm_reading.specs.declared.codes.SectionKind.{SectionKind}
+use Rattle.cm_reading.specs.declared.codes.SectionKind.TheVariants as kinds
+use Rattle.cm_reading.specs.declared.fault.DecodeReason.TheVariants.{SizeMismatch, BadNumber, BadUtf8, BadName, UnknownCode, TooMany}
+use Rattle.cm_reading.specs.declared.codes.CoreInstanceForm.{CoreInstanceForm}
+use Rattle.cm_reading.specs.declared.codes.CoreInstanceForm.TheVariants as core_instance_forms
+use Rattle.cm_reading.specs.declared.codes.AliasSort.{AliasSort}
+use Rattle.cm_reading.specs.declared.codes.AliasSort.TheVariants as alias_sorts
+use Rattle.cm_reading.specs.declared.codes.AliasTarget.{AliasTarget}
+use Rattle.cm_reading.specs.declared.codes.AliasTarget.TheVariants as targets
+use Rattle.cm_reading.specs.declared.codes.TypeForm.{TypeForm}
+use Rattle.cm_reading.specs.declared.codes.TypeForm.TheVariants as type_forms
+use Rattle.cm_reading.specs.declared.codes.ResultForm.{ResultForm}
+use Rattle.cm_reading.specs.declared.codes.ResultForm.TheVariants as result_forms
+use Rattle.cm_reading.specs.declared.codes.CanonForm.{CanonForm}
+use Rattle.cm_reading.specs.declared.codes.CanonForm.TheVariants as canon_forms
+use Rattle.cm_reading.specs.declared.codes.DescForm.{DescForm}
+use Rattle.cm_reading.specs.declared.codes.DescForm.TheVariants as desc_forms
+use Rattle.cm_reading.specs.declared.codes.NoDescription.{NoDescription}
+use Rattle.cm_reading.specs.declared.codes.NoDescription.TheVariants as descriptions
+use Rattle.cm_reading.specs.Codes.{section_kind, core_instance_form, core_sort, alias_sort, core_alias_target, val_type, type_form, result_form, canon_form, desc_form, export_sort, export_desc}
+use Rattle.cm_reading.specs.Texts.{index, text, label, extern_name}
+use Rattle.cm_reading.specs.Instances.{core_arg, core_instance}
+use Rattle.cm_reading.specs.Aliases.{alias_of, alias}
+use Rattle.cm_reading.specs.Types.{param, func_result_of, func_result, func_type, def_type, type_defs}
+use Rattle.cm_reading.specs.Canons.{options_of, options, canon_of, canon}
+use Rattle.cm_reading.specs.Externs.{extern_desc, import_item, export_item}
+use Rattle.cm_reading.specs.Sections.{contents, section, sections, room_after}
+use Rattle.cm_reading.specs.File.{component, file}
 use Rattle.cm_component.specs.declared.limits.TheConstants.{MAX_TYPES}
 use Rattle.cm_component.specs.Spelling.{extern_name_spelling, core_arg_spelling, core_instance_spelling, alias_spelling, val_type_code, param_spelling, result_spelling, func_spelling, def_spelling, canon_spelling, desc_spelling, import_spelling, export_spelling, contents_spelling, section_id, section_spelling, spelling}
 use Rattle.cm_component.specs.declared.limits.TheConstants.{COMPONENT_PREAMBLE}

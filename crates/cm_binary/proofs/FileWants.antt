@@ -3,17 +3,24 @@ use Rattle.std.proofs.Common.{◌≡◌, ℕ, zero, suc}
 use Rattle.cm_grammar.specs.Grammar.{number}
 use Rattle.cm_grammar.proofs.WantLaws.{Ends, EndsWhole, done_ends, bind_ends, code_ends, number_ends, raw_ends, check_ends, fixed_ends, chain_ends, from_stock_ends, vec_ends, build_ends, remainder_ends, exactly_ends, join_ends, begins_with_ends, to_end_ends, of_size_ends, at_most_ends}
 use Rattle.cm_component.specs.declared.limits.TheConstants.{MAX_TYPES}
-use Rattle.cm_binary.specs.declared.fault.DecodeReason.{DecodeReason}
-use Rattle.cm_binary.specs.declared.fault.DecodeReason.TheVariants.{BadPreamble, Truncated, BadNumber, SizeMismatch, UnknownCode, BadUtf8, BadName, NotAModule, TooMany, TooLong}
-use Rattle.cm_binary.specs.declared.codes.SectionKind.{SectionKind}
-use Rattle.cm_binary.specs.declared.codes.SectionKind.TheVariants as kinds
-use Rattle.cm_binary.specs.declared.codes.AliasSort.{AliasSort}
-use Rattle.cm_binary.specs.declared.codes.AliasSort.TheVariants as alias_sorts
-use Rattle.cm_binary.specs.declared.codes.ResultForm.{ResultForm}
-use Rattle.cm_binary.specs.declared.codes.ResultForm.TheVariants as result_forms
-use Rattle.cm_binary.specs.declared.codes.CanonForm.{CanonForm}
-use Rattle.cm_binary.specs.declared.codes.CanonForm.TheVariants as canon_forms
-use Rattle.cm_binary.specs.File.{text, label, extern_name, core_arg, core_instance, alias_of, alias, param, func_result_of, func_result, func_type, def_type, type_defs, options_of, options, canon_of, canon, extern_desc, import_item, export_item, contents, section, sections, component, file, room_after}
+use Rattle.cm_reading.specs.declared.fault.DecodeReason.{DecodeReason}
+use Rattle.cm_reading.specs.declared.fault.DecodeReason.TheVariants.{BadPreamble, Truncated, BadNumber, SizeMismatch, UnknownCode, BadUtf8, BadName, NotAModule, TooMany, TooLong}
+use Rattle.cm_reading.specs.declared.codes.SectionKind.{SectionKind}
+use Rattle.cm_reading.specs.declared.codes.SectionKind.TheVariants as kinds
+use Rattle.cm_reading.specs.declared.codes.AliasSort.{AliasSort}
+use Rattle.cm_reading.specs.declared.codes.AliasSort.TheVariants as alias_sorts
+use Rattle.cm_reading.specs.declared.codes.ResultForm.{ResultForm}
+use Rattle.cm_reading.specs.declared.codes.ResultForm.TheVariants as result_forms
+use Rattle.cm_reading.specs.declared.codes.CanonForm.{CanonForm}
+use Rattle.cm_reading.specs.declared.codes.CanonForm.TheVariants as canon_forms
+use Rattle.cm_reading.specs.Texts.{text, label, extern_name}
+use Rattle.cm_reading.specs.Instances.{core_arg, core_instance}
+use Rattle.cm_reading.specs.Aliases.{alias_of, alias}
+use Rattle.cm_reading.specs.Types.{param, func_result_of, func_result, func_type, def_type, type_defs}
+use Rattle.cm_reading.specs.Canons.{options_of, options, canon_of, canon}
+use Rattle.cm_reading.specs.Externs.{extern_desc, import_item, export_item}
+use Rattle.cm_reading.specs.Sections.{contents, section, sections, room_after}
+use Rattle.cm_reading.specs.File.{component, file}
 use Rattle.cm_binary.proofs.CodeWants.{section_kind_never, core_instance_form_never, core_sort_never, alias_sort_never, core_alias_target_never, other_alias_target_never, type_form_never, val_type_never, result_form_never, canon_form_never, canon_option_never, desc_form_never, export_sort_never, export_desc_never}
 
 -- Another reason than want of a byte.

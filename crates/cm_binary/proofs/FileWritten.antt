@@ -30,19 +30,26 @@ use Rattle.cm_component.specs.declared.limits.TheConstants.{COMPONENT_PREAMBLE}
 use Rattle.cm_component.specs.Limits.{types_in, has_preamble, limit_fault}
 use Rattle.cm_component.specs.declared.limits.TheConstants.{MAX_TYPES, MODULE_PREAMBLE}
 use Rattle.cm_component.specs.Parts.{is_index, holds_arg, holds_core_instance, holds_alias, holds_param, holds_func, holds_def, holds_canon, holds_desc, holds_name, holds_import, holds_export, holds}
-use Rattle.cm_binary.specs.declared.fault.DecodeReason.TheVariants.{SizeMismatch, BadNumber, BadUtf8, BadName, UnknownCode, TooMany}
-use Rattle.cm_binary.specs.declared.codes.SectionKind.{SectionKind}
-use Rattle.cm_binary.specs.declared.codes.SectionKind.TheVariants as kinds
-use Rattle.cm_binary.specs.declared.codes.CoreInstanceForm.TheVariants as core_instance_forms
-use Rattle.cm_binary.specs.declared.codes.AliasSort.TheVariants as alias_sorts
-use Rattle.cm_binary.specs.declared.codes.AliasTarget.TheVariants as targets
-use Rattle.cm_binary.specs.declared.codes.TypeForm.TheVariants as type_forms
-use Rattle.cm_binary.specs.declared.codes.ResultForm.TheVariants as result_forms
-use Rattle.cm_binary.specs.declared.codes.CanonForm.TheVariants as canon_forms
-use Rattle.cm_binary.specs.declared.codes.DescForm.TheVariants as desc_forms
-use Rattle.cm_binary.specs.declared.codes.NoDescription.TheVariants as descriptions
-use Rattle.cm_binary.specs.Codes.{section_kind, core_instance_form, core_sort, alias_sort, core_alias_target, val_type, type_form, result_form, canon_form, desc_form, export_sort, export_desc}
-use Rattle.cm_binary.specs.File.{index, text, label, extern_name, core_arg, core_instance, alias_of, alias, param, func_result_of, func_result, func_type, def_type, type_defs, options_of, options, canon_of, canon, extern_desc, import_item, export_item, contents, section, sections, component, file, room_after, Spells}
+use Rattle.cm_reading.specs.declared.fault.DecodeReason.TheVariants.{SizeMismatch, BadNumber, BadUtf8, BadName, UnknownCode, TooMany}
+use Rattle.cm_reading.specs.declared.codes.SectionKind.{SectionKind}
+use Rattle.cm_reading.specs.declared.codes.SectionKind.TheVariants as kinds
+use Rattle.cm_reading.specs.declared.codes.CoreInstanceForm.TheVariants as core_instance_forms
+use Rattle.cm_reading.specs.declared.codes.AliasSort.TheVariants as alias_sorts
+use Rattle.cm_reading.specs.declared.codes.AliasTarget.TheVariants as targets
+use Rattle.cm_reading.specs.declared.codes.TypeForm.TheVariants as type_forms
+use Rattle.cm_reading.specs.declared.codes.ResultForm.TheVariants as result_forms
+use Rattle.cm_reading.specs.declared.codes.CanonForm.TheVariants as canon_forms
+use Rattle.cm_reading.specs.declared.codes.DescForm.TheVariants as desc_forms
+use Rattle.cm_reading.specs.declared.codes.NoDescription.TheVariants as descriptions
+use Rattle.cm_reading.specs.Codes.{section_kind, core_instance_form, core_sort, alias_sort, core_alias_target, val_type, type_form, result_form, canon_form, desc_form, export_sort, export_desc}
+use Rattle.cm_reading.specs.Texts.{index, text, label, extern_name}
+use Rattle.cm_reading.specs.Instances.{core_arg, core_instance}
+use Rattle.cm_reading.specs.Aliases.{alias_of, alias}
+use Rattle.cm_reading.specs.Types.{param, func_result_of, func_result, func_type, def_type, type_defs}
+use Rattle.cm_reading.specs.Canons.{options_of, options, canon_of, canon}
+use Rattle.cm_reading.specs.Externs.{extern_desc, import_item, export_item}
+use Rattle.cm_reading.specs.Sections.{contents, section, sections, room_after}
+use Rattle.cm_reading.specs.File.{component, file, Spells}
 use Rattle.cm_binary.proofs.Nonempty.{core_arg_some, core_instance_some, alias_some, param_some, def_some, canon_some, import_some, export_some}
 use Rattle.cm_binary.proofs.FileLimits.{preamble_read, limits_parts, room_left}
 

@@ -1,6 +1,3 @@
-pub mod TextLaws
-pub mod FileLaws
-pub mod LoopLaws
 pub mod DecodeLaws
 pub mod FileSpelling
 pub mod Nonempty

@@ -8,4 +8,4 @@ mod form;
 
 pub use cursor::{Code, Cursor};
 pub use fault::{End, Fault, ReadError};
-pub use form::{Form, read_vec, write_blob, write_vec};
+pub use form::{Form, read_vec, write_blob};

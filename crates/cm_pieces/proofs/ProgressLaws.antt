@@ -11,10 +11,11 @@ use Rattle.cm_grammar.proofs.Laws.{fixed_lawful}
 use Rattle.cm_grammar.proofs.ReadingLaws.{to_end_more}
 use Rattle.cm_component.specs.Trees.{SectionTree}
 use Rattle.cm_component.specs.declared.limits.TheConstants.{COMPONENT_PREAMBLE, MAX_TYPES}
-use Rattle.cm_binary.specs.declared.fault.DecodeReason.{DecodeReason}
-use Rattle.cm_binary.specs.declared.fault.DecodeReason.TheVariants.{BadPreamble}
-use Rattle.cm_binary.specs.File.{section, sections, component, room_after}
-use Rattle.cm_binary.proofs.FileLaws.{section_lawful, section_nonempty}
+use Rattle.cm_reading.specs.declared.fault.DecodeReason.{DecodeReason}
+use Rattle.cm_reading.specs.declared.fault.DecodeReason.TheVariants.{BadPreamble}
+use Rattle.cm_reading.specs.Sections.{section, sections, room_after}
+use Rattle.cm_reading.specs.File.{component}
+use Rattle.cm_reading.proofs.LawfulSections.{section_lawful, section_nonempty}
 use Rattle.cm_pieces.specs.declared.front.Next.{Next}
 use Rattle.cm_pieces.specs.declared.front.Next.TheVariants as nexts
 use Rattle.cm_pieces.specs.Progress.{Progress, from, behind, IsNext, Takes, StopsBy, Stops, StopsInside, with_sections, HasReadBy, HasRead, Reaches, room_behind}

@@ -2,8 +2,8 @@
 
 ghost use Rattle.std.specs.Prelude.{◌≡◌, ℕ, ◌+◌, ◌^◌, ◌⊎◌, ◌↔◌, ◌<◌, ◌≤◌, ◌++◌, List, length, drop};
 ghost use Rattle.std.specs.Prelude.{IsTrue, OnOk, IfOk, IfErr, IfSome, Some};
-ghost use Rattle.cm_binary.specs.declared.fault.DecodeFault.{DecodeFault};
-ghost use Rattle.cm_binary.specs.declared.fault.DecodeReason.TheVariants as reasons;
+ghost use Rattle.cm_reading.specs.declared.fault.DecodeFault.{DecodeFault};
+ghost use Rattle.cm_reading.specs.declared.fault.DecodeReason.TheVariants as reasons;
 ghost use Rattle.cm_binary.specs.Answers.{IsAnswer};
 ghost use Rattle.cm_pieces.specs.After.{Answer, After, Follows, IsSettled, BeginsSection};
 ghost use Rattle.cm_pieces.specs.After.{Waits, GoesOn, HasFault, EndsEarly, StopsAt};

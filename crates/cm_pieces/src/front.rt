@@ -4,9 +4,9 @@ ghost use Rattle.std.specs.Prelude.{◌≡◌, ◌+◌, ◌^◌, ◌<◌, length
 ghost use Rattle.cm_grammar.specs.Reading.{IsInside};
 ghost use Rattle.cm_pieces.specs.Progress.{fresh, Takes, Stops, Reaches, StopsInside};
 
-use cm_binary::{DecodeReason, Section, read_section, room_after};
-use cm_component::{COMPONENT_PREAMBLE, MAX_TYPES};
+use cm_component::{COMPONENT_PREAMBLE, MAX_TYPES, Section};
 use cm_grammar::{Cursor, End, ReadError};
+use cm_reading::{DecodeReason, read_section, room_after};
 use std::alloc::Global;
 
 /// What comes next in a file.
