@@ -22,11 +22,13 @@ use Rattle.cm_reading.specs.Sections.{section, contents}
 use Rattle.cm_reading.specs.File.{file}
 use Rattle.cm_binary.specs.Answers.{IsAnswer}
 use Rattle.cm_reading.proofs.LawfulSections.{section_lawful}
+use Rattle.cm_component.specs.Limits.{limit_fault}
+use Rattle.cm_binary.proofs.FileLimits.{spelled_within}
 use Rattle.cm_binary.proofs.FileWants.{section_ends, contents_ends, bad_preamble, bad_number, size_mismatch}
 use Rattle.cm_pieces.specs.declared.front.Next.{Next}
 use Rattle.cm_pieces.specs.declared.front.Next.TheVariants as nexts
-use Rattle.cm_pieces.specs.Progress.{Progress, fresh, behind, StopsBy, Stops, HasRead, Reaches}
-use Rattle.cm_pieces.specs.After.{Answer, Held, rest_of_file, ComesTo, Follows, IsSettled, BeginsSection, Waits, IsHeld, GoesOn, HasFault, EndsEarly, StopsAt}
+use Rattle.cm_pieces.specs.Progress.{HasReadBy, Progress, fresh, behind, StopsBy, Stops, HasRead, Reaches}
+use Rattle.cm_pieces.specs.After.{After, Answer, Held, rest_of_file, ComesTo, Follows, IsSettled, BeginsSection, Waits, IsHeld, GoesOn, HasFault, EndsEarly, StopsAt}
 use Rattle.cm_pieces.proofs.LimitLaws.{limited_same}
 use Rattle.cm_pieces.proofs.StopLaws.{rest_lawful, rest_ends, stop_read, nothing_behind, stop_stays, stop_too_long}
 use Rattle.cm_pieces.proofs.AfterLaws.{comes_same, comes_fault}
@@ -238,3 +240,38 @@ settled old piece f none w (inr h) = inr (λ more fits.
 pub held_waits : (fault : Option DecodeFault) (p : Progress) (kept : List ℕ) → fault ≡ None → IsHeld fault p kept → Waits p kept
 held_waits None p kept none h = h
 held_waits (Some f) p kept none h = absurd cc
+
+-- ---- the end of the input
+
+finish_ok : (p : Progress) (kept : List ℕ) → Waits p kept → p.next ≡ nexts.Section → kept ≡ [] → ComesTo p (kept ++ []) (Ok p.sections)
+finish_ok p kept w next none =
+    let all : kept ++ [] ≡ kept = append-nil kept in
+    let read : (rest_of_file p).reads (end.Cut Truncated) kept ≡ Ok [] = within_reads p kept w.few ∙ rw none (nothing_behind p (end.Cut Truncated) next) in
+    rw all ([], (rest_lawful p).takes (end.Cut Truncated) kept [] w.bytes read, sym (append-nil p.sections))
+
+finish_err : (p : Progress) (kept : List ℕ) → Waits p kept → ((p.next ≡ nexts.Section) × (kept ≡ []) → ⊥) → ComesTo p (kept ++ []) (Err (record { at = p.offset + length kept; reason = Truncated }))
+finish_err p kept w more =
+    let all : kept ++ [] ≡ kept = append-nil kept in
+    let read : (rest_of_file p).reads (end.Cut Truncated) kept ≡ Err (flaw 0 Truncated) =
+        elim (waits_read p kept w) [
+          | inl k ↦ k
+          | inr k ↦ absurd (more (k.0, k.1))
+        ] in
+    rw all (comes_fault p kept (p.offset + length kept) 0 Truncated w.bytes (omega arith) (rw read refl))
+
+pub after_ok : (d : Held) (c : List SectionTree) → d.fault ≡ None → IsHeld d.fault d.read d.kept → d.read.next ≡ nexts.Section → d.kept ≡ [] → c ≡ d.read.sections → After d [] (Ok c)
+after_ok d c none held next kept same = rw (none, same) (finish_ok d.read d.kept (held_waits d.fault d.read d.kept none held) next kept)
+
+pub after_err : (d : Held) → d.fault ≡ None → IsHeld d.fault d.read d.kept → ((d.read.next ≡ nexts.Section) × (d.kept ≡ []) → ⊥) → After d [] (Err (record { at = d.read.offset + length d.kept; reason = Truncated }))
+after_err d none held more = rw none (finish_err d.read d.kept (held_waits d.fault d.read d.kept none held) more)
+
+limits_by : (n : Next) (p : Progress) → n ≡ nexts.Section → HasReadBy n p → p.offset ≤ MAX_FILE_BYTES → limit_fault p.sections ≡ None
+unfolding file
+limits_by nexts.Preamble p next h few = absurd cc
+limits_by nexts.Section p next h few = spelled_within p.sections h.0 (omega (arith, h.2), h.1)
+
+-- The sections that were read keep the limits.
+pub held_within : (d : Held) → d.fault ≡ None → IsHeld d.fault d.read d.kept → d.read.next ≡ nexts.Section → limit_fault d.read.sections ≡ None
+held_within d none held next =
+    let w = held_waits d.fault d.read d.kept none held in
+    limits_by d.read.next d.read next w.read (omega (arith, w.few))

@@ -1,7 +1,9 @@
 //! A decoder of component files that come in pieces.
 
-ghost use Rattle.std.specs.Prelude.{◌≡◌, ℕ, ◌+◌, ◌^◌, ◌⊎◌, ◌↔◌, ◌<◌, ◌≤◌, ◌++◌, List, length, drop};
-ghost use Rattle.std.specs.Prelude.{IsTrue, OnOk, IfOk, IfErr, IfSome, Some};
+ghost use Rattle.std.specs.Prelude.{◌≡◌, ℕ, ◌+◌, ◌^◌, ◌⊎◌, ◌↔◌, ◌<◌, ◌≤◌, ◌++◌, List, [], length, map, drop};
+ghost use Rattle.std.specs.Prelude.{IsTrue, OnOk, IfOk, IfErr, IfSome, Some, None};
+ghost use Rattle.cm_component.specs.Trees.{section_tree};
+ghost use Rattle.cm_component.specs.Limits.{limit_fault};
 ghost use Rattle.cm_reading.specs.declared.fault.DecodeFault.{DecodeFault};
 ghost use Rattle.cm_reading.specs.declared.fault.DecodeReason.TheVariants as reasons;
 ghost use Rattle.cm_binary.specs.Answers.{IsAnswer};
@@ -9,12 +11,13 @@ ghost use Rattle.cm_pieces.specs.After.{Answer, After, Follows, IsSettled, Begin
 ghost use Rattle.cm_pieces.specs.After.{Waits, GoesOn, HasFault, EndsEarly, StopsAt};
 ghost use Rattle.cm_pieces.specs.Progress.{HasRead};
 ghost use Rattle.cm_pieces.specs.Views.{progress};
+ghost use Rattle.cm_pieces.specs.declared.front.Next.TheVariants as nexts;
 ghost use Rattle.cm_component.specs.declared.limits.TheConstants.{MAX_FILE_BYTES};
 
-use crate::front::Front;
-use cm_binary::{Component, DecodeFault, DecodeReason};
-use cm_component::MAX_FILE_BYTES;
+use crate::front::{Front, Next};
+use cm_component::{Component, MAX_FILE_BYTES, Section};
 use cm_grammar::{End, ReadError};
+use cm_reading::{DecodeFault, DecodeReason};
 use std::alloc::Global;
 use std::marker::Model;
 
@@ -84,6 +87,50 @@ impl Decoder {
                 Err(fault)
             }
         }
+    }
+
+    /// The component of all that has come, or the first fault of it. Where a fault was met before,
+    /// it is answered again; no memory is taken.
+    pub fn finish(self) -> Result<Component, DecodeFault>
+        ensures { After self [] result }
+    {
+        let Decoder {
+            front,
+            kept,
+            fault,
+            alloc: _,
+        } = self;
+        if let Some(fault) = fault {
+            return Err(fault);
+        }
+        if may_end(front.next, &kept) {
+            return Ok(component_of(front.sections));
+        }
+        Err(DecodeFault {
+            at: front.offset + kept.len(),
+            reason: DecodeReason::Truncated,
+        })
+    }
+}
+
+/// Whether the file may end where this comes next and these bytes are kept.
+fn may_end(next: Next, kept: &[u8]) -> bool
+    ensures { IsTrue result ↔ ((next ≡ nexts.Section) × (kept.now ≡ [])) }
+{
+    match next {
+        Next::Preamble => false,
+        Next::Section => kept.is_empty(),
+    }
+}
+
+/// The component of sections that keep the limits.
+fn component_of(sections: Vec<Section>) -> Component
+    requires { limit_fault (map section_tree sections.items) ≡ None }
+    ensures { result ≡ map section_tree sections.items }
+{
+    match Component::new(sections) {
+        Ok(component) => component,
+        Err(_) => unreachable!(),
     }
 }
 
