@@ -3,3 +3,4 @@ pub mod LimitLaws
 pub mod StopLaws
 pub mod AfterLaws
 pub mod PieceLaws
+pub mod ComeLaws

@@ -150,7 +150,7 @@ ends_early old new e bytes rest error f is reason r h =
 
 -- ---- a piece
 
-IsBytes-append : (front rest : List ℕ) → IsBytes front → IsBytes rest → IsBytes (front ++ rest)
+pub IsBytes-append : (front rest : List ℕ) → IsBytes front → IsBytes rest → IsBytes (front ++ rest)
 IsBytes-append front rest h k i =
     elim (cases_lt i (length front)) [
       | inl lt ↦ rw (get_or_append_left front rest 0 i lt) (h i)
@@ -172,6 +172,7 @@ follows_read old new kept piece rest more answer w g fits =
 pub follows : (old new : Held) (piece : List ℕ) → old.fault ≡ None → new.fault ≡ None → Waits old.read old.kept → GoesOn old.read (old.kept ++ piece) new.kept new.read → Follows old piece new
 follows old new piece old_none new_none w g = record {
   answers = λ more answer fits. rw (old_none, new_none) (follows_read old.read new.read old.kept piece new.kept more answer w g fits);
+  unharmed = new_none;
   counted = omega (arith, g.reached.counted, ap length g.reached.parts, length-append g.reached.taken new.kept, length-append old.kept piece);
 }
 

@@ -14,13 +14,17 @@ use Rattle.cm_reading.specs.declared.fault.DecodeReason.TheVariants.{Truncated, 
 use Rattle.cm_reading.specs.Texts.{WholeProduction}
 use Rattle.cm_binary.specs.Answers.{AreBytes}
 use Rattle.cm_reading.specs.declared.fault.DecodeReason.{DecodeReason}
-use Rattle.cm_pieces.specs.Progress.{Progress, behind, HasRead, Reaches, Stops}
+use Rattle.cm_pieces.specs.Progress.{Progress, fresh, behind, HasRead, Reaches, Stops}
 
 -- What a decoder holds: what was read, the bytes kept unread, the fault that was met.
 pub record Held : Type 0 where
   pub read : Progress
   pub kept : List ℕ
   pub fault : Option DecodeFault
+
+-- Nothing has come.
+abbrev pub nothing : Held
+nothing = record { read = fresh; kept = []; fault = None }
 
 -- A component, or a fault.
 abbrev pub Answer : Type 0
@@ -50,7 +54,9 @@ After d bytes answer = AfterFault d.fault d bytes answer
 pub record Follows (old : Held) (bytes : List ℕ) (new : Held) : Type 0 where
   pub answers : (more : List ℕ) (answer : Answer) → AreBytes (bytes ++ more)
       → After new more answer ↔ After old (bytes ++ more) answer
-  pub counted : new.read.offset + length new.kept ≡ old.read.offset + length old.kept + length bytes
+  pub unharmed : new.fault ≡ None
+  pub counted : new.read.offset + length new.kept
+      ≡ old.read.offset + length old.kept + length bytes
 
 -- The fault is the answer whatever follows these bytes.
 abbrev pub IsSettled : Held → List ℕ → DecodeFault → Type 0

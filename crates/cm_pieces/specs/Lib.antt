@@ -1,3 +1,4 @@
 pub mod Progress
 pub mod Views
 pub mod After
+pub mod Pieces

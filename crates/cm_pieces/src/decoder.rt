@@ -7,7 +7,7 @@ ghost use Rattle.cm_component.specs.Limits.{limit_fault};
 ghost use Rattle.cm_reading.specs.declared.fault.DecodeFault.{DecodeFault};
 ghost use Rattle.cm_reading.specs.declared.fault.DecodeReason.TheVariants as reasons;
 ghost use Rattle.cm_binary.specs.Answers.{IsAnswer};
-ghost use Rattle.cm_pieces.specs.After.{Answer, After, Follows, IsSettled, BeginsSection};
+ghost use Rattle.cm_pieces.specs.After.{Answer, nothing, After, Follows, IsSettled, BeginsSection};
 ghost use Rattle.cm_pieces.specs.After.{Waits, GoesOn, HasFault, EndsEarly, StopsAt};
 ghost use Rattle.cm_pieces.specs.Progress.{HasRead};
 ghost use Rattle.cm_pieces.specs.Views.{progress};
@@ -45,7 +45,8 @@ impl Model for Decoder {
 impl Decoder {
     /// Nothing has come.
     pub fn new(alloc: Global) -> Decoder
-        ensures { (bytes : List ℕ) (answer : Answer) → After result bytes answer
+        ensures empty { result ≡ nothing }
+        ensures answers { (bytes : List ℕ) (answer : Answer) → After result bytes answer
             ↔ IsAnswer bytes answer }
     {
         Decoder {
@@ -70,7 +71,7 @@ impl Decoder {
     /// fault each later call answers it.
     pub fn feed(&mut self, piece: &[u8]) -> Result<(), DecodeFault>
         ensures ok { OnOk result (Follows self.old piece.now self.new) }
-        ensures open { OnOk result ((f : DecodeFault) → IsSettled self.old piece.now f → ⊥) }
+        ensures unsettled { OnOk result ((f : DecodeFault) → IsSettled self.old piece.now f → ⊥) }
         ensures settled { IfErr result
             (λ f. (f.reason ≡ reasons.Memory) ⊎ IsSettled self.old piece.now f) }
         ensures stays { IfErr result (λ f. self.new.fault ≡ Some f) }

@@ -3,5 +3,9 @@
 
 mod decoder;
 mod front;
+mod gathered;
+mod pieces;
+
 
 pub use decoder::Decoder;
+pub use pieces::decode_pieces;

@@ -8,8 +8,8 @@ returns-in-Ok-clause-ok c =
     let w = held_waits c.self.inside.fault (progress c.self.inside.front) c.self.inside.kept.items c.in_default.is c.self.invariant in
     rw (← c.self.view_is) (follows _ _ c.args.piece.now c.in_default.is c.in_default.is w c.in-Ok.ensures.ok)
 
-pub returns-in-Ok-clause-open : goal.returns-in-Ok-clause-open
-returns-in-Ok-clause-open c =
+pub returns-in-Ok-clause-unsettled : goal.returns-in-Ok-clause-unsettled
+returns-in-Ok-clause-unsettled c =
     let w = held_waits c.self.inside.fault (progress c.self.inside.front) c.self.inside.kept.items c.in_default.is c.self.invariant in
     rw (← c.self.view_is) (open_follows _ _ c.args.piece.now c.in_default.is c.in_default.is w c.in-Ok.ensures.ok (λ i. omega (arith, c.type_inv.piece i)))
 
