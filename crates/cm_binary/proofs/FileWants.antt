@@ -36,31 +36,31 @@ use Rattle.cm_binary.proofs.CodeWants.{section_kind_never, core_instance_form_ne
 abbrev IsOther : DecodeReason → Type 0
 IsOther reason = reason ≡ Truncated → ⊥
 
-bad_preamble : IsOther BadPreamble
+pub bad_preamble : IsOther BadPreamble
 bad_preamble e = absurd cc
 
-bad_number : IsOther BadNumber
+pub bad_number : IsOther BadNumber
 bad_number e = absurd cc
 
-size_mismatch : IsOther SizeMismatch
+pub size_mismatch : IsOther SizeMismatch
 size_mismatch e = absurd cc
 
-unknown_code : IsOther UnknownCode
+pub unknown_code : IsOther UnknownCode
 unknown_code e = absurd cc
 
-bad_utf8 : IsOther BadUtf8
+pub bad_utf8 : IsOther BadUtf8
 bad_utf8 e = absurd cc
 
-bad_name : IsOther BadName
+pub bad_name : IsOther BadName
 bad_name e = absurd cc
 
-not_a_module : IsOther NotAModule
+pub not_a_module : IsOther NotAModule
 not_a_module e = absurd cc
 
-too_many : IsOther TooMany
+pub too_many : IsOther TooMany
 too_many e = absurd cc
 
-too_long : IsOther TooLong
+pub too_long : IsOther TooLong
 too_long e = absurd cc
 
 pub index_ends : Ends Truncated (number BadNumber)

@@ -14,3 +14,4 @@ mod types;
 
 pub use fault::{DecodeFault, DecodeReason, Feature};
 pub use file::read_file;
+pub use sections::{read_section, room_after};

@@ -131,7 +131,7 @@ fn read_section_of_size(
 
 /// Reads a section, where `room` more types may stand in the file.
 #[tactic(auto, unfolding(crate::specs::Sections::section))]
-fn read_section(
+pub fn read_section(
     alloc: Global,
     bytes: &mut Cursor<'_, DecodeReason>,
     room: usize,
@@ -145,7 +145,7 @@ fn read_section(
 }
 
 /// How many of `room` types more may stand behind the section.
-fn room_after(room: usize, section: &Section) -> usize
+pub fn room_after(room: usize, section: &Section) -> usize
     ensures { result ≡ room_after room (section_tree section.now) }
 {
     room.saturating_sub(types_in(section) as usize)

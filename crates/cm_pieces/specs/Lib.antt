@@ -1,0 +1,4 @@
+pub mod Progress
+pub mod Views
+pub mod After
+pub mod Pieces
