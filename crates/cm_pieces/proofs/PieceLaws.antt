@@ -23,7 +23,7 @@ use Rattle.cm_reading.specs.File.{file}
 use Rattle.cm_binary.specs.Answers.{IsAnswer}
 use Rattle.cm_reading.proofs.LawfulSections.{section_lawful}
 use Rattle.cm_component.specs.Limits.{limit_fault}
-use Rattle.cm_binary.proofs.FileLimits.{spelled_within}
+use Rattle.cm_binary.proofs.File.{spelled_within}
 use Rattle.cm_binary.proofs.FileWants.{section_ends, contents_ends, bad_preamble, bad_number, size_mismatch}
 use Rattle.cm_pieces.specs.declared.front.Next.{Next}
 use Rattle.cm_pieces.specs.declared.front.Next.TheVariants as nexts
