@@ -5,7 +5,8 @@ use Rattle.cm_types.specs.declared.def_types.ValType.{ValType}
 use Rattle.cm_types.specs.declared.def_types.LabeledValType.{LabeledValType}
 use Rattle.cm_types.specs.DefTypes.{FuncTypeTree, DefTypeTree, func_def}
 use Rattle.cm_component.specs.Limits.{types_in_def}
-use Rattle.cm_reading.specs.declared.fault.DecodeReason.TheVariants.{UnknownCode, TooMany, BadNumber}
+use Rattle.cm_reading.specs.declared.fault.DecodeReason.TheVariants.{UnknownCode, TooMany}
+use Rattle.cm_reading.specs.declared.fault.DecodeReason.TheVariants.{BadNumber}
 use Rattle.cm_reading.specs.declared.codes.ResultForm.{ResultForm}
 use Rattle.cm_reading.specs.declared.codes.ResultForm.TheVariants as result_forms
 use Rattle.cm_reading.specs.Codes.{type_form, val_type, result_form}

@@ -126,7 +126,8 @@ fn read_outer_type(
 /// The fault of an alias of an instance, behind its sort.
 #[tactic(auto, unfolding(crate::specs::Aliases::alias_of))]
 fn target_fault(bytes: &Cursor<'_, DecodeReason>) -> ReadError<DecodeReason>
-    ensures { Fails result ((alias_of alias_sorts.Instance).reads bytes.now.end bytes.now.rest.now) }
+    ensures { Fails result
+        ((alias_of alias_sorts.Instance).reads bytes.now.end bytes.now.rest.now) }
 {
     match bytes.rest {
         [] => bytes.want(),

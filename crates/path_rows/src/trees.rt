@@ -1,12 +1,13 @@
 //! Components as rows spell them: sections joined by `|`, and the items of a section by `;`.
 //!
-//! `custom NAME BYTES`, `module BYTES`, `instances MODULE NAME=INSTANCE.. ; exports NAME=SORT:INDEX..
-//! ; ..` of core instances, `inline NAME=SORT:INDEX.. ; ..` of instances, `aliases INSTANCE NAME ;
-//! SORT INSTANCE NAME ; outer COUNT TYPE ; ..`, where a core function has no sort, `types func
-//! LABEL:u32.. -> u32 ; ..`, `canons lift CORE_FUNC TYPE OPTION.. ; lower FUNC OPTION.. ; new R ; drop
-//! R ; rep R`, `imports NAME TYPE ; NAME instance:TYPE ; ..` and `exports NAME FUNC ; NAME
-//! instance:INSTANCE ; ..`, where `-` after an arrow is no result. `N*` before `func` stands for so
-//! many types, and before a label for so many parameters, each with its number behind the label.
+//! `custom NAME BYTES`, `module BYTES`, `instances MODULE NAME=INSTANCE.. ; ..` of core instances,
+//! or with `exports NAME=SORT:INDEX..` for one of exports, `inline NAME=SORT:INDEX.. ; ..` of
+//! instances, `aliases INSTANCE NAME ; SORT INSTANCE NAME ; outer COUNT TYPE ; ..`, where a core
+//! function has no sort, `types func LABEL:u32.. -> u32 ; ..`, `canons lift CORE_FUNC TYPE OPTION..
+//! ; lower FUNC OPTION.. ; new R ; drop R ; rep R`, `imports NAME TYPE ; NAME instance:TYPE ; ..`
+//! and `exports NAME FUNC ; NAME instance:INSTANCE ; ..`, where `-` is no result. `N*`
+//! before `func` stands for so many types, and before a label for so many parameters, each with its
+//! number behind the label.
 
 mod canons;
 mod externs;
