@@ -66,6 +66,13 @@ impl Decoder {
         self.kept.len()
     }
 
+    /// How many bytes have come, where no fault was met.
+    pub(crate) fn position(&self) -> usize
+        ensures { result ≡ self.now.read.offset + length self.now.kept }
+    {
+        self.front.offset + self.kept.len()
+    }
+
     /// Goes on with a further piece. It answers a fault exactly where the file has it however it
     /// goes on, and so never that the input ends too early; or that memory was refused. After a
     /// fault each later call answers it.

@@ -2,6 +2,7 @@
 
 ghost use Rattle.std.specs.Prelude.{◌≡◌, ◌⊎◌, ◌↔◌, ℕ, ◌++◌, List, [], IsTrue, OnOk, IfErr, None};
 ghost use Rattle.cm_reading.specs.declared.fault.DecodeReason.TheVariants as reasons;
+ghost use Rattle.cm_binary.specs.Answers.{AreBytes};
 ghost use Rattle.cm_pieces.specs.Pieces.{HasCome, IsOpen, StaysFault, Decodes};
 
 use crate::decoder::Decoder;
@@ -38,6 +39,7 @@ impl Gathered {
             → HasCome self.old.decoder self.old.unfed.items before
             → HasCome self.new.decoder self.new.unfed.items (before ++ bytes.now)
             × StaysFault (before ++ bytes.now) f)) }
+        ensures bytes { AreBytes bytes.now }
     {
         if self.unfed.extend_from_slice(bytes).is_err() {
             return Err(DecodeFault {
