@@ -1,6 +1,7 @@
 //! A decoder of component files that come in pieces.
 
-ghost use Rattle.std.specs.Prelude.{◌≡◌, ℕ, ◌+◌, ◌^◌, ◌⊎◌, ◌↔◌, ◌<◌, ◌≤◌, ◌++◌, List, [], length, map, drop};
+ghost use Rattle.std.specs.Prelude.{◌≡◌, ℕ, ◌+◌, ◌^◌, ◌⊎◌, ◌↔◌, ◌<◌, ◌≤◌, ◌++◌, List, []};
+ghost use Rattle.std.specs.Prelude.{length, map, drop};
 ghost use Rattle.std.specs.Prelude.{IsTrue, OnOk, IfOk, IfErr, IfSome, Some, None};
 ghost use Rattle.cm_component.specs.Trees.{section_tree};
 ghost use Rattle.cm_component.specs.Limits.{limit_fault};

@@ -53,8 +53,8 @@ impl Gathered {
         self.feed_all()
     }
 
-    /// Takes further bytes. A fault of them is answered at the end: the one error is that memory was
-    /// refused.
+    /// Takes further bytes. A fault of them is answered at the end: the one error is that memory
+    /// was refused.
     pub fn gather(&mut self, bytes: &[u8]) -> Result<(), DecodeFault>
         ensures ok { OnOk result ((before : List ℕ)
             → HasCome self.old.decoder self.old.unfed.items before
@@ -72,7 +72,7 @@ impl Gathered {
         }
     }
 
-    /// Feeds what was not fed yet. After a fault, but want of memory, what has come is still known.
+    /// Feeds what was not fed yet. After a fault, but want of memory, what has come is known.
     pub fn feed_all(&mut self) -> Result<(), DecodeFault>
         ensures ok { OnOk result ((before : List ℕ)
             → HasCome self.old.decoder self.old.unfed.items before
