@@ -1,15 +1,16 @@
 -- What has come of a file, of which a decoder was fed a part.
-use Rattle.std.proofs.Common.{◌≡◌, ℕ, ◌+◌, ◌<◌, List, [], ◌++◌, length, take, get_or, Bor, Option, Some, None, Result, Ok, Err, refl, sym, ap, ◌∙◌, subst, append_assoc, append-nil, arith, inl, inr, ◌⊎◌}
-use Rattle.std.specs.Prelude.{◌↔◌, OnOk, IfErr, IfSome}
+use Rattle.std.proofs.Common.{◌≡◌, ℕ, ◌+◌, ◌<◌, List, [], ◌++◌, length, take, get_or, Bor, Option, Some, None, Result, Ok, Err, refl, sym, ap, ◌∙◌, append_assoc, append-nil, arith, inl, inr, ◌⊎◌}
+use Rattle.std.specs.Prelude.{OnOk, IfErr, IfSome}
 use Rattle.cm_grammar.proofs.Tools.{ok_of}
 use Rattle.cm_binary.proofs.OneAnswer.{one_answer}
 use Rattle.std.proofs.lemmas.List.{length-append, get_or_past, take_more, flat_map_more}
 use Rattle.std.specs.List.{flat_map}
 use Rattle.cm_grammar.proofs.Tools.{IsBytes, IsBytes-after}
 use Rattle.cm_reading.specs.declared.fault.DecodeFault.{DecodeFault}
-use Rattle.cm_reading.specs.declared.fault.DecodeReason.TheVariants.{Memory}
+use Rattle.cm_reading.specs.declared.fault.DecodeReason.TheVariants.{Memory, Read}
 use Rattle.cm_binary.specs.Answers.{IsAnswer}
 use Rattle.cm_pieces.specs.After.{Held, Answer, nothing, After, Follows, IsSettled}
+use Rattle.cm_pieces.specs.Streams.{FailsBehind}
 use Rattle.cm_pieces.specs.Pieces.{Decodes, StaysFault, IsOpen, HasCome}
 use Rattle.cm_pieces.proofs.PieceLaws.{IsBytes-append, fresh_answers}
 
@@ -110,3 +111,14 @@ fault_decodes d d' unfed before r f g is e (inr s) h = rw (is, e) (inr (stays_fi
 
 pub joined_more : (pieces : List (Bor (List ℕ))) (i : ℕ) (d : Bor (List ℕ)) → i < length pieces → flat_map (λ (p : Bor (List ℕ)). p.now) (take i pieces) ++ (get_or pieces i d).now ≡ flat_map (λ (p : Bor (List ℕ)). p.now) (take (i + 1) pieces)
 joined_more pieces i d h = rw (take_more pieces i d h) (flat_map_more (λ (p : Bor (List ℕ)). p.now) [] (take i pieces) (get_or pieces i d))
+
+-- ---- where a reader fails
+
+pub fails_fault : (d d' : Held) (unfed unfed' bytes : List ℕ) (f : DecodeFault) → (f.reason ≡ Memory) ⊎ ((b : List ℕ) → HasCome d unfed b → HasCome d' unfed' b × StaysFault b f) → HasCome d unfed bytes → FailsBehind bytes f
+fails_fault d d' unfed unfed' bytes f (inl m) come = inl m
+fails_fault d d' unfed unfed' bytes f (inr h) come = inr (inl (h bytes come).1)
+
+pub fails_read : (d d' : Held) (unfed unfed' bytes : List ℕ) (f : DecodeFault) → unfed' ≡ [] → d'.fault ≡ None → f.at ≡ d'.read.offset + length d'.kept → f.reason ≡ Read → ((b : List ℕ) → HasCome d unfed b → HasCome d' unfed' b × IsOpen b) → HasCome d unfed bytes → FailsBehind bytes f
+fails_read d d' unfed unfed' bytes f none unharmed place reason h come =
+    let after = h bytes come in
+    inr (inr (reason, omega (arith, place, after.0.counted unharmed, ap length after.0.parts, length-append after.0.fed unfed', ap length none), after.1))

@@ -4,3 +4,4 @@ pub mod StopLaws
 pub mod AfterLaws
 pub mod PieceLaws
 pub mod ComeLaws
+pub mod StreamLaws

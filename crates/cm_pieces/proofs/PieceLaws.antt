@@ -254,10 +254,10 @@ finish_err : (p : Progress) (kept : List ℕ) → Waits p kept → ((p.next ≡ 
 finish_err p kept w more =
     let all : kept ++ [] ≡ kept = append-nil kept in
     let read : (rest_of_file p).reads (end.Cut Truncated) kept ≡ Err (flaw 0 Truncated) =
-        elim (waits_read p kept w) [
-          | inl k ↦ k
-          | inr k ↦ absurd (more (k.0, k.1))
-        ] in
+    elim (waits_read p kept w) [
+      | inl k ↦ k
+      | inr k ↦ absurd (more (k.0, k.1))
+    ] in
     rw all (comes_fault p kept (p.offset + length kept) 0 Truncated w.bytes (omega arith) (rw read refl))
 
 pub after_ok : (d : Held) (c : List SectionTree) → d.fault ≡ None → IsHeld d.fault d.read d.kept → d.read.next ≡ nexts.Section → d.kept ≡ [] → c ≡ d.read.sections → After d [] (Ok c)

@@ -2,3 +2,4 @@ pub mod Progress
 pub mod Views
 pub mod After
 pub mod Pieces
+pub mod Streams

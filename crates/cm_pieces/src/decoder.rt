@@ -1,6 +1,7 @@
 //! A decoder of component files that come in pieces.
 
-ghost use Rattle.std.specs.Prelude.{◌≡◌, ℕ, ◌+◌, ◌^◌, ◌⊎◌, ◌↔◌, ◌<◌, ◌≤◌, ◌++◌, List, [], length, map, drop};
+ghost use Rattle.std.specs.Prelude.{◌≡◌, ℕ, ◌+◌, ◌^◌, ◌⊎◌, ◌↔◌, ◌<◌, ◌≤◌, ◌++◌, List, []};
+ghost use Rattle.std.specs.Prelude.{length, map, drop};
 ghost use Rattle.std.specs.Prelude.{IsTrue, OnOk, IfOk, IfErr, IfSome, Some, None};
 ghost use Rattle.cm_component.specs.Trees.{section_tree};
 ghost use Rattle.cm_component.specs.Limits.{limit_fault};
@@ -64,6 +65,13 @@ impl Decoder {
             ⊎ ((size : ℕ) × BeginsSection size self.now.kept × (result ≤ size + 6)) }
     {
         self.kept.len()
+    }
+
+    /// How many bytes have come, where no fault was met.
+    pub(crate) fn position(&self) -> usize
+        ensures { result ≡ self.now.read.offset + length self.now.kept }
+    {
+        self.front.offset + self.kept.len()
     }
 
     /// Goes on with a further piece. It answers a fault exactly where the file has it however it

@@ -2,6 +2,7 @@
 
 ghost use Rattle.std.specs.Prelude.{◌≡◌, ◌⊎◌, ◌↔◌, ℕ, ◌++◌, List, [], IsTrue, OnOk, IfErr, None};
 ghost use Rattle.cm_reading.specs.declared.fault.DecodeReason.TheVariants as reasons;
+ghost use Rattle.cm_binary.specs.Answers.{AreBytes};
 ghost use Rattle.cm_pieces.specs.Pieces.{HasCome, IsOpen, StaysFault, Decodes};
 
 use crate::decoder::Decoder;
@@ -38,6 +39,7 @@ impl Gathered {
             → HasCome self.old.decoder self.old.unfed.items before
             → HasCome self.new.decoder self.new.unfed.items (before ++ bytes.now)
             × StaysFault (before ++ bytes.now) f)) }
+        ensures bytes { AreBytes bytes.now }
     {
         if self.unfed.extend_from_slice(bytes).is_err() {
             return Err(DecodeFault {
@@ -51,8 +53,8 @@ impl Gathered {
         self.feed_all()
     }
 
-    /// Takes further bytes. A fault of them is answered at the end: the one error is that memory was
-    /// refused.
+    /// Takes further bytes. A fault of them is answered at the end: the one error is that memory
+    /// was refused.
     pub fn gather(&mut self, bytes: &[u8]) -> Result<(), DecodeFault>
         ensures ok { OnOk result ((before : List ℕ)
             → HasCome self.old.decoder self.old.unfed.items before
@@ -70,7 +72,7 @@ impl Gathered {
         }
     }
 
-    /// Feeds what was not fed yet. After a fault, but want of memory, what has come is still known.
+    /// Feeds what was not fed yet. After a fault, but want of memory, what has come is known.
     pub fn feed_all(&mut self) -> Result<(), DecodeFault>
         ensures ok { OnOk result ((before : List ℕ)
             → HasCome self.old.decoder self.old.unfed.items before

@@ -1,4 +1,4 @@
-use Rattle.std.proofs.Common.{ℕ, List, take, take_all, subst, arith}
+use Rattle.std.proofs.Common.{ℕ, List, take_all, subst, arith}
 use Rattle.cm_pieces.specs.Pieces.{HasCome}
 use Rattle.cm_pieces.proofs.ComeLaws.{joined_more}
 use Rattle.cm_pieces.proofs.pieces.decode_pieces.Goals as goal
