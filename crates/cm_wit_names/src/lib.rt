@@ -1,0 +1,8 @@
+//! The rules on the names of WIT texts.
+#![tactic(auto)]
+
+mod edges;
+mod known;
+mod names;
+
+pub use names::Names;
