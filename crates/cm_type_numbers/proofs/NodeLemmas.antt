@@ -3,7 +3,7 @@ use Rattle.std.proofs.Common.{◌≡◌, ℕ, ◌<◌, List, [], ◌∷◌, leng
 use Rattle.std.specs.Prelude.{slice_index}
 use Rattle.std.specs.Option.{option_map}
 use Rattle.cm_types.specs.declared.resource.ResourceId.{ResourceId}
-use Rattle.cm_types.specs.SameTypes.{resolved, resolved_fields, resolved_cases, resolved_func}
+use Rattle.cm_types.specs.Resolved.{resolved, resolved_fields, resolved_cases, resolved_func}
 use Rattle.cm_types.specs.TypeTrees.{case_before, plain_from}
 use Rattle.cm_types.specs.Types.{Ty, Fields, Cases, list, fixed_list, no_cases, plain, carrying}
 use Rattle.cm_type_numbers.specs.declared.key.Key.{Key}

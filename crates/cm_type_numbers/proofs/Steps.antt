@@ -5,7 +5,7 @@ use Rattle.std.specs.Option.{option_map}
 use Rattle.std.specs.List.{AllByRecursion}
 use Rattle.std.proofs.Math.Seq.{drop-cons}
 use Rattle.cm_types.specs.declared.resource.ResourceId.{ResourceId}
-use Rattle.cm_types.specs.SameTypes.{resolved, resolved_fields, resolved_cases}
+use Rattle.cm_types.specs.Resolved.{resolved, resolved_fields, resolved_cases}
 use Rattle.cm_types.specs.TypeTrees.{case_before, plain_from}
 use Rattle.cm_types.specs.Types.{Ty, Fields, Cases, bool, no_fields, field, no_cases, plain, carrying}
 use Rattle.cm_type_numbers.specs.declared.key.Key.{Key}

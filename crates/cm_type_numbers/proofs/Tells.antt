@@ -2,7 +2,7 @@
 use Rattle.std.proofs.Common.{◌≡◌, ℕ, List, [], ◌∷◌, Option, Some, None, refl, sym, ap, subst, ◌∙◌}
 use Rattle.cm_types.specs.declared.resource.ResourceId.{ResourceId}
 use Rattle.std.specs.Prelude.{slice_index}
-use Rattle.cm_types.specs.SameTypes.{resolved}
+use Rattle.cm_types.specs.Resolved.{resolved}
 use Rattle.cm_type_numbers.specs.Definitions.{type_at}
 use Rattle.cm_types.specs.Types.{Ty, FuncTy, Fields, Cases, bool, signed, unsigned, char, string, list, fixed_list, fields, cases, flags, own, borrow, no_fields, field, no_cases, plain, carrying, record_type, tuple_type, variant_type, enum_type, option_type, result_type, bits_8, bits_16, bits_32, bits_64}
 use Rattle.cm_type_numbers.specs.declared.key.Key.{Key}

@@ -5,7 +5,7 @@ use Rattle.std.proofs.Math.Seq.{take-suc}
 use Rattle.std.proofs.Math.ListN.{get_or-append}
 use Rattle.std.proofs.lemmas.List.{get_or-append_right}
 use Rattle.cm_types.specs.declared.resource.ResourceId.{ResourceId}
-use Rattle.cm_types.specs.SameTypes.{resolved}
+use Rattle.cm_types.specs.Resolved.{resolved}
 use Rattle.cm_types.specs.Types.{Ty, bool}
 use Rattle.cm_type_numbers.specs.declared.definitions.Def.{Def}
 use Rattle.cm_type_numbers.specs.Definitions.{HasPartsBelow, AreInOrder, type_at, type_by, types_after, types}

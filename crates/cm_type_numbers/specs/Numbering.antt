@@ -3,7 +3,7 @@ use Rattle.std.specs.Prelude.{◌≡◌, ◌↔◌, ℕ, ◌<◌, List, [], ◌�
 use Rattle.std.specs.Prelude.{None}
 use Rattle.std.specs.Option.{option_and_then, option_map}
 use Rattle.cm_types.specs.declared.resource.ResourceId.{ResourceId}
-use Rattle.cm_types.specs.SameTypes.{resolved, resolved_func}
+use Rattle.cm_types.specs.Resolved.{resolved, resolved_func}
 use Rattle.cm_types.specs.Types.{Ty, FuncTy, Fields, Cases, bool, signed, unsigned, char, string}
 use Rattle.cm_types.specs.Types.{list, fixed_list, fields, cases, flags, own, borrow, no_fields}
 use Rattle.cm_types.specs.Types.{field, no_cases, plain, carrying, record_type, tuple_type}

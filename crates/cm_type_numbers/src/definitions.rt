@@ -3,8 +3,6 @@
 ghost use Rattle.std.specs.Prelude.{◌↔◌, IsTrue};
 ghost use Rattle.cm_type_numbers.specs.Definitions.{AreInOrder, IsBelow};
 
-
-
 use cm_types::{Label, ResourceId};
 
 /// A type (Explainer.md, "Value Types"), with the places of the definitions of its parts in place

@@ -6,7 +6,10 @@
 pub(crate) enum Key {
     Leaf(Leaf),
     List(usize),
-    FixedList { element: usize, length: u32 },
+    FixedList {
+        element: usize,
+        length: u32,
+    },
     Record(usize),
     Tuple(usize),
     Variant(usize),
@@ -14,13 +17,35 @@ pub(crate) enum Key {
     Option(usize),
     Result(usize),
     Flags(usize),
-    Own { component: u32, number: u32 },
-    Borrow { component: u32, number: u32 },
-    Field { label: usize, ty: usize, others: usize },
-    Plain { label: usize, others: usize },
-    Carrying { label: usize, ty: usize, others: usize },
-    Func { params: usize, result: usize },
-    FuncWithoutResult { params: usize },
+    Own {
+        component: u32,
+        number: u32,
+    },
+    Borrow {
+        component: u32,
+        number: u32,
+    },
+    Field {
+        label: usize,
+        ty: usize,
+        others: usize,
+    },
+    Plain {
+        label: usize,
+        others: usize,
+    },
+    Carrying {
+        label: usize,
+        ty: usize,
+        others: usize,
+    },
+    Func {
+        params: usize,
+        result: usize,
+    },
+    FuncWithoutResult {
+        params: usize,
+    },
 }
 
 /// A node with nothing below it: a type without parts, or the end of a chain.

@@ -5,8 +5,7 @@ ghost use Rattle.std.specs.Prelude.{slice_index};
 ghost use Rattle.std.specs.Option.{option_map};
 ghost use Rattle.std.specs.List.{AllByRecursion};
 ghost use Rattle.cm_types.specs.declared.resource.ResourceId.{ResourceId};
-ghost use Rattle.cm_types.specs.SameTypes.{resolve, resolved, resolved_fields, resolved_cases};
-ghost use Rattle.cm_types.specs.SameTypes.{resolved_func};
+ghost use Rattle.cm_types.specs.Resolved.{resolved, resolved_fields, resolved_cases, resolved_func};
 ghost use Rattle.cm_types.specs.TypeTrees.{case_before};
 ghost use Rattle.cm_types.specs.Types.{Ty, Cases, no_cases};
 ghost use Rattle.cm_type_numbers.specs.Definitions.{fields_at, parts_at, cases_at, type_by};
@@ -20,7 +19,7 @@ use crate::definitions::{CaseDef, Def, FieldDef, FuncDef};
 use crate::key::{Key, Leaf};
 use crate::nodes::NodeNumbers;
 use crate::texts::TextNumbers;
-use cm_types::{Label, ResourceId};
+use cm_types::{Label, ResourceId, resolve};
 use std::alloc::{AllocError, Global};
 
 /// A number for each type, each once: two types have one number exactly where they are equal.
@@ -167,12 +166,7 @@ impl Numbers {
     }
 
     /// The node of a definition's type, from the numbers of the types before it.
-    fn key(
-        &mut self,
-        row: &[ResourceId],
-        numbers: &[usize],
-        def: &Def,
-    ) -> Result<Key, AllocError>
+    fn key(&mut self, row: &[ResourceId], numbers: &[usize], def: &Def) -> Result<Key, AllocError>
         requires { HasPartsBelow (length numbers.now) def.now }
         ensures node { IfOk result (λ key. (ts : List Ty)
             → AreNumbers (numbering self.old) row.now ts numbers.now
@@ -245,11 +239,7 @@ impl Numbers {
     /// that has no number gets the next.
     ///
     /// `AllocError` comes where there is no memory. The types that have a number keep it.
-    pub fn number_func(
-        &mut self,
-        numbers: &[usize],
-        func: &FuncDef,
-    ) -> Result<usize, AllocError>
+    pub fn number_func(&mut self, numbers: &[usize], func: &FuncDef) -> Result<usize, AllocError>
         requires { FuncHasPartsBelow (length numbers.now) func.now }
         ensures number { IfOk result (λ n. (row : List ResourceId) (ts : List Ty)
             → AreNumbers (numbering self.old) row ts numbers.now
@@ -306,16 +296,5 @@ fn payload_number(numbers: &[usize], place: Option<usize>) -> Option<usize>
     match place {
         None => None,
         Some(place) => Some(numbers[place]),
-    }
-}
-
-/// What stands for a resource: the member of the row at its number, or itself where the row ends
-/// before.
-fn resolve(row: &[ResourceId], id: ResourceId) -> ResourceId
-    ensures { result ≡ resolve row.now id }
-{
-    match row.get(id.number as usize) {
-        Some(found) => *found,
-        None => id,
     }
 }

@@ -1,7 +1,7 @@
 use Rattle.std.proofs.Common.{◌≡◌, ℕ, ◌<◌, length, List, Some, None, Option, ap, ◌∙◌, subst, sym, codes}
 use Rattle.std.specs.Prelude.{slice_index}
 use Rattle.std.specs.Option.{option_map}
-use Rattle.cm_types.specs.SameTypes.{resolved, resolved_fields, resolved_cases}
+use Rattle.cm_types.specs.Resolved.{resolved, resolved_fields, resolved_cases}
 use Rattle.cm_types.specs.TypeTrees.{case_before}
 use Rattle.cm_types.specs.Types.{Ty, Cases, no_cases, plain, carrying}
 use Rattle.cm_type_numbers.specs.declared.definitions.Def.{Def}

@@ -1,6 +1,6 @@
 use Rattle.std.proofs.Common.{◌≡◌, ℕ, List, Some, subst, length}
 use Rattle.std.specs.Prelude.{slice_index}
-use Rattle.cm_types.specs.SameTypes.{resolved_fields}
+use Rattle.cm_types.specs.Resolved.{resolved_fields}
 use Rattle.cm_type_numbers.specs.declared.definitions.FieldDef.{FieldDef}
 use Rattle.cm_type_numbers.specs.Definitions.{IsBelow, fields_at}
 use Rattle.cm_type_numbers.specs.Numbering.{numbering, number_fields}

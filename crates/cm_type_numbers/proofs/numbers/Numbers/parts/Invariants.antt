@@ -1,6 +1,6 @@
 use Rattle.std.proofs.Common.{◌≡◌, Some, List, drop}
 use Rattle.cm_types.specs.declared.resource.ResourceId.{ResourceId}
-use Rattle.cm_types.specs.SameTypes.{resolved_fields}
+use Rattle.cm_types.specs.Resolved.{resolved_fields}
 use Rattle.cm_types.specs.Types.{Ty}
 use Rattle.cm_type_numbers.specs.Definitions.{parts_at}
 use Rattle.cm_type_numbers.specs.Numbering.{numbering, number_fields, Extends, AreNumbers}
