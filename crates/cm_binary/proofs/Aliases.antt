@@ -39,7 +39,6 @@ unfolding type_alias_of
 type_alias_of_least type_targets.InstanceExport = instance_export_least _
 type_alias_of_least type_targets.OuterType = bind_least _ _ outer_type_least (λ outer. done_least _ (omega arith))
 
-
 alias_of_least : (s : AliasSort) → Least (alias_of s) (λ a. length (alias_spelling a) - 1)
 unfolding alias_of
 alias_of_least alias_sorts.Core = bind_least _ _ (code_least _) (λ sort. bind_least _ _ (code_least _) (λ target. bind_least _ _ index_least (λ i. bind_least _ _ text_least (λ name. done_least _ (omega (arith, length-append {A = ℕ}))))))

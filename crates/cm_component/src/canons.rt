@@ -23,11 +23,17 @@ pub enum Canon {
         options: Vec<CanonOption>,
     },
     /// The core function that makes a handle of a resource type.
-    ResourceNew { resource: u32 },
+    ResourceNew {
+        resource: u32,
+    },
     /// The core function that drops a handle of a resource type.
-    ResourceDrop { resource: u32 },
+    ResourceDrop {
+        resource: u32,
+    },
     /// The core function that tells what a handle of a resource type represents.
-    ResourceRep { resource: u32 },
+    ResourceRep {
+        resource: u32,
+    },
 }
 
 /// How values are lifted or lowered (Binary.md, `canonopt`).
@@ -78,8 +84,9 @@ impl Part for Canon {
                 core_func,
                 options,
                 ty,
-            } => (2 + index_length(*core_func) + index_length(*ty))
-                .saturating_add(length_of_vec(options)),
+            } => (2 + index_length(*core_func) + index_length(*ty)).saturating_add(length_of_vec(
+                options,
+            )),
             Canon::Lower { func, options } => {
                 (2 + index_length(*func)).saturating_add(length_of_vec(options))
             }

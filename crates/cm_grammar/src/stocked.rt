@@ -28,11 +28,7 @@ pub trait StockedForm<R: Copy>: Drop + Sized {
 
     /// Reads a value at the front of what is left, out of a stock of so many. Beside the grammar's
     /// faults it may be that memory is refused.
-    fn read(
-        alloc: Global,
-        cursor: &mut Cursor<'_, R>,
-        stock: usize,
-    ) -> Result<Self, ReadError<R>>
+    fn read(alloc: Global, cursor: &mut Cursor<'_, R>, stock: usize) -> Result<Self, ReadError<R>>
         ensures read { Reads (grammar stock) tree cursor.old cursor.new result }
         ensures end { cursor.new.end ≡ cursor.old.end };
 

@@ -69,7 +69,7 @@ no_target_more es node i marks n h = record {
   none = λ k lt in_list e m. elim (cases_eq k i) [
     | inl q ↦ h (subst (λ (j : ℕ). (get_or es j (0, 0)).0 ≡ node) q e) (subst (λ (j : ℕ). IsMarked marks (get_or es j (0, 0)).1) q m)
     | inr d ↦ n.none k (omega (arith, lt, d)) in_list e m
-  ]
+  ];
 }
 
 pub no_target_all : (es : Edges) (node i : ℕ) (marks : List Bool) → NoTarget es node i marks → length es ≤ i → (b : ℕ) → HasEdge es node b → IsMarked marks b → ⊥
@@ -90,9 +90,10 @@ pub record OnlyMarked (marks : List Bool) (node : ℕ) : Type 0 where
   pub only : (a : ℕ) → IsMarked marks a → a ≡ node
 
 pub reaches_by_target : (es : Edges) (marks all : List Bool) (node : ℕ) → OnlyMarked marks node → ((a : ℕ) → IsMarked all a ↔ LeadsToMarked es marks a) → ((b : ℕ) × HasEdge es node b × IsMarked all b) ↔ ReachesItself es node
-reaches_by_target es marks all node o h =
-    (λ t. let l = (h t.0).0 t.2 in (l.1.0, (t.0, t.1, subst (λ (y : ℕ). Walk es t.0 y l.1.0) (o.only l.0 l.2) l.1.1)),
-     λ r. (r.1.0, r.1.1, (h r.1.0).1 (node, (r.0, r.1.2), o.here)))
+reaches_by_target es marks all node o h = (
+  λ t. let l = (h t.0).0 t.2 in (l.1.0, (t.0, t.1, subst (λ (y : ℕ). Walk es t.0 y l.1.0) (o.only l.0 l.2) l.1.1)),
+  λ r. (r.1.0, r.1.1, (h r.1.0).1 (node, (r.0, r.1.2), o.here)),
+)
 
 -- ---- the search for the first one
 

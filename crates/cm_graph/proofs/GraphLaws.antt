@@ -100,6 +100,7 @@ rows_into rows es w h b k d lt = (within_edge (length rows) es (get_or (row_of r
 pub ruleset graph_laws = (leads_by, by_leads, rows_into)
 
 pub leads_both : (rows given : List (Vec ℕ)) (es edges : Edges) (marks all : List Bool) → given ≡ rows → es ≡ edges → IsWithin (length rows) es → ((b : ℕ) → b < length rows → row_of rows b ≡ sources es b) → ((a : ℕ) → IsMarked all a ↔ LeadsBy (row_of given) marks a) → (a : ℕ) → IsMarked all a ↔ LeadsToMarked edges marks a
-leads_both rows given es edges marks all r e w h k a =
-    (λ m. subst (λ (x : Edges). LeadsToMarked x marks a) e (by_leads rows es marks h a (subst (λ (x : List (Vec ℕ)). LeadsBy (row_of x) marks a) r ((k a).0 m))),
-     λ l. (k a).1 (subst (λ (x : List (Vec ℕ)). LeadsBy (row_of x) marks a) (sym r) (leads_by rows es marks w h a (subst (λ (x : Edges). LeadsToMarked x marks a) (sym e) l))))
+leads_both rows given es edges marks all r e w h k a = (
+  λ m. subst (λ (x : Edges). LeadsToMarked x marks a) e (by_leads rows es marks h a (subst (λ (x : List (Vec ℕ)). LeadsBy (row_of x) marks a) r ((k a).0 m))),
+  λ l. (k a).1 (subst (λ (x : List (Vec ℕ)). LeadsBy (row_of x) marks a) (sym r) (leads_by rows es marks w h a (subst (λ (x : Edges). LeadsToMarked x marks a) (sym e) l))),
+)

@@ -34,11 +34,7 @@ impl Model for Graph {
 impl Graph {
     /// The graph of these edges, each the pair of the node that it comes from and the node that it
     /// leads to. Refused only where there is no memory.
-    pub fn new(
-        alloc: Global,
-        nodes: usize,
-        edges: Vec<(usize, usize)>,
-    ) -> Result<Graph, AllocError>
+    pub fn new(alloc: Global, nodes: usize, edges: Vec<(usize, usize)>) -> Result<Graph, AllocError>
         requires { IsWithin nodes edges.items }
         ensures nodes { IfOk result (λ g. g.nodes ≡ nodes) }
         ensures edges { IfOk result (λ g. g.edges ≡ edges.items) }

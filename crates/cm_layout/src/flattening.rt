@@ -131,11 +131,7 @@ pub(crate) fn join_fields(
 
 #[cycle(flat)]
 #[tactic(auto, using(crate::proofs::FlatLemmas::flats))]
-fn join_parts(
-    kinds: &mut Vec<CoreKind>,
-    at: usize,
-    row: &[TypeNode],
-) -> Result<usize, AllocError>
+fn join_parts(kinds: &mut Vec<CoreKind>, at: usize, row: &[TypeNode]) -> Result<usize, AllocError>
     requires { at ≤ length kinds.old.items }
     ensures { IfOk result
         (JoinedFrom at kinds.old.items (flat_of_fields (parts_of row.now)) kinds.new.items) }

@@ -52,7 +52,11 @@ pub fn write_s33(out: &mut Vec<u8>, value: i64) -> Result<(), AllocError>
     ensures err { OnErr result (out.new.items ≡ out.old.items) }
 {
     let length = spelled_signed_length(value);
-    put_group(out, length as usize, two_complement_digits(7 * length, value))
+    put_group(
+        out,
+        length as usize,
+        two_complement_digits(7 * length, value),
+    )
 }
 
 /// How many bytes the shortest spelling of a number without a sign takes (the core specification,

@@ -9,9 +9,7 @@ ghost use Rattle.cm_reading.specs.declared.codes.AliasSort.TheVariants as alias_
 ghost use Rattle.cm_reading.specs.Aliases.{outer_type, instance_export, type_alias_of, alias_of};
 ghost use Rattle.cm_reading.specs.Aliases.{alias};
 
-use crate::codes::{
-    AliasSort, CoreAliasTarget, FuncAliasTarget, TypeAliasTarget, no_alias_target,
-};
+use crate::codes::{AliasSort, CoreAliasTarget, FuncAliasTarget, TypeAliasTarget, no_alias_target};
 use crate::fault::DecodeReason;
 use crate::texts::{read_plain_name, read_text};
 use cm_component::{Alias, InstanceExportSort, OuterType};
@@ -73,9 +71,7 @@ fn read_func_alias(
 }
 
 /// Reads an alias of a type, behind its sort.
-#[tactic(auto, unfolding(
-    crate::specs::Aliases::alias_of, crate::specs::Aliases::type_alias_of
-))]
+#[tactic(auto, unfolding(crate::specs::Aliases::alias_of, crate::specs::Aliases::type_alias_of))]
 fn read_type_alias(
     alloc: Global,
     bytes: &mut Cursor<'_, DecodeReason>,

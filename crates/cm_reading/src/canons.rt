@@ -22,9 +22,7 @@ impl Form<DecodeReason> for CanonOption {
 
     ghost grammar = { canon_option };
 
-    #[tactic(auto, unfolding(
-        crate::specs::Canons::canon_option, crate::specs::Canons::canon_option_of
-    ))]
+    #[tactic(auto, unfolding(crate::specs::Canons::canon_option, crate::specs::Canons::canon_option_of))]
     fn read(
         _alloc: Global,
         bytes: &mut Cursor<'_, DecodeReason>,

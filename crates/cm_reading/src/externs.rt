@@ -33,9 +33,7 @@ impl Form<DecodeReason> for Import {
 }
 
 /// Reads the type of an import.
-#[tactic(auto, unfolding(
-    crate::specs::Externs::extern_desc, crate::specs::Externs::extern_desc_of
-))]
+#[tactic(auto, unfolding(crate::specs::Externs::extern_desc, crate::specs::Externs::extern_desc_of))]
 fn read_desc(bytes: &mut Cursor<'_, DecodeReason>) -> Result<ExternDesc, ReadError<DecodeReason>>
     ensures read { Reads extern_desc (λ x. x) bytes.old bytes.new result }
     ensures end { bytes.new.end ≡ bytes.old.end }

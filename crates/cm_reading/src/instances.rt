@@ -13,9 +13,7 @@ ghost use Rattle.cm_reading.specs.Instances.{core_instance_of, inline_export, in
 use crate::codes::{CoreInstanceForm, InstanceForm};
 use crate::fault::DecodeReason;
 use crate::texts::{read_extern_name, read_text};
-use cm_component::{
-    CoreInlineExport, CoreInstance, CoreInstantiationArg, InlineExport, Instance,
-};
+use cm_component::{CoreInlineExport, CoreInstance, CoreInstantiationArg, InlineExport, Instance};
 use cm_grammar::{Cursor, Form, ReadError, read_vec};
 use std::alloc::Global;
 
@@ -64,9 +62,7 @@ impl Form<DecodeReason> for CoreInstance {
 
     ghost grammar = { core_instance };
 
-    #[tactic(auto, unfolding(
-        crate::specs::Instances::core_instance, crate::specs::Instances::core_instance_of
-    ))]
+    #[tactic(auto, unfolding(crate::specs::Instances::core_instance, crate::specs::Instances::core_instance_of))]
     fn read(
         alloc: Global,
         bytes: &mut Cursor<'_, DecodeReason>,

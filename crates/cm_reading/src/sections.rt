@@ -35,8 +35,7 @@ fn read_items<T: Form<DecodeReason>>(
 }
 
 /// Reads all of a part as a count, and so many types, where `room` more may stand in the file.
-#[tactic(auto, using(cm_grammar::proofs::WholeLaws::ends_fails),
-    unfolding(crate::specs::Types::type_defs))]
+#[tactic(auto, using(cm_grammar::proofs::WholeLaws::ends_fails), unfolding(crate::specs::Types::type_defs))]
 fn read_all_types(
     alloc: Global,
     part: &mut Cursor<'_, DecodeReason>,

@@ -56,7 +56,7 @@ abbrev mutual
 -- a label in a list of distinct names, behind an implied `self` or not
 abbrev pub label : Bool → ℕ → List ℕ → Mention
 label after_self names text = record bare {
-  declares = Some (record { in_list = names; name = name.plain text; after_self = after_self })
+  declares = Some (record { in_list = names; name = name.plain text; after_self = after_self });
 }
 
 abbrev pub typed_marks : Bool → Place → List Typed → Marks
@@ -127,7 +127,9 @@ is_foreign (foreign ns pkg text version) = true
 -- a used name declares a type, and so its new name does where it has one
 abbrev pub used_marks : ℕ → Path → List ℕ → Option (List ℕ) → Marks
 used_marks i p old None = here λ n. one (record (type_item i old) {
-  refers = used_from p old; owner = Some n; may_be_resource = is_foreign p
+  refers = used_from p old;
+  owner = Some n;
+  may_be_resource = is_foreign p;
 })
 used_marks i p old (Some new) = here λ n.
     one (record bare { refers = used_from p old; owner = Some (n + 1) })

@@ -34,7 +34,11 @@ pub record Mention : Type 0 where
 -- a name to which no rule applies
 abbrev pub bare : Mention
 bare = record {
-  declares = None; known = None; refers = no_reference; owner = None; in_result = false;
+  declares = None;
+  known = None;
+  refers = no_reference;
+  owner = None;
+  in_result = false;
   may_be_resource = false;
 }
 

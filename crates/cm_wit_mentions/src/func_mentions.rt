@@ -56,10 +56,7 @@ pub fn add_cases<'a>(
 
 /// Adds names alone.
 #[tactic(auto, using(crate::proofs::AddLaws::add_laws))]
-pub fn add_labels<'a>(
-    out: &mut Vec<Mention<'a>>,
-    names: &'a [Label],
-) -> Result<(), AllocError>
+pub fn add_labels<'a>(out: &mut Vec<Mention<'a>>, names: &'a [Label]) -> Result<(), AllocError>
     ensures { OnOk result (Adds (label_marks names.now) out.old out.new) }
 {
     let in_list = Scope::next(out).list();

@@ -51,19 +51,25 @@ fn add_resource_func<'a>(
 ) -> Result<(), AllocError>
     ensures { OnOk result
         (Adds (resource_func_marks scope.number resource.now (resource_func_tree func.now))
-            out.old out.new) }
+        out.old out.new) }
 {
     let resource = resource.as_str();
     match func {
         ResourceFunc::Method(name, func) => {
             let method = name.as_str();
-            add(out, item(scope, ExternNameForm::Method { resource, method }))?;
+            add(
+                out,
+                item(scope, ExternNameForm::Method { resource, method }),
+            )?;
             add_func(out, true, scope.number, func)?;
             Ok(())
         }
         ResourceFunc::Static(name, func) => {
             let function = name.as_str();
-            add(out, item(scope, ExternNameForm::Static { resource, function }))?;
+            add(
+                out,
+                item(scope, ExternNameForm::Static { resource, function }),
+            )?;
             add_func(out, false, scope.number, func)?;
             Ok(())
         }
@@ -132,11 +138,7 @@ fn add_def<'a>(
 
 /// Adds the path of a `use`.
 #[tactic(auto, using(crate::proofs::AddLaws::add_laws))]
-fn add_path<'a>(
-    out: &mut Vec<Mention<'a>>,
-    scope: Scope,
-    path: &'a Path,
-) -> Result<(), AllocError>
+fn add_path<'a>(out: &mut Vec<Mention<'a>>, scope: Scope, path: &'a Path) -> Result<(), AllocError>
     ensures { OnOk result (Adds (path_marks scope.number (path_tree path.now)) out.old out.new) }
 {
     match path {
@@ -187,7 +189,7 @@ fn add_used<'a>(
 ) -> Result<(), AllocError>
     ensures { OnOk result
         (Adds (used_marks scope.number (path_tree path.now) used.now.name used.now.new_name)
-            out.old out.new) }
+        out.old out.new) }
 {
     let refers = used_from(path, &used.name);
     let may_be_resource = is_foreign(path);
@@ -230,7 +232,7 @@ fn add_used_names<'a>(
 ) -> Result<(), AllocError>
     ensures { OnOk result (Adds
         (each (λ x. used_marks scope.number (path_tree path.now) x.name x.new_name)
-            (map used_name_tree names.now)) out.old out.new) }
+        (map used_name_tree names.now)) out.old out.new) }
 {
     for used in names {
         add_used(out, scope, path, used)?;

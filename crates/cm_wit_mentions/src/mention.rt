@@ -20,20 +20,11 @@ pub enum Reference<'a> {
     /// The interface of this name.
     Interface(&'a str),
     /// A type of another interface.
-    Used {
-        interface: &'a str,
-        name: &'a str,
-    },
+    Used { interface: &'a str, name: &'a str },
     /// A type of the interface or world `scope`.
-    Type {
-        scope: usize,
-        name: &'a str,
-    },
+    Type { scope: usize, name: &'a str },
     /// A resource of the interface or world `scope`.
-    Resource {
-        scope: usize,
-        name: &'a str,
-    },
+    Resource { scope: usize, name: &'a str },
 }
 
 /// What a name says. Names are counted from 0 in reading order.

@@ -51,7 +51,7 @@ fn add_extern<'a>(
 ) -> Result<(), AllocError>
     ensures { OnOk result
         (Adds (extern_marks (file_tree file.now) in_list scope.number (extern_tree what.now))
-            out.old out.new) }
+        out.old out.new) }
 {
     match what {
         WorldExtern::Interface(Path::Local(name)) => {
@@ -62,12 +62,14 @@ fn add_extern<'a>(
             add(out, mention)?;
             Ok(())
         }
-        WorldExtern::Interface(Path::Foreign {
-            namespace,
-            package,
-            interface,
-            version,
-        }) => {
+        WorldExtern::Interface(
+            Path::Foreign {
+                namespace,
+                package,
+                interface,
+                version,
+            },
+        ) => {
             let name = ExternNameForm::Interface {
                 namespace: namespace.as_str(),
                 package: package.as_str(),
@@ -80,7 +82,10 @@ fn add_extern<'a>(
             Ok(())
         }
         WorldExtern::Func(name, func) => {
-            add(out, declaring(in_list, ExternNameForm::Label(name.as_str())))?;
+            add(
+                out,
+                declaring(in_list, ExternNameForm::Label(name.as_str())),
+            )?;
             add_func(out, false, scope.number, func)?;
             Ok(())
         }
@@ -119,7 +124,10 @@ pub fn add_world<'a>(
         (Adds (world_marks (file_tree file.now) (world_tree world.now)) out.old out.new) }
 {
     let scope = Scope::next(out);
-    add(out, declaring(0, ExternNameForm::Label(world.name.as_str())))?;
+    add(
+        out,
+        declaring(0, ExternNameForm::Label(world.name.as_str())),
+    )?;
     add_items(out, file, scope, &world.items)?;
     Ok(())
 }

@@ -26,7 +26,11 @@ impl<'a> Names<'a> {
         if let Reference::Resource { .. } = mention.refers {
             return None;
         }
-        edge(self.mentions.len(), mention.owner, self.target(mention.refers))
+        edge(
+            self.mentions.len(),
+            mention.owner,
+            self.target(mention.refers),
+        )
     }
 
     fn using_edge(&self, mention: &Mention<'a>) -> Option<(usize, usize)>
@@ -36,7 +40,11 @@ impl<'a> Names<'a> {
         let Reference::Used { .. } = mention.refers else {
             return None;
         };
-        edge(self.mentions.len(), mention.owner, self.target(mention.refers))
+        edge(
+            self.mentions.len(),
+            mention.owner,
+            self.target(mention.refers),
+        )
     }
 
     /// What declarations lead to by the names in their texts, but for borrows.
