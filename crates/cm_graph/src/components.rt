@@ -1,5 +1,5 @@
-//! Which nodes of a graph lead to each other, by Tarjan's algorithm. What comes out is checked where
-//! it is used, so nothing is promised of it here.
+//! Which nodes of a graph lead to each other, by Tarjan's algorithm. What comes out is checked
+//! where it is used, so nothing is promised of it here.
 
 use std::alloc::{AllocError, Global};
 

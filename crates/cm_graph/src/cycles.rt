@@ -15,8 +15,8 @@ fn rank_of(ranks: &[usize], node: usize) -> usize
 }
 
 /// A node below which no node lies on a cycle, as these ranks show: along an edge no rank falls,
-/// and from a node below it every edge leads to a greater rank. It is 0 where a rank falls, and else
-/// the least node with an edge to a node of its own rank.
+/// and from a node below it every edge leads to a greater rank. It is 0 where a rank falls, and
+/// else the least node with an edge to a node of its own rank.
 #[tactic(auto, using(crate::proofs::CycleLaws::rank_laws))]
 fn first_candidate(edges: &[(usize, usize)], ranks: &[usize], nodes: usize) -> usize
     requires { IsWithin nodes edges.now }

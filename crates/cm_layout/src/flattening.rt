@@ -43,7 +43,8 @@ pub(crate) fn join_flat(
     ty: &TypeNode,
 ) -> Result<usize, AllocError>
     requires { at ≤ length kinds.old.items }
-    ensures { IfOk result (JoinedFrom at kinds.old.items (flat_of (type_of ty.now)) kinds.new.items) }
+    ensures { IfOk result
+        (JoinedFrom at kinds.old.items (flat_of (type_of ty.now)) kinds.new.items) }
 {
     match ty {
         TypeNode::S64 | TypeNode::U64 => join_kind(kinds, at, CoreKind::I64),

@@ -1,5 +1,5 @@
-//! What holds of the numbers of types, as laws: each function here does nothing, and its contract is
-//! the law.
+//! What holds of the numbers of types, as laws: each function here does nothing, and its contract
+//! is the law.
 
 ghost use Rattle.std.specs.Prelude.{◌≡◌, ℕ, List, Some};
 ghost use Rattle.cm_types.specs.declared.resource.ResourceId.{ResourceId};

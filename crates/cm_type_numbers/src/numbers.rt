@@ -12,7 +12,8 @@ ghost use Rattle.cm_type_numbers.specs.Definitions.{fields_at, parts_at, cases_a
 ghost use Rattle.cm_type_numbers.specs.Definitions.{IsBelow, HasPartsBelow, FuncHasPartsBelow};
 ghost use Rattle.cm_type_numbers.specs.Definitions.{AreInOrder, types, func_by};
 ghost use Rattle.cm_type_numbers.specs.Numbering.{numbering, number_fields, number_cases, Extends};
-ghost use Rattle.cm_type_numbers.specs.Numbering.{number_labels, number_func, AreNumbers, HasNumber};
+ghost use Rattle.cm_type_numbers.specs.Numbering.{number_labels, number_func, AreNumbers};
+ghost use Rattle.cm_type_numbers.specs.Numbering.{HasNumber};
 ghost use Rattle.cm_type_numbers.specs.Numbering.{IsNodeOf, IsBlank, TellsTypes, TellsFuncs, Agree};
 
 use crate::definitions::{CaseDef, Def, FieldDef, FuncDef};

@@ -75,7 +75,8 @@ pub fn add_func<'a>(
     scope: usize,
     func: &'a Func,
 ) -> Result<(), AllocError>
-    ensures { OnOk result (Adds (func_marks after_self scope (func_tree func.now)) out.old out.new) }
+    ensures { OnOk result
+        (Adds (func_marks after_self scope (func_tree func.now)) out.old out.new) }
 {
     let params = Place {
         scope,

@@ -6,7 +6,8 @@ ghost use Rattle.cm_wit_text.specs.Views.{interface_item_tree, interface_tree, r
 ghost use Rattle.cm_wit_text.specs.Views.{type_def_tree, use_tree, used_name_tree};
 ghost use Rattle.cm_wit_types.specs.SignatureViews.{path_tree};
 ghost use Rattle.cm_wit_mentions.specs.FileMentions.{def_marks, interface_item_marks};
-ghost use Rattle.cm_wit_mentions.specs.FileMentions.{interface_marks, is_foreign, is_resource, item};
+ghost use Rattle.cm_wit_mentions.specs.FileMentions.{interface_marks, is_foreign, is_resource};
+ghost use Rattle.cm_wit_mentions.specs.FileMentions.{item};
 ghost use Rattle.cm_wit_mentions.specs.FileMentions.{path_marks, resource_func_marks, type_item};
 ghost use Rattle.cm_wit_mentions.specs.FileMentions.{as_param, used_from, used_marks};
 ghost use Rattle.cm_wit_mentions.specs.Marks.{each, one};
