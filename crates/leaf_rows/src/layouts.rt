@@ -2,22 +2,22 @@
 
 use crate::types::{read_func, read_tree};
 use cm_layout::{
-    FlatFunc, LayoutTree, Side, align, case_offset, discriminant_size, field_offset, flatten,
-    flatten_func, has_cases, has_field, is_number, layout, layout_of_params, node_align,
-    node_case_offset, node_discriminant_size, node_field_offset, node_has_cases, node_has_field,
-    node_layout, node_size, size,
+    FlatFunc, Form, HandleType, Head, Layout, Leaf, Part, Payload, Side, align, case_offset,
+    discriminant_size, field_offset, flatten, flatten_func, has_cases, has_field, head, layout,
+    layout_of_params, size,
 };
-use cm_rows::RowFault;
-use cm_types::{CoreKind, TypeTree};
+use cm_rows::{RowFault, read_number};
+use cm_types::{CoreKind, ResourceId, TypeTree};
 use std::alloc::{AllocError, Global};
 
-/// The answer to `whole TYPE`, `fields TYPE`, `payload TYPE`, `tree TYPE`, `params FUNC`, `node
-/// TYPE`, `lift FUNC` or `lower FUNC`.
+/// The answer to `whole TYPE`, `fields TYPE`, `payload TYPE`, `head TYPE`, `tree TYPE`, `made TYPE`,
+/// `leaves COUNT`, `params FUNC`, `lift FUNC` or `lower FUNC`.
 pub fn answer(alloc: Global, words: &[&str]) -> Result<String, RowFault> {
     match words {
         ["params", func @ ..] => show_params(alloc, func),
         ["lift", func @ ..] => show_flat_func(alloc, func, Side::Lift),
         ["lower", func @ ..] => show_flat_func(alloc, func, Side::Lower),
+        ["leaves", count] => show_leaves(alloc, count),
         [kind, ty @ ..] => {
             let ty = read_tree(alloc, ty)?;
             answer_on_type(alloc, kind, &ty)
@@ -31,8 +31,9 @@ fn answer_on_type(alloc: Global, kind: &str, ty: &TypeTree) -> Result<String, Ro
         "whole" => show_whole(alloc, ty),
         "fields" => show_fields(alloc, ty),
         "payload" => show_payload(alloc, ty),
+        "head" => show_head(alloc, ty),
         "tree" => show_tree(alloc, ty),
-        "node" => show_node(alloc, ty),
+        "made" => show_made(alloc, ty),
         _ => Err(RowFault::NotARow),
     }
 }
@@ -81,38 +82,128 @@ fn show_payload(alloc: Global, ty: &TypeTree) -> Result<String, RowFault> {
     }
 }
 
-/// What the calls on nodes say: size, alignment, whether it is a number, the offset of the last of
-/// the first three fields, that of the payload, and the layout from byte 64 on.
-fn show_node(alloc: Global, ty: &TypeTree) -> Result<String, RowFault> {
-    let node = &ty.root;
-    let (size, align, is_number) = (node_size(node), node_align(node), is_number(node));
-    let mut out = format!(in alloc; "size {size}, align {align}, number {is_number}")?;
-    if node_has_field(node, 2) {
-        let offset = node_field_offset(node, 2);
-        write!(out, ", field 2 at {offset}")?;
-    }
-    if node_has_cases(node) {
-        let (size, offset) = (node_discriminant_size(node), node_case_offset(node));
-        write!(out, ", payload at {offset} behind {size}")?;
-    }
-    out.push_str(", ")?;
-    write_layout(&mut out, &node_layout(alloc, node, 64)?)?;
+/// What the type takes.
+fn show_head(alloc: Global, ty: &TypeTree) -> Result<String, RowFault> {
+    let mut out = String::new(alloc);
+    write_head(&mut out, head(ty))?;
     Ok(out)
 }
 
-/// `(OFFSET SIZE ALIGN: KIND.. PART..)`, with `number` before the kinds of one.
-fn write_layout(out: &mut String, layout: &LayoutTree) -> Result<(), AllocError> {
-    let (offset, size, align) = (layout.offset, layout.size, layout.align);
-    write!(out, "({offset} {size} {align}:")?;
-    if layout.is_number {
-        out.push_str(" number")?;
+/// A list that is made of the type's layout, shared once more.
+fn show_made(alloc: Global, ty: &TypeTree) -> Result<String, RowFault> {
+    let element = layout(alloc, ty)?;
+    let list = Layout::list(alloc, element.share()?)?;
+    let mut out = String::new(alloc);
+    write_layout(&mut out, &list)?;
+    Ok(out)
+}
+
+/// What is made of numbers and handles alone: a leaf, a string, flags, an enum and a handle.
+fn show_leaves(alloc: Global, labels: &str) -> Result<String, RowFault> {
+    let labels = read_number::<u32>(labels)? as usize;
+    let resource = ResourceId {
+        component: 0,
+        number: 7,
+    };
+    let mut out = String::new(alloc);
+    write_layout(&mut out, &Layout::leaf(Leaf::Signed(2)))?;
+    write_head(&mut out, Leaf::Char.head())?;
+    write_layout(&mut out, &Layout::string())?;
+    write_layout(&mut out, &Layout::flags(labels))?;
+    write_layout(&mut out, &Layout::enumeration(labels))?;
+    write_layout(&mut out, &Layout::handle(HandleType::Own(resource)))?;
+    Ok(out)
+}
+
+/// `SIZE/ALIGN/WIDTH`, with `plain` behind it for plain bytes.
+fn write_head(out: &mut String, head: Head) -> Result<(), AllocError> {
+    let (size, align, width) = (head.size, head.align, head.width);
+    write!(out, "{size}/{align}/{width}")?;
+    if head.is_bulk {
+        out.push_str(" plain")?;
     }
-    write_kinds(out, &layout.flat)?;
-    for child in &layout.children {
-        out.push_str(" ")?;
-        write_layout(out, child)?;
+    Ok(())
+}
+
+/// `(SIZE/ALIGN/WIDTH FORM)`.
+fn write_layout(out: &mut String, layout: &Layout) -> Result<(), AllocError> {
+    out.push_str("(")?;
+    write_head(out, layout.head)?;
+    match &layout.form {
+        Form::Leaf(leaf) => write_leaf(out, *leaf)?,
+        Form::String => out.push_str(" string")?,
+        Form::List(element) => {
+            out.push_str(" list ")?;
+            write_layout(out, element)?;
+        }
+        Form::FixedList { element, length } => {
+            write!(out, " fixed {length} ")?;
+            write_layout(out, element)?;
+        }
+        Form::Fields(parts) => write_parts(out, parts)?,
+        Form::Cases {
+            discriminant,
+            offset,
+            payloads,
+        } => {
+            write!(out, " cases {discriminant} at {offset}")?;
+            write_payloads(out, payloads)?;
+        }
+        Form::Enum {
+            discriminant,
+            count,
+        } => write!(out, " enum {discriminant} of {count}")?,
+        Form::Handle(handle) => write_handle(out, *handle)?,
     }
     out.push_str(")")
+}
+
+fn write_leaf(out: &mut String, leaf: Leaf) -> Result<(), AllocError> {
+    match leaf {
+        Leaf::Bool => out.push_str(" bool"),
+        Leaf::Signed(bytes) => write!(out, " signed {bytes}"),
+        Leaf::Unsigned(bytes) => write!(out, " unsigned {bytes}"),
+        Leaf::Char => out.push_str(" char"),
+        Leaf::Flags { labels, bytes } => write!(out, " flags {labels} in {bytes}"),
+    }
+}
+
+fn write_handle(out: &mut String, handle: HandleType) -> Result<(), AllocError> {
+    match handle {
+        HandleType::Own(resource) => {
+            let (component, number) = (resource.component, resource.number);
+            write!(out, " own {component}.{number}")
+        }
+        HandleType::Borrow(resource) => {
+            let (component, number) = (resource.component, resource.number);
+            write!(out, " borrow {component}.{number}")
+        }
+    }
+}
+
+/// ` OFFSET:LAYOUT` for each field.
+fn write_parts(out: &mut String, parts: &[Part]) -> Result<(), AllocError> {
+    out.push_str(" fields")?;
+    for part in parts {
+        let offset = part.offset;
+        write!(out, " {offset}:")?;
+        write_layout(out, &part.layout)?;
+    }
+    Ok(())
+}
+
+/// A layout for each case that carries one, and `-` for each other one.
+fn write_payloads(out: &mut String, payloads: &[Payload]) -> Result<(), AllocError> {
+    for payload in payloads {
+        match payload {
+            Payload::Nothing => out.push_str(" -")?,
+            Payload::Carried(layout) => {
+                out.push_str(" ")?;
+                write_layout(out, layout)?;
+            }
+        }
+    }
+    Ok(())
 }
 
 /// Writes the kinds, each after a space; none is a `-`.
