@@ -2,7 +2,9 @@
 #![tactic(auto)]
 
 mod edges;
+mod full_names;
 mod known;
 mod names;
 
+pub use full_names::folded;
 pub use names::Names;

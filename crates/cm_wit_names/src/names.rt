@@ -21,7 +21,7 @@ pub struct Names<'a> {
 impl<'a> Names<'a> {
     /// The names of these mentions. Refused only where there is no memory.
     pub fn new(alloc: Global, mentions: Vec<Mention<'a>>) -> Result<Names<'a>, AllocError>
-        ensures { IfOk result (λ names. names.mentions.items ≡ mentions.items) }
+        ensures { IfOk result (λ names. names.mentions.items ≡ mentions.entry.items) }
     {
         let known = known_names(alloc, &mentions)?;
         Ok(Names { mentions, known })
