@@ -4,7 +4,6 @@
 mod files;
 mod handles;
 mod heap;
-mod layout;
 mod link;
 mod machine;
 mod measure;
@@ -14,11 +13,10 @@ mod text;
 
 fn main() {
     let wanted: Vec<String> = std::env::args().skip(1).collect();
-    let parts: [(&str, fn()); 6] = [
+    let parts: [(&str, fn()); 5] = [
         ("text", text::run),
         ("handles", handles::run),
         ("files", files::run),
-        ("layout", layout::run),
         ("link", link::run),
         ("machine", machine::run),
     ];

@@ -3,6 +3,5 @@
 
 mod files;
 mod handles;
-mod layouts;
 mod sets;
 mod text;

@@ -1,10 +1,10 @@
 -- No table refuses a byte for want of one.
-use Rattle.std.proofs.Common.{◌≡◌, Bool, true, false, cond, Result, Ok, Err}
+use Rattle.std.proofs.Common.{◌≡◌, ℕ, Bool, true, false, cond, Result, Ok, Err}
 use Rattle.cm_grammar.proofs.WantLaws.{Never}
-use Rattle.cm_binary.specs.declared.fault.DecodeReason.{DecodeReason}
-use Rattle.cm_binary.specs.declared.fault.DecodeReason.TheVariants.{Truncated, UnknownCode, Unsupported}
-use Rattle.cm_binary.specs.declared.fault.Feature.{Feature}
-use Rattle.cm_binary.specs.Codes.{section_kind, core_instance_form, core_sort, alias_sort, core_alias_target, other_alias_target, type_form, val_type, result_form, canon_form, canon_option, desc_form, export_sort, export_desc}
+use Rattle.cm_reading.specs.declared.fault.DecodeReason.{DecodeReason}
+use Rattle.cm_reading.specs.declared.fault.DecodeReason.TheVariants.{Truncated, UnknownCode, Unsupported}
+use Rattle.cm_reading.specs.declared.fault.Feature.{Feature}
+use Rattle.cm_reading.specs.Codes.{section_kind, core_instance_form, core_sort, instance_form, instance_export_sort, alias_sort, core_alias_target, func_alias_target, type_alias_target, no_alias_target, type_form, val_type, result_form, canon_form, option_form, desc_form, export_sort, export_desc}
 
 -- The answer is no want of a byte.
 abbrev IsNot : {K : Type 0} → Result K DecodeReason → Type 0
@@ -39,8 +39,20 @@ core_sort_never b = search (either, known, unknown, unsupported) depth 20
 pub alias_sort_never : Never Truncated alias_sort
 alias_sort_never b = search (either, known, unknown, unsupported) depth 20
 
+no_target : {K : Type 0} (b : ℕ) → IsNot {K = K} (Err (no_alias_target b))
+no_target b = either_reason _ _ _ (unsupported _) unknown
+
 pub core_alias_target_never : Never Truncated core_alias_target
-core_alias_target_never b = search (either, known, unknown, unsupported) depth 20
+core_alias_target_never b = search (either, known, no_target) depth 20
+
+pub func_alias_target_never : Never Truncated func_alias_target
+func_alias_target_never b = search (either, known, no_target) depth 20
+
+pub type_alias_target_never : Never Truncated type_alias_target
+type_alias_target_never b = search (either, known, no_target) depth 20
+
+pub no_alias_target_never : {K : Type 0} → Never {K = K} Truncated (λ b. Err (no_alias_target b))
+no_alias_target_never b = no_target b
 
 pub type_form_never : Never Truncated type_form
 type_form_never b = search (either, known, unknown, unsupported) depth 20
@@ -63,8 +75,11 @@ export_sort_never b = search (either, known, unknown, unsupported) depth 20
 pub export_desc_never : Never Truncated export_desc
 export_desc_never b = search (either, known, unknown, unsupported) depth 20
 
-pub other_alias_target_never : {K : Type 0} → Never {K = K} Truncated (λ b. Err (other_alias_target b))
-other_alias_target_never b = either_reason _ _ _ (unsupported _) unknown
+pub instance_form_never : Never Truncated instance_form
+instance_form_never b = search (either, known, unknown, unsupported) depth 20
 
-pub canon_option_never : {K : Type 0} → Never {K = K} Truncated (λ b. Err (canon_option b))
-canon_option_never b = either_reason _ _ _ (unsupported _) unknown
+pub instance_export_sort_never : Never Truncated instance_export_sort
+instance_export_sort_never b = search (either, known, unknown, unsupported) depth 20
+
+pub option_form_never : Never Truncated option_form
+option_form_never b = search (either, known, unknown, unsupported) depth 20

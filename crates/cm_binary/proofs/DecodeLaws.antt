@@ -8,12 +8,12 @@ use Rattle.cm_grammar.specs.declared.fault.End.TheVariants as end
 use Rattle.cm_grammar.specs.Faults.{flaw}
 use Rattle.cm_grammar.proofs.Tools.{IsBytes, ok_is, err_is}
 use Rattle.cm_component.specs.Trees.{SectionTree}
-use Rattle.cm_binary.specs.declared.fault.DecodeFault.{DecodeFault}
-use Rattle.cm_binary.specs.declared.fault.DecodeReason.{DecodeReason}
-use Rattle.cm_binary.specs.declared.fault.DecodeReason.TheVariants.{Truncated, Memory}
-use Rattle.cm_binary.specs.File.{file, Spells, FirstFault}
+use Rattle.cm_reading.specs.declared.fault.DecodeFault.{DecodeFault}
+use Rattle.cm_reading.specs.declared.fault.DecodeReason.{DecodeReason}
+use Rattle.cm_reading.specs.declared.fault.DecodeReason.TheVariants.{Truncated, Memory}
+use Rattle.cm_reading.specs.File.{file, Spells, FirstFault}
 use Rattle.cm_binary.specs.Answers.{Accepts, Refuses, Answers}
-use Rattle.cm_binary.proofs.FileLaws.{file_lawful}
+use Rattle.cm_reading.proofs.LawfulFile.{file_lawful}
 
 pub is_found : (bytes : List ℕ) (r : Result (List SectionTree) DecodeFault) → IsBytes bytes → Answers bytes r (file.reads (end.Cut Truncated) bytes) → IfOk r (λ c. Spells c bytes)
 is_found bytes (Ok c) fits h = file_lawful.takes (end.Cut Truncated) bytes c fits h

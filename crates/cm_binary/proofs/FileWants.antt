@@ -3,48 +3,64 @@ use Rattle.std.proofs.Common.{◌≡◌, ℕ, zero, suc}
 use Rattle.cm_grammar.specs.Grammar.{number}
 use Rattle.cm_grammar.proofs.WantLaws.{Ends, EndsWhole, done_ends, bind_ends, code_ends, number_ends, raw_ends, check_ends, fixed_ends, chain_ends, from_stock_ends, vec_ends, build_ends, remainder_ends, exactly_ends, join_ends, begins_with_ends, to_end_ends, of_size_ends, at_most_ends}
 use Rattle.cm_component.specs.declared.limits.TheConstants.{MAX_TYPES}
-use Rattle.cm_binary.specs.declared.fault.DecodeReason.{DecodeReason}
-use Rattle.cm_binary.specs.declared.fault.DecodeReason.TheVariants.{BadPreamble, Truncated, BadNumber, SizeMismatch, UnknownCode, BadUtf8, BadName, NotAModule, TooMany, TooLong}
-use Rattle.cm_binary.specs.declared.codes.SectionKind.{SectionKind}
-use Rattle.cm_binary.specs.declared.codes.SectionKind.TheVariants as kinds
-use Rattle.cm_binary.specs.declared.codes.AliasSort.{AliasSort}
-use Rattle.cm_binary.specs.declared.codes.AliasSort.TheVariants as alias_sorts
-use Rattle.cm_binary.specs.declared.codes.ResultForm.{ResultForm}
-use Rattle.cm_binary.specs.declared.codes.ResultForm.TheVariants as result_forms
-use Rattle.cm_binary.specs.declared.codes.CanonForm.{CanonForm}
-use Rattle.cm_binary.specs.declared.codes.CanonForm.TheVariants as canon_forms
-use Rattle.cm_binary.specs.File.{text, label, extern_name, core_arg, core_instance, alias_of, alias, param, func_result_of, func_result, func_type, def_type, type_defs, options_of, options, canon_of, canon, extern_desc, import_item, export_item, contents, section, sections, component, file, room_after}
-use Rattle.cm_binary.proofs.CodeWants.{section_kind_never, core_instance_form_never, core_sort_never, alias_sort_never, core_alias_target_never, other_alias_target_never, type_form_never, val_type_never, result_form_never, canon_form_never, canon_option_never, desc_form_never, export_sort_never, export_desc_never}
+use Rattle.cm_reading.specs.declared.fault.DecodeReason.{DecodeReason}
+use Rattle.cm_reading.specs.declared.fault.DecodeReason.TheVariants.{BadPreamble, Truncated, BadNumber, SizeMismatch, UnknownCode, BadUtf8, BadName, NotAModule, TooMany, TooLong}
+use Rattle.cm_reading.specs.declared.codes.SectionKind.{SectionKind}
+use Rattle.cm_reading.specs.declared.codes.SectionKind.TheVariants as kinds
+use Rattle.cm_reading.specs.declared.codes.AliasSort.{AliasSort}
+use Rattle.cm_reading.specs.declared.codes.AliasSort.TheVariants as alias_sorts
+use Rattle.cm_reading.specs.declared.codes.ResultForm.{ResultForm}
+use Rattle.cm_reading.specs.declared.codes.ResultForm.TheVariants as result_forms
+use Rattle.cm_reading.specs.declared.codes.CanonForm.{CanonForm}
+use Rattle.cm_reading.specs.declared.codes.CanonForm.TheVariants as canon_forms
+use Rattle.cm_reading.specs.declared.codes.CoreInstanceForm.{CoreInstanceForm}
+use Rattle.cm_reading.specs.declared.codes.CoreInstanceForm.TheVariants as core_instance_forms
+use Rattle.cm_reading.specs.declared.codes.TypeAliasTarget.{TypeAliasTarget}
+use Rattle.cm_reading.specs.declared.codes.TypeAliasTarget.TheVariants as type_targets
+use Rattle.cm_reading.specs.declared.codes.OptionForm.{OptionForm}
+use Rattle.cm_reading.specs.declared.codes.OptionForm.TheVariants as option_forms
+use Rattle.cm_reading.specs.declared.codes.DescForm.{DescForm}
+use Rattle.cm_reading.specs.declared.codes.DescForm.TheVariants as desc_forms
+use Rattle.cm_component.specs.declared.instances.InstanceExportSort.{InstanceExportSort}
+use Rattle.cm_reading.specs.Texts.{text, label, plain_name, extern_name}
+use Rattle.cm_reading.specs.Instances.{core_arg, core_export, core_instance_of, core_instance, inline_export, instance_item}
+use Rattle.cm_reading.specs.Aliases.{outer_type, instance_export, type_alias_of, alias_of, alias}
+use Rattle.cm_reading.specs.Types.{param, func_result_of, func_result, func_type, def_type, def_type_from, type_defs}
+use Rattle.cm_reading.specs.Canons.{canon_option_of, canon_option, canon_of, canon}
+use Rattle.cm_reading.specs.Externs.{extern_desc_of, extern_desc, import_item, export_item}
+use Rattle.cm_reading.specs.Sections.{contents, section, sections, room_after}
+use Rattle.cm_reading.specs.File.{component, file}
+use Rattle.cm_binary.proofs.CodeWants.{section_kind_never, core_instance_form_never, core_sort_never, instance_form_never, instance_export_sort_never, alias_sort_never, core_alias_target_never, func_alias_target_never, type_alias_target_never, no_alias_target_never, type_form_never, val_type_never, result_form_never, canon_form_never, option_form_never, desc_form_never, export_sort_never, export_desc_never}
 
 -- Another reason than want of a byte.
 abbrev IsOther : DecodeReason → Type 0
 IsOther reason = reason ≡ Truncated → ⊥
 
-bad_preamble : IsOther BadPreamble
+pub bad_preamble : IsOther BadPreamble
 bad_preamble e = absurd cc
 
-bad_number : IsOther BadNumber
+pub bad_number : IsOther BadNumber
 bad_number e = absurd cc
 
-size_mismatch : IsOther SizeMismatch
+pub size_mismatch : IsOther SizeMismatch
 size_mismatch e = absurd cc
 
-unknown_code : IsOther UnknownCode
+pub unknown_code : IsOther UnknownCode
 unknown_code e = absurd cc
 
-bad_utf8 : IsOther BadUtf8
+pub bad_utf8 : IsOther BadUtf8
 bad_utf8 e = absurd cc
 
-bad_name : IsOther BadName
+pub bad_name : IsOther BadName
 bad_name e = absurd cc
 
-not_a_module : IsOther NotAModule
+pub not_a_module : IsOther NotAModule
 not_a_module e = absurd cc
 
-too_many : IsOther TooMany
+pub too_many : IsOther TooMany
 too_many e = absurd cc
 
-too_long : IsOther TooLong
+pub too_long : IsOther TooLong
 too_long e = absurd cc
 
 pub index_ends : Ends Truncated (number BadNumber)
@@ -58,22 +74,58 @@ pub label_ends : Ends Truncated label
 unfolding label
 label_ends = bind_ends _ _ _ index_ends (λ n. check_ends _ _ _ _ bad_name (check_ends _ _ _ _ bad_utf8 (raw_ends _ n)))
 
+pub plain_name_ends : Ends Truncated plain_name
+unfolding plain_name
+plain_name_ends = bind_ends _ _ _ index_ends (λ n. check_ends _ _ _ _ bad_name (check_ends _ _ _ _ bad_utf8 (raw_ends _ n)))
+
 pub extern_name_ends : Ends Truncated extern_name
 unfolding extern_name
-extern_name_ends = bind_ends _ _ _ (fixed_ends _ _ _ unknown_code) (λ plain. bind_ends _ _ _ index_ends (λ n. check_ends _ _ _ _ bad_name (check_ends _ _ _ _ bad_utf8 (raw_ends _ n))))
+extern_name_ends = bind_ends _ _ _ (fixed_ends _ _ _ unknown_code) (λ plain. plain_name_ends)
 
 pub core_arg_ends : Ends Truncated core_arg
 unfolding core_arg
 core_arg_ends = bind_ends _ _ _ text_ends (λ name. bind_ends _ _ _ (fixed_ends _ _ _ unknown_code) (λ sort. bind_ends _ _ _ index_ends (λ i. done_ends _ _)))
 
+pub core_export_ends : Ends Truncated core_export
+unfolding core_export
+core_export_ends = bind_ends _ _ _ text_ends (λ name. bind_ends _ _ _ (code_ends _ _ core_sort_never) (λ sort. bind_ends _ _ _ index_ends (λ i. done_ends _ _)))
+
+pub core_instance_of_ends : (f : CoreInstanceForm) → Ends Truncated (core_instance_of f)
+unfolding core_instance_of
+core_instance_of_ends core_instance_forms.Instantiate = bind_ends _ _ _ index_ends (λ m. bind_ends _ _ _ (vec_ends _ _ _ bad_number core_arg_ends) (λ args. done_ends _ _))
+core_instance_of_ends core_instance_forms.Exports = bind_ends _ _ _ (vec_ends _ _ _ bad_number core_export_ends) (λ exports. done_ends _ _)
+
 pub core_instance_ends : Ends Truncated core_instance
 unfolding core_instance
-core_instance_ends = bind_ends _ _ _ (code_ends _ _ core_instance_form_never) (λ form. bind_ends _ _ _ index_ends (λ m. bind_ends _ _ _ (vec_ends _ _ _ bad_number core_arg_ends) (λ args. done_ends _ _)))
+core_instance_ends = bind_ends _ _ _ (code_ends _ _ core_instance_form_never) core_instance_of_ends
+
+pub inline_export_ends : Ends Truncated inline_export
+unfolding inline_export
+inline_export_ends = bind_ends _ _ _ extern_name_ends (λ name. bind_ends _ _ _ (code_ends _ _ instance_export_sort_never) (λ sort. bind_ends _ _ _ index_ends (λ i. done_ends _ _)))
+
+pub instance_ends : Ends Truncated instance_item
+unfolding instance_item
+instance_ends = bind_ends _ _ _ (code_ends _ _ instance_form_never) (λ form. vec_ends _ _ _ bad_number inline_export_ends)
+
+pub outer_type_ends : Ends Truncated outer_type
+unfolding outer_type
+outer_type_ends = bind_ends _ _ _ index_ends (λ count. bind_ends _ _ _ index_ends (λ i. done_ends _ _))
+
+pub instance_export_ends : (sort : InstanceExportSort) → Ends Truncated (instance_export sort)
+unfolding instance_export
+instance_export_ends sort = bind_ends _ _ _ index_ends (λ i. bind_ends _ _ _ plain_name_ends (λ name. done_ends _ _))
+
+pub type_alias_of_ends : (t : TypeAliasTarget) → Ends Truncated (type_alias_of t)
+unfolding type_alias_of
+type_alias_of_ends type_targets.InstanceExport = instance_export_ends _
+type_alias_of_ends type_targets.OuterType = bind_ends _ _ _ outer_type_ends (λ outer. done_ends _ _)
 
 pub alias_of_ends : (s : AliasSort) → Ends Truncated (alias_of s)
 unfolding alias_of
 alias_of_ends alias_sorts.Core = bind_ends _ _ _ (code_ends _ _ core_sort_never) (λ sort. bind_ends _ _ _ (code_ends _ _ core_alias_target_never) (λ target. bind_ends _ _ _ index_ends (λ i. bind_ends _ _ _ text_ends (λ name. done_ends _ _))))
-alias_of_ends alias_sorts.Other = code_ends _ _ other_alias_target_never
+alias_of_ends alias_sorts.Func = bind_ends _ _ _ (code_ends _ _ func_alias_target_never) (λ target. instance_export_ends _)
+alias_of_ends alias_sorts.Type = bind_ends _ _ _ (code_ends _ _ type_alias_target_never) type_alias_of_ends
+alias_of_ends alias_sorts.Instance = code_ends _ _ no_alias_target_never
 
 pub alias_ends : Ends Truncated alias
 unfolding alias
@@ -100,31 +152,47 @@ pub def_type_ends : Ends Truncated def_type
 unfolding def_type
 def_type_ends = bind_ends _ _ _ (code_ends _ _ type_form_never) (λ form. bind_ends _ _ _ func_type_ends (λ func. done_ends _ _))
 
-pub type_defs_ends : (room : ℕ) → Ends Truncated (type_defs room)
+pub def_type_from_ends : (stock : ℕ) → Ends Truncated (def_type_from stock)
+unfolding def_type_from
+def_type_from_ends stock = from_stock_ends _ _ _ too_many (λ left. def_type_ends) stock
+
+pub type_defs_ends : (stock : ℕ) → Ends Truncated (type_defs stock)
 unfolding type_defs
-type_defs_ends room = bind_ends _ _ _ index_ends (λ n. chain_ends _ _ _ (λ left. from_stock_ends _ _ _ too_many (λ l. def_type_ends) left) n room)
+type_defs_ends stock = bind_ends _ _ _ index_ends (λ n. chain_ends _ _ _ def_type_from_ends n stock)
 
-pub options_of_ends : (n : ℕ) → Ends Truncated (options_of n)
-unfolding options_of
-options_of_ends zero = done_ends _ _
-options_of_ends (suc n) = code_ends _ _ canon_option_never
+pub canon_option_of_ends : (f : OptionForm) → Ends Truncated (canon_option_of f)
+unfolding canon_option_of
+canon_option_of_ends option_forms.Utf8 = done_ends _ _
+canon_option_of_ends option_forms.Utf16 = done_ends _ _
+canon_option_of_ends option_forms.Latin1Utf16 = done_ends _ _
+canon_option_of_ends option_forms.Memory = bind_ends _ _ _ index_ends (λ i. done_ends _ _)
+canon_option_of_ends option_forms.Realloc = bind_ends _ _ _ index_ends (λ i. done_ends _ _)
+canon_option_of_ends option_forms.PostReturn = bind_ends _ _ _ index_ends (λ i. done_ends _ _)
 
-pub options_ends : Ends Truncated options
-unfolding options
-options_ends = bind_ends _ _ _ index_ends options_of_ends
+pub canon_option_ends : Ends Truncated canon_option
+unfolding canon_option
+canon_option_ends = bind_ends _ _ _ (code_ends _ _ option_form_never) canon_option_of_ends
 
 pub canon_of_ends : (f : CanonForm) → Ends Truncated (canon_of f)
 unfolding canon_of
-canon_of_ends canon_forms.Lift = bind_ends _ _ _ index_ends (λ func. bind_ends _ _ _ options_ends (λ opts. bind_ends _ _ _ index_ends (λ ty. done_ends _ _)))
-canon_of_ends canon_forms.Lower = bind_ends _ _ _ index_ends (λ func. bind_ends _ _ _ options_ends (λ opts. done_ends _ _))
+canon_of_ends canon_forms.Lift = bind_ends _ _ _ (fixed_ends _ _ _ unknown_code) (λ sort. bind_ends _ _ _ index_ends (λ func. bind_ends _ _ _ (vec_ends _ _ _ bad_number canon_option_ends) (λ opts. bind_ends _ _ _ index_ends (λ ty. done_ends _ _))))
+canon_of_ends canon_forms.Lower = bind_ends _ _ _ (fixed_ends _ _ _ unknown_code) (λ sort. bind_ends _ _ _ index_ends (λ func. bind_ends _ _ _ (vec_ends _ _ _ bad_number canon_option_ends) (λ opts. done_ends _ _)))
+canon_of_ends canon_forms.ResourceNew = bind_ends _ _ _ index_ends (λ resource. done_ends _ _)
+canon_of_ends canon_forms.ResourceDrop = bind_ends _ _ _ index_ends (λ resource. done_ends _ _)
+canon_of_ends canon_forms.ResourceRep = bind_ends _ _ _ index_ends (λ resource. done_ends _ _)
 
 pub canon_ends : Ends Truncated canon
 unfolding canon
-canon_ends = bind_ends _ _ _ (code_ends _ _ canon_form_never) (λ form. bind_ends _ _ _ (fixed_ends _ _ _ unknown_code) (λ sort. canon_of_ends form))
+canon_ends = bind_ends _ _ _ (code_ends _ _ canon_form_never) canon_of_ends
+
+pub extern_desc_of_ends : (f : DescForm) → Ends Truncated (extern_desc_of f)
+unfolding extern_desc_of
+extern_desc_of_ends desc_forms.Func = bind_ends _ _ _ index_ends (λ ty. done_ends _ _)
+extern_desc_of_ends desc_forms.Instance = bind_ends _ _ _ index_ends (λ ty. done_ends _ _)
 
 pub extern_desc_ends : Ends Truncated extern_desc
 unfolding extern_desc
-extern_desc_ends = bind_ends _ _ _ (code_ends _ _ desc_form_never) (λ form. bind_ends _ _ _ index_ends (λ ty. done_ends _ _))
+extern_desc_ends = bind_ends _ _ _ (code_ends _ _ desc_form_never) extern_desc_of_ends
 
 pub import_ends : Ends Truncated import_item
 unfolding import_item
@@ -139,6 +207,7 @@ unfolding contents
 contents_ends room kinds.Custom = join_ends _ _ _ text_ends (λ name. build_ends _ _ _ (remainder_ends _))
 contents_ends room kinds.CoreModule = build_ends _ _ _ (begins_with_ends _ _ _ not_a_module)
 contents_ends room kinds.CoreInstances = build_ends _ _ _ (exactly_ends _ _ _ size_mismatch (vec_ends _ _ _ bad_number core_instance_ends))
+contents_ends room kinds.Instances = build_ends _ _ _ (exactly_ends _ _ _ size_mismatch (vec_ends _ _ _ bad_number instance_ends))
 contents_ends room kinds.Aliases = build_ends _ _ _ (exactly_ends _ _ _ size_mismatch (vec_ends _ _ _ bad_number alias_ends))
 contents_ends room kinds.Types = build_ends _ _ _ (exactly_ends _ _ _ size_mismatch (type_defs_ends room))
 contents_ends room kinds.Canons = build_ends _ _ _ (exactly_ends _ _ _ size_mismatch (vec_ends _ _ _ bad_number canon_ends))

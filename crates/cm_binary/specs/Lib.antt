@@ -1,4 +1,1 @@
-pub mod Reasons
-pub mod Codes
-pub mod File
 pub mod Answers

@@ -1,20 +1,17 @@
 //! Reading component files.
 
 ghost use Rattle.std.specs.Prelude.{◌≡◌, ℕ, ◌⊎◌, List, length, map, IfOk, IfErr, None};
-ghost use Rattle.cm_grammar.specs.Faults.{Gives};
-ghost use Rattle.cm_grammar.specs.Reading.{IsInside};
 ghost use Rattle.cm_grammar.specs.declared.fault.End.TheVariants as end;
 ghost use Rattle.cm_component.specs.Trees.{SectionTree, section_tree};
 ghost use Rattle.cm_component.specs.Limits.{limit_fault};
-ghost use Rattle.cm_binary.specs.declared.fault.DecodeReason.{DecodeReason};
-ghost use Rattle.cm_binary.specs.declared.fault.DecodeReason.TheVariants as reasons;
-ghost use Rattle.cm_binary.specs.File.{component, file, Spells, FirstFault};
+ghost use Rattle.cm_reading.specs.declared.fault.DecodeReason.{DecodeReason};
+ghost use Rattle.cm_reading.specs.declared.fault.DecodeReason.TheVariants as reasons;
+ghost use Rattle.cm_reading.specs.File.{file, Spells, FirstFault};
 ghost use Rattle.cm_binary.specs.Answers.{Accepts, Refuses, Answers};
 
-use crate::fault::{DecodeFault, DecodeReason};
-use crate::sections::read_sections;
-use cm_component::{COMPONENT_PREAMBLE, Component, MAX_FILE_BYTES, Section};
-use cm_grammar::{Cursor, End, Fault, ReadError};
+use cm_component::{Component, Section};
+use cm_grammar::ReadError;
+use cm_reading::{DecodeFault, DecodeReason, read_file};
 use std::alloc::Global;
 
 /// Reads a component file (Binary.md), whose bytes these are, all of them.
@@ -65,54 +62,4 @@ fn component_within_limits(sections: Vec<Section>) -> Component
         Ok(component) => component,
         Err(_) => unreachable!(),
     }
-}
-
-/// The sections of a file. A fault is inside it.
-#[tactic(auto, unfolding(crate::specs::File::file))]
-fn read_file(alloc: Global, bytes: &[u8]) -> Result<Vec<Section>, ReadError<DecodeReason>>
-    ensures read { Gives (λ v. map section_tree v.items) result
-        (file.reads (end.Cut reasons.Truncated) bytes.now) }
-    ensures inside { IsInside (length bytes.now) result }
-{
-    if bytes.len() <= MAX_FILE_BYTES {
-        return read_unlimited_file(alloc, bytes, End::Cut(DecodeReason::Truncated));
-    }
-    let (front, behind) = bytes.split_at(MAX_FILE_BYTES);
-    match read_unlimited_file(alloc, front, End::Cut(DecodeReason::TooLong)) {
-        Ok(_) => Err(ReadError::Fault(Fault {
-            left: behind.len(),
-            reason: DecodeReason::TooLong,
-        })),
-        Err(ReadError::Fault(fault)) => Err(ReadError::Fault(Fault {
-            left: fault.left + behind.len(),
-            reason: fault.reason,
-        })),
-        Err(ReadError::Memory) => Err(ReadError::Memory),
-    }
-}
-
-/// The sections of bytes that end so, however many bytes they are. A fault is inside them.
-fn read_unlimited_file(
-    alloc: Global,
-    bytes: &[u8],
-    end: End<DecodeReason>,
-) -> Result<Vec<Section>, ReadError<DecodeReason>>
-    ensures read { Gives (λ v. map section_tree v.items) result (component.reads end bytes.now) }
-    ensures inside { IsInside (length bytes.now) result }
-{
-    read_preamble_and_sections(alloc, bytes, end)
-}
-
-/// The sections behind the preamble.
-#[tactic(auto, unfolding(crate::specs::File::component))]
-fn read_preamble_and_sections(
-    alloc: Global,
-    bytes: &[u8],
-    end: End<DecodeReason>,
-) -> Result<Vec<Section>, ReadError<DecodeReason>>
-    ensures { Gives (λ v. map section_tree v.items) result (component.reads end bytes.now) }
-{
-    let mut cursor = Cursor::new(bytes, end);
-    cursor.fixed(&COMPONENT_PREAMBLE, DecodeReason::BadPreamble)?;
-    read_sections(alloc, cursor.rest, cursor.end)
 }

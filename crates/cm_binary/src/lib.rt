@@ -1,22 +1,15 @@
 //! Component files: reading and writing them (Binary.md).
 #![tactic(auto)]
 
-mod canons;
-mod codes;
 mod decoding;
 mod encoding;
-mod externs;
-mod fault;
-mod instances;
 pub mod laws;
-mod sections;
-mod texts;
-mod types;
 
 pub use cm_component::{
-    Alias, Canon, Component, CoreInstance, CoreInstantiationArg, CoreSort, CustomSection, Export,
-    ExternDesc, Import, LimitFault, Section, Sort,
+    Alias, Canon, CanonOption, Component, CoreInlineExport, CoreInstance, CoreInstantiationArg,
+    CoreSort, CustomSection, Export, ExportSort, ExternDesc, Import, InlineExport, Instance,
+    InstanceExportSort, LimitFault, OuterType, Section,
 };
+pub use cm_reading::{DecodeFault, DecodeReason, Feature};
 pub use decoding::decode;
 pub use encoding::{encode, written_and_read};
-pub use fault::{DecodeFault, DecodeReason, Feature};

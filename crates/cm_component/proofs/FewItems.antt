@@ -7,15 +7,13 @@ use Rattle.std.proofs.lemmas.List.{length-append}
 use Rattle.std.proofs.lemmas.List.Sums.{sum_by-cons}
 use Rattle.cm_leb.specs.Writing.{shortest_unsigned}
 use Rattle.cm_grammar.specs.Spelling.{vec_spelling}
-use Rattle.cm_types.specs.DefTypes.{DefTypeTree, func_def}
-use Rattle.cm_component.specs.declared.section.Canon.{Canon}
-use Rattle.cm_component.specs.declared.section.Canon.TheVariants as canons
 use Rattle.cm_component.specs.declared.limits.LimitFault.{LimitFault}
 use Rattle.cm_component.specs.declared.limits.LimitFault.TheVariants.{TooMany, TooLong, NotAModule}
 use Rattle.cm_component.specs.declared.limits.TheConstants.{MAX_TYPES, MAX_FILE_BYTES, COMPONENT_PREAMBLE}
 use Rattle.cm_component.specs.Trees as trees
-use Rattle.cm_component.specs.Trees.{CoreInstanceTree, AliasTree, ImportTree, ExportTree, SectionTree}
-use Rattle.cm_component.specs.Spelling.{core_instance_spelling, alias_spelling, def_spelling, canon_spelling, import_spelling, export_spelling, contents_spelling, section_spelling, spelling}
+use Rattle.cm_component.specs.Trees.{SectionTree}
+use Rattle.cm_component.specs.Spelling.{core_instance_spelling, instance_spelling, alias_spelling, def_spelling, canon_spelling, import_spelling, export_spelling, contents_spelling, section_spelling, spelling}
+use Rattle.cm_component.proofs.Nonempty.{core_instance_some, instance_some, alias_some, def_some, canon_some, import_some, export_some}
 use Rattle.cm_component.specs.Limits.{types_in, items_in, has_preamble, limit_fault}
 
 -- things that each take a byte are no more than their bytes
@@ -26,37 +24,19 @@ all_spelled spell h (x ∷ xs) = omega (arith, h x, all_spelled spell h xs, leng
 vec_spelled : {A : Type 0} (spell : A → List ℕ) → ((x : A) → 0 < length (spell x)) → (xs : List A) → length xs ≤ length (vec_spelling spell xs)
 vec_spelled spell h xs = omega (arith, all_spelled spell h xs, length-append (shortest_unsigned (length xs)) (flat_map spell xs))
 
-core_instance_byte : (i : CoreInstanceTree) → 0 < length (core_instance_spelling i)
-core_instance_byte (trees.instantiate m args) = omega arith
-
-alias_byte : (a : AliasTree) → 0 < length (alias_spelling a)
-alias_byte (trees.core_instance_export sort instance name) = omega arith
-
-def_byte : (d : DefTypeTree) → 0 < length (def_spelling d)
-def_byte (func_def f) = omega arith
-
-canon_byte : (c : Canon) → 0 < length (canon_spelling c)
-canon_byte (canons.Lift func ty) = omega arith
-canon_byte (canons.Lower func) = omega arith
-
-import_byte : (i : ImportTree) → 0 < length (import_spelling i)
-import_byte i = omega arith
-
-export_byte : (e : ExportTree) → 0 < length (export_spelling e)
-export_byte e = omega arith
-
 section_longer : (s : SectionTree) → length (contents_spelling s) < length (section_spelling s)
 section_longer s = omega (arith, length-append (shortest_unsigned (length (contents_spelling s))) (contents_spelling s))
 
 section_items : (s : SectionTree) → items_in s ≤ length (section_spelling s)
 section_items (trees.custom name bytes) = omega arith
 section_items (trees.core_module bytes) = omega arith
-section_items (trees.core_instances items) = omega (arith, vec_spelled core_instance_spelling core_instance_byte items, section_longer (trees.core_instances items))
-section_items (trees.aliases items) = omega (arith, vec_spelled alias_spelling alias_byte items, section_longer (trees.aliases items))
-section_items (trees.types items) = omega (arith, vec_spelled def_spelling def_byte items, section_longer (trees.types items))
-section_items (trees.canons items) = omega (arith, vec_spelled canon_spelling canon_byte items, section_longer (trees.canons items))
-section_items (trees.imports items) = omega (arith, vec_spelled import_spelling import_byte items, section_longer (trees.imports items))
-section_items (trees.exports items) = omega (arith, vec_spelled export_spelling export_byte items, section_longer (trees.exports items))
+section_items (trees.core_instances items) = omega (arith, vec_spelled core_instance_spelling core_instance_some items, section_longer (trees.core_instances items))
+section_items (trees.instances items) = omega (arith, vec_spelled instance_spelling instance_some items, section_longer (trees.instances items))
+section_items (trees.aliases items) = omega (arith, vec_spelled alias_spelling alias_some items, section_longer (trees.aliases items))
+section_items (trees.types items) = omega (arith, vec_spelled def_spelling def_some items, section_longer (trees.types items))
+section_items (trees.canons items) = omega (arith, vec_spelled canon_spelling canon_some items, section_longer (trees.canons items))
+section_items (trees.imports items) = omega (arith, vec_spelled import_spelling import_some items, section_longer (trees.imports items))
+section_items (trees.exports items) = omega (arith, vec_spelled export_spelling export_some items, section_longer (trees.exports items))
 
 all_items : (c : List SectionTree) → sum_by items_in c ≤ length (flat_map section_spelling c)
 all_items [] = omega arith

@@ -1,1 +1,2 @@
+pub mod Nonempty
 pub mod FewItems

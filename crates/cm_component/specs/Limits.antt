@@ -3,6 +3,7 @@
 use Rattle.std.specs.Prelude.{ℕ, List, length, Bool, true, Option, Some, None, Result, Ok}
 use Rattle.std.specs.Prelude.{Err, nat_eq, nat_lt, if◌then◌else◌}
 use Rattle.std.specs.List.{sum_by, list_all, starts_with}
+use Rattle.cm_types.specs.DefTypes.{DefTypeTree, func_def}
 use Rattle.cm_component.specs.Trees as trees
 use Rattle.cm_component.specs.Trees.{SectionTree}
 use Rattle.cm_component.specs.Spelling.{spelling}
@@ -11,9 +12,13 @@ use Rattle.cm_component.specs.declared.limits.TheConstants.{MODULE_PREAMBLE}
 use Rattle.cm_component.specs.declared.limits.LimitFault.{LimitFault}
 use Rattle.cm_component.specs.declared.limits.LimitFault.TheVariants.{TooMany, TooLong, NotAModule}
 
--- How many types a section adds.
+-- How many types a type definition takes of those that a file may have: itself.
+abbrev pub types_in_def : DefTypeTree → ℕ
+types_in_def (func_def f) = 1
+
+-- How many types a section takes.
 abbrev pub types_in : SectionTree → ℕ
-types_in (trees.types ts) = length ts
+types_in (trees.types ts) = sum_by types_in_def ts
 types_in s = 0
 
 -- How many items stand in a section: a custom section has none, a core module is one.
@@ -21,6 +26,7 @@ abbrev pub items_in : SectionTree → ℕ
 items_in (trees.custom name bytes) = 0
 items_in (trees.core_module bytes) = 1
 items_in (trees.core_instances items) = length items
+items_in (trees.instances items) = length items
 items_in (trees.aliases items) = length items
 items_in (trees.types items) = length items
 items_in (trees.canons items) = length items

@@ -7,29 +7,56 @@ use Rattle.cm_types.specs.Names.{is_label}
 use Rattle.cm_types.specs.ExternNames.{is_extern_name}
 use Rattle.cm_types.specs.declared.def_types.LabeledValType.{LabeledValType}
 use Rattle.cm_types.specs.DefTypes.{FuncTypeTree, DefTypeTree, func_def}
-use Rattle.cm_component.specs.declared.section.Canon.{Canon}
-use Rattle.cm_component.specs.declared.section.Canon.TheVariants as canons
-use Rattle.cm_component.specs.declared.section.ExternDesc.{ExternDesc}
-use Rattle.cm_component.specs.declared.section.ExternDesc.TheVariants as descs
+use Rattle.cm_component.specs.declared.instances.InlineExport.{InlineExport}
+use Rattle.cm_component.specs.declared.aliases.OuterType.{OuterType}
+use Rattle.cm_component.specs.declared.canons.CanonOption.{CanonOption}
+use Rattle.cm_component.specs.declared.canons.CanonOption.TheVariants as options
+use Rattle.cm_component.specs.declared.externs.ExternDesc.{ExternDesc}
+use Rattle.cm_component.specs.declared.externs.ExternDesc.TheVariants as descs
+use Rattle.cm_component.specs.declared.externs.Import.{Import}
+use Rattle.cm_component.specs.declared.externs.Export.{Export}
 use Rattle.cm_component.specs.Trees as trees
-use Rattle.cm_component.specs.Trees.{ArgTree, CoreInstanceTree, AliasTree, ImportTree, ExportTree}
-use Rattle.cm_component.specs.Trees.{SectionTree}
+use Rattle.cm_component.specs.Trees.{ArgTree, CoreExportTree, CoreInstanceTree, AliasTree}
+use Rattle.cm_component.specs.Trees.{CanonTree, SectionTree}
 
 -- A number of 32 bits, as an index is.
 abbrev pub is_index : ℕ → Bool
 is_index n = nat_lt n (2 ^ 32)
 
+-- A name of an import or export is an extern name.
+abbrev pub holds_name : List ℕ → Bool
+holds_name name = is_utf8 name && is_extern_name name
+
 -- An argument of a core instance: its name is UTF-8, its instance an index.
 abbrev pub holds_arg : ArgTree → Bool
 holds_arg a = is_utf8 a.name && is_index a.instance
 
--- A core instance: its module is an index, and its arguments hold theirs.
+-- A core definition under a name: the name is UTF-8, the number an index.
+abbrev pub holds_core_export : CoreExportTree → Bool
+holds_core_export e = is_utf8 e.name && is_index e.index
+
+-- A core instance: its module is an index, and its arguments or exports hold theirs.
 abbrev pub holds_core_instance : CoreInstanceTree → Bool
 holds_core_instance (trees.instantiate module_ args) = is_index module_ && list_all holds_arg args
+holds_core_instance (trees.core_exports exports) = list_all holds_core_export exports
 
--- An alias: its instance is an index, its name UTF-8.
+-- A definition under a name: the name is an extern name, the number an index.
+abbrev pub holds_inline_export : InlineExport → Bool
+holds_inline_export e = holds_name e.name && is_index e.index
+
+-- An instance: what it exports holds its own.
+abbrev pub holds_instance : List InlineExport → Bool
+holds_instance exports = list_all holds_inline_export exports
+
+-- A type of a component around: its numbers are of 32 bits.
+abbrev pub holds_outer_type : OuterType → Bool
+holds_outer_type o = is_index o.count && is_index o.index
+
+-- An alias: its numbers are of 32 bits, its name a name or UTF-8.
 abbrev pub holds_alias : AliasTree → Bool
+holds_alias (trees.instance_export sort instance name) = is_index instance && holds_name name
 holds_alias (trees.core_instance_export sort instance name) = is_index instance && is_utf8 name
+holds_alias (trees.outer_type outer) = holds_outer_type outer
 
 -- A parameter: its label is a label.
 abbrev pub holds_param : LabeledValType → Bool
@@ -43,25 +70,34 @@ holds_func f = list_all holds_param f.params
 abbrev pub holds_def : DefTypeTree → Bool
 holds_def (func_def f) = holds_func f
 
--- A canonical definition: its numbers are indices.
-abbrev pub holds_canon : Canon → Bool
-holds_canon (canons.Lift func ty) = is_index func && is_index ty
-holds_canon (canons.Lower func) = is_index func
+-- A canonical option: its number, if it has one, is an index.
+abbrev pub holds_option : CanonOption → Bool
+holds_option options.Utf8 = true
+holds_option options.Utf16 = true
+holds_option options.Latin1Utf16 = true
+holds_option (options.Memory index) = is_index index
+holds_option (options.Realloc index) = is_index index
+holds_option (options.PostReturn index) = is_index index
+
+-- A canonical definition: its numbers are indices, and its options hold theirs.
+abbrev pub holds_canon : CanonTree → Bool
+holds_canon (trees.lift func opts ty) = is_index func && (list_all holds_option opts && is_index ty)
+holds_canon (trees.lower func opts) = is_index func && list_all holds_option opts
+holds_canon (trees.resource_new resource) = is_index resource
+holds_canon (trees.resource_drop resource) = is_index resource
+holds_canon (trees.resource_rep resource) = is_index resource
 
 -- What is imported: its type is an index.
 abbrev pub holds_desc : ExternDesc → Bool
 holds_desc (descs.Func ty) = is_index ty
-
--- A name of an import or export is an extern name.
-abbrev pub holds_name : List ℕ → Bool
-holds_name name = is_utf8 name && is_extern_name name
+holds_desc (descs.Instance ty) = is_index ty
 
 -- An import: its name and what it is hold theirs.
-abbrev pub holds_import : ImportTree → Bool
+abbrev pub holds_import : Import → Bool
 holds_import i = holds_name i.name && holds_desc i.desc
 
 -- An export: its name is an extern name, its number an index.
-abbrev pub holds_export : ExportTree → Bool
+abbrev pub holds_export : Export → Bool
 holds_export e = holds_name e.name && is_index e.index
 
 -- A section: each of its items holds its own.
@@ -69,6 +105,7 @@ abbrev pub holds : SectionTree → Bool
 holds (trees.custom name bytes) = is_utf8 name
 holds (trees.core_module bytes) = true
 holds (trees.core_instances items) = list_all holds_core_instance items
+holds (trees.instances items) = list_all holds_instance items
 holds (trees.aliases items) = list_all holds_alias items
 holds (trees.types items) = list_all holds_def items
 holds (trees.canons items) = list_all holds_canon items

@@ -8,14 +8,24 @@ use Rattle.cm_types.specs.declared.def_types.ValType.{ValType}
 use Rattle.cm_types.specs.declared.def_types.ValType.TheVariants as val_types
 use Rattle.cm_types.specs.declared.def_types.LabeledValType.{LabeledValType}
 use Rattle.cm_types.specs.DefTypes.{FuncTypeTree, DefTypeTree, func_def}
-use Rattle.cm_component.specs.declared.section.Canon.{Canon}
-use Rattle.cm_component.specs.declared.section.Canon.TheVariants as canons
-use Rattle.cm_component.specs.declared.section.ExternDesc.{ExternDesc}
-use Rattle.cm_component.specs.declared.section.ExternDesc.TheVariants as descs
+use Rattle.cm_component.specs.declared.instances.CoreSort.{CoreSort}
+use Rattle.cm_component.specs.declared.instances.CoreSort.TheVariants as core_sorts
+use Rattle.cm_component.specs.declared.instances.InlineExport.{InlineExport}
+use Rattle.cm_component.specs.declared.instances.InstanceExportSort.{InstanceExportSort}
+use Rattle.cm_component.specs.declared.instances.InstanceExportSort.TheVariants as instance_sorts
+use Rattle.cm_component.specs.declared.aliases.OuterType.{OuterType}
+use Rattle.cm_component.specs.declared.canons.CanonOption.{CanonOption}
+use Rattle.cm_component.specs.declared.canons.CanonOption.TheVariants as options
+use Rattle.cm_component.specs.declared.externs.ExternDesc.{ExternDesc}
+use Rattle.cm_component.specs.declared.externs.ExternDesc.TheVariants as descs
+use Rattle.cm_component.specs.declared.externs.Import.{Import}
+use Rattle.cm_component.specs.declared.externs.Export.{Export}
+use Rattle.cm_component.specs.declared.externs.ExportSort.{ExportSort}
+use Rattle.cm_component.specs.declared.externs.ExportSort.TheVariants as export_sorts
 use Rattle.cm_component.specs.declared.limits.TheConstants.{COMPONENT_PREAMBLE}
 use Rattle.cm_component.specs.Trees as trees
-use Rattle.cm_component.specs.Trees.{ArgTree, CoreInstanceTree, AliasTree, ImportTree, ExportTree}
-use Rattle.cm_component.specs.Trees.{SectionTree}
+use Rattle.cm_component.specs.Trees.{ArgTree, CoreExportTree, CoreInstanceTree, AliasTree}
+use Rattle.cm_component.specs.Trees.{CanonTree, SectionTree}
 
 -- A name of an import or export: a byte, and the name (`importname`, `exportname`).
 abbrev pub extern_name_spelling : List ℕ → List ℕ
@@ -26,16 +36,49 @@ extern_name_spelling name = 0x00 ∷ blob_spelling name
 abbrev pub core_arg_spelling : ArgTree → List ℕ
 core_arg_spelling a = blob_spelling a.name ++ (0x12 ∷ shortest_unsigned a.instance)
 
--- A core instance made of a module: the module, the arguments (`core:instance`).
+-- A core sort (`core:sort`).
+abbrev pub core_sort_code : CoreSort → ℕ
+core_sort_code core_sorts.Func = 0x00
+core_sort_code core_sorts.Table = 0x01
+core_sort_code core_sorts.Memory = 0x02
+core_sort_code core_sorts.Global = 0x03
+
+-- A core definition under a name: the name, the sort, the index (`core:inlineexport`).
+abbrev pub core_export_spelling : CoreExportTree → List ℕ
+core_export_spelling e = blob_spelling e.name ++ (core_sort_code e.sort ∷ shortest_unsigned e.index)
+
+-- A core instance made of a module: the module, the arguments; or of exports (`core:instance`).
 abbrev pub core_instance_spelling : CoreInstanceTree → List ℕ
 core_instance_spelling (trees.instantiate module_ args) =
     0x00 ∷ (shortest_unsigned module_ ++ vec_spelling core_arg_spelling args)
+core_instance_spelling (trees.core_exports exports) =
+    0x01 ∷ vec_spelling core_export_spelling exports
 
--- An alias of what a core instance exports (`alias`). The one sort that is carried is that of core
--- functions.
+-- What an instance exports (`sort`).
+abbrev pub instance_sort_code : InstanceExportSort → ℕ
+instance_sort_code instance_sorts.Func = 0x01
+instance_sort_code instance_sorts.Type = 0x03
+
+-- A definition under a name: the name, the sort, the index (`inlineexport`).
+abbrev pub inline_export_spelling : InlineExport → List ℕ
+inline_export_spelling e = extern_name_spelling e.name
+    ++ (instance_sort_code e.sort ∷ shortest_unsigned e.index)
+
+-- An instance made of exports (`instance`).
+abbrev pub instance_spelling : List InlineExport → List ℕ
+instance_spelling exports = 0x01 ∷ vec_spelling inline_export_spelling exports
+
+-- A type of a component around: how far outwards, and the index there (`aliastarget`).
+abbrev pub outer_type_spelling : OuterType → List ℕ
+outer_type_spelling o = shortest_unsigned o.count ++ shortest_unsigned o.index
+
+-- An alias: the sort, the target (`alias`).
 abbrev pub alias_spelling : AliasTree → List ℕ
+alias_spelling (trees.instance_export sort instance name) =
+    instance_sort_code sort ∷ 0x00 ∷ (shortest_unsigned instance ++ blob_spelling name)
 alias_spelling (trees.core_instance_export sort instance name) =
-    0x00 ∷ 0x00 ∷ 0x01 ∷ (shortest_unsigned instance ++ blob_spelling name)
+    0x00 ∷ core_sort_code sort ∷ 0x01 ∷ (shortest_unsigned instance ++ blob_spelling name)
+alias_spelling (trees.outer_type outer) = 0x03 ∷ 0x02 ∷ outer_type_spelling outer
 
 -- A value type (`primvaltype`).
 abbrev pub val_type_code : ValType → ℕ
@@ -58,30 +101,50 @@ func_spelling f = vec_spelling param_spelling f.params ++ result_spelling f.resu
 abbrev pub def_spelling : DefTypeTree → List ℕ
 def_spelling (func_def f) = 0x40 ∷ func_spelling f
 
--- A canonical definition without options (`canon`).
-abbrev pub canon_spelling : Canon → List ℕ
-canon_spelling (canons.Lift func ty) =
-    0x00 ∷ 0x00 ∷ (shortest_unsigned func ++ (0x00 ∷ shortest_unsigned ty))
-canon_spelling (canons.Lower func) = 0x01 ∷ 0x00 ∷ (shortest_unsigned func ++ (0x00 ∷ []))
+-- A canonical option (`canonopt`).
+abbrev pub option_spelling : CanonOption → List ℕ
+option_spelling options.Utf8 = 0x00 ∷ []
+option_spelling options.Utf16 = 0x01 ∷ []
+option_spelling options.Latin1Utf16 = 0x02 ∷ []
+option_spelling (options.Memory index) = 0x03 ∷ shortest_unsigned index
+option_spelling (options.Realloc index) = 0x04 ∷ shortest_unsigned index
+option_spelling (options.PostReturn index) = 0x05 ∷ shortest_unsigned index
+
+-- A canonical definition (`canon`).
+abbrev pub canon_spelling : CanonTree → List ℕ
+canon_spelling (trees.lift func opts ty) = 0x00 ∷ 0x00
+    ∷ (shortest_unsigned func ++ (vec_spelling option_spelling opts ++ shortest_unsigned ty))
+canon_spelling (trees.lower func opts) =
+    0x01 ∷ 0x00 ∷ (shortest_unsigned func ++ vec_spelling option_spelling opts)
+canon_spelling (trees.resource_new resource) = 0x02 ∷ shortest_unsigned resource
+canon_spelling (trees.resource_drop resource) = 0x03 ∷ shortest_unsigned resource
+canon_spelling (trees.resource_rep resource) = 0x04 ∷ shortest_unsigned resource
 
 -- What is imported (`externdesc`).
 abbrev pub desc_spelling : ExternDesc → List ℕ
 desc_spelling (descs.Func ty) = 0x01 ∷ shortest_unsigned ty
+desc_spelling (descs.Instance ty) = 0x05 ∷ shortest_unsigned ty
 
 -- An import: its name, what it is (`import`).
-abbrev pub import_spelling : ImportTree → List ℕ
+abbrev pub import_spelling : Import → List ℕ
 import_spelling i = extern_name_spelling i.name ++ desc_spelling i.desc
 
--- An export of a function: its name, the sort, the index, that nothing describes it (`export`).
-abbrev pub export_spelling : ExportTree → List ℕ
+-- What a component exports (`sort`).
+abbrev pub export_sort_code : ExportSort → ℕ
+export_sort_code export_sorts.Func = 0x01
+export_sort_code export_sorts.Instance = 0x05
+
+-- An export: its name, the sort, the index, that nothing describes it (`export`).
+abbrev pub export_spelling : Export → List ℕ
 export_spelling e = extern_name_spelling e.name
-    ++ (0x01 ∷ (shortest_unsigned e.index ++ (0x00 ∷ [])))
+    ++ (export_sort_code e.sort ∷ (shortest_unsigned e.index ++ (0x00 ∷ [])))
 
 -- The contents of a section ("Component Definitions").
 abbrev pub contents_spelling : SectionTree → List ℕ
 contents_spelling (trees.custom name bytes) = blob_spelling name ++ bytes
 contents_spelling (trees.core_module bytes) = bytes
 contents_spelling (trees.core_instances items) = vec_spelling core_instance_spelling items
+contents_spelling (trees.instances items) = vec_spelling instance_spelling items
 contents_spelling (trees.aliases items) = vec_spelling alias_spelling items
 contents_spelling (trees.types items) = vec_spelling def_spelling items
 contents_spelling (trees.canons items) = vec_spelling canon_spelling items
@@ -93,6 +156,7 @@ abbrev pub section_id : SectionTree → ℕ
 section_id (trees.custom name bytes) = 0x00
 section_id (trees.core_module bytes) = 0x01
 section_id (trees.core_instances items) = 0x02
+section_id (trees.instances items) = 0x05
 section_id (trees.aliases items) = 0x06
 section_id (trees.types items) = 0x07
 section_id (trees.canons items) = 0x08

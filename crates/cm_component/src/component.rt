@@ -8,8 +8,7 @@ ghost use Rattle.cm_component.specs.Parts.{holds};
 ghost use Rattle.cm_component.specs.declared.limits.TheConstants.{MAX_FILE_BYTES};
 
 use crate::limits::{LimitFault, MAX_FILE_BYTES, MAX_TYPES, MODULE_PREAMBLE};
-use crate::measuring::{file_length, types_in_all};
-use crate::section::Section;
+use crate::section::{Section, file_length, types_in_all};
 use std::marker::Model;
 
 /// The sections of a component file, in order, within the limits of files. Contracts see them as

@@ -1,15 +1,26 @@
 //! The tree of a component file: its sections and what stands in them (Binary.md).
 #![tactic(auto)]
 
+mod aliases;
+mod canons;
 mod component;
+mod externs;
+mod instances;
 mod limits;
 mod measuring;
 mod part;
 mod section;
+mod types;
 
+pub use aliases::{Alias, OuterType};
+pub use canons::{Canon, CanonOption};
 pub use component::Component;
-pub use limits::{COMPONENT_PREAMBLE, LimitFault, MAX_FILE_BYTES, MAX_TYPES, MODULE_PREAMBLE};
-pub use section::{
-    Alias, Canon, CoreInstance, CoreInstantiationArg, CoreSort, CustomSection, Export, ExternDesc,
-    Import, Section, Sort,
+pub use externs::{Export, ExportSort, ExternDesc, Import};
+pub use instances::{
+    CoreInlineExport, CoreInstance, CoreInstantiationArg, CoreSort, InlineExport, Instance,
+    InstanceExportSort,
 };
+pub use limits::{COMPONENT_PREAMBLE, LimitFault, MAX_FILE_BYTES, MAX_TYPES, MODULE_PREAMBLE};
+pub use part::Part;
+pub use section::{CustomSection, Section, types_in};
+pub use types::types_in_def;

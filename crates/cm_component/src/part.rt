@@ -9,9 +9,9 @@ use cm_leb::spelled_length;
 
 /// A part of a file: its tree, the shortest spelling of that, and what every such tree holds.
 ///
-/// It stands apart from [`Form`](cm_grammar::Form), which reads and writes a part, since the limit
-/// of a file's bytes is kept here, below the decoder.
-pub(crate) trait Part {
+/// It stands apart from [`Form`](cm_grammar::Form), which reads a part, since the limit of a file's
+/// bytes is kept here, below the decoder.
+pub trait Part {
     ghost use Rattle.std.specs.Prelude.{ℕ, List, Bool};
 
     // The part as a tree.

@@ -1,6 +1,22 @@
-//! The sections of a component file. Indices count from 0 in the index space of their sort.
+//! The sections of a component file.
 
-use cm_types::{DefType, ExternName};
+ghost use Rattle.std.specs.Prelude.{◌≡◌, length, map, true};
+ghost use Rattle.std.specs.List.{list_all, sum_by};
+ghost use Rattle.cm_component.specs.Trees.{SectionTree, section_tree};
+ghost use Rattle.cm_component.specs.Spelling.{contents_spelling, section_spelling, spelling};
+ghost use Rattle.cm_component.specs.Limits.{types_in};
+ghost use Rattle.cm_component.specs.Parts.{holds};
+ghost use Rattle.cm_component.specs.Measures.{saturate};
+
+use crate::aliases::Alias;
+use crate::canons::Canon;
+use crate::externs::{Export, Import};
+use crate::instances::{CoreInstance, Instance};
+use crate::limits::COMPONENT_PREAMBLE;
+use crate::measuring::{number_length, text_length};
+use crate::part::{Part, length_of_all, length_of_vec};
+use crate::types::types_in_defs;
+use cm_types::DefType;
 
 /// One section of a file (Binary.md, "Component Definitions").
 #[derive(Drop)]
@@ -11,6 +27,8 @@ pub enum Section {
     CoreModule(Vec<u8>),
     /// Section 2.
     CoreInstances(Vec<CoreInstance>),
+    /// Section 5.
+    Instances(Vec<Instance>),
     /// Section 6.
     Aliases(Vec<Alias>),
     /// Section 7.
@@ -30,73 +48,66 @@ pub struct CustomSection {
     pub bytes: Vec<u8>,
 }
 
-/// A core instance (Binary.md, "Core Instance Definitions").
-#[derive(Drop)]
-pub enum CoreInstance {
-    /// A core module with an instance for each name that it imports from.
-    Instantiate {
-        module: u32,
-        args: Vec<CoreInstantiationArg>,
-    },
+impl Part for Section {
+    ghost Tree = { SectionTree };
+
+    ghost tree = { section_tree };
+
+    ghost spelling = { section_spelling };
+
+    ghost holds = { holds };
+
+    fn length(&self) -> u64 {
+        let contents = contents_length(self);
+        contents.saturating_add(1 + number_length(contents))
+    }
 }
 
-/// A core instance given to a module under a name.
-#[derive(Drop)]
-pub struct CoreInstantiationArg {
-    pub name: String,
-    pub instance: u32,
+/// The length of a section's contents.
+fn contents_length(section: &Section) -> u64
+    ensures length { result ≡ saturate (length (contents_spelling (section_tree section.now))) }
+    ensures holds { holds (section_tree section.now) ≡ true }
+{
+    match section {
+        Section::Custom(custom) => {
+            text_length(&custom.name).saturating_add(custom.bytes.len() as u64)
+        }
+        Section::CoreModule(bytes) => bytes.len() as u64,
+        Section::CoreInstances(items) => length_of_vec(items),
+        Section::Instances(items) => length_of_vec(items),
+        Section::Aliases(items) => length_of_vec(items),
+        Section::Types(items) => length_of_vec(items),
+        Section::Canons(items) => length_of_vec(items),
+        Section::Imports(items) => length_of_vec(items),
+        Section::Exports(items) => length_of_vec(items),
+    }
 }
 
-/// What a core definition is (Binary.md, `core:sort`).
-#[derive(Clone, Copy)]
-pub enum CoreSort {
-    Func,
+/// The length of the file with these sections, in bytes.
+pub(crate) fn file_length(sections: &[Section]) -> u64
+    ensures length { result ≡ saturate (length (spelling (map section_tree sections.now))) }
+    ensures holds { list_all holds (map section_tree sections.now) ≡ true }
+{
+    length_of_all(sections).saturating_add(COMPONENT_PREAMBLE.len() as u64)
 }
 
-/// What a definition is (Binary.md, `sort`).
-#[derive(Clone, Copy)]
-pub enum Sort {
-    Func,
+/// How many types a section takes of those that a file may have, or `u64::MAX` where it is more.
+pub fn types_in(section: &Section) -> u64
+    ensures { result ≡ saturate (types_in (section_tree section.now)) }
+{
+    match section {
+        Section::Types(types) => types_in_defs(types),
+        _ => 0,
+    }
 }
 
-/// A definition taken from elsewhere (Binary.md, "Alias Definitions").
-#[derive(Drop)]
-pub enum Alias {
-    /// What a core instance exports under this name.
-    CoreInstanceExport {
-        sort: CoreSort,
-        instance: u32,
-        name: String,
-    },
-}
-
-/// A canonical definition (Binary.md, "Canonical Definitions").
-#[derive(Drop)]
-pub enum Canon {
-    /// A core function as a function of this type.
-    Lift { core_func: u32, ty: u32 },
-    /// A function as a core function.
-    Lower { func: u32 },
-}
-
-/// The type of an import (Binary.md, `externdesc`).
-#[derive(Clone, Copy, Debug, PartialEq, Eq)]
-pub enum ExternDesc {
-    /// A function of the type with this index.
-    Func(u32),
-}
-
-/// An import (Binary.md, "Import and Export Definitions").
-#[derive(Drop)]
-pub struct Import {
-    pub name: ExternName,
-    pub desc: ExternDesc,
-}
-
-/// An export (Binary.md, "Import and Export Definitions").
-#[derive(Drop)]
-pub struct Export {
-    pub name: ExternName,
-    pub sort: Sort,
-    pub index: u32,
+/// How many types the sections take, or `u64::MAX` where it is more.
+pub(crate) fn types_in_all(sections: &[Section]) -> u64
+    ensures { result ≡ saturate (sum_by types_in (map section_tree sections.now)) }
+{
+    let mut total: u64 = 0;
+    for section in sections {
+        total = total.saturating_add(types_in(section));
+    }
+    total
 }

@@ -143,10 +143,10 @@ behind_err : {R A : Type 0} (more : ℕ) (reason : R) (t : Result A (Fault R)) (
 behind_err {R} {A} more reason (Ok y) f h = (flaw 0 reason, inr (y, refl, refl), sym (err_is A (later (flaw 0 reason) more) f h))
 behind_err {R} {A} more reason (Err d) f h = (d, inl refl, sym (err_is A (later d more) f h))
 
-at_most_all : {R A : Type 0} (limit : ℕ) (reason : R) (w : Whole R A) (e : End R) (bytes : List ℕ) → length bytes ≤ limit → (at_most limit reason w).reads e bytes ≡ w.reads e bytes
+pub at_most_all : {R A : Type 0} (limit : ℕ) (reason : R) (w : Whole R A) (e : End R) (bytes : List ℕ) → length bytes ≤ limit → (at_most limit reason w).reads e bytes ≡ w.reads e bytes
 at_most_all limit reason w e bytes h = let t = le-leb (length bytes) limit h in rw t refl
 
-at_most_cut : {R A : Type 0} (limit : ℕ) (reason : R) (w : Whole R A) (e : End R) (bytes : List ℕ) → limit < length bytes → (at_most limit reason w).reads e bytes ≡ and_behind (length (drop limit bytes)) (too_many reason (w.reads (end.Cut reason) (take limit bytes)))
+pub at_most_cut : {R A : Type 0} (limit : ℕ) (reason : R) (w : Whole R A) (e : End R) (bytes : List ℕ) → limit < length bytes → (at_most limit reason w).reads e bytes ≡ and_behind (length (drop limit bytes)) (too_many reason (w.reads (end.Cut reason) (take limit bytes)))
 at_most_cut limit reason w e bytes h = let t = lt-leb (length bytes) limit h in rw t refl
 
 at_most_faulty : {R A : Type 0} (limit : ℕ) (reason : R) (w : Whole R A) → LawfulWhole w → (e : End R) (bytes : List ℕ) (f : Fault R) → IsBytes bytes → (at_most limit reason w).reads e bytes ≡ Err f → (at_most limit reason w).Faulty e bytes f

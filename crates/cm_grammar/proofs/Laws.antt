@@ -1,5 +1,5 @@
 -- The laws of a grammar, and of each step.
-use Rattle.std.proofs.Common.{◌≡◌, ℕ, zero, suc, ◌<◌, ◌≤◌, Bool, true, false, cond, ltb, List, [], ◌∷◌, ◌++◌, length, take, drop, Result, Ok, Err, refl, sym, ap, subst, ◌∙◌, append_assoc, arith, inl, inr, ◌⊎◌}
+use Rattle.std.proofs.Common.{◌≡◌, ℕ, zero, suc, ◌-◌, ◌<◌, ◌≤◌, Bool, true, false, cond, ltb, List, [], ◌∷◌, ◌++◌, length, take, drop, Result, Ok, Err, refl, sym, ap, subst, ◌∙◌, append_assoc, arith, inl, inr, ◌⊎◌}
 use Rattle.std.proofs.lemmas.Bool.{cases_Bool, cases_eq, ltb-true, ltb-false, lt-ltb, le-ltb, eq-eqb, ne_eqb}
 use Rattle.std.proofs.lemmas.List.{length-append, length-take, take_at, take-append-le, drop_at, take-append-drop}
 use Rattle.cm_leb.specs.declared.fault.LebFault.{LebFault}
@@ -12,7 +12,7 @@ use Rattle.cm_grammar.specs.declared.fault.Fault.{Fault}
 use Rattle.cm_grammar.specs.declared.fault.End.{End}
 use Rattle.cm_grammar.specs.declared.fault.End.TheVariants as end
 use Rattle.cm_grammar.specs.Faults.{flaw, later, want}
-use Rattle.cm_grammar.specs.Grammar.{Grammar, done, ◌>>=◌, fail, code_answer, code_reads, code, ahead_reads, ahead, number_fault, number_reads, number, signed, raw, check, DifferAt, IsBeginning, fixed_reads, fixed, chain, times, from_stock, vec, blob}
+use Rattle.cm_grammar.specs.Grammar.{Grammar, done, ◌>>=◌, fail, code_answer, code_reads, code, ahead_reads, ahead, number_fault, number_reads, number, signed, raw, check, DifferAt, IsBeginning, fixed_reads, fixed, chain, times, from_stock, vec, stocked, blob}
 use Rattle.cm_grammar.proofs.Tools.{IsBytes, IsBytes-after, ok_of, err_of, ok_is, err_is, then_ok, then_err, then_from_ok, then_from_err, cond_ok, cond_err, flaw-later, parts_behind}
 
 -- A spelling of x in front, and the rest.
@@ -465,6 +465,9 @@ from_stock_lawful g reason l (suc room) = l room
 
 pub vec_lawful : {R A : Type 0} (bad : R) (g : Grammar R A) → Lawful g → Lawful (vec bad g)
 vec_lawful bad g l = bind_lawful (number bad) _ (number_lawful bad) (λ n. times_lawful g l n)
+
+pub stocked_lawful : {R A : Type 0} (bad : R) (g : ℕ → Grammar R A) (cost : A → ℕ) → ((stock : ℕ) → Lawful (g stock)) → (stock : ℕ) → Lawful (stocked bad g cost stock)
+stocked_lawful bad g cost l stock = bind_lawful (number bad) _ (number_lawful bad) (λ n. chain_lawful g (λ left x. left - cost x) l n stock)
 
 pub blob_lawful : {R : Type 0} (bad : R) → Lawful (blob bad)
 blob_lawful bad = bind_lawful (number bad) _ (number_lawful bad) (λ n. raw_lawful n)

@@ -4,7 +4,7 @@ pub mod WholeLaws
 pub mod PartLaws
 pub mod EndLaws
 pub mod ReadingLaws
-pub mod SpellingLaws
+pub mod LeastLaws
 pub mod WrittenLaws
 pub mod WantLaws
 pub mod AnswerLaws

@@ -157,7 +157,7 @@ pub to_end_ends : {R A S : Type 0} (r : R) (g : S → Grammar R A) (next : S →
 to_end_ends r g next l s = record { at_end = λ e bytes f h k. (l (state_after next s h.0)).at_end e h.2 f h.6 k }
 
 -- A fault of a part that ends for another reason has not this one.
-inside_ends : {R A : Type 0} (r other : R) (w : Whole R A) (e : End R) (bytes : List ℕ) (more : ℕ) (inner f : Fault R) → want_reason e ≡ other → (other ≡ r → ⊥) → EndsWhole r w → w.Faulty e bytes inner → f ≡ later inner more → f.reason ≡ r → ⊥
+pub inside_ends : {R A : Type 0} (r other : R) (w : Whole R A) (e : End R) (bytes : List ℕ) (more : ℕ) (inner f : Fault R) → want_reason e ≡ other → (other ≡ r → ⊥) → EndsWhole r w → w.Faulty e bytes inner → f ≡ later inner more → f.reason ≡ r → ⊥
 inside_ends {R} r other w e bytes more inner f ends differ l h is k =
     let reason : inner.reason ≡ r = sym (ap (λ (d : Fault R). d.reason) is) ∙ k in
     differ (sym ends ∙ (sym (ap (λ (d : Fault R). d.reason) (l.at_end e bytes inner h reason)) ∙ reason))

@@ -1,8 +1,8 @@
 -- Grammars of bytes: which bytes spell a value, and what is the first fault of bytes that do not
 -- begin with a spelling. A grammar is built from steps, and each step says both, so the two cannot
 -- part.
-use Rattle.std.specs.Prelude.{◌≡◌, ◌≢◌, ℕ, zero, suc, ◌<◌, ◌⊎◌, Bool, true, false, List, [], ◌∷◌}
-use Rattle.std.specs.Prelude.{◌++◌, length, take, drop, Result, Ok, Err, ℤ, nat_lt, ◌==◌}
+use Rattle.std.specs.Prelude.{◌≡◌, ◌≢◌, ℕ, zero, suc, ◌-◌, ◌<◌, ◌⊎◌, Bool, true, false, List}
+use Rattle.std.specs.Prelude.{[], ◌∷◌, ◌++◌, length, take, drop, Result, Ok, Err, ℤ, nat_lt, ◌==◌}
 use Rattle.std.specs.Prelude.{if◌then◌else◌}
 use Rattle.cm_leb.specs.declared.fault.LebFault.{LebFault}
 use Rattle.cm_leb.specs.declared.fault.LebFault.TheVariants.{Truncated, TooLong, BadLastBits}
@@ -69,6 +69,10 @@ code table = record {
       × (f ≡ flaw (length bytes) reason));
   reads = code_reads table;
 }
+
+-- No value: a byte that no table has, and what is wrong with it.
+abbrev pub refuse : {R A : Type 0} → (ℕ → R) → Grammar R A
+refuse reason = code (λ b. Err (reason b))
 
 -- Reading by the first byte.
 abbrev pub ahead_reads : {R A : Type 0} → (ℕ → Grammar R A) → End R → List ℕ
@@ -189,6 +193,10 @@ from_stock g reason (suc room) = g room
 -- A count, and so many things.
 abbrev pub vec : {R A : Type 0} → R → Grammar R A → Grammar R (List A)
 vec bad g = number bad >>= λ n. times g n
+
+-- A count, and so many things out of a stock: each takes of it what it costs.
+abbrev pub stocked : {R A : Type 0} → R → (ℕ → Grammar R A) → (A → ℕ) → ℕ → Grammar R (List A)
+stocked bad g cost stock = number bad >>= λ n. chain g (λ left x. left - cost x) n stock
 
 -- A count, and so many bytes.
 abbrev pub blob : {R : Type 0} → R → Grammar R (List ℕ)

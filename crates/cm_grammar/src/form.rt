@@ -1,20 +1,19 @@
-//! Forms: values that are read by a grammar and written by a spelling, one or several of them.
+//! Forms: values that are read by a grammar, one or several of them.
 
 ghost use Rattle.std.specs.Prelude.{◌≡◌, ◌++◌, map, OnOk};
 ghost use Rattle.cm_grammar.specs.Grammar.{times, vec};
 ghost use Rattle.cm_grammar.specs.Reading.{Reads};
-ghost use Rattle.cm_grammar.specs.Spelling.{blob_spelling, vec_spelling};
+ghost use Rattle.cm_grammar.specs.Spelling.{blob_spelling};
 
 use crate::cursor::Cursor;
 use crate::fault::ReadError;
 use cm_leb::write_count;
 use std::alloc::{AllocError, Global};
 
-/// A form of a format: how it is read, and how it is written.
+/// A form of a format: how it is read.
 ///
 /// `R` are the reasons of the format's faults.
 pub trait Form<R: Copy>: Drop + Sized {
-    ghost use Rattle.std.specs.Prelude.{ℕ, List};
     ghost use Rattle.cm_grammar.specs.Grammar.{Grammar};
 
     // A value as contracts see it.
@@ -25,18 +24,11 @@ pub trait Form<R: Copy>: Drop + Sized {
     // Which bytes spell a value, and what is the first fault of others.
     ghost grammar: { Grammar R Tree };
 
-    // The one spelling that is written.
-    ghost spelling: { Tree → List ℕ };
-
     /// Reads a value at the front of what is left. Beside the grammar's faults it may be that
     /// memory is refused.
     fn read(alloc: Global, cursor: &mut Cursor<'_, R>) -> Result<Self, ReadError<R>>
         ensures read { Reads grammar tree cursor.old cursor.new result }
         ensures end { cursor.new.end ≡ cursor.old.end };
-
-    /// Appends the spelling of the value. Where memory is refused the list may hold a part of it.
-    fn write(&self, out: &mut Vec<u8>) -> Result<(), AllocError>
-        ensures { OnOk result (out.new.items ≡ out.old.items ++ spelling (tree self.now)) };
 }
 
 /// Reads a count, and so many values. A count that is no number is a fault of the reason `bad` at
@@ -70,19 +62,6 @@ fn read_times<R: Copy, T: Form<R>>(
         values.push(value)?;
     }
     Ok(values)
-}
-
-/// Appends the number of values, and the spelling of each. Where memory is refused the list may
-/// hold a part of them.
-pub fn write_vec<R: Copy, T: Form<R>>(out: &mut Vec<u8>, values: &[T]) -> Result<(), AllocError>
-    ensures { OnOk result
-        (out.new.items ≡ out.old.items ++ vec_spelling T.spelling (map T.tree values.now)) }
-{
-    write_count(out, values.len())?;
-    for value in values {
-        value.write(out)?;
-    }
-    Ok(())
 }
 
 /// Appends the number of bytes, and the bytes. Where memory is refused the list may hold a part of

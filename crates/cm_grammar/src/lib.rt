@@ -5,7 +5,9 @@
 mod cursor;
 mod fault;
 mod form;
+mod stocked;
 
 pub use cursor::{Code, Cursor};
 pub use fault::{End, Fault, ReadError};
-pub use form::{Form, read_vec, write_blob, write_vec};
+pub use form::{Form, read_vec, write_blob};
+pub use stocked::{StockedForm, read_stocked};

@@ -147,5 +147,6 @@ carried_greatest (Some t) l n s e o f g h = one_case t s (one_greatest [] [] t (
   where
     some_is : (a b : LayoutTy) → Some a ≡ Some b → a ≡ b
     some_is a b e = cc
+
     one_case : (t : Ty) (s : CasesSoFar) → AreGreatestOf (plain [] (carrying [] t no_cases)) s → AreGreatestOf (carrying [] t no_cases) s
     one_case t s g = record { size = g.size; align = g.align; width = g.width; small = g.small; narrow = g.narrow; positive = g.positive; near = g.near }

@@ -10,7 +10,6 @@ use Rattle.cm_layout.proofs.Seen.{before_nodes}
 use Rattle.cm_layout.specs.Sizes.{align_of, align_of_fields, align_of_payloads, align_of_payload, case_count, discriminant_size, flags_size, size_of, end_of, greatest_payload, payload_offset, size_of_payload}
 use Rattle.cm_layout.proofs.AlignLemmas.{align_pos, fields_align_pos, payloads_align_pos, discriminant_pos, flags_pos, count_before, count_of_cases, count_plain, align_before, align_plain, payload_align_pos}
 
-
 -- ---- places
 
 pub place_above : (a e : ℕ) → 1 ≤ a → e ≤ align_to a e

@@ -10,7 +10,8 @@ use Rattle.cm_layout.specs.declared.builders.FieldsBuilder.{FieldsBuilder}
 use Rattle.cm_layout.specs.declared.builders.CasesBuilder.{CasesBuilder}
 use Rattle.cm_layout.specs.declared.layouts.Form.{Form}
 use Rattle.cm_layout.specs.declared.layouts.Form.TheOpen as form
-use Rattle.cm_layout.specs.declared.layouts.Form.TheFolds.{fold-Form, fold-Layout, fold-Part, fold-Payload}
+use Rattle.cm_layout.specs.declared.layouts.Form.TheFolds.{fold-Form, fold-Layout, fold-Part}
+use Rattle.cm_layout.specs.declared.layouts.Form.TheFolds.{fold-Payload}
 use Rattle.cm_layout.specs.declared.layouts.Layout.{Layout}
 use Rattle.cm_layout.specs.declared.layouts.Part.{Part}
 use Rattle.cm_layout.specs.declared.layouts.Payload.{Payload}

@@ -1,5 +1,5 @@
--- Plain bytes: types whose values may be copied as the bytes that they are in memory (this project's
--- own term; CanonicalABI.md, "Loading", says what each byte is).
+-- Plain bytes: types whose values may be copied as the bytes that they are in memory (this
+-- project's own term; CanonicalABI.md, "Loading", says what each byte is).
 use Rattle.std.specs.Prelude.{ℕ, ◌+◌, ◌*◌, ◌==◌, Bool}
 use Rattle.cm_types.specs.Types.{Ty, Fields, width_bytes, signed, unsigned, fixed_list, fields}
 use Rattle.cm_types.specs.Types.{no_fields, field}

@@ -1,6 +1,7 @@
 -- Sizes and alignments of values in memory, in bytes (CanonicalABI.md, "Alignment" and "Element
 -- Size").
-use Rattle.std.specs.Prelude.{◌≡◌, ℕ, zero, suc, ◌+◌, ◌*◌, ◌<◌, ◌≤◌, ◌⊎◌, ⊤, max, nat_le, if◌then◌else◌, length}
+use Rattle.std.specs.Prelude.{◌≡◌, ℕ, zero, suc, ◌+◌, ◌*◌, ◌<◌, ◌≤◌, ◌⊎◌, ⊤, max, nat_le}
+use Rattle.std.specs.Prelude.{if◌then◌else◌, length}
 use Rattle.std.specs.Prelude.{Option, Some, None}
 use Rattle.cm_types.specs.Types.{Ty, Fields, Cases, width_bytes, bool, signed, unsigned, char}
 use Rattle.cm_types.specs.Types.{string}

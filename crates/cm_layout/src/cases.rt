@@ -70,7 +70,8 @@ impl CasesSoFar {
         requires fits { self.size ≤ 320000 }
         requires narrow { self.width ≤ 20000 }
         ensures size { result.size
-            ≡ align_to (max discriminant self.align) (align_to self.align discriminant + self.size) }
+            ≡ align_to (max discriminant self.align)
+            (align_to self.align discriminant + self.size) }
         ensures near { result.size ≤ self.size + 18 }
         ensures align { result.align ≡ max discriminant self.align }
         ensures width { result.width ≡ 1 + self.width }

@@ -42,7 +42,8 @@ impl FieldsSoFar {
         ensures align { self.new.align ≡ max self.old.align field.align }
         ensures width { self.new.width ≡ self.old.width + field.width }
         ensures is_bulk { self.new.is_bulk
-            ≡ (self.old.is_bulk && (field.is_bulk && (align_to field.align self.old.end == self.old.end))) }
+            ≡ (self.old.is_bulk
+            && (field.is_bulk && (align_to field.align self.old.end == self.old.end))) }
     {
         let place = align_to(field.align, self.end);
         let is_bulk = self.is_bulk && field.is_bulk && place == self.end;

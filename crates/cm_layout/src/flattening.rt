@@ -43,7 +43,8 @@ pub(crate) fn join_flat(
     ty: &TypeNode,
 ) -> Result<usize, AllocError>
     requires { at ≤ length kinds.old.items }
-    ensures { IfOk result (JoinedFrom at kinds.old.items (flat_of (type_of ty.now)) kinds.new.items) }
+    ensures { IfOk result
+        (JoinedFrom at kinds.old.items (flat_of (type_of ty.now)) kinds.new.items) }
 {
     match ty {
         TypeNode::S64 | TypeNode::U64 => join_kind(kinds, at, CoreKind::I64),
@@ -131,11 +132,7 @@ pub(crate) fn join_fields(
 
 #[cycle(flat)]
 #[tactic(auto, using(crate::proofs::FlatLemmas::flats))]
-fn join_parts(
-    kinds: &mut Vec<CoreKind>,
-    at: usize,
-    row: &[TypeNode],
-) -> Result<usize, AllocError>
+fn join_parts(kinds: &mut Vec<CoreKind>, at: usize, row: &[TypeNode]) -> Result<usize, AllocError>
     requires { at ≤ length kinds.old.items }
     ensures { IfOk result
         (JoinedFrom at kinds.old.items (flat_of_fields (parts_of row.now)) kinds.new.items) }

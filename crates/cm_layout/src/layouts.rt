@@ -44,7 +44,10 @@ pub enum Form {
     /// A list, whose elements lie elsewhere, one behind the other: the layout of one.
     List(Rc<Layout>),
     /// So many elements, which lie in place, one behind the other.
-    FixedList { element: Rc<Layout>, length: u32 },
+    FixedList {
+        element: Rc<Layout>,
+        length: u32,
+    },
     /// The fields of a record or a tuple, in order.
     Fields(Rc<Vec<Part>>),
     /// The cases of a variant, an option or a result.

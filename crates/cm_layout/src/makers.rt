@@ -38,8 +38,8 @@ pub fn layout_of_params(alloc: Global, func: &Func) -> Result<Layout, AllocError
     layout_of_fields(alloc, &func.params)
 }
 
-/// The layout of fields of at most 10,000 nodes together, as that of the tuple of them. `AllocError`
-/// comes where there is no memory for it.
+/// The layout of fields of at most 10,000 nodes together, as that of the tuple of them.
+/// `AllocError` comes where there is no memory for it.
 pub fn layout_of_fields(alloc: Global, fields: &[Field]) -> Result<Layout, AllocError>
     requires within { nodes_of_fields (fields_of fields.now) ≤ MAX_NODES }
     ensures value { IfOk result (λ l. layout_of l ≡ layout_of_fields_at (fields_of fields.now)) }

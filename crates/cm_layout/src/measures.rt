@@ -106,7 +106,8 @@ pub(crate) fn cases_so_far(row: &[Case]) -> CasesSoFar
 fn option_head(some: &TypeNode) -> Head
     requires within { nodes_of (type_of some.now) + 1 ≤ MAX_NODES }
     ensures { IsTakenBy
-        (cases option_type (plain (codes "none") (carrying (codes "some") (type_of some.now) no_cases)))
+        (cases option_type
+        (plain (codes "none") (carrying (codes "some") (type_of some.now) no_cases)))
         result }
 {
     CasesSoFar::none().with(node_head(some)).whole(1)

@@ -1,5 +1,5 @@
 -- The shortest spelling spells its number, and no spelling is shorter.
-use Rattle.std.proofs.Common.{◌≡◌, ℕ, zero, suc, ◌+◌, ◌-◌, ◌*◌, ◌/◌, ◌^◌, ◌<◌, ◌≤◌, Bool, true, false, cond, ltb, List, [], ◌∷◌, ◌++◌, length, take, drop, Result, refl, sym, ap, subst, ◌∙◌, arith, inl, inr}
+use Rattle.std.proofs.Common.{◌≡◌, ℕ, zero, suc, ◌+◌, ◌-◌, ◌*◌, ◌/◌, ◌%◌, ◌^◌, ◌<◌, ◌≤◌, Bool, true, false, cond, ltb, List, [], ◌∷◌, ◌++◌, length, take, drop, Result, refl, sym, ap, subst, ◌∙◌, arith, inl, inr, ◌⊎◌}
 use Rattle.std.specs.Prelude.{ℤ, pos, negsuc, slice_range, OnOk}
 use Rattle.std.proofs.lemmas.List.{length-append, take_all, drop_at}
 use Rattle.std.proofs.lemmas.Result.{on_ok_weaker}
@@ -172,6 +172,32 @@ shortest_signed-least z bytes s =
     let below : digits_value bytes < 2 ^ (7 * length bytes) = subst (λ (p : ℕ). digits_value bytes < p) (pow_seven (length bytes)) (digits_below bytes) in
     let within : IsWithin (7 * length bytes) z = subst (λ (y : ℤ). IsWithin (7 * length bytes) y) (sym s.digits) (two_complement-within (7 * length bytes) (digits_value bytes) (omega arith) below) in
     omega (arith, group_of-length (signed_length z) (to_two_complement (7 * signed_length z) z), signed_length-least z (length bytes) some within)
+
+-- The bytes begin with one below 40, or with one that says that another follows.
+pub record BeginsApart (bytes : List ℕ) : Type 0 where
+  pub first : ℕ
+  pub rest : List ℕ
+  pub parts : bytes ≡ first ∷ rest
+  pub apart : (first < 64) ⊎ (128 ≤ first)
+
+group_of-one : (v : ℕ) → v < 64 → BeginsApart (group_of 1 v)
+group_of-one v h = record { first = v % 128; rest = []; parts = refl; apart = inl (omega arith) }
+
+group_of-long : (k v : ℕ) → 2 ≤ k → BeginsApart (group_of k v)
+group_of-long zero v h = absurd (omega arith)
+group_of-long (suc zero) v h = absurd (omega arith)
+group_of-long (suc (suc k)) v h = record { first = 128 + v % 128; rest = group_of (suc k) (v / 128); parts = refl; apart = inr (omega arith) }
+
+signed_length-long : (z : ℤ) → is_within 7 z ≡ false → 2 ≤ signed_length z
+signed_length-long z f = rw f (grind arith)
+
+-- The shortest spelling of a number that is not below 0.
+pub shortest_signed-apart : (n : ℕ) → BeginsApart (shortest_signed (pos n))
+shortest_signed-apart n =
+    elim (cases_Bool (is_within 7 (pos n))) [
+      | inl t ↦ let w = within_from_test 7 (pos n) t in rw t (group_of-one n (omega (arith, ints, w.high)))
+      | inr f ↦ group_of-long (signed_length (pos n)) n (signed_length-long (pos n) f)
+    ]
 
 -- What was appended stands at the old end.
 pub unsigned_stands : (bits : ℕ) (old text : List ℕ) (n : ℕ) → SpellsUnsigned bits text n → StandsUnsigned bits (old ++ text) (length old) n (length (old ++ text))

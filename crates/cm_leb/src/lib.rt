@@ -8,4 +8,4 @@ mod writing;
 
 pub use fault::LebFault;
 pub use reading::{front_s33, front_u32, read_s33, read_u32};
-pub use writing::{spelled_length, write_count, write_s33, write_u32};
+pub use writing::{spelled_length, spelled_signed_length, write_count, write_s33, write_u32};

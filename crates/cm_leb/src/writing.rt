@@ -51,8 +51,12 @@ pub fn write_s33(out: &mut Vec<u8>, value: i64) -> Result<(), AllocError>
         → length (shortest_signed value) ≤ length bytes }
     ensures err { OnErr result (out.new.items ≡ out.old.items) }
 {
-    let length = length_of_s33(value);
-    put_group(out, length, two_complement_digits(7 * length as u32, value))
+    let length = spelled_signed_length(value);
+    put_group(
+        out,
+        length as usize,
+        two_complement_digits(7 * length, value),
+    )
 }
 
 /// How many bytes the shortest spelling of a number without a sign takes (the core specification,
@@ -74,9 +78,11 @@ pub fn spelled_length(value: u64) -> u32
     }
 }
 
-/// How many bytes the shortest spelling of the number takes.
-fn length_of_s33(value: i64) -> usize
-    ensures { result ≡ signed_length value }
+/// How many bytes the shortest spelling of a number of 33 bits with a sign takes (the core
+/// specification, "Integers"): 1 to 5. A number of more bits has none; the answer is then 5.
+pub fn spelled_signed_length(value: i64) -> u32
+    ensures digits { result ≡ signed_length value }
+    ensures bytes { result ≡ length (shortest_signed value) }
 {
     if value >= -(1 << 6) && value < 1 << 6 {
         1

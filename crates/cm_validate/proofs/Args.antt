@@ -4,7 +4,7 @@ use Rattle.std.specs.Prelude.{◌&&◌}
 use Rattle.std.specs.List.{list_all}
 use Rattle.std.specs.String.{string_bytes}
 use Rattle.cm_component.specs.Trees.{arg_tree}
-use Rattle.cm_component.specs.declared.section.CoreInstantiationArg.{CoreInstantiationArg}
+use Rattle.cm_component.specs.declared.instances.CoreInstantiationArg.{CoreInstantiationArg}
 use Rattle.cm_validate.specs.Rules.{arg_instances_are_there, index_is_there}
 
 pub names_of_args

@@ -6,13 +6,12 @@ use Rattle.std.specs.List.{AllByRecursion}
 use Rattle.std.specs.Option.{option_map_or}
 use Rattle.cm_types.specs.Types.{FuncTy}
 use Rattle.cm_types.specs.DefTypes.{func_def}
-use Rattle.cm_component.specs.Trees.{SectionTree, instantiate, core_instance_export}
-use Rattle.cm_component.specs.declared.section.Canon.{Canon}
-use Rattle.cm_component.specs.declared.section.Canon.TheVariants as canon
-use Rattle.cm_component.specs.declared.section.ExternDesc.{ExternDesc}
-use Rattle.cm_component.specs.declared.section.ExternDesc.TheVariants as desc
+use Rattle.cm_component.specs.Trees.{SectionTree}
+use Rattle.cm_validate.specs.Items.{instantiate, core_func_export}
+use Rattle.cm_validate.specs.Items.{CarriedCanon}
+use Rattle.cm_validate.specs.Items as canon
 use Rattle.cm_validate.specs.declared.fault.ValidReason.{ValidReason}
-use Rattle.cm_validate.specs.Items.{Item, all_items, module_item, core_instance_item, alias_item, type_item, canon_item, import_item, export_item}
+use Rattle.cm_validate.specs.Items.{Item, all_items, module_item, core_instance_item, alias_item, type_item, canon_item, import_item, export_item, not_yet_item}
 use Rattle.cm_validate.specs.Rules.{item_rules, canon_rules, is_flat, is_guest_function}
 use Rattle.cm_validate.specs.Consistency.{Imports, IsGuestAt, IsConsistentFunc, IsConsistentCoreFunc, IsConsistentExport, IsConsistent}
 use Rattle.cm_validate.specs.Spaces.{IndexSpaces, CoreFuncTree, FuncDefTree, ImportedFunc, ExportedFunc, guest, lowered, lifted, imported, func_type_of, empty_spaces, after_item, after_items, after_canon, after_import, after_export, lower_import, spaces_of}
@@ -141,7 +140,7 @@ export_consistent : (t : IndexSpaces) (name : List ℕ) (index : ℕ) (o : Optio
 export_consistent t name index None there = tt
 export_consistent t name index (Some f) there = (record { def = f; there = there f refl; same = refl }, tt)
 
-consistent_after_canon : (s : IndexSpaces) (c : Canon) → ((r : ValidReason) → IsBroken (canon_rules s c) r → ⊥) → IsConsistent s → IsConsistent (after_canon s c)
+consistent_after_canon : (s : IndexSpaces) (c : CarriedCanon) → ((r : ValidReason) → IsBroken (canon_rules s c) r → ⊥) → IsConsistent s → IsConsistent (after_canon s c)
 consistent_after_canon s (canon.Lift core_func ty) unbroken p =
     let h = hold (canon_rules s (canon.Lift core_func ty)) unbroken in
     let t = after_canon s (canon.Lift core_func ty) in
@@ -157,9 +156,9 @@ consistent_after_canon s (canon.Lower func) unbroken p =
     let k = keeps s t cs [] [] [] grows in
     consistent_grows s t cs [] [] [] grows (lower_consistent t (slice_get s.funcs func) h.1.0 (λ f e. func_stays s t k f (all_at (IsConsistentFunc s) s.funcs func f p.funcs e))) tt tt p
 
-consistent_after_import : (s : IndexSpaces) (name : List ℕ) (d : ExternDesc) → IsConsistent s → IsConsistent (after_import s name d)
-consistent_after_import s name (desc.Func ty) p =
-    let t = after_import s name (desc.Func ty) in
+consistent_after_import : (s : IndexSpaces) (name : List ℕ) (d : ℕ) → IsConsistent s → IsConsistent (after_import s name d)
+consistent_after_import s name ty p =
+    let t = after_import s name ty in
     let o = slice_get s.types ty in
     let fs = option_to_list (option_map (imported (length s.imports) None) o) in
     let is = option_to_list (option_map (λ u. record { name = name; ty = u }) o) in
@@ -184,13 +183,14 @@ nothing_new s t cs fs is es p = consistent_grows s t [] [] [] [] (record { core_
 consistent_after_item : (s : IndexSpaces) (x : Item) → ((r : ValidReason) → IsBroken (item_rules s x) r → ⊥) → IsConsistent s → IsConsistent (after_item s x)
 consistent_after_item s module_item unbroken p = nothing_new s (after_item s module_item) refl refl refl refl p
 consistent_after_item s (core_instance_item (instantiate m args)) unbroken p = nothing_new s (after_item s (core_instance_item (instantiate m args))) refl refl refl refl p
-consistent_after_item s (alias_item (core_instance_export sort instance name)) unbroken p =
-    let t = after_item s (alias_item (core_instance_export sort instance name)) in
+consistent_after_item s (alias_item (core_func_export instance name)) unbroken p =
+    let t = after_item s (alias_item (core_func_export instance name)) in
     consistent_grows s t (guest instance name ∷ []) [] [] [] (record { core_funcs = refl; funcs = same s.funcs; imports = same s.imports; exports = same s.exports }) (tt, tt) tt tt p
 consistent_after_item s (type_item (func_def f)) unbroken p = nothing_new s (after_item s (type_item (func_def f))) refl refl refl refl p
 consistent_after_item s (canon_item c) unbroken p = consistent_after_canon s c unbroken p
-consistent_after_item s (import_item i) unbroken p = consistent_after_import s i.name i.desc p
+consistent_after_item s (import_item i) unbroken p = consistent_after_import s i.name i.ty p
 consistent_after_item s (export_item e) unbroken p = consistent_after_export s e.name e.index p
+consistent_after_item s not_yet_item unbroken p = nothing_new s (after_item s not_yet_item) refl refl refl refl p
 
 consistent_after_items : (s : IndexSpaces) (xs : List Item) → IsValidFrom s xs → IsConsistent s → IsConsistent (after_items s xs)
 consistent_after_items s [] valid p = p

@@ -5,15 +5,14 @@ use Rattle.std.specs.Option.{option_map_or}
 use Rattle.std.specs.List.{AllByRecursion}
 use borrow.Author.Tests.{leb-true}
 use Rattle.cm_types.specs.DefTypes.{func_def}
-use Rattle.cm_component.specs.Trees.{SectionTree, instantiate, core_instance_export}
-use Rattle.cm_component.specs.declared.section.Canon.{Canon}
-use Rattle.cm_component.specs.declared.section.Canon.TheVariants as canon
-use Rattle.cm_component.specs.declared.section.ExternDesc.{ExternDesc}
-use Rattle.cm_component.specs.declared.section.ExternDesc.TheVariants as desc
+use Rattle.cm_component.specs.Trees.{SectionTree}
+use Rattle.cm_validate.specs.Items.{instantiate, core_func_export}
+use Rattle.cm_validate.specs.Items.{CarriedCanon}
+use Rattle.cm_validate.specs.Items as canon
 use Rattle.cm_validate.specs.declared.fault.ValidReason.{ValidReason}
 use Rattle.cm_validate.specs.declared.fault.ValidReason.TheVariants as reason
 use Rattle.cm_types.specs.declared.limits.TheConstants.{MAX_FLAT_PARAMS}
-use Rattle.cm_validate.specs.Items.{Item, all_items, module_item, core_instance_item, alias_item, type_item, canon_item, import_item, export_item}
+use Rattle.cm_validate.specs.Items.{Item, all_items, module_item, core_instance_item, alias_item, type_item, canon_item, import_item, export_item, not_yet_item}
 use Rattle.cm_validate.specs.Spaces.{IndexSpaces, CoreFuncTree, FuncDefTree, guest, lifted, imported, empty_spaces, after_item, after_items, after_canon, after_import, lower_import, func_type_of, spaces_of}
 use Rattle.cm_validate.specs.Rules.{item_rules, canon_rules, is_flat, param_count}
 use Rattle.cm_validate.specs.Valid.{IsBroken, IsValidFrom, IsValid}
@@ -33,23 +32,24 @@ lowered_flat (Some (imported import item ty)) kept = (by_test (is_flat ty) refl,
     by_test true e = leb-true (param_count ty.params) MAX_FLAT_PARAMS e
     by_test false e = absurd (kept e)
 
-canon_flat : (s : IndexSpaces) (c : Canon) → AllByRecursion PassesFlat s.core_funcs → ((r : ValidReason) → IsBroken (canon_rules s c) r → ⊥) → AllByRecursion PassesFlat (after_canon s c).core_funcs
+canon_flat : (s : IndexSpaces) (c : CarriedCanon) → AllByRecursion PassesFlat s.core_funcs → ((r : ValidReason) → IsBroken (canon_rules s c) r → ⊥) → AllByRecursion PassesFlat (after_canon s c).core_funcs
 canon_flat s (canon.Lift core_func ty) flat kept = flat
 canon_flat s (canon.Lower func) flat kept =
     flat_append s.core_funcs (option_to_list (option_and_then lower_import (slice_get s.funcs func))) flat
     (lowered_flat (slice_get s.funcs func) (λ e. kept reason.NeedsMemory (inr (inl (e, refl)))))
 
-import_flat : (s : IndexSpaces) (name : List ℕ) (d : ExternDesc) → AllByRecursion PassesFlat s.core_funcs → AllByRecursion PassesFlat (after_import s name d).core_funcs
-import_flat s name (desc.Func ty) flat = flat
+import_flat : (s : IndexSpaces) (name : List ℕ) (d : ℕ) → AllByRecursion PassesFlat s.core_funcs → AllByRecursion PassesFlat (after_import s name d).core_funcs
+import_flat s name ty flat = flat
 
 item_flat : (s : IndexSpaces) (x : Item) → AllByRecursion PassesFlat s.core_funcs → ((r : ValidReason) → IsBroken (item_rules s x) r → ⊥) → AllByRecursion PassesFlat (after_item s x).core_funcs
 item_flat s module_item flat kept = flat
 item_flat s (core_instance_item (instantiate m args)) flat kept = flat
-item_flat s (alias_item (core_instance_export sort instance name)) flat kept = flat_append s.core_funcs (guest instance name ∷ []) flat (tt, tt)
+item_flat s (alias_item (core_func_export instance name)) flat kept = flat_append s.core_funcs (guest instance name ∷ []) flat (tt, tt)
 item_flat s (type_item (func_def f)) flat kept = flat
 item_flat s (canon_item c) flat kept = canon_flat s c flat kept
-item_flat s (import_item i) flat kept = import_flat s i.name i.desc flat
+item_flat s (import_item i) flat kept = import_flat s i.name i.ty flat
 item_flat s (export_item e) flat kept = flat
+item_flat s not_yet_item flat kept = flat
 
 items_flat : (s : IndexSpaces) (xs : List Item) → AllByRecursion PassesFlat s.core_funcs → IsValidFrom s xs → AllByRecursion PassesFlat (after_items s xs).core_funcs
 items_flat s [] flat valid = flat

@@ -3,7 +3,7 @@ use Rattle.std.proofs.Common.{◌≡◌, ℕ, ◌<◌, true, List, [], ◌∷◌
 use Rattle.std.specs.Prelude.{nat_lt, slice_get}
 use Rattle.std.proofs.lemmas.Option.{slice_get_within}
 use Rattle.cm_types.specs.Types.{FuncTy}
-use Rattle.cm_component.specs.declared.section.Canon.TheVariants as canon
+use Rattle.cm_validate.specs.Items as canon
 use Rattle.cm_validate.specs.declared.fault.ValidReason.TheVariants as reason
 use Rattle.cm_validate.specs.Rules.{canon_rules, has_memory, has_realloc, is_guest_function}
 use Rattle.cm_validate.specs.Spaces.{IndexSpaces, CoreFuncTree}

@@ -3,13 +3,12 @@ use Rattle.std.proofs.Common.{◌≡◌, ℕ, suc, ◌+◌, Bool, true, false, �
 use Rattle.std.specs.Prelude.{if◌then◌else◌}
 use Rattle.std.proofs.lemmas.List.{length-map}
 use Rattle.cm_types.specs.DefTypes.{func_def}
-use Rattle.cm_component.specs.Trees.{SectionTree, instantiate, core_instance_export, section_tree}
+use Rattle.cm_component.specs.Trees.{SectionTree, section_tree}
+use Rattle.cm_validate.specs.Items.{instantiate, core_func_export}
 use Rattle.cm_component.specs.declared.section.Section.{Section}
-use Rattle.cm_component.specs.declared.section.ExternDesc.TheVariants as desc
-use Rattle.cm_component.specs.declared.section.ExternDesc.{ExternDesc}
 use Rattle.cm_validate.specs.declared.fault.ValidReason.{ValidReason}
 use Rattle.cm_validate.specs.declared.fault.ValidReason.TheVariants as reason
-use Rattle.cm_validate.specs.Items.{Item, items_of, module_item, core_instance_item, alias_item, type_item, canon_item, import_item, export_item}
+use Rattle.cm_validate.specs.Items.{Item, items_of, module_item, core_instance_item, alias_item, type_item, canon_item, import_item, export_item, not_yet_item}
 use Rattle.cm_validate.specs.Spaces.{IndexSpaces, empty_spaces, after_item, after_items}
 use Rattle.cm_validate.specs.Rules.{item_rules, import_rules, rules_before_memory, import_rules_before_memory, name_is_new, name_is_plain_label, arg_names_are_distinct}
 use Rattle.cm_validate.specs.Valid.{first_broken, or_later, items_fault, sections_fault, MayLackMemory, MayLackMemoryIn}
@@ -27,9 +26,9 @@ front_unbroken (x ∷ xs) ys e = by_test x.0 refl (λ f. front_unbroken xs ys f)
         let f : Some x.1 ≡ None = sym (ap (λ t. if t then first_broken (xs ++ ys) else Some x.1) h) ∙ e in
         absurd cc
 
-import_unbroken : (s : IndexSpaces) (name : List ℕ) (d : ExternDesc) → first_broken (import_rules s name d) ≡ None → first_broken (import_rules_before_memory s d) ≡ None
-import_unbroken s name (desc.Func ty) e =
-    front_unbroken (import_rules_before_memory s (desc.Func ty))
+import_unbroken : (s : IndexSpaces) (name : List ℕ) (d : ℕ) → first_broken (import_rules s name d) ≡ None → first_broken (import_rules_before_memory s d) ≡ None
+import_unbroken s name ty e =
+    front_unbroken (import_rules_before_memory s ty)
     ((name_is_new name (map (λ i. i.name) s.imports), reason.DuplicateName) ∷ (name_is_plain_label name, reason.BadAnnotatedName) ∷ []) e
 
 -- an item that keeps its rules keeps those that are looked at before memory is wanted
@@ -37,13 +36,14 @@ pub unbroken_before_memory : (s : IndexSpaces) (x : Item) → first_broken (item
 unbroken_before_memory s module_item e = refl
 unbroken_before_memory s (core_instance_item (instantiate m args)) e =
     front_unbroken (rules_before_memory s (core_instance_item (instantiate m args))) ((arg_names_are_distinct args, reason.DuplicateName) ∷ []) e
-unbroken_before_memory s (alias_item (core_instance_export sort instance name)) e = e
+unbroken_before_memory s (alias_item (core_func_export instance name)) e = e
 unbroken_before_memory s (type_item (func_def f)) e = refl
 unbroken_before_memory s (canon_item c) e = e
-unbroken_before_memory s (import_item i) e = import_unbroken s i.name i.desc e
+unbroken_before_memory s (import_item i) e = import_unbroken s i.name i.ty e
 unbroken_before_memory s (export_item x) e =
     front_unbroken (rules_before_memory s (export_item x))
     ((name_is_new x.name (map (λ o. o.name) s.exports), reason.DuplicateName) ∷ (name_is_plain_label x.name, reason.BadAnnotatedName) ∷ []) e
+unbroken_before_memory s not_yet_item e = e
 
 -- ---- the walk over items: what holds from the item at this number on
 

@@ -2,14 +2,13 @@
 use Rattle.std.proofs.Common.{◌≡◌, ℕ, suc, ◌+◌, ◌≤◌, ◌⊎◌, inl, inr, Bool, true, false, List, [], ◌∷◌, ◌++◌, length, Option, Some, None, refl, sym, ◌∙◌, ap, subst, arith, append_assoc, rules as std_rules}
 use Rattle.std.specs.Prelude.{if◌then◌else◌}
 use Rattle.cm_types.specs.DefTypes.{func_def}
-use Rattle.cm_component.specs.Trees.{SectionTree, instantiate, core_instance_export}
-use Rattle.cm_component.specs.declared.section.Canon.{Canon}
-use Rattle.cm_component.specs.declared.section.Canon.TheVariants as canon
-use Rattle.cm_component.specs.declared.section.ExternDesc.{ExternDesc}
-use Rattle.cm_component.specs.declared.section.ExternDesc.TheVariants as desc
+use Rattle.cm_component.specs.Trees.{SectionTree}
+use Rattle.cm_validate.specs.Items.{instantiate, core_func_export}
+use Rattle.cm_validate.specs.Items.{CarriedCanon}
+use Rattle.cm_validate.specs.Items as canon
 use Rattle.cm_validate.specs.declared.fault.ValidReason.{ValidReason}
 use Rattle.cm_validate.specs.Reasons.{reason_number}
-use Rattle.cm_validate.specs.Items.{Item, items_of, all_items, module_item, core_instance_item, alias_item, type_item, canon_item, import_item, export_item}
+use Rattle.cm_validate.specs.Items.{Item, items_of, all_items, module_item, core_instance_item, alias_item, type_item, canon_item, import_item, export_item, not_yet_item}
 use Rattle.cm_validate.specs.Spaces.{IndexSpaces, empty_spaces, after_item, after_items}
 use Rattle.cm_validate.specs.Rules.{item_rules, canon_rules, import_rules}
 use Rattle.cm_validate.specs.Valid.{IsBroken, IsValidFrom, IsValid, IsFirstFault, IsFaultOf, first_broken, or_later, items_fault, sections_fault}
@@ -91,21 +90,22 @@ first_is_least (c ∷ cs) r q ordered e (inr b) =
           subst (λ z. reason_number z ≤ reason_number q) same (from_below (reason_number c.1) cs q ordered.0 b)
     ]
 
-canon_ordered : (s : IndexSpaces) (c : Canon) → AreOrdered (canon_rules s c)
+canon_ordered : (s : IndexSpaces) (c : CarriedCanon) → AreOrdered (canon_rules s c)
 canon_ordered s (canon.Lift core_func ty) = search std_rules
 canon_ordered s (canon.Lower func) = search std_rules
 
-import_ordered : (s : IndexSpaces) (name : List ℕ) (d : ExternDesc) → AreOrdered (import_rules s name d)
-import_ordered s name (desc.Func ty) = search std_rules
+import_ordered : (s : IndexSpaces) (name : List ℕ) (d : ℕ) → AreOrdered (import_rules s name d)
+import_ordered s name ty = search std_rules
 
 pub ordered : (s : IndexSpaces) (x : Item) → AreOrdered (item_rules s x)
 ordered s module_item = tt
 ordered s (core_instance_item (instantiate m args)) = search std_rules
-ordered s (alias_item (core_instance_export sort instance name)) = search std_rules
+ordered s (alias_item (core_func_export instance name)) = search std_rules
 ordered s (type_item (func_def f)) = search std_rules
 ordered s (canon_item c) = canon_ordered s c
-ordered s (import_item i) = import_ordered s i.name i.desc
+ordered s (import_item i) = import_ordered s i.name i.ty
 ordered s (export_item e) = search std_rules
+ordered s not_yet_item = search std_rules
 
 -- ---- the items of one section
 

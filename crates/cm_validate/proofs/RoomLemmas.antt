@@ -8,13 +8,13 @@ use Rattle.cm_types.specs.DefTypes.{func_def}
 use Rattle.cm_types.specs.Types.{FuncTy}
 use Rattle.cm_types.specs.Signatures.{NamedExtern, func as func_extern}
 use Rattle.cm_component.specs.Limits.{items_in}
-use Rattle.cm_component.specs.Trees.{SectionTree, instantiate, core_instance_export, custom, core_module, core_instances, aliases, types, canons, imports, exports}
+use Rattle.cm_component.specs.Trees.{SectionTree, custom, core_module, core_instances, instances, aliases, types, canons, imports, exports}
+use Rattle.cm_validate.specs.Items.{instantiate, core_func_export}
 use Rattle.cm_component.specs.declared.limits.TheConstants.{MAX_FILE_BYTES}
-use Rattle.cm_component.specs.declared.section.Canon.{Canon}
-use Rattle.cm_component.specs.declared.section.Canon.TheVariants as canon
-use Rattle.cm_component.specs.declared.section.ExternDesc.{ExternDesc}
-use Rattle.cm_component.specs.declared.section.ExternDesc.TheVariants as desc
-use Rattle.cm_validate.specs.Items.{Item, items_of, all_items, module_item, core_instance_item, alias_item, type_item, canon_item, import_item, export_item}
+use Rattle.cm_validate.specs.Items.{CarriedCanon}
+use Rattle.cm_validate.specs.Items as canon
+use Rattle.cm_validate.specs.Items.{core_instance_of, alias_of, canon_of, import_named, export_named}
+use Rattle.cm_validate.specs.Items.{Item, items_of, all_items, module_item, core_instance_item, alias_item, type_item, canon_item, import_item, export_item, not_yet_item}
 use Rattle.cm_validate.specs.Room.{HasRoom}
 use Rattle.cm_validate.specs.Spaces.{IndexSpaces, FuncDefTree, ImportedFunc, ExportedFunc, func_type_of, empty_spaces, after_item, after_items, after_canon, after_import, after_export, signature, spaces_of}
 
@@ -32,12 +32,12 @@ record Grows (s t : IndexSpaces) : Type 0 where
 stays : (s t : IndexSpaces) → t.modules ≡ s.modules → t.imports ≡ s.imports → t.exports ≡ s.exports → Grows s t
 stays s t m i e = record { modules = omega (arith, m); imports = omega (arith, ap length i); exports = omega (arith, ap length e) }
 
-canon_grows : (s : IndexSpaces) (c : Canon) → Grows s (after_canon s c)
+canon_grows : (s : IndexSpaces) (c : CarriedCanon) → Grows s (after_canon s c)
 canon_grows s (canon.Lift core_func ty) = stays s (after_canon s (canon.Lift core_func ty)) refl refl refl
 canon_grows s (canon.Lower func) = stays s (after_canon s (canon.Lower func)) refl refl refl
 
-import_grows : (s : IndexSpaces) (name : List ℕ) (d : ExternDesc) → Grows s (after_import s name d)
-import_grows s name (desc.Func ty) =
+import_grows : (s : IndexSpaces) (name : List ℕ) (d : ℕ) → Grows s (after_import s name d)
+import_grows s name ty =
     let f : FuncTy → ImportedFunc = λ t. record { name = name; ty = t } in
     record {
       modules = omega arith;
@@ -57,11 +57,12 @@ export_grows s name index =
 item_grows : (s : IndexSpaces) (x : Item) → Grows s (after_item s x)
 item_grows s module_item = record { modules = omega arith; imports = omega arith; exports = omega arith }
 item_grows s (core_instance_item (instantiate m args)) = stays s (after_item s (core_instance_item (instantiate m args))) refl refl refl
-item_grows s (alias_item (core_instance_export sort instance name)) = stays s (after_item s (alias_item (core_instance_export sort instance name))) refl refl refl
+item_grows s (alias_item (core_func_export instance name)) = stays s (after_item s (alias_item (core_func_export instance name))) refl refl refl
 item_grows s (type_item (func_def f)) = stays s (after_item s (type_item (func_def f))) refl refl refl
 item_grows s (canon_item c) = canon_grows s c
-item_grows s (import_item i) = import_grows s i.name i.desc
+item_grows s (import_item i) = import_grows s i.name i.ty
 item_grows s (export_item e) = export_grows s e.name e.index
+item_grows s not_yet_item = stays s (after_item s not_yet_item) refl refl refl
 
 -- ---- room is kept
 
@@ -96,12 +97,13 @@ room_behind s t all xs ys e after h = subst (λ u. HasRoom u ys) (sym after) (af
 section_count : (s : SectionTree) → length (items_of s) ≡ items_in s
 section_count (custom name bytes) = refl
 section_count (core_module bytes) = refl
-section_count (core_instances xs) = length-map xs core_instance_item
-section_count (aliases xs) = length-map xs alias_item
+section_count (core_instances xs) = length-map xs core_instance_of
+section_count (instances xs) = length-map xs (λ x. not_yet_item)
+section_count (aliases xs) = length-map xs alias_of
 section_count (types xs) = length-map xs type_item
-section_count (canons xs) = length-map xs canon_item
-section_count (imports xs) = length-map xs import_item
-section_count (exports xs) = length-map xs export_item
+section_count (canons xs) = length-map xs canon_of
+section_count (imports xs) = length-map xs (λ i. import_named i.name i.desc)
+section_count (exports xs) = length-map xs (λ e. export_named e.name e.sort e.index)
 
 item_count : (c : List SectionTree) → length (all_items c) ≡ sum_by items_in c
 item_count [] = refl

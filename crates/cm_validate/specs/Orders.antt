@@ -4,12 +4,11 @@ use Rattle.std.specs.Prelude.{◌≡◌, ℕ, List, [], ◌∷◌, ◌++◌, len
 use Rattle.std.specs.Prelude.{option_map, option_and_then, option_to_list}
 use Rattle.cm_types.specs.Types.{FuncTy}
 use Rattle.cm_types.specs.DefTypes.{func_def}
-use Rattle.cm_component.specs.Trees.{SectionTree, instantiate, core_instance_export}
-use Rattle.cm_component.specs.declared.section.Canon.TheVariants as canon
-use Rattle.cm_component.specs.declared.section.ExternDesc.TheVariants as desc
-use Rattle.cm_component.specs.declared.section.ExternDesc.{ExternDesc}
+use Rattle.cm_component.specs.Trees.{SectionTree}
+use Rattle.cm_validate.specs.Items.{instantiate, core_func_export}
+use Rattle.cm_validate.specs.Items as canon
 use Rattle.cm_validate.specs.Items.{Item, all_items, core_instance_item, alias_item, type_item}
-use Rattle.cm_validate.specs.Items.{canon_item, import_item, export_item}
+use Rattle.cm_validate.specs.Items.{canon_item, import_item, export_item, not_yet_item}
 use Rattle.cm_validate.specs.Spaces.{IndexSpaces, CoreFuncTree, FuncDefTree, ImportedFunc}
 use Rattle.cm_validate.specs.Spaces.{ExportedFunc, guest, lifted, imported, lower_import}
 use Rattle.cm_validate.specs.Spaces.{func_type_of, expand_func, empty_spaces, after_item, spaces_of}
@@ -24,27 +23,27 @@ new_types s (type_item (func_def f)) = expand_func f ∷ []
 new_types s _ = []
 
 abbrev pub new_core_funcs : IndexSpaces → Item → List CoreFuncTree
-new_core_funcs s (alias_item (core_instance_export sort instance name)) = guest instance name ∷ []
+new_core_funcs s (alias_item (core_func_export instance name)) = guest instance name ∷ []
 new_core_funcs s (canon_item (canon.Lower func)) =
     option_to_list (option_and_then lower_import (slice_get s.funcs func))
 new_core_funcs s _ = []
 
 -- the type of an import, if it is there
-abbrev pub import_type : IndexSpaces → ExternDesc → Option FuncTy
-import_type s (desc.Func ty) = slice_get s.types ty
+abbrev pub import_type : IndexSpaces → ℕ → Option FuncTy
+import_type s ty = slice_get s.types ty
 
 abbrev pub new_funcs : IndexSpaces → Item → List FuncDefTree
 new_funcs s (canon_item (canon.Lift core_func ty)) =
     option_to_list (option_map (lifted core_func) (slice_get s.types ty))
 new_funcs s (import_item i) =
-    option_to_list (option_map (imported (length s.imports) None) (import_type s i.desc))
+    option_to_list (option_map (imported (length s.imports) None) (import_type s i.ty))
 new_funcs s (export_item e) = option_to_list (slice_get s.funcs e.index)
 new_funcs s _ = []
 
 abbrev pub new_imports : IndexSpaces → Item → List ImportedFunc
 new_imports s (import_item i) =
     option_to_list
-    (option_map (λ ty. record { name = i.name; ty = ty }) (import_type s i.desc))
+    (option_map (λ ty. record { name = i.name; ty = ty }) (import_type s i.ty))
 new_imports s _ = []
 
 abbrev pub new_exports : IndexSpaces → Item → List ExportedFunc

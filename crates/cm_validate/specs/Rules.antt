@@ -16,16 +16,15 @@ use Rattle.cm_types.specs.Types.{FuncTy, Fields, no_fields, field}
 use Rattle.cm_types.specs.DefTypes.{FuncTypeTree, func_def}
 use Rattle.cm_types.specs.declared.def_types.LabeledValType.{LabeledValType}
 use Rattle.cm_types.specs.declared.limits.TheConstants.{MAX_NODES}
-use Rattle.cm_component.specs.Trees.{ArgTree, instantiate, core_instance_export}
-use Rattle.cm_component.specs.declared.section.Canon.{Canon}
-use Rattle.cm_component.specs.declared.section.Canon.TheVariants as canon
-use Rattle.cm_component.specs.declared.section.ExternDesc.{ExternDesc}
-use Rattle.cm_component.specs.declared.section.ExternDesc.TheVariants as desc
+use Rattle.cm_component.specs.Trees.{ArgTree}
+use Rattle.cm_validate.specs.Items.{instantiate, core_func_export}
+use Rattle.cm_validate.specs.Items.{CarriedCanon}
+use Rattle.cm_validate.specs.Items as canon
 use Rattle.cm_validate.specs.declared.fault.ValidReason.{ValidReason}
 use Rattle.cm_validate.specs.declared.fault.ValidReason.TheVariants as reason
 use Rattle.cm_types.specs.declared.limits.TheConstants.{MAX_FLAT_PARAMS}
 use Rattle.cm_validate.specs.Items.{Item, module_item, core_instance_item, alias_item, type_item}
-use Rattle.cm_validate.specs.Items.{canon_item, import_item, export_item}
+use Rattle.cm_validate.specs.Items.{canon_item, import_item, export_item, not_yet_item}
 use Rattle.cm_validate.specs.Spaces.{IndexSpaces, CoreFuncTree, FuncDefTree, guest, lowered, lifted}
 use Rattle.cm_validate.specs.Spaces.{imported, func_type_of}
 
@@ -117,6 +116,9 @@ abbrev pub is_imported : FuncDefTree → Bool
 is_imported (lifted core_func ty) = false
 is_imported (imported import item ty) = true
 
+-- ---- NotYet: a definition of a form that is not carried so far breaks this rule, and no other is
+-- looked at in it
+
 -- ---- TooLarge
 
 -- a parameter list counts as a tuple: a node above those of the parameters, MAX_NODES together at
@@ -127,7 +129,7 @@ params_are_within_limits f = nat_lt (length f.params) MAX_NODES
 -- ---- the rules of an item: the test, and the reason where it does not hold; the rules of an item
 -- stand in the order of their reasons' numbers
 
-abbrev pub canon_rules : IndexSpaces → Canon → List (Bool × ValidReason)
+abbrev pub canon_rules : IndexSpaces → CarriedCanon → List (Bool × ValidReason)
 canon_rules s (canon.Lift core_func ty) =
     (index_is_there core_func (length s.core_funcs), reason.NoSuchIndex)
     ∷ (index_is_there ty (length s.types), reason.NoSuchIndex)
@@ -141,8 +143,8 @@ canon_rules s (canon.Lower func) =
     ∷ (if_there is_imported (slice_get s.funcs func), reason.NotImported)
     ∷ []
 
-abbrev pub import_rules : IndexSpaces → List ℕ → ExternDesc → List (Bool × ValidReason)
-import_rules s name (desc.Func ty) =
+abbrev pub import_rules : IndexSpaces → List ℕ → ℕ → List (Bool × ValidReason)
+import_rules s name ty =
     (index_is_there ty (length s.types), reason.NoSuchIndex)
     ∷ (name_is_new name (map (λ i. i.name) s.imports), reason.DuplicateName)
     ∷ (name_is_plain_label name, reason.BadAnnotatedName)
@@ -155,7 +157,7 @@ item_rules s (core_instance_item (instantiate m args)) =
     ∷ (arg_instances_are_there args (length s.core_instances), reason.NoSuchIndex)
     ∷ (arg_names_are_distinct args, reason.DuplicateName)
     ∷ []
-item_rules s (alias_item (core_instance_export sort instance name)) =
+item_rules s (alias_item (core_func_export instance name)) =
     (index_is_there instance (length s.core_instances), reason.NoSuchIndex)
     ∷ []
 item_rules s (type_item (func_def f)) =
@@ -163,18 +165,19 @@ item_rules s (type_item (func_def f)) =
     ∷ (params_are_within_limits f, reason.TooLarge)
     ∷ []
 item_rules s (canon_item c) = canon_rules s c
-item_rules s (import_item i) = import_rules s i.name i.desc
+item_rules s (import_item i) = import_rules s i.name i.ty
 item_rules s (export_item e) =
     (index_is_there e.index (length s.funcs), reason.NoSuchIndex)
     ∷ (name_is_new e.name (map (λ x. x.name) s.exports), reason.DuplicateName)
     ∷ (name_is_plain_label e.name, reason.BadAnnotatedName)
     ∷ []
+item_rules s not_yet_item = (false, reason.NotYet) ∷ []
 
 -- ---- the rules of an item that are looked at before memory is wanted: those on indices, and all
 -- of a canonical definition
 
-abbrev pub import_rules_before_memory : IndexSpaces → ExternDesc → List (Bool × ValidReason)
-import_rules_before_memory s (desc.Func ty) =
+abbrev pub import_rules_before_memory : IndexSpaces → ℕ → List (Bool × ValidReason)
+import_rules_before_memory s ty =
     (index_is_there ty (length s.types), reason.NoSuchIndex)
     ∷ []
 
@@ -184,12 +187,13 @@ rules_before_memory s (core_instance_item (instantiate m args)) =
     (index_is_there m s.modules, reason.NoSuchIndex)
     ∷ (arg_instances_are_there args (length s.core_instances), reason.NoSuchIndex)
     ∷ []
-rules_before_memory s (alias_item (core_instance_export sort instance name)) =
+rules_before_memory s (alias_item (core_func_export instance name)) =
     (index_is_there instance (length s.core_instances), reason.NoSuchIndex)
     ∷ []
 rules_before_memory s (type_item (func_def f)) = []
 rules_before_memory s (canon_item c) = canon_rules s c
-rules_before_memory s (import_item i) = import_rules_before_memory s i.desc
+rules_before_memory s (import_item i) = import_rules_before_memory s i.ty
 rules_before_memory s (export_item e) =
     (index_is_there e.index (length s.funcs), reason.NoSuchIndex)
     ∷ []
+rules_before_memory s not_yet_item = (false, reason.NotYet) ∷ []

@@ -8,13 +8,12 @@ use Rattle.cm_types.specs.TypeTrees.{fields_from}
 use Rattle.cm_types.specs.Signatures.{SignatureTy, func as func_extern}
 use Rattle.cm_types.specs.declared.def_types.ValType.{ValType}
 use Rattle.cm_types.specs.declared.def_types.ValType.TheVariants as val_type
-use Rattle.cm_component.specs.Trees.{SectionTree, instantiate, core_instance_export}
-use Rattle.cm_component.specs.declared.section.Canon.{Canon}
-use Rattle.cm_component.specs.declared.section.Canon.TheVariants as canon
-use Rattle.cm_component.specs.declared.section.ExternDesc.{ExternDesc}
-use Rattle.cm_component.specs.declared.section.ExternDesc.TheVariants as desc
+use Rattle.cm_component.specs.Trees.{SectionTree}
+use Rattle.cm_validate.specs.Items.{instantiate, core_func_export}
+use Rattle.cm_validate.specs.Items.{CarriedCanon}
+use Rattle.cm_validate.specs.Items as canon
 use Rattle.cm_validate.specs.Items.{Item, module_item, core_instance_item, alias_item, type_item}
-use Rattle.cm_validate.specs.Items.{canon_item, import_item, export_item, all_items}
+use Rattle.cm_validate.specs.Items.{canon_item, import_item, export_item, not_yet_item, all_items}
 
 -- a value type, and the type of a function, with every index expanded
 abbrev pub expand_value : ValType → Ty
@@ -85,7 +84,7 @@ lower_import (lifted core_func ty) = None
 lower_import (imported import item ty) = Some (lowered import item ty)
 
 -- the spaces after a canonical definition
-abbrev pub after_canon : IndexSpaces → Canon → IndexSpaces
+abbrev pub after_canon : IndexSpaces → CarriedCanon → IndexSpaces
 after_canon s (canon.Lift core_func ty) =
     record s {
       funcs = s.funcs ++ option_to_list (option_map (lifted core_func) (slice_get s.types ty));
@@ -97,8 +96,8 @@ after_canon s (canon.Lower func) =
     }
 
 -- the spaces after an import of this name
-abbrev pub after_import : IndexSpaces → List ℕ → ExternDesc → IndexSpaces
-after_import s name (desc.Func ty) =
+abbrev pub after_import : IndexSpaces → List ℕ → ℕ → IndexSpaces
+after_import s name ty =
     record s {
       funcs =
           s.funcs
@@ -126,12 +125,13 @@ abbrev pub after_item : IndexSpaces → Item → IndexSpaces
 after_item s module_item = record s { modules = s.modules + 1 }
 after_item s (core_instance_item (instantiate m args)) =
     record s { core_instances = s.core_instances ++ m ∷ [] }
-after_item s (alias_item (core_instance_export sort instance name)) =
+after_item s (alias_item (core_func_export instance name)) =
     record s { core_funcs = s.core_funcs ++ guest instance name ∷ [] }
 after_item s (type_item (func_def f)) = record s { types = s.types ++ expand_func f ∷ [] }
 after_item s (canon_item c) = after_canon s c
-after_item s (import_item i) = after_import s i.name i.desc
+after_item s (import_item i) = after_import s i.name i.ty
 after_item s (export_item e) = after_export s e.name e.index
+after_item s not_yet_item = s
 
 -- the spaces after these items
 abbrev pub after_items : IndexSpaces → List Item → IndexSpaces

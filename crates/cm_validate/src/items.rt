@@ -3,17 +3,19 @@
 ghost use Rattle.std.specs.Prelude.{◌≡◌, [], ◌∷◌, None, IfOk, OnOk, OnErr, map};
 ghost use Rattle.cm_types.specs.Funcs.{func_of};
 ghost use Rattle.cm_types.specs.DefTypes.{def_type_tree};
-ghost use Rattle.cm_component.specs.Trees.{instantiate, arg_tree, core_instance_tree, alias_tree};
-ghost use Rattle.cm_component.specs.Trees.{import_tree, export_tree};
-ghost use Rattle.cm_component.specs.declared.section.Canon.TheVariants as canon;
+ghost use Rattle.cm_component.specs.Trees.{arg_tree, core_instance_tree, alias_tree};
+ghost use Rattle.cm_component.specs.Trees.{canon_tree};
+ghost use Rattle.cm_validate.specs.Items as canon;
 ghost use Rattle.cm_validate.specs.declared.fault.ValidReason.TheVariants as reason;
-ghost use Rattle.cm_validate.specs.Items.{Item, core_instance_item, alias_item, type_item};
-ghost use Rattle.cm_validate.specs.Items.{canon_item, import_item, export_item};
+ghost use Rattle.cm_validate.specs.Items.{Item, instantiate, core_instance_item, type_item};
+ghost use Rattle.cm_validate.specs.Items.{not_yet_item, core_instance_of, alias_of, canon_of};
+ghost use Rattle.cm_validate.specs.Items.{import_item, export_item, import_named, export_named};
 ghost use Rattle.cm_validate.specs.Definitions.{core_func_tree};
 ghost use Rattle.cm_validate.specs.Rules.{item_rules, rules_before_memory, canon_rules};
+ghost use Rattle.cm_validate.specs.Rules.{import_rules, import_rules_before_memory};
 ghost use Rattle.cm_validate.specs.Rules.{has_memory, has_realloc, is_guest_function};
 ghost use Rattle.cm_validate.specs.Room.{HasRoom};
-ghost use Rattle.cm_validate.specs.Spaces.{after_item, after_canon};
+ghost use Rattle.cm_validate.specs.Spaces.{after_item, after_canon, after_import, after_export};
 ghost use Rattle.cm_validate.specs.SpacesBuilder.{spaces_so_far};
 ghost use Rattle.cm_validate.specs.Valid.{first_broken};
 
@@ -26,9 +28,10 @@ use crate::rules::{
 };
 use crate::spaces_builder::SpacesBuilder;
 use cm_component::{
-    Alias, Canon, CoreInstance, CoreInstantiationArg, Export, ExternDesc, Import, Sort,
+    Alias, Canon, CoreInstance, CoreInstantiationArg, CoreSort, Export, ExportSort, ExternDesc,
+    Import, Instance,
 };
-use cm_types::{DefType, Func};
+use cm_types::{DefType, ExternName, Func};
 use std::alloc::{AllocError, Global};
 use std::rc::Rc;
 
@@ -84,45 +87,81 @@ fn instantiate_fault(
 }
 
 impl SectionItem for CoreInstance {
-    ghost item = { λ i. core_instance_item (core_instance_tree i) };
+    ghost item = { λ i. core_instance_of (core_instance_tree i) };
 
     fn broken_rule(
         &self,
         alloc: Global,
         spaces: &SpacesBuilder,
     ) -> Result<Option<ValidReason>, AllocError> {
-        let CoreInstance::Instantiate { module, args } = self;
-        instantiate_fault(alloc, spaces, *module, args)
+        match self {
+            CoreInstance::Instantiate { module, args } => {
+                instantiate_fault(alloc, spaces, *module, args)
+            }
+            CoreInstance::Exports(_) => Ok(Some(ValidReason::NotYet)),
+        }
     }
 
     fn add(&self, _alloc: Global, spaces: &mut SpacesBuilder) -> Result<(), AllocError> {
-        let CoreInstance::Instantiate { module, .. } = self;
-        spaces.add_core_instance(*module)
+        match self {
+            CoreInstance::Instantiate { module, .. } => spaces.add_core_instance(*module),
+            CoreInstance::Exports(_) => Ok(()),
+        }
+    }
+}
+
+impl SectionItem for Instance {
+    ghost item = { λ _. not_yet_item };
+
+    fn broken_rule(
+        &self,
+        _alloc: Global,
+        _spaces: &SpacesBuilder,
+    ) -> Result<Option<ValidReason>, AllocError> {
+        Ok(Some(ValidReason::NotYet))
+    }
+
+    fn add(&self, _alloc: Global, _spaces: &mut SpacesBuilder) -> Result<(), AllocError> {
+        Ok(())
     }
 }
 
 impl SectionItem for Alias {
-    ghost item = { λ a. alias_item (alias_tree a) };
+    ghost item = { λ a. alias_of (alias_tree a) };
 
     fn broken_rule(
         &self,
         _alloc: Global,
         spaces: &SpacesBuilder,
     ) -> Result<Option<ValidReason>, AllocError> {
-        let Alias::CoreInstanceExport { instance, .. } = self;
-        if !index_is_there(*instance, spaces.core_instances.len()) {
-            Ok(Some(ValidReason::NoSuchIndex))
-        } else {
-            Ok(None)
+        match self {
+            Alias::CoreInstanceExport {
+                sort: CoreSort::Func,
+                instance,
+                ..
+            } => {
+                if !index_is_there(*instance, spaces.core_instances.len()) {
+                    Ok(Some(ValidReason::NoSuchIndex))
+                } else {
+                    Ok(None)
+                }
+            }
+            _ => Ok(Some(ValidReason::NotYet)),
         }
     }
 
     fn add(&self, alloc: Global, spaces: &mut SpacesBuilder) -> Result<(), AllocError> {
-        let Alias::CoreInstanceExport { instance, name, .. } = self;
-        spaces.add_core_func(CoreFuncDef::Guest {
-            instance: *instance,
-            name: String::from_str(alloc, name.as_str())?,
-        })
+        match self {
+            Alias::CoreInstanceExport {
+                sort: CoreSort::Func,
+                instance,
+                name,
+            } => spaces.add_core_func(CoreFuncDef::Guest {
+                instance: *instance,
+                name: String::from_str(alloc, name.as_str())?,
+            }),
+            _ => Ok(()),
+        }
     }
 }
 
@@ -229,7 +268,7 @@ fn add_lower(spaces: &mut SpacesBuilder, func: u32) -> Result<(), AllocError>
 }
 
 impl SectionItem for Canon {
-    ghost item = { λ c. canon_item c };
+    ghost item = { λ c. canon_of (canon_tree c) };
 
     fn broken_rule(
         &self,
@@ -237,91 +276,168 @@ impl SectionItem for Canon {
         spaces: &SpacesBuilder,
     ) -> Result<Option<ValidReason>, AllocError> {
         match self {
-            Canon::Lift { core_func, ty } => Ok(lift_fault(spaces, *core_func, *ty)),
-            Canon::Lower { func } => Ok(lower_fault(spaces, *func)),
+            Canon::Lift {
+                core_func,
+                options,
+                ty,
+            } if options.is_empty() => Ok(lift_fault(spaces, *core_func, *ty)),
+            Canon::Lower { func, options } if options.is_empty() => Ok(lower_fault(spaces, *func)),
+            _ => Ok(Some(ValidReason::NotYet)),
         }
     }
 
     fn add(&self, _alloc: Global, spaces: &mut SpacesBuilder) -> Result<(), AllocError> {
         match self {
-            Canon::Lift { core_func, ty } => add_lift(spaces, *core_func, *ty),
-            Canon::Lower { func } => add_lower(spaces, *func),
+            Canon::Lift {
+                core_func,
+                options,
+                ty,
+            } if options.is_empty() => add_lift(spaces, *core_func, *ty),
+            Canon::Lower { func, options } if options.is_empty() => add_lower(spaces, *func),
+            _ => Ok(()),
         }
+    }
+}
+
+fn import_fault(
+    alloc: Global,
+    spaces: &SpacesBuilder,
+    name: &ExternName,
+    ty: u32,
+) -> Result<Option<ValidReason>, AllocError>
+    ensures rules { IfOk result
+        (λ r. r ≡ first_broken (import_rules (spaces_so_far spaces.now) name.now ty)) }
+    ensures memory { OnErr result
+        (first_broken (import_rules_before_memory (spaces_so_far spaces.now) ty) ≡ None) }
+{
+    if !index_is_there(ty, spaces.types.len()) {
+        Ok(Some(ValidReason::NoSuchIndex))
+    } else if !spaces.import_name_is_new(alloc, name.as_str())? {
+        Ok(Some(ValidReason::DuplicateName))
+    } else if !name_is_plain_label(name) {
+        Ok(Some(ValidReason::BadAnnotatedName))
+    } else {
+        Ok(None)
+    }
+}
+
+fn add_import(
+    alloc: Global,
+    spaces: &mut SpacesBuilder,
+    name: &ExternName,
+    ty: u32,
+) -> Result<(), AllocError>
+    requires { HasRoom (spaces_so_far spaces.old)
+        (import_item (record { name = name.now; ty = ty }) ∷ []) }
+    ensures { OnOk result
+        (spaces_so_far spaces.new ≡ after_import (spaces_so_far spaces.old) name.now ty) }
+{
+    let import = spaces.import_count() as u32;
+    match spaces.ty(ty) {
+        Some(ty) => {
+            let def = FuncDef::Imported {
+                import,
+                item: None,
+                ty: ty.clone()?,
+            };
+            let ty = ty.clone()?;
+            spaces.add_func(def)?;
+            spaces.add_import(alloc, name, ty)
+        }
+        None => Ok(()),
     }
 }
 
 impl SectionItem for Import {
-    ghost item = { λ i. import_item (import_tree i) };
+    ghost item = { λ i. import_named i.name i.desc };
 
     fn broken_rule(
         &self,
         alloc: Global,
         spaces: &SpacesBuilder,
     ) -> Result<Option<ValidReason>, AllocError> {
-        let ExternDesc::Func(ty) = self.desc;
-        if !index_is_there(ty, spaces.types.len()) {
-            Ok(Some(ValidReason::NoSuchIndex))
-        } else if !spaces.import_name_is_new(alloc, self.name.as_str())? {
-            Ok(Some(ValidReason::DuplicateName))
-        } else if !name_is_plain_label(&self.name) {
-            Ok(Some(ValidReason::BadAnnotatedName))
-        } else {
-            Ok(None)
+        match self.desc {
+            ExternDesc::Func(ty) => import_fault(alloc, spaces, &self.name, ty),
+            ExternDesc::Instance(_) => Ok(Some(ValidReason::NotYet)),
         }
     }
 
     fn add(&self, alloc: Global, spaces: &mut SpacesBuilder) -> Result<(), AllocError> {
-        let ExternDesc::Func(ty) = self.desc;
-        let import = spaces.import_count() as u32;
-        match spaces.ty(ty) {
-            Some(ty) => {
-                let def = FuncDef::Imported {
-                    import,
-                    item: None,
-                    ty: ty.clone()?,
-                };
-                let ty = ty.clone()?;
-                spaces.add_func(def)?;
-                spaces.add_import(alloc, &self.name, ty)
-            }
-            None => Ok(()),
+        match self.desc {
+            ExternDesc::Func(ty) => add_import(alloc, spaces, &self.name, ty),
+            ExternDesc::Instance(_) => Ok(()),
         }
     }
 }
 
+fn export_fault(
+    alloc: Global,
+    spaces: &SpacesBuilder,
+    name: &ExternName,
+    func: u32,
+) -> Result<Option<ValidReason>, AllocError>
+    ensures rules { IfOk result
+        (λ r. r ≡ first_broken (item_rules (spaces_so_far spaces.now)
+        (export_item (record { name = name.now; index = func })))) }
+    ensures memory { OnErr result
+        (first_broken (rules_before_memory (spaces_so_far spaces.now)
+        (export_item (record { name = name.now; index = func })))
+        ≡ None) }
+{
+    if !index_is_there(func, spaces.funcs.len()) {
+        Ok(Some(ValidReason::NoSuchIndex))
+    } else if !spaces.export_name_is_new(alloc, name.as_str())? {
+        Ok(Some(ValidReason::DuplicateName))
+    } else if !name_is_plain_label(name) {
+        Ok(Some(ValidReason::BadAnnotatedName))
+    } else {
+        Ok(None)
+    }
+}
+
+fn add_export(
+    alloc: Global,
+    spaces: &mut SpacesBuilder,
+    name: &ExternName,
+    func: u32,
+) -> Result<(), AllocError>
+    requires { HasRoom (spaces_so_far spaces.old)
+        (export_item (record { name = name.now; index = func }) ∷ []) }
+    ensures { OnOk result
+        (spaces_so_far spaces.new ≡ after_export (spaces_so_far spaces.old) name.now func) }
+{
+    match spaces.func(func) {
+        Some(def) => {
+            let export = ExportDef {
+                func,
+                ty: def.ty().clone()?,
+            };
+            let def = def.share()?;
+            spaces.add_func(def)?;
+            spaces.add_export(alloc, name, export)
+        }
+        None => Ok(()),
+    }
+}
+
 impl SectionItem for Export {
-    ghost item = { λ e. export_item (export_tree e) };
+    ghost item = { λ e. export_named e.name e.sort e.index };
 
     fn broken_rule(
         &self,
         alloc: Global,
         spaces: &SpacesBuilder,
     ) -> Result<Option<ValidReason>, AllocError> {
-        let Sort::Func = self.sort;
-        if !index_is_there(self.index, spaces.funcs.len()) {
-            Ok(Some(ValidReason::NoSuchIndex))
-        } else if !spaces.export_name_is_new(alloc, self.name.as_str())? {
-            Ok(Some(ValidReason::DuplicateName))
-        } else if !name_is_plain_label(&self.name) {
-            Ok(Some(ValidReason::BadAnnotatedName))
-        } else {
-            Ok(None)
+        match self.sort {
+            ExportSort::Func => export_fault(alloc, spaces, &self.name, self.index),
+            ExportSort::Instance => Ok(Some(ValidReason::NotYet)),
         }
     }
 
     fn add(&self, alloc: Global, spaces: &mut SpacesBuilder) -> Result<(), AllocError> {
-        let Sort::Func = self.sort;
-        match spaces.func(self.index) {
-            Some(func) => {
-                let def = ExportDef {
-                    func: self.index,
-                    ty: func.ty().clone()?,
-                };
-                let func = func.share()?;
-                spaces.add_func(func)?;
-                spaces.add_export(alloc, &self.name, def)
-            }
-            None => Ok(()),
+        match self.sort {
+            ExportSort::Func => add_export(alloc, spaces, &self.name, self.index),
+            ExportSort::Instance => Ok(()),
         }
     }
 }

@@ -110,6 +110,7 @@ fn walk_section(
             Ok(())
         }
         Section::CoreInstances(items) => walk(alloc, at, items, spaces),
+        Section::Instances(items) => walk(alloc, at, items, spaces),
         Section::Aliases(items) => walk(alloc, at, items, spaces),
         Section::Types(items) => walk(alloc, at, items, spaces),
         Section::Canons(items) => walk(alloc, at, items, spaces),

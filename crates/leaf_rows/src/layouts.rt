@@ -10,8 +10,8 @@ use cm_rows::{RowFault, read_number};
 use cm_types::{CoreKind, ResourceId, TypeTree};
 use std::alloc::{AllocError, Global};
 
-/// The answer to `whole TYPE`, `fields TYPE`, `payload TYPE`, `head TYPE`, `tree TYPE`, `made TYPE`,
-/// `leaves COUNT`, `params FUNC`, `lift FUNC` or `lower FUNC`.
+/// The answer to `whole TYPE`, `fields TYPE`, `payload TYPE`, `head TYPE`, `tree TYPE`,
+/// `made TYPE`, `leaves COUNT`, `params FUNC`, `lift FUNC` or `lower FUNC`.
 pub fn answer(alloc: Global, words: &[&str]) -> Result<String, RowFault> {
     match words {
         ["params", func @ ..] => show_params(alloc, func),

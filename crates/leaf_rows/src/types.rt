@@ -108,7 +108,7 @@ fn read_several(alloc: Global, words: &[&str]) -> Result<Vec<TypeNode>, RowFault
 }
 
 /// The words before and after the first that is `mark`.
-fn split_words<'a, 'b>(
+pub fn split_words<'a, 'b>(
     words: &'a [&'b str],
     mark: &str,
 ) -> Result<(&'a [&'b str], &'a [&'b str]), RowFault> {
@@ -290,7 +290,7 @@ fn read_leaf(word: &str) -> Result<TypeNode, RowFault> {
     })
 }
 
-fn read_labels(alloc: Global, text: &str) -> Result<Vec<Label>, RowFault> {
+pub fn read_labels(alloc: Global, text: &str) -> Result<Vec<Label>, RowFault> {
     let mut labels = Vec::new(alloc);
     for part in text.split(',') {
         let (times, label) = split_repeat(part);
@@ -318,7 +318,7 @@ pub fn read_resource(text: &str) -> Result<ResourceId, RowFault> {
     })
 }
 
-fn read_resources(alloc: Global, text: &str) -> Result<Vec<ResourceId>, RowFault> {
+pub fn read_resources(alloc: Global, text: &str) -> Result<Vec<ResourceId>, RowFault> {
     let mut resources = Vec::new(alloc);
     if text != "-" {
         for part in text.split(',') {

@@ -1,8 +1,8 @@
 use Rattle.std.proofs.Common.{arith, inr}
 use Rattle.cm_grammar.specs.declared.fault.End.TheVariants as end
-use Rattle.cm_binary.specs.declared.fault.DecodeReason.TheVariants.{Truncated}
-use Rattle.cm_binary.proofs.FileLaws.{file_lawful}
-use Rattle.cm_binary.proofs.FileLimits.{spelled_within}
+use Rattle.cm_reading.specs.declared.fault.DecodeReason.TheVariants.{Truncated}
+use Rattle.cm_reading.proofs.LawfulFile.{file_lawful}
+use Rattle.cm_binary.proofs.File.{spelled_within}
 use Rattle.cm_binary.proofs.decoding.read_component.Goals as goal
 
 pub component_within_limits-requires : goal.component_within_limits-requires

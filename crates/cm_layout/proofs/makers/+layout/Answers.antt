@@ -83,7 +83,7 @@ option_layout-returns t c =
     let e = type_of c.args.some.now in
     IfOk-weaker c.two_cases.result
     (λ x. (k : CasesKind) (l m : List ℕ) (p q : Option Ty) → nodes_of_cases (case_before l p (case_before m q no_cases)) ≤ 10000
-        → payload_of payload.Nothing ≡ option_map layout_at p → payload_of (view.Carried c.in_ok-some.some) ≡ option_map layout_at q → layout_of x ≡ layout_at (cases k (case_before l p (case_before m q no_cases))))
+    → payload_of payload.Nothing ≡ option_map layout_at p → payload_of (view.Carried c.in_ok-some.some) ≡ option_map layout_at q → layout_of x ≡ layout_at (cases k (case_before l p (case_before m q no_cases))))
     (λ x. layout_of x ≡ layout_at (cases option_type (plain (codes "none") (carrying (codes "some") (type_of c.args.some.now) no_cases))))
     (λ x f. f option_type (codes "none") (codes "some") None (Some e) (omega (arith, c.requires.within)) seen_Nothing (carried e c.in_ok-some.some c.in_ok-some.ensures))
     c.two_cases.ensures
@@ -97,7 +97,7 @@ node_layout-returns-in_ok-error-in-Result t c =
     rw is
     (IfOk-weaker c.two_cases.result
     (λ x. (k : CasesKind) (l m : List ℕ) (p q : Option Ty) → nodes_of_cases (case_before l p (case_before m q no_cases)) ≤ 10000
-        → payload_of c.in_ok-ok-in-Result.ok ≡ option_map layout_at p → payload_of c.in_ok-error-in-Result.error ≡ option_map layout_at q → layout_of x ≡ layout_at (cases k (case_before l p (case_before m q no_cases))))
+    → payload_of c.in_ok-ok-in-Result.ok ≡ option_map layout_at p → payload_of c.in_ok-error-in-Result.error ≡ option_map layout_at q → layout_of x ≡ layout_at (cases k (case_before l p (case_before m q no_cases))))
     (λ x. layout_of x ≡ layout_at (cases result_type (case_before (codes "ok") p (case_before (codes "error") q no_cases))))
     (λ x f. f result_type (codes "ok") (codes "error") p q (omega (arith, c.requires.within)) c.in_ok-ok-in-Result.ensures c.in_ok-error-in-Result.ensures)
     c.two_cases.ensures)

@@ -23,7 +23,7 @@ returns c =
     IfOk-weaker c.finish.result
     (λ x. (k : CasesKind) (all : Cases) → IsLayingCases all no_cases c.push-2.new.self → layout_of x ≡ layout_at (cases k all))
     (λ x. (k : CasesKind) (l m : List ℕ) (p q : Option Ty) → nodes_of_cases (case_before l p (case_before m q no_cases)) ≤ 10000
-        → payload_of c.args.first ≡ option_map layout_at p → payload_of c.args.second ≡ option_map layout_at q → layout_of x ≡ layout_at (cases k (case_before l p (case_before m q no_cases))))
+    → payload_of c.args.first ≡ option_map layout_at p → payload_of c.args.second ≡ option_map layout_at q → layout_of x ≡ layout_at (cases k (case_before l p (case_before m q no_cases))))
     (λ x f k l m p q few e g.
     let all = case_before l p (case_before m q no_cases) in
     let rest = case_before m q no_cases in

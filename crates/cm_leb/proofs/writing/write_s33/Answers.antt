@@ -11,4 +11,4 @@ pub returns-clause-shortest : goal.returns-clause-shortest
 returns-clause-shortest c = λ bytes s. shortest_signed-least c.args.value bytes s
 
 pub returns-clause-stands : goal.returns-clause-stands
-returns-clause-stands c = signed_appended 33 c.args.out.now.items c.put_group.new.out.items (shortest_signed c.args.value) c.args.value c.put_group.result (shortest_signed-spells c.args.value c.requires) (rw (c.two_complement_digits.ensures, c.length_of_s33-length.ensures, to_z-of_z w64 c.args.value c.ranges.value) at c.put_group.ensures.ok)
+returns-clause-stands c = signed_appended 33 c.args.out.now.items c.put_group.new.out.items (shortest_signed c.args.value) c.args.value c.put_group.result (shortest_signed-spells c.args.value c.requires) (rw (c.two_complement_digits.ensures, c.spelled_signed_length-length.ensures.digits, to_z-of_z w64 c.args.value c.ranges.value) at c.put_group.ensures.ok)

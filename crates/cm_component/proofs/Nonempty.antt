@@ -1,0 +1,63 @@
+-- No form is spelled by no byte.
+use Rattle.std.proofs.Common.{◌<◌, List, [], ◌∷◌, ◌++◌, length, arith}
+use Rattle.std.proofs.lemmas.List.{length-append}
+use Rattle.cm_leb.specs.Writing.{shortest_unsigned}
+use Rattle.cm_grammar.specs.Spelling.{blob_spelling}
+use Rattle.cm_types.specs.declared.def_types.LabeledValType.{LabeledValType}
+use Rattle.cm_types.specs.DefTypes.{DefTypeTree, func_def}
+use Rattle.cm_component.specs.declared.instances.InlineExport.{InlineExport}
+use Rattle.cm_component.specs.declared.canons.CanonOption.{CanonOption}
+use Rattle.cm_component.specs.declared.canons.CanonOption.TheVariants as options
+use Rattle.cm_component.specs.declared.externs.Import.{Import}
+use Rattle.cm_component.specs.declared.externs.Export.{Export}
+use Rattle.cm_component.specs.Trees as trees
+use Rattle.cm_component.specs.Trees.{ArgTree, CoreExportTree, CoreInstanceTree, AliasTree, CanonTree}
+use Rattle.cm_component.specs.Spelling.{core_arg_spelling, core_sort_code, core_export_spelling, core_instance_spelling, inline_export_spelling, instance_spelling, alias_spelling, val_type_code, param_spelling, def_spelling, option_spelling, canon_spelling, import_spelling, export_spelling}
+
+pub core_arg_some : (a : ArgTree) → 0 < length (core_arg_spelling a)
+core_arg_some a = omega (arith, length-append (blob_spelling a.name) (18 ∷ shortest_unsigned a.instance))
+
+pub core_export_some : (e : CoreExportTree) → 0 < length (core_export_spelling e)
+core_export_some e = omega (arith, length-append (blob_spelling e.name) (core_sort_code e.sort ∷ shortest_unsigned e.index))
+
+pub core_instance_some : (i : CoreInstanceTree) → 0 < length (core_instance_spelling i)
+core_instance_some (trees.instantiate m args) = omega arith
+core_instance_some (trees.core_exports exports) = omega arith
+
+pub inline_export_some : (e : InlineExport) → 0 < length (inline_export_spelling e)
+inline_export_some e = omega arith
+
+pub instance_some : (i : List InlineExport) → 0 < length (instance_spelling i)
+instance_some i = omega arith
+
+pub alias_some : (a : AliasTree) → 0 < length (alias_spelling a)
+alias_some (trees.instance_export sort i name) = omega arith
+alias_some (trees.core_instance_export sort i name) = omega arith
+alias_some (trees.outer_type outer) = omega arith
+
+pub param_some : (p : LabeledValType) → 0 < length (param_spelling p)
+param_some p = omega (arith, length-append (blob_spelling p.label) (val_type_code p.ty ∷ []))
+
+pub def_some : (t : DefTypeTree) → 0 < length (def_spelling t)
+def_some (func_def f) = omega arith
+
+pub option_some : (o : CanonOption) → 0 < length (option_spelling o)
+option_some options.Utf8 = omega arith
+option_some options.Utf16 = omega arith
+option_some options.Latin1Utf16 = omega arith
+option_some (options.Memory i) = omega arith
+option_some (options.Realloc i) = omega arith
+option_some (options.PostReturn i) = omega arith
+
+pub canon_some : (c : CanonTree) → 0 < length (canon_spelling c)
+canon_some (trees.lift f opts t) = omega arith
+canon_some (trees.lower f opts) = omega arith
+canon_some (trees.resource_new r) = omega arith
+canon_some (trees.resource_drop r) = omega arith
+canon_some (trees.resource_rep r) = omega arith
+
+pub import_some : (i : Import) → 0 < length (import_spelling i)
+import_some i = omega arith
+
+pub export_some : (e : Export) → 0 < length (export_spelling e)
+export_some e = omega arith

@@ -1,0 +1,5 @@
+pub mod Progress
+pub mod Views
+pub mod After
+pub mod Pieces
+pub mod Streams

@@ -1,0 +1,203 @@
+-- The bytes that name forms (Binary.md), place by place. A byte of a form that is not carried is
+-- Unsupported; every byte that names no form at its place is UnknownCode.
+use Rattle.std.specs.Prelude.{ℕ, nat_le, ◌==◌, ◌&&◌, ◌||◌, Bool, Result, Ok, Err, if◌then◌else◌}
+use Rattle.cm_types.specs.declared.def_types.ValType.{ValType}
+use Rattle.cm_types.specs.declared.def_types.ValType.TheVariants as val_types
+use Rattle.cm_component.specs.declared.instances.CoreSort.{CoreSort}
+use Rattle.cm_component.specs.declared.instances.CoreSort.TheVariants as core_sorts
+use Rattle.cm_component.specs.declared.instances.InstanceExportSort.{InstanceExportSort}
+use Rattle.cm_component.specs.declared.instances.InstanceExportSort.TheVariants as instance_sorts
+use Rattle.cm_component.specs.declared.externs.ExportSort.{ExportSort}
+use Rattle.cm_component.specs.declared.externs.ExportSort.TheVariants as export_sorts
+use Rattle.cm_reading.specs.declared.fault.DecodeReason.{DecodeReason}
+use Rattle.cm_reading.specs.declared.fault.DecodeReason.TheVariants.{UnknownCode, Unsupported}
+use Rattle.cm_reading.specs.declared.fault.Feature.TheVariants as features
+use Rattle.cm_reading.specs.declared.codes.SectionKind.{SectionKind}
+use Rattle.cm_reading.specs.declared.codes.SectionKind.TheVariants as kinds
+use Rattle.cm_reading.specs.declared.codes.CoreInstanceForm.{CoreInstanceForm}
+use Rattle.cm_reading.specs.declared.codes.CoreInstanceForm.TheVariants as forms
+use Rattle.cm_reading.specs.declared.codes.InstanceForm.{InstanceForm}
+use Rattle.cm_reading.specs.declared.codes.InstanceForm.TheVariants as instance_forms
+use Rattle.cm_reading.specs.declared.codes.AliasSort.{AliasSort}
+use Rattle.cm_reading.specs.declared.codes.AliasSort.TheVariants as alias_sorts
+use Rattle.cm_reading.specs.declared.codes.CoreAliasTarget.{CoreAliasTarget}
+use Rattle.cm_reading.specs.declared.codes.CoreAliasTarget.TheVariants as core_targets
+use Rattle.cm_reading.specs.declared.codes.FuncAliasTarget.{FuncAliasTarget}
+use Rattle.cm_reading.specs.declared.codes.FuncAliasTarget.TheVariants as func_targets
+use Rattle.cm_reading.specs.declared.codes.TypeAliasTarget.{TypeAliasTarget}
+use Rattle.cm_reading.specs.declared.codes.TypeAliasTarget.TheVariants as type_targets
+use Rattle.cm_reading.specs.declared.codes.TypeForm.{TypeForm}
+use Rattle.cm_reading.specs.declared.codes.TypeForm.TheVariants as type_forms
+use Rattle.cm_reading.specs.declared.codes.ResultForm.{ResultForm}
+use Rattle.cm_reading.specs.declared.codes.ResultForm.TheVariants as result_forms
+use Rattle.cm_reading.specs.declared.codes.CanonForm.{CanonForm}
+use Rattle.cm_reading.specs.declared.codes.CanonForm.TheVariants as canon_forms
+use Rattle.cm_reading.specs.declared.codes.OptionForm.{OptionForm}
+use Rattle.cm_reading.specs.declared.codes.OptionForm.TheVariants as option_forms
+use Rattle.cm_reading.specs.declared.codes.DescForm.{DescForm}
+use Rattle.cm_reading.specs.declared.codes.DescForm.TheVariants as desc_forms
+use Rattle.cm_reading.specs.declared.codes.NoDescription.{NoDescription}
+use Rattle.cm_reading.specs.declared.codes.NoDescription.TheVariants as descriptions
+
+-- b is one of the bytes from low up to high.
+abbrev pub is_from : ℕ → ℕ → ℕ → Bool
+is_from low high b = nat_le low b && nat_le b high
+
+-- The ids of sections ("Component Definitions").
+abbrev pub section_kind : ℕ → Result SectionKind DecodeReason
+section_kind b =
+    if b == 0x00 then Ok kinds.Custom
+    else if b == 0x01 then Ok kinds.CoreModule
+    else if b == 0x02 then Ok kinds.CoreInstances
+    else if b == 0x03 then Err (Unsupported features.CoreTypes)
+    else if b == 0x04 then Err (Unsupported features.NestedComponents)
+    else if b == 0x05 then Ok kinds.Instances
+    else if b == 0x06 then Ok kinds.Aliases
+    else if b == 0x07 then Ok kinds.Types
+    else if b == 0x08 then Ok kinds.Canons
+    else if b == 0x09 then Err (Unsupported features.Start)
+    else if b == 0x0a then Ok kinds.Imports
+    else if b == 0x0b then Ok kinds.Exports
+    else Err UnknownCode
+
+-- The forms of a core instance ("Core Instance Definitions").
+abbrev pub core_instance_form : ℕ → Result CoreInstanceForm DecodeReason
+core_instance_form b =
+    if b == 0x00 then Ok forms.Instantiate
+    else if b == 0x01 then Ok forms.Exports
+    else Err UnknownCode
+
+-- The core sorts ("Core Instance Definitions"): function, table, memory, global; type, module,
+-- instance.
+abbrev pub core_sort : ℕ → Result CoreSort DecodeReason
+core_sort b =
+    if b == 0x00 then Ok core_sorts.Func
+    else if b == 0x01 then Ok core_sorts.Table
+    else if b == 0x02 then Ok core_sorts.Memory
+    else if b == 0x03 then Ok core_sorts.Global
+    else if is_from 0x10 0x12 b then Err (Unsupported features.CoreSort)
+    else Err UnknownCode
+
+-- The forms of an instance ("Instance Definitions").
+abbrev pub instance_form : ℕ → Result InstanceForm DecodeReason
+instance_form b =
+    if b == 0x00 then Err (Unsupported features.InstanceOfComponent)
+    else if b == 0x01 then Ok instance_forms.Exports
+    else Err UnknownCode
+
+-- The sorts that an instance exports ("Instance Definitions").
+abbrev pub instance_export_sort : ℕ → Result InstanceExportSort DecodeReason
+instance_export_sort b =
+    if b == 0x01 then Ok instance_sorts.Func
+    else if b == 0x03 then Ok instance_sorts.Type
+    else if is_from 0x00 0x05 b then Err (Unsupported features.Sort)
+    else Err UnknownCode
+
+-- The sorts in an alias ("Instance Definitions"): core, function, value, type, component, instance.
+abbrev pub alias_sort : ℕ → Result AliasSort DecodeReason
+alias_sort b =
+    if b == 0x00 then Ok alias_sorts.Core
+    else if b == 0x01 then Ok alias_sorts.Func
+    else if b == 0x03 then Ok alias_sorts.Type
+    else if b == 0x05 then Ok alias_sorts.Instance
+    else if b == 0x02 || b == 0x04 then Err (Unsupported features.Sort)
+    else Err UnknownCode
+
+-- Why the target of an alias is refused ("Alias Definitions"): an export of an instance, one of a
+-- core instance or an outer definition that the sort of the alias cannot have; else no target.
+abbrev pub no_alias_target : ℕ → DecodeReason
+no_alias_target b = if is_from 0x00 0x02 b then Unsupported features.AliasTarget else UnknownCode
+
+-- The target of an alias whose sort is a core sort ("Alias Definitions").
+abbrev pub core_alias_target : ℕ → Result CoreAliasTarget DecodeReason
+core_alias_target b =
+    if b == 0x01 then Ok core_targets.CoreInstanceExport else Err (no_alias_target b)
+
+-- The target of an alias of a function ("Alias Definitions").
+abbrev pub func_alias_target : ℕ → Result FuncAliasTarget DecodeReason
+func_alias_target b =
+    if b == 0x00 then Ok func_targets.InstanceExport else Err (no_alias_target b)
+
+-- The target of an alias of a type ("Alias Definitions").
+abbrev pub type_alias_target : ℕ → Result TypeAliasTarget DecodeReason
+type_alias_target b =
+    if b == 0x00 then Ok type_targets.InstanceExport
+    else if b == 0x02 then Ok type_targets.OuterType
+    else Err (no_alias_target b)
+
+-- A primitive type that is listed ("Type Definitions").
+abbrev pub is_primitive : ℕ → Bool
+is_primitive b = is_from 0x73 0x7f b
+
+-- A type that is listed and not carried ("Type Definitions"): primitive types, the other value
+-- types and resources, components and instances.
+abbrev pub is_other_type : ℕ → Bool
+is_other_type b =
+    is_primitive b || is_from 0x68 0x6b b || is_from 0x6d 0x72 b
+    || b == 0x3f || b == 0x41 || b == 0x42
+
+-- The forms of a type ("Type Definitions").
+abbrev pub type_form : ℕ → Result TypeForm DecodeReason
+type_form b =
+    if b == 0x40 then Ok type_forms.Func
+    else if is_other_type b then Err (Unsupported features.TypeDefinition)
+    else Err UnknownCode
+
+-- Value types ("Type Definitions"). A byte outside of 40 to 7F begins the index of a type.
+abbrev pub val_type : ℕ → Result ValType DecodeReason
+val_type b =
+    if b == 0x79 then Ok val_types.U32
+    else if is_primitive b then Err (Unsupported features.ValueType)
+    else if is_from 0x40 0x7f b then Err UnknownCode
+    else Err (Unsupported features.ValueTypeIndex)
+
+-- Whether a function has a result ("Type Definitions").
+abbrev pub result_form : ℕ → Result ResultForm DecodeReason
+result_form b =
+    if b == 0x00 then Ok result_forms.One
+    else if b == 0x01 then Ok result_forms.Zero
+    else Err UnknownCode
+
+-- The canonical definitions ("Canonical Definitions").
+abbrev pub canon_form : ℕ → Result CanonForm DecodeReason
+canon_form b =
+    if b == 0x00 then Ok canon_forms.Lift
+    else if b == 0x01 then Ok canon_forms.Lower
+    else if b == 0x02 then Ok canon_forms.ResourceNew
+    else if b == 0x03 then Ok canon_forms.ResourceDrop
+    else if b == 0x04 then Ok canon_forms.ResourceRep
+    else Err UnknownCode
+
+-- The canonical options ("Canonical Definitions").
+abbrev pub option_form : ℕ → Result OptionForm DecodeReason
+option_form b =
+    if b == 0x00 then Ok option_forms.Utf8
+    else if b == 0x01 then Ok option_forms.Utf16
+    else if b == 0x02 then Ok option_forms.Latin1Utf16
+    else if b == 0x03 then Ok option_forms.Memory
+    else if b == 0x04 then Ok option_forms.Realloc
+    else if b == 0x05 then Ok option_forms.PostReturn
+    else Err UnknownCode
+
+-- The descriptions of imports ("Import and Export Definitions").
+abbrev pub desc_form : ℕ → Result DescForm DecodeReason
+desc_form b =
+    if b == 0x01 then Ok desc_forms.Func
+    else if b == 0x05 then Ok desc_forms.Instance
+    else if is_from 0x00 0x05 b then Err (Unsupported features.Description)
+    else Err UnknownCode
+
+-- The sorts of exports ("Import and Export Definitions").
+abbrev pub export_sort : ℕ → Result ExportSort DecodeReason
+export_sort b =
+    if b == 0x01 then Ok export_sorts.Func
+    else if b == 0x05 then Ok export_sorts.Instance
+    else if is_from 0x00 0x05 b then Err (Unsupported features.Sort)
+    else Err UnknownCode
+
+-- Whether an export has a description ("Import and Export Definitions").
+abbrev pub export_desc : ℕ → Result NoDescription DecodeReason
+export_desc b =
+    if b == 0x00 then Ok descriptions.Absent
+    else if b == 0x01 then Err (Unsupported features.ExportDescription)
+    else Err UnknownCode

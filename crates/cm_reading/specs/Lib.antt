@@ -1,0 +1,10 @@
+pub mod Reasons
+pub mod Codes
+pub mod Texts
+pub mod Instances
+pub mod Aliases
+pub mod Types
+pub mod Canons
+pub mod Externs
+pub mod Sections
+pub mod File

@@ -1,0 +1,171 @@
+//! Sections, and all of them.
+
+ghost use Rattle.std.specs.Prelude.{◌≡◌, ℕ, map, length};
+ghost use Rattle.cm_grammar.specs.Faults.{Gives};
+ghost use Rattle.cm_grammar.specs.Whole.{exactly, of_size};
+ghost use Rattle.cm_grammar.specs.Reading.{Reads, ReadsAll, IsInside};
+ghost use Rattle.cm_types.specs.DefTypes.{def_type_tree};
+ghost use Rattle.cm_component.specs.Trees.{section_tree};
+ghost use Rattle.cm_reading.specs.declared.fault.DecodeReason.TheVariants as reasons;
+ghost use Rattle.cm_reading.specs.declared.codes.SectionKind.TheVariants as kinds;
+ghost use Rattle.cm_reading.specs.Texts.{vector};
+ghost use Rattle.cm_reading.specs.Types.{type_defs};
+ghost use Rattle.cm_reading.specs.Sections.{contents, section, sections, room_after};
+
+use crate::codes::SectionKind;
+use crate::fault::DecodeReason;
+use crate::texts::read_text;
+use cm_component::{CustomSection, MAX_TYPES, MODULE_PREAMBLE, Section, types_in};
+use cm_grammar::{Cursor, End, Form, ReadError, read_stocked, read_vec};
+use cm_types::DefType;
+use std::alloc::Global;
+
+/// Reads all of a part as a count, and so many items.
+#[tactic(auto, using(cm_grammar::proofs::WholeLaws::ends_fails))]
+fn read_items<T: Form<DecodeReason>>(
+    alloc: Global,
+    part: &mut Cursor<'_, DecodeReason>,
+) -> Result<Vec<T>, ReadError<DecodeReason>>
+    ensures { ReadsAll (exactly reasons.SizeMismatch (vector T.grammar)) (λ v. map T.tree v.items)
+        part.old result }
+{
+    let items = read_vec(alloc, part, DecodeReason::BadNumber)?;
+    part.finish(DecodeReason::SizeMismatch)?;
+    Ok(items)
+}
+
+/// Reads all of a part as a count, and so many types, where `room` more may stand in the file.
+#[tactic(auto, using(cm_grammar::proofs::WholeLaws::ends_fails), unfolding(crate::specs::Types::type_defs))]
+fn read_all_types(
+    alloc: Global,
+    part: &mut Cursor<'_, DecodeReason>,
+    room: usize,
+) -> Result<Vec<DefType>, ReadError<DecodeReason>>
+    ensures { ReadsAll (exactly reasons.SizeMismatch (type_defs room))
+        (λ v. map def_type_tree v.items) part.old result }
+{
+    let types = read_stocked(alloc, part, DecodeReason::BadNumber, room)?;
+    part.finish(DecodeReason::SizeMismatch)?;
+    Ok(types)
+}
+
+/// Reads all of a part as a custom section: a name, and bytes to the end.
+#[tactic(auto, unfolding(crate::specs::Sections::contents))]
+fn read_custom_section(
+    alloc: Global,
+    part: &mut Cursor<'_, DecodeReason>,
+) -> Result<Section, ReadError<DecodeReason>>
+    ensures { (room : ℕ) → ReadsAll (contents room kinds.Custom) section_tree part.old result }
+{
+    let name = read_text(alloc, part)?;
+    let bytes = Vec::from_slice(alloc, part.rest)?;
+    Ok(Section::Custom(CustomSection { name, bytes }))
+}
+
+/// Reads all of a part as a core module.
+#[tactic(auto, unfolding(crate::specs::Sections::contents))]
+fn read_core_module_section(
+    alloc: Global,
+    part: &Cursor<'_, DecodeReason>,
+) -> Result<Section, ReadError<DecodeReason>>
+    ensures { (room : ℕ) → ReadsAll (contents room kinds.CoreModule) section_tree part.now result }
+{
+    let module = part.begins_with(&MODULE_PREAMBLE, DecodeReason::NotAModule)?;
+    Ok(Section::CoreModule(Vec::from_slice(alloc, module)?))
+}
+
+/// Reads the contents of a section, where `room` more types may stand in the file.
+#[tactic(auto, unfolding(crate::specs::Sections::contents))]
+fn read_contents(
+    alloc: Global,
+    part: &mut Cursor<'_, DecodeReason>,
+    room: usize,
+    kind: SectionKind,
+) -> Result<Section, ReadError<DecodeReason>>
+    ensures { ReadsAll (contents room kind) section_tree part.old result }
+{
+    match kind {
+        SectionKind::Custom => read_custom_section(alloc, part),
+        SectionKind::CoreModule => read_core_module_section(alloc, part),
+        SectionKind::CoreInstances => Ok(Section::CoreInstances(read_items(alloc, part)?)),
+        SectionKind::Instances => Ok(Section::Instances(read_items(alloc, part)?)),
+        SectionKind::Aliases => Ok(Section::Aliases(read_items(alloc, part)?)),
+        SectionKind::Types => Ok(Section::Types(read_all_types(alloc, part, room)?)),
+        SectionKind::Canons => Ok(Section::Canons(read_items(alloc, part)?)),
+        SectionKind::Imports => Ok(Section::Imports(read_items(alloc, part)?)),
+        SectionKind::Exports => Ok(Section::Exports(read_items(alloc, part)?)),
+    }
+}
+
+/// Reads bytes that end so as the contents of a section. A fault is inside them.
+fn read_contents_inside(
+    alloc: Global,
+    bytes: &[u8],
+    end: End<DecodeReason>,
+    room: usize,
+    kind: SectionKind,
+) -> Result<Section, ReadError<DecodeReason>>
+    ensures read { Gives section_tree result ((contents room kind).reads end bytes.now) }
+    ensures inside { IsInside (length bytes.now) result }
+{
+    read_contents(alloc, &mut Cursor::new(bytes, end), room, kind)
+}
+
+/// Reads a part of so many bytes as the contents of a section.
+fn read_section_of_size(
+    alloc: Global,
+    bytes: &mut Cursor<'_, DecodeReason>,
+    room: usize,
+    kind: SectionKind,
+    size: u32,
+) -> Result<Section, ReadError<DecodeReason>>
+    ensures read { Reads (of_size reasons.SizeMismatch size (contents room kind)) section_tree
+        bytes.old bytes.new result }
+    ensures end { bytes.new.end ≡ bytes.old.end }
+{
+    let part = bytes.part(size, DecodeReason::SizeMismatch);
+    let outcome = read_contents_inside(alloc, part.rest, part.end, room, kind);
+    bytes.leave(size, outcome)
+}
+
+/// Reads a section, where `room` more types may stand in the file.
+#[tactic(auto, unfolding(crate::specs::Sections::section))]
+pub fn read_section(
+    alloc: Global,
+    bytes: &mut Cursor<'_, DecodeReason>,
+    room: usize,
+) -> Result<Section, ReadError<DecodeReason>>
+    ensures read { Reads (section room) section_tree bytes.old bytes.new result }
+    ensures end { bytes.new.end ≡ bytes.old.end }
+{
+    let kind = bytes.code()?;
+    let size = bytes.number(DecodeReason::BadNumber)?;
+    read_section_of_size(alloc, bytes, room, kind, size)
+}
+
+/// How many of `room` types more may stand behind the section.
+pub fn room_after(room: usize, section: &Section) -> usize
+    ensures { result ≡ room_after room (section_tree section.now) }
+{
+    room.saturating_sub(types_in(section) as usize)
+}
+
+/// Reads sections to the end of the bytes, which end so.
+pub(crate) fn read_sections(
+    alloc: Global,
+    bytes: &[u8],
+    end: End<DecodeReason>,
+) -> Result<Vec<Section>, ReadError<DecodeReason>>
+    ensures { Gives (λ v. map section_tree v.items) result
+        ((sections MAX_TYPES).reads end bytes.now) }
+{
+    let mut sections = Vec::new(alloc);
+    let mut room = MAX_TYPES;
+    let mut cursor = Cursor::new(bytes, end);
+    while !cursor.rest.is_empty() {
+        let section = read_section(alloc, &mut cursor, room)?;
+        room = room_after(room, &section);
+        sections.push(section)?;
+    }
+    Ok(sections)
+}

@@ -1,0 +1,5 @@
+pub mod Laws
+pub mod ArenaLaws
+pub mod SummaryLaws
+pub mod EntryLaws
+pub mod TySets

@@ -1,0 +1,7 @@
+use Rattle.std.proofs.Common.{is_ok}
+use Rattle.cm_type_arena.proofs.ArenaLaws.{arena_pushed}
+use Rattle.cm_type_arena.proofs.types.Types.push.Goals as goal
+
+pub invariant_of-self : goal.invariant_of-self
+invariant_of-self c =
+    record { arena = arena_pushed (is_ok c.push.result) c.push.new.self.items c.args.self.now.entries.items c.in_ok-entry.entry c.push.ensures.items c.args.self.now.arena c.in_ok-entry.ensures.entry }

@@ -1,0 +1,4 @@
+pub mod Summaries
+pub mod TypeDefs
+pub mod Arena
+pub mod Places

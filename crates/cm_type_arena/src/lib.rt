@@ -1,0 +1,15 @@
+//! Types by places: each definition names its parts by earlier places, stands once and is shared by
+//! all that use it.
+#![tactic(auto)]
+
+mod building;
+mod entries;
+mod primitives;
+mod summaries;
+mod type_defs;
+mod types;
+
+pub use primitives::Primitive;
+pub use summaries::Summary;
+pub use type_defs::{CaseDef, FieldDef, TypeDef};
+pub use types::{DefFault, Types};

@@ -1,0 +1,9 @@
+mod Orders
+mod Additions
+mod Insertions
+mod Stays
+mod Tells
+mod Steps
+mod Blank
+mod NodeLemmas
+mod TypeLemmas

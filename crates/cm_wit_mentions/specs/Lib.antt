@@ -1,0 +1,4 @@
+pub mod Mentions
+pub mod MentionViews
+pub mod Marks
+pub mod FileMentions

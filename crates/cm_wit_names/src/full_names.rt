@@ -1,0 +1,67 @@
+//! Full names without ASCII case.
+
+ghost use Rattle.std.specs.Prelude.{◌≡◌, ◌++◌, ◌∷◌, map, IfOk, OnOk};
+ghost use Rattle.std.specs.Char.{to_ascii_lowercase};
+ghost use Rattle.cm_types.specs.ExternNameForms.{form_tree};
+ghost use Rattle.cm_wit_names.specs.Rules.{folded};
+
+use cm_types::ExternNameForm;
+use std::alloc::{AllocError, Global};
+
+/// Appends the bytes of a text, with letters in lower case.
+fn add_folded(out: &mut Vec<u8>, text: &str) -> Result<(), AllocError>
+    ensures { OnOk result (out.new.items ≡ out.old.items ++ map to_ascii_lowercase text.now) }
+{
+    for byte in text.as_bytes() {
+        out.push(byte.to_ascii_lowercase())?;
+    }
+    Ok(())
+}
+
+/// Appends a mark and a text.
+fn add_behind(out: &mut Vec<u8>, mark: u8, text: &str) -> Result<(), AllocError>
+    ensures { OnOk result (out.new.items
+        ≡ out.old.items ++ to_ascii_lowercase mark ∷ map to_ascii_lowercase text.now) }
+{
+    out.push(mark.to_ascii_lowercase())?;
+    add_folded(out, text)
+}
+
+/// A full name without ASCII case. Refused only where there is no memory.
+#[tactic(auto, using(crate::proofs::NameLaws::fold_laws))]
+pub fn folded(alloc: Global, name: ExternNameForm<'_>) -> Result<Vec<u8>, AllocError>
+    ensures { IfOk result (λ v. v.items ≡ folded (form_tree name.entry)) }
+{
+    let mut out = Vec::new(alloc);
+    match name {
+        ExternNameForm::Label(text) => add_folded(&mut out, text)?,
+        ExternNameForm::Method { resource, method } => {
+            add_folded(&mut out, "[method]")?;
+            add_folded(&mut out, resource)?;
+            add_behind(&mut out, b'.', method)?;
+        }
+        ExternNameForm::Static { resource, function } => {
+            add_folded(&mut out, "[static]")?;
+            add_folded(&mut out, resource)?;
+            add_behind(&mut out, b'.', function)?;
+        }
+        ExternNameForm::Constructor { resource } => {
+            add_folded(&mut out, "[constructor]")?;
+            add_folded(&mut out, resource)?;
+        }
+        ExternNameForm::Interface {
+            namespace,
+            package,
+            interface,
+            version,
+        } => {
+            add_folded(&mut out, namespace)?;
+            add_behind(&mut out, b':', package)?;
+            add_behind(&mut out, b'/', interface)?;
+            if let Some(version) = version {
+                add_behind(&mut out, b'@', version)?;
+            }
+        }
+    }
+    Ok(out)
+}

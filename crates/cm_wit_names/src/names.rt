@@ -1,0 +1,47 @@
+//! The names of a file.
+
+ghost use Rattle.std.specs.Prelude.{◌≡◌, IfOk, map};
+ghost use Rattle.cm_wit_mentions.specs.MentionViews.{mention_view, reference_view};
+ghost use Rattle.cm_wit_names.specs.Known.{target};
+ghost use Rattle.cm_wit_names.specs.Table.{IsTableOf};
+
+use crate::known::{known_names, look_up};
+use cm_wit_mentions::{Mention, Reference};
+use indexmap::IndexMap;
+use std::alloc::{AllocError, Global};
+
+/// What each name of a file says, and what is known by which name.
+#[derive(Drop)]
+pub struct Names<'a> {
+    pub mentions: Vec<Mention<'a>>,
+    known: IndexMap<(usize, &'a str), usize>,
+    ghost table: { IsTableOf (map mention_view mentions.items) known.entries },
+}
+
+impl<'a> Names<'a> {
+    /// The names of these mentions. Refused only where there is no memory.
+    pub fn new(alloc: Global, mentions: Vec<Mention<'a>>) -> Result<Names<'a>, AllocError>
+        ensures { IfOk result (λ names. names.mentions.items ≡ mentions.entry.items) }
+    {
+        let known = known_names(alloc, &mentions)?;
+        Ok(Names { mentions, known })
+    }
+
+    /// The mention to which a reference leads, if there is one.
+    pub fn target(&self, refers: Reference<'a>) -> Option<usize>
+        ensures { result ≡ target (map mention_view self.now.mentions.items)
+            (reference_view refers.entry) }
+    {
+        match refers {
+            Reference::Nothing => None,
+            Reference::Interface(name) => look_up(&self.known, 0, name),
+            Reference::Used { interface, name } => {
+                let number = look_up(&self.known, 0, interface)?;
+                look_up(&self.known, number, name)
+            }
+            Reference::Type { scope, name } | Reference::Resource { scope, name } => {
+                look_up(&self.known, scope, name)
+            }
+        }
+    }
+}
