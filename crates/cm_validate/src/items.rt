@@ -121,7 +121,12 @@ impl SectionItem for Instance {
         Ok(Some(ValidReason::NotYet))
     }
 
-    fn add(&self, _alloc: Global, _spaces: &mut SpacesBuilder) -> Result<(), AllocError> {
+    // No item of this form is fine, so far: what is asked for elsewhere could not be met here.
+    fn add(&self, _alloc: Global, _spaces: &mut SpacesBuilder) -> Result<(), AllocError>
+        requires room { HasRoom (spaces_so_far _spaces.old) (not_yet_item ∷ []) }
+        ensures { OnOk result
+            (spaces_so_far _spaces.new ≡ after_item (spaces_so_far _spaces.old) not_yet_item) }
+    {
         Ok(())
     }
 }
