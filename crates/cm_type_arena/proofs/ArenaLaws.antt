@@ -29,7 +29,7 @@ type_there (x ∷ es) (suc k) d h = type_there es k d (omega arith)
 pub type_of_item : (es : List TypeEntry) (k : ℕ) (e : TypeEntry) → k < length es → e ≡ get_or es k e → type_of e.node ≡ type_at (types_in es) k
 type_of_item es k e h is = ap (λ x. type_of x.node) is ∙ sym (type_there es k e h)
 
-Summary-set : IsSet Summary
+pub Summary-set : IsSet Summary
 Summary-set = Coded-set summary.the_row.coded
 
 pub summary_there : (es : List TypeEntry) (k : ℕ) (e : TypeEntry) → ∥ IsArena es ∥₁ → k < length es → e ≡ get_or es k e → e.summary ≡ summary_of (type_at (types_in es) k)
@@ -94,10 +94,10 @@ primitive_alone primitive.String = refl
 
 -- ---- with another entry behind
 
-at_left : (types more : List Ty) (k : ℕ) → k < length types → type_at (types ++ more) k ≡ type_at types k
+pub at_left : (types more : List Ty) (k : ℕ) → k < length types → type_at (types ++ more) k ≡ type_at types k
 at_left types more k h = get_or_append_left types more bool k h
 
-parts_left : (types more : List Ty) (k : ℕ) (ps : List ℕ) → k ≤ length types → AllByRecursion (λ p. p < k) ps → map (type_at types) ps ≡ map (type_at (types ++ more)) ps
+pub parts_left : (types more : List Ty) (k : ℕ) (ps : List ℕ) → k ≤ length types → AllByRecursion (λ p. p < k) ps → map (type_at types) ps ≡ map (type_at (types ++ more)) ps
 parts_left types more k [] le h = refl
 parts_left types more k (p ∷ ps) le h =
     let e = at_left types more p (omega (arith, h.0)) in
@@ -211,7 +211,7 @@ pub parts_there : (es : List TypeEntry) (k : ℕ) (e : TypeEntry) → ∥ IsAren
 parts_there es k e a h is =
     ∥∥₁_elim a (Types-set _ _) (λ b. ap parts_in (type_there es k e h) ∙ (b.entries k e h).parts ∙ ap (λ x. map (type_at (types_in es)) x.parts.items) (sym is))
 
-all_below_prop : (k : ℕ) (ps : List ℕ) → IsProp (AllByRecursion (λ p. p < k) ps)
+pub all_below_prop : (k : ℕ) (ps : List ℕ) → IsProp (AllByRecursion (λ p. p < k) ps)
 all_below_prop k [] = Unit-prop
 all_below_prop k (p ∷ ps) = ×_prop le_prop (all_below_prop k ps)
 

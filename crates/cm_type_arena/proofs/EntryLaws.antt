@@ -14,18 +14,16 @@ use Rattle.cm_type_arena.specs.TypeDefs.{type_at, def_type, def_parts, is_spella
 use Rattle.cm_type_arena.specs.Arena.{parts_in, types_in, IsEntry, IsArena}
 use Rattle.cm_type_arena.specs.Places.{HasParts}
 use Rattle.cm_type_arena.proofs.ArenaLaws.{spellable_there}
-use Rattle.cm_type_arena.proofs.Laws.{def_parts_are, def_spellable_is}
+use Rattle.cm_type_arena.proofs.Laws.{AreSpellable, def_parts_are, def_spellable_is}
+use Rattle.cm_type_arena.proofs.PlaceLaws.{parts_below}
 
-abbrev AreSpellable : List Ty → Type 0
-AreSpellable ts = AllByRecursion (λ t. is_spellable t ≡ true) ts
-
-parts_spellable : (es : List TypeEntry) (ps : List ℕ) → ∥ IsArena es ∥₁ → AllByRecursion (λ p. p < length (types_in es)) ps → AreSpellable (map (type_at (types_in es)) ps)
+pub parts_spellable : (es : List TypeEntry) (ps : List ℕ) → ∥ IsArena es ∥₁ → AllByRecursion (λ p. p < length (types_in es)) ps → AreSpellable (map (type_at (types_in es)) ps)
 parts_spellable es [] a h = tt
 parts_spellable es (p ∷ ps) a h = (spellable_there es p a h.0, parts_spellable es ps a h.1)
 
 pub def_spelled : (es : List TypeEntry) (d : TypeDef) → ∥ IsArena es ∥₁ → HasParts (length (types_in es)) d → is_spellable (def_type (types_in es) d) ≡ is_spellable_def d
 def_spelled es d a h =
-    def_spellable_is (types_in es) d (subst AreSpellable (sym (def_parts_are (types_in es) d)) (parts_spellable es (def_parts d) a h))
+    def_spellable_is (types_in es) d (subst AreSpellable (sym (def_parts_are (types_in es) d)) (parts_spellable es (def_parts d) a (parts_below (length (types_in es)) d h)))
 
 pub entry_made : (es : List TypeEntry) (d : TypeDef) (node : TypeNode) (parts : Vec ℕ Global) (s : Summary) → ∥ IsArena es ∥₁ → HasParts (length (types_in es)) d
     → parts.items ≡ def_parts d → IsWithinLimits (def_type (types_in es) d) × (s ≡ summary_of (def_type (types_in es) d)) → is_spellable_def d ≡ true
@@ -36,6 +34,6 @@ entry_made es d node parts s a there is known spelled ty =
       summary = known.1 ∙ ap summary_of (sym ty);
       within_limits = subst IsWithinLimits (sym ty) known.0;
       spellable = ap is_spellable ty ∙ def_spelled es d a there ∙ spelled;
-      earlier = subst (AllByRecursion (λ p. p < length (types_in es))) (sym is) there;
+      earlier = subst (AllByRecursion (λ p. p < length (types_in es))) (sym is) (parts_below (length (types_in es)) d there);
       parts = ap parts_in ty ∙ def_parts_are (types_in es) d ∙ ap (map (type_at (types_in es))) (sym is);
     }

@@ -21,7 +21,7 @@ use Rattle.cm_type_arena.specs.Arena.{field_types, payload_types, parts_in}
 -- ---- parts
 
 module _ (types : List Ty) where
-  record_parts : (fs : List FieldDef) → field_types (fields_from (map (field_def_type types) fs)) ≡ map (type_at types) (map (λ f. f.ty) fs)
+  pub record_parts : (fs : List FieldDef) → field_types (fields_from (map (field_def_type types) fs)) ≡ map (type_at types) (map (λ f. f.ty) fs)
   record_parts [] = refl
   record_parts (f ∷ fs) = ap (λ ts. type_at types f.ty ∷ ts) (record_parts fs)
 
@@ -181,13 +181,13 @@ module _ (types : List Ty) where
 
 -- ---- what a file can spell
 
-abbrev AreSpellable : List Ty → Type 0
+abbrev pub AreSpellable : List Ty → Type 0
 AreSpellable ts = AllByRecursion (λ t. is_spellable t ≡ true) ts
 
 and_true : (a b : Bool) → a ≡ true → b ≡ true → (a && b) ≡ true
 and_true a b e f = rw (e, f) refl
 
-fields_spellable : (fs : Fields) → AreSpellable (field_types fs) → are_spellable fs ≡ true
+pub fields_spellable : (fs : Fields) → AreSpellable (field_types fs) → are_spellable fs ≡ true
 fields_spellable no_fields h = refl
 fields_spellable (field l t fs) h = and_true (is_spellable t) (are_spellable fs) h.0 (fields_spellable fs h.1)
 

@@ -2,15 +2,19 @@
 use Rattle.std.specs.Prelude.{◌≡◌, ℕ, ◌<◌, ◌≤◌, true, List, [], ◌∷◌, map, length}
 use Rattle.std.specs.Prelude.{slice_index_or}
 use Rattle.std.specs.List.{AllByRecursion}
-use Rattle.cm_types.specs.Types.{Ty, Fields, Cases, list, fixed_list, fields, cases, no_fields}
-use Rattle.cm_types.specs.Types.{field, no_cases, plain, carrying}
+use Rattle.std.specs.Option.{option_map}
+use Rattle.cm_types.specs.Types.{Ty, FuncTy, Fields, Cases, list, fixed_list, fields, cases}
+use Rattle.cm_types.specs.Types.{no_fields, field, no_cases, plain, carrying}
+use Rattle.cm_types.specs.Funcs.{func_of}
 use Rattle.cm_types.specs.TypeTrees.{type_of}
 use Rattle.cm_types.specs.Limits.{IsWithinLimits}
 use Rattle.cm_types.specs.Spellable.{is_spellable}
 use Rattle.cm_type_arena.specs.declared.entries.TypeEntry.{TypeEntry}
+use Rattle.cm_type_arena.specs.declared.funcs.FuncEntry.{FuncEntry}
 use Rattle.cm_type_arena.specs.declared.primitives.Primitive.{Primitive}
 use Rattle.cm_type_arena.specs.Summaries.{summary_of}
 use Rattle.cm_type_arena.specs.TypeDefs.{type_at, primitive_type, primitive_place}
+use Rattle.cm_type_arena.specs.TypeDefs.{params_type, IsBelow}
 
 -- the types of fields, and of payloads, in order
 abbrev pub field_types : Fields → List Ty
@@ -49,3 +53,21 @@ pub record IsArena (es : List TypeEntry) : Type 0 where
   pub some : 11 ≤ length es
   pub entries : (k : ℕ) (d : TypeEntry) → k < length es
       → IsEntry (types_in es) k (slice_index_or es k d)
+
+-- the types of functions, by place among them
+abbrev pub funcs_in : List FuncEntry → List FuncTy
+funcs_in es = map (λ e. func_of e.func.value) es
+
+-- the entry of a function's type among these types: what is known of its parameters is theirs as
+-- the fields of a tuple, its places are among the types, and hold the types in it
+pub record IsFuncEntry (types : List Ty) (e : FuncEntry) : Type 0 where
+  pub summary : e.summary ≡ summary_of (params_type (func_of e.func.value))
+  pub there : AllByRecursion (λ p. p < length types) e.params.items
+  pub params : field_types (func_of e.func.value).params ≡ map (type_at types) e.params.items
+  pub result_there : IsBelow (length types) e.result
+  pub result : (func_of e.func.value).result ≡ option_map (type_at types) e.result
+
+-- each entry is one among these types
+abbrev pub AreFuncs : List Ty → List FuncEntry → Type 0
+AreFuncs types es =
+    (k : ℕ) (d : FuncEntry) → k < length es → IsFuncEntry types (slice_index_or es k d)

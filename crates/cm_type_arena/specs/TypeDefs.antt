@@ -1,11 +1,13 @@
 -- Types in terms of earlier ones (Binary.md, "Type Definitions").
-use Rattle.std.specs.Prelude.{ℕ, List, [], ◌∷◌, ◌++◌, map, length, Bool, true, ◌&&◌}
+use Rattle.std.specs.Prelude.{ℕ, ◌<◌, List, [], ◌∷◌, ◌++◌, map, length, Bool, true, ◌&&◌}
 use Rattle.std.specs.Prelude.{nat_lt, nat_le, Option, Some, None, codes, slice_index_or}
 use Rattle.std.specs.Option.{option_map}
 use Rattle.cm_types.specs.declared.spellable.TheConstants.{MAX_FLAGS}
-use Rattle.cm_types.specs.Types.{Ty, bool, signed, unsigned, char, string, list, fixed_list}
+use Rattle.cm_types.specs.Types.{Ty, FuncTy, bool, signed, unsigned, char, string, list}
+use Rattle.cm_types.specs.Types.{fixed_list}
 use Rattle.cm_types.specs.Types.{fields, cases, flags, own, borrow, record_type, tuple_type}
-use Rattle.cm_types.specs.Types.{variant_type, enum_type, option_type, result_type, no_cases}
+use Rattle.cm_types.specs.Types.{variant_type, enum_type, option_type, result_type, no_fields}
+use Rattle.cm_types.specs.Types.{no_cases}
 use Rattle.cm_types.specs.Types.{plain, carrying, bits_8, bits_16, bits_32, bits_64}
 use Rattle.cm_types.specs.TypeTrees.{TypedLabel, CaseOf, fields_from, parts_from, cases_from}
 use Rattle.cm_types.specs.TypeTrees.{plain_from, case_before}
@@ -15,6 +17,7 @@ use Rattle.cm_type_arena.specs.declared.type_defs.TypeDef.{TypeDef}
 use Rattle.cm_type_arena.specs.declared.type_defs.TypeDef.TheVariants as def
 use Rattle.cm_type_arena.specs.declared.type_defs.FieldDef.{FieldDef}
 use Rattle.cm_type_arena.specs.declared.type_defs.CaseDef.{CaseDef}
+use Rattle.cm_type_arena.specs.declared.funcs.FuncDef.{FuncDef}
 
 -- the type at a place
 abbrev pub type_at : List Ty → ℕ → Ty
@@ -83,6 +86,11 @@ def_type types (def.Result ok error) =
 def_type types (def.Own r) = own r
 def_type types (def.Borrow r) = borrow r
 
+-- the part, if there is one, has a place among so many types
+abbrev pub IsBelow : ℕ → Option ℕ → Type 0
+IsBelow count None = Unit {0}
+IsBelow count (Some part) = part < count
+
 -- what an option has, as a list
 abbrev pub option_list : Option ℕ → List ℕ
 option_list None = []
@@ -114,3 +122,19 @@ is_spellable_def (def.Enum ls) = nat_lt 0 (length ls.items)
 is_spellable_def (def.Flags ls) =
     nat_lt 0 (length ls.items) && nat_le (length ls.items) MAX_FLAGS
 is_spellable_def _ = true
+
+-- the type of a function's definition, the types in it taken from their places
+abbrev pub func_def_type : List Ty → FuncDef → FuncTy
+func_def_type types d =
+    record {
+      params = fields_from (map (field_def_type types) d.params.items);
+      result = option_map (type_at types) d.result;
+    }
+
+-- the type of a function at a place
+abbrev pub func_at : List FuncTy → ℕ → FuncTy
+func_at funcs place = slice_index_or funcs place (record { params = no_fields; result = None })
+
+-- the parameters of a function, as the fields of a tuple
+abbrev pub params_type : FuncTy → Ty
+params_type f = fields tuple_type f.params

@@ -4,11 +4,14 @@
 
 mod building;
 mod entries;
+mod func_types;
+mod funcs;
 mod primitives;
 mod summaries;
 mod type_defs;
 mod types;
 
+pub use funcs::FuncDef;
 pub use primitives::Primitive;
 pub use summaries::Summary;
 pub use type_defs::{CaseDef, FieldDef, TypeDef};

@@ -1,10 +1,11 @@
 //! Types in terms of earlier ones.
 
-ghost use Rattle.std.specs.Prelude.{◌≡◌, ◌≤◌, ◌++◌, ◌∷◌, [], IfOk, OnOk};
+ghost use Rattle.std.specs.Prelude.{◌≡◌, ◌↔◌, ◌≤◌, ◌++◌, ◌∷◌, [], IfOk, IsTrue, OnOk};
 ghost use Rattle.std.specs.Option.{SomeIff};
 ghost use Rattle.cm_types.specs.declared.limits.TheConstants.{MAX_DEPTH, MAX_NODES};
 ghost use Rattle.cm_type_arena.specs.TypeDefs.{def_parts, is_spellable_def, option_list};
-ghost use Rattle.cm_type_arena.specs.TypeDefs.{payload_places};
+ghost use Rattle.cm_type_arena.specs.TypeDefs.{IsBelow, payload_places};
+ghost use Rattle.cm_type_arena.specs.Places.{HasParts};
 ghost use Rattle.cm_type_arena.specs.Summaries.{def_summary};
 
 use crate::primitives::Primitive;
@@ -56,6 +57,25 @@ pub struct CaseDef {
 }
 
 impl TypeDef {
+    /// Whether each of its parts has a place among so many types.
+    pub fn has_parts_below(&self, count: usize) -> bool
+        ensures { IsTrue result ↔ HasParts count self.now }
+    {
+        match self {
+            TypeDef::List(part) | TypeDef::Option(part) => *part < count,
+            TypeDef::FixedList { element, .. } => *element < count,
+            TypeDef::Record(fields) => fields.iter().all(|field| field.ty < count),
+            TypeDef::Tuple(parts) => parts.iter().all(|part| *part < count),
+            TypeDef::Variant(cases) => cases.iter().all(|case| is_below(case.payload, count)),
+            TypeDef::Result { ok, error } => is_below(*ok, count) && is_below(*error, count),
+            TypeDef::Primitive(_)
+            | TypeDef::Enum(_)
+            | TypeDef::Flags(_)
+            | TypeDef::Own(_)
+            | TypeDef::Borrow(_) => true,
+        }
+    }
+
     /// The places of its parts, in the order in which they stand.
     pub(crate) fn parts(&self, alloc: Global) -> Result<Vec<usize>, AllocError>
         ensures { IfOk result (λ parts. parts.items ≡ def_parts self.now) }
@@ -161,4 +181,14 @@ fn push_some(parts: &mut Vec<usize>, part: Option<usize>) -> Result<(), AllocErr
         parts.push(place)?;
     }
     Ok(())
+}
+
+/// Whether the part, if there is one, has a place among so many types.
+pub(crate) fn is_below(part: Option<usize>, count: usize) -> bool
+    ensures { IsTrue result ↔ IsBelow count part }
+{
+    match part {
+        None => true,
+        Some(place) => place < count,
+    }
 }

@@ -1,9 +1,10 @@
 //! The arena of types.
 
-ghost use Rattle.cm_type_arena.specs.Arena.{IsArena};
+ghost use Rattle.cm_type_arena.specs.Arena.{AreFuncs, IsArena, types_in};
 
 use crate::building::build;
 use crate::entries::{TypeEntry, primitive_entry};
+use crate::funcs::FuncEntry;
 use crate::primitives::{PRIMITIVES, Primitive};
 use crate::summaries::Summary;
 use crate::type_defs::TypeDef;
@@ -26,11 +27,14 @@ pub enum DefFault {
 }
 
 /// Types by place, the primitive ones first: each stands once, and names its parts by earlier
-/// places.
+/// places. Beside them types of functions, by places of their own, each of which names the types in
+/// it by their places.
 #[derive(Drop)]
 pub struct Types {
-    entries: Vec<TypeEntry>,
+    pub(crate) entries: Vec<TypeEntry>,
+    pub(crate) funcs: Vec<FuncEntry>,
     ghost arena: { ∥ IsArena entries.items ∥₁ },
+    ghost functions: { ∥ AreFuncs (types_in entries.items) funcs.items ∥₁ },
 }
 
 impl Types {
@@ -43,22 +47,25 @@ impl Types {
     ghost use Rattle.cm_types.specs.Limits.{IsWithinLimits};
     ghost use Rattle.cm_types.specs.Spellable.{is_spellable};
     ghost use Rattle.cm_types.specs.TypeTrees.{type_of};
-    ghost use Rattle.cm_type_arena.specs.Arena.{IsEntry, parts_in, types_in};
-    ghost use Rattle.cm_type_arena.specs.Places.{HasParts, types_of};
+    ghost use Rattle.cm_type_arena.specs.Arena.{IsEntry, parts_in};
+    ghost use Rattle.cm_type_arena.specs.Places.{HasParts, funcs_of, types_of};
     ghost use Rattle.cm_type_arena.specs.Summaries.{summary_of, summary_of_all};
     ghost use Rattle.cm_type_arena.specs.TypeDefs.{def_parts, def_type, primitive_type, type_at};
     ghost use Rattle.cm_type_arena.specs.TypeDefs.{primitive_types};
     ghost use Rattle.cm_type_arena.specs.declared.types.DefFault.TheVariants as def_fault;
 
-    /// The primitive types. `AllocError` comes where there is no memory for them.
+    /// The primitive types, and no type of a function. `AllocError` comes where there is no memory
+    /// for them.
     pub fn new(alloc: Global) -> Result<Types, AllocError>
-        ensures { IfOk result (λ types. types_of types ≡ primitive_types) }
+        ensures types { IfOk result (λ types. types_of types ≡ primitive_types) }
+        ensures funcs { IfOk result (λ types. funcs_of types ≡ []) }
     {
         let mut entries = Vec::new(alloc);
         for primitive in PRIMITIVES {
             entries.push(primitive_entry(alloc, primitive))?;
         }
-        Ok(Types { entries })
+        let funcs = Vec::new(alloc);
+        Ok(Types { entries, funcs })
     }
 
     /// The place of a primitive type.
@@ -117,12 +124,14 @@ impl Types {
     ///
     /// `TooLarge` comes where it would not be within the limits, else `NotSpellable` where no file
     /// can spell it, and `Memory` where there is no memory for it; the types then stay as they are.
+    /// Its parts are looked at by what is known of them, and nothing below them is walked.
     pub fn push(&mut self, alloc: Global, def: TypeDef) -> Result<usize, DefFault>
         requires parts { HasParts (length (types_of self.old)) def }
         ensures place { IfOk result (λ place. place ≡ length (types_of self.old)) }
         ensures pushed { OnOk result
             (types_of self.new ≡ types_of self.old ++ def_type (types_of self.old) def ∷ []) }
         ensures kept { OnErr result (types_of self.new ≡ types_of self.old) }
+        ensures funcs { funcs_of self.new ≡ funcs_of self.old }
         ensures within { OnOk result (IsWithinLimits (def_type (types_of self.old) def)) }
         ensures spellable { OnOk result (is_spellable (def_type (types_of self.old) def) ≡ true) }
         ensures too_large { IsErrOf result def_fault.TooLarge
@@ -183,7 +192,7 @@ impl Types {
     }
 
     /// What is known of the types at these places together, if it is within the limit on nodes.
-    fn summary_together(&self, places: &[usize]) -> Option<Summary>
+    pub(crate) fn summary_together(&self, places: &[usize]) -> Option<Summary>
         ensures { SomeIff result
             ((summary_of_all (map (type_at (types_of self.now)) places.now)).nodes ≤ MAX_NODES)
             (summary_of_all (map (type_at (types_of self.now)) places.now)) }

@@ -4,9 +4,11 @@ use Rattle.cm_types.specs.TypeTrees.{type_of}
 use Rattle.cm_type_arena.specs.declared.entries.TypeEntry.{TypeEntry}
 use Rattle.cm_type_arena.specs.declared.primitives.TheConstants.{PRIMITIVES}
 use Rattle.cm_type_arena.specs.declared.primitives.Primitive.TheVariants.{Bool}
-use Rattle.cm_type_arena.specs.Arena.{types_in, IsEntry}
+use Rattle.cm_type_arena.specs.Arena.{types_in, AreFuncs, IsEntry}
+use Rattle.cm_type_arena.specs.declared.funcs.FuncEntry.{FuncEntry}
 use Rattle.cm_type_arena.specs.TypeDefs.{primitive_type}
 use Rattle.cm_type_arena.proofs.ArenaLaws.{alone_more, primitive_is_entry, primitives_made, types_more}
+use Rattle.cm_type_arena.proofs.FuncLaws.{no_funcs}
 use Rattle.cm_type_arena.proofs.types.Types.new.Goals as goal
 
 taken_more : {X Y : Type 0} (f : X → Y) (xs : List X) (i : ℕ) (d : X) → i < length xs → map f (take i xs) ++ f (get_or xs i d) ∷ [] ≡ map f (take (i + 1) xs)
@@ -35,4 +37,5 @@ invariant_of-result c =
     let all : c.loop-primitive.primitive-index ≡ 11 = omega arith in
     record {
       arena = primitives_made c.loop-primitive.entries.items (c.loop-primitive.invariant.types ∙ ap (λ n. map primitive_type (take n PRIMITIVES)) all) c.loop-primitive.invariant.each;
+      functions = subst (λ (fs : List FuncEntry). ∥ AreFuncs (types_in c.loop-primitive.entries.items) fs ∥₁) (sym c.new-funcs.ensures.items) (no_funcs (types_in c.loop-primitive.entries.items));
     }
