@@ -26,9 +26,18 @@ pub struct FuncType {
     pub result: Option<ValType>,
 }
 
+pub enum CanonOption {
+    Utf8,
+    Utf16,
+    Latin1Utf16,
+    Memory(u32),
+    Realloc(u32),
+    PostReturn(u32),
+}
+
 pub enum Canon {
-    Lift { core_func: u32, ty: u32 },
-    Lower { func: u32 },
+    Lift { core_func: u32, options: Vec<CanonOption>, ty: u32 },
+    Lower { func: u32, options: Vec<CanonOption> },
 }
 
 pub struct Import {
@@ -178,20 +187,28 @@ fn alias(reader: &mut Reader) -> Option<(u32, String)> {
     Some((reader.number()?, reader.text()?.to_string()))
 }
 
+fn canon_option(reader: &mut Reader) -> Option<CanonOption> {
+    match reader.byte()? {
+        0x00 => Some(CanonOption::Utf8),
+        0x01 => Some(CanonOption::Utf16),
+        0x02 => Some(CanonOption::Latin1Utf16),
+        0x03 => Some(CanonOption::Memory(reader.number()?)),
+        0x04 => Some(CanonOption::Realloc(reader.number()?)),
+        0x05 => Some(CanonOption::PostReturn(reader.number()?)),
+        _ => None,
+    }
+}
+
 fn canon(reader: &mut Reader) -> Option<Canon> {
     let form = reader.byte()?;
     reader.fixed(0x00)?;
     match form {
         0x00 => {
             let core_func = reader.number()?;
-            reader.fixed(0x00)?;
-            Some(Canon::Lift { core_func, ty: reader.number()? })
+            let options = reader.vec(canon_option)?;
+            Some(Canon::Lift { core_func, options, ty: reader.number()? })
         }
-        0x01 => {
-            let func = reader.number()?;
-            reader.fixed(0x00)?;
-            Some(Canon::Lower { func })
-        }
+        0x01 => Some(Canon::Lower { func: reader.number()?, options: reader.vec(canon_option)? }),
         _ => None,
     }
 }
@@ -280,18 +297,33 @@ fn put_func_type(out: &mut Vec<u8>, ty: &FuncType) {
     out.extend_from_slice(if ty.result.is_some() { &[0x00, 0x79] } else { &[0x01, 0x00] });
 }
 
+fn put_canon_option(out: &mut Vec<u8>, option: &CanonOption) {
+    let (code, index) = match option {
+        CanonOption::Utf8 => (0x00, None),
+        CanonOption::Utf16 => (0x01, None),
+        CanonOption::Latin1Utf16 => (0x02, None),
+        CanonOption::Memory(index) => (0x03, Some(*index)),
+        CanonOption::Realloc(index) => (0x04, Some(*index)),
+        CanonOption::PostReturn(index) => (0x05, Some(*index)),
+    };
+    out.push(code);
+    if let Some(index) = index {
+        put_number(out, index);
+    }
+}
+
 fn put_canon(out: &mut Vec<u8>, canon: &Canon) {
     match canon {
-        Canon::Lift { core_func, ty } => {
+        Canon::Lift { core_func, options, ty } => {
             out.extend_from_slice(&[0x00, 0x00]);
             put_number(out, *core_func);
-            out.push(0x00);
+            put_vec(out, options, put_canon_option);
             put_number(out, *ty);
         }
-        Canon::Lower { func } => {
+        Canon::Lower { func, options } => {
             out.extend_from_slice(&[0x01, 0x00]);
             put_number(out, *func);
-            out.push(0x00);
+            put_vec(out, options, put_canon_option);
         }
     }
 }
@@ -478,7 +510,12 @@ pub fn validate(sections: Vec<Section>) -> Option<Checked> {
             Section::Canons(items) => {
                 for canon in items {
                     match canon {
-                        Canon::Lift { core_func, ty } => {
+                        Canon::Lift { options, .. } | Canon::Lower { options, .. }
+                            if !options.is_empty() =>
+                        {
+                            return None;
+                        }
+                        Canon::Lift { core_func, ty, .. } => {
                             let ty = types.get(*ty as usize)?;
                             let core = core_funcs.get(*core_func as usize)?;
                             if ty.params.len() > MOST_PARAMS
@@ -488,7 +525,7 @@ pub fn validate(sections: Vec<Section>) -> Option<Checked> {
                             }
                             funcs.push(FuncDef::Lifted { core_func: *core_func, ty: ty.clone() });
                         }
-                        Canon::Lower { func } => match funcs.get(*func as usize)? {
+                        Canon::Lower { func, .. } => match funcs.get(*func as usize)? {
                             FuncDef::Imported { import, ty } if ty.params.len() <= MOST_PARAMS => {
                                 core_funcs
                                     .push(CoreFunc::Lowered { import: *import, ty: ty.clone() });

@@ -54,6 +54,24 @@ pub fn types(size: usize) -> Vec<u8> {
     file(&[section(7, &list(&vec![one; count]))])
 }
 
+/// The same, refused at its last byte, the type of the last result.
+pub fn refused(size: usize) -> Vec<u8> {
+    let mut file = types(size);
+    if let Some(last) = file.last_mut() {
+        *last = 0x40;
+    }
+    file
+}
+
+/// Functions lifted with options: a text's encoding, a memory, a realloc and a post-return.
+pub fn lifts(size: usize) -> Vec<u8> {
+    let options = list(&[vec![0x00], vec![0x03, 0x00], vec![0x04, 0x00], vec![0x05, 0x00]]);
+    let lifts: Vec<Vec<u8>> = (0..size / 15)
+        .map(|at| [vec![0x00, 0x00], number(at % 1_000), options.clone(), vec![0x00]].concat())
+        .collect();
+    file(&[section(8, &list(&lifts))])
+}
+
 fn inc_type() -> Vec<u8> {
     section(7, &list(&[func_type(1, 2)]))
 }

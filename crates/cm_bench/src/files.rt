@@ -2,6 +2,7 @@
 //! was read.
 
 use cm_binary::{decode, encode};
+use cm_pieces::{decode_from, decode_pieces};
 use cm_validate::{Checked, validate};
 use std::alloc::Global;
 
@@ -9,6 +10,25 @@ use std::alloc::Global;
 #[unsafe(no_mangle)]
 pub extern "C" fn cm_bench_decode(alloc: Global, bytes: &[u8]) -> usize {
     decode(alloc, bytes).map_or(0, |component| component.sections().len())
+}
+
+/// The bytes of one piece.
+const PIECE: usize = 4_096;
+
+/// Decodes a file in pieces: how many sections it has, 0 where it is refused.
+#[unsafe(no_mangle)]
+pub extern "C" fn cm_bench_decode_pieces(alloc: Global, bytes: &[u8]) -> usize {
+    let Ok(pieces) = bytes.chunks(PIECE).collect::<Vec<&[u8]>>(alloc) else {
+        return 0;
+    };
+    decode_pieces(alloc, &pieces).map_or(0, |component| component.sections().len())
+}
+
+/// Decodes a file from a reader: how many sections it has, 0 where it is refused.
+#[unsafe(no_mangle)]
+pub extern "C" fn cm_bench_decode_from(alloc: Global, bytes: &[u8]) -> usize {
+    let mut reader = bytes;
+    decode_from(alloc, &mut reader).map_or(0, |component| component.sections().len())
 }
 
 /// Decodes a file and writes what was read: how many bytes that takes, 0 where it is refused.

@@ -22,5 +22,5 @@ pub use instances::{
 };
 pub use limits::{COMPONENT_PREAMBLE, LimitFault, MAX_FILE_BYTES, MAX_TYPES, MODULE_PREAMBLE};
 pub use part::Part;
-pub use section::{CustomSection, Section, types_in};
+pub use section::{CustomSection, Section, contents_length, file_length, types_in};
 pub use types::types_in_def;

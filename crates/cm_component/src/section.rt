@@ -63,8 +63,9 @@ impl Part for Section {
     }
 }
 
-/// The length of a section's contents.
-fn contents_length(section: &Section) -> u64
+/// The length of the shortest spelling of a section's contents in bytes, or `u64::MAX` where it is
+/// more.
+pub fn contents_length(section: &Section) -> u64
     ensures length { result ≡ saturate (length (contents_spelling (section_tree section.now))) }
     ensures holds { holds (section_tree section.now) ≡ true }
 {
@@ -83,8 +84,8 @@ fn contents_length(section: &Section) -> u64
     }
 }
 
-/// The length of the file with these sections, in bytes.
-pub(crate) fn file_length(sections: &[Section]) -> u64
+/// The length of the shortest file with these sections in bytes, or `u64::MAX` where it is more.
+pub fn file_length(sections: &[Section]) -> u64
     ensures length { result ≡ saturate (length (spelling (map section_tree sections.now))) }
     ensures holds { list_all holds (map section_tree sections.now) ≡ true }
 {

@@ -1,0 +1,107 @@
+//! Rows on files that are read from a reader.
+
+use crate::answers::{show_outcome, write_answers};
+use cm_pieces::decode_from;
+use cm_rows::{RowFault, read_bytes, read_number};
+use std::alloc::Global;
+use std::io;
+use std::io::{ErrorKind, Read};
+
+/// How a reader ends.
+#[derive(Clone, Copy)]
+enum Ending {
+    /// Its bytes are used up.
+    End,
+    /// It fails behind them.
+    Failure,
+}
+
+/// A reader of bytes in memory.
+#[derive(Drop)]
+struct Tap<'a> {
+    rest: &'a [u8],
+    ending: Ending,
+    /// The most bytes of one read.
+    size: usize,
+    /// Whether each second read is interrupted, from the first one on.
+    interrupts: bool,
+    was_interrupted: bool,
+    /// The most bytes that were asked for.
+    asked: usize,
+}
+
+impl<'a> Tap<'a> {
+    fn new(bytes: &'a [u8], size: usize, ending: Ending, interrupts: bool) -> Tap<'a> {
+        Tap {
+            rest: bytes,
+            ending,
+            size,
+            interrupts,
+            was_interrupted: false,
+            asked: 0,
+        }
+    }
+}
+
+impl<'a> Read for Tap<'a> {
+    fn read(&mut self, buf: &mut [u8]) -> io::Result<usize> {
+        self.asked = self.asked.max(buf.len());
+        self.was_interrupted = self.interrupts && !self.was_interrupted;
+        if self.was_interrupted {
+            return Err(io::Error::from(ErrorKind::Interrupted));
+        }
+        if self.rest.is_empty() && matches!(self.ending, Ending::Failure) {
+            return Err(io::Error::from(ErrorKind::BrokenPipe));
+        }
+        let count = buf.len().min(self.size).min(self.rest.len());
+        let (given, rest) = self.rest.split_at(count);
+        buf[..count].copy_from_slice(given);
+        self.rest = rest;
+        Ok(count)
+    }
+}
+
+/// The answer to `slice FILE`, or of a reader that gives at most SIZE bytes a read, to `parts SIZE
+/// FILE`, `interrupted SIZE FILE` or `failing SIZE FILE`.
+pub fn answer(alloc: Global, words: &[&str]) -> Result<String, RowFault> {
+    match words {
+        ["slice", file] => {
+            let file = read_bytes(alloc, file)?;
+            show_outcome(alloc, decode_from(alloc, &mut file.as_slice()))
+        }
+        ["parts", size, file] => {
+            let file = read_bytes(alloc, file)?;
+            let size = read_number(size)?;
+            show_read(alloc, &mut Tap::new(&file, size, Ending::End, false))
+        }
+        ["interrupted", size, file] => {
+            let file = read_bytes(alloc, file)?;
+            let size = read_number(size)?;
+            show_read(alloc, &mut Tap::new(&file, size, Ending::End, true))
+        }
+        ["failing", size, file] => {
+            show_failing(alloc, &read_bytes(alloc, file)?, read_number(size)?)
+        }
+        _ => Err(RowFault::NotARow),
+    }
+}
+
+/// What is read, how many bytes are left in the reader, and the most that a read asked for.
+fn show_read(alloc: Global, tap: &mut Tap<'_>) -> Result<String, RowFault> {
+    let mut out = show_outcome(alloc, decode_from(alloc, tap))?;
+    let (left, asked) = (tap.rest.len(), tap.asked);
+    write!(out, "; {left} left, at most {asked} a read")?;
+    Ok(out)
+}
+
+/// What is read of a reader that fails behind so many bytes, for each number up to the length.
+fn show_failing(alloc: Global, file: &[u8], size: usize) -> Result<String, RowFault> {
+    let mut answers = Vec::new(alloc);
+    for length in 0..=file.len() {
+        let mut tap = Tap::new(&file[..length], size, Ending::Failure, false);
+        answers.push(show_outcome(alloc, decode_from(alloc, &mut tap))?)?;
+    }
+    let mut out = String::new(alloc);
+    write_answers(&mut out, &answers)?;
+    Ok(out)
+}

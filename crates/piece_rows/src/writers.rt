@@ -1,0 +1,138 @@
+//! Rows on files that are written to a writer.
+
+use crate::answers::write_answers;
+use cm_binary::{Component, DecodeReason, decode};
+use cm_pieces::{WriteReason, write_to};
+use cm_rows::{RowFault, read_bytes, read_number, write_units};
+use std::alloc::Global;
+use std::io;
+use std::io::{ErrorKind, Write};
+
+/// What a writer does once it is full.
+#[derive(Clone, Copy)]
+enum Full {
+    /// It fails.
+    Fails,
+    /// It takes no bytes.
+    TakesNone,
+}
+
+/// A writer into memory.
+#[derive(Drop)]
+struct Pipe {
+    taken: Vec<u8>,
+    /// How many more bytes it takes.
+    room: usize,
+    full: Full,
+    /// The most bytes of one write.
+    size: usize,
+    /// Whether each second write is interrupted, from the first one on.
+    interrupts: bool,
+    was_interrupted: bool,
+}
+
+impl Pipe {
+    fn new(alloc: Global, size: usize, room: usize, full: Full) -> Pipe {
+        Pipe {
+            taken: Vec::new(alloc),
+            room,
+            full,
+            size,
+            interrupts: false,
+            was_interrupted: false,
+        }
+    }
+}
+
+impl Write for Pipe {
+    fn write(&mut self, buf: &[u8]) -> io::Result<usize> {
+        self.was_interrupted = self.interrupts && !self.was_interrupted;
+        if self.was_interrupted {
+            return Err(io::Error::from(ErrorKind::Interrupted));
+        }
+        if self.room == 0 && matches!(self.full, Full::Fails) {
+            return Err(io::Error::from(ErrorKind::BrokenPipe));
+        }
+        let count = buf.len().min(self.size).min(self.room);
+        self.taken.extend_from_slice(&buf[..count])?;
+        self.room -= count;
+        Ok(count)
+    }
+
+    fn flush(&mut self) -> io::Result<()> {
+        Ok(())
+    }
+}
+
+/// The answer of a writer that takes at most SIZE bytes a write to `parts SIZE FILE`, `interrupted
+/// SIZE FILE`, `failing SIZE FILE` or `stalling SIZE FILE`, of a file that has a component.
+pub fn answer(alloc: Global, words: &[&str]) -> Result<String, RowFault> {
+    let [form, size, file] = words else {
+        return Err(RowFault::NotARow);
+    };
+    let (size, file) = (read_number(size)?, read_bytes(alloc, file)?);
+    let component = decode(alloc, &file).map_err(|fault| match fault.reason {
+        DecodeReason::Memory => RowFault::Memory,
+        _ => RowFault::NotARow,
+    })?;
+    match *form {
+        "parts" => {
+            let mut pipe = Pipe::new(alloc, size, usize::MAX, Full::Fails);
+            show_written(alloc, &component, &mut pipe)
+        }
+        "interrupted" => {
+            let mut pipe = Pipe::new(alloc, size, usize::MAX, Full::Fails);
+            pipe.interrupts = true;
+            show_written(alloc, &component, &mut pipe)
+        }
+        "failing" => show_full(alloc, &component, &file, size, Full::Fails),
+        "stalling" => show_full(alloc, &component, &file, size, Full::TakesNone),
+        _ => Err(RowFault::NotARow),
+    }
+}
+
+/// Whether all was written, and what the writer holds.
+fn show_written(alloc: Global, component: &Component, pipe: &mut Pipe) -> Result<String, RowFault> {
+    let mut out = show_end(alloc, component, pipe)?;
+    out.push_str(", ")?;
+    write_units(&mut out, &pipe.taken, 1)?;
+    Ok(out)
+}
+
+fn show_end(alloc: Global, component: &Component, pipe: &mut Pipe) -> Result<String, RowFault> {
+    match write_to(alloc, component, pipe) {
+        Ok(()) => Ok(String::from_str(alloc, "written")?),
+        Err(fault) => {
+            let (number, written) = (fault.reason.number(), fault.written);
+            if number == WriteReason::Memory.number() {
+                return Err(RowFault::Memory);
+            }
+            Ok(format!(in alloc; "fault {number} after {written}")?)
+        }
+    }
+}
+
+/// What is written to a writer that is full behind so many bytes, for each number up to the length
+/// of the file, and whether it holds so many bytes of the file then, from the first one on.
+fn show_full(
+    alloc: Global,
+    component: &Component,
+    file: &[u8],
+    size: usize,
+    full: Full,
+) -> Result<String, RowFault> {
+    let mut answers = Vec::new(alloc);
+    for room in 0..=file.len() {
+        let mut pipe = Pipe::new(alloc, size, room, full);
+        let mut answer = show_end(alloc, component, &mut pipe)?;
+        answer.push_str(if pipe.taken.as_slice() == &file[..room] {
+            ", its beginning"
+        } else {
+            ", other bytes"
+        })?;
+        answers.push(answer)?;
+    }
+    let mut out = String::new(alloc);
+    write_answers(&mut out, &answers)?;
+    Ok(out)
+}
