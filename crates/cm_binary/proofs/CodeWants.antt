@@ -4,6 +4,8 @@ use Rattle.cm_grammar.proofs.WantLaws.{Never}
 use Rattle.cm_reading.specs.declared.fault.DecodeReason.{DecodeReason}
 use Rattle.cm_reading.specs.declared.fault.DecodeReason.TheVariants.{Truncated, UnknownCode, Unsupported}
 use Rattle.cm_reading.specs.declared.fault.Feature.{Feature}
+use Rattle.cm_reading.specs.declared.codes.ValueForm.TheVariants as value_forms
+use Rattle.cm_reading.specs.declared.codes.TypeForm.TheVariants as type_forms
 use Rattle.cm_reading.specs.Codes.{section_kind, core_instance_form, core_sort, instance_form, instance_export_sort, alias_sort, core_alias_target, func_alias_target, type_alias_target, no_alias_target, as_case, prim_val_type, value_form, type_form, optional_form, result_form, canon_form, option_form, desc_form, export_sort, export_desc}
 
 -- The answer is no want of a byte.
@@ -62,10 +64,10 @@ as_case_never f (Ok x) p e = absurd cc
 as_case_never f (Err reason) p e = let q : reason ≡ Truncated = cc in p (rw q refl)
 
 pub value_form_never : Never Truncated value_form
-value_form_never b = search (either, known, as_case_never _ _ (prim_val_type_never b)) depth 20
+value_form_never b = search (either, known, as_case_never value_forms.Primitive (prim_val_type b) (prim_val_type_never b)) depth 20
 
 pub type_form_never : Never Truncated type_form
-type_form_never b = search (either, known, unsupported, as_case_never _ _ (value_form_never b)) depth 20
+type_form_never b = search (either, known, unsupported, as_case_never type_forms.Value (value_form b) (value_form_never b)) depth 20
 
 pub optional_form_never : Never Truncated optional_form
 optional_form_never b = search (either, known, unknown) depth 20

@@ -1,5 +1,5 @@
 -- Types: what is written spells them, nothing shorter does, and there are no more than may stand.
-use Rattle.std.proofs.Common.{◌≡◌, ℕ, zero, suc, ◌+◌, ◌-◌, ◌≤◌, ◌<◌, ◌^◌, ◌⊎◌, inl, inr, List, ◌++◌, ◌∷◌, [], length, Bool, true, false, Option, Some, None, Ok, refl, sym, subst, arith}
+use Rattle.std.proofs.Common.{◌≡◌, ℕ, zero, suc, ◌+◌, ◌-◌, ◌*◌, ◌≤◌, ◌<◌, ◌^◌, ◌⊎◌, inl, inr, List, ◌++◌, ◌∷◌, [], length, Bool, true, false, Option, Some, None, Ok, refl, sym, subst, arith}
 use Rattle.std.specs.Prelude.{ℤ, pos, negsuc, if◌then◌else◌}
 use Rattle.std.specs.Str.{is_utf8}
 use Rattle.std.specs.List.{list_all, sum_by}
@@ -188,13 +188,16 @@ index_written : (n : ℕ) → is_index n ≡ true → Spelled (val_type_of false
 unfolding val_type_of type_index
 index_written n h = last_written (λ (z : ℤ). val_types.Index (as_index z)) (check_written is_type_index BadNumber h (signed_written (pos n) (within_signed n (ltb-true n (2 ^ 32) h))))
 
+abbrev val_type_at : ℕ → Production ValType
+val_type_at b = val_type_of (is_from 0x40 0x7f b)
+
 val_type_writes : Writes val_type holds_val_type val_type_spelling
 unfolding val_type
 val_type_writes (val_types.Primitive p) h lt =
-    ahead_written _ (prim_val_type_code p) [] refl (subst (λ (b : Bool). Spelled (val_type_of b) (val_types.Primitive p) (prim_val_type_code p ∷ [])) (sym (prim_ahead p)) (prim_written p))
+    ahead_written val_type_at (prim_val_type_code p) [] refl (subst (λ (b : Bool). Spelled (val_type_of b) (val_types.Primitive p) (prim_val_type_code p ∷ [])) (sym (prim_ahead p)) (prim_written p))
 val_type_writes (val_types.Index n) h lt =
     let begins = shortest_signed-apart n in
-    ahead_written _ begins.first begins.rest begins.parts (subst (λ (b : Bool). Spelled (val_type_of b) (val_types.Index n) (shortest_signed (pos n))) (sym (apart_ahead begins.first begins.apart)) (index_written n h))
+    ahead_written val_type_at begins.first begins.rest begins.parts (subst (λ (b : Bool). Spelled (val_type_of b) (val_types.Index n) (shortest_signed (pos n))) (sym (apart_ahead begins.first begins.apart)) (index_written n h))
 
 param_writes : Writes param holds_param param_spelling
 unfolding param
@@ -214,7 +217,7 @@ case_type_writes x h lt =
 
 -- ---- what is written: definitions
 
-form_of : DefValTypeTree → ValueForm
+abbrev form_of : DefValTypeTree → ValueForm
 form_of (types.primitive p) = value_forms.Primitive p
 form_of (types.record_of fields) = value_forms.Record
 form_of (types.variant_of cases) = value_forms.Variant

@@ -4,7 +4,8 @@ ghost use Rattle.std.specs.Prelude.{◌≡◌, ◌++◌, OnOk};
 ghost use Rattle.cm_leb.specs.Writing.{shortest_unsigned};
 ghost use Rattle.cm_types.specs.DefTypes.{def_val_type_tree, func_type_tree};
 ghost use Rattle.cm_component.specs.Spelling.{optional_spelling, prim_val_type_code};
-ghost use Rattle.cm_component.specs.Spelling.{val_type_spelling, def_val_type_code, def_val_type_parts};
+ghost use Rattle.cm_component.specs.Spelling.{val_type_spelling, def_val_type_code};
+ghost use Rattle.cm_component.specs.Spelling.{def_val_type_parts};
 ghost use Rattle.cm_component.specs.Spelling.{result_spelling, func_spelling};
 
 use crate::written::{Written, write_vec};
