@@ -1,10 +1,12 @@
 -- No table refuses a byte for want of one.
-use Rattle.std.proofs.Common.{◌≡◌, ℕ, Bool, true, false, cond, Result, Ok, Err}
+use Rattle.std.proofs.Common.{◌≡◌, ℕ, Bool, true, false, cond, Result, Ok, Err, refl}
 use Rattle.cm_grammar.proofs.WantLaws.{Never}
 use Rattle.cm_reading.specs.declared.fault.DecodeReason.{DecodeReason}
 use Rattle.cm_reading.specs.declared.fault.DecodeReason.TheVariants.{Truncated, UnknownCode, Unsupported}
 use Rattle.cm_reading.specs.declared.fault.Feature.{Feature}
-use Rattle.cm_reading.specs.Codes.{section_kind, core_instance_form, core_sort, instance_form, instance_export_sort, alias_sort, core_alias_target, func_alias_target, type_alias_target, no_alias_target, type_form, val_type, result_form, canon_form, option_form, desc_form, export_sort, export_desc}
+use Rattle.cm_reading.specs.declared.codes.ValueForm.TheVariants as value_forms
+use Rattle.cm_reading.specs.declared.codes.TypeForm.TheVariants as type_forms
+use Rattle.cm_reading.specs.Codes.{section_kind, core_instance_form, core_sort, instance_form, instance_export_sort, alias_sort, core_alias_target, func_alias_target, type_alias_target, no_alias_target, as_case, prim_val_type, value_form, type_form, optional_form, result_form, canon_form, option_form, desc_form, export_sort, export_desc}
 
 -- The answer is no want of a byte.
 abbrev IsNot : {K : Type 0} → Result K DecodeReason → Type 0
@@ -54,11 +56,21 @@ type_alias_target_never b = search (either, known, no_target) depth 20
 pub no_alias_target_never : {K : Type 0} → Never {K = K} Truncated (λ b. Err (no_alias_target b))
 no_alias_target_never b = no_target b
 
-pub type_form_never : Never Truncated type_form
-type_form_never b = search (either, known, unknown, unsupported) depth 20
+pub prim_val_type_never : Never Truncated prim_val_type
+prim_val_type_never b = search (either, known, unknown, unsupported) depth 20
 
-pub val_type_never : Never Truncated val_type
-val_type_never b = search (either, known, unknown, unsupported) depth 20
+as_case_never : {A B : Type 0} (f : A → B) (r : Result A DecodeReason) → IsNot r → IsNot (as_case f r)
+as_case_never f (Ok x) p e = absurd cc
+as_case_never f (Err reason) p e = let q : reason ≡ Truncated = cc in p (rw q refl)
+
+pub value_form_never : Never Truncated value_form
+value_form_never b = search (either, known, as_case_never value_forms.Primitive (prim_val_type b) (prim_val_type_never b)) depth 20
+
+pub type_form_never : Never Truncated type_form
+type_form_never b = search (either, known, unsupported, as_case_never type_forms.Value (value_form b) (value_form_never b)) depth 20
+
+pub optional_form_never : Never Truncated optional_form
+optional_form_never b = search (either, known, unknown) depth 20
 
 pub result_form_never : Never Truncated result_form
 result_form_never b = search (either, known, unknown, unsupported) depth 20

@@ -1,7 +1,7 @@
 -- In each production want of a byte stands where the bytes end.
-use Rattle.std.proofs.Common.{◌≡◌, ℕ, zero, suc}
+use Rattle.std.proofs.Common.{◌≡◌, ℕ, zero, suc, Bool, true, false}
 use Rattle.cm_grammar.specs.Grammar.{number}
-use Rattle.cm_grammar.proofs.WantLaws.{Ends, EndsWhole, done_ends, bind_ends, code_ends, number_ends, raw_ends, check_ends, fixed_ends, chain_ends, from_stock_ends, vec_ends, build_ends, remainder_ends, exactly_ends, join_ends, begins_with_ends, to_end_ends, of_size_ends, at_most_ends}
+use Rattle.cm_grammar.proofs.WantLaws.{Ends, EndsWhole, done_ends, bind_ends, ahead_ends, code_ends, number_ends, signed_ends, raw_ends, check_ends, fixed_ends, chain_ends, from_stock_ends, vec_ends, build_ends, remainder_ends, exactly_ends, join_ends, begins_with_ends, to_end_ends, of_size_ends, at_most_ends}
 use Rattle.cm_component.specs.declared.limits.TheConstants.{MAX_TYPES}
 use Rattle.cm_reading.specs.declared.fault.DecodeReason.{DecodeReason}
 use Rattle.cm_reading.specs.declared.fault.DecodeReason.TheVariants.{BadPreamble, Truncated, BadNumber, SizeMismatch, UnknownCode, BadUtf8, BadName, NotAModule, TooMany, TooLong}
@@ -9,6 +9,12 @@ use Rattle.cm_reading.specs.declared.codes.SectionKind.{SectionKind}
 use Rattle.cm_reading.specs.declared.codes.SectionKind.TheVariants as kinds
 use Rattle.cm_reading.specs.declared.codes.AliasSort.{AliasSort}
 use Rattle.cm_reading.specs.declared.codes.AliasSort.TheVariants as alias_sorts
+use Rattle.cm_reading.specs.declared.codes.OptionalForm.{OptionalForm}
+use Rattle.cm_reading.specs.declared.codes.OptionalForm.TheVariants as optional_forms
+use Rattle.cm_reading.specs.declared.codes.ValueForm.{ValueForm}
+use Rattle.cm_reading.specs.declared.codes.ValueForm.TheVariants as value_forms
+use Rattle.cm_reading.specs.declared.codes.TypeForm.{TypeForm}
+use Rattle.cm_reading.specs.declared.codes.TypeForm.TheVariants as type_forms
 use Rattle.cm_reading.specs.declared.codes.ResultForm.{ResultForm}
 use Rattle.cm_reading.specs.declared.codes.ResultForm.TheVariants as result_forms
 use Rattle.cm_reading.specs.declared.codes.CanonForm.{CanonForm}
@@ -22,15 +28,16 @@ use Rattle.cm_reading.specs.declared.codes.OptionForm.TheVariants as option_form
 use Rattle.cm_reading.specs.declared.codes.DescForm.{DescForm}
 use Rattle.cm_reading.specs.declared.codes.DescForm.TheVariants as desc_forms
 use Rattle.cm_component.specs.declared.instances.InstanceExportSort.{InstanceExportSort}
-use Rattle.cm_reading.specs.Texts.{text, label, plain_name, extern_name}
+use Rattle.cm_reading.specs.Codes.{is_from}
+use Rattle.cm_reading.specs.Texts.{Production, text, label, plain_name, extern_name}
 use Rattle.cm_reading.specs.Instances.{core_arg, core_export, core_instance_of, core_instance, inline_export, instance_item}
 use Rattle.cm_reading.specs.Aliases.{outer_type, instance_export, type_alias_of, alias_of, alias}
-use Rattle.cm_reading.specs.Types.{param, func_result_of, func_result, func_type, def_type, def_type_from, type_defs}
+use Rattle.cm_reading.specs.Types.{optional_of, optional, type_index, val_type_of, val_type, param, case_type, def_val_type_of, func_result_of, func_result, func_type, def_type_of, def_type, def_type_from, type_defs}
 use Rattle.cm_reading.specs.Canons.{canon_option_of, canon_option, canon_of, canon}
 use Rattle.cm_reading.specs.Externs.{extern_desc_of, extern_desc, import_item, export_item}
 use Rattle.cm_reading.specs.Sections.{contents, section, sections, room_after}
 use Rattle.cm_reading.specs.File.{component, file}
-use Rattle.cm_binary.proofs.CodeWants.{section_kind_never, core_instance_form_never, core_sort_never, instance_form_never, instance_export_sort_never, alias_sort_never, core_alias_target_never, func_alias_target_never, type_alias_target_never, no_alias_target_never, type_form_never, val_type_never, result_form_never, canon_form_never, option_form_never, desc_form_never, export_sort_never, export_desc_never}
+use Rattle.cm_binary.proofs.CodeWants.{section_kind_never, core_instance_form_never, core_sort_never, instance_form_never, instance_export_sort_never, alias_sort_never, core_alias_target_never, func_alias_target_never, type_alias_target_never, no_alias_target_never, prim_val_type_never, type_form_never, optional_form_never, result_form_never, canon_form_never, option_form_never, desc_form_never, export_sort_never, export_desc_never}
 
 -- Another reason than want of a byte.
 abbrev IsOther : DecodeReason → Type 0
@@ -131,13 +138,54 @@ pub alias_ends : Ends Truncated alias
 unfolding alias
 alias_ends = bind_ends _ _ _ (code_ends _ _ alias_sort_never) alias_of_ends
 
+pub optional_of_ends : {A : Type 0} (g : Production A) → Ends Truncated g → (f : OptionalForm) → Ends Truncated (optional_of g f)
+unfolding optional_of
+optional_of_ends g l optional_forms.Absent = done_ends _ _
+optional_of_ends g l optional_forms.Present = bind_ends _ _ _ l (λ x. done_ends _ _)
+
+pub optional_ends : {A : Type 0} (g : Production A) → Ends Truncated g → Ends Truncated (optional g)
+unfolding optional
+optional_ends g l = bind_ends _ _ _ (code_ends _ _ optional_form_never) (optional_of_ends g l)
+
+pub type_index_ends : Ends Truncated type_index
+unfolding type_index
+type_index_ends = check_ends _ _ _ _ bad_number (signed_ends _ _ bad_number)
+
+pub val_type_of_ends : (p : Bool) → Ends Truncated (val_type_of p)
+unfolding val_type_of
+val_type_of_ends true = bind_ends _ _ _ (code_ends _ _ prim_val_type_never) (λ primitive. done_ends _ _)
+val_type_of_ends false = bind_ends _ _ _ type_index_ends (λ number. done_ends _ _)
+
+pub val_type_ends : Ends Truncated val_type
+unfolding val_type
+val_type_ends = ahead_ends _ _ (λ b. val_type_of_ends (is_from 0x40 0x7f b))
+
 pub param_ends : Ends Truncated param
 unfolding param
-param_ends = bind_ends _ _ _ label_ends (λ name. bind_ends _ _ _ (code_ends _ _ val_type_never) (λ ty. done_ends _ _))
+param_ends = bind_ends _ _ _ label_ends (λ name. bind_ends _ _ _ val_type_ends (λ ty. done_ends _ _))
+
+pub case_type_ends : Ends Truncated case_type
+unfolding case_type
+case_type_ends = bind_ends _ _ _ label_ends (λ name. bind_ends _ _ _ (optional_ends _ val_type_ends) (λ payload. bind_ends _ _ _ (fixed_ends _ _ _ unknown_code) (λ nothing. done_ends _ _)))
+
+pub def_val_type_of_ends : (f : ValueForm) → Ends Truncated (def_val_type_of f)
+unfolding def_val_type_of
+def_val_type_of_ends (value_forms.Primitive p) = done_ends _ _
+def_val_type_of_ends value_forms.Record = bind_ends _ _ _ (vec_ends _ _ _ bad_number param_ends) (λ fields. done_ends _ _)
+def_val_type_of_ends value_forms.Variant = bind_ends _ _ _ (vec_ends _ _ _ bad_number case_type_ends) (λ cases. done_ends _ _)
+def_val_type_of_ends value_forms.List = bind_ends _ _ _ val_type_ends (λ element. done_ends _ _)
+def_val_type_of_ends value_forms.FixedList = bind_ends _ _ _ val_type_ends (λ element. bind_ends _ _ _ index_ends (λ count. done_ends _ _))
+def_val_type_of_ends value_forms.Tuple = bind_ends _ _ _ (vec_ends _ _ _ bad_number val_type_ends) (λ parts. done_ends _ _)
+def_val_type_of_ends value_forms.Flags = bind_ends _ _ _ (vec_ends _ _ _ bad_number label_ends) (λ labels. done_ends _ _)
+def_val_type_of_ends value_forms.Enum = bind_ends _ _ _ (vec_ends _ _ _ bad_number label_ends) (λ labels. done_ends _ _)
+def_val_type_of_ends value_forms.Option = bind_ends _ _ _ val_type_ends (λ some. done_ends _ _)
+def_val_type_of_ends value_forms.Result = bind_ends _ _ _ (optional_ends _ val_type_ends) (λ ok. bind_ends _ _ _ (optional_ends _ val_type_ends) (λ error. done_ends _ _))
+def_val_type_of_ends value_forms.Own = bind_ends _ _ _ index_ends (λ resource. done_ends _ _)
+def_val_type_of_ends value_forms.Borrow = bind_ends _ _ _ index_ends (λ resource. done_ends _ _)
 
 pub func_result_of_ends : (f : ResultForm) → Ends Truncated (func_result_of f)
 unfolding func_result_of
-func_result_of_ends result_forms.One = bind_ends _ _ _ (code_ends _ _ val_type_never) (λ ty. done_ends _ _)
+func_result_of_ends result_forms.One = bind_ends _ _ _ val_type_ends (λ ty. done_ends _ _)
 func_result_of_ends result_forms.Zero = bind_ends _ _ _ (fixed_ends _ _ _ unknown_code) (λ nothing. done_ends _ _)
 
 pub func_result_ends : Ends Truncated func_result
@@ -148,9 +196,15 @@ pub func_type_ends : Ends Truncated func_type
 unfolding func_type
 func_type_ends = bind_ends _ _ _ (vec_ends _ _ _ bad_number param_ends) (λ params. bind_ends _ _ _ func_result_ends (λ r. done_ends _ _))
 
+pub def_type_of_ends : (f : TypeForm) → Ends Truncated (def_type_of f)
+unfolding def_type_of
+def_type_of_ends (type_forms.Value form) = bind_ends _ _ _ (def_val_type_of_ends form) (λ value. done_ends _ _)
+def_type_of_ends type_forms.Func = bind_ends _ _ _ func_type_ends (λ func. done_ends _ _)
+def_type_of_ends type_forms.Resource = bind_ends _ _ _ (fixed_ends _ _ _ unknown_code) (λ representation. bind_ends _ _ _ (optional_ends _ index_ends) (λ destructor. done_ends _ _))
+
 pub def_type_ends : Ends Truncated def_type
 unfolding def_type
-def_type_ends = bind_ends _ _ _ (code_ends _ _ type_form_never) (λ form. bind_ends _ _ _ func_type_ends (λ func. done_ends _ _))
+def_type_ends = bind_ends _ _ _ (code_ends _ _ type_form_never) def_type_of_ends
 
 pub def_type_from_ends : (stock : ℕ) → Ends Truncated (def_type_from stock)
 unfolding def_type_from

@@ -1,10 +1,15 @@
 -- No form is spelled by no byte.
-use Rattle.std.proofs.Common.{◌<◌, List, [], ◌∷◌, ◌++◌, length, arith}
+use Rattle.std.proofs.Common.{ℕ, ◌<◌, List, [], ◌∷◌, ◌++◌, length, ap, arith}
+use Rattle.std.specs.Prelude.{pos}
 use Rattle.std.proofs.lemmas.List.{length-append}
-use Rattle.cm_leb.specs.Writing.{shortest_unsigned}
+use Rattle.cm_leb.specs.Writing.{shortest_unsigned, shortest_signed}
+use Rattle.cm_leb.proofs.WritingLaws.{shortest_signed-apart}
 use Rattle.cm_grammar.specs.Spelling.{blob_spelling}
+use Rattle.cm_types.specs.declared.def_types.ValType.{ValType}
+use Rattle.cm_types.specs.declared.def_types.ValType.TheVariants as val_types
 use Rattle.cm_types.specs.declared.def_types.LabeledValType.{LabeledValType}
-use Rattle.cm_types.specs.DefTypes.{DefTypeTree, func_def}
+use Rattle.cm_types.specs.declared.def_types.CaseType.{CaseType}
+use Rattle.cm_types.specs.DefTypes.{DefTypeTree, value_def, func_def, resource_def}
 use Rattle.cm_component.specs.declared.instances.InlineExport.{InlineExport}
 use Rattle.cm_component.specs.declared.canons.CanonOption.{CanonOption}
 use Rattle.cm_component.specs.declared.canons.CanonOption.TheVariants as options
@@ -12,7 +17,7 @@ use Rattle.cm_component.specs.declared.externs.Import.{Import}
 use Rattle.cm_component.specs.declared.externs.Export.{Export}
 use Rattle.cm_component.specs.Trees as trees
 use Rattle.cm_component.specs.Trees.{ArgTree, CoreExportTree, CoreInstanceTree, AliasTree, CanonTree}
-use Rattle.cm_component.specs.Spelling.{core_arg_spelling, core_sort_code, core_export_spelling, core_instance_spelling, inline_export_spelling, instance_spelling, alias_spelling, val_type_code, param_spelling, def_spelling, option_spelling, canon_spelling, import_spelling, export_spelling}
+use Rattle.cm_component.specs.Spelling.{core_arg_spelling, core_sort_code, core_export_spelling, core_instance_spelling, inline_export_spelling, instance_spelling, alias_spelling, val_type_spelling, optional_spelling, param_spelling, case_spelling, def_spelling, option_spelling, canon_spelling, import_spelling, export_spelling}
 
 pub core_arg_some : (a : ArgTree) → 0 < length (core_arg_spelling a)
 core_arg_some a = omega (arith, length-append (blob_spelling a.name) (18 ∷ shortest_unsigned a.instance))
@@ -35,11 +40,27 @@ alias_some (trees.instance_export sort i name) = omega arith
 alias_some (trees.core_instance_export sort i name) = omega arith
 alias_some (trees.outer_type outer) = omega arith
 
+pub blob_some : (text : List ℕ) → 0 < length (blob_spelling text)
+blob_some [] = omega arith
+blob_some (b ∷ text) = omega (arith, length-append (shortest_unsigned (length (b ∷ text))) (b ∷ text))
+
+signed_some : (n : ℕ) → 0 < length (shortest_signed (pos n))
+signed_some n = omega (arith, ap length (shortest_signed-apart n).parts)
+
+pub val_type_some : (ty : ValType) → 0 < length (val_type_spelling ty)
+val_type_some (val_types.Primitive p) = omega arith
+val_type_some (val_types.Index i) = signed_some i
+
 pub param_some : (p : LabeledValType) → 0 < length (param_spelling p)
-param_some p = omega (arith, length-append (blob_spelling p.label) (val_type_code p.ty ∷ []))
+param_some p = omega (arith, blob_some p.label, length-append (blob_spelling p.label) (val_type_spelling p.ty))
+
+pub case_some : (c : CaseType) → 0 < length (case_spelling c)
+case_some c = omega (arith, blob_some c.label, length-append (blob_spelling c.label) (optional_spelling val_type_spelling c.payload ++ (0x00 ∷ [])))
 
 pub def_some : (t : DefTypeTree) → 0 < length (def_spelling t)
+def_some (value_def v) = omega arith
 def_some (func_def f) = omega arith
+def_some (resource_def destructor) = omega arith
 
 pub option_some : (o : CanonOption) → 0 < length (option_spelling o)
 option_some options.Utf8 = omega arith

@@ -3,7 +3,7 @@
 use Rattle.std.specs.Prelude.{ℕ, List, length, Bool, true, Option, Some, None, Result, Ok}
 use Rattle.std.specs.Prelude.{Err, nat_eq, nat_lt, if◌then◌else◌}
 use Rattle.std.specs.List.{sum_by, list_all, starts_with}
-use Rattle.cm_types.specs.DefTypes.{DefTypeTree, func_def}
+use Rattle.cm_types.specs.DefTypes.{DefTypeTree, value_def, func_def, resource_def}
 use Rattle.cm_component.specs.Trees as trees
 use Rattle.cm_component.specs.Trees.{SectionTree}
 use Rattle.cm_component.specs.Spelling.{spelling}
@@ -14,7 +14,9 @@ use Rattle.cm_component.specs.declared.limits.LimitFault.TheVariants.{TooMany, T
 
 -- How many types a type definition takes of those that a file may have: itself.
 abbrev pub types_in_def : DefTypeTree → ℕ
+types_in_def (value_def v) = 1
 types_in_def (func_def f) = 1
+types_in_def (resource_def destructor) = 1
 
 -- How many types a section takes.
 abbrev pub types_in : SectionTree → ℕ

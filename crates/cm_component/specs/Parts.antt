@@ -1,12 +1,17 @@
 -- What the parts of a component hold, whatever its sections are: texts are UTF-8, names are names,
 -- and indices are numbers of 32 bits.
-use Rattle.std.specs.Prelude.{ℕ, ◌^◌, List, Bool, true, ◌&&◌, nat_lt}
+use Rattle.std.specs.Prelude.{ℕ, ◌^◌, List, Bool, true, ◌&&◌, nat_lt, Option, Some, None}
 use Rattle.std.specs.List.{list_all}
 use Rattle.std.specs.Str.{is_utf8}
 use Rattle.cm_types.specs.Names.{is_label}
 use Rattle.cm_types.specs.ExternNames.{is_extern_name}
+use Rattle.cm_types.specs.declared.def_types.ValType.{ValType}
+use Rattle.cm_types.specs.declared.def_types.ValType.TheVariants as val_types
 use Rattle.cm_types.specs.declared.def_types.LabeledValType.{LabeledValType}
-use Rattle.cm_types.specs.DefTypes.{FuncTypeTree, DefTypeTree, func_def}
+use Rattle.cm_types.specs.declared.def_types.CaseType.{CaseType}
+use Rattle.cm_types.specs.DefTypes as types
+use Rattle.cm_types.specs.DefTypes.{DefValTypeTree, FuncTypeTree, DefTypeTree}
+use Rattle.cm_types.specs.DefTypes.{value_def, func_def, resource_def}
 use Rattle.cm_component.specs.declared.instances.InlineExport.{InlineExport}
 use Rattle.cm_component.specs.declared.aliases.OuterType.{OuterType}
 use Rattle.cm_component.specs.declared.canons.CanonOption.{CanonOption}
@@ -58,17 +63,53 @@ holds_alias (trees.instance_export sort instance name) = is_index instance && ho
 holds_alias (trees.core_instance_export sort instance name) = is_index instance && is_utf8 name
 holds_alias (trees.outer_type outer) = holds_outer_type outer
 
--- A parameter: its label is a label.
-abbrev pub holds_param : LabeledValType → Bool
-holds_param p = is_utf8 p.label && is_label p.label
+-- What may be there: what is there holds its own.
+abbrev pub holds_optional : {A : Type 0} → (A → Bool) → Option A → Bool
+holds_optional test (Some x) = test x
+holds_optional test None = true
 
--- A function's type: its parameters hold theirs.
+-- A label is a label.
+abbrev pub holds_label : List ℕ → Bool
+holds_label text = is_utf8 text && is_label text
+
+-- A value type: its number, if it has one, is an index.
+abbrev pub holds_val_type : ValType → Bool
+holds_val_type (val_types.Primitive primitive) = true
+holds_val_type (val_types.Index index) = is_index index
+
+-- A parameter or a field: its label and its type hold theirs.
+abbrev pub holds_param : LabeledValType → Bool
+holds_param p = holds_label p.label && holds_val_type p.ty
+
+-- A case: its label and what it carries hold theirs.
+abbrev pub holds_case : CaseType → Bool
+holds_case c = holds_label c.label && holds_optional holds_val_type c.payload
+
+-- A value type that is defined: its parts hold theirs, and its numbers are of 32 bits.
+abbrev pub holds_def_val_type : DefValTypeTree → Bool
+holds_def_val_type (types.primitive p) = true
+holds_def_val_type (types.record_of fields) = list_all holds_param fields
+holds_def_val_type (types.variant_of cases) = list_all holds_case cases
+holds_def_val_type (types.list_of element) = holds_val_type element
+holds_def_val_type (types.fixed_list_of element length) = holds_val_type element && is_index length
+holds_def_val_type (types.tuple_of parts) = list_all holds_val_type parts
+holds_def_val_type (types.flags_of labels) = list_all holds_label labels
+holds_def_val_type (types.enum_of labels) = list_all holds_label labels
+holds_def_val_type (types.option_of some) = holds_val_type some
+holds_def_val_type (types.result_of ok error) =
+    holds_optional holds_val_type ok && holds_optional holds_val_type error
+holds_def_val_type (types.own_of resource) = is_index resource
+holds_def_val_type (types.borrow_of resource) = is_index resource
+
+-- A function's type: its parameters and its result hold theirs.
 abbrev pub holds_func : FuncTypeTree → Bool
-holds_func f = list_all holds_param f.params
+holds_func f = list_all holds_param f.params && holds_optional holds_val_type f.result
 
 -- A type definition: what it defines holds its own.
 abbrev pub holds_def : DefTypeTree → Bool
+holds_def (value_def v) = holds_def_val_type v
 holds_def (func_def f) = holds_func f
+holds_def (resource_def destructor) = holds_optional is_index destructor
 
 -- A canonical option: its number, if it has one, is an index.
 abbrev pub holds_option : CanonOption → Bool

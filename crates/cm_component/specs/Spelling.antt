@@ -1,13 +1,18 @@
 -- The spelling with shortest numbers of each form (Binary.md, whose names of the forms stand in
 -- brackets), which is the one that is written.
-use Rattle.std.specs.Prelude.{ℕ, List, [], ◌∷◌, ◌++◌, Option, Some, None}
+use Rattle.std.specs.Prelude.{ℕ, List, [], ◌∷◌, ◌++◌, Option, Some, None, pos}
 use Rattle.std.specs.List.{flat_map}
-use Rattle.cm_leb.specs.Writing.{shortest_unsigned}
+use Rattle.cm_leb.specs.Writing.{shortest_unsigned, shortest_signed}
 use Rattle.cm_grammar.specs.Spelling.{vec_spelling, blob_spelling}
+use Rattle.cm_types.specs.declared.def_types.PrimValType.{PrimValType}
+use Rattle.cm_types.specs.declared.def_types.PrimValType.TheVariants as prim_val_types
 use Rattle.cm_types.specs.declared.def_types.ValType.{ValType}
 use Rattle.cm_types.specs.declared.def_types.ValType.TheVariants as val_types
 use Rattle.cm_types.specs.declared.def_types.LabeledValType.{LabeledValType}
-use Rattle.cm_types.specs.DefTypes.{FuncTypeTree, DefTypeTree, func_def}
+use Rattle.cm_types.specs.declared.def_types.CaseType.{CaseType}
+use Rattle.cm_types.specs.DefTypes as types
+use Rattle.cm_types.specs.DefTypes.{DefValTypeTree, FuncTypeTree, DefTypeTree}
+use Rattle.cm_types.specs.DefTypes.{value_def, func_def, resource_def}
 use Rattle.cm_component.specs.declared.instances.CoreSort.{CoreSort}
 use Rattle.cm_component.specs.declared.instances.CoreSort.TheVariants as core_sorts
 use Rattle.cm_component.specs.declared.instances.InlineExport.{InlineExport}
@@ -80,26 +85,91 @@ alias_spelling (trees.core_instance_export sort instance name) =
     0x00 ∷ core_sort_code sort ∷ 0x01 ∷ (shortest_unsigned instance ++ blob_spelling name)
 alias_spelling (trees.outer_type outer) = 0x03 ∷ 0x02 ∷ outer_type_spelling outer
 
--- A value type (`primvaltype`).
-abbrev pub val_type_code : ValType → ℕ
-val_type_code val_types.U32 = 0x79
+-- What may be there: a byte for whether it is, and what is there (`<T>?`).
+abbrev pub optional_spelling : {A : Type 0} → (A → List ℕ) → Option A → List ℕ
+optional_spelling spell None = 0x00 ∷ []
+optional_spelling spell (Some x) = 0x01 ∷ spell x
 
--- A parameter: its label, its type (`labelvaltype`).
+-- A primitive value type (`primvaltype`).
+abbrev pub prim_val_type_code : PrimValType → ℕ
+prim_val_type_code prim_val_types.Bool = 0x7f
+prim_val_type_code prim_val_types.S8 = 0x7e
+prim_val_type_code prim_val_types.U8 = 0x7d
+prim_val_type_code prim_val_types.S16 = 0x7c
+prim_val_type_code prim_val_types.U16 = 0x7b
+prim_val_type_code prim_val_types.S32 = 0x7a
+prim_val_type_code prim_val_types.U32 = 0x79
+prim_val_type_code prim_val_types.S64 = 0x78
+prim_val_type_code prim_val_types.U64 = 0x77
+prim_val_type_code prim_val_types.Char = 0x74
+prim_val_type_code prim_val_types.String = 0x73
+
+-- A value type: a primitive one, or the index of a type as a number with a sign (`valtype`).
+abbrev pub val_type_spelling : ValType → List ℕ
+val_type_spelling (val_types.Primitive primitive) = prim_val_type_code primitive ∷ []
+val_type_spelling (val_types.Index index) = shortest_signed (pos index)
+
+-- A parameter or a field: its label, its type (`labelvaltype`).
 abbrev pub param_spelling : LabeledValType → List ℕ
-param_spelling p = blob_spelling p.label ++ (val_type_code p.ty ∷ [])
+param_spelling p = blob_spelling p.label ++ val_type_spelling p.ty
+
+-- A case: its label, the type that it carries, if it does, and a byte 00 (`case`).
+abbrev pub case_spelling : CaseType → List ℕ
+case_spelling c = blob_spelling c.label
+    ++ (optional_spelling val_type_spelling c.payload ++ (0x00 ∷ []))
+
+-- The code of a value type that is defined (`defvaltype`).
+abbrev pub def_val_type_code : DefValTypeTree → ℕ
+def_val_type_code (types.primitive p) = prim_val_type_code p
+def_val_type_code (types.record_of fields) = 0x72
+def_val_type_code (types.variant_of cases) = 0x71
+def_val_type_code (types.list_of element) = 0x70
+def_val_type_code (types.fixed_list_of element length) = 0x67
+def_val_type_code (types.tuple_of parts) = 0x6f
+def_val_type_code (types.flags_of labels) = 0x6e
+def_val_type_code (types.enum_of labels) = 0x6d
+def_val_type_code (types.option_of some) = 0x6b
+def_val_type_code (types.result_of ok error) = 0x6a
+def_val_type_code (types.own_of resource) = 0x69
+def_val_type_code (types.borrow_of resource) = 0x68
+
+-- What stands behind it.
+abbrev pub def_val_type_parts : DefValTypeTree → List ℕ
+def_val_type_parts (types.primitive p) = []
+def_val_type_parts (types.record_of fields) = vec_spelling param_spelling fields
+def_val_type_parts (types.variant_of cases) = vec_spelling case_spelling cases
+def_val_type_parts (types.list_of element) = val_type_spelling element
+def_val_type_parts (types.fixed_list_of element length) =
+    val_type_spelling element ++ shortest_unsigned length
+def_val_type_parts (types.tuple_of parts) = vec_spelling val_type_spelling parts
+def_val_type_parts (types.flags_of labels) = vec_spelling blob_spelling labels
+def_val_type_parts (types.enum_of labels) = vec_spelling blob_spelling labels
+def_val_type_parts (types.option_of some) = val_type_spelling some
+def_val_type_parts (types.result_of ok error) =
+    optional_spelling val_type_spelling ok ++ optional_spelling val_type_spelling error
+def_val_type_parts (types.own_of resource) = shortest_unsigned resource
+def_val_type_parts (types.borrow_of resource) = shortest_unsigned resource
+
+-- A value type that is defined: its code, and what it is made of (`defvaltype`).
+abbrev pub def_val_type_spelling : DefValTypeTree → List ℕ
+def_val_type_spelling t = def_val_type_code t ∷ def_val_type_parts t
 
 -- The result of a function, or that it has none (`resultlist`).
 abbrev pub result_spelling : Option ValType → List ℕ
-result_spelling (Some ty) = 0x00 ∷ val_type_code ty ∷ []
+result_spelling (Some ty) = 0x00 ∷ val_type_spelling ty
 result_spelling None = 0x01 ∷ 0x00 ∷ []
 
 -- A function's type behind its code: the parameters, the result (`functype`).
 abbrev pub func_spelling : FuncTypeTree → List ℕ
 func_spelling f = vec_spelling param_spelling f.params ++ result_spelling f.result
 
--- A type definition (`deftype`).
+-- A type definition; of a resource a code, what represents it (an `i32`) and the destructor
+-- (`deftype`).
 abbrev pub def_spelling : DefTypeTree → List ℕ
+def_spelling (value_def v) = def_val_type_spelling v
 def_spelling (func_def f) = 0x40 ∷ func_spelling f
+def_spelling (resource_def destructor) =
+    0x3f ∷ 0x7f ∷ optional_spelling shortest_unsigned destructor
 
 -- A canonical option (`canonopt`).
 abbrev pub option_spelling : CanonOption → List ℕ

@@ -1,15 +1,15 @@
 //! How many bytes numbers, texts and names take, spelled shortest.
 
-ghost use Rattle.std.specs.Prelude.{◌≡◌, ◌≤◌, length, true};
+ghost use Rattle.std.specs.Prelude.{◌≡◌, ◌≤◌, length, pos, true};
 ghost use Rattle.std.specs.Str.{is_utf8};
-ghost use Rattle.cm_leb.specs.Writing.{shortest_unsigned};
+ghost use Rattle.cm_leb.specs.Writing.{shortest_signed, shortest_unsigned};
 ghost use Rattle.cm_grammar.specs.Spelling.{blob_spelling};
 ghost use Rattle.cm_component.specs.Spelling.{extern_name_spelling};
-ghost use Rattle.cm_component.specs.Parts.{holds_name, is_index};
+ghost use Rattle.cm_component.specs.Parts.{holds_label, holds_name, is_index};
 ghost use Rattle.cm_component.specs.Measures.{saturate};
 
-use cm_leb::spelled_length;
-use cm_types::ExternName;
+use cm_leb::{spelled_length, spelled_signed_length};
+use cm_types::{ExternName, Label};
 
 /// The length of a number.
 pub(crate) fn number_length(number: u64) -> u64
@@ -28,6 +28,15 @@ pub(crate) fn index_length(index: u32) -> u64
     number_length(u64::from(index))
 }
 
+/// The length of an index as a number with a sign.
+pub(crate) fn signed_index_length(index: u32) -> u64
+    ensures length { result ≡ length (shortest_signed (pos index)) }
+    ensures few { result ≤ 5 }
+    ensures holds { is_index index ≡ true }
+{
+    spelled_signed_length(i64::from(index)) as u64
+}
+
 /// The length of bytes behind their number.
 pub(crate) fn blob_length(bytes: &[u8]) -> u64
     ensures { result ≡ saturate (length (blob_spelling bytes.now)) }
@@ -41,6 +50,14 @@ pub(crate) fn text_length(text: &str) -> u64
     ensures utf8 { is_utf8 text.now ≡ true }
 {
     blob_length(text.as_bytes())
+}
+
+/// The length of a label behind its length.
+pub(crate) fn label_length(label: &Label) -> u64
+    ensures length { result ≡ saturate (length (blob_spelling label.now)) }
+    ensures holds { holds_label label.now ≡ true }
+{
+    blob_length(label.as_bytes())
 }
 
 /// The length of an extern name behind its length.

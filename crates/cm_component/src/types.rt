@@ -1,25 +1,74 @@
 //! Types.
 
-ghost use Rattle.std.specs.Prelude.{◌≡◌, length, map, true};
+ghost use Rattle.std.specs.Prelude.{◌≡◌, ◌≤◌, ℕ, List, length, map, true};
 ghost use Rattle.std.specs.List.{sum_by};
-ghost use Rattle.cm_types.specs.DefTypes.{func_type_tree, def_type_tree};
+ghost use Rattle.cm_leb.specs.Writing.{shortest_unsigned};
+ghost use Rattle.cm_grammar.specs.Spelling.{blob_spelling};
+ghost use Rattle.cm_types.specs.DefTypes.{def_val_type_tree, func_type_tree, def_type_tree};
 ghost use Rattle.cm_types.specs.DefTypes.{DefTypeTree};
+ghost use Rattle.cm_types.specs.declared.def_types.ValType.{ValType};
 ghost use Rattle.cm_types.specs.declared.def_types.LabeledValType.{LabeledValType};
-ghost use Rattle.cm_component.specs.Spelling.{param_spelling, result_spelling, func_spelling};
-ghost use Rattle.cm_component.specs.Spelling.{def_spelling};
+ghost use Rattle.cm_types.specs.declared.def_types.CaseType.{CaseType};
+ghost use Rattle.cm_component.specs.Spelling.{optional_spelling, val_type_spelling};
+ghost use Rattle.cm_component.specs.Spelling.{param_spelling, case_spelling};
+ghost use Rattle.cm_component.specs.Spelling.{def_val_type_parts, result_spelling};
+ghost use Rattle.cm_component.specs.Spelling.{func_spelling, def_spelling};
 ghost use Rattle.cm_component.specs.Limits.{types_in_def};
-ghost use Rattle.cm_component.specs.Parts.{holds_param, holds_func, holds_def};
+ghost use Rattle.cm_component.specs.Parts.{holds_optional, holds_label, holds_val_type};
+ghost use Rattle.cm_component.specs.Parts.{holds_param, holds_case, holds_def_val_type};
+ghost use Rattle.cm_component.specs.Parts.{holds_func, holds_def, is_index};
 ghost use Rattle.cm_component.specs.Measures.{saturate};
 
-use crate::measuring::blob_length;
+use crate::measuring::{index_length, label_length, signed_index_length};
 use crate::part::{Part, length_of_vec};
-use cm_types::{DefType, FuncType, LabeledValType, ValType};
+use cm_types::{CaseType, DefType, DefValType, FuncType, Label, LabeledValType, ValType};
 
-/// The length of the result of a function: a byte for whether there is one, and a byte behind it.
-fn result_length(result_type: Option<ValType>) -> u64
-    ensures { result ≡ length (result_spelling result_type) }
+/// The length of a value type, at most 5.
+fn val_type_length(ty: ValType) -> u64
+    ensures length { result ≡ length (val_type_spelling ty) }
+    ensures few { result ≤ 5 }
+    ensures holds { holds_val_type ty ≡ true }
 {
-    2
+    match ty {
+        ValType::Primitive(_) => 1,
+        ValType::Index(index) => signed_index_length(index),
+    }
+}
+
+/// The length of a value type that may be there, at most 6.
+fn optional_val_type_length(ty: Option<ValType>) -> u64
+    ensures length { result ≡ length (optional_spelling val_type_spelling ty) }
+    ensures few { result ≤ 6 }
+    ensures holds { holds_optional holds_val_type ty ≡ true }
+{
+    match ty {
+        Some(ty) => 1 + val_type_length(ty),
+        None => 1,
+    }
+}
+
+/// The length of the result of a function, at most 6.
+fn result_length(result_type: Option<ValType>) -> u64
+    ensures length { result ≡ length (result_spelling result_type) }
+    ensures few { result ≤ 6 }
+    ensures holds { holds_optional holds_val_type result_type ≡ true }
+{
+    match result_type {
+        Some(ty) => 1 + val_type_length(ty),
+        None => 2,
+    }
+}
+
+/// The length of a resource's destructor or that it has none, at most 6.
+fn destructor_length(destructor: Option<u32>) -> u64
+    ensures length { result ≡ length (optional_spelling shortest_unsigned destructor) }
+    ensures few { result ≤ 6 }
+    ensures holds { holds_optional is_index destructor ≡ true }
+{
+    match destructor {
+        Some(func) => 1 + index_length(func),
+        None => 1,
+    }
 }
 
 fn func_length(func: &FuncType) -> u64
@@ -27,6 +76,56 @@ fn func_length(func: &FuncType) -> u64
     ensures holds { holds_func (func_type_tree func.now) ≡ true }
 {
     length_of_vec(&func.params).saturating_add(result_length(func.result))
+}
+
+/// The length of a value type that is defined, behind its code.
+fn def_val_type_parts_length(def: &DefValType) -> u64
+    ensures length { result ≡ saturate (length (def_val_type_parts (def_val_type_tree def.now))) }
+    ensures holds { holds_def_val_type (def_val_type_tree def.now) ≡ true }
+{
+    match def {
+        DefValType::Primitive(_) => 0,
+        DefValType::Record(fields) => length_of_vec(fields),
+        DefValType::Variant(cases) => length_of_vec(cases),
+        DefValType::List(element) | DefValType::Option(element) => val_type_length(*element),
+        DefValType::FixedList { element, length } => {
+            val_type_length(*element) + index_length(*length)
+        }
+        DefValType::Tuple(parts) => length_of_vec(parts),
+        DefValType::Flags(labels) | DefValType::Enum(labels) => length_of_vec(labels),
+        DefValType::Result { ok, error } => {
+            optional_val_type_length(*ok) + optional_val_type_length(*error)
+        }
+        DefValType::Own(resource) | DefValType::Borrow(resource) => index_length(*resource),
+    }
+}
+
+impl Part for Label {
+    ghost Tree = { List ℕ };
+
+    ghost tree = { λ l. l };
+
+    ghost spelling = { blob_spelling };
+
+    ghost holds = { holds_label };
+
+    fn length(&self) -> u64 {
+        label_length(self)
+    }
+}
+
+impl Part for ValType {
+    ghost Tree = { ValType };
+
+    ghost tree = { λ t. t };
+
+    ghost spelling = { val_type_spelling };
+
+    ghost holds = { holds_val_type };
+
+    fn length(&self) -> u64 {
+        val_type_length(*self)
+    }
 }
 
 impl Part for LabeledValType {
@@ -39,7 +138,21 @@ impl Part for LabeledValType {
     ghost holds = { holds_param };
 
     fn length(&self) -> u64 {
-        blob_length(self.label.as_bytes()).saturating_add(1)
+        label_length(&self.label).saturating_add(val_type_length(self.ty))
+    }
+}
+
+impl Part for CaseType {
+    ghost Tree = { CaseType };
+
+    ghost tree = { λ c. c };
+
+    ghost spelling = { case_spelling };
+
+    ghost holds = { holds_case };
+
+    fn length(&self) -> u64 {
+        label_length(&self.label).saturating_add(optional_val_type_length(self.payload) + 1)
     }
 }
 
@@ -54,7 +167,9 @@ impl Part for DefType {
 
     fn length(&self) -> u64 {
         match self {
+            DefType::Value(value) => def_val_type_parts_length(value).saturating_add(1),
             DefType::Func(func) => func_length(func).saturating_add(1),
+            DefType::Resource(destructor) => 2 + destructor_length(*destructor),
         }
     }
 }
@@ -65,7 +180,7 @@ pub fn types_in_def(def: &DefType) -> u64
     ensures { result ≡ saturate (types_in_def (def_type_tree def.now)) }
 {
     match def {
-        DefType::Func(_) => 1,
+        DefType::Value(_) | DefType::Func(_) | DefType::Resource(_) => 1,
     }
 }
 

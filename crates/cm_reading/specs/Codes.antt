@@ -1,8 +1,8 @@
 -- The bytes that name forms (Binary.md), place by place. A byte of a form that is not carried is
 -- Unsupported; every byte that names no form at its place is UnknownCode.
 use Rattle.std.specs.Prelude.{ℕ, nat_le, ◌==◌, ◌&&◌, ◌||◌, Bool, Result, Ok, Err, if◌then◌else◌}
-use Rattle.cm_types.specs.declared.def_types.ValType.{ValType}
-use Rattle.cm_types.specs.declared.def_types.ValType.TheVariants as val_types
+use Rattle.cm_types.specs.declared.def_types.PrimValType.{PrimValType}
+use Rattle.cm_types.specs.declared.def_types.PrimValType.TheVariants as prim_val_types
 use Rattle.cm_component.specs.declared.instances.CoreSort.{CoreSort}
 use Rattle.cm_component.specs.declared.instances.CoreSort.TheVariants as core_sorts
 use Rattle.cm_component.specs.declared.instances.InstanceExportSort.{InstanceExportSort}
@@ -26,6 +26,10 @@ use Rattle.cm_reading.specs.declared.codes.FuncAliasTarget.{FuncAliasTarget}
 use Rattle.cm_reading.specs.declared.codes.FuncAliasTarget.TheVariants as func_targets
 use Rattle.cm_reading.specs.declared.codes.TypeAliasTarget.{TypeAliasTarget}
 use Rattle.cm_reading.specs.declared.codes.TypeAliasTarget.TheVariants as type_targets
+use Rattle.cm_reading.specs.declared.codes.ValueForm.{ValueForm}
+use Rattle.cm_reading.specs.declared.codes.ValueForm.TheVariants as value_forms
+use Rattle.cm_reading.specs.declared.codes.OptionalForm.{OptionalForm}
+use Rattle.cm_reading.specs.declared.codes.OptionalForm.TheVariants as optional_forms
 use Rattle.cm_reading.specs.declared.codes.TypeForm.{TypeForm}
 use Rattle.cm_reading.specs.declared.codes.TypeForm.TheVariants as type_forms
 use Rattle.cm_reading.specs.declared.codes.ResultForm.{ResultForm}
@@ -125,31 +129,58 @@ type_alias_target b =
     else if b == 0x02 then Ok type_targets.OuterType
     else Err (no_alias_target b)
 
--- A primitive type that is listed ("Type Definitions").
-abbrev pub is_primitive : ℕ → Bool
-is_primitive b = is_from 0x73 0x7f b
+-- The primitive value types ("Type Definitions"); 76 and 75 are floats.
+abbrev pub prim_val_type : ℕ → Result PrimValType DecodeReason
+prim_val_type b =
+    if b == 0x7f then Ok prim_val_types.Bool
+    else if b == 0x7e then Ok prim_val_types.S8
+    else if b == 0x7d then Ok prim_val_types.U8
+    else if b == 0x7c then Ok prim_val_types.S16
+    else if b == 0x7b then Ok prim_val_types.U16
+    else if b == 0x7a then Ok prim_val_types.S32
+    else if b == 0x79 then Ok prim_val_types.U32
+    else if b == 0x78 then Ok prim_val_types.S64
+    else if b == 0x77 then Ok prim_val_types.U64
+    else if b == 0x76 || b == 0x75 then Err (Unsupported features.FloatType)
+    else if b == 0x74 then Ok prim_val_types.Char
+    else if b == 0x73 then Ok prim_val_types.String
+    else Err UnknownCode
 
--- A type that is listed and not carried ("Type Definitions"): primitive types, the other value
--- types and resources, components and instances.
-abbrev pub is_other_type : ℕ → Bool
-is_other_type b =
-    is_primitive b || is_from 0x68 0x6b b || is_from 0x6d 0x72 b
-    || b == 0x3f || b == 0x41 || b == 0x42
+-- What the answer of a table comes to where it stands for a case of another one.
+abbrev pub as_case : {A B : Type 0} → (A → B) → Result A DecodeReason → Result B DecodeReason
+as_case f (Ok x) = Ok (f x)
+as_case f (Err reason) = Err reason
+
+-- The forms of a value type that is defined ("Type Definitions").
+abbrev pub value_form : ℕ → Result ValueForm DecodeReason
+value_form b =
+    if b == 0x72 then Ok value_forms.Record
+    else if b == 0x71 then Ok value_forms.Variant
+    else if b == 0x70 then Ok value_forms.List
+    else if b == 0x6f then Ok value_forms.Tuple
+    else if b == 0x6e then Ok value_forms.Flags
+    else if b == 0x6d then Ok value_forms.Enum
+    else if b == 0x6b then Ok value_forms.Option
+    else if b == 0x6a then Ok value_forms.Result
+    else if b == 0x69 then Ok value_forms.Own
+    else if b == 0x68 then Ok value_forms.Borrow
+    else if b == 0x67 then Ok value_forms.FixedList
+    else as_case value_forms.Primitive (prim_val_type b)
 
 -- The forms of a type ("Type Definitions").
 abbrev pub type_form : ℕ → Result TypeForm DecodeReason
 type_form b =
     if b == 0x40 then Ok type_forms.Func
-    else if is_other_type b then Err (Unsupported features.TypeDefinition)
-    else Err UnknownCode
+    else if b == 0x3f then Ok type_forms.Resource
+    else if b == 0x41 || b == 0x42 then Err (Unsupported features.TypeDefinition)
+    else as_case type_forms.Value (value_form b)
 
--- Value types ("Type Definitions"). A byte outside of 40 to 7F begins the index of a type.
-abbrev pub val_type : ℕ → Result ValType DecodeReason
-val_type b =
-    if b == 0x79 then Ok val_types.U32
-    else if is_primitive b then Err (Unsupported features.ValueType)
-    else if is_from 0x40 0x7f b then Err UnknownCode
-    else Err (Unsupported features.ValueTypeIndex)
+-- Whether something is there ("Component Definitions", `<T>?`).
+abbrev pub optional_form : ℕ → Result OptionalForm DecodeReason
+optional_form b =
+    if b == 0x00 then Ok optional_forms.Absent
+    else if b == 0x01 then Ok optional_forms.Present
+    else Err UnknownCode
 
 -- Whether a function has a result ("Type Definitions").
 abbrev pub result_form : ℕ → Result ResultForm DecodeReason

@@ -1,28 +1,128 @@
 -- Types (Binary.md, "Type Definitions").
-use Rattle.std.specs.Prelude.{ℕ, List, [], ◌∷◌, Option, Some, None}
-use Rattle.cm_grammar.specs.Grammar.{done, ◌>>=◌, code, fixed, from_stock, stocked}
+use Rattle.std.specs.Prelude.{ℕ, ◌^◌, ℤ, pos, negsuc, Bool, true, false, nat_lt, List, [], ◌∷◌}
+use Rattle.std.specs.Prelude.{Option, Some, None}
+use Rattle.cm_grammar.specs.Grammar.{done, ◌>>=◌, ahead, code, signed, check, fixed, from_stock}
+use Rattle.cm_grammar.specs.Grammar.{stocked}
 use Rattle.cm_types.specs.declared.def_types.ValType.{ValType}
+use Rattle.cm_types.specs.declared.def_types.ValType.TheVariants as val_types
 use Rattle.cm_types.specs.declared.def_types.LabeledValType.{LabeledValType}
-use Rattle.cm_types.specs.DefTypes.{FuncTypeTree, DefTypeTree, func_def}
+use Rattle.cm_types.specs.declared.def_types.CaseType.{CaseType}
+use Rattle.cm_types.specs.DefTypes as types
+use Rattle.cm_types.specs.DefTypes.{DefValTypeTree, FuncTypeTree, DefTypeTree}
+use Rattle.cm_types.specs.DefTypes.{value_def, func_def, resource_def}
 use Rattle.cm_component.specs.Limits.{types_in_def}
 use Rattle.cm_reading.specs.declared.fault.DecodeReason.TheVariants.{UnknownCode, TooMany}
 use Rattle.cm_reading.specs.declared.fault.DecodeReason.TheVariants.{BadNumber}
+use Rattle.cm_reading.specs.declared.codes.OptionalForm.{OptionalForm}
+use Rattle.cm_reading.specs.declared.codes.OptionalForm.TheVariants as optional_forms
 use Rattle.cm_reading.specs.declared.codes.ResultForm.{ResultForm}
 use Rattle.cm_reading.specs.declared.codes.ResultForm.TheVariants as result_forms
-use Rattle.cm_reading.specs.Codes.{type_form, val_type, result_form}
+use Rattle.cm_reading.specs.declared.codes.ValueForm.{ValueForm}
+use Rattle.cm_reading.specs.declared.codes.ValueForm.TheVariants as value_forms
+use Rattle.cm_reading.specs.declared.codes.TypeForm.{TypeForm}
+use Rattle.cm_reading.specs.declared.codes.TypeForm.TheVariants as type_forms
+use Rattle.cm_reading.specs.Codes.{is_from, optional_form, prim_val_type, result_form, type_form}
 use Rattle.cm_reading.specs.Texts.{Production, index, vector, label}
 
--- A parameter: its label, its type (`labelvaltype`).
+-- What may be there, behind the byte for whether it is.
+unfoldable pub optional_of : {A : Type 0} → Production A → OptionalForm → Production (Option A)
+optional_of g optional_forms.Absent = done None
+optional_of g optional_forms.Present = do
+  x ← g
+  done (Some x)
+
+-- What may be there (`<T>?`).
+unfoldable pub optional : {A : Type 0} → Production A → Production (Option A)
+optional g = do
+  form ← code optional_form
+  optional_of g form
+
+-- A number with a sign is the index of a type where it is not below 0. One of 33 bits is below
+-- 2 ^ 32 then.
+abbrev pub is_type_index : ℤ → Bool
+is_type_index (pos n) = nat_lt n (2 ^ 32)
+is_type_index (negsuc n) = false
+
+-- The index that the number is.
+abbrev pub as_index : ℤ → ℕ
+as_index (pos n) = n
+as_index (negsuc n) = 0
+
+-- The index of a type, as a number with a sign. One below 0 is a fault at its first byte.
+unfoldable pub type_index : Production ℤ
+type_index = check is_type_index BadNumber (signed BadNumber)
+
+-- A value type, by whether it begins with the byte of a primitive one.
+unfoldable pub val_type_of : Bool → Production ValType
+val_type_of true = do
+  primitive ← code prim_val_type
+  done (val_types.Primitive primitive)
+val_type_of false = do
+  number ← type_index
+  done (val_types.Index (as_index number))
+
+-- A value type (`valtype`).
+unfoldable pub val_type : Production ValType
+val_type = ahead (λ b. val_type_of (is_from 0x40 0x7f b))
+
+-- A parameter or a field: its label, its type (`labelvaltype`).
 unfoldable pub param : Production LabeledValType
 param = do
   name ← label
-  ty ← code val_type
+  ty ← val_type
   done (record { label = name; ty = ty })
+
+-- A case: its label, the type that it carries, if it does, a byte 00 (`case`).
+unfoldable pub case_type : Production CaseType
+case_type = do
+  name ← label
+  payload ← optional val_type
+  nothing ← fixed (0x00 ∷ []) UnknownCode
+  done (record { label = name; payload = payload })
+
+-- A value type that is defined, behind its form.
+unfoldable pub def_val_type_of : ValueForm → Production DefValTypeTree
+def_val_type_of (value_forms.Primitive p) = done (types.primitive p)
+def_val_type_of value_forms.Record = do
+  fields ← vector param
+  done (types.record_of fields)
+def_val_type_of value_forms.Variant = do
+  cases ← vector case_type
+  done (types.variant_of cases)
+def_val_type_of value_forms.List = do
+  element ← val_type
+  done (types.list_of element)
+def_val_type_of value_forms.FixedList = do
+  element ← val_type
+  count ← index
+  done (types.fixed_list_of element count)
+def_val_type_of value_forms.Tuple = do
+  parts ← vector val_type
+  done (types.tuple_of parts)
+def_val_type_of value_forms.Flags = do
+  labels ← vector label
+  done (types.flags_of labels)
+def_val_type_of value_forms.Enum = do
+  labels ← vector label
+  done (types.enum_of labels)
+def_val_type_of value_forms.Option = do
+  some ← val_type
+  done (types.option_of some)
+def_val_type_of value_forms.Result = do
+  ok ← optional val_type
+  error ← optional val_type
+  done (types.result_of ok error)
+def_val_type_of value_forms.Own = do
+  resource ← index
+  done (types.own_of resource)
+def_val_type_of value_forms.Borrow = do
+  resource ← index
+  done (types.borrow_of resource)
 
 -- The result behind its form.
 unfoldable pub func_result_of : ResultForm → Production (Option ValType)
 func_result_of result_forms.One = do
-  ty ← code val_type
+  ty ← val_type
   done (Some ty)
 func_result_of result_forms.Zero = do
   nothing ← fixed (0x00 ∷ []) UnknownCode
@@ -41,12 +141,25 @@ func_type = do
   result ← func_result
   done (record { params = params; result = result })
 
+-- A type definition, behind its form. Behind that of a resource stands what represents it, an
+-- `i32`.
+unfoldable pub def_type_of : TypeForm → Production DefTypeTree
+def_type_of (type_forms.Value form) = do
+  value ← def_val_type_of form
+  done (value_def value)
+def_type_of type_forms.Func = do
+  func ← func_type
+  done (func_def func)
+def_type_of type_forms.Resource = do
+  representation ← fixed (0x7f ∷ []) UnknownCode
+  destructor ← optional index
+  done (resource_def destructor)
+
 -- A type definition (`deftype`).
 unfoldable pub def_type : Production DefTypeTree
 def_type = do
   form ← code type_form
-  func ← func_type
-  done (func_def func)
+  def_type_of form
 
 -- A type definition, of which so many may stand.
 unfoldable pub def_type_from : ℕ → Production DefTypeTree

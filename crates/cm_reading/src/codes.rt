@@ -4,14 +4,15 @@ ghost use Rattle.std.specs.Prelude.{◌≡◌};
 ghost use Rattle.cm_reading.specs.Codes.{section_kind, core_instance_form, core_sort};
 ghost use Rattle.cm_reading.specs.Codes.{instance_form, instance_export_sort, alias_sort};
 ghost use Rattle.cm_reading.specs.Codes.{core_alias_target, func_alias_target, type_alias_target};
-ghost use Rattle.cm_reading.specs.Codes.{no_alias_target, type_form, val_type, result_form};
+ghost use Rattle.cm_reading.specs.Codes.{no_alias_target, prim_val_type, value_form, type_form};
+ghost use Rattle.cm_reading.specs.Codes.{optional_form, result_form};
 ghost use Rattle.cm_reading.specs.Codes.{canon_form, option_form, desc_form, export_sort};
 ghost use Rattle.cm_reading.specs.Codes.{export_desc};
 
 use crate::fault::{DecodeReason, Feature};
 use cm_component::{CoreSort, ExportSort, InstanceExportSort};
 use cm_grammar::Code;
-use cm_types::ValType;
+use cm_types::PrimValType;
 
 /// What a section holds.
 #[derive(Clone, Copy)]
@@ -68,10 +69,36 @@ pub enum TypeAliasTarget {
     OuterType,
 }
 
+/// Which value type is defined.
+#[derive(Clone, Copy)]
+pub enum ValueForm {
+    Primitive(PrimValType),
+    Record,
+    Variant,
+    List,
+    FixedList,
+    Tuple,
+    Flags,
+    Enum,
+    Option,
+    Result,
+    Own,
+    Borrow,
+}
+
 /// Which type is defined.
 #[derive(Clone, Copy)]
 pub enum TypeForm {
+    Value(ValueForm),
     Func,
+    Resource,
+}
+
+/// Whether something is there.
+#[derive(Clone, Copy)]
+pub enum OptionalForm {
+    Absent,
+    Present,
 }
 
 /// How many results a function has.
@@ -238,29 +265,76 @@ impl Code<DecodeReason> for TypeAliasTarget {
     }
 }
 
+impl Code<DecodeReason> for PrimValType {
+    ghost table = { prim_val_type };
+
+    fn from_byte(byte: u8) -> Result<PrimValType, DecodeReason> {
+        match byte {
+            0x7f => Ok(PrimValType::Bool),
+            0x7e => Ok(PrimValType::S8),
+            0x7d => Ok(PrimValType::U8),
+            0x7c => Ok(PrimValType::S16),
+            0x7b => Ok(PrimValType::U16),
+            0x7a => Ok(PrimValType::S32),
+            0x79 => Ok(PrimValType::U32),
+            0x78 => Ok(PrimValType::S64),
+            0x77 => Ok(PrimValType::U64),
+            0x75 | 0x76 => Err(DecodeReason::Unsupported(Feature::FloatType)),
+            0x74 => Ok(PrimValType::Char),
+            0x73 => Ok(PrimValType::String),
+            _ => Err(DecodeReason::UnknownCode),
+        }
+    }
+}
+
+impl Code<DecodeReason> for ValueForm {
+    ghost table = { value_form };
+
+    fn from_byte(byte: u8) -> Result<ValueForm, DecodeReason> {
+        match byte {
+            0x72 => Ok(ValueForm::Record),
+            0x71 => Ok(ValueForm::Variant),
+            0x70 => Ok(ValueForm::List),
+            0x6f => Ok(ValueForm::Tuple),
+            0x6e => Ok(ValueForm::Flags),
+            0x6d => Ok(ValueForm::Enum),
+            0x6b => Ok(ValueForm::Option),
+            0x6a => Ok(ValueForm::Result),
+            0x69 => Ok(ValueForm::Own),
+            0x68 => Ok(ValueForm::Borrow),
+            0x67 => Ok(ValueForm::FixedList),
+            _ => match PrimValType::from_byte(byte) {
+                Ok(primitive) => Ok(ValueForm::Primitive(primitive)),
+                Err(reason) => Err(reason),
+            },
+        }
+    }
+}
+
 impl Code<DecodeReason> for TypeForm {
     ghost table = { type_form };
 
     fn from_byte(byte: u8) -> Result<TypeForm, DecodeReason> {
         match byte {
             0x40 => Ok(TypeForm::Func),
-            0x73..=0x7f | 0x68..=0x6b | 0x6d..=0x72 | 0x3f | 0x41 | 0x42 => {
-                Err(DecodeReason::Unsupported(Feature::TypeDefinition))
-            }
-            _ => Err(DecodeReason::UnknownCode),
+            0x3f => Ok(TypeForm::Resource),
+            0x41 | 0x42 => Err(DecodeReason::Unsupported(Feature::TypeDefinition)),
+            _ => match ValueForm::from_byte(byte) {
+                Ok(form) => Ok(TypeForm::Value(form)),
+                Err(reason) => Err(reason),
+            },
         }
     }
 }
 
-impl Code<DecodeReason> for ValType {
-    ghost table = { val_type };
+impl Code<DecodeReason> for OptionalForm {
+    ghost table = { optional_form };
 
-    fn from_byte(byte: u8) -> Result<ValType, DecodeReason> {
+    fn from_byte(byte: u8) -> Result<OptionalForm, DecodeReason> {
         match byte {
-            0x79 => Ok(ValType::U32),
-            0x73..=0x7f => Err(DecodeReason::Unsupported(Feature::ValueType)),
-            0x40..=0x7f => Err(DecodeReason::UnknownCode),
-            _ => Err(DecodeReason::Unsupported(Feature::ValueTypeIndex)),
+            0x00 => Ok(OptionalForm::Absent),
+            0x01 => Ok(OptionalForm::Present),
+            _ => Err(DecodeReason::UnknownCode),
         }
     }
 }

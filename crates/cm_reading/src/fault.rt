@@ -106,8 +106,7 @@ pub enum Feature {
     Sort,
     AliasTarget,
     TypeDefinition,
-    ValueType,
-    ValueTypeIndex,
+    FloatType,
     Description,
     ExportDescription,
 }
@@ -123,9 +122,8 @@ impl Feature {
             Feature::CoreSort => "core types, core modules and core instances as sorts",
             Feature::Sort => "this sort in this place",
             Feature::AliasTarget => "this target of an alias",
-            Feature::TypeDefinition => "types other than those of functions",
-            Feature::ValueType => "value types other than u32",
-            Feature::ValueTypeIndex => "type indices as value types",
+            Feature::TypeDefinition => "types of components and of instances",
+            Feature::FloatType => "floats",
             Feature::Description => "this description in this place",
             Feature::ExportDescription => "an export with a description",
         }

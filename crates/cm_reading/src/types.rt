@@ -1,23 +1,58 @@
 //! Types.
 
-ghost use Rattle.std.specs.Prelude.{◌≡◌, Ok};
+ghost use Rattle.std.specs.Prelude.{◌≡◌, ℕ, List, Ok, pos};
 ghost use Rattle.cm_grammar.specs.Faults.{Gives, Fails};
 ghost use Rattle.cm_grammar.specs.Reading.{Reads};
+ghost use Rattle.cm_types.specs.declared.def_types.ValType.{ValType};
 ghost use Rattle.cm_types.specs.declared.def_types.LabeledValType.{LabeledValType};
-ghost use Rattle.cm_types.specs.DefTypes.{func_type_tree, DefTypeTree, def_type_tree};
+ghost use Rattle.cm_types.specs.declared.def_types.CaseType.{CaseType};
+ghost use Rattle.cm_types.specs.DefTypes.{def_val_type_tree, func_type_tree, DefTypeTree};
+ghost use Rattle.cm_types.specs.DefTypes.{def_type_tree};
 ghost use Rattle.cm_component.specs.Limits.{types_in_def};
-ghost use Rattle.cm_reading.specs.Types.{param, func_result_of, func_result, func_type, def_type};
-ghost use Rattle.cm_reading.specs.Types.{def_type_from};
+ghost use Rattle.cm_reading.specs.Texts.{index, label};
+ghost use Rattle.cm_reading.specs.Types.{optional, type_index, val_type, param, case_type};
+ghost use Rattle.cm_reading.specs.Types.{def_val_type_of, func_result_of, func_result, func_type};
+ghost use Rattle.cm_reading.specs.Types.{def_type, def_type_from};
 
-use crate::codes::{ResultForm, TypeForm};
+use crate::codes::{OptionalForm, ResultForm, TypeForm, ValueForm};
 use crate::fault::DecodeReason;
 use crate::texts::read_label;
 use cm_component::types_in_def;
 use cm_grammar::{Cursor, Form, ReadError, StockedForm, read_vec};
-use cm_types::{DefType, FuncType, LabeledValType, ValType};
+use cm_types::{CaseType, DefType, DefValType, FuncType, Label, LabeledValType, ValType};
 use std::alloc::Global;
 
-/// A parameter of a function.
+impl Form<DecodeReason> for Label {
+    ghost Tree = { List ℕ };
+
+    ghost tree = { λ l. l };
+
+    ghost grammar = { label };
+
+    fn read(
+        alloc: Global,
+        bytes: &mut Cursor<'_, DecodeReason>,
+    ) -> Result<Self, ReadError<DecodeReason>> {
+        read_label(alloc, bytes)
+    }
+}
+
+impl Form<DecodeReason> for ValType {
+    ghost Tree = { ValType };
+
+    ghost tree = { λ t. t };
+
+    ghost grammar = { val_type };
+
+    fn read(
+        _alloc: Global,
+        bytes: &mut Cursor<'_, DecodeReason>,
+    ) -> Result<Self, ReadError<DecodeReason>> {
+        read_val_type(bytes)
+    }
+}
+
+/// A parameter of a function or a field of a record.
 impl Form<DecodeReason> for LabeledValType {
     ghost Tree = { LabeledValType };
 
@@ -31,8 +66,27 @@ impl Form<DecodeReason> for LabeledValType {
         bytes: &mut Cursor<'_, DecodeReason>,
     ) -> Result<Self, ReadError<DecodeReason>> {
         let label = read_label(alloc, bytes)?;
-        let ty = bytes.code()?;
+        let ty = read_val_type(bytes)?;
         Ok(LabeledValType { label, ty })
+    }
+}
+
+impl Form<DecodeReason> for CaseType {
+    ghost Tree = { CaseType };
+
+    ghost tree = { λ c. c };
+
+    ghost grammar = { case_type };
+
+    #[tactic(auto, unfolding(crate::specs::Types::case_type))]
+    fn read(
+        alloc: Global,
+        bytes: &mut Cursor<'_, DecodeReason>,
+    ) -> Result<Self, ReadError<DecodeReason>> {
+        let label = read_label(alloc, bytes)?;
+        let payload = read_optional_val_type(bytes)?;
+        bytes.fixed(&[0x00], DecodeReason::UnknownCode)?;
+        Ok(CaseType { label, payload })
     }
 }
 
@@ -62,8 +116,63 @@ impl StockedForm<DecodeReason> for DefType {
     }
 }
 
+/// Reads a value type.
+#[tactic(auto, unfolding(crate::specs::Types::val_type, crate::specs::Types::val_type_of))]
+fn read_val_type(bytes: &mut Cursor<'_, DecodeReason>) -> Result<ValType, ReadError<DecodeReason>>
+    ensures read { Reads val_type (λ t. t) bytes.old bytes.new result }
+    ensures end { bytes.new.end ≡ bytes.old.end }
+{
+    match bytes.rest {
+        [] => Err(bytes.want()),
+        [0x40..=0x7f, ..] => Ok(ValType::Primitive(bytes.code()?)),
+        [_, ..] => Ok(ValType::Index(read_type_index(bytes)?)),
+    }
+}
+
+/// Reads the index of a type as a number with a sign.
+#[tactic(auto, unfolding(crate::specs::Types::type_index))]
+fn read_type_index(bytes: &mut Cursor<'_, DecodeReason>) -> Result<u32, ReadError<DecodeReason>>
+    ensures read { Reads type_index (λ i. pos i) bytes.old bytes.new result }
+    ensures end { bytes.new.end ≡ bytes.old.end }
+{
+    let fault = bytes.fault(DecodeReason::BadNumber);
+    let number = bytes.signed(DecodeReason::BadNumber)?;
+    if number < 0 || number >= 1 << 32 {
+        return Err(fault);
+    }
+    Ok(number as u32)
+}
+
+/// Reads a value type that may be there.
+#[tactic(auto, unfolding(crate::specs::Types::optional, crate::specs::Types::optional_of))]
+fn read_optional_val_type(
+    bytes: &mut Cursor<'_, DecodeReason>,
+) -> Result<Option<ValType>, ReadError<DecodeReason>>
+    ensures read { Reads (optional val_type) (λ o. o) bytes.old bytes.new result }
+    ensures end { bytes.new.end ≡ bytes.old.end }
+{
+    match bytes.code()? {
+        OptionalForm::Absent => Ok(None),
+        OptionalForm::Present => Ok(Some(read_val_type(bytes)?)),
+    }
+}
+
+/// Reads an index that may be there.
+#[tactic(auto, unfolding(crate::specs::Types::optional, crate::specs::Types::optional_of))]
+fn read_optional_index(
+    bytes: &mut Cursor<'_, DecodeReason>,
+) -> Result<Option<u32>, ReadError<DecodeReason>>
+    ensures read { Reads (optional index) (λ o. o) bytes.old bytes.new result }
+    ensures end { bytes.new.end ≡ bytes.old.end }
+{
+    match bytes.code()? {
+        OptionalForm::Absent => Ok(None),
+        OptionalForm::Present => Ok(Some(bytes.number(DecodeReason::BadNumber)?)),
+    }
+}
+
 /// Reads a type definition.
-#[tactic(auto, unfolding(crate::specs::Types::def_type))]
+#[tactic(auto, unfolding(crate::specs::Types::def_type, crate::specs::Types::def_type_of))]
 fn read_def_type(
     alloc: Global,
     bytes: &mut Cursor<'_, DecodeReason>,
@@ -71,9 +180,49 @@ fn read_def_type(
     ensures read { Reads def_type def_type_tree bytes.old bytes.new result }
     ensures end { bytes.new.end ≡ bytes.old.end }
 {
-    let TypeForm::Func = bytes.code()?;
-    let func = read_func_type(alloc, bytes)?;
-    Ok(DefType::Func(func))
+    match bytes.code()? {
+        TypeForm::Value(form) => Ok(DefType::Value(read_def_val_type(alloc, bytes, form)?)),
+        TypeForm::Func => Ok(DefType::Func(read_func_type(alloc, bytes)?)),
+        TypeForm::Resource => {
+            bytes.fixed(&[0x7f], DecodeReason::UnknownCode)?;
+            Ok(DefType::Resource(read_optional_index(bytes)?))
+        }
+    }
+}
+
+/// Reads a value type that is defined, behind its form.
+#[tactic(auto, unfolding(crate::specs::Types::def_val_type_of))]
+fn read_def_val_type(
+    alloc: Global,
+    bytes: &mut Cursor<'_, DecodeReason>,
+    form: ValueForm,
+) -> Result<DefValType, ReadError<DecodeReason>>
+    ensures read { Reads (def_val_type_of form) def_val_type_tree bytes.old bytes.new result }
+    ensures end { bytes.new.end ≡ bytes.old.end }
+{
+    let bad = DecodeReason::BadNumber;
+    match form {
+        ValueForm::Primitive(primitive) => Ok(DefValType::Primitive(primitive)),
+        ValueForm::Record => Ok(DefValType::Record(read_vec(alloc, bytes, bad)?)),
+        ValueForm::Variant => Ok(DefValType::Variant(read_vec(alloc, bytes, bad)?)),
+        ValueForm::List => Ok(DefValType::List(read_val_type(bytes)?)),
+        ValueForm::FixedList => {
+            let element = read_val_type(bytes)?;
+            let length = bytes.number(bad)?;
+            Ok(DefValType::FixedList { element, length })
+        }
+        ValueForm::Tuple => Ok(DefValType::Tuple(read_vec(alloc, bytes, bad)?)),
+        ValueForm::Flags => Ok(DefValType::Flags(read_vec(alloc, bytes, bad)?)),
+        ValueForm::Enum => Ok(DefValType::Enum(read_vec(alloc, bytes, bad)?)),
+        ValueForm::Option => Ok(DefValType::Option(read_val_type(bytes)?)),
+        ValueForm::Result => {
+            let ok = read_optional_val_type(bytes)?;
+            let error = read_optional_val_type(bytes)?;
+            Ok(DefValType::Result { ok, error })
+        }
+        ValueForm::Own => Ok(DefValType::Own(bytes.number(bad)?)),
+        ValueForm::Borrow => Ok(DefValType::Borrow(bytes.number(bad)?)),
+    }
 }
 
 /// Reads the type of a function, behind its code.
@@ -99,7 +248,7 @@ fn read_result(
     ensures end { bytes.new.end ≡ bytes.old.end }
 {
     match bytes.code()? {
-        ResultForm::One => Ok(Some(bytes.code()?)),
+        ResultForm::One => Ok(Some(read_val_type(bytes)?)),
         ResultForm::Zero => {
             bytes.fixed(&[0x00], DecodeReason::UnknownCode)?;
             Ok(None)

@@ -13,7 +13,9 @@ mod type_trees;
 
 pub use cm_names::{ExternName, ExternNameForm, Label, NameFault, same_name};
 pub use core_value::{CoreKind, CoreValue};
-pub use def_types::{DefType, FuncType, LabeledValType, ValType};
+pub use def_types::{
+    CaseType, DefType, DefValType, FuncType, LabeledValType, PrimValType, ValType,
+};
 pub use limits::{MAX_DEPTH, MAX_FLAT_PARAMS, MAX_FLAT_RESULTS, MAX_NODES};
 pub use resource::{ResourceId, resolve, same_resource};
 pub use signatures::{ExternType, InstanceItem, ItemType, Signature, SignatureItem};

@@ -5,7 +5,6 @@ use Rattle.std.specs.Prelude.{nat_lt, slice_get, option_map, option_and_then, op
 use Rattle.std.specs.List.{AllByRecursion}
 use Rattle.std.specs.Option.{option_map_or}
 use Rattle.cm_types.specs.Types.{FuncTy}
-use Rattle.cm_types.specs.DefTypes.{func_def}
 use Rattle.cm_component.specs.Trees.{SectionTree}
 use Rattle.cm_validate.specs.Items.{instantiate, core_func_export}
 use Rattle.cm_validate.specs.Items.{CarriedCanon}
@@ -186,7 +185,7 @@ consistent_after_item s (core_instance_item (instantiate m args)) unbroken p = n
 consistent_after_item s (alias_item (core_func_export instance name)) unbroken p =
     let t = after_item s (alias_item (core_func_export instance name)) in
     consistent_grows s t (guest instance name ∷ []) [] [] [] (record { core_funcs = refl; funcs = same s.funcs; imports = same s.imports; exports = same s.exports }) (tt, tt) tt tt p
-consistent_after_item s (type_item (func_def f)) unbroken p = nothing_new s (after_item s (type_item (func_def f))) refl refl refl refl p
+consistent_after_item s (type_item f) unbroken p = nothing_new s (after_item s (type_item f)) refl refl refl refl p
 consistent_after_item s (canon_item c) unbroken p = consistent_after_canon s c unbroken p
 consistent_after_item s (import_item i) unbroken p = consistent_after_import s i.name i.ty p
 consistent_after_item s (export_item e) unbroken p = consistent_after_export s e.name e.index p

@@ -4,7 +4,6 @@ use Rattle.std.specs.Prelude.{slice_get, option_and_then, option_to_list}
 use Rattle.std.specs.Option.{option_map_or}
 use Rattle.std.specs.List.{AllByRecursion}
 use borrow.Author.Tests.{leb-true}
-use Rattle.cm_types.specs.DefTypes.{func_def}
 use Rattle.cm_component.specs.Trees.{SectionTree}
 use Rattle.cm_validate.specs.Items.{instantiate, core_func_export}
 use Rattle.cm_validate.specs.Items.{CarriedCanon}
@@ -45,7 +44,7 @@ item_flat : (s : IndexSpaces) (x : Item) → AllByRecursion PassesFlat s.core_fu
 item_flat s module_item flat kept = flat
 item_flat s (core_instance_item (instantiate m args)) flat kept = flat
 item_flat s (alias_item (core_func_export instance name)) flat kept = flat_append s.core_funcs (guest instance name ∷ []) flat (tt, tt)
-item_flat s (type_item (func_def f)) flat kept = flat
+item_flat s (type_item f) flat kept = flat
 item_flat s (canon_item c) flat kept = canon_flat s c flat kept
 item_flat s (import_item i) flat kept = import_flat s i.name i.ty flat
 item_flat s (export_item e) flat kept = flat

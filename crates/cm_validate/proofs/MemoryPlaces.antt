@@ -2,7 +2,6 @@
 use Rattle.std.proofs.Common.{◌≡◌, ℕ, suc, ◌+◌, Bool, true, false, ◌⊎◌, inl, inr, List, [], ◌∷◌, ◌++◌, length, map, Option, Some, None, refl, sym, ◌∙◌, ap, subst, arith}
 use Rattle.std.specs.Prelude.{if◌then◌else◌}
 use Rattle.std.proofs.lemmas.List.{length-map}
-use Rattle.cm_types.specs.DefTypes.{func_def}
 use Rattle.cm_component.specs.Trees.{SectionTree, section_tree}
 use Rattle.cm_validate.specs.Items.{instantiate, core_func_export}
 use Rattle.cm_component.specs.declared.section.Section.{Section}
@@ -37,7 +36,7 @@ unbroken_before_memory s module_item e = refl
 unbroken_before_memory s (core_instance_item (instantiate m args)) e =
     front_unbroken (rules_before_memory s (core_instance_item (instantiate m args))) ((arg_names_are_distinct args, reason.DuplicateName) ∷ []) e
 unbroken_before_memory s (alias_item (core_func_export instance name)) e = e
-unbroken_before_memory s (type_item (func_def f)) e = refl
+unbroken_before_memory s (type_item f) e = refl
 unbroken_before_memory s (canon_item c) e = e
 unbroken_before_memory s (import_item i) e = import_unbroken s i.name i.ty e
 unbroken_before_memory s (export_item x) e =

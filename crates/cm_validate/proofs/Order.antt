@@ -1,7 +1,6 @@
 -- The first fault in the order of sections, items and reasons is what the walk finds.
 use Rattle.std.proofs.Common.{◌≡◌, ℕ, suc, ◌+◌, ◌≤◌, ◌⊎◌, inl, inr, Bool, true, false, List, [], ◌∷◌, ◌++◌, length, Option, Some, None, refl, sym, ◌∙◌, ap, subst, arith, append_assoc, rules as std_rules}
 use Rattle.std.specs.Prelude.{if◌then◌else◌}
-use Rattle.cm_types.specs.DefTypes.{func_def}
 use Rattle.cm_component.specs.Trees.{SectionTree}
 use Rattle.cm_validate.specs.Items.{instantiate, core_func_export}
 use Rattle.cm_validate.specs.Items.{CarriedCanon}
@@ -101,7 +100,7 @@ pub ordered : (s : IndexSpaces) (x : Item) → AreOrdered (item_rules s x)
 ordered s module_item = tt
 ordered s (core_instance_item (instantiate m args)) = search std_rules
 ordered s (alias_item (core_func_export instance name)) = search std_rules
-ordered s (type_item (func_def f)) = search std_rules
+ordered s (type_item f) = search std_rules
 ordered s (canon_item c) = canon_ordered s c
 ordered s (import_item i) = import_ordered s i.name i.ty
 ordered s (export_item e) = search std_rules

@@ -1,6 +1,5 @@
 -- Each index space is what the items add to it, in order.
 use Rattle.std.proofs.Common.{◌≡◌, ℕ, List, [], ◌∷◌, ◌++◌, refl, sym, ap, ◌∙◌, append-nil, append_assoc}
-use Rattle.cm_types.specs.DefTypes.{func_def}
 use Rattle.cm_component.specs.Trees.{SectionTree}
 use Rattle.cm_validate.specs.Items.{instantiate, core_func_export}
 use Rattle.cm_validate.specs.Items as canon
@@ -18,7 +17,7 @@ core_instances_after_item : (s : IndexSpaces) (x : Item) → (after_item s x).co
 core_instances_after_item s module_item = same s.core_instances
 core_instances_after_item s (core_instance_item (instantiate m args)) = refl
 core_instances_after_item s (alias_item (core_func_export instance name)) = same s.core_instances
-core_instances_after_item s (type_item (func_def f)) = same s.core_instances
+core_instances_after_item s (type_item f) = same s.core_instances
 core_instances_after_item s (canon_item (canon.Lift core_func ty)) = same s.core_instances
 core_instances_after_item s (canon_item (canon.Lower func)) = same s.core_instances
 core_instances_after_item s (import_item i) = core_instances_after_import s i.name i.ty
@@ -32,7 +31,7 @@ types_after_item : (s : IndexSpaces) (x : Item) → (after_item s x).types ≡ s
 types_after_item s module_item = same s.types
 types_after_item s (core_instance_item (instantiate m args)) = same s.types
 types_after_item s (alias_item (core_func_export instance name)) = same s.types
-types_after_item s (type_item (func_def f)) = refl
+types_after_item s (type_item f) = refl
 types_after_item s (canon_item (canon.Lift core_func ty)) = same s.types
 types_after_item s (canon_item (canon.Lower func)) = same s.types
 types_after_item s (import_item i) = types_after_import s i.name i.ty
@@ -46,7 +45,7 @@ core_funcs_after_item : (s : IndexSpaces) (x : Item) → (after_item s x).core_f
 core_funcs_after_item s module_item = same s.core_funcs
 core_funcs_after_item s (core_instance_item (instantiate m args)) = same s.core_funcs
 core_funcs_after_item s (alias_item (core_func_export instance name)) = refl
-core_funcs_after_item s (type_item (func_def f)) = same s.core_funcs
+core_funcs_after_item s (type_item f) = same s.core_funcs
 core_funcs_after_item s (canon_item (canon.Lift core_func ty)) = same s.core_funcs
 core_funcs_after_item s (canon_item (canon.Lower func)) = refl
 core_funcs_after_item s (import_item i) = core_funcs_after_import s i.name i.ty
@@ -60,7 +59,7 @@ funcs_after_item : (s : IndexSpaces) (x : Item) → (after_item s x).funcs ≡ s
 funcs_after_item s module_item = same s.funcs
 funcs_after_item s (core_instance_item (instantiate m args)) = same s.funcs
 funcs_after_item s (alias_item (core_func_export instance name)) = same s.funcs
-funcs_after_item s (type_item (func_def f)) = same s.funcs
+funcs_after_item s (type_item f) = same s.funcs
 funcs_after_item s (canon_item (canon.Lift core_func ty)) = refl
 funcs_after_item s (canon_item (canon.Lower func)) = same s.funcs
 funcs_after_item s (import_item i) = funcs_after_import s i.name i.ty
@@ -74,7 +73,7 @@ imports_after_item : (s : IndexSpaces) (x : Item) → (after_item s x).imports �
 imports_after_item s module_item = same s.imports
 imports_after_item s (core_instance_item (instantiate m args)) = same s.imports
 imports_after_item s (alias_item (core_func_export instance name)) = same s.imports
-imports_after_item s (type_item (func_def f)) = same s.imports
+imports_after_item s (type_item f) = same s.imports
 imports_after_item s (canon_item (canon.Lift core_func ty)) = same s.imports
 imports_after_item s (canon_item (canon.Lower func)) = same s.imports
 imports_after_item s (import_item i) = imports_after_import s i.name i.ty
@@ -88,7 +87,7 @@ exports_after_item : (s : IndexSpaces) (x : Item) → (after_item s x).exports �
 exports_after_item s module_item = same s.exports
 exports_after_item s (core_instance_item (instantiate m args)) = same s.exports
 exports_after_item s (alias_item (core_func_export instance name)) = same s.exports
-exports_after_item s (type_item (func_def f)) = same s.exports
+exports_after_item s (type_item f) = same s.exports
 exports_after_item s (canon_item (canon.Lift core_func ty)) = same s.exports
 exports_after_item s (canon_item (canon.Lower func)) = same s.exports
 exports_after_item s (import_item i) = exports_after_import s i.name i.ty

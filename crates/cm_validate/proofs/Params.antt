@@ -3,43 +3,32 @@ use Rattle.std.proofs.Common.{◌≡◌, ◌<◌, ◌≤◌, List, [], ◌∷◌
 use Rattle.cm_types.specs.Types.{Fields, fields, tuple_type}
 use Rattle.cm_types.specs.Limits.{IsWithinLimits, nodes_of, nodes_of_fields, depth_of, depth_of_fields}
 use Rattle.cm_types.specs.Spellable.{is_spellable, are_spellable}
-use Rattle.cm_types.specs.declared.def_types.ValType.{ValType}
 use Rattle.cm_types.specs.declared.limits.TheConstants.{MAX_NODES}
-use Rattle.cm_types.specs.declared.def_types.ValType.TheVariants as val_type
 use Rattle.cm_types.specs.declared.def_types.LabeledValType.{LabeledValType}
 use Rattle.cm_types.specs.TypeTrees.{fields_from, fields_of}
 use Rattle.cm_types.specs.declared.type_trees.Field.{Field}
 use Rattle.cm_validate.specs.Rules.{param_count}
-use Rattle.cm_validate.specs.Spaces.{expand_value}
+use Rattle.cm_validate.specs.Spaces.{u32_type}
 
 pub counts : (fs : List Field) → param_count (fields_of fs) ≡ length fs
 counts [] = refl
 counts (f ∷ fs) = omega (arith, counts fs)
 
-value_nodes : (v : ValType) → nodes_of (expand_value v) ≡ 1
-value_nodes val_type.U32 = refl
-
-value_depth : (v : ValType) → depth_of (expand_value v) ≡ 1
-value_depth val_type.U32 = refl
-
 abbrev pub params_from : List LabeledValType → Fields
-params_from ps = fields_from (map (λ p. (p.label, expand_value p.ty)) ps)
+params_from ps = fields_from (map (λ p. (p.label, u32_type)) ps)
 
 params_nodes : (ps : List LabeledValType) → nodes_of_fields (params_from ps) ≡ length ps
 params_nodes [] = refl
-params_nodes (p ∷ ps) = omega (arith, params_nodes ps, value_nodes p.ty)
+params_nodes (p ∷ ps) = omega (arith, params_nodes ps)
 
 params_depth : (ps : List LabeledValType) → depth_of_fields (params_from ps) ≤ 1
 params_depth [] = omega arith
-params_depth (p ∷ ps) = omega (arith, params_depth ps, value_depth p.ty)
-
-value_spellable : (v : ValType) → is_spellable (expand_value v) ≡ true
-value_spellable val_type.U32 = refl
+params_depth (p ∷ ps) = omega (arith, params_depth ps)
 
 -- a file can spell the parameters
 pub params_spellable : (ps : List LabeledValType) → are_spellable (params_from ps) ≡ true
 params_spellable [] = refl
-params_spellable (p ∷ ps) = rw (value_spellable p.ty) (params_spellable ps)
+params_spellable (p ∷ ps) = params_spellable ps
 
 -- small parameter lists are within the limits of one type
 pub small_params : (ps : List LabeledValType) → length ps < MAX_NODES → IsWithinLimits (fields tuple_type (params_from ps))

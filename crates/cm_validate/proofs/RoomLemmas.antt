@@ -4,7 +4,6 @@ use Rattle.std.specs.Prelude.{slice_get, option_map, option_to_list}
 use Rattle.std.specs.List.{sum_by}
 use Rattle.std.proofs.lemmas.List.{length-append, length-map, append-nil}
 use Rattle.std.proofs.lemmas.List.Sums.{sum_by-cons}
-use Rattle.cm_types.specs.DefTypes.{func_def}
 use Rattle.cm_types.specs.Types.{FuncTy}
 use Rattle.cm_types.specs.Signatures.{NamedExtern, func as func_extern}
 use Rattle.cm_component.specs.Limits.{items_in}
@@ -13,7 +12,7 @@ use Rattle.cm_validate.specs.Items.{instantiate, core_func_export}
 use Rattle.cm_component.specs.declared.limits.TheConstants.{MAX_FILE_BYTES}
 use Rattle.cm_validate.specs.Items.{CarriedCanon}
 use Rattle.cm_validate.specs.Items as canon
-use Rattle.cm_validate.specs.Items.{core_instance_of, alias_of, canon_of, import_named, export_named}
+use Rattle.cm_validate.specs.Items.{core_instance_of, alias_of, def_type_of, canon_of, import_named, export_named}
 use Rattle.cm_validate.specs.Items.{Item, items_of, all_items, module_item, core_instance_item, alias_item, type_item, canon_item, import_item, export_item, not_yet_item}
 use Rattle.cm_validate.specs.Room.{HasRoom}
 use Rattle.cm_validate.specs.Spaces.{IndexSpaces, FuncDefTree, ImportedFunc, ExportedFunc, func_type_of, empty_spaces, after_item, after_items, after_canon, after_import, after_export, signature, spaces_of}
@@ -58,7 +57,7 @@ item_grows : (s : IndexSpaces) (x : Item) → Grows s (after_item s x)
 item_grows s module_item = record { modules = omega arith; imports = omega arith; exports = omega arith }
 item_grows s (core_instance_item (instantiate m args)) = stays s (after_item s (core_instance_item (instantiate m args))) refl refl refl
 item_grows s (alias_item (core_func_export instance name)) = stays s (after_item s (alias_item (core_func_export instance name))) refl refl refl
-item_grows s (type_item (func_def f)) = stays s (after_item s (type_item (func_def f))) refl refl refl
+item_grows s (type_item f) = stays s (after_item s (type_item f)) refl refl refl
 item_grows s (canon_item c) = canon_grows s c
 item_grows s (import_item i) = import_grows s i.name i.ty
 item_grows s (export_item e) = export_grows s e.name e.index
@@ -100,7 +99,7 @@ section_count (core_module bytes) = refl
 section_count (core_instances xs) = length-map xs core_instance_of
 section_count (instances xs) = length-map xs (λ x. not_yet_item)
 section_count (aliases xs) = length-map xs alias_of
-section_count (types xs) = length-map xs type_item
+section_count (types xs) = length-map xs def_type_of
 section_count (canons xs) = length-map xs canon_of
 section_count (imports xs) = length-map xs (λ i. import_named i.name i.desc)
 section_count (exports xs) = length-map xs (λ e. export_named e.name e.sort e.index)

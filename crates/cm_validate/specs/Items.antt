@@ -1,6 +1,12 @@
 -- The definitions of a component, one after another (Binary.md, "Component Definitions").
-use Rattle.std.specs.Prelude.{ℕ, List, [], ◌∷◌, ◌++◌, map}
-use Rattle.cm_types.specs.DefTypes.{DefTypeTree}
+use Rattle.std.specs.Prelude.{ℕ, List, [], ◌∷◌, ◌++◌, map, Bool, true, false, ◌&&◌}
+use Rattle.std.specs.Prelude.{if◌then◌else◌}
+use Rattle.std.specs.List.{list_all}
+use Rattle.std.specs.Option.{option_map_or}
+use Rattle.cm_types.specs.declared.def_types.PrimValType.TheVariants.{U32}
+use Rattle.cm_types.specs.declared.def_types.ValType.{ValType}
+use Rattle.cm_types.specs.declared.def_types.ValType.TheVariants as val_types
+use Rattle.cm_types.specs.DefTypes.{FuncTypeTree, DefTypeTree, value_def, func_def, resource_def}
 use Rattle.cm_component.specs.Trees as trees
 use Rattle.cm_component.specs.Trees.{ArgTree, CoreInstanceTree, AliasTree, CanonTree, SectionTree}
 use Rattle.cm_component.specs.Trees.{custom, core_module, core_instances, instances, aliases}
@@ -36,12 +42,21 @@ pub record CarriedExport : Type 0 where
   pub name : List ℕ
   pub index : ℕ
 
+-- whether a value type is u32, without an index
+abbrev pub is_u32 : ValType → Bool
+is_u32 (val_types.Primitive U32) = true
+is_u32 v = false
+
+-- the type of a function over u32, the one type that is carried
+abbrev pub is_over_u32 : FuncTypeTree → Bool
+is_over_u32 f = list_all (λ p. is_u32 p.ty) f.params && option_map_or is_u32 f.result true
+
 -- one definition, of whatever section; one of a form that is not carried so far
 pub data Item : Type 0 where
   module_item : Item
   core_instance_item : CarriedCoreInstance → Item
   alias_item : CarriedAlias → Item
-  type_item : DefTypeTree → Item
+  type_item : FuncTypeTree → Item
   canon_item : CarriedCanon → Item
   import_item : CarriedImport → Item
   export_item : CarriedExport → Item
@@ -59,6 +74,11 @@ alias_of (trees.core_instance_export core_sorts.Table instance name) = not_yet_i
 alias_of (trees.core_instance_export core_sorts.Memory instance name) = not_yet_item
 alias_of (trees.core_instance_export core_sorts.Global instance name) = not_yet_item
 alias_of (trees.outer_type outer) = not_yet_item
+
+abbrev pub def_type_of : DefTypeTree → Item
+def_type_of (value_def v) = not_yet_item
+def_type_of (func_def f) = if is_over_u32 f then type_item f else not_yet_item
+def_type_of (resource_def destructor) = not_yet_item
 
 abbrev pub canon_of : CanonTree → Item
 canon_of (trees.lift func [] ty) = canon_item (Lift func ty)
@@ -84,7 +104,7 @@ items_of (core_module bytes) = module_item ∷ []
 items_of (core_instances xs) = map core_instance_of xs
 items_of (instances xs) = map (λ x. not_yet_item) xs
 items_of (aliases xs) = map alias_of xs
-items_of (types xs) = map type_item xs
+items_of (types xs) = map def_type_of xs
 items_of (canons xs) = map canon_of xs
 items_of (imports xs) = map (λ i. import_named i.name i.desc) xs
 items_of (exports xs) = map (λ e. export_named e.name e.sort e.index) xs

@@ -3,7 +3,6 @@
 use Rattle.std.specs.Prelude.{◌≡◌, ℕ, List, [], ◌∷◌, ◌++◌, length, Option, None, slice_get}
 use Rattle.std.specs.Prelude.{option_map, option_and_then, option_to_list}
 use Rattle.cm_types.specs.Types.{FuncTy}
-use Rattle.cm_types.specs.DefTypes.{func_def}
 use Rattle.cm_component.specs.Trees.{SectionTree}
 use Rattle.cm_validate.specs.Items.{instantiate, core_func_export}
 use Rattle.cm_validate.specs.Items as canon
@@ -19,7 +18,7 @@ new_core_instances s (core_instance_item (instantiate m args)) = m ∷ []
 new_core_instances s _ = []
 
 abbrev pub new_types : IndexSpaces → Item → List FuncTy
-new_types s (type_item (func_def f)) = expand_func f ∷ []
+new_types s (type_item f) = expand_func f ∷ []
 new_types s _ = []
 
 abbrev pub new_core_funcs : IndexSpaces → Item → List CoreFuncTree

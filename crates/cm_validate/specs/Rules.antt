@@ -13,7 +13,7 @@ use Rattle.cm_types.specs.Names.{is_same_name}
 use Rattle.cm_types.specs.ExternNames.{NameTree, plain, method, static, constructor, interface}
 use Rattle.cm_types.specs.ExternNames.{form_of}
 use Rattle.cm_types.specs.Types.{FuncTy, Fields, no_fields, field}
-use Rattle.cm_types.specs.DefTypes.{FuncTypeTree, func_def}
+use Rattle.cm_types.specs.DefTypes.{FuncTypeTree}
 use Rattle.cm_types.specs.declared.def_types.LabeledValType.{LabeledValType}
 use Rattle.cm_types.specs.declared.limits.TheConstants.{MAX_NODES}
 use Rattle.cm_component.specs.Trees.{ArgTree}
@@ -160,7 +160,7 @@ item_rules s (core_instance_item (instantiate m args)) =
 item_rules s (alias_item (core_func_export instance name)) =
     (index_is_there instance (length s.core_instances), reason.NoSuchIndex)
     ∷ []
-item_rules s (type_item (func_def f)) =
+item_rules s (type_item f) =
     (labels_are_distinct f.params, reason.DuplicateName)
     ∷ (params_are_within_limits f, reason.TooLarge)
     ∷ []
@@ -190,7 +190,7 @@ rules_before_memory s (core_instance_item (instantiate m args)) =
 rules_before_memory s (alias_item (core_func_export instance name)) =
     (index_is_there instance (length s.core_instances), reason.NoSuchIndex)
     ∷ []
-rules_before_memory s (type_item (func_def f)) = []
+rules_before_memory s (type_item f) = []
 rules_before_memory s (canon_item c) = canon_rules s c
 rules_before_memory s (import_item i) = import_rules_before_memory s i.ty
 rules_before_memory s (export_item e) =

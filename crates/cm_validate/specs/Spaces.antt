@@ -2,12 +2,10 @@
 -- in order (Explainer.md, "Index Spaces").
 use Rattle.std.specs.Prelude.{ℕ, ◌+◌, List, [], ◌∷◌, ◌++◌, length, map, Option, Some, None}
 use Rattle.std.specs.Prelude.{slice_get, option_map, option_and_then, option_to_list}
-use Rattle.cm_types.specs.DefTypes.{FuncTypeTree, func_def}
+use Rattle.cm_types.specs.DefTypes.{FuncTypeTree}
 use Rattle.cm_types.specs.Types.{Ty, FuncTy, unsigned, bits_32}
 use Rattle.cm_types.specs.TypeTrees.{fields_from}
 use Rattle.cm_types.specs.Signatures.{SignatureTy, func as func_extern}
-use Rattle.cm_types.specs.declared.def_types.ValType.{ValType}
-use Rattle.cm_types.specs.declared.def_types.ValType.TheVariants as val_type
 use Rattle.cm_component.specs.Trees.{SectionTree}
 use Rattle.cm_validate.specs.Items.{instantiate, core_func_export}
 use Rattle.cm_validate.specs.Items.{CarriedCanon}
@@ -15,15 +13,16 @@ use Rattle.cm_validate.specs.Items as canon
 use Rattle.cm_validate.specs.Items.{Item, module_item, core_instance_item, alias_item, type_item}
 use Rattle.cm_validate.specs.Items.{canon_item, import_item, export_item, not_yet_item, all_items}
 
--- a value type, and the type of a function, with every index expanded
-abbrev pub expand_value : ValType → Ty
-expand_value val_type.U32 = unsigned bits_32
+-- the type of each parameter and result, so far
+abbrev pub u32_type : Ty
+u32_type = unsigned bits_32
 
+-- the type of a function over u32
 abbrev pub expand_func : FuncTypeTree → FuncTy
 expand_func f =
     record {
-      params = fields_from (map (λ p. (p.label, expand_value p.ty)) f.params);
-      result = option_map expand_value f.result;
+      params = fields_from (map (λ p. (p.label, u32_type)) f.params);
+      result = option_map (λ r. u32_type) f.result;
     }
 
 -- what a core function is: what a core instance exports under this name, or an import that was
@@ -127,7 +126,7 @@ after_item s (core_instance_item (instantiate m args)) =
     record s { core_instances = s.core_instances ++ m ∷ [] }
 after_item s (alias_item (core_func_export instance name)) =
     record s { core_funcs = s.core_funcs ++ guest instance name ∷ [] }
-after_item s (type_item (func_def f)) = record s { types = s.types ++ expand_func f ∷ [] }
+after_item s (type_item f) = record s { types = s.types ++ expand_func f ∷ [] }
 after_item s (canon_item c) = after_canon s c
 after_item s (import_item i) = after_import s i.name i.ty
 after_item s (export_item e) = after_export s e.name e.index

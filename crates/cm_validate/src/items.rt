@@ -2,13 +2,14 @@
 
 ghost use Rattle.std.specs.Prelude.{◌≡◌, [], ◌∷◌, None, IfOk, OnOk, OnErr, map};
 ghost use Rattle.cm_types.specs.Funcs.{func_of};
-ghost use Rattle.cm_types.specs.DefTypes.{def_type_tree};
+ghost use Rattle.cm_types.specs.DefTypes.{def_type_tree, func_type_tree};
 ghost use Rattle.cm_component.specs.Trees.{arg_tree, core_instance_tree, alias_tree};
 ghost use Rattle.cm_component.specs.Trees.{canon_tree};
 ghost use Rattle.cm_validate.specs.Items as canon;
 ghost use Rattle.cm_validate.specs.declared.fault.ValidReason.TheVariants as reason;
 ghost use Rattle.cm_validate.specs.Items.{Item, instantiate, core_instance_item, type_item};
-ghost use Rattle.cm_validate.specs.Items.{not_yet_item, core_instance_of, alias_of, canon_of};
+ghost use Rattle.cm_validate.specs.Items.{not_yet_item, core_instance_of, alias_of, def_type_of};
+ghost use Rattle.cm_validate.specs.Items.{canon_of};
 ghost use Rattle.cm_validate.specs.Items.{import_item, export_item, import_named, export_named};
 ghost use Rattle.cm_validate.specs.Definitions.{core_func_tree};
 ghost use Rattle.cm_validate.specs.Rules.{item_rules, rules_before_memory, canon_rules};
@@ -19,6 +20,7 @@ ghost use Rattle.cm_validate.specs.Spaces.{after_item, after_canon, after_import
 ghost use Rattle.cm_validate.specs.SpacesBuilder.{spaces_so_far};
 ghost use Rattle.cm_validate.specs.Valid.{first_broken};
 
+use crate::carried::is_over_u32;
 use crate::definitions::{CoreFuncDef, ExportDef, FuncDef};
 use crate::expand::expand_func;
 use crate::fault::ValidReason;
@@ -31,7 +33,7 @@ use cm_component::{
     Alias, Canon, CoreInstance, CoreInstantiationArg, CoreSort, Export, ExportSort, ExternDesc,
     Import, Instance,
 };
-use cm_types::{DefType, ExternName, Func};
+use cm_types::{DefType, ExternName, Func, FuncType};
 use std::alloc::{AllocError, Global};
 use std::rc::Rc;
 
@@ -170,27 +172,50 @@ impl SectionItem for Alias {
     }
 }
 
+fn func_type_fault(
+    alloc: Global,
+    spaces: &SpacesBuilder,
+    ty: &FuncType,
+) -> Result<Option<ValidReason>, AllocError>
+    ensures rules { IfOk result
+        (λ r. r
+        ≡ first_broken (item_rules (spaces_so_far spaces.now)
+        (type_item (func_type_tree ty.now)))) }
+    ensures memory { OnErr result
+        (first_broken (rules_before_memory (spaces_so_far spaces.now)
+        (type_item (func_type_tree ty.now)))
+        ≡ None) }
+{
+    if !labels_are_distinct(alloc, &ty.params)? {
+        Ok(Some(ValidReason::DuplicateName))
+    } else if !params_are_within_limits(ty) {
+        Ok(Some(ValidReason::TooLarge))
+    } else {
+        Ok(None)
+    }
+}
+
 impl SectionItem for DefType {
-    ghost item = { λ t. type_item (def_type_tree t) };
+    ghost item = { λ t. def_type_of (def_type_tree t) };
 
     fn broken_rule(
         &self,
         alloc: Global,
-        _spaces: &SpacesBuilder,
+        spaces: &SpacesBuilder,
     ) -> Result<Option<ValidReason>, AllocError> {
-        let DefType::Func(ty) = self;
-        if !labels_are_distinct(alloc, &ty.params)? {
-            Ok(Some(ValidReason::DuplicateName))
-        } else if !params_are_within_limits(ty) {
-            Ok(Some(ValidReason::TooLarge))
-        } else {
-            Ok(None)
+        match self {
+            DefType::Func(ty) if is_over_u32(ty) => func_type_fault(alloc, spaces, ty),
+            _ => Ok(Some(ValidReason::NotYet)),
         }
     }
 
     fn add(&self, alloc: Global, spaces: &mut SpacesBuilder) -> Result<(), AllocError> {
-        let DefType::Func(ty) = self;
-        spaces.add_type(Rc::new(alloc, expand_func(alloc, ty)?)?)
+        match self {
+            DefType::Func(ty) if is_over_u32(ty) => {
+                spaces.add_type(Rc::new(alloc, expand_func(alloc, ty)?)?)
+            }
+            _ => Ok(()),
+        }
     }
 }
 

@@ -1,6 +1,7 @@
 //! Validation of components: index spaces, and the rules that each definition keeps.
 #![tactic(auto)]
 
+mod carried;
 mod checked;
 mod definitions;
 mod expand;

@@ -3,16 +3,22 @@
 //! `custom NAME BYTES`, `module BYTES`, `instances MODULE NAME=INSTANCE.. ; ..` of core instances,
 //! or with `exports NAME=SORT:INDEX..` for one of exports, `inline NAME=SORT:INDEX.. ; ..` of
 //! instances, `aliases INSTANCE NAME ; SORT INSTANCE NAME ; outer COUNT TYPE ; ..`, where a core
-//! function has no sort, `types func LABEL:u32.. -> u32 ; ..`, `canons lift CORE_FUNC TYPE OPTION..
+//! function has no sort, `types TYPE ; ..`, `canons lift CORE_FUNC TYPE OPTION..
 //! ; lower FUNC OPTION.. ; new R ; drop R ; rep R`, `imports NAME TYPE ; NAME instance:TYPE ; ..`
-//! and `exports NAME FUNC ; NAME instance:INSTANCE ; ..`, where `-` is no result. `N*`
-//! before `func` stands for so many types, and before a label for so many parameters, each with its
-//! number behind the label.
+//! and `exports NAME FUNC ; NAME instance:INSTANCE ; ..`.
+//!
+//! A type is `func LABEL:T.. -> T`, `resource DESTRUCTOR`, a primitive one by its name, `record
+//! LABEL:T..`, `variant LABEL:T..` where a label may stand alone, `list T` or `list T LENGTH`,
+//! `tuple T..`, `flags LABEL..`, `enum LABEL..`, `option T`, `result T T`, `own R` or `borrow R`; T
+//! is the name of a primitive type or an index, and `-` is none. `N*` before the first word stands
+//! for so many types, and before a label for so many parameters, each with its number behind the
+//! label.
 
 mod canons;
 mod externs;
 mod instances;
 mod types;
+mod value_types;
 
 use canons::{read_canons, write_canons};
 use cm_binary::{CustomSection, Section};

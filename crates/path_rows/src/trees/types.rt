@@ -1,85 +1,75 @@
 //! Types of components in rows.
 
-use super::{row_fault, write_mark};
+use super::value_types::{
+    read_def_val_type, read_fields, read_optional_type, write_def_val_type, write_fields,
+    write_optional_type,
+};
+use super::write_mark;
 use cm_binary::Section;
-use cm_rows::{RowFault, split_repeat};
-use cm_types::{DefType, FuncType, Label, LabeledValType, ValType};
+use cm_rows::{RowFault, read_number, split_repeat};
+use cm_types::{DefType, FuncType};
 use std::alloc::{AllocError, Global};
 
 pub fn read_types(alloc: Global, words: &[&str]) -> Result<Section, RowFault> {
     let mut types = Vec::new(alloc);
     for item in words.split(|word| *word == ";") {
-        match item {
-            [] => {}
-            [func, params @ .., _, answer] => {
-                let (times, _) = split_repeat(func);
-                for _ in 0..times {
-                    types.push(DefType::Func(read_func(alloc, params, answer)?))?;
-                }
+        if let [form, words @ ..] = item {
+            let (times, form) = split_repeat(form);
+            for _ in 0..times {
+                types.push(read_type(alloc, form, words)?)?;
             }
-            _ => return Err(RowFault::NotARow),
         }
     }
     Ok(Section::Types(types))
 }
 
-fn read_func(alloc: Global, params: &[&str], answer: &str) -> Result<FuncType, RowFault> {
-    let mut labeled = Vec::new(alloc);
-    for param in params {
-        add_params(alloc, &mut labeled, param)?;
+fn read_type(alloc: Global, form: &str, words: &[&str]) -> Result<DefType, RowFault> {
+    match form {
+        "func" => Ok(DefType::Func(read_func(alloc, words)?)),
+        "resource" => Ok(DefType::Resource(read_destructor(words)?)),
+        _ => Ok(DefType::Value(read_def_val_type(alloc, form, words)?)),
     }
-    let answer = match answer {
-        "-" => None,
-        name => Some(read_val_type(name)?),
+}
+
+fn read_func(alloc: Global, words: &[&str]) -> Result<FuncType, RowFault> {
+    let [params @ .., "->", answer] = words else {
+        return Err(RowFault::NotARow);
     };
     Ok(FuncType {
-        params: labeled,
-        result: answer,
+        params: read_fields(alloc, params)?,
+        result: read_optional_type(answer)?,
     })
 }
 
-fn add_params(alloc: Global, params: &mut Vec<LabeledValType>, word: &str) -> Result<(), RowFault> {
-    let (label, ty) = word.split_once(':').ok_or(RowFault::NotARow)?;
-    let ty = read_val_type(ty)?;
-    let (times, label) = split_repeat(label);
-    for number in 0..times {
-        let label = if times == 1 {
-            read_label(alloc, label)?
-        } else {
-            let label = format!(in alloc; "{label}{number}")?;
-            read_label(alloc, label.as_str())?
-        };
-        params.push(LabeledValType { label, ty })?;
-    }
-    Ok(())
-}
-
-fn read_val_type(name: &str) -> Result<ValType, RowFault> {
-    match name {
-        "u32" => Ok(ValType::U32),
+fn read_destructor(words: &[&str]) -> Result<Option<u32>, RowFault> {
+    match words {
+        ["-"] => Ok(None),
+        [func] => Ok(Some(read_number(func)?)),
         _ => Err(RowFault::NotARow),
     }
-}
-
-fn read_label(alloc: Global, text: &str) -> Result<Label, RowFault> {
-    Label::parse(alloc, text).map_err(row_fault)
 }
 
 pub fn write_types(out: &mut String, types: &[DefType]) -> Result<(), AllocError> {
     out.push_str("types")?;
     for (i, ty) in types.iter().enumerate() {
         write_mark(out, i)?;
-        let DefType::Func(func) = ty;
-        out.push_str("func")?;
-        for param in &func.params {
-            let label = param.label.as_str();
-            let ValType::U32 = param.ty;
-            write!(out, " {label}:u32")?;
-        }
-        match func.result {
-            Some(ValType::U32) => out.push_str(" -> u32")?,
-            None => out.push_str(" -> -")?,
-        }
+        write_type(out, ty)?;
     }
     Ok(())
+}
+
+fn write_type(out: &mut String, ty: &DefType) -> Result<(), AllocError> {
+    match ty {
+        DefType::Value(value) => write_def_val_type(out, value),
+        DefType::Func(func) => write_func(out, func),
+        DefType::Resource(Some(destructor)) => write!(out, "resource {destructor}"),
+        DefType::Resource(None) => out.push_str("resource -"),
+    }
+}
+
+fn write_func(out: &mut String, func: &FuncType) -> Result<(), AllocError> {
+    out.push_str("func")?;
+    write_fields(out, &func.params)?;
+    out.push_str(" -> ")?;
+    write_optional_type(out, func.result)
 }
