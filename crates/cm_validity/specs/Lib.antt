@@ -1,0 +1,12 @@
+pub mod Items
+pub mod Definitions
+pub mod Reasons
+pub mod Scopes
+pub mod TypeRules
+pub mod ItemNames
+pub mod Moves
+pub mod Declarations
+pub mod Spaces
+pub mod Options
+pub mod Rules
+pub mod Valid
