@@ -4,10 +4,10 @@ ghost use Rattle.std.specs.Prelude.{◌≡◌, ◌∷◌, [], IfOk, OnOk, if◌t
 ghost use Rattle.cm_types.specs.Funcs.{func_of};
 ghost use Rattle.cm_types.specs.declared.core_value.CoreKind.TheVariants.{I32};
 ghost use Rattle.cm_layout.specs.Flattening.{flat_of_fields, flat_of_payload};
-ghost use Rattle.cm_layout.specs.FlatFuncs.{flat_func, flat_func_of};
+ghost use Rattle.cm_flat.specs.FlatFuncs.{flat_func, flat_func_of};
 
 use crate::flattening::{join_fields, join_flat};
-use crate::measures::{fields_so_far, node_head};
+use cm_layout::{head, head_of_params};
 use cm_types::{CoreKind, Func, MAX_FLAT_PARAMS, MAX_FLAT_RESULTS};
 use std::alloc::{AllocError, Global};
 
@@ -61,7 +61,7 @@ pub fn flatten_func(alloc: Global, func: &Func, side: Side) -> Result<FlatFunc, 
 fn params_width(func: &Func) -> usize
     ensures { result ≡ length (flat_of_fields (func_of func.now).params) }
 {
-    fields_so_far(&func.params).width as usize
+    head_of_params(func).width as usize
 }
 
 /// How many core values pass the result, if all are passed.
@@ -69,7 +69,7 @@ fn result_width(func: &Func) -> usize
     ensures { result ≡ length (flat_of_payload (func_of func.now).result) }
 {
     match &func.result {
-        Some(ty) => node_head(&ty.root).width as usize,
+        Some(ty) => head(ty).width as usize,
         None => 0,
     }
 }

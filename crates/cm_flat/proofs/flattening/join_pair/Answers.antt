@@ -2,8 +2,8 @@ use Rattle.std.proofs.Common.{[], ◌∷◌}
 use Rattle.std.proofs.lemmas.Result.{IfOk-weaker}
 use Rattle.cm_types.specs.declared.core_value.CoreKind.TheVariants.{I32}
 use Rattle.cm_layout.specs.Flattening.{JoinedFrom}
-use Rattle.cm_layout.proofs.FlatLemmas.{joined_then}
-use Rattle.cm_layout.proofs.flattening.join_pair.Goals as goal
+use Rattle.cm_flat.proofs.FlatLemmas.{joined_then}
+use Rattle.cm_flat.proofs.flattening.join_pair.Goals as goal
 
 pub returns : goal.returns
 returns c =

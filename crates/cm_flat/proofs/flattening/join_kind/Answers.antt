@@ -1,8 +1,8 @@
 use Rattle.std.proofs.Common.{◌≡◌, ◌<◌, ◌∙◌, ap, arith, length}
 use Rattle.cm_layout.specs.Flattening.{join}
-use Rattle.cm_layout.proofs.FlatLemmas.{joined_slot_here, joined_slot_end}
-use Rattle.cm_layout.proofs.flattening.join_kind.Goals as goal
-use Rattle.cm_layout.proofs.flattening.join_kind.Goals.{then-at-len, else-at-len+in_ok-push}
+use Rattle.cm_flat.proofs.FlatLemmas.{joined_slot_here, joined_slot_end}
+use Rattle.cm_flat.proofs.flattening.join_kind.Goals as goal
+use Rattle.cm_flat.proofs.flattening.join_kind.Goals.{then-at-len, else-at-len+in_ok-push}
 
 pub returns : goal.returns
 returns c = elim c.if-at-len.branch [

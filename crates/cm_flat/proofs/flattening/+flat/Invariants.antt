@@ -1,8 +1,8 @@
 use Rattle.std.proofs.Common.{drop}
 use Rattle.cm_types.specs.TypeTrees.{type_of, fields_of, parts_of, cases_of}
 use Rattle.cm_layout.specs.Flattening.{JoinedFrom, copies, flat_of, flat_of_fields, flat_of_cases}
-use Rattle.cm_layout.proofs.FlatLemmas.{LeavesBehind, LeavesOver}
-use Rattle.cm_layout.proofs.flattening.+flat.Given as goal
+use Rattle.cm_flat.proofs.FlatLemmas.{LeavesBehind, LeavesOver}
+use Rattle.cm_flat.proofs.flattening.+flat.Given as goal
 
 abbrev pub invariant-join_copies-loop-copy : goal.invariant-join_copies-loop-copy
 invariant-join_copies-loop-copy l = JoinedFrom l.at l.fn.kinds.items (copies l._copy (flat_of (type_of l.element))) l.kinds.items l.end

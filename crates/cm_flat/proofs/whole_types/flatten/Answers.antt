@@ -2,8 +2,8 @@ use Rattle.std.proofs.Common.{List, ◌∙◌, ap, sym, subst}
 use Rattle.cm_types.specs.declared.core_value.CoreKind.{CoreKind}
 use Rattle.cm_types.specs.Funcs.{tree_type}
 use Rattle.cm_layout.specs.Flattening.{JoinsSlots, flat_of, join_from}
-use Rattle.cm_layout.proofs.SlotLaws.{joins_slots}
-use Rattle.cm_layout.proofs.whole_types.flatten.Goals as goal
+use Rattle.cm_flat.proofs.SlotLaws.{joins_slots}
+use Rattle.cm_flat.proofs.whole_types.flatten.Goals as goal
 
 pub returns-clause-slots : goal.returns-clause-slots
 returns-clause-slots c =

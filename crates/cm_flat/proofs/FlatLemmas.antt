@@ -1,6 +1,5 @@
 -- Flat kinds, joined and repeated.
 use Rattle.std.proofs.Common.{◌≡◌, ℕ, zero, suc, ◌+◌, ◌≤◌, ◌<◌, List, [], ◌∷◌, ◌++◌, length, get_or, Option, Some, None, refl, sym, ap, ◌∙◌, arith, append_assoc, append-nil, max, length-append, add-one, zero-add}
-use Rattle.cm_layout.proofs.WidthLaws.{join_long}
 use Rattle.std.proofs.Math.ListN.{set}
 use Rattle.std.proofs.Math.Nat.{suc-add}
 use Rattle.cm_types.specs.declared.core_value.CoreKind.{CoreKind}
@@ -9,6 +8,11 @@ use Rattle.cm_types.specs.Types.{Ty, Cases, CasesKind, no_cases, plain, carrying
 use Rattle.cm_types.specs.TypeTrees.{plain_from, case_before, case_of, cases_of}
 use Rattle.cm_types.specs.declared.type_trees.Case.{Case}
 use Rattle.cm_layout.specs.Flattening.{JoinedFrom, copies, join, join_slots, join_from, flat_of, flat_of_cases, flat_of_payload}
+
+join_long : (xs ys : List CoreKind) → length (join_slots xs ys) ≡ max (length xs) (length ys)
+join_long [] ys = omega arith
+join_long (x ∷ xs) [] = omega arith
+join_long (x ∷ xs) (y ∷ ys) = omega (arith, join_long xs ys)
 
 pub joined_nil : (xs : List CoreKind) → join_slots xs [] ≡ xs
 joined_nil [] = refl

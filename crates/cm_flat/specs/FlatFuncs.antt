@@ -5,9 +5,9 @@ use Rattle.cm_types.specs.declared.core_value.CoreKind.TheVariants.{I32}
 use Rattle.cm_types.specs.Types.{FuncTy}
 use Rattle.cm_layout.specs.Flattening.{flat_of_fields, flat_of_payload}
 use Rattle.cm_types.specs.declared.limits.TheConstants.{MAX_FLAT_PARAMS, MAX_FLAT_RESULTS}
-use Rattle.cm_layout.specs.declared.flat_funcs.Side.{Side}
-use Rattle.cm_layout.specs.declared.flat_funcs.Side.TheVariants.{Lift, Lower}
-use Rattle.cm_layout.specs.declared.flat_funcs.FlatFunc.{FlatFunc}
+use Rattle.cm_flat.specs.declared.flat_funcs.Side.{Side}
+use Rattle.cm_flat.specs.declared.flat_funcs.Side.TheVariants.{Lift, Lower}
+use Rattle.cm_flat.specs.declared.flat_funcs.FlatFunc.{FlatFunc}
 
 -- the signature of a core function: its parameters and results, whether the parameters are passed
 -- as one pointer to their tuple, and whether the result is passed in memory
