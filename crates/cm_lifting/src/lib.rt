@@ -1,0 +1,18 @@
+//! Values of components, read from memory and from core values (CanonicalABI.md, "Loading" and
+//! "Lifting").
+#![tactic(auto)]
+
+mod giver;
+mod handles;
+mod leaves;
+mod load;
+mod loading;
+mod numbers;
+mod progress;
+mod regions;
+mod stop;
+mod texts;
+
+pub use giver::Giver;
+pub use load::load_value;
+pub use progress::{MetHandle, Progress};
