@@ -1,18 +1,17 @@
 -- Loops of the walk: what was read so far, before what is still to be read.
-use Rattle.std.proofs.Common.{◌≡◌, ℕ, zero, suc, ◌+◌, ◌*◌, ◌-◌, ◌<◌, ◌≤◌, List, [], ◌∷◌, ◌++◌, length, map, drop, get_or, add-one, drop-cons, Option, Some, None, Result, Ok, Err, refl, sym, ap, ◌∙◌, arith, IfSome, subst}
+use Rattle.std.proofs.Common.{◌≡◌, ℕ, zero, suc, ◌+◌, ◌*◌, ◌-◌, ◌<◌, ◌≤◌, List, [], ◌∷◌, ◌++◌, length, map, drop, get_or, add-one, drop-cons, Option, Some, None, Ok, Err, refl, sym, ap, ◌∙◌, arith, IfSome, subst}
 use Rattle.std.proofs.lemmas.List.{map_push}
 use Rattle.cm_types.specs.Values.{Val, Vals, no_vals, val, bare}
-use Rattle.cm_layout.specs.Laid.{Laid, PartsLaid, PayloadsLaid}
-use Rattle.cm_layout.specs.Layouts.{layout_of, part_of, payload_of, nothings}
+use Rattle.cm_layout.specs.Laid.{PartsLaid, PayloadsLaid}
+use Rattle.cm_layout.specs.Layouts.{part_of, nothings}
 use Rattle.cm_layout.specs.Shapes.{LayoutTy, Parts, Payloads, no_parts, part, no_payloads, nothing, carried, parts_from, payloads_from, payload_before}
 use Rattle.cm_layout.specs.declared.layouts.Part.{Part}
 use Rattle.cm_values.specs.ValueTrees.{value_of, values_of, vals_from}
 use Rattle.cm_values.specs.declared.values.Value.{Value}
-use Rattle.cm_abi_model.specs.declared.fault.AbiFault.{AbiFault}
 use Rattle.cm_abi_model.specs.declared.fault.AbiFault.TheVariants as fault
 use Rattle.cm_lifting.specs.declared.stop.Stop.{Stop}
 use Rattle.cm_lifting.specs.declared.stop.Stop.TheVariants as stop
-use Rattle.cm_lifting.specs.Outcomes.{Outcome, Reads, State, Stops, mapped, ◌>>=◌}
+use Rattle.cm_lifting.specs.Outcomes.{Outcome, State, Stops, mapped}
 use Rattle.cm_lifting.specs.Reading.{Source, read_at, read_case, read_each, read_parts, read_payload}
 use Rattle.cm_lifting.specs.Sized.{ArePartsReadable, ArePartsSized, ArePayloadsReadable, ArePayloadsSized, IsReadable}
 

@@ -1,5 +1,5 @@
 -- What values the code's are.
-use Rattle.std.proofs.Common.{◌≡◌, ℕ, Option, Some, None, Ok, Global, Box, rules, sym, ap, ◌∙◌}
+use Rattle.std.proofs.Common.{◌≡◌, ℕ, Some, None, Ok, Global, Box, rules, sym, ap, ◌∙◌}
 use Rattle.std.specs.Str.{chars}
 use Rattle.std.specs.String.{string_bytes}
 use Rattle.std.specs.declared.string.String.{String}

@@ -1,12 +1,11 @@
 -- What layouts the code's are.
-use Rattle.std.proofs.Common.{◌≡◌, ℕ, Vec, Global, Some, rules, map}
+use Rattle.std.proofs.Common.{◌≡◌, ℕ, Global, Some, rules}
 use Rattle.std.specs.declared.rc.Rc.{Rc}
-use Rattle.cm_layout.specs.Layouts.{layout_of, part_of, payload_of, shape_of}
+use Rattle.cm_layout.specs.Layouts.{layout_of, payload_of, shape_of}
 use Rattle.cm_layout.specs.Shapes.{list_shape, fixed_list_shape}
-use Rattle.cm_layout.specs.declared.layouts.Form.{Form, the_lemmas}
+use Rattle.cm_layout.specs.declared.layouts.Form.{the_lemmas}
 use Rattle.cm_layout.specs.declared.layouts.Form.TheViews as form
 use Rattle.cm_layout.specs.declared.layouts.Layout.{Layout, out-Layout}
-use Rattle.cm_layout.specs.declared.layouts.Payload.{Payload}
 
 pub seen_shape : (l : Layout) → (layout_of l).shape ≡ shape_of (out-Layout l).form
 seen_shape l = search (rules, the_lemmas)

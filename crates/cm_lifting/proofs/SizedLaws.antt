@@ -1,9 +1,9 @@
 -- In the layout of a type each number has a size that numbers have.
-use Rattle.std.proofs.Common.{◌≡◌, ℕ, ◌+◌, ◌<◌, ◌≤◌, Bool, true, false, inl, inr, refl, arith, nat_le, length, max}
+use Rattle.std.proofs.Common.{ℕ, ◌+◌, ◌<◌, ◌≤◌, Bool, true, false, inl, inr, refl, arith, nat_le, length}
 use Rattle.std.specs.Prelude.{if◌then◌else◌}
 use Rattle.cm_types.specs.Types.{Ty, Fields, Cases, Width, width_bytes, bits_8, bits_16, bits_32, bits_64, bool, signed, unsigned, char, string, list, fixed_list, fields, cases, flags, own, borrow, no_fields, field, no_cases, plain, carrying}
 use Rattle.cm_layout.specs.Alignment.{align_to}
-use Rattle.cm_layout.specs.Sizes.{align_of, align_of_fields, align_of_payloads, case_count, discriminant_size, flags_size, size_of}
+use Rattle.cm_layout.specs.Sizes.{align_of, align_of_fields, align_of_payloads, case_count, size_of}
 use Rattle.cm_layout.specs.Shapes.{shape_of_type, parts_at, parts_from, payloads_of, payloads_from}
 use Rattle.cm_lifting.specs.Sized.{IsNumberSize, IsSized, ArePartsSized, ArePayloadsSized}
 

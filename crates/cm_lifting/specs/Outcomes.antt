@@ -1,6 +1,5 @@
 -- How far a reader of a value has come, and what reading a part of it comes to.
-use Rattle.std.specs.Prelude.{◌≡◌, ℕ, ◌-◌, List, [], ◌∷◌, ◌++◌, Result, Ok, Err, ⊤}
-use Rattle.cm_layout.specs.declared.layouts.HandleType.{HandleType}
+use Rattle.std.specs.Prelude.{◌≡◌, ℕ, List, Result, Ok, Err, ⊤}
 use Rattle.cm_abi_model.specs.declared.fault.AbiFault.{AbiFault}
 use Rattle.cm_lifting.specs.declared.progress.MetHandle.{MetHandle}
 use Rattle.cm_lifting.specs.declared.progress.Progress.{Progress}

@@ -1,5 +1,5 @@
 -- Reading a value, part after part, up to the first fault (CanonicalABI.md, "Loading").
-use Rattle.std.specs.Prelude.{◌≡◌, ℕ, zero, suc, ◌+◌, ◌*◌, ◌-◌, ◌%◌, ◌^◌, ◌==◌, not, nat_lt}
+use Rattle.std.specs.Prelude.{ℕ, zero, suc, ◌+◌, ◌*◌, ◌-◌, ◌%◌, ◌^◌, ◌==◌, not, nat_lt}
 use Rattle.std.specs.Prelude.{if◌then◌else◌, List, [], ◌∷◌, ◌++◌, length, Option, Some, None}
 use Rattle.std.specs.Prelude.{Result, Ok, Err, ⊤}
 use Rattle.cm_types.specs.Values.{Val, Vals, no_vals, val, truth, signed_number, number, scalar}
@@ -24,7 +24,6 @@ use Rattle.cm_abi_model.specs.declared.fault.AbiFault.TheVariants as fault
 use Rattle.cm_abi_model.specs.Numbers.{as_signed, number_at}
 use Rattle.cm_abi_model.specs.Texts.{bytes_from, charset_of, text_align, text_size}
 use Rattle.cm_lifting.specs.declared.giver.Giver.{Giver}
-use Rattle.cm_lifting.specs.declared.progress.MetHandle.{MetHandle}
 use Rattle.cm_lifting.specs.Decoded.{decoded}
 use Rattle.cm_lifting.specs.Outcomes.{Outcome, State, mapped, ◌>>=◌}
 

@@ -3,7 +3,8 @@ use Rattle.std.specs.Prelude.{◌≡◌, ℕ, ◌+◌, ◌<◌, ◌≤◌, ◌�
 use Rattle.cm_layout.specs.Laid.{Laid}
 use Rattle.cm_layout.specs.declared.layouts.Leaf.{Leaf}
 use Rattle.cm_layout.specs.declared.layouts.Leaf.TheVariants as leaf
-use Rattle.cm_layout.specs.Shapes.{LayoutTy, Shape, Parts, Payloads, leaf_shape, string_shape, list_shape}
+use Rattle.cm_layout.specs.Shapes.{LayoutTy, Shape, Parts, Payloads, leaf_shape, string_shape}
+use Rattle.cm_layout.specs.Shapes.{list_shape}
 use Rattle.cm_layout.specs.Shapes.{fixed_list_shape, fields_shape, cases_shape, handle_shape}
 use Rattle.cm_layout.specs.Shapes.{no_parts, part, no_payloads, nothing, carried}
 

@@ -208,7 +208,8 @@ fn load_part(
 ) -> Result<Value, Stop>
     requires laid { Laid (part_of part.now).1.head.size (part_of part.now).1.shape }
     requires sized { IsSized (part_of part.now).1.shape }
-    requires within { at + (part_of part.now).0 + (part_of part.now).1.head.size ≤ length giver.now.memory.now }
+    requires within { at + (part_of part.now).0 + (part_of part.now).1.head.size
+        ≤ length giver.now.memory.now }
     requires few { length giver.now.memory.now < 2 ^ 62 }
     ensures { Reads value_of result (state_of progress.new)
         (read_at (source_of giver.now) (part_of part.now).1.shape

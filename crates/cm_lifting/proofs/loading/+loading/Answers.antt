@@ -1,4 +1,4 @@
-use Rattle.std.proofs.Common.{rules, ap, sym, refl, ◌∙◌, ◌≡◌, ◌+◌, ◌<◌, Some, IfSome, length, map}
+use Rattle.std.proofs.Common.{rules, ap, sym, ◌∙◌, ◌≡◌, ◌+◌, ◌<◌, Some, IfSome, length, map}
 use Rattle.std.proofs.lemmas.Result.{err_from_is_err_and}
 use Rattle.cm_layout.specs.Layouts.{layout_of, part_of, payload_of, shape_of}
 use Rattle.cm_layout.specs.Shapes.{fixed_list_shape, list_shape, parts_from, payloads_from}
