@@ -1,5 +1,4 @@
-//! Values of components, read from memory and from core values (CanonicalABI.md, "Loading" and
-//! "Lifting").
+//! Values of components, read from memory (CanonicalABI.md, "Loading").
 #![tactic(auto)]
 
 mod giver;
