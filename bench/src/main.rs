@@ -4,6 +4,7 @@
 mod files;
 mod handles;
 mod heap;
+mod layout;
 mod link;
 mod machine;
 mod measure;
@@ -13,10 +14,11 @@ mod text;
 
 fn main() {
     let wanted: Vec<String> = std::env::args().skip(1).collect();
-    let parts: [(&str, fn()); 5] = [
+    let parts: [(&str, fn()); 6] = [
         ("text", text::run),
         ("handles", handles::run),
         ("files", files::run),
+        ("layout", layout::run),
         ("link", link::run),
         ("machine", machine::run),
     ];

@@ -1,3 +1,4 @@
+pub mod Faults
 pub mod Numbers
 pub mod Views
 pub mod Texts

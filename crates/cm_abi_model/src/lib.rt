@@ -6,8 +6,10 @@
 #![tactic(auto)]
 
 mod encoding;
+mod fault;
 pub mod laws;
 mod request;
 
 pub use encoding::StringEncoding;
+pub use fault::AbiFault;
 pub use request::Request;

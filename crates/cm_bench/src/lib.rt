@@ -3,5 +3,6 @@
 
 mod files;
 mod handles;
+mod layouts;
 mod sets;
 mod text;

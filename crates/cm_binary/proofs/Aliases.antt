@@ -9,7 +9,7 @@ use Rattle.cm_grammar.proofs.LeastLaws.{Least, done_least, bind_least, code_leas
 use Rattle.cm_grammar.proofs.WrittenLaws.{Spelled, Writes, bind_written, last_written, code_written}
 use Rattle.cm_component.specs.declared.instances.InstanceExportSort.{InstanceExportSort}
 use Rattle.cm_component.specs.declared.instances.InstanceExportSort.TheVariants as instance_sorts
-use Rattle.cm_component.specs.declared.aliases.OuterType.{OuterType}
+use Rattle.cm_types.specs.declared.def_types.OuterType.{OuterType}
 use Rattle.cm_component.specs.Trees as trees
 use Rattle.cm_component.specs.Trees.{AliasTree}
 use Rattle.cm_component.specs.Spelling.{core_sort_code, outer_type_spelling, alias_spelling}

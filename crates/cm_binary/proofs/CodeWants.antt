@@ -6,7 +6,8 @@ use Rattle.cm_reading.specs.declared.fault.DecodeReason.TheVariants.{Truncated, 
 use Rattle.cm_reading.specs.declared.fault.Feature.{Feature}
 use Rattle.cm_reading.specs.declared.codes.ValueForm.TheVariants as value_forms
 use Rattle.cm_reading.specs.declared.codes.TypeForm.TheVariants as type_forms
-use Rattle.cm_reading.specs.Codes.{section_kind, core_instance_form, core_sort, instance_form, instance_export_sort, alias_sort, core_alias_target, func_alias_target, type_alias_target, no_alias_target, as_case, prim_val_type, value_form, type_form, optional_form, result_form, canon_form, option_form, desc_form, export_sort, export_desc}
+use Rattle.cm_reading.specs.declared.codes.DeclaredTypeForm.TheVariants as declared_type_forms
+use Rattle.cm_reading.specs.Codes.{section_kind, core_instance_form, core_sort, instance_form, instance_export_sort, alias_sort, core_alias_target, func_alias_target, type_alias_target, no_alias_target, as_case, prim_val_type, value_form, type_form, declared_type_form, declaration_form, outer_type_target, declared_desc_form, type_bound_form, optional_form, result_form, canon_form, option_form, desc_form, export_sort, export_desc}
 
 -- The answer is no want of a byte.
 abbrev IsNot : {K : Type 0} → Result K DecodeReason → Type 0
@@ -68,6 +69,21 @@ value_form_never b = search (either, known, as_case_never value_forms.Primitive 
 
 pub type_form_never : Never Truncated type_form
 type_form_never b = search (either, known, unsupported, as_case_never type_forms.Value (value_form b) (value_form_never b)) depth 20
+
+pub declared_type_form_never : Never Truncated declared_type_form
+declared_type_form_never b = search (either, known, unsupported, as_case_never declared_type_forms.Value (value_form b) (value_form_never b)) depth 20
+
+pub declaration_form_never : Never Truncated declaration_form
+declaration_form_never b = search (either, known, unknown, unsupported) depth 20
+
+pub outer_type_target_never : Never Truncated outer_type_target
+outer_type_target_never b = search (either, known, no_target) depth 20
+
+pub declared_desc_form_never : Never Truncated declared_desc_form
+declared_desc_form_never b = search (either, known, unknown, unsupported) depth 20
+
+pub type_bound_form_never : Never Truncated type_bound_form
+type_bound_form_never b = search (either, known, unknown) depth 20
 
 pub optional_form_never : Never Truncated optional_form
 optional_form_never b = search (either, known, unknown) depth 20

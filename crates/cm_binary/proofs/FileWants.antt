@@ -15,6 +15,14 @@ use Rattle.cm_reading.specs.declared.codes.ValueForm.{ValueForm}
 use Rattle.cm_reading.specs.declared.codes.ValueForm.TheVariants as value_forms
 use Rattle.cm_reading.specs.declared.codes.TypeForm.{TypeForm}
 use Rattle.cm_reading.specs.declared.codes.TypeForm.TheVariants as type_forms
+use Rattle.cm_reading.specs.declared.codes.DeclaredTypeForm.{DeclaredTypeForm}
+use Rattle.cm_reading.specs.declared.codes.DeclaredTypeForm.TheVariants as declared_type_forms
+use Rattle.cm_reading.specs.declared.codes.DeclarationForm.{DeclarationForm}
+use Rattle.cm_reading.specs.declared.codes.DeclarationForm.TheVariants as declaration_forms
+use Rattle.cm_reading.specs.declared.codes.DeclaredDescForm.{DeclaredDescForm}
+use Rattle.cm_reading.specs.declared.codes.DeclaredDescForm.TheVariants as declared_descs
+use Rattle.cm_reading.specs.declared.codes.TypeBoundForm.{TypeBoundForm}
+use Rattle.cm_reading.specs.declared.codes.TypeBoundForm.TheVariants as bound_forms
 use Rattle.cm_reading.specs.declared.codes.ResultForm.{ResultForm}
 use Rattle.cm_reading.specs.declared.codes.ResultForm.TheVariants as result_forms
 use Rattle.cm_reading.specs.declared.codes.CanonForm.{CanonForm}
@@ -32,12 +40,12 @@ use Rattle.cm_reading.specs.Codes.{is_from}
 use Rattle.cm_reading.specs.Texts.{Production, text, label, plain_name, extern_name}
 use Rattle.cm_reading.specs.Instances.{core_arg, core_export, core_instance_of, core_instance, inline_export, instance_item}
 use Rattle.cm_reading.specs.Aliases.{outer_type, instance_export, type_alias_of, alias_of, alias}
-use Rattle.cm_reading.specs.Types.{optional_of, optional, type_index, val_type_of, val_type, param, case_type, def_val_type_of, func_result_of, func_result, func_type, def_type_of, def_type, def_type_from, type_defs}
+use Rattle.cm_reading.specs.Types.{optional_of, optional, type_index, val_type_of, val_type, param, case_type, def_val_type_of, func_result_of, func_result, func_type, declared_type_of, declared_type, declared_type_from, declared_alias_of, declared_alias, type_bound_of, type_bound, export_desc_of, export_desc, export_decl, declaration_of, declaration, declarations, def_type_of, def_type, def_type_from, type_defs}
 use Rattle.cm_reading.specs.Canons.{canon_option_of, canon_option, canon_of, canon}
 use Rattle.cm_reading.specs.Externs.{extern_desc_of, extern_desc, import_item, export_item}
 use Rattle.cm_reading.specs.Sections.{contents, section, sections, room_after}
 use Rattle.cm_reading.specs.File.{component, file}
-use Rattle.cm_binary.proofs.CodeWants.{section_kind_never, core_instance_form_never, core_sort_never, instance_form_never, instance_export_sort_never, alias_sort_never, core_alias_target_never, func_alias_target_never, type_alias_target_never, no_alias_target_never, prim_val_type_never, type_form_never, optional_form_never, result_form_never, canon_form_never, option_form_never, desc_form_never, export_sort_never, export_desc_never}
+use Rattle.cm_binary.proofs.CodeWants.{section_kind_never, core_instance_form_never, core_sort_never, instance_form_never, instance_export_sort_never, alias_sort_never, core_alias_target_never, func_alias_target_never, type_alias_target_never, no_alias_target_never, prim_val_type_never, type_form_never, declared_type_form_never, declaration_form_never, outer_type_target_never, declared_desc_form_never, type_bound_form_never, optional_form_never, result_form_never, canon_form_never, option_form_never, desc_form_never, export_sort_never, export_desc_never}
 
 -- Another reason than want of a byte.
 abbrev IsOther : DecodeReason → Type 0
@@ -196,19 +204,80 @@ pub func_type_ends : Ends Truncated func_type
 unfolding func_type
 func_type_ends = bind_ends _ _ _ (vec_ends _ _ _ bad_number param_ends) (λ params. bind_ends _ _ _ func_result_ends (λ r. done_ends _ _))
 
-pub def_type_of_ends : (f : TypeForm) → Ends Truncated (def_type_of f)
-unfolding def_type_of
-def_type_of_ends (type_forms.Value form) = bind_ends _ _ _ (def_val_type_of_ends form) (λ value. done_ends _ _)
-def_type_of_ends type_forms.Func = bind_ends _ _ _ func_type_ends (λ func. done_ends _ _)
-def_type_of_ends type_forms.Resource = bind_ends _ _ _ (fixed_ends _ _ _ unknown_code) (λ representation. bind_ends _ _ _ (optional_ends _ index_ends) (λ destructor. done_ends _ _))
+pub declared_type_of_ends : (f : DeclaredTypeForm) → Ends Truncated (declared_type_of f)
+unfolding declared_type_of
+declared_type_of_ends (declared_type_forms.Value form) = bind_ends _ _ _ (def_val_type_of_ends form) (λ value. done_ends _ _)
+declared_type_of_ends declared_type_forms.Func = bind_ends _ _ _ func_type_ends (λ func. done_ends _ _)
 
-pub def_type_ends : Ends Truncated def_type
+pub declared_type_ends : Ends Truncated declared_type
+unfolding declared_type
+declared_type_ends = bind_ends _ _ _ (code_ends _ _ declared_type_form_never) declared_type_of_ends
+
+pub declared_type_from_ends : (stock : ℕ) → Ends Truncated (declared_type_from stock)
+unfolding declared_type_from
+declared_type_from_ends stock = from_stock_ends _ _ _ too_many (λ left. declared_type_ends) stock
+
+pub declared_alias_of_ends : (s : AliasSort) → Ends Truncated (declared_alias_of s)
+unfolding declared_alias_of
+declared_alias_of_ends alias_sorts.Core = bind_ends _ _ _ (code_ends _ _ core_sort_never) (λ sort. code_ends _ _ no_alias_target_never)
+declared_alias_of_ends alias_sorts.Func = code_ends _ _ no_alias_target_never
+declared_alias_of_ends alias_sorts.Type = bind_ends _ _ _ (code_ends _ _ outer_type_target_never) (λ target. outer_type_ends)
+declared_alias_of_ends alias_sorts.Instance = code_ends _ _ no_alias_target_never
+
+pub declared_alias_ends : Ends Truncated declared_alias
+unfolding declared_alias
+declared_alias_ends = bind_ends _ _ _ (code_ends _ _ alias_sort_never) declared_alias_of_ends
+
+pub type_bound_of_ends : (f : TypeBoundForm) → Ends Truncated (type_bound_of f)
+unfolding type_bound_of
+type_bound_of_ends bound_forms.Equal = bind_ends _ _ _ index_ends (λ ty. done_ends _ _)
+type_bound_of_ends bound_forms.SubResource = done_ends _ _
+
+pub type_bound_ends : Ends Truncated type_bound
+unfolding type_bound
+type_bound_ends = bind_ends _ _ _ (code_ends _ _ type_bound_form_never) type_bound_of_ends
+
+pub export_desc_of_ends : (f : DeclaredDescForm) → Ends Truncated (export_desc_of f)
+unfolding export_desc_of
+export_desc_of_ends declared_descs.Func = bind_ends _ _ _ index_ends (λ ty. done_ends _ _)
+export_desc_of_ends declared_descs.Type = bind_ends _ _ _ type_bound_ends (λ bound. done_ends _ _)
+
+pub export_desc_ends : Ends Truncated export_desc
+unfolding export_desc
+export_desc_ends = bind_ends _ _ _ (code_ends _ _ declared_desc_form_never) export_desc_of_ends
+
+pub export_decl_ends : Ends Truncated export_decl
+unfolding export_decl
+export_decl_ends = bind_ends _ _ _ extern_name_ends (λ name. bind_ends _ _ _ export_desc_ends (λ desc. done_ends _ _))
+
+pub declaration_of_ends : (stock : ℕ) (f : DeclarationForm) → Ends Truncated (declaration_of stock f)
+unfolding declaration_of
+declaration_of_ends stock declaration_forms.Type = bind_ends _ _ _ (declared_type_from_ends stock) (λ ty. done_ends _ _)
+declaration_of_ends stock declaration_forms.Alias = bind_ends _ _ _ declared_alias_ends (λ outer. done_ends _ _)
+declaration_of_ends stock declaration_forms.Export = bind_ends _ _ _ export_decl_ends (λ export. done_ends _ _)
+
+pub declaration_ends : (stock : ℕ) → Ends Truncated (declaration stock)
+unfolding declaration
+declaration_ends stock = bind_ends _ _ _ (code_ends _ _ declaration_form_never) (declaration_of_ends stock)
+
+pub declarations_ends : (stock : ℕ) → Ends Truncated (declarations stock)
+unfolding declarations
+declarations_ends stock = bind_ends _ _ _ index_ends (λ n. chain_ends _ _ _ declaration_ends n stock)
+
+pub def_type_of_ends : (left : ℕ) (f : TypeForm) → Ends Truncated (def_type_of left f)
+unfolding def_type_of
+def_type_of_ends left (type_forms.Value form) = bind_ends _ _ _ (def_val_type_of_ends form) (λ value. done_ends _ _)
+def_type_of_ends left type_forms.Func = bind_ends _ _ _ func_type_ends (λ func. done_ends _ _)
+def_type_of_ends left type_forms.Resource = bind_ends _ _ _ (fixed_ends _ _ _ unknown_code) (λ representation. bind_ends _ _ _ (optional_ends _ index_ends) (λ destructor. done_ends _ _))
+def_type_of_ends left type_forms.Instance = bind_ends _ _ _ (declarations_ends left) (λ items. done_ends _ _)
+
+pub def_type_ends : (left : ℕ) → Ends Truncated (def_type left)
 unfolding def_type
-def_type_ends = bind_ends _ _ _ (code_ends _ _ type_form_never) def_type_of_ends
+def_type_ends left = bind_ends _ _ _ (code_ends _ _ type_form_never) (def_type_of_ends left)
 
 pub def_type_from_ends : (stock : ℕ) → Ends Truncated (def_type_from stock)
 unfolding def_type_from
-def_type_from_ends stock = from_stock_ends _ _ _ too_many (λ left. def_type_ends) stock
+def_type_from_ends stock = from_stock_ends _ _ _ too_many def_type_ends stock
 
 pub type_defs_ends : (stock : ℕ) → Ends Truncated (type_defs stock)
 unfolding type_defs

@@ -13,7 +13,7 @@ use Rattle.cm_leb.specs.Writing.{group_of, signed_length, to_two_complement, sho
 use Rattle.cm_leb.proofs.WritingLaws.{shortest_signed-apart}
 use Rattle.cm_grammar.specs.Grammar.{code, from_stock, vec}
 use Rattle.cm_grammar.specs.Spelling.{blob_spelling, vec_spelling}
-use Rattle.cm_grammar.proofs.LeastLaws.{Least, done_least, bind_least, ahead_least, code_least, number_least, signed_least, check_least, fixed_least, vec_least, from_stock_least, stocked_least}
+use Rattle.cm_grammar.proofs.LeastLaws.{Least, done_least, bind_least, ahead_least, code_least, refuse_least, number_least, signed_least, check_least, fixed_least, vec_least, from_stock_least, stocked_least}
 use Rattle.cm_grammar.proofs.WrittenLaws.{Spelled, Writes, WritesFrom, done_written, bind_written, last_written, ahead_written, code_written, number_written, signed_written, check_written, fixed_written, vec_written, from_stock_written, stocked_written, chain_costs, from_stock_costs}
 use Rattle.cm_types.specs.Names.{is_label}
 use Rattle.cm_types.specs.declared.def_types.PrimValType.{PrimValType}
@@ -22,12 +22,18 @@ use Rattle.cm_types.specs.declared.def_types.ValType.{ValType}
 use Rattle.cm_types.specs.declared.def_types.ValType.TheVariants as val_types
 use Rattle.cm_types.specs.declared.def_types.LabeledValType.{LabeledValType}
 use Rattle.cm_types.specs.declared.def_types.CaseType.{CaseType}
+use Rattle.cm_types.specs.declared.def_types.OuterType.{OuterType}
+use Rattle.cm_types.specs.declared.def_types.TypeBound.{TypeBound}
+use Rattle.cm_types.specs.declared.def_types.TypeBound.TheVariants as bounds
+use Rattle.cm_types.specs.declared.def_types.ExportDesc.{ExportDesc}
+use Rattle.cm_types.specs.declared.def_types.ExportDesc.TheVariants as export_descs
+use Rattle.cm_types.specs.declared.def_types.ExportDecl.{ExportDecl}
 use Rattle.cm_types.specs.DefTypes as types
-use Rattle.cm_types.specs.DefTypes.{DefValTypeTree, FuncTypeTree, DefTypeTree, value_def, func_def, resource_def}
-use Rattle.cm_component.specs.Spelling.{optional_spelling, prim_val_type_code, val_type_spelling, param_spelling, case_spelling, def_val_type_code, def_val_type_parts, result_spelling, func_spelling, def_spelling}
-use Rattle.cm_component.specs.Parts.{is_index, holds_optional, holds_label, holds_val_type, holds_param, holds_case, holds_def_val_type, holds_func, holds_def}
-use Rattle.cm_component.specs.Limits.{types_in_def}
-use Rattle.cm_component.proofs.Nonempty.{blob_some, val_type_some, param_some, case_some, def_some}
+use Rattle.cm_types.specs.DefTypes.{DefValTypeTree, FuncTypeTree, DeclaredTypeTree, DeclarationTree, DefTypeTree, value_def, func_def, resource_def, instance_def}
+use Rattle.cm_component.specs.Spelling.{optional_spelling, prim_val_type_code, val_type_spelling, param_spelling, case_spelling, def_val_type_code, def_val_type_parts, result_spelling, func_spelling, declared_type_spelling, type_bound_spelling, extern_name_spelling, export_desc_spelling, export_decl_spelling, outer_type_spelling, declaration_spelling, def_spelling}
+use Rattle.cm_component.specs.Parts.{is_index, holds_optional, holds_label, holds_val_type, holds_param, holds_case, holds_def_val_type, holds_func, holds_declared_type, holds_name, holds_type_bound, holds_export_desc, holds_export_decl, holds_outer_type, holds_declaration, holds_def}
+use Rattle.cm_component.specs.Limits.{types_in_declaration, types_in_def}
+use Rattle.cm_component.proofs.Nonempty.{blob_some, val_type_some, param_some, case_some, declaration_some, def_some}
 use Rattle.cm_reading.specs.declared.fault.DecodeReason.TheVariants.{BadNumber, TooMany}
 use Rattle.cm_reading.specs.declared.codes.OptionalForm.{OptionalForm}
 use Rattle.cm_reading.specs.declared.codes.OptionalForm.TheVariants as optional_forms
@@ -35,12 +41,24 @@ use Rattle.cm_reading.specs.declared.codes.ResultForm.{ResultForm}
 use Rattle.cm_reading.specs.declared.codes.ResultForm.TheVariants as result_forms
 use Rattle.cm_reading.specs.declared.codes.ValueForm.{ValueForm}
 use Rattle.cm_reading.specs.declared.codes.ValueForm.TheVariants as value_forms
+use Rattle.cm_reading.specs.declared.codes.DeclaredTypeForm.{DeclaredTypeForm}
+use Rattle.cm_reading.specs.declared.codes.DeclaredTypeForm.TheVariants as declared_type_forms
+use Rattle.cm_reading.specs.declared.codes.DeclarationForm.{DeclarationForm}
+use Rattle.cm_reading.specs.declared.codes.DeclarationForm.TheVariants as declaration_forms
+use Rattle.cm_reading.specs.declared.codes.DeclaredDescForm.{DeclaredDescForm}
+use Rattle.cm_reading.specs.declared.codes.DeclaredDescForm.TheVariants as declared_descs
+use Rattle.cm_reading.specs.declared.codes.TypeBoundForm.{TypeBoundForm}
+use Rattle.cm_reading.specs.declared.codes.TypeBoundForm.TheVariants as bound_forms
+use Rattle.cm_reading.specs.declared.codes.AliasSort.{AliasSort}
+use Rattle.cm_reading.specs.declared.codes.AliasSort.TheVariants as alias_sorts
+use Rattle.cm_reading.specs.declared.codes.OuterTypeTarget.TheVariants as outer_targets
 use Rattle.cm_reading.specs.declared.codes.TypeForm.{TypeForm}
 use Rattle.cm_reading.specs.declared.codes.TypeForm.TheVariants as type_forms
-use Rattle.cm_reading.specs.Codes.{is_from, prim_val_type, type_form}
+use Rattle.cm_reading.specs.Codes.{is_from, prim_val_type, declared_type_form, type_form}
 use Rattle.cm_reading.specs.Texts.{Production, index, label}
-use Rattle.cm_reading.specs.Types.{optional_of, optional, is_type_index, as_index, type_index, val_type_of, val_type, param, case_type, def_val_type_of, func_result_of, func_result, func_type, def_type_of, def_type, def_type_from, type_defs}
-use Rattle.cm_binary.proofs.Texts.{label_least, label_written}
+use Rattle.cm_reading.specs.Types.{optional_of, optional, is_type_index, as_index, type_index, val_type_of, val_type, param, case_type, def_val_type_of, func_result_of, func_result, func_type, declared_type_of, declared_type, declared_type_from, declared_alias_of, declared_alias, type_bound_of, type_bound, export_desc_of, export_desc, export_decl, declaration_of, declaration, declarations, def_type_of, def_type, def_type_from, type_defs}
+use Rattle.cm_binary.proofs.Texts.{label_least, label_written, extern_name_least, extern_name_writes}
+use Rattle.cm_binary.proofs.Aliases.{outer_type_least, outer_type_written}
 
 -- ---- nothing shorter
 
@@ -120,19 +138,80 @@ func_type_least : Least func_type (λ f. length (func_spelling f))
 unfolding func_type
 func_type_least = bind_least _ _ (vec_least _ _ _ param_least) (λ params. bind_least _ _ func_result_least (λ r. done_least _ (omega (arith, length-append {A = ℕ}))))
 
-def_type_of_least : (f : TypeForm) → Least (def_type_of f) (λ d. length (def_spelling d) - 1)
-unfolding def_type_of
-def_type_of_least (type_forms.Value form) = bind_least _ _ (def_val_type_of_least form) (λ value. done_least _ (omega arith))
-def_type_of_least type_forms.Func = bind_least _ _ func_type_least (λ func. done_least _ (omega arith))
-def_type_of_least type_forms.Resource = bind_least _ _ (fixed_least _ _) (λ representation. bind_least _ _ (optional_least _ _ (number_least _)) (λ destructor. done_least _ (omega arith)))
+declared_type_of_least : (f : DeclaredTypeForm) → Least (declared_type_of f) (λ d. length (declared_type_spelling d) - 1)
+unfolding declared_type_of
+declared_type_of_least (declared_type_forms.Value form) = bind_least _ _ (def_val_type_of_least form) (λ value. done_least _ (omega arith))
+declared_type_of_least declared_type_forms.Func = bind_least _ _ func_type_least (λ func. done_least _ (omega arith))
 
-def_type_least : Least def_type (λ d. length (def_spelling d))
+declared_type_least : Least declared_type (λ d. length (declared_type_spelling d))
+unfolding declared_type
+declared_type_least = bind_least _ _ (code_least _) declared_type_of_least
+
+declared_type_from_least : (stock : ℕ) → Least (declared_type_from stock) (λ d. length (declared_type_spelling d))
+unfolding declared_type_from
+declared_type_from_least stock = from_stock_least _ _ (λ left. declared_type_least) stock
+
+declared_alias_of_least : (s : AliasSort) → Least (declared_alias_of s) (λ o. 1 + length (outer_type_spelling o))
+unfolding declared_alias_of
+declared_alias_of_least alias_sorts.Core = bind_least _ _ (code_least _) (λ sort. refuse_least _)
+declared_alias_of_least alias_sorts.Func = refuse_least _
+declared_alias_of_least alias_sorts.Type = bind_least _ _ (code_least _) (λ target. outer_type_least)
+declared_alias_of_least alias_sorts.Instance = refuse_least _
+
+declared_alias_least : Least declared_alias (λ o. 2 + length (outer_type_spelling o))
+unfolding declared_alias
+declared_alias_least = bind_least _ _ (code_least _) declared_alias_of_least
+
+type_bound_of_least : (f : TypeBoundForm) → Least (type_bound_of f) (λ b. length (type_bound_spelling b) - 1)
+unfolding type_bound_of
+type_bound_of_least bound_forms.Equal = bind_least _ _ (number_least _) (λ ty. done_least _ (omega arith))
+type_bound_of_least bound_forms.SubResource = done_least _ (omega arith)
+
+type_bound_least : Least type_bound (λ b. length (type_bound_spelling b))
+unfolding type_bound
+type_bound_least = bind_least _ _ (code_least _) type_bound_of_least
+
+export_desc_of_least : (f : DeclaredDescForm) → Least (export_desc_of f) (λ d. length (export_desc_spelling d) - 1)
+unfolding export_desc_of
+export_desc_of_least declared_descs.Func = bind_least _ _ (number_least _) (λ ty. done_least _ (omega arith))
+export_desc_of_least declared_descs.Type = bind_least _ _ type_bound_least (λ bound. done_least _ (omega arith))
+
+export_desc_least : Least export_desc (λ d. length (export_desc_spelling d))
+unfolding export_desc
+export_desc_least = bind_least _ _ (code_least _) export_desc_of_least
+
+export_decl_least : Least export_decl (λ e. length (export_decl_spelling e))
+unfolding export_decl
+export_decl_least = bind_least _ _ extern_name_least (λ name. bind_least _ _ export_desc_least (λ desc. done_least _ (omega (arith, length-append {A = ℕ}))))
+
+declaration_of_least : (stock : ℕ) (f : DeclarationForm) → Least (declaration_of stock f) (λ d. length (declaration_spelling d) - 1)
+unfolding declaration_of
+declaration_of_least stock declaration_forms.Type = bind_least _ _ (declared_type_from_least stock) (λ ty. done_least _ (omega arith))
+declaration_of_least stock declaration_forms.Alias = bind_least _ _ declared_alias_least (λ outer. done_least _ (omega arith))
+declaration_of_least stock declaration_forms.Export = bind_least _ _ export_decl_least (λ export. done_least _ (omega arith))
+
+declaration_least : (stock : ℕ) → Least (declaration stock) (λ d. length (declaration_spelling d))
+unfolding declaration
+declaration_least stock = bind_least _ _ (code_least _) (declaration_of_least stock)
+
+declarations_least : (stock : ℕ) → Least (declarations stock) (λ ds. length (vec_spelling declaration_spelling ds))
+unfolding declarations
+declarations_least stock = stocked_least _ _ _ _ declaration_least stock
+
+def_type_of_least : (left : ℕ) (f : TypeForm) → Least (def_type_of left f) (λ d. length (def_spelling d) - 1)
+unfolding def_type_of
+def_type_of_least left (type_forms.Value form) = bind_least _ _ (def_val_type_of_least form) (λ value. done_least _ (omega arith))
+def_type_of_least left type_forms.Func = bind_least _ _ func_type_least (λ func. done_least _ (omega arith))
+def_type_of_least left type_forms.Resource = bind_least _ _ (fixed_least _ _) (λ representation. bind_least _ _ (optional_least _ _ (number_least _)) (λ destructor. done_least _ (omega arith)))
+def_type_of_least left type_forms.Instance = bind_least _ _ (declarations_least left) (λ items. done_least _ (omega arith))
+
+def_type_least : (left : ℕ) → Least (def_type left) (λ d. length (def_spelling d))
 unfolding def_type
-def_type_least = bind_least _ _ (code_least _) def_type_of_least
+def_type_least left = bind_least _ _ (code_least _) (def_type_of_least left)
 
 pub type_defs_least : (stock : ℕ) → Least (type_defs stock) (λ ts. length (vec_spelling def_spelling ts))
 unfolding type_defs def_type_from
-type_defs_least stock = stocked_least _ _ _ _ (λ left. from_stock_least _ _ (λ l. def_type_least) left) stock
+type_defs_least stock = stocked_least _ _ _ _ (λ left. from_stock_least _ _ def_type_least left) stock
 
 -- ---- what is written: values that may be there, value types
 
@@ -258,6 +337,33 @@ form_read (types.result_of ok error) = refl
 form_read (types.own_of resource) = refl
 form_read (types.borrow_of resource) = refl
 
+prim_declared_read : (p : PrimValType) → declared_type_form (prim_val_type_code p) ≡ Ok (declared_type_forms.Value (value_forms.Primitive p))
+prim_declared_read prims.Bool = refl
+prim_declared_read prims.S8 = refl
+prim_declared_read prims.U8 = refl
+prim_declared_read prims.S16 = refl
+prim_declared_read prims.U16 = refl
+prim_declared_read prims.S32 = refl
+prim_declared_read prims.U32 = refl
+prim_declared_read prims.S64 = refl
+prim_declared_read prims.U64 = refl
+prim_declared_read prims.Char = refl
+prim_declared_read prims.String = refl
+
+declared_read : (t : DefValTypeTree) → declared_type_form (def_val_type_code t) ≡ Ok (declared_type_forms.Value (form_of t))
+declared_read (types.primitive p) = prim_declared_read p
+declared_read (types.record_of fields) = refl
+declared_read (types.variant_of cases) = refl
+declared_read (types.list_of element) = refl
+declared_read (types.fixed_list_of element n) = refl
+declared_read (types.tuple_of parts) = refl
+declared_read (types.flags_of labels) = refl
+declared_read (types.enum_of labels) = refl
+declared_read (types.option_of some) = refl
+declared_read (types.result_of ok error) = refl
+declared_read (types.own_of resource) = refl
+declared_read (types.borrow_of resource) = refl
+
 labels_write : Writes (vec BadNumber label) (list_all holds_label) (vec_spelling blob_spelling)
 labels_write = vec_written BadNumber label holds_label blob_spelling blob_some label_writes
 
@@ -294,27 +400,96 @@ func_type_writes x h lt =
     let lengths = length-append (vec_spelling param_spelling x.params) (result_spelling x.result) in
     bind_written _ (vec_written BadNumber param holds_param param_spelling param_some param_writes x.params both.0 (omega (arith, lengths, lt))) (last_written (λ r. record { params = x.params; result = r }) (func_result_writes x.result both.1 (omega (arith, lengths, lt)))) refl
 
-def_type_writes : Writes def_type holds_def def_spelling
+-- ---- what is written: types of instances
+
+declared_type_writes : Writes declared_type holds_declared_type declared_type_spelling
+unfolding declared_type declared_type_of
+declared_type_writes (types.declared_value t) h lt = bind_written _ (code_written (def_val_type_code t) (declared_read t)) (last_written types.declared_value (parts_written t h (omega (arith, lt)))) refl
+declared_type_writes (types.declared_func f) h lt = bind_written _ (code_written {k = declared_type_forms.Func} 0x40 refl) (last_written types.declared_func (func_type_writes f h (omega (arith, lt)))) refl
+
+type_bound_writes : Writes type_bound holds_type_bound type_bound_spelling
+unfolding type_bound type_bound_of
+type_bound_writes (bounds.Equal ty) h lt = bind_written _ (code_written {k = bound_forms.Equal} 0 refl) (last_written bounds.Equal (index_writes ty h (omega (arith, lt)))) refl
+type_bound_writes bounds.SubResource h lt = bind_written _ (code_written {k = bound_forms.SubResource} 1 refl) (done_written bounds.SubResource) refl
+
+export_desc_writes : Writes export_desc holds_export_desc export_desc_spelling
+unfolding export_desc export_desc_of
+export_desc_writes (export_descs.Func ty) h lt = bind_written _ (code_written {k = declared_descs.Func} 1 refl) (last_written export_descs.Func (index_writes ty h (omega (arith, lt)))) refl
+export_desc_writes (export_descs.Type bound) h lt = bind_written _ (code_written {k = declared_descs.Type} 3 refl) (last_written export_descs.Type (type_bound_writes bound h (omega (arith, lt)))) refl
+
+export_decl_writes : Writes export_decl holds_export_decl export_decl_spelling
+unfolding export_decl
+export_decl_writes x h lt =
+    let both = and_parts (holds_name x.name) (holds_export_desc x.desc) h in
+    let lengths = length-append (extern_name_spelling x.name) (export_desc_spelling x.desc) in
+    bind_written _ (extern_name_writes x.name both.0 (omega (arith, lengths, lt))) (last_written (λ d. record { name = x.name; desc = d }) (export_desc_writes x.desc both.1 (omega (arith, lengths, lt)))) refl
+
+declared_alias_written : (o : OuterType) → holds_outer_type o ≡ true → Spelled declared_alias o (0x03 ∷ 0x02 ∷ outer_type_spelling o)
+unfolding declared_alias declared_alias_of
+declared_alias_written o h = bind_written _ (code_written {k = alias_sorts.Type} 3 refl) (bind_written _ (code_written {k = outer_targets.OuterType} 2 refl) (outer_type_written o h) refl) refl
+
+declaration_takes : (t : DeclaredTypeTree) (stock : ℕ) → types_in_declaration (types.type_decl t) ≤ stock → 0 < stock
+declaration_takes t stock le = omega (arith, le)
+
+declarations_write : WritesFrom declaration types_in_declaration holds_declaration declaration_spelling
+unfolding declaration declaration_of declared_type_from
+declarations_write stock (types.type_decl t) le h lt = bind_written _ (code_written {k = declaration_forms.Type} 1 refl) (last_written types.type_decl (from_stock_written (λ left. declared_type) TooMany t (declared_type_spelling t) stock (declaration_takes t stock le) (declared_type_writes t h (omega (arith, lt))))) refl
+declarations_write stock (types.outer_type_decl o) le h lt = bind_written _ (code_written {k = declaration_forms.Alias} 2 refl) (last_written types.outer_type_decl (declared_alias_written o h)) refl
+declarations_write stock (types.export_decl e) le h lt = bind_written _ (code_written {k = declaration_forms.Export} 4 refl) (last_written types.export_decl (export_decl_writes e h (omega (arith, lt)))) refl
+
+declaration_lists_write : WritesFrom declarations (λ ds. sum_by types_in_declaration ds) (list_all holds_declaration) (vec_spelling declaration_spelling)
+unfolding declarations
+declaration_lists_write = stocked_written BadNumber declaration types_in_declaration holds_declaration declaration_spelling declaration_some declarations_write
+
+-- ---- what is written: type definitions
+
+def_type_writes : (left : ℕ) (d : DefTypeTree) → types_in_def d ≤ left + 1 → holds_def d ≡ true → length (def_spelling d) < 2 ^ 32 → Spelled (def_type left) d (def_spelling d)
 unfolding def_type def_type_of
-def_type_writes (value_def t) h lt = bind_written _ (code_written (def_val_type_code t) (form_read t)) (last_written value_def (parts_written t h (omega (arith, lt)))) refl
-def_type_writes (func_def f) h lt = bind_written _ (code_written 0x40 refl) (last_written func_def (func_type_writes f h (omega (arith, lt)))) refl
-def_type_writes (resource_def d) h lt = bind_written _ (code_written {k = type_forms.Resource} 0x3f refl) (bind_written _ (fixed_written {literal = 0x7f ∷ []}) (last_written resource_def (optional_writes index is_index shortest_unsigned index_writes d h (omega (arith, lt)))) refl) refl
+def_type_writes left (value_def t) le h lt = bind_written _ (code_written (def_val_type_code t) (form_read t)) (last_written value_def (parts_written t h (omega (arith, lt)))) refl
+def_type_writes left (instance_def ds) le h lt = bind_written _ (code_written {k = type_forms.Instance} 0x42 refl) (last_written instance_def (declaration_lists_write left ds (omega (arith, le)) h (omega (arith, lt)))) refl
+def_type_writes left (func_def f) le h lt = bind_written _ (code_written 0x40 refl) (last_written func_def (func_type_writes f h (omega (arith, lt)))) refl
+def_type_writes left (resource_def d) le h lt = bind_written _ (code_written {k = type_forms.Resource} 0x3f refl) (bind_written _ (fixed_written {literal = 0x7f ∷ []}) (last_written resource_def (optional_writes index is_index shortest_unsigned index_writes d h (omega (arith, lt)))) refl) refl
 
 -- ---- no more than may stand
 
-def_costs : (d : DefTypeTree) (stock : ℕ) → types_in_def d ≤ stock + 1
-def_costs (value_def v) stock = omega arith
-def_costs (func_def f) stock = omega arith
-def_costs (resource_def d) stock = omega arith
+declared_type_costs : (stock : ℕ) (x : DeclaredTypeTree) (bytes : List ℕ) → (declared_type_from stock).Spells x bytes → 1 ≤ stock
+unfolding declared_type_from
+declared_type_costs = from_stock_costs (λ left. declared_type) TooMany (λ x. 1) (λ stock x bytes s. omega arith)
+
+declaration_of_costs : (stock : ℕ) (f : DeclarationForm) (x : DeclarationTree) (bytes : List ℕ) → (declaration_of stock f).Spells x bytes → types_in_declaration x ≤ stock
+unfolding declaration_of
+declaration_of_costs stock declaration_forms.Type x bytes s = rw s.4.0 (declared_type_costs stock s.0 s.1 s.3)
+declaration_of_costs stock declaration_forms.Alias x bytes s = rw s.4.0 (omega arith)
+declaration_of_costs stock declaration_forms.Export x bytes s = rw s.4.0 (omega arith)
+
+declaration_costs : (stock : ℕ) (x : DeclarationTree) (bytes : List ℕ) → (declaration stock).Spells x bytes → types_in_declaration x ≤ stock
+unfolding declaration
+declaration_costs stock x bytes s = declaration_of_costs stock s.0 x s.2 s.4
+
+declarations_cost : (stock : ℕ) (xs : List DeclarationTree) (bytes : List ℕ) → (declarations stock).Spells xs bytes → sum_by types_in_declaration xs ≤ stock
+unfolding declarations
+declarations_cost stock xs bytes s = chain_costs declaration types_in_declaration declaration_costs s.0 stock xs s.2 s.4
+
+def_of_costs : (left : ℕ) (f : TypeForm) (x : DefTypeTree) (bytes : List ℕ) → (def_type_of left f).Spells x bytes → types_in_def x ≤ left + 1
+unfolding def_type_of
+def_of_costs left (type_forms.Value form) x bytes s = rw s.4.0 (omega arith)
+def_of_costs left type_forms.Func x bytes s = rw s.4.0 (omega arith)
+def_of_costs left type_forms.Resource x bytes s = rw s.4.4.0 (omega arith)
+def_of_costs left type_forms.Instance x bytes s = rw s.4.0 (omega (arith, declarations_cost left s.0 s.1 s.3))
+
+def_costs : (left : ℕ) (x : DefTypeTree) (bytes : List ℕ) → (def_type left).Spells x bytes → types_in_def x ≤ left + 1
+unfolding def_type
+def_costs left x bytes s = def_of_costs left s.0 x s.2 s.4
 
 def_takes : (d : DefTypeTree) → 1 ≤ types_in_def d
 def_takes (value_def v) = omega arith
 def_takes (func_def f) = omega arith
 def_takes (resource_def d) = omega arith
+def_takes (instance_def ds) = omega arith
 
 def_types_write : WritesFrom def_type_from types_in_def holds_def def_spelling
 unfolding def_type_from
-def_types_write stock d some h lt = from_stock_written (λ left. def_type) TooMany d (def_spelling d) stock (omega (arith, some, def_takes d)) (def_type_writes d h lt)
+def_types_write stock d some h lt = from_stock_written def_type TooMany d (def_spelling d) stock (omega (arith, some, def_takes d)) (def_type_writes (stock - 1) d (omega (arith, some, def_takes d)) h lt)
 
 pub type_defs_write : WritesFrom type_defs (λ ts. sum_by types_in_def ts) (list_all holds_def) (vec_spelling def_spelling)
 unfolding type_defs
@@ -322,7 +497,7 @@ type_defs_write = stocked_written BadNumber def_type_from types_in_def holds_def
 
 def_type_costs : (stock : ℕ) (x : DefTypeTree) (bytes : List ℕ) → (def_type_from stock).Spells x bytes → types_in_def x ≤ stock
 unfolding def_type_from
-def_type_costs = from_stock_costs (λ left. def_type) TooMany types_in_def (λ stock x bytes s. def_costs x stock)
+def_type_costs = from_stock_costs def_type TooMany types_in_def def_costs
 
 pub type_defs_cost : (stock : ℕ) (xs : List DefTypeTree) (bytes : List ℕ) → (type_defs stock).Spells xs bytes → sum_by types_in_def xs ≤ stock
 unfolding type_defs

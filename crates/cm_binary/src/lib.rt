@@ -8,7 +8,7 @@ pub mod laws;
 pub use cm_component::{
     Alias, Canon, CanonOption, Component, CoreInlineExport, CoreInstance, CoreInstantiationArg,
     CoreSort, CustomSection, Export, ExportSort, ExternDesc, Import, InlineExport, Instance,
-    InstanceExportSort, LimitFault, OuterType, Section,
+    InstanceExportSort, LimitFault, Section,
 };
 pub use cm_reading::{DecodeFault, DecodeReason, Feature};
 pub use decoding::decode;

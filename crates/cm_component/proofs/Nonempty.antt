@@ -9,7 +9,7 @@ use Rattle.cm_types.specs.declared.def_types.ValType.{ValType}
 use Rattle.cm_types.specs.declared.def_types.ValType.TheVariants as val_types
 use Rattle.cm_types.specs.declared.def_types.LabeledValType.{LabeledValType}
 use Rattle.cm_types.specs.declared.def_types.CaseType.{CaseType}
-use Rattle.cm_types.specs.DefTypes.{DefTypeTree, value_def, func_def, resource_def}
+use Rattle.cm_types.specs.DefTypes.{DeclarationTree, type_decl, outer_type_decl, export_decl, DefTypeTree, value_def, func_def, resource_def, instance_def}
 use Rattle.cm_component.specs.declared.instances.InlineExport.{InlineExport}
 use Rattle.cm_component.specs.declared.canons.CanonOption.{CanonOption}
 use Rattle.cm_component.specs.declared.canons.CanonOption.TheVariants as options
@@ -17,7 +17,7 @@ use Rattle.cm_component.specs.declared.externs.Import.{Import}
 use Rattle.cm_component.specs.declared.externs.Export.{Export}
 use Rattle.cm_component.specs.Trees as trees
 use Rattle.cm_component.specs.Trees.{ArgTree, CoreExportTree, CoreInstanceTree, AliasTree, CanonTree}
-use Rattle.cm_component.specs.Spelling.{core_arg_spelling, core_sort_code, core_export_spelling, core_instance_spelling, inline_export_spelling, instance_spelling, alias_spelling, val_type_spelling, optional_spelling, param_spelling, case_spelling, def_spelling, option_spelling, canon_spelling, import_spelling, export_spelling}
+use Rattle.cm_component.specs.Spelling.{core_arg_spelling, core_sort_code, core_export_spelling, core_instance_spelling, inline_export_spelling, instance_spelling, alias_spelling, val_type_spelling, optional_spelling, param_spelling, case_spelling, declaration_spelling, def_spelling, option_spelling, canon_spelling, import_spelling, export_spelling}
 
 pub core_arg_some : (a : ArgTree) → 0 < length (core_arg_spelling a)
 core_arg_some a = omega (arith, length-append (blob_spelling a.name) (18 ∷ shortest_unsigned a.instance))
@@ -57,10 +57,16 @@ param_some p = omega (arith, blob_some p.label, length-append (blob_spelling p.l
 pub case_some : (c : CaseType) → 0 < length (case_spelling c)
 case_some c = omega (arith, blob_some c.label, length-append (blob_spelling c.label) (optional_spelling val_type_spelling c.payload ++ (0x00 ∷ [])))
 
+pub declaration_some : (d : DeclarationTree) → 0 < length (declaration_spelling d)
+declaration_some (type_decl t) = omega arith
+declaration_some (outer_type_decl outer) = omega arith
+declaration_some (export_decl e) = omega arith
+
 pub def_some : (t : DefTypeTree) → 0 < length (def_spelling t)
 def_some (value_def v) = omega arith
 def_some (func_def f) = omega arith
 def_some (resource_def destructor) = omega arith
+def_some (instance_def declarations) = omega arith
 
 pub option_some : (o : CanonOption) → 0 < length (option_spelling o)
 option_some options.Utf8 = omega arith

@@ -1,9 +1,10 @@
 -- The limits of a component file. Those on types and bytes are this project's own; a core module
 -- begins with its preamble (core specification, "Modules").
-use Rattle.std.specs.Prelude.{ℕ, List, length, Bool, true, Option, Some, None, Result, Ok}
+use Rattle.std.specs.Prelude.{ℕ, ◌+◌, List, length, Bool, true, Option, Some, None, Result, Ok}
 use Rattle.std.specs.Prelude.{Err, nat_eq, nat_lt, if◌then◌else◌}
 use Rattle.std.specs.List.{sum_by, list_all, starts_with}
-use Rattle.cm_types.specs.DefTypes.{DefTypeTree, value_def, func_def, resource_def}
+use Rattle.cm_types.specs.DefTypes.{DeclarationTree, type_decl, outer_type_decl, export_decl}
+use Rattle.cm_types.specs.DefTypes.{DefTypeTree, value_def, func_def, resource_def, instance_def}
 use Rattle.cm_component.specs.Trees as trees
 use Rattle.cm_component.specs.Trees.{SectionTree}
 use Rattle.cm_component.specs.Spelling.{spelling}
@@ -12,11 +13,19 @@ use Rattle.cm_component.specs.declared.limits.TheConstants.{MODULE_PREAMBLE}
 use Rattle.cm_component.specs.declared.limits.LimitFault.{LimitFault}
 use Rattle.cm_component.specs.declared.limits.LimitFault.TheVariants.{TooMany, TooLong, NotAModule}
 
--- How many types a type definition takes of those that a file may have: itself.
+-- How many types a declaration takes of those that a file may have: an alias or an export takes
+-- none.
+abbrev pub types_in_declaration : DeclarationTree → ℕ
+types_in_declaration (type_decl t) = 1
+types_in_declaration (outer_type_decl outer) = 0
+types_in_declaration (export_decl e) = 0
+
+-- How many types a type definition takes: itself, and those that the type of an instance declares.
 abbrev pub types_in_def : DefTypeTree → ℕ
 types_in_def (value_def v) = 1
 types_in_def (func_def f) = 1
 types_in_def (resource_def destructor) = 1
+types_in_def (instance_def declarations) = 1 + sum_by types_in_declaration declarations
 
 -- How many types a section takes.
 abbrev pub types_in : SectionTree → ℕ

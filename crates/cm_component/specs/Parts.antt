@@ -9,11 +9,17 @@ use Rattle.cm_types.specs.declared.def_types.ValType.{ValType}
 use Rattle.cm_types.specs.declared.def_types.ValType.TheVariants as val_types
 use Rattle.cm_types.specs.declared.def_types.LabeledValType.{LabeledValType}
 use Rattle.cm_types.specs.declared.def_types.CaseType.{CaseType}
+use Rattle.cm_types.specs.declared.def_types.TypeBound.{TypeBound}
+use Rattle.cm_types.specs.declared.def_types.TypeBound.TheVariants as bounds
+use Rattle.cm_types.specs.declared.def_types.ExportDesc.{ExportDesc}
+use Rattle.cm_types.specs.declared.def_types.ExportDesc.TheVariants as export_descs
+use Rattle.cm_types.specs.declared.def_types.ExportDecl.{ExportDecl}
 use Rattle.cm_types.specs.DefTypes as types
-use Rattle.cm_types.specs.DefTypes.{DefValTypeTree, FuncTypeTree, DefTypeTree}
-use Rattle.cm_types.specs.DefTypes.{value_def, func_def, resource_def}
+use Rattle.cm_types.specs.DefTypes.{DefValTypeTree, FuncTypeTree, DeclaredTypeTree}
+use Rattle.cm_types.specs.DefTypes.{DeclarationTree, DefTypeTree}
+use Rattle.cm_types.specs.DefTypes.{value_def, func_def, resource_def, instance_def}
 use Rattle.cm_component.specs.declared.instances.InlineExport.{InlineExport}
-use Rattle.cm_component.specs.declared.aliases.OuterType.{OuterType}
+use Rattle.cm_types.specs.declared.def_types.OuterType.{OuterType}
 use Rattle.cm_component.specs.declared.canons.CanonOption.{CanonOption}
 use Rattle.cm_component.specs.declared.canons.CanonOption.TheVariants as options
 use Rattle.cm_component.specs.declared.externs.ExternDesc.{ExternDesc}
@@ -105,11 +111,37 @@ holds_def_val_type (types.borrow_of resource) = is_index resource
 abbrev pub holds_func : FuncTypeTree → Bool
 holds_func f = list_all holds_param f.params && holds_optional holds_val_type f.result
 
+-- A type in the type of an instance: what it defines holds its own.
+abbrev pub holds_declared_type : DeclaredTypeTree → Bool
+holds_declared_type (types.declared_value v) = holds_def_val_type v
+holds_declared_type (types.declared_func f) = holds_func f
+
+-- What is known of a type: its number, if it has one, is an index.
+abbrev pub holds_type_bound : TypeBound → Bool
+holds_type_bound (bounds.Equal ty) = is_index ty
+holds_type_bound bounds.SubResource = true
+
+-- What the instances of a type export: its type is an index.
+abbrev pub holds_export_desc : ExportDesc → Bool
+holds_export_desc (export_descs.Func ty) = is_index ty
+holds_export_desc (export_descs.Type bound) = holds_type_bound bound
+
+-- An export of the instances of a type: its name and what it is hold theirs.
+abbrev pub holds_export_decl : ExportDecl → Bool
+holds_export_decl e = holds_name e.name && holds_export_desc e.desc
+
+-- What the type of an instance declares holds its own.
+abbrev pub holds_declaration : DeclarationTree → Bool
+holds_declaration (types.type_decl t) = holds_declared_type t
+holds_declaration (types.outer_type_decl outer) = holds_outer_type outer
+holds_declaration (types.export_decl e) = holds_export_decl e
+
 -- A type definition: what it defines holds its own.
 abbrev pub holds_def : DefTypeTree → Bool
 holds_def (value_def v) = holds_def_val_type v
 holds_def (func_def f) = holds_func f
 holds_def (resource_def destructor) = holds_optional is_index destructor
+holds_def (instance_def declarations) = list_all holds_declaration declarations
 
 -- A canonical option: its number, if it has one, is an index.
 abbrev pub holds_option : CanonOption → Bool

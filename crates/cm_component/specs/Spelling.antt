@@ -10,15 +10,21 @@ use Rattle.cm_types.specs.declared.def_types.ValType.{ValType}
 use Rattle.cm_types.specs.declared.def_types.ValType.TheVariants as val_types
 use Rattle.cm_types.specs.declared.def_types.LabeledValType.{LabeledValType}
 use Rattle.cm_types.specs.declared.def_types.CaseType.{CaseType}
+use Rattle.cm_types.specs.declared.def_types.TypeBound.{TypeBound}
+use Rattle.cm_types.specs.declared.def_types.TypeBound.TheVariants as bounds
+use Rattle.cm_types.specs.declared.def_types.ExportDesc.{ExportDesc}
+use Rattle.cm_types.specs.declared.def_types.ExportDesc.TheVariants as export_descs
+use Rattle.cm_types.specs.declared.def_types.ExportDecl.{ExportDecl}
 use Rattle.cm_types.specs.DefTypes as types
-use Rattle.cm_types.specs.DefTypes.{DefValTypeTree, FuncTypeTree, DefTypeTree}
-use Rattle.cm_types.specs.DefTypes.{value_def, func_def, resource_def}
+use Rattle.cm_types.specs.DefTypes.{DefValTypeTree, FuncTypeTree, DeclaredTypeTree}
+use Rattle.cm_types.specs.DefTypes.{DeclarationTree, DefTypeTree}
+use Rattle.cm_types.specs.DefTypes.{value_def, func_def, resource_def, instance_def}
 use Rattle.cm_component.specs.declared.instances.CoreSort.{CoreSort}
 use Rattle.cm_component.specs.declared.instances.CoreSort.TheVariants as core_sorts
 use Rattle.cm_component.specs.declared.instances.InlineExport.{InlineExport}
 use Rattle.cm_component.specs.declared.instances.InstanceExportSort.{InstanceExportSort}
 use Rattle.cm_component.specs.declared.instances.InstanceExportSort.TheVariants as instance_sorts
-use Rattle.cm_component.specs.declared.aliases.OuterType.{OuterType}
+use Rattle.cm_types.specs.declared.def_types.OuterType.{OuterType}
 use Rattle.cm_component.specs.declared.canons.CanonOption.{CanonOption}
 use Rattle.cm_component.specs.declared.canons.CanonOption.TheVariants as options
 use Rattle.cm_component.specs.declared.externs.ExternDesc.{ExternDesc}
@@ -163,6 +169,32 @@ result_spelling None = 0x01 ∷ 0x00 ∷ []
 abbrev pub func_spelling : FuncTypeTree → List ℕ
 func_spelling f = vec_spelling param_spelling f.params ++ result_spelling f.result
 
+-- A type in the type of an instance (`type`).
+abbrev pub declared_type_spelling : DeclaredTypeTree → List ℕ
+declared_type_spelling (types.declared_value v) = def_val_type_spelling v
+declared_type_spelling (types.declared_func f) = 0x40 ∷ func_spelling f
+
+-- What is known of a type (`typebound`).
+abbrev pub type_bound_spelling : TypeBound → List ℕ
+type_bound_spelling (bounds.Equal ty) = 0x00 ∷ shortest_unsigned ty
+type_bound_spelling bounds.SubResource = 0x01 ∷ []
+
+-- What the instances of a type export (`externdesc`).
+abbrev pub export_desc_spelling : ExportDesc → List ℕ
+export_desc_spelling (export_descs.Func ty) = 0x01 ∷ shortest_unsigned ty
+export_desc_spelling (export_descs.Type bound) = 0x03 ∷ type_bound_spelling bound
+
+-- An export of the instances of a type: its name, what it is (`exportdecl`).
+abbrev pub export_decl_spelling : ExportDecl → List ℕ
+export_decl_spelling e = extern_name_spelling e.name ++ export_desc_spelling e.desc
+
+-- What the type of an instance declares (`instancedecl`).
+abbrev pub declaration_spelling : DeclarationTree → List ℕ
+declaration_spelling (types.type_decl t) = 0x01 ∷ declared_type_spelling t
+declaration_spelling (types.outer_type_decl outer) =
+    0x02 ∷ 0x03 ∷ 0x02 ∷ outer_type_spelling outer
+declaration_spelling (types.export_decl e) = 0x04 ∷ export_decl_spelling e
+
 -- A type definition; of a resource a code, what represents it (an `i32`) and the destructor
 -- (`deftype`).
 abbrev pub def_spelling : DefTypeTree → List ℕ
@@ -170,6 +202,7 @@ def_spelling (value_def v) = def_val_type_spelling v
 def_spelling (func_def f) = 0x40 ∷ func_spelling f
 def_spelling (resource_def destructor) =
     0x3f ∷ 0x7f ∷ optional_spelling shortest_unsigned destructor
+def_spelling (instance_def declarations) = 0x42 ∷ vec_spelling declaration_spelling declarations
 
 -- A canonical option (`canonopt`).
 abbrev pub option_spelling : CanonOption → List ℕ

@@ -15,7 +15,7 @@ use Rattle.cm_component.specs.declared.instances.InlineExport.{InlineExport}
 use Rattle.cm_component.specs.declared.instances.InstanceExportSort.{InstanceExportSort}
 use Rattle.cm_component.specs.declared.aliases.Alias.{Alias}
 use Rattle.cm_component.specs.declared.aliases.Alias.TheVariants as alias
-use Rattle.cm_component.specs.declared.aliases.OuterType.{OuterType}
+use Rattle.cm_types.specs.declared.def_types.OuterType.{OuterType}
 use Rattle.cm_component.specs.declared.canons.Canon.{Canon}
 use Rattle.cm_component.specs.declared.canons.Canon.TheVariants as canon
 use Rattle.cm_component.specs.declared.canons.CanonOption.{CanonOption}

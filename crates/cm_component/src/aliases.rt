@@ -1,13 +1,14 @@
 //! Aliases. Indices count from 0 in the index space of their sort.
 
+ghost use Rattle.std.specs.Prelude.{◌≡◌, ◌≤◌, length, true};
 ghost use Rattle.cm_component.specs.Trees.{AliasTree, alias_tree};
-ghost use Rattle.cm_component.specs.Spelling.{alias_spelling};
-ghost use Rattle.cm_component.specs.Parts.{holds_alias};
+ghost use Rattle.cm_component.specs.Spelling.{alias_spelling, outer_type_spelling};
+ghost use Rattle.cm_component.specs.Parts.{holds_alias, holds_outer_type};
 
 use crate::instances::{CoreSort, InstanceExportSort};
 use crate::measuring::{index_length, name_length, text_length};
 use crate::part::Part;
-use cm_types::ExternName;
+use cm_types::{ExternName, OuterType};
 
 /// A definition taken from elsewhere (Binary.md, "Alias Definitions").
 #[derive(Drop)]
@@ -28,12 +29,13 @@ pub enum Alias {
     OuterType(OuterType),
 }
 
-/// A type of a component around: how many components outwards, from 0 for the one where the alias
-/// stands, and the type there.
-#[derive(Clone, Copy)]
-pub struct OuterType {
-    pub count: u32,
-    pub index: u32,
+/// The length of a type of a component around, at most 10.
+pub(crate) fn outer_type_length(outer: OuterType) -> u64
+    ensures length { result ≡ length (outer_type_spelling outer) }
+    ensures few { result ≤ 10 }
+    ensures holds { holds_outer_type outer ≡ true }
+{
+    index_length(outer.count) + index_length(outer.index)
 }
 
 impl Part for Alias {
@@ -53,9 +55,7 @@ impl Part for Alias {
             Alias::CoreInstanceExport { instance, name, .. } => {
                 (3 + index_length(*instance)).saturating_add(text_length(name))
             }
-            Alias::OuterType(OuterType { count, index }) => {
-                2 + index_length(*count) + index_length(*index)
-            }
+            Alias::OuterType(outer) => 2 + outer_type_length(*outer),
         }
     }
 }

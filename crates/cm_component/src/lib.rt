@@ -12,7 +12,7 @@ mod part;
 mod section;
 mod types;
 
-pub use aliases::{Alias, OuterType};
+pub use aliases::Alias;
 pub use canons::{Canon, CanonOption};
 pub use component::Component;
 pub use externs::{Export, ExportSort, ExternDesc, Import};
@@ -23,4 +23,4 @@ pub use instances::{
 pub use limits::{COMPONENT_PREAMBLE, LimitFault, MAX_FILE_BYTES, MAX_TYPES, MODULE_PREAMBLE};
 pub use part::Part;
 pub use section::{CustomSection, Section, contents_length, file_length, types_in};
-pub use types::types_in_def;
+pub use types::{types_in_declaration, types_in_def};

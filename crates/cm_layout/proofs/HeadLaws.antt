@@ -16,9 +16,8 @@ use Rattle.cm_layout.specs.declared.cases.CasesSoFar.{CasesSoFar}
 use Rattle.cm_layout.specs.declared.heads.Head.{Head}
 use Rattle.cm_layout.proofs.AlignLemmas.{align_before, payload_align_pos, enum_align, flags_pos, align_pos, fields_align_pos, payloads_align_pos}
 use Rattle.cm_layout.proofs.Seen.{before_nodes}
-use Rattle.cm_layout.proofs.FlatLemmas.{flat_plain}
 use Rattle.cm_layout.proofs.SizeLemmas.{place_above, two_nodes, enum_size, greatest_before, align_small, fields_align_small, payloads_align_small, size_small, end_small, payload_small, place_of_type, element_nodes}
-use Rattle.cm_layout.proofs.WidthLaws.{copies_long, join_long, narrow, fields_narrow, cases_narrow}
+use Rattle.cm_layout.proofs.WidthLaws.{flat_plain, copies_long, join_long, narrow, fields_narrow, cases_narrow}
 use Rattle.cm_layout.proofs.BulkLaws.{numbers_fit, fields_bulk, fixed_list_bulk, cases_not_bulk}
 
 -- ---- from numbers to what a type takes

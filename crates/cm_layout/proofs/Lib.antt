@@ -2,8 +2,6 @@ pub mod Seen
 pub mod AlignLemmas
 pub mod SizeLemmas
 pub mod OffsetLaws
-pub mod FlatLemmas
-pub mod SlotLaws
 pub mod LaidLaws
 pub mod WidthLaws
 pub mod BulkLaws

@@ -47,3 +47,7 @@ mutual
   cases_narrow no_cases = omega arith
   cases_narrow (plain l cs) = cases_narrow cs
   cases_narrow (carrying l t cs) = rw (join_long (flat_of t) (flat_of_cases cs)) (omega (arith, narrow t, cases_narrow cs))
+
+pub flat_plain : (ls : List (List ℕ)) → flat_of_cases (plain_from ls) ≡ []
+flat_plain [] = refl
+flat_plain (l ∷ ls) = flat_plain ls

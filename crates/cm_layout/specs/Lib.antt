@@ -1,7 +1,6 @@
 pub mod Alignment
 pub mod Sizes
 pub mod Flattening
-pub mod FlatFuncs
 pub mod PlainBytes
 pub mod Shapes
 pub mod Heads

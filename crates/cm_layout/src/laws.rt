@@ -7,15 +7,6 @@ ghost use Rattle.cm_layout.specs.Laid.{IsMarked, Laid};
 ghost use Rattle.cm_layout.specs.Shapes.{head_of, shape_of_type};
 ghost use Rattle.cm_layout.specs.Sizes.{IsLeastBytes, discriminant_size, flags_size, size_of};
 
-use cm_types::{MAX_FLAT_PARAMS, MAX_FLAT_RESULTS};
-
-/// At most 16 core values pass the parameters of a function, and at most 1 its result
-/// (CanonicalABI.md, "Flattening").
-pub fn limits_of_flat_functions()
-    ensures params { MAX_FLAT_PARAMS ≡ 16 }
-    ensures results { MAX_FLAT_RESULTS ≡ 1 }
-{}
-
 /// The number of a case has the least of 1, 2 and 4 bytes that tell the cases apart, and a set of
 /// flags the least that have a bit for each label (CanonicalABI.md, "Alignment").
 pub fn sizes_of_numbers()

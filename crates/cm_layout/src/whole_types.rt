@@ -1,22 +1,19 @@
 //! What can be asked of a whole type.
 
-ghost use Rattle.std.specs.Prelude.{◌≡◌, ◌↔◌, ◌*◌, ℕ, IfOk, IsTrue};
-ghost use Rattle.cm_types.specs.Funcs.{tree_type};
+ghost use Rattle.std.specs.Prelude.{◌≡◌, ◌↔◌, ◌*◌, ℕ, IsTrue};
+ghost use Rattle.cm_types.specs.Funcs.{func_of, tree_type};
 ghost use Rattle.cm_layout.specs.Alignment.{IsLeastMultiple};
-ghost use Rattle.cm_layout.specs.Flattening.{JoinsSlots, flat_of};
-ghost use Rattle.cm_layout.specs.Shapes.{head_of};
+ghost use Rattle.cm_layout.specs.Shapes.{head_of, head_of_fields};
 ghost use Rattle.cm_layout.specs.Sizes.{HasCases, HasField, IsPayloadOffset, IsWholeSize, align_of};
 ghost use Rattle.cm_layout.specs.Sizes.{case_offset, discriminant_size_of, end_before};
 ghost use Rattle.cm_layout.specs.Sizes.{field_offset, field_type, fields_in, size_of};
 
-use crate::flattening::join_flat;
 use crate::heads::Head;
-use crate::measures::node_head;
+use crate::measures::{fields_so_far, node_head};
 use crate::offsets::{
     node_case_offset, node_discriminant_size, node_field_offset, node_has_cases, node_has_field,
 };
-use cm_types::{CoreKind, TypeTree};
-use std::alloc::{AllocError, Global};
+use cm_types::{Func, TypeTree};
 
 /// What a value of a type takes, in memory and in core values, without another walk over the type
 /// for each number.
@@ -24,6 +21,14 @@ pub fn head(ty: &TypeTree) -> Head
     ensures { result ≡ head_of (tree_type ty.now) }
 {
     node_head(&ty.root)
+}
+
+/// What the parameters of a function take as the fields of a tuple, which is how they lie in memory
+/// where they are passed by a pointer (CanonicalABI.md, "Flattening").
+pub fn head_of_params(func: &Func) -> Head
+    ensures { result ≡ head_of_fields (func_of func.now).params }
+{
+    fields_so_far(&func.params).whole()
 }
 
 /// The alignment of a type in bytes: 1, 2, 4 or 8 (CanonicalABI.md, "Alignment").
@@ -87,15 +92,4 @@ pub fn case_offset(ty: &TypeTree) -> u32
     ensures least { IsPayloadOffset (tree_type ty.now) result }
 {
     node_case_offset(&ty.root)
-}
-
-/// The kinds of the core values that a value of the type is passed as, in order (CanonicalABI.md,
-/// "Flattening"). `AllocError` comes where there is no memory for the list.
-pub fn flatten(alloc: Global, ty: &TypeTree) -> Result<Vec<CoreKind>, AllocError>
-    ensures value { IfOk result (λ kinds. kinds.items ≡ flat_of (tree_type ty.now)) }
-    ensures slots { IfOk result (λ kinds. JoinsSlots (tree_type ty.now) kinds.items) }
-{
-    let mut kinds = Vec::new(alloc);
-    join_flat(&mut kinds, 0, &ty.root)?;
-    Ok(kinds)
 }

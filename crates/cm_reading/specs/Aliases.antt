@@ -2,7 +2,7 @@
 use Rattle.cm_grammar.specs.Grammar.{done, ◌>>=◌, code, refuse}
 use Rattle.cm_component.specs.declared.instances.InstanceExportSort.{InstanceExportSort}
 use Rattle.cm_component.specs.declared.instances.InstanceExportSort.TheVariants as instance_sorts
-use Rattle.cm_component.specs.declared.aliases.OuterType.{OuterType}
+use Rattle.cm_types.specs.declared.def_types.OuterType.{OuterType}
 use Rattle.cm_component.specs.Trees as trees
 use Rattle.cm_component.specs.Trees.{AliasTree}
 use Rattle.cm_reading.specs.declared.codes.AliasSort.{AliasSort}

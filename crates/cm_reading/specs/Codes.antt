@@ -32,6 +32,16 @@ use Rattle.cm_reading.specs.declared.codes.OptionalForm.{OptionalForm}
 use Rattle.cm_reading.specs.declared.codes.OptionalForm.TheVariants as optional_forms
 use Rattle.cm_reading.specs.declared.codes.TypeForm.{TypeForm}
 use Rattle.cm_reading.specs.declared.codes.TypeForm.TheVariants as type_forms
+use Rattle.cm_reading.specs.declared.codes.DeclaredTypeForm.{DeclaredTypeForm}
+use Rattle.cm_reading.specs.declared.codes.DeclaredTypeForm.TheVariants as declared_type_forms
+use Rattle.cm_reading.specs.declared.codes.DeclarationForm.{DeclarationForm}
+use Rattle.cm_reading.specs.declared.codes.DeclarationForm.TheVariants as declaration_forms
+use Rattle.cm_reading.specs.declared.codes.OuterTypeTarget.{OuterTypeTarget}
+use Rattle.cm_reading.specs.declared.codes.OuterTypeTarget.TheVariants as outer_targets
+use Rattle.cm_reading.specs.declared.codes.DeclaredDescForm.{DeclaredDescForm}
+use Rattle.cm_reading.specs.declared.codes.DeclaredDescForm.TheVariants as declared_descs
+use Rattle.cm_reading.specs.declared.codes.TypeBoundForm.{TypeBoundForm}
+use Rattle.cm_reading.specs.declared.codes.TypeBoundForm.TheVariants as bound_forms
 use Rattle.cm_reading.specs.declared.codes.ResultForm.{ResultForm}
 use Rattle.cm_reading.specs.declared.codes.ResultForm.TheVariants as result_forms
 use Rattle.cm_reading.specs.declared.codes.CanonForm.{CanonForm}
@@ -172,8 +182,46 @@ abbrev pub type_form : ℕ → Result TypeForm DecodeReason
 type_form b =
     if b == 0x40 then Ok type_forms.Func
     else if b == 0x3f then Ok type_forms.Resource
-    else if b == 0x41 || b == 0x42 then Err (Unsupported features.TypeDefinition)
+    else if b == 0x41 then Err (Unsupported features.TypeDefinition)
+    else if b == 0x42 then Ok type_forms.Instance
     else as_case type_forms.Value (value_form b)
+
+-- The forms of a type in the type of an instance ("Type Definitions"): no resource, no component
+-- and no instance.
+abbrev pub declared_type_form : ℕ → Result DeclaredTypeForm DecodeReason
+declared_type_form b =
+    if b == 0x40 then Ok declared_type_forms.Func
+    else if b == 0x3f || b == 0x41 || b == 0x42 then Err (Unsupported features.DeclaredType)
+    else as_case declared_type_forms.Value (value_form b)
+
+-- What the type of an instance declares ("Type Definitions", `instancedecl`); 00 is a core type.
+abbrev pub declaration_form : ℕ → Result DeclarationForm DecodeReason
+declaration_form b =
+    if b == 0x00 then Err (Unsupported features.Declaration)
+    else if b == 0x01 then Ok declaration_forms.Type
+    else if b == 0x02 then Ok declaration_forms.Alias
+    else if b == 0x04 then Ok declaration_forms.Export
+    else Err UnknownCode
+
+-- The target of an alias of a type in the type of an instance ("Alias Definitions").
+abbrev pub outer_type_target : ℕ → Result OuterTypeTarget DecodeReason
+outer_type_target b =
+    if b == 0x02 then Ok outer_targets.OuterType else Err (no_alias_target b)
+
+-- The descriptions of what the instances of a type export ("Import and Export Definitions").
+abbrev pub declared_desc_form : ℕ → Result DeclaredDescForm DecodeReason
+declared_desc_form b =
+    if b == 0x01 then Ok declared_descs.Func
+    else if b == 0x03 then Ok declared_descs.Type
+    else if is_from 0x00 0x05 b then Err (Unsupported features.Description)
+    else Err UnknownCode
+
+-- What is known of a type ("Import and Export Definitions", `typebound`).
+abbrev pub type_bound_form : ℕ → Result TypeBoundForm DecodeReason
+type_bound_form b =
+    if b == 0x00 then Ok bound_forms.Equal
+    else if b == 0x01 then Ok bound_forms.SubResource
+    else Err UnknownCode
 
 -- Whether something is there ("Component Definitions", `<T>?`).
 abbrev pub optional_form : ℕ → Result OptionalForm DecodeReason

@@ -2,15 +2,22 @@
 use Rattle.std.specs.Prelude.{ℕ, ◌^◌, ℤ, pos, negsuc, Bool, true, false, nat_lt, List, [], ◌∷◌}
 use Rattle.std.specs.Prelude.{Option, Some, None}
 use Rattle.cm_grammar.specs.Grammar.{done, ◌>>=◌, ahead, code, signed, check, fixed, from_stock}
-use Rattle.cm_grammar.specs.Grammar.{stocked}
+use Rattle.cm_grammar.specs.Grammar.{refuse, stocked}
 use Rattle.cm_types.specs.declared.def_types.ValType.{ValType}
 use Rattle.cm_types.specs.declared.def_types.ValType.TheVariants as val_types
 use Rattle.cm_types.specs.declared.def_types.LabeledValType.{LabeledValType}
 use Rattle.cm_types.specs.declared.def_types.CaseType.{CaseType}
+use Rattle.cm_types.specs.declared.def_types.OuterType.{OuterType}
+use Rattle.cm_types.specs.declared.def_types.TypeBound.{TypeBound}
+use Rattle.cm_types.specs.declared.def_types.TypeBound.TheVariants as bounds
+use Rattle.cm_types.specs.declared.def_types.ExportDesc.{ExportDesc}
+use Rattle.cm_types.specs.declared.def_types.ExportDesc.TheVariants as export_descs
+use Rattle.cm_types.specs.declared.def_types.ExportDecl.{ExportDecl}
 use Rattle.cm_types.specs.DefTypes as types
-use Rattle.cm_types.specs.DefTypes.{DefValTypeTree, FuncTypeTree, DefTypeTree}
-use Rattle.cm_types.specs.DefTypes.{value_def, func_def, resource_def}
-use Rattle.cm_component.specs.Limits.{types_in_def}
+use Rattle.cm_types.specs.DefTypes.{DefValTypeTree, FuncTypeTree, DeclaredTypeTree}
+use Rattle.cm_types.specs.DefTypes.{DeclarationTree, DefTypeTree}
+use Rattle.cm_types.specs.DefTypes.{value_def, func_def, resource_def, instance_def}
+use Rattle.cm_component.specs.Limits.{types_in_declaration, types_in_def}
 use Rattle.cm_reading.specs.declared.fault.DecodeReason.TheVariants.{UnknownCode, TooMany}
 use Rattle.cm_reading.specs.declared.fault.DecodeReason.TheVariants.{BadNumber}
 use Rattle.cm_reading.specs.declared.codes.OptionalForm.{OptionalForm}
@@ -19,10 +26,24 @@ use Rattle.cm_reading.specs.declared.codes.ResultForm.{ResultForm}
 use Rattle.cm_reading.specs.declared.codes.ResultForm.TheVariants as result_forms
 use Rattle.cm_reading.specs.declared.codes.ValueForm.{ValueForm}
 use Rattle.cm_reading.specs.declared.codes.ValueForm.TheVariants as value_forms
+use Rattle.cm_reading.specs.declared.codes.DeclaredTypeForm.{DeclaredTypeForm}
+use Rattle.cm_reading.specs.declared.codes.DeclaredTypeForm.TheVariants as declared_type_forms
+use Rattle.cm_reading.specs.declared.codes.DeclarationForm.{DeclarationForm}
+use Rattle.cm_reading.specs.declared.codes.DeclarationForm.TheVariants as declaration_forms
+use Rattle.cm_reading.specs.declared.codes.DeclaredDescForm.{DeclaredDescForm}
+use Rattle.cm_reading.specs.declared.codes.DeclaredDescForm.TheVariants as declared_descs
+use Rattle.cm_reading.specs.declared.codes.TypeBoundForm.{TypeBoundForm}
+use Rattle.cm_reading.specs.declared.codes.TypeBoundForm.TheVariants as bound_forms
+use Rattle.cm_reading.specs.declared.codes.AliasSort.{AliasSort}
+use Rattle.cm_reading.specs.declared.codes.AliasSort.TheVariants as alias_sorts
 use Rattle.cm_reading.specs.declared.codes.TypeForm.{TypeForm}
 use Rattle.cm_reading.specs.declared.codes.TypeForm.TheVariants as type_forms
 use Rattle.cm_reading.specs.Codes.{is_from, optional_form, prim_val_type, result_form, type_form}
-use Rattle.cm_reading.specs.Texts.{Production, index, vector, label}
+use Rattle.cm_reading.specs.Codes.{declared_type_form, declaration_form, declared_desc_form}
+use Rattle.cm_reading.specs.Codes.{type_bound_form, core_sort, alias_sort, outer_type_target}
+use Rattle.cm_reading.specs.Codes.{no_alias_target}
+use Rattle.cm_reading.specs.Texts.{Production, index, vector, label, extern_name}
+use Rattle.cm_reading.specs.Aliases.{outer_type}
 
 -- What may be there, behind the byte for whether it is.
 unfoldable pub optional_of : {A : Type 0} → Production A → OptionalForm → Production (Option A)
@@ -141,29 +162,125 @@ func_type = do
   result ← func_result
   done (record { params = params; result = result })
 
--- A type definition, behind its form. Behind that of a resource stands what represents it, an
--- `i32`.
-unfoldable pub def_type_of : TypeForm → Production DefTypeTree
-def_type_of (type_forms.Value form) = do
+-- A type in the type of an instance, behind its form.
+unfoldable pub declared_type_of : DeclaredTypeForm → Production DeclaredTypeTree
+declared_type_of (declared_type_forms.Value form) = do
+  value ← def_val_type_of form
+  done (types.declared_value value)
+declared_type_of declared_type_forms.Func = do
+  func ← func_type
+  done (types.declared_func func)
+
+-- A type in the type of an instance (`type`).
+unfoldable pub declared_type : Production DeclaredTypeTree
+declared_type = do
+  form ← code declared_type_form
+  declared_type_of form
+
+-- A type in the type of an instance, of which so many may stand.
+unfoldable pub declared_type_from : ℕ → Production DeclaredTypeTree
+declared_type_from stock = from_stock (λ left. declared_type) TooMany stock
+
+-- An alias in the type of an instance, behind its sort: a type of a component around.
+unfoldable pub declared_alias_of : AliasSort → Production OuterType
+declared_alias_of alias_sorts.Core = do
+  sort ← code core_sort
+  refuse no_alias_target
+declared_alias_of alias_sorts.Func = refuse no_alias_target
+declared_alias_of alias_sorts.Type = do
+  target ← code outer_type_target
+  outer_type
+declared_alias_of alias_sorts.Instance = refuse no_alias_target
+
+-- An alias in the type of an instance (`alias`).
+unfoldable pub declared_alias : Production OuterType
+declared_alias = do
+  sort ← code alias_sort
+  declared_alias_of sort
+
+-- What is known of a type, behind its form.
+unfoldable pub type_bound_of : TypeBoundForm → Production TypeBound
+type_bound_of bound_forms.Equal = do
+  ty ← index
+  done (bounds.Equal ty)
+type_bound_of bound_forms.SubResource = done bounds.SubResource
+
+-- What is known of a type (`typebound`).
+unfoldable pub type_bound : Production TypeBound
+type_bound = do
+  form ← code type_bound_form
+  type_bound_of form
+
+-- What the instances of a type export, behind its form.
+unfoldable pub export_desc_of : DeclaredDescForm → Production ExportDesc
+export_desc_of declared_descs.Func = do
+  ty ← index
+  done (export_descs.Func ty)
+export_desc_of declared_descs.Type = do
+  bound ← type_bound
+  done (export_descs.Type bound)
+
+-- What the instances of a type export (`externdesc`).
+unfoldable pub export_desc : Production ExportDesc
+export_desc = do
+  form ← code declared_desc_form
+  export_desc_of form
+
+-- An export of the instances of a type: its name, what it is (`exportdecl`).
+unfoldable pub export_decl : Production ExportDecl
+export_decl = do
+  name ← extern_name
+  desc ← export_desc
+  done (record { name = name; desc = desc })
+
+-- What the type of an instance declares, behind its form, where so many more types may stand.
+unfoldable pub declaration_of : ℕ → DeclarationForm → Production DeclarationTree
+declaration_of stock declaration_forms.Type = do
+  ty ← declared_type_from stock
+  done (types.type_decl ty)
+declaration_of stock declaration_forms.Alias = do
+  outer ← declared_alias
+  done (types.outer_type_decl outer)
+declaration_of stock declaration_forms.Export = do
+  export ← export_decl
+  done (types.export_decl export)
+
+-- What the type of an instance declares (`instancedecl`), where so many more types may stand.
+unfoldable pub declaration : ℕ → Production DeclarationTree
+declaration stock = do
+  form ← code declaration_form
+  declaration_of stock form
+
+-- All that the type of an instance declares, where so many more types may stand.
+unfoldable pub declarations : ℕ → Production (List DeclarationTree)
+declarations stock = stocked BadNumber declaration types_in_declaration stock
+
+-- A type definition, behind its form, where so many more types may stand. Behind the form of a
+-- resource stands what represents it, an `i32`.
+unfoldable pub def_type_of : ℕ → TypeForm → Production DefTypeTree
+def_type_of left (type_forms.Value form) = do
   value ← def_val_type_of form
   done (value_def value)
-def_type_of type_forms.Func = do
+def_type_of left type_forms.Func = do
   func ← func_type
   done (func_def func)
-def_type_of type_forms.Resource = do
+def_type_of left type_forms.Resource = do
   representation ← fixed (0x7f ∷ []) UnknownCode
   destructor ← optional index
   done (resource_def destructor)
+def_type_of left type_forms.Instance = do
+  items ← declarations left
+  done (instance_def items)
 
--- A type definition (`deftype`).
-unfoldable pub def_type : Production DefTypeTree
-def_type = do
+-- A type definition (`deftype`), where so many more types may stand.
+unfoldable pub def_type : ℕ → Production DefTypeTree
+def_type left = do
   form ← code type_form
-  def_type_of form
+  def_type_of left form
 
--- A type definition, of which so many may stand.
+-- A type definition, of which so many may stand, those in it counted.
 unfoldable pub def_type_from : ℕ → Production DefTypeTree
-def_type_from stock = from_stock (λ left. def_type) TooMany stock
+def_type_from stock = from_stock def_type TooMany stock
 
 -- The types of a section, of which so many may stand.
 unfoldable pub type_defs : ℕ → Production (List DefTypeTree)

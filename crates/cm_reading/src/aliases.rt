@@ -12,8 +12,9 @@ ghost use Rattle.cm_reading.specs.Aliases.{alias};
 use crate::codes::{AliasSort, CoreAliasTarget, FuncAliasTarget, TypeAliasTarget, no_alias_target};
 use crate::fault::DecodeReason;
 use crate::texts::{read_plain_name, read_text};
-use cm_component::{Alias, InstanceExportSort, OuterType};
+use cm_component::{Alias, InstanceExportSort};
 use cm_grammar::{Cursor, Form, ReadError};
+use cm_types::OuterType;
 use std::alloc::Global;
 
 impl Form<DecodeReason> for Alias {
@@ -108,7 +109,7 @@ fn read_instance_export(
 
 /// Reads a type of a component around, behind the codes of its alias.
 #[tactic(auto, unfolding(crate::specs::Aliases::outer_type))]
-fn read_outer_type(
+pub(crate) fn read_outer_type(
     bytes: &mut Cursor<'_, DecodeReason>,
 ) -> Result<OuterType, ReadError<DecodeReason>>
     ensures read { Reads outer_type (λ o. o) bytes.old bytes.new result }

@@ -5,7 +5,9 @@ ghost use Rattle.cm_reading.specs.Codes.{section_kind, core_instance_form, core_
 ghost use Rattle.cm_reading.specs.Codes.{instance_form, instance_export_sort, alias_sort};
 ghost use Rattle.cm_reading.specs.Codes.{core_alias_target, func_alias_target, type_alias_target};
 ghost use Rattle.cm_reading.specs.Codes.{no_alias_target, prim_val_type, value_form, type_form};
-ghost use Rattle.cm_reading.specs.Codes.{optional_form, result_form};
+ghost use Rattle.cm_reading.specs.Codes.{declared_type_form, optional_form, result_form};
+ghost use Rattle.cm_reading.specs.Codes.{outer_type_target, declaration_form};
+ghost use Rattle.cm_reading.specs.Codes.{declared_desc_form, type_bound_form};
 ghost use Rattle.cm_reading.specs.Codes.{canon_form, option_form, desc_form, export_sort};
 ghost use Rattle.cm_reading.specs.Codes.{export_desc};
 
@@ -92,6 +94,42 @@ pub enum TypeForm {
     Value(ValueForm),
     Func,
     Resource,
+    Instance,
+}
+
+/// Which type the type of an instance declares.
+#[derive(Clone, Copy)]
+pub enum DeclaredTypeForm {
+    Value(ValueForm),
+    Func,
+}
+
+/// What the type of an instance declares.
+#[derive(Clone, Copy)]
+pub enum DeclarationForm {
+    Type,
+    Alias,
+    Export,
+}
+
+/// Where an alias in the type of an instance comes from.
+#[derive(Clone, Copy)]
+pub enum OuterTypeTarget {
+    OuterType,
+}
+
+/// What the instances of a type export.
+#[derive(Clone, Copy)]
+pub enum DeclaredDescForm {
+    Func,
+    Type,
+}
+
+/// What is known of a type.
+#[derive(Clone, Copy)]
+pub enum TypeBoundForm {
+    Equal,
+    SubResource,
 }
 
 /// Whether something is there.
@@ -318,11 +356,77 @@ impl Code<DecodeReason> for TypeForm {
         match byte {
             0x40 => Ok(TypeForm::Func),
             0x3f => Ok(TypeForm::Resource),
-            0x41 | 0x42 => Err(DecodeReason::Unsupported(Feature::TypeDefinition)),
+            0x41 => Err(DecodeReason::Unsupported(Feature::TypeDefinition)),
+            0x42 => Ok(TypeForm::Instance),
             _ => match ValueForm::from_byte(byte) {
                 Ok(form) => Ok(TypeForm::Value(form)),
                 Err(reason) => Err(reason),
             },
+        }
+    }
+}
+
+impl Code<DecodeReason> for DeclaredTypeForm {
+    ghost table = { declared_type_form };
+
+    fn from_byte(byte: u8) -> Result<DeclaredTypeForm, DecodeReason> {
+        match byte {
+            0x40 => Ok(DeclaredTypeForm::Func),
+            0x3f | 0x41 | 0x42 => Err(DecodeReason::Unsupported(Feature::DeclaredType)),
+            _ => match ValueForm::from_byte(byte) {
+                Ok(form) => Ok(DeclaredTypeForm::Value(form)),
+                Err(reason) => Err(reason),
+            },
+        }
+    }
+}
+
+impl Code<DecodeReason> for DeclarationForm {
+    ghost table = { declaration_form };
+
+    fn from_byte(byte: u8) -> Result<DeclarationForm, DecodeReason> {
+        match byte {
+            0x00 => Err(DecodeReason::Unsupported(Feature::Declaration)),
+            0x01 => Ok(DeclarationForm::Type),
+            0x02 => Ok(DeclarationForm::Alias),
+            0x04 => Ok(DeclarationForm::Export),
+            _ => Err(DecodeReason::UnknownCode),
+        }
+    }
+}
+
+impl Code<DecodeReason> for OuterTypeTarget {
+    ghost table = { outer_type_target };
+
+    fn from_byte(byte: u8) -> Result<OuterTypeTarget, DecodeReason> {
+        match byte {
+            0x02 => Ok(OuterTypeTarget::OuterType),
+            _ => Err(no_alias_target(byte)),
+        }
+    }
+}
+
+impl Code<DecodeReason> for DeclaredDescForm {
+    ghost table = { declared_desc_form };
+
+    fn from_byte(byte: u8) -> Result<DeclaredDescForm, DecodeReason> {
+        match byte {
+            0x01 => Ok(DeclaredDescForm::Func),
+            0x03 => Ok(DeclaredDescForm::Type),
+            0x00..=0x05 => Err(DecodeReason::Unsupported(Feature::Description)),
+            _ => Err(DecodeReason::UnknownCode),
+        }
+    }
+}
+
+impl Code<DecodeReason> for TypeBoundForm {
+    ghost table = { type_bound_form };
+
+    fn from_byte(byte: u8) -> Result<TypeBoundForm, DecodeReason> {
+        match byte {
+            0x00 => Ok(TypeBoundForm::Equal),
+            0x01 => Ok(TypeBoundForm::SubResource),
+            _ => Err(DecodeReason::UnknownCode),
         }
     }
 }

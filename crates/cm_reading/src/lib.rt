@@ -4,6 +4,7 @@
 mod aliases;
 mod canons;
 mod codes;
+mod declarations;
 mod externs;
 mod fault;
 mod file;

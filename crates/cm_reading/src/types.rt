@@ -18,7 +18,7 @@ use crate::codes::{OptionalForm, ResultForm, TypeForm, ValueForm};
 use crate::fault::DecodeReason;
 use crate::texts::read_label;
 use cm_component::types_in_def;
-use cm_grammar::{Cursor, Form, ReadError, StockedForm, read_vec};
+use cm_grammar::{Cursor, Form, ReadError, StockedForm, read_stocked, read_vec};
 use cm_types::{CaseType, DefType, DefValType, FuncType, Label, LabeledValType, ValType};
 use std::alloc::Global;
 
@@ -108,7 +108,7 @@ impl StockedForm<DecodeReason> for DefType {
         if stock == 0 {
             return Err(bytes.fault(DecodeReason::TooMany));
         }
-        read_def_type(alloc, bytes)
+        read_def_type(alloc, bytes, stock - 1)
     }
 
     fn rest_of(&self, stock: usize) -> usize {
@@ -171,13 +171,14 @@ fn read_optional_index(
     }
 }
 
-/// Reads a type definition.
-#[tactic(auto, unfolding(crate::specs::Types::def_type, crate::specs::Types::def_type_of))]
+/// Reads a type definition, where `left` more types may stand in it.
+#[tactic(auto, unfolding(crate::specs::Types::def_type, crate::specs::Types::def_type_of, crate::specs::Types::declarations))]
 fn read_def_type(
     alloc: Global,
     bytes: &mut Cursor<'_, DecodeReason>,
+    left: usize,
 ) -> Result<DefType, ReadError<DecodeReason>>
-    ensures read { Reads def_type def_type_tree bytes.old bytes.new result }
+    ensures read { Reads (def_type left) def_type_tree bytes.old bytes.new result }
     ensures end { bytes.new.end ≡ bytes.old.end }
 {
     match bytes.code()? {
@@ -187,12 +188,16 @@ fn read_def_type(
             bytes.fixed(&[0x7f], DecodeReason::UnknownCode)?;
             Ok(DefType::Resource(read_optional_index(bytes)?))
         }
+        TypeForm::Instance => {
+            let declarations = read_stocked(alloc, bytes, DecodeReason::BadNumber, left)?;
+            Ok(DefType::Instance(declarations))
+        }
     }
 }
 
 /// Reads a value type that is defined, behind its form.
 #[tactic(auto, unfolding(crate::specs::Types::def_val_type_of))]
-fn read_def_val_type(
+pub(crate) fn read_def_val_type(
     alloc: Global,
     bytes: &mut Cursor<'_, DecodeReason>,
     form: ValueForm,
@@ -227,7 +232,7 @@ fn read_def_val_type(
 
 /// Reads the type of a function, behind its code.
 #[tactic(auto, unfolding(crate::specs::Types::func_type))]
-fn read_func_type(
+pub(crate) fn read_func_type(
     alloc: Global,
     bytes: &mut Cursor<'_, DecodeReason>,
 ) -> Result<FuncType, ReadError<DecodeReason>>

@@ -1,7 +1,7 @@
 -- Types as a component file writes them, without where they lie in memory: lists in place of
 -- vectors, and each label as its bytes (Binary.md, "Type Definitions"). A type that holds no list
 -- is its own tree.
-use Rattle.std.specs.Prelude.{ℕ, List, Option}
+use Rattle.std.specs.Prelude.{ℕ, List, Option, map}
 use Rattle.cm_types.specs.declared.def_types.PrimValType.{PrimValType}
 use Rattle.cm_types.specs.declared.def_types.ValType.{ValType}
 use Rattle.cm_types.specs.declared.def_types.LabeledValType.{LabeledValType}
@@ -9,6 +9,12 @@ use Rattle.cm_types.specs.declared.def_types.CaseType.{CaseType}
 use Rattle.cm_types.specs.declared.def_types.DefValType.{DefValType}
 use Rattle.cm_types.specs.declared.def_types.DefValType.TheVariants as def_val_type
 use Rattle.cm_types.specs.declared.def_types.FuncType.{FuncType}
+use Rattle.cm_types.specs.declared.def_types.OuterType.{OuterType}
+use Rattle.cm_types.specs.declared.def_types.ExportDecl.{ExportDecl}
+use Rattle.cm_types.specs.declared.def_types.DeclaredType.{DeclaredType}
+use Rattle.cm_types.specs.declared.def_types.DeclaredType.TheVariants as declared_type
+use Rattle.cm_types.specs.declared.def_types.Declaration.{Declaration}
+use Rattle.cm_types.specs.declared.def_types.Declaration.TheVariants as declaration
 use Rattle.cm_types.specs.declared.def_types.DefType.{DefType}
 use Rattle.cm_types.specs.declared.def_types.DefType.TheVariants as def_type
 
@@ -51,14 +57,38 @@ pub record FuncTypeTree : Type 0 where
 abbrev pub func_type_tree : FuncType → FuncTypeTree
 func_type_tree f = record { params = f.params.items; result = f.result }
 
+-- a type in the type of an instance: a value type, the type of a function (`type`)
+pub data DeclaredTypeTree : Type 0 where
+  declared_value : DefValTypeTree → DeclaredTypeTree
+  declared_func : FuncTypeTree → DeclaredTypeTree
+
+abbrev pub declared_type_tree : DeclaredType → DeclaredTypeTree
+declared_type_tree (declared_type.Value v) = declared_value (def_val_type_tree v)
+declared_type_tree (declared_type.Func f) = declared_func (func_type_tree f)
+
+-- what the type of an instance declares: a type, a type of a component around, an export
+-- (`instancedecl`)
+pub data DeclarationTree : Type 0 where
+  type_decl : DeclaredTypeTree → DeclarationTree
+  outer_type_decl : OuterType → DeclarationTree
+  export_decl : ExportDecl → DeclarationTree
+
+abbrev pub declaration_tree : Declaration → DeclarationTree
+declaration_tree (declaration.Type t) = type_decl (declared_type_tree t)
+declaration_tree (declaration.OuterType outer) = outer_type_decl outer
+declaration_tree (declaration.Export e) = export_decl e
+
 -- a type definition: a value type, the type of a function, a resource type with its destructor, if
--- it has one (`deftype`)
+-- it has one, the type of an instance by what it declares (`deftype`)
 pub data DefTypeTree : Type 0 where
   value_def : DefValTypeTree → DefTypeTree
   func_def : FuncTypeTree → DefTypeTree
   resource_def : Option ℕ → DefTypeTree
+  instance_def : List DeclarationTree → DefTypeTree
 
 abbrev pub def_type_tree : DefType → DefTypeTree
 def_type_tree (def_type.Value v) = value_def (def_val_type_tree v)
 def_type_tree (def_type.Func f) = func_def (func_type_tree f)
 def_type_tree (def_type.Resource destructor) = resource_def destructor
+def_type_tree (def_type.Instance declarations) =
+    instance_def (map declaration_tree declarations.items)

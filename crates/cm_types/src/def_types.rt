@@ -1,7 +1,7 @@
 //! Types as a component file writes them: a part that is a type of its own stands as an index
 //! (Binary.md, "Type Definitions"). Indices count from 0 in the index space of types.
 
-use cm_names::Label;
+use cm_names::{ExternName, Label};
 
 /// A value type that has no parts (Binary.md, `primvaltype`).
 #[derive(Clone, Copy, Debug, PartialEq, Eq)]
@@ -86,4 +86,56 @@ pub enum DefType {
     Func(FuncType),
     /// A resource type, with the index of the core function that is its destructor, if it has one.
     Resource(Option<u32>),
+    /// The type of an instance, by what it declares.
+    Instance(Vec<Declaration>),
+}
+
+/// What the type of an instance declares (Binary.md, `instancedecl`). Indices in it count from 0 in
+/// the index space of its own types.
+#[derive(Drop)]
+pub enum Declaration {
+    Type(DeclaredType),
+    /// A type of a component around.
+    OuterType(OuterType),
+    /// What an instance of the type exports.
+    Export(ExportDecl),
+}
+
+/// A type that the type of an instance declares (Binary.md, `type`). Types do not nest further.
+#[derive(Drop)]
+pub enum DeclaredType {
+    Value(DefValType),
+    Func(FuncType),
+}
+
+/// A type of a component around: how many components outwards, from 0 for the one where the alias
+/// stands, and the type there (Binary.md, `aliastarget`).
+#[derive(Clone, Copy)]
+pub struct OuterType {
+    pub count: u32,
+    pub index: u32,
+}
+
+/// An export of the instances of a type (Binary.md, `exportdecl`).
+#[derive(Drop)]
+pub struct ExportDecl {
+    pub name: ExternName,
+    pub desc: ExportDesc,
+}
+
+/// What is exported (Binary.md, `externdesc`).
+#[derive(Clone, Copy)]
+pub enum ExportDesc {
+    /// A function of the type with this index.
+    Func(u32),
+    Type(TypeBound),
+}
+
+/// What is known of a type that is exported (Binary.md, `typebound`).
+#[derive(Clone, Copy)]
+pub enum TypeBound {
+    /// It is the type with this index.
+    Equal(u32),
+    /// It is a resource type of its own.
+    SubResource,
 }

@@ -14,7 +14,8 @@ mod type_trees;
 pub use cm_names::{ExternName, ExternNameForm, Label, NameFault, same_name};
 pub use core_value::{CoreKind, CoreValue};
 pub use def_types::{
-    CaseType, DefType, DefValType, FuncType, LabeledValType, PrimValType, ValType,
+    CaseType, Declaration, DeclaredType, DefType, DefValType, ExportDecl, ExportDesc, FuncType,
+    LabeledValType, OuterType, PrimValType, TypeBound, ValType,
 };
 pub use limits::{MAX_DEPTH, MAX_FLAT_PARAMS, MAX_FLAT_RESULTS, MAX_NODES};
 pub use resource::{ResourceId, resolve, same_resource};

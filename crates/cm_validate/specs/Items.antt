@@ -7,6 +7,7 @@ use Rattle.cm_types.specs.declared.def_types.PrimValType.TheVariants.{U32}
 use Rattle.cm_types.specs.declared.def_types.ValType.{ValType}
 use Rattle.cm_types.specs.declared.def_types.ValType.TheVariants as val_types
 use Rattle.cm_types.specs.DefTypes.{FuncTypeTree, DefTypeTree, value_def, func_def, resource_def}
+use Rattle.cm_types.specs.DefTypes.{instance_def}
 use Rattle.cm_component.specs.Trees as trees
 use Rattle.cm_component.specs.Trees.{ArgTree, CoreInstanceTree, AliasTree, CanonTree, SectionTree}
 use Rattle.cm_component.specs.Trees.{custom, core_module, core_instances, instances, aliases}
@@ -79,6 +80,7 @@ abbrev pub def_type_of : DefTypeTree → Item
 def_type_of (value_def v) = not_yet_item
 def_type_of (func_def f) = if is_over_u32 f then type_item f else not_yet_item
 def_type_of (resource_def destructor) = not_yet_item
+def_type_of (instance_def declarations) = not_yet_item
 
 abbrev pub canon_of : CanonTree → Item
 canon_of (trees.lift func [] ty) = canon_item (Lift func ty)

@@ -1,3 +1,9 @@
 pub mod TableLaws
 pub mod EdgeLaws
 pub mod NameLaws
+pub mod LeastLaws
+pub mod DistinctLaws
+pub mod GraphLaws
+pub mod BorrowLaws
+pub mod UnknownLaws
+pub mod FaultLaws

@@ -1,5 +1,5 @@
 -- The table of what is known, made mention by mention.
-use Rattle.std.proofs.Common.{◌≡◌, ◌==◌, ◌&&◌, ℕ, suc, ◌+◌, ◌<◌, ◌≤◌, Bool, true, false, cond, if◌then◌else◌, List, [], ◌∷◌, ◌++◌, length, map, drop, get_or, Option, Some, None, refl, sym, ap, subst, ◌∙◌, arith}
+use Rattle.std.proofs.Common.{◌≡◌, ◌==◌, ◌&&◌, ℕ, ◌+◌, ◌<◌, ◌≤◌, Bool, true, false, cond, if◌then◌else◌, List, [], ◌∷◌, length, map, drop, get_or, Option, Some, None, refl, sym, ap, ◌∙◌, arith}
 use Rattle.std.specs.Borrow.{Bor}
 use Rattle.std.specs.List.{position_from}
 use Rattle.std.specs.Option.{option_map, option_map_or}
@@ -38,20 +38,20 @@ key_in : (n : ℕ) (text : List ℕ) (known : Option (ℕ × Bor (List ℕ))) �
 key_in n text None = refl
 key_in n text (Some k) = refl
 
-both_true : (a b : Bool) → (a && b) ≡ true → (a ≡ true) × (b ≡ true)
+pub both_true : (a b : Bool) → (a && b) ≡ true → (a ≡ true) × (b ≡ true)
 both_true true b e = (refl, e)
 both_true false b e = absurd cc
 
-same_of : (x y : ℕ) → (x == y) ≡ true → x ≡ y
+pub same_of : (x y : ℕ) → (x == y) ≡ true → x ≡ y
 same_of x y e = grind (arith, nat_tests)
 
-eq_self : (x : ℕ) → (x == x) ≡ true
+pub eq_self : (x : ℕ) → (x == x) ≡ true
 eq_self x = grind (arith, nat_tests)
 
-same_text : (x y : List ℕ) → bytes_eq x y ≡ true → x ≡ y
+pub same_text : (x y : List ℕ) → bytes_eq x y ≡ true → x ≡ y
 same_text x y e = (bytes_eq-Decides x y).0 e
 
-text_self : (x : List ℕ) → bytes_eq x x ≡ true
+pub text_self : (x : List ℕ) → bytes_eq x x ≡ true
 text_self x = (bytes_eq-Decides x x).1 refl
 
 true_not : true ≡ false → ⊥

@@ -1,7 +1,7 @@
 -- What the names of a file lead to.
-use Rattle.std.specs.Prelude.{◌≡◌, ℕ, ◌==◌, ◌&&◌, not, nat_lt, Bool, true, false, List, length}
-use Rattle.std.specs.Prelude.{Option, Some, None, map, if◌then◌else◌}
-use Rattle.std.specs.List.{filter_map, position_from, Contains}
+use Rattle.std.specs.Prelude.{◌≡◌, ℕ, ◌==◌, ◌&&◌, nat_lt, Bool, true, false, List, length}
+use Rattle.std.specs.Prelude.{Option, Some, None, map, slice_get, if◌then◌else◌}
+use Rattle.std.specs.List.{filter_map, position_from}
 use Rattle.std.specs.Option.{option_map_or, option_and_then}
 use Rattle.std.specs.Str.{bytes_eq}
 use Rattle.cm_wit_mentions.specs.Mentions.{Mention, Reference, no_reference, to_interface, to_used}
@@ -63,10 +63,17 @@ using_edges ms = filter_map (using_edge ms) ms
 abbrev pub IsResource : List Mention → ℕ → Type 0
 IsResource ms k = LeadsToMarked (using_edges ms) (map (λ m. m.may_be_resource) ms) k
 
+-- the n-th mention is such a one
+abbrev pub IsAt : List Mention → ℕ → (Mention → Type 0) → Type 0
+IsAt ms n P = (m : Mention) × (slice_get ms n ≡ Some m) × P m
+
+-- the declaration in whose text a mention is a borrow
+abbrev pub borrow_owner : Mention → Option ℕ
+borrow_owner m = if is_borrow m.refers then m.owner else None
+
 -- a borrow stands in the text of a declaration
 abbrev pub HasBorrow : List Mention → ℕ → Type 0
-HasBorrow ms k =
-    (m : Mention) × Contains ms m × (m.owner ≡ Some k) × (is_borrow m.refers ≡ true)
+HasBorrow ms k = (n : ℕ) × IsAt ms n (λ m. borrow_owner m ≡ Some k)
 
 -- a declaration leads to one with a borrow in its text
 abbrev pub HoldsBorrow : List Mention → ℕ → Type 0

@@ -1,7 +1,7 @@
 -- The rules on the names of a file (WIT.md, "Packages and Worlds"; that names are distinct without
 -- ASCII case, and the order of faults, are this project's own choice).
 use Rattle.std.specs.Prelude.{◌≡◌, ℕ, ◌<◌, ◌&&◌, ◌⊎◌, Bool, true, false, List, Option, Some, None}
-use Rattle.std.specs.Prelude.{map, take, slice_get, codes, MatchOption}
+use Rattle.std.specs.Prelude.{map, take, codes, MatchOption}
 use Rattle.std.specs.List.{filter_map, Contains}
 use Rattle.std.specs.Option.{option_map, option_map_or}
 use Rattle.std.specs.Char.{to_ascii_lowercase}
@@ -10,10 +10,10 @@ use Rattle.cm_types.specs.ExternNames.{NameTree, name_spelling}
 use Rattle.cm_wit_grammar.specs.declared.fault.WitReason.{WitReason}
 use Rattle.cm_wit_grammar.specs.declared.fault.WitReason.TheVariants as reason
 use Rattle.cm_wit_grammar.specs.Reasons.{reason_number}
-use Rattle.cm_wit_mentions.specs.Mentions.{Mention, Declared, Reference, no_reference}
+use Rattle.cm_wit_mentions.specs.Mentions.{Mention, Reference, no_reference}
 use Rattle.cm_wit_mentions.specs.Mentions.{to_interface, to_used, to_type, to_resource}
 use Rattle.cm_graph.specs.Graphs.{ReachesItself}
-use Rattle.cm_wit_names.specs.Known.{known_at, target, edges, IsResource, HoldsBorrow}
+use Rattle.cm_wit_names.specs.Known.{known_at, target, edges, IsAt, IsResource, HoldsBorrow}
 
 -- ---- distinct names
 
@@ -30,11 +30,15 @@ abbrev pub is_self : Mention → Bool
 is_self m =
     option_map_or (λ d. d.after_self && bytes_eq (folded d.name) (codes "self")) m.declares false
 
+-- the name is that of an implied `self`, or one of these names of its list
+abbrev pub IsAmong : List (ℕ × List ℕ) → Mention → Type 0
+IsAmong keys m =
+    (is_self m ≡ true)
+    ⊎ ((key : ℕ × List ℕ) × (key_of m ≡ Some key) × Contains keys key)
+
 -- the name stands in its list already
 abbrev pub IsTaken : List Mention → Mention → Type 0
-IsTaken before m =
-    (is_self m ≡ true)
-    ⊎ ((key : ℕ × List ℕ) × (key_of m ≡ Some key) × Contains (filter_map key_of before) key)
+IsTaken before m = IsAmong (filter_map key_of before) m
 
 -- ---- names that lead nowhere
 
@@ -51,17 +55,22 @@ IsUnknown ms (to_resource n text) =
 
 -- ---- borrows in results
 
+-- a reference to a declaration that leads to a borrow
+abbrev pub LeadsOn : List Mention → Reference → Type 0
+LeadsOn ms r = (k : ℕ) × (target ms r ≡ Some k) × HoldsBorrow ms k
+
 -- a name in a result that leads to a borrow
 abbrev pub LeadsToBorrow : List Mention → Mention → Type 0
-LeadsToBorrow ms m =
-    (m.in_result ≡ true) × (k : ℕ) × (target ms m.refers ≡ Some k) × HoldsBorrow ms k
+LeadsToBorrow ms m = (m.in_result ≡ true) × LeadsOn ms m.refers
 
 -- ---- faults
 
--- The n-th name of a file has a fault of this reason.
-abbrev pub IsAt : List Mention → ℕ → (Mention → Type 0) → Type 0
-IsAt ms n P = (m : Mention) × (slice_get ms n ≡ Some m) × P m
+-- the least number of which P holds, if there is one
+abbrev pub IsLeast : (ℕ → Type 0) → Option ℕ → Type 0
+IsLeast P least =
+    MatchOption least ((n : ℕ) → P n → ⊥) (λ n. P n × ((k : ℕ) → k < n → P k → ⊥))
 
+-- The n-th name of a file has a fault of this reason.
 abbrev pub HasFault : List Mention → ℕ → WitReason → Type 0
 HasFault ms n reason.Unexpected = IsAt ms n (LeadsToBorrow ms)
 HasFault ms n reason.Duplicate = IsAt ms n (IsTaken (take n ms))

@@ -2,7 +2,7 @@
 
 ghost use Rattle.std.specs.Prelude.{◌≡◌, IfOk, map};
 ghost use Rattle.cm_wit_mentions.specs.MentionViews.{mention_view, reference_view};
-ghost use Rattle.cm_wit_names.specs.Known.{target};
+ghost use Rattle.cm_wit_names.specs.Known.{known_at, target};
 ghost use Rattle.cm_wit_names.specs.Table.{IsTableOf};
 
 use crate::known::{known_names, look_up};
@@ -27,6 +27,13 @@ impl<'a> Names<'a> {
         Ok(Names { mentions, known })
     }
 
+    /// The mention that makes this number and name known first.
+    pub fn known_at(&self, number: usize, name: &'a str) -> Option<usize>
+        ensures { result ≡ known_at (map mention_view self.now.mentions.items) number name.now }
+    {
+        look_up(&self.known, number, name)
+    }
+
     /// The mention to which a reference leads, if there is one.
     pub fn target(&self, refers: Reference<'a>) -> Option<usize>
         ensures { result ≡ target (map mention_view self.now.mentions.items)
@@ -34,13 +41,13 @@ impl<'a> Names<'a> {
     {
         match refers {
             Reference::Nothing => None,
-            Reference::Interface(name) => look_up(&self.known, 0, name),
+            Reference::Interface(name) => self.known_at(0, name),
             Reference::Used { interface, name } => {
-                let number = look_up(&self.known, 0, interface)?;
-                look_up(&self.known, number, name)
+                let number = self.known_at(0, interface)?;
+                self.known_at(number, name)
             }
             Reference::Type { scope, name } | Reference::Resource { scope, name } => {
-                look_up(&self.known, scope, name)
+                self.known_at(scope, name)
             }
         }
     }

@@ -5,9 +5,10 @@ ghost use Rattle.cm_component.specs.Spelling.{outer_type_spelling};
 
 use crate::instances::{core_sort_code, instance_sort_code};
 use crate::written::Written;
-use cm_component::{Alias, OuterType};
+use cm_component::Alias;
 use cm_grammar::write_blob;
 use cm_leb::write_u32;
+use cm_types::OuterType;
 use std::alloc::AllocError;
 
 impl Written for Alias {
@@ -40,7 +41,7 @@ impl Written for Alias {
 }
 
 /// Appends a type of a component around, behind the codes of its alias.
-fn write_outer_type(out: &mut Vec<u8>, outer: OuterType) -> Result<(), AllocError>
+pub(crate) fn write_outer_type(out: &mut Vec<u8>, outer: OuterType) -> Result<(), AllocError>
     ensures { OnOk result (out.new.items ≡ out.old.items ++ outer_type_spelling outer) }
 {
     write_u32(out, outer.count)?;

@@ -3,16 +3,21 @@
 ghost use Rattle.std.specs.Prelude.{◌≡◌, ◌++◌, OnOk};
 ghost use Rattle.cm_leb.specs.Writing.{shortest_unsigned};
 ghost use Rattle.cm_types.specs.DefTypes.{def_val_type_tree, func_type_tree};
+ghost use Rattle.cm_types.specs.DefTypes.{declared_type_tree};
 ghost use Rattle.cm_component.specs.Spelling.{optional_spelling, prim_val_type_code};
 ghost use Rattle.cm_component.specs.Spelling.{val_type_spelling, def_val_type_code};
 ghost use Rattle.cm_component.specs.Spelling.{def_val_type_parts};
 ghost use Rattle.cm_component.specs.Spelling.{result_spelling, func_spelling};
+ghost use Rattle.cm_component.specs.Spelling.{declared_type_spelling, export_desc_spelling};
 
+use crate::aliases::write_outer_type;
+use crate::externs::write_extern_name;
 use crate::written::{Written, write_vec};
 use cm_grammar::write_blob;
 use cm_leb::{write_s33, write_u32};
 use cm_types::{
-    CaseType, DefType, DefValType, FuncType, Label, LabeledValType, PrimValType, ValType,
+    CaseType, Declaration, DeclaredType, DefType, DefValType, ExportDesc, FuncType, Label,
+    LabeledValType, PrimValType, TypeBound, ValType,
 };
 use std::alloc::AllocError;
 
@@ -59,7 +64,65 @@ impl Written for DefType {
                 out.extend_from_slice(&[0x3f, 0x7f])?;
                 write_optional_index(out, *destructor)
             }
+            DefType::Instance(declarations) => {
+                out.push(0x42)?;
+                write_vec(out, declarations)
+            }
         }
+    }
+}
+
+impl Written for Declaration {
+    fn write(&self, out: &mut Vec<u8>) -> Result<(), AllocError> {
+        match self {
+            Declaration::Type(ty) => {
+                out.push(0x01)?;
+                write_declared_type(out, ty)
+            }
+            Declaration::OuterType(outer) => {
+                out.extend_from_slice(&[0x02, 0x03, 0x02])?;
+                write_outer_type(out, *outer)
+            }
+            Declaration::Export(export) => {
+                out.push(0x04)?;
+                write_extern_name(out, &export.name)?;
+                write_export_desc(out, export.desc)
+            }
+        }
+    }
+}
+
+/// Appends a type in the type of an instance.
+fn write_declared_type(out: &mut Vec<u8>, ty: &DeclaredType) -> Result<(), AllocError>
+    ensures { OnOk result
+        (out.new.items ≡ out.old.items ++ declared_type_spelling (declared_type_tree ty.now)) }
+{
+    match ty {
+        DeclaredType::Value(value) => {
+            out.push(def_val_type_code(value))?;
+            write_def_val_type_parts(out, value)
+        }
+        DeclaredType::Func(func) => {
+            out.push(0x40)?;
+            write_func_type(out, func)
+        }
+    }
+}
+
+/// Appends what the instances of a type export.
+fn write_export_desc(out: &mut Vec<u8>, desc: ExportDesc) -> Result<(), AllocError>
+    ensures { OnOk result (out.new.items ≡ out.old.items ++ export_desc_spelling desc) }
+{
+    match desc {
+        ExportDesc::Func(ty) => {
+            out.push(0x01)?;
+            write_u32(out, ty)
+        }
+        ExportDesc::Type(TypeBound::Equal(ty)) => {
+            out.extend_from_slice(&[0x03, 0x00])?;
+            write_u32(out, ty)
+        }
+        ExportDesc::Type(TypeBound::SubResource) => out.extend_from_slice(&[0x03, 0x01]),
     }
 }
 

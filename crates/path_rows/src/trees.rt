@@ -10,11 +10,13 @@
 //! A type is `func LABEL:T.. -> T`, `resource DESTRUCTOR`, a primitive one by its name, `record
 //! LABEL:T..`, `variant LABEL:T..` where a label may stand alone, `list T` or `list T LENGTH`,
 //! `tuple T..`, `flags LABEL..`, `enum LABEL..`, `option T`, `result T T`, `own R` or `borrow R`; T
-//! is the name of a primitive type or an index, and `-` is none. `N*` before the first word stands
-//! for so many types, and before a label for so many parameters, each with its number behind the
-//! label.
+//! is the name of a primitive type or an index, and `-` is none. The type of an instance is
+//! `instance` and declarations joined by `,`: `type TYPE`, `outer COUNT TYPE`, and `export NAME
+//! func:TYPE`, `type:TYPE` or `resource`. `N*` before the first word stands for so many types or
+//! declarations, and before a label for so many parameters, each with its number behind the label.
 
 mod canons;
+mod declarations;
 mod externs;
 mod instances;
 mod types;

@@ -3,9 +3,10 @@
 use super::{read_name, write_mark};
 use cm_binary::{
     Alias, CoreInlineExport, CoreInstance, CoreInstantiationArg, CoreSort, InlineExport, Instance,
-    InstanceExportSort, OuterType, Section,
+    InstanceExportSort, Section,
 };
 use cm_rows::{RowFault, read_number};
+use cm_types::OuterType;
 use std::alloc::{AllocError, Global};
 
 pub fn read_instances(alloc: Global, words: &[&str]) -> Result<Section, RowFault> {

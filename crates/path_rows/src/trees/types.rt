@@ -1,5 +1,6 @@
 //! Types of components in rows.
 
+use super::declarations::{read_declarations, write_declarations};
 use super::value_types::{
     read_def_val_type, read_fields, read_optional_type, write_def_val_type, write_fields,
     write_optional_type,
@@ -27,11 +28,12 @@ fn read_type(alloc: Global, form: &str, words: &[&str]) -> Result<DefType, RowFa
     match form {
         "func" => Ok(DefType::Func(read_func(alloc, words)?)),
         "resource" => Ok(DefType::Resource(read_destructor(words)?)),
+        "instance" => Ok(DefType::Instance(read_declarations(alloc, words)?)),
         _ => Ok(DefType::Value(read_def_val_type(alloc, form, words)?)),
     }
 }
 
-fn read_func(alloc: Global, words: &[&str]) -> Result<FuncType, RowFault> {
+pub fn read_func(alloc: Global, words: &[&str]) -> Result<FuncType, RowFault> {
     let [params @ .., "->", answer] = words else {
         return Err(RowFault::NotARow);
     };
@@ -64,10 +66,11 @@ fn write_type(out: &mut String, ty: &DefType) -> Result<(), AllocError> {
         DefType::Func(func) => write_func(out, func),
         DefType::Resource(Some(destructor)) => write!(out, "resource {destructor}"),
         DefType::Resource(None) => out.push_str("resource -"),
+        DefType::Instance(declarations) => write_declarations(out, declarations),
     }
 }
 
-fn write_func(out: &mut String, func: &FuncType) -> Result<(), AllocError> {
+pub fn write_func(out: &mut String, func: &FuncType) -> Result<(), AllocError> {
     out.push_str("func")?;
     write_fields(out, &func.params)?;
     out.push_str(" -> ")?;

@@ -1,4 +1,4 @@
-use Rattle.std.proofs.Common.{◌≡◌, None, Option, ℕ, sym, ap, ◌∙◌}
+use Rattle.std.proofs.Common.{sym, ap, ◌∙◌}
 use Rattle.std.specs.Option.{option_copied}
 use Rattle.cm_wit_names.proofs.TableLaws.{notes_new, is_none_is}
 use Rattle.cm_wit_names.proofs.known.note.Goals as goal

@@ -1,0 +1,283 @@
+//! Rows on types by places, and on types of functions.
+//!
+//! The primitive types stand at the places 0 to 10, and items follow: `list PLACE`, `option PLACE`,
+//! `fixed:LENGTH PLACE`, `tuple PLACE..`, `record:LABELS PLACE..`, `variant:LABELS PAYLOAD..` and
+//! `result PAYLOAD PAYLOAD`, where a payload is a place or `-`, `enum:LABELS`, `flags:LABELS`,
+//! `own:COMPONENT.NUMBER`, `borrow:COMPONENT.NUMBER`, and primitive types by name. LABELS are
+//! joined by commas. The type of a function is `func:LABELS PLACE.. -> PAYLOAD`, or
+//! `func -> PAYLOAD` without parameters. A place is its number, the name of a primitive type, or
+//! `last`, that of the type that was added last. `N*` before an item stands for N of them, before
+//! a place for N of that place.
+
+use crate::words::{read_labels, read_primitive, read_resource, split_words};
+use cm_layout::{layout_of_params, size};
+use cm_rows::{RowFault, read_number, split_repeat};
+use cm_type_arena::{CaseDef, DefFault, FieldDef, FuncDef, Primitive, Summary, TypeDef, Types};
+use std::alloc::{AllocError, Global};
+
+/// The answer to `ITEM ; ITEM ..`: of each item, and of several alike of the last, the place with
+/// those of its parts, what is known of it and its size in bytes; or its fault; or `unordered`
+/// where a part has no place.
+pub fn answer(alloc: Global, words: &[&str]) -> Result<String, RowFault> {
+    let mut arena = Arena {
+        alloc,
+        types: Types::new(alloc)?,
+        out: String::new(alloc),
+    };
+    for words in words.split(|word| *word == ";") {
+        arena.read_item(words)?;
+    }
+    Ok(arena.out)
+}
+
+/// The types so far, and what is answered.
+#[derive(Drop)]
+struct Arena {
+    alloc: Global,
+    types: Types,
+    out: String,
+}
+
+/// What became of an item.
+#[derive(Clone, Copy)]
+enum Outcome {
+    /// A type, at this place.
+    Type(usize),
+    /// The type of a function, at this place.
+    Func(usize),
+    Refused(DefFault),
+    /// A part has no place.
+    Unordered,
+}
+
+impl Arena {
+    fn read_item(&mut self, words: &[&str]) -> Result<(), RowFault> {
+        let [word, words @ ..] = words else {
+            return Err(RowFault::NotARow);
+        };
+        let (times, word) = split_repeat(word);
+        let mut outcome = Outcome::Unordered;
+        for _ in 0..times {
+            outcome = self.push(word, words)?;
+        }
+        let answer = self.show(outcome)?;
+        if !self.out.is_empty() {
+            self.out.push_str(" ; ")?;
+        }
+        self.out.push_str(&answer)?;
+        Ok(())
+    }
+
+    fn push(&mut self, word: &str, words: &[&str]) -> Result<Outcome, RowFault> {
+        let (name, operand) = word.split_once(':').unwrap_or((word, ""));
+        if name == "func" {
+            let def = self.read_func(operand, words)?;
+            Ok(self.push_func(def))
+        } else {
+            let def = self.read_def(name, operand, words)?;
+            Ok(self.push_type(def))
+        }
+    }
+
+    fn push_type(&mut self, def: TypeDef) -> Outcome {
+        if !def.has_parts_below(self.types.len()) {
+            return Outcome::Unordered;
+        }
+        match self.types.push(self.alloc, def) {
+            Ok(place) => Outcome::Type(place),
+            Err(fault) => Outcome::Refused(fault),
+        }
+    }
+
+    fn push_func(&mut self, def: FuncDef) -> Outcome {
+        if !def.has_parts_below(self.types.len()) {
+            return Outcome::Unordered;
+        }
+        match self.types.push_func(self.alloc, def) {
+            Ok(place) => Outcome::Func(place),
+            Err(fault) => Outcome::Refused(fault),
+        }
+    }
+
+    fn show(&self, outcome: Outcome) -> Result<String, RowFault> {
+        match outcome {
+            Outcome::Type(place) => self.show_type(place),
+            Outcome::Func(place) => self.show_func(place),
+            Outcome::Refused(fault) => {
+                let number = fault as u8;
+                Ok(format!(in self.alloc; "fault {number}")?)
+            }
+            Outcome::Unordered => Ok(String::from_str(self.alloc, "unordered")?),
+        }
+    }
+
+    /// `PLACE of PARTS: SUMMARY, SIZE`.
+    fn show_type(&self, place: usize) -> Result<String, RowFault> {
+        let mut out = String::new(self.alloc);
+        write!(out, "{place} of")?;
+        if place >= self.types.len() {
+            return Err(RowFault::NotARow);
+        }
+        write_places(&mut out, self.types.parts(place))?;
+        out.push_str(":")?;
+        write_summary(&mut out, self.types.summary(place))?;
+        let tree = self.types.tree(place)?;
+        let size = size(&tree);
+        write!(out, ", size {size}")?;
+        Ok(out)
+    }
+
+    /// `func PLACE of PARAMETERS to RESULT: SUMMARY, SIZE` of the parameters as a tuple.
+    fn show_func(&self, place: usize) -> Result<String, RowFault> {
+        let mut out = String::new(self.alloc);
+        write!(out, "func {place} of")?;
+        if place >= self.types.func_count() {
+            return Err(RowFault::NotARow);
+        }
+        write_places(&mut out, self.types.func_params(place))?;
+        match self.types.func_result(place) {
+            Some(answer) => write!(out, " to {answer}:")?,
+            None => out.push_str(" to -:")?,
+        }
+        write_summary(&mut out, self.types.params_summary(place))?;
+        let shared = self.types.share_func(place)?;
+        let size = layout_of_params(self.alloc, &shared)?.head.size;
+        let labels = self.types.func(place).params.len();
+        write!(out, ", {labels} of size {size}")?;
+        Ok(out)
+    }
+
+    fn read_func(&self, labels: &str, words: &[&str]) -> Result<FuncDef, RowFault> {
+        let (params, answer) = split_words(words, "->")?;
+        let [answer] = answer else {
+            return Err(RowFault::NotARow);
+        };
+        Ok(FuncDef {
+            params: self.read_fields(labels, params)?,
+            result: self.read_payload(answer)?,
+        })
+    }
+
+    fn read_def(&self, name: &str, operand: &str, words: &[&str]) -> Result<TypeDef, RowFault> {
+        Ok(match (name, words) {
+            ("list", [part]) => TypeDef::List(self.read_place(part)?),
+            ("option", [part]) => TypeDef::Option(self.read_place(part)?),
+            ("fixed", [part]) => TypeDef::FixedList {
+                element: self.read_place(part)?,
+                length: read_number(operand)?,
+            },
+            ("tuple", parts) => TypeDef::Tuple(self.read_places(parts)?),
+            ("record", parts) => TypeDef::Record(self.read_fields(operand, parts)?),
+            ("variant", payloads) => TypeDef::Variant(self.read_cases(operand, payloads)?),
+            ("result", [ok, error]) => TypeDef::Result {
+                ok: self.read_payload(ok)?,
+                error: self.read_payload(error)?,
+            },
+            ("enum", []) => TypeDef::Enum(read_labels(self.alloc, operand)?),
+            ("flags", []) => TypeDef::Flags(read_labels(self.alloc, operand)?),
+            ("own", []) => TypeDef::Own(read_resource(operand)?),
+            ("borrow", []) => TypeDef::Borrow(read_resource(operand)?),
+            (name, []) => TypeDef::Primitive(read_primitive(name)?),
+            _ => return Err(RowFault::NotARow),
+        })
+    }
+
+    /// A place by its number, by the name of a primitive type, or as `last`.
+    fn read_place(&self, word: &str) -> Result<usize, RowFault> {
+        if word == "last" {
+            return self.types.len().checked_sub(1).ok_or(RowFault::NotARow);
+        }
+        match read_primitive(word) {
+            Ok(primitive) => Ok(self.types.primitive(primitive)),
+            Err(_) => read_number(word),
+        }
+    }
+
+    fn read_places(&self, words: &[&str]) -> Result<Vec<usize>, RowFault> {
+        let mut places = Vec::new(self.alloc);
+        for word in words {
+            let (times, word) = split_repeat(word);
+            let place = self.read_place(word)?;
+            for _ in 0..times {
+                places.push(place)?;
+            }
+        }
+        Ok(places)
+    }
+
+    fn read_payload(&self, word: &str) -> Result<Option<usize>, RowFault> {
+        match word {
+            "-" => Ok(None),
+            word => Ok(Some(self.read_place(word)?)),
+        }
+    }
+
+    /// As many fields as places, with these labels.
+    fn read_fields(&self, labels: &str, words: &[&str]) -> Result<Vec<FieldDef>, RowFault> {
+        let mut fields = Vec::new(self.alloc);
+        let places = self.read_places(words)?;
+        let mut places = places.iter();
+        if !labels.is_empty() {
+            for label in read_labels(self.alloc, labels)? {
+                let place = places.next().ok_or(RowFault::NotARow)?;
+                fields.push(FieldDef { label, ty: *place })?;
+            }
+        }
+        match places.next() {
+            None => Ok(fields),
+            Some(_) => Err(RowFault::NotARow),
+        }
+    }
+
+    /// As many cases as payloads, with these labels.
+    fn read_cases(&self, labels: &str, words: &[&str]) -> Result<Vec<CaseDef>, RowFault> {
+        let mut cases = Vec::new(self.alloc);
+        let mut words = words.iter();
+        if !labels.is_empty() {
+            for label in read_labels(self.alloc, labels)? {
+                let word = words.next().ok_or(RowFault::NotARow)?;
+                let payload = self.read_payload(word)?;
+                cases.push(CaseDef { label, payload })?;
+            }
+        }
+        match words.next() {
+            None => Ok(cases),
+            Some(_) => Err(RowFault::NotARow),
+        }
+    }
+}
+
+/// Each place after a space; `-` for none.
+fn write_places(out: &mut String, places: &[usize]) -> Result<(), AllocError> {
+    if places.is_empty() {
+        return out.push_str(" -");
+    }
+    let shown = places.len().min(8);
+    for place in &places[..shown] {
+        write!(out, " {place}")?;
+    }
+    if places.len() > shown {
+        let others = places.len() - shown;
+        write!(out, " and {others}")?;
+    }
+    Ok(())
+}
+
+/// ` NODES/DEPTH`, and what the type holds.
+fn write_summary(out: &mut String, summary: Summary) -> Result<(), AllocError> {
+    let (nodes, depth) = (summary.nodes, summary.depth);
+    write!(out, " {nodes}/{depth}")?;
+    if summary.holds_string {
+        out.push_str(" string")?;
+    }
+    if summary.holds_list {
+        out.push_str(" list")?;
+    }
+    if summary.holds_borrow {
+        out.push_str(" borrow")?;
+    }
+    if summary.holds_handle {
+        out.push_str(" handle")?;
+    }
+    Ok(())
+}

@@ -1,0 +1,27 @@
+//! Answers rows on types by places, and on layouts that are made part by part.
+#![tactic(auto)]
+
+mod arena;
+mod built;
+mod words;
+
+use cm_rows::{Driver, RowFault, answer_rows};
+use std::alloc::Global;
+use std::io;
+
+#[derive(Drop)]
+struct ArenaRows;
+
+impl Driver for ArenaRows {
+    fn answer(&mut self, alloc: Global, words: &[&str]) -> Result<String, RowFault> {
+        match words {
+            ["types", rest @ ..] => arena::answer(alloc, rest),
+            ["built", rest @ ..] => built::answer(alloc, rest),
+            _ => Err(RowFault::NotARow),
+        }
+    }
+}
+
+fn main(rt: HostRuntime) -> io::Result<()> {
+    answer_rows(&rt, &mut ArenaRows)
+}

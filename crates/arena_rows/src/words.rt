@@ -1,0 +1,68 @@
+//! Words of rows.
+
+use cm_rows::{RowFault, read_number, split_repeat};
+use cm_type_arena::Primitive;
+use cm_types::{Label, NameFault, ResourceId};
+use std::alloc::Global;
+
+/// The words before and after the first that is `mark`.
+pub fn split_words<'a, 'b>(
+    words: &'a [&'b str],
+    mark: &str,
+) -> Result<(&'a [&'b str], &'a [&'b str]), RowFault> {
+    let place = words
+        .iter()
+        .position(|word| *word == mark)
+        .ok_or(RowFault::NotARow)?;
+    let (before, after) = words.split_at(place);
+    match after {
+        [_, after @ ..] => Ok((before, after)),
+        [] => Err(RowFault::NotARow),
+    }
+}
+
+/// Labels joined by commas, where `N*` before one stands for N of them.
+pub fn read_labels(alloc: Global, text: &str) -> Result<Vec<Label>, RowFault> {
+    let mut labels = Vec::new(alloc);
+    for part in text.split(',') {
+        let (times, label) = split_repeat(part);
+        for _ in 0..times {
+            labels.push(read_label(alloc, label)?)?;
+        }
+    }
+    Ok(labels)
+}
+
+pub fn read_label(alloc: Global, text: &str) -> Result<Label, RowFault> {
+    match Label::parse(alloc, text) {
+        Ok(label) => Ok(label),
+        Err(NameFault::Memory) => Err(RowFault::Memory),
+        Err(_) => Err(RowFault::NotARow),
+    }
+}
+
+/// The resource `COMPONENT.NUMBER`.
+pub fn read_resource(text: &str) -> Result<ResourceId, RowFault> {
+    let (component, number) = text.split_once('.').ok_or(RowFault::NotARow)?;
+    Ok(ResourceId {
+        component: read_number(component)?,
+        number: read_number(number)?,
+    })
+}
+
+pub fn read_primitive(name: &str) -> Result<Primitive, RowFault> {
+    Ok(match name {
+        "bool" => Primitive::Bool,
+        "s8" => Primitive::S8,
+        "u8" => Primitive::U8,
+        "s16" => Primitive::S16,
+        "u16" => Primitive::U16,
+        "s32" => Primitive::S32,
+        "u32" => Primitive::U32,
+        "s64" => Primitive::S64,
+        "u64" => Primitive::U64,
+        "char" => Primitive::Char,
+        "string" => Primitive::String,
+        _ => return Err(RowFault::NotARow),
+    })
+}

@@ -1,0 +1,6 @@
+pub mod LeafLemmas
+pub mod LoadLemmas
+pub mod TextLemmas
+pub mod Seen
+pub mod SeenLayouts
+pub mod SizedLaws

@@ -1,0 +1,65 @@
+//! Values that are one number.
+
+ghost use Rattle.std.specs.Prelude.{◌≡◌, ◌*◌, ◌%◌, ◌^◌, ◌<◌};
+ghost use Rattle.cm_layout.specs.Laid.{leaf_size};
+ghost use Rattle.cm_values.specs.ValueTrees.{value_of};
+ghost use Rattle.cm_lifting.specs.Outcomes.{Reads, State};
+ghost use Rattle.cm_lifting.specs.Reading.{leaf_value};
+ghost use Rattle.cm_lifting.specs.Sized.{IsNumberSize, IsSizedLeaf};
+
+use crate::numbers::signed;
+use crate::stop::Stop;
+use cm_abi_model::AbiFault;
+use cm_layout::Leaf;
+use cm_values::Value;
+
+/// How many bytes a leaf takes.
+pub(crate) fn leaf_size(leaf: Leaf) -> u32
+    requires { IsSizedLeaf leaf }
+    ensures size { result ≡ leaf_size leaf }
+    ensures is { IsNumberSize result }
+{
+    match leaf {
+        Leaf::Bool => 1,
+        Leaf::Char => 4,
+        Leaf::Signed(bytes) | Leaf::Unsigned(bytes) => bytes,
+        Leaf::Flags { bytes, .. } => bytes,
+    }
+}
+
+/// The labels that are set in a number, of so many labels.
+#[tactic(auto, using(crate::proofs::LeafLemmas::flags))]
+fn labels_set(labels: usize, number: u32) -> u32
+    ensures { result ≡ number % 2 ^ labels }
+{
+    if labels >= 32 {
+        number
+    } else {
+        number % (1 << labels)
+    }
+}
+
+/// The char of a number, where it is one.
+fn char_value(number: u32) -> Result<Value, Stop>
+    ensures { (s : State) → Reads value_of result s (leaf_value Leaf.Char number s) }
+{
+    match char::from_u32(number) {
+        Some(scalar) => Ok(Value::Char(scalar)),
+        None => Err(Stop::Fault(AbiFault::BadChar)),
+    }
+}
+
+/// The value of a leaf from its number.
+pub(crate) fn leaf_value(leaf: Leaf, number: u64) -> Result<Value, Stop>
+    requires sized { IsSizedLeaf leaf }
+    requires fits { number < 2 ^ (8 * leaf_size leaf) }
+    ensures { (s : State) → Reads value_of result s (leaf_value leaf number s) }
+{
+    match leaf {
+        Leaf::Bool => Ok(Value::Bool(number != 0)),
+        Leaf::Signed(bytes) => Ok(Value::Signed(signed(bytes, number))),
+        Leaf::Unsigned(_) => Ok(Value::Unsigned(number)),
+        Leaf::Char => char_value(number as u32),
+        Leaf::Flags { labels, .. } => Ok(Value::Flags(labels_set(labels, number as u32))),
+    }
+}

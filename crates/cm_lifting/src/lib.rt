@@ -1,0 +1,17 @@
+//! Values of components, read from memory (CanonicalABI.md, "Loading").
+#![tactic(auto)]
+
+mod giver;
+mod handles;
+mod leaves;
+mod load;
+mod loading;
+mod numbers;
+mod progress;
+mod regions;
+mod stop;
+mod texts;
+
+pub use giver::Giver;
+pub use load::load_value;
+pub use progress::{MetHandle, Progress};

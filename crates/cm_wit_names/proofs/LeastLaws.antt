@@ -1,0 +1,59 @@
+-- The first mention of which a predicate holds.
+use Rattle.std.proofs.Common.{◌≡◌, ℕ, ◌+◌, ◌<◌, ◌≤◌, inl, inr, List, length, map, get_or, slice_get, Some, None, false, refl, sym, ap, subst, ◌∙◌, arith}
+use Rattle.std.specs.Option.{option_map}
+use Rattle.std.proofs.lemmas.Option.{slice_get-map, slice_get_read, slice_get_within}
+use Rattle.std.proofs.lemmas.List.{length-map, get_or_default}
+use Rattle.std.proofs.lemmas.Bool.{cases_eq}
+use Rattle.cm_wit_mentions.specs.declared.mention.Mention as code
+use Rattle.cm_wit_mentions.specs.declared.mention.Reference.TheVariants as refers
+use Rattle.cm_wit_mentions.specs.Mentions.{Mention}
+use Rattle.cm_wit_mentions.specs.MentionViews.{mention_view}
+use Rattle.cm_wit_names.specs.Known.{IsAt}
+use Rattle.cm_wit_names.specs.Rules.{IsLeast}
+
+pub at_view : (mentions : List code.Mention) (i : ℕ) (m : code.Mention) → i < length mentions → m ≡ get_or mentions i m → slice_get (map mention_view mentions) i ≡ Some (mention_view m)
+at_view mentions i m lt e = slice_get-map mention_view mentions i ∙ ap (option_map mention_view) (slice_get_read mentions (length mentions) i m refl lt e)
+
+some_same : {A : Type 0} (x y : A) → Some x ≡ Some y → x ≡ y
+some_same x y e = cc
+
+pub is_here : (P : Mention → Type 0) (mentions : List code.Mention) (i : ℕ) (m : code.Mention) → i < length mentions → m ≡ get_or mentions i m → IsAt (map mention_view mentions) i P → P (mention_view m)
+is_here P mentions i m lt e here = subst P (some_same here.0 (mention_view m) (sym here.1 ∙ at_view mentions i m lt e)) here.2
+
+-- it holds of none of the first mentions
+pub record NoneAt (P : ℕ → Mention → Type 0) (mentions : List code.Mention) (i : ℕ) : Type 0 where
+  pub none : (k : ℕ) → k < i → IsAt (map mention_view mentions) k (P k) → ⊥
+
+pub none_at_first : (P : ℕ → Mention → Type 0) (mentions : List code.Mention) → NoneAt P mentions 0
+none_at_first P mentions = record { none = λ k lt here. omega (arith, lt) }
+
+pub none_at_next : (P : ℕ → Mention → Type 0) (mentions : List code.Mention) (i : ℕ) (m : code.Mention) → i < length mentions → m ≡ get_or mentions i m → (P i (mention_view m) → ⊥) → NoneAt P mentions i → NoneAt P mentions (i + 1)
+none_at_next P mentions i m lt e isnt n = record {
+  none = λ k q here. elim (cases_eq k i) [
+    | inl s ↦ isnt (is_here (P i) mentions i m lt e (subst (λ (j : ℕ). IsAt (map mention_view mentions) j (P j)) s here))
+    | inr d ↦ n.none k (omega (arith, q, d)) here
+  ];
+}
+
+pub least_here : (P : ℕ → Mention → Type 0) (mentions : List code.Mention) (i : ℕ) (m : code.Mention) → i < length mentions → m ≡ get_or mentions i m → P i (mention_view m) → NoneAt P mentions i → IsLeast (λ n. IsAt (map mention_view mentions) n (P n)) (Some i)
+least_here P mentions i m lt e p n = ((mention_view m, at_view mentions i m lt e, p), λ k q. n.none k q)
+
+pub least_none : (P : ℕ → Mention → Type 0) (mentions : List code.Mention) (i : ℕ) → length mentions ≤ i → NoneAt P mentions i → IsLeast (λ n. IsAt (map mention_view mentions) n (P n)) None
+least_none P mentions i le n k here =
+    let within = slice_get_within (map mention_view mentions) k here.0 here.1 in
+    n.none k (omega (arith, le, within, length-map mentions mention_view)) here
+
+-- an element that a reader has, with a default
+pub element_at : {A : Type 0} (xs ys : List A) (i : ℕ) (d : A) → i < length xs → ys ≡ xs → get_or ys i d ≡ get_or xs i (get_or ys i d)
+element_at {A} xs ys i d lt e = ap (λ (zs : List A). get_or zs i d) e ∙ get_or_default xs i d (get_or ys i d) lt
+
+-- the mention that is read past the end
+abbrev pub blank : code.Mention
+blank = record {
+  declares = None;
+  known = None;
+  refers = refers.Nothing;
+  owner = None;
+  in_result = false;
+  may_be_resource = false;
+}

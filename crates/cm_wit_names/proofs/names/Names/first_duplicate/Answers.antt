@@ -1,0 +1,10 @@
+use Rattle.std.proofs.Common.{arith}
+use Rattle.cm_wit_names.proofs.DistinctLaws.{seen_at, seen_all}
+use Rattle.cm_wit_names.proofs.LeastLaws.{blank}
+use Rattle.cm_wit_names.proofs.names.Names.first_duplicate.Goals as goal
+
+pub loop-index-preserved : goal.loop-index-preserved
+loop-index-preserved c = seen_at c.args.self.now.mentions.items c.deref-mention-items.result.now c.loop-index.index blank c.loop-index.seen.keys c.note.new.seen.keys (omega arith) c.deref-mention-items.ensures.value (c.in_ok-note.ensures.noted c.if-not-branch.false) c.loop-index.invariant
+
+pub returns : goal.returns
+returns c = seen_all c.args.self.now.mentions.items c.loop-index.index c.loop-index.seen.keys (omega arith) c.loop-index.invariant
