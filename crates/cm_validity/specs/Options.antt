@@ -7,8 +7,8 @@ use Rattle.std.specs.Option.{option_map_or}
 use Rattle.std.specs.Str.{bytes_eq}
 use Rattle.cm_types.specs.Types.{Ty, FuncTy}
 use Rattle.cm_types.specs.Holds.{holds, fields_hold, is_string, is_list}
-use Rattle.cm_layout.specs.FlatFuncs.{flat_func}
-use Rattle.cm_layout.specs.declared.flat_funcs.Side.TheVariants as side
+use Rattle.cm_flat.specs.FlatFuncs.{flat_func}
+use Rattle.cm_flat.specs.declared.flat_funcs.Side.TheVariants as side
 use Rattle.cm_component.specs.declared.canons.CanonOption.{CanonOption}
 use Rattle.cm_component.specs.declared.canons.CanonOption.TheVariants as option
 use Rattle.cm_validity.specs.declared.reason.ValidReason.{ValidReason}

@@ -8,13 +8,12 @@ use Rattle.std.specs.Option.{option_and_then}
 use Rattle.std.specs.Str.{bytes_eq}
 use Rattle.cm_types.specs.Names.{is_same_name}
 use Rattle.cm_types.specs.Types.{FuncTy}
-use Rattle.cm_types.specs.DefTypes.{DefTypeTree, value_def, func_def, resource_def}
+use Rattle.cm_types.specs.DefTypes.{DefTypeTree, value_def, func_def, resource_def, instance_def}
 use Rattle.cm_types.specs.Signatures.{NamedExtern}
 use Rattle.cm_component.specs.Trees.{CoreInstanceTree, ArgTree, CoreExportTree, AliasTree, CanonTree}
 use Rattle.cm_component.specs.Trees.{instantiate, core_exports, instance_export, outer_type, lift}
 use Rattle.cm_component.specs.Trees.{core_instance_export, lower, resource_new, resource_drop}
 use Rattle.cm_component.specs.Trees.{resource_rep}
-use Rattle.cm_component.specs.declared.aliases.OuterType.{OuterType}
 use Rattle.cm_component.specs.declared.instances.CoreSort.{CoreSort}
 use Rattle.cm_component.specs.declared.instances.CoreSort.TheVariants as core_sort
 use Rattle.cm_component.specs.declared.instances.InlineExport.{InlineExport}
@@ -40,7 +39,8 @@ use Rattle.cm_validity.specs.TypeRules.{value_def_broken, func_def_broken, is_fu
 use Rattle.cm_validity.specs.TypeRules.{is_instance_type, is_value_or_resource}
 use Rattle.cm_validity.specs.ItemNames.{item_names_broken, is_label_name, is_instance_name}
 use Rattle.cm_validity.specs.Spaces.{Spaces, core_def_at, aliased_core, aliased_member}
-use Rattle.cm_validity.specs.Spaces.{items_of_members, named_member, func_ty_in}
+use Rattle.cm_validity.specs.Spaces.{items_of_members, named_member, func_ty_in, next_resource}
+use Rattle.cm_validity.specs.Declarations.{instance_def_broken}
 use Rattle.cm_validity.specs.Scopes.{resource_in}
 use Rattle.cm_validity.specs.Options.{guest_broken, options_broken, no_post_return_broken}
 use Rattle.cm_validity.specs.Options.{lift_type_broken, lower_type_broken}
@@ -117,6 +117,7 @@ abbrev pub type_broken : Spaces → DefTypeTree → List ValidReason
 type_broken s (value_def v) = value_def_broken s.types v
 type_broken s (func_def f) = func_def_broken s.types f
 type_broken s (resource_def destructor) = if_found (guest_broken s.core_funcs) destructor
+type_broken s (instance_def ds) = instance_def_broken s.types (next_resource s) ds
 
 -- ---- canonical definitions
 

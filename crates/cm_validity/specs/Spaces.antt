@@ -7,7 +7,7 @@ use Rattle.std.specs.List.{flat_map}
 use Rattle.std.specs.Option.{option_map, option_map_or, option_and_then, option_or}
 use Rattle.std.specs.Str.{bytes_eq}
 use Rattle.cm_types.specs.Types.{Ty, FuncTy}
-use Rattle.cm_types.specs.DefTypes.{DefTypeTree, value_def, func_def, resource_def}
+use Rattle.cm_types.specs.DefTypes.{DefTypeTree, value_def, func_def, resource_def, instance_def}
 use Rattle.cm_types.specs.Signatures.{ItemTy, NamedItem, func_item, equal_type, equal_resource}
 use Rattle.cm_types.specs.Signatures.{fresh_resource, ExternTy, NamedExtern}
 use Rattle.cm_types.specs.Signatures as extern
@@ -41,7 +41,7 @@ use Rattle.cm_validity.specs.Definitions.{NamedMember, ExportDef, exported_func,
 use Rattle.cm_validity.specs.Definitions.{NamedExport, func_type_of}
 use Rattle.cm_validity.specs.Definitions as def
 use Rattle.cm_validity.specs.Scopes.{value_def_of, func_def_of, resource_in, resource_id}
-use Rattle.cm_validity.specs.Declarations.{type_in, with_item}
+use Rattle.cm_validity.specs.Declarations.{instance_defined, type_in, with_item}
 use Rattle.cm_validity.specs.Moves.{moved, moved_func, moved_item, moved_type}
 
 -- the index spaces; the resources of the component, in the order of their numbers; the first memory
@@ -240,6 +240,7 @@ abbrev pub def_of : Spaces → DefTypeTree → TypeDef
 def_of s (value_def v) = value_def_of s.types v
 def_of s (func_def f) = func_def_of s.types f
 def_of s (resource_def destructor) = resource (next_resource s)
+def_of s (instance_def ds) = instance_type (instance_defined s.types (next_resource s) ds)
 
 -- the function, or the type, that an alias of an instance's export names
 abbrev pub func_of_member : MemberDef → Option FuncDef
