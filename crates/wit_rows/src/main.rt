@@ -1,6 +1,7 @@
 //! Answers rows on WIT texts by the public calls of the libraries that read them.
 #![tactic(auto)]
 
+mod packages;
 mod reading;
 mod texts;
 
@@ -15,6 +16,7 @@ impl Driver for WitRows {
     fn answer(&mut self, alloc: Global, words: &[&str]) -> Result<String, RowFault> {
         match words {
             ["read", rest @ ..] => reading::answer(alloc, rest),
+            ["parse", rest @ ..] => packages::answer_parse(alloc, rest),
             _ => Err(RowFault::NotARow),
         }
     }

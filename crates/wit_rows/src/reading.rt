@@ -14,7 +14,8 @@ pub fn answer(alloc: Global, words: &[&str]) -> Result<String, RowFault> {
     }
 }
 
-fn show_fault(alloc: Global, fault: WitFault) -> Result<String, RowFault> {
+/// The number and the name of a fault, and its place.
+pub fn show_fault(alloc: Global, fault: WitFault) -> Result<String, RowFault> {
     let WitFault { at, reason } = fault;
     if reason == WitReason::Memory {
         return Err(RowFault::Memory);

@@ -1,0 +1,30 @@
+-- Packages: files whose names break no rule.
+use Rattle.std.specs.Prelude.{◌≡◌, ◌⊎◌, ℕ, List, Some, None, Result, Ok, Err, MatchResult}
+use Rattle.cm_wit_grammar.specs.declared.fault.WitFault.{WitFault}
+use Rattle.cm_wit_grammar.specs.Whole.{IsMemory, text_reads}
+use Rattle.cm_wit_mentions.specs.FileMentions.{mentions}
+use Rattle.cm_wit_names.specs.Rules.{IsFirstFault}
+use Rattle.cm_wit_text.specs.Files.{file}
+use Rattle.cm_wit_text.specs.Trees.{File}
+use Rattle.cm_wit.specs.declared.package.Package.{Package}
+use Rattle.cm_wit.specs.PackageViews.{package_tree}
+use Rattle.cm_wit.specs.Places.{name_place}
+
+-- A text is a package: it is this file, and the file's names break no rule.
+abbrev pub IsPackage : List ℕ → File → Type 0
+IsPackage text f = (text_reads file text ≡ Ok f) × IsFirstFault (mentions f) None
+
+-- The first fault of the names of a text that is a file, at the name.
+abbrev pub IsNameFault : List ℕ → WitFault → Type 0
+IsNameFault text e = (f : File) × (n : ℕ) × (text_reads file text ≡ Ok f)
+    × IsFirstFault (mentions f) (Some (n, e.reason)) × (e.at ≡ name_place text n)
+
+-- Want of memory, or the first fault of a text that is no package: where it is no file the first
+-- fault of that, else the first fault of its names.
+abbrev pub IsRefused : List ℕ → WitFault → Type 0
+IsRefused text e = IsMemory e ⊎ ((text_reads file text ≡ Err e) ⊎ IsNameFault text e)
+
+-- A function answered the package that a text is, or why it is none.
+abbrev pub IsParsed : List ℕ → Result Package WitFault → Type 0
+IsParsed text result =
+    MatchResult result (λ p. IsPackage text (package_tree p)) (IsRefused text)
