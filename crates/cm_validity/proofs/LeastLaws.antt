@@ -1,8 +1,9 @@
 -- The least of several reasons.
 use Rattle.std.proofs.Common.{◌≡◌, ℕ, ◌<◌, ◌≤◌, List, [], ◌∷◌, ◌++◌, Bool, true, false, Option, Some, None, nat_le, refl, ap, sym, ◌∙◌, arith, inl, inr}
 use Rattle.std.proofs.lemmas.Bool.{cases_Bool, leb-true, leb-false, le-leb, lt-leb}
-use Rattle.cm_validity.specs.declared.reason.ValidReason.{ValidReason}
-use Rattle.cm_validity.specs.Reasons.{reason_number, least, lesser}
+use Rattle.cm_validate.specs.declared.fault.ValidReason.{ValidReason}
+use Rattle.cm_validate.specs.Reasons.{reason_number}
+use Rattle.cm_validity.specs.Reasons.{least, lesser}
 
 first : (a b : ValidReason) → nat_le (reason_number a) (reason_number b) ≡ true → lesser (Some a) (Some b) ≡ Some a
 first a b h = rw h refl
@@ -22,19 +23,20 @@ three a b c = elim (cases_Bool (nat_le (reason_number a) (reason_number b))) [
         let ac : nat_le (reason_number a) (reason_number c) ≡ true = le-leb (reason_number a) (reason_number c) (omega (arith, leb-true (reason_number a) (reason_number b) ab, leb-true (reason_number b) (reason_number c) bc)) in
         both a b c (Some b) (Some a) (Some a) (first b c bc) (first a b ab) (first a b ab) (first a c ac)
     | inr bc ↦ both a b c (Some c) (Some a) (lesser (Some a) (Some c)) (second b c bc) refl (first a b ab) refl
-    ]
+  ]
   | inr ab ↦ elim (cases_Bool (nat_le (reason_number b) (reason_number c))) [
     | inl bc ↦ both a b c (Some b) (Some b) (Some b) (first b c bc) (second a b ab) (second a b ab) (first b c bc)
     | inr bc ↦
         let ac : nat_le (reason_number a) (reason_number c) ≡ false = lt-leb (reason_number a) (reason_number c) (omega (arith, leb-false (reason_number a) (reason_number b) ab, leb-false (reason_number b) (reason_number c) bc)) in
         both a b c (Some c) (Some b) (Some c) (second b c bc) (second a c ac) (second a b ab) (second b c bc)
-    ]
+  ]
 ]
 
 two : (a b : ValidReason) → lesser (Some a) (Some b) ≡ lesser (lesser (Some a) (Some b)) None
 two a b = elim (cases_Bool (nat_le (reason_number a) (reason_number b))) [
-    inl ab ↦ rw ab refl
-  | inr ab ↦ rw ab refl ]
+  | inl ab ↦ rw ab refl
+  | inr ab ↦ rw ab refl
+]
 
 pub lesser_assoc : (p q r : Option ValidReason) → lesser p (lesser q r) ≡ lesser (lesser p q) r
 lesser_assoc None q r = refl

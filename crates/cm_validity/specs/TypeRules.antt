@@ -15,8 +15,8 @@ use Rattle.cm_types.specs.Holds.{holds, is_borrow}
 use Rattle.cm_types.specs.Limits.{nodes_of, depth_of}
 use Rattle.cm_types.specs.Names.{is_same_name}
 use Rattle.cm_types.specs.Types.{Ty, FuncTy, fields, tuple_type}
-use Rattle.cm_validity.specs.declared.reason.ValidReason.{ValidReason}
-use Rattle.cm_validity.specs.declared.reason.ValidReason.TheVariants as reason
+use Rattle.cm_validate.specs.declared.fault.ValidReason.{ValidReason}
+use Rattle.cm_validate.specs.declared.fault.ValidReason.TheVariants as reason
 use Rattle.cm_validity.specs.Definitions.{TypeDef, value, func_type, resource, instance_type}
 use Rattle.cm_validity.specs.Reasons.{unless, if_found, index_broken}
 use Rattle.cm_validity.specs.Scopes.{value_defined, func_defined}

@@ -1,10 +1,6 @@
-//! What a valid component is: index spaces, scopes of types, and the rules that each definition
-//! keeps, as definitions, with laws.
-//!
-//! Nothing runs here but plain data: `cm_validate` tests components by these definitions.
+//! What a valid component is, for every form of component files: index spaces, scopes of types, and
+//! what each definition breaks, as definitions, with laws. Begun: no call tests a component by them
+//! yet.
 #![tactic(auto)]
 
 pub mod laws;
-mod reason;
-
-pub use reason::ValidReason;
