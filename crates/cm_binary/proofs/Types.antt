@@ -151,11 +151,11 @@ declared_type_from_least : (stock : ℕ) → Least (declared_type_from stock) (�
 unfolding declared_type_from
 declared_type_from_least stock = from_stock_least _ _ (λ left. declared_type_least) stock
 
-declared_alias_of_least : (s : AliasSort) → Least (declared_alias_of s) (λ o. 1 + length (outer_type_spelling o))
+declared_alias_of_least : (s : AliasSort) → Least (declared_alias_of s) (λ o. 2 + length (outer_type_spelling o) - 1)
 unfolding declared_alias_of
 declared_alias_of_least alias_sorts.Core = bind_least _ _ (code_least _) (λ sort. refuse_least _)
 declared_alias_of_least alias_sorts.Func = refuse_least _
-declared_alias_of_least alias_sorts.Type = bind_least _ _ (code_least _) (λ target. outer_type_least)
+declared_alias_of_least alias_sorts.Type = bind_least _ _ (code_least _) (λ target. record { bound = λ x bytes s. omega (arith, outer_type_least.bound x bytes s) })
 declared_alias_of_least alias_sorts.Instance = refuse_least _
 
 declared_alias_least : Least declared_alias (λ o. 2 + length (outer_type_spelling o))
@@ -182,7 +182,7 @@ export_desc_least = bind_least _ _ (code_least _) export_desc_of_least
 
 export_decl_least : Least export_decl (λ e. length (export_decl_spelling e))
 unfolding export_decl
-export_decl_least = bind_least _ _ extern_name_least (λ name. bind_least _ _ export_desc_least (λ desc. done_least _ (omega (arith, length-append {A = ℕ}))))
+export_decl_least = bind_least _ _ extern_name_least (λ name. bind_least _ _ export_desc_least (λ desc. done_least _ (omega (arith, length-append (extern_name_spelling name) (export_desc_spelling desc)))))
 
 declaration_of_least : (stock : ℕ) (f : DeclarationForm) → Least (declaration_of stock f) (λ d. length (declaration_spelling d) - 1)
 unfolding declaration_of

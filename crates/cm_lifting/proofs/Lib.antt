@@ -4,3 +4,5 @@ pub mod TextLemmas
 pub mod Seen
 pub mod SeenLayouts
 pub mod SizedLaws
+pub mod ShownLaws
+pub mod ReadLaws

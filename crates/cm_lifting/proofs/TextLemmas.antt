@@ -1,5 +1,5 @@
 -- What the scalars of a text are, as the function says.
-use Rattle.std.proofs.Common.{◌≡◌, ℕ, ◌+◌, ◌*◌, ◌-◌, ◌/◌, ◌%◌, ◌<◌, ◌≤◌, Bool, true, false, ◌&&◌, List, [], ◌∷◌, ◌++◌, Option, Some, None, refl, sym, ap, ◌∙◌, ◌⊎◌, inl, inr, arith, nat_lt, nat_le}
+use Rattle.std.proofs.Common.{◌≡◌, ℕ, ◌+◌, ◌*◌, ◌-◌, ◌/◌, ◌%◌, ◌<◌, ◌≤◌, Bool, true, false, ◌&&◌, List, [], ◌∷◌, ◌++◌, Option, Some, None, refl, sym, ap, subst, ◌∙◌, ◌⊎◌, inl, inr, arith, nat_lt, nat_le}
 use Rattle.std.specs.Prelude.{if◌then◌else◌, Ok}
 use Rattle.std.proofs.lemmas.Bool.{and_parts, and_from, lt-ltb, ltb-true, ltb-false}
 use Rattle.std.proofs.lemmas.Bool.Decides.{nat_tests}
@@ -14,8 +14,8 @@ use Rattle.cm_text.specs.Text.{IsText}
 use Rattle.cm_text.specs.Utf8.{spell_utf8}
 use Rattle.cm_text.specs.Utf16.{bytes_of_unit, spell_utf16, unit, units}
 use Rattle.cm_text.specs.Latin1.{HasLatin1, spell_latin1}
-use Rattle.cm_types.specs.Values.{text}
-use Rattle.cm_abi_model.specs.Texts.{Charset, utf8, utf16, latin1}
+use Rattle.cm_types.specs.Values.{Val, text}
+use Rattle.cm_abi_model.specs.Texts.{Charset, Has, spell, utf8, utf16, latin1}
 use Rattle.cm_abi_model.specs.Requests.{text_bytes}
 use Rattle.cm_lifting.specs.declared.stop.Stop.{Stop}
 use Rattle.cm_lifting.specs.declared.stop.Stop.TheVariants as stop
@@ -23,6 +23,7 @@ use Rattle.cm_lifting.specs.Decoded.{decoded, if_text, unpaired}
 use Rattle.cm_lifting.specs.Outcomes.{State, Stops}
 use Rattle.cm_lifting.specs.Reading.{text_value}
 use Rattle.cm_lifting.specs.TextReads.{StopsAtText}
+use Rattle.cm_lifting.proofs.ShownLaws.{ok_first}
 
 to_all : (cs : List ℕ) → all_scalars cs ≡ true → AllByRecursion IsScalar cs
 to_all [] is = tt
@@ -157,3 +158,28 @@ stops_at has spell bytes t (stop.Fault f) s none is = rw (none is.1, is.0) refl
 
 pub reads_text : (t : Option (List ℕ)) (cs : List ℕ) (s : State) → t ≡ Some cs → text_value t s ≡ Ok (text cs, s)
 reads_text t cs s e = rw e refl
+
+-- ---- what is found is a text
+
+chosen : (b : Bool) (x cs : List ℕ) → (if b then Some x else None) ≡ Some cs → (b ≡ true) × (x ≡ cs)
+chosen true x cs e = (refl, cc)
+chosen false x cs e = absurd (cc)
+
+if_text_is : (s : Charset) (bytes found cs : List ℕ) → if_text s bytes found ≡ Some cs → AllByRecursion IsScalar cs × (text_bytes s cs ≡ bytes)
+if_text_is s bytes found cs e =
+    let picked = chosen (all_scalars found && bytes_eq (text_bytes s found) bytes) found cs e in
+    let both = and_parts (all_scalars found) (bytes_eq (text_bytes s found) bytes) picked.0 in
+    subst (λ ds. AllByRecursion IsScalar ds × (text_bytes s ds ≡ bytes)) picked.1
+    (to_all found both.0, (bytes_eq-Decides (text_bytes s found) bytes).0 both.1)
+
+pub text_is : (s : Charset) (bytes cs : List ℕ) → decoded s bytes ≡ Some cs → IsText (Has s) (spell s) cs bytes
+unfolding decoded
+text_is utf8 bytes cs e = let t = if_text_is utf8 bytes (chars bytes) cs e in record { all = t.0; is = t.1 }
+text_is utf16 bytes cs e = let t = if_text_is utf16 bytes (unpaired (units bytes)) cs e in record { all = t.0; is = t.1 }
+text_is latin1 bytes cs e =
+    let picked = chosen (list_all (λ b. nat_lt b 0x100) bytes) bytes cs e in
+    subst (λ ds. IsText HasLatin1 spell_latin1 ds bytes) picked.1 (record { all = bytes_all bytes picked.0; is = same_bytes bytes })
+
+pub text_found : (d : Option (List ℕ)) (s t : State) (v : Val) → text_value d s ≡ Ok (v, t) → (cs : List ℕ) × (d ≡ Some cs) × (text cs ≡ v)
+text_found None s t v e = absurd (cc)
+text_found (Some cs) s t v e = (cs, refl, ok_first (text cs) v s t e)

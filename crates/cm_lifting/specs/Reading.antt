@@ -22,6 +22,7 @@ use Rattle.cm_layout.specs.Shapes.{LayoutTy, no_parts, part, no_payloads, nothin
 use Rattle.cm_abi_model.specs.declared.encoding.StringEncoding.{StringEncoding}
 use Rattle.cm_abi_model.specs.declared.fault.AbiFault.TheVariants as fault
 use Rattle.cm_abi_model.specs.Numbers.{as_signed, number_at}
+use Rattle.cm_abi_model.specs.Views.{View}
 use Rattle.cm_abi_model.specs.Texts.{bytes_from, charset_of, text_align, text_size}
 use Rattle.cm_lifting.specs.declared.giver.Giver.{Giver}
 use Rattle.cm_lifting.specs.Decoded.{decoded}
@@ -37,6 +38,10 @@ pub record Source : Type 0 where
 abbrev pub source_of : Giver → Source
 source_of g =
     record { memory = g.memory.now; table = g.table.now.handles; encoding = g.encoding }
+
+-- what is read from in a view
+abbrev pub seen_by : View → Source
+seen_by w = record { memory = w.memory; table = w.table; encoding = w.encoding }
 
 -- the value of a leaf from its number
 abbrev pub leaf_value : Leaf → ℕ → State → Outcome Val

@@ -3,6 +3,7 @@
 
 mod giver;
 mod handles;
+pub mod laws;
 mod leaves;
 mod load;
 mod loading;
