@@ -17,6 +17,7 @@ impl Driver for WitRows {
         match words {
             ["read", rest @ ..] => reading::answer(alloc, rest),
             ["parse", rest @ ..] => packages::answer_parse(alloc, rest),
+            ["print", rest @ ..] => packages::answer_print(alloc, rest),
             _ => Err(RowFault::NotARow),
         }
     }

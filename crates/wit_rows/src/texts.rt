@@ -54,3 +54,15 @@ fn add_both(text: &mut String, first: &str, second: &str) -> Result<(), RowFault
     text.push_str(first)?;
     Ok(text.push_str(second)?)
 }
+
+/// A text on one line, with `~n` for a line feed.
+pub fn show_text(alloc: Global, text: &str) -> Result<String, AllocError> {
+    let mut shown = String::new(alloc);
+    for (index, line) in text.split('\n').enumerate() {
+        if index > 0 {
+            shown.push_str("~n")?;
+        }
+        shown.push_str(line)?;
+    }
+    Ok(shown)
+}
