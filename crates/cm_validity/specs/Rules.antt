@@ -10,7 +10,8 @@ use Rattle.cm_types.specs.Names.{is_same_name}
 use Rattle.cm_types.specs.Types.{FuncTy}
 use Rattle.cm_types.specs.DefTypes.{DefTypeTree, value_def, func_def, resource_def, instance_def}
 use Rattle.cm_types.specs.Signatures.{NamedExtern}
-use Rattle.cm_component.specs.Trees.{CoreInstanceTree, ArgTree, CoreExportTree, AliasTree, CanonTree}
+use Rattle.cm_component.specs.Trees.{CoreInstanceTree, ArgTree, CoreExportTree, AliasTree}
+use Rattle.cm_component.specs.Trees.{CanonTree}
 use Rattle.cm_component.specs.Trees.{instantiate, core_exports, instance_export, outer_type, lift}
 use Rattle.cm_component.specs.Trees.{core_instance_export, lower, resource_new, resource_drop}
 use Rattle.cm_component.specs.Trees.{resource_rep}
@@ -32,10 +33,12 @@ use Rattle.cm_validity.specs.Items.{Item, core_module_item, core_instance_item, 
 use Rattle.cm_validity.specs.Items.{alias_item, type_item, canon_item, import_item, export_item}
 use Rattle.cm_validity.specs.Definitions.{ResourceDef, defined, brought, core_func, table, memory}
 use Rattle.cm_validity.specs.Definitions.{global}
-use Rattle.cm_validity.specs.Definitions.{FuncDef, lifted, imported, func_type_of, CoreDef, MemberDef}
+use Rattle.cm_validity.specs.Definitions.{FuncDef, lifted, imported, func_type_of, CoreDef}
+use Rattle.cm_validity.specs.Definitions.{MemberDef}
 use Rattle.cm_validity.specs.Definitions.{type_member, func_member}
 use Rattle.cm_validity.specs.Reasons.{unless, found, if_found, index_broken, bare_index_broken}
-use Rattle.cm_validity.specs.TypeRules.{value_def_broken, func_def_broken, is_func_type, is_resource}
+use Rattle.cm_validity.specs.TypeRules.{value_def_broken, func_def_broken, is_func_type}
+use Rattle.cm_validity.specs.TypeRules.{is_resource}
 use Rattle.cm_validity.specs.TypeRules.{is_instance_type, is_value_or_resource}
 use Rattle.cm_validity.specs.ItemNames.{item_names_broken, is_label_name, is_instance_name}
 use Rattle.cm_validity.specs.Spaces.{Spaces, core_def_at, aliased_core, aliased_member}
@@ -107,7 +110,8 @@ abbrev pub alias_broken : Spaces → AliasTree → List ValidReason
 alias_broken s (instance_export sort instance name) =
     found (λ d. unless (is_of_member_sort sort d) reason.WrongSort) (aliased_member s instance name)
 alias_broken s (core_instance_export sort instance name) =
-    found (λ d. unless (is_of_core_sort sort d) reason.WrongSort) (aliased_core s sort instance name)
+    found (λ d. unless (is_of_core_sort sort d) reason.WrongSort)
+    (aliased_core s sort instance name)
 alias_broken s (outer_type o) =
     unless (o.count == 0) reason.NoSuchIndex ++ bare_index_broken s.types o.index
 

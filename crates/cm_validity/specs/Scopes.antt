@@ -74,7 +74,8 @@ parts_in types (t ∷ ts) = both (field []) (value_of types t) (parts_in types t
 
 abbrev pub cases_in : List TypeDef → List CaseType → Option Cases
 cases_in types [] = Some no_cases
-cases_in types (c ∷ cs) = both (case_before c.label) (payload_of types c.payload) (cases_in types cs)
+cases_in types (c ∷ cs) =
+    both (case_before c.label) (payload_of types c.payload) (cases_in types cs)
 
 abbrev pub option_cases : Ty → Cases
 option_cases t = plain (codes "none") (carrying (codes "some") t no_cases)
@@ -101,7 +102,8 @@ value_defined types (enum_of ls) = Some (cases enum_type (plain_from ls))
 value_defined types (option_of t) =
     option_map (λ x. cases option_type (option_cases x)) (value_of types t)
 value_defined types (result_of ok error) =
-    both (λ x y. cases result_type (result_cases x y)) (payload_of types ok) (payload_of types error)
+    both (λ x y. cases result_type (result_cases x y))
+    (payload_of types ok) (payload_of types error)
 value_defined types (own_of i) = handle_of own types i
 value_defined types (borrow_of i) = handle_of borrow types i
 
