@@ -7,7 +7,6 @@ use Rattle.cm_types.specs.DefTypes.{DeclarationTree, type_decl, outer_type_decl,
 use Rattle.cm_types.specs.DefTypes.{DeclaredTypeTree, declared_value, declared_func}
 use Rattle.cm_types.specs.declared.def_types.ExportDesc.{ExportDesc}
 use Rattle.cm_types.specs.declared.def_types.ExportDesc.TheVariants as desc
-use Rattle.cm_types.specs.declared.def_types.TypeBound.{TypeBound}
 use Rattle.cm_types.specs.declared.def_types.TypeBound.TheVariants as bound
 use Rattle.cm_types.specs.Signatures.{ItemTy, NamedItem, func_item, equal_type, equal_resource}
 use Rattle.cm_types.specs.Signatures.{fresh_resource}

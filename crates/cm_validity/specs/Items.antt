@@ -1,5 +1,5 @@
 -- The definitions of a component, one after another (Binary.md, "Component Definitions").
-use Rattle.std.specs.Prelude.{ℕ, List, [], ◌∷◌, ◌++◌, map}
+use Rattle.std.specs.Prelude.{List, [], ◌∷◌, ◌++◌, map}
 use Rattle.cm_types.specs.DefTypes.{DefTypeTree}
 use Rattle.cm_component.specs.Trees.{CoreInstanceTree, AliasTree, CanonTree, SectionTree, custom}
 use Rattle.cm_component.specs.Trees.{core_module, core_instances, instances, aliases, types, canons}

@@ -1,6 +1,6 @@
 -- The type of an instance, in a component that imports an instance of it: the resources that it
 -- brings get the next numbers of the component.
-use Rattle.std.specs.Prelude.{ℕ, ◌+◌, ◌-◌, nat_lt, Option, if◌then◌else◌}
+use Rattle.std.specs.Prelude.{ℕ, ◌+◌, ◌-◌, nat_lt, if◌then◌else◌}
 use Rattle.std.specs.Option.{option_map}
 use Rattle.cm_types.specs.declared.resource.ResourceId.{ResourceId}
 use Rattle.cm_types.specs.Signatures.{ItemTy, func_item, equal_type, equal_resource, fresh_resource}

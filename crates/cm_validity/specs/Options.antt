@@ -1,7 +1,7 @@
 -- Canonical options (Explainer.md, "Canonical Definitions"; CanonicalABI.md, "Canonical
 -- Definitions"): which a lift or a lower needs, and which it may have.
-use Rattle.std.specs.Prelude.{Bool, true, false, not, ◌&&◌, ◌||◌, ◌==◌, ℕ, nat_le, List, [], ◌∷◌}
-use Rattle.std.specs.Prelude.{◌++◌, length, filter, Option, Some, None, slice_get}
+use Rattle.std.specs.Prelude.{Bool, true, false, not, ◌&&◌, ◌||◌, ◌==◌, ℕ, nat_le, List, []}
+use Rattle.std.specs.Prelude.{◌++◌, length, filter, Option, slice_get}
 use Rattle.std.specs.List.{flat_map, list_any}
 use Rattle.std.specs.Option.{option_map_or}
 use Rattle.std.specs.Str.{bytes_eq}
@@ -14,7 +14,7 @@ use Rattle.cm_component.specs.declared.canons.CanonOption.TheVariants as option
 use Rattle.cm_validate.specs.declared.fault.ValidReason.{ValidReason}
 use Rattle.cm_validate.specs.declared.fault.ValidReason.TheVariants as reason
 use Rattle.cm_validity.specs.Definitions.{CoreExport, CoreFuncDef, guest}
-use Rattle.cm_validity.specs.Reasons.{unless, found, bare_index_broken}
+use Rattle.cm_validity.specs.Reasons.{unless, found}
 use Rattle.cm_validity.specs.Spaces.{Spaces}
 
 -- ---- kinds of options

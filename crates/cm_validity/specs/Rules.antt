@@ -9,7 +9,6 @@ use Rattle.std.specs.Str.{bytes_eq}
 use Rattle.cm_types.specs.Names.{is_same_name}
 use Rattle.cm_types.specs.Types.{FuncTy}
 use Rattle.cm_types.specs.DefTypes.{DefTypeTree, value_def, func_def, resource_def, instance_def}
-use Rattle.cm_types.specs.Signatures.{NamedExtern}
 use Rattle.cm_component.specs.Trees.{CoreInstanceTree, ArgTree, CoreExportTree, AliasTree}
 use Rattle.cm_component.specs.Trees.{CanonTree}
 use Rattle.cm_component.specs.Trees.{instantiate, core_exports, instance_export, outer_type, lift}

@@ -1,6 +1,6 @@
 -- What types a definition names and adds (Explainer.md, "Type Definitions"; Binary.md, "Type
 -- Definitions").
-use Rattle.std.specs.Prelude.{ℕ, zero, suc, ◌+◌, List, [], ◌∷◌, ◌++◌, Option, Some, None, length}
+use Rattle.std.specs.Prelude.{ℕ, List, [], ◌∷◌, Option, Some, None}
 use Rattle.std.specs.Prelude.{slice_get, option_map, option_and_then, codes}
 use Rattle.std.specs.Option.{option_map_or}
 use Rattle.cm_types.specs.declared.def_types.PrimValType.{PrimValType}

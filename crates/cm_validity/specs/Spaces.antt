@@ -1,12 +1,12 @@
 -- The index spaces of a component: for each sort the definitions that the items before a place add,
 -- in order (Explainer.md, "Index Spaces").
-use Rattle.std.specs.Prelude.{Bool, true, false, ℕ, ◌+◌, ◌-◌, ◌==◌, nat_lt, List, [], ◌∷◌, ◌++◌}
+use Rattle.std.specs.Prelude.{ℕ, ◌+◌, List, [], ◌∷◌, ◌++◌}
 use Rattle.std.specs.Prelude.{Option, Some, None, length, map, slice_get, option_to_list}
 use Rattle.std.specs.Prelude.{if◌then◌else◌}
 use Rattle.std.specs.List.{flat_map}
 use Rattle.std.specs.Option.{option_map, option_map_or, option_and_then, option_or}
 use Rattle.std.specs.Str.{bytes_eq}
-use Rattle.cm_types.specs.Types.{Ty, FuncTy}
+use Rattle.cm_types.specs.Types.{FuncTy}
 use Rattle.cm_types.specs.DefTypes.{DefTypeTree, value_def, func_def, resource_def, instance_def}
 use Rattle.cm_types.specs.Signatures.{ItemTy, NamedItem, func_item, equal_type, equal_resource}
 use Rattle.cm_types.specs.Signatures.{fresh_resource, ExternTy, NamedExtern}
@@ -26,7 +26,6 @@ use Rattle.cm_component.specs.declared.externs.ExternDesc.{ExternDesc}
 use Rattle.cm_component.specs.declared.externs.ExternDesc.TheVariants as desc
 use Rattle.cm_component.specs.declared.externs.ExportSort.{ExportSort}
 use Rattle.cm_component.specs.declared.externs.ExportSort.TheVariants as export_sort
-use Rattle.cm_component.specs.declared.externs.Import.{Import}
 use Rattle.cm_component.specs.declared.externs.Export.{Export}
 use Rattle.cm_validity.specs.Items.{Item, core_module_item, core_instance_item, instance_item}
 use Rattle.cm_validity.specs.Items.{alias_item, type_item, canon_item, import_item, export_item}
@@ -39,8 +38,7 @@ use Rattle.cm_validity.specs.Definitions.{CoreInstanceDef, instantiated, exporti
 use Rattle.cm_validity.specs.Definitions.{imported, MemberDef, func_member, type_member}
 use Rattle.cm_validity.specs.Definitions.{NamedMember, ExportDef, exported_func, exported_instance}
 use Rattle.cm_validity.specs.Definitions.{NamedExport, func_type_of}
-use Rattle.cm_validity.specs.Definitions as def
-use Rattle.cm_validity.specs.Scopes.{value_def_of, func_def_of, resource_in, resource_id}
+use Rattle.cm_validity.specs.Scopes.{value_def_of, func_def_of, resource_in}
 use Rattle.cm_validity.specs.Declarations.{instance_defined, type_in, with_item}
 use Rattle.cm_validity.specs.Moves.{moved, moved_func, moved_item, moved_type}
 

@@ -3,7 +3,6 @@
 use Rattle.std.specs.Prelude.{Bool, true, false, not, ◌&&◌, nat_le, nat_lt, List, [], ◌∷◌, ◌++◌}
 use Rattle.std.specs.Prelude.{ℕ, length, map, Option, Some, None}
 use Rattle.std.specs.List.{flat_map, list_any}
-use Rattle.std.specs.Option.{option_map_or}
 use Rattle.cm_types.specs.declared.def_types.ValType.{ValType}
 use Rattle.cm_types.specs.declared.def_types.ValType.TheVariants as val_type
 use Rattle.cm_types.specs.declared.limits.TheConstants.{MAX_NODES, MAX_DEPTH}

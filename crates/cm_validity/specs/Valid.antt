@@ -1,7 +1,7 @@
 -- Valid components, and the fault of one that is not: its least section, the least item there, and
 -- of the reasons that this item breaks the least (Explainer.md, "Component Definitions"; this order
 -- is this project's own choice).
-use Rattle.std.specs.Prelude.{◌≡◌, ◌≤◌, ℕ, List, [], ◌∷◌, ◌++◌, length, Option, Some, Contains}
+use Rattle.std.specs.Prelude.{◌≡◌, ◌≤◌, ℕ, List, [], ◌∷◌, ◌++◌, length, Contains}
 use Rattle.cm_component.specs.Trees.{SectionTree}
 use Rattle.cm_validate.specs.declared.fault.ValidReason.{ValidReason}
 use Rattle.cm_validate.specs.Reasons.{reason_number}
