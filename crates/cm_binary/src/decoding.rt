@@ -16,11 +16,9 @@ use std::alloc::Global;
 
 /// Reads a component file (Binary.md), whose bytes these are, all of them.
 ///
-/// Of the standard's forms these are carried: custom sections, core modules, core instances made of
-/// modules, aliases of core functions out of core instances, function types over `u32`, lift and
-/// lower without options, imports and exports of functions. At every other form of the standard the
-/// fault is `Unsupported`, at the byte that names it. [`DecodeReason`] says at which byte each
-/// other fault is.
+/// Of the standard's forms all are carried but floats, core types, nested components, values and
+/// start functions. At every other form of the standard the fault is `Unsupported`, at the byte
+/// that names it. [`DecodeReason`] says at which byte each other fault is.
 pub fn decode(alloc: Global, bytes: &[u8]) -> Result<Component, DecodeFault>
     // What is read is spelled so.
     ensures found { IfOk result (λ c. Spells c bytes.now) }
