@@ -4,5 +4,7 @@ pub mod TextLemmas
 pub mod Seen
 pub mod SeenLayouts
 pub mod SizedLaws
+pub mod MeetLaws
 pub mod ShownLaws
 pub mod ReadLaws
+pub mod FoundLaws

@@ -1,5 +1,5 @@
 -- What is read at an address is what the bytes there show.
-use Rattle.std.proofs.Common.{◌≡◌, ℕ, zero, suc, ◌+◌, ◌==◌, Bool, true, false, List, Option, Some, None, Result, Ok, Err, refl, sym, ap, subst, ◌∙◌}
+use Rattle.std.proofs.Common.{◌≡◌, ℕ, zero, suc, ◌+◌, ◌-◌, ◌≤◌, ◌==◌, Bool, true, false, List, [], ◌∷◌, Option, Some, None, Result, Ok, Err, refl, sym, ap, subst, ◌∙◌}
 use Rattle.std.specs.Prelude.{if◌then◌else◌}
 use Rattle.std.proofs.lemmas.Bool.{and_parts, eqb-true}
 use Rattle.cm_types.specs.declared.resource.ResourceId.{ResourceId}
@@ -22,23 +22,30 @@ use Rattle.cm_abi_model.specs.Views.{View}
 use Rattle.cm_abi_model.specs.declared.fault.AbiFault.{AbiFault}
 use Rattle.cm_abi_model.specs.declared.encoding.StringEncoding.{StringEncoding}
 use Rattle.cm_lifting.specs.Decoded.{decoded}
+use Rattle.cm_abi_model.specs.Taken.{content, lent, met_at, met_in_fields, met_in_payload, taken}
+use Rattle.cm_lifting.specs.Meeting.{Meets}
 use Rattle.cm_lifting.specs.Outcomes.{State, mapped}
 use Rattle.cm_lifting.specs.Reading.{after_meeting, handle_value, read_at, read_case, read_each, read_elements, read_handle, read_parts, read_text, region, seen_by, text_value, value_of_handle}
-use Rattle.cm_lifting.proofs.ShownLaws.{bind_ok, char_ok, each_shown, elements_shown, mapped_ok, ok_first, read_ok, region_ok}
+use Rattle.cm_lifting.proofs.MeetLaws.{meets_both, meets_borrow, meets_content, meets_none, meets_own}
+use Rattle.cm_lifting.proofs.ShownLaws.{bind_ok, char_ok, each_shown, elements_shown, mapped_ok, moved, read_ok, region_ok}
 use Rattle.cm_lifting.proofs.TextLemmas.{text_found, text_is}
 
-first_is : (x y : Val) (s t : State) → read_ok x s ≡ read_ok y t → x ≡ y
-first_is x y s t e = ok_first x y s t e
+-- what is read at an address is shown there, and what is met in it is told
+abbrev pub Told : View → Ty → ℕ → State → Val → State → Type 0
+Told w t p s v after = Shows w t p v × Meets w.table s after (met_at w t p v)
 
 -- strings
-text_shown : (memory : List ℕ) (e : StringEncoding) (at n : ℕ) (s t : State) (v : Val) → read_text memory e at n s ≡ Ok (v, t)
-    → (cs : List ℕ) × (text cs ≡ v) × ShowsText e memory at n cs
+text_shown : (P : Val → State → Type 0) (memory : List ℕ) (e : StringEncoding) (at n : ℕ) (s t : State) (v : Val) → read_text memory e at n s ≡ Ok (v, t)
+    → ((cs : List ℕ) → ShowsText e memory at n cs → text_size e n ≤ s.left → P (text cs) (record s { left = s.left - text_size e n })) → P v t
 unfolding read_text
-text_shown memory e at n s t v is =
+text_shown P memory e at n s t v is h =
     let first = bind_ok (region memory (text_align e) at (text_size e n) s) (λ r. text_value (decoded (charset_of e n) (bytes_from memory at (text_size e n))) r.1) (v, t) is in
     let there = region_ok memory (text_align e) at (text_size e n) s first.0 first.1 in
-    let found = text_found (decoded (charset_of e n) (bytes_from memory at (text_size e n))) first.0.1 t v first.2 in
-    (found.0, found.2, record { aligned = there.aligned; inside = there.inside; text = text_is (charset_of e n) (bytes_from memory at (text_size e n)) found.0 found.1 })
+    text_found P (decoded (charset_of e n) (bytes_from memory at (text_size e n))) first.0.1 t v first.2 (λ cs found. subst (P (text cs)) there.counted
+    (h cs (record { aligned = there.aligned; inside = there.inside; text = text_is (charset_of e n) (bytes_from memory at (text_size e n)) cs found }) there.room))
+
+pub string_told : (t : Handles) (s : State) (size : ℕ) → size ≤ s.left → Meets t s (record s { left = s.left - size }) (content size ∷ [])
+string_told t s size room = meets_content t s (record s { left = s.left - size }) size [] room (meets_none t (record s { left = s.left - size }))
 
 -- handles
 same_is : (a b : ResourceId) → is_same_resource a b ≡ true → a ≡ b
@@ -55,89 +62,115 @@ found_of (Some x) r h e = picked (is_same_resource x.resource r) refl e
     picked true is k = let same : x ≡ h = cc in (ap Some same, ap (λ (y : Handle). y.resource) (sym same) ∙ same_is x.resource r is)
     picked false is k = absurd (cc)
 
-owned_of : (k : HandleKind) (h : Handle) (s t : State) (e : AbiFault × State) (v : Val) → (if is_borrow k then Err e else read_ok (value_of_handle h) s) ≡ read_ok v t → (k ≡ Owned) × (value_of_handle h ≡ v)
-owned_of Owned h s t e v is = (refl, first_is (value_of_handle h) v s t is)
-owned_of (Borrowed call) h s t e v is = absurd (cc)
+owned_of : (P : Val → State → Type 0) (h : Handle) (k : HandleKind) → h.kind ≡ k → (s t : State) (e : AbiFault × State) (v : Val)
+    → (if is_borrow k then Err e else read_ok (value_of_handle h) s) ≡ read_ok v t → (h.kind ≡ Owned → P (value_of_handle h) s) → P v t
+owned_of P h Owned kind s t e v is go = moved P (value_of_handle h) v s t is (go kind)
+owned_of P h (Borrowed call) kind s t e v is go = absurd (cc)
 
-handle_shown : (table : Handles) (index : ℕ) (r : ResourceId) (h : Handle) → look_up table index r ≡ Ok h → ShowsHandle table index r (record { serial = h.serial; rep = h.rep; resource = h.resource })
-handle_shown table index r h e =
+abbrev pub as_handle : Handle → ResourceId → HandleValue
+as_handle h r = record { serial = h.serial; rep = h.rep; resource = r }
+
+shown_as : (h : Handle) (r : ResourceId) → h.resource ≡ r → as_handle h h.resource ≡ as_handle h r
+shown_as h r e = ap (as_handle h) e
+
+own_shown : (P : Val → State → Type 0) (table : Handles) (index : ℕ) (r : ResourceId) (s t : State) (v : Val) (looked : Result Handle HandleFault) → look_up table index r ≡ looked
+    → handle_value (handle_type.Own r) looked s ≡ Ok (v, t) → ((h : Handle) → handle_at table index ≡ Some h → h.resource ≡ r → h.kind ≡ Owned → P (value_of_handle h) s) → P v t
+own_shown P table index r s t v (Err handle_fault.NoHandle) e is go = absurd (cc)
+own_shown P table index r s t v (Err handle_fault.WrongResource) e is go = absurd (cc)
+own_shown P table index r s t v (Err handle_fault.StillLent) e is go = absurd (cc)
+own_shown P table index r s t v (Err handle_fault.NotOwned) e is go = absurd (cc)
+own_shown P table index r s t v (Err handle_fault.Full) e is go = absurd (cc)
+own_shown P table index r s t v (Err handle_fault.Memory) e is go = absurd (cc)
+own_shown P table index r s t v (Ok h) e is go =
     let found = found_of (handle_at table index) r h e in
-    record { entry = h; stands = found.0; of_resource = found.1; value = ap (λ x. record { serial = h.serial; rep = h.rep; resource = x }) found.1 }
+    owned_of P h h.kind refl s t _ v is (λ kind. go h found.0 found.1 kind)
 
-own_shown : (table : Handles) (index : ℕ) (r : ResourceId) (s t : State) (v : Val) (looked : Result Handle HandleFault) → look_up table index r ≡ looked
-    → handle_value (handle_type.Own r) looked s ≡ Ok (v, t) → (h : HandleValue) × (handle h ≡ v) × ShowsOwned table index r h
-unfolding handle_shown
-own_shown table index r s t v (Err handle_fault.NoHandle) e is = absurd (cc)
-own_shown table index r s t v (Err handle_fault.WrongResource) e is = absurd (cc)
-own_shown table index r s t v (Err handle_fault.StillLent) e is = absurd (cc)
-own_shown table index r s t v (Err handle_fault.NotOwned) e is = absurd (cc)
-own_shown table index r s t v (Err handle_fault.Full) e is = absurd (cc)
-own_shown table index r s t v (Err handle_fault.Memory) e is = absurd (cc)
-own_shown table index r s t v (Ok h) e is =
-    let kind = owned_of h.kind h s t _ v is in
-    (record { serial = h.serial; rep = h.rep; resource = h.resource }, kind.1, record { handle = handle_shown table index r h e; owned = kind.0 })
+borrow_shown : (P : Val → State → Type 0) (table : Handles) (index : ℕ) (r : ResourceId) (s t : State) (v : Val) (looked : Result Handle HandleFault) → look_up table index r ≡ looked
+    → handle_value (handle_type.Borrow r) looked s ≡ Ok (v, t) → ((h : Handle) → handle_at table index ≡ Some h → h.resource ≡ r → P (value_of_handle h) s) → P v t
+borrow_shown P table index r s t v (Err handle_fault.NoHandle) e is go = absurd (cc)
+borrow_shown P table index r s t v (Err handle_fault.WrongResource) e is go = absurd (cc)
+borrow_shown P table index r s t v (Err handle_fault.StillLent) e is go = absurd (cc)
+borrow_shown P table index r s t v (Err handle_fault.NotOwned) e is go = absurd (cc)
+borrow_shown P table index r s t v (Err handle_fault.Full) e is go = absurd (cc)
+borrow_shown P table index r s t v (Err handle_fault.Memory) e is go = absurd (cc)
+borrow_shown P table index r s t v (Ok h) e is go =
+    let found = found_of (handle_at table index) r h e in
+    moved P (value_of_handle h) v s t is (go h found.0 found.1)
 
-borrow_shown : (table : Handles) (index : ℕ) (r : ResourceId) (s t : State) (v : Val) (looked : Result Handle HandleFault) → look_up table index r ≡ looked
-    → handle_value (handle_type.Borrow r) looked s ≡ Ok (v, t) → (h : HandleValue) × (handle h ≡ v) × ShowsHandle table index r h
-borrow_shown table index r s t v (Err handle_fault.NoHandle) e is = absurd (cc)
-borrow_shown table index r s t v (Err handle_fault.WrongResource) e is = absurd (cc)
-borrow_shown table index r s t v (Err handle_fault.StillLent) e is = absurd (cc)
-borrow_shown table index r s t v (Err handle_fault.NotOwned) e is = absurd (cc)
-borrow_shown table index r s t v (Err handle_fault.Full) e is = absurd (cc)
-borrow_shown table index r s t v (Err handle_fault.Memory) e is = absurd (cc)
-borrow_shown table index r s t v (Ok h) e is =
-    (record { serial = h.serial; rep = h.rep; resource = h.resource }, first_is (value_of_handle h) v s t is, handle_shown table index r h e)
+handle_is : (table : Handles) (index : ℕ) (r : ResourceId) (h : Handle) → handle_at table index ≡ Some h → h.resource ≡ r
+    → ShowsHandle table index r (as_handle h h.resource)
+handle_is table index r h stands of = record { entry = h; stands = stands; of_resource = of; value = shown_as h r of }
 
-own_read : (table : Handles) (index : ℕ) (r : ResourceId) (s t : State) (v : Val) → read_handle table (handle_type.Own r) index s ≡ Ok (v, t) → (h : HandleValue) × (handle h ≡ v) × ShowsOwned table index r h
+own_is : (table : Handles) (index : ℕ) (r : ResourceId) (h : Handle) → handle_at table index ≡ Some h → h.resource ≡ r → h.kind ≡ Owned
+    → ShowsOwned table index r (as_handle h h.resource)
+unfolding handle_is
+own_is table index r h stands of kind = record { handle = handle_is table index r h stands of; owned = kind }
+
+-- what is read as a handle, and what is met
+pub own_read : (P : Val → State → Type 0) (table : Handles) (index : ℕ) (r : ResourceId) (s t : State) (v : Val) → read_handle table (handle_type.Own r) index s ≡ Ok (v, t)
+    → ((h : HandleValue) → ShowsOwned table index r h → (after : State) → Meets table s after (taken index ∷ []) → P (handle h) after) → P v t
 unfolding read_handle
-own_read table index r s t v e = own_shown table index r (after_meeting s (handle_type.Own r) index) t v (look_up table index r) refl e
+own_read P table index r s t v e go =
+    own_shown P table index r (after_meeting s (handle_type.Own r) index) t v (look_up table index r) refl e (λ h stands of kind.
+    go _ (own_is table index r h stands of kind) (after_meeting s (handle_type.Own r) index) (meets_own table s r index h stands of kind))
 
-borrow_read : (table : Handles) (index : ℕ) (r : ResourceId) (s t : State) (v : Val) → read_handle table (handle_type.Borrow r) index s ≡ Ok (v, t) → (h : HandleValue) × (handle h ≡ v) × ShowsHandle table index r h
+pub borrow_read : (P : Val → State → Type 0) (table : Handles) (index : ℕ) (r : ResourceId) (s t : State) (v : Val) → read_handle table (handle_type.Borrow r) index s ≡ Ok (v, t)
+    → ((h : HandleValue) → ShowsHandle table index r h → (after : State) → Meets table s after (lent index ∷ []) → P (handle h) after) → P v t
 unfolding read_handle
-borrow_read table index r s t v e = borrow_shown table index r (after_meeting s (handle_type.Borrow r) index) t v (look_up table index r) refl e
+borrow_read P table index r s t v e go =
+    borrow_shown P table index r (after_meeting s (handle_type.Borrow r) index) t v (look_up table index r) refl e (λ h stands of.
+    go _ (handle_is table index r h stands of) (after_meeting s (handle_type.Borrow r) index) (meets_borrow table s r index h stands of))
 
 mutual
-  pub read_shows : (w : View) (t : Ty) (p : ℕ) (s after : State) (v : Val) → read_at (seen_by w) (shape_of_type t) p s ≡ Ok (v, after) → Shows w t p v
-  read_shows w bool p s after v e = subst (Shows w bool p) (first_is _ v s after e) refl
-  read_shows w (signed k) p s after v e = subst (Shows w (signed k) p) (first_is _ v s after e) refl
-  read_shows w (unsigned k) p s after v e = subst (Shows w (unsigned k) p) (first_is _ v s after e) refl
-  read_shows w char p s after v e = let c = char_ok (number_at 4 w.memory p) s after v e in subst (Shows w char p) c.0 (refl, c.1)
-  read_shows w string p s after v e = let t = text_shown w.memory w.encoding (number_at 4 w.memory p) (number_at 4 w.memory (p + 4)) s after v e in subst (Shows w string p) t.1 t.2
+  pub read_shows : (w : View) (t : Ty) (p : ℕ) (s after : State) (v : Val) → read_at (seen_by w) (shape_of_type t) p s ≡ Ok (v, after) → Told w t p s v after
+  read_shows w bool p s after v e = moved (Told w bool p s) _ v s after e (refl, meets_none w.table s)
+  read_shows w (signed k) p s after v e = moved (Told w (signed k) p s) _ v s after e (refl, meets_none w.table s)
+  read_shows w (unsigned k) p s after v e = moved (Told w (unsigned k) p s) _ v s after e (refl, meets_none w.table s)
+  read_shows w char p s after v e = char_ok (Told w char p s) (number_at 4 w.memory p) s after v e (λ is. ((refl, is), meets_none w.table s))
+  read_shows w string p s after v e =
+      text_shown (Told w string p s) w.memory w.encoding (number_at 4 w.memory p) (number_at 4 w.memory (p + 4)) s after v e
+      (λ cs shown room. (shown, string_told w.table s (text_size w.encoding (number_at 4 w.memory (p + 4))) room))
   read_shows w (list t) p s after v e =
       let r = mapped_ok elements (read_elements (read_at (seen_by w) (shape_of_type t)) w.memory (head_of t) (number_at 4 w.memory p) (number_at 4 w.memory (p + 4)) s) (v, after) e in
-      subst (Shows w (list t) p) r.2
-      (elements_shown (read_at (seen_by w) (shape_of_type t)) (Shows w t) (λ q a b u h. read_shows w t q a b u h) w.memory (head_of t) (number_at 4 w.memory p) (number_at 4 w.memory (p + 4)) s after r.0 r.1)
+      subst (λ u. Told w (list t) p s u after) r.2
+      (elements_shown (read_at (seen_by w) (shape_of_type t)) (Shows w t) w.table (met_at w t) (λ q a b u h. read_shows w t q a b u h) w.memory (head_of t) (number_at 4 w.memory p) (number_at 4 w.memory (p + 4)) s after r.0 r.1)
   read_shows w (fixed_list t n) p s after v e =
       let r = mapped_ok parts (read_each (read_at (seen_by w) (shape_of_type t)) (size_of t) n p s) (v, after) e in
-      subst (Shows w (fixed_list t n) p) r.2
-      (each_shown (read_at (seen_by w) (shape_of_type t)) (Shows w t) (λ q a b u h. read_shows w t q a b u h) (size_of t) n p s after r.0 r.1)
+      let each = each_shown (read_at (seen_by w) (shape_of_type t)) (Shows w t) w.table (met_at w t) (λ q a b u h. read_shows w t q a b u h) (size_of t) n p s after r.0 r.1 in
+      subst (λ u. Told w (fixed_list t n) p s u after) r.2 ((each.0, each.1), each.2)
   read_shows w (fields k fs) p s after v e =
       let r = mapped_ok parts (read_parts (seen_by w) (parts_from (parts_at fs 0)) p s) (v, after) e in
-      subst (Shows w (fields k fs) p) r.2 (fields_shown w fs p 0 s after r.0 r.1)
+      subst (λ u. Told w (fields k fs) p s u after) r.2 (fields_shown w fs p 0 s after r.0 r.1)
   read_shows w (cases k cs) p s after v e =
       let i = number_at (discriminant_size (case_count cs)) w.memory p in
-      case_shown w k cs cs p i refl i s after v (λ u h. h) (λ u h. h) e
-  read_shows w (flags ls) p s after v e = subst (Shows w (flags ls) p) (first_is _ v s after e) refl
-  read_shows w (own r) p s after v e = let h = own_read w.table (number_at 4 w.memory p) r s after v e in subst (Shows w (own r) p) h.1 h.2
-  read_shows w (borrow r) p s after v e = let h = borrow_read w.table (number_at 4 w.memory p) r s after v e in subst (Shows w (borrow r) p) h.1 h.2
+      case_shown w k cs cs p i refl i s after v (λ u h. h) (λ u h. h) (λ u. refl) e
+  read_shows w (flags ls) p s after v e = moved (Told w (flags ls) p s) _ v s after e (refl, meets_none w.table s)
+  read_shows w (own r) p s after v e = own_read (Told w (own r) p s) w.table (number_at 4 w.memory p) r s after v e (λ h shown a met. (shown, met))
+  read_shows w (borrow r) p s after v e = borrow_read (Told w (borrow r) p s) w.table (number_at 4 w.memory p) r s after v e (λ h shown a met. (shown, met))
 
-  fields_shown : (w : View) (fs : Fields) (p end : ℕ) (s after : State) (vs : Vals) → read_parts (seen_by w) (parts_from (parts_at fs end)) p s ≡ Ok (vs, after) → ShowFields w fs p end vs
-  fields_shown w no_fields p end s after vs e = subst (ShowFields w no_fields p end) (ok_first no_vals vs s after e) tt
+  fields_shown : (w : View) (fs : Fields) (p end : ℕ) (s after : State) (vs : Vals) → read_parts (seen_by w) (parts_from (parts_at fs end)) p s ≡ Ok (vs, after)
+      → ShowFields w fs p end vs × Meets w.table s after (met_in_fields w fs p end vs)
+  fields_shown w no_fields p end s after vs e = moved (λ us a. ShowFields w no_fields p end us × Meets w.table s a (met_in_fields w no_fields p end us)) no_vals vs s after e (tt, meets_none w.table s)
   fields_shown w (field l t fs) p end s after vs e =
       let at = p + align_to (align_of t) end in
-      let first = bind_ok (read_at (seen_by w) (shape_of_type t) at s) (λ r. mapped (λ us. val r.0 us) (read_parts (seen_by w) (parts_from (parts_at fs (align_to (align_of t) end + size_of t))) p r.1)) (vs, after) e in
-      let rest = mapped_ok (λ us. val first.0.0 us) (read_parts (seen_by w) (parts_from (parts_at fs (align_to (align_of t) end + size_of t))) p first.0.1) (vs, after) first.2 in
-      subst (ShowFields w (field l t fs) p end) rest.2
-      (read_shows w t at s first.0.1 first.0.0 first.1, fields_shown w fs p (align_to (align_of t) end + size_of t) first.0.1 after rest.0 rest.1)
+      let next = align_to (align_of t) end + size_of t in
+      let first = bind_ok (read_at (seen_by w) (shape_of_type t) at s) (λ r. mapped (λ us. val r.0 us) (read_parts (seen_by w) (parts_from (parts_at fs next)) p r.1)) (vs, after) e in
+      let rest = mapped_ok (λ us. val first.0.0 us) (read_parts (seen_by w) (parts_from (parts_at fs next)) p first.0.1) (vs, after) first.2 in
+      let here = read_shows w t at s first.0.1 first.0.0 first.1 in
+      let below = fields_shown w fs p next first.0.1 after rest.0 rest.1 in
+      subst (λ us. ShowFields w (field l t fs) p end us × Meets w.table s after (met_in_fields w (field l t fs) p end us)) rest.2
+      ((here.0, below.0), meets_both w.table s first.0.1 after (met_at w t at first.0.0) (met_in_fields w fs p next rest.0) here.1 below.1)
 
   -- of all cases those before the rest are left out
   case_shown : (w : View) (k : CasesKind) (all rest : Cases) (p i : ℕ) → number_at (discriminant_size (case_count all)) w.memory p ≡ i → (n : ℕ) (s after : State) (v : Val)
       → ((u : ℕ) → IsPlainCase rest n → IsPlainCase all i) → ((u : Val) → ShowsPayload w rest (p + payload_offset all) n u → ShowsPayload w all (p + payload_offset all) i u)
-      → read_case (seen_by w) (payloads_from (payloads_of rest)) i n (p + payload_offset all) s ≡ Ok (v, after) → Shows w (cases k all) p v
-  case_shown w k all no_cases p i is n s after v bare_is bearing_is e = absurd (cc)
-  case_shown w k all (plain l cs) p i is zero s after v bare_is bearing_is e = subst (Shows w (cases k all) p) (first_is (bare i) v s after e) (is, bare_is 0 tt)
-  case_shown w k all (plain l cs) p i is (suc n) s after v bare_is bearing_is e = case_shown w k all cs p i is n s after v bare_is bearing_is e
-  case_shown w k all (carrying l t cs) p i is zero s after v bare_is bearing_is e =
+      → ((u : Val) → met_in_payload w rest (p + payload_offset all) n u ≡ met_in_payload w all (p + payload_offset all) i u)
+      → read_case (seen_by w) (payloads_from (payloads_of rest)) i n (p + payload_offset all) s ≡ Ok (v, after) → Told w (cases k all) p s v after
+  case_shown w k all no_cases p i is n s after v bare_is bearing_is met_is e = absurd (cc)
+  case_shown w k all (plain l cs) p i is zero s after v bare_is bearing_is met_is e = moved (Told w (cases k all) p s) (bare i) v s after e ((is, bare_is 0 tt), meets_none w.table s)
+  case_shown w k all (plain l cs) p i is (suc n) s after v bare_is bearing_is met_is e = case_shown w k all cs p i is n s after v bare_is bearing_is met_is e
+  case_shown w k all (carrying l t cs) p i is zero s after v bare_is bearing_is met_is e =
       let r = mapped_ok (λ u. bearing i u) (read_at (seen_by w) (shape_of_type t) (p + payload_offset all) s) (v, after) e in
-      subst (Shows w (cases k all) p) r.2 (is, bearing_is r.0 (read_shows w t (p + payload_offset all) s after r.0 r.1))
-  case_shown w k all (carrying l t cs) p i is (suc n) s after v bare_is bearing_is e = case_shown w k all cs p i is n s after v bare_is bearing_is e
+      let here = read_shows w t (p + payload_offset all) s after r.0 r.1 in
+      subst (λ u. Told w (cases k all) p s u after) r.2 ((is, bearing_is r.0 here.0), subst (Meets w.table s after) (met_is r.0) here.1)
+  case_shown w k all (carrying l t cs) p i is (suc n) s after v bare_is bearing_is met_is e = case_shown w k all cs p i is n s after v bare_is bearing_is met_is e

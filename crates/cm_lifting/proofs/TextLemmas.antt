@@ -23,7 +23,7 @@ use Rattle.cm_lifting.specs.Decoded.{decoded, if_text, unpaired}
 use Rattle.cm_lifting.specs.Outcomes.{State, Stops}
 use Rattle.cm_lifting.specs.Reading.{text_value}
 use Rattle.cm_lifting.specs.TextReads.{StopsAtText}
-use Rattle.cm_lifting.proofs.ShownLaws.{ok_first}
+use Rattle.cm_lifting.proofs.ShownLaws.{moved}
 
 to_all : (cs : List ℕ) → all_scalars cs ≡ true → AllByRecursion IsScalar cs
 to_all [] is = tt
@@ -180,6 +180,6 @@ text_is latin1 bytes cs e =
     let picked = chosen (list_all (λ b. nat_lt b 0x100) bytes) bytes cs e in
     subst (λ ds. IsText HasLatin1 spell_latin1 ds bytes) picked.1 (record { all = bytes_all bytes picked.0; is = same_bytes bytes })
 
-pub text_found : (d : Option (List ℕ)) (s t : State) (v : Val) → text_value d s ≡ Ok (v, t) → (cs : List ℕ) × (d ≡ Some cs) × (text cs ≡ v)
-text_found None s t v e = absurd (cc)
-text_found (Some cs) s t v e = (cs, refl, ok_first (text cs) v s t e)
+pub text_found : (P : Val → State → Type 0) (d : Option (List ℕ)) (s t : State) (v : Val) → text_value d s ≡ Ok (v, t) → ((cs : List ℕ) → d ≡ Some cs → P (text cs) s) → P v t
+text_found P None s t v e h = absurd (cc)
+text_found P (Some cs) s t v e h = moved P (text cs) v s t e (h cs refl)

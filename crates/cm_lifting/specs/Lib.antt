@@ -1,4 +1,5 @@
 pub mod Decoded
+pub mod Meeting
 pub mod Outcomes
 pub mod Reading
 pub mod Sized

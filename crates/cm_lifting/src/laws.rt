@@ -1,16 +1,30 @@
 //! What reading means, as laws: each function here does nothing, and its contract is the law.
 
-ghost use Rattle.std.specs.Prelude.{◌≡◌, Ok, ℕ};
+ghost use Rattle.std.specs.Prelude.{◌≡◌, ◌≤◌, Ok, ℕ};
 ghost use Rattle.cm_types.specs.Types.{Ty};
 ghost use Rattle.cm_types.specs.Values.{Val};
 ghost use Rattle.cm_layout.specs.Shapes.{shape_of_type};
 ghost use Rattle.cm_abi_model.specs.Shows.{Shows};
+ghost use Rattle.cm_abi_model.specs.Taken.{content_of, met_at};
 ghost use Rattle.cm_abi_model.specs.Views.{View};
+ghost use Rattle.cm_lifting.specs.Meeting.{Meets};
 ghost use Rattle.cm_lifting.specs.Outcomes.{State};
 ghost use Rattle.cm_lifting.specs.Reading.{read_at, seen_by};
 
-/// What is read at an address is what the bytes there show.
+/// What is read at an address is what the bytes there show; its bytes were taken from those that
+/// may still come, and its handles were met in reading order, each one as wanted.
 pub fn what_is_read_is_shown()
-    ensures { (w : View) (t : Ty) (p : ℕ) (s after : State) (v : Val)
+    ensures shown { (w : View) (t : Ty) (p : ℕ) (s after : State) (v : Val)
         → read_at (seen_by w) (shape_of_type t) p s ≡ Ok (v, after) → Shows w t p v }
+    ensures met { (w : View) (t : Ty) (p : ℕ) (s after : State) (v : Val)
+        → read_at (seen_by w) (shape_of_type t) p s ≡ Ok (v, after)
+        → Meets w.table s after (met_at w t p v) }
+{}
+
+/// Bytes that show a value whose content is within what may still come are read as that value. So
+/// a fault is met only where no value is shown, or where one has more content.
+pub fn what_is_shown_is_read()
+    ensures { (w : View) (t : Ty) (p : ℕ) (s : State) (v : Val)
+        → Shows w t p v → content_of (met_at w t p v) ≤ s.left
+        → (after : State) × (read_at (seen_by w) (shape_of_type t) p s ≡ Ok (v, after)) }
 {}

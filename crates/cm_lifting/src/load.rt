@@ -1,12 +1,18 @@
 //! The value that bytes at an address are.
 
-ghost use Rattle.std.specs.Prelude.{◌≡◌, ◌+◌, ◌^◌, ◌<◌, ◌≤◌, ◌⊎◌, Err, IfErr, IfOk, Ok, length};
+ghost use Rattle.std.specs.Prelude.{◌≡◌, ◌+◌, ◌^◌, ◌<◌, ◌≤◌, ◌⊎◌, Err, IfErr, IfOk, IsOkUnless};
+ghost use Rattle.std.specs.Prelude.{Ok, length};
 ghost use Rattle.cm_types.specs.Types.{Ty};
+ghost use Rattle.cm_types.specs.Values.{Val};
 ghost use Rattle.cm_layout.specs.Layouts.{layout_of};
 ghost use Rattle.cm_layout.specs.Shapes.{layout_at};
 ghost use Rattle.cm_values.specs.ValueTrees.{value_of};
+ghost use Rattle.cm_abi_model.specs.Shows.{Shows};
+ghost use Rattle.cm_abi_model.specs.Taken.{content_of, met_at};
+ghost use Rattle.cm_abi_model.specs.Views.{View};
+ghost use Rattle.cm_lifting.specs.Meeting.{Meets};
 ghost use Rattle.cm_lifting.specs.Outcomes.{state_of};
-ghost use Rattle.cm_lifting.specs.Reading.{read_at, source_of};
+ghost use Rattle.cm_lifting.specs.Reading.{read_at, seen_by, source_of};
 
 use crate::giver::Giver;
 use crate::loading::load;
@@ -38,6 +44,15 @@ pub fn load_value(
     ensures ok { IfOk result (λ v.
         read_at (source_of giver.now) (layout_of layout.now).shape at (state_of progress.old)
         ≡ Ok (value_of v, state_of progress.new)) }
+    ensures shown { (w : View) (t : Ty) → seen_by w ≡ source_of giver.now
+        → layout_of layout.now ≡ layout_at t
+        → IfOk result (λ v. Shows w t at (value_of v)
+        × Meets w.table (state_of progress.old) (state_of progress.new)
+        (met_at w t at (value_of v))) }
+    ensures only { (w : View) (t : Ty) (v : Val) → seen_by w ≡ source_of giver.now
+        → layout_of layout.now ≡ layout_at t
+        → Shows w t at v → content_of (met_at w t at v) ≤ progress.old.left
+        → IsOkUnless result AbiFault.EngineMemory }
     ensures err { IfErr result (λ e. (e ≡ AbiFault.EngineMemory)
         ⊎ (read_at (source_of giver.now) (layout_of layout.now).shape at (state_of progress.old)
         ≡ Err (e, state_of progress.new))) }
