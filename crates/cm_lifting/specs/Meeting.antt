@@ -1,5 +1,5 @@
--- What a reader meets on its way: so many bytes of strings and lists, and handles (what of it is told
--- is this project's own choice).
+-- What a reader meets on its way: so many bytes of strings and lists, and handles (what of it is
+-- told is this project's own choice).
 use Rattle.std.specs.Prelude.{◌≡◌, ℕ, ◌+◌, ⊤, List, [], ◌∷◌, ◌++◌, map, Some}
 use Rattle.cm_handles.specs.Handles.{Handles, handle_at}
 use Rattle.cm_handles.specs.declared.handle.Handle.{Handle}
