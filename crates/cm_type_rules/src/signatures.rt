@@ -14,8 +14,8 @@ use cm_validity::TypeSort;
 use cm_validity::laws::least_of_both;
 use std::alloc::{AllocError, Global};
 
-/// What the types break that a function uses, after types of these sorts: `NoSuchIndex` where one of
-/// them is not there, else `WrongSort` where one is no value type.
+/// What the types break that a function uses, after types of these sorts: `NoSuchIndex` where one
+/// of them is not there, else `WrongSort` where one is no value type.
 pub fn uses_fault(sorts: &[TypeSort], func: &FuncType) -> Option<ValidReason>
     ensures { result ≡ least (uses_broken sorts.now (func_type_tree func.now)) }
 {
