@@ -12,10 +12,13 @@ use Rattle.cm_types.specs.Signatures.{ItemTy, NamedItem, func_item, equal_type, 
 use Rattle.cm_types.specs.Signatures.{fresh_resource}
 use Rattle.cm_validate.specs.declared.fault.ValidReason.{ValidReason}
 use Rattle.cm_validity.specs.Definitions.{TypeDef, value, func_type, resource, faulty, InstanceTy}
+use Rattle.cm_validity.specs.Definitions.{sorts_of}
+use Rattle.cm_validity.specs.declared.sorts.TypeSort.{TypeSort}
+use Rattle.cm_validity.specs.declared.sorts.TypeSort.TheVariants as sort
 use Rattle.cm_validity.specs.ItemNames.{item_names_broken}
 use Rattle.cm_validity.specs.Reasons.{found, index_broken}
 use Rattle.cm_validity.specs.Scopes.{resource_id, value_def_of, func_def_of}
-use Rattle.cm_validity.specs.TypeRules.{value_def_broken, func_def_broken, is_func_type}
+use Rattle.cm_validity.specs.TypeRules.{value_def_broken, func_def_broken, has_sort}
 use Rattle.cm_validity.specs.TypeRules.{is_value_or_resource}
 
 -- what a declaration sees: the types that were declared before it, those of the component around,
@@ -114,16 +117,16 @@ declared_type_broken types (declared_func f) = func_def_broken types f
 
 -- an export names the type of a function; a type that an export is equal to is a value type or a
 -- resource
-abbrev pub export_desc_broken : List TypeDef → ExportDesc → List ValidReason
-export_desc_broken types (desc.Func i) = index_broken is_func_type types i
-export_desc_broken types (desc.Type (bound.Equal i)) = index_broken is_value_or_resource types i
-export_desc_broken types (desc.Type bound.SubResource) = []
+abbrev pub export_desc_broken : List TypeSort → ExportDesc → List ValidReason
+export_desc_broken sorts (desc.Func i) = index_broken (has_sort sort.Func) sorts i
+export_desc_broken sorts (desc.Type (bound.Equal i)) = index_broken is_value_or_resource sorts i
+export_desc_broken sorts (desc.Type bound.SubResource) = []
 
 abbrev pub declaration_broken : Scope → DeclarationTree → List ValidReason
 declaration_broken s (type_decl t) = declared_type_broken s.types t
 declaration_broken s (outer_type_decl o) =
     found (λ t. []) (outer_type_of s o.count o.index)
-declaration_broken s (export_decl e) = export_desc_broken s.types e.desc
+declaration_broken s (export_decl e) = export_desc_broken (sorts_of s.types) e.desc
 
 abbrev pub declarations_broken : Scope → List DeclarationTree → List ValidReason
 declarations_broken s [] = []

@@ -1,8 +1,10 @@
 -- What an index of a component stands for (Explainer.md, "Index Spaces").
-use Rattle.std.specs.Prelude.{ℕ, List, Option}
+use Rattle.std.specs.Prelude.{ℕ, List, Option, map}
 use Rattle.cm_types.specs.Types.{Ty, FuncTy}
 use Rattle.cm_types.specs.Signatures.{NamedItem}
 use Rattle.cm_component.specs.declared.canons.CanonOption.{CanonOption}
+use Rattle.cm_validity.specs.declared.sorts.TypeSort.{TypeSort}
+use Rattle.cm_validity.specs.declared.sorts.TypeSort.TheVariants as sort
 
 -- ---- types
 
@@ -22,6 +24,17 @@ pub data TypeDef : Type 0 where
   resource : ℕ → TypeDef
   instance_type : InstanceTy → TypeDef
   faulty : TypeDef
+
+-- the sort of a type, and those of types
+abbrev pub sort_of : TypeDef → TypeSort
+sort_of (value t) = sort.Value
+sort_of (func_type f) = sort.Func
+sort_of (resource n) = sort.Resource
+sort_of (instance_type i) = sort.Instance
+sort_of faulty = sort.Faulty
+
+abbrev pub sorts_of : List TypeDef → List TypeSort
+sorts_of types = map sort_of types
 
 -- a resource: one that the component defines, with its destructor, if it has one; or one that an
 -- item of an imported instance brings, by the numbers of import and item

@@ -31,14 +31,15 @@ use Rattle.cm_validate.specs.declared.fault.ValidReason.TheVariants as reason
 use Rattle.cm_validity.specs.Items.{Item, core_module_item, core_instance_item, instance_item}
 use Rattle.cm_validity.specs.Items.{alias_item, type_item, canon_item, import_item, export_item}
 use Rattle.cm_validity.specs.Definitions.{ResourceDef, defined, brought, core_func, table, memory}
-use Rattle.cm_validity.specs.Definitions.{global}
+use Rattle.cm_validity.specs.Definitions.{global, sorts_of}
 use Rattle.cm_validity.specs.Definitions.{FuncDef, lifted, imported, func_type_of, CoreDef}
 use Rattle.cm_validity.specs.Definitions.{MemberDef}
 use Rattle.cm_validity.specs.Definitions.{type_member, func_member}
 use Rattle.cm_validity.specs.Reasons.{unless, found, if_found, index_broken, bare_index_broken}
-use Rattle.cm_validity.specs.TypeRules.{value_def_broken, func_def_broken, is_func_type}
-use Rattle.cm_validity.specs.TypeRules.{is_resource}
-use Rattle.cm_validity.specs.TypeRules.{is_instance_type, is_value_or_resource}
+use Rattle.cm_validity.specs.TypeRules.{value_def_broken, func_def_broken, has_sort}
+use Rattle.cm_validity.specs.TypeRules.{is_value_or_resource}
+use Rattle.cm_validity.specs.declared.sorts.TypeSort.{TypeSort}
+use Rattle.cm_validity.specs.declared.sorts.TypeSort.TheVariants as sort
 use Rattle.cm_validity.specs.ItemNames.{item_names_broken, is_label_name, is_instance_name}
 use Rattle.cm_validity.specs.Spaces.{Spaces, core_def_at, aliased_core, aliased_member}
 use Rattle.cm_validity.specs.Spaces.{items_of_members, named_member, func_ty_in, next_resource}
@@ -46,6 +47,10 @@ use Rattle.cm_validity.specs.Declarations.{instance_def_broken}
 use Rattle.cm_validity.specs.Scopes.{resource_in}
 use Rattle.cm_validity.specs.Options.{guest_broken, options_broken, no_post_return_broken}
 use Rattle.cm_validity.specs.Options.{lift_type_broken, lower_type_broken}
+
+-- an index of a type that has to be of a sort
+abbrev pub type_index_broken : Spaces → (TypeSort → Bool) → ℕ → List ValidReason
+type_index_broken s test i = index_broken test (sorts_of s.types) i
 
 -- ---- core instances
 
@@ -77,7 +82,7 @@ core_instance_broken s (core_exports es) =
 -- a member is a function, a value type or a resource
 abbrev pub member_of_sort_broken : Spaces → InstanceExportSort → ℕ → List ValidReason
 member_of_sort_broken s member_sort.Func i = bare_index_broken s.funcs i
-member_of_sort_broken s member_sort.Type i = index_broken is_value_or_resource s.types i
+member_of_sort_broken s member_sort.Type i = type_index_broken s is_value_or_resource i
 
 abbrev pub member_broken : Spaces → InlineExport → List ValidReason
 member_broken s e = member_of_sort_broken s e.sort e.index
@@ -139,7 +144,7 @@ own_resource_broken s n =
     if_found (λ r. unless (is_defined r) reason.NotOwnResource) (slice_get s.resources n)
 
 abbrev pub resource_broken : Spaces → ℕ → List ValidReason
-resource_broken s i = index_broken is_resource s.types i
+resource_broken s i = type_index_broken s (has_sort sort.Resource) i
 
 abbrev pub resource_at : Spaces → ℕ → Option ℕ
 resource_at s i = option_and_then resource_in (slice_get s.types i)
@@ -154,7 +159,7 @@ lowered_broken options f =
 abbrev pub canon_broken : Spaces → CanonTree → List ValidReason
 canon_broken s (lift f options ty) =
     guest_broken s.core_funcs f
-    ++ index_broken is_func_type s.types ty
+    ++ type_index_broken s (has_sort sort.Func) ty
     ++ options_broken s options
     ++ if_found (lift_type_broken options) (func_ty_at s ty)
 canon_broken s (lower f options) =
@@ -181,9 +186,10 @@ abbrev pub instance_name_broken : List ℕ → List ValidReason
 instance_name_broken name = unless (is_instance_name name) reason.BadAnnotatedName
 
 abbrev pub desc_broken : Spaces → List ℕ → ExternDesc → List ValidReason
-desc_broken s name (desc.Func i) = index_broken is_func_type s.types i ++ func_name_broken name
+desc_broken s name (desc.Func i) =
+    type_index_broken s (has_sort sort.Func) i ++ func_name_broken name
 desc_broken s name (desc.Instance i) =
-    index_broken is_instance_type s.types i ++ instance_name_broken name
+    type_index_broken s (has_sort sort.Instance) i ++ instance_name_broken name
 
 abbrev pub import_broken : Spaces → Import → List ValidReason
 import_broken s i = desc_broken s i.name i.desc ++ name_broken i.name (map (λ x. x.name) s.imports)

@@ -16,32 +16,27 @@ use Rattle.cm_types.specs.Names.{is_same_name}
 use Rattle.cm_types.specs.Types.{Ty, FuncTy, fields, tuple_type}
 use Rattle.cm_validate.specs.declared.fault.ValidReason.{ValidReason}
 use Rattle.cm_validate.specs.declared.fault.ValidReason.TheVariants as reason
-use Rattle.cm_validity.specs.Definitions.{TypeDef, value, func_type, resource, instance_type}
+use Rattle.cm_validity.specs.Definitions.{TypeDef, sorts_of}
+use Rattle.cm_validity.specs.declared.sorts.TypeSort.{TypeSort}
+use Rattle.cm_validity.specs.declared.sorts.TypeSort.TheVariants as sort
 use Rattle.cm_validity.specs.Reasons.{unless, if_found, index_broken}
 use Rattle.cm_validity.specs.Scopes.{value_defined, func_defined}
 
 -- ---- the sorts of types
 
-abbrev pub is_value : TypeDef → Bool
-is_value (value t) = true
-is_value _ = false
-
-abbrev pub is_func_type : TypeDef → Bool
-is_func_type (func_type f) = true
-is_func_type _ = false
-
-abbrev pub is_resource : TypeDef → Bool
-is_resource (resource n) = true
-is_resource _ = false
-
-abbrev pub is_instance_type : TypeDef → Bool
-is_instance_type (instance_type i) = true
-is_instance_type _ = false
+-- whether a type is of this sort
+abbrev pub has_sort : TypeSort → TypeSort → Bool
+has_sort sort.Value sort.Value = true
+has_sort sort.Func sort.Func = true
+has_sort sort.Resource sort.Resource = true
+has_sort sort.Instance sort.Instance = true
+has_sort sort.Faulty sort.Faulty = true
+has_sort _ _ = false
 
 -- a type equality and an inline export name a value type or a resource
-abbrev pub is_value_or_resource : TypeDef → Bool
-is_value_or_resource (value t) = true
-is_value_or_resource (resource n) = true
+abbrev pub is_value_or_resource : TypeSort → Bool
+is_value_or_resource sort.Value = true
+is_value_or_resource sort.Resource = true
 is_value_or_resource _ = false
 
 -- ---- words
@@ -61,13 +56,13 @@ is_within_limits t = nat_le (nodes_of t) MAX_NODES && nat_le (depth_of t) MAX_DE
 -- ---- value types
 
 -- a value type where it is used: an index names a value type
-abbrev pub value_broken : List TypeDef → ValType → List ValidReason
-value_broken types (val_type.Primitive p) = []
-value_broken types (val_type.Index i) = index_broken is_value types i
+abbrev pub value_broken : List TypeSort → ValType → List ValidReason
+value_broken sorts (val_type.Primitive p) = []
+value_broken sorts (val_type.Index i) = index_broken (has_sort sort.Value) sorts i
 
-abbrev pub payload_broken : List TypeDef → Option ValType → List ValidReason
-payload_broken types None = []
-payload_broken types (Some t) = value_broken types t
+abbrev pub payload_broken : List TypeSort → Option ValType → List ValidReason
+payload_broken sorts None = []
+payload_broken sorts (Some t) = value_broken sorts t
 
 -- the labels of one type or parameter list
 abbrev pub labels_broken : List (List ℕ) → List ValidReason
@@ -77,37 +72,38 @@ labels_broken labels = unless (are_distinct_names labels) reason.DuplicateName
 abbrev pub emptiness_broken : {A : Type 0} → List A → List ValidReason
 emptiness_broken xs = unless (is_not_empty xs) reason.EmptyType
 
--- the parts of a definition
-abbrev pub parts_broken : List TypeDef → DefValTypeTree → List ValidReason
-parts_broken types (primitive p) = []
-parts_broken types (record_of fs) =
-    flat_map (λ f. value_broken types f.ty) fs
+-- the parts of a definition, after types of these sorts
+abbrev pub parts_broken : List TypeSort → DefValTypeTree → List ValidReason
+parts_broken sorts (primitive p) = []
+parts_broken sorts (record_of fs) =
+    flat_map (λ f. value_broken sorts f.ty) fs
     ++ emptiness_broken fs
     ++ labels_broken (map (λ f. f.label) fs)
-parts_broken types (variant_of cs) =
-    flat_map (λ c. payload_broken types c.payload) cs
+parts_broken sorts (variant_of cs) =
+    flat_map (λ c. payload_broken sorts c.payload) cs
     ++ emptiness_broken cs
     ++ labels_broken (map (λ c. c.label) cs)
-parts_broken types (list_of t) = value_broken types t
-parts_broken types (fixed_list_of t n) =
-    value_broken types t ++ unless (nat_lt 0 n) reason.EmptyType
-parts_broken types (tuple_of ts) = flat_map (value_broken types) ts ++ emptiness_broken ts
-parts_broken types (flags_of ls) =
+parts_broken sorts (list_of t) = value_broken sorts t
+parts_broken sorts (fixed_list_of t n) =
+    value_broken sorts t ++ unless (nat_lt 0 n) reason.EmptyType
+parts_broken sorts (tuple_of ts) = flat_map (value_broken sorts) ts ++ emptiness_broken ts
+parts_broken sorts (flags_of ls) =
     emptiness_broken ls
     ++ unless (nat_le (length ls) MAX_FLAGS) reason.TooManyFlags
     ++ labels_broken ls
-parts_broken types (enum_of ls) = emptiness_broken ls ++ labels_broken ls
-parts_broken types (option_of t) = value_broken types t
-parts_broken types (result_of ok error) = payload_broken types ok ++ payload_broken types error
-parts_broken types (own_of i) = index_broken is_resource types i
-parts_broken types (borrow_of i) = index_broken is_resource types i
+parts_broken sorts (enum_of ls) = emptiness_broken ls ++ labels_broken ls
+parts_broken sorts (option_of t) = value_broken sorts t
+parts_broken sorts (result_of ok error) = payload_broken sorts ok ++ payload_broken sorts error
+parts_broken sorts (own_of i) = index_broken (has_sort sort.Resource) sorts i
+parts_broken sorts (borrow_of i) = index_broken (has_sort sort.Resource) sorts i
 
 abbrev pub limits_broken : Ty → List ValidReason
 limits_broken t = unless (is_within_limits t) reason.TooLarge
 
 -- a definition of a value type
 abbrev pub value_def_broken : List TypeDef → DefValTypeTree → List ValidReason
-value_def_broken types v = parts_broken types v ++ if_found limits_broken (value_defined types v)
+value_def_broken types v =
+    parts_broken (sorts_of types) v ++ if_found limits_broken (value_defined types v)
 
 -- ---- functions
 
@@ -121,10 +117,17 @@ func_ty_broken f =
     limits_broken (fields tuple_type f.params)
     ++ if_found (λ t. no_borrow_broken t ++ limits_broken t) f.result
 
+-- the types that a function uses, after types of these sorts, and the labels of its parameters
+abbrev pub uses_broken : List TypeSort → FuncTypeTree → List ValidReason
+uses_broken sorts f =
+    flat_map (λ p. value_broken sorts p.ty) f.params ++ payload_broken sorts f.result
+
+abbrev pub params_broken : FuncTypeTree → List ValidReason
+params_broken f = labels_broken (map (λ p. p.label) f.params)
+
 -- a definition of the type of a function
 abbrev pub func_def_broken : List TypeDef → FuncTypeTree → List ValidReason
 func_def_broken types f =
-    flat_map (λ p. value_broken types p.ty) f.params
-    ++ payload_broken types f.result
-    ++ labels_broken (map (λ p. p.label) f.params)
+    uses_broken (sorts_of types) f
+    ++ params_broken f
     ++ if_found func_ty_broken (func_defined types f)

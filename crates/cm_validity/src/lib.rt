@@ -4,3 +4,6 @@
 #![tactic(auto)]
 
 pub mod laws;
+mod sorts;
+
+pub use sorts::TypeSort;

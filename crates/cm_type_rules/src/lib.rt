@@ -1,0 +1,12 @@
+//! What a definition of a type breaks by its own words and by the sorts of the types before it; its
+//! limits aside.
+#![tactic(auto)]
+
+mod labels;
+mod parts;
+mod reasons;
+mod signatures;
+
+pub use parts::{parts_fault, payload_fault, value_fault};
+pub use reasons::{broken_unless, index_fault, lesser};
+pub use signatures::{params_fault, uses_fault};

@@ -1,0 +1,4 @@
+pub mod ExpandLaws
+pub mod SpellLaws
+pub mod LimitLaws
+pub mod ScopeLaws

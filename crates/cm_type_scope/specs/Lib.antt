@@ -1,0 +1,3 @@
+pub mod Expansion
+pub mod Entries
+pub mod TypeScopes

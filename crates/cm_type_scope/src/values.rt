@@ -1,0 +1,99 @@
+//! Definitions of value types.
+
+use crate::entries::TypeEntry;
+use crate::scope::TypeScope;
+use cm_type_arena::{DefFault, TypeDef};
+use cm_type_rules::parts_fault;
+use cm_types::DefValType;
+use cm_validate::ValidReason;
+use cm_validity::laws::least_of_both;
+use std::alloc::{AllocError, Global};
+
+impl TypeScope {
+    ghost use Rattle.std.specs.Prelude.{◌≡◌, ◌++◌, ◌∷◌, [], IfOk, IsErrOf, MatchOption, OnErr};
+    ghost use Rattle.std.specs.Prelude.{OnOk, length, true};
+    ghost use Rattle.cm_types.specs.DefTypes.{def_val_type_tree};
+    ghost use Rattle.cm_types.specs.Limits.{IsWithinLimits};
+    ghost use Rattle.cm_types.specs.Spellable.{is_spellable};
+    ghost use Rattle.cm_type_arena.specs.Places.{HasParts};
+    ghost use Rattle.cm_type_arena.specs.TypeDefs.{def_type};
+    ghost use Rattle.cm_type_arena.specs.declared.types.DefFault.TheVariants as def_fault;
+    ghost use Rattle.cm_validity.specs.Definitions.{value};
+    ghost use Rattle.cm_validity.specs.Reasons.{least};
+    ghost use Rattle.cm_validity.specs.Scopes.{value_def_of};
+    ghost use Rattle.cm_validity.specs.TypeRules.{limits_broken, value_def_broken};
+    ghost use Rattle.cm_type_scope.specs.TypeScopes.{arena_funcs, arena_types, own_types};
+    ghost use Rattle.cm_type_scope.specs.TypeScopes.{types_around};
+
+    /// Adds a type to the arena alone, and answers its place.
+    fn push_type(&mut self, alloc: Global, def: TypeDef) -> Result<usize, DefFault>
+        requires parts { HasParts (length (arena_types self.old)) def }
+        requires spellable { is_spellable (def_type (arena_types self.old) def) ≡ true }
+        ensures place { IfOk result (λ place. place ≡ length (arena_types self.old)) }
+        ensures pushed { OnOk result (arena_types self.new
+            ≡ arena_types self.old ++ def_type (arena_types self.old) def ∷ []) }
+        ensures within { OnOk result (IsWithinLimits (def_type (arena_types self.old) def)) }
+        ensures too_large { IsErrOf result def_fault.TooLarge
+            → ¬ (IsWithinLimits (def_type (arena_types self.old) def)) }
+        ensures spelled { ¬ (IsErrOf result def_fault.NotSpellable) }
+        ensures funcs { arena_funcs self.new ≡ arena_funcs self.old }
+        ensures own { own_types self.new ≡ own_types self.old }
+        ensures around { types_around self.new ≡ types_around self.old }
+    {
+        self.types.push(alloc, def)
+    }
+
+    /// Adds a value type to the arena and to the types of its own, unless it is over the limits.
+    fn add_value(&mut self, alloc: Global, def: TypeDef) -> Result<Option<ValidReason>, AllocError>
+        requires parts { HasParts (length (arena_types self.old)) def }
+        requires spellable { is_spellable (def_type (arena_types self.old) def) ≡ true }
+        ensures fault { IfOk result (λ r.
+            r ≡ least (limits_broken (def_type (arena_types self.old) def))) }
+        ensures added { IfOk result (λ r. MatchOption r
+            (own_types self.new
+            ≡ own_types self.old ++ value (def_type (arena_types self.old) def) ∷ [])
+            (λ _. own_types self.new ≡ own_types self.old)) }
+        ensures kept { OnErr result (own_types self.new ≡ own_types self.old) }
+        ensures around { types_around self.new ≡ types_around self.old }
+    {
+        let place = match self.push_type(alloc, def) {
+            Ok(place) => place,
+            Err(DefFault::TooLarge) => return Ok(Some(ValidReason::TooLarge)),
+            Err(DefFault::NotSpellable) => unreachable!(),
+            Err(DefFault::Memory) => return Err(AllocError),
+        };
+        self.add(TypeEntry::Value(place))?;
+        Ok(None)
+    }
+
+    /// Adds a value type as a definition says it, and answers none; or the least reason that the
+    /// definition breaks, and then adds nothing. What it names by index are types of this scope's
+    /// own. It costs the definition's own length and a look-up for each of its labels: nothing
+    /// below a part is walked.
+    ///
+    /// `AllocError` comes where there is no memory, and where a handle is of a resource with a
+    /// number past 4,294,967,295; its own types are then as they were.
+    pub fn define_value(
+        &mut self,
+        alloc: Global,
+        def: &DefValType,
+    ) -> Result<Option<ValidReason>, AllocError>
+        ensures fault { IfOk result (λ r.
+            r ≡ least (value_def_broken (own_types self.old) (def_val_type_tree def.now))) }
+        ensures defined { IfOk result (λ r. MatchOption r
+            (own_types self.new ≡ own_types self.old
+            ++ value_def_of (own_types self.old) (def_val_type_tree def.now) ∷ [])
+            (λ _. own_types self.new ≡ own_types self.old)) }
+        ensures kept { OnErr result (own_types self.new ≡ own_types self.old) }
+        ensures around { types_around self.new ≡ types_around self.old }
+    {
+        least_of_both();
+        match parts_fault(alloc, self.sorts(), def)? {
+            Some(fault) => Ok(Some(fault)),
+            None => {
+                let placed = self.arena_def(alloc, def)?;
+                self.add_value(alloc, placed)
+            }
+        }
+    }
+}
