@@ -6,8 +6,8 @@ use Rattle.cm_binary.proofs.OneAnswer.{one_answer}
 use Rattle.std.proofs.lemmas.List.{length-append, get_or_past, take_more, flat_map_more}
 use Rattle.std.specs.List.{flat_map}
 use Rattle.cm_grammar.proofs.Tools.{IsBytes, IsBytes-after}
-use Rattle.cm_reading.specs.declared.fault.DecodeFault.{DecodeFault}
-use Rattle.cm_reading.specs.declared.fault.DecodeReason.TheVariants.{Memory, Read}
+use Rattle.cm_reading_codes.specs.declared.fault.DecodeFault.{DecodeFault}
+use Rattle.cm_reading_codes.specs.declared.fault.DecodeReason.TheVariants.{Memory, Read}
 use Rattle.cm_binary.specs.Answers.{IsAnswer}
 use Rattle.cm_pieces.specs.After.{Held, Answer, nothing, After, Follows, IsSettled}
 use Rattle.cm_pieces.specs.Streams.{FailsBehind}

@@ -1,13 +1,13 @@
 //! Pieces that are gathered before they are fed.
 
 ghost use Rattle.std.specs.Prelude.{◌≡◌, ◌⊎◌, ◌↔◌, ℕ, ◌++◌, List, [], IsTrue, OnOk, IfErr, None};
-ghost use Rattle.cm_reading.specs.declared.fault.DecodeReason.TheVariants as reasons;
+ghost use Rattle.cm_reading_codes.specs.declared.fault.DecodeReason.TheVariants as reasons;
 ghost use Rattle.cm_binary.specs.Answers.{AreBytes};
 ghost use Rattle.cm_pieces.specs.Pieces.{HasCome, IsOpen, StaysFault, Decodes};
 
 use crate::decoder::Decoder;
 use cm_component::Component;
-use cm_reading::{DecodeFault, DecodeReason};
+use cm_reading_codes::{DecodeFault, DecodeReason};
 use std::alloc::Global;
 
 /// A decoder with bytes that it was not fed yet. It is fed where these are as many as it keeps

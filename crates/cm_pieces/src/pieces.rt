@@ -5,7 +5,7 @@ ghost use Rattle.cm_pieces.specs.Pieces.{Decodes};
 
 use crate::gathered::Gathered;
 use cm_component::Component;
-use cm_reading::DecodeFault;
+use cm_reading_codes::DecodeFault;
 use std::alloc::Global;
 
 /// Reads a component file that lies in pieces, one after another, however they are cut: what
