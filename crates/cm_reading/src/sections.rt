@@ -89,7 +89,9 @@ fn read_contents(
     match kind {
         SectionKind::Custom => read_custom_section(alloc, part),
         SectionKind::CoreModule => read_core_module_section(alloc, part),
-        SectionKind::CoreInstances => Ok(Section::CoreInstances(read_items::<Items, _>(alloc, part)?)),
+        SectionKind::CoreInstances => {
+            Ok(Section::CoreInstances(read_items::<Items, _>(alloc, part)?))
+        }
         SectionKind::Instances => Ok(Section::Instances(read_items::<Items, _>(alloc, part)?)),
         SectionKind::Aliases => Ok(Section::Aliases(read_items::<Types, _>(alloc, part)?)),
         SectionKind::Types => Ok(Section::Types(read_all_types(alloc, part, room)?)),

@@ -4,8 +4,9 @@ use Rattle.cm_reading_codes.specs.declared.fault.DecodeReason.{DecodeReason}
 use Rattle.cm_reading_codes.specs.declared.fault.DecodeReason.TheVariants.{BadPreamble, Truncated}
 use Rattle.cm_reading_codes.specs.declared.fault.DecodeReason.TheVariants.{BadNumber, SizeMismatch}
 use Rattle.cm_reading_codes.specs.declared.fault.DecodeReason.TheVariants.{UnknownCode, Unsupported}
-use Rattle.cm_reading_codes.specs.declared.fault.DecodeReason.TheVariants.{BadUtf8, BadName, NotAModule}
-use Rattle.cm_reading_codes.specs.declared.fault.DecodeReason.TheVariants.{TooMany, TooLong, Read, Memory}
+use Rattle.cm_reading_codes.specs.declared.fault.DecodeReason.TheVariants.{BadUtf8, BadName}
+use Rattle.cm_reading_codes.specs.declared.fault.DecodeReason.TheVariants.{NotAModule, TooMany}
+use Rattle.cm_reading_codes.specs.declared.fault.DecodeReason.TheVariants.{TooLong, Read, Memory}
 
 -- The number by which a reason is known.
 abbrev pub reason_number : DecodeReason → ℕ

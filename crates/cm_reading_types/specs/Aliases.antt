@@ -9,8 +9,8 @@ use Rattle.cm_reading_codes.specs.declared.codes.AliasSort.{AliasSort}
 use Rattle.cm_reading_codes.specs.declared.codes.AliasSort.TheVariants as alias_sorts
 use Rattle.cm_reading_codes.specs.declared.codes.TypeAliasTarget.{TypeAliasTarget}
 use Rattle.cm_reading_codes.specs.declared.codes.TypeAliasTarget.TheVariants as type_targets
-use Rattle.cm_reading_codes.specs.Codes.{core_sort, alias_sort, core_alias_target, func_alias_target}
-use Rattle.cm_reading_codes.specs.Codes.{type_alias_target, no_alias_target}
+use Rattle.cm_reading_codes.specs.Codes.{core_sort, alias_sort, core_alias_target}
+use Rattle.cm_reading_codes.specs.Codes.{func_alias_target, type_alias_target, no_alias_target}
 use Rattle.cm_reading_codes.specs.Texts.{Production, index, text, plain_name}
 
 -- A type of a component around: how far outwards, and the index there (`aliastarget`).

@@ -38,10 +38,10 @@ use Rattle.cm_reading_codes.specs.declared.codes.AliasSort.{AliasSort}
 use Rattle.cm_reading_codes.specs.declared.codes.AliasSort.TheVariants as alias_sorts
 use Rattle.cm_reading_codes.specs.declared.codes.TypeForm.{TypeForm}
 use Rattle.cm_reading_codes.specs.declared.codes.TypeForm.TheVariants as type_forms
-use Rattle.cm_reading_codes.specs.Codes.{is_from, optional_form, prim_val_type, result_form, type_form}
+use Rattle.cm_reading_codes.specs.Codes.{is_from, optional_form, prim_val_type, result_form}
 use Rattle.cm_reading_codes.specs.Codes.{declared_type_form, declaration_form, declared_desc_form}
 use Rattle.cm_reading_codes.specs.Codes.{type_bound_form, core_sort, alias_sort, outer_type_target}
-use Rattle.cm_reading_codes.specs.Codes.{no_alias_target}
+use Rattle.cm_reading_codes.specs.Codes.{no_alias_target, type_form}
 use Rattle.cm_reading_codes.specs.Texts.{Production, index, vector, label, extern_name}
 use Rattle.cm_reading_types.specs.Aliases.{outer_type}
 

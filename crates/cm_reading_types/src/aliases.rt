@@ -6,8 +6,8 @@ ghost use Rattle.cm_grammar.specs.Reading.{Reads};
 ghost use Rattle.cm_component.specs.Trees.{AliasTree, alias_tree};
 ghost use Rattle.cm_reading_codes.specs.Codes.{no_alias_target};
 ghost use Rattle.cm_reading_codes.specs.declared.codes.AliasSort.TheVariants as alias_sorts;
-ghost use Rattle.cm_reading_types.specs.Aliases.{outer_type, instance_export, type_alias_of, alias_of};
-ghost use Rattle.cm_reading_types.specs.Aliases.{alias};
+ghost use Rattle.cm_reading_types.specs.Aliases.{outer_type, instance_export};
+ghost use Rattle.cm_reading_types.specs.Aliases.{type_alias_of, alias_of, alias};
 
 use crate::types::Types;
 use cm_component::{Alias, InstanceExportSort};

@@ -11,8 +11,8 @@ ghost use Rattle.cm_types.specs.DefTypes.{def_type_tree};
 ghost use Rattle.cm_component.specs.Limits.{types_in_def};
 ghost use Rattle.cm_reading_codes.specs.Texts.{index, label};
 ghost use Rattle.cm_reading_types.specs.Types.{optional, type_index, val_type, param, case_type};
-ghost use Rattle.cm_reading_types.specs.Types.{def_val_type_of, func_result_of, func_result, func_type};
-ghost use Rattle.cm_reading_types.specs.Types.{def_type, def_type_from};
+ghost use Rattle.cm_reading_types.specs.Types.{def_val_type_of, func_result_of, func_result};
+ghost use Rattle.cm_reading_types.specs.Types.{func_type, def_type, def_type_from};
 
 use cm_component::types_in_def;
 use cm_grammar::{Cursor, Form, ReadError, StockedForm, read_stocked, read_vec};
@@ -190,7 +190,8 @@ fn read_def_type(
             Ok(DefType::Resource(read_optional_index(bytes)?))
         }
         TypeForm::Instance => {
-            let declarations = read_stocked::<_, Types, _>(alloc, bytes, DecodeReason::BadNumber, left)?;
+            let bad = DecodeReason::BadNumber;
+            let declarations = read_stocked::<_, Types, _>(alloc, bytes, bad, left)?;
             Ok(DefType::Instance(declarations))
         }
     }
