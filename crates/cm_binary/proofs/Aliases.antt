@@ -14,13 +14,13 @@ use Rattle.cm_component.specs.Trees as trees
 use Rattle.cm_component.specs.Trees.{AliasTree}
 use Rattle.cm_component.specs.Spelling.{core_sort_code, outer_type_spelling, alias_spelling}
 use Rattle.cm_component.specs.Parts.{is_index, holds_name, holds_outer_type, holds_alias}
-use Rattle.cm_reading.specs.declared.codes.AliasSort.{AliasSort}
-use Rattle.cm_reading.specs.declared.codes.AliasSort.TheVariants as alias_sorts
-use Rattle.cm_reading.specs.declared.codes.CoreAliasTarget.TheVariants as core_targets
-use Rattle.cm_reading.specs.declared.codes.FuncAliasTarget.TheVariants as func_targets
-use Rattle.cm_reading.specs.declared.codes.TypeAliasTarget.{TypeAliasTarget}
-use Rattle.cm_reading.specs.declared.codes.TypeAliasTarget.TheVariants as type_targets
-use Rattle.cm_reading.specs.Aliases.{outer_type, instance_export, type_alias_of, alias_of, alias}
+use Rattle.cm_reading_codes.specs.declared.codes.AliasSort.{AliasSort}
+use Rattle.cm_reading_codes.specs.declared.codes.AliasSort.TheVariants as alias_sorts
+use Rattle.cm_reading_codes.specs.declared.codes.CoreAliasTarget.TheVariants as core_targets
+use Rattle.cm_reading_codes.specs.declared.codes.FuncAliasTarget.TheVariants as func_targets
+use Rattle.cm_reading_codes.specs.declared.codes.TypeAliasTarget.{TypeAliasTarget}
+use Rattle.cm_reading_codes.specs.declared.codes.TypeAliasTarget.TheVariants as type_targets
+use Rattle.cm_reading_types.specs.Aliases.{outer_type, instance_export, type_alias_of, alias_of, alias}
 use Rattle.cm_binary.proofs.Texts.{index_least, text_least, plain_name_least, index_written, text_writes, plain_name_writes}
 use Rattle.cm_binary.proofs.Instances.{core_sort_read}
 

@@ -14,12 +14,12 @@ use Rattle.cm_component.specs.Trees.{CanonTree}
 use Rattle.cm_component.specs.Spelling.{option_spelling, canon_spelling}
 use Rattle.cm_component.specs.Parts.{is_index, holds_option, holds_canon}
 use Rattle.cm_component.proofs.Nonempty.{option_some}
-use Rattle.cm_reading.specs.declared.fault.DecodeReason.TheVariants.{BadNumber}
-use Rattle.cm_reading.specs.declared.codes.CanonForm.{CanonForm}
-use Rattle.cm_reading.specs.declared.codes.CanonForm.TheVariants as canon_forms
-use Rattle.cm_reading.specs.declared.codes.OptionForm.{OptionForm}
-use Rattle.cm_reading.specs.declared.codes.OptionForm.TheVariants as option_forms
-use Rattle.cm_reading.specs.Texts.{vector}
+use Rattle.cm_reading_codes.specs.declared.fault.DecodeReason.TheVariants.{BadNumber}
+use Rattle.cm_reading_codes.specs.declared.codes.CanonForm.{CanonForm}
+use Rattle.cm_reading_codes.specs.declared.codes.CanonForm.TheVariants as canon_forms
+use Rattle.cm_reading_codes.specs.declared.codes.OptionForm.{OptionForm}
+use Rattle.cm_reading_codes.specs.declared.codes.OptionForm.TheVariants as option_forms
+use Rattle.cm_reading_codes.specs.Texts.{vector}
 use Rattle.cm_reading.specs.Canons.{canon_option_of, canon_option, canon_of, canon}
 use Rattle.cm_binary.proofs.Texts.{index_least, index_written}
 

@@ -8,9 +8,9 @@ use Rattle.cm_grammar.specs.declared.fault.End.TheVariants as end
 use Rattle.cm_grammar.specs.Faults.{flaw}
 use Rattle.cm_grammar.proofs.Tools.{IsBytes, ok_is, err_is}
 use Rattle.cm_component.specs.Trees.{SectionTree}
-use Rattle.cm_reading.specs.declared.fault.DecodeFault.{DecodeFault}
-use Rattle.cm_reading.specs.declared.fault.DecodeReason.{DecodeReason}
-use Rattle.cm_reading.specs.declared.fault.DecodeReason.TheVariants.{Truncated, Memory}
+use Rattle.cm_reading_codes.specs.declared.fault.DecodeFault.{DecodeFault}
+use Rattle.cm_reading_codes.specs.declared.fault.DecodeReason.{DecodeReason}
+use Rattle.cm_reading_codes.specs.declared.fault.DecodeReason.TheVariants.{Truncated, Memory}
 use Rattle.cm_reading.specs.File.{file, Spells, FirstFault}
 use Rattle.cm_binary.specs.Answers.{Accepts, Refuses, Answers}
 use Rattle.cm_reading.proofs.LawfulFile.{file_lawful}

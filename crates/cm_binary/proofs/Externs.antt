@@ -13,10 +13,10 @@ use Rattle.cm_component.specs.declared.externs.Import.{Import}
 use Rattle.cm_component.specs.declared.externs.Export.{Export}
 use Rattle.cm_component.specs.Spelling.{extern_name_spelling, desc_spelling, import_spelling, export_sort_code, export_spelling}
 use Rattle.cm_component.specs.Parts.{is_index, holds_desc, holds_name, holds_import, holds_export}
-use Rattle.cm_reading.specs.declared.codes.DescForm.{DescForm}
-use Rattle.cm_reading.specs.declared.codes.DescForm.TheVariants as desc_forms
-use Rattle.cm_reading.specs.declared.codes.NoDescription.TheVariants as descriptions
-use Rattle.cm_reading.specs.Codes.{export_sort}
+use Rattle.cm_reading_codes.specs.declared.codes.DescForm.{DescForm}
+use Rattle.cm_reading_codes.specs.declared.codes.DescForm.TheVariants as desc_forms
+use Rattle.cm_reading_codes.specs.declared.codes.NoDescription.TheVariants as descriptions
+use Rattle.cm_reading_codes.specs.Codes.{export_sort}
 use Rattle.cm_reading.specs.Externs.{extern_desc_of, extern_desc, import_item, export_item}
 use Rattle.cm_binary.proofs.Texts.{index_least, extern_name_least, index_written, extern_name_writes}
 

@@ -3,44 +3,44 @@ use Rattle.std.proofs.Common.{◌≡◌, ℕ, zero, suc, Bool, true, false}
 use Rattle.cm_grammar.specs.Grammar.{number}
 use Rattle.cm_grammar.proofs.WantLaws.{Ends, EndsWhole, done_ends, bind_ends, ahead_ends, code_ends, number_ends, signed_ends, raw_ends, check_ends, fixed_ends, chain_ends, from_stock_ends, vec_ends, build_ends, remainder_ends, exactly_ends, join_ends, begins_with_ends, to_end_ends, of_size_ends, at_most_ends}
 use Rattle.cm_component.specs.declared.limits.TheConstants.{MAX_TYPES}
-use Rattle.cm_reading.specs.declared.fault.DecodeReason.{DecodeReason}
-use Rattle.cm_reading.specs.declared.fault.DecodeReason.TheVariants.{BadPreamble, Truncated, BadNumber, SizeMismatch, UnknownCode, BadUtf8, BadName, NotAModule, TooMany, TooLong}
-use Rattle.cm_reading.specs.declared.codes.SectionKind.{SectionKind}
-use Rattle.cm_reading.specs.declared.codes.SectionKind.TheVariants as kinds
-use Rattle.cm_reading.specs.declared.codes.AliasSort.{AliasSort}
-use Rattle.cm_reading.specs.declared.codes.AliasSort.TheVariants as alias_sorts
-use Rattle.cm_reading.specs.declared.codes.OptionalForm.{OptionalForm}
-use Rattle.cm_reading.specs.declared.codes.OptionalForm.TheVariants as optional_forms
-use Rattle.cm_reading.specs.declared.codes.ValueForm.{ValueForm}
-use Rattle.cm_reading.specs.declared.codes.ValueForm.TheVariants as value_forms
-use Rattle.cm_reading.specs.declared.codes.TypeForm.{TypeForm}
-use Rattle.cm_reading.specs.declared.codes.TypeForm.TheVariants as type_forms
-use Rattle.cm_reading.specs.declared.codes.DeclaredTypeForm.{DeclaredTypeForm}
-use Rattle.cm_reading.specs.declared.codes.DeclaredTypeForm.TheVariants as declared_type_forms
-use Rattle.cm_reading.specs.declared.codes.DeclarationForm.{DeclarationForm}
-use Rattle.cm_reading.specs.declared.codes.DeclarationForm.TheVariants as declaration_forms
-use Rattle.cm_reading.specs.declared.codes.DeclaredDescForm.{DeclaredDescForm}
-use Rattle.cm_reading.specs.declared.codes.DeclaredDescForm.TheVariants as declared_descs
-use Rattle.cm_reading.specs.declared.codes.TypeBoundForm.{TypeBoundForm}
-use Rattle.cm_reading.specs.declared.codes.TypeBoundForm.TheVariants as bound_forms
-use Rattle.cm_reading.specs.declared.codes.ResultForm.{ResultForm}
-use Rattle.cm_reading.specs.declared.codes.ResultForm.TheVariants as result_forms
-use Rattle.cm_reading.specs.declared.codes.CanonForm.{CanonForm}
-use Rattle.cm_reading.specs.declared.codes.CanonForm.TheVariants as canon_forms
-use Rattle.cm_reading.specs.declared.codes.CoreInstanceForm.{CoreInstanceForm}
-use Rattle.cm_reading.specs.declared.codes.CoreInstanceForm.TheVariants as core_instance_forms
-use Rattle.cm_reading.specs.declared.codes.TypeAliasTarget.{TypeAliasTarget}
-use Rattle.cm_reading.specs.declared.codes.TypeAliasTarget.TheVariants as type_targets
-use Rattle.cm_reading.specs.declared.codes.OptionForm.{OptionForm}
-use Rattle.cm_reading.specs.declared.codes.OptionForm.TheVariants as option_forms
-use Rattle.cm_reading.specs.declared.codes.DescForm.{DescForm}
-use Rattle.cm_reading.specs.declared.codes.DescForm.TheVariants as desc_forms
+use Rattle.cm_reading_codes.specs.declared.fault.DecodeReason.{DecodeReason}
+use Rattle.cm_reading_codes.specs.declared.fault.DecodeReason.TheVariants.{BadPreamble, Truncated, BadNumber, SizeMismatch, UnknownCode, BadUtf8, BadName, NotAModule, TooMany, TooLong}
+use Rattle.cm_reading_codes.specs.declared.codes.SectionKind.{SectionKind}
+use Rattle.cm_reading_codes.specs.declared.codes.SectionKind.TheVariants as kinds
+use Rattle.cm_reading_codes.specs.declared.codes.AliasSort.{AliasSort}
+use Rattle.cm_reading_codes.specs.declared.codes.AliasSort.TheVariants as alias_sorts
+use Rattle.cm_reading_codes.specs.declared.codes.OptionalForm.{OptionalForm}
+use Rattle.cm_reading_codes.specs.declared.codes.OptionalForm.TheVariants as optional_forms
+use Rattle.cm_reading_codes.specs.declared.codes.ValueForm.{ValueForm}
+use Rattle.cm_reading_codes.specs.declared.codes.ValueForm.TheVariants as value_forms
+use Rattle.cm_reading_codes.specs.declared.codes.TypeForm.{TypeForm}
+use Rattle.cm_reading_codes.specs.declared.codes.TypeForm.TheVariants as type_forms
+use Rattle.cm_reading_codes.specs.declared.codes.DeclaredTypeForm.{DeclaredTypeForm}
+use Rattle.cm_reading_codes.specs.declared.codes.DeclaredTypeForm.TheVariants as declared_type_forms
+use Rattle.cm_reading_codes.specs.declared.codes.DeclarationForm.{DeclarationForm}
+use Rattle.cm_reading_codes.specs.declared.codes.DeclarationForm.TheVariants as declaration_forms
+use Rattle.cm_reading_codes.specs.declared.codes.DeclaredDescForm.{DeclaredDescForm}
+use Rattle.cm_reading_codes.specs.declared.codes.DeclaredDescForm.TheVariants as declared_descs
+use Rattle.cm_reading_codes.specs.declared.codes.TypeBoundForm.{TypeBoundForm}
+use Rattle.cm_reading_codes.specs.declared.codes.TypeBoundForm.TheVariants as bound_forms
+use Rattle.cm_reading_codes.specs.declared.codes.ResultForm.{ResultForm}
+use Rattle.cm_reading_codes.specs.declared.codes.ResultForm.TheVariants as result_forms
+use Rattle.cm_reading_codes.specs.declared.codes.CanonForm.{CanonForm}
+use Rattle.cm_reading_codes.specs.declared.codes.CanonForm.TheVariants as canon_forms
+use Rattle.cm_reading_codes.specs.declared.codes.CoreInstanceForm.{CoreInstanceForm}
+use Rattle.cm_reading_codes.specs.declared.codes.CoreInstanceForm.TheVariants as core_instance_forms
+use Rattle.cm_reading_codes.specs.declared.codes.TypeAliasTarget.{TypeAliasTarget}
+use Rattle.cm_reading_codes.specs.declared.codes.TypeAliasTarget.TheVariants as type_targets
+use Rattle.cm_reading_codes.specs.declared.codes.OptionForm.{OptionForm}
+use Rattle.cm_reading_codes.specs.declared.codes.OptionForm.TheVariants as option_forms
+use Rattle.cm_reading_codes.specs.declared.codes.DescForm.{DescForm}
+use Rattle.cm_reading_codes.specs.declared.codes.DescForm.TheVariants as desc_forms
 use Rattle.cm_component.specs.declared.instances.InstanceExportSort.{InstanceExportSort}
-use Rattle.cm_reading.specs.Codes.{is_from}
-use Rattle.cm_reading.specs.Texts.{Production, text, label, plain_name, extern_name}
+use Rattle.cm_reading_codes.specs.Codes.{is_from}
+use Rattle.cm_reading_codes.specs.Texts.{Production, text, label, plain_name, extern_name}
 use Rattle.cm_reading.specs.Instances.{core_arg, core_export, core_instance_of, core_instance, inline_export, instance_item}
-use Rattle.cm_reading.specs.Aliases.{outer_type, instance_export, type_alias_of, alias_of, alias}
-use Rattle.cm_reading.specs.Types.{optional_of, optional, type_index, val_type_of, val_type, param, case_type, def_val_type_of, func_result_of, func_result, func_type, declared_type_of, declared_type, declared_type_from, declared_alias_of, declared_alias, type_bound_of, type_bound, export_desc_of, export_desc, export_decl, declaration_of, declaration, declarations, def_type_of, def_type, def_type_from, type_defs}
+use Rattle.cm_reading_types.specs.Aliases.{outer_type, instance_export, type_alias_of, alias_of, alias}
+use Rattle.cm_reading_types.specs.Types.{optional_of, optional, type_index, val_type_of, val_type, param, case_type, def_val_type_of, func_result_of, func_result, func_type, declared_type_of, declared_type, declared_type_from, declared_alias_of, declared_alias, type_bound_of, type_bound, export_desc_of, export_desc, export_decl, declaration_of, declaration, declarations, def_type_of, def_type, def_type_from, type_defs}
 use Rattle.cm_reading.specs.Canons.{canon_option_of, canon_option, canon_of, canon}
 use Rattle.cm_reading.specs.Externs.{extern_desc_of, extern_desc, import_item, export_item}
 use Rattle.cm_reading.specs.Sections.{contents, section, sections, room_after}

@@ -18,10 +18,10 @@ use Rattle.cm_component.specs.Trees.{ArgTree, CoreExportTree, CoreInstanceTree}
 use Rattle.cm_component.specs.Spelling.{extern_name_spelling, core_arg_spelling, core_sort_code, core_export_spelling, core_instance_spelling, instance_sort_code, inline_export_spelling, instance_spelling}
 use Rattle.cm_component.specs.Parts.{is_index, holds_name, holds_arg, holds_core_export, holds_core_instance, holds_inline_export, holds_instance}
 use Rattle.cm_component.proofs.Nonempty.{core_arg_some, core_export_some, inline_export_some}
-use Rattle.cm_reading.specs.declared.fault.DecodeReason.TheVariants.{BadNumber}
-use Rattle.cm_reading.specs.declared.codes.CoreInstanceForm.{CoreInstanceForm}
-use Rattle.cm_reading.specs.declared.codes.CoreInstanceForm.TheVariants as forms
-use Rattle.cm_reading.specs.Codes.{core_sort, instance_export_sort}
+use Rattle.cm_reading_codes.specs.declared.fault.DecodeReason.TheVariants.{BadNumber}
+use Rattle.cm_reading_codes.specs.declared.codes.CoreInstanceForm.{CoreInstanceForm}
+use Rattle.cm_reading_codes.specs.declared.codes.CoreInstanceForm.TheVariants as forms
+use Rattle.cm_reading_codes.specs.Codes.{core_sort, instance_export_sort}
 use Rattle.cm_reading.specs.Instances.{core_arg, core_export, core_instance_of, core_instance, inline_export, instance_item}
 use Rattle.cm_binary.proofs.Texts.{index_least, text_least, extern_name_least, index_written, text_writes, extern_name_writes}
 

@@ -6,9 +6,9 @@ use Rattle.cm_grammar.specs.Faults.{flaw}
 use Rattle.cm_grammar.proofs.Tools.{IsBytes, err_of}
 use Rattle.cm_grammar.proofs.AnswerLaws.{comes_read}
 use Rattle.cm_component.specs.Trees.{SectionTree}
-use Rattle.cm_reading.specs.declared.fault.DecodeFault.{DecodeFault}
-use Rattle.cm_reading.specs.declared.fault.DecodeReason.{DecodeReason}
-use Rattle.cm_reading.specs.declared.fault.DecodeReason.TheVariants.{Truncated}
+use Rattle.cm_reading_codes.specs.declared.fault.DecodeFault.{DecodeFault}
+use Rattle.cm_reading_codes.specs.declared.fault.DecodeReason.{DecodeReason}
+use Rattle.cm_reading_codes.specs.declared.fault.DecodeReason.TheVariants.{Truncated}
 use Rattle.cm_reading.specs.File.{file, FirstFault}
 use Rattle.cm_binary.specs.Answers.{IsAnswer, IsOnlyAnswer}
 use Rattle.cm_reading.proofs.LawfulFile.{file_lawful}

@@ -16,13 +16,13 @@ use Rattle.cm_component.specs.Limits.{types_in, has_preamble}
 use Rattle.cm_component.specs.Parts.{holds_core_instance, holds_instance, holds_alias, holds_canon, holds_import, holds_export, holds}
 use Rattle.cm_component.specs.declared.limits.TheConstants.{MODULE_PREAMBLE}
 use Rattle.cm_component.proofs.Nonempty.{core_instance_some, instance_some, alias_some, canon_some, import_some, export_some}
-use Rattle.cm_reading.specs.declared.fault.DecodeReason.{DecodeReason}
-use Rattle.cm_reading.specs.declared.fault.DecodeReason.TheVariants.{SizeMismatch, BadNumber}
-use Rattle.cm_reading.specs.declared.codes.SectionKind.{SectionKind}
-use Rattle.cm_reading.specs.declared.codes.SectionKind.TheVariants as kinds
-use Rattle.cm_reading.specs.Codes.{section_kind}
+use Rattle.cm_reading_codes.specs.declared.fault.DecodeReason.{DecodeReason}
+use Rattle.cm_reading_codes.specs.declared.fault.DecodeReason.TheVariants.{SizeMismatch, BadNumber}
+use Rattle.cm_reading_codes.specs.declared.codes.SectionKind.{SectionKind}
+use Rattle.cm_reading_codes.specs.declared.codes.SectionKind.TheVariants as kinds
+use Rattle.cm_reading_codes.specs.Codes.{section_kind}
 use Rattle.cm_reading.specs.Instances.{core_instance, instance_item}
-use Rattle.cm_reading.specs.Aliases.{alias}
+use Rattle.cm_reading_types.specs.Aliases.{alias}
 use Rattle.cm_reading.specs.Canons.{canon}
 use Rattle.cm_reading.specs.Externs.{import_item, export_item}
 use Rattle.cm_reading.specs.Sections.{contents, section, sections, room_after}

@@ -11,8 +11,8 @@ use Rattle.cm_types.specs.Names.{is_label}
 use Rattle.cm_types.specs.ExternNames.{is_extern_name}
 use Rattle.cm_component.specs.Spelling.{extern_name_spelling}
 use Rattle.cm_component.specs.Parts.{is_index, holds_name}
-use Rattle.cm_reading.specs.declared.fault.DecodeReason.TheVariants.{BadNumber, BadUtf8, BadName, UnknownCode}
-use Rattle.cm_reading.specs.Texts.{index, text, label, plain_name, extern_name}
+use Rattle.cm_reading_codes.specs.declared.fault.DecodeReason.TheVariants.{BadNumber, BadUtf8, BadName, UnknownCode}
+use Rattle.cm_reading_codes.specs.Texts.{index, text, label, plain_name, extern_name}
 
 pub index_least : Least index (λ n. length (shortest_unsigned n))
 index_least = number_least _

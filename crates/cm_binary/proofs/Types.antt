@@ -34,29 +34,29 @@ use Rattle.cm_component.specs.Spelling.{optional_spelling, prim_val_type_code, v
 use Rattle.cm_component.specs.Parts.{is_index, holds_optional, holds_label, holds_val_type, holds_param, holds_case, holds_def_val_type, holds_func, holds_declared_type, holds_name, holds_type_bound, holds_export_desc, holds_export_decl, holds_outer_type, holds_declaration, holds_def}
 use Rattle.cm_component.specs.Limits.{types_in_declaration, types_in_def}
 use Rattle.cm_component.proofs.Nonempty.{blob_some, val_type_some, param_some, case_some, declaration_some, def_some}
-use Rattle.cm_reading.specs.declared.fault.DecodeReason.TheVariants.{BadNumber, TooMany}
-use Rattle.cm_reading.specs.declared.codes.OptionalForm.{OptionalForm}
-use Rattle.cm_reading.specs.declared.codes.OptionalForm.TheVariants as optional_forms
-use Rattle.cm_reading.specs.declared.codes.ResultForm.{ResultForm}
-use Rattle.cm_reading.specs.declared.codes.ResultForm.TheVariants as result_forms
-use Rattle.cm_reading.specs.declared.codes.ValueForm.{ValueForm}
-use Rattle.cm_reading.specs.declared.codes.ValueForm.TheVariants as value_forms
-use Rattle.cm_reading.specs.declared.codes.DeclaredTypeForm.{DeclaredTypeForm}
-use Rattle.cm_reading.specs.declared.codes.DeclaredTypeForm.TheVariants as declared_type_forms
-use Rattle.cm_reading.specs.declared.codes.DeclarationForm.{DeclarationForm}
-use Rattle.cm_reading.specs.declared.codes.DeclarationForm.TheVariants as declaration_forms
-use Rattle.cm_reading.specs.declared.codes.DeclaredDescForm.{DeclaredDescForm}
-use Rattle.cm_reading.specs.declared.codes.DeclaredDescForm.TheVariants as declared_descs
-use Rattle.cm_reading.specs.declared.codes.TypeBoundForm.{TypeBoundForm}
-use Rattle.cm_reading.specs.declared.codes.TypeBoundForm.TheVariants as bound_forms
-use Rattle.cm_reading.specs.declared.codes.AliasSort.{AliasSort}
-use Rattle.cm_reading.specs.declared.codes.AliasSort.TheVariants as alias_sorts
-use Rattle.cm_reading.specs.declared.codes.OuterTypeTarget.TheVariants as outer_targets
-use Rattle.cm_reading.specs.declared.codes.TypeForm.{TypeForm}
-use Rattle.cm_reading.specs.declared.codes.TypeForm.TheVariants as type_forms
-use Rattle.cm_reading.specs.Codes.{is_from, prim_val_type, declared_type_form, type_form}
-use Rattle.cm_reading.specs.Texts.{Production, index, label}
-use Rattle.cm_reading.specs.Types.{optional_of, optional, is_type_index, as_index, type_index, val_type_of, val_type, param, case_type, def_val_type_of, func_result_of, func_result, func_type, declared_type_of, declared_type, declared_type_from, declared_alias_of, declared_alias, type_bound_of, type_bound, export_desc_of, export_desc, export_decl, declaration_of, declaration, declarations, def_type_of, def_type, def_type_from, type_defs}
+use Rattle.cm_reading_codes.specs.declared.fault.DecodeReason.TheVariants.{BadNumber, TooMany}
+use Rattle.cm_reading_codes.specs.declared.codes.OptionalForm.{OptionalForm}
+use Rattle.cm_reading_codes.specs.declared.codes.OptionalForm.TheVariants as optional_forms
+use Rattle.cm_reading_codes.specs.declared.codes.ResultForm.{ResultForm}
+use Rattle.cm_reading_codes.specs.declared.codes.ResultForm.TheVariants as result_forms
+use Rattle.cm_reading_codes.specs.declared.codes.ValueForm.{ValueForm}
+use Rattle.cm_reading_codes.specs.declared.codes.ValueForm.TheVariants as value_forms
+use Rattle.cm_reading_codes.specs.declared.codes.DeclaredTypeForm.{DeclaredTypeForm}
+use Rattle.cm_reading_codes.specs.declared.codes.DeclaredTypeForm.TheVariants as declared_type_forms
+use Rattle.cm_reading_codes.specs.declared.codes.DeclarationForm.{DeclarationForm}
+use Rattle.cm_reading_codes.specs.declared.codes.DeclarationForm.TheVariants as declaration_forms
+use Rattle.cm_reading_codes.specs.declared.codes.DeclaredDescForm.{DeclaredDescForm}
+use Rattle.cm_reading_codes.specs.declared.codes.DeclaredDescForm.TheVariants as declared_descs
+use Rattle.cm_reading_codes.specs.declared.codes.TypeBoundForm.{TypeBoundForm}
+use Rattle.cm_reading_codes.specs.declared.codes.TypeBoundForm.TheVariants as bound_forms
+use Rattle.cm_reading_codes.specs.declared.codes.AliasSort.{AliasSort}
+use Rattle.cm_reading_codes.specs.declared.codes.AliasSort.TheVariants as alias_sorts
+use Rattle.cm_reading_codes.specs.declared.codes.OuterTypeTarget.TheVariants as outer_targets
+use Rattle.cm_reading_codes.specs.declared.codes.TypeForm.{TypeForm}
+use Rattle.cm_reading_codes.specs.declared.codes.TypeForm.TheVariants as type_forms
+use Rattle.cm_reading_codes.specs.Codes.{is_from, prim_val_type, declared_type_form, type_form}
+use Rattle.cm_reading_codes.specs.Texts.{Production, index, label}
+use Rattle.cm_reading_types.specs.Types.{optional_of, optional, is_type_index, as_index, type_index, val_type_of, val_type, param, case_type, def_val_type_of, func_result_of, func_result, func_type, declared_type_of, declared_type, declared_type_from, declared_alias_of, declared_alias, type_bound_of, type_bound, export_desc_of, export_desc, export_decl, declaration_of, declaration, declarations, def_type_of, def_type, def_type_from, type_defs}
 use Rattle.cm_binary.proofs.Texts.{label_least, label_written, extern_name_least, extern_name_writes}
 use Rattle.cm_binary.proofs.Aliases.{outer_type_least, outer_type_written}
 

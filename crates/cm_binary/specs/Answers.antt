@@ -4,9 +4,9 @@ use Rattle.std.specs.Prelude.{MatchResult}
 use Rattle.cm_grammar.specs.declared.fault.Fault.{Fault}
 use Rattle.cm_grammar.specs.Faults.{flaw}
 use Rattle.cm_component.specs.Trees.{SectionTree}
-use Rattle.cm_reading.specs.declared.fault.DecodeFault.{DecodeFault}
-use Rattle.cm_reading.specs.declared.fault.DecodeReason.{DecodeReason}
-use Rattle.cm_reading.specs.declared.fault.DecodeReason.TheVariants.{Memory}
+use Rattle.cm_reading_codes.specs.declared.fault.DecodeFault.{DecodeFault}
+use Rattle.cm_reading_codes.specs.declared.fault.DecodeReason.{DecodeReason}
+use Rattle.cm_reading_codes.specs.declared.fault.DecodeReason.TheVariants.{Memory}
 use Rattle.cm_reading.specs.File.{Spells, FirstFault}
 
 -- The answer is this component, or that memory was refused.

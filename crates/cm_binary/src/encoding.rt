@@ -7,7 +7,7 @@ ghost use Rattle.cm_binary.specs.Answers.{Accepts};
 
 use crate::decoding::decode;
 use cm_component::Component;
-use cm_reading::{DecodeFault, DecodeReason};
+use cm_reading_codes::{DecodeFault, DecodeReason};
 use cm_writing::write_file;
 use std::alloc::{AllocError, Global};
 

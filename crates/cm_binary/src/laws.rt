@@ -2,9 +2,9 @@
 
 ghost use Rattle.std.specs.Prelude.{◌≡◌, ◌≢◌, ℕ, List, ◌++◌, length, Result};
 ghost use Rattle.cm_component.specs.Trees.{SectionTree};
-ghost use Rattle.cm_reading.specs.declared.fault.DecodeFault.{DecodeFault};
-ghost use Rattle.cm_reading.specs.declared.fault.DecodeReason.{DecodeReason};
-ghost use Rattle.cm_reading.specs.declared.fault.DecodeReason.TheVariants as reasons;
+ghost use Rattle.cm_reading_codes.specs.declared.fault.DecodeFault.{DecodeFault};
+ghost use Rattle.cm_reading_codes.specs.declared.fault.DecodeReason.{DecodeReason};
+ghost use Rattle.cm_reading_codes.specs.declared.fault.DecodeReason.TheVariants as reasons;
 ghost use Rattle.cm_reading.specs.File.{FirstFault};
 ghost use Rattle.cm_binary.specs.Answers.{AreBytes, IsOnlyAnswer};
 

@@ -10,6 +10,6 @@ pub use cm_component::{
     CoreSort, CustomSection, Export, ExportSort, ExternDesc, Import, InlineExport, Instance,
     InstanceExportSort, LimitFault, Section,
 };
-pub use cm_reading::{DecodeFault, DecodeReason, Feature};
+pub use cm_reading_codes::{DecodeFault, DecodeReason, Feature};
 pub use decoding::decode;
 pub use encoding::{encode, written_and_read};

@@ -10,10 +10,12 @@ use crate::fault::ReadError;
 use cm_leb::write_count;
 use std::alloc::{AllocError, Global};
 
-/// A form of a format: how it is read.
+/// A form of a format: how it is read at a place of it.
 ///
-/// `R` are the reasons of the format's faults.
-pub trait Form<R: Copy>: Drop + Sized {
+/// `R` are the reasons of the format's faults. `Place` names the part of the format where the form
+/// stands, since values of one type may be spelled otherwise in another part; it has no values of
+/// its own.
+pub trait Form<R: Copy, Place>: Drop + Sized {
     ghost use Rattle.cm_grammar.specs.Grammar.{Grammar};
 
     // A value as contracts see it.
@@ -33,7 +35,7 @@ pub trait Form<R: Copy>: Drop + Sized {
 
 /// Reads a count, and so many values. A count that is no number is a fault of the reason `bad` at
 /// its first byte.
-pub fn read_vec<R: Copy, T: Form<R>>(
+pub fn read_vec<R: Copy, Place, T: Form<R, Place>>(
     alloc: Global,
     cursor: &mut Cursor<'_, R>,
     bad: R,
@@ -43,11 +45,11 @@ pub fn read_vec<R: Copy, T: Form<R>>(
     ensures end { cursor.new.end ≡ cursor.old.end }
 {
     let count = cursor.number(bad)?;
-    read_times(alloc, cursor, count)
+    read_times::<R, Place, T>(alloc, cursor, count)
 }
 
 /// Reads so many values.
-fn read_times<R: Copy, T: Form<R>>(
+fn read_times<R: Copy, Place, T: Form<R, Place>>(
     alloc: Global,
     cursor: &mut Cursor<'_, R>,
     count: u32,

@@ -10,8 +10,9 @@ use std::alloc::Global;
 
 /// A form of a format of which only so many may stand: how it is read out of a stock.
 ///
-/// `R` are the reasons of the format's faults.
-pub trait StockedForm<R: Copy>: Drop + Sized {
+/// `R` are the reasons of the format's faults, and `Place` names the part of the format where the
+/// form stands, as in [`Form`](crate::Form).
+pub trait StockedForm<R: Copy, Place>: Drop + Sized {
     ghost use Rattle.std.specs.Prelude.{ℕ};
     ghost use Rattle.cm_grammar.specs.Grammar.{Grammar};
 
@@ -39,7 +40,7 @@ pub trait StockedForm<R: Copy>: Drop + Sized {
 
 /// Reads a count, and so many values out of a stock. A count that is no number is a fault of the
 /// reason `bad` at its first byte.
-pub fn read_stocked<R: Copy, T: StockedForm<R>>(
+pub fn read_stocked<R: Copy, Place, T: StockedForm<R, Place>>(
     alloc: Global,
     cursor: &mut Cursor<'_, R>,
     bad: R,
@@ -50,11 +51,11 @@ pub fn read_stocked<R: Copy, T: StockedForm<R>>(
     ensures end { cursor.new.end ≡ cursor.old.end }
 {
     let count = cursor.number(bad)?;
-    read_so_many(alloc, cursor, count, stock)
+    read_so_many::<R, Place, T>(alloc, cursor, count, stock)
 }
 
 /// Reads so many values out of a stock.
-fn read_so_many<R: Copy, T: StockedForm<R>>(
+fn read_so_many<R: Copy, Place, T: StockedForm<R, Place>>(
     alloc: Global,
     cursor: &mut Cursor<'_, R>,
     count: u32,

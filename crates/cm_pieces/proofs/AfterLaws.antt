@@ -6,9 +6,9 @@ use Rattle.cm_grammar.specs.declared.fault.End.TheVariants as end
 use Rattle.cm_grammar.specs.Faults.{flaw}
 use Rattle.cm_grammar.proofs.Tools.{IsBytes, ok_of, err_of, ok_is, err_is}
 use Rattle.cm_component.specs.Trees.{SectionTree}
-use Rattle.cm_reading.specs.declared.fault.DecodeFault.{DecodeFault}
-use Rattle.cm_reading.specs.declared.fault.DecodeReason.{DecodeReason}
-use Rattle.cm_reading.specs.declared.fault.DecodeReason.TheVariants.{Truncated}
+use Rattle.cm_reading_codes.specs.declared.fault.DecodeFault.{DecodeFault}
+use Rattle.cm_reading_codes.specs.declared.fault.DecodeReason.{DecodeReason}
+use Rattle.cm_reading_codes.specs.declared.fault.DecodeReason.TheVariants.{Truncated}
 use Rattle.cm_pieces.specs.Progress.{Progress, with_sections}
 use Rattle.cm_pieces.specs.After.{Answer, rest_of_file, ComesTo}
 use Rattle.cm_pieces.proofs.StopLaws.{rest_lawful}

@@ -1,13 +1,14 @@
 -- What has come of a file, of which a decoder was fed a part.
-use Rattle.std.proofs.Common.{◌≡◌, ℕ, ◌+◌, ◌<◌, List, [], ◌++◌, length, take, get_or, Bor, Option, Some, None, Result, Ok, Err, refl, sym, ap, ◌∙◌, append_assoc, append-nil, arith, inl, inr, ◌⊎◌}
-use Rattle.std.specs.Prelude.{OnOk, IfErr, IfSome}
+use Rattle.std.proofs.Common.{◌≡◌, ℕ, ◌+◌, ◌<◌, List, [], ◌++◌, length, take, get_or, Bor, Option, Some, None, Result, Ok, Err, refl, sym, ap, subst, ◌∙◌, append_assoc, append-nil, arith, inl, inr, ◌⊎◌}
+use Rattle.std.specs.Prelude.{OnOk, IfOk, IfErr, IfSome}
 use Rattle.cm_grammar.proofs.Tools.{ok_of}
 use Rattle.cm_binary.proofs.OneAnswer.{one_answer}
 use Rattle.std.proofs.lemmas.List.{length-append, get_or_past, take_more, flat_map_more}
 use Rattle.std.specs.List.{flat_map}
 use Rattle.cm_grammar.proofs.Tools.{IsBytes, IsBytes-after}
-use Rattle.cm_reading.specs.declared.fault.DecodeFault.{DecodeFault}
-use Rattle.cm_reading.specs.declared.fault.DecodeReason.TheVariants.{Memory, Read}
+use Rattle.cm_reading_codes.specs.declared.fault.DecodeFault.{DecodeFault}
+use Rattle.cm_reading_codes.specs.declared.fault.DecodeReason.TheVariants.{Memory, Read}
+use Rattle.cm_reading.specs.File.{Spells, FirstFault}
 use Rattle.cm_binary.specs.Answers.{IsAnswer}
 use Rattle.cm_pieces.specs.After.{Held, Answer, nothing, After, Follows, IsSettled}
 use Rattle.cm_pieces.specs.Streams.{FailsBehind}
@@ -109,8 +110,19 @@ fault_decodes d d' unfed before r f g is e (inr s) h = rw (is, e) (inr (stays_fi
 
 -- ---- pieces one after another
 
-pub joined_more : (pieces : List (Bor (List ℕ))) (i : ℕ) (d : Bor (List ℕ)) → i < length pieces → flat_map (λ (p : Bor (List ℕ)). p.now) (take i pieces) ++ (get_or pieces i d).now ≡ flat_map (λ (p : Bor (List ℕ)). p.now) (take (i + 1) pieces)
+decoded : (bytes : List ℕ) (r : Answer) → IfOk r (λ c. Spells c bytes) → IfErr r (λ f. (f.reason ≡ Memory) ⊎ FirstFault bytes f.at f.reason) → Decodes bytes r
+decoded bytes (Ok c) found fault = inr found
+decoded bytes (Err f) found (inl m) = inl m
+decoded bytes (Err f) found (inr first) = inr first
+
+pub joined_decoded : (file joined all : List ℕ) (r : Answer) → file ≡ joined → joined ≡ all → IfOk r (λ c. Spells c file) → IfErr r (λ f. (f.reason ≡ Memory) ⊎ FirstFault file f.at f.reason) → Decodes all r
+joined_decoded file joined all r p q found fault = subst (λ (b : List ℕ). Decodes b r) (p ∙ q) (decoded file r found fault)
+
+joined_more : (pieces : List (Bor (List ℕ))) (i : ℕ) (d : Bor (List ℕ)) → i < length pieces → flat_map (λ (p : Bor (List ℕ)). p.now) (take i pieces) ++ (get_or pieces i d).now ≡ flat_map (λ (p : Bor (List ℕ)). p.now) (take (i + 1) pieces)
 joined_more pieces i d h = rw (take_more pieces i d h) (flat_map_more (λ (p : Bor (List ℕ)). p.now) [] (take i pieces) (get_or pieces i d))
+
+pub joined_grown : (pieces : List (Bor (List ℕ))) (i : ℕ) (d : Bor (List ℕ)) (front grown : List ℕ) → i < length pieces → grown ≡ front ++ (get_or pieces i d).now → front ≡ flat_map (λ (p : Bor (List ℕ)). p.now) (take i pieces) → grown ≡ flat_map (λ (p : Bor (List ℕ)). p.now) (take (i + 1) pieces)
+joined_grown pieces i d front grown h push so_far = rw (push, so_far) (joined_more pieces i d h)
 
 -- ---- where a reader fails
 

@@ -11,8 +11,8 @@ use Rattle.cm_grammar.proofs.PartLaws.{cases_le}
 use Rattle.cm_grammar.proofs.EndLaws.{at_most_all, at_most_cut}
 use Rattle.cm_component.specs.Trees.{SectionTree}
 use Rattle.cm_component.specs.declared.limits.TheConstants.{MAX_FILE_BYTES}
-use Rattle.cm_reading.specs.declared.fault.DecodeReason.{DecodeReason}
-use Rattle.cm_reading.specs.declared.fault.DecodeReason.TheVariants.{Truncated, TooLong}
+use Rattle.cm_reading_codes.specs.declared.fault.DecodeReason.{DecodeReason}
+use Rattle.cm_reading_codes.specs.declared.fault.DecodeReason.TheVariants.{Truncated, TooLong}
 use Rattle.cm_pieces.specs.Progress.{Progress, behind, with_sections, HasRead, Reaches}
 use Rattle.cm_pieces.specs.After.{rest_of_file}
 

@@ -15,9 +15,9 @@ use Rattle.cm_grammar.proofs.EndLaws.{at_most_all}
 use Rattle.cm_grammar.proofs.WantLaws.{fixed_ends, inside_ends}
 use Rattle.cm_component.specs.Trees.{SectionTree}
 use Rattle.cm_component.specs.declared.limits.TheConstants.{COMPONENT_PREAMBLE, MAX_FILE_BYTES}
-use Rattle.cm_reading.specs.declared.fault.DecodeFault.{DecodeFault}
-use Rattle.cm_reading.specs.declared.fault.DecodeReason.{DecodeReason}
-use Rattle.cm_reading.specs.declared.fault.DecodeReason.TheVariants.{BadPreamble, Truncated, TooLong, SizeMismatch, Memory}
+use Rattle.cm_reading_codes.specs.declared.fault.DecodeFault.{DecodeFault}
+use Rattle.cm_reading_codes.specs.declared.fault.DecodeReason.{DecodeReason}
+use Rattle.cm_reading_codes.specs.declared.fault.DecodeReason.TheVariants.{BadPreamble, Truncated, TooLong, SizeMismatch, Memory}
 use Rattle.cm_reading.specs.Sections.{section, contents}
 use Rattle.cm_reading.specs.File.{file}
 use Rattle.cm_binary.specs.Answers.{IsAnswer}

@@ -11,8 +11,8 @@ use Rattle.cm_grammar.proofs.Laws.{fixed_lawful}
 use Rattle.cm_grammar.proofs.ReadingLaws.{to_end_more}
 use Rattle.cm_component.specs.Trees.{SectionTree}
 use Rattle.cm_component.specs.declared.limits.TheConstants.{COMPONENT_PREAMBLE, MAX_TYPES}
-use Rattle.cm_reading.specs.declared.fault.DecodeReason.{DecodeReason}
-use Rattle.cm_reading.specs.declared.fault.DecodeReason.TheVariants.{BadPreamble}
+use Rattle.cm_reading_codes.specs.declared.fault.DecodeReason.{DecodeReason}
+use Rattle.cm_reading_codes.specs.declared.fault.DecodeReason.TheVariants.{BadPreamble}
 use Rattle.cm_reading.specs.Sections.{section, sections, room_after}
 use Rattle.cm_reading.specs.File.{component}
 use Rattle.cm_reading.proofs.LawfulSections.{section_lawful, section_nonempty}

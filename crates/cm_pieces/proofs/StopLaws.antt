@@ -16,8 +16,8 @@ use Rattle.cm_grammar.proofs.EndLaws.{to_end_stops, at_most_lawful, at_most_cut}
 use Rattle.cm_grammar.proofs.WantLaws.{EndsWhole, at_most_ends}
 use Rattle.cm_component.specs.Trees.{SectionTree}
 use Rattle.cm_component.specs.declared.limits.TheConstants.{COMPONENT_PREAMBLE, MAX_FILE_BYTES, MAX_TYPES}
-use Rattle.cm_reading.specs.declared.fault.DecodeReason.{DecodeReason}
-use Rattle.cm_reading.specs.declared.fault.DecodeReason.TheVariants.{BadPreamble, Truncated, TooLong}
+use Rattle.cm_reading_codes.specs.declared.fault.DecodeReason.{DecodeReason}
+use Rattle.cm_reading_codes.specs.declared.fault.DecodeReason.TheVariants.{BadPreamble, Truncated, TooLong}
 use Rattle.cm_reading.specs.Sections.{section, sections, room_after}
 use Rattle.cm_reading.specs.File.{component}
 use Rattle.cm_reading.proofs.LawfulSections.{section_lawful, section_nonempty, sections_lawful}

@@ -5,8 +5,8 @@ use Rattle.std.specs.Io.KnownBytes.{Consumes, Appends, IsAtEnd, Keeps}
 use Rattle.std.proofs.KnownBytes.{Consumes-trans, Consumes-kept, Appends-trans}
 use lib.Seq.{take-add}
 use Rattle.cm_grammar.proofs.Tools.{IsBytes}
-use Rattle.cm_reading.specs.declared.fault.DecodeFault.{DecodeFault}
-use Rattle.cm_reading.specs.declared.fault.DecodeReason.TheVariants.{Memory}
+use Rattle.cm_reading_codes.specs.declared.fault.DecodeFault.{DecodeFault}
+use Rattle.cm_reading_codes.specs.declared.fault.DecodeReason.TheVariants.{Memory}
 use Rattle.cm_binary.specs.Answers.{IsAnswer}
 use Rattle.cm_pieces.specs.After.{Held, Answer}
 use Rattle.cm_pieces.specs.Pieces.{Decodes, StaysFault, HasCome}

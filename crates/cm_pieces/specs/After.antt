@@ -9,11 +9,11 @@ use Rattle.cm_grammar.specs.Faults.{flaw, want}
 use Rattle.cm_grammar.specs.Whole.{at_most}
 use Rattle.cm_component.specs.Trees.{SectionTree}
 use Rattle.cm_component.specs.declared.limits.TheConstants.{MAX_FILE_BYTES}
-use Rattle.cm_reading.specs.declared.fault.DecodeFault.{DecodeFault}
-use Rattle.cm_reading.specs.declared.fault.DecodeReason.TheVariants.{Truncated, TooLong}
-use Rattle.cm_reading.specs.Texts.{WholeProduction}
+use Rattle.cm_reading_codes.specs.declared.fault.DecodeFault.{DecodeFault}
+use Rattle.cm_reading_codes.specs.declared.fault.DecodeReason.TheVariants.{Truncated, TooLong}
+use Rattle.cm_reading_codes.specs.Texts.{WholeProduction}
 use Rattle.cm_binary.specs.Answers.{AreBytes}
-use Rattle.cm_reading.specs.declared.fault.DecodeReason.{DecodeReason}
+use Rattle.cm_reading_codes.specs.declared.fault.DecodeReason.{DecodeReason}
 use Rattle.cm_pieces.specs.Progress.{Progress, fresh, behind, HasRead, Reaches, Stops}
 
 -- What a decoder holds: what was read, the bytes kept unread, the fault that was met.

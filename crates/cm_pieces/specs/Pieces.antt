@@ -1,7 +1,7 @@
 -- Pieces of a file, one after another.
 use Rattle.std.specs.Prelude.{◌≡◌, ◌⊎◌, ◌↔◌, ℕ, ◌+◌, List, ◌++◌, length, None, Err, IsErrAnd}
-use Rattle.cm_reading.specs.declared.fault.DecodeFault.{DecodeFault}
-use Rattle.cm_reading.specs.declared.fault.DecodeReason.TheVariants.{Memory}
+use Rattle.cm_reading_codes.specs.declared.fault.DecodeFault.{DecodeFault}
+use Rattle.cm_reading_codes.specs.declared.fault.DecodeReason.TheVariants.{Memory}
 use Rattle.cm_binary.specs.Answers.{AreBytes, IsAnswer}
 use Rattle.cm_pieces.specs.After.{Held, Answer, After}
 

@@ -9,9 +9,9 @@ use Rattle.cm_grammar.specs.Grammar.{fixed}
 use Rattle.cm_grammar.specs.Whole.{state_after}
 use Rattle.cm_component.specs.Trees.{SectionTree}
 use Rattle.cm_component.specs.declared.limits.TheConstants.{COMPONENT_PREAMBLE, MAX_TYPES}
-use Rattle.cm_reading.specs.declared.fault.DecodeReason.{DecodeReason}
-use Rattle.cm_reading.specs.declared.fault.DecodeReason.TheVariants.{BadPreamble}
-use Rattle.cm_reading.specs.Texts.{WholeProduction}
+use Rattle.cm_reading_codes.specs.declared.fault.DecodeReason.{DecodeReason}
+use Rattle.cm_reading_codes.specs.declared.fault.DecodeReason.TheVariants.{BadPreamble}
+use Rattle.cm_reading_codes.specs.Texts.{WholeProduction}
 use Rattle.cm_reading.specs.Sections.{section, sections, room_after}
 use Rattle.cm_reading.specs.File.{component}
 use Rattle.cm_binary.specs.Answers.{AreBytes}

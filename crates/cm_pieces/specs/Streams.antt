@@ -1,8 +1,8 @@
 -- Files that are read from a reader, and written to a writer.
 use Rattle.std.specs.Prelude.{◌≡◌, ◌⊎◌, ℕ, ◌<◌, List, length, take, Option, Ok, Err}
 use Rattle.std.specs.Io.KnownBytes.{Consumes, Appends, IsAtEnd}
-use Rattle.cm_reading.specs.declared.fault.DecodeFault.{DecodeFault}
-use Rattle.cm_reading.specs.declared.fault.DecodeReason.TheVariants.{Memory, Read}
+use Rattle.cm_reading_codes.specs.declared.fault.DecodeFault.{DecodeFault}
+use Rattle.cm_reading_codes.specs.declared.fault.DecodeReason.TheVariants.{Memory, Read}
 use Rattle.cm_binary.specs.Answers.{AreBytes, IsAnswer}
 use Rattle.cm_pieces.specs.After.{Answer}
 use Rattle.cm_pieces.specs.Pieces.{StaysFault, IsOpen}

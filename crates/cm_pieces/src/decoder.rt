@@ -5,8 +5,8 @@ ghost use Rattle.std.specs.Prelude.{length, map, drop};
 ghost use Rattle.std.specs.Prelude.{IsTrue, OnOk, IfOk, IfErr, IfSome, Some, None};
 ghost use Rattle.cm_component.specs.Trees.{section_tree};
 ghost use Rattle.cm_component.specs.Limits.{limit_fault};
-ghost use Rattle.cm_reading.specs.declared.fault.DecodeFault.{DecodeFault};
-ghost use Rattle.cm_reading.specs.declared.fault.DecodeReason.TheVariants as reasons;
+ghost use Rattle.cm_reading_codes.specs.declared.fault.DecodeFault.{DecodeFault};
+ghost use Rattle.cm_reading_codes.specs.declared.fault.DecodeReason.TheVariants as reasons;
 ghost use Rattle.cm_binary.specs.Answers.{IsAnswer};
 ghost use Rattle.cm_pieces.specs.After.{Answer, nothing, After, Follows, IsSettled, BeginsSection};
 ghost use Rattle.cm_pieces.specs.After.{Waits, GoesOn, HasFault, EndsEarly, StopsAt};
@@ -18,7 +18,7 @@ ghost use Rattle.cm_component.specs.declared.limits.TheConstants.{MAX_FILE_BYTES
 use crate::front::{Front, Next};
 use cm_component::{Component, MAX_FILE_BYTES, Section};
 use cm_grammar::{End, ReadError};
-use cm_reading::{DecodeFault, DecodeReason};
+use cm_reading_codes::{DecodeFault, DecodeReason};
 use std::alloc::Global;
 use std::marker::Model;
 

@@ -6,7 +6,8 @@ ghost use Rattle.cm_pieces.specs.Progress.{fresh, Takes, Stops, Reaches, StopsIn
 
 use cm_component::{COMPONENT_PREAMBLE, MAX_TYPES, Section};
 use cm_grammar::{Cursor, End, ReadError};
-use cm_reading::{DecodeReason, read_section, room_after};
+use cm_reading::{read_section, room_after};
+use cm_reading_codes::DecodeReason;
 use std::alloc::Global;
 
 /// What comes next in a file.

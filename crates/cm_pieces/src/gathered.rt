@@ -1,13 +1,13 @@
 //! Pieces that are gathered before they are fed.
 
-ghost use Rattle.std.specs.Prelude.{◌≡◌, ◌⊎◌, ◌↔◌, ℕ, ◌++◌, List, [], IsTrue, OnOk, IfErr, None};
-ghost use Rattle.cm_reading.specs.declared.fault.DecodeReason.TheVariants as reasons;
+ghost use Rattle.std.specs.Prelude.{◌≡◌, ◌⊎◌, ◌↔◌, ℕ, ◌++◌, List, [], OnOk, IfErr, None};
+ghost use Rattle.cm_reading_codes.specs.declared.fault.DecodeReason.TheVariants as reasons;
 ghost use Rattle.cm_binary.specs.Answers.{AreBytes};
 ghost use Rattle.cm_pieces.specs.Pieces.{HasCome, IsOpen, StaysFault, Decodes};
 
 use crate::decoder::Decoder;
 use cm_component::Component;
-use cm_reading::{DecodeFault, DecodeReason};
+use cm_reading_codes::{DecodeFault, DecodeReason};
 use std::alloc::Global;
 
 /// A decoder with bytes that it was not fed yet. It is fed where these are as many as it keeps
@@ -53,25 +53,6 @@ impl Gathered {
         self.feed_all()
     }
 
-    /// Takes further bytes. A fault of them is answered at the end: the one error is that memory
-    /// was refused.
-    pub fn gather(&mut self, bytes: &[u8]) -> Result<(), DecodeFault>
-        ensures ok { OnOk result ((before : List ℕ)
-            → HasCome self.old.decoder self.old.unfed.items before
-            → HasCome self.new.decoder self.new.unfed.items (before ++ bytes.now)) }
-        ensures err { IfErr result (λ f. f.reason ≡ reasons.Memory) }
-    {
-        match self.take(bytes) {
-            Ok(()) => Ok(()),
-            Err(fault) => {
-                if lacks_memory(fault) {
-                    return Err(fault);
-                }
-                Ok(())
-            }
-        }
-    }
-
     /// Feeds what was not fed yet. After a fault, but want of memory, what has come is known.
     pub fn feed_all(&mut self) -> Result<(), DecodeFault>
         ensures ok { OnOk result ((before : List ℕ)
@@ -96,11 +77,4 @@ impl Gathered {
         self.feed_all()?;
         self.decoder.finish()
     }
-}
-
-/// Whether the fault is that memory was refused.
-fn lacks_memory(fault: DecodeFault) -> bool
-    ensures { IsTrue result ↔ (fault.reason ≡ reasons.Memory) }
-{
-    matches!(fault.reason, DecodeReason::Memory)
 }

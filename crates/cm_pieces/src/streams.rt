@@ -14,7 +14,7 @@ use crate::fault::{WriteFault, WriteReason};
 use crate::gathered::Gathered;
 use cm_binary::encode;
 use cm_component::Component;
-use cm_reading::{DecodeFault, DecodeReason};
+use cm_reading_codes::{DecodeFault, DecodeReason};
 use std::alloc::{AllocError, Global};
 use std::io;
 use std::io::{ErrorKind, Read, Write};

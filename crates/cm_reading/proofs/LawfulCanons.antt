@@ -1,11 +1,11 @@
 -- Canonical definitions are read exactly.
 use Rattle.cm_grammar.proofs.Laws.{Lawful, done_lawful, bind_lawful, code_lawful, fixed_lawful, vec_lawful}
-use Rattle.cm_reading.specs.declared.codes.CanonForm.{CanonForm}
-use Rattle.cm_reading.specs.declared.codes.CanonForm.TheVariants as canon_forms
-use Rattle.cm_reading.specs.declared.codes.OptionForm.{OptionForm}
-use Rattle.cm_reading.specs.declared.codes.OptionForm.TheVariants as option_forms
+use Rattle.cm_reading_codes.specs.declared.codes.CanonForm.{CanonForm}
+use Rattle.cm_reading_codes.specs.declared.codes.CanonForm.TheVariants as canon_forms
+use Rattle.cm_reading_codes.specs.declared.codes.OptionForm.{OptionForm}
+use Rattle.cm_reading_codes.specs.declared.codes.OptionForm.TheVariants as option_forms
 use Rattle.cm_reading.specs.Canons.{canon_option_of, canon_option, canon_of, canon}
-use Rattle.cm_reading.proofs.LawfulTexts.{index_lawful}
+use Rattle.cm_reading_codes.proofs.LawfulTexts.{index_lawful}
 
 pub canon_option_of_lawful : (f : OptionForm) → Lawful (canon_option_of f)
 unfolding canon_option_of

@@ -1,9 +1,9 @@
 -- Imports and exports are read exactly.
 use Rattle.cm_grammar.proofs.Laws.{Lawful, done_lawful, bind_lawful, code_lawful}
-use Rattle.cm_reading.specs.declared.codes.DescForm.{DescForm}
-use Rattle.cm_reading.specs.declared.codes.DescForm.TheVariants as desc_forms
+use Rattle.cm_reading_codes.specs.declared.codes.DescForm.{DescForm}
+use Rattle.cm_reading_codes.specs.declared.codes.DescForm.TheVariants as desc_forms
 use Rattle.cm_reading.specs.Externs.{extern_desc_of, extern_desc, import_item, export_item}
-use Rattle.cm_reading.proofs.LawfulTexts.{index_lawful, extern_name_lawful}
+use Rattle.cm_reading_codes.proofs.LawfulTexts.{index_lawful, extern_name_lawful}
 
 pub extern_desc_of_lawful : (f : DescForm) → Lawful (extern_desc_of f)
 unfolding extern_desc_of

@@ -1,9 +1,9 @@
 -- Core instances and instances are read exactly.
 use Rattle.cm_grammar.proofs.Laws.{Lawful, done_lawful, bind_lawful, code_lawful, fixed_lawful, vec_lawful}
-use Rattle.cm_reading.specs.declared.codes.CoreInstanceForm.{CoreInstanceForm}
-use Rattle.cm_reading.specs.declared.codes.CoreInstanceForm.TheVariants as forms
+use Rattle.cm_reading_codes.specs.declared.codes.CoreInstanceForm.{CoreInstanceForm}
+use Rattle.cm_reading_codes.specs.declared.codes.CoreInstanceForm.TheVariants as forms
 use Rattle.cm_reading.specs.Instances.{core_arg, core_export, core_instance_of, core_instance, inline_export, instance_item}
-use Rattle.cm_reading.proofs.LawfulTexts.{index_lawful, text_lawful, extern_name_lawful}
+use Rattle.cm_reading_codes.proofs.LawfulTexts.{index_lawful, text_lawful, extern_name_lawful}
 
 pub core_arg_lawful : Lawful core_arg
 unfolding core_arg

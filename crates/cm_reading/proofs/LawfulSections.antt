@@ -5,13 +5,13 @@ use Rattle.cm_grammar.proofs.Laws.{Lawful, bind_lawful, code_lawful, vec_lawful}
 use Rattle.cm_grammar.proofs.WholeLaws.{LawfulWhole, build_lawful, remainder_lawful, exactly_lawful, join_lawful}
 use Rattle.cm_grammar.proofs.PartLaws.{begins_with_lawful, of_size_lawful}
 use Rattle.cm_grammar.proofs.EndLaws.{IsNonempty, to_end_lawful}
-use Rattle.cm_reading.specs.declared.codes.SectionKind.{SectionKind}
-use Rattle.cm_reading.specs.declared.codes.SectionKind.TheVariants as kinds
+use Rattle.cm_reading_codes.specs.declared.codes.SectionKind.{SectionKind}
+use Rattle.cm_reading_codes.specs.declared.codes.SectionKind.TheVariants as kinds
 use Rattle.cm_reading.specs.Sections.{contents, section, sections, room_after}
-use Rattle.cm_reading.proofs.LawfulTexts.{index_lawful, text_lawful}
+use Rattle.cm_reading_codes.proofs.LawfulTexts.{index_lawful, text_lawful}
 use Rattle.cm_reading.proofs.LawfulInstances.{core_instance_lawful, instance_lawful}
-use Rattle.cm_reading.proofs.LawfulAliases.{alias_lawful}
-use Rattle.cm_reading.proofs.LawfulTypes.{type_defs_lawful}
+use Rattle.cm_reading_types.proofs.LawfulAliases.{alias_lawful}
+use Rattle.cm_reading_types.proofs.LawfulTypes.{type_defs_lawful}
 use Rattle.cm_reading.proofs.LawfulCanons.{canon_lawful}
 use Rattle.cm_reading.proofs.LawfulExterns.{import_lawful, export_lawful}
 

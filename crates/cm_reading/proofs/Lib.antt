@@ -1,8 +1,4 @@
-pub mod TextLaws
-pub mod LawfulTexts
 pub mod LawfulInstances
-pub mod LawfulAliases
-pub mod LawfulTypes
 pub mod LawfulCanons
 pub mod LawfulExterns
 pub mod LawfulSections

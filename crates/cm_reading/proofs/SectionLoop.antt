@@ -10,7 +10,7 @@ use Rattle.cm_grammar.proofs.Tools.{IsBytes, IsBytes-after}
 use Rattle.cm_grammar.proofs.ReadingLaws.{with_each, to_end_more, to_end_fails}
 use Rattle.cm_component.specs.declared.section.Section.{Section}
 use Rattle.cm_component.specs.Trees.{SectionTree, section_tree}
-use Rattle.cm_reading.specs.declared.fault.DecodeReason.{DecodeReason}
+use Rattle.cm_reading_codes.specs.declared.fault.DecodeReason.{DecodeReason}
 use Rattle.cm_reading.specs.Sections.{section, room_after}
 use Rattle.cm_reading.proofs.LawfulSections.{section_lawful, section_nonempty}
 

@@ -5,13 +5,13 @@ use Rattle.cm_component.specs.declared.canons.CanonOption.{CanonOption}
 use Rattle.cm_component.specs.declared.canons.CanonOption.TheVariants as options
 use Rattle.cm_component.specs.Trees as trees
 use Rattle.cm_component.specs.Trees.{CanonTree}
-use Rattle.cm_reading.specs.declared.fault.DecodeReason.TheVariants.{UnknownCode}
-use Rattle.cm_reading.specs.declared.codes.CanonForm.{CanonForm}
-use Rattle.cm_reading.specs.declared.codes.CanonForm.TheVariants as canon_forms
-use Rattle.cm_reading.specs.declared.codes.OptionForm.{OptionForm}
-use Rattle.cm_reading.specs.declared.codes.OptionForm.TheVariants as option_forms
-use Rattle.cm_reading.specs.Codes.{canon_form, option_form}
-use Rattle.cm_reading.specs.Texts.{Production, index, vector}
+use Rattle.cm_reading_codes.specs.declared.fault.DecodeReason.TheVariants.{UnknownCode}
+use Rattle.cm_reading_codes.specs.declared.codes.CanonForm.{CanonForm}
+use Rattle.cm_reading_codes.specs.declared.codes.CanonForm.TheVariants as canon_forms
+use Rattle.cm_reading_codes.specs.declared.codes.OptionForm.{OptionForm}
+use Rattle.cm_reading_codes.specs.declared.codes.OptionForm.TheVariants as option_forms
+use Rattle.cm_reading_codes.specs.Codes.{canon_form, option_form}
+use Rattle.cm_reading_codes.specs.Texts.{Production, index, vector}
 
 -- A canonical option behind its form: of the last three an index.
 unfoldable pub canon_option_of : OptionForm → Production CanonOption

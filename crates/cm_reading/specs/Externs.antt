@@ -4,10 +4,10 @@ use Rattle.cm_component.specs.declared.externs.ExternDesc.{ExternDesc}
 use Rattle.cm_component.specs.declared.externs.ExternDesc.TheVariants as descs
 use Rattle.cm_component.specs.declared.externs.Import.{Import}
 use Rattle.cm_component.specs.declared.externs.Export.{Export}
-use Rattle.cm_reading.specs.declared.codes.DescForm.{DescForm}
-use Rattle.cm_reading.specs.declared.codes.DescForm.TheVariants as desc_forms
-use Rattle.cm_reading.specs.Codes.{desc_form, export_sort, export_desc}
-use Rattle.cm_reading.specs.Texts.{Production, index, extern_name}
+use Rattle.cm_reading_codes.specs.declared.codes.DescForm.{DescForm}
+use Rattle.cm_reading_codes.specs.declared.codes.DescForm.TheVariants as desc_forms
+use Rattle.cm_reading_codes.specs.Codes.{desc_form, export_sort, export_desc}
+use Rattle.cm_reading_codes.specs.Texts.{Production, index, extern_name}
 
 -- What is imported, behind its form: the index of its type.
 unfoldable pub extern_desc_of : DescForm → Production ExternDesc

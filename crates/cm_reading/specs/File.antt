@@ -8,10 +8,10 @@ use Rattle.cm_grammar.specs.Whole.{join, at_most}
 use Rattle.cm_component.specs.Trees.{SectionTree}
 use Rattle.cm_component.specs.declared.limits.TheConstants.{COMPONENT_PREAMBLE}
 use Rattle.cm_component.specs.declared.limits.TheConstants.{MAX_TYPES, MAX_FILE_BYTES}
-use Rattle.cm_reading.specs.declared.fault.DecodeReason.{DecodeReason}
-use Rattle.cm_reading.specs.declared.fault.DecodeReason.TheVariants.{BadPreamble, Truncated}
-use Rattle.cm_reading.specs.declared.fault.DecodeReason.TheVariants.{TooLong}
-use Rattle.cm_reading.specs.Texts.{WholeProduction}
+use Rattle.cm_reading_codes.specs.declared.fault.DecodeReason.{DecodeReason}
+use Rattle.cm_reading_codes.specs.declared.fault.DecodeReason.TheVariants.{BadPreamble, Truncated}
+use Rattle.cm_reading_codes.specs.declared.fault.DecodeReason.TheVariants.{TooLong}
+use Rattle.cm_reading_codes.specs.Texts.{WholeProduction}
 use Rattle.cm_reading.specs.Sections.{sections}
 
 -- The preamble, and sections to the end.

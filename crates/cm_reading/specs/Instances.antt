@@ -4,12 +4,12 @@ use Rattle.cm_grammar.specs.Grammar.{done, ◌>>=◌, code, fixed}
 use Rattle.cm_component.specs.declared.instances.InlineExport.{InlineExport}
 use Rattle.cm_component.specs.Trees as trees
 use Rattle.cm_component.specs.Trees.{ArgTree, CoreExportTree, CoreInstanceTree}
-use Rattle.cm_reading.specs.declared.fault.DecodeReason.TheVariants.{UnknownCode}
-use Rattle.cm_reading.specs.declared.codes.CoreInstanceForm.{CoreInstanceForm}
-use Rattle.cm_reading.specs.declared.codes.CoreInstanceForm.TheVariants as forms
-use Rattle.cm_reading.specs.Codes.{core_instance_form, core_sort, instance_form}
-use Rattle.cm_reading.specs.Codes.{instance_export_sort}
-use Rattle.cm_reading.specs.Texts.{Production, index, vector, text, extern_name}
+use Rattle.cm_reading_codes.specs.declared.fault.DecodeReason.TheVariants.{UnknownCode}
+use Rattle.cm_reading_codes.specs.declared.codes.CoreInstanceForm.{CoreInstanceForm}
+use Rattle.cm_reading_codes.specs.declared.codes.CoreInstanceForm.TheVariants as forms
+use Rattle.cm_reading_codes.specs.Codes.{core_instance_form, core_sort, instance_form}
+use Rattle.cm_reading_codes.specs.Codes.{instance_export_sort}
+use Rattle.cm_reading_codes.specs.Texts.{Production, index, vector, text, extern_name}
 
 -- An argument of a core instance: its name, the sort of instances, the index
 -- (`core:instantiatearg`).

@@ -1,9 +1,4 @@
-pub mod Reasons
-pub mod Codes
-pub mod Texts
 pub mod Instances
-pub mod Aliases
-pub mod Types
 pub mod Canons
 pub mod Externs
 pub mod Sections

@@ -6,14 +6,14 @@ use Rattle.cm_component.specs.Trees as trees
 use Rattle.cm_component.specs.Trees.{SectionTree}
 use Rattle.cm_component.specs.Limits.{types_in}
 use Rattle.cm_component.specs.declared.limits.TheConstants.{MODULE_PREAMBLE}
-use Rattle.cm_reading.specs.declared.fault.DecodeReason.TheVariants.{SizeMismatch, NotAModule}
-use Rattle.cm_reading.specs.declared.codes.SectionKind.{SectionKind}
-use Rattle.cm_reading.specs.declared.codes.SectionKind.TheVariants as kinds
-use Rattle.cm_reading.specs.Codes.{section_kind}
-use Rattle.cm_reading.specs.Texts.{Production, WholeProduction, index, vector, text}
+use Rattle.cm_reading_codes.specs.declared.fault.DecodeReason.TheVariants.{SizeMismatch, NotAModule}
+use Rattle.cm_reading_codes.specs.declared.codes.SectionKind.{SectionKind}
+use Rattle.cm_reading_codes.specs.declared.codes.SectionKind.TheVariants as kinds
+use Rattle.cm_reading_codes.specs.Codes.{section_kind}
+use Rattle.cm_reading_codes.specs.Texts.{Production, WholeProduction, index, vector, text}
 use Rattle.cm_reading.specs.Instances.{core_instance, instance_item}
-use Rattle.cm_reading.specs.Aliases.{alias}
-use Rattle.cm_reading.specs.Types.{type_defs}
+use Rattle.cm_reading_types.specs.Aliases.{alias}
+use Rattle.cm_reading_types.specs.Types.{type_defs}
 use Rattle.cm_reading.specs.Canons.{canon}
 use Rattle.cm_reading.specs.Externs.{import_item, export_item}
 

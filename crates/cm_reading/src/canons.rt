@@ -5,17 +5,17 @@ ghost use Rattle.cm_grammar.specs.Faults.{Gives};
 ghost use Rattle.cm_grammar.specs.Reading.{Reads};
 ghost use Rattle.cm_component.specs.declared.canons.CanonOption.{CanonOption};
 ghost use Rattle.cm_component.specs.Trees.{CanonTree, canon_tree};
-ghost use Rattle.cm_reading.specs.declared.codes.CanonForm.TheVariants as canon_forms;
-ghost use Rattle.cm_reading.specs.Texts.{vector};
+ghost use Rattle.cm_reading_codes.specs.declared.codes.CanonForm.TheVariants as canon_forms;
+ghost use Rattle.cm_reading_codes.specs.Texts.{vector};
 ghost use Rattle.cm_reading.specs.Canons.{canon_option, canon_option_of, canon_of, canon};
 
-use crate::codes::{CanonForm, OptionForm};
-use crate::fault::DecodeReason;
+use crate::sections::Items;
 use cm_component::{Canon, CanonOption};
 use cm_grammar::{Cursor, Form, ReadError, read_vec};
+use cm_reading_codes::{CanonForm, DecodeReason, OptionForm};
 use std::alloc::Global;
 
-impl Form<DecodeReason> for CanonOption {
+impl Form<DecodeReason, Items> for CanonOption {
     ghost Tree = { CanonOption };
 
     ghost tree = { λ o. o };
@@ -42,7 +42,7 @@ impl Form<DecodeReason> for CanonOption {
     }
 }
 
-impl Form<DecodeReason> for Canon {
+impl Form<DecodeReason, Items> for Canon {
     ghost Tree = { CanonTree };
 
     ghost tree = { canon_tree };
@@ -84,7 +84,7 @@ fn read_lift(
 {
     bytes.fixed(&[0x00], DecodeReason::UnknownCode)?;
     let core_func = bytes.number(DecodeReason::BadNumber)?;
-    let options = read_vec(alloc, bytes, DecodeReason::BadNumber)?;
+    let options = read_vec::<_, Items, _>(alloc, bytes, DecodeReason::BadNumber)?;
     let ty = bytes.number(DecodeReason::BadNumber)?;
     Ok(Canon::Lift {
         core_func,
@@ -104,6 +104,6 @@ fn read_lower(
 {
     bytes.fixed(&[0x00], DecodeReason::UnknownCode)?;
     let func = bytes.number(DecodeReason::BadNumber)?;
-    let options = read_vec(alloc, bytes, DecodeReason::BadNumber)?;
+    let options = read_vec::<_, Items, _>(alloc, bytes, DecodeReason::BadNumber)?;
     Ok(Canon::Lower { func, options })
 }

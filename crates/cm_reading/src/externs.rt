@@ -7,14 +7,13 @@ ghost use Rattle.cm_component.specs.declared.externs.Import.{Import};
 ghost use Rattle.cm_component.specs.declared.externs.Export.{Export};
 ghost use Rattle.cm_reading.specs.Externs.{extern_desc, extern_desc_of, import_item, export_item};
 
-use crate::codes::{DescForm, NoDescription};
-use crate::fault::DecodeReason;
-use crate::texts::read_extern_name;
+use crate::sections::Items;
 use cm_component::{Export, ExternDesc, Import};
 use cm_grammar::{Cursor, Form, ReadError};
+use cm_reading_codes::{DecodeReason, DescForm, NoDescription, read_extern_name};
 use std::alloc::Global;
 
-impl Form<DecodeReason> for Import {
+impl Form<DecodeReason, Items> for Import {
     ghost Tree = { Import };
 
     ghost tree = { λ i. i };
@@ -44,7 +43,7 @@ fn read_desc(bytes: &mut Cursor<'_, DecodeReason>) -> Result<ExternDesc, ReadErr
     }
 }
 
-impl Form<DecodeReason> for Export {
+impl Form<DecodeReason, Items> for Export {
     ghost Tree = { Export };
 
     ghost tree = { λ e. e };

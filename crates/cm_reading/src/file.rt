@@ -5,13 +5,13 @@ ghost use Rattle.cm_grammar.specs.Faults.{Gives};
 ghost use Rattle.cm_grammar.specs.Reading.{IsInside};
 ghost use Rattle.cm_grammar.specs.declared.fault.End.TheVariants as end;
 ghost use Rattle.cm_component.specs.Trees.{section_tree};
-ghost use Rattle.cm_reading.specs.declared.fault.DecodeReason.TheVariants as reasons;
+ghost use Rattle.cm_reading_codes.specs.declared.fault.DecodeReason.TheVariants as reasons;
 ghost use Rattle.cm_reading.specs.File.{component, file};
 
-use crate::fault::DecodeReason;
 use crate::sections::read_sections;
 use cm_component::{COMPONENT_PREAMBLE, MAX_FILE_BYTES, Section};
 use cm_grammar::{Cursor, End, Fault, ReadError};
+use cm_reading_codes::DecodeReason;
 use std::alloc::Global;
 
 /// The sections of a component file (Binary.md), whose bytes these are, all of them. A fault is the

@@ -6,18 +6,17 @@ ghost use Rattle.cm_grammar.specs.Reading.{Reads};
 ghost use Rattle.cm_component.specs.declared.instances.InlineExport.{InlineExport};
 ghost use Rattle.cm_component.specs.Trees.{ArgTree, arg_tree, CoreExportTree, core_export_tree};
 ghost use Rattle.cm_component.specs.Trees.{CoreInstanceTree, core_instance_tree, instance_tree};
-ghost use Rattle.cm_reading.specs.Texts.{vector};
+ghost use Rattle.cm_reading_codes.specs.Texts.{vector};
 ghost use Rattle.cm_reading.specs.Instances.{core_arg, core_export, core_instance};
 ghost use Rattle.cm_reading.specs.Instances.{core_instance_of, inline_export, instance_item};
 
-use crate::codes::{CoreInstanceForm, InstanceForm};
-use crate::fault::DecodeReason;
-use crate::texts::{read_extern_name, read_text};
+use crate::sections::Items;
 use cm_component::{CoreInlineExport, CoreInstance, CoreInstantiationArg, InlineExport, Instance};
 use cm_grammar::{Cursor, Form, ReadError, read_vec};
+use cm_reading_codes::{CoreInstanceForm, DecodeReason, InstanceForm, read_extern_name, read_text};
 use std::alloc::Global;
 
-impl Form<DecodeReason> for CoreInstantiationArg {
+impl Form<DecodeReason, Items> for CoreInstantiationArg {
     ghost Tree = { ArgTree };
 
     ghost tree = { arg_tree };
@@ -36,7 +35,7 @@ impl Form<DecodeReason> for CoreInstantiationArg {
     }
 }
 
-impl Form<DecodeReason> for CoreInlineExport {
+impl Form<DecodeReason, Items> for CoreInlineExport {
     ghost Tree = { CoreExportTree };
 
     ghost tree = { core_export_tree };
@@ -55,7 +54,7 @@ impl Form<DecodeReason> for CoreInlineExport {
     }
 }
 
-impl Form<DecodeReason> for CoreInstance {
+impl Form<DecodeReason, Items> for CoreInstance {
     ghost Tree = { CoreInstanceTree };
 
     ghost tree = { core_instance_tree };
@@ -70,18 +69,18 @@ impl Form<DecodeReason> for CoreInstance {
         match bytes.code()? {
             CoreInstanceForm::Instantiate => {
                 let module = bytes.number(DecodeReason::BadNumber)?;
-                let args = read_vec(alloc, bytes, DecodeReason::BadNumber)?;
+                let args = read_vec::<_, Items, _>(alloc, bytes, DecodeReason::BadNumber)?;
                 Ok(CoreInstance::Instantiate { module, args })
             }
             CoreInstanceForm::Exports => {
-                let exports = read_vec(alloc, bytes, DecodeReason::BadNumber)?;
+                let exports = read_vec::<_, Items, _>(alloc, bytes, DecodeReason::BadNumber)?;
                 Ok(CoreInstance::Exports(exports))
             }
         }
     }
 }
 
-impl Form<DecodeReason> for InlineExport {
+impl Form<DecodeReason, Items> for InlineExport {
     ghost Tree = { InlineExport };
 
     ghost tree = { λ e. e };
@@ -100,7 +99,7 @@ impl Form<DecodeReason> for InlineExport {
     }
 }
 
-impl Form<DecodeReason> for Instance {
+impl Form<DecodeReason, Items> for Instance {
     ghost Tree = { List InlineExport };
 
     ghost tree = { instance_tree };
@@ -113,7 +112,7 @@ impl Form<DecodeReason> for Instance {
         bytes: &mut Cursor<'_, DecodeReason>,
     ) -> Result<Self, ReadError<DecodeReason>> {
         let InstanceForm::Exports = bytes.code()?;
-        let exports = read_vec(alloc, bytes, DecodeReason::BadNumber)?;
+        let exports = read_vec::<_, Items, _>(alloc, bytes, DecodeReason::BadNumber)?;
         Ok(Instance { exports })
     }
 }

@@ -6,36 +6,38 @@ ghost use Rattle.cm_grammar.specs.Whole.{exactly, of_size};
 ghost use Rattle.cm_grammar.specs.Reading.{Reads, ReadsAll, IsInside};
 ghost use Rattle.cm_types.specs.DefTypes.{def_type_tree};
 ghost use Rattle.cm_component.specs.Trees.{section_tree};
-ghost use Rattle.cm_reading.specs.declared.fault.DecodeReason.TheVariants as reasons;
-ghost use Rattle.cm_reading.specs.declared.codes.SectionKind.TheVariants as kinds;
-ghost use Rattle.cm_reading.specs.Texts.{vector};
-ghost use Rattle.cm_reading.specs.Types.{type_defs};
+ghost use Rattle.cm_reading_codes.specs.declared.fault.DecodeReason.TheVariants as reasons;
+ghost use Rattle.cm_reading_codes.specs.declared.codes.SectionKind.TheVariants as kinds;
+ghost use Rattle.cm_reading_codes.specs.Texts.{vector};
+ghost use Rattle.cm_reading_types.specs.Types.{type_defs};
 ghost use Rattle.cm_reading.specs.Sections.{contents, section, sections, room_after};
 
-use crate::codes::SectionKind;
-use crate::fault::DecodeReason;
-use crate::texts::read_text;
 use cm_component::{CustomSection, MAX_TYPES, MODULE_PREAMBLE, Section, types_in};
 use cm_grammar::{Cursor, End, Form, ReadError, read_stocked, read_vec};
+use cm_reading_codes::{DecodeReason, SectionKind, read_text};
+use cm_reading_types::Types;
 use cm_types::DefType;
 use std::alloc::Global;
 
+/// The sections but those of types and aliases, as a place of forms.
+pub struct Items;
+
 /// Reads all of a part as a count, and so many items.
 #[tactic(auto, using(cm_grammar::proofs::WholeLaws::ends_fails))]
-fn read_items<T: Form<DecodeReason>>(
+fn read_items<Place, T: Form<DecodeReason, Place>>(
     alloc: Global,
     part: &mut Cursor<'_, DecodeReason>,
 ) -> Result<Vec<T>, ReadError<DecodeReason>>
     ensures { ReadsAll (exactly reasons.SizeMismatch (vector T.grammar)) (λ v. map T.tree v.items)
         part.old result }
 {
-    let items = read_vec(alloc, part, DecodeReason::BadNumber)?;
+    let items = read_vec::<_, Place, _>(alloc, part, DecodeReason::BadNumber)?;
     part.finish(DecodeReason::SizeMismatch)?;
     Ok(items)
 }
 
 /// Reads all of a part as a count, and so many types, where `room` more may stand in the file.
-#[tactic(auto, using(cm_grammar::proofs::WholeLaws::ends_fails), unfolding(crate::specs::Types::type_defs))]
+#[tactic(auto, using(cm_grammar::proofs::WholeLaws::ends_fails), unfolding(cm_reading_types::specs::Types::type_defs))]
 fn read_all_types(
     alloc: Global,
     part: &mut Cursor<'_, DecodeReason>,
@@ -44,7 +46,7 @@ fn read_all_types(
     ensures { ReadsAll (exactly reasons.SizeMismatch (type_defs room))
         (λ v. map def_type_tree v.items) part.old result }
 {
-    let types = read_stocked(alloc, part, DecodeReason::BadNumber, room)?;
+    let types = read_stocked::<_, Types, _>(alloc, part, DecodeReason::BadNumber, room)?;
     part.finish(DecodeReason::SizeMismatch)?;
     Ok(types)
 }
@@ -87,13 +89,15 @@ fn read_contents(
     match kind {
         SectionKind::Custom => read_custom_section(alloc, part),
         SectionKind::CoreModule => read_core_module_section(alloc, part),
-        SectionKind::CoreInstances => Ok(Section::CoreInstances(read_items(alloc, part)?)),
-        SectionKind::Instances => Ok(Section::Instances(read_items(alloc, part)?)),
-        SectionKind::Aliases => Ok(Section::Aliases(read_items(alloc, part)?)),
+        SectionKind::CoreInstances => {
+            Ok(Section::CoreInstances(read_items::<Items, _>(alloc, part)?))
+        }
+        SectionKind::Instances => Ok(Section::Instances(read_items::<Items, _>(alloc, part)?)),
+        SectionKind::Aliases => Ok(Section::Aliases(read_items::<Types, _>(alloc, part)?)),
         SectionKind::Types => Ok(Section::Types(read_all_types(alloc, part, room)?)),
-        SectionKind::Canons => Ok(Section::Canons(read_items(alloc, part)?)),
-        SectionKind::Imports => Ok(Section::Imports(read_items(alloc, part)?)),
-        SectionKind::Exports => Ok(Section::Exports(read_items(alloc, part)?)),
+        SectionKind::Canons => Ok(Section::Canons(read_items::<Items, _>(alloc, part)?)),
+        SectionKind::Imports => Ok(Section::Imports(read_items::<Items, _>(alloc, part)?)),
+        SectionKind::Exports => Ok(Section::Exports(read_items::<Items, _>(alloc, part)?)),
     }
 }
 

@@ -32,15 +32,23 @@ struct Pipe {
 }
 
 impl Pipe {
-    fn new(alloc: Global, size: usize, room: usize, full: Full) -> Pipe {
-        Pipe {
-            taken: Vec::new(alloc),
+    /// A writer with memory for a file of so many bytes, so that it asks for none as it is written
+    /// to.
+    fn new(
+        alloc: Global,
+        most: usize,
+        size: usize,
+        room: usize,
+        full: Full,
+    ) -> Result<Pipe, RowFault> {
+        Ok(Pipe {
+            taken: Vec::with_capacity(alloc, most)?,
             room,
             full,
             size,
             interrupts: false,
             was_interrupted: false,
-        }
+        })
     }
 }
 
@@ -77,11 +85,11 @@ pub fn answer(alloc: Global, words: &[&str]) -> Result<String, RowFault> {
     })?;
     match *form {
         "parts" => {
-            let mut pipe = Pipe::new(alloc, size, usize::MAX, Full::Fails);
+            let mut pipe = Pipe::new(alloc, file.len(), size, usize::MAX, Full::Fails)?;
             show_written(alloc, &component, &mut pipe)
         }
         "interrupted" => {
-            let mut pipe = Pipe::new(alloc, size, usize::MAX, Full::Fails);
+            let mut pipe = Pipe::new(alloc, file.len(), size, usize::MAX, Full::Fails)?;
             pipe.interrupts = true;
             show_written(alloc, &component, &mut pipe)
         }
@@ -123,7 +131,7 @@ fn show_full(
 ) -> Result<String, RowFault> {
     let mut answers = Vec::new(alloc);
     for room in 0..=file.len() {
-        let mut pipe = Pipe::new(alloc, size, room, full);
+        let mut pipe = Pipe::new(alloc, file.len(), size, room, full)?;
         let mut answer = show_end(alloc, component, &mut pipe)?;
         answer.push_str(if pipe.taken.as_slice() == &file[..room] {
             ", its beginning"

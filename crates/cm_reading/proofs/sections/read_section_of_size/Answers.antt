@@ -3,7 +3,7 @@ use Rattle.std.proofs.lemmas.List.{length-take}
 use Rattle.cm_grammar.specs.Reading.{IsInside}
 use Rattle.cm_grammar.proofs.ReadingLaws.{gives_sized}
 use Rattle.cm_component.specs.Trees.{section_tree}
-use Rattle.cm_reading.specs.declared.fault.DecodeReason.TheVariants.{SizeMismatch}
+use Rattle.cm_reading_codes.specs.declared.fault.DecodeReason.TheVariants.{SizeMismatch}
 use Rattle.cm_reading.specs.Sections.{contents}
 use Rattle.cm_reading.proofs.sections.read_section_of_size.Goals as goal
 

@@ -9,49 +9,49 @@ use Rattle.cm_component.specs.declared.instances.InstanceExportSort.{InstanceExp
 use Rattle.cm_component.specs.declared.instances.InstanceExportSort.TheVariants as instance_sorts
 use Rattle.cm_component.specs.declared.externs.ExportSort.{ExportSort}
 use Rattle.cm_component.specs.declared.externs.ExportSort.TheVariants as export_sorts
-use Rattle.cm_reading.specs.declared.fault.DecodeReason.{DecodeReason}
-use Rattle.cm_reading.specs.declared.fault.DecodeReason.TheVariants.{UnknownCode, Unsupported}
-use Rattle.cm_reading.specs.declared.fault.Feature.TheVariants as features
-use Rattle.cm_reading.specs.declared.codes.SectionKind.{SectionKind}
-use Rattle.cm_reading.specs.declared.codes.SectionKind.TheVariants as kinds
-use Rattle.cm_reading.specs.declared.codes.CoreInstanceForm.{CoreInstanceForm}
-use Rattle.cm_reading.specs.declared.codes.CoreInstanceForm.TheVariants as forms
-use Rattle.cm_reading.specs.declared.codes.InstanceForm.{InstanceForm}
-use Rattle.cm_reading.specs.declared.codes.InstanceForm.TheVariants as instance_forms
-use Rattle.cm_reading.specs.declared.codes.AliasSort.{AliasSort}
-use Rattle.cm_reading.specs.declared.codes.AliasSort.TheVariants as alias_sorts
-use Rattle.cm_reading.specs.declared.codes.CoreAliasTarget.{CoreAliasTarget}
-use Rattle.cm_reading.specs.declared.codes.CoreAliasTarget.TheVariants as core_targets
-use Rattle.cm_reading.specs.declared.codes.FuncAliasTarget.{FuncAliasTarget}
-use Rattle.cm_reading.specs.declared.codes.FuncAliasTarget.TheVariants as func_targets
-use Rattle.cm_reading.specs.declared.codes.TypeAliasTarget.{TypeAliasTarget}
-use Rattle.cm_reading.specs.declared.codes.TypeAliasTarget.TheVariants as type_targets
-use Rattle.cm_reading.specs.declared.codes.ValueForm.{ValueForm}
-use Rattle.cm_reading.specs.declared.codes.ValueForm.TheVariants as value_forms
-use Rattle.cm_reading.specs.declared.codes.OptionalForm.{OptionalForm}
-use Rattle.cm_reading.specs.declared.codes.OptionalForm.TheVariants as optional_forms
-use Rattle.cm_reading.specs.declared.codes.TypeForm.{TypeForm}
-use Rattle.cm_reading.specs.declared.codes.TypeForm.TheVariants as type_forms
-use Rattle.cm_reading.specs.declared.codes.DeclaredTypeForm.{DeclaredTypeForm}
-use Rattle.cm_reading.specs.declared.codes.DeclaredTypeForm.TheVariants as declared_type_forms
-use Rattle.cm_reading.specs.declared.codes.DeclarationForm.{DeclarationForm}
-use Rattle.cm_reading.specs.declared.codes.DeclarationForm.TheVariants as declaration_forms
-use Rattle.cm_reading.specs.declared.codes.OuterTypeTarget.{OuterTypeTarget}
-use Rattle.cm_reading.specs.declared.codes.OuterTypeTarget.TheVariants as outer_targets
-use Rattle.cm_reading.specs.declared.codes.DeclaredDescForm.{DeclaredDescForm}
-use Rattle.cm_reading.specs.declared.codes.DeclaredDescForm.TheVariants as declared_descs
-use Rattle.cm_reading.specs.declared.codes.TypeBoundForm.{TypeBoundForm}
-use Rattle.cm_reading.specs.declared.codes.TypeBoundForm.TheVariants as bound_forms
-use Rattle.cm_reading.specs.declared.codes.ResultForm.{ResultForm}
-use Rattle.cm_reading.specs.declared.codes.ResultForm.TheVariants as result_forms
-use Rattle.cm_reading.specs.declared.codes.CanonForm.{CanonForm}
-use Rattle.cm_reading.specs.declared.codes.CanonForm.TheVariants as canon_forms
-use Rattle.cm_reading.specs.declared.codes.OptionForm.{OptionForm}
-use Rattle.cm_reading.specs.declared.codes.OptionForm.TheVariants as option_forms
-use Rattle.cm_reading.specs.declared.codes.DescForm.{DescForm}
-use Rattle.cm_reading.specs.declared.codes.DescForm.TheVariants as desc_forms
-use Rattle.cm_reading.specs.declared.codes.NoDescription.{NoDescription}
-use Rattle.cm_reading.specs.declared.codes.NoDescription.TheVariants as descriptions
+use Rattle.cm_reading_codes.specs.declared.fault.DecodeReason.{DecodeReason}
+use Rattle.cm_reading_codes.specs.declared.fault.DecodeReason.TheVariants.{UnknownCode, Unsupported}
+use Rattle.cm_reading_codes.specs.declared.fault.Feature.TheVariants as features
+use Rattle.cm_reading_codes.specs.declared.codes.SectionKind.{SectionKind}
+use Rattle.cm_reading_codes.specs.declared.codes.SectionKind.TheVariants as kinds
+use Rattle.cm_reading_codes.specs.declared.codes.CoreInstanceForm.{CoreInstanceForm}
+use Rattle.cm_reading_codes.specs.declared.codes.CoreInstanceForm.TheVariants as forms
+use Rattle.cm_reading_codes.specs.declared.codes.InstanceForm.{InstanceForm}
+use Rattle.cm_reading_codes.specs.declared.codes.InstanceForm.TheVariants as instance_forms
+use Rattle.cm_reading_codes.specs.declared.codes.AliasSort.{AliasSort}
+use Rattle.cm_reading_codes.specs.declared.codes.AliasSort.TheVariants as alias_sorts
+use Rattle.cm_reading_codes.specs.declared.codes.CoreAliasTarget.{CoreAliasTarget}
+use Rattle.cm_reading_codes.specs.declared.codes.CoreAliasTarget.TheVariants as core_targets
+use Rattle.cm_reading_codes.specs.declared.codes.FuncAliasTarget.{FuncAliasTarget}
+use Rattle.cm_reading_codes.specs.declared.codes.FuncAliasTarget.TheVariants as func_targets
+use Rattle.cm_reading_codes.specs.declared.codes.TypeAliasTarget.{TypeAliasTarget}
+use Rattle.cm_reading_codes.specs.declared.codes.TypeAliasTarget.TheVariants as type_targets
+use Rattle.cm_reading_codes.specs.declared.codes.ValueForm.{ValueForm}
+use Rattle.cm_reading_codes.specs.declared.codes.ValueForm.TheVariants as value_forms
+use Rattle.cm_reading_codes.specs.declared.codes.OptionalForm.{OptionalForm}
+use Rattle.cm_reading_codes.specs.declared.codes.OptionalForm.TheVariants as optional_forms
+use Rattle.cm_reading_codes.specs.declared.codes.TypeForm.{TypeForm}
+use Rattle.cm_reading_codes.specs.declared.codes.TypeForm.TheVariants as type_forms
+use Rattle.cm_reading_codes.specs.declared.codes.DeclaredTypeForm.{DeclaredTypeForm}
+use Rattle.cm_reading_codes.specs.declared.codes.DeclaredTypeForm.TheVariants as declared_type_forms
+use Rattle.cm_reading_codes.specs.declared.codes.DeclarationForm.{DeclarationForm}
+use Rattle.cm_reading_codes.specs.declared.codes.DeclarationForm.TheVariants as declaration_forms
+use Rattle.cm_reading_codes.specs.declared.codes.OuterTypeTarget.{OuterTypeTarget}
+use Rattle.cm_reading_codes.specs.declared.codes.OuterTypeTarget.TheVariants as outer_targets
+use Rattle.cm_reading_codes.specs.declared.codes.DeclaredDescForm.{DeclaredDescForm}
+use Rattle.cm_reading_codes.specs.declared.codes.DeclaredDescForm.TheVariants as declared_descs
+use Rattle.cm_reading_codes.specs.declared.codes.TypeBoundForm.{TypeBoundForm}
+use Rattle.cm_reading_codes.specs.declared.codes.TypeBoundForm.TheVariants as bound_forms
+use Rattle.cm_reading_codes.specs.declared.codes.ResultForm.{ResultForm}
+use Rattle.cm_reading_codes.specs.declared.codes.ResultForm.TheVariants as result_forms
+use Rattle.cm_reading_codes.specs.declared.codes.CanonForm.{CanonForm}
+use Rattle.cm_reading_codes.specs.declared.codes.CanonForm.TheVariants as canon_forms
+use Rattle.cm_reading_codes.specs.declared.codes.OptionForm.{OptionForm}
+use Rattle.cm_reading_codes.specs.declared.codes.OptionForm.TheVariants as option_forms
+use Rattle.cm_reading_codes.specs.declared.codes.DescForm.{DescForm}
+use Rattle.cm_reading_codes.specs.declared.codes.DescForm.TheVariants as desc_forms
+use Rattle.cm_reading_codes.specs.declared.codes.NoDescription.{NoDescription}
+use Rattle.cm_reading_codes.specs.declared.codes.NoDescription.TheVariants as descriptions
 
 -- b is one of the bytes from low up to high.
 abbrev pub is_from : ℕ → ℕ → ℕ → Bool

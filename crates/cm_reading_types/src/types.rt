@@ -9,20 +9,21 @@ ghost use Rattle.cm_types.specs.declared.def_types.CaseType.{CaseType};
 ghost use Rattle.cm_types.specs.DefTypes.{def_val_type_tree, func_type_tree, DefTypeTree};
 ghost use Rattle.cm_types.specs.DefTypes.{def_type_tree};
 ghost use Rattle.cm_component.specs.Limits.{types_in_def};
-ghost use Rattle.cm_reading.specs.Texts.{index, label};
-ghost use Rattle.cm_reading.specs.Types.{optional, type_index, val_type, param, case_type};
-ghost use Rattle.cm_reading.specs.Types.{def_val_type_of, func_result_of, func_result, func_type};
-ghost use Rattle.cm_reading.specs.Types.{def_type, def_type_from};
+ghost use Rattle.cm_reading_codes.specs.Texts.{index, label};
+ghost use Rattle.cm_reading_types.specs.Types.{optional, type_index, val_type, param, case_type};
+ghost use Rattle.cm_reading_types.specs.Types.{def_val_type_of, func_result_of, func_result};
+ghost use Rattle.cm_reading_types.specs.Types.{func_type, def_type, def_type_from};
 
-use crate::codes::{OptionalForm, ResultForm, TypeForm, ValueForm};
-use crate::fault::DecodeReason;
-use crate::texts::read_label;
 use cm_component::types_in_def;
 use cm_grammar::{Cursor, Form, ReadError, StockedForm, read_stocked, read_vec};
+use cm_reading_codes::{DecodeReason, OptionalForm, ResultForm, TypeForm, ValueForm, read_label};
 use cm_types::{CaseType, DefType, DefValType, FuncType, Label, LabeledValType, ValType};
 use std::alloc::Global;
 
-impl Form<DecodeReason> for Label {
+/// The sections of types, as a place of forms.
+pub struct Types;
+
+impl Form<DecodeReason, Types> for Label {
     ghost Tree = { List ℕ };
 
     ghost tree = { λ l. l };
@@ -37,7 +38,7 @@ impl Form<DecodeReason> for Label {
     }
 }
 
-impl Form<DecodeReason> for ValType {
+impl Form<DecodeReason, Types> for ValType {
     ghost Tree = { ValType };
 
     ghost tree = { λ t. t };
@@ -53,7 +54,7 @@ impl Form<DecodeReason> for ValType {
 }
 
 /// A parameter of a function or a field of a record.
-impl Form<DecodeReason> for LabeledValType {
+impl Form<DecodeReason, Types> for LabeledValType {
     ghost Tree = { LabeledValType };
 
     ghost tree = { λ p. p };
@@ -71,7 +72,7 @@ impl Form<DecodeReason> for LabeledValType {
     }
 }
 
-impl Form<DecodeReason> for CaseType {
+impl Form<DecodeReason, Types> for CaseType {
     ghost Tree = { CaseType };
 
     ghost tree = { λ c. c };
@@ -90,7 +91,7 @@ impl Form<DecodeReason> for CaseType {
     }
 }
 
-impl StockedForm<DecodeReason> for DefType {
+impl StockedForm<DecodeReason, Types> for DefType {
     ghost Tree = { DefTypeTree };
 
     ghost tree = { def_type_tree };
@@ -189,7 +190,8 @@ fn read_def_type(
             Ok(DefType::Resource(read_optional_index(bytes)?))
         }
         TypeForm::Instance => {
-            let declarations = read_stocked(alloc, bytes, DecodeReason::BadNumber, left)?;
+            let bad = DecodeReason::BadNumber;
+            let declarations = read_stocked::<_, Types, _>(alloc, bytes, bad, left)?;
             Ok(DefType::Instance(declarations))
         }
     }
@@ -208,17 +210,17 @@ pub(crate) fn read_def_val_type(
     let bad = DecodeReason::BadNumber;
     match form {
         ValueForm::Primitive(primitive) => Ok(DefValType::Primitive(primitive)),
-        ValueForm::Record => Ok(DefValType::Record(read_vec(alloc, bytes, bad)?)),
-        ValueForm::Variant => Ok(DefValType::Variant(read_vec(alloc, bytes, bad)?)),
+        ValueForm::Record => Ok(DefValType::Record(read_vec::<_, Types, _>(alloc, bytes, bad)?)),
+        ValueForm::Variant => Ok(DefValType::Variant(read_vec::<_, Types, _>(alloc, bytes, bad)?)),
         ValueForm::List => Ok(DefValType::List(read_val_type(bytes)?)),
         ValueForm::FixedList => {
             let element = read_val_type(bytes)?;
             let length = bytes.number(bad)?;
             Ok(DefValType::FixedList { element, length })
         }
-        ValueForm::Tuple => Ok(DefValType::Tuple(read_vec(alloc, bytes, bad)?)),
-        ValueForm::Flags => Ok(DefValType::Flags(read_vec(alloc, bytes, bad)?)),
-        ValueForm::Enum => Ok(DefValType::Enum(read_vec(alloc, bytes, bad)?)),
+        ValueForm::Tuple => Ok(DefValType::Tuple(read_vec::<_, Types, _>(alloc, bytes, bad)?)),
+        ValueForm::Flags => Ok(DefValType::Flags(read_vec::<_, Types, _>(alloc, bytes, bad)?)),
+        ValueForm::Enum => Ok(DefValType::Enum(read_vec::<_, Types, _>(alloc, bytes, bad)?)),
         ValueForm::Option => Ok(DefValType::Option(read_val_type(bytes)?)),
         ValueForm::Result => {
             let ok = read_optional_val_type(bytes)?;
@@ -239,7 +241,7 @@ pub(crate) fn read_func_type(
     ensures read { Reads func_type func_type_tree bytes.old bytes.new result }
     ensures end { bytes.new.end ≡ bytes.old.end }
 {
-    let params = read_vec(alloc, bytes, DecodeReason::BadNumber)?;
+    let params = read_vec::<_, Types, _>(alloc, bytes, DecodeReason::BadNumber)?;
     let result = read_result(bytes)?;
     Ok(FuncType { params, result })
 }

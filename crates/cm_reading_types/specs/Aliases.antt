@@ -5,13 +5,13 @@ use Rattle.cm_component.specs.declared.instances.InstanceExportSort.TheVariants 
 use Rattle.cm_types.specs.declared.def_types.OuterType.{OuterType}
 use Rattle.cm_component.specs.Trees as trees
 use Rattle.cm_component.specs.Trees.{AliasTree}
-use Rattle.cm_reading.specs.declared.codes.AliasSort.{AliasSort}
-use Rattle.cm_reading.specs.declared.codes.AliasSort.TheVariants as alias_sorts
-use Rattle.cm_reading.specs.declared.codes.TypeAliasTarget.{TypeAliasTarget}
-use Rattle.cm_reading.specs.declared.codes.TypeAliasTarget.TheVariants as type_targets
-use Rattle.cm_reading.specs.Codes.{core_sort, alias_sort, core_alias_target, func_alias_target}
-use Rattle.cm_reading.specs.Codes.{type_alias_target, no_alias_target}
-use Rattle.cm_reading.specs.Texts.{Production, index, text, plain_name}
+use Rattle.cm_reading_codes.specs.declared.codes.AliasSort.{AliasSort}
+use Rattle.cm_reading_codes.specs.declared.codes.AliasSort.TheVariants as alias_sorts
+use Rattle.cm_reading_codes.specs.declared.codes.TypeAliasTarget.{TypeAliasTarget}
+use Rattle.cm_reading_codes.specs.declared.codes.TypeAliasTarget.TheVariants as type_targets
+use Rattle.cm_reading_codes.specs.Codes.{core_sort, alias_sort, core_alias_target}
+use Rattle.cm_reading_codes.specs.Codes.{func_alias_target, type_alias_target, no_alias_target}
+use Rattle.cm_reading_codes.specs.Texts.{Production, index, text, plain_name}
 
 -- A type of a component around: how far outwards, and the index there (`aliastarget`).
 unfoldable pub outer_type : Production OuterType

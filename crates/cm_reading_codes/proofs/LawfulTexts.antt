@@ -1,8 +1,8 @@
 -- Numbers, texts and names are read exactly.
 use Rattle.cm_grammar.specs.Grammar.{number}
 use Rattle.cm_grammar.proofs.Laws.{Lawful, bind_lawful, number_lawful, raw_lawful, check_lawful, fixed_lawful}
-use Rattle.cm_reading.specs.declared.fault.DecodeReason.TheVariants.{BadNumber}
-use Rattle.cm_reading.specs.Texts.{text, label, plain_name, extern_name}
+use Rattle.cm_reading_codes.specs.declared.fault.DecodeReason.TheVariants.{BadNumber}
+use Rattle.cm_reading_codes.specs.Texts.{text, label, plain_name, extern_name}
 
 pub index_lawful : Lawful (number BadNumber)
 index_lawful = number_lawful BadNumber

@@ -18,32 +18,32 @@ use Rattle.cm_types.specs.DefTypes.{DefValTypeTree, FuncTypeTree, DeclaredTypeTr
 use Rattle.cm_types.specs.DefTypes.{DeclarationTree, DefTypeTree}
 use Rattle.cm_types.specs.DefTypes.{value_def, func_def, resource_def, instance_def}
 use Rattle.cm_component.specs.Limits.{types_in_declaration, types_in_def}
-use Rattle.cm_reading.specs.declared.fault.DecodeReason.TheVariants.{UnknownCode, TooMany}
-use Rattle.cm_reading.specs.declared.fault.DecodeReason.TheVariants.{BadNumber}
-use Rattle.cm_reading.specs.declared.codes.OptionalForm.{OptionalForm}
-use Rattle.cm_reading.specs.declared.codes.OptionalForm.TheVariants as optional_forms
-use Rattle.cm_reading.specs.declared.codes.ResultForm.{ResultForm}
-use Rattle.cm_reading.specs.declared.codes.ResultForm.TheVariants as result_forms
-use Rattle.cm_reading.specs.declared.codes.ValueForm.{ValueForm}
-use Rattle.cm_reading.specs.declared.codes.ValueForm.TheVariants as value_forms
-use Rattle.cm_reading.specs.declared.codes.DeclaredTypeForm.{DeclaredTypeForm}
-use Rattle.cm_reading.specs.declared.codes.DeclaredTypeForm.TheVariants as declared_type_forms
-use Rattle.cm_reading.specs.declared.codes.DeclarationForm.{DeclarationForm}
-use Rattle.cm_reading.specs.declared.codes.DeclarationForm.TheVariants as declaration_forms
-use Rattle.cm_reading.specs.declared.codes.DeclaredDescForm.{DeclaredDescForm}
-use Rattle.cm_reading.specs.declared.codes.DeclaredDescForm.TheVariants as declared_descs
-use Rattle.cm_reading.specs.declared.codes.TypeBoundForm.{TypeBoundForm}
-use Rattle.cm_reading.specs.declared.codes.TypeBoundForm.TheVariants as bound_forms
-use Rattle.cm_reading.specs.declared.codes.AliasSort.{AliasSort}
-use Rattle.cm_reading.specs.declared.codes.AliasSort.TheVariants as alias_sorts
-use Rattle.cm_reading.specs.declared.codes.TypeForm.{TypeForm}
-use Rattle.cm_reading.specs.declared.codes.TypeForm.TheVariants as type_forms
-use Rattle.cm_reading.specs.Codes.{is_from, optional_form, prim_val_type, result_form, type_form}
-use Rattle.cm_reading.specs.Codes.{declared_type_form, declaration_form, declared_desc_form}
-use Rattle.cm_reading.specs.Codes.{type_bound_form, core_sort, alias_sort, outer_type_target}
-use Rattle.cm_reading.specs.Codes.{no_alias_target}
-use Rattle.cm_reading.specs.Texts.{Production, index, vector, label, extern_name}
-use Rattle.cm_reading.specs.Aliases.{outer_type}
+use Rattle.cm_reading_codes.specs.declared.fault.DecodeReason.TheVariants.{UnknownCode, TooMany}
+use Rattle.cm_reading_codes.specs.declared.fault.DecodeReason.TheVariants.{BadNumber}
+use Rattle.cm_reading_codes.specs.declared.codes.OptionalForm.{OptionalForm}
+use Rattle.cm_reading_codes.specs.declared.codes.OptionalForm.TheVariants as optional_forms
+use Rattle.cm_reading_codes.specs.declared.codes.ResultForm.{ResultForm}
+use Rattle.cm_reading_codes.specs.declared.codes.ResultForm.TheVariants as result_forms
+use Rattle.cm_reading_codes.specs.declared.codes.ValueForm.{ValueForm}
+use Rattle.cm_reading_codes.specs.declared.codes.ValueForm.TheVariants as value_forms
+use Rattle.cm_reading_codes.specs.declared.codes.DeclaredTypeForm.{DeclaredTypeForm}
+use Rattle.cm_reading_codes.specs.declared.codes.DeclaredTypeForm.TheVariants as declared_type_forms
+use Rattle.cm_reading_codes.specs.declared.codes.DeclarationForm.{DeclarationForm}
+use Rattle.cm_reading_codes.specs.declared.codes.DeclarationForm.TheVariants as declaration_forms
+use Rattle.cm_reading_codes.specs.declared.codes.DeclaredDescForm.{DeclaredDescForm}
+use Rattle.cm_reading_codes.specs.declared.codes.DeclaredDescForm.TheVariants as declared_descs
+use Rattle.cm_reading_codes.specs.declared.codes.TypeBoundForm.{TypeBoundForm}
+use Rattle.cm_reading_codes.specs.declared.codes.TypeBoundForm.TheVariants as bound_forms
+use Rattle.cm_reading_codes.specs.declared.codes.AliasSort.{AliasSort}
+use Rattle.cm_reading_codes.specs.declared.codes.AliasSort.TheVariants as alias_sorts
+use Rattle.cm_reading_codes.specs.declared.codes.TypeForm.{TypeForm}
+use Rattle.cm_reading_codes.specs.declared.codes.TypeForm.TheVariants as type_forms
+use Rattle.cm_reading_codes.specs.Codes.{is_from, optional_form, prim_val_type, result_form}
+use Rattle.cm_reading_codes.specs.Codes.{declared_type_form, declaration_form, declared_desc_form}
+use Rattle.cm_reading_codes.specs.Codes.{type_bound_form, core_sort, alias_sort, outer_type_target}
+use Rattle.cm_reading_codes.specs.Codes.{no_alias_target, type_form}
+use Rattle.cm_reading_codes.specs.Texts.{Production, index, vector, label, extern_name}
+use Rattle.cm_reading_types.specs.Aliases.{outer_type}
 
 -- What may be there, behind the byte for whether it is.
 unfoldable pub optional_of : {A : Type 0} → Production A → OptionalForm → Production (Option A)

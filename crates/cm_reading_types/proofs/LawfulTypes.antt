@@ -4,29 +4,29 @@ use Rattle.std.proofs.lemmas.List.{length-append}
 use Rattle.cm_leb.specs.Numbers.{IsGroup}
 use Rattle.cm_grammar.proofs.Laws.{Lawful, done_lawful, bind_lawful, ahead_lawful, code_lawful, signed_lawful, check_lawful, fixed_lawful, vec_lawful, from_stock_lawful, stocked_lawful}
 use Rattle.cm_types.specs.declared.def_types.ValType.{ValType}
-use Rattle.cm_reading.specs.declared.codes.OptionalForm.{OptionalForm}
-use Rattle.cm_reading.specs.declared.codes.OptionalForm.TheVariants as optional_forms
-use Rattle.cm_reading.specs.declared.codes.ResultForm.{ResultForm}
-use Rattle.cm_reading.specs.declared.codes.ResultForm.TheVariants as result_forms
-use Rattle.cm_reading.specs.declared.codes.ValueForm.{ValueForm}
-use Rattle.cm_reading.specs.declared.codes.ValueForm.TheVariants as value_forms
-use Rattle.cm_reading.specs.declared.codes.DeclaredTypeForm.{DeclaredTypeForm}
-use Rattle.cm_reading.specs.declared.codes.DeclaredTypeForm.TheVariants as declared_type_forms
-use Rattle.cm_reading.specs.declared.codes.DeclarationForm.{DeclarationForm}
-use Rattle.cm_reading.specs.declared.codes.DeclarationForm.TheVariants as declaration_forms
-use Rattle.cm_reading.specs.declared.codes.DeclaredDescForm.{DeclaredDescForm}
-use Rattle.cm_reading.specs.declared.codes.DeclaredDescForm.TheVariants as declared_descs
-use Rattle.cm_reading.specs.declared.codes.TypeBoundForm.{TypeBoundForm}
-use Rattle.cm_reading.specs.declared.codes.TypeBoundForm.TheVariants as bound_forms
-use Rattle.cm_reading.specs.declared.codes.AliasSort.{AliasSort}
-use Rattle.cm_reading.specs.declared.codes.AliasSort.TheVariants as alias_sorts
-use Rattle.cm_reading.specs.declared.codes.TypeForm.{TypeForm}
-use Rattle.cm_reading.specs.declared.codes.TypeForm.TheVariants as type_forms
-use Rattle.cm_reading.specs.Texts.{Production}
-use Rattle.cm_reading.specs.Codes.{is_from}
-use Rattle.cm_reading.specs.Types.{optional_of, optional, type_index, val_type_of, val_type, param, case_type, def_val_type_of, func_result_of, func_result, func_type, declared_type_of, declared_type, declared_type_from, declared_alias_of, declared_alias, type_bound_of, type_bound, export_desc_of, export_desc, export_decl, declaration_of, declaration, declarations, def_type_of, def_type, def_type_from, type_defs}
-use Rattle.cm_reading.proofs.LawfulTexts.{index_lawful, label_lawful, extern_name_lawful}
-use Rattle.cm_reading.proofs.LawfulAliases.{outer_type_lawful}
+use Rattle.cm_reading_codes.specs.declared.codes.OptionalForm.{OptionalForm}
+use Rattle.cm_reading_codes.specs.declared.codes.OptionalForm.TheVariants as optional_forms
+use Rattle.cm_reading_codes.specs.declared.codes.ResultForm.{ResultForm}
+use Rattle.cm_reading_codes.specs.declared.codes.ResultForm.TheVariants as result_forms
+use Rattle.cm_reading_codes.specs.declared.codes.ValueForm.{ValueForm}
+use Rattle.cm_reading_codes.specs.declared.codes.ValueForm.TheVariants as value_forms
+use Rattle.cm_reading_codes.specs.declared.codes.DeclaredTypeForm.{DeclaredTypeForm}
+use Rattle.cm_reading_codes.specs.declared.codes.DeclaredTypeForm.TheVariants as declared_type_forms
+use Rattle.cm_reading_codes.specs.declared.codes.DeclarationForm.{DeclarationForm}
+use Rattle.cm_reading_codes.specs.declared.codes.DeclarationForm.TheVariants as declaration_forms
+use Rattle.cm_reading_codes.specs.declared.codes.DeclaredDescForm.{DeclaredDescForm}
+use Rattle.cm_reading_codes.specs.declared.codes.DeclaredDescForm.TheVariants as declared_descs
+use Rattle.cm_reading_codes.specs.declared.codes.TypeBoundForm.{TypeBoundForm}
+use Rattle.cm_reading_codes.specs.declared.codes.TypeBoundForm.TheVariants as bound_forms
+use Rattle.cm_reading_codes.specs.declared.codes.AliasSort.{AliasSort}
+use Rattle.cm_reading_codes.specs.declared.codes.AliasSort.TheVariants as alias_sorts
+use Rattle.cm_reading_codes.specs.declared.codes.TypeForm.{TypeForm}
+use Rattle.cm_reading_codes.specs.declared.codes.TypeForm.TheVariants as type_forms
+use Rattle.cm_reading_codes.specs.Texts.{Production}
+use Rattle.cm_reading_codes.specs.Codes.{is_from}
+use Rattle.cm_reading_types.specs.Types.{optional_of, optional, type_index, val_type_of, val_type, param, case_type, def_val_type_of, func_result_of, func_result, func_type, declared_type_of, declared_type, declared_type_from, declared_alias_of, declared_alias, type_bound_of, type_bound, export_desc_of, export_desc, export_decl, declaration_of, declaration, declarations, def_type_of, def_type, def_type_from, type_defs}
+use Rattle.cm_reading_codes.proofs.LawfulTexts.{index_lawful, label_lawful, extern_name_lawful}
+use Rattle.cm_reading_types.proofs.LawfulAliases.{outer_type_lawful}
 
 pub optional_of_lawful : {A : Type 0} (g : Production A) → Lawful g → (f : OptionalForm) → Lawful (optional_of g f)
 unfolding optional_of

@@ -1,12 +1,12 @@
 -- Aliases are read exactly.
 use Rattle.cm_grammar.proofs.Laws.{Lawful, done_lawful, bind_lawful, code_lawful}
 use Rattle.cm_component.specs.declared.instances.InstanceExportSort.{InstanceExportSort}
-use Rattle.cm_reading.specs.declared.codes.AliasSort.{AliasSort}
-use Rattle.cm_reading.specs.declared.codes.AliasSort.TheVariants as alias_sorts
-use Rattle.cm_reading.specs.declared.codes.TypeAliasTarget.{TypeAliasTarget}
-use Rattle.cm_reading.specs.declared.codes.TypeAliasTarget.TheVariants as type_targets
-use Rattle.cm_reading.specs.Aliases.{outer_type, instance_export, type_alias_of, alias_of, alias}
-use Rattle.cm_reading.proofs.LawfulTexts.{index_lawful, text_lawful, plain_name_lawful}
+use Rattle.cm_reading_codes.specs.declared.codes.AliasSort.{AliasSort}
+use Rattle.cm_reading_codes.specs.declared.codes.AliasSort.TheVariants as alias_sorts
+use Rattle.cm_reading_codes.specs.declared.codes.TypeAliasTarget.{TypeAliasTarget}
+use Rattle.cm_reading_codes.specs.declared.codes.TypeAliasTarget.TheVariants as type_targets
+use Rattle.cm_reading_types.specs.Aliases.{outer_type, instance_export, type_alias_of, alias_of, alias}
+use Rattle.cm_reading_codes.proofs.LawfulTexts.{index_lawful, text_lawful, plain_name_lawful}
 
 pub outer_type_lawful : Lawful outer_type
 unfolding outer_type

@@ -39,7 +39,7 @@ pub enum DecodeReason {
 
 impl DecodeReason {
     ghost use Rattle.std.specs.Prelude.{◌≡◌};
-    ghost use Rattle.cm_reading.specs.Reasons.{reason_number};
+    ghost use Rattle.cm_reading_codes.specs.Reasons.{reason_number};
 
     /// The number by which the reason is known, from 1 for `BadPreamble` to 13 for `Memory`.
     pub fn number(self) -> u8

@@ -8,8 +8,8 @@ ghost use Rattle.cm_grammar.specs.Grammar.{check, raw};
 ghost use Rattle.cm_grammar.specs.Reading.{Reads};
 ghost use Rattle.cm_types.specs.Names.{is_label};
 ghost use Rattle.cm_types.specs.ExternNames.{is_extern_name};
-ghost use Rattle.cm_reading.specs.declared.fault.DecodeReason.TheVariants as reasons;
-ghost use Rattle.cm_reading.specs.Texts.{text, label, plain_name, extern_name};
+ghost use Rattle.cm_reading_codes.specs.declared.fault.DecodeReason.TheVariants as reasons;
+ghost use Rattle.cm_reading_codes.specs.Texts.{text, label, plain_name, extern_name};
 
 use crate::fault::DecodeReason;
 use cm_grammar::{Cursor, ReadError};
@@ -46,7 +46,7 @@ fn read_utf8<'a>(
 
 /// Reads a text.
 #[tactic(auto, unfolding(crate::specs::Texts::text))]
-pub(crate) fn read_text(
+pub fn read_text(
     alloc: Global,
     bytes: &mut Cursor<'_, DecodeReason>,
 ) -> Result<String, ReadError<DecodeReason>>
@@ -73,7 +73,7 @@ fn as_label(alloc: Global, text: &str) -> Result<Option<Label>, AllocError>
 
 /// Reads a label.
 #[tactic(auto, unfolding(crate::specs::Texts::label))]
-pub(crate) fn read_label(
+pub fn read_label(
     alloc: Global,
     bytes: &mut Cursor<'_, DecodeReason>,
 ) -> Result<Label, ReadError<DecodeReason>>
@@ -104,7 +104,7 @@ fn as_extern_name(alloc: Global, text: &str) -> Result<Option<ExternName>, Alloc
 
 /// Reads an extern name behind a byte.
 #[tactic(auto, unfolding(crate::specs::Texts::extern_name))]
-pub(crate) fn read_extern_name(
+pub fn read_extern_name(
     alloc: Global,
     bytes: &mut Cursor<'_, DecodeReason>,
 ) -> Result<ExternName, ReadError<DecodeReason>>
@@ -117,7 +117,7 @@ pub(crate) fn read_extern_name(
 
 /// Reads an extern name.
 #[tactic(auto, unfolding(crate::specs::Texts::plain_name))]
-pub(crate) fn read_plain_name(
+pub fn read_plain_name(
     alloc: Global,
     bytes: &mut Cursor<'_, DecodeReason>,
 ) -> Result<ExternName, ReadError<DecodeReason>>

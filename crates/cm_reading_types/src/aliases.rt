@@ -4,20 +4,22 @@ ghost use Rattle.std.specs.Prelude.{◌≡◌, Ok, Err};
 ghost use Rattle.cm_grammar.specs.Faults.{Gives, Fails};
 ghost use Rattle.cm_grammar.specs.Reading.{Reads};
 ghost use Rattle.cm_component.specs.Trees.{AliasTree, alias_tree};
-ghost use Rattle.cm_reading.specs.Codes.{no_alias_target};
-ghost use Rattle.cm_reading.specs.declared.codes.AliasSort.TheVariants as alias_sorts;
-ghost use Rattle.cm_reading.specs.Aliases.{outer_type, instance_export, type_alias_of, alias_of};
-ghost use Rattle.cm_reading.specs.Aliases.{alias};
+ghost use Rattle.cm_reading_codes.specs.Codes.{no_alias_target};
+ghost use Rattle.cm_reading_codes.specs.declared.codes.AliasSort.TheVariants as alias_sorts;
+ghost use Rattle.cm_reading_types.specs.Aliases.{outer_type, instance_export};
+ghost use Rattle.cm_reading_types.specs.Aliases.{type_alias_of, alias_of, alias};
 
-use crate::codes::{AliasSort, CoreAliasTarget, FuncAliasTarget, TypeAliasTarget, no_alias_target};
-use crate::fault::DecodeReason;
-use crate::texts::{read_plain_name, read_text};
+use crate::types::Types;
 use cm_component::{Alias, InstanceExportSort};
 use cm_grammar::{Cursor, Form, ReadError};
+use cm_reading_codes::{
+    AliasSort, CoreAliasTarget, DecodeReason, FuncAliasTarget, TypeAliasTarget, no_alias_target,
+    read_plain_name, read_text,
+};
 use cm_types::OuterType;
 use std::alloc::Global;
 
-impl Form<DecodeReason> for Alias {
+impl Form<DecodeReason, Types> for Alias {
     ghost Tree = { AliasTree };
 
     ghost tree = { alias_tree };

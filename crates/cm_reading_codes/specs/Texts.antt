@@ -7,9 +7,9 @@ use Rattle.cm_grammar.specs.Grammar.{Grammar, ◌>>=◌, number, raw, check, fix
 use Rattle.cm_grammar.specs.Whole.{Whole}
 use Rattle.cm_types.specs.Names.{is_label}
 use Rattle.cm_types.specs.ExternNames.{is_extern_name}
-use Rattle.cm_reading.specs.declared.fault.DecodeReason.{DecodeReason}
-use Rattle.cm_reading.specs.declared.fault.DecodeReason.TheVariants.{BadNumber, UnknownCode}
-use Rattle.cm_reading.specs.declared.fault.DecodeReason.TheVariants.{BadUtf8, BadName}
+use Rattle.cm_reading_codes.specs.declared.fault.DecodeReason.{DecodeReason}
+use Rattle.cm_reading_codes.specs.declared.fault.DecodeReason.TheVariants.{BadNumber, UnknownCode}
+use Rattle.cm_reading_codes.specs.declared.fault.DecodeReason.TheVariants.{BadUtf8, BadName}
 
 -- A production of the grammar, and one of bytes to their end.
 abbrev pub Production : Type 0 → Type 1

@@ -6,24 +6,22 @@ ghost use Rattle.cm_grammar.specs.Grammar.{refuse};
 ghost use Rattle.cm_grammar.specs.Reading.{Reads};
 ghost use Rattle.cm_types.specs.DefTypes.{declared_type_tree, DeclarationTree, declaration_tree};
 ghost use Rattle.cm_component.specs.Limits.{types_in_declaration};
-ghost use Rattle.cm_reading.specs.Codes.{no_alias_target};
-ghost use Rattle.cm_reading.specs.Types.{declared_type, declared_type_from, declared_alias};
-ghost use Rattle.cm_reading.specs.Types.{type_bound, export_desc, export_decl, declaration};
+ghost use Rattle.cm_reading_codes.specs.Codes.{no_alias_target};
+ghost use Rattle.cm_reading_types.specs.Types.{declared_type, declared_type_from, declared_alias};
+ghost use Rattle.cm_reading_types.specs.Types.{type_bound, export_desc, export_decl, declaration};
 
 use crate::aliases::read_outer_type;
-use crate::codes::{
-    AliasSort, DeclarationForm, DeclaredDescForm, DeclaredTypeForm, OuterTypeTarget, TypeBoundForm,
-    no_alias_target,
-};
-use crate::fault::DecodeReason;
-use crate::texts::read_extern_name;
-use crate::types::{read_def_val_type, read_func_type};
+use crate::types::{Types, read_def_val_type, read_func_type};
 use cm_component::{CoreSort, types_in_declaration};
 use cm_grammar::{Cursor, ReadError, StockedForm};
+use cm_reading_codes::{
+    AliasSort, DeclarationForm, DeclaredDescForm, DeclaredTypeForm, DecodeReason, OuterTypeTarget,
+    TypeBoundForm, no_alias_target, read_extern_name,
+};
 use cm_types::{Declaration, DeclaredType, ExportDecl, ExportDesc, OuterType, TypeBound};
 use std::alloc::Global;
 
-impl StockedForm<DecodeReason> for Declaration {
+impl StockedForm<DecodeReason, Types> for Declaration {
     ghost Tree = { DeclarationTree };
 
     ghost tree = { declaration_tree };

@@ -1,15 +1,16 @@
 //! The bytes that name forms, place by place.
 
 ghost use Rattle.std.specs.Prelude.{◌≡◌};
-ghost use Rattle.cm_reading.specs.Codes.{section_kind, core_instance_form, core_sort};
-ghost use Rattle.cm_reading.specs.Codes.{instance_form, instance_export_sort, alias_sort};
-ghost use Rattle.cm_reading.specs.Codes.{core_alias_target, func_alias_target, type_alias_target};
-ghost use Rattle.cm_reading.specs.Codes.{no_alias_target, prim_val_type, value_form, type_form};
-ghost use Rattle.cm_reading.specs.Codes.{declared_type_form, optional_form, result_form};
-ghost use Rattle.cm_reading.specs.Codes.{outer_type_target, declaration_form};
-ghost use Rattle.cm_reading.specs.Codes.{declared_desc_form, type_bound_form};
-ghost use Rattle.cm_reading.specs.Codes.{canon_form, option_form, desc_form, export_sort};
-ghost use Rattle.cm_reading.specs.Codes.{export_desc};
+ghost use Rattle.cm_reading_codes.specs.Codes.{section_kind, core_instance_form, core_sort};
+ghost use Rattle.cm_reading_codes.specs.Codes.{instance_form, instance_export_sort, alias_sort};
+ghost use Rattle.cm_reading_codes.specs.Codes.{core_alias_target, func_alias_target};
+ghost use Rattle.cm_reading_codes.specs.Codes.{type_alias_target, no_alias_target, prim_val_type};
+ghost use Rattle.cm_reading_codes.specs.Codes.{value_form, type_form};
+ghost use Rattle.cm_reading_codes.specs.Codes.{declared_type_form, optional_form, result_form};
+ghost use Rattle.cm_reading_codes.specs.Codes.{outer_type_target, declaration_form};
+ghost use Rattle.cm_reading_codes.specs.Codes.{declared_desc_form, type_bound_form};
+ghost use Rattle.cm_reading_codes.specs.Codes.{canon_form, option_form, desc_form, export_sort};
+ghost use Rattle.cm_reading_codes.specs.Codes.{export_desc};
 
 use crate::fault::{DecodeReason, Feature};
 use cm_component::{CoreSort, ExportSort, InstanceExportSort};

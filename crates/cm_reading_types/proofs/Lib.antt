@@ -1,0 +1,2 @@
+pub mod LawfulAliases
+pub mod LawfulTypes

@@ -1,0 +1,2 @@
+pub mod Aliases
+pub mod Types
