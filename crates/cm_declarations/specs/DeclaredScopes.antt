@@ -21,6 +21,10 @@ scope_so_far d =
       items = items_so_far d;
     }
 
+-- the number of the first resource of the instance's own
+abbrev pub first_resource : Declarations → ℕ
+first_resource d = d.first
+
 -- with another item, and with a type beside it
 abbrev pub with_desc : Declarations → List ℕ → ItemDesc → Scope
 with_desc d name i =

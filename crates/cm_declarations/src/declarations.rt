@@ -1,9 +1,8 @@
 //! The declarations of the type of an instance.
 
 ghost use Rattle.std.specs.Prelude.{◌≡◌, ◌≤◌, length, true};
-ghost use Rattle.std.specs.List.{list_all};
-ghost use Rattle.cm_type_scope.specs.Entries.{is_item_placed};
 ghost use Rattle.cm_type_scope.specs.TypeScopes.{arena_funcs, arena_types};
+ghost use Rattle.cm_declarations.specs.DeclaredItems.{items_in};
 
 use cm_type_scope::laws::items_stay;
 use cm_type_scope::{InstanceType, ItemEntry, TypeEntry, TypeScope};
@@ -21,28 +20,31 @@ pub struct Declarations {
     pub(crate) first: u64,
     pub(crate) next: u64,
     ghost counted: { first ≤ next },
-    ghost items_placed: { list_all
-        (is_item_placed (length (arena_types scope)) (length (arena_funcs scope))) items.items ≡ true },
+    ghost items_placed: { items_in (arena_types scope) (arena_funcs scope) items.items ≡ true },
 }
 
 impl Declarations {
-    ghost use Rattle.std.specs.Prelude.{[], IfOk, IfSome, MatchOption, OnErr};
+    ghost use Rattle.std.specs.Prelude.{[], IfOk, IfSome, MatchOption, OnErr, map};
     ghost use Rattle.std.specs.Option.{option_map};
     ghost use Rattle.cm_types.specs.DefTypes.{declaration_tree, def_val_type_tree, func_type_tree};
     ghost use Rattle.cm_types.specs.DefTypes.{outer_type_decl};
-    ghost use Rattle.cm_validity.specs.Declarations.{after_declaration, declaration_broken};
-    ghost use Rattle.cm_validity.specs.Declarations.{instance_of, outer_type_of, scope_in, with_type};
+    ghost use Rattle.cm_validity.specs.Declarations.{after_declaration, after_declarations};
+    ghost use Rattle.cm_validity.specs.Declarations.{declaration_broken};
+    ghost use Rattle.cm_validity.specs.Declarations.{instance_of, outer_type_of, scope_in};
+    ghost use Rattle.cm_validity.specs.Declarations.{with_type};
     ghost use Rattle.cm_validity.specs.Scopes.{func_def_of, value_def_of};
     ghost use Rattle.cm_validity.specs.TypeRules.{func_def_broken, value_def_broken};
     ghost use Rattle.cm_validity.specs.Reasons.{least};
-    ghost use Rattle.cm_type_scope.specs.Entries as entries;
+    ghost use Rattle.cm_type_scope.specs.Entries as entry;
     ghost use Rattle.cm_type_scope.specs.TypeScopes.{own_types, types_around};
-    ghost use Rattle.cm_declarations.specs.DeclaredScopes.{scope_so_far};
+    ghost use Rattle.cm_declarations.specs.DeclaredScopes.{first_resource, scope_so_far};
+    ghost use Rattle.cm_declarations.specs.FirstFaults.{first_reason};
 
     /// Before the first declaration, in a component with the types of this scope, whose next
     /// resource has this number.
     pub fn new(alloc: Global, component: TypeScope, next: u64) -> Declarations
-        ensures { scope_so_far result ≡ scope_in (own_types component) next }
+        ensures scope { scope_so_far result ≡ scope_in (own_types component) next }
+        ensures first { first_resource result ≡ next }
     {
         Declarations {
             scope: component.enter(alloc),
@@ -69,6 +71,7 @@ impl Declarations {
             ≡ after_declaration (scope_so_far self.old) (declaration_tree declaration.now))
             (λ _. scope_so_far self.new ≡ scope_so_far self.old)) }
         ensures kept { OnErr result (scope_so_far self.new ≡ scope_so_far self.old) }
+        ensures first { first_resource self.new ≡ first_resource self.old }
     {
         match declaration {
             Declaration::Type(DeclaredType::Value(def)) => self.declare_value(alloc, def),
@@ -76,6 +79,32 @@ impl Declarations {
             Declaration::OuterType(outer) => self.alias(*outer),
             Declaration::Export(export) => self.export(&export.name, export.desc),
         }
+    }
+
+    /// Reads declarations, one after another, up to the first that breaks anything: answers the
+    /// least reason that this one breaks; none where no one does, and then all are read.
+    ///
+    /// `AllocError` comes where there is no memory, or no number for a resource.
+    pub fn declare_all(
+        &mut self,
+        alloc: Global,
+        declarations: &[Declaration],
+    ) -> Result<Option<ValidReason>, AllocError>
+        ensures fault { IfOk result (λ r. r
+            ≡ first_reason (scope_so_far self.old) (map declaration_tree declarations.now)) }
+        ensures declared { IfOk result (λ r. MatchOption r
+            (scope_so_far self.new ≡ after_declarations (scope_so_far self.old)
+            (map declaration_tree declarations.now))
+            (λ _. Unit {0})) }
+        ensures first { first_resource self.new ≡ first_resource self.old }
+    {
+        for declaration in declarations {
+            match self.declare(alloc, declaration)? {
+                Some(fault) => return Ok(Some(fault)),
+                None => {}
+            }
+        }
+        Ok(None)
     }
 
     /// The same of a value type.
@@ -91,6 +120,7 @@ impl Declarations {
             (value_def_of (own_types self.old.scope) (def_val_type_tree def.now)))
             (λ _. scope_so_far self.new ≡ scope_so_far self.old)) }
         ensures kept { OnErr result (scope_so_far self.new ≡ scope_so_far self.old) }
+        ensures first { first_resource self.new ≡ first_resource self.old }
     {
         items_stay();
         self.scope.define_value(alloc, def)
@@ -109,6 +139,7 @@ impl Declarations {
             (func_def_of (own_types self.old.scope) (func_type_tree def.now)))
             (λ _. scope_so_far self.new ≡ scope_so_far self.old)) }
         ensures kept { OnErr result (scope_so_far self.new ≡ scope_so_far self.old) }
+        ensures first { first_resource self.new ≡ first_resource self.old }
     {
         items_stay();
         self.scope.define_func(alloc, def)
@@ -117,9 +148,9 @@ impl Declarations {
     /// What an alias names, if it names anything.
     fn outer_entry(&self, outer: OuterType) -> Option<&TypeEntry>
         ensures there { option_map
-            (λ e. entries.def_of (arena_types self.now.scope) (arena_funcs self.now.scope) e.now)
+            (λ e. entry.def_of (arena_types self.now.scope) (arena_funcs self.now.scope) e.now)
             result ≡ outer_type_of (scope_so_far self.now) outer.count outer.index }
-        ensures placed { IfSome result (λ e. entries.is_placed
+        ensures placed { IfSome result (λ e. entry.is_placed
             (length (arena_types self.now.scope)) (length (arena_funcs self.now.scope)) e.now
             ≡ true) }
     {
@@ -139,6 +170,7 @@ impl Declarations {
             ≡ after_declaration (scope_so_far self.old) (outer_type_decl outer))
             (λ _. scope_so_far self.new ≡ scope_so_far self.old)) }
         ensures kept { OnErr result (scope_so_far self.new ≡ scope_so_far self.old) }
+        ensures first { first_resource self.new ≡ first_resource self.old }
     {
         match self.outer_entry(outer) {
             None => Ok(Some(ValidReason::NoSuchIndex)),
@@ -155,10 +187,10 @@ impl Declarations {
     pub fn finish(self, alloc: Global) -> (TypeScope, InstanceType)
         ensures types { own_types result.0 ≡ (scope_so_far self).around }
         ensures around { types_around result.0 ≡ [] }
-        ensures instance { entries.instance_of (arena_types result.0) (arena_funcs result.0) result.1
-            ≡ instance_of self.first (scope_so_far self) }
-        ensures placed { list_all (is_item_placed (length (arena_types result.0))
-            (length (arena_funcs result.0))) result.1.items.items ≡ true }
+        ensures instance { entry.instance_of (arena_types result.0) (arena_funcs result.0) result.1
+            ≡ instance_of (first_resource self) (scope_so_far self) }
+        ensures placed { items_in (arena_types result.0) (arena_funcs result.0) result.1.items.items
+            ≡ true }
     {
         let Declarations {
             scope,

@@ -16,7 +16,8 @@ impl Declarations {
     ghost use Rattle.cm_validity.specs.Reasons.{least};
     ghost use Rattle.cm_type_scope.specs.Entries as entries;
     ghost use Rattle.cm_type_scope.specs.TypeScopes.{arena_funcs, arena_types, own_types};
-    ghost use Rattle.cm_declarations.specs.DeclaredScopes.{scope_so_far, with_both, with_desc};
+    ghost use Rattle.cm_declarations.specs.DeclaredScopes.{first_resource, scope_so_far};
+    ghost use Rattle.cm_declarations.specs.DeclaredScopes.{with_both, with_desc};
 
     /// Adds an item.
     fn add_item(&mut self, name: &ExternName, item: ItemDesc) -> Result<(), AllocError>
@@ -25,6 +26,7 @@ impl Declarations {
         ensures added { OnOk result
             (scope_so_far self.new ≡ with_desc self.old name.now item) }
         ensures kept { OnErr result (scope_so_far self.new ≡ scope_so_far self.old) }
+        ensures first { first_resource self.new ≡ first_resource self.old }
     {
         let name = name.clone()?;
         self.items.push(ItemEntry { name, desc: item })?;
@@ -45,6 +47,7 @@ impl Declarations {
         ensures added { OnOk result
             (scope_so_far self.new ≡ with_both self.old name.now item entry) }
         ensures kept { OnErr result (scope_so_far self.new ≡ scope_so_far self.old) }
+        ensures first { first_resource self.new ≡ first_resource self.old }
     {
         let name = name.clone()?;
         self.items.reserve(1)?;
@@ -68,6 +71,7 @@ impl Declarations {
             ≡ with_export (scope_so_far self.old) name.now (desc.Func index))
             (λ _. scope_so_far self.new ≡ scope_so_far self.old)) }
         ensures kept { OnErr result (scope_so_far self.new ≡ scope_so_far self.old) }
+        ensures first { first_resource self.new ≡ first_resource self.old }
     {
         match self.scope.get(index) {
             None => Ok(Some(ValidReason::NoSuchIndex)),
@@ -92,6 +96,7 @@ impl Declarations {
             ≡ with_export (scope_so_far self.old) name.now (desc.Type (bound.Equal index)))
             (λ _. scope_so_far self.new ≡ scope_so_far self.old)) }
         ensures kept { OnErr result (scope_so_far self.new ≡ scope_so_far self.old) }
+        ensures first { first_resource self.new ≡ first_resource self.old }
     {
         match self.scope.get(index) {
             None => Ok(Some(ValidReason::NoSuchIndex)),
@@ -114,6 +119,7 @@ impl Declarations {
         ensures declared { OnOk result
             (scope_so_far self.new ≡ with_fresh (scope_so_far self.old) name.now) }
         ensures kept { OnErr result (scope_so_far self.new ≡ scope_so_far self.old) }
+        ensures first { first_resource self.new ≡ first_resource self.old }
     {
         let number = self.next;
         if number == u64::MAX {
@@ -140,6 +146,7 @@ impl Declarations {
             (scope_so_far self.new ≡ with_export (scope_so_far self.old) name.now exported)
             (λ _. scope_so_far self.new ≡ scope_so_far self.old)) }
         ensures kept { OnErr result (scope_so_far self.new ≡ scope_so_far self.old) }
+        ensures first { first_resource self.new ≡ first_resource self.old }
     {
         match exported {
             ExportDesc::Func(index) => self.export_func(name, index),
