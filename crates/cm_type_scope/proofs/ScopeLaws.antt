@@ -27,8 +27,9 @@ use Rattle.cm_type_scope.specs.declared.entries.TypeEntry.TheVariants as entry
 use Rattle.cm_type_scope.specs.declared.entries.ItemEntry.{ItemEntry}
 use Rattle.cm_type_scope.specs.declared.entries.ItemDesc.{ItemDesc}
 use Rattle.cm_type_scope.specs.declared.entries.ItemDesc.TheVariants as item
-use Rattle.cm_type_scope.specs.Entries.{def_of, desc_of, item_of, entry_sort, is_placed, is_desc_placed, in_arena}
+use Rattle.cm_type_scope.specs.Entries.{def_of, desc_of, item_of, entry_sort, is_placed, is_desc_placed, is_item_placed, in_arena}
 use Rattle.cm_type_scope.specs.Expansion.{value_or_bool}
+use Rattle.cm_type_scope.specs.TypeScopes.{Extends}
 
 -- ---- sorts
 
@@ -118,27 +119,26 @@ module _ (t u f g : ℕ) (types : t ≤ u) (funcs : f ≤ g) where
 
 -- ---- what an arena became
 
--- it has the types that it had, and maybe more
-pub Grows : {A : Type 0} → List A → List A → Type 0
-Grows {A} old new = (more : List A) × (new ≡ old ++ more)
-
-pub grown_by : {A T E : Type 0} (r : Result T E) (old new : List A) (x : A) → OnOk r (new ≡ old ++ x ∷ []) → OnErr r (new ≡ old) → Grows old new
-unfolding Grows
+pub grown_by : {A T E : Type 0} (r : Result T E) (old new : List A) (x : A) → OnOk r (new ≡ old ++ x ∷ []) → OnErr r (new ≡ old) → Extends old new
 grown_by (Ok v) old new x p q = (x ∷ [], p)
 grown_by (Err e) old new x p q = ([], q ∙ sym (append-nil old))
 
-pub grown_not : {A : Type 0} (old new : List A) → new ≡ old → Grows old new
-unfolding Grows
+pub grown_not : {A : Type 0} (old new : List A) → new ≡ old → Extends old new
 grown_not old new e = ([], e ∙ sym (append-nil old))
 
-pub defs_among_more : (t u : List Ty) (f g : List FuncTy) → Grows t u → Grows f g → (es : List TypeEntry) → in_arena t f es ≡ true → map (def_of u g) es ≡ map (def_of t f) es
-unfolding Grows
+pub defs_among_more : (t u : List Ty) (f g : List FuncTy) → Extends t u → Extends f g → (es : List TypeEntry) → in_arena t f es ≡ true → map (def_of u g) es ≡ map (def_of t f) es
 defs_among_more t u f g p q es h = rw (p.1, q.1) (defs_kept t p.0 f q.0 es h)
 
-pub placed_among_more : (t u : List Ty) (f g : List FuncTy) → Grows t u → Grows f g → (es : List TypeEntry) → in_arena t f es ≡ true → in_arena u g es ≡ true
-unfolding Grows
+pub placed_among_more : (t u : List Ty) (f g : List FuncTy) → Extends t u → Extends f g → (es : List TypeEntry) → in_arena t f es ≡ true → in_arena u g es ≡ true
 placed_among_more t u f g p q es h =
     all_more (length t) (length u) (length f) (length g) (omega (arith, ap length p.1, length-append t p.0)) (omega (arith, ap length q.1, length-append f q.0)) es h
+
+pub items_stay : (t u : List Ty) (f g : List FuncTy) (is : List ItemEntry) → Extends t u → Extends f g → list_all (is_item_placed (length t) (length f)) is ≡ true → map (item_of u g) is ≡ map (item_of t f) is
+items_stay t u f g is p q h = rw (p.1, q.1) (items_kept t p.0 f q.0 is h)
+
+pub items_placed : (t u : List Ty) (f g : List FuncTy) (is : List ItemEntry) → Extends t u → Extends f g → list_all (is_item_placed (length t) (length f)) is ≡ true → list_all (is_item_placed (length u) (length g)) is ≡ true
+items_placed t u f g is p q h =
+    items_more (length t) (length u) (length f) (length g) (omega (arith, ap length p.1, length-append t p.0)) (omega (arith, ap length q.1, length-append f q.0)) is h
 
 -- the last type of an arena
 pub last_type : (types : List Ty) (t : Ty) → type_at (types ++ t ∷ []) (length types) ≡ t

@@ -54,12 +54,15 @@ is_desc_placed types funcs (item.EqualType place) = nat_lt place types
 is_desc_placed types funcs (item.EqualResource n) = true
 is_desc_placed types funcs (item.FreshResource n) = true
 
+abbrev pub is_item_placed : ℕ → ℕ → ItemEntry → Bool
+is_item_placed types funcs i = is_desc_placed types funcs i.desc
+
 abbrev pub is_placed : ℕ → ℕ → TypeEntry → Bool
 is_placed types funcs (entry.Value place) = nat_lt place types
 is_placed types funcs (entry.Func place) = nat_lt place funcs
 is_placed types funcs (entry.Resource n) = true
 is_placed types funcs (entry.Instance i) =
-    list_all (λ x. is_desc_placed types funcs x.desc) i.value.items.items
+    list_all (is_item_placed types funcs) i.value.items.items
 
 abbrev pub in_arena : List Ty → List FuncTy → List TypeEntry → Bool
 in_arena types funcs es = list_all (is_placed (length types) (length funcs)) es

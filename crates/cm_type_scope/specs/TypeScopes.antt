@@ -1,5 +1,5 @@
 -- The types that a scope has.
-use Rattle.std.specs.Prelude.{List, map}
+use Rattle.std.specs.Prelude.{◌≡◌, ◌++◌, List, map}
 use Rattle.cm_types.specs.Types.{Ty, FuncTy}
 use Rattle.cm_type_arena.specs.Places.{types_of, funcs_of}
 use Rattle.cm_validity.specs.Definitions.{TypeDef}
@@ -19,3 +19,12 @@ own_types s = map (def_of (arena_types s) (arena_funcs s)) s.own.entries.items
 
 abbrev pub types_around : TypeScope → List TypeDef
 types_around s = map (def_of (arena_types s) (arena_funcs s)) s.around.entries.items
+
+-- a list has what it had, and maybe more behind it
+abbrev pub Extends : {A : Type 0} → List A → List A → Type 0
+Extends {A} old new = (more : List A) × (new ≡ old ++ more)
+
+-- each place of the arena stands for what it stood for
+abbrev pub HasGrown : TypeScope → TypeScope → Type 0
+HasGrown old new =
+    Extends (arena_types old) (arena_types new) × Extends (arena_funcs old) (arena_funcs new)

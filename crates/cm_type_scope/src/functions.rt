@@ -25,7 +25,7 @@ impl TypeScope {
     ghost use Rattle.cm_validity.specs.TypeRules.{no_borrow_broken, uses_broken};
     ghost use Rattle.cm_type_scope.specs.Expansion.{value_or_bool};
     ghost use Rattle.cm_type_scope.specs.TypeScopes.{arena_funcs, arena_types, own_types};
-    ghost use Rattle.cm_type_scope.specs.TypeScopes.{types_around};
+    ghost use Rattle.cm_type_scope.specs.TypeScopes.{HasGrown, types_around};
 
     /// Adds the type of a function to the arena alone, and answers its place.
     fn push_func(&mut self, alloc: Global, def: FuncDef) -> Result<usize, DefFault>
@@ -41,6 +41,7 @@ impl TypeScope {
         ensures types { arena_types self.new ≡ arena_types self.old }
         ensures own { own_types self.new ≡ own_types self.old }
         ensures around { types_around self.new ≡ types_around self.old }
+        ensures grown { HasGrown self.old self.new }
     {
         self.types.push_func(alloc, def)
     }
@@ -57,6 +58,7 @@ impl TypeScope {
             (λ _. own_types self.new ≡ own_types self.old)) }
         ensures kept { OnErr result (own_types self.new ≡ own_types self.old) }
         ensures around { types_around self.new ≡ types_around self.old }
+        ensures grown { HasGrown self.old self.new }
     {
         let place = match self.push_func(alloc, def) {
             Ok(place) => place,
@@ -97,6 +99,7 @@ impl TypeScope {
             (λ _. own_types self.new ≡ own_types self.old)) }
         ensures kept { OnErr result (own_types self.new ≡ own_types self.old) }
         ensures around { types_around self.new ≡ types_around self.old }
+        ensures grown { HasGrown self.old self.new }
     {
         let twice = params_fault(alloc, def)?;
         match lesser(twice, self.borrow_fault(def.result)) {
@@ -126,6 +129,7 @@ impl TypeScope {
             (λ _. own_types self.new ≡ own_types self.old)) }
         ensures kept { OnErr result (own_types self.new ≡ own_types self.old) }
         ensures around { types_around self.new ≡ types_around self.old }
+        ensures grown { HasGrown self.old self.new }
     {
         least_of_both();
         match uses_fault(self.sorts(), def) {

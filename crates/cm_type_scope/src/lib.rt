@@ -5,6 +5,7 @@
 mod entries;
 mod expansion;
 mod functions;
+pub mod laws;
 mod level;
 mod scope;
 mod values;

@@ -22,7 +22,7 @@ pub struct TypeScope {
 }
 
 impl TypeScope {
-    ghost use Rattle.std.specs.Prelude.{◌++◌, ◌∷◌, [], IfOk, OnOk, OnErr, slice_get};
+    ghost use Rattle.std.specs.Prelude.{◌++◌, ◌∷◌, [], IfOk, IfSome, OnOk, OnErr, slice_get};
     ghost use Rattle.std.specs.Option.{option_map};
     ghost use Rattle.cm_type_arena.specs.TypeDefs.{primitive_types};
     ghost use Rattle.cm_validity.specs.Definitions.{sorts_of};
@@ -98,16 +98,22 @@ impl TypeScope {
 
     /// What an index of its own stands for, if for anything.
     pub fn get(&self, index: u32) -> Option<&TypeEntry>
-        ensures { option_map (λ e. def_of (arena_types self.now) (arena_funcs self.now) e.now)
+        ensures there { option_map (λ e. def_of (arena_types self.now) (arena_funcs self.now) e.now)
             result ≡ slice_get (own_types self.now) index }
+        ensures placed { IfSome result (λ e.
+            is_placed (length (arena_types self.now)) (length (arena_funcs self.now)) e.now
+            ≡ true) }
     {
         self.own.entries.get(index as usize)
     }
 
     /// What an index of the types around stands for, if for anything.
     pub fn get_around(&self, index: u32) -> Option<&TypeEntry>
-        ensures { option_map (λ e. def_of (arena_types self.now) (arena_funcs self.now) e.now)
+        ensures there { option_map (λ e. def_of (arena_types self.now) (arena_funcs self.now) e.now)
             result ≡ slice_get (types_around self.now) index }
+        ensures placed { IfSome result (λ e.
+            is_placed (length (arena_types self.now)) (length (arena_funcs self.now)) e.now
+            ≡ true) }
     {
         self.around.entries.get(index as usize)
     }

@@ -23,7 +23,7 @@ impl TypeScope {
     ghost use Rattle.cm_validity.specs.Scopes.{value_def_of};
     ghost use Rattle.cm_validity.specs.TypeRules.{limits_broken, value_def_broken};
     ghost use Rattle.cm_type_scope.specs.TypeScopes.{arena_funcs, arena_types, own_types};
-    ghost use Rattle.cm_type_scope.specs.TypeScopes.{types_around};
+    ghost use Rattle.cm_type_scope.specs.TypeScopes.{HasGrown, types_around};
 
     /// Adds a type to the arena alone, and answers its place.
     fn push_type(&mut self, alloc: Global, def: TypeDef) -> Result<usize, DefFault>
@@ -39,6 +39,7 @@ impl TypeScope {
         ensures funcs { arena_funcs self.new ≡ arena_funcs self.old }
         ensures own { own_types self.new ≡ own_types self.old }
         ensures around { types_around self.new ≡ types_around self.old }
+        ensures grown { HasGrown self.old self.new }
     {
         self.types.push(alloc, def)
     }
@@ -55,6 +56,7 @@ impl TypeScope {
             (λ _. own_types self.new ≡ own_types self.old)) }
         ensures kept { OnErr result (own_types self.new ≡ own_types self.old) }
         ensures around { types_around self.new ≡ types_around self.old }
+        ensures grown { HasGrown self.old self.new }
     {
         let place = match self.push_type(alloc, def) {
             Ok(place) => place,
@@ -86,6 +88,7 @@ impl TypeScope {
             (λ _. own_types self.new ≡ own_types self.old)) }
         ensures kept { OnErr result (own_types self.new ≡ own_types self.old) }
         ensures around { types_around self.new ≡ types_around self.old }
+        ensures grown { HasGrown self.old self.new }
     {
         least_of_both();
         match parts_fault(alloc, self.sorts(), def)? {

@@ -1,0 +1,2 @@
+pub mod ScopeLaws
+pub mod FirstLaws

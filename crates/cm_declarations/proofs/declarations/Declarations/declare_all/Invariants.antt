@@ -1,0 +1,14 @@
+use Rattle.std.proofs.Common.{◌≡◌, map, drop}
+use Rattle.cm_types.specs.DefTypes.{declaration_tree}
+use Rattle.cm_validity.specs.Declarations.{after_declarations}
+use Rattle.cm_declarations.specs.DeclaredScopes.{first_resource, scope_so_far}
+use Rattle.cm_declarations.specs.FirstFaults.{first_reason}
+use Rattle.cm_declarations.proofs.declarations.Declarations.declare_all.Given as goal
+
+-- what is to come leads where all lead
+abbrev pub invariant-loop-declaration : goal.invariant-loop-declaration
+invariant-loop-declaration l = record {
+  fault : first_reason (scope_so_far l.self) (map declaration_tree (drop l.declaration-index l.declarations)) ≡ first_reason (scope_so_far l.fn.self) (map declaration_tree l.declarations);
+  scope : after_declarations (scope_so_far l.self) (map declaration_tree (drop l.declaration-index l.declarations)) ≡ after_declarations (scope_so_far l.fn.self) (map declaration_tree l.declarations);
+  first : first_resource l.self ≡ first_resource l.fn.self;
+}

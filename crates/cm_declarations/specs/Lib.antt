@@ -1,0 +1,3 @@
+pub mod DeclaredItems
+pub mod DeclaredScopes
+pub mod FirstFaults

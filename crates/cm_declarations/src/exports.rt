@@ -1,0 +1,160 @@
+//! Exports among the declarations of the type of an instance.
+
+use crate::declarations::Declarations;
+use cm_type_scope::{ItemDesc, ItemEntry, TypeEntry};
+use cm_types::{ExportDesc, ExternName, TypeBound};
+use cm_validate::ValidReason;
+use std::alloc::AllocError;
+
+impl Declarations {
+    ghost use Rattle.std.specs.Prelude.{◌≡◌, ◌++◌, ◌∷◌, [], IfOk, MatchOption, OnErr, OnOk};
+    ghost use Rattle.std.specs.Prelude.{length, true};
+    ghost use Rattle.cm_types.specs.declared.def_types.ExportDesc.TheVariants as desc;
+    ghost use Rattle.cm_types.specs.declared.def_types.TypeBound.TheVariants as bound;
+    ghost use Rattle.cm_validity.specs.Declarations.{export_desc_broken, with_export, with_fresh};
+    ghost use Rattle.cm_validity.specs.Definitions.{sorts_of};
+    ghost use Rattle.cm_validity.specs.Reasons.{least};
+    ghost use Rattle.cm_type_scope.specs.Entries as entries;
+    ghost use Rattle.cm_type_scope.specs.TypeScopes.{arena_funcs, arena_types, own_types};
+    ghost use Rattle.cm_declarations.specs.DeclaredScopes.{first_resource, scope_so_far};
+    ghost use Rattle.cm_declarations.specs.DeclaredScopes.{with_both, with_desc};
+
+    /// Adds an item.
+    fn add_item(&mut self, name: &ExternName, item: ItemDesc) -> Result<(), AllocError>
+        requires placed { entries.is_desc_placed (length (arena_types self.old.scope))
+            (length (arena_funcs self.old.scope)) item ≡ true }
+        ensures added { OnOk result
+            (scope_so_far self.new ≡ with_desc self.old name.now item) }
+        ensures kept { OnErr result (scope_so_far self.new ≡ scope_so_far self.old) }
+        ensures first { first_resource self.new ≡ first_resource self.old }
+    {
+        let name = name.clone()?;
+        self.items.push(ItemEntry { name, desc: item })?;
+        Ok(())
+    }
+
+    /// Adds an item and a type.
+    fn add_both(
+        &mut self,
+        name: &ExternName,
+        item: ItemDesc,
+        entry: TypeEntry,
+    ) -> Result<(), AllocError>
+        requires placed { entries.is_desc_placed (length (arena_types self.old.scope))
+            (length (arena_funcs self.old.scope)) item ≡ true }
+        requires there { entries.is_placed (length (arena_types self.old.scope))
+            (length (arena_funcs self.old.scope)) entry ≡ true }
+        ensures added { OnOk result
+            (scope_so_far self.new ≡ with_both self.old name.now item entry) }
+        ensures kept { OnErr result (scope_so_far self.new ≡ scope_so_far self.old) }
+        ensures first { first_resource self.new ≡ first_resource self.old }
+    {
+        let name = name.clone()?;
+        self.items.reserve(1)?;
+        self.scope.add(entry)?;
+        match self.items.push(ItemEntry { name, desc: item }) {
+            Ok(()) => Ok(()),
+            // Room was reserved.
+            Err(_) => unreachable!(),
+        }
+    }
+
+    fn export_func(
+        &mut self,
+        name: &ExternName,
+        index: u32,
+    ) -> Result<Option<ValidReason>, AllocError>
+        ensures fault { IfOk result (λ r. r ≡ least
+            (export_desc_broken (sorts_of (own_types self.old.scope)) (desc.Func index))) }
+        ensures declared { IfOk result (λ r. MatchOption r
+            (scope_so_far self.new
+            ≡ with_export (scope_so_far self.old) name.now (desc.Func index))
+            (λ _. scope_so_far self.new ≡ scope_so_far self.old)) }
+        ensures kept { OnErr result (scope_so_far self.new ≡ scope_so_far self.old) }
+        ensures first { first_resource self.new ≡ first_resource self.old }
+    {
+        match self.scope.get(index) {
+            None => Ok(Some(ValidReason::NoSuchIndex)),
+            Some(TypeEntry::Func(place)) => {
+                let item = ItemDesc::Func(*place);
+                self.add_item(name, item)?;
+                Ok(None)
+            }
+            Some(_) => Ok(Some(ValidReason::WrongSort)),
+        }
+    }
+
+    fn export_equal(
+        &mut self,
+        name: &ExternName,
+        index: u32,
+    ) -> Result<Option<ValidReason>, AllocError>
+        ensures fault { IfOk result (λ r. r ≡ least (export_desc_broken
+            (sorts_of (own_types self.old.scope)) (desc.Type (bound.Equal index)))) }
+        ensures declared { IfOk result (λ r. MatchOption r
+            (scope_so_far self.new
+            ≡ with_export (scope_so_far self.old) name.now (desc.Type (bound.Equal index)))
+            (λ _. scope_so_far self.new ≡ scope_so_far self.old)) }
+        ensures kept { OnErr result (scope_so_far self.new ≡ scope_so_far self.old) }
+        ensures first { first_resource self.new ≡ first_resource self.old }
+    {
+        match self.scope.get(index) {
+            None => Ok(Some(ValidReason::NoSuchIndex)),
+            Some(TypeEntry::Value(place)) => {
+                let place = *place;
+                self.add_both(name, ItemDesc::EqualType(place), TypeEntry::Value(place))?;
+                Ok(None)
+            }
+            Some(TypeEntry::Resource(number)) => {
+                let number = *number;
+                let item = ItemDesc::EqualResource(number);
+                self.add_both(name, item, TypeEntry::Resource(number))?;
+                Ok(None)
+            }
+            Some(_) => Ok(Some(ValidReason::WrongSort)),
+        }
+    }
+
+    fn export_fresh(&mut self, name: &ExternName) -> Result<(), AllocError>
+        ensures declared { OnOk result
+            (scope_so_far self.new ≡ with_fresh (scope_so_far self.old) name.now) }
+        ensures kept { OnErr result (scope_so_far self.new ≡ scope_so_far self.old) }
+        ensures first { first_resource self.new ≡ first_resource self.old }
+    {
+        let number = self.next;
+        if number == u64::MAX {
+            return Err(AllocError);
+        }
+        self.add_both(
+            name,
+            ItemDesc::FreshResource(number),
+            TypeEntry::Resource(number),
+        )?;
+        self.next = number + 1;
+        Ok(())
+    }
+
+    /// Reads an export: what it names is of the sort that it says, and gets the name.
+    pub(crate) fn export(
+        &mut self,
+        name: &ExternName,
+        exported: ExportDesc,
+    ) -> Result<Option<ValidReason>, AllocError>
+        ensures fault { IfOk result (λ r. r ≡ least
+            (export_desc_broken (sorts_of (own_types self.old.scope)) exported)) }
+        ensures declared { IfOk result (λ r. MatchOption r
+            (scope_so_far self.new ≡ with_export (scope_so_far self.old) name.now exported)
+            (λ _. scope_so_far self.new ≡ scope_so_far self.old)) }
+        ensures kept { OnErr result (scope_so_far self.new ≡ scope_so_far self.old) }
+        ensures first { first_resource self.new ≡ first_resource self.old }
+    {
+        match exported {
+            ExportDesc::Func(index) => self.export_func(name, index),
+            ExportDesc::Type(TypeBound::Equal(index)) => self.export_equal(name, index),
+            ExportDesc::Type(TypeBound::SubResource) => {
+                self.export_fresh(name)?;
+                Ok(None)
+            }
+        }
+    }
+}
