@@ -1,0 +1,6 @@
+mod Lexing
+mod Goods
+mod WordLaws
+mod NumberLaws
+mod Marks
+mod Chains
