@@ -3,4 +3,5 @@ mod Goods
 mod WordLaws
 mod NumberLaws
 mod Marks
+mod TextTokens
 mod Chains
