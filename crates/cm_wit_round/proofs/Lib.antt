@@ -5,3 +5,4 @@ mod NumberLaws
 mod Marks
 mod TextTokens
 mod Chains
+mod ListLaws
