@@ -175,10 +175,10 @@ passing test S n = at test n && S n
 abbrev pub failing : (Form → Bool) → (Option Form → Bool) → Option Form → Bool
 failing test S n = not (at test n) && S n
 
-if_true : {A : Type 0} (b : Bool) (x y : A) → b ≡ true → (if b then x else y) ≡ x
+pub if_true : {A : Type 0} (b : Bool) (x y : A) → b ≡ true → (if b then x else y) ≡ x
 if_true b x y e = rw e refl
 
-if_false : {A : Type 0} (b : Bool) (x y : A) → b ≡ false → (if b then x else y) ≡ y
+pub if_false : {A : Type 0} (b : Bool) (x y : A) → b ≡ false → (if b then x else y) ≡ y
 if_false b x y e = rw e refl
 
 module _ {A : Type 0} {g h : Grammar A} {front : List Form → List Form} {p : A → List Form} {S R : Option Form → Bool} (test : Form → Bool) (c : Chain g front p (passing test S) R) (d : Chain h front p (failing test S) R) where
@@ -221,7 +221,7 @@ taken_ok : {K : Type 0} (t : Token) (ts rest : List Token) (r : Result K WitReas
 taken_ok {K} t ts rest (Ok x) k e = let q = pair_is x k ts rest e in (ap (λ (z : K). Ok z) q.0, q.1)
 taken_ok t ts rest (Err r) k e = absurd cc
 
-token_parts : {K : Type 0} (table : Form → Result K WitReason) (ts rest : List Token) (k : K) → token_reads table ts ≡ Ok (k, rest) → (t : Token) × (ts ≡ t ∷ rest) × (table t.form ≡ Ok k)
+pub token_parts : {K : Type 0} (table : Form → Result K WitReason) (ts rest : List Token) (k : K) → token_reads table ts ≡ Ok (k, rest) → (t : Token) × (ts ≡ t ∷ rest) × (table t.form ≡ Ok k)
 token_parts table [] rest k e = absurd cc
 token_parts table (t ∷ ts) rest k e = let q = taken_ok t ts rest (table t.form) k e in (t, ap (λ (us : List Token). t ∷ us) q.1, q.0)
 

@@ -6,3 +6,4 @@ mod Marks
 mod TextTokens
 mod Chains
 mod ListLaws
+mod ItemLaws

@@ -49,7 +49,7 @@ from_spelling operator.Period = refl
 from_spelling operator.At = refl
 from_spelling operator.Underscore = refl
 
-some_is : {A : Type 0} (x y : A) → Some x ≡ Some y → x ≡ y
+pub some_is : {A : Type 0} (x y : A) → Some x ≡ Some y → x ≡ y
 some_is x y e = cc
 
 pub operator_is : (o : Operator) (f : Form) → is_operator o f ≡ true → f ≡ form.Operator o
@@ -115,7 +115,7 @@ keyword_is k (form.Integer n) h = absurd cc
 
 -- ---- single tokens
 
-if_ok : (b : Bool) (r : WitReason) (k : Unit {0}) → (if b then Ok tt else Err r) ≡ Ok k → b ≡ true
+pub if_ok : (b : Bool) (r : WitReason) (k : Unit {0}) → (if b then Ok tt else Err r) ≡ Ok k → b ≡ true
 if_ok true r k e = refl
 if_ok false r k e = absurd cc
 
