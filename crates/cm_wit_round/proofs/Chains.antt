@@ -112,8 +112,25 @@ law {A} {g} {p} {S} {R} c = record {
   at = λ x ts rest e. let d = c.at x ts rest e in subst (λ (fs : List Form). Canon g x ts rest fs S R) (sym d.parts) d.canon;
 }
 
-pub chain : {A : Type 0} {g : Grammar A} {p : A → List Form} {S R : Option Form → Bool} → Law g p S R → Chain g (λ z. z) p S R
-chain l = record { at = λ x ts rest e. record { behind = _; parts = refl; canon = l.at x ts rest e } }
+pub tail : {A : Type 0} {g : Grammar A} {q p : A → List Form} {front : List Form → List Form} {S R : Option Form → Bool} → Law g q S R → ((x : A) → p x ≡ front (q x)) → Chain g front p S R
+tail {A} {g} {q} l is = record { at = λ x ts rest e. record { behind = q x; parts = is x; canon = l.at x ts rest e } }
+
+pub mapped : {A B : Type 0} {g : Grammar A} {q : A → List Form} {p : B → List Form} {front : List Form → List Form} {S R : Option Form → Bool} (f : A → B) → Chain g front q S R → ((x : A) → p (f x) ≡ q x) → Chain (g >>= λ x. done (f x)) front p S R
+mapped {A} {B} {g} {q} {p} {front} {S} {R} f c is = record {
+  at = λ y ts rest e.
+      let a = then_ok (g.reads ts) (λ (u : A × List Token). ok_of {A = B × List Token} (f u.0, u.1)) (y, rest) e in
+      let k = pair_is (f a.0.0) y a.0.1 rest a.2 in
+      let m = c.at a.0.0 ts a.0.1 a.1 in
+      record {
+        behind = m.behind;
+        parts = ap p (sym k.0) ∙ (is a.0.0 ∙ m.parts);
+        canon = record {
+          again = λ all after b r. then_from (g.reads all) (λ (u : A × List Token). ok_of {A = B × List Token} (f u.0, u.1)) (a.0.0, after) (Ok (y, after)) (m.canon.again all after b r) (pair_of (f a.0.0) y after after k.0 refl);
+          same = m.canon.same ∙ ap (λ (us : List Token). kept m.behind ++ kept (forms us)) k.1;
+          starts = m.canon.starts;
+        };
+      };
+}
 
 pub bind : {A B : Type 0} {g : Grammar A} {h : A → Grammar B} {q : A → List Form} {p : B → List Form} {front : List Form → List Form} {S R : Option Form → Bool} (M : Option Form → Bool) → Law g q S M → ((x : A) → Chain (h x) (λ z. front (q x ++ z)) p M R) → Chain (g >>= h) front p S R
 bind {A} {B} {g} {h} {q} {p} {front} {S} {R} M l t = record {
@@ -181,39 +198,33 @@ if_true b x y e = rw e refl
 pub if_false : {A : Type 0} (b : Bool) (x y : A) → b ≡ false → (if b then x else y) ≡ y
 if_false b x y e = rw e refl
 
+pub then_canon : {A : Type 0} {g h : Grammar A} {y : A} {ts rest : List Token} {fs : List Form} {S R : Option Form → Bool} (test : Form → Bool) → Canon g y ts rest fs (passing test S) R → Canon (chosen test g h) y ts rest fs S R
+then_canon {A} {g} {h} {y} {ts} {rest} {fs} {S} {R} test c = record {
+  again = λ all after b r.
+      let s = both _ _ (c.starts (next_form after) r) in
+      let goes : passes test (first all) ≡ true = passes_at test all ∙ rw (behind_first fs all after b) s.0 in
+      if_true (passes test (first all)) (g.reads all) (h.reads all) goes ∙ c.again all after b r;
+  same = c.same;
+  starts = λ next r. (both _ _ (c.starts next r)).1;
+}
+
+pub else_canon : {A : Type 0} {g h : Grammar A} {y : A} {ts rest : List Token} {fs : List Form} {S R : Option Form → Bool} (test : Form → Bool) → Canon h y ts rest fs (failing test S) R → Canon (chosen test g h) y ts rest fs S R
+else_canon {A} {g} {h} {y} {ts} {rest} {fs} {S} {R} test c = record {
+  again = λ all after b r.
+      let s = both _ _ (c.starts (next_form after) r) in
+      let stays : passes test (first all) ≡ false = passes_at test all ∙ rw (behind_first fs all after b) (is_not _ s.0) in
+      if_false (passes test (first all)) (g.reads all) (h.reads all) stays ∙ c.again all after b r;
+  same = c.same;
+  starts = λ next r. (both _ _ (c.starts next r)).1;
+}
+
 module _ {A : Type 0} {g h : Grammar A} {front : List Form → List Form} {p : A → List Form} {S R : Option Form → Bool} (test : Form → Bool) (c : Chain g front p (passing test S) R) (d : Chain h front p (failing test S) R) where
-  pick_by : (b : Bool) (y : A) (ts rest : List Token) → passes test (first ts) ≡ b → (if b then g.reads ts else h.reads ts) ≡ Ok (y, rest) → Part (chosen test g h) y ts rest front (p y) S R
-  pick_by true y ts rest q e =
-      let m = c.at y ts rest e in
-      record {
-        behind = m.behind;
-        parts = m.parts;
-        canon = record {
-          again = λ all after b r.
-              let s = both _ _ (m.canon.starts (next_form after) r) in
-              let goes : passes test (first all) ≡ true = passes_at test all ∙ rw (behind_first m.behind all after b) s.0 in
-              if_true (passes test (first all)) (g.reads all) (h.reads all) goes ∙ m.canon.again all after b r;
-          same = m.canon.same;
-          starts = λ next r. (both _ _ (m.canon.starts next r)).1;
-        };
-      }
-  pick_by false y ts rest q e =
-      let m = d.at y ts rest e in
-      record {
-        behind = m.behind;
-        parts = m.parts;
-        canon = record {
-          again = λ all after b r.
-              let s = both _ _ (m.canon.starts (next_form after) r) in
-              let stays : passes test (first all) ≡ false = passes_at test all ∙ rw (behind_first m.behind all after b) (is_not _ s.0) in
-              if_false (passes test (first all)) (g.reads all) (h.reads all) stays ∙ m.canon.again all after b r;
-          same = m.canon.same;
-          starts = λ next r. (both _ _ (m.canon.starts next r)).1;
-        };
-      }
+  pick_by : (b : Bool) (y : A) (ts rest : List Token) → (if b then g.reads ts else h.reads ts) ≡ Ok (y, rest) → Part (chosen test g h) y ts rest front (p y) S R
+  pick_by true y ts rest e = let m = c.at y ts rest e in record { behind = m.behind; parts = m.parts; canon = then_canon test m.canon }
+  pick_by false y ts rest e = let m = d.at y ts rest e in record { behind = m.behind; parts = m.parts; canon = else_canon test m.canon }
 
   pub pick : Chain (chosen test g h) front p S R
-  pick = record { at = λ y ts rest e. pick_by (passes test (first ts)) y ts rest refl e }
+  pick = record { at = λ y ts rest e. pick_by (passes test (first ts)) y ts rest e }
 
 -- ---- single tokens
 

@@ -7,3 +7,5 @@ mod TextTokens
 mod Chains
 mod ListLaws
 mod ItemLaws
+mod TypeLaws
+mod FileLaws

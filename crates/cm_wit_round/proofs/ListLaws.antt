@@ -22,7 +22,7 @@ use Rattle.cm_wit_grammar.specs.Parts.{expect, expect_word, identifier, identifi
 use Rattle.cm_wit_grammar.specs.Reading.{next_form}
 use Rattle.cm_wit_round.specs.TreeTokens.{mark, keyword, name_tokens, behind_commas, with_commas}
 use Rattle.cm_wit_round.proofs.Lexing.{forms}
-use Rattle.cm_wit_round.proofs.Chains.{ok_of, pair_is, pair_of, then_ok, then_from, Behind, split, behind_length, first_form, first_form_append, behind_first, kept, kept_append, Canon, Law, Chain, law, bind, end, at, passes_at, both, is_not, passing, failing, pick, table_law}
+use Rattle.cm_wit_round.proofs.Chains.{ok_of, pair_is, pair_of, then_ok, then_from, Behind, split, behind_length, first_form, first_form_append, behind_first, kept, kept_append, Canon, Law, table_law}
 
 -- ---- operators and keywords are the same where their texts are
 
@@ -144,15 +144,18 @@ begins_word (Some (form.Integer n)) = false
 abbrev pub any : Option Form → Bool
 any n = true
 
-identifier_begins : (f : Form) (n : List ℕ) → identifier_of f ≡ Ok n → begins_word (Some f) ≡ true
-identifier_begins (form.Identifier w) n e = refl
-identifier_begins (form.Keyword k) n e = absurd cc
-identifier_begins (form.Operator o) n e = absurd cc
-identifier_begins (form.Version v) n e = absurd cc
-identifier_begins (form.Integer i) n e = absurd cc
+identifier_starts : (S : Option Form → Bool) → ((w : List ℕ) → S (Some (form.Identifier w)) ≡ true) → (f : Form) (n : List ℕ) → identifier_of f ≡ Ok n → S (Some f) ≡ true
+identifier_starts S h (form.Identifier w) n e = h w
+identifier_starts S h (form.Keyword k) n e = absurd cc
+identifier_starts S h (form.Operator o) n e = absurd cc
+identifier_starts S h (form.Version v) n e = absurd cc
+identifier_starts S h (form.Integer i) n e = absurd cc
 
-pub name_law : (M : Option Form → Bool) → Law identifier name_tokens begins_word M
-name_law M = table_law _ _ begins_word M (λ f n e. (identifier_is f n e, identifier_begins f n e))
+pub name_law : (S M : Option Form → Bool) → ((w : List ℕ) → S (Some (form.Identifier w)) ≡ true) → Law identifier name_tokens S M
+name_law S M h = table_law _ _ S M (λ f n e. (identifier_is f n e, identifier_starts S h f n e))
+
+pub any_name : (M : Option Form → Bool) → Law identifier name_tokens any M
+any_name M = name_law any M (λ w. refl)
 
 pub weaken : {A : Type 0} {g : Grammar A} {q : A → List Form} {S R : Option Form → Bool} (T : Option Form → Bool) → ((n : Option Form) → S n ≡ true → T n ≡ true) → Law g q S R → Law g q T R
 weaken T imp l = record {
@@ -161,9 +164,6 @@ weaken T imp l = record {
 
 pub anyhow : {A : Type 0} {g : Grammar A} {q : A → List Form} {S R : Option Form → Bool} → Law g q S R → Law g q any R
 anyhow l = weaken any (λ n h. refl) l
-
-pub any_name : (M : Option Form → Bool) → Law identifier name_tokens any M
-any_name M = anyhow (name_law M)
 
 length_is : (f : Form) (n : ℕ) → length_of f ≡ Ok n → form.Integer n ∷ [] ≡ f ∷ []
 length_is (form.Integer i) n e = length_by (i == 0) i n e
