@@ -8,6 +8,7 @@ use Rattle.cm_wit_tokens.specs.declared.token.Form.{Form}
 use Rattle.cm_wit_tokens.specs.declared.token.Form.TheVariants as form
 use Rattle.cm_wit_tokens.specs.declared.token.Token.{Token}
 use Rattle.cm_wit_tokens.specs.Forms.{is_operator, is_keyword}
+use Rattle.cm_wit_grammar.specs.declared.fault.WitReason.{WitReason}
 use Rattle.cm_wit_grammar.specs.Grammar.{first, Grammar, done, ◌>>=◌, passes, token, chosen}
 use Rattle.cm_wit_grammar.specs.Lists.{is_member, members, items}
 use Rattle.cm_wit_grammar.specs.Parts.{expect}
@@ -59,7 +60,7 @@ use_tokens u = path_tokens u.path ++ (mark operator.Period ++ (mark operator.Lef
 
 use_law : Law use_rest use_tokens any any
 use_law = law (bind calm path_law (λ p. bind any (expect_law operator.Period calm any refl) (λ _. bind any (ended_law any refl (braced_law (closed operator.RightBrace) refl (items_law operator.RightBrace used_name used_tokens begins_word closes_brace used_name_law (word_apart operator.RightBrace)))) (λ names. end (record { path = p; names = names }) (λ n h. refl)
-    (ap (λ (z : List Form). path_tokens p ++ (mark operator.Period ++ (mark operator.LeftBrace ++ z))) (sym (append-nil ((with_commas used_tokens names ++ mark operator.RightBrace) ++ mark operator.Semicolon) ∙ append_assoc (with_commas used_tokens names) (mark operator.RightBrace) (mark operator.Semicolon)))))))
+    (ap (λ (z : List Form). path_tokens p ++ (mark operator.Period ++ (mark operator.LeftBrace ++ z))) (sym (append-nil ((with_commas used_tokens names ++ mark operator.RightBrace) ++ mark operator.Semicolon) ∙ append_assoc (with_commas used_tokens names) (mark operator.RightBrace) (mark operator.Semicolon))))))))
 
 -- ---- cases and functions
 
@@ -89,7 +90,7 @@ func_rest_law S s = law (bind any (word_law word.Func S any s) (λ _. tail (ende
 -- ---- functions of resources
 
 -- whether a token is none but a word
-abbrev Heads : {K : Type 0} → (Form → Result K _) → (K → List Form) → Type 0
+abbrev Heads : {K : Type 0} → (Form → Result K WitReason) → (K → List Form) → Type 0
 Heads {K} table q = (f : Form) (k : K) → table f ≡ Ok k → (q k ≡ f ∷ []) × (at is_member (Some f) ≡ true)
 
 abbrev method_tokens : MethodHead → List Form
@@ -118,7 +119,7 @@ braced_funcs fs = tokens.braced (flat_map resource_func_tokens fs)
 resource_funcs : Law (braced (members resource_func)) braced_funcs (failing (is_operator operator.Semicolon) any) any
 resource_funcs = law (bind any (expect_law operator.LeftBrace (failing (is_operator operator.Semicolon) any) any refl) (λ _. bind ends (anyhow (members_law resource_func resource_func_tokens resource_func_law)) (λ x. bind any (expect_law operator.RightBrace ends any refl) (λ _. end x (λ n h. refl) refl))))
 
-no_funcs : Chain (expect operator.Semicolon >>= λ _. done {List ResourceFunc} []) (λ z. z) tokens.resource_rest (passing (is_operator operator.Semicolon) any) any
+no_funcs : Chain (expect operator.Semicolon >>= λ _. done {A = List ResourceFunc} []) (λ z. z) tokens.resource_rest (passing (is_operator operator.Semicolon) any) any
 no_funcs = bind any (expect_law operator.Semicolon (passing (is_operator operator.Semicolon) any) any refl) (λ _. end [] (λ n h. refl) refl)
 
 some_funcs : (fs : List ResourceFunc) (ts rest : List Token) → Canon (braced (members resource_func)) fs ts rest (braced_funcs fs) (failing (is_operator operator.Semicolon) any) any → Canon resource_rest fs ts rest (tokens.resource_rest fs) any any
@@ -240,4 +241,4 @@ package_is_head (form.Keyword word.Package) h e = (refl, refl)
 package_is_head f h e = absurd cc
 
 pub file_law : Law file file_tokens (at is_member) ends
-file_law = law (bind any (table_law package_head (λ u. keyword word.Package) (at is_member) any package_is_head) (λ _. bind any (any_name any) (λ ns. bind any (expect_law operator.Colon any any refl) (λ _. bind any (any_name any) (λ pkg. bind calm version_part (λ v. bind any (expect_law operator.Semicolon calm any refl) (λ _. bind ends (members_law file_item file_item_tokens file_item_law) (λ xs. end (record { namespace = ns; pkg = pkg; version = v; items = xs }) (λ n h. h) (rw (append-nil (flat_map file_item_tokens xs)) refl))))))))
+file_law = law (bind any (table_law package_head (λ u. keyword word.Package) (at is_member) any package_is_head) (λ _. bind any (any_name any) (λ ns. bind any (expect_law operator.Colon any any refl) (λ _. bind any (any_name any) (λ pkg. bind calm version_part (λ v. bind any (expect_law operator.Semicolon calm any refl) (λ _. bind ends (members_law file_item file_item_tokens file_item_law) (λ xs. end (record { namespace = ns; pkg = pkg; version = v; items = xs }) (λ n h. h) (rw (append-nil (flat_map file_item_tokens xs)) refl)))))))))

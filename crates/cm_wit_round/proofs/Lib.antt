@@ -9,3 +9,4 @@ mod ListLaws
 mod ItemLaws
 mod TypeLaws
 mod FileLaws
+pub mod PrintedLaws
