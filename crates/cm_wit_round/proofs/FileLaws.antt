@@ -1,5 +1,5 @@
 -- Interfaces, worlds and files are read again.
-use Rattle.std.proofs.Common.{◌≡◌, ℕ, Bool, true, false, ◌&&◌, not, if◌then◌else◌, List, [], ◌∷◌, ◌++◌, Option, Some, None, Result, Ok, Err, refl, sym, ap, ◌∙◌, append-nil, append_assoc}
+use Rattle.std.proofs.Common.{◌≡◌, ℕ, Bool, true, false, if◌then◌else◌, List, [], ◌∷◌, ◌++◌, Option, Some, None, Result, Ok, refl, sym, ap, ◌∙◌, append-nil, append_assoc}
 use Rattle.std.specs.List.{flat_map}
 use Rattle.cm_wit_tokens.specs.declared.keyword.Keyword.{Keyword}
 use Rattle.cm_wit_tokens.specs.declared.keyword.Keyword.TheVariants as word
@@ -9,11 +9,10 @@ use Rattle.cm_wit_tokens.specs.declared.token.Form.TheVariants as form
 use Rattle.cm_wit_tokens.specs.declared.token.Token.{Token}
 use Rattle.cm_wit_tokens.specs.Forms.{is_operator, is_keyword}
 use Rattle.cm_wit_grammar.specs.declared.fault.WitReason.{WitReason}
-use Rattle.cm_wit_grammar.specs.Grammar.{first, Grammar, done, ◌>>=◌, passes, token, chosen}
-use Rattle.cm_wit_grammar.specs.Lists.{is_member, members, items}
+use Rattle.cm_wit_grammar.specs.Grammar.{first, Grammar, done, ◌>>=◌, passes}
+use Rattle.cm_wit_grammar.specs.Lists.{is_member, members}
 use Rattle.cm_wit_grammar.specs.Parts.{expect}
-use Rattle.cm_wit_types.specs.Types.{Ty}
-use Rattle.cm_wit_types.specs.Signatures.{Func, Path, local, any_type, typed, params, func, foreign_rest}
+use Rattle.cm_wit_types.specs.Signatures.{Func, local, typed}
 use Rattle.cm_wit_text.specs.declared.heads.TypeHead.{TypeHead}
 use Rattle.cm_wit_text.specs.declared.heads.TypeHead.TheVariants as type_is
 use Rattle.cm_wit_text.specs.declared.heads.ItemHead.{ItemHead}
@@ -24,18 +23,17 @@ use Rattle.cm_wit_text.specs.declared.heads.WorldHead.{WorldHead}
 use Rattle.cm_wit_text.specs.declared.heads.WorldHead.TheVariants as world_is
 use Rattle.cm_wit_text.specs.declared.heads.FileHead.{FileHead}
 use Rattle.cm_wit_text.specs.declared.heads.FileHead.TheVariants as file_is
-use Rattle.cm_wit_text.specs.Heads.{type_head, item_head, method_head, world_head, file_head, package_head}
+use Rattle.cm_wit_text.specs.Heads.{item_head, method_head, world_head, file_head, package_head}
 use Rattle.cm_wit_text.specs.Interfaces.{braced, ended, new_name, used_name, use_rest, case_type, case, is_static, func_rest, method_rest, resource_func, resource_rest, more_flags, def_rest, item_rest, interface_item, interface_rest}
 use Rattle.cm_wit_text.specs.Worlds.{behind_colon, extern, with_direction, world_item, world_rest}
 use Rattle.cm_wit_text.specs.Files.{file_item_rest, file_item, file}
-use Rattle.cm_wit_text.specs.Trees.{UsedName, Use, Case, ResourceFunc, method, static, constructor, TypeDef, alias, record_of, variant, enum, flags, resource, InterfaceItem, uses, defines, has_func, Interface, WorldExtern, interface_at, named_func, WorldItem, imports, exports, World, FileItem, interface, world, File}
+use Rattle.cm_wit_text.specs.Trees.{Use, ResourceFunc, method, static, constructor, alias, record_of, variant, enum, flags, resource, uses, defines, has_func, WorldExtern, interface_at, named_func, interface, world}
 use Rattle.cm_wit_round.specs.TreeTokens as tokens
 use Rattle.cm_wit_round.specs.TreeTokens.{mark, keyword, name_tokens, with_commas, type_tokens, typed_tokens, params_tokens, signature_tokens, func_tokens, version_tokens, path_tokens, new_name_tokens, used_tokens, case_type_tokens, case_tokens, resource_func_tokens, def_tokens, interface_item_tokens, interface_tokens, extern_tokens, world_item_tokens, world_tokens, file_item_tokens, file_tokens}
-use Rattle.cm_wit_round.proofs.Lexing.{forms}
 use Rattle.cm_wit_round.proofs.Chains.{pair_of, Canon, Law, Chain, law, tail, mapped, bind, end, at, passing, failing, pick, then_canon, else_canon, table_law}
 use Rattle.cm_wit_round.proofs.ListLaws.{expect_law, word_law, any, begins_word, name_law, any_name, anyhow}
 use Rattle.cm_wit_round.proofs.ItemLaws.{calm, closed, ends, items_law, items_and_law, members_law}
-use Rattle.cm_wit_round.proofs.TypeLaws.{table_ok, head_is, no_parenthesis, no_as, no_colon, word_apart, closes_brace, any_type_law, typed_law, params_law, func_law, version_part, foreign_chain, path_law}
+use Rattle.cm_wit_round.proofs.TypeLaws.{head_is, no_parenthesis, no_as, no_colon, word_apart, closes_brace, any_type_law, typed_law, params_law, func_law, version_part, foreign_chain, path_law}
 
 -- ---- between braces, before a semicolon
 

@@ -1,5 +1,5 @@
 -- What the tokens of every text have in common: an identifier is a label, and each run is whole.
-use Rattle.std.proofs.Common.{◌≡◌, ℕ, zero, suc, ◌+◌, ◌-◌, ◌*◌, ◌^◌, ◌<◌, ◌≤◌, Bool, true, false, ◌==◌, if◌then◌else◌, List, [], ◌∷◌, ◌++◌, length, map, take, drop, Option, Some, None, IfSome, refl, sym, ap, subst, ◌∙◌, arith}
+use Rattle.std.proofs.Common.{◌≡◌, ℕ, zero, suc, ◌+◌, ◌-◌, ◌*◌, ◌^◌, ◌<◌, Bool, true, false, ◌==◌, if◌then◌else◌, List, [], ◌∷◌, ◌++◌, length, take, drop, Option, Some, None, IfSome, refl, ap, arith}
 use Rattle.std.specs.Prelude.{nat_lt}
 use Rattle.std.proofs.lemmas.Bool.Decides.{nat_tests}
 use Rattle.std.specs.Option.{option_map, option_map_or}
@@ -16,8 +16,8 @@ use Rattle.cm_wit_tokens.specs.declared.front.Front.TheVariants as front_is
 use Rattle.cm_wit_tokens.specs.Keywords.{keyword_of}
 use Rattle.cm_wit_tokens.specs.Operators.{operator_of}
 use Rattle.cm_wit_tokens.specs.Comments.{opened, comment_length}
-use Rattle.cm_wit_tokens.specs.Runs.{begins_alphanumeric, belongs, goes_on, run_length, run_text}
-use Rattle.cm_wit_tokens.specs.Tokens.{Lexed, identifier_form, word_form, version_form, from_digits, integer_of, token_front, operator_front, version_front, is_blank, slash_front, hyphen_front, front, front_behind, after_front, lexed_in, lexed}
+use Rattle.cm_wit_tokens.specs.Runs.{begins_alphanumeric, belongs, run_length, run_text}
+use Rattle.cm_wit_tokens.specs.Tokens.{Lexed, identifier_form, version_form, from_digits, integer_of, token_front, operator_front, version_front, is_blank, slash_front, hyphen_front, front, front_behind, after_front, lexed_in, lexed}
 use Rattle.cm_wit_round.proofs.Lexing.{forms}
 
 -- a run that is all of its text

@@ -1,5 +1,5 @@
 -- Lists of things are read again: things between commas, and members up to a brace.
-use Rattle.std.proofs.Common.{◌≡◌, ℕ, zero, suc, ◌+◌, ◌<◌, ◌≤◌, Bool, true, false, ◌&&◌, ◌||◌, not, if◌then◌else◌, List, [], ◌∷◌, ◌++◌, length, Option, Some, None, Result, Ok, Err, refl, sym, ap, subst, ◌∙◌, append-nil, append_assoc, arith, inl, inr, ◌⊎◌}
+use Rattle.std.proofs.Common.{◌≡◌, ℕ, zero, suc, ◌<◌, Bool, true, false, ◌||◌, not, if◌then◌else◌, List, [], ◌∷◌, ◌++◌, length, Option, Some, None, Ok, refl, sym, ap, subst, ◌∙◌, append-nil, append_assoc, arith, inl, inr, ◌⊎◌}
 use Rattle.std.specs.List.{flat_map}
 use Rattle.cm_wit_tokens.specs.declared.keyword.Keyword.TheVariants as word
 use Rattle.cm_wit_tokens.specs.declared.operator.Operator.{Operator}
@@ -8,14 +8,13 @@ use Rattle.cm_wit_tokens.specs.declared.token.Form.{Form}
 use Rattle.cm_wit_tokens.specs.declared.token.Form.TheVariants as form
 use Rattle.cm_wit_tokens.specs.declared.token.Token.{Token}
 use Rattle.cm_wit_tokens.specs.Forms.{is_operator, is_keyword}
-use Rattle.cm_wit_grammar.specs.Faults.{Fault, and_then}
-use Rattle.cm_wit_grammar.specs.Grammar.{first, Grammar, done, ◌>>=◌, passes, chosen, steps}
+use Rattle.cm_wit_grammar.specs.Grammar.{first, Grammar, done, ◌>>=◌, passes, chosen}
 use Rattle.cm_wit_grammar.specs.Lists.{next_item, items, and_more, last_comma, at_most, items_and, is_member, next_member, members}
 use Rattle.cm_wit_grammar.specs.Parts.{expect}
 use Rattle.cm_wit_grammar.specs.Reading.{next_form}
 use Rattle.cm_wit_round.specs.TreeTokens.{mark, behind_commas, with_commas}
 use Rattle.cm_wit_round.proofs.Lexing.{forms}
-use Rattle.cm_wit_round.proofs.Chains.{ok_of, pair_is, pair_of, then_ok, then_from, Behind, split, first_form, first_form_append, behind_first, kept, kept_append, Canon, Law, law, bind, end, at, passes_at, is_not, if_true, if_false, token_parts}
+use Rattle.cm_wit_round.proofs.Chains.{ok_of, pair_is, pair_of, then_ok, then_from, split, first_form, behind_first, kept, kept_append, Canon, Law, law, bind, end, at, passes_at, is_not, if_false, token_parts}
 use Rattle.cm_wit_round.proofs.ListLaws.{operator_is, if_ok, some_is, any, StepLaw, steps_law}
 
 -- ---- what may stand behind things
@@ -86,18 +85,18 @@ module _ {A : Type 0} (closing : Operator) (g : Grammar A) (p : A → List Form)
   none_kept ts rest e = elim (comma_parts None ts rest e) [
     | inl q ↦ ap (λ (us : List Token). kept (forms us)) q.1
     | inr a ↦ ap (λ (us : List Token). kept (forms us)) a.2 ∙ (kept_comma a.0.form (forms a.1) a.3 ∙ elim (further_parts None a.1 rest a.4) [
-        | inl q ↦ ap (λ (us : List Token). kept (forms us)) q.1
-        | inr x ↦ absurd (no_some x.0 x.1)
-      ])
+      | inl q ↦ ap (λ (us : List Token). kept (forms us)) q.1
+      | inr x ↦ absurd (no_some x.0 x.1)
+    ])
   ]
 
   some_parts : (x : A) (ts rest : List Token) → (next_item closing g).reads ts ≡ Ok (Some x, rest) → (t : Token) × (more : List Token) × (ts ≡ t ∷ more) × (is_operator operator.Comma t.form ≡ true) × (g.reads more ≡ Ok (x, rest))
   some_parts x ts rest e = elim (comma_parts (Some x) ts rest e) [
     | inl q ↦ absurd (no_some x (sym q.0))
     | inr a ↦ elim (further_parts (Some x) a.1 rest a.4) [
-        | inl q ↦ absurd (no_some x (sym q.0))
-        | inr y ↦ (a.0, a.1, a.2, a.3, y.2 ∙ pair_of y.0 x rest rest (some_is y.0 x y.1) refl)
-      ]
+      | inl q ↦ absurd (no_some x (sym q.0))
+      | inr y ↦ (a.0, a.1, a.2, a.3, y.2 ∙ pair_of y.0 x rest rest (some_is y.0 x y.1) refl)
+    ]
   ]
 
   comma_read : (left : ℕ) (x : A) (more after : List Token) → passes (is_operator closing) (first more) ≡ false → g.reads more ≡ Ok (x, after) → (next_item closing g).reads (record { left = left; form = form.Operator operator.Comma } ∷ more) ≡ Ok (Some x, after)
@@ -163,7 +162,7 @@ module _ {A : Type 0} (closing : Operator) (g : Grammar A) (p : A → List Form)
             let h = split first_part (Items a.0.0) all after b in
             let s : calm (next_form h.0) ≡ true = rw (behind_first (Items a.0.0) h.0 after h.2) (d.starts (next_form after) r) in
             then_from ((next_item closing g).reads all) (λ (u : Option A × List Token). (and_more more u.0).reads u.1) (Some x, h.0) (Ok (x ∷ a.0.0, after)) (m.again all h.0 h.1 s)
-              (then_from (more.reads h.0) (λ (u : List A × List Token). ok_of {A = List A × List Token} (x ∷ u.0, u.1)) (a.0.0, after) (Ok (x ∷ a.0.0, after)) (d.again h.0 after h.2 r) refl);
+            (then_from (more.reads h.0) (λ (u : List A × List Token). ok_of {A = List A × List Token} (x ∷ u.0, u.1)) (a.0.0, after) (Ok (x ∷ a.0.0, after)) (d.again h.0 after h.2 r) refl);
         same = m.same ∙ (ap (λ (z : List Form). kept first_part ++ z) d.same ∙ (sym (append_assoc (kept first_part) (kept (Items a.0.0)) (kept (forms a.0.1))) ∙ ap (λ (z : List Form). z ++ kept (forms a.0.1)) (sym (kept_append first_part (Items a.0.0)))));
         starts = λ next r. refl;
       }))

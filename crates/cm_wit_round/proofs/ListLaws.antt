@@ -1,7 +1,6 @@
 -- Single tokens and lists are read again.
-use Rattle.std.proofs.Common.{◌≡◌, ℕ, zero, suc, ◌+◌, ◌<◌, ◌≤◌, Bool, true, false, ◌&&◌, ◌||◌, ◌==◌, not, if◌then◌else◌, List, [], ◌∷◌, ◌++◌, length, Option, Some, None, Result, Ok, Err, refl, sym, ap, subst, ◌∙◌, append-nil, append_assoc, arith, inl, inr, ◌⊎◌}
+use Rattle.std.proofs.Common.{◌≡◌, ℕ, zero, suc, ◌<◌, Bool, true, false, ◌==◌, if◌then◌else◌, List, [], ◌∷◌, ◌++◌, length, Option, Some, None, Result, Ok, Err, refl, sym, ap, subst, ◌∙◌, append_assoc, arith}
 use Rattle.std.specs.List.{flat_map}
-use Rattle.std.specs.Str.{bytes_eq}
 use Rattle.std.proofs.lemmas.Slice.Eq.{bytes_eq-Decides}
 use Rattle.cm_wit_tokens.specs.declared.keyword.Keyword.{Keyword}
 use Rattle.cm_wit_tokens.specs.declared.keyword.Keyword.TheVariants as word
@@ -15,12 +14,11 @@ use Rattle.cm_wit_tokens.specs.Keywords.{spelling, keyword_of}
 use Rattle.cm_wit_tokens.specs.Operators.{operator_spelling, operator_of}
 use Rattle.cm_wit_grammar.specs.declared.fault.WitReason.{WitReason}
 use Rattle.cm_wit_grammar.specs.declared.fault.WitReason.TheVariants as reason
-use Rattle.cm_wit_grammar.specs.Faults.{Fault, flaw, and_then}
-use Rattle.cm_wit_grammar.specs.Grammar.{first, Grammar, done, ◌>>=◌, token_reads, token, passes, chosen, with_front, after_step, steps_in, steps}
-use Rattle.cm_wit_grammar.specs.Lists.{next_item, items, and_more, last_comma, at_most, items_and, is_member, next_member, members}
+use Rattle.cm_wit_grammar.specs.Faults.{Fault, and_then}
+use Rattle.cm_wit_grammar.specs.Grammar.{Grammar, token, with_front, after_step, steps_in, steps}
 use Rattle.cm_wit_grammar.specs.Parts.{expect, expect_word, identifier, identifier_of, length_of, version_of}
 use Rattle.cm_wit_grammar.specs.Reading.{next_form}
-use Rattle.cm_wit_round.specs.TreeTokens.{mark, keyword, name_tokens, behind_commas, with_commas}
+use Rattle.cm_wit_round.specs.TreeTokens.{mark, keyword, name_tokens}
 use Rattle.cm_wit_round.proofs.Lexing.{forms}
 use Rattle.cm_wit_round.proofs.Chains.{ok_of, pair_is, pair_of, then_ok, then_from, Behind, split, behind_length, first_form, first_form_append, behind_first, kept, kept_append, Canon, Law, table_law}
 
@@ -238,7 +236,7 @@ module _ {A : Type 0} (s : Grammar (Option A)) (p : A → List Form) (M R : Opti
             let m : M (next_form h.0) ≡ true = rw (behind_first (flat_map p a.0.0) h.0 after h.2) (d.starts (next_form after) r) in
             let fewer : length h.0 < t.0 = omega (arith, lt, t.1, l.long x ts mid e, behind_length (p x) all h.0 h.1) in
             t.2 ∙ then_from (s.reads all) (λ (u : Option A × List Token). after_step (steps_in s t.0) u.0 u.1) (Some x, h.0) (Ok (x ∷ a.0.0, after)) (c.again all h.0 h.1 m)
-              (then_from (steps_in s t.0 h.0) (λ (u : List A × List Token). ok_of {A = List A × List Token} (x ∷ u.0, u.1)) (a.0.0, after) (Ok (x ∷ a.0.0, after)) (d.again t.0 h.0 after fewer h.2 r) refl);
+            (then_from (steps_in s t.0 h.0) (λ (u : List A × List Token). ok_of {A = List A × List Token} (x ∷ u.0, u.1)) (a.0.0, after) (Ok (x ∷ a.0.0, after)) (d.again t.0 h.0 after fewer h.2 r) refl);
         same = c.same ∙ (ap (λ (z : List Form). kept (p x) ++ z) d.same ∙ (sym (append_assoc (kept (p x)) (kept (flat_map p a.0.0)) (kept (forms a.0.1))) ∙ ap (λ (z : List Form). z ++ kept (forms a.0.1)) (sym (kept_append (p x) (flat_map p a.0.0)))));
         starts = λ next r. rw (first_form_append (p x) (flat_map p a.0.0) next) (c.starts (first_form (flat_map p a.0.0) next) (d.starts next r));
       }))

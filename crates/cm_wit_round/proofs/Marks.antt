@@ -1,5 +1,5 @@
 -- The tokens of marks, blanks and keywords between marks and blanks.
-use Rattle.std.proofs.Common.{List, [], ◌∷◌, false, true, refl, arith}
+use Rattle.std.proofs.Common.{[], ◌∷◌, false, true, refl, arith}
 use Rattle.std.specs.Prelude.{codes}
 use Rattle.cm_wit_tokens.specs.declared.keyword.Keyword.TheVariants as word
 use Rattle.cm_wit_tokens.specs.declared.operator.Operator.TheVariants as operator

@@ -1,8 +1,7 @@
 -- The tokens of numbers.
-use Rattle.std.proofs.Common.{◌≡◌, ℕ, zero, suc, ◌+◌, ◌-◌, ◌*◌, ◌/◌, ◌%◌, ◌^◌, ◌<◌, ◌≤◌, Bool, true, false, ◌==◌, if◌then◌else◌, List, [], ◌∷◌, ◌++◌, length, take, drop, get_or, Option, Some, None, refl, sym, ap, subst, ◌∙◌, arith, inl, inr, ◌⊎◌}
+use Rattle.std.proofs.Common.{◌≡◌, ℕ, zero, suc, ◌+◌, ◌-◌, ◌*◌, ◌/◌, ◌%◌, ◌^◌, ◌<◌, ◌≤◌, Bool, true, false, ◌==◌, if◌then◌else◌, List, [], ◌∷◌, ◌++◌, length, take, get_or, Some, None, refl, sym, ap, subst, ◌∙◌, arith}
 use Rattle.std.specs.Prelude.{nat_lt}
 use Rattle.std.specs.Fmt.{decimal}
-use Rattle.std.proofs.lemmas.List.{length-append}
 use Rattle.std.proofs.lemmas.Fmt.{decimal_digit, first_decimal, decimal_nonempty, decimal_by_steps}
 use Rattle.std.proofs.Math.Seq.{take-append_seam, drop-append_seam}
 use Rattle.std.proofs.lemmas.Bool.Decides.{nat_tests}
@@ -67,11 +66,12 @@ unfolding Reads
 decimal_reads n lt =
     decimal_by_steps Reads
     (λ m few. (one_digit m few, λ fits. one_value m few))
-    (λ m ds many h.
-        (whole_more ds (48 + m % 10) (digit (m % 10) (below_ten m)) h.0,
-         λ fits.
-             let e = last_digit m in
-             one_more ds 0 (48 + m % 10) (m / 10) (h.1 (omega (arith, fits, fewer m))) (omega (arith, e, fits)) ∙ ap Some e))
+    (λ m ds many h. (
+      whole_more ds (48 + m % 10) (digit (m % 10) (below_ten m)) h.0,
+      λ fits.
+          let e = last_digit m in
+          one_more ds 0 (48 + m % 10) (m / 10) (h.1 (omega (arith, fits, fewer m))) (omega (arith, e, fits)) ∙ ap Some e,
+    ))
     n lt
 
 no_zero : (n d e : ℕ) (ds : List ℕ) → decimal n ≡ d ∷ e ∷ ds → n < 2 ^ 64 → (d == 0x30) ≡ false

@@ -1,5 +1,5 @@
 -- What a text is read as, its printed text is read as again.
-use Rattle.std.proofs.Common.{◌≡◌, ℕ, List, [], ◌∷◌, ◌++◌, length, Option, Some, None, Result, Ok, Err, refl, sym, ap, subst, ◌∙◌, append-nil}
+use Rattle.std.proofs.Common.{◌≡◌, ℕ, List, [], ◌∷◌, ◌++◌, length, Option, Some, None, Result, Ok, Err, refl, ap, subst, ◌∙◌, append-nil}
 use Rattle.cm_wit_tokens.specs.declared.token.Form.{Form}
 use Rattle.cm_wit_tokens.specs.declared.token.Form.TheVariants as form
 use Rattle.cm_wit_tokens.specs.declared.token.Token.{Token}
@@ -13,10 +13,10 @@ use Rattle.cm_wit_text.specs.Files.{file}
 use Rattle.cm_wit_text.specs.Trees.{File}
 use Rattle.cm_wit_print.specs.Printed.{file_text}
 use Rattle.cm_wit_round.specs.TreeTokens.{file_tokens}
-use Rattle.cm_wit_round.proofs.Lexing.{forms, shown}
+use Rattle.cm_wit_round.proofs.Lexing.{forms}
 use Rattle.cm_wit_round.proofs.Goods.{AreGood, tokens_good}
 use Rattle.cm_wit_round.proofs.TextTokens.{file_text_tokens}
-use Rattle.cm_wit_round.proofs.Chains.{at, ok_is, then_ok, then_from, Behind, behind_all, kept, Canon}
+use Rattle.cm_wit_round.proofs.Chains.{at, ok_is, then_ok, Behind, behind_all, kept, Canon}
 use Rattle.cm_wit_round.proofs.ItemLaws.{ends}
 use Rattle.cm_wit_round.proofs.FileLaws.{file_law}
 

@@ -1,5 +1,5 @@
 -- The tokens of printed trees, a line a production.
-use Rattle.std.proofs.Common.{◌≡◌, ℕ, suc, Bool, true, false, ◌==◌, List, [], ◌∷◌, ◌++◌, length, Option, Some, None, refl, subst, append-nil, arith}
+use Rattle.std.proofs.Common.{◌≡◌, ℕ, suc, true, false, ◌==◌, List, [], ◌∷◌, ◌++◌, length, Option, Some, None, refl, subst, append-nil, arith}
 use Rattle.std.specs.Option.{option_map_or}
 use Rattle.std.proofs.lemmas.Bool.Decides.{nat_tests}
 use Rattle.cm_types.specs.Names.{is_label}
@@ -20,8 +20,8 @@ use Rattle.cm_wit_types.specs.Signatures.{Typed, Func, Path, local, foreign}
 use Rattle.cm_wit_text.specs.Trees.{UsedName, Case, ResourceFunc, method, static, constructor, TypeDef, alias, record_of, variant, enum, flags, resource, InterfaceItem, uses, defines, has_func, Interface, WorldExtern, interface_at, named_func, WorldItem, imports, exports, World, FileItem, interface, world, File}
 use Rattle.cm_wit_print.specs.Printed as text
 use Rattle.cm_wit_round.specs.TreeTokens as tokens
-use Rattle.cm_wit_round.proofs.Lexing.{IsLexed, shown, nothing, Lexes, Stops, Follows, token_first, join, after, no_text, bare}
-use Rattle.cm_wit_round.proofs.Goods.{IsGood, AreGood, good_front, good_behind}
+use Rattle.cm_wit_round.proofs.Lexing.{IsLexed, shown, nothing, Lexes, Stops, token_first, join, after, no_text, bare}
+use Rattle.cm_wit_round.proofs.Goods.{AreGood, good_front, good_behind}
 use Rattle.cm_wit_round.proofs.WordLaws.{begins_letter, name_lexes, version_lexes, label_begins}
 use Rattle.cm_wit_round.proofs.NumberLaws.{number_lexes}
 use Rattle.cm_wit_round.proofs.Marks as marks

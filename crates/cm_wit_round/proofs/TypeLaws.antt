@@ -1,5 +1,5 @@
 -- Types, functions and paths are read again.
-use Rattle.std.proofs.Common.{◌≡◌, ℕ, zero, suc, Bool, true, false, ◌&&◌, ◌||◌, not, List, [], ◌∷◌, ◌++◌, Option, Some, None, Result, Ok, Err, refl, sym, ap, ◌∙◌, append-nil, append_assoc}
+use Rattle.std.proofs.Common.{◌≡◌, ℕ, zero, suc, Bool, true, false, ◌&&◌, ◌||◌, not, List, [], ◌∷◌, ◌++◌, Option, Some, None, Result, Ok, Err, refl, sym, ap, append-nil}
 use Rattle.cm_wit_tokens.specs.declared.keyword.Keyword.TheVariants as word
 use Rattle.cm_wit_tokens.specs.declared.operator.Operator.{Operator}
 use Rattle.cm_wit_tokens.specs.declared.operator.Operator.TheVariants as operator
@@ -7,12 +7,12 @@ use Rattle.cm_wit_tokens.specs.declared.token.Form.{Form}
 use Rattle.cm_wit_tokens.specs.declared.token.Form.TheVariants as form
 use Rattle.cm_wit_tokens.specs.Forms.{is_operator, is_keyword}
 use Rattle.cm_wit_grammar.specs.declared.fault.WitReason.{WitReason}
-use Rattle.cm_wit_grammar.specs.Grammar.{Grammar, done, ◌>>=◌, token, chosen}
+use Rattle.cm_wit_grammar.specs.Grammar.{Grammar, done, chosen}
 use Rattle.cm_wit_grammar.specs.Lists.{items}
 use Rattle.cm_wit_grammar.specs.Parts.{expect}
-use Rattle.cm_wit_types.specs.Types.{Ty, Tys, borrow, list, fixed_list, option, tuple, plain_result, ok_result, error_result, result, types_from, Start, whole, borrow_of, list_of, option_of, tuple_of, result_of, keyword_start, keyword_head, start_of, no_borrow, borrowless, start_in, error_rest, rest_of, too_deep, ty, most_depth}
-use Rattle.cm_wit_types.specs.Signatures.{Typed, Func, Path, local, foreign, any_type, result_type, typed, params, func, optional_version, foreign_rest, path}
-use Rattle.cm_wit_round.specs.TreeTokens.{mark, keyword, name_tokens, behind_commas, with_commas, type_tokens, types_tokens, further_types_tokens, typed_tokens, params_tokens, result_tokens, signature_tokens, version_tokens, path_tokens}
+use Rattle.cm_wit_types.specs.Types.{Ty, borrow, list, fixed_list, option, tuple, plain_result, ok_result, error_result, result, types_from, Start, whole, borrow_of, list_of, option_of, tuple_of, result_of, start_of, no_borrow, borrowless, start_in, error_rest, rest_of, too_deep, ty, most_depth}
+use Rattle.cm_wit_types.specs.Signatures.{local, foreign, any_type, result_type, typed, params, func, optional_version, foreign_rest, path}
+use Rattle.cm_wit_round.specs.TreeTokens.{mark, keyword, name_tokens, behind_commas, with_commas, type_tokens, types_tokens, further_types_tokens, typed_tokens, params_tokens, signature_tokens, version_tokens, path_tokens}
 use Rattle.cm_wit_round.proofs.Chains.{Law, Chain, law, tail, bind, end, at, passing, failing, pick, table_law}
 use Rattle.cm_wit_round.proofs.ListLaws.{expect_law, begins_word, any, name_law, any_name, weaken, anyhow, length_law, version_law}
 use Rattle.cm_wit_round.proofs.ItemLaws.{hot, calm, closed, Closes, items_law}

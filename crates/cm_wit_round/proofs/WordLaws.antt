@@ -1,28 +1,24 @@
 -- The tokens of words, names, versions and numbers.
-use Rattle.std.proofs.Common.{◌≡◌, ℕ, zero, suc, ◌+◌, ◌-◌, ◌*◌, ◌/◌, ◌%◌, ◌^◌, ◌<◌, ◌≤◌, Bool, true, false, ◌==◌, ◌&&◌, ◌||◌, cond, if◌then◌else◌, List, [], ◌∷◌, ◌++◌, length, map, take, drop, Option, Some, None, IfSome, refl, sym, ap, subst, ◌∙◌, append_assoc, arith, inl, inr, ◌⊎◌}
-use Rattle.std.specs.Prelude.{nat_lt, codes}
+use Rattle.std.proofs.Common.{◌≡◌, ℕ, suc, ◌+◌, ◌<◌, Bool, true, false, ◌==◌, ◌&&◌, ◌||◌, cond, if◌then◌else◌, List, [], ◌∷◌, ◌++◌, length, take, drop, Option, Some, None, refl, sym, ap, subst, ◌∙◌, arith, inl, inr, ◌⊎◌}
+use Rattle.std.specs.Prelude.{codes}
 use Rattle.std.specs.List.{list_all, slice_split, onto_first}
-use Rattle.std.specs.Fmt.{decimal}
 use Rattle.std.proofs.lemmas.List.{length-append}
-use Rattle.std.proofs.lemmas.Fmt.{decimal_digit, decimal_step, first_decimal, decimal_by_steps}
 use Rattle.std.proofs.Math.Seq.{take-append_seam, drop-append_seam}
 use Rattle.std.proofs.lemmas.Bool.Decides.{nat_tests}
-use Rattle.std.proofs.lemmas.Bool.{lt-ltb}
-use Rattle.std.specs.Option.{option_map, option_map_or}
-use Rattle.std.specs.Char.{is_ascii_alphabetic, is_ascii_digit, is_ascii_alphanumeric, is_ascii_lowercase, is_ascii_uppercase}
-use Rattle.cm_types.specs.Names.{is_in_word, is_in_acronym, is_fragment, is_label}
+use Rattle.std.specs.Option.{option_map_or}
+use Rattle.std.specs.Char.{is_ascii_alphabetic, is_ascii_lowercase, is_ascii_uppercase}
+use Rattle.cm_types.specs.Names.{is_fragment, is_label}
 use Rattle.cm_wit_tokens.specs.declared.keyword.Keyword.{Keyword}
 use Rattle.cm_wit_tokens.specs.declared.run.Run.{Run}
 use Rattle.cm_wit_tokens.specs.declared.run.Run.TheVariants as run
 use Rattle.cm_wit_tokens.specs.declared.token.Form.{Form}
 use Rattle.cm_wit_tokens.specs.declared.token.Form.TheVariants as form
 use Rattle.cm_wit_tokens.specs.declared.operator.Operator.TheVariants as operator
-use Rattle.cm_wit_tokens.specs.declared.front.Front.{Front}
 use Rattle.cm_wit_tokens.specs.declared.front.Front.TheVariants as front_is
 use Rattle.cm_wit_tokens.specs.Keywords.{keyword_of}
 use Rattle.cm_wit_tokens.specs.Runs.{begins_alphanumeric, belongs, goes_on, run_length, run_text}
-use Rattle.cm_wit_tokens.specs.Tokens.{identifier_form, word_form, version_form, from_digits, integer_of, token_front, version_front, integer_front, word_front, escaped_front, is_blank, front, front_behind, is_at}
-use Rattle.cm_wit_round.proofs.Lexing.{IsLexed, Lexes, Stops, token_first}
+use Rattle.cm_wit_tokens.specs.Tokens.{identifier_form, word_form, version_form, token_front, version_front, word_front, is_blank, front, is_at}
+use Rattle.cm_wit_round.proofs.Lexing.{IsLexed, Lexes, token_first}
 use Rattle.cm_wit_round.proofs.Goods.{IsWhole, IsGood}
 
 -- ---- runs of whole texts
