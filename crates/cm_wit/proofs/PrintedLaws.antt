@@ -1,6 +1,7 @@
 -- What a printed package is read as.
-use Rattle.std.proofs.Common.{◌≡◌, ℕ, List, None, Some, Result, Ok, Err, ◌⊎◌, inl, inr, sym, ◌∙◌, subst}
+use Rattle.std.proofs.Common.{◌≡◌, ℕ, List, None, Result, Ok, Err, inl, inr, sym, ◌∙◌, subst}
 use Rattle.std.specs.Prelude.{MatchResult}
+use Rattle.std.proofs.Math.Logic.{∥∥₁_elim, ∥∥₁_prop}
 use Rattle.cm_wit_grammar.specs.declared.fault.WitFault.{WitFault}
 use Rattle.cm_wit_grammar.specs.Whole.{IsMemory, text_reads}
 use Rattle.cm_wit_mentions.specs.FileMentions.{mentions}
@@ -10,7 +11,8 @@ use Rattle.cm_wit_text.specs.Files.{file}
 use Rattle.cm_wit_text.specs.Trees.{File}
 use Rattle.cm_wit.specs.declared.package.Package.{Package}
 use Rattle.cm_wit.specs.PackageViews.{package_tree}
-use Rattle.cm_wit.specs.Packages.{IsPackage, IsNameFault, IsRefused, IsParsed}
+use Rattle.cm_wit.specs.Texts.{IsPackage, IsWritten}
+use Rattle.cm_wit.specs.Packages.{IsNameFault, IsRefused, IsParsed}
 
 abbrev ok_of : File → Result File WitFault
 ok_of f = Ok f
@@ -35,3 +37,7 @@ refused_is text p e h r = elim r [
 pub parsed_is : (text : List ℕ) (p : File) (result : Result Package WitFault) → IsPackage text p → IsParsed text result → MatchResult result (λ read. package_tree read ≡ p) IsMemory
 parsed_is text p (Ok q) h r = same_file (package_tree q) p (sym r.0 ∙ h.0)
 parsed_is text p (Err e) h r = refused_is text p e h r
+
+-- a package that some text is, is what its printed text is
+pub printed_is : (f : File) → ((text : List ℕ) → IsPackage text f → IsPackage (file_text f) f) → ∥ IsWritten f ∥₁ → (bytes : List ℕ) → bytes ≡ file_text f → ∥ IsPackage bytes f ∥₁
+printed_is f h w bytes e = subst (λ (t : List ℕ). ∥ IsPackage t f ∥₁) (sym e) (∥∥₁_elim w ∥∥₁_prop (λ p. ∣ h p.0 p.1 ∣₁))

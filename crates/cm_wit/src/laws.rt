@@ -7,14 +7,13 @@ ghost use Rattle.cm_wit_print.specs.Printed.{file_text};
 ghost use Rattle.cm_wit_text.specs.Trees.{File};
 ghost use Rattle.cm_wit.specs.declared.package.Package.{Package};
 ghost use Rattle.cm_wit.specs.PackageViews.{package_tree};
-ghost use Rattle.cm_wit.specs.Packages.{IsPackage, IsParsed};
+ghost use Rattle.cm_wit.specs.Packages.{IsParsed};
+ghost use Rattle.cm_wit.specs.Texts.{IsPackage};
 
 use cm_wit_round::laws::printed_file_is_read;
 
 /// The text that prints a package is that package. So whatever a function answers to it that reads
 /// as `parse` does is that package, and no fault but want of memory.
-///
-/// A package is what some text is, since `parse` alone makes one.
 pub fn printed_and_parsed()
     ensures printed { (p : File) (text : List ℕ) → IsPackage text p → IsPackage (file_text p) p }
     ensures parsed { (p : File) (text : List ℕ) → IsPackage text p
