@@ -1,5 +1,5 @@
 -- Packages: files whose names break no rule.
-use Rattle.std.specs.Prelude.{◌≡◌, ◌⊎◌, ℕ, List, Some, None, Result, Ok, Err, MatchResult}
+use Rattle.std.specs.Prelude.{◌≡◌, ◌⊎◌, ℕ, List, Some, Result, Ok, Err, MatchResult}
 use Rattle.cm_wit_grammar.specs.declared.fault.WitFault.{WitFault}
 use Rattle.cm_wit_grammar.specs.Whole.{IsMemory, text_reads}
 use Rattle.cm_wit_mentions.specs.FileMentions.{mentions}
@@ -9,10 +9,7 @@ use Rattle.cm_wit_text.specs.Trees.{File}
 use Rattle.cm_wit.specs.declared.package.Package.{Package}
 use Rattle.cm_wit.specs.PackageViews.{package_tree}
 use Rattle.cm_wit.specs.Places.{name_place}
-
--- A text is a package: it is this file, and the file's names break no rule.
-abbrev pub IsPackage : List ℕ → File → Type 0
-IsPackage text f = (text_reads file text ≡ Ok f) × IsFirstFault (mentions f) None
+use Rattle.cm_wit.specs.Texts.{IsPackage}
 
 -- The first fault of the names of a text that is a file, at the name.
 abbrev pub IsNameFault : List ℕ → WitFault → Type 0

@@ -1,6 +1,7 @@
 //! Packages of WIT: read, and printed.
 #![tactic(auto)]
 
+pub mod laws;
 mod package;
 mod parsing;
 mod places;

@@ -1,18 +1,17 @@
 //! Packages.
 
-ghost use Rattle.std.specs.Prelude.{◌≡◌, None};
-ghost use Rattle.cm_wit_mentions.specs.FileMentions.{mentions};
-ghost use Rattle.cm_wit_names.specs.Rules.{IsFirstFault};
+ghost use Rattle.std.specs.Prelude.{◌≡◌};
 ghost use Rattle.cm_wit_text.specs.Views.{file_tree};
+ghost use Rattle.cm_wit.specs.Texts.{IsWritten};
 
 use cm_wit_text::WitFile;
 
-/// The interfaces and worlds of a package, as a text writes them, whose names break no rule. It is
-/// made by `parse` alone.
+/// The interfaces and worlds of a package, as some text writes them, whose names break no rule. It
+/// is made by `parse` alone.
 #[derive(Drop)]
 pub struct Package {
     pub(crate) file: WitFile,
-    ghost sound: { IsFirstFault (mentions (file_tree file)) None },
+    ghost written: { ∥ IsWritten (file_tree file) ∥₁ },
 }
 
 impl Package {
