@@ -1,5 +1,6 @@
 -- The laws of a walk: what is left to do on a path gives the order.
-use Rattle.std.proofs.Common.{◌≡◌, ℕ, zero, suc, ◌+◌, true, false, List, [], ◌∷◌, ◌++◌, drop, get_or, refl, sym, ap, subst, ◌∙◌, append-nil, arith, ◌<◌, length, Some, None, slice_get}
+use Rattle.std.proofs.lemmas.List.{take_more}
+use Rattle.std.proofs.Common.{take, ◌≡◌, ℕ, zero, suc, ◌+◌, true, false, List, [], ◌∷◌, ◌++◌, drop, get_or, refl, sym, ap, subst, ◌∙◌, append-nil, arith, ◌<◌, length, Some, None, slice_get}
 use Rattle.cm_depth_first.specs.DepthFirst.{Orders, over, is_there, is_new, is_among}
 use Rattle.cm_depth_first.specs.Paths.{After, Leaves}
 
@@ -53,3 +54,18 @@ was_there needs n placed there = is_there n placed [] placed there (over placed)
 pub ruleset place_laws = (begins, was_there)
 
 pub ruleset walk_laws = (leaves_node, leaves_placed, leaves_begun)
+
+-- ---- several nodes
+
+pub orders_then : (needs : ℕ → List ℕ) (start xs mid ys end : List ℕ) → Orders needs start xs mid → Orders needs mid ys end → Orders needs start (xs ++ ys) end
+orders_then needs start _ _ ys end (over _) o = o
+orders_then needs start _ mid ys end (is_there n _ nodes _ e rest) o = is_there n start (nodes ++ ys) end e (orders_then needs start nodes mid ys end rest o)
+orders_then needs start _ mid ys end (is_new n _ before nodes _ e own rest) o = is_new n start before (nodes ++ ys) end e own (orders_then needs (before ++ n ∷ []) nodes mid ys end rest o)
+
+pub orders_none : (needs : ℕ → List ℕ) (start : List ℕ) → Orders needs start [] start
+orders_none needs start = over start
+
+pub orders_more : (needs : ℕ → List ℕ) (xs : List ℕ) (i : ℕ) (start mid end : List ℕ) → i < length xs → Orders needs start (take i xs) mid → Orders needs mid (get_or xs i 0 ∷ []) end → Orders needs start (take (i + 1) xs) end
+orders_more needs xs i start mid end lt o p = subst (λ l. Orders needs start l end) (sym (take_more xs i 0 lt)) (orders_then needs start (take i xs) mid (get_or xs i 0 ∷ []) end o p)
+
+pub ruleset all_laws = (orders_none, orders_more)

@@ -3,4 +3,4 @@
 
 mod walk;
 
-pub use walk::place;
+pub use walk::{place, place_all};

@@ -73,3 +73,22 @@ pub fn place(
     }
     Ok(false)
 }
+
+/// Places nodes in turn, as `place` places each. Refused only where there is no memory.
+#[tactic(auto, using(crate::proofs::WalkLaws::all_laws))]
+pub fn place_all(
+    alloc: Global,
+    rows: &[Vec<usize>],
+    nodes: &[usize],
+    order: &mut IndexSet<usize>,
+) -> Result<bool, AllocError>
+    ensures { IfOk result (λ b. IsTrue b →
+        Orders (needs_of rows.now) order.old.keys nodes.now order.new.keys) }
+{
+    for node in nodes {
+        if !place(alloc, rows, *node, order)? {
+            return Ok(false);
+        }
+    }
+    Ok(true)
+}
