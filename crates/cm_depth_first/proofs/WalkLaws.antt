@@ -1,6 +1,6 @@
 -- The laws of a walk: what is left to do on a path gives the order.
 use Rattle.std.proofs.lemmas.List.{take_more}
-use Rattle.std.proofs.Common.{take, ◌≡◌, ℕ, zero, suc, ◌+◌, true, false, List, [], ◌∷◌, ◌++◌, drop, get_or, refl, sym, ap, subst, ◌∙◌, append-nil, arith, ◌<◌, length, Some, None, slice_get}
+use Rattle.std.proofs.Common.{take, ◌≡◌, ℕ, zero, suc, ◌+◌, true, false, List, [], ◌∷◌, ◌++◌, drop, get_or, refl, sym, ap, subst, ◌∙◌, arith, ◌<◌, length, Some, None, slice_get}
 use Rattle.cm_depth_first.specs.DepthFirst.{Orders, over, is_there, is_new, is_among}
 use Rattle.cm_depth_first.specs.Paths.{After, Leaves}
 

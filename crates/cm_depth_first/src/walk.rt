@@ -1,6 +1,7 @@
 //! A walk over what nodes need.
 
-ghost use Rattle.std.specs.Prelude.{◌≡◌, ◌∷◌, [], ◌++◌, List, ℕ, IfOk, IsTrue, OnSome, slice_get, ◌<◌, ◌^◌};
+ghost use Rattle.std.specs.Prelude.{◌≡◌, ◌<◌, ◌^◌, ◌∷◌, [], ◌++◌, List, ℕ, IfOk, IsTrue};
+ghost use Rattle.std.specs.Prelude.{OnSome, slice_get};
 ghost use Rattle.cm_depth_first.specs.DepthFirst.{Orders, needs_of};
 ghost use Rattle.cm_depth_first.specs.Paths.{Leaves};
 
@@ -30,9 +31,9 @@ fn step(
 ) -> Result<bool, AllocError>
     ensures { IfOk result (λ b. IsTrue b → (start nodes : List ℕ) →
         Leaves (needs_of rows.now) (path.old.items ++ (node, place) ∷ [])
-            (Orders (needs_of rows.now) start nodes) order.old.keys
+        (Orders (needs_of rows.now) start nodes) order.old.keys
         → Leaves (needs_of rows.now) path.new.items
-            (Orders (needs_of rows.now) start nodes) order.new.keys) }
+        (Orders (needs_of rows.now) start nodes) order.new.keys) }
 {
     let Some(need) = need_at(rows, node, place) else {
         let (_, added) = order.insert_full(node)?;

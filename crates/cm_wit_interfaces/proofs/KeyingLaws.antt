@@ -1,9 +1,9 @@
 -- Lists made element by element, and searches.
-use Rattle.std.proofs.Common.{◌≡◌, ℕ, ◌+◌, ◌<◌, ◌≤◌, Bool, true, false, cond, List, [], ◌∷◌, ◌++◌, length, map, drop, get_or, Option, Some, None, refl, sym, ap, ◌∙◌, append_assoc, append-nil}
-use Rattle.std.specs.List.{filter_map, cons_option, position_from}
-use Rattle.std.specs.Option.{option_map}
+use Rattle.std.proofs.Common.{◌≡◌, ℕ, ◌+◌, ◌<◌, ◌≤◌, Bool, true, false, cond, List, [], ◌∷◌, ◌++◌, length, map, drop, get_or, Some, None, refl, sym, ap, ◌∙◌, append_assoc, append-nil}
+use Rattle.std.specs.List.{position_from}
+use Rattle.std.specs.Prelude.{String}
+use Rattle.std.specs.Global.{Global}
 use Rattle.std.specs.String.{string_bytes}
-use Rattle.std.specs.Borrow.{Bor}
 use Rattle.std.proofs.lemmas.List.{drop_all, drop_more, map-append}
 use Rattle.cm_wit_text.specs.Trees.{File}
 use Rattle.cm_wit_interfaces.specs.Interfaces.{package_key, package_name}
@@ -35,14 +35,18 @@ pub ruleset search_laws = (looks_start, looks_on, looks_here, looks_end)
 
 -- ---- keys
 
-key_each : (fs : List File) (texts : List (List ℕ)) → texts ≡ map package_name fs → map (λ (t : List ℕ). (0, t)) texts ≡ map package_key fs
-key_each [] texts e = ap (map (λ (t : List ℕ). (0, t))) e
-key_each (f ∷ fs) texts e = ap (map (λ (t : List ℕ). (0, t))) e ∙ ap (λ (ks : List (ℕ × List ℕ)). package_key f ∷ ks) (key_each fs (map package_name fs) refl)
+key_each : (fs : List File) → map {B = ℕ × List ℕ} (λ (t : List ℕ). (0, t)) (map package_name fs) ≡ map package_key fs
+key_each [] = refl
+key_each (f ∷ fs) = ap (λ (ks : List (ℕ × List ℕ)). package_key f ∷ ks) (key_each fs)
 
-pub directory_laws_keys : (fs : List File) (texts : List (List ℕ)) → texts ≡ map package_name fs → map (λ (t : List ℕ). (0, t)) texts ≡ map package_key fs
-directory_laws_keys = key_each
+key_text : (names : List (String Global)) → map {B = ℕ × List ℕ} (λ (s : String Global). (0, string_bytes s)) names ≡ map {B = ℕ × List ℕ} (λ (t : List ℕ). (0, t)) (map string_bytes names)
+key_text [] = refl
+key_text (s ∷ names) = ap (λ (ks : List (ℕ × List ℕ)). (0, string_bytes s) ∷ ks) (key_text names)
 
-pub ruleset directory_laws = (directory_laws_keys)
+pub name_keys : (fs : List File) (names : List (String Global)) → map string_bytes names ≡ map package_name fs → map {B = ℕ × List ℕ} (λ (s : String Global). (0, string_bytes s)) names ≡ map package_key fs
+name_keys fs names e = key_text names ∙ (ap (map {B = ℕ × List ℕ} (λ (t : List ℕ). (0, t))) e ∙ key_each fs)
+
+pub ruleset directory_laws = (name_keys)
 
 -- ---- lists
 
@@ -92,4 +96,5 @@ pub ends_end : {A B D : Type 0} (view : A → B) (F : List B → List D) (xs : L
 ends_end {A} {B} {D} view F xs i out le none f = sym (append-nil out) ∙ (sym (ap (λ (l : List D). out ++ l) none) ∙ (sym (ap (λ (ys : List A). out ++ F (map view ys)) (drop_all i xs le)) ∙ f.is))
 
 pub ruleset map_laws = (rests_start, rests_push, rests_end)
+
 pub ruleset use_laws = (ends_start, ends_skip, ends_push, ends_end)

@@ -1,5 +1,5 @@
 -- The interfaces and worlds that the code's are.
-use Rattle.std.specs.Prelude.{List, ℕ, map}
+use Rattle.std.specs.Prelude.{List, map}
 use Rattle.std.specs.Borrow.{Bor}
 use Rattle.cm_wit_text.specs.declared.file.WitFile.{WitFile}
 use Rattle.cm_wit_text.specs.Trees.{File}

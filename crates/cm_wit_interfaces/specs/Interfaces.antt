@@ -9,7 +9,7 @@ use Rattle.cm_types.specs.ExternNames.{name_spelling, version_suffix}
 use Rattle.cm_types.specs.ExternNames as name
 use Rattle.cm_wit_types.specs.Signatures.{Path, local, foreign}
 use Rattle.cm_wit_text.specs.Trees.{File, FileItem, interface, world, Interface, InterfaceItem}
-use Rattle.cm_wit_text.specs.Trees.{World, Use, uses, defines, has_func}
+use Rattle.cm_wit_text.specs.Trees.{World, uses, defines, has_func}
 use Rattle.cm_keys.specs.Keys.{Key, first_key}
 
 -- ---- names
@@ -80,7 +80,8 @@ interface_at fs p text = first_key (map interface_key (interfaces fs)) p text
 abbrev pub target : List File → ℕ → Path → Option ℕ
 target fs p (local text) = interface_at fs p text
 target fs p (foreign namespace pkg text version) =
-    option_and_then (λ q. interface_at fs q text) (package_at fs (package_text namespace pkg version))
+    option_and_then (λ q. interface_at fs q text)
+    (package_at fs (package_text namespace pkg version))
 
 -- whether a world is the one of a full name, in the package that counts
 abbrev pub is_world : List File → List ℕ → PlacedWorld → Bool

@@ -20,9 +20,8 @@ pub struct Directory<'a> {
     packages: Keys<'a>,
     names: Keys<'a>,
     ghost are_packages: { listed packages ≡ map spec.package_key (files_of files.items) },
-    ghost are_names: {
-        listed names ≡ map spec.interface_key (spec.interfaces (files_of files.items))
-    },
+    ghost are_names: { listed names
+        ≡ map spec.interface_key (spec.interfaces (files_of files.items)) },
 }
 
 impl<'a> Directory<'a> {
@@ -43,9 +42,8 @@ impl<'a> Directory<'a> {
         names: &'a [String],
         interfaces: &[PlacedInterface<'a>],
     ) -> Result<Directory<'a>, AllocError>
-        requires interfaces {
-            map placed_interface interfaces.now ≡ spec.interfaces (files_of files.items)
-        }
+        requires interfaces { map placed_interface interfaces.now
+            ≡ spec.interfaces (files_of files.items) }
         requires names { map string_bytes names.now ≡ map package_name (files_of files.items) }
         ensures { IfOk result (λ d. files_of d.files.items ≡ files_of files.entry.items) }
     {

@@ -70,10 +70,7 @@ pub fn interfaces<'a>(
 
 /// The worlds of packages. Refused only where there is no memory.
 #[tactic(auto, using(crate::proofs::ListingLaws::listing_laws))]
-pub fn worlds<'a>(
-    alloc: Global,
-    files: &[&'a WitFile],
-) -> Result<Vec<PlacedWorld<'a>>, AllocError>
+pub fn worlds<'a>(alloc: Global, files: &[&'a WitFile]) -> Result<Vec<PlacedWorld<'a>>, AllocError>
     ensures { IfOk result (λ v. map placed_world v.items ≡ worlds (files_of files.now)) }
 {
     let mut out = Vec::new(alloc);

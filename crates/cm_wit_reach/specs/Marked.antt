@@ -1,5 +1,5 @@
 -- Edges to marked nodes.
-use Rattle.std.specs.Prelude.{◌≡◌, Bool, true, false, List, Option, Some, None, slice_index_or}
+use Rattle.std.specs.Prelude.{Bool, false, List, Option, Some, None, slice_index_or}
 use Rattle.std.specs.Prelude.{ℕ, if◌then◌else◌}
 use Rattle.std.specs.List.{filter_map}
 use Rattle.cm_graph.specs.Graphs.{Edges}

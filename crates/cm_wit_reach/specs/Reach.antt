@@ -1,6 +1,7 @@
 -- Which interfaces a world reaches (WIT.md, "Item: `use`"). Interfaces are told by number. What an
 -- interface uses is given in a row, by number, and as nothing where a path leads to no interface.
-use Rattle.std.specs.Prelude.{◌≡◌, ℕ, ◌+◌, ◌<◌, ◌⊎◌, true, is_none, nat_lt, List, [], ◌∷◌, ◌++◌, Option, Some, None}
+use Rattle.std.specs.Prelude.{◌≡◌, ℕ, ◌+◌, ◌<◌, ◌⊎◌, true, is_none, nat_lt, List, [], ◌∷◌}
+use Rattle.std.specs.Prelude.{◌++◌, Option, Some, None}
 use Rattle.std.specs.Prelude.{length, slice_index_or, if◌then◌else◌}
 use Rattle.std.specs.List.{filter_map, list_any, Contains}
 use Rattle.cm_graph.specs.Graphs.{Edges, Leads, ReachesItself}

@@ -4,4 +4,4 @@
 mod edges;
 mod reaching;
 
-pub use reaching::{Reach, reach};
+pub use reaching::{Reach, reach_from};

@@ -1,6 +1,7 @@
 //! What a world reaches.
 
-ghost use Rattle.std.specs.Prelude.{◌≡◌, ◌↔◌, ℕ, Bool, List, true, IfOk, IsTrue, is_none, length, map};
+ghost use Rattle.std.specs.Prelude.{◌≡◌, ◌↔◌, ◌||◌, ℕ, Bool, List, true, IfOk, IsTrue, is_none};
+ghost use Rattle.std.specs.Prelude.{length, map};
 ghost use Rattle.std.specs.Prelude.{slice_index_or, vec_len};
 ghost use Rattle.std.specs.List.{list_any};
 ghost use Rattle.cm_graph.specs.Graphs.{IsMarked, LeadsToMarked, ReachesItself, Edges};
@@ -47,10 +48,16 @@ fn has_cycle(alloc: Global, graph: &Graph, marks: &[bool]) -> Result<bool, Alloc
     Ok(first.is_some())
 }
 
+fn either(a: bool, b: bool) -> bool
+    ensures { result ≡ (a || b) }
+{
+    a || b
+}
+
 /// The interfaces that a world reaches which names these, where each interface uses those of its
 /// row. It takes time linear in the rows. Refused only where there is no memory.
 #[tactic(auto, using(crate::proofs::ReachLaws::reach_laws))]
-pub fn reach(
+pub fn reach_from(
     alloc: Global,
     rows: &[Vec<Option<usize>>],
     named: &[Option<usize>],
@@ -66,7 +73,8 @@ pub fn reach(
     let starts = named_marks(alloc, rows.len(), named)?;
     let graph = Graph::new(alloc, rows.len(), edges)?;
     let marks = graph.leading_to(alloc, starts)?;
-    let missing = has_missing(named) || marked_missing(rows, &marks);
+    let inside = marked_missing(rows, &marks);
+    let missing = either(has_missing(named), inside);
     let cyclic = has_cycle(alloc, &graph, &marks)?;
     Ok(Reach {
         marks,

@@ -1,4 +1,4 @@
-use Rattle.std.proofs.Common.{◌≡◌, ◌∷◌, [], List, ℕ}
+use Rattle.std.proofs.Common.{◌∷◌, []}
 use Rattle.cm_depth_first.specs.DepthFirst.{Orders, needs_of}
 use Rattle.cm_depth_first.specs.Paths.{Leaves}
 use Rattle.cm_depth_first.proofs.walk.place.Given as goal

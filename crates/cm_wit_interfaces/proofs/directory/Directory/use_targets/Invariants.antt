@@ -7,4 +7,4 @@ use Rattle.cm_wit_interfaces.proofs.KeyingLaws.{Ends}
 use Rattle.cm_wit_interfaces.proofs.directory.Directory.use_targets.Given as goal
 
 abbrev pub invariant-loop-item : goal.invariant-loop-item
-invariant-loop-item l = Ends interface_item_tree (λ is. map (target (files_of l.self.files.items) l.placed.place) (filter_map use_path is))  l.placed.interface.now.items.items l.item-index l.targets.items
+invariant-loop-item l = Ends interface_item_tree (λ is. map (target (files_of l.self.files.items) l.placed.place) (filter_map use_path is)) l.placed.interface.now.items.items l.item-index l.targets.items

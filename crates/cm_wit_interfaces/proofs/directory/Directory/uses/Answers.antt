@@ -1,4 +1,4 @@
-use Rattle.std.proofs.Common.{map, List, Option, ℕ, sym, ap, arith, ◌∷◌}
+use Rattle.std.proofs.Common.{map, List, Option, ℕ, sym, ap, ◌∷◌}
 use Rattle.cm_wit_interfaces.specs.Interfaces.{use_targets}
 use Rattle.cm_wit_interfaces.specs.InterfaceViews.{files_of, placed_interface}
 use Rattle.cm_wit_interfaces.proofs.KeyingLaws.{rests_push}
