@@ -1,0 +1,2 @@
+pub mod DepthFirst
+pub mod Paths

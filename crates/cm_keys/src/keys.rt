@@ -1,0 +1,38 @@
+//! Keys: a name in a list of names that is told by its number.
+
+ghost use Rattle.std.specs.Prelude.{map};
+ghost use Rattle.cm_keys.specs.Keys.{key_view};
+ghost use Rattle.cm_keys.specs.Table.{IsTableOf};
+
+use crate::table::{key_table, look_up};
+use indexmap::IndexMap;
+use std::alloc::{AllocError, Global};
+
+/// Keys, each a number and a name, with a table of the first of each.
+#[derive(Drop)]
+pub struct Keys<'a> {
+    keys: Vec<(usize, &'a str)>,
+    table: IndexMap<(usize, &'a str), usize>,
+    ghost is_table: { IsTableOf (map key_view keys.items) table.entries },
+}
+
+impl<'a> Keys<'a> {
+    ghost use Rattle.std.specs.Prelude.{◌≡◌, IfOk};
+    ghost use Rattle.cm_keys.specs.Keys.{first_key};
+    ghost use Rattle.cm_keys.specs.Listed.{listed};
+
+    /// These keys. Refused only where there is no memory.
+    pub fn new(alloc: Global, keys: Vec<(usize, &'a str)>) -> Result<Keys<'a>, AllocError>
+        ensures { IfOk result (λ k. listed k ≡ map key_view keys.entry.items) }
+    {
+        let table = key_table(alloc, &keys)?;
+        Ok(Keys { keys, table })
+    }
+
+    /// The place of the first key that is this number and name, if there is one, in constant time.
+    pub fn find(&self, number: usize, name: &str) -> Option<usize>
+        ensures { result ≡ first_key (listed self.now) number name.now }
+    {
+        look_up(&self.table, number, name)
+    }
+}

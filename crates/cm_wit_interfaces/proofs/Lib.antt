@@ -1,0 +1,2 @@
+mod KeyingLaws
+mod ListingLaws

@@ -1,0 +1,2 @@
+mod EdgeLaws
+mod ReachLaws
