@@ -1,1 +1,2 @@
+pub mod TextSizes
 pub mod AskingLemmas

@@ -13,6 +13,7 @@ use Rattle.cm_abi_model.specs.Parts.{Part, text_part, element_part, parts_each}
 use Rattle.cm_abi_model.specs.Requests.{chain, charset, first_tag, growths, part_align, part_sizes}
 use Rattle.cm_abi_model.specs.Requests.{shrunk, stored_charset, tags_behind, text_bytes}
 use Rattle.cm_abi_model.specs.Taken.{MAX_CONTENT}
+use Rattle.cm_layout.specs.declared.heads.Head.{Head}
 use Rattle.cm_lowering.specs.declared.asked.Asked.{Asked}
 use Rattle.cm_lowering.specs.declared.charsets.Charset.{Charset as CodedCharset}
 use Rattle.cm_lowering.specs.declared.charsets.Charset.TheVariants as coded
@@ -59,6 +60,10 @@ next_request align old size =
 -- the sizes that are asked for where a byte a unit may be too little
 abbrev pub grown : ℕ → ℕ → ℕ → List ℕ
 grown units most exact = if nat_lt units exact then units ∷ shrunk most exact else units ∷ []
+
+-- that for a tuple of values, where more core values pass it than this
+abbrev pub tuple_request : Head → ℕ → List Request
+tuple_request head limit = if nat_lt limit head.width then first_request head.align head.size else []
 
 -- the requests so far, and the tags of the strings that are still to come
 pub record Asking : Type 0 where
@@ -118,3 +123,8 @@ abbrev mutual
 abbrev pub parts_by_payload : Option LayoutTy → Val → List Part
 parts_by_payload None v = []
 parts_by_payload (Some l) v = parts_by l.shape v
+
+-- those of a list with elements of this layout
+abbrev pub parts_by_list : LayoutTy → Vals → List Part
+parts_by_list l vs =
+    element_part (count_of vs) l.head.size l.head.align ∷ parts_each (parts_by l.shape) vs

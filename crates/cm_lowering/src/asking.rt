@@ -10,7 +10,8 @@ ghost use Rattle.cm_abi_model.specs.Parts.{element_part, parts_each, text_part};
 ghost use Rattle.cm_abi_model.specs.Requests.{charset, first_tag, tags_behind, text_bytes};
 ghost use Rattle.cm_abi_model.specs.Taken.{MAX_CONTENT};
 ghost use Rattle.cm_lowering.specs.Asking.{AreSmall, ask_by, ask_part, asking_of, parts_by};
-ghost use Rattle.cm_lowering.specs.Asking.{parts_by_case, parts_by_fields, parts_by_payload};
+ghost use Rattle.cm_lowering.specs.Asking.{parts_by_case, parts_by_fields, parts_by_list};
+ghost use Rattle.cm_lowering.specs.Asking.{parts_by_payload};
 
 use crate::asked::Asked;
 use crate::charsets::{read_charset, stored_charset, text_align, text_size, text_units};
@@ -85,10 +86,7 @@ pub(crate) fn ask(
 {
     match (&layout.form, value) {
         (Form::String, Value::String(text)) => ask_text(to, text.as_str(), asked),
-        (Form::List(element), Value::List(values)) => {
-            ask_elements(to, element.head, values.len(), asked)?;
-            ask_each(to, element, values, asked)
-        }
+        (Form::List(element), Value::List(values)) => ask_list(to, element, values, asked),
         (Form::FixedList { element, .. }, Value::Fields(values)) => {
             ask_each(to, element, values, asked)
         }
@@ -101,9 +99,27 @@ pub(crate) fn ask(
     }
 }
 
+/// Asks for the elements of a list, then for their parts.
+#[cycle(asking)]
+fn ask_list(
+    to: &Encodings<'_>,
+    element: &Layout,
+    values: &[Value],
+    asked: &mut Asked,
+) -> Result<(), AllocError>
+    requires small { AreSmall to.now.source (asking_of to.now asked.old).tags
+        (parts_by_list (layout_of element.now) (values_of values.now)) }
+    ensures { OnOk result (asking_of to.now asked.new
+        ≡ ask_by to.now (parts_by_list (layout_of element.now) (values_of values.now))
+        (asking_of to.now asked.old)) }
+{
+    ask_elements(to, element.head, values.len(), asked)?;
+    ask_each(to, element, values, asked)
+}
+
 /// Asks for the parts of values of one layout, one after another.
 #[cycle(asking)]
-fn ask_each(
+pub(crate) fn ask_each(
     to: &Encodings<'_>,
     element: &Layout,
     values: &[Value],

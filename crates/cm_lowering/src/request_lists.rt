@@ -1,6 +1,6 @@
 //! The memory that a lowering asks for.
 
-ghost use Rattle.std.specs.Prelude.{◌≡◌, ◌≤◌, IfOk};
+ghost use Rattle.std.specs.Prelude.{◌≡◌, ◌≤◌, ◌++◌, IfOk, OnOk};
 ghost use Rattle.cm_types.specs.Types.{Fields};
 ghost use Rattle.cm_types.specs.Values.{HasType, parts};
 ghost use Rattle.cm_layout.specs.Layouts.{layout_of};
@@ -10,16 +10,48 @@ ghost use Rattle.cm_abi_model.specs.Parts.{parts_in};
 ghost use Rattle.cm_abi_model.specs.Requests.{requests as requests_of, tuple_of};
 ghost use Rattle.cm_abi_model.specs.Taken.{MAX_CONTENT};
 ghost use Rattle.cm_abi_model.specs.Views.{Way, flat_limit};
-ghost use Rattle.cm_lowering.specs.Asking.{content_of_parts};
+ghost use Rattle.cm_lowering.specs.Asking.{AreSmall, ask_by, asking_of, content_of_parts, parts_by};
+ghost use Rattle.cm_lowering.specs.Asking.{tuple_request};
 
 use crate::asked::Asked;
-use crate::asking::ask_fields;
+use crate::asking::{ask_each, ask_fields};
 use crate::encodings::Encodings;
 use crate::chains::ask_first;
 use cm_abi_model::Request;
-use cm_layout::{Form, Layout};
+use cm_layout::{Form, Head, Layout};
 use cm_values::Value;
 use std::alloc::{AllocError, Global};
+
+/// Asks for a tuple that takes more core values than are passed flat.
+fn ask_tuple(head: Head, limit: usize, requests: &mut Vec<Request>) -> Result<(), AllocError>
+    ensures { OnOk result
+        (requests.new.items ≡ requests.old.items ++ tuple_request head limit) }
+{
+    if head.width as usize > limit {
+        ask_first(requests, head.align, head.size)?;
+    }
+    Ok(())
+}
+
+/// Asks for the parts of a tuple of values.
+fn ask_values(
+    to: &Encodings<'_>,
+    layout: &Layout,
+    values: &[Value],
+    asked: &mut Asked,
+) -> Result<(), AllocError>
+    requires small { AreSmall to.now.source (asking_of to.now asked.old).tags
+        (parts_by (layout_of layout.now).shape (parts (values_of values.now))) }
+    ensures { OnOk result (asking_of to.now asked.new
+        ≡ ask_by to.now (parts_by (layout_of layout.now).shape (parts (values_of values.now)))
+        (asking_of to.now asked.old)) }
+{
+    match &layout.form {
+        Form::Fields(parts) => ask_fields(to, parts, values, asked),
+        Form::FixedList { element, .. } => ask_each(to, element, values, asked),
+        _ => Ok(()),
+    }
+}
 
 /// What lowering values asks for, in order, by the layout of the tuple of their types; `limit` is
 /// how many core values are passed flat that way, at most: beyond it the tuple itself is asked for
@@ -47,11 +79,7 @@ pub fn requests(
         requests: Vec::new(alloc),
         next: 0,
     };
-    if layout.head.width as usize > limit {
-        ask_first(&mut asked.requests, layout.head.align, layout.head.size)?;
-    }
-    if let Form::Fields(parts) = &layout.form {
-        ask_fields(encodings, parts, values, &mut asked)?;
-    }
+    ask_tuple(layout.head, limit, &mut asked.requests)?;
+    ask_values(encodings, layout, values, &mut asked)?;
     Ok(asked.requests)
 }
