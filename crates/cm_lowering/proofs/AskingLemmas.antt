@@ -6,9 +6,10 @@ use Rattle.cm_types.specs.Types.{Ty, Fields, Cases, bool, signed, unsigned, char
 use Rattle.cm_types.specs.Values.{Val, Vals, no_vals, val, truth, signed_number, number, scalar, text, elements, parts, bare, bearing, flag_set, handle, count_of, AllVals, HasType, HaveTypes, IsCarriedCase}
 use Rattle.cm_layout.specs.Alignment.{align_to}
 use Rattle.cm_layout.specs.Flattening.{flat_of_fields}
-use Rattle.cm_layout.specs.Layouts.{part_of}
-use Rattle.cm_layout.specs.Shapes.{LayoutTy, Payloads, head_of, layout_of_fields_at, part, parts_at, parts_from, payload_before, payloads_from, payloads_of, shape_of_type}
+use Rattle.cm_layout.specs.Layouts.{nothings, part_of}
+use Rattle.cm_layout.specs.Shapes.{LayoutTy, Payloads, cases_shape, head_of, layout_of_fields_at, part, parts_at, parts_from, payload_before, payloads_from, payloads_of, shape_of_type}
 use Rattle.cm_layout.specs.Sizes.{align_of, size_of}
+use Rattle.cm_layout.specs.declared.heads.Head.{Head}
 use Rattle.cm_layout.specs.declared.layouts.Part.{Part as CodedPart}
 use Rattle.cm_values.specs.ValueTrees.{value_of, values_of}
 use Rattle.cm_values.specs.declared.values.Value.{Value}
@@ -68,12 +69,36 @@ drop_past (x ∷ xs) zero past = absurd (omega arith)
 drop_past (x ∷ xs) (suc i) past = drop_past xs i (omega arith)
 
 -- one more of some parts was asked for
-pub turn : (source target : StringEncoding) (head rest all : List Part) (s behind first : Asking)
+pub turn : (source target : StringEncoding) (head rest : List Part) (s behind total : Asking)
     → behind ≡ ask_all source target head s
-    → AreSmall source s.tags (head ++ rest) × (ask_all source target (head ++ rest) s ≡ ask_all source target all first)
-    → AreSmall source behind.tags rest × (ask_all source target rest behind ≡ ask_all source target all first)
-turn source target head rest all s behind first is so_far =
+    → AreSmall source s.tags (head ++ rest) × (ask_all source target (head ++ rest) s ≡ total)
+    → AreSmall source behind.tags rest × (ask_all source target rest behind ≡ total)
+turn source target head rest s behind total is so_far =
     rw is ((small_parts source target head rest s so_far.0).1, sym (asked_behind source target head rest s) ∙ so_far.1)
+
+-- another one of some values
+pub each_next : (source target : StringEncoding) (P : Val → List Part) (vs : List Value) (i : ℕ) (v : Value) (s total : Asking)
+    → i < length vs → v ≡ get_or vs i v
+    → AreSmall source s.tags (parts_each P (values_of (drop i vs))) × (ask_all source target (parts_each P (values_of (drop i vs))) s ≡ total)
+    → AreSmall source s.tags (P (value_of v) ++ parts_each P (values_of (drop (i + 1) vs)))
+    × (ask_all source target (P (value_of v) ++ parts_each P (values_of (drop (i + 1) vs))) s ≡ total)
+each_next source target P vs i v s total lt is so_far = rw (values_next vs i v lt is) at so_far
+
+-- another one of some fields
+pub fields_next : (source target : StringEncoding) (ps : List CodedPart) (vs : List Value) (i : ℕ) (p : CodedPart) (v : Value) (s total : Asking)
+    → i < length ps → p ≡ get_or ps i p → i < length vs → v ≡ get_or vs i v
+    → AreSmall source s.tags (parts_by_fields (parts_from (map part_of (drop i ps))) (values_of (drop i vs)))
+    × (ask_all source target (parts_by_fields (parts_from (map part_of (drop i ps))) (values_of (drop i vs))) s ≡ total)
+    → AreSmall source s.tags (parts_by (part_of p).1.shape (value_of v) ++ parts_by_fields (parts_from (map part_of (drop (i + 1) ps))) (values_of (drop (i + 1) vs)))
+    × (ask_all source target (parts_by (part_of p).1.shape (value_of v) ++ parts_by_fields (parts_from (map part_of (drop (i + 1) ps))) (values_of (drop (i + 1) vs))) s ≡ total)
+fields_next source target ps vs i p v s total lt is lt_v is_v so_far = rw (parts_next ps i p lt is, values_next vs i v lt_v is_v) at so_far
+
+pub count_values : (vs : List Value) → count_of (values_of vs) ≡ length vs
+count_values [] = refl
+count_values (v ∷ vs) = let rest = count_values vs in omega (arith, rest)
+
+pub list_part : (vs : List Value) (h : Head) (l : LayoutTy) → l.head ≡ h → element_part (length vs) h.size h.align ≡ element_part (count_of (values_of vs)) l.head.size l.head.align
+list_part vs h l is = rw (count_values vs) (ap (λ (k : Head). element_part (length vs) k.size k.align) (sym is))
 
 -- ---- cases
 
@@ -95,6 +120,25 @@ pub case_past : {X : Type 0} (f : X → Option LayoutTy) (xs : List X) (n : ℕ)
 case_past f [] n v past = refl
 case_past f (y ∷ xs) zero v past = absurd (omega arith)
 case_past f (y ∷ xs) (suc n) v past = case_before_suc (f y) (payloads_from (map f xs)) n v ∙ case_past f xs n v (omega arith)
+
+-- an enum's cases carry nothing
+nothing_carried : (n i : ℕ) (v : Val) → parts_by_case (nothings n) i v ≡ []
+nothing_carried zero i v = refl
+nothing_carried (suc n) zero v = refl
+nothing_carried (suc n) (suc i) v = nothing_carried n i v
+
+pub enum_parts : (d n : ℕ) (v : Val) → parts_by (cases_shape d d (nothings n)) v ≡ []
+enum_parts d n (truth b) = refl
+enum_parts d n (signed_number z) = refl
+enum_parts d n (number m) = refl
+enum_parts d n (scalar c) = refl
+enum_parts d n (text cs) = refl
+enum_parts d n (elements vs) = refl
+enum_parts d n (parts vs) = refl
+enum_parts d n (bare i) = refl
+enum_parts d n (bearing i v) = nothing_carried n i v
+enum_parts d n (flag_set m) = refl
+enum_parts d n (handle h) = refl
 
 -- ---- tags
 

@@ -1,2 +1,3 @@
 pub mod TextSizes
 pub mod AskingLemmas
+pub mod SeenLayouts

@@ -1,5 +1,5 @@
 -- How many bytes texts take.
-use Rattle.std.proofs.Common.{◌≡◌, ℕ, ◌+◌, ◌*◌, ◌<◌, ◌≤◌, ◌&&◌, true, List, [], ◌∷◌, ◌++◌, length, take, refl, sym, ap, subst, ◌∙◌, arith, length-append, Ok, Err}
+use Rattle.std.proofs.Common.{◌≡◌, ℕ, suc, ◌+◌, ◌*◌, ◌<◌, ◌≤◌, ◌&&◌, true, List, [], ◌∷◌, ◌++◌, length, take, refl, sym, ap, subst, ◌∙◌, arith, length-append, Ok, Err}
 use Rattle.std.proofs.Math.Seq.{take-length}
 use Rattle.std.proofs.lemmas.Bool.{and_parts, cases_lt}
 use Rattle.std.proofs.lemmas.Bool.Decides.{nat_tests}
@@ -57,7 +57,7 @@ size_16 bytes size t = sym t.size_is ∙ ap (λ cs. length (flat_map spell_utf16
 
 pub size_1 : (cs : List ℕ) → length cs ≡ length (flat_map spell_latin1 cs)
 size_1 [] = refl
-size_1 (c ∷ cs) = ap (λ n. 1 + n) (size_1 cs)
+size_1 (c ∷ cs) = ap suc (size_1 cs)
 
 -- ---- a text takes no more than four bytes for each that it takes elsewhere
 

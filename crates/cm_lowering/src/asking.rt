@@ -95,6 +95,7 @@ pub(crate) fn ask(
             Some(value) => ask_case(to, payloads, *index, value, asked),
             None => Ok(()),
         },
+        (Form::Enum { .. }, _) => Ok(()),
         _ => Ok(()),
     }
 }
