@@ -20,7 +20,7 @@ use Rattle.cm_abi_model.specs.Requests.{chain, charset, first_tag, part_align, p
 use Rattle.cm_abi_model.specs.Taken.{MAX_CONTENT}
 use Rattle.cm_abi_model.specs.Texts.{Charset, text_align}
 use Rattle.cm_abi_model.specs.Views.{Way, flat_limit}
-use Rattle.cm_lowering.specs.Asking.{AreSmall, Asking, ask_all, ask_part, content_of_parts, first_request, part_content, parts_by, parts_by_case, parts_by_fields, parts_by_payload, tuple_request}
+use Rattle.cm_lowering.specs.Asking.{AreSmall, Asking, ask_all, ask_part, content_of_parts, first_request, parts_by, parts_by_case, parts_by_fields, parts_by_payload, tuple_request}
 
 abbrev pub asking : List Request → List Bool → Asking
 asking rs tags = record { requests = rs; tags = tags }

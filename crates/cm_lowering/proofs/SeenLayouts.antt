@@ -1,5 +1,5 @@
 -- What layouts the code's are.
-use Rattle.std.proofs.Common.{◌≡◌, ◌∙◌, ℕ, List, [], ap, rules}
+use Rattle.std.proofs.Common.{◌≡◌, ◌∙◌, ℕ, [], ap, rules}
 use Rattle.cm_layout.specs.Layouts.{layout_of, nothings, shape_of}
 use Rattle.cm_layout.specs.Shapes.{cases_shape}
 use Rattle.cm_layout.specs.declared.layouts.Form.{the_lemmas}

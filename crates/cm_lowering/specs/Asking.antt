@@ -10,7 +10,7 @@ use Rattle.cm_abi_model.specs.declared.encoding.StringEncoding.{StringEncoding}
 use Rattle.cm_abi_model.specs.declared.request.Request.{Request}
 use Rattle.cm_abi_model.specs.Texts.{Charset, utf8, utf16, latin1}
 use Rattle.cm_abi_model.specs.Parts.{Part, text_part, element_part, parts_each}
-use Rattle.cm_abi_model.specs.Requests.{chain, charset, first_tag, growths, part_align, part_sizes}
+use Rattle.cm_abi_model.specs.Requests.{chain, charset, first_tag, part_align, part_sizes}
 use Rattle.cm_abi_model.specs.Requests.{shrunk, stored_charset, tags_behind, text_bytes}
 use Rattle.cm_abi_model.specs.Taken.{MAX_CONTENT}
 use Rattle.cm_layout.specs.declared.heads.Head.{Head}
@@ -63,7 +63,8 @@ grown units most exact = if nat_lt units exact then units ∷ shrunk most exact 
 
 -- that for a tuple of values, where more core values pass it than this
 abbrev pub tuple_request : Head → ℕ → List Request
-tuple_request head limit = if nat_lt limit head.width then first_request head.align head.size else []
+tuple_request head limit =
+    if nat_lt limit head.width then first_request head.align head.size else []
 
 -- the requests so far, and the tags of the strings that are still to come
 pub record Asking : Type 0 where
@@ -79,7 +80,7 @@ abbrev pub ask_part : StringEncoding → StringEncoding → Part → Asking → 
 ask_part source target p s =
     record {
       requests = s.requests ++ chain (part_align target p)
-      (part_sizes (charset source (first_tag s.tags)) (stored_charset target) p);
+          (part_sizes (charset source (first_tag s.tags)) (stored_charset target) p);
       tags = tags_behind p s.tags;
     }
 

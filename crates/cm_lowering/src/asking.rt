@@ -14,9 +14,9 @@ ghost use Rattle.cm_lowering.specs.Asking.{parts_by_case, parts_by_fields, parts
 ghost use Rattle.cm_lowering.specs.Asking.{parts_by_payload};
 
 use crate::asked::Asked;
+use crate::chains::{ask_first, ask_sizes};
 use crate::charsets::{read_charset, stored_charset, text_align, text_size, text_units};
 use crate::encodings::Encodings;
-use crate::chains::{ask_first, ask_sizes};
 use cm_layout::{Form, Head, Layout, Part, Payload};
 use cm_values::Value;
 use std::alloc::AllocError;

@@ -15,8 +15,8 @@ ghost use Rattle.cm_lowering.specs.Asking.{tuple_request};
 
 use crate::asked::Asked;
 use crate::asking::{ask_each, ask_fields};
-use crate::encodings::Encodings;
 use crate::chains::ask_first;
+use crate::encodings::Encodings;
 use cm_abi_model::Request;
 use cm_layout::{Form, Head, Layout};
 use cm_values::Value;

@@ -1,19 +1,18 @@
-use Rattle.std.proofs.Common.{rules, refl, ap, sym, ◌∙◌, ◌≡◌, ◌+◌, ◌<◌, drop, length, map}
+use Rattle.std.proofs.Common.{rules, refl, ap, sym, ◌∙◌, ◌+◌, ◌<◌, drop, length, map}
 use Rattle.std.proofs.lemmas.Result.{on_ok_weaker}
 use Rattle.cm_layout.specs.Layouts.{layout_of, part_of, payload_of}
-use Rattle.cm_layout.specs.Shapes.{parts_from, payloads_from}
+use Rattle.cm_layout.specs.Shapes.{parts_from}
 use Rattle.cm_layout.specs.declared.heads.Head.{Head}
 use Rattle.cm_layout.specs.declared.layouts.Form.{the_lemmas}
 use Rattle.cm_values.specs.ValueTrees.{value_of, values_of}
 use Rattle.cm_abi_model.specs.Parts.{parts_each}
-use Rattle.cm_abi_model.specs.Requests.{tags_behind}
 use Rattle.cm_lowering.specs.Asking.{AreSmall, Asking, ask_by, ask_part, asking_of, parts_by, parts_by_fields, parts_by_payload}
 use Rattle.cm_lowering.proofs.AskingLemmas.{case_past, case_there, count_values, each_next, fields_next, list_part, small_parts, turn}
 use Rattle.cm_lowering.proofs.SeenLayouts.{enum_has_none, seen_head}
 use Rattle.cm_lowering.proofs.asking.+asking.Goals as goal
 
 pub ask-returns-in-Enum-default : goal.ask-returns-in-Enum-default
-ask-returns-in-Enum-default t c = rw (enum_has_none c.args.layout.now _ _ (value_of c.args.value.now) c.in-Enum.is) refl
+ask-returns-in-Enum-default t c = rw (enum_has_none c.args.layout.now _ _ (value_of c.args.value.now) c.in-Enum-default.is-0) refl
 
 pub ask_case-ask_payload-requires : goal.ask_case-ask_payload-requires
 ask_case-ask_payload-requires t c =

@@ -12,7 +12,7 @@ use Rattle.cm_lowering.proofs.request_lists.requests.Goals as goal
 pub ask_values-requires : goal.ask_values-requires
 ask_values-requires c =
     record {
-      small = small_by_layout c.args.encodings.now.source c.args.encodings.now.tags.now c.requires.0 (parts (values_of c.args.values.now)) (layout_of c.args.layout.now) c.requires.1 c.requires.2 c.requires.3
+      small = small_by_layout c.args.encodings.now.source c.args.encodings.now.tags.now c.requires.0 (parts (values_of c.args.values.now)) (layout_of c.args.layout.now) c.requires.1 c.requires.2 c.requires.3;
     }
 
 pub returns : goal.returns
