@@ -1,18 +1,18 @@
 -- Where no answer has a fault, the parts are placed.
-use Rattle.std.proofs.Common.{◌≡◌, ℕ, zero, suc, ◌+◌, ◌*◌, ◌/◌, ◌%◌, ◌<◌, ◌≤◌, Bool, true, false, List, [], ◌∷◌, ◌++◌, length, drop, refl, sym, ap, subst, ◌∙◌, arith, add-one, Some, None, Option, inl, inr}
+use Rattle.std.proofs.Common.{◌≡◌, ℕ, zero, suc, ◌+◌, ◌*◌, ◌/◌, ◌%◌, ◌≤◌, Bool, true, false, List, [], ◌∷◌, ◌++◌, length, drop, refl, sym, ap, subst, ◌∙◌, arith, add-one, Some, None, Option}
 use Rattle.std.proofs.Math.Nat.{div-add-mod, mul_comm}
-use Rattle.std.proofs.lemmas.Bool.{cases_Bool, eqb-true, ltb-false}
+use Rattle.std.proofs.lemmas.Bool.{eqb-true, ltb-false}
 use Rattle.std.specs.Prelude.{not, nat_lt, slice_index, if◌then◌else◌, ◌==◌}
 use Rattle.cm_abi_model.specs.declared.encoding.StringEncoding.{StringEncoding}
 use Rattle.cm_abi_model.specs.declared.fault.AbiFault.{AbiFault}
 use Rattle.cm_abi_model.specs.declared.fault.AbiFault.TheVariants as fault
 use Rattle.cm_abi_model.specs.declared.request.Request.{Request}
 use Rattle.cm_abi_model.specs.Parts.{Part, text_part, element_part}
-use Rattle.cm_abi_model.specs.Regions.{ArePlaced, IsPlaced, element_count, part_size}
+use Rattle.cm_abi_model.specs.Regions.{ArePlaced, IsPlaced, part_size}
 use Rattle.cm_abi_model.specs.Requests.{HasScalars, IsStored, chain, charset, first_tag, growths, last_size, part_align, part_requests, part_sizes, shrunk, stored_charset, tags_behind, text_sizes}
-use Rattle.cm_abi_model.specs.Stores.{Given, place_of}
+use Rattle.cm_abi_model.specs.Stores.{Given}
 use Rattle.cm_abi_model.specs.Texts.{Charset, IsAligned, utf8, utf16, latin1}
-use Rattle.cm_lowering.specs.Answering.{AreCounted, HaveScalars, answer_fault, fault_before, first_fault, place_before, places_of}
+use Rattle.cm_lowering.specs.Answering.{AreCounted, HaveScalars, fault_before, first_fault, place_before, places_of}
 
 -- ---- one answer
 
