@@ -1,0 +1,4 @@
+pub mod TextSizes
+pub mod AskingLemmas
+pub mod SeenLayouts
+pub mod AnswerLaws
