@@ -1,6 +1,7 @@
 pub mod Faults
 pub mod Numbers
 pub mod Views
+pub mod Ways
 pub mod Texts
 pub mod Shows
 pub mod FlatShows

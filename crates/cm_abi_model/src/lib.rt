@@ -9,7 +9,9 @@ mod encoding;
 mod fault;
 pub mod laws;
 mod request;
+mod way;
 
 pub use encoding::StringEncoding;
 pub use fault::AbiFault;
 pub use request::Request;
+pub use way::Way;

@@ -8,3 +8,4 @@ pub mod MeetLaws
 pub mod ShownLaws
 pub mod ReadLaws
 pub mod FoundLaws
+pub mod PartLemmas

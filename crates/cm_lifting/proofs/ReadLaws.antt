@@ -35,7 +35,7 @@ abbrev pub Told : View → Ty → ℕ → State → Val → State → Type 0
 Told w t p s v after = Shows w t p v × Meets w.table s after (met_at w t p v)
 
 -- strings
-text_shown : (P : Val → State → Type 0) (memory : List ℕ) (e : StringEncoding) (at n : ℕ) (s t : State) (v : Val) → read_text memory e at n s ≡ Ok (v, t)
+pub text_shown : (P : Val → State → Type 0) (memory : List ℕ) (e : StringEncoding) (at n : ℕ) (s t : State) (v : Val) → read_text memory e at n s ≡ Ok (v, t)
     → ((cs : List ℕ) → ShowsText e memory at n cs → text_size e n ≤ s.left → P (text cs) (record s { left = s.left - text_size e n })) → P v t
 unfolding read_text
 text_shown P memory e at n s t v is h =

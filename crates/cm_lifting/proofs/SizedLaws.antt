@@ -30,7 +30,7 @@ picked_pos false true = omega arith
 picked_pos false false = omega arith
 
 mutual
-  align_pos : (t : Ty) → 0 < align_of t
+  pub align_pos : (t : Ty) → 0 < align_of t
   align_pos bool = omega arith
   align_pos (signed w) = width_pos w
   align_pos (unsigned w) = width_pos w

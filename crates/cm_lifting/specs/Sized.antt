@@ -19,6 +19,14 @@ IsSizedLeaf (leaf.Unsigned w) = IsNumberSize w
 IsSizedLeaf leaf.Char = ⊤
 IsSizedLeaf (leaf.Flags labels w) = IsNumberSize w × (w ≤ 4)
 
+-- how many bytes of a core value a leaf is read from; what is above them is left out
+abbrev pub core_size : Leaf → ℕ
+core_size leaf.Bool = 4
+core_size (leaf.Signed w) = w
+core_size (leaf.Unsigned w) = w
+core_size leaf.Char = 4
+core_size (leaf.Flags labels w) = 4
+
 abbrev mutual
   -- each number in a shape has one of these sizes, and each element of a list an alignment
   pub IsSized : Shape → Type 0

@@ -23,8 +23,11 @@ fn resource_of(wanted: HandleType) -> ResourceId
 }
 
 /// The handle that stands at an index, as a value; it is met, also where it is refused.
+///
+/// It stops with `NoHandle` where none stands there, else with `WrongResource` where it is of
+/// another resource, else with `NotOwned` where it is a borrow and an owned one is wanted.
 #[tactic(auto, unfolding(crate::specs::Reading::read_handle))]
-pub(crate) fn load_handle(
+pub fn load_handle(
     table: &Table,
     wanted: HandleType,
     index: u32,

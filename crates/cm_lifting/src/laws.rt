@@ -1,15 +1,26 @@
 //! What reading means, as laws: each function here does nothing, and its contract is the law.
 
-ghost use Rattle.std.specs.Prelude.{◌≡◌, ◌≤◌, Ok, ℕ};
+ghost use Rattle.std.specs.Prelude.{◌≡◌, ◌<◌, ◌≤◌, Ok, ℕ};
 ghost use Rattle.cm_types.specs.Types.{Ty};
 ghost use Rattle.cm_types.specs.Values.{Val};
 ghost use Rattle.cm_layout.specs.Shapes.{shape_of_type};
+ghost use Rattle.cm_layout.specs.Sizes.{align_of};
 ghost use Rattle.cm_abi_model.specs.Shows.{Shows};
 ghost use Rattle.cm_abi_model.specs.Taken.{content_of, met_at};
 ghost use Rattle.cm_abi_model.specs.Views.{View};
 ghost use Rattle.cm_lifting.specs.Meeting.{Meets};
 ghost use Rattle.cm_lifting.specs.Outcomes.{State};
+ghost use Rattle.cm_lifting.specs.PartLaws.{BorrowIsRead, BorrowIsShown, ElementsAreRead};
+ghost use Rattle.cm_lifting.specs.PartLaws.{ElementsAreShown, MeetingsJoin, NothingIsMet};
+ghost use Rattle.cm_lifting.specs.PartLaws.{OwnIsRead, OwnIsShown, TextIsRead, TextIsShown};
 ghost use Rattle.cm_lifting.specs.Reading.{read_at, seen_by};
+ghost use Rattle.cm_lifting.specs.Sized.{IsSized};
+
+/// In the layout of a type each number has a size that numbers have, and each alignment is some.
+pub fn numbers_are_sized()
+    ensures sized { (t : Ty) → IsSized (shape_of_type t) }
+    ensures aligned { (t : Ty) → 0 < align_of t }
+{}
 
 /// What is read at an address is what the bytes there show; its bytes were taken from those that
 /// may still come, and its handles were met in reading order, each one as wanted.
@@ -27,4 +38,23 @@ pub fn what_is_shown_is_read()
     ensures { (w : View) (t : Ty) (p : ℕ) (s : State) (v : Val)
         → Shows w t p v → content_of (met_at w t p v) ≤ s.left
         → (after : State) × (read_at (seen_by w) (shape_of_type t) p s ≡ Ok (v, after)) }
+{}
+
+/// The same of the parts of a value, which may be read one after another: what is read of each is
+/// shown, and what is met in it is told.
+pub fn parts_that_are_read_are_shown()
+    ensures text { TextIsShown }
+    ensures elements { ElementsAreShown }
+    ensures own { OwnIsShown }
+    ensures borrow { BorrowIsShown }
+    ensures nothing { NothingIsMet }
+    ensures both { MeetingsJoin }
+{}
+
+/// The other way: each part that is shown, within what may still come, is read.
+pub fn parts_that_are_shown_are_read()
+    ensures text { TextIsRead }
+    ensures elements { ElementsAreRead }
+    ensures own { OwnIsRead }
+    ensures borrow { BorrowIsRead }
 {}

@@ -5,7 +5,7 @@ ghost use Rattle.cm_layout.specs.Laid.{leaf_size};
 ghost use Rattle.cm_values.specs.ValueTrees.{value_of};
 ghost use Rattle.cm_lifting.specs.Outcomes.{Reads, State};
 ghost use Rattle.cm_lifting.specs.Reading.{leaf_value};
-ghost use Rattle.cm_lifting.specs.Sized.{IsNumberSize, IsSizedLeaf};
+ghost use Rattle.cm_lifting.specs.Sized.{IsNumberSize, IsSizedLeaf, core_size};
 
 use crate::numbers::signed;
 use crate::stop::Stop;
@@ -24,6 +24,18 @@ pub(crate) fn leaf_size(leaf: Leaf) -> u32
         Leaf::Char => 4,
         Leaf::Signed(bytes) | Leaf::Unsigned(bytes) => bytes,
         Leaf::Flags { bytes, .. } => bytes,
+    }
+}
+
+/// How many bytes of a core value a leaf is read from; what is above them is left out.
+pub fn core_size(leaf: Leaf) -> u32
+    requires { IsSizedLeaf leaf }
+    ensures size { result ≡ core_size leaf }
+    ensures is { IsNumberSize result }
+{
+    match leaf {
+        Leaf::Bool | Leaf::Char | Leaf::Flags { .. } => 4,
+        Leaf::Signed(bytes) | Leaf::Unsigned(bytes) => bytes,
     }
 }
 
@@ -49,10 +61,12 @@ fn char_value(number: u32) -> Result<Value, Stop>
     }
 }
 
-/// The value of a leaf from its number.
-pub(crate) fn leaf_value(leaf: Leaf, number: u64) -> Result<Value, Stop>
+/// The value of a leaf from its number, which may have as many bytes as are read of a core value.
+///
+/// It stops with `BadChar` at a number that is no Unicode scalar, for a char.
+pub fn leaf_value(leaf: Leaf, number: u64) -> Result<Value, Stop>
     requires sized { IsSizedLeaf leaf }
-    requires fits { number < 2 ^ (8 * leaf_size leaf) }
+    requires fits { number < 2 ^ (8 * core_size leaf) }
     ensures { (s : State) → Reads value_of result s (leaf_value leaf number s) }
 {
     match leaf {

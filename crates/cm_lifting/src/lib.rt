@@ -14,5 +14,10 @@ mod stop;
 mod texts;
 
 pub use giver::Giver;
+pub use handles::load_handle;
+pub use leaves::{core_size, leaf_value};
 pub use load::load_value;
+pub use loading::load_list;
 pub use progress::{MetHandle, Progress};
+pub use stop::Stop;
+pub use texts::load_text;

@@ -95,10 +95,15 @@ fn load_leaf(memory: &[u8], leaf: Leaf, at: usize) -> Result<Value, Stop>
     leaf_value(leaf, number_at(memory, leaf_size(leaf), at))
 }
 
-/// The list of so many elements at a pointer.
+/// The list of so many elements at a pointer, by the layout of an element; their bytes are taken
+/// from those that may still come.
+///
+/// It stops with `Misaligned` where the pointer is not aligned, else with `PointerBounds` where the
+/// elements pass the end of the memory, else with `TooLarge` where fewer bytes may still come, else
+/// at the first fault of an element.
 #[cycle(loading)]
 #[tactic(auto, unfolding(crate::specs::Reading::read_elements))]
-fn load_list(
+pub fn load_list(
     giver: &Giver<'_>,
     element: &Layout,
     pointer: u32,

@@ -112,9 +112,13 @@ fn text_of(
     }
 }
 
-/// The string at a pointer, of a tagged length.
+/// The string at a pointer, of a tagged length; its bytes are taken from those that may still come.
+///
+/// It stops with `Misaligned` where the pointer is not aligned, else with `PointerBounds` where the
+/// string passes the end of the memory, else with `TooLarge` where fewer bytes may still come, else
+/// with `BadText` where it is no text of its encoding.
 #[tactic(auto, unfolding(crate::specs::Reading::read_text))]
-pub(crate) fn load_text(
+pub fn load_text(
     giver: &Giver<'_>,
     at: u32,
     tagged: u32,

@@ -1,0 +1,116 @@
+//! Handle tables as rows spell them.
+//!
+//! A table is `-`, or handles joined by commas, each of resource 0 of component 0 or, with a `'`, of
+//! resource 1: `own SERIAL` is written `oSERIAL`, a borrow by call 7 `bSERIAL`, and `+LENDS` behind
+//! it says how often it is lent. Its representation is its serial number and 100.
+
+ghost use Rattle.std.specs.Prelude.{◌<◌, IfOk};
+ghost use Rattle.cm_lift.specs.HandingOver.{LendsBelow};
+
+use cm_handles::{Handle, HandleFault, HandleKind, Table};
+use cm_rows::{RowFault, read_number};
+use cm_types::ResourceId;
+use std::alloc::{AllocError, Global};
+
+/// The table that a word spells.
+pub fn read_table(alloc: Global, word: &str) -> Result<Table, RowFault>
+    ensures { IfOk result (λ t. LendsBelow 256 t.handles) }
+{
+    let mut table = empty(alloc);
+    if word == "-" {
+        return Ok(table);
+    }
+    for part in word.split(',') {
+        add(&mut table, part)?;
+    }
+    Ok(table)
+}
+
+/// A table with no handles.
+#[tactic(auto, using(crate::proofs::TableLemmas::lends))]
+fn empty(alloc: Global) -> Table
+    ensures { LendsBelow 256 result.handles }
+{
+    Table::new(alloc)
+}
+
+/// Adds the handle that a word spells.
+fn add(table: &mut Table, word: &str) -> Result<(), RowFault>
+    requires { LendsBelow 256 table.old.handles }
+    ensures { LendsBelow 256 table.new.handles }
+{
+    let (resource, word) = match word.split_once('\'') {
+        Some((_, word)) => (1, word),
+        None => (0, word),
+    };
+    let (word, lends) = word.split_once('+').unwrap_or((word, "0"));
+    let lends: u8 = read_number(lends)?;
+    let (kind, serial) = match word.split_at_checked(1) {
+        Some(("o", serial)) => (HandleKind::Owned, serial),
+        Some(("b", serial)) => (HandleKind::Borrowed { call: 7 }, serial),
+        _ => return Err(RowFault::NotARow),
+    };
+    let serial: u32 = read_number(serial)?;
+    add_handle(
+        table,
+        Handle {
+            resource: ResourceId {
+                component: 0,
+                number: resource,
+            },
+            serial: u64::from(serial),
+            lends: u128::from(lends),
+            rep: serial.wrapping_add(100),
+            kind,
+        },
+    )
+}
+
+/// Adds a handle.
+#[tactic(auto, using(crate::proofs::TableLemmas::lends))]
+fn add_handle(table: &mut Table, handle: Handle) -> Result<(), RowFault>
+    requires lends { LendsBelow 256 table.old.handles }
+    requires few { handle.lends < 256 }
+    ensures { LendsBelow 256 table.new.handles }
+{
+    match table.add(handle) {
+        Ok(_) => Ok(()),
+        Err(HandleFault::Memory) => Err(RowFault::Memory),
+        Err(_) => Err(RowFault::NotARow),
+    }
+}
+
+/// Writes `; INDEX:HANDLE..`, the handles of the first eight indices as a row spells them.
+pub fn write_table(out: &mut String, table: &Table) -> Result<(), AllocError> {
+    let mut mark = " ;";
+    for index in 1..9 {
+        for number in 0..2 {
+            let resource = ResourceId {
+                component: 0,
+                number,
+            };
+            if let Ok(handle) = table.get(index, resource) {
+                write!(out, "{mark} {index}:")?;
+                write_handle(out, handle)?;
+                mark = "";
+            }
+        }
+    }
+    Ok(())
+}
+
+fn write_handle(out: &mut String, handle: Handle) -> Result<(), AllocError> {
+    if handle.resource.number == 1 {
+        out.push_str("'")?;
+    }
+    out.push_str(match handle.kind {
+        HandleKind::Owned => "o",
+        HandleKind::Borrowed { .. } => "b",
+    })?;
+    let (serial, lends) = (handle.serial, handle.lends);
+    write!(out, "{serial}")?;
+    if lends > 0 {
+        write!(out, "+{lends}")?;
+    }
+    Ok(())
+}

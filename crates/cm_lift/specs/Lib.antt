@@ -1,0 +1,3 @@
+pub mod FlatReading
+pub mod HandingOver
+pub mod Lifts
