@@ -166,7 +166,10 @@ fn borrow(id: ResourceId) -> Key
 fn numbers_at(alloc: Global, numbers: &[usize], places: &[usize]) -> Result<Vec<usize>, AllocError>
     ensures { IfOk result (λ ns. ns.items ≡ map (slice_index numbers.now) places.now) }
 {
-    places.iter().map(|place| number_at(numbers, *place)).collect(alloc)
+    places
+        .iter()
+        .map(|place| number_at(numbers, *place))
+        .collect(alloc)
 }
 
 /// The number at a place; 0 where there is none.
