@@ -19,11 +19,7 @@ use std::alloc::{AllocError, Global};
 /// those of its parts, what is known of it and its size in bytes; or its fault; or `unordered`
 /// where a part has no place.
 pub fn answer(alloc: Global, words: &[&str]) -> Result<String, RowFault> {
-    let mut arena = Arena {
-        alloc,
-        types: Types::new(alloc)?,
-        out: String::new(alloc),
-    };
+    let mut arena = Arena::new(alloc)?;
     for words in words.split(|word| *word == ";") {
         arena.read_item(words)?;
     }
@@ -32,9 +28,9 @@ pub fn answer(alloc: Global, words: &[&str]) -> Result<String, RowFault> {
 
 /// The types so far, and what is answered.
 #[derive(Drop)]
-struct Arena {
+pub struct Arena {
     alloc: Global,
-    types: Types,
+    pub types: Types,
     out: String,
 }
 
@@ -51,7 +47,16 @@ enum Outcome {
 }
 
 impl Arena {
-    fn read_item(&mut self, words: &[&str]) -> Result<(), RowFault> {
+    pub fn new(alloc: Global) -> Result<Arena, AllocError> {
+        Ok(Arena {
+            alloc,
+            types: Types::new(alloc)?,
+            out: String::new(alloc),
+        })
+    }
+
+    /// Adds an item, or several alike, and answers it.
+    pub fn read_item(&mut self, words: &[&str]) -> Result<(), RowFault> {
         let [word, words @ ..] = words else {
             return Err(RowFault::NotARow);
         };

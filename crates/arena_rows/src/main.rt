@@ -1,8 +1,9 @@
-//! Answers rows on types by places, and on layouts that are made part by part.
+//! Answers rows on types by places and their numbers, and on layouts that are made part by part.
 #![tactic(auto)]
 
 mod arena;
 mod built;
+mod numbers;
 mod words;
 
 use cm_rows::{Driver, RowFault, answer_rows};
@@ -17,6 +18,7 @@ impl Driver for ArenaRows {
         match words {
             ["types", rest @ ..] => arena::answer(alloc, rest),
             ["built", rest @ ..] => built::answer(alloc, rest),
+            ["numbers", rest @ ..] => numbers::answer(alloc, rest),
             _ => Err(RowFault::NotARow),
         }
     }

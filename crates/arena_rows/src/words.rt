@@ -1,5 +1,6 @@
 //! Words of rows.
 
+use cm_replaced::Move;
 use cm_rows::{RowFault, read_number, split_repeat};
 use cm_type_arena::Primitive;
 use cm_types::{Label, NameFault, ResourceId};
@@ -65,4 +66,23 @@ pub fn read_primitive(name: &str) -> Result<Primitive, RowFault> {
         "string" => Primitive::String,
         _ => return Err(RowFault::NotARow),
     })
+}
+
+/// Resources joined by commas; `-` for none.
+pub fn read_resources(alloc: Global, text: &str) -> Result<Vec<ResourceId>, RowFault> {
+    let mut resources = Vec::new(alloc);
+    if text != "-" {
+        for part in text.split(',') {
+            resources.push(read_resource(part)?)?;
+        }
+    }
+    Ok(resources)
+}
+
+/// The move `FIRST,COUNT,NEXT`.
+pub fn read_move(text: &str) -> Result<Move, RowFault> {
+    let (first, others) = text.split_once(',').ok_or(RowFault::NotARow)?;
+    let (count, next) = others.split_once(',').ok_or(RowFault::NotARow)?;
+    let moved = Move::new(read_number(first)?, read_number(count)?, read_number(next)?);
+    moved.ok_or(RowFault::NotARow)
 }

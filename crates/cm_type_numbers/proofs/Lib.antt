@@ -1,9 +1,12 @@
 mod Orders
 mod Additions
 mod Insertions
+mod Places
 mod Stays
 mod Tells
+mod Seen
 mod Steps
+mod ChainLemmas
 mod Blank
 mod NodeLemmas
-mod TypeLemmas
+mod ArenaLemmas

@@ -1,12 +1,11 @@
 -- A number stays what it is while a table grows.
-use Rattle.std.proofs.Common.{◌≡◌, ℕ, ◌<◌, List, [], ◌∷◌, Option, Some, None, refl, sym, subst}
-use Rattle.cm_types.specs.declared.resource.ResourceId.{ResourceId}
-use Rattle.cm_types.specs.Resolved.{resolved}
+use Rattle.std.proofs.Common.{◌≡◌, ℕ, List, [], ◌∷◌, Option, Some, None, refl, sym, subst}
 use Rattle.cm_types.specs.Types.{Ty, FuncTy, Fields, Cases, bool, signed, unsigned, char, string, list, fixed_list, fields, cases, flags, own, borrow, no_fields, field, no_cases, plain, carrying, record_type, tuple_type, variant_type, enum_type, option_type, result_type, bits_8, bits_16, bits_32, bits_64}
 use Rattle.cm_type_numbers.specs.declared.key.Key.{Key}
 use Rattle.cm_type_numbers.specs.declared.key.Key.TheVariants as key
-use Rattle.cm_type_numbers.specs.Definitions.{type_at}
-use Rattle.cm_type_numbers.specs.Numbering.{Numbering, over, over_two, over_three, number, number_fields, number_cases, number_labels, number_of_signature, number_func, Extends, AreNumbers}
+use Rattle.cm_replaced.specs.Replaced.{Standing, replaced, replaced_func}
+use Rattle.cm_type_numbers.specs.Numbering.{Numbering, over, over_two, over_three, number, number_fields, number_cases, number_labels, number_of_signature, number_func, Extends, AreNumbers, AreFuncNumbers}
+use Rattle.cm_type_numbers.proofs.Places.{all_carry}
 
 -- what has a number in one of the two has it in the other
 abbrev pub Carries : Option ℕ → Option ℕ → Type 0
@@ -70,8 +69,11 @@ module _ (t u : Numbering) (e : Extends t u) where
   pub stays_func : (f : FuncTy) → Carries (number_func t f) (number_func u f)
   stays_func f n h = stays_signature f.params f.result n h
 
-  pub numbers_stay : (row : List ResourceId) (ts : List Ty) (ns : List ℕ) → AreNumbers t row ts ns → AreNumbers u row ts ns
-  numbers_stay row ts ns h = record { as_many = h.as_many; each = λ i lt. stays (resolved row (type_at ts i)) _ (h.each i lt) }
+  pub numbers_stay : (s : Standing) (ts : List Ty) (ns : List ℕ) → AreNumbers t s ts ns → AreNumbers u s ts ns
+  numbers_stay s ts ns = all_carry (λ x. number t (replaced s x)) (λ x. number u (replaced s x)) (λ x n. stays (replaced s x) n) ts ns
+
+  pub funcs_stay : (s : Standing) (fs : List FuncTy) (ns : List ℕ) → AreFuncNumbers t s fs ns → AreFuncNumbers u s fs ns
+  funcs_stay s fs ns = all_carry (λ f. number_func t (replaced_func s f)) (λ f. number_func u (replaced_func s f)) (λ f n. stays_func (replaced_func s f) n) fs ns
 
 pub extends_itself : (t : Numbering) → Extends t t
 extends_itself t = record { labels = λ l n h. h; nodes = λ k n h. h }

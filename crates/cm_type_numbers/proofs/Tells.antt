@@ -1,14 +1,14 @@
 -- Two types with one number are equal.
 use Rattle.std.proofs.Common.{◌≡◌, ℕ, List, [], ◌∷◌, Option, Some, None, refl, sym, ap, subst, ◌∙◌}
-use Rattle.cm_types.specs.declared.resource.ResourceId.{ResourceId}
 use Rattle.std.specs.Prelude.{slice_index}
-use Rattle.cm_types.specs.Resolved.{resolved}
-use Rattle.cm_type_numbers.specs.Definitions.{type_at}
+use Rattle.cm_type_arena.specs.TypeDefs.{func_at, type_at}
+use Rattle.cm_replaced.specs.Replaced.{Standing, replaced, replaced_func}
 use Rattle.cm_types.specs.Types.{Ty, FuncTy, Fields, Cases, bool, signed, unsigned, char, string, list, fixed_list, fields, cases, flags, own, borrow, no_fields, field, no_cases, plain, carrying, record_type, tuple_type, variant_type, enum_type, option_type, result_type, bits_8, bits_16, bits_32, bits_64}
 use Rattle.cm_type_numbers.specs.declared.key.Key.{Key}
 use Rattle.cm_type_numbers.specs.declared.key.Key.TheVariants as key
 use Rattle.cm_type_numbers.specs.declared.key.Leaf.TheVariants as leaf
-use Rattle.cm_type_numbers.specs.Numbering.{Numbering, over, over_two, over_three, number, number_fields, number_cases, number_labels, number_of_signature, number_func, AreNumbers, TellsTypes, TellsFuncs, Agree}
+use Rattle.cm_type_numbers.specs.Numbering.{Numbering, over, over_two, over_three, number, number_fields, number_cases, number_labels, number_of_signature, number_func, AreNumbers, AreFuncNumbers, TellsTypes, TellsFuncs, Agree, AgreeFuncs}
+use Rattle.cm_type_numbers.proofs.Places.{number_there}
 
 -- each number is that of one label, and of one node
 pub record IsDistinct (t : Numbering) : Type 0 where
@@ -250,5 +250,12 @@ module _ (t : Numbering) (one : IsDistinct t) where
   pub tells_funcs : TellsFuncs t
   tells_funcs f g m n h k = (λ same. tell_func f g m h (k ∙ ap Some (sym same)), λ same. one_of_two (number_func t f) (number_func t g) m n h k (ap (number_func t) same))
 
-  pub agrees : (left right : List ResourceId) (xs ys : List Ty) (ms ns : List ℕ) → AreNumbers t left xs ms → AreNumbers t right ys ns → Agree left right xs ys ms ns
-  agrees left right xs ys ms ns a b i j p q = tells_types (resolved left (type_at xs i)) (resolved right (type_at ys j)) (slice_index ms i) (slice_index ns j) (a.each i p) (b.each j q)
+  pub agrees : (left right : Standing) (xs ys : List Ty) (ms ns : List ℕ) → AreNumbers t left xs ms → AreNumbers t right ys ns → Agree left right xs ys ms ns
+  agrees left right xs ys ms ns a b i j p q =
+      tells_types (replaced left (type_at xs i)) (replaced right (type_at ys j)) (slice_index ms i) (slice_index ns j)
+      (number_there (λ x. number t (replaced left x)) xs ms bool i a p) (number_there (λ x. number t (replaced right x)) ys ns bool j b q)
+
+  pub agree_funcs : (left right : Standing) (xs ys : List FuncTy) (ms ns : List ℕ) → AreFuncNumbers t left xs ms → AreFuncNumbers t right ys ns → AgreeFuncs left right xs ys ms ns
+  agree_funcs left right xs ys ms ns a b i j p q =
+      tells_funcs (replaced_func left (func_at xs i)) (replaced_func right (func_at ys j)) (slice_index ms i) (slice_index ns j)
+      (number_there (λ f. number_func t (replaced_func left f)) xs ms (record { params = no_fields; result = None }) i a p) (number_there (λ f. number_func t (replaced_func right f)) ys ns (record { params = no_fields; result = None }) j b q)

@@ -1,3 +1,2 @@
 pub mod Tables
-pub mod Definitions
 pub mod Numbering

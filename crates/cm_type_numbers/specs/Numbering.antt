@@ -1,21 +1,21 @@
 -- The numbers of types in a table that numbers labels and nodes.
-use Rattle.std.specs.Prelude.{◌≡◌, ◌↔◌, ℕ, ◌<◌, List, [], ◌∷◌, length, slice_index, Option, Some}
-use Rattle.std.specs.Prelude.{None}
-use Rattle.std.specs.Option.{option_and_then, option_map}
-use Rattle.cm_types.specs.declared.resource.ResourceId.{ResourceId}
-use Rattle.cm_types.specs.Resolved.{resolved, resolved_func}
+use Rattle.std.specs.Prelude.{◌≡◌, ◌↔◌, ℕ, ◌<◌, List, [], ◌∷◌, length, map, slice_index, Option}
+use Rattle.std.specs.Prelude.{Some, None, codes}
+use Rattle.std.specs.Option.{option_and_then}
 use Rattle.cm_types.specs.Types.{Ty, FuncTy, Fields, Cases, bool, signed, unsigned, char, string}
 use Rattle.cm_types.specs.Types.{list, fixed_list, fields, cases, flags, own, borrow, no_fields}
 use Rattle.cm_types.specs.Types.{field, no_cases, plain, carrying, record_type, tuple_type}
 use Rattle.cm_types.specs.Types.{variant_type, enum_type, option_type, result_type, bits_8}
 use Rattle.cm_types.specs.Types.{bits_16, bits_32, bits_64}
+use Rattle.cm_types.specs.TypeTrees.{case_before}
+use Rattle.cm_type_arena.specs.TypeDefs.{func_at, type_at}
+use Rattle.cm_replaced.specs.Replaced.{Standing, replaced, replaced_func}
 use Rattle.cm_type_numbers.specs.declared.key.Key.{Key}
 use Rattle.cm_type_numbers.specs.declared.key.Key.TheVariants as key
 use Rattle.cm_type_numbers.specs.declared.key.Leaf.TheVariants as leaf
 use Rattle.std.specs.BTreeMap.{get, get_by_text}
 use Rattle.cm_type_numbers.specs.declared.numbers.Numbers.{Numbers}
 use Rattle.cm_type_numbers.specs.Tables.{key_order}
-use Rattle.cm_type_numbers.specs.Definitions.{type_at}
 
 -- the numbers of labels and of nodes
 pub record Numbering : Type 0 where
@@ -82,6 +82,10 @@ number_of_signature t params (Some x) = over_two t key.Func params (number t x)
 abbrev pub number_func : Numbering → FuncTy → Option ℕ
 number_func t f = number_of_signature t (number_fields t f.params) f.result
 
+-- the cases of a result
+abbrev pub result_cases : Option Ty → Option Ty → Cases
+result_cases ok error = case_before (codes "ok") ok (case_before (codes "error") error no_cases)
+
 -- ---- the tables of the code
 
 -- what a table of the code numbers
@@ -112,12 +116,13 @@ HasNumber t (Some x) (Some n) = number t x ≡ Some n
 abbrev pub IsNodeOf : Numbering → Ty → Key → Type 0
 IsNodeOf t x k = (later : Numbering) → Extends t later → number later x ≡ later.node k
 
--- These are the numbers of these types in their order, each resource replaced by the row.
-pub record AreNumbers (t : Numbering) (row : List ResourceId) (ts : List Ty) (ns : List ℕ)
-    : Type 0 where
-  pub as_many : length ns ≡ length ts
-  pub each : (i : ℕ) → i < length ts
-      → number t (resolved row (type_at ts i)) ≡ Some (slice_index ns i)
+-- These are the numbers of these types in their order, each resource replaced.
+abbrev pub AreNumbers : Numbering → Standing → List Ty → List ℕ → Type 0
+AreNumbers t s ts ns = map (λ x. number t (replaced s x)) ts ≡ map Some ns
+
+-- These are the numbers of these types of functions in their order, each resource replaced.
+abbrev pub AreFuncNumbers : Numbering → Standing → List FuncTy → List ℕ → Type 0
+AreFuncNumbers t s fs ns = map (λ f. number_func t (replaced_func s f)) fs ≡ map Some ns
 
 -- Two numbers are equal exactly where the types that have them are.
 abbrev pub TellsTypes : Numbering → Type 0
@@ -130,8 +135,15 @@ TellsFuncs t = (f g : FuncTy) (m n : ℕ) → number_func t f ≡ Some m → num
     → (m ≡ n) ↔ (f ≡ g)
 
 -- Two of these numbers are equal exactly where the types at their places are, in each list with the
--- resources replaced by its own row.
-abbrev pub Agree : List ResourceId → List ResourceId → List Ty → List Ty → List ℕ → List ℕ → Type 0
+-- resources replaced.
+abbrev pub Agree : Standing → Standing → List Ty → List Ty → List ℕ → List ℕ → Type 0
 Agree left right xs ys ms ns = (i j : ℕ) → i < length xs → j < length ys
     → (slice_index ms i ≡ slice_index ns j)
-    ↔ (resolved left (type_at xs i) ≡ resolved right (type_at ys j))
+    ↔ (replaced left (type_at xs i) ≡ replaced right (type_at ys j))
+
+-- The same of the types of functions.
+abbrev pub AgreeFuncs :
+    Standing → Standing → List FuncTy → List FuncTy → List ℕ → List ℕ → Type 0
+AgreeFuncs left right xs ys ms ns = (i j : ℕ) → i < length xs → j < length ys
+    → (slice_index ms i ≡ slice_index ns j)
+    ↔ (replaced_func left (func_at xs i) ≡ replaced_func right (func_at ys j))

@@ -8,7 +8,6 @@ mod layouts;
 mod names;
 mod numbers;
 mod texts;
-mod type_numbers;
 mod types;
 mod values;
 
@@ -30,7 +29,6 @@ impl Driver for LeafRows {
             ["cursor", rest @ ..] => cursors::answer(alloc, rest),
             ["name", rest @ ..] => names::answer(alloc, rest),
             ["type", rest @ ..] => types::answer(alloc, rest),
-            ["numbers", rest @ ..] => type_numbers::answer(alloc, rest),
             ["layout", rest @ ..] => layouts::answer(alloc, rest),
             ["text", rest @ ..] => texts::answer(alloc, rest),
             ["table", rest @ ..] => self.handles.answer(alloc, rest),

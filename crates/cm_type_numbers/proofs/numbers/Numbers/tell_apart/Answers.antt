@@ -1,6 +1,6 @@
 use Rattle.cm_type_numbers.specs.declared.numbers.Numbers.{Numbers}
 use Rattle.cm_type_numbers.specs.Numbering.{numbering}
-use Rattle.cm_type_numbers.proofs.Tells.{IsDistinct, tells_types, tells_funcs, agrees}
+use Rattle.cm_type_numbers.proofs.Tells.{IsDistinct, tells_types, tells_funcs, agrees, agree_funcs}
 use Rattle.cm_type_numbers.proofs.numbers.Numbers.tell_apart.Goals as goal
 
 -- each number of a table of the code is that of one label, and of one node
@@ -15,3 +15,6 @@ returns-clause-funcs c = tells_funcs (numbering c.args.self.now) (distinct c.arg
 
 pub returns-clause-places : goal.returns-clause-places
 returns-clause-places c = agrees (numbering c.args.self.now) (distinct c.args.self.now)
+
+pub returns-clause-func_places : goal.returns-clause-func_places
+returns-clause-func_places c = agree_funcs (numbering c.args.self.now) (distinct c.args.self.now)

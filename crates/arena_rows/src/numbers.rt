@@ -1,0 +1,117 @@
+//! Rows on the numbers of types by places.
+
+use crate::arena::Arena;
+use crate::words::{read_move, read_resources};
+use cm_replaced::{Replacement, Row};
+use cm_rows::RowFault;
+use cm_type_arena::Types;
+use cm_type_numbers::Numbers;
+use std::alloc::{AllocError, Global};
+
+/// The answer to `RESOURCES ITEM ; ITEM .. | RESOURCES ITEM ; ITEM ..`: types by places, each list
+/// with what stands for resources, which is a row of them joined by commas, `-` for none, or
+/// `move:FIRST,COUNT,NEXT`. For each item that is a type it is how many different numbers stood
+/// before the first with the same number, in the order of the lists, and so, behind `/`, for each
+/// function.
+pub fn answer(alloc: Global, words: &[&str]) -> Result<String, RowFault> {
+    let mut table = Table {
+        alloc,
+        numbers: Numbers::new(alloc),
+        types: Classes::new(alloc),
+        funcs: Classes::new(alloc),
+        out: String::new(alloc),
+    };
+    for words in words.split(|word| *word == "|") {
+        table.read_list(words)?;
+    }
+    Ok(table.out)
+}
+
+/// The numbers so far, which of them were met, and what is answered.
+#[derive(Drop)]
+struct Table {
+    alloc: Global,
+    numbers: Numbers,
+    types: Classes,
+    funcs: Classes,
+    out: String,
+}
+
+impl Table {
+    fn read_list(&mut self, words: &[&str]) -> Result<(), RowFault> {
+        let [resources, words @ ..] = words else {
+            return Err(RowFault::NotARow);
+        };
+        let mut arena = Arena::new(self.alloc)?;
+        // The primitive types stand at the first places.
+        let first = arena.types.len();
+        for words in words.split(|word| *word == ";") {
+            arena.read_item(words)?;
+        }
+        if !self.out.is_empty() {
+            self.out.push_str(" | ")?;
+        }
+        match resources.strip_prefix("move:") {
+            Some(numbers) => self.number(&read_move(numbers)?, &arena.types, first)?,
+            None => {
+                let row = read_resources(self.alloc, resources)?;
+                self.number(&Row(&row), &arena.types, first)?;
+            }
+        }
+        Ok(())
+    }
+
+    fn number<R: Replacement>(
+        &mut self,
+        resources: &R,
+        types: &Types,
+        first: usize,
+    ) -> Result<(), AllocError> {
+        let numbers = self.numbers.number_types(self.alloc, resources, types)?;
+        let funcs = self.numbers.number_funcs(self.alloc, types, &numbers)?;
+        for (place, number) in numbers.iter().enumerate() {
+            if place >= first {
+                self.types.write(&mut self.out, *number, place > first)?;
+            }
+        }
+        if !funcs.is_empty() {
+            self.out.push_str(" /")?;
+        }
+        for number in &funcs {
+            self.funcs.write(&mut self.out, *number, true)?;
+        }
+        Ok(())
+    }
+}
+
+/// The different numbers that were met, in their order.
+#[derive(Drop)]
+struct Classes {
+    met: Vec<usize>,
+}
+
+impl Classes {
+    fn new(alloc: Global) -> Classes {
+        Classes {
+            met: Vec::new(alloc),
+        }
+    }
+
+    /// The place of a number among those met.
+    fn class(&mut self, number: usize) -> Result<usize, AllocError> {
+        if let Some(class) = self.met.iter().position(|met| *met == number) {
+            return Ok(class);
+        }
+        let class = self.met.len();
+        self.met.push(number)?;
+        Ok(class)
+    }
+
+    fn write(&mut self, out: &mut String, number: usize, behind: bool) -> Result<(), AllocError> {
+        if behind {
+            out.push_str(" ")?;
+        }
+        let class = self.class(number)?;
+        write!(out, "{class}")
+    }
+}
