@@ -3,3 +3,4 @@ pub mod Canons
 pub mod Externs
 pub mod Sections
 pub mod File
+pub mod Contents

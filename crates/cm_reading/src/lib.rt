@@ -2,6 +2,7 @@
 #![tactic(auto)]
 
 mod canons;
+mod contents;
 mod externs;
 mod file;
 mod instances;

@@ -10,9 +10,11 @@ ghost use Rattle.cm_reading_codes.specs.declared.fault.DecodeReason.TheVariants 
 ghost use Rattle.cm_reading_codes.specs.declared.codes.SectionKind.TheVariants as kinds;
 ghost use Rattle.cm_reading_codes.specs.Texts.{vector};
 ghost use Rattle.cm_reading_types.specs.Types.{type_defs};
+ghost use Rattle.cm_reading.specs.Contents.{contents_tree};
 ghost use Rattle.cm_reading.specs.Sections.{contents, section, sections, room_after};
 
-use cm_component::{CustomSection, MAX_TYPES, MODULE_PREAMBLE, Section, types_in};
+use crate::contents::Contents;
+use cm_component::{MAX_TYPES, MODULE_PREAMBLE, Section, types_in};
 use cm_grammar::{Cursor, End, Form, ReadError, read_stocked, read_vec};
 use cm_reading_codes::{DecodeReason, SectionKind, read_text};
 use cm_reading_types::Types;
@@ -53,63 +55,63 @@ fn read_all_types(
 
 /// Reads all of a part as a custom section: a name, and bytes to the end.
 #[tactic(auto, unfolding(crate::specs::Sections::contents))]
-fn read_custom_section(
+fn read_custom_section<'a>(
     alloc: Global,
-    part: &mut Cursor<'_, DecodeReason>,
-) -> Result<Section, ReadError<DecodeReason>>
-    ensures { (room : ℕ) → ReadsAll (contents room kinds.Custom) section_tree part.old result }
+    part: &mut Cursor<'a, DecodeReason>,
+) -> Result<Contents<'a>, ReadError<DecodeReason>>
+    ensures { (room : ℕ) → ReadsAll (contents room kinds.Custom) contents_tree part.old result }
 {
     let name = read_text(alloc, part)?;
-    let bytes = Vec::from_slice(alloc, part.rest)?;
-    Ok(Section::Custom(CustomSection { name, bytes }))
+    Ok(Contents::Custom {
+        name,
+        bytes: part.rest,
+    })
 }
 
 /// Reads all of a part as a core module.
 #[tactic(auto, unfolding(crate::specs::Sections::contents))]
-fn read_core_module_section(
-    alloc: Global,
-    part: &Cursor<'_, DecodeReason>,
-) -> Result<Section, ReadError<DecodeReason>>
-    ensures { (room : ℕ) → ReadsAll (contents room kinds.CoreModule) section_tree part.now result }
+fn read_core_module_section<'a>(
+    part: &Cursor<'a, DecodeReason>,
+) -> Result<Contents<'a>, ReadError<DecodeReason>>
+    ensures { (room : ℕ) → ReadsAll (contents room kinds.CoreModule) contents_tree part.now result }
 {
     let module = part.begins_with(&MODULE_PREAMBLE, DecodeReason::NotAModule)?;
-    Ok(Section::CoreModule(Vec::from_slice(alloc, module)?))
+    Ok(Contents::CoreModule(module))
 }
 
 /// Reads the contents of a section, where `room` more types may stand in the file.
 #[tactic(auto, unfolding(crate::specs::Sections::contents))]
-fn read_contents(
+fn read_contents<'a>(
     alloc: Global,
-    part: &mut Cursor<'_, DecodeReason>,
+    part: &mut Cursor<'a, DecodeReason>,
     room: usize,
     kind: SectionKind,
-) -> Result<Section, ReadError<DecodeReason>>
-    ensures { ReadsAll (contents room kind) section_tree part.old result }
+) -> Result<Contents<'a>, ReadError<DecodeReason>>
+    ensures { ReadsAll (contents room kind) contents_tree part.old result }
 {
-    match kind {
-        SectionKind::Custom => read_custom_section(alloc, part),
-        SectionKind::CoreModule => read_core_module_section(alloc, part),
-        SectionKind::CoreInstances => {
-            Ok(Section::CoreInstances(read_items::<Items, _>(alloc, part)?))
-        }
-        SectionKind::Instances => Ok(Section::Instances(read_items::<Items, _>(alloc, part)?)),
-        SectionKind::Aliases => Ok(Section::Aliases(read_items::<Types, _>(alloc, part)?)),
-        SectionKind::Types => Ok(Section::Types(read_all_types(alloc, part, room)?)),
-        SectionKind::Canons => Ok(Section::Canons(read_items::<Items, _>(alloc, part)?)),
-        SectionKind::Imports => Ok(Section::Imports(read_items::<Items, _>(alloc, part)?)),
-        SectionKind::Exports => Ok(Section::Exports(read_items::<Items, _>(alloc, part)?)),
-    }
+    let section = match kind {
+        SectionKind::Custom => return read_custom_section(alloc, part),
+        SectionKind::CoreModule => return read_core_module_section(part),
+        SectionKind::CoreInstances => Section::CoreInstances(read_items::<Items, _>(alloc, part)?),
+        SectionKind::Instances => Section::Instances(read_items::<Items, _>(alloc, part)?),
+        SectionKind::Aliases => Section::Aliases(read_items::<Types, _>(alloc, part)?),
+        SectionKind::Types => Section::Types(read_all_types(alloc, part, room)?),
+        SectionKind::Canons => Section::Canons(read_items::<Items, _>(alloc, part)?),
+        SectionKind::Imports => Section::Imports(read_items::<Items, _>(alloc, part)?),
+        SectionKind::Exports => Section::Exports(read_items::<Items, _>(alloc, part)?),
+    };
+    Ok(Contents::Items(section))
 }
 
 /// Reads bytes that end so as the contents of a section. A fault is inside them.
-fn read_contents_inside(
+fn read_contents_inside<'a>(
     alloc: Global,
-    bytes: &[u8],
+    bytes: &'a [u8],
     end: End<DecodeReason>,
     room: usize,
     kind: SectionKind,
-) -> Result<Section, ReadError<DecodeReason>>
-    ensures read { Gives section_tree result ((contents room kind).reads end bytes.now) }
+) -> Result<Contents<'a>, ReadError<DecodeReason>>
+    ensures read { Gives contents_tree result ((contents room kind).reads end bytes.now) }
     ensures inside { IsInside (length bytes.now) result }
 {
     read_contents(alloc, &mut Cursor::new(bytes, end), room, kind)
@@ -129,7 +131,8 @@ fn read_section_of_size(
 {
     let part = bytes.part(size, DecodeReason::SizeMismatch);
     let outcome = read_contents_inside(alloc, part.rest, part.end, room, kind);
-    bytes.leave(size, outcome)
+    let contents = bytes.leave(size, outcome)?;
+    Ok(contents.into_section(alloc)?)
 }
 
 /// Reads a section, where `room` more types may stand in the file.
