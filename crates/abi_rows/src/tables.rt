@@ -1,8 +1,8 @@
 //! Handle tables as rows spell them.
 //!
-//! A table is `-`, or handles joined by commas, each of resource 0 of component 0 or, with a `'`, of
-//! resource 1: `own SERIAL` is written `oSERIAL`, a borrow by call 7 `bSERIAL`, and `+LENDS` behind
-//! it says how often it is lent. Its representation is its serial number and 100.
+//! A table is `-`, or handles joined by commas, each of resource 0 of component 0 or, with a `'`,
+//! of resource 1: `own SERIAL` is written `oSERIAL`, a borrow by call 7 `bSERIAL`, and `+LENDS`
+//! behind it says how often it is lent. Its representation is its serial number and 100.
 
 ghost use Rattle.std.specs.Prelude.{◌<◌, IfOk};
 ghost use Rattle.cm_lift.specs.HandingOver.{LendsBelow};
