@@ -2,3 +2,4 @@ pub mod TextSizes
 pub mod AskingLemmas
 pub mod SeenLayouts
 pub mod AnswerLaws
+pub mod ContentLaws

@@ -1,13 +1,19 @@
-//! What the checks of answers mean, as laws: each function here does nothing, and its contract is
-//! the law.
+//! What requests and the checks of their answers mean, as laws: each function here does
+//! nothing, and its contract is the law.
 
 ghost use Rattle.std.specs.Prelude.{◌≡◌, Bool, List, None, length, ℕ};
-ghost use Rattle.cm_abi_model.specs.Parts.{Part};
+ghost use Rattle.cm_types.specs.Types.{Ty};
+ghost use Rattle.cm_types.specs.Values.{Val};
+ghost use Rattle.cm_abi_model.specs.Parts.{Part, parts_in};
 ghost use Rattle.cm_abi_model.specs.Regions.{ArePlaced};
 ghost use Rattle.cm_abi_model.specs.Requests.{IsStored, part_requests};
+ghost use Rattle.cm_abi_model.specs.Shows.{Shows};
 ghost use Rattle.cm_abi_model.specs.Stores.{Given};
+ghost use Rattle.cm_abi_model.specs.Taken.{content_of, met_at};
+ghost use Rattle.cm_abi_model.specs.Views.{View};
 ghost use Rattle.cm_abi_model.specs.declared.encoding.StringEncoding.{StringEncoding};
 ghost use Rattle.cm_lowering.specs.Answering.{AreCounted, HaveScalars, first_fault, places_of};
+ghost use Rattle.cm_lowering.specs.Asking.{content_of_parts};
 
 use cm_abi_model::laws::requests_end_exact;
 
@@ -24,3 +30,11 @@ pub fn answers_place_parts()
 {
     requests_end_exact();
 }
+
+/// The content of a value that bytes at an address show, which is met where it is read, is that of
+/// its parts, with the tags of some list: so what is within the limit for a reader is so for what
+/// it is asked for.
+pub fn content_of_what_is_shown()
+    ensures { (w : View) (t : Ty) (p : ℕ) (v : Val) → Shows w t p v → (tags : List Bool)
+        × (content_of_parts w.encoding tags (parts_in t v) ≡ content_of (met_at w t p v)) }
+{}
