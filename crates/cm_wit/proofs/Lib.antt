@@ -1,3 +1,4 @@
 pub mod PlaceLaws
 pub mod ParseLaws
 pub mod PrintedLaws
+pub mod MentionLaws

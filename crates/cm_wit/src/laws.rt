@@ -1,16 +1,19 @@
 //! Laws of packages: each function here does nothing that is seen, and its contract is the law.
 
-ghost use Rattle.std.specs.Prelude.{◌≡◌, ℕ, List, Result, MatchResult};
+ghost use Rattle.std.specs.Prelude.{◌≡◌, ℕ, List, Ok, Result, MatchResult};
 ghost use Rattle.cm_wit_grammar.specs.declared.fault.WitFault.{WitFault};
-ghost use Rattle.cm_wit_grammar.specs.Whole.{IsMemory};
+ghost use Rattle.cm_wit_grammar.specs.Whole.{IsMemory, text_reads};
 ghost use Rattle.cm_wit_print.specs.Printed.{file_text};
+ghost use Rattle.cm_wit_mentions.specs.FileMentions.{mentions};
+ghost use Rattle.cm_wit_text.specs.Files.{file};
 ghost use Rattle.cm_wit_text.specs.Trees.{File};
 ghost use Rattle.cm_wit.specs.declared.package.Package.{Package};
+ghost use Rattle.cm_wit.specs.Mentioned.{AreOf, name_texts};
 ghost use Rattle.cm_wit.specs.PackageViews.{package_tree};
 ghost use Rattle.cm_wit.specs.Packages.{IsParsed};
 ghost use Rattle.cm_wit.specs.Texts.{IsPackage};
 
-use cm_wit_round::laws::printed_file_is_read;
+use cm_wit_round::laws::{printed_file_is_read, words_are_kept};
 
 /// The text that prints a package is that package. So whatever a function answers to it that reads
 /// as `parse` does is that package, and no fault but want of memory.
@@ -21,4 +24,13 @@ pub fn printed_and_parsed()
         → MatchResult result (λ read. package_tree read ≡ p) IsMemory }
 {
     printed_file_is_read();
+}
+
+/// The mentions of a file are of the names of its text, one for one, in order: so the place of the
+/// n-th name is that of the n-th mention.
+pub fn mentions_are_of_names()
+    ensures { (f : File) (text : List ℕ) → text_reads file text ≡ Ok f
+        → AreOf (mentions f) (name_texts text) }
+{
+    words_are_kept();
 }

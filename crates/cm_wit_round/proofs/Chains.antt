@@ -1,12 +1,12 @@
 -- What is read once is read again from the tokens that its tree is printed as: step by step.
 use Rattle.std.proofs.Common.{◌≡◌, ℕ, ◌+◌, Bool, true, false, ◌&&◌, not, if◌then◌else◌, List, [], ◌∷◌, ◌++◌, length, Option, Some, None, Result, Ok, Err, refl, sym, ap, subst, ◌∙◌, append_assoc, arith}
 use Rattle.cm_wit_tokens.specs.declared.token.Form.{Form}
-use Rattle.cm_wit_tokens.specs.declared.token.Form.TheVariants as form
 use Rattle.cm_wit_tokens.specs.declared.token.Token.{Token}
 use Rattle.cm_wit_grammar.specs.declared.fault.WitReason.{WitReason}
 use Rattle.cm_wit_grammar.specs.Faults.{Fault, and_then}
 use Rattle.cm_wit_grammar.specs.Grammar.{first, Grammar, done, ◌>>=◌, taken, token_reads, token, passes, chosen}
 use Rattle.cm_wit_grammar.specs.Reading.{next_form}
+use Rattle.cm_wit_round.specs.Words.{is_word, words}
 use Rattle.cm_wit_round.proofs.Lexing.{forms}
 
 -- ---- results
@@ -62,24 +62,13 @@ behind_first (f ∷ fs) ts rest h = ap next_form h.2
 
 -- ---- tokens but for operators
 
-abbrev pub is_kept : Form → Bool
-is_kept (form.Operator o) = false
-is_kept (form.Keyword k) = true
-is_kept (form.Identifier word) = true
-is_kept (form.Version text) = true
-is_kept (form.Integer n) = true
+words_by : (keeps : Bool) (f : Form) (xs ys : List Form) → (if keeps then f ∷ (xs ++ ys) else (xs ++ ys)) ≡ (if keeps then f ∷ xs else xs) ++ ys
+words_by true f xs ys = refl
+words_by false f xs ys = refl
 
-abbrev pub kept : List Form → List Form
-kept [] = []
-kept (f ∷ fs) = if is_kept f then f ∷ kept fs else kept fs
-
-kept_by : (keeps : Bool) (f : Form) (xs ys : List Form) → (if keeps then f ∷ (xs ++ ys) else (xs ++ ys)) ≡ (if keeps then f ∷ xs else xs) ++ ys
-kept_by true f xs ys = refl
-kept_by false f xs ys = refl
-
-pub kept_append : (a b : List Form) → kept (a ++ b) ≡ kept a ++ kept b
-kept_append [] b = refl
-kept_append (f ∷ a) b = ap (λ (z : List Form). if is_kept f then f ∷ z else z) (kept_append a b) ∙ kept_by (is_kept f) f (kept a) (kept b)
+pub words_append : (a b : List Form) → words (a ++ b) ≡ words a ++ words b
+words_append [] b = refl
+words_append (f ∷ a) b = ap (λ (z : List Form). if is_word f then f ∷ z else z) (words_append a b) ∙ words_by (is_word f) f (words a) (words b)
 
 -- ---- what was read, and how it is printed
 
@@ -91,7 +80,7 @@ Test = Option Form → Bool
 -- passes S.
 pub record Canon {A : Type 0} (g : Grammar A) (x : A) (ts rest : List Token) (fs : List Form) (S R : Option Form → Bool) : Type 0 where
   pub again : (all after : List Token) → Behind fs all after → R (next_form after) ≡ true → g.reads all ≡ Ok (x, after)
-  pub same : kept (forms ts) ≡ kept fs ++ kept (forms rest)
+  pub same : words (forms ts) ≡ words fs ++ words (forms rest)
   pub starts : (next : Option Form) → R next ≡ true → S (first_form fs next) ≡ true
 
 -- Whatever is read is read again from the forms q.
@@ -126,7 +115,7 @@ mapped {A} {B} {g} {q} {p} {front} {S} {R} f c is = record {
         parts = ap p (sym k.0) ∙ (is a.0.0 ∙ m.parts);
         canon = record {
           again = λ all after b r. then_from (g.reads all) (λ (u : A × List Token). ok_of {A = B × List Token} (f u.0, u.1)) (a.0.0, after) (Ok (y, after)) (m.canon.again all after b r) (pair_of (f a.0.0) y after after k.0 refl);
-          same = m.canon.same ∙ ap (λ (us : List Token). kept m.behind ++ kept (forms us)) k.1;
+          same = m.canon.same ∙ ap (λ (us : List Token). words m.behind ++ words (forms us)) k.1;
           starts = m.canon.starts;
         };
       };
@@ -146,7 +135,7 @@ bind {A} {B} {g} {h} {q} {p} {front} {S} {R} M l t = record {
               let s = split (q a.0.0) d.behind all after b in
               let m : M (next_form s.0) ≡ true = rw (behind_first d.behind s.0 after s.2) (d.canon.starts (next_form after) r) in
               then_from (g.reads all) (λ (u : A × List Token). (h u.0).reads u.1) (a.0.0, s.0) (Ok (y, after)) (c.again all s.0 s.1 m) (d.canon.again s.0 after s.2 r);
-          same = c.same ∙ (ap (λ (z : List Form). kept (q a.0.0) ++ z) d.canon.same ∙ (sym (append_assoc (kept (q a.0.0)) (kept d.behind) (kept (forms rest))) ∙ ap (λ (z : List Form). z ++ kept (forms rest)) (sym (kept_append (q a.0.0) d.behind))));
+          same = c.same ∙ (ap (λ (z : List Form). words (q a.0.0) ++ z) d.canon.same ∙ (sym (append_assoc (words (q a.0.0)) (words d.behind) (words (forms rest))) ∙ ap (λ (z : List Form). z ++ words (forms rest)) (sym (words_append (q a.0.0) d.behind))));
           starts = λ next r. rw (first_form_append (q a.0.0) d.behind next) (c.starts (first_form d.behind next) (d.canon.starts next r));
         };
       };
@@ -161,7 +150,7 @@ end {B} {p} {front} {S} {R} x calm is = record {
         parts = ap p (sym k.0) ∙ is;
         canon = record {
           again = λ all after b r. pair_of x y all after k.0 b;
-          same = ap (λ (us : List Token). kept (forms us)) k.1;
+          same = ap (λ (us : List Token). words (forms us)) k.1;
           starts = λ next r. calm next r;
         };
       };
@@ -247,7 +236,7 @@ table_law {K} table q S M h = record {
       subst (λ (fs : List Form). Canon (token table) k ts rest fs S M) (sym f.0) (record {
         again = λ all after b m.
             ap (token_reads table) b.2 ∙ (read_token table (record { left = b.0; form = t.0.form }) b.1 k t.2 ∙ pair_of k k b.1 after refl b.3);
-        same = ap (λ (us : List Token). kept (forms us)) t.1 ∙ kept_append (t.0.form ∷ []) (forms rest);
+        same = ap (λ (us : List Token). words (forms us)) t.1 ∙ words_append (t.0.form ∷ []) (forms rest);
         starts = λ next m. f.1;
       });
 }

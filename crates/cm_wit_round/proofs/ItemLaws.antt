@@ -14,7 +14,8 @@ use Rattle.cm_wit_grammar.specs.Parts.{expect}
 use Rattle.cm_wit_grammar.specs.Reading.{next_form}
 use Rattle.cm_wit_round.specs.TreeTokens.{mark, behind_commas, with_commas}
 use Rattle.cm_wit_round.proofs.Lexing.{forms}
-use Rattle.cm_wit_round.proofs.Chains.{ok_of, pair_is, pair_of, then_ok, then_from, split, first_form, behind_first, kept, kept_append, Canon, Law, law, bind, end, at, passes_at, is_not, if_false, token_parts}
+use Rattle.cm_wit_round.specs.Words.{words}
+use Rattle.cm_wit_round.proofs.Chains.{ok_of, pair_is, pair_of, then_ok, then_from, split, first_form, behind_first, words_append, Canon, Law, law, bind, end, at, passes_at, is_not, if_false, token_parts}
 use Rattle.cm_wit_round.proofs.ListLaws.{operator_is, if_ok, some_is, any, StepLaw, steps_law}
 
 -- ---- what may stand behind things
@@ -45,8 +46,8 @@ closed_no_comma closing c (Some f) h = rw (operator_is closing f h) c.no_comma
 none_is_no_some : {A : Type 0} (x : A) (ts rest : List Token) → ok_of {A = Option A × List Token} (None, ts) ≡ ok_of (Some x, rest) → ⊥
 none_is_no_some {A} x ts rest e = let q = (pair_is {A = Option A} None (Some x) ts rest e).0 in absurd cc
 
-kept_comma : (f : Form) (fs : List Form) → is_operator operator.Comma f ≡ true → kept (f ∷ fs) ≡ kept fs
-kept_comma f fs h = ap (λ (g : Form). kept (g ∷ fs)) (operator_is operator.Comma f h)
+kept_comma : (f : Form) (fs : List Form) → is_operator operator.Comma f ≡ true → words (f ∷ fs) ≡ words fs
+kept_comma f fs h = ap (λ (g : Form). words (g ∷ fs)) (operator_is operator.Comma f h)
 
 -- ---- things behind commas
 
@@ -81,11 +82,11 @@ module _ {A : Type 0} (closing : Operator) (g : Grammar A) (p : A → List Form)
   no_some : (x : A) → Some x ≡ None → ⊥
   no_some x e = absurd cc
 
-  none_kept : (ts rest : List Token) → (next_item closing g).reads ts ≡ Ok (None, rest) → kept (forms ts) ≡ kept (forms rest)
+  none_kept : (ts rest : List Token) → (next_item closing g).reads ts ≡ Ok (None, rest) → words (forms ts) ≡ words (forms rest)
   none_kept ts rest e = elim (comma_parts None ts rest e) [
-    | inl q ↦ ap (λ (us : List Token). kept (forms us)) q.1
-    | inr a ↦ ap (λ (us : List Token). kept (forms us)) a.2 ∙ (kept_comma a.0.form (forms a.1) a.3 ∙ elim (further_parts None a.1 rest a.4) [
-      | inl q ↦ ap (λ (us : List Token). kept (forms us)) q.1
+    | inl q ↦ ap (λ (us : List Token). words (forms us)) q.1
+    | inr a ↦ ap (λ (us : List Token). words (forms us)) a.2 ∙ (kept_comma a.0.form (forms a.1) a.3 ∙ elim (further_parts None a.1 rest a.4) [
+      | inl q ↦ ap (λ (us : List Token). words (forms us)) q.1
       | inr x ↦ absurd (no_some x.0 x.1)
     ])
   ]
@@ -110,7 +111,7 @@ module _ {A : Type 0} (closing : Operator) (g : Grammar A) (p : A → List Form)
         again = λ all after b r.
             let no : passes (is_operator closing) (first b.1) ≡ false = passes_at (is_operator closing) b.1 ∙ rw (behind_first (p x) b.1 after b.3) (apart (first_form (p x) (next_form after)) (m.starts (next_form after) r)) in
             ap (next_item closing g).reads b.2 ∙ comma_read b.0 x b.1 after no (m.again b.1 after b.3 r);
-        same = ap (λ (us : List Token). kept (forms us)) a.2 ∙ (kept_comma a.0.form (forms a.1) a.3 ∙ m.same);
+        same = ap (λ (us : List Token). words (forms us)) a.2 ∙ (kept_comma a.0.form (forms a.1) a.3 ∙ m.same);
         starts = λ next r. refl;
       }
 
@@ -128,11 +129,11 @@ module _ {A : Type 0} (closing : Operator) (g : Grammar A) (p : A → List Form)
 
   -- ---- at most so many
 
-  uncomma : (b : Bool) (u : Unit {0}) (ts rest : List Token) → (if b then (expect operator.Comma).reads ts else ok_of {A = Unit {0} × List Token} (tt, ts)) ≡ Ok (u, rest) → kept (forms ts) ≡ kept (forms rest)
+  uncomma : (b : Bool) (u : Unit {0}) (ts rest : List Token) → (if b then (expect operator.Comma).reads ts else ok_of {A = Unit {0} × List Token} (tt, ts)) ≡ Ok (u, rest) → words (forms ts) ≡ words (forms rest)
   uncomma true u ts rest e =
       let t = token_parts _ ts rest u e in
-      ap (λ (us : List Token). kept (forms us)) t.1 ∙ kept_comma t.0.form (forms rest) (if_ok (is_operator operator.Comma t.0.form) _ u t.2)
-  uncomma false u ts rest e = ap (λ (us : List Token). kept (forms us)) (pair_is tt u ts rest e).1
+      ap (λ (us : List Token). words (forms us)) t.1 ∙ kept_comma t.0.form (forms rest) (if_ok (is_operator operator.Comma t.0.form) _ u t.2)
+  uncomma false u ts rest e = ap (λ (us : List Token). words (forms us)) (pair_is tt u ts rest e).1
 
   no_comma_left : (all : List Token) → closed closing (next_form all) ≡ true → last_comma.reads all ≡ Ok (tt, all)
   no_comma_left all r = if_false (passes (is_operator operator.Comma) (first all)) _ _ (passes_at (is_operator operator.Comma) all ∙ closed_no_comma closing c (next_form all) r)
@@ -146,7 +147,7 @@ module _ {A : Type 0} (closing : Operator) (g : Grammar A) (p : A → List Form)
         again = λ all after b r.
             let here : closed closing (next_form all) ≡ true = rw b r in
             then_from ((next_item closing g).reads all) (λ (u : Option A × List Token). (h u.0).reads u.1) (None, all) (Ok ([], after)) (next_item_law.stop all here) (ap (λ (q : Grammar (List A)). q.reads all) n ∙ pair_of {A = List A} [] [] all after refl b);
-        same = none_kept ts mid e ∙ ap (λ (us : List Token). kept (forms us)) k;
+        same = none_kept ts mid e ∙ ap (λ (us : List Token). words (forms us)) k;
         starts = closed_calm closing c;
       })
 
@@ -163,7 +164,7 @@ module _ {A : Type 0} (closing : Operator) (g : Grammar A) (p : A → List Form)
             let s : calm (next_form h.0) ≡ true = rw (behind_first (Items a.0.0) h.0 after h.2) (d.starts (next_form after) r) in
             then_from ((next_item closing g).reads all) (λ (u : Option A × List Token). (and_more more u.0).reads u.1) (Some x, h.0) (Ok (x ∷ a.0.0, after)) (m.again all h.0 h.1 s)
             (then_from (more.reads h.0) (λ (u : List A × List Token). ok_of {A = List A × List Token} (x ∷ u.0, u.1)) (a.0.0, after) (Ok (x ∷ a.0.0, after)) (d.again h.0 after h.2 r) refl);
-        same = m.same ∙ (ap (λ (z : List Form). kept first_part ++ z) d.same ∙ (sym (append_assoc (kept first_part) (kept (Items a.0.0)) (kept (forms a.0.1))) ∙ ap (λ (z : List Form). z ++ kept (forms a.0.1)) (sym (kept_append first_part (Items a.0.0)))));
+        same = m.same ∙ (ap (λ (z : List Form). words first_part ++ z) d.same ∙ (sym (append_assoc (words first_part) (words (Items a.0.0)) (words (forms a.0.1))) ∙ ap (λ (z : List Form). z ++ words (forms a.0.1)) (sym (words_append first_part (Items a.0.0)))));
         starts = λ next r. refl;
       }))
 
@@ -181,7 +182,7 @@ module _ {A : Type 0} (closing : Operator) (g : Grammar A) (p : A → List Form)
           again = λ all after b r.
               let here : closed closing (next_form all) ≡ true = rw b r in
               then_from (last_comma.reads all) (λ (u : Unit {0} × List Token). ok_of {A = List A × List Token} ([], u.1)) (tt, all) (Ok ([], after)) (no_comma_left all here) (pair_of {A = List A} [] [] all after refl b);
-          same = uncomma (passes (is_operator operator.Comma) (first ts)) a.0.0 ts a.0.1 a.1 ∙ ap (λ (us : List Token). kept (forms us)) k.1;
+          same = uncomma (passes (is_operator operator.Comma) (first ts)) a.0.0 ts a.0.1 a.1 ∙ ap (λ (us : List Token). words (forms us)) k.1;
           starts = closed_calm closing c;
         });
   }
@@ -217,9 +218,9 @@ module _ {A : Type 0} (g : Grammar A) (p : A → List Form) (l : Law g p (at is_
   some_not_none : (x : A) → Some x ≡ None → ⊥
   some_not_none x e = absurd cc
 
-  member_none : (ts rest : List Token) → (next_member g).reads ts ≡ Ok (None, rest) → kept (forms ts) ≡ kept (forms rest)
+  member_none : (ts rest : List Token) → (next_member g).reads ts ≡ Ok (None, rest) → words (forms ts) ≡ words (forms rest)
   member_none ts rest e = elim (member_parts None ts rest e) [
-    | inl q ↦ ap (λ (us : List Token). kept (forms us)) q.1
+    | inl q ↦ ap (λ (us : List Token). words (forms us)) q.1
     | inr x ↦ absurd (some_not_none x.0 x.1)
   ]
 

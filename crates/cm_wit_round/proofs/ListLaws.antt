@@ -20,7 +20,8 @@ use Rattle.cm_wit_grammar.specs.Parts.{expect, expect_word, identifier, identifi
 use Rattle.cm_wit_grammar.specs.Reading.{next_form}
 use Rattle.cm_wit_round.specs.TreeTokens.{mark, keyword, name_tokens}
 use Rattle.cm_wit_round.proofs.Lexing.{forms}
-use Rattle.cm_wit_round.proofs.Chains.{ok_of, pair_is, pair_of, then_ok, then_from, Behind, split, behind_length, first_form, first_form_append, behind_first, kept, kept_append, Canon, Law, table_law}
+use Rattle.cm_wit_round.specs.Words.{words}
+use Rattle.cm_wit_round.proofs.Chains.{ok_of, pair_is, pair_of, then_ok, then_from, Behind, split, behind_length, first_form, first_form_append, behind_first, words_append, Canon, Law, table_law}
 
 -- ---- operators and keywords are the same where their texts are
 
@@ -191,7 +192,7 @@ version_law M = table_law _ _ any M (λ f v e. (version_is f v e, refl))
 
 -- Each step that gives a value is read again, before the next step or before what ends the steps.
 pub record StepLaw {A : Type 0} (s : Grammar (Option A)) (p : A → List Form) (M R : Option Form → Bool) : Type 0 where
-  pub none : (ts rest : List Token) → s.reads ts ≡ Ok (None, rest) → kept (forms ts) ≡ kept (forms rest)
+  pub none : (ts rest : List Token) → s.reads ts ≡ Ok (None, rest) → words (forms ts) ≡ words (forms rest)
   pub some : (x : A) (ts rest : List Token) → s.reads ts ≡ Ok (Some x, rest) → Canon s (Some x) ts rest (p x) M M
   pub long : (x : A) (ts rest : List Token) → s.reads ts ≡ Ok (Some x, rest) → 0 < length (p x)
   pub stop : (all : List Token) → R (next_form all) ≡ true → s.reads all ≡ Ok (None, all)
@@ -199,7 +200,7 @@ pub record StepLaw {A : Type 0} (s : Grammar (Option A)) (p : A → List Form) (
 
 pub record Run {A : Type 0} (s : Grammar (Option A)) (xs : List A) (ts rest : List Token) (fs : List Form) (M R : Option Form → Bool) : Type 0 where
   pub again : (turns : ℕ) (all after : List Token) → length all < turns → Behind fs all after → R (next_form after) ≡ true → steps_in s turns all ≡ Ok (xs, after)
-  pub same : kept (forms ts) ≡ kept fs ++ kept (forms rest)
+  pub same : words (forms ts) ≡ words fs ++ words (forms rest)
   pub starts : (next : Option Form) → R next ≡ true → M (first_form fs next) ≡ true
 
 turn : {A : Type 0} (s : Grammar (Option A)) (turns : ℕ) (all : List Token) → length all < turns → (fewer : ℕ) × (turns ≡ suc fewer) × (steps_in s turns all ≡ and_then (s.reads all) (λ p. after_step (steps_in s fewer) p.0 p.1))
@@ -219,7 +220,7 @@ module _ {A : Type 0} (s : Grammar (Option A)) (p : A → List Form) (M R : Opti
             let t = turn s turns all lt in
             let here : R (next_form all) ≡ true = rw b r in
             t.2 ∙ then_from (s.reads all) (λ (u : Option A × List Token). after_step (steps_in s t.0) u.0 u.1) (None, all) (Ok ([], after)) (l.stop all here) (pair_of {A = List A} [] [] all after refl b);
-        same = l.none ts mid e ∙ ap (λ (us : List Token). kept (forms us)) k.1;
+        same = l.none ts mid e ∙ ap (λ (us : List Token). words (forms us)) k.1;
         starts = l.calm;
       })
 
@@ -237,7 +238,7 @@ module _ {A : Type 0} (s : Grammar (Option A)) (p : A → List Form) (M R : Opti
             let fewer : length h.0 < t.0 = omega (arith, lt, t.1, l.long x ts mid e, behind_length (p x) all h.0 h.1) in
             t.2 ∙ then_from (s.reads all) (λ (u : Option A × List Token). after_step (steps_in s t.0) u.0 u.1) (Some x, h.0) (Ok (x ∷ a.0.0, after)) (c.again all h.0 h.1 m)
             (then_from (steps_in s t.0 h.0) (λ (u : List A × List Token). ok_of {A = List A × List Token} (x ∷ u.0, u.1)) (a.0.0, after) (Ok (x ∷ a.0.0, after)) (d.again t.0 h.0 after fewer h.2 r) refl);
-        same = c.same ∙ (ap (λ (z : List Form). kept (p x) ++ z) d.same ∙ (sym (append_assoc (kept (p x)) (kept (flat_map p a.0.0)) (kept (forms a.0.1))) ∙ ap (λ (z : List Form). z ++ kept (forms a.0.1)) (sym (kept_append (p x) (flat_map p a.0.0)))));
+        same = c.same ∙ (ap (λ (z : List Form). words (p x) ++ z) d.same ∙ (sym (append_assoc (words (p x)) (words (flat_map p a.0.0)) (words (forms a.0.1))) ∙ ap (λ (z : List Form). z ++ words (forms a.0.1)) (sym (words_append (p x) (flat_map p a.0.0)))));
         starts = λ next r. rw (first_form_append (p x) (flat_map p a.0.0) next) (c.starts (first_form (flat_map p a.0.0) next) (d.starts next r));
       }))
 

@@ -16,7 +16,8 @@ use Rattle.cm_wit_round.specs.TreeTokens.{file_tokens}
 use Rattle.cm_wit_round.proofs.Lexing.{forms}
 use Rattle.cm_wit_round.proofs.Goods.{AreGood, tokens_good}
 use Rattle.cm_wit_round.proofs.TextTokens.{file_text_tokens}
-use Rattle.cm_wit_round.proofs.Chains.{at, ok_is, then_ok, Behind, behind_all, kept, Canon}
+use Rattle.cm_wit_round.specs.Words.{words}
+use Rattle.cm_wit_round.proofs.Chains.{at, ok_is, then_ok, Behind, behind_all, Canon}
 use Rattle.cm_wit_round.proofs.ItemLaws.{ends}
 use Rattle.cm_wit_round.proofs.FileLaws.{file_law}
 
@@ -42,7 +43,7 @@ end_ok x y (t ∷ rest) e = absurd cc
 
 -- ---- good tokens, with and without operators
 
-good_kept : (fs : List Form) → AreGood fs → AreGood (kept fs)
+good_kept : (fs : List Form) → AreGood fs → AreGood (words fs)
 good_kept [] g = tt
 good_kept (form.Operator o ∷ fs) g = good_kept fs g.1
 good_kept (form.Keyword k ∷ fs) g = (tt, good_kept fs g.1)
@@ -50,7 +51,7 @@ good_kept (form.Identifier w ∷ fs) g = (g.0, good_kept fs g.1)
 good_kept (form.Version v ∷ fs) g = (g.0, good_kept fs g.1)
 good_kept (form.Integer n ∷ fs) g = (g.0, good_kept fs g.1)
 
-good_all : (fs : List Form) → AreGood (kept fs) → AreGood fs
+good_all : (fs : List Form) → AreGood (words fs) → AreGood fs
 good_all [] g = tt
 good_all (form.Operator o ∷ fs) g = (tt, good_all fs g)
 good_all (form.Keyword k ∷ fs) g = (tt, good_all fs g.1)
@@ -68,11 +69,14 @@ read_canon text f e =
     let k = end_ok a.0.0 f a.0.1 a.2 in
     (a.0.1, k.0, subst (λ (g : File). Canon file g (lexed text).tokens a.0.1 (file_tokens g) (at is_member) ends) k.1 (file_law.at a.0.0 (lexed text).tokens a.0.1 a.1))
 
+pub printed_words : (f : File) (text : List ℕ) → text_reads file text ≡ Ok f → words (forms (lexed text).tokens) ≡ words (file_tokens f)
+printed_words f text e =
+    let c = read_canon text f e in
+    c.2.same ∙ (ap (λ (us : List Token). words (file_tokens f) ++ words (forms us)) c.1 ∙ append-nil (words (file_tokens f)))
+
 printed_good : (text : List ℕ) (f : File) → text_reads file text ≡ Ok f → AreGood (file_tokens f)
 printed_good text f e =
-    let c = read_canon text f e in
-    let same : kept (forms (lexed text).tokens) ≡ kept (file_tokens f) = c.2.same ∙ (ap (λ (us : List Token). kept (file_tokens f) ++ kept (forms us)) c.1 ∙ append-nil (kept (file_tokens f))) in
-    good_all (file_tokens f) (subst AreGood same (good_kept (forms (lexed text).tokens) (tokens_good text)))
+    good_all (file_tokens f) (subst AreGood (printed_words f text e) (good_kept (forms (lexed text).tokens) (tokens_good text)))
 
 pub printed_tokens : (f : File) (text : List ℕ) → text_reads file text ≡ Ok f → (forms (lexed (file_text f)).tokens ≡ file_tokens f) × ((lexed (file_text f)).stop ≡ None)
 printed_tokens f text e =

@@ -1,1 +1,2 @@
 pub mod TreeTokens
+pub mod Words

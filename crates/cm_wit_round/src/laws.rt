@@ -7,6 +7,7 @@ ghost use Rattle.cm_wit_text.specs.Files.{file};
 ghost use Rattle.cm_wit_text.specs.Trees.{File};
 ghost use Rattle.cm_wit_tokens.specs.Tokens.{lexed};
 ghost use Rattle.cm_wit_round.specs.TreeTokens.{file_tokens};
+ghost use Rattle.cm_wit_round.specs.Words.{words};
 
 /// The text that prints a file, where the file is what some text is read as, is read as that file
 /// again: its tokens, to its end, are those of the file's tree (WIT.md, "Lexical structure" and
@@ -18,4 +19,10 @@ pub fn printed_file_is_read()
         → (lexed (file_text f)).stop ≡ None }
     ensures read { (f : File) (text : List ℕ) → text_reads file text ≡ Ok f
         → text_reads file (file_text f) ≡ Ok f }
+{}
+
+/// The tokens of a text that is read are, but for operators, those of the file's tree.
+pub fn words_are_kept()
+    ensures { (f : File) (text : List ℕ) → text_reads file text ≡ Ok f
+        → words (map (λ t. t.form) (lexed text).tokens) ≡ words (file_tokens f) }
 {}
