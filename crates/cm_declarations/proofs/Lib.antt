@@ -1,2 +1,3 @@
 pub mod ScopeLaws
 pub mod FirstLaws
+pub mod BrokenLaws

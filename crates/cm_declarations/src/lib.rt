@@ -3,5 +3,6 @@
 
 mod declarations;
 mod exports;
+pub mod laws;
 
 pub use declarations::Declarations;

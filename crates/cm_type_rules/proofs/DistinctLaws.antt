@@ -100,3 +100,15 @@ mapped label (x ∷ xs) = ap (λ l. folded (label x) ∷ l) (mapped label xs)
 -- labels are distinct where none is met twice
 pub distinct_labels : {A : Type 0} (label : A → List ℕ) (xs : List A) → are_distinct (map (λ x. folded (label x)) xs) ≡ are_distinct_names (map label xs)
 distinct_labels label xs = ap are_distinct (mapped label xs) ∙ distinct_folded (map label xs)
+
+pub is_taken : (new b : Bool) → new ≡ not b → new ≡ false → b ≡ true
+is_taken new true e n = refl
+is_taken new false e n = absurd cc
+
+-- the next text was seen, so not all differ
+pub met_again : {A : Type 0} (key : A → List ℕ) (xs : List A) (i : ℕ) (x : A) (has : List ℕ → Bool) (new all : Bool) → i < length xs → x ≡ get_or xs i x → new ≡ not (has (key x)) → new ≡ false
+    → rest_is_distinct has (map key (drop i xs)) ≡ all → false ≡ all
+met_again key xs i x has new all lt is answer was before =
+    sym (rest_is_distinct-seen has (key x) (map key (drop (i + 1) xs)) (is_taken new (has (key x)) answer was))
+    ∙ sym (ap (rest_is_distinct has) (next_element key xs i x lt is))
+    ∙ before

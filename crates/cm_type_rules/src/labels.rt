@@ -20,7 +20,20 @@ fn fold_case(alloc: Global, text: &str) -> Result<String, AllocError>
     Ok(text)
 }
 
-/// Adds a label, without ASCII case, to those that were seen, and says whether it was new.
+/// Adds a name, without ASCII case, to those that were seen, and says whether it was new.
+fn add_name(alloc: Global, seen: &mut BTreeSet<String>, name: &str) -> Result<bool, AllocError>
+    ensures answer { IfOk result (λ new.
+        new ≡ not (contains_text seen.old (map to_ascii_lowercase name.now))) }
+    ensures adds { OnOk result
+        ((q : List ℕ)
+        → contains_text seen.new q
+        ≡ cond (bytes_eq (map to_ascii_lowercase name.now) q) true (contains_text seen.old q)) }
+{
+    let key = fold_case(alloc, name)?;
+    Ok(seen.insert(key)?)
+}
+
+/// The same of a label.
 fn add_label(alloc: Global, seen: &mut BTreeSet<String>, label: &Label) -> Result<bool, AllocError>
     ensures answer { IfOk result (λ new.
         new ≡ not (contains_text seen.old (map to_ascii_lowercase label.now))) }
@@ -29,8 +42,21 @@ fn add_label(alloc: Global, seen: &mut BTreeSet<String>, label: &Label) -> Resul
         → contains_text seen.new q
         ≡ cond (bytes_eq (map to_ascii_lowercase label.now) q) true (contains_text seen.old q)) }
 {
-    let key = fold_case(alloc, label.as_str())?;
-    Ok(seen.insert(key)?)
+    add_name(alloc, seen, label.as_str())
+}
+
+/// Whether no two names are the same without ASCII case. Each is folded and looked up once.
+/// `AllocError` comes where there is no memory for it.
+pub fn names_are_distinct(alloc: Global, names: &[&str]) -> Result<bool, AllocError>
+    ensures { IfOk result (λ b. b ≡ are_distinct_names (map (λ n. n.now) names.now)) }
+{
+    let mut seen = BTreeSet::new(alloc);
+    for name in names {
+        if !add_name(alloc, &mut seen, *name)? {
+            return Ok(false);
+        }
+    }
+    Ok(true)
 }
 
 /// Whether no two labels are the same without ASCII case.

@@ -7,6 +7,7 @@ mod parts;
 mod reasons;
 mod signatures;
 
+pub use labels::names_are_distinct;
 pub use parts::{parts_fault, payload_fault, value_fault};
 pub use reasons::{broken_unless, index_fault, lesser};
 pub use signatures::{params_fault, uses_fault};
