@@ -27,4 +27,5 @@ pub true_not : true ≡ false → ⊥
 true_not e = cc
 
 pub ruleset import_laws = (imports_are)
+
 pub ruleset world_laws = (imports_are)
