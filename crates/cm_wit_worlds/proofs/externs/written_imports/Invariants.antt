@@ -1,0 +1,9 @@
+use Rattle.std.proofs.Common.{[]}
+use Rattle.cm_wit_text.specs.Views.{world_item_tree}
+use Rattle.cm_wit_interfaces.specs.InterfaceViews.{files_of}
+use Rattle.cm_wit_worlds.specs.Externs.{imports_from}
+use Rattle.cm_wit_worlds.proofs.ListLaws.{Ends}
+use Rattle.cm_wit_worlds.proofs.externs.written_imports.Given as goal
+
+abbrev pub invariant-loop-index : goal.invariant-loop-index
+invariant-loop-index l = Ends world_item_tree (imports_from (files_of l.directory.files.items) l.place l.count) l.items l.index [] l.out.items

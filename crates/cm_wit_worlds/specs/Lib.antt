@@ -1,0 +1,3 @@
+pub mod Externs
+pub mod Faults
+pub mod Worlds
