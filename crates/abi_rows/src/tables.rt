@@ -1,7 +1,7 @@
 //! Handle tables as rows spell them.
 //!
-//! A table is `-`, or handles joined by commas, each of resource 0 of component 0 or, with a `'`,
-//! of resource 1: `own SERIAL` is written `oSERIAL`, a borrow by call 7 `bSERIAL`, and `+LENDS`
+//! A table is `-`, or handles joined by commas, each of resource 0 of component 0 or, with a `'`
+//! before it, of resource 1: an owned one is `oSERIAL`, a borrow by call 7 `bSERIAL`, and `+LENDS`
 //! behind it says how often it is lent. Its representation is its serial number and 100.
 
 ghost use Rattle.std.specs.Prelude.{◌<◌, IfOk};

@@ -46,11 +46,11 @@ pub fn write_value(out: &mut String, value: &Value) -> Result<(), AllocError> {
 
 #[cycle(writing)]
 fn write_values(out: &mut String, values: &[Value]) -> Result<(), AllocError> {
-    let mut mark = "";
-    for value in values {
-        out.push_str(mark)?;
+    for (i, value) in values.iter().enumerate() {
+        if i > 0 {
+            out.push_str(" ")?;
+        }
         write_value(out, value)?;
-        mark = " ";
     }
     Ok(())
 }
