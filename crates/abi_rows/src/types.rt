@@ -39,8 +39,8 @@ pub fn read_func(alloc: Global, words: &[&str]) -> Result<Func, RowFault> {
         }
     }
     let mut params = Vec::new(alloc);
-    while let Some(payload) = stack.payloads.pop() {
-        let ty = payload.ok_or(RowFault::NotARow)?;
+    for _ in 0..stack.payloads.len() {
+        let ty = stack.pop()?;
         let label = label(alloc)?;
         params.push(Field { label, ty })?;
     }
