@@ -52,7 +52,7 @@ fn fields(alloc: Global) -> Result<Layout, RowFault> {
 }
 
 /// `SIZE/ALIGN/WIDTH`, and where the parts stand, or what lies in place how often.
-fn write_layout(out: &mut String, layout: &Layout) -> Result<(), AllocError> {
+pub fn write_layout(out: &mut String, layout: &Layout) -> Result<(), AllocError> {
     write_head(out, layout.head)?;
     match &layout.form {
         Form::Fields(parts) => {

@@ -3,7 +3,9 @@
 
 mod arena;
 mod built;
+mod layouts;
 mod numbers;
+mod runs;
 mod words;
 
 use cm_rows::{Driver, RowFault, answer_rows};
@@ -18,6 +20,7 @@ impl Driver for ArenaRows {
         match words {
             ["types", rest @ ..] => arena::answer(alloc, rest),
             ["built", rest @ ..] => built::answer(alloc, rest),
+            ["layouts", rest @ ..] => layouts::answer(alloc, rest),
             ["numbers", rest @ ..] => numbers::answer(alloc, rest),
             _ => Err(RowFault::NotARow),
         }

@@ -1,6 +1,7 @@
 //! Rows on the numbers of types by places.
 
 use crate::arena::Arena;
+use crate::runs::Runs;
 use crate::words::{read_move, read_resources};
 use cm_replaced::{Replacement, Row};
 use cm_rows::RowFault;
@@ -69,16 +70,13 @@ impl Table {
     ) -> Result<(), AllocError> {
         let numbers = self.numbers.number_types(self.alloc, resources, types)?;
         let funcs = self.numbers.number_funcs(self.alloc, types, &numbers)?;
-        for (place, number) in numbers.iter().enumerate() {
-            if place >= first {
-                self.types.write(&mut self.out, *number, place > first)?;
-            }
-        }
+        let numbers = numbers.get(first..).unwrap_or(&[]);
+        let types = self.types.text(self.alloc, numbers)?;
+        self.out.push_str(&types)?;
         if !funcs.is_empty() {
-            self.out.push_str(" /")?;
-        }
-        for number in &funcs {
-            self.funcs.write(&mut self.out, *number, true)?;
+            self.out.push_str(" / ")?;
+            let funcs = self.funcs.text(self.alloc, &funcs)?;
+            self.out.push_str(&funcs)?;
         }
         Ok(())
     }
@@ -107,11 +105,13 @@ impl Classes {
         Ok(class)
     }
 
-    fn write(&mut self, out: &mut String, number: usize, behind: bool) -> Result<(), AllocError> {
-        if behind {
-            out.push_str(" ")?;
+    /// The classes of numbers, one after another.
+    fn text(&mut self, alloc: Global, numbers: &[usize]) -> Result<String, AllocError> {
+        let mut runs = Runs::new(alloc, " ");
+        for number in numbers {
+            let class = self.class(*number)?;
+            runs.add(format!(in alloc; "{class}")?)?;
         }
-        let class = self.class(number)?;
-        write!(out, "{class}")
+        runs.finish()
     }
 }
