@@ -1,5 +1,5 @@
 -- Where no answer has a fault, the parts are placed.
-use Rattle.std.proofs.Common.{◌≡◌, ℕ, zero, suc, ◌+◌, ◌*◌, ◌/◌, ◌%◌, ◌≤◌, Bool, true, false, List, [], ◌∷◌, ◌++◌, length, drop, refl, sym, ap, subst, ◌∙◌, arith, add-one, Some, None, Option}
+use Rattle.std.proofs.Common.{◌≡◌, ℕ, zero, suc, ◌+◌, ◌*◌, ◌/◌, ◌%◌, ◌≤◌, Bool, true, false, List, [], ◌∷◌, ◌++◌, length, drop, refl, sym, ap, subst, ◌∙◌, arith, add-one, map, Some, None, Option, inl, inr, ◌↔◌}
 use Rattle.std.proofs.Math.Nat.{div-add-mod, mul_comm}
 use Rattle.std.proofs.lemmas.Bool.{eqb-true, ltb-false}
 use Rattle.std.specs.Prelude.{not, nat_lt, slice_index, if◌then◌else◌, ◌==◌}
@@ -8,11 +8,13 @@ use Rattle.cm_abi_model.specs.declared.fault.AbiFault.{AbiFault}
 use Rattle.cm_abi_model.specs.declared.fault.AbiFault.TheVariants as fault
 use Rattle.cm_abi_model.specs.declared.request.Request.{Request}
 use Rattle.cm_abi_model.specs.Parts.{Part, text_part, element_part}
-use Rattle.cm_abi_model.specs.Regions.{ArePlaced, IsPlaced, part_size}
+use Rattle.cm_abi_model.specs.Regions.{AreApart, ArePlaced, IsInPart, IsPlaced, part_size}
 use Rattle.cm_abi_model.specs.Requests.{HasScalars, IsStored, chain, charset, first_tag, growths, last_size, part_align, part_requests, part_sizes, shrunk, stored_charset, tags_behind, text_sizes}
-use Rattle.cm_abi_model.specs.Stores.{Given}
+use Rattle.cm_abi_model.specs.Stores.{Given, place_of}
 use Rattle.cm_abi_model.specs.Texts.{Charset, IsAligned, utf8, utf16, latin1}
-use Rattle.cm_lowering.specs.Answering.{AreCounted, HaveScalars, fault_before, first_fault, place_before, places_of}
+use Rattle.cm_lowering.specs.Answering.{AreCounted, HaveScalars, begins_part, fault_before, first_fault, places_of, regions_of}
+use Rattle.cm_lowering.specs.Overlap.{AreDisjoint, IsInOne}
+use Rattle.cm_lowering.specs.declared.regions.Region.{Region}
 
 -- ---- one answer
 
@@ -38,33 +40,28 @@ before_one (Some f) later h = absurd (cc)
 
 -- ---- the answers for one part
 
-abbrev Starts : List Request → Type 0
-Starts [] = Unit {0}
-Starts (q ∷ rs) = q.chained ≡ false
-
-record PartAnswered (n align size : ℕ) (rest : List Request) (places : List ℕ) : Type 0 where
+record PartAnswered (n align size : ℕ) (rest : List Request) (regions : List Region) (Fine : Type 0) : Type 0 where
   pub at : ℕ
   pub behind : List ℕ
-  pub are : places ≡ at ∷ places_of rest behind
-  pub fine : IsFine n align size at
-  pub later : first_fault n rest behind ≡ None
+  pub are : regions ≡ record { at = at; size = size } ∷ regions_of rest behind
+  pub fine : Fine → IsFine n align size at × (first_fault n rest behind ≡ None)
   pub counted : length behind ≡ length rest
 
-kept : (rest : List Request) (at : ℕ) (places : List ℕ) → Starts rest → place_before rest at places ≡ at ∷ places
-kept [] at places st = refl
-kept (q ∷ rest) at places st = rw st refl
-
-one_part : (n align : ℕ) (r : Request) (sizes : List ℕ) (rest : List Request) (answers : List ℕ) → r.align ≡ align → Starts rest
+one_part : (n align : ℕ) (r : Request) (sizes : List ℕ) (rest : List Request) (answers : List ℕ) → r.align ≡ align → begins_part rest ≡ true
     → length answers ≡ length (r ∷ (growths align r.size sizes ++ rest))
-    → first_fault n (r ∷ (growths align r.size sizes ++ rest)) answers ≡ None
-    → PartAnswered n align (last_size (r.size ∷ sizes)) rest (places_of (r ∷ (growths align r.size sizes ++ rest)) answers)
-one_part n align r sizes rest [] al st len ok = absurd (cc)
-one_part n align r [] rest (a ∷ as') al st len ok =
-    let both = before_one _ _ ok in
-    record { at = a; behind = as'; are = kept rest a (places_of rest as') st; fine = subst (λ x. IsFine n x r.size a) al both.0; later = both.1; counted = omega (arith, len) }
-one_part n align r (s ∷ ss) rest (a ∷ as') al st len ok =
-    let both = before_one _ _ ok in
-    one_part n align (record { chained = true; old_size = r.size; align = align; size = s }) ss rest as' refl st (omega (arith, len)) both.1
+    → PartAnswered n align (last_size (r.size ∷ sizes)) rest (regions_of (r ∷ (growths align r.size sizes ++ rest)) answers) (first_fault n (r ∷ (growths align r.size sizes ++ rest)) answers ≡ None)
+one_part n align r sizes rest [] al st len = absurd (cc)
+one_part n align r [] rest (a ∷ as') al st len =
+    record {
+      at = a;
+      behind = as';
+      are = rw st refl;
+      fine = λ ok. let both = before_one _ _ ok in (subst (λ x. IsFine n x r.size a) al both.0, both.1);
+      counted = omega (arith, len);
+    }
+one_part n align r (s ∷ ss) rest (a ∷ as') al st len =
+    let more = one_part n align (record { chained = true; old_size = r.size; align = align; size = s }) ss rest as' refl st (omega (arith, len)) in
+    record { at = more.at; behind = more.behind; are = more.are; fine = λ ok. more.fine (before_one _ _ ok).1; counted = more.counted }
 
 -- ---- each part is asked for
 
@@ -94,11 +91,11 @@ sizes_some : (s t : Charset) (p : Part) → Some1 (part_sizes s t p)
 sizes_some s t (text_part cs) = text_some s t _ _
 sizes_some s t (element_part count size align) = (count * size, ([], refl))
 
-begins : (align : ℕ) (sizes : List ℕ) (rest : List Request) → Some1 sizes → Starts (chain align sizes ++ rest)
+begins : (align : ℕ) (sizes : List ℕ) (rest : List Request) → Some1 sizes → begins_part (chain align sizes ++ rest) ≡ true
 begins align sizes rest some = rw some.1.1 refl
 
-starts : (source target : StringEncoding) (tags : List Bool) (parts : List Part) → Starts (part_requests source target tags parts)
-starts source target tags [] = tt
+starts : (source target : StringEncoding) (tags : List Bool) (parts : List Part) → begins_part (part_requests source target tags parts) ≡ true
+starts source target tags [] = refl
 starts source target tags (p ∷ ps) = begins (part_align target p) _ (part_requests source target (tags_behind p tags) ps) (sizes_some (charset source (first_tag tags)) (stored_charset target) p)
 
 -- ---- all parts
@@ -109,8 +106,46 @@ at_front [] ys (suc k) a h = absurd (cc)
 at_front (x ∷ xs) ys zero a h = (cc, cc)
 at_front (x ∷ xs) ys (suc k) a h = at_front xs ys k a h
 
-pub parts_placed : ((s : Charset) (t : StringEncoding) (p : Part) → IsStored t → HasScalars s p → last_size (part_sizes s (stored_charset t) p) ≡ part_size t p)
-    → (source target : StringEncoding) (tags : List Bool) (parts : List Part) (answers : List ℕ) (n k : ℕ) (g : Given)
+-- the last size that is asked for a part is its size
+abbrev Exact : Type 0
+Exact = (s : Charset) (t : StringEncoding) (p : Part) → IsStored t → HasScalars s p → last_size (part_sizes s (stored_charset t) p) ≡ part_size t p
+
+-- the answers for the first part, and for the others
+record FirstAnswered (n align size : ℕ) (rest : List Request) (requests : List Request) (answers places : List ℕ) (k : ℕ) : Type 0 where
+  pub at : ℕ
+  pub behind : List ℕ
+  pub are : regions_of requests answers ≡ record { at = at; size = size } ∷ regions_of rest behind
+  pub fine : first_fault n requests answers ≡ None → IsFine n align size at × (first_fault n rest behind ≡ None)
+  pub counted : length behind ≡ length rest
+  pub here : slice_index places k ≡ at
+  pub later : drop (k + 1) places ≡ places_of rest behind
+
+first_part : Exact → (source target : StringEncoding) (tags : List Bool) (p : Part) (ps : List Part) (answers places : List ℕ) (n k : ℕ)
+    → IsStored target → HasScalars (charset source (first_tag tags)) p
+    → length answers ≡ length (part_requests source target tags (p ∷ ps))
+    → drop k places ≡ places_of (part_requests source target tags (p ∷ ps)) answers
+    → FirstAnswered n (part_align target p) (part_size target p) (part_requests source target (tags_behind p tags) ps) (part_requests source target tags (p ∷ ps)) answers places k
+first_part exact source target tags p ps answers places n k stored has len is =
+    let some = sizes_some (charset source (first_tag tags)) (stored_charset target) p in
+    let rest = part_requests source target (tags_behind p tags) ps in
+    let first_is : chain (part_align target p) (part_sizes (charset source (first_tag tags)) (stored_charset target) p) ≡ chain (part_align target p) (some.0 ∷ some.1.0) = ap (λ ss. chain (part_align target p) ss) some.1.1 in
+    let one = one_part n (part_align target p) (record { chained = false; old_size = 0; align = part_align target p; size = some.0 }) some.1.0 rest answers refl
+    (starts source target (tags_behind p tags) ps) (len ∙ ap (λ c. length (c ++ rest)) first_is) in
+    let size_is : last_size (some.0 ∷ some.1.0) ≡ part_size target p = ap last_size (sym some.1.1) ∙ exact (charset source (first_tag tags)) target p stored has in
+    let regions_are : regions_of (part_requests source target tags (p ∷ ps)) answers ≡ record { at = one.at; size = part_size target p } ∷ regions_of rest one.behind =
+    ap (λ c. regions_of (c ++ rest) answers) first_is ∙ (one.are ∙ ap (λ size. record { at = one.at; size = size } ∷ regions_of rest one.behind) size_is) in
+    let front = at_front places _ k one.at (is ∙ ap (λ rs. map (λ (r : Region). r.at) rs) regions_are) in
+    record {
+      at = one.at;
+      behind = one.behind;
+      are = regions_are;
+      fine = λ ok. subst (λ size. IsFine n (part_align target p) size one.at × (first_fault n rest one.behind ≡ None)) size_is (one.fine (ap (λ c. first_fault n (c ++ rest) answers) (sym first_is) ∙ ok));
+      counted = one.counted;
+      here = front.0;
+      later = rw add-one front.1;
+    }
+
+pub parts_placed : Exact → (source target : StringEncoding) (tags : List Bool) (parts : List Part) (answers : List ℕ) (n k : ℕ) (g : Given)
     → IsStored target → HaveScalars source tags parts → AreCounted parts
     → length answers ≡ length (part_requests source target tags parts)
     → first_fault n (part_requests source target tags parts) answers ≡ None
@@ -118,13 +153,53 @@ pub parts_placed : ((s : Charset) (t : StringEncoding) (p : Part) → IsStored t
     → ArePlaced target n g k parts
 parts_placed exact source target tags [] answers n k g stored has counted len ok is = tt
 parts_placed exact source target tags (p ∷ ps) answers n k g stored has counted len ok is =
-    let some = sizes_some (charset source (first_tag tags)) (stored_charset target) p in
-    let rest = part_requests source target (tags_behind p tags) ps in
-    let first_is : chain (part_align target p) (part_sizes (charset source (first_tag tags)) (stored_charset target) p) ≡ chain (part_align target p) (some.0 ∷ some.1.0) = ap (λ ss. chain (part_align target p) ss) some.1.1 in
-    let one = one_part n (part_align target p) (record { chained = false; old_size = 0; align = part_align target p; size = some.0 }) some.1.0 rest answers refl
-    (starts source target (tags_behind p tags) ps) (len ∙ ap (λ c. length (c ++ rest)) first_is) (ap (λ c. first_fault n (c ++ rest) answers) (sym first_is) ∙ ok) in
-    let front = at_front g.places _ k one.at (is ∙ (ap (λ c. places_of (c ++ rest) answers) first_is ∙ one.are)) in
-    let fine = fine_is n (part_align target p) (last_size (some.0 ∷ some.1.0)) one.at one.fine in
-    let size_is : last_size (some.0 ∷ some.1.0) ≡ part_size target p = ap last_size (sym some.1.1) ∙ exact (charset source (first_tag tags)) target p stored has.0 in
-    let behind = parts_placed exact source target (tags_behind p tags) ps one.behind n (suc k) g stored has.1 counted.1 one.counted one.later front.1 in
-    (subst (λ at. IsPlaced target n at p) (sym front.0) (record { aligned = fine.0; inside = subst (λ size. one.at + size ≤ n) size_is fine.1; counted = counted.0 }), rw add-one behind)
+    let one = first_part exact source target tags p ps answers g.places n k stored has.0 len is in
+    let good = one.fine ok in
+    let fine = fine_is n (part_align target p) (part_size target p) one.at good.0 in (
+      subst (λ at. IsPlaced target n at p) (sym one.here) (record { aligned = fine.0; inside = fine.1; counted = counted.0 }),
+      parts_placed exact source target (tags_behind p tags) ps one.behind n (k + 1) g stored has.1 counted.1 one.counted good.1 one.later,
+    )
+
+-- ---- regions
+
+-- the regions of parts at their places
+abbrev regions_at : StringEncoding → Given → ℕ → List Part → List Region
+regions_at target g k [] = []
+regions_at target g k (p ∷ ps) = record { at = place_of g k; size = part_size target p } ∷ regions_at target g (k + 1) ps
+
+regions_are : Exact → (source target : StringEncoding) (tags : List Bool) (parts : List Part) (answers : List ℕ) (k : ℕ) (g : Given)
+    → IsStored target → HaveScalars source tags parts
+    → length answers ≡ length (part_requests source target tags parts)
+    → drop k g.places ≡ places_of (part_requests source target tags parts) answers
+    → regions_of (part_requests source target tags parts) answers ≡ regions_at target g k parts
+regions_are exact source target tags [] answers k g stored has len is = refl
+regions_are exact source target tags (p ∷ ps) answers k g stored has len is =
+    let one = first_part exact source target tags p ps answers g.places 0 k stored has.0 len is in
+    let rest = regions_are exact source target (tags_behind p tags) ps one.behind (k + 1) g stored has.1 one.counted one.later in
+    one.are ∙ (ap (λ at. record { at = at; size = part_size target p } ∷ regions_of (part_requests source target (tags_behind p tags) ps) one.behind) (sym one.here)
+    ∙ ap (λ rs. record { at = place_of g k; size = part_size target p } ∷ rs) rest)
+
+in_part : (target : StringEncoding) (g : Given) (k : ℕ) (ps : List Part) (a : ℕ) → IsInOne (regions_at target g k ps) a → IsInPart target g k ps a
+in_part target g k [] a h = h
+in_part target g k (p ∷ ps) a h = elim h [ inl here ↦ inl here | inr later ↦ inr (in_part target g (k + 1) ps a later) ]
+
+in_region : (target : StringEncoding) (g : Given) (k : ℕ) (ps : List Part) (a : ℕ) → IsInPart target g k ps a → IsInOne (regions_at target g k ps) a
+in_region target g k [] a h = h
+in_region target g k (p ∷ ps) a h = elim h [ inl here ↦ inl here | inr later ↦ inr (in_region target g (k + 1) ps a later) ]
+
+apart_from : (target : StringEncoding) (g : Given) (k : ℕ) (ps : List Part) → AreDisjoint (regions_at target g k ps) → AreApart target g k ps
+apart_from target g k [] h = tt
+apart_from target g k (p ∷ ps) h = ((λ a here later. h.0 a here (in_region target g (k + 1) ps a later)), apart_from target g (k + 1) ps h.1)
+
+apart_to : (target : StringEncoding) (g : Given) (k : ℕ) (ps : List Part) → AreApart target g k ps → AreDisjoint (regions_at target g k ps)
+apart_to target g k [] h = tt
+apart_to target g k (p ∷ ps) h = ((λ a here later. h.0 a here (in_part target g (k + 1) ps a later)), apart_to target g (k + 1) ps h.1)
+
+pub parts_apart : Exact → (source target : StringEncoding) (tags : List Bool) (parts : List Part) (answers : List ℕ) (g : Given)
+    → IsStored target → HaveScalars source tags parts
+    → length answers ≡ length (part_requests source target tags parts)
+    → g.places ≡ places_of (part_requests source target tags parts) answers
+    → AreDisjoint (regions_of (part_requests source target tags parts) answers) ↔ AreApart target g 0 parts
+parts_apart exact source target tags parts answers g stored has len is =
+    let are = regions_are exact source target tags parts answers 0 g stored has len is in
+    ((λ h. apart_from target g 0 parts (subst AreDisjoint are h)), (λ h. subst AreDisjoint (sym are) (apart_to target g 0 parts h)))

@@ -3,3 +3,6 @@ pub mod AskingLemmas
 pub mod SeenLayouts
 pub mod AnswerLaws
 pub mod ContentLaws
+pub mod AlignedRequests
+pub mod RegionLaws
+pub mod RegionWalk

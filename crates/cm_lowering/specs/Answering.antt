@@ -1,6 +1,6 @@
 -- Whether the answers to requests will do (CanonicalABI.md, "Storing", `trap_if` behind `realloc`).
-use Rattle.std.specs.Prelude.{ℕ, ◌+◌, ◌%◌, ◌<◌, ◌==◌, ◌^◌, not, ⊤, nat_lt, if◌then◌else◌}
-use Rattle.std.specs.Prelude.{Bool, List, [], ◌∷◌, Option, Some, None}
+use Rattle.std.specs.Prelude.{◌≡◌, ℕ, ◌+◌, ◌%◌, ◌<◌, ◌==◌, ◌^◌, ◌⊎◌, not, ⊤, nat_lt}
+use Rattle.std.specs.Prelude.{if◌then◌else◌, Bool, true, List, [], ◌∷◌, map, Option, Some, None}
 use Rattle.cm_abi_model.specs.declared.encoding.StringEncoding.{StringEncoding}
 use Rattle.cm_abi_model.specs.declared.fault.AbiFault.{AbiFault}
 use Rattle.cm_abi_model.specs.declared.fault.AbiFault.TheVariants as fault
@@ -8,6 +8,8 @@ use Rattle.cm_abi_model.specs.declared.request.Request.{Request}
 use Rattle.cm_abi_model.specs.Parts.{Part}
 use Rattle.cm_abi_model.specs.Regions.{element_count}
 use Rattle.cm_abi_model.specs.Requests.{HasScalars, charset, first_tag, tags_behind}
+use Rattle.cm_lowering.specs.declared.regions.Region.{Region}
+use Rattle.cm_lowering.specs.Overlap.{AreDisjoint}
 
 -- what is wrong with one answer: it is not aligned, else what was asked for passes the end of the
 -- memory
@@ -33,16 +35,36 @@ abbrev pub AreAligned : List Request → Type 0
 AreAligned [] = ⊤
 AreAligned (r ∷ rs) = (0 < r.align) × AreAligned rs
 
--- an answer is the place of a part where no further request hands it back
-abbrev pub place_before : List Request → ℕ → List ℕ → List ℕ
-place_before [] at places = at ∷ places
-place_before (next ∷ rs) at places = if next.chained then places else at ∷ places
+-- the first of the requests, if there is one, is the first for its part
+abbrev pub begins_part : List Request → Bool
+begins_part [] = true
+begins_part (r ∷ rs) = not r.chained
+
+-- the regions of parts: each begins at the answer to the last request for its part, and has the
+-- size of that request
+abbrev pub regions_of : List Request → List ℕ → List Region
+regions_of [] answers = []
+regions_of (r ∷ rs) [] = []
+regions_of (r ∷ rs) (a ∷ answers) =
+    if begins_part rs then record { at = a; size = r.size } ∷ regions_of rs answers
+    else regions_of rs answers
 
 -- where the parts stand: the answers to the last requests for them
 abbrev pub places_of : List Request → List ℕ → List ℕ
-places_of [] answers = []
-places_of (r ∷ rs) [] = []
-places_of (r ∷ rs) (a ∷ answers) = place_before rs a (places_of rs answers)
+places_of rs answers = map (λ (r : Region). r.at) (regions_of rs answers)
+
+-- why answers of which each will do, with these regions, will not do together: two overlap, or
+-- there is no memory to tell
+abbrev pub IsFaultTogether : List Region → AbiFault → Type 0
+IsFaultTogether regions fault.Overlap = AreDisjoint regions → ⊥
+IsFaultTogether regions fault.EngineMemory = ⊤
+IsFaultTogether regions other = ⊥
+
+-- why answers will not do: what is wrong with the first that will not do, or else with all together
+abbrev pub IsFaultOfAnswers : ℕ → List Request → List ℕ → AbiFault → Type 0
+IsFaultOfAnswers memory_length rs answers f =
+    (first_fault memory_length rs answers ≡ Some f)
+    ⊎ ((first_fault memory_length rs answers ≡ None) × IsFaultTogether (regions_of rs answers) f)
 
 -- parts can come from a source: the scalars of each string are spelled there, by its tag
 abbrev pub HaveScalars : StringEncoding → List Bool → List Part → Type 0

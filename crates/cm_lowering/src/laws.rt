@@ -1,11 +1,11 @@
 //! What requests and the checks of their answers mean, as laws: each function here does
 //! nothing, and its contract is the law.
 
-ghost use Rattle.std.specs.Prelude.{◌≡◌, Bool, List, None, length, ℕ};
+ghost use Rattle.std.specs.Prelude.{◌≡◌, ◌↔◌, Bool, List, None, length, ℕ};
 ghost use Rattle.cm_types.specs.Types.{Ty};
 ghost use Rattle.cm_types.specs.Values.{Val};
 ghost use Rattle.cm_abi_model.specs.Parts.{Part, parts_in};
-ghost use Rattle.cm_abi_model.specs.Regions.{ArePlaced};
+ghost use Rattle.cm_abi_model.specs.Regions.{AreApart, ArePlaced};
 ghost use Rattle.cm_abi_model.specs.Requests.{IsStored, part_requests};
 ghost use Rattle.cm_abi_model.specs.Shows.{Shows};
 ghost use Rattle.cm_abi_model.specs.Stores.{Given};
@@ -13,20 +13,29 @@ ghost use Rattle.cm_abi_model.specs.Taken.{content_of, met_at};
 ghost use Rattle.cm_abi_model.specs.Views.{View};
 ghost use Rattle.cm_abi_model.specs.declared.encoding.StringEncoding.{StringEncoding};
 ghost use Rattle.cm_lowering.specs.Answering.{AreCounted, HaveScalars, first_fault, places_of};
+ghost use Rattle.cm_lowering.specs.Answering.{regions_of};
 ghost use Rattle.cm_lowering.specs.Asking.{content_of_parts};
+ghost use Rattle.cm_lowering.specs.Overlap.{AreDisjoint};
 
 use cm_abi_model::laws::requests_end_exact;
 
-/// Where no answer to the requests for parts has a fault, each part is aligned at the answer to the
-/// last request for it, and lies in the memory as a whole.
+/// What the answers to the requests for parts say of the parts, each of which stands at the answer
+/// to the last request for it: where no answer has a fault, each part is aligned and lies in the
+/// memory as a whole; and the regions are disjoint exactly where the parts are apart.
 pub fn answers_place_parts()
-    ensures { (source target : StringEncoding) (tags : List Bool) (parts : List Part)
+    ensures placed { (source target : StringEncoding) (tags : List Bool) (parts : List Part)
         (answers : List ℕ) (memory_length : ℕ) (g : Given) → IsStored target
         → HaveScalars source tags parts → AreCounted parts
         → length answers ≡ length (part_requests source target tags parts)
         → first_fault memory_length (part_requests source target tags parts) answers ≡ None
         → g.places ≡ places_of (part_requests source target tags parts) answers
         → ArePlaced target memory_length g 0 parts }
+    ensures apart { (source target : StringEncoding) (tags : List Bool) (parts : List Part)
+        (answers : List ℕ) (g : Given) → IsStored target → HaveScalars source tags parts
+        → length answers ≡ length (part_requests source target tags parts)
+        → g.places ≡ places_of (part_requests source target tags parts) answers
+        → AreDisjoint (regions_of (part_requests source target tags parts) answers)
+        ↔ AreApart target g 0 parts }
 {
     requests_end_exact();
 }

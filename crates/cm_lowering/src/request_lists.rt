@@ -9,7 +9,8 @@ ghost use Rattle.cm_values.specs.ValueTrees.{values_of};
 ghost use Rattle.cm_abi_model.specs.Parts.{parts_in};
 ghost use Rattle.cm_abi_model.specs.Requests.{requests as requests_of, tuple_of};
 ghost use Rattle.cm_abi_model.specs.Taken.{MAX_CONTENT};
-ghost use Rattle.cm_abi_model.specs.Views.{Way, flat_limit};
+ghost use Rattle.cm_abi_model.specs.Ways.{way_of};
+ghost use Rattle.cm_lowering.specs.Answering.{AreAligned};
 ghost use Rattle.cm_lowering.specs.Asking.{AreSmall, ask_by, asking_of, content_of_parts, parts_by};
 ghost use Rattle.cm_lowering.specs.Asking.{tuple_request};
 
@@ -17,7 +18,7 @@ use crate::asked::Asked;
 use crate::asking::{ask_each, ask_fields};
 use crate::chains::ask_first;
 use crate::encodings::Encodings;
-use cm_abi_model::Request;
+use cm_abi_model::{Request, Way};
 use cm_layout::{Form, Head, Layout};
 use cm_values::Value;
 use std::alloc::{AllocError, Global};
@@ -53,14 +54,15 @@ fn ask_values(
     }
 }
 
-/// What lowering values asks for, in order, by the layout of the tuple of their types; `limit` is
-/// how many core values are passed flat that way, at most: beyond it the tuple itself is asked for
-/// first. The values have their types, and their strings and lists are at most 16,777,216 bytes,
-/// strings counted as in their source. `AllocError` comes where there is no memory for the answer.
+/// What lowering values asks for, in order, by the layout of the tuple of their types, where they
+/// go that way: where they take more core values than are passed flat, the tuple itself is asked
+/// for first. The values have their types, and their strings and lists are at most 16,777,216
+/// bytes, strings counted as in their source. Each request has an alignment, as what looks at the
+/// answers wants it. `AllocError` comes where there is no memory for the answer.
 pub fn requests(
     alloc: Global,
     layout: &Layout,
-    limit: usize,
+    way: Way,
     values: &[Value],
     encodings: &Encodings<'_>,
 ) -> Result<Vec<Request>, AllocError>
@@ -68,18 +70,18 @@ pub fn requests(
         × HasType (tuple_of types) (parts (values_of values.now))
         × (content_of_parts encodings.now.source encodings.now.tags.now
         (parts_in (tuple_of types) (parts (values_of values.now))) ≤ MAX_CONTENT) }
-    ensures { (way : Way) (types : Fields) → limit ≡ flat_limit way
-        → layout_of layout.now ≡ layout_of_fields_at types
+    ensures requests { (types : Fields) → layout_of layout.now ≡ layout_of_fields_at types
         → HasType (tuple_of types) (parts (values_of values.now))
         → IfOk result (λ rs. rs.items
-        ≡ requests_of way types (parts (values_of values.now))
+        ≡ requests_of (way_of way) types (parts (values_of values.now))
         encodings.now.source encodings.now.target encodings.now.tags.now) }
+    ensures aligned { IfOk result (λ rs. AreAligned rs.items) }
 {
     let mut asked = Asked {
         requests: Vec::new(alloc),
         next: 0,
     };
-    ask_tuple(layout.head, limit, &mut asked.requests)?;
+    ask_tuple(layout.head, way.flat_limit(), &mut asked.requests)?;
     ask_values(encodings, layout, values, &mut asked)?;
     Ok(asked.requests)
 }

@@ -1,6 +1,6 @@
 use Rattle.std.proofs.Common.{◌≡◌, drop}
 use Rattle.cm_lowering.specs.Answering.{AreAligned, first_fault}
-use Rattle.cm_lowering.proofs.answers.check_answers.Given as goal
+use Rattle.cm_lowering.proofs.answers.check_each.Given as goal
 
 -- the first fault stands among the answers that are left
 abbrev pub invariant-loop-i : goal.invariant-loop-i
