@@ -2,15 +2,18 @@
 //!
 //! WAY is `params` or `results`; ENCODING `utf8`, `utf16` or `latin1`. MEMORY is bytes in
 //! hexadecimal digits, and TABLE handles, as `tables` reads them. A slot is `i32:NUMBER` or
-//! `i64:NUMBER`, and `N*` before it stands for N of them.
+//! `i64:NUMBER`, and `N*` before it stands for N of them. The handles that were lifted go on to a
+//! receiver by `pass WAY ENCODING MEMORY TABLE INSTANCE TYPE.. = SLOT..`, whose table is empty.
 
 ghost use Rattle.std.specs.Prelude.{IfOk};
 ghost use Rattle.cm_lift.specs.HandingOver.{LendsBelow};
 
+use crate::giving::{read_receiver, write_given};
 use crate::tables::{read_table, write_table};
 use crate::types::{read_func, split_words};
 use crate::values::write_value;
 use cm_abi_model::{AbiFault, StringEncoding, Way};
+use cm_giving::give_values;
 use cm_handles::Table;
 use cm_layout::layout_of_params;
 use cm_lift::{Lifted, Passed, lift};
@@ -48,16 +51,20 @@ pub fn read_giver(
     })
 }
 
+fn read_way(word: &str) -> Result<Way, RowFault> {
+    match word {
+        "params" => Ok(Way::Params),
+        "results" => Ok(Way::Results),
+        _ => Err(RowFault::NotARow),
+    }
+}
+
 /// The values, what went with them, and the table then; or the number of the fault, and the table.
 #[tactic(auto, using(crate::proofs::TableLemmas::lends))]
 pub fn answer(alloc: Global, giver: RowGiver, way: &str, words: &[&str]) -> Result<String, RowFault>
     requires { LendsBelow 256 giver.table.handles }
 {
-    let way = match way {
-        "params" => Way::Params,
-        "results" => Way::Results,
-        _ => return Err(RowFault::NotARow),
-    };
+    let way = read_way(way)?;
     let (types, slots) = split_words(words, "=")?;
     let func = read_func(alloc, types)?;
     let layout = layout_of_params(alloc, &func)?;
@@ -87,6 +94,44 @@ pub fn answer(alloc: Global, giver: RowGiver, way: &str, words: &[&str]) -> Resu
     }
     write_table(&mut out, &table)?;
     Ok(out)
+}
+
+/// The numbers that stand for the handles of the values where they were given to the receiver of a
+/// call, and its table then.
+#[tactic(auto, using(crate::proofs::TableLemmas::lends))]
+pub fn pass(
+    alloc: Global,
+    giver: RowGiver,
+    way: &str,
+    instance: &str,
+    words: &[&str],
+) -> Result<String, RowFault>
+    requires { LendsBelow 256 giver.table.handles }
+{
+    let (types, slots) = split_words(words, "=")?;
+    let func = read_func(alloc, types)?;
+    let layout = layout_of_params(alloc, &func)?;
+    let slots = read_slots(alloc, slots)?;
+    let RowGiver {
+        encoding,
+        memory,
+        mut table,
+    } = giver;
+    if memory.len() > 1 << 30 {
+        return Err(RowFault::NotARow);
+    }
+    let passed = Passed {
+        way: read_way(way)?,
+        layout: &layout,
+        slots: &slots,
+    };
+    let Ok(lifted) = lift(alloc, &memory, &mut table, encoding, &passed) else {
+        return Err(RowFault::NotARow);
+    };
+    let mut received = Table::new(alloc);
+    let to = read_receiver(instance)?;
+    let given = give_values(alloc, &mut received, to, &layout, &lifted.values);
+    write_given(alloc, given, &received)
 }
 
 fn read_slots(alloc: Global, words: &[&str]) -> Result<Vec<CoreValue>, RowFault> {

@@ -1,6 +1,8 @@
-//! Answers rows on values that core values denote.
+//! Answers rows on values that core values denote, and on what lowering them takes.
 #![tactic(auto)]
 
+mod answers;
+mod giving;
 mod lifting;
 mod tables;
 mod types;
@@ -20,6 +22,12 @@ impl Driver for AbiRows {
                 let giver = lifting::read_giver(alloc, encoding, memory, table)?;
                 lifting::answer(alloc, giver, way, rest)
             }
+            ["pass", way, encoding, memory, table, instance, rest @ ..] => {
+                let giver = lifting::read_giver(alloc, encoding, memory, table)?;
+                lifting::pass(alloc, giver, way, instance, rest)
+            }
+            ["give", table, instance, rest @ ..] => giving::answer(alloc, table, instance, rest),
+            ["answers", length, rest @ ..] => answers::answer(alloc, length, rest),
             _ => Err(RowFault::NotARow),
         }
     }

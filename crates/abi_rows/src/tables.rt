@@ -2,13 +2,14 @@
 //!
 //! A table is `-`, or handles joined by commas, each of resource 0 of component 0 or, with a `'`
 //! before it, of resource 1: an owned one is `oSERIAL`, a borrow by call 7 `bSERIAL`, and `+LENDS`
-//! behind it says how often it is lent. Its representation is its serial number and 100.
+//! behind it says how often it is lent. Its representation is its serial number and 100. `N*`
+//! before a handle stands for N of it.
 
 ghost use Rattle.std.specs.Prelude.{◌<◌, IfOk};
 ghost use Rattle.cm_lift.specs.HandingOver.{LendsBelow};
 
 use cm_handles::{Handle, HandleFault, HandleKind, Table};
-use cm_rows::{RowFault, read_number};
+use cm_rows::{RowFault, read_number, split_repeat};
 use cm_types::ResourceId;
 use std::alloc::{AllocError, Global};
 
@@ -34,10 +35,22 @@ fn empty(alloc: Global) -> Table
     Table::new(alloc)
 }
 
-/// Adds the handle that a word spells.
+/// Adds the handle that a word spells, as often as it says.
 fn add(table: &mut Table, word: &str) -> Result<(), RowFault>
     requires { LendsBelow 256 table.old.handles }
     ensures { LendsBelow 256 table.new.handles }
+{
+    let (times, word) = split_repeat(word);
+    let handle = read_handle(word)?;
+    for _ in 0..times {
+        add_handle(table, handle)?;
+    }
+    Ok(())
+}
+
+/// The handle that a word spells.
+pub fn read_handle(word: &str) -> Result<Handle, RowFault>
+    ensures { IfOk result (λ h. h.lends < 256) }
 {
     let (resource, word) = match word.split_once('\'') {
         Some((_, word)) => (1, word),
@@ -51,19 +64,16 @@ fn add(table: &mut Table, word: &str) -> Result<(), RowFault>
         _ => return Err(RowFault::NotARow),
     };
     let serial: u32 = read_number(serial)?;
-    add_handle(
-        table,
-        Handle {
-            resource: ResourceId {
-                component: 0,
-                number: resource,
-            },
-            serial: u64::from(serial),
-            lends: u128::from(lends),
-            rep: serial.wrapping_add(100),
-            kind,
+    Ok(Handle {
+        resource: ResourceId {
+            component: 0,
+            number: resource,
         },
-    )
+        serial: u64::from(serial),
+        lends: u128::from(lends),
+        rep: serial.wrapping_add(100),
+        kind,
+    })
 }
 
 /// Adds a handle.

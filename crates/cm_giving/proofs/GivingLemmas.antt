@@ -1,15 +1,16 @@
 -- Giving handles, one after another.
-use Rattle.std.proofs.Common.{◌≡◌, ℕ, zero, suc, ◌+◌, ◌<◌, ◌≤◌, Bool, true, false, List, [], ◌∷◌, ◌++◌, length, take, drop, refl, sym, ap, subst, ◌∙◌, arith, get_or, drop-cons, add-one, Some, None}
+use Rattle.std.proofs.Common.{inl, inr, ◌≡◌, ℕ, zero, suc, ◌+◌, ◌<◌, ◌≤◌, Bool, true, false, List, [], ◌∷◌, ◌++◌, length, take, drop, refl, sym, ap, subst, ◌∙◌, arith, get_or, drop-cons, add-one, Some, None}
 use Rattle.std.specs.Prelude.{slice_index, ◌==◌, if◌then◌else◌}
 use Rattle.std.specs.Option.{ForSome}
+use Rattle.std.proofs.lemmas.List.Elements.{Contains-append_left, Contains-append_right}
 use Rattle.std.proofs.lemmas.List.{append_assoc, append-nil}
 use Rattle.cm_types.specs.Values.{HandleValue}
-use Rattle.cm_handles.specs.Handles.{Handles, IsSoundHandles, handle_at}
+use Rattle.cm_handles.specs.Handles.{Handles, IsSoundHandles, handle_at, indices_left}
 use Rattle.cm_handles.specs.declared.handle.HandleKind.TheVariants.{Borrowed}
 use Rattle.cm_abi_model.specs.Receives.{AllStand, HandleLeaf, StandsFor, StandsForBorrow, owned_leaf, borrowed_leaf}
 use Rattle.cm_abi_model.specs.Stores.{Given, number_of}
 use Rattle.cm_abi_model.specs.Views.{View}
-use Rattle.cm_giving.specs.Giving.{AllStay, Gives, IsViewOf, added_by, added_count, added_for, after_given, handle_to, number_with, numbers_given, rep_of, with_added}
+use Rattle.cm_giving.specs.Giving.{AllStay, Gives, IsViewOf, NoneElse, added_by, added_count, added_for, after_given, handle_to, number_with, numbers_given, rep_of, with_added}
 use Rattle.cm_giving.specs.Leaves.{leaf_of, leaves_of}
 use Rattle.cm_giving.specs.declared.leaf.HandleLeaf.{HandleLeaf as CodedLeaf}
 use Rattle.cm_giving.specs.declared.receiver.Receiver.{Receiver}
@@ -98,6 +99,8 @@ pub record SoFar (to : Receiver) (start : Handles) (leaves : List CodedLeaf) (t 
   pub table : after_given to t (leaves_of (drop i leaves)) ≡ after_given to start (leaves_of leaves)
   pub stand : (w : View) (g : Given) → IsViewOf w to t → g.numbers ≡ ns → AllStand w g 0 (leaves_of (take i leaves))
   pub stay : AllStay start t
+  pub none_else : NoneElse start t ns
+  pub left : indices_left t + added_count to (leaves_of leaves) ≡ indices_left start + added_count to (leaves_of (drop i leaves))
   pub sound : IsSoundHandles t
   pub counted : length ns ≡ i
 
@@ -108,6 +111,8 @@ none_yet to start leaves ns none sound =
       table = refl;
       stand = λ w g view is. tt;
       stay = λ index h st. st;
+      none_else = λ index h st. inl st;
+      left = refl;
       sound = sound;
       counted = rw none refl;
     }
@@ -137,14 +142,24 @@ stand_next to old new w g ns n done leaf before stay count view is here =
     let number_is : number_of g (0 + length done) ≡ n = ap (λ xs. slice_index xs (0 + length done)) is ∙ last_is ns n (0 + length done) (omega (arith, count)) in
     one_behind w g 0 done leaf (all_still was w given g 0 done refl refl still same first) (subst (λ k. StandsFor w k leaf) (sym number_is) here)
 
+still_none_else : (start old new : Handles) (ns : List ℕ) (n : ℕ) → NoneElse start old ns → NoneElse old new (n ∷ []) → NoneElse start new (ns ++ n ∷ [])
+still_none_else start old new ns n before now index h st =
+    elim (now index h st) [
+      | inl was ↦ elim (before index h was) [ inl first ↦ inl first | inr given ↦ inr (Contains-append_left ns (n ∷ []) index given) ]
+      | inr this ↦ inr (Contains-append_right ns (n ∷ []) index this)
+    ]
+
 pub one_more : (to : Receiver) (start old new : Handles) (leaves : List CodedLeaf) (ns behind : List ℕ) (n i : ℕ) (d : CodedLeaf) → i < length leaves
     → SoFar to start leaves old ns i → behind ≡ ns ++ n ∷ []
     → n ≡ number_with old (added_for to (leaf_of (get_or leaves i d))) (rep_of (leaf_of (get_or leaves i d)))
     → new ≡ with_added old (added_for to (leaf_of (get_or leaves i d)))
     → ForSome (added_for to (leaf_of (get_or leaves i d))) (λ h. handle_at new n ≡ Some h)
-    → AllStay old new → IsSoundHandles new → SoFar to start leaves new behind (i + 1)
-one_more to start old new leaves ns behind n i d lt so is number table here stay sound =
+    → AllStay old new → NoneElse old new (n ∷ [])
+    → indices_left new + added_by (added_for to (leaf_of (get_or leaves i d))) ≡ indices_left old
+    → IsSoundHandles new → SoFar to start leaves new behind (i + 1)
+one_more to start old new leaves ns behind n i d lt so is number table here stay others left sound =
     let next = next_leaf leaves i d lt in
+    let counts = count_next to leaves i d lt in
     record {
       numbers =
           (rw (is, number, table) (append_assoc ns (number_with old (added_for to (leaf_of (get_or leaves i d))) (rep_of (leaf_of (get_or leaves i d))) ∷ [])
@@ -155,6 +170,8 @@ one_more to start old new leaves ns behind n i d lt so is number table here stay
           rw (taken_more leaves i d lt) (stand_next to old new w g ns n (leaves_of (take i leaves)) (leaf_of (get_or leaves i d)) so.stand stay
           (so.counted ∙ sym (taken_length leaves i (omega (arith, lt)))) view (are ∙ is) (now_stands to old new w n (leaf_of (get_or leaves i d)) view number here));
       stay = λ index h st. stay index h (so.stay index h st);
+      none_else = λ index h st. rw is (still_none_else start old new ns n so.none_else others index h st);
+      left = omega (arith, so.left, left, counts);
       sound = sound;
       counted = rw is (length_one ns n ∙ ap (λ k. k + 1) so.counted);
     }
@@ -169,5 +186,7 @@ all_given to start new leaves ns i past so =
       table = ap (λ ls. after_given to new (leaves_of ls)) (sym none) ∙ so.table;
       stand = λ w g view is. subst (λ ls. AllStand w g 0 (leaves_of ls)) all (so.stand w g view is);
       stay = so.stay;
+      none_else = so.none_else;
+      left = so.left ∙ (ap (λ ls. indices_left start + added_count to (leaves_of ls)) none ∙ omega arith);
       sound = so.sound;
     }

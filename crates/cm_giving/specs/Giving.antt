@@ -1,8 +1,10 @@
 -- The handles that a receiver gets for those of a value (CanonicalABI.md, "Storing" of own and
 -- borrow, `lower_own` and `lower_borrow`).
-use Rattle.std.specs.Prelude.{◌≡◌, ℕ, ◌+◌, ◌==◌, if◌then◌else◌, List, [], ◌∷◌, Option, Some, None}
+use Rattle.std.specs.Prelude.{◌≡◌, ℕ, ◌+◌, ◌==◌, ◌⊎◌, if◌then◌else◌, List, [], ◌∷◌, Contains}
+use Rattle.std.specs.Prelude.{Option, Some, None}
 use Rattle.cm_types.specs.Values.{HandleValue}
-use Rattle.cm_handles.specs.Handles.{Handles, IsSoundHandles, after_add, handle_at, next_index}
+use Rattle.cm_handles.specs.Handles.{Handles, IsSoundHandles, after_add, handle_at}
+use Rattle.cm_handles.specs.Handles.{indices_left, next_index}
 use Rattle.cm_handles.specs.declared.handle.Handle.{Handle}
 use Rattle.cm_handles.specs.declared.handle.HandleKind.{HandleKind}
 use Rattle.cm_handles.specs.declared.handle.HandleKind.TheVariants.{Owned, Borrowed}
@@ -70,12 +72,21 @@ abbrev pub AllStay : Handles → Handles → Type 0
 AllStay old new =
     (index : ℕ) (h : Handle) → handle_at old index ≡ Some h → handle_at new index ≡ Some h
 
+-- each handle that stands now stood before, or stands at one of these indices
+abbrev pub NoneElse : Handles → Handles → List ℕ → Type 0
+NoneElse old new ns =
+    (index : ℕ) (h : Handle) → handle_at new index ≡ Some h
+    → (handle_at old index ≡ Some h) ⊎ Contains ns index
+
 -- The handles of a value were given: the table got what it is to get, each at the next index, and
--- these numbers stand for them, also as the receiver sees them; no handle that stood is changed.
+-- these numbers stand for them, also as the receiver sees them. No handle that stood is changed,
+-- none stands at another index, and so many indices fewer are left.
 pub record Gives (to : Receiver) (old new : Handles) (leaves : List HandleLeaf) (ns : List ℕ)
     : Type 0 where
   pub numbers : ns ≡ numbers_given to old leaves
   pub table : new ≡ after_given to old leaves
   pub stand : (w : View) (g : Given) → IsViewOf w to new → g.numbers ≡ ns → AllStand w g 0 leaves
   pub stay : AllStay old new
+  pub none_else : NoneElse old new ns
+  pub left : indices_left new + added_count to leaves ≡ indices_left old
   pub sound : IsSoundHandles new

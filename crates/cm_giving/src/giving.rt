@@ -1,7 +1,7 @@
 //! Giving handles to a receiver.
 
-ghost use Rattle.std.specs.Prelude.{◌≡◌, ◌↔◌, ◌+◌, ◌<◌, ◌≤◌, ◌⊎◌, [], IfErr, IfOk, IsErrOf, IsOk};
-ghost use Rattle.std.specs.Prelude.{OnErr, OnOk, Some, length, vec_capacity};
+ghost use Rattle.std.specs.Prelude.{◌≡◌, ◌↔◌, ◌+◌, ◌<◌, ◌≤◌, ◌⊎◌, ◌∷◌, [], IfErr, IfOk, IsErrOf};
+ghost use Rattle.std.specs.Prelude.{IsOk, OnErr, OnOk, Some, length, vec_capacity};
 ghost use Rattle.std.specs.Option.{ForSome};
 ghost use Rattle.cm_types.specs.Types.{Fields};
 ghost use Rattle.cm_types.specs.Values.{HasType, parts};
@@ -12,8 +12,8 @@ ghost use Rattle.cm_layout.specs.Shapes.{layout_of_fields_at};
 ghost use Rattle.cm_values.specs.ValueTrees.{values_of};
 ghost use Rattle.cm_abi_model.specs.Receives.{leaves_in};
 ghost use Rattle.cm_abi_model.specs.Requests.{tuple_of};
-ghost use Rattle.cm_giving.specs.Giving.{AllStay, Gives, added_by, added_count, added_for};
-ghost use Rattle.cm_giving.specs.Giving.{handle_to, number_with, rep_of, with_added};
+ghost use Rattle.cm_giving.specs.Giving.{AllStay, Gives, NoneElse, added_by, added_count};
+ghost use Rattle.cm_giving.specs.Giving.{added_for, handle_to, number_with, rep_of, with_added};
 ghost use Rattle.cm_giving.specs.Leaves.{leaf_of, leaves_of, value_in};
 
 use crate::leaf::{HandleLeaf, HandleValue};
@@ -83,6 +83,8 @@ fn add_handle(table: &mut Table, handle: Handle) -> u32
     ensures table { table.new.handles ≡ after_add table.old.handles handle }
     ensures here { handle_at table.new.handles result ≡ Some handle }
     ensures stay { AllStay table.old.handles table.new.handles }
+    ensures none_else { NoneElse table.old.handles table.new.handles (result ∷ []) }
+    ensures left { indices_left table.new.handles + 1 ≡ indices_left table.old.handles }
     ensures room { table.old.room ≤ table.new.room + 1 }
     ensures sound { IsSoundHandles table.new.handles }
 {
@@ -103,6 +105,9 @@ fn give_one(table: &mut Table, to: Receiver, leaf: HandleLeaf) -> u32
     ensures here { ForSome (added_for to (leaf_of leaf)) (λ h.
         handle_at table.new.handles result ≡ Some h) }
     ensures stay { AllStay table.old.handles table.new.handles }
+    ensures none_else { NoneElse table.old.handles table.new.handles (result ∷ []) }
+    ensures left { indices_left table.new.handles + added_by (added_for to (leaf_of leaf))
+        ≡ indices_left table.old.handles }
     ensures room { table.old.room
         ≤ table.new.room + added_by (added_for to (leaf_of leaf)) }
     ensures sound { IsSoundHandles table.new.handles }

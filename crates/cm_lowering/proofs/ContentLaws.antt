@@ -18,13 +18,13 @@ use Rattle.cm_abi_model.specs.Views.{View}
 use Rattle.cm_lowering.specs.Asking.{content_of_parts}
 
 -- parts have so much content where their strings have these tags, whatever stands behind them
-abbrev Tagged : StringEncoding → List Bool → List Part → ℕ → Type 0
+abbrev pub Tagged : StringEncoding → List Bool → List Part → ℕ → Type 0
 Tagged e tags ps n = (rest : List Bool) (qs : List Part) → content_of_parts e (tags ++ rest) (ps ++ qs) ≡ n + content_of_parts e rest qs
 
-abbrev Counts : StringEncoding → List Part → ℕ → Type 0
+abbrev pub Counts : StringEncoding → List Part → ℕ → Type 0
 Counts e ps n = (tags : List Bool) × Tagged e tags ps n
 
-none : (e : StringEncoding) → Counts e [] 0
+pub none : (e : StringEncoding) → Counts e [] 0
 none e = ([], λ rest qs. omega arith)
 
 tagged_both : (e : StringEncoding) (ts us : List Bool) (ps qs : List Part) (n m : ℕ) → Tagged e ts ps n → Tagged e us qs m → Tagged e (ts ++ us) (ps ++ qs) (n + m)
@@ -40,7 +40,7 @@ content_both (content n ∷ ms) ns = let rest = content_both ms ns in omega (ari
 content_both (taken i ∷ ms) ns = content_both ms ns
 content_both (lent i ∷ ms) ns = content_both ms ns
 
-both : (e : StringEncoding) (ps qs : List Part) (ms ns : List Met) → Counts e ps (content_of ms) → Counts e qs (content_of ns) → Counts e (ps ++ qs) (content_of (ms ++ ns))
+pub both : (e : StringEncoding) (ps qs : List Part) (ms ns : List Met) → Counts e ps (content_of ms) → Counts e qs (content_of ns) → Counts e (ps ++ qs) (content_of (ms ++ ns))
 both e ps qs ms ns h k =
     (h.0 ++ k.0, rw (content_both ms ns) (tagged_both e h.0 k.0 ps qs (content_of ms) (content_of ns) h.1 k.1))
 
@@ -55,7 +55,7 @@ same_charset encoding.Utf8 n = refl
 same_charset encoding.Utf16 n = refl
 same_charset encoding.Latin1OrUtf16 n = by_tag (nat_lt n UTF16_TAG)
 
-text_counts : (e : StringEncoding) (memory : List ℕ) (at n : ℕ) (cs : List ℕ) → ShowsText e memory at n cs → Counts e (text_part cs ∷ []) (text_size e n + 0)
+pub text_counts : (e : StringEncoding) (memory : List ℕ) (at n : ℕ) (cs : List ℕ) → ShowsText e memory at n cs → Counts e (text_part cs ∷ []) (text_size e n + 0)
 text_counts e memory at n cs shown =
     let room : text_size e n ≤ length (drop at memory) = omega (arith, shown.inside, length-drop at memory) in
     let size_is : length (text_bytes (charset e (not (nat_lt n UTF16_TAG))) cs) ≡ text_size e n =
@@ -64,15 +64,15 @@ text_counts e memory at n cs shown =
 
 -- ---- lists
 
-list_counts : (e : StringEncoding) (count size align : ℕ) (ps : List Part) (ms : List Met) → Counts e ps (content_of ms) → Counts e (element_part count size align ∷ ps) (content_of (content (count * size) ∷ ms))
+pub list_counts : (e : StringEncoding) (count size align : ℕ) (ps : List Part) (ms : List Met) → Counts e ps (content_of ms) → Counts e (element_part count size align ∷ ps) (content_of (content (count * size) ∷ ms))
 list_counts e count size align ps ms h = (h.0, λ rest qs. let later = h.1 rest qs in omega (arith, later))
 
-each_counts : (w : View) (t : Ty) (size at : ℕ) (vs : Vals)
-    → ((p : ℕ) (v : Val) → Shows w t p v → Counts w.encoding (parts_in t v) (content_of (met_at w t p v)))
-    → ShowEach (Shows w t) size at vs → Counts w.encoding (parts_each (parts_in t) vs) (content_of (met_each (met_at w t) size at vs))
-each_counts w t size at no_vals one h = none w.encoding
-each_counts w t size at (val v vs) one h =
-    both w.encoding (parts_in t v) (parts_each (parts_in t) vs) (met_at w t at v) (met_each (met_at w t) size (at + size) vs) (one at v h.0) (each_counts w t size (at + size) vs one h.1)
+pub each_counts : (e : StringEncoding) (S : ℕ → Val → Type 0) (P : Val → List Part) (M : ℕ → Val → List Met) (size at : ℕ) (vs : Vals)
+    → ((p : ℕ) (v : Val) → S p v → Counts e (P v) (content_of (M p v)))
+    → ShowEach S size at vs → Counts e (parts_each P vs) (content_of (met_each M size at vs))
+each_counts e S P M size at no_vals one h = none e
+each_counts e S P M size at (val v vs) one h =
+    both e (P v) (parts_each P vs) (M at v) (met_each M size (at + size) vs) (one at v h.0) (each_counts e S P M size (at + size) vs one h.1)
 
 mutual
   pub counts : (w : View) (t : Ty) (p : ℕ) (v : Val) → Shows w t p v → Counts w.encoding (parts_in t v) (content_of (met_at w t p v))
@@ -83,8 +83,8 @@ mutual
   counts w string p (text cs) h = text_counts w.encoding w.memory (number_at 4 w.memory p) (number_at 4 w.memory (p + 4)) cs h
   counts w (list t) p (elements vs) h =
       list_counts w.encoding (count_of vs) (size_of t) (align_of t) (parts_each (parts_in t) vs) (met_each (met_at w t) (size_of t) (number_at 4 w.memory p) vs)
-      (each_counts w t (size_of t) (number_at 4 w.memory p) vs (counts w t) h.each)
-  counts w (fixed_list t n) p (parts vs) h = each_counts w t (size_of t) p vs (counts w t) h.1
+      (each_counts w.encoding (Shows w t) (parts_in t) (met_at w t) (size_of t) (number_at 4 w.memory p) vs (counts w t) h.each)
+  counts w (fixed_list t n) p (parts vs) h = each_counts w.encoding (Shows w t) (parts_in t) (met_at w t) (size_of t) p vs (counts w t) h.1
   counts w (fields k fs) p (parts vs) h = field_counts w fs p 0 vs h
   counts w (cases k cs) p (bare i) h = none w.encoding
   counts w (cases k cs) p (bearing i v) h = payload_counts w cs (p + payload_offset cs) i v h.1
@@ -108,8 +108,11 @@ mutual
   payload_counts w (carrying l t cs) p zero v h = counts w t p v h
   payload_counts w (carrying l t cs) p (suc i) v h = payload_counts w cs p i v h
 
-pub shown_counts : (w : View) (t : Ty) (p : ℕ) (v : Val) → Shows w t p v → (tags : List Bool) × (content_of_parts w.encoding tags (parts_in t v) ≡ content_of (met_at w t p v))
-shown_counts w t p v h =
-    let it = counts w t p v h in
+-- nothing stands behind the parts
+pub counts_alone : (e : StringEncoding) (ps : List Part) (n : ℕ) → Counts e ps n → (tags : List Bool) × (content_of_parts e tags ps ≡ n)
+counts_alone e ps n it =
     let alone = it.1 [] [] in
-    (it.0, ap (λ tags. content_of_parts w.encoding tags (parts_in t v)) (sym (append-nil it.0)) ∙ (ap (λ ps. content_of_parts w.encoding (it.0 ++ []) ps) (sym (append-nil (parts_in t v))) ∙ (alone ∙ omega arith)))
+    (it.0, ap (λ tags. content_of_parts e tags ps) (sym (append-nil it.0)) ∙ (ap (λ qs. content_of_parts e (it.0 ++ []) qs) (sym (append-nil ps)) ∙ (alone ∙ omega arith)))
+
+pub shown_counts : (w : View) (t : Ty) (p : ℕ) (v : Val) → Shows w t p v → (tags : List Bool) × (content_of_parts w.encoding tags (parts_in t v) ≡ content_of (met_at w t p v))
+shown_counts w t p v h = counts_alone w.encoding (parts_in t v) (content_of (met_at w t p v)) (counts w t p v h)

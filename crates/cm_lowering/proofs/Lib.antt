@@ -6,3 +6,4 @@ pub mod ContentLaws
 pub mod AlignedRequests
 pub mod RegionLaws
 pub mod RegionWalk
+pub mod PassedContent

@@ -2,15 +2,17 @@
 //! nothing, and its contract is the law.
 
 ghost use Rattle.std.specs.Prelude.{◌≡◌, ◌↔◌, Bool, List, None, length, ℕ};
-ghost use Rattle.cm_types.specs.Types.{Ty};
+ghost use Rattle.cm_types.specs.declared.core_value.CoreValue.{CoreValue};
+ghost use Rattle.cm_types.specs.Types.{Fields, Ty};
 ghost use Rattle.cm_types.specs.Values.{Val};
+ghost use Rattle.cm_abi_model.specs.Denotes.{Denotes};
 ghost use Rattle.cm_abi_model.specs.Parts.{Part, parts_in};
 ghost use Rattle.cm_abi_model.specs.Regions.{AreApart, ArePlaced};
-ghost use Rattle.cm_abi_model.specs.Requests.{IsStored, part_requests};
+ghost use Rattle.cm_abi_model.specs.Requests.{IsStored, part_requests, tuple_of};
 ghost use Rattle.cm_abi_model.specs.Shows.{Shows};
 ghost use Rattle.cm_abi_model.specs.Stores.{Given};
-ghost use Rattle.cm_abi_model.specs.Taken.{content_of, met_at};
-ghost use Rattle.cm_abi_model.specs.Views.{View};
+ghost use Rattle.cm_abi_model.specs.Taken.{content_of, met, met_at};
+ghost use Rattle.cm_abi_model.specs.Views.{View, Way};
 ghost use Rattle.cm_abi_model.specs.declared.encoding.StringEncoding.{StringEncoding};
 ghost use Rattle.cm_lowering.specs.Answering.{AreCounted, HaveScalars, first_fault, places_of};
 ghost use Rattle.cm_lowering.specs.Answering.{regions_of};
@@ -46,4 +48,17 @@ pub fn answers_place_parts()
 pub fn content_of_what_is_shown()
     ensures { (w : View) (t : Ty) (p : ℕ) (v : Val) → Shows w t p v → (tags : List Bool)
         × (content_of_parts w.encoding tags (parts_in t v) ≡ content_of (met_at w t p v)) }
+{}
+
+/// The same of a value that the core values of a call denote; and where strings are in UTF-8 or in
+/// UTF-16, which are stored, with the tags of any list.
+pub fn content_of_what_is_denoted()
+    ensures tagged { (w : View) (way : Way) (types : Fields) (slots : List CoreValue) (v : Val)
+        → Denotes w way types slots v → (tags : List Bool)
+        × (content_of_parts w.encoding tags (parts_in (tuple_of types) v)
+        ≡ content_of (met w way types slots v)) }
+    ensures stored { (w : View) (way : Way) (types : Fields) (slots : List CoreValue) (v : Val)
+        (tags : List Bool) → Denotes w way types slots v → IsStored w.encoding
+        → content_of_parts w.encoding tags (parts_in (tuple_of types) v)
+        ≡ content_of (met w way types slots v) }
 {}

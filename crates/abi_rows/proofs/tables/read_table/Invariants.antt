@@ -1,4 +1,3 @@
-use Rattle.std.proofs.Common.{◌<◌, IfOk, ◌≡◌, ℕ, ◌+◌, ◌-◌, ◌*◌, ◌≤◌, length}
 use Rattle.cm_lift.specs.HandingOver.{LendsBelow}
 use Rattle.abi_rows.proofs.tables.read_table.Given as goal
 

@@ -1,0 +1,8 @@
+use Rattle.cm_lowering.proofs.PassedContent.{passed_counts, stored_counts}
+use Rattle.cm_lowering.proofs.laws.content_of_what_is_denoted.Goals as goal
+
+pub returns-clause-tagged : goal.returns-clause-tagged
+returns-clause-tagged c = passed_counts
+
+pub returns-clause-stored : goal.returns-clause-stored
+returns-clause-stored c = stored_counts
