@@ -1,0 +1,4 @@
+pub mod BytesLemmas
+pub mod TextLemmas
+pub mod StoringLemmas
+pub mod SeenLayouts

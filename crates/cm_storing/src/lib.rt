@@ -1,0 +1,10 @@
+//! Values of components, stored into the memory of a receiver (CanonicalABI.md, "Storing").
+#![tactic(auto)]
+
+mod bytes;
+mod numbers;
+mod storing;
+mod target;
+mod texts;
+
+pub use target::Target;
