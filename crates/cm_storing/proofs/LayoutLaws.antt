@@ -50,7 +50,7 @@ same_signed bits_64 (negsuc n) fits = refl
 
 -- ---- values
 
-same_each : (S R : Storing) (Q : Val → Type 0) (size : ℕ) (vs : Vals) (p k h : ℕ) → ((v : Val) (p k h : ℕ) → Q v → S v p k h ≡ R v p k h) → AllVals Q vs
+pub same_each : (S R : Storing) (Q : Val → Type 0) (size : ℕ) (vs : Vals) (p k h : ℕ) → ((v : Val) (p k h : ℕ) → Q v → S v p k h ≡ R v p k h) → AllVals Q vs
     → store_each S size vs p k h ≡ store_each R size vs p k h
 same_each S R Q size no_vals p k h one all = refl
 same_each S R Q size (val v vs) p k h one all =

@@ -4,3 +4,6 @@ pub mod StoringLemmas
 pub mod SeenLayouts
 pub mod LayoutLaws
 pub mod FittingLaws
+pub mod FlatLemmas
+pub mod PassedLaws
+pub mod FlatLaws

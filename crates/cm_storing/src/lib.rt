@@ -2,6 +2,7 @@
 #![tactic(auto)]
 
 mod bytes;
+mod flat;
 pub mod laws;
 mod numbers;
 mod storing;

@@ -144,7 +144,7 @@ fn store_list(
 
 /// Stores values of one layout, one behind the other.
 #[cycle(storing)]
-fn store_each(
+pub(crate) fn store_each(
     to: &Target<'_>,
     memory: &mut [u8],
     element: &Layout,
