@@ -22,7 +22,7 @@ each_counted P Q (val v vs) one all =
     omega (arith, length-append (P v) (parts_each P vs), first, rest)
 
 mutual
-  counted : (t : Ty) (v : Val) → HasType t v → length (parts_in t v) ≡ part_count v
+  pub counted : (t : Ty) (v : Val) → HasType t v → length (parts_in t v) ≡ part_count v
   counted bool (truth b) typed = refl
   counted (signed w) (signed_number z) typed = refl
   counted (unsigned w) (number n) typed = refl

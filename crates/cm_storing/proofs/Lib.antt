@@ -7,3 +7,4 @@ pub mod FittingLaws
 pub mod FlatLemmas
 pub mod PassedLaws
 pub mod FlatLaws
+pub mod CallLemmas

@@ -117,7 +117,7 @@ fn lower_list(
 
 /// Passes a value by its layout in slots from this one on.
 #[cycle(flat)]
-pub(crate) fn lower_flat(
+fn lower_flat(
     to: &Target<'_>,
     slots: &mut [u64],
     memory: &mut [u8],

@@ -2,6 +2,7 @@
 #![tactic(auto)]
 
 mod bytes;
+mod calls;
 mod flat;
 pub mod laws;
 mod numbers;
@@ -9,4 +10,5 @@ mod storing;
 mod target;
 mod texts;
 
+pub use calls::store_call;
 pub use target::Target;

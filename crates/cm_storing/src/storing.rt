@@ -59,7 +59,7 @@ fn store_text(to: &Target<'_>, memory: &mut [u8], string: &str, at: usize, next:
 
 /// Stores a value by its layout at an address.
 #[cycle(storing)]
-pub(crate) fn store(
+fn store(
     to: &Target<'_>,
     memory: &mut [u8],
     layout: &Layout,
@@ -176,7 +176,7 @@ pub(crate) fn store_each(
 
 /// Stores the fields of a record or a tuple.
 #[cycle(storing)]
-fn store_fields(
+pub(crate) fn store_fields(
     to: &Target<'_>,
     memory: &mut [u8],
     parts: &[Part],
