@@ -8,3 +8,4 @@ pub mod FlatLemmas
 pub mod PassedLaws
 pub mod FlatLaws
 pub mod CallLemmas
+pub mod RisingLaws

@@ -10,11 +10,11 @@ use Rattle.cm_layout.specs.Sizes.{align_of, size_of}
 use Rattle.cm_abi_model.specs.FlatShows.{width_of}
 use Rattle.cm_storing.specs.FlatLowering.{ArePassedIn, IsPassedIn, PayloadsPassedIn}
 
-copies_length : (n : ℕ) (xs : List CoreKind) → length (copies n xs) ≡ n * length xs
+pub copies_length : (n : ℕ) (xs : List CoreKind) → length (copies n xs) ≡ n * length xs
 copies_length zero xs = omega arith
 copies_length (suc n) xs = let rest = copies_length n xs in omega (arith, length-append xs (copies n xs), rest)
 
-joined : (xs ys : List CoreKind) → (length xs ≤ length (join_slots xs ys)) × (length ys ≤ length (join_slots xs ys))
+pub joined : (xs ys : List CoreKind) → (length xs ≤ length (join_slots xs ys)) × (length ys ≤ length (join_slots xs ys))
 joined [] ys = (omega arith, omega arith)
 joined (x ∷ xs) [] = (omega arith, omega arith)
 joined (x ∷ xs) (y ∷ ys) = let rest = joined xs ys in (omega (arith, rest.0), omega (arith, rest.1))

@@ -1,16 +1,17 @@
 //! What storing by a layout means, as laws: each function here does nothing, and its contract is
 //! the law.
 
-ghost use Rattle.std.specs.Prelude.{◌≡◌, ◌+◌, ◌≤◌, length, ℕ};
-ghost use Rattle.cm_types.specs.Types.{Ty};
+ghost use Rattle.std.specs.Prelude.{◌≡◌, ◌+◌, ◌≤◌, List, length, ℕ};
+ghost use Rattle.cm_types.specs.Types.{Fields, Ty};
 ghost use Rattle.cm_types.specs.Values.{HasType, Val};
 ghost use Rattle.cm_layout.specs.Shapes.{shape_of_type};
 ghost use Rattle.cm_abi_model.specs.FlatShows.{width_of};
 ghost use Rattle.cm_abi_model.specs.Parts.{handle_count, part_count, parts_in};
-ghost use Rattle.cm_abi_model.specs.Receives.{behind, slots_of};
+ghost use Rattle.cm_abi_model.specs.Receives.{behind, call_kinds, call_numbers, slots_of};
 ghost use Rattle.cm_abi_model.specs.Regions.{ArePlaced};
-ghost use Rattle.cm_abi_model.specs.Requests.{stored_charset};
-ghost use Rattle.cm_abi_model.specs.Stores.{Given, stored};
+ghost use Rattle.cm_abi_model.specs.Requests.{stored_charset, tuple_of};
+ghost use Rattle.cm_abi_model.specs.Stores.{Framed, Given, Holds, poke, stored};
+ghost use Rattle.cm_abi_model.specs.Views.{Way};
 ghost use Rattle.cm_abi_model.specs.declared.encoding.StringEncoding.{StringEncoding};
 ghost use Rattle.cm_storing.specs.Fitting.{Fits};
 ghost use Rattle.cm_storing.specs.FlatLowering.{IsPassedIn, behind_by, slots_by};
@@ -49,4 +50,14 @@ pub(crate) fn placed_values_fit()
         → ArePlaced target n g k (parts_in t v)
         → k + part_count v ≤ length g.places → h + handle_count v ≤ length g.numbers
         → Fits n g (shape_of_type t) v k h }
+{}
+
+/// Where there is a slot for each core value, passing a value leaves each of its numbers in its
+/// slot, and changes no other.
+pub fn what_is_passed_stays()
+    ensures { (way : Way) (types : Fields) (g : Given) (v : Val) (slots : List ℕ)
+        → HasType (tuple_of types) v → length (call_kinds way types) ≤ length slots
+        → Holds (poke (call_numbers g way types v) slots) (call_numbers g way types v)
+        × Framed slots (poke (call_numbers g way types v) slots)
+        (call_numbers g way types v) }
 {}

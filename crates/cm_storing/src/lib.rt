@@ -4,7 +4,7 @@
 mod bytes;
 mod calls;
 mod flat;
-mod laws;
+pub mod laws;
 mod numbers;
 mod storing;
 mod target;
