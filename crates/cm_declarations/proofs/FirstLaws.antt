@@ -1,26 +1,11 @@
 -- Declarations are read one after another.
 use Rattle.std.proofs.Common.{◌≡◌, ℕ, ◌+◌, ◌<◌, List, ◌∷◌, length, get_or, map, drop, Option, Some, None, refl, sym, ap, ◌∙◌, add-one, drop-cons}
 use Rattle.std.specs.Option.{option_or}
-use Rattle.cm_types.specs.DefTypes.{DeclarationTree, type_decl, outer_type_decl, export_decl}
-use Rattle.cm_types.specs.declared.def_types.ExportDecl.{ExportDecl}
-use Rattle.cm_types.specs.declared.def_types.ExportDesc.{ExportDesc}
-use Rattle.cm_types.specs.declared.def_types.ExportDesc.TheVariants as desc
-use Rattle.cm_types.specs.declared.def_types.TypeBound.TheVariants as bound
+use Rattle.cm_types.specs.DefTypes.{DeclarationTree}
 use Rattle.cm_validate.specs.declared.fault.ValidReason.{ValidReason}
-use Rattle.cm_validity.specs.Declarations.{Scope, after_declaration, after_declarations, declaration_broken, with_export}
+use Rattle.cm_validity.specs.Declarations.{Scope, after_declaration, after_declarations, declaration_broken}
 use Rattle.cm_validity.specs.Reasons.{least}
 use Rattle.cm_declarations.specs.FirstFaults.{first_reason}
-
-export_around : (s : Scope) (name : List ℕ) (d : ExportDesc) → (with_export s name d).around ≡ s.around
-export_around s name (desc.Func i) = refl
-export_around s name (desc.Type (bound.Equal i)) = refl
-export_around s name (desc.Type bound.SubResource) = refl
-
--- the types around stay
-pub same_around : (s : Scope) (d : DeclarationTree) → (after_declaration s d).around ≡ s.around
-same_around s (type_decl t) = refl
-same_around s (outer_type_decl o) = refl
-same_around s (export_decl e) = export_around s e.name e.desc
 
 module _ {A : Type 0} (tree : A → DeclarationTree) (xs : List A) (i : ℕ) (x : A) (lt : i < length xs) (is : x ≡ get_or xs i x) where
   split : map tree (drop i xs) ≡ tree x ∷ map tree (drop (i + 1) xs)

@@ -1,11 +1,10 @@
 -- What the names of items break, by sketches of the items.
-use Rattle.std.proofs.Common.{◌≡◌, ℕ, Option, Some, None, Bool, true, false, ◌&&◌, not, List, [], ◌∷◌, ◌++◌, map, refl, sym, ap, ◌∙◌, if◌then◌else◌, codes}
-use Rattle.std.specs.List.{filter, flat_map, list_all}
+use Rattle.std.proofs.Common.{◌≡◌, ℕ, Option, Some, None, Bool, true, false, ◌&&◌, List, [], ◌∷◌, ◌++◌, map, refl, sym, ap, ◌∙◌, if◌then◌else◌, codes}
+use Rattle.std.specs.List.{flat_map, list_all}
 use Rattle.std.specs.Option.{option_map_or}
 use Rattle.std.specs.Str.{bytes_eq}
 use Rattle.std.proofs.lemmas.List.Folds.{list_all-append}
 use Rattle.cm_types.specs.ExternNames.{NameTree, plain, method, static, constructor, interface, form_of}
-use Rattle.cm_types.specs.Resources.{same_resource}
 use Rattle.cm_types.specs.Signatures.{ItemTy, NamedItem, func_item, equal_type, equal_resource, fresh_resource}
 use Rattle.cm_types.specs.Types.{Ty, Fields, FuncTy, bool, signed, unsigned, char, string, list, fixed_list, fields, cases, flags, own, borrow, no_fields, field}
 use Rattle.cm_types.specs.declared.resource.ResourceId.{ResourceId}
@@ -15,7 +14,7 @@ use Rattle.cm_validity.specs.ItemNames.{answers_own, is_owned, is_plain, is_self
 use Rattle.cm_validity.specs.ItemNames as names
 use Rattle.cm_validity.specs.Reasons.{least, lesser, unless}
 use Rattle.cm_validity.specs.TypeRules.{are_distinct_names}
-use Rattle.cm_type_sketches.specs.Faults.{besides_limits, is_before_limits, is_too_large}
+use Rattle.cm_type_sketches.specs.Faults.{is_before_limits}
 use Rattle.cm_type_sketches.specs.Sketches.{own_result, resource_borrowed, resource_owned, self_borrow, sketch_func}
 use Rattle.cm_item_names.specs.Names.{are_all_well_named, is_named_well, is_of, item_name_faults, may_name, may_name_func, resource_under}
 use Rattle.cm_item_names.specs.Sketches.{SketchedItem, named_sketch, resource_sketched, sketch_item, sketch_named}

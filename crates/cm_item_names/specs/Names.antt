@@ -1,5 +1,5 @@
 -- Which names the items of an instance may have, by sketches of the items.
-use Rattle.std.specs.Prelude.{◌≡◌, ◌++◌, ℕ, Bool, true, false, List, [], ◌∷◌, map, Option, Some}
+use Rattle.std.specs.Prelude.{◌≡◌, ◌++◌, ℕ, Bool, true, false, List, [], ◌∷◌, map, Option}
 use Rattle.std.specs.Prelude.{None, if◌then◌else◌}
 use Rattle.std.specs.List.{list_all}
 use Rattle.std.specs.Option.{option_and_then, option_map_or}
@@ -61,10 +61,12 @@ item_name_faults items =
 -- ---- resources by name
 
 -- the resource under a name
-abbrev pub resource_found : BTreeMap (String Global) (Option ResourceId) → List ℕ → Option ResourceId
+abbrev pub resource_found
+    : BTreeMap (String Global) (Option ResourceId) → List ℕ → Option ResourceId
 resource_found resources name = option_and_then (λ o. o) (get_by_text resources name)
 
 -- they are those of these items
-abbrev pub AreResources : BTreeMap (String Global) (Option ResourceId) → List SketchedItem → Type 0
+abbrev pub AreResources
+    : BTreeMap (String Global) (Option ResourceId) → List SketchedItem → Type 0
 AreResources resources items =
     (name : List ℕ) → resource_found resources name ≡ resource_under items name

@@ -24,11 +24,11 @@ fn names<'a>(alloc: Global, items: &'a [NamedSketch]) -> Result<Vec<&'a str>, Al
     Ok(names)
 }
 
-/// What the names of the items of an instance break, by sketches of the items: `DuplicateName` where
-/// two are the same without ASCII case, else `BadAnnotatedName` where one is none that its item may
-/// have, else nothing (Explainer.md, "Import and Export Definitions").
+/// What the names of the items of an instance break, by sketches of the items: `DuplicateName`
+/// where two are the same without ASCII case, else `BadAnnotatedName` where one is none that its
+/// item may have, else nothing (Explainer.md, "Import and Export Definitions").
 ///
-/// Each name is folded once, and found by a map. `AllocError` comes where there is no memory for it.
+/// Each name is folded once, and found by a map. `AllocError` comes where there is no memory.
 pub fn item_names_fault(
     alloc: Global,
     items: &[NamedSketch],

@@ -69,10 +69,7 @@ fn is_label(form: ExternNameForm<'_>) -> bool
 }
 
 /// Whether an item may have its name, in an instance with these resources.
-fn is_named_well(
-    resources: &BTreeMap<String, Option<ResourceId>>,
-    item: &NamedSketch,
-) -> bool
+fn is_named_well(resources: &BTreeMap<String, Option<ResourceId>>, item: &NamedSketch) -> bool
     ensures { (items : List SketchedItem) → AreResources resources.now items
         → result ≡ is_named_well items (sketch_named item.now) }
 {

@@ -1,6 +1,6 @@
 -- What definitions break besides the limits, by sketches; and the least reason of all, by that of those.
-use Rattle.std.proofs.Common.{◌≡◌, ℕ, ◌≤◌, ◌<◌, Bool, true, false, ◌&&◌, not, List, [], ◌∷◌, ◌++◌, length, map, nat_le, nat_lt, Option, Some, None, refl, sym, ap, ◌∙◌, slice_get, arith, if◌then◌else◌}
-use Rattle.std.specs.List.{filter, flat_map, list_all, list_any}
+use Rattle.std.proofs.Common.{◌≡◌, ℕ, Bool, true, false, ◌&&◌, not, List, [], ◌∷◌, ◌++◌, length, map, nat_le, nat_lt, Option, Some, None, refl, sym, ap, ◌∙◌, slice_get, arith, if◌then◌else◌}
+use Rattle.std.specs.List.{flat_map, list_all, list_any}
 use Rattle.std.specs.Option.{option_map}
 use Rattle.std.proofs.lemmas.Bool.{ltb-true, lt-leb, le-leb}
 use Rattle.std.proofs.lemmas.List.Elements.{filter-append}

@@ -13,16 +13,16 @@ use Rattle.cm_types.specs.declared.def_types.ValType.TheVariants as val_type
 use Rattle.cm_types.specs.declared.resource.ResourceId.{ResourceId}
 use Rattle.cm_types.specs.DefTypes.{DefValTypeTree, FuncTypeTree, primitive, record_of, variant_of, list_of, fixed_list_of, tuple_of, flags_of, enum_of, option_of, result_of, own_of, borrow_of}
 use Rattle.cm_types.specs.Holds.{holds, fields_hold, cases_hold, is_borrow}
-use Rattle.cm_types.specs.Types.{Ty, Fields, Cases, FuncTy, bool, signed, unsigned, char, string, list, fixed_list, fields, cases, flags, own, borrow, no_fields, field, no_cases, plain, carrying, FieldsKind, CasesKind, record_type, tuple_type, variant_type, enum_type, option_type, result_type}
+use Rattle.cm_types.specs.Types.{Ty, Fields, Cases, bool, signed, unsigned, char, string, list, fixed_list, fields, cases, flags, own, borrow, field, record_type, tuple_type, variant_type, option_type, result_type}
 use Rattle.cm_types.specs.TypeTrees.{case_before, plain_from}
 use Rattle.cm_validity.specs.Definitions.{TypeDef, value, func_type, resource, instance_type, faulty, sort_of, sorts_of}
-use Rattle.cm_validity.specs.Scopes.{resource_id, value_in, resource_in, value_of, both, payload_of, fields_in, parts_in, cases_in, handle_of, value_defined, func_defined, value_def_of, func_def_of, primitive_type, option_cases, result_cases}
+use Rattle.cm_validity.specs.Scopes.{resource_id, value_in, resource_in, value_of, both, payload_of, fields_in, parts_in, cases_in, value_def_of, func_def_of, primitive_type, option_cases, result_cases}
 use Rattle.cm_type_sketches.specs.declared.sketches.Sketch.{Sketch}
 use Rattle.cm_type_sketches.specs.declared.sketches.Sketch.TheVariants as sketch
 use Rattle.cm_type_sketches.specs.declared.sketches.ValueSketch.{ValueSketch}
 use Rattle.cm_type_sketches.specs.declared.sketches.ValueSketch.TheVariants as value_sketch
-use Rattle.cm_type_sketches.specs.Definitions.{value_sketched, used, is_used, holds_used, is_payload_used, payload_holds, parts_sketch, handle_sketch, value_def_sketch, are_used, self_param, result_owned, func_sketched, func_def_sketch}
-use Rattle.cm_type_sketches.specs.Sketches.{sketch_holding, sketch_value, holds_borrow, borrowed, owned, resource_borrowed, resource_owned, self_borrow, own_result, sketch_func, sketch_of, sketch_sort}
+use Rattle.cm_type_sketches.specs.Definitions.{value_sketched, used, is_used, holds_used, is_payload_used, payload_holds, parts_sketch, handle_sketch, value_def_sketch, self_param, result_owned, func_sketched, func_def_sketch}
+use Rattle.cm_type_sketches.specs.Sketches.{sketch_holding, sketch_value, holds_borrow, borrowed, owned, resource_borrowed, resource_owned, self_borrow, own_result, sketch_of, sketch_sort}
 
 -- ---- sorts
 

@@ -15,8 +15,8 @@ impl SketchLevel {
     ghost use Rattle.cm_type_sketches.specs.Levels.{sketches_of};
 
     /// What a definition of a value type breaks besides the limits: the reason with the smallest
-    /// number, or none. `AllocError` comes where there is no memory to compare labels; each is folded
-    /// and looked up once.
+    /// number, or none. `AllocError` comes where there is no memory to compare labels; each is
+    /// folded and looked up once.
     pub fn value_def_fault(
         &self,
         alloc: Global,

@@ -46,8 +46,8 @@ impl SketchLevel {
         &self.sorts
     }
 
-    /// Adds a type behind the others. `AllocError` comes where there is no memory for it; the others
-    /// then stay as they are.
+    /// Adds a type behind the others. `AllocError` comes where there is no memory for it; the
+    /// others then stay as they are.
     pub fn push(&mut self, sketch: Sketch) -> Result<(), AllocError>
         ensures pushed { OnOk result
             (sketches_of self.new ≡ sketches_of self.old ++ sketch ∷ []) }

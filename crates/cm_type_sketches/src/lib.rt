@@ -1,6 +1,6 @@
 //! Types in sketches: what the rules on the types of instances need to know of a type, and what a
-//! definition breaks besides the limits on expanded types, told by the sketches of the types that it
-//! names.
+//! definition breaks besides the limits on expanded types, told by the sketches of the types that
+//! it names.
 #![tactic(auto)]
 
 mod definitions;
