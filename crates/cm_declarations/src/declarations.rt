@@ -84,7 +84,8 @@ impl Declarations {
     /// Reads declarations, one after another, up to the first that breaks anything: answers the
     /// least reason that this one breaks; none where no one does, and then all are read.
     ///
-    /// `AllocError` comes where there is no memory, or no number for a resource.
+    /// `AllocError` comes where there is no memory, or no number for a resource. The types of the
+    /// component around stay as they are, whatever comes.
     pub fn declare_all(
         &mut self,
         alloc: Global,
@@ -97,6 +98,7 @@ impl Declarations {
             (map declaration_tree declarations.now))
             (λ _. Unit {0})) }
         ensures first { first_resource self.new ≡ first_resource self.old }
+        ensures around { (scope_so_far self.new).around ≡ (scope_so_far self.old).around }
     {
         for declaration in declarations {
             match self.declare(alloc, declaration)? {

@@ -1,1 +1,2 @@
+pub mod Sketches
 pub mod Names

@@ -1,10 +1,11 @@
-//! Which names the items of an instance may have.
+//! Which names the items of an instance may have, told by sketches of the items.
 #![tactic(auto)]
 
 mod faults;
-mod functions;
+pub mod laws;
 mod names;
 mod resources;
+mod sketches;
 
 pub use faults::item_names_fault;
-pub use names::are_well_named;
+pub use sketches::{ItemSketch, NamedSketch};

@@ -1,52 +1,58 @@
 //! The names of items.
 
-ghost use Rattle.std.specs.Prelude.{◌≡◌, ℕ, List, IfOk, length, map, true};
-ghost use Rattle.std.specs.List.{list_all};
+ghost use Rattle.std.specs.Prelude.{◌≡◌, IfOk, List, map};
 ghost use Rattle.cm_types.specs.ExternNameForms.{form_tree};
-ghost use Rattle.cm_types.specs.Funcs.{func_of};
-ghost use Rattle.cm_types.specs.Signatures.{NamedItem};
-ghost use Rattle.cm_type_arena.specs.Places.{funcs_of, types_of};
-ghost use Rattle.cm_type_scope.specs.Entries.{is_item_placed, item_of};
-ghost use Rattle.cm_validity.specs.ItemNames.{is_plain, is_well_named, may_name_func};
-ghost use Rattle.cm_item_names.specs.Names.{AreResources, are_well_named, number_named};
+ghost use Rattle.cm_validity.specs.ItemNames.{is_plain};
+ghost use Rattle.cm_item_names.specs.Names.{AreResources, are_all_well_named, may_name_func};
+ghost use Rattle.cm_item_names.specs.Names.{is_named_well, is_of, resource_found};
+ghost use Rattle.cm_item_names.specs.Sketches.{SketchedItem, sketch_named};
 
-use crate::functions::{answers_own, takes_self};
 use crate::resources::resources;
-use cm_type_arena::Types;
-use cm_type_scope::{ItemDesc, ItemEntry};
-use cm_types::{ExternNameForm, Func};
+use crate::sketches::{ItemSketch, NamedSketch};
+use cm_type_sketches::FuncSketch;
+use cm_types::{ExternNameForm, ResourceId, same_resource};
 use std::alloc::{AllocError, Global};
 use std::collections::BTreeMap;
 
-/// The number of the resource under a name, if one stands there.
-fn find(numbers: &BTreeMap<String, Option<u64>>, name: &str) -> Option<u64>
-    ensures { result ≡ number_named numbers.now name.now }
+/// Whether it is this resource.
+fn is_of(resource: ResourceId, found: Option<ResourceId>) -> bool
+    ensures { result ≡ is_of resource found }
 {
-    match numbers.get(name) {
-        Some(number) => *number,
+    match found {
+        Some(other) => same_resource(resource, other),
+        None => false,
+    }
+}
+
+/// The resource under a name, if one stands there.
+fn find(resources: &BTreeMap<String, Option<ResourceId>>, name: &str) -> Option<ResourceId>
+    ensures { result ≡ resource_found resources.now name.now }
+{
+    match resources.get(name) {
+        Some(resource) => *resource,
         None => None,
     }
 }
 
 /// Whether a function may have a name of this form, in an instance with these resources.
 fn may_name_func(
-    numbers: &BTreeMap<String, Option<u64>>,
-    func: &Func,
+    resources: &BTreeMap<String, Option<ResourceId>>,
+    func: FuncSketch,
     form: ExternNameForm<'_>,
 ) -> bool
-    ensures { (items : List NamedItem) → AreResources numbers.now items
-        → result ≡ may_name_func items (func_of func.now) (form_tree form.entry) }
+    ensures { (items : List SketchedItem) → AreResources resources.now items
+        → result ≡ may_name_func items func (form_tree form.entry) }
 {
     match form {
         ExternNameForm::Label(_) => true,
         ExternNameForm::Interface { .. } => false,
-        ExternNameForm::Static { resource, .. } => find(numbers, resource).is_some(),
-        ExternNameForm::Method { resource, .. } => match find(numbers, resource) {
-            Some(number) => takes_self(func, number),
+        ExternNameForm::Static { resource, .. } => find(resources, resource).is_some(),
+        ExternNameForm::Method { resource, .. } => match find(resources, resource) {
+            Some(found) => is_of(found, func.self_borrow),
             None => false,
         },
-        ExternNameForm::Constructor { resource } => match find(numbers, resource) {
-            Some(number) => answers_own(func, number),
+        ExternNameForm::Constructor { resource } => match find(resources, resource) {
+            Some(found) => is_of(found, func.own_result),
             None => false,
         },
     }
@@ -63,18 +69,13 @@ fn is_label(form: ExternNameForm<'_>) -> bool
 }
 
 /// Whether an item may have its name, in an instance with these resources.
-fn is_well_named(types: &Types, numbers: &BTreeMap<String, Option<u64>>, item: &ItemEntry) -> bool
-    requires placed { is_item_placed (length (types_of types.now)) (length (funcs_of types.now))
-        item.now ≡ true }
-    ensures { (items : List NamedItem) → AreResources numbers.now items
-        → result
-        ≡ is_well_named items (item_of (types_of types.now) (funcs_of types.now) item.now) }
+fn is_named_well(resources: &BTreeMap<String, Option<ResourceId>>, item: &NamedSketch) -> bool
+    ensures { (items : List SketchedItem) → AreResources resources.now items
+        → result ≡ is_named_well items (sketch_named item.now) }
 {
-    match item.desc {
-        ItemDesc::Func(place) => may_name_func(numbers, types.func(place), item.name.form()),
-        ItemDesc::EqualType(_) | ItemDesc::EqualResource(_) | ItemDesc::FreshResource(_) => {
-            is_label(item.name.form())
-        }
+    match item.item {
+        ItemSketch::Func(func) => may_name_func(resources, func, item.name.form()),
+        ItemSketch::Type | ItemSketch::Resource(_) => is_label(item.name.form()),
     }
 }
 
@@ -83,15 +84,12 @@ fn is_well_named(types: &Types, numbers: &BTreeMap<String, Option<u64>>, item: &
 /// text: of a method, whose first parameter is `self`, a borrow of it; of a constructor, which
 /// answers it owned; of a static function. Each item is looked at once, and names are found by a
 /// map. `AllocError` comes where there is no memory for it.
-pub fn are_well_named(alloc: Global, types: &Types, items: &[ItemEntry]) -> Result<bool, AllocError>
-    requires placed { list_all (is_item_placed (length (types_of types.now))
-        (length (funcs_of types.now))) items.now ≡ true }
-    ensures { IfOk result (λ b. b ≡ are_well_named
-        (map (item_of (types_of types.now) (funcs_of types.now)) items.now)) }
+pub(crate) fn are_all_well_named(alloc: Global, items: &[NamedSketch]) -> Result<bool, AllocError>
+    ensures { IfOk result (λ b. b ≡ are_all_well_named (map sketch_named items.now)) }
 {
-    let numbers = resources(alloc, items)?;
+    let resources = resources(alloc, items)?;
     for item in items {
-        if !is_well_named(types, &numbers, item) {
+        if !is_named_well(&resources, item) {
             return Ok(false);
         }
     }

@@ -10,5 +10,6 @@ abbrev pub invariant-loop-declaration : goal.invariant-loop-declaration
 invariant-loop-declaration l = record {
   fault : first_reason (scope_so_far l.self) (map declaration_tree (drop l.declaration-index l.declarations)) ≡ first_reason (scope_so_far l.fn.self) (map declaration_tree l.declarations);
   scope : after_declarations (scope_so_far l.self) (map declaration_tree (drop l.declaration-index l.declarations)) ≡ after_declarations (scope_so_far l.fn.self) (map declaration_tree l.declarations);
+  around : (scope_so_far l.self).around ≡ (scope_so_far l.fn.self).around;
   first : first_resource l.self ≡ first_resource l.fn.self;
 }

@@ -1,0 +1,3 @@
+pub mod ScopeLaws
+pub mod InstanceLaws
+pub mod PassLaws

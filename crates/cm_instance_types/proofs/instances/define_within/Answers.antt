@@ -1,0 +1,20 @@
+use Rattle.std.proofs.Common.{◌≡◌, ◌++◌, ◌∷◌, [], subst, map, IfOk, MatchOption}
+use Rattle.cm_types.specs.DefTypes.{declaration_tree}
+use Rattle.cm_validity.specs.Declarations.{instance_def_broken, instance_defined}
+use Rattle.cm_validity.specs.Definitions.{instance_type}
+use Rattle.cm_validity.specs.Reasons.{least}
+use Rattle.cm_type_scope.specs.TypeScopes.{own_types}
+use Rattle.cm_type_scope.specs.declared.scope.TypeScope.{TypeScope}
+use Rattle.cm_instance_types.proofs.instances.define_within.Goals as goal
+
+pub returns-clause-fault : goal.returns-clause-fault
+returns-clause-fault c =
+    subst (λ (s : TypeScope). IfOk c.defined-component.result.1 (λ r. r ≡ least (instance_def_broken (own_types s) c.args.next (map declaration_tree c.args.declarations.now))))
+    c.replace-component.ensures.value c.defined-component.ensures.fault
+
+pub returns-clause-defined : goal.returns-clause-defined
+returns-clause-defined c =
+    let ds = map declaration_tree c.args.declarations.now in
+    let after = c.defined-component.result.0 in
+    subst (λ (s : TypeScope). IfOk c.defined-component.result.1 (λ r. MatchOption r (own_types after ≡ own_types s ++ instance_type (instance_defined (own_types s) c.args.next ds) ∷ []) (λ _. own_types after ≡ own_types s)))
+    c.replace-component.ensures.value c.defined-component.ensures.defined

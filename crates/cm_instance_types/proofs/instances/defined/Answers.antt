@@ -1,0 +1,21 @@
+use Rattle.std.proofs.Common.{◌∙◌, ap, sym, map}
+use Rattle.cm_types.specs.DefTypes.{declaration_tree}
+use Rattle.cm_validity.specs.Declarations.{scope_in}
+use Rattle.cm_type_scope.specs.TypeScopes.{own_types}
+use Rattle.cm_declarations.specs.FirstFaults.{first_reason}
+use Rattle.cm_instance_types.proofs.InstanceLaws.{limits_broken, none_broken}
+use Rattle.cm_instance_types.proofs.instances.defined.Goals as goal
+
+pub returns-in-Ok-Some-clause-fault : goal.returns-in-Ok-Some-clause-fault
+returns-in-Ok-Some-clause-fault c =
+    let types = own_types c.args.component in
+    let ds = map declaration_tree c.args.declarations.now in
+    let first = ap (λ s. first_reason s ds) (sym c.new-reading.ensures.scope) ∙ sym c.in-Ok-Some.ensures.fault ∙ c.in-Ok-Some.field-0-is in
+    limits_broken types c.args.next ds (c.instances_are_sketched.ensures.last types c.args.next ds) (c.first_reasons.ensures.some (scope_in types c.args.next) ds c.in-Ok-Some.field-0-0 first) c.requires.within
+
+pub returns-in-Ok-clause-fault : goal.returns-in-Ok-clause-fault
+returns-in-Ok-clause-fault c =
+    let types = own_types c.args.component in
+    let ds = map declaration_tree c.args.declarations.now in
+    let first = ap (λ s. first_reason s ds) (sym c.new-reading.ensures.scope) ∙ sym c.in-Ok-None.ensures.fault ∙ c.in-Ok-None.field-0-is in
+    none_broken types c.args.next ds c.limits_come_last.ensures.others c.names_are_sketched.ensures.before (c.first_reasons.ensures.none (scope_in types c.args.next) ds first) c.requires.within

@@ -1,0 +1,2 @@
+pub mod SketchScopes
+pub mod Sketchings

@@ -1,0 +1,2 @@
+pub mod SketchLaws
+pub mod FaultLaws

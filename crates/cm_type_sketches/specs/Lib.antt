@@ -1,0 +1,4 @@
+pub mod Sketches
+pub mod Levels
+pub mod Definitions
+pub mod Faults

@@ -1,0 +1,102 @@
+//! What the rules on the types of instances need to know of a type.
+
+ghost use Rattle.std.specs.Prelude.{◌≡◌, IfOk};
+ghost use Rattle.cm_validity.specs.Scopes.{resource_id};
+ghost use Rattle.cm_type_sketches.specs.Sketches.{borrowed, holds_borrow, owned, sketch_sort};
+
+use cm_types::ResourceId;
+use cm_validity::TypeSort;
+use std::alloc::AllocError;
+
+/// What is kept of a value type: whether it is a handle, and of which resource; else whether it
+/// holds a borrow.
+#[derive(Clone, Copy)]
+pub enum ValueSketch {
+    /// No handle, and no borrow is in it.
+    Plain,
+    /// An owned handle of the resource.
+    Own(ResourceId),
+    /// A borrowed handle of the resource.
+    Borrow(ResourceId),
+    /// No handle, and a borrow is in it.
+    HoldsBorrow,
+}
+
+/// What is kept of the type of a function.
+#[derive(Clone, Copy)]
+pub struct FuncSketch {
+    /// The resource that the first parameter borrows, where that parameter is `self` and a borrow.
+    pub self_borrow: Option<ResourceId>,
+    /// The resource of which the result is an owned handle, where it is one.
+    pub own_result: Option<ResourceId>,
+}
+
+/// What is kept of what an index of a type stands for (Explainer.md, "Index Spaces").
+#[derive(Clone, Copy)]
+pub enum Sketch {
+    Value(ValueSketch),
+    Func(FuncSketch),
+    Resource(ResourceId),
+    /// The type of an instance.
+    Instance,
+    /// A definition that names what is not there, or is of another sort.
+    Faulty,
+}
+
+/// The resource of this number, of the component itself. `AllocError` comes where the number is
+/// past 4,294,967,295.
+pub fn resource_id(number: u64) -> Result<ResourceId, AllocError>
+    ensures { IfOk result (λ r. r ≡ resource_id number) }
+{
+    if number > u64::from(u32::MAX) {
+        return Err(AllocError);
+    }
+    Ok(ResourceId {
+        component: 0,
+        number: number as u32,
+    })
+}
+
+impl ValueSketch {
+    /// Whether the type is a borrow or holds one.
+    pub(crate) fn holds_borrow(self) -> bool
+        ensures { result ≡ holds_borrow self }
+    {
+        matches!(self, ValueSketch::Borrow(_) | ValueSketch::HoldsBorrow)
+    }
+
+    /// The resource of which the type is a borrow, where it is one.
+    pub(crate) fn borrowed(self) -> Option<ResourceId>
+        ensures { result ≡ borrowed self }
+    {
+        match self {
+            ValueSketch::Borrow(resource) => Some(resource),
+            _ => None,
+        }
+    }
+
+    /// The resource of which the type is an owned handle, where it is one.
+    pub(crate) fn owned(self) -> Option<ResourceId>
+        ensures { result ≡ owned self }
+    {
+        match self {
+            ValueSketch::Own(resource) => Some(resource),
+            _ => None,
+        }
+    }
+}
+
+impl Sketch {
+    /// The sort of the type.
+    pub fn sort(self) -> TypeSort
+        ensures { result ≡ sketch_sort self }
+    {
+        match self {
+            Sketch::Value(_) => TypeSort::Value,
+            Sketch::Func(_) => TypeSort::Func,
+            Sketch::Resource(_) => TypeSort::Resource,
+            Sketch::Instance => TypeSort::Instance,
+            Sketch::Faulty => TypeSort::Faulty,
+        }
+    }
+}
