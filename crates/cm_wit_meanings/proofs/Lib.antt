@@ -1,0 +1,7 @@
+mod ScopeLaws
+mod GrowthLaws
+mod FaultLaws
+mod EachLaws
+mod PushLaws
+mod TypeLaws
+mod MemberLaws

@@ -1,0 +1,13 @@
+//! What the types, definitions and functions of WIT texts stand for, as types of an arena.
+#![tactic(auto)]
+
+mod fault;
+mod members;
+mod primitives;
+mod pushing;
+mod scope;
+mod types;
+
+pub use fault::MeaningFault;
+pub use scope::{Meaning, Scope};
+pub use types::push_type;
