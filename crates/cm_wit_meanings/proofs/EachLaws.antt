@@ -54,10 +54,10 @@ module _ {A B : Type 0} (meant : A → Option B) (all : List A) where
   makes_all i now le m =
       sym m.is ∙ (ap (λ (xs : List A). behind now (each_meaning meant xs)) (drop_all i all le) ∙ ap Some (append-nil now))
 
-  module _ (made : List B → Ty) (IsPartWithin : B → Type 0) (is_part_spelled : B → Bool)
-      (within : (front : List B) (y : B) (rest : List B) → IsWithinLimits (made (front ++ y ∷ rest)) → IsPartWithin y)
-      (spelled : (front : List B) (y : B) (rest : List B) → is_part_spelled y ≡ false → is_spellable (made (front ++ y ∷ rest)) ≡ false) where
-    part_fault : (front : List B) (o : Option B) (rest : Option (List B)) (f : MeaningFault) → IsFaultOf IsPartWithin is_part_spelled o f → IsFaultIn made (behind front (in_front o rest)) f
+  module _ (IsWhole : List B → Type 0) (is_whole : List B → Bool) (IsPartWithin : B → Type 0) (is_part_spelled : B → Bool)
+      (within : (front : List B) (y : B) (rest : List B) → IsWhole (front ++ y ∷ rest) → IsPartWithin y)
+      (spelled : (front : List B) (y : B) (rest : List B) → is_part_spelled y ≡ false → is_whole (front ++ y ∷ rest) ≡ false) where
+    part_fault : (front : List B) (o : Option B) (rest : Option (List B)) (f : MeaningFault) → IsFaultOf IsPartWithin is_part_spelled o f → IsFaultOf IsWhole is_whole (behind front (in_front o rest)) f
     part_fault front None rest fault.NoSuchType h = refl
     part_fault front (Some y) rest fault.NoSuchType h = absurd cc
     part_fault front None rest fault.TooLarge h = tt
@@ -68,11 +68,11 @@ module _ {A B : Type 0} (meant : A → Option B) (all : List A) where
     part_fault front (Some y) (Some ys) fault.NotSpellable h = spelled front y ys h
     part_fault front o rest fault.Memory h = tt
 
-    pub makes_fault : (i : ℕ) (x : A) (now : List B) (f : MeaningFault) → i < length all → x ≡ get_or all i x → IsFaultOf IsPartWithin is_part_spelled (meant x) f → Makes meant all i now → IsFaultIn made (each_meaning meant all) f
+    pub makes_fault : (i : ℕ) (x : A) (now : List B) (f : MeaningFault) → i < length all → x ≡ get_or all i x → IsFaultOf IsPartWithin is_part_spelled (meant x) f → Makes meant all i now → IsFaultOf IsWhole is_whole (each_meaning meant all) f
     makes_fault i x now f lt e h m =
         let told : behind now (in_front (meant x) (each_meaning meant (drop (i + 1) all))) ≡ each_meaning meant all =
             sym (ap (λ (xs : List A). behind now (each_meaning meant xs)) (rest_from all i x lt e)) ∙ m.is in
-        subst (λ (o : Option (List B)). IsFaultIn made o f) told (part_fault now (meant x) (each_meaning meant (drop (i + 1) all)) f h)
+        subst (λ (o : Option (List B)). IsFaultOf IsWhole is_whole o f) told (part_fault now (meant x) (each_meaning meant (drop (i + 1) all)) f h)
 
 -- ---- parts of tuples
 

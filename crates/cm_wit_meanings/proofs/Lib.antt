@@ -5,3 +5,4 @@ mod EachLaws
 mod PushLaws
 mod TypeLaws
 mod MemberLaws
+mod DefinitionLaws

@@ -47,6 +47,13 @@ IsFieldWithin f = IsWithinLimits f.1
 abbrev pub is_field_spelled : TypedLabel → Bool
 is_field_spelled f = is_spellable f.1
 
+-- the same of fields together
+abbrev pub ArePartsWithin : List TypedLabel → Type 0
+ArePartsWithin fs = IsWithinLimits (record_of fs)
+
+abbrev pub are_parts_spelled : List TypedLabel → Bool
+are_parts_spelled fs = are_spellable (fields_from fs)
+
 -- the same of a payload, and of a case
 abbrev pub IsPayloadIn : Option Ty → Type 0
 IsPayloadIn p = IfSome p IsWithinLimits
@@ -129,9 +136,6 @@ fields_spelled : (front : List TypedLabel) (t : TypedLabel) (rest : List TypedLa
 fields_spelled [] t rest h = first_false (is_spellable t.1) (are_spellable (fields_from rest)) h
 fields_spelled (x ∷ xs) t rest h = both_false (is_spellable x.1) (are_spellable (fields_from (xs ++ t ∷ rest))) (fields_spelled xs t rest h)
 
-pub field_spelled : (front : List TypedLabel) (t : TypedLabel) (rest : List TypedLabel) → is_field_spelled t ≡ false → is_spellable (record_of (front ++ t ∷ rest)) ≡ false
-field_spelled front t rest h = both_false _ (are_spellable (fields_from (front ++ t ∷ rest))) (fields_spelled front t rest h)
-
 payload_first : (most depth : ℕ) (l : List ℕ) (p : Option Ty) (rest : List CaseOf) → nodes_of_cases (cases_from ((l, p) ∷ rest)) ≤ most → depth_of_cases (cases_from ((l, p) ∷ rest)) ≤ depth → IfSome p (IsWithin most depth)
 payload_first most depth l None rest n d = tt
 payload_first most depth l (Some t) rest n d = (omega (arith, n), omega (arith, d))
@@ -182,8 +186,8 @@ module _ (sc : code_scope.Scope) (texts : List typed_code.Typed) (first now : Ty
   pub fields_next : (next : Types) (x : typed_code.Typed) (d : FieldDef) (new : List FieldDef) → i < length texts → x ≡ get_or texts i x → field_meant (scope_in (types_of now) sc) x ≡ Some (field_def_type (types_of next) d) → d.ty < length (types_of next) → Extends (types_of now) (types_of next) → funcs_of next ≡ funcs_of now → new ≡ done ++ d ∷ [] → PushedFields sc texts first (i + 1) next new
   fields_next = pushed_more field_meant field_def_type is_field_below sc texts first now placed i done h field_kept (λ m n d le q. below_more m n d.ty le q)
 
-  pub fields_fault : (x : typed_code.Typed) (f : MeaningFault) → i < length texts → x ≡ get_or texts i x → IsFaultOf IsFieldWithin is_field_spelled (field_meant (scope_in (types_of now) sc) x) f → IsFaultIn record_of (each_meaning (typed_meaning (scope_in (types_of first) sc)) (map typed_tree texts)) f
-  fields_fault x f lt is e = subst (λ (o : Option (List TypedLabel)). IsFaultIn record_of o f) (each_view (typed_meaning (scope_in (types_of first) sc)) typed_tree texts) (pushed_fault field_meant field_def_type is_field_below sc texts first now placed i done h record_of IsFieldWithin is_field_spelled field_within field_spelled x f lt is e)
+  pub fields_fault : (x : typed_code.Typed) (f : MeaningFault) → i < length texts → x ≡ get_or texts i x → IsFaultOf IsFieldWithin is_field_spelled (field_meant (scope_in (types_of now) sc) x) f → IsFaultOf ArePartsWithin are_parts_spelled (each_meaning (typed_meaning (scope_in (types_of first) sc)) (map typed_tree texts)) f
+  fields_fault x f lt is e = subst (λ (o : Option (List TypedLabel)). IsFaultOf ArePartsWithin are_parts_spelled o f) (each_view (typed_meaning (scope_in (types_of first) sc)) typed_tree texts) (pushed_fault field_meant field_def_type is_field_below sc texts first now placed i done h ArePartsWithin are_parts_spelled IsFieldWithin is_field_spelled field_within fields_spelled x f lt is e)
 
   pub fields_all : length texts ≤ i → each_meaning (typed_meaning (scope_in (types_of first) sc)) (map typed_tree texts) ≡ Some (map (field_def_type (types_of now)) done)
   fields_all le = sym (each_view (typed_meaning (scope_in (types_of first) sc)) typed_tree texts) ∙ pushed_all (field_meant (scope_in (types_of first) sc)) field_def_type is_field_below texts first now i done le h
@@ -201,7 +205,7 @@ module _ (sc : code_scope.Scope) (texts : List case_code.Case) (first now : Type
   cases_next = pushed_more case_meant case_def_type is_case_below sc texts first now placed i done h case_kept (λ m n d le q. option_more m n d.payload le q)
 
   pub cases_fault : (x : case_code.Case) (f : MeaningFault) → i < length texts → x ≡ get_or texts i x → IsFaultOf IsCaseWithin is_case_spelled (case_meant (scope_in (types_of now) sc) x) f → IsFaultIn variant_of (each_meaning (case_meaning (scope_in (types_of first) sc)) (map case_tree texts)) f
-  cases_fault x f lt is e = subst (λ (o : Option (List CaseOf)). IsFaultIn variant_of o f) (each_view (case_meaning (scope_in (types_of first) sc)) case_tree texts) (pushed_fault case_meant case_def_type is_case_below sc texts first now placed i done h variant_of IsCaseWithin is_case_spelled case_within case_spelled x f lt is e)
+  cases_fault x f lt is e = subst (λ (o : Option (List CaseOf)). IsFaultIn variant_of o f) (each_view (case_meaning (scope_in (types_of first) sc)) case_tree texts) (pushed_fault case_meant case_def_type is_case_below sc texts first now placed i done h (λ cs. IsWithinLimits (variant_of cs)) (λ cs. is_spellable (variant_of cs)) IsCaseWithin is_case_spelled case_within case_spelled x f lt is e)
 
   pub cases_all : length texts ≤ i → each_meaning (case_meaning (scope_in (types_of first) sc)) (map case_tree texts) ≡ Some (map (case_def_type (types_of now)) done)
   cases_all le = sym (each_view (case_meaning (scope_in (types_of first) sc)) case_tree texts) ∙ pushed_all (case_meant (scope_in (types_of first) sc)) case_def_type is_case_below texts first now i done le h

@@ -67,9 +67,9 @@ module _ {A B D : Type 0} (meant : Scope → A → Option B) (view : List Ty →
     pushed_more next x d new lt is e q g f n =
         pushed_next (meant (scope_in (types_of first) sc)) view IsThere texts first kept more now next i x d done new lt is (ap (λ (s : Scope). meant s x) (sym pushed_scope) ∙ e) q g f n h
 
-  module _ (made : List B → Ty) (IsPartWithin : B → Type 0) (is_part_spelled : B → Bool)
-      (within : (front : List B) (y : B) (rest : List B) → IsWithinLimits (made (front ++ y ∷ rest)) → IsPartWithin y)
-      (spelled : (front : List B) (y : B) (rest : List B) → is_part_spelled y ≡ false → is_spellable (made (front ++ y ∷ rest)) ≡ false) where
-    pub pushed_fault : (x : A) (f : MeaningFault) → i < length texts → x ≡ get_or texts i x → IsFaultOf IsPartWithin is_part_spelled (meant (scope_in (types_of now) sc) x) f → IsFaultIn made (each_meaning (meant (scope_in (types_of first) sc)) texts) f
+  module _ (IsWhole : List B → Type 0) (is_whole : List B → Bool) (IsPartWithin : B → Type 0) (is_part_spelled : B → Bool)
+      (within : (front : List B) (y : B) (rest : List B) → IsWhole (front ++ y ∷ rest) → IsPartWithin y)
+      (spelled : (front : List B) (y : B) (rest : List B) → is_part_spelled y ≡ false → is_whole (front ++ y ∷ rest) ≡ false) where
+    pub pushed_fault : (x : A) (f : MeaningFault) → i < length texts → x ≡ get_or texts i x → IsFaultOf IsPartWithin is_part_spelled (meant (scope_in (types_of now) sc) x) f → IsFaultOf IsWhole is_whole (each_meaning (meant (scope_in (types_of first) sc)) texts) f
     pushed_fault x f lt is e =
-        makes_fault (meant (scope_in (types_of first) sc)) texts made IsPartWithin is_part_spelled within spelled i x (map (view (types_of now)) done) f lt is (subst (λ (s : Scope). IsFaultOf IsPartWithin is_part_spelled (meant s x) f) pushed_scope e) h.makes
+        makes_fault (meant (scope_in (types_of first) sc)) texts IsWhole is_whole IsPartWithin is_part_spelled within spelled i x (map (view (types_of now)) done) f lt is (subst (λ (s : Scope). IsFaultOf IsPartWithin is_part_spelled (meant s x) f) pushed_scope e) h.makes

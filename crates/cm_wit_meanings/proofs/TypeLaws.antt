@@ -72,7 +72,7 @@ module _ (sc : code_scope.Scope) (texts : List WitType) (first now : Types) (pla
   pub types_fault : (x : WitType) (f : MeaningFault) → i < length texts → x ≡ get_or texts i x → IsTypeFault (meaning (scope_in (types_of now) sc) (type_tree x)) f → IsFaultIn tuple_of (meanings (scope_in (types_of first) sc) (types_from (map type_tree texts))) f
   types_fault x f lt is e =
       let told : IsTypeFault (text_meaning sc first x) f = subst (λ (s : Scope). IsTypeFault (meaning s (type_tree x)) f) same_scope e in
-      subst (λ (o : Option (List Ty)). IsFaultIn tuple_of o f) (types_each (scope_in (types_of first) sc) texts) (makes_fault (text_meaning sc first) texts tuple_of IsWithinLimits is_spellable part_within part_spelled i x (map (type_at (types_of now)) places) f lt is told h.is.makes)
+      subst (λ (o : Option (List Ty)). IsFaultIn tuple_of o f) (types_each (scope_in (types_of first) sc) texts) (makes_fault (text_meaning sc first) texts (λ ts. IsWithinLimits (tuple_of ts)) (λ ts. is_spellable (tuple_of ts)) IsWithinLimits is_spellable part_within part_spelled i x (map (type_at (types_of now)) places) f lt is told h.is.makes)
 
   pub types_all : length texts ≤ i → meanings (scope_in (types_of first) sc) (types_from (map type_tree texts)) ≡ Some (map (type_at (types_of now)) places)
   types_all le = sym (types_each (scope_in (types_of first) sc) texts) ∙ pushed_all (text_meaning sc first) type_at is_below texts first now i places le h.is

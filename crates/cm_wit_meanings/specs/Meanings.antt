@@ -100,9 +100,9 @@ case_meaning s c = option_map (λ p. (c.name, p)) (payload_meaning s c.ty)
 abbrev pub def_meaning : Scope → ResourceId → TypeDef → Option Meaning
 def_meaning s r (tree.alias t) = option_map value (meaning s t)
 def_meaning s r (tree.record_of fs) =
-    option_map (λ ts. value (record_of ts)) (each_meaning (typed_meaning s) fs)
+    option_map value (option_map record_of (each_meaning (typed_meaning s) fs))
 def_meaning s r (tree.variant cs) =
-    option_map (λ ts. value (variant_of ts)) (each_meaning (case_meaning s) cs)
+    option_map value (option_map variant_of (each_meaning (case_meaning s) cs))
 def_meaning s r (tree.enum names) = Some (value (cases enum_type (plain_from names)))
 def_meaning s r (tree.flags names) = Some (value (flags names))
 def_meaning s r (tree.resource fs) = Some (resource r)

@@ -10,7 +10,7 @@ ghost use Rattle.cm_type_arena.specs.TypeDefs.{IsBelow, case_def_type, field_def
 ghost use Rattle.cm_wit_types.specs.TypeViews.{type_tree};
 ghost use Rattle.cm_wit_types.specs.SignatureViews.{typed_tree};
 ghost use Rattle.cm_wit_text.specs.Views.{case_tree};
-ghost use Rattle.cm_wit_meanings.specs.Faults.{IsFaultIn, IsFaultOf};
+ghost use Rattle.cm_wit_meanings.specs.Faults.{AreFieldsFault, IsFaultIn, IsFaultOf, IsPayloadFault};
 ghost use Rattle.cm_wit_meanings.specs.Meanings.{case_meaning, each_meaning, payload_meaning};
 ghost use Rattle.cm_wit_meanings.specs.Meanings.{record_of, typed_meaning, variant_of};
 ghost use Rattle.cm_wit_meanings.specs.Places.{ArePlaced, Extends, scope_in};
@@ -61,7 +61,7 @@ pub fn push_fields(
         each_meaning (typed_meaning (scope_in (types_of types.old) scope.now))
         (map typed_tree texts.now)
         ≡ Some (map (field_def_type (types_of types.new)) fs.items)) }
-    ensures fault { IfErr result (IsFaultIn record_of
+    ensures fault { IfErr result (AreFieldsFault
         (each_meaning (typed_meaning (scope_in (types_of types.old) scope.now))
         (map typed_tree texts.now))) }
     ensures grown { Extends (types_of types.old) (types_of types.new) }
@@ -91,8 +91,7 @@ pub fn push_payload(
         payload_meaning (scope_in (types_of types.old) scope.now) (option_map type_tree text.now)
         ≡ Some (option_map (type_at (types_of types.new)) p)) }
     ensures fault { IfErr result
-        (IsFaultOf (λ p. IfSome p IsWithinLimits) is_spellable_payload
-        (payload_meaning (scope_in (types_of types.old) scope.now)
+        (IsPayloadFault (payload_meaning (scope_in (types_of types.old) scope.now)
         (option_map type_tree text.now))) }
     ensures grown { Extends (types_of types.old) (types_of types.new) }
     ensures funcs { funcs_of types.new ≡ funcs_of types.old }
