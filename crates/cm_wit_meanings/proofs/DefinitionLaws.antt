@@ -1,5 +1,5 @@
 -- What definitions stand for.
-use Rattle.std.proofs.Common.{◌≡◌, ℕ, ◌<◌, ◌≤◌, Bool, true, false, ◌&&◌, List, [], ◌∷◌, ◌++◌, length, map, Option, Some, None, IfSome, IfOk, IfErr, refl, sym, ap, subst, ◌∙◌, arith, Result, Ok, Err}
+use Rattle.std.proofs.Common.{◌≡◌, ℕ, List, Option, Some, None, refl, ap}
 use Rattle.std.specs.Option.{option_map}
 use Rattle.cm_types.specs.Types.{Ty}
 use Rattle.cm_types.specs.TypeTrees.{TypedLabel, CaseOf, fields_from}
@@ -9,10 +9,10 @@ use Rattle.cm_type_arena.specs.TypeDefs.{type_at}
 use Rattle.cm_wit_meanings.specs.declared.fault.MeaningFault.{MeaningFault}
 use Rattle.cm_wit_meanings.specs.declared.fault.MeaningFault.TheVariants as fault
 use Rattle.cm_wit_meanings.specs.declared.scope.Meaning.TheVariants as meant
-use Rattle.cm_wit_meanings.specs.Scopes.{Meaning, value, resource, as_type}
+use Rattle.cm_wit_meanings.specs.Scopes.{value, as_type}
 use Rattle.cm_wit_meanings.specs.Places.{meaning_in}
 use Rattle.cm_wit_meanings.specs.Meanings.{record_of, variant_of}
-use Rattle.cm_wit_meanings.specs.Faults.{IsFaultOf, IsFaultIn, IsTypeFault, AreFieldsFault}
+use Rattle.cm_wit_meanings.specs.Faults.{IsFaultIn, IsTypeFault, AreFieldsFault}
 use Rattle.cm_wit_meanings.proofs.FaultLaws.{both_false, made_fault}
 use Rattle.cm_wit_meanings.proofs.GrowthLaws.{extends_same, extends_more}
 use Rattle.cm_wit_meanings.proofs.MemberLaws.{mapped_fault}

@@ -1,19 +1,19 @@
 -- What several things stand for, one after another.
-use Rattle.std.proofs.Common.{◌≡◌, ℕ, zero, suc, ◌<◌, ◌≤◌, ◌+◌, max, Bool, true, false, ◌&&◌, List, [], ◌∷◌, ◌++◌, length, map, drop, get_or, Option, Some, None, IfSome, refl, sym, ap, ◌∙◌, arith, append-nil, append_assoc, drop-cons, add-one, subst}
+use Rattle.std.proofs.Common.{◌≡◌, ℕ, suc, ◌<◌, ◌≤◌, ◌+◌, Bool, false, List, [], ◌∷◌, ◌++◌, length, map, drop, get_or, Option, Some, None, refl, sym, ap, ◌∙◌, arith, append-nil, append_assoc, drop-cons, add-one, subst}
 use Rattle.std.specs.Option.{option_map, option_and_then}
 use Rattle.std.proofs.lemmas.List.{drop_all}
-use Rattle.cm_types.specs.Types.{Ty, Fields, Cases, fields, cases, no_fields, field, no_cases, plain, carrying}
-use Rattle.cm_types.specs.TypeTrees.{TypedLabel, CaseOf, fields_from, parts_from, cases_from, case_before}
-use Rattle.cm_types.specs.Limits.{IsWithin, IsWithinLimits, nodes_of, depth_of, nodes_of_fields, depth_of_fields, nodes_of_cases, depth_of_cases}
-use Rattle.cm_types.specs.Spellable.{is_spellable, are_spellable, are_spellable_payloads, is_spellable_payload, has_no_fields, has_no_cases}
+use Rattle.cm_types.specs.Types.{Ty}
+use Rattle.cm_types.specs.TypeTrees.{parts_from}
+use Rattle.cm_types.specs.Limits.{IsWithin, IsWithinLimits, nodes_of_fields, depth_of_fields}
+use Rattle.cm_types.specs.Spellable.{is_spellable, are_spellable}
 use Rattle.cm_wit_types.specs.declared.types.WitType.{WitType}
 use Rattle.cm_wit_types.specs.Types.{types_from}
 use Rattle.cm_wit_types.specs.TypeViews.{type_tree}
 use Rattle.cm_wit_meanings.specs.declared.fault.MeaningFault.{MeaningFault}
 use Rattle.cm_wit_meanings.specs.declared.fault.MeaningFault.TheVariants as fault
 use Rattle.cm_wit_meanings.specs.Scopes.{Scope}
-use Rattle.cm_wit_meanings.specs.Meanings.{each_meaning, meaning, meanings, record_of, tuple_of, variant_of}
-use Rattle.cm_wit_meanings.specs.Faults.{IsFaultOf, IsTypeFault, IsFaultIn}
+use Rattle.cm_wit_meanings.specs.Meanings.{each_meaning, meaning, meanings, tuple_of}
+use Rattle.cm_wit_meanings.specs.Faults.{IsFaultOf}
 use Rattle.cm_wit_meanings.proofs.FaultLaws.{both_false, first_false}
 
 -- these behind those
@@ -46,8 +46,8 @@ module _ {A B : Type 0} (meant : A → Option B) (all : List A) where
   pub makes_next : (i : ℕ) (x : A) (y : B) (now : List B) → i < length all → x ≡ get_or all i x → meant x ≡ Some y → Makes meant all i now → Makes meant all (i + 1) (now ++ y ∷ [])
   makes_next i x y now lt e p m = record {
     is = behind_one now y (each_meaning meant (drop (i + 1) all))
-      ∙ (sym (ap (λ (o : Option B). behind now (in_front o (each_meaning meant (drop (i + 1) all)))) p)
-      ∙ (sym (ap (λ (xs : List A). behind now (each_meaning meant xs)) (rest_from all i x lt e)) ∙ m.is));
+        ∙ (sym (ap (λ (o : Option B). behind now (in_front o (each_meaning meant (drop (i + 1) all)))) p)
+        ∙ (sym (ap (λ (xs : List A). behind now (each_meaning meant xs)) (rest_from all i x lt e)) ∙ m.is));
   }
 
   pub makes_all : (i : ℕ) (now : List B) → length all ≤ i → Makes meant all i now → each_meaning meant all ≡ Some now
@@ -71,7 +71,7 @@ module _ {A B : Type 0} (meant : A → Option B) (all : List A) where
     pub makes_fault : (i : ℕ) (x : A) (now : List B) (f : MeaningFault) → i < length all → x ≡ get_or all i x → IsFaultOf IsPartWithin is_part_spelled (meant x) f → Makes meant all i now → IsFaultOf IsWhole is_whole (each_meaning meant all) f
     makes_fault i x now f lt e h m =
         let told : behind now (in_front (meant x) (each_meaning meant (drop (i + 1) all))) ≡ each_meaning meant all =
-            sym (ap (λ (xs : List A). behind now (each_meaning meant xs)) (rest_from all i x lt e)) ∙ m.is in
+        sym (ap (λ (xs : List A). behind now (each_meaning meant xs)) (rest_from all i x lt e)) ∙ m.is in
         subst (λ (o : Option (List B)). IsFaultOf IsWhole is_whole o f) told (part_fault now (meant x) (each_meaning meant (drop (i + 1) all)) f h)
 
 -- ---- parts of tuples

@@ -1,15 +1,14 @@
 -- Faults of parts are faults of the whole.
-use Rattle.std.proofs.Common.{◌≡◌, ℕ, zero, suc, ◌<◌, ◌≤◌, ◌+◌, ◌*◌, max, Bool, true, false, ◌&&◌, nat_lt, List, [], ◌∷◌, ◌++◌, Option, Some, None, IfSome, refl, sym, ap, ◌∙◌, arith, inl, inr}
+use Rattle.std.proofs.Common.{◌≡◌, ℕ, ◌≤◌, ◌*◌, max, Bool, true, false, ◌&&◌, nat_lt, Option, Some, None, refl, ap, arith}
 use Rattle.std.proofs.Math.Nat.{le-mul_of_pos_right, mul_comm}
 use Rattle.std.specs.Option.{option_map, option_and_then}
-use Rattle.cm_types.specs.Types.{Ty, Fields, Cases, list, fixed_list, fields, cases, tuple_type, record_type, variant_type}
-use Rattle.cm_types.specs.TypeTrees.{TypedLabel, CaseOf, fields_from, parts_from, cases_from, case_before}
-use Rattle.cm_types.specs.Limits.{IsWithin, IsWithinLimits, nodes_of, depth_of, nodes_of_fields, depth_of_fields, nodes_of_cases, depth_of_cases}
-use Rattle.cm_types.specs.Spellable.{is_spellable, are_spellable, are_spellable_payloads, is_spellable_payload, has_no_fields, has_no_cases}
+use Rattle.cm_types.specs.Types.{Ty, list, fixed_list}
+use Rattle.cm_types.specs.Limits.{IsWithinLimits, nodes_of}
+use Rattle.cm_types.specs.Spellable.{is_spellable}
 use Rattle.cm_wit_meanings.specs.declared.fault.MeaningFault.{MeaningFault}
 use Rattle.cm_wit_meanings.specs.declared.fault.MeaningFault.TheVariants as fault
-use Rattle.cm_wit_meanings.specs.Meanings.{option_of, result_of, record_of, tuple_of, variant_of}
-use Rattle.cm_wit_meanings.specs.Faults.{IsFaultOf, IsTypeFault, IsFaultIn}
+use Rattle.cm_wit_meanings.specs.Meanings.{option_of, result_of}
+use Rattle.cm_wit_meanings.specs.Faults.{IsTypeFault, IsFaultIn}
 
 pub both_false : (a b : Bool) → b ≡ false → (a && b) ≡ false
 both_false true b h = h

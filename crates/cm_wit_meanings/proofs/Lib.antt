@@ -6,3 +6,4 @@ mod PushLaws
 mod TypeLaws
 mod MemberLaws
 mod DefinitionLaws
+mod FuncLaws

@@ -1,10 +1,9 @@
 -- What fields and cases stand for.
-use Rattle.std.proofs.Common.{◌≡◌, ℕ, zero, suc, ◌<◌, ◌≤◌, ◌+◌, max, Bool, true, false, ◌&&◌, List, [], ◌∷◌, ◌++◌, length, map, get_or, Option, Some, None, IfSome, IfOk, IfErr, refl, sym, ap, subst, ◌∙◌, arith, Result, Ok, Err}
-use Rattle.std.specs.Option.{option_map, option_and_then}
-use Rattle.std.specs.List.{AllByRecursion}
-use Rattle.cm_types.specs.Types.{Ty, FuncTy, fields, cases}
+use Rattle.std.proofs.Common.{◌≡◌, ℕ, ◌<◌, ◌≤◌, ◌+◌, Bool, false, List, [], ◌∷◌, ◌++◌, length, map, get_or, Option, Some, None, IfSome, refl, sym, ap, subst, ◌∙◌, arith}
+use Rattle.std.specs.Option.{option_map}
+use Rattle.cm_types.specs.Types.{Ty}
 use Rattle.cm_types.specs.TypeTrees.{TypedLabel, CaseOf, fields_from, cases_from}
-use Rattle.cm_types.specs.Limits.{IsWithin, IsWithinLimits, nodes_of, depth_of, nodes_of_fields, depth_of_fields, nodes_of_cases, depth_of_cases}
+use Rattle.cm_types.specs.Limits.{IsWithin, IsWithinLimits, nodes_of_fields, depth_of_fields, nodes_of_cases, depth_of_cases}
 use Rattle.cm_types.specs.Spellable.{is_spellable, are_spellable, are_spellable_payloads, is_spellable_payload}
 use Rattle.cm_type_arena.specs.Places.{types_of, funcs_of}
 use Rattle.cm_type_arena.specs.TypeDefs.{type_at, field_def_type, case_def_type, IsBelow}

@@ -1,18 +1,16 @@
 -- Adding what several texts stand for, one after another.
-use Rattle.std.proofs.Common.{◌≡◌, ℕ, zero, suc, ◌<◌, ◌≤◌, ◌+◌, Bool, false, List, [], ◌∷◌, ◌++◌, length, map, get_or, Option, Some, None, IfSome, refl, sym, ap, subst, ◌∙◌, arith, append-nil}
+use Rattle.std.proofs.Common.{◌≡◌, ℕ, ◌<◌, ◌≤◌, ◌+◌, Bool, false, List, [], ◌∷◌, ◌++◌, length, map, get_or, Option, Some, refl, sym, ap, subst, ◌∙◌}
 use Rattle.std.specs.List.{AllByRecursion}
 use Rattle.std.proofs.lemmas.List.{map-append}
-use Rattle.cm_types.specs.Types.{Ty, FuncTy}
+use Rattle.cm_types.specs.Types.{Ty}
 use Rattle.cm_type_arena.specs.Places.{types_of, funcs_of}
 use Rattle.cm_type_arena.specs.declared.types.Types.{Types}
 use Rattle.cm_wit_meanings.specs.declared.fault.MeaningFault.{MeaningFault}
 use Rattle.cm_wit_meanings.specs.Meanings.{each_meaning}
-use Rattle.cm_types.specs.Limits.{IsWithinLimits}
-use Rattle.cm_types.specs.Spellable.{is_spellable}
 use Rattle.cm_wit_meanings.specs.declared.scope.Scope as code_scope
 use Rattle.cm_wit_meanings.specs.Scopes.{Scope}
 use Rattle.cm_wit_meanings.specs.Places.{Extends, ArePlaced, scope_in}
-use Rattle.cm_wit_meanings.specs.Faults.{IsFaultOf, IsFaultIn}
+use Rattle.cm_wit_meanings.specs.Faults.{IsFaultOf}
 use Rattle.cm_wit_meanings.proofs.ScopeLaws.{scope_kept, scope_placed}
 use Rattle.cm_wit_meanings.proofs.GrowthLaws.{extends_same, extends_more, extends_length}
 use Rattle.cm_wit_meanings.proofs.EachLaws.{Makes, makes_none, makes_next, makes_all, makes_fault}
@@ -40,7 +38,7 @@ module _ {A B D : Type 0} (meant : A → Option B) (view : List Ty → D → B) 
     pub pushed_next : (now next : Types) (i : ℕ) (x : A) (d : D) (made new : List D) → i < length texts → x ≡ get_or texts i x → meant x ≡ Some (view (types_of next) d) → IsThere (length (types_of next)) d → Extends (types_of now) (types_of next) → funcs_of next ≡ funcs_of now → new ≡ made ++ d ∷ [] → Pushed meant view IsThere texts first i now made → Pushed meant view IsThere texts first (i + 1) next new
     pushed_next now next i x d made new lt is p q e f n h =
         let told : map (view (types_of next)) new ≡ map (view (types_of now)) made ++ view (types_of next) d ∷ [] =
-            ap (map (view (types_of next))) n ∙ (map-append (view (types_of next)) made (d ∷ []) ∙ ap (λ (bs : List B). bs ++ view (types_of next) d ∷ []) (all_kept (types_of now) (types_of next) made e h.there)) in
+        ap (map (view (types_of next))) n ∙ (map-append (view (types_of next)) made (d ∷ []) ∙ ap (λ (bs : List B). bs ++ view (types_of next) d ∷ []) (all_kept (types_of now) (types_of next) made e h.there)) in
         record {
           makes = subst (λ (bs : List B). Makes meant texts (i + 1) bs) (sym told) (makes_next meant texts i x (view (types_of next) d) (map (view (types_of now)) made) lt is p h.makes);
           there = subst (λ (ds : List D). AllByRecursion (IsThere (length (types_of next))) ds) (sym n) (all_more (length (types_of now)) (length (types_of next)) made d (extends_length (types_of now) (types_of next) e) h.there q);

@@ -1,14 +1,11 @@
 -- What scopes find, also among more types.
-use Rattle.std.proofs.Common.{◌≡◌, ℕ, zero, suc, ◌<◌, ◌≤◌, List, [], ◌∷◌, ◌++◌, length, map, get_or, Option, Some, None, IfSome, refl, sym, ap, ◌∙◌, arith, slice_get, slice_index_or, length-append, append-nil, append_assoc}
-use Rattle.std.specs.List.{AllByRecursion}
-use Rattle.std.specs.Option.{option_map, option_and_then}
-use Rattle.std.proofs.lemmas.List.{get_or_append_left, get_or_push}
-use Rattle.cm_types.specs.Types.{Ty, bool}
-use Rattle.cm_type_arena.specs.TypeDefs.{type_at}
+use Rattle.std.proofs.Common.{◌≡◌, ℕ, zero, suc, ◌≤◌, List, [], ◌∷◌, length, Option, Some, None, IfSome, refl, ap, slice_index_or}
+use Rattle.std.specs.Option.{option_map}
+use Rattle.cm_types.specs.Types.{Ty}
 use Rattle.cm_wit_meanings.specs.declared.scope.Meaning as code
 use Rattle.cm_wit_meanings.specs.declared.scope.Meaning.TheVariants as meant
 use Rattle.cm_wit_meanings.specs.declared.scope.Scope as code_scope
-use Rattle.cm_wit_meanings.specs.Scopes.{Meaning, Scope, value, resource, scope_at}
+use Rattle.cm_wit_meanings.specs.Scopes.{Meaning, value, scope_at}
 use Rattle.cm_keys.specs.Listed.{listed}
 use Rattle.cm_wit_meanings.proofs.GrowthLaws.{extends_length, place_kept, below_more}
 use Rattle.cm_wit_meanings.specs.Places.{meaning_in, table_in, scope_in, IsPlaced, ArePlaced, Extends}

@@ -1,15 +1,11 @@
 -- What type texts stand for.
-use Rattle.std.proofs.Common.{◌≡◌, ℕ, zero, suc, ◌<◌, ◌≤◌, ◌+◌, List, [], ◌∷◌, ◌++◌, length, map, get_or, Option, Some, None, IfSome, IfOk, IfErr, refl, sym, ap, subst, ◌∙◌, arith, length-append, append-nil, append_assoc, Result, Ok, Err, OnOk, OnErr, Box, Global, rules}
-use Rattle.std.specs.Option.{option_map, option_and_then}
-use Rattle.std.specs.List.{AllByRecursion}
-use Rattle.cm_types.specs.Types.{Ty, bool}
+use Rattle.std.proofs.Common.{◌≡◌, ℕ, ◌<◌, ◌≤◌, ◌+◌, List, [], ◌∷◌, ◌++◌, length, map, get_or, Option, Some, None, IfOk, IfErr, refl, sym, ap, subst, ◌∙◌, Result, Ok, Err, Box, Global, rules}
+use Rattle.std.specs.Option.{option_map}
+use Rattle.cm_types.specs.Types.{Ty}
 use Rattle.cm_type_arena.specs.TypeDefs.{type_at}
 use Rattle.cm_wit_meanings.specs.declared.fault.MeaningFault.{MeaningFault}
-use Rattle.cm_wit_meanings.specs.declared.fault.MeaningFault.TheVariants as fault
-use Rattle.cm_wit_meanings.specs.declared.scope.Meaning as code
-use Rattle.cm_wit_meanings.specs.declared.scope.Meaning.TheVariants as meant
-use Rattle.cm_wit_meanings.specs.Scopes.{Meaning, Scope, value, resource, scope_at, as_type, as_resource}
-use Rattle.cm_wit_meanings.specs.Places.{meaning_in, table_in, scope_in, IsPlaced, ArePlaced, Extends}
+use Rattle.cm_wit_meanings.specs.Scopes.{Scope}
+use Rattle.cm_wit_meanings.specs.Places.{scope_in, ArePlaced, Extends}
 use Rattle.cm_types.specs.Limits.{IsWithinLimits}
 use Rattle.cm_types.specs.Spellable.{is_spellable}
 use Rattle.cm_type_arena.specs.Places.{types_of, funcs_of}
@@ -24,12 +20,12 @@ use Rattle.cm_wit_meanings.specs.Meanings.{meaning, meanings, result_of, tuple_o
 use Rattle.cm_wit_meanings.specs.Faults.{IsTypeFault, IsFaultIn}
 use Rattle.cm_wit_meanings.proofs.GrowthLaws.{place_kept, below_more}
 use Rattle.cm_wit_meanings.proofs.ScopeLaws.{scope_kept, scope_placed}
-use Rattle.cm_wit_meanings.proofs.EachLaws.{Makes, makes_fault, part_within, part_spelled, types_each}
+use Rattle.cm_wit_meanings.proofs.EachLaws.{makes_fault, part_within, part_spelled, types_each}
 use Rattle.cm_wit_meanings.proofs.PushLaws.{Pushed, pushed_none, pushed_next, pushed_all}
-use Rattle.cm_wit_meanings.proofs.GrowthLaws.{extends_same, extends_more}
+use Rattle.cm_wit_meanings.proofs.GrowthLaws.{extends_same, extends_more, arena_within}
 use Rattle.cm_wit_meanings.proofs.FaultLaws.{list_fault, fixed_fault, option_fault, ok_fault, error_fault, left_fault, right_fault, made_fault, both_of}
 
-pub ruleset name_laws = (extends_same, extends_more)
+pub ruleset name_laws = (extends_same, extends_more, arena_within)
 
 -- what was made of the type that a text stands for
 pub made_type : {A : Type 0} (made : A → Ty) (o : Option A) (x : A) (types : List Ty) (r : Result ℕ MeaningFault) → o ≡ Some x → IfOk r (λ p. type_at types p ≡ made x) → IfOk r (λ p. option_map made o ≡ Some (type_at types p))
@@ -40,7 +36,7 @@ pub unmade_type : {A : Type 0} (made : A → Ty) (o : Option A) (x : A) (r : Res
 unmade_type made o x (Ok p) e h = tt
 unmade_type made o x (Err f) e h = subst (λ (m : Option Ty). IsTypeFault m f) (sym (ap (option_map made) e)) h
 
-pub ruleset type_laws = (extends_same, extends_more, made_type, unmade_type, list_fault, fixed_fault, option_fault, ok_fault, error_fault, left_fault, right_fault, made_fault)
+pub ruleset type_laws = (arena_within, extends_same, extends_more, made_type, unmade_type, list_fault, fixed_fault, option_fault, ok_fault, error_fault, left_fault, right_fault, made_fault)
 
 -- ---- the types of several texts
 

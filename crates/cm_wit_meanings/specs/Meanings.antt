@@ -1,12 +1,14 @@
--- What the types, definitions and functions of WIT texts stand for in a scope (WIT.md, "Item: `ty`",
--- "Item: `func`" and "Item: `type`"). Nothing stands for one with a name that stands for no type.
-use Rattle.std.specs.Prelude.{ℕ, List, [], ◌∷◌, Option, Some, None, codes}
+-- What the types, definitions and functions of WIT texts stand for in a scope (WIT.md, "Item:
+-- `ty`", "Item: `func`" and "Item: `type`"). Where a name in one stands for no type, it stands for
+-- nothing.
+use Rattle.std.specs.Prelude.{List, [], ◌∷◌, Option, Some, None, codes}
 use Rattle.std.specs.Option.{option_map, option_and_then}
 use Rattle.cm_types.specs.declared.resource.ResourceId.{ResourceId}
 use Rattle.cm_types.specs.Types.{Ty, FuncTy, bool, signed, unsigned, char, string, list}
 use Rattle.cm_types.specs.Types.{fixed_list, fields, cases, flags, own, borrow, record_type}
 use Rattle.cm_types.specs.Types.{tuple_type, variant_type, enum_type, option_type, result_type}
-use Rattle.cm_types.specs.Types.{field, no_cases, plain, carrying, bits_8, bits_16, bits_32, bits_64}
+use Rattle.cm_types.specs.Types.{field, no_cases, plain, carrying, bits_8, bits_16, bits_32}
+use Rattle.cm_types.specs.Types.{bits_64}
 use Rattle.cm_types.specs.TypeTrees.{TypedLabel, CaseOf, fields_from, parts_from, cases_from}
 use Rattle.cm_types.specs.TypeTrees.{plain_from, case_before}
 use Rattle.cm_wit_types.specs.declared.types.Primitive.{Primitive}

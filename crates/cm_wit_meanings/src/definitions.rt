@@ -2,6 +2,7 @@
 
 ghost use Rattle.std.specs.Prelude.{◌≡◌, ◌<◌, IfOk, IfErr, Some, length, map};
 ghost use Rattle.std.specs.Option.{option_map};
+ghost use Rattle.cm_types.specs.Limits.{IsWithinLimits};
 ghost use Rattle.cm_type_arena.specs.Places.{funcs_of, types_of};
 ghost use Rattle.cm_type_arena.specs.TypeDefs.{type_at};
 ghost use Rattle.cm_wit_types.specs.SignatureViews.{typed_tree};
@@ -36,6 +37,7 @@ fn push_record(
     ensures meaning { IfOk result (λ p. option_map record_of
         (each_meaning (typed_meaning (scope_in (types_of types.old) scope.now))
         (map typed_tree texts.now)) ≡ Some (type_at (types_of types.new) p)) }
+    ensures within { IfOk result (λ p. IsWithinLimits (type_at (types_of types.new) p)) }
     ensures fault { IfErr result (IsTypeFault (option_map record_of
         (each_meaning (typed_meaning (scope_in (types_of types.old) scope.now))
         (map typed_tree texts.now)))) }
@@ -59,6 +61,7 @@ fn push_variant(
     ensures meaning { IfOk result (λ p. option_map variant_of
         (each_meaning (case_meaning (scope_in (types_of types.old) scope.now))
         (map case_tree texts.now)) ≡ Some (type_at (types_of types.new) p)) }
+    ensures within { IfOk result (λ p. IsWithinLimits (type_at (types_of types.new) p)) }
     ensures fault { IfErr result (IsTypeFault (option_map variant_of
         (each_meaning (case_meaning (scope_in (types_of types.old) scope.now))
         (map case_tree texts.now)))) }
@@ -90,6 +93,8 @@ pub fn push_def(
     ensures meaning { IfOk result (λ m.
         def_meaning (scope_in (types_of types.old) scope.now) resource (type_def_tree text.now)
         ≡ Some (meaning_in (types_of types.new) m)) }
+    ensures within { IfOk result (λ m.
+        IsWithinLimits (as_type (meaning_in (types_of types.new) m))) }
     ensures fault { IfErr result (IsFaultIn as_type
         (def_meaning (scope_in (types_of types.old) scope.now) resource (type_def_tree text.now))) }
     ensures grown { Extends (types_of types.old) (types_of types.new) }

@@ -3,7 +3,7 @@
 
 mod definitions;
 mod fault;
-
+mod functions;
 mod members;
 mod primitives;
 mod pushing;
@@ -12,6 +12,6 @@ mod types;
 
 pub use definitions::push_def;
 pub use fault::MeaningFault;
-
+pub use functions::{push_func, push_resource_func};
 pub use scope::{Meaning, Scope};
 pub use types::push_type;

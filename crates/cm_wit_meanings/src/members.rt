@@ -10,7 +10,8 @@ ghost use Rattle.cm_type_arena.specs.TypeDefs.{IsBelow, case_def_type, field_def
 ghost use Rattle.cm_wit_types.specs.TypeViews.{type_tree};
 ghost use Rattle.cm_wit_types.specs.SignatureViews.{typed_tree};
 ghost use Rattle.cm_wit_text.specs.Views.{case_tree};
-ghost use Rattle.cm_wit_meanings.specs.Faults.{AreFieldsFault, IsFaultIn, IsFaultOf, IsPayloadFault};
+ghost use Rattle.cm_wit_meanings.specs.Faults.{AreFieldsFault, IsFaultIn, IsFaultOf};
+ghost use Rattle.cm_wit_meanings.specs.Faults.{IsPayloadFault};
 ghost use Rattle.cm_wit_meanings.specs.Meanings.{case_meaning, each_meaning, payload_meaning};
 ghost use Rattle.cm_wit_meanings.specs.Meanings.{record_of, typed_meaning, variant_of};
 ghost use Rattle.cm_wit_meanings.specs.Places.{ArePlaced, Extends, scope_in};

@@ -3,6 +3,7 @@
 ghost use Rattle.std.specs.Prelude.{◌≡◌, ◌<◌, IfOk, IfErr, Some, length, map};
 ghost use Rattle.std.specs.List.{AllByRecursion};
 ghost use Rattle.std.specs.Option.{option_map};
+ghost use Rattle.cm_types.specs.Limits.{IsWithinLimits};
 ghost use Rattle.cm_type_arena.specs.Places.{funcs_of, types_of};
 ghost use Rattle.cm_type_arena.specs.TypeDefs.{IsBelow, type_at};
 ghost use Rattle.cm_wit_types.specs.Types.{borrow, named, types_from};
@@ -31,6 +32,7 @@ fn push_named(
     ensures there { IfOk result (λ p. p < length (types_of types.new)) }
     ensures meaning { IfOk result (λ p. meaning (scope_in (types_of types.old) scope.now)
         (named name.now) ≡ Some (type_at (types_of types.new) p)) }
+    ensures within { IfOk result (λ p. IsWithinLimits (type_at (types_of types.new) p)) }
     ensures fault { IfErr result (IsTypeFault
         (meaning (scope_in (types_of types.old) scope.now) (named name.now))) }
     ensures grown { Extends (types_of types.old) (types_of types.new) }
@@ -53,6 +55,7 @@ fn push_borrow(
     ensures there { IfOk result (λ p. p < length (types_of types.new)) }
     ensures meaning { IfOk result (λ p. meaning (scope_in (types_of types.old) scope.now)
         (borrow name.now) ≡ Some (type_at (types_of types.new) p)) }
+    ensures within { IfOk result (λ p. IsWithinLimits (type_at (types_of types.new) p)) }
     ensures fault { IfErr result (IsTypeFault
         (meaning (scope_in (types_of types.old) scope.now) (borrow name.now))) }
     ensures grown { Extends (types_of types.old) (types_of types.new) }
@@ -78,6 +81,7 @@ fn push_result(
     ensures ty { IfOk result (λ p. type_at (types_of types.new) p
         ≡ result_of (option_map (type_at (types_of types.old)) ok)
         (option_map (type_at (types_of types.old)) error)) }
+    ensures within { IfOk result (λ p. IsWithinLimits (type_at (types_of types.new) p)) }
     ensures fault { IfErr result (IsTypeFault (Some
         (result_of (option_map (type_at (types_of types.old)) ok)
         (option_map (type_at (types_of types.old)) error)))) }
@@ -87,7 +91,14 @@ fn push_result(
     push(alloc, types, TypeDef::Result { ok, error })
 }
 
-/// Adds the type that a text stands for, and the types in it, and answers its place.
+/// Adds the type that a text stands for, and the types in it, and answers its place: where the text
+/// is a name of a type, or a primitive type, nothing is added.
+///
+/// The names in it are looked up in the scope. `NoSuchType` comes where one stands for no type, or
+/// that of a borrow for no resource; `TooLarge` where a type would not be within the limits;
+/// `NotSpellable` where no file could spell one; and `Memory` where there is no memory. Then some
+/// of the types in it may have been added; earlier types stay as they are. It costs the text's own
+/// length and a look-up for each of its names: nothing below them is walked.
 #[cycle(types)]
 #[tactic(auto, using(crate::proofs::TypeLaws::type_laws))]
 pub fn push_type(
@@ -100,6 +111,7 @@ pub fn push_type(
     ensures there { IfOk result (λ p. p < length (types_of types.new)) }
     ensures meaning { IfOk result (λ p. meaning (scope_in (types_of types.old) scope.now)
         (type_tree text.now) ≡ Some (type_at (types_of types.new) p)) }
+    ensures within { IfOk result (λ p. IsWithinLimits (type_at (types_of types.new) p)) }
     ensures fault { IfErr result (IsTypeFault
         (meaning (scope_in (types_of types.old) scope.now) (type_tree text.now))) }
     ensures grown { Extends (types_of types.old) (types_of types.new) }
@@ -160,7 +172,8 @@ fn push_types(
         (types_from (map type_tree texts.now))
         ≡ Some (map (type_at (types_of types.new)) places.items)) }
     ensures fault { IfErr result (IsFaultIn tuple_of
-        (meanings (scope_in (types_of types.old) scope.now) (types_from (map type_tree texts.now)))) }
+        (meanings (scope_in (types_of types.old) scope.now)
+        (types_from (map type_tree texts.now)))) }
     ensures grown { Extends (types_of types.old) (types_of types.new) }
     ensures funcs { funcs_of types.new ≡ funcs_of types.old }
 {

@@ -1,16 +1,16 @@
-use Rattle.std.proofs.Common.{rules, ◌≡◌, ap, sym, subst, ◌∙◌, arith, length, Some}
+use Rattle.std.proofs.Common.{rules, ◌≡◌, ap, sym, subst, ◌∙◌, arith, Some}
 use Rattle.cm_types.specs.Types.{Ty}
 use Rattle.cm_wit_types.specs.declared.types.WitType.{WitType, the_lemmas}
 use Rattle.cm_wit_types.specs.TypeViews.{type_tree}
-use Rattle.cm_type_arena.specs.Places.{types_of, funcs_of}
+use Rattle.cm_type_arena.specs.Places.{types_of}
 use Rattle.cm_type_arena.specs.TypeDefs.{type_at}
-use Rattle.cm_wit_meanings.specs.Meanings.{meaning, meanings, result_of, tuple_of}
+use Rattle.cm_wit_meanings.specs.Meanings.{meaning, result_of}
 use Rattle.cm_wit_meanings.specs.Scopes.{Scope}
 use Rattle.cm_wit_meanings.proofs.GrowthLaws.{place_kept}
 use Rattle.cm_wit_meanings.specs.Places.{scope_in}
 use Rattle.cm_wit_meanings.specs.Faults.{IsTypeFault}
 use Rattle.cm_wit_meanings.proofs.ScopeLaws.{scope_kept, scope_placed}
-use Rattle.cm_wit_meanings.proofs.TypeLaws.{fixed_refused, ok_refused, left_refused, right_refused, both_made, made_same, unmade_same, types_none, types_placed, types_next, types_fault, types_all}
+use Rattle.cm_wit_meanings.proofs.TypeLaws.{fixed_refused, ok_refused, left_refused, right_refused, both_made, made_same, unmade_same, types_next, types_fault, types_all}
 use Rattle.cm_wit_meanings.proofs.types.+types.Goals as goal
 
 pub push_type-returns-in_err-element-in-FixedList-clause-fault : goal.push_type-returns-in_err-element-in-FixedList-clause-fault

@@ -1,9 +1,8 @@
-use Rattle.std.proofs.Common.{rules, ◌≡◌, ap, sym, ◌∙◌, length, IfOk, Some, Option}
+use Rattle.std.proofs.Common.{rules, ap, sym}
 use Rattle.std.specs.Option.{option_map, option_and_then}
 use Rattle.cm_types.specs.Types.{borrow}
 use Rattle.cm_type_arena.specs.Places.{types_of}
-use Rattle.cm_wit_meanings.specs.Scopes.{Meaning, as_resource}
-use Rattle.cm_wit_meanings.specs.Places.{meaning_in, IsPlaced}
+use Rattle.cm_wit_meanings.specs.Scopes.{as_resource}
 use Rattle.cm_wit_meanings.proofs.types.push_borrow.Goals as goal
 
 pub returns-in-Some-Resource-clause-meaning : goal.returns-in-Some-Resource-clause-meaning
