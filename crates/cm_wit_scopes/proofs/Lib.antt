@@ -1,0 +1,2 @@
+mod AgreeLaws
+mod TableLaws
