@@ -1,2 +1,3 @@
 mod AgreeLaws
 mod TableLaws
+mod ResourceLaws
