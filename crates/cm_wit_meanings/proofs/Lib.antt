@@ -1,0 +1,9 @@
+mod ScopeLaws
+mod GrowthLaws
+mod FaultLaws
+mod EachLaws
+mod PushLaws
+mod TypeLaws
+mod MemberLaws
+mod DefinitionLaws
+mod FuncLaws

@@ -1,0 +1,4 @@
+pub mod Scopes
+pub mod Meanings
+pub mod Faults
+pub mod Places

@@ -1,0 +1,117 @@
+//! What definitions stand for.
+
+ghost use Rattle.std.specs.Prelude.{◌≡◌, ◌<◌, IfOk, IfErr, Some, length, map};
+ghost use Rattle.std.specs.Option.{option_map};
+ghost use Rattle.cm_types.specs.Limits.{IsWithinLimits};
+ghost use Rattle.cm_type_arena.specs.Places.{funcs_of, types_of};
+ghost use Rattle.cm_type_arena.specs.TypeDefs.{type_at};
+ghost use Rattle.cm_wit_types.specs.SignatureViews.{typed_tree};
+ghost use Rattle.cm_wit_text.specs.Views.{case_tree, type_def_tree};
+ghost use Rattle.cm_wit_meanings.specs.Faults.{IsFaultIn, IsTypeFault};
+ghost use Rattle.cm_wit_meanings.specs.Meanings.{case_meaning, def_meaning, each_meaning};
+ghost use Rattle.cm_wit_meanings.specs.Meanings.{record_of, typed_meaning, variant_of};
+ghost use Rattle.cm_wit_meanings.specs.Places.{ArePlaced, Extends, IsPlaced, meaning_in, scope_in};
+ghost use Rattle.cm_wit_meanings.specs.Scopes.{as_type};
+
+use crate::fault::MeaningFault;
+use crate::members::{push_cases, push_fields};
+use crate::pushing::push;
+use crate::scope::{Meaning, Scope};
+use crate::types::push_type;
+use cm_type_arena::{TypeDef as ArenaDef, Types};
+use cm_types::ResourceId;
+use cm_wit_text::{Case, TypeDef};
+use cm_wit_types::Typed;
+use std::alloc::Global;
+
+/// Adds the type of records with these fields, and answers its place.
+#[tactic(auto, using(crate::proofs::DefinitionLaws::whole_laws))]
+fn push_record(
+    alloc: Global,
+    types: &mut Types,
+    scope: &Scope<'_>,
+    texts: &[Typed],
+) -> Result<usize, MeaningFault>
+    requires placed { ArePlaced (length (types_of types.old)) scope.now.table.now }
+    ensures there { IfOk result (λ p. p < length (types_of types.new)) }
+    ensures meaning { IfOk result (λ p. option_map record_of
+        (each_meaning (typed_meaning (scope_in (types_of types.old) scope.now))
+        (map typed_tree texts.now)) ≡ Some (type_at (types_of types.new) p)) }
+    ensures within { IfOk result (λ p. IsWithinLimits (type_at (types_of types.new) p)) }
+    ensures fault { IfErr result (IsTypeFault (option_map record_of
+        (each_meaning (typed_meaning (scope_in (types_of types.old) scope.now))
+        (map typed_tree texts.now)))) }
+    ensures grown { Extends (types_of types.old) (types_of types.new) }
+    ensures funcs { funcs_of types.new ≡ funcs_of types.old }
+{
+    let fields = push_fields(alloc, types, scope, texts)?;
+    push(alloc, types, ArenaDef::Record(fields))
+}
+
+/// Adds the type of variants with these cases, and answers its place.
+#[tactic(auto, using(crate::proofs::DefinitionLaws::whole_laws))]
+fn push_variant(
+    alloc: Global,
+    types: &mut Types,
+    scope: &Scope<'_>,
+    texts: &[Case],
+) -> Result<usize, MeaningFault>
+    requires placed { ArePlaced (length (types_of types.old)) scope.now.table.now }
+    ensures there { IfOk result (λ p. p < length (types_of types.new)) }
+    ensures meaning { IfOk result (λ p. option_map variant_of
+        (each_meaning (case_meaning (scope_in (types_of types.old) scope.now))
+        (map case_tree texts.now)) ≡ Some (type_at (types_of types.new) p)) }
+    ensures within { IfOk result (λ p. IsWithinLimits (type_at (types_of types.new) p)) }
+    ensures fault { IfErr result (IsTypeFault (option_map variant_of
+        (each_meaning (case_meaning (scope_in (types_of types.old) scope.now))
+        (map case_tree texts.now)))) }
+    ensures grown { Extends (types_of types.old) (types_of types.new) }
+    ensures funcs { funcs_of types.new ≡ funcs_of types.old }
+{
+    let cases = push_cases(alloc, types, scope, texts)?;
+    push(alloc, types, ArenaDef::Variant(cases))
+}
+
+/// Adds the type that a definition stands for, and the types in it, and answers what its name
+/// stands for: a type by its place, or, where it defines a resource, the resource that it is given.
+///
+/// The names in it are looked up in the scope. `NoSuchType` comes where one stands for no type, or
+/// that of a borrow for no resource; `TooLarge` where a type would not be within the limits;
+/// `NotSpellable` where no file could spell one; and `Memory` where there is no memory. Then some
+/// of the types in it may have been added; earlier types stay as they are. It costs the
+/// definition's own length and a look-up for each of its names: nothing below them is walked.
+#[tactic(auto, using(crate::proofs::DefinitionLaws::def_laws))]
+pub fn push_def(
+    alloc: Global,
+    types: &mut Types,
+    scope: &Scope<'_>,
+    resource: ResourceId,
+    text: &TypeDef,
+) -> Result<Meaning, MeaningFault>
+    requires placed { ArePlaced (length (types_of types.old)) scope.now.table.now }
+    ensures there { IfOk result (IsPlaced (length (types_of types.new))) }
+    ensures meaning { IfOk result (λ m.
+        def_meaning (scope_in (types_of types.old) scope.now) resource (type_def_tree text.now)
+        ≡ Some (meaning_in (types_of types.new) m)) }
+    ensures within { IfOk result (λ m.
+        IsWithinLimits (as_type (meaning_in (types_of types.new) m))) }
+    ensures fault { IfErr result (IsFaultIn as_type
+        (def_meaning (scope_in (types_of types.old) scope.now) resource (type_def_tree text.now))) }
+    ensures grown { Extends (types_of types.old) (types_of types.new) }
+    ensures funcs { funcs_of types.new ≡ funcs_of types.old }
+{
+    match text {
+        TypeDef::Alias(text) => Ok(Meaning::Value(push_type(alloc, types, scope, text)?)),
+        TypeDef::Record(fields) => Ok(Meaning::Value(push_record(alloc, types, scope, fields)?)),
+        TypeDef::Variant(cases) => Ok(Meaning::Value(push_variant(alloc, types, scope, cases)?)),
+        TypeDef::Enum(names) => {
+            let names = names.clone()?;
+            Ok(Meaning::Value(push(alloc, types, ArenaDef::Enum(names))?))
+        }
+        TypeDef::Flags(names) => {
+            let names = names.clone()?;
+            Ok(Meaning::Value(push(alloc, types, ArenaDef::Flags(names))?))
+        }
+        TypeDef::Resource(_) => Ok(Meaning::Resource(resource)),
+    }
+}

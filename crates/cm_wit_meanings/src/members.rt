@@ -1,0 +1,158 @@
+//! What the fields, cases and parameters of texts stand for.
+
+ghost use Rattle.std.specs.Prelude.{◌≡◌, ◌<◌, IfOk, IfErr, IfSome, Some, length, map};
+ghost use Rattle.std.specs.List.{AllByRecursion};
+ghost use Rattle.std.specs.Option.{option_map};
+ghost use Rattle.cm_types.specs.Limits.{IsWithinLimits};
+ghost use Rattle.cm_types.specs.Spellable.{is_spellable, is_spellable_payload};
+ghost use Rattle.cm_type_arena.specs.Places.{funcs_of, types_of};
+ghost use Rattle.cm_type_arena.specs.TypeDefs.{IsBelow, case_def_type, field_def_type, type_at};
+ghost use Rattle.cm_wit_types.specs.TypeViews.{type_tree};
+ghost use Rattle.cm_wit_types.specs.SignatureViews.{typed_tree};
+ghost use Rattle.cm_wit_text.specs.Views.{case_tree};
+ghost use Rattle.cm_wit_meanings.specs.Faults.{AreFieldsFault, IsFaultIn, IsFaultOf};
+ghost use Rattle.cm_wit_meanings.specs.Faults.{IsPayloadFault};
+ghost use Rattle.cm_wit_meanings.specs.Meanings.{case_meaning, each_meaning, payload_meaning};
+ghost use Rattle.cm_wit_meanings.specs.Meanings.{record_of, typed_meaning, variant_of};
+ghost use Rattle.cm_wit_meanings.specs.Places.{ArePlaced, Extends, scope_in};
+
+use crate::fault::MeaningFault;
+use crate::scope::Scope;
+use crate::types::push_type;
+use cm_type_arena::{CaseDef, FieldDef, Types};
+use cm_wit_text::Case;
+use cm_wit_types::{Typed, WitType};
+use std::alloc::Global;
+
+/// Adds the type of a field, and answers the field with its place.
+#[tactic(auto, using(crate::proofs::MemberLaws::field_laws))]
+fn push_field(
+    alloc: Global,
+    types: &mut Types,
+    scope: &Scope<'_>,
+    text: &Typed,
+) -> Result<FieldDef, MeaningFault>
+    requires placed { ArePlaced (length (types_of types.old)) scope.now.table.now }
+    ensures there { IfOk result (λ f. f.ty < length (types_of types.new)) }
+    ensures meaning { IfOk result (λ f.
+        typed_meaning (scope_in (types_of types.old) scope.now) (typed_tree text.now)
+        ≡ Some (field_def_type (types_of types.new) f)) }
+    ensures fault { IfErr result
+        (IsFaultOf (λ f. IsWithinLimits f.1) (λ f. is_spellable f.1)
+        (typed_meaning (scope_in (types_of types.old) scope.now) (typed_tree text.now))) }
+    ensures grown { Extends (types_of types.old) (types_of types.new) }
+    ensures funcs { funcs_of types.new ≡ funcs_of types.old }
+{
+    let label = text.name.clone()?;
+    let ty = push_type(alloc, types, scope, &text.ty)?;
+    Ok(FieldDef { label, ty })
+}
+
+/// Adds the types of fields or parameters, and answers these with their places.
+pub fn push_fields(
+    alloc: Global,
+    types: &mut Types,
+    scope: &Scope<'_>,
+    texts: &[Typed],
+) -> Result<Vec<FieldDef>, MeaningFault>
+    requires placed { ArePlaced (length (types_of types.old)) scope.now.table.now }
+    ensures there { IfOk result (λ fs.
+        AllByRecursion (λ f. f.ty < length (types_of types.new)) fs.items) }
+    ensures meaning { IfOk result (λ fs.
+        each_meaning (typed_meaning (scope_in (types_of types.old) scope.now))
+        (map typed_tree texts.now)
+        ≡ Some (map (field_def_type (types_of types.new)) fs.items)) }
+    ensures fault { IfErr result (AreFieldsFault
+        (each_meaning (typed_meaning (scope_in (types_of types.old) scope.now))
+        (map typed_tree texts.now))) }
+    ensures grown { Extends (types_of types.old) (types_of types.new) }
+    ensures funcs { funcs_of types.new ≡ funcs_of types.old }
+{
+    let mut fields = Vec::new(alloc);
+    for text in texts {
+        let field = push_field(alloc, types, scope, text)?;
+        if fields.push(field).is_err() {
+            return Err(MeaningFault::Memory);
+        }
+    }
+    Ok(fields)
+}
+
+/// Adds the type of a payload or a result, if there is one, and answers its place.
+#[tactic(auto, using(crate::proofs::MemberLaws::payload_laws))]
+pub fn push_payload(
+    alloc: Global,
+    types: &mut Types,
+    scope: &Scope<'_>,
+    text: &Option<WitType>,
+) -> Result<Option<usize>, MeaningFault>
+    requires placed { ArePlaced (length (types_of types.old)) scope.now.table.now }
+    ensures there { IfOk result (IsBelow (length (types_of types.new))) }
+    ensures meaning { IfOk result (λ p.
+        payload_meaning (scope_in (types_of types.old) scope.now) (option_map type_tree text.now)
+        ≡ Some (option_map (type_at (types_of types.new)) p)) }
+    ensures fault { IfErr result
+        (IsPayloadFault (payload_meaning (scope_in (types_of types.old) scope.now)
+        (option_map type_tree text.now))) }
+    ensures grown { Extends (types_of types.old) (types_of types.new) }
+    ensures funcs { funcs_of types.new ≡ funcs_of types.old }
+{
+    match text {
+        None => Ok(None),
+        Some(text) => Ok(Some(push_type(alloc, types, scope, text)?)),
+    }
+}
+
+/// Adds the type of a case's payload, if it carries one, and answers the case with its place.
+#[tactic(auto, using(crate::proofs::MemberLaws::case_laws))]
+fn push_case(
+    alloc: Global,
+    types: &mut Types,
+    scope: &Scope<'_>,
+    text: &Case,
+) -> Result<CaseDef, MeaningFault>
+    requires placed { ArePlaced (length (types_of types.old)) scope.now.table.now }
+    ensures there { IfOk result (λ c. IsBelow (length (types_of types.new)) c.payload) }
+    ensures meaning { IfOk result (λ c.
+        case_meaning (scope_in (types_of types.old) scope.now) (case_tree text.now)
+        ≡ Some (case_def_type (types_of types.new) c)) }
+    ensures fault { IfErr result
+        (IsFaultOf (λ c. IfSome c.1 IsWithinLimits) (λ c. is_spellable_payload c.1)
+        (case_meaning (scope_in (types_of types.old) scope.now) (case_tree text.now))) }
+    ensures grown { Extends (types_of types.old) (types_of types.new) }
+    ensures funcs { funcs_of types.new ≡ funcs_of types.old }
+{
+    let label = text.name.clone()?;
+    let payload = push_payload(alloc, types, scope, &text.ty)?;
+    Ok(CaseDef { label, payload })
+}
+
+/// Adds the types of the payloads of cases, and answers these with their places.
+pub fn push_cases(
+    alloc: Global,
+    types: &mut Types,
+    scope: &Scope<'_>,
+    texts: &[Case],
+) -> Result<Vec<CaseDef>, MeaningFault>
+    requires placed { ArePlaced (length (types_of types.old)) scope.now.table.now }
+    ensures there { IfOk result (λ cs.
+        AllByRecursion (λ c. IsBelow (length (types_of types.new)) c.payload) cs.items) }
+    ensures meaning { IfOk result (λ cs.
+        each_meaning (case_meaning (scope_in (types_of types.old) scope.now))
+        (map case_tree texts.now)
+        ≡ Some (map (case_def_type (types_of types.new)) cs.items)) }
+    ensures fault { IfErr result (IsFaultIn variant_of
+        (each_meaning (case_meaning (scope_in (types_of types.old) scope.now))
+        (map case_tree texts.now))) }
+    ensures grown { Extends (types_of types.old) (types_of types.new) }
+    ensures funcs { funcs_of types.new ≡ funcs_of types.old }
+{
+    let mut cases = Vec::new(alloc);
+    for text in texts {
+        let case = push_case(alloc, types, scope, text)?;
+        if cases.push(case).is_err() {
+            return Err(MeaningFault::Memory);
+        }
+    }
+    Ok(cases)
+}

@@ -1,0 +1,32 @@
+//! Adding a definition to the types of an arena.
+
+ghost use Rattle.std.specs.Prelude.{◌≡◌, ◌<◌, IfOk, IfErr, Some, length};
+ghost use Rattle.cm_types.specs.Limits.{IsWithinLimits};
+ghost use Rattle.cm_type_arena.specs.Places.{HasParts, funcs_of, types_of};
+ghost use Rattle.cm_type_arena.specs.TypeDefs.{def_type, type_at};
+ghost use Rattle.cm_wit_meanings.specs.Faults.{IsTypeFault};
+ghost use Rattle.cm_wit_meanings.specs.Places.{Extends};
+
+use crate::fault::MeaningFault;
+use cm_type_arena::{DefFault, TypeDef, Types};
+use std::alloc::Global;
+
+/// Adds a type, and answers its place.
+#[tactic(auto, using(crate::proofs::GrowthLaws::push_laws))]
+pub fn push(alloc: Global, types: &mut Types, def: TypeDef) -> Result<usize, MeaningFault>
+    requires parts { HasParts (length (types_of types.old)) def }
+    ensures there { IfOk result (λ p. p < length (types_of types.new)) }
+    ensures ty { IfOk result (λ p.
+        type_at (types_of types.new) p ≡ def_type (types_of types.old) def) }
+    ensures within { IfOk result (λ p. IsWithinLimits (type_at (types_of types.new) p)) }
+    ensures fault { IfErr result (IsTypeFault (Some (def_type (types_of types.old) def))) }
+    ensures grown { Extends (types_of types.old) (types_of types.new) }
+    ensures funcs { funcs_of types.new ≡ funcs_of types.old }
+{
+    match types.push(alloc, def) {
+        Ok(place) => Ok(place),
+        Err(DefFault::TooLarge) => Err(MeaningFault::TooLarge),
+        Err(DefFault::NotSpellable) => Err(MeaningFault::NotSpellable),
+        Err(DefFault::Memory) => Err(MeaningFault::Memory),
+    }
+}

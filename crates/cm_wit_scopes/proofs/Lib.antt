@@ -1,0 +1,3 @@
+mod AgreeLaws
+mod TableLaws
+mod ResourceLaws

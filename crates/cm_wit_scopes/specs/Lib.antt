@@ -1,0 +1,4 @@
+pub mod Declarations
+pub mod Tables
+pub mod Worlds
+pub mod TypeFaults
