@@ -1,28 +1,27 @@
 -- The numbers that pass a value fit the kinds of their slots.
-use Rattle.std.proofs.Common.{◌≡◌, ℕ, zero, suc, ◌+◌, ◌*◌, ◌/◌, ◌^◌, ◌<◌, ◌≤◌, Bool, true, false, List, [], ◌∷◌, ◌++◌, length, refl, sym, ap, ◌∙◌, arith, length-append, ℤ, pos, negsuc}
+use Rattle.std.proofs.Common.{◌≡◌, ℕ, zero, suc, ◌+◌, ◌^◌, ◌<◌, ◌≤◌, Bool, true, false, List, [], ◌∷◌, ◌++◌, length, refl, sym, arith, ℤ, pos, negsuc}
 use Rattle.std.proofs.lemmas.Bool.{and_parts, leb-true}
 use Rattle.std.proofs.lemmas.Int.{ints}
 use Rattle.std.proofs.Math.Pow.{pow_mono}
-use Rattle.std.specs.Prelude.{⊤, nat_lt, slice_index, slice_set, if◌then◌else◌}
+use Rattle.std.specs.Prelude.{⊤, slice_index, slice_set, if◌then◌else◌}
 use Rattle.cm_types.specs.declared.core_value.CoreKind.{CoreKind}
 use Rattle.cm_types.specs.declared.core_value.CoreKind.TheVariants as kind
 use Rattle.cm_types.specs.Spellable.{are_spellable, are_spellable_payloads, is_spellable}
-use Rattle.cm_types.specs.Types.{Ty, Fields, Cases, Width, width_bytes, bits_8, bits_16, bits_32, bits_64, bool, signed, unsigned, char, string, list, fixed_list, fields, cases, flags, own, borrow, no_fields, field, no_cases, plain, carrying}
+use Rattle.cm_types.specs.Types.{Ty, Fields, Cases, Width, bits_8, bits_16, bits_32, bits_64, bool, signed, unsigned, char, string, list, fixed_list, fields, cases, flags, own, borrow, no_fields, field, no_cases, plain, carrying}
 use Rattle.cm_types.specs.Values.{Val, Vals, no_vals, val, truth, signed_number, number, scalar, text, elements, parts, bare, bearing, flag_set, handle, count_of, AllVals, FitsSignedWidth, FitsWidth, HasType, HaveTypes, IsCarriedCase}
 use Rattle.cm_layout.specs.Flattening.{copies, flat_of, flat_of_cases, flat_of_fields, join, join_slots, number_kind}
 use Rattle.cm_layout.specs.Sizes.{align_of, size_of}
 use Rattle.cm_abi_model.specs.declared.encoding.StringEncoding.{StringEncoding}
 use Rattle.cm_abi_model.specs.FlatShows.{width_of}
-use Rattle.cm_abi_model.specs.Parts.{AllCasesFit, CasesFit, Part, element_part, handle_count, part_count, parts_each, parts_in, parts_in_fields, parts_in_payload}
+use Rattle.cm_abi_model.specs.Parts.{AllCasesFit, CasesFit, element_part, handle_count, part_count, parts_each, parts_in, parts_in_fields, parts_in_payload}
 use Rattle.cm_abi_model.specs.Receives.{Serves, call_kinds, call_numbers, put, slot_bytes, slots_of, slots_of_fields, slots_of_payload}
 use Rattle.cm_abi_model.specs.Regions.{ArePlaced}
-use Rattle.cm_abi_model.specs.Requests.{call_parts, is_spilled, stored_charset, text_bytes, text_units, tuple_of}
+use Rattle.cm_abi_model.specs.Requests.{is_spilled, stored_charset, text_bytes, text_units, tuple_of}
 use Rattle.cm_abi_model.specs.Stores.{Given, Placed, from_signed, number_of, place_of, poke, store_each}
 use Rattle.cm_abi_model.specs.Texts.{Charset, latin1, utf16, utf8}
 use Rattle.cm_abi_model.specs.Views.{View, Way}
 use Rattle.cm_storing.specs.Kinds.{FitKinds, kind_limit, slot_limit}
 use Rattle.cm_storing.proofs.FittingLaws.{counted, placed_both}
-use Rattle.cm_storing.proofs.RisingLaws.{set_other, set_same}
 
 -- limits of slots are those of these kinds, or greater
 abbrev Covers : (ℕ → ℕ) → ℕ → List CoreKind → Type 0
