@@ -57,7 +57,7 @@ mutual
 -- ---- places
 
 module _ (target : StringEncoding) (n : ℕ) (g : Given) (is : g.charset ≡ stored_charset target) where
-  placed_both : (k : ℕ) (ps qs : List Part) (j : ℕ) → j ≡ k + length ps → ArePlaced target n g k (ps ++ qs) → ArePlaced target n g k ps × ArePlaced target n g j qs
+  pub placed_both : (k : ℕ) (ps qs : List Part) (j : ℕ) → j ≡ k + length ps → ArePlaced target n g k (ps ++ qs) → ArePlaced target n g k ps × ArePlaced target n g j qs
   placed_both k [] qs j at placed =
       let same : j ≡ k = omega (arith, at) in
       (tt, rw same placed)

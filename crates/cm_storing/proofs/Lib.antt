@@ -9,3 +9,5 @@ pub mod PassedLaws
 pub mod FlatLaws
 pub mod CallLemmas
 pub mod RisingLaws
+pub mod KindLaws
+pub mod CoreValueLemmas

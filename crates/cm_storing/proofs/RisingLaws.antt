@@ -1,7 +1,6 @@
 -- The numbers that pass a value stand in slots one behind the other, so that each stays.
-use Rattle.std.proofs.Common.{◌≡◌, ℕ, zero, suc, ◌+◌, ◌*◌, ◌<◌, ◌≤◌, Bool, true, false, List, [], ◌∷◌, ◌++◌, length, refl, sym, ap, ◌∙◌, arith, length-append}
+use Rattle.std.proofs.Common.{◌≡◌, ℕ, zero, suc, ◌+◌, ◌*◌, ◌<◌, ◌≤◌, Bool, true, false, List, [], ◌∷◌, ◌++◌, length, refl, ap, ◌∙◌, arith, length-append}
 use Rattle.std.specs.Prelude.{slice_index, slice_set, if◌then◌else◌}
-use Rattle.cm_types.specs.declared.core_value.CoreKind.{CoreKind}
 use Rattle.cm_types.specs.declared.core_value.CoreKind.TheVariants as kind
 use Rattle.cm_types.specs.Types.{Ty, Fields, Cases, bool, signed, unsigned, char, string, list, fixed_list, fields, cases, flags, own, borrow, no_fields, field, no_cases, plain, carrying}
 use Rattle.cm_types.specs.Values.{Val, Vals, no_vals, val, truth, signed_number, number, scalar, text, elements, parts, bare, bearing, flag_set, handle, count_of, AllVals, HasType, HaveTypes, IsCarriedCase}
@@ -81,12 +80,12 @@ mutual
 
 -- ---- what rises stays
 
-set_same : (m : List ℕ) (i x : ℕ) → i < length m → slice_index (slice_set m i x) i ≡ x
+pub set_same : (m : List ℕ) (i x : ℕ) → i < length m → slice_index (slice_set m i x) i ≡ x
 set_same [] i x lt = absurd (omega (arith, lt))
 set_same (y ∷ m) zero x lt = refl
 set_same (y ∷ m) (suc i) x lt = set_same m i x (omega (arith, lt))
 
-set_other : (m : List ℕ) (i j x : ℕ) → (j ≡ i → ⊥) → slice_index (slice_set m i x) j ≡ slice_index m j
+pub set_other : (m : List ℕ) (i j x : ℕ) → (j ≡ i → ⊥) → slice_index (slice_set m i x) j ≡ slice_index m j
 set_other [] i j x no_same = refl
 set_other (y ∷ m) zero zero x no_same = absurd (no_same refl)
 set_other (y ∷ m) zero (suc j) x no_same = refl
@@ -110,9 +109,10 @@ holds : (s e : ℕ) (xs : List Placed) (m : List ℕ) → Rises s e xs → e ≤
 holds s e [] m rises inside = tt
 holds s e (x ∷ xs) m rises inside =
     let end = rises_end (x.0 + 1) e xs rises.1 in
-    let room : e ≤ length (slice_set m x.0 x.1) = rw (set_length m x.0 x.1) inside in
-    (beside_stays xs (slice_set m x.0 x.1) x.0 (before_is_beside (x.0 + 1) e x.0 xs (omega arith) rises.1) ∙ set_same m x.0 x.1 (omega (arith, end, inside)),
-    holds (x.0 + 1) e xs (slice_set m x.0 x.1) rises.1 room)
+    let room : e ≤ length (slice_set m x.0 x.1) = rw (set_length m x.0 x.1) inside in (
+      beside_stays xs (slice_set m x.0 x.1) x.0 (before_is_beside (x.0 + 1) e x.0 xs (omega arith) rises.1) ∙ set_same m x.0 x.1 (omega (arith, end, inside)),
+      holds (x.0 + 1) e xs (slice_set m x.0 x.1) rises.1 room,
+    )
 
 call_rises : (g : Given) (types : Fields) (v : Val) (b : Bool) → HasType (tuple_of types) v
     → Rises 0 (length (if b then kind.I32 ∷ [] else flat_of_fields types)) (if b then put 0 (place_of g 0) else slots_of g (tuple_of types) v 0 0 0)
@@ -121,6 +121,7 @@ call_rises g types v false typed = upper 0 (0 + width_of (tuple_of types)) _ _ (
 
 pub numbers_stay : (way : Way) (types : Fields) (g : Given) (v : Val) (slots : List ℕ) → HasType (tuple_of types) v → length (call_kinds way types) ≤ length slots
     → Holds (poke (call_numbers g way types v) slots) (call_numbers g way types v) × Framed slots (poke (call_numbers g way types v) slots) (call_numbers g way types v)
-numbers_stay way types g v slots typed room =
-    (holds 0 _ (call_numbers g way types v) slots (call_rises g types v (is_spilled way types) typed) room,
-    record { length_stays = poke_length (call_numbers g way types v) slots; others_stay = λ at beside. beside_stays (call_numbers g way types v) slots at beside })
+numbers_stay way types g v slots typed room = (
+  holds 0 _ (call_numbers g way types v) slots (call_rises g types v (is_spilled way types) typed) room,
+  record { length_stays = poke_length (call_numbers g way types v) slots; others_stay = λ at beside. beside_stays (call_numbers g way types v) slots at beside },
+)

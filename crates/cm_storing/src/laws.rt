@@ -1,20 +1,23 @@
 //! What storing by a layout means, as laws: each function here does nothing, and its contract is
 //! the law.
 
-ghost use Rattle.std.specs.Prelude.{◌≡◌, ◌+◌, ◌≤◌, List, length, ℕ};
+ghost use Rattle.std.specs.Prelude.{◌≡◌, ◌+◌, ◌<◌, ◌≤◌, ◌^◌, List, length, ℕ};
 ghost use Rattle.cm_types.specs.Types.{Fields, Ty};
 ghost use Rattle.cm_types.specs.Values.{HasType, Val};
 ghost use Rattle.cm_layout.specs.Shapes.{shape_of_type};
 ghost use Rattle.cm_abi_model.specs.FlatShows.{width_of};
 ghost use Rattle.cm_abi_model.specs.Parts.{handle_count, part_count, parts_in};
-ghost use Rattle.cm_abi_model.specs.Receives.{behind, call_kinds, call_numbers, slots_of};
+ghost use Rattle.cm_abi_model.specs.Receives.{Serves, behind, call_kinds, call_numbers};
+ghost use Rattle.cm_abi_model.specs.Receives.{slots_of};
 ghost use Rattle.cm_abi_model.specs.Regions.{ArePlaced};
 ghost use Rattle.cm_abi_model.specs.Requests.{stored_charset, tuple_of};
-ghost use Rattle.cm_abi_model.specs.Stores.{Framed, Given, Holds, poke, stored};
-ghost use Rattle.cm_abi_model.specs.Views.{Way};
+ghost use Rattle.cm_abi_model.specs.Stores.{Framed, Given, Holds, number_of, place_of};
+ghost use Rattle.cm_abi_model.specs.Stores.{poke, stored};
+ghost use Rattle.cm_abi_model.specs.Views.{View, Way};
 ghost use Rattle.cm_abi_model.specs.declared.encoding.StringEncoding.{StringEncoding};
 ghost use Rattle.cm_storing.specs.Fitting.{Fits};
 ghost use Rattle.cm_storing.specs.FlatLowering.{IsPassedIn, behind_by, slots_by};
+ghost use Rattle.cm_storing.specs.Kinds.{FitKinds};
 ghost use Rattle.cm_storing.specs.Storing.{stored_by};
 
 use cm_layout::laws::layouts;
@@ -60,4 +63,15 @@ pub fn what_is_passed_stays()
         → Holds (poke (call_numbers g way types v) slots) (call_numbers g way types v)
         × Framed slots (poke (call_numbers g way types v) slots)
         (call_numbers g way types v) }
+{}
+
+/// Where what is given for a lowering serves it, and places and numbers have 32 bits, each number
+/// that passes a value fits the kind of its slot.
+pub fn what_is_passed_fits()
+    ensures { (w : View) (way : Way) (types : Fields) (g : Given) (v : Val) (slots : List ℕ)
+        → HasType (tuple_of types) v → g.charset ≡ stored_charset w.encoding
+        → Serves w way types g v
+        → ((k : ℕ) → place_of g k < 2 ^ 32) → ((h : ℕ) → number_of g h < 2 ^ 32)
+        → FitKinds (call_kinds way types) slots
+        → FitKinds (call_kinds way types) (poke (call_numbers g way types v) slots) }
 {}

@@ -3,6 +3,7 @@
 
 mod bytes;
 mod calls;
+mod core_values;
 mod flat;
 pub mod laws;
 mod numbers;
@@ -11,4 +12,5 @@ mod target;
 mod texts;
 
 pub use calls::store_call;
+pub use core_values::put_numbers;
 pub use target::Target;
