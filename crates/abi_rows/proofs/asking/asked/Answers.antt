@@ -17,11 +17,10 @@ requests-requires c =
     let types = c.requires.layout.0 in
     let done = c.in-Ok.ensures.lifts w types (record { memory_is = refl; table_is = refl; encoding_is = refl }) c.requires.layout.1 in
     let typed = c.what_is_denoted_can_be_lowered.ensures.typed w (way_of c.args.passed.now.way) types c.args.passed.now.slots.now (parts (values_of c.in-Ok.lifted.values.items)) (λ i. omega (arith, c.type_inv.memory i)) done.denoted in
-    let content = c.content_of_what_is_denoted.ensures.stored w (way_of c.args.passed.now.way) types c.args.passed.now.slots.now (parts (values_of c.in-Ok.lifted.values.items)) [] done.denoted c.requires.stored in
-    (
+    let content = c.content_of_what_is_denoted.ensures.stored w (way_of c.args.passed.now.way) types c.args.passed.now.slots.now (parts (values_of c.in-Ok.lifted.values.items)) [] done.denoted c.requires.stored in (
       types,
       c.requires.layout.1,
       subst (λ (vs : List Value). HasType (tuple_of types) (parts (values_of vs))) (sym c.deref.ensures.value) typed,
       subst (λ (vs : List Value). content_of_parts c.args.encoding [] (parts_in (tuple_of types) (parts (values_of vs))) ≤ MAX_CONTENT) (sym c.deref.ensures.value)
-      (subst (λ n. n ≤ MAX_CONTENT) (sym content) done.transferable.small),
+          (subst (λ n. n ≤ MAX_CONTENT) (sym content) done.transferable.small),
     )
