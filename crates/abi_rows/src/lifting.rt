@@ -6,8 +6,10 @@
 //! receiver by `pass WAY ENCODING MEMORY TABLE INSTANCE TYPE.. = SLOT..`, whose table is empty.
 
 ghost use Rattle.std.specs.Prelude.{IfOk};
+ghost use Rattle.cm_abi_model.specs.Requests.{IsStored};
 ghost use Rattle.cm_lift.specs.HandingOver.{LendsBelow};
 
+use crate::asking::{asked, write_requests};
 use crate::giving::{read_receiver, write_given};
 use crate::tables::{read_table, write_table};
 use crate::types::{read_func, split_words};
@@ -38,14 +40,8 @@ pub fn read_giver(
 ) -> Result<RowGiver, RowFault>
     ensures { IfOk result (λ g. LendsBelow 256 g.table.handles) }
 {
-    let encoding = match encoding {
-        "utf8" => StringEncoding::Utf8,
-        "utf16" => StringEncoding::Utf16,
-        "latin1" => StringEncoding::Latin1OrUtf16,
-        _ => return Err(RowFault::NotARow),
-    };
     Ok(RowGiver {
-        encoding,
+        encoding: read_encoding(encoding)?,
         memory: read_bytes(alloc, memory)?,
         table: read_table(alloc, table)?,
     })
@@ -132,6 +128,59 @@ pub fn pass(
     let to = read_receiver(instance)?;
     let given = give_values(alloc, &mut received, to, &layout, &lifted.values);
     write_given(alloc, given, &received)
+}
+
+/// What lowering the values to this encoding asks for.
+#[tactic(auto, using(crate::proofs::TableLemmas::lends))]
+pub fn ask(
+    alloc: Global,
+    giver: RowGiver,
+    way: &str,
+    target: &str,
+    words: &[&str],
+) -> Result<String, RowFault>
+    requires { LendsBelow 256 giver.table.handles }
+{
+    let (types, slots) = split_words(words, "=")?;
+    let func = read_func(alloc, types)?;
+    let layout = layout_of_params(alloc, &func)?;
+    let slots = read_slots(alloc, slots)?;
+    let RowGiver {
+        encoding,
+        memory,
+        mut table,
+    } = giver;
+    if memory.len() > 1 << 30 {
+        return Err(RowFault::NotARow);
+    }
+    let passed = Passed {
+        way: read_way(way)?,
+        layout: &layout,
+        slots: &slots,
+    };
+    let target = read_encoding(target)?;
+    let encoding = stored(encoding)?;
+    let asked = asked(alloc, &memory, &mut table, encoding, &passed, target)?;
+    Ok(write_requests(alloc, &asked)?)
+}
+
+/// An encoding in which strings are stored.
+fn stored(encoding: StringEncoding) -> Result<StringEncoding, RowFault>
+    ensures { IfOk result IsStored }
+{
+    match encoding {
+        StringEncoding::Latin1OrUtf16 => Err(RowFault::NotARow),
+        StringEncoding::Utf8 | StringEncoding::Utf16 => Ok(encoding),
+    }
+}
+
+fn read_encoding(word: &str) -> Result<StringEncoding, RowFault> {
+    match word {
+        "utf8" => Ok(StringEncoding::Utf8),
+        "utf16" => Ok(StringEncoding::Utf16),
+        "latin1" => Ok(StringEncoding::Latin1OrUtf16),
+        _ => Err(RowFault::NotARow),
+    }
 }
 
 fn read_slots(alloc: Global, words: &[&str]) -> Result<Vec<CoreValue>, RowFault> {

@@ -2,6 +2,7 @@
 #![tactic(auto)]
 
 mod answers;
+mod asking;
 mod giving;
 mod lifting;
 mod tables;
@@ -25,6 +26,10 @@ impl Driver for AbiRows {
             ["pass", way, encoding, memory, table, instance, rest @ ..] => {
                 let giver = lifting::read_giver(alloc, encoding, memory, table)?;
                 lifting::pass(alloc, giver, way, instance, rest)
+            }
+            ["requests", way, encoding, memory, table, target, rest @ ..] => {
+                let giver = lifting::read_giver(alloc, encoding, memory, table)?;
+                lifting::ask(alloc, giver, way, target, rest)
             }
             ["give", table, instance, rest @ ..] => giving::answer(alloc, table, instance, rest),
             ["answers", length, rest @ ..] => answers::answer(alloc, length, rest),

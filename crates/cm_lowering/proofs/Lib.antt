@@ -7,3 +7,4 @@ pub mod AlignedRequests
 pub mod RegionLaws
 pub mod RegionWalk
 pub mod PassedContent
+pub mod PassedTypes

@@ -1,14 +1,14 @@
 //! What requests and the checks of their answers mean, as laws: each function here does
 //! nothing, and its contract is the law.
 
-ghost use Rattle.std.specs.Prelude.{◌≡◌, ◌↔◌, Bool, List, None, length, ℕ};
+ghost use Rattle.std.specs.Prelude.{◌≡◌, ◌↔◌, ◌<◌, ◌^◌, Bool, List, None, length, slice_index, ℕ};
 ghost use Rattle.cm_types.specs.declared.core_value.CoreValue.{CoreValue};
 ghost use Rattle.cm_types.specs.Types.{Fields, Ty};
-ghost use Rattle.cm_types.specs.Values.{Val};
+ghost use Rattle.cm_types.specs.Values.{HasType, Val};
 ghost use Rattle.cm_abi_model.specs.Denotes.{Denotes};
 ghost use Rattle.cm_abi_model.specs.Parts.{Part, parts_in};
 ghost use Rattle.cm_abi_model.specs.Regions.{AreApart, ArePlaced};
-ghost use Rattle.cm_abi_model.specs.Requests.{IsStored, part_requests, tuple_of};
+ghost use Rattle.cm_abi_model.specs.Requests.{IsStored, call_parts, part_requests, tuple_of};
 ghost use Rattle.cm_abi_model.specs.Shows.{Shows};
 ghost use Rattle.cm_abi_model.specs.Stores.{Given};
 ghost use Rattle.cm_abi_model.specs.Taken.{content_of, met, met_at};
@@ -61,4 +61,21 @@ pub fn content_of_what_is_denoted()
         (tags : List Bool) → Denotes w way types slots v → IsStored w.encoding
         → content_of_parts w.encoding tags (parts_in (tuple_of types) v)
         ≡ content_of (met w way types slots v) }
+{}
+
+/// What the core values of a call denote, in a memory of bytes, can be lowered: it has the types of
+/// the call, each of its lists is counted in 32 bits, and, where strings are in UTF-8 or in UTF-16,
+/// each of its strings is spelled there, whatever the tags; so it is of its parts, whichever way
+/// they go on.
+pub fn what_is_denoted_can_be_lowered()
+    ensures typed { (w : View) (way : Way) (types : Fields) (slots : List CoreValue) (v : Val)
+        → ((i : ℕ) → slice_index w.memory i < 2 ^ 8) → Denotes w way types slots v
+        → HasType (tuple_of types) v }
+    ensures counted { (w : View) (way : Way) (types : Fields) (slots : List CoreValue) (v : Val)
+        (to : Way) → ((i : ℕ) → slice_index w.memory i < 2 ^ 8) → Denotes w way types slots v
+        → AreCounted (call_parts to types v) }
+    ensures spelled { (w : View) (way : Way) (types : Fields) (slots : List CoreValue) (v : Val)
+        (tags : List Bool) (to : Way) → ((i : ℕ) → slice_index w.memory i < 2 ^ 8)
+        → Denotes w way types slots v → IsStored w.encoding
+        → HaveScalars w.encoding tags (call_parts to types v) }
 {}
