@@ -1,0 +1,94 @@
+//! Rows on packages.
+
+ghost use Rattle.std.specs.Prelude.{◌≡◌, map};
+ghost use Rattle.std.specs.String.{string_bytes};
+ghost use Rattle.cm_wit.specs.PackageViews.{package_tree};
+ghost use Rattle.cm_wit_interfaces.specs.Interfaces.{package_name};
+
+use crate::files::package_files;
+use crate::texts::Texts;
+use crate::worlds::{show_externs, world_fault};
+use cm_rows::RowFault;
+use cm_wit::{Package, WitFault, WitReason, parse};
+use cm_wit_interfaces::{Directory, PlacedWorld, interfaces, package_names, worlds};
+use cm_wit_worlds::{WorldFault, externs_of};
+use std::alloc::Global;
+
+/// How a row names a world: by its full name, or by its number among those of all packages.
+#[derive(Clone, Copy)]
+pub enum Named<'a> {
+    FullName(&'a str),
+    Number(usize),
+}
+
+/// The number and the name of a text's fault, and its place.
+pub fn show_fault(alloc: Global, fault: WitFault) -> Result<String, RowFault> {
+    let WitFault { at, reason } = fault;
+    if reason == WitReason::Memory {
+        return Err(RowFault::Memory);
+    }
+    let number = reason.number();
+    let name = reason.name();
+    Ok(format!(in alloc; "{number} {name} at {at}")?)
+}
+
+/// What a world of the packages imports and exports, in order, or the first fault.
+pub fn answer(
+    alloc: Global,
+    texts: &Texts,
+    named: Named,
+    words: &[&str],
+) -> Result<String, RowFault> {
+    let texts = texts.texts(alloc, words)?;
+    let mut packages = Vec::new(alloc);
+    for text in &texts {
+        match parse(alloc, text.as_str()) {
+            Ok(package) => packages.push(package)?,
+            Err(fault) => return show_fault(alloc, fault),
+        }
+    }
+    answer_of(alloc, &packages, named)
+}
+
+fn answer_of(alloc: Global, packages: &[Package], named: Named) -> Result<String, RowFault> {
+    let names = package_names(alloc, &package_files(alloc, packages)?)?;
+    answer_in(alloc, packages, &names, named)
+}
+
+/// The same, where the names of the packages are these.
+fn answer_in<'a>(
+    alloc: Global,
+    packages: &'a [Package],
+    names: &'a [String],
+    named: Named,
+) -> Result<String, RowFault>
+    requires { map string_bytes names.now ≡ map package_name (map package_tree packages.now) }
+{
+    let files = package_files(alloc, packages)?;
+    let interfaces = interfaces(alloc, &files)?;
+    let worlds = worlds(alloc, &files)?;
+    let directory = Directory::new(alloc, files, names, &interfaces)?;
+    let Some(world) = find_world(alloc, &directory, &worlds, named)? else {
+        return world_fault(alloc, WorldFault::NoSuchWorld);
+    };
+    match externs_of(alloc, &directory, &interfaces, &world) {
+        Ok(externs) => show_externs(alloc, &interfaces, &world, &externs),
+        Err(fault) => world_fault(alloc, fault),
+    }
+}
+
+fn find_world<'a>(
+    alloc: Global,
+    directory: &Directory<'a>,
+    worlds: &[PlacedWorld<'a>],
+    named: Named,
+) -> Result<Option<PlacedWorld<'a>>, RowFault> {
+    let number = match named {
+        Named::FullName(name) => directory.world_at(alloc, worlds, name)?,
+        Named::Number(number) => Some(number),
+    };
+    match number {
+        Some(number) => Ok(worlds.get(number).copied()),
+        None => Ok(None),
+    }
+}
