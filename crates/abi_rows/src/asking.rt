@@ -1,7 +1,8 @@
 //! Rows on requests: `requests WAY ENCODING MEMORY TABLE TARGET TYPE.. = SLOT..`.
 //!
 //! The values are lifted, from UTF-8 or UTF-16, and what lowering them asks for is written, request
-//! by request: `ALIGN:SIZE`, or `>ALIGN:OLD:SIZE` of one that hands back what the one before it got.
+//! by request: `ALIGN:SIZE`, or `>ALIGN:OLD:SIZE` of one that hands back what the one before it
+//! got.
 
 ghost use Rattle.std.specs.Prelude.{◌<◌, ◌≡◌, ◌^◌, length};
 ghost use Rattle.cm_types.specs.Types.{Fields};
