@@ -1,3 +1,4 @@
 pub mod ScopeLaws
 pub mod FirstLaws
 pub mod BrokenLaws
+pub mod GrowLaws

@@ -5,6 +5,7 @@ use Rattle.cm_validity.specs.Declarations.{Scope}
 use Rattle.cm_type_scope.specs.Entries.{def_of, desc_of, item_of}
 use Rattle.cm_type_scope.specs.declared.entries.ItemDesc.{ItemDesc}
 use Rattle.cm_type_scope.specs.declared.entries.TypeEntry.{TypeEntry}
+use Rattle.cm_type_scope.specs.declared.scope.TypeScope.{TypeScope}
 use Rattle.cm_type_scope.specs.TypeScopes.{arena_funcs, arena_types, own_types, types_around}
 use Rattle.cm_declarations.specs.declared.declarations.Declarations.{Declarations}
 
@@ -20,6 +21,10 @@ scope_so_far d =
       next = d.next;
       items = items_so_far d;
     }
+
+-- the scope whose arena the types stand in
+abbrev pub scope_of : Declarations → TypeScope
+scope_of d = d.scope
 
 -- the number of the first resource of the instance's own
 abbrev pub first_resource : Declarations → ℕ

@@ -36,15 +36,17 @@ impl Declarations {
     ghost use Rattle.cm_validity.specs.TypeRules.{func_def_broken, value_def_broken};
     ghost use Rattle.cm_validity.specs.Reasons.{least};
     ghost use Rattle.cm_type_scope.specs.Entries as entry;
-    ghost use Rattle.cm_type_scope.specs.TypeScopes.{own_types, types_around};
-    ghost use Rattle.cm_declarations.specs.DeclaredScopes.{first_resource, scope_so_far};
+    ghost use Rattle.cm_type_scope.specs.TypeScopes.{HasGrown, own_types, types_around};
+    ghost use Rattle.cm_declarations.specs.DeclaredScopes.{first_resource, scope_of, scope_so_far};
     ghost use Rattle.cm_declarations.specs.FirstFaults.{first_reason};
 
     /// Before the first declaration, in a component with the types of this scope, whose next
     /// resource has this number.
+    #[tactic(auto, using(crate::proofs::GrowLaws::unchanged))]
     pub fn new(alloc: Global, component: TypeScope, next: u64) -> Declarations
         ensures scope { scope_so_far result ≡ scope_in (own_types component) next }
         ensures first { first_resource result ≡ next }
+        ensures grown { HasGrown component (scope_of result) }
     {
         Declarations {
             scope: component.enter(alloc),
@@ -72,6 +74,7 @@ impl Declarations {
             (λ _. scope_so_far self.new ≡ scope_so_far self.old)) }
         ensures kept { OnErr result (scope_so_far self.new ≡ scope_so_far self.old) }
         ensures first { first_resource self.new ≡ first_resource self.old }
+        ensures grown { HasGrown (scope_of self.old) (scope_of self.new) }
     {
         match declaration {
             Declaration::Type(DeclaredType::Value(def)) => self.declare_value(alloc, def),
@@ -86,6 +89,7 @@ impl Declarations {
     ///
     /// `AllocError` comes where there is no memory, or no number for a resource. The types of the
     /// component around stay as they are, whatever comes.
+    #[tactic(auto, using(crate::proofs::GrowLaws::grown_on))]
     pub fn declare_all(
         &mut self,
         alloc: Global,
@@ -98,6 +102,7 @@ impl Declarations {
             (map declaration_tree declarations.now))
             (λ _. Unit {0})) }
         ensures first { first_resource self.new ≡ first_resource self.old }
+        ensures grown { HasGrown (scope_of self.old) (scope_of self.new) }
         ensures around { (scope_so_far self.new).around ≡ (scope_so_far self.old).around }
     {
         for declaration in declarations {
@@ -123,6 +128,7 @@ impl Declarations {
             (λ _. scope_so_far self.new ≡ scope_so_far self.old)) }
         ensures kept { OnErr result (scope_so_far self.new ≡ scope_so_far self.old) }
         ensures first { first_resource self.new ≡ first_resource self.old }
+        ensures grown { HasGrown (scope_of self.old) (scope_of self.new) }
     {
         items_stay();
         self.scope.define_value(alloc, def)
@@ -142,6 +148,7 @@ impl Declarations {
             (λ _. scope_so_far self.new ≡ scope_so_far self.old)) }
         ensures kept { OnErr result (scope_so_far self.new ≡ scope_so_far self.old) }
         ensures first { first_resource self.new ≡ first_resource self.old }
+        ensures grown { HasGrown (scope_of self.old) (scope_of self.new) }
     {
         items_stay();
         self.scope.define_func(alloc, def)
@@ -164,6 +171,7 @@ impl Declarations {
     }
 
     /// The same of an alias of a type of its own or of the component.
+    #[tactic(auto, using(crate::proofs::GrowLaws::unchanged))]
     fn alias(&mut self, outer: OuterType) -> Result<Option<ValidReason>, AllocError>
         ensures fault { IfOk result (λ r. r ≡ least
             (declaration_broken (scope_so_far self.old) (outer_type_decl outer))) }
@@ -173,6 +181,7 @@ impl Declarations {
             (λ _. scope_so_far self.new ≡ scope_so_far self.old)) }
         ensures kept { OnErr result (scope_so_far self.new ≡ scope_so_far self.old) }
         ensures first { first_resource self.new ≡ first_resource self.old }
+        ensures grown { HasGrown (scope_of self.old) (scope_of self.new) }
     {
         match self.outer_entry(outer) {
             None => Ok(Some(ValidReason::NoSuchIndex)),
@@ -186,9 +195,11 @@ impl Declarations {
 
     /// The type that the declarations make, and the scope of the component with the types that it
     /// had. Its own types are dropped.
+    #[tactic(auto, using(crate::proofs::GrowLaws::unchanged))]
     pub fn finish(self, alloc: Global) -> (TypeScope, InstanceType)
         ensures types { own_types result.0 ≡ (scope_so_far self).around }
         ensures around { types_around result.0 ≡ [] }
+        ensures grown { HasGrown (scope_of self) result.0 }
         ensures instance { entry.instance_of (arena_types result.0) (arena_funcs result.0) result.1
             ≡ instance_of (first_resource self) (scope_so_far self) }
         ensures placed { items_in (arena_types result.0) (arena_funcs result.0) result.1.items.items

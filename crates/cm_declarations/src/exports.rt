@@ -15,11 +15,13 @@ impl Declarations {
     ghost use Rattle.cm_validity.specs.Definitions.{sorts_of};
     ghost use Rattle.cm_validity.specs.Reasons.{least};
     ghost use Rattle.cm_type_scope.specs.Entries as entries;
-    ghost use Rattle.cm_type_scope.specs.TypeScopes.{arena_funcs, arena_types, own_types};
-    ghost use Rattle.cm_declarations.specs.DeclaredScopes.{first_resource, scope_so_far};
+    ghost use Rattle.cm_type_scope.specs.TypeScopes.{HasGrown, arena_funcs, arena_types};
+    ghost use Rattle.cm_type_scope.specs.TypeScopes.{own_types};
+    ghost use Rattle.cm_declarations.specs.DeclaredScopes.{first_resource, scope_of, scope_so_far};
     ghost use Rattle.cm_declarations.specs.DeclaredScopes.{with_both, with_desc};
 
     /// Adds an item.
+    #[tactic(auto, using(crate::proofs::GrowLaws::unchanged))]
     fn add_item(&mut self, name: &ExternName, item: ItemDesc) -> Result<(), AllocError>
         requires placed { entries.is_desc_placed (length (arena_types self.old.scope))
             (length (arena_funcs self.old.scope)) item ≡ true }
@@ -27,6 +29,7 @@ impl Declarations {
             (scope_so_far self.new ≡ with_desc self.old name.now item) }
         ensures kept { OnErr result (scope_so_far self.new ≡ scope_so_far self.old) }
         ensures first { first_resource self.new ≡ first_resource self.old }
+        ensures grown { HasGrown (scope_of self.old) (scope_of self.new) }
     {
         let name = name.clone()?;
         self.items.push(ItemEntry { name, desc: item })?;
@@ -34,6 +37,7 @@ impl Declarations {
     }
 
     /// Adds an item and a type.
+    #[tactic(auto, using(crate::proofs::GrowLaws::unchanged))]
     fn add_both(
         &mut self,
         name: &ExternName,
@@ -48,6 +52,7 @@ impl Declarations {
             (scope_so_far self.new ≡ with_both self.old name.now item entry) }
         ensures kept { OnErr result (scope_so_far self.new ≡ scope_so_far self.old) }
         ensures first { first_resource self.new ≡ first_resource self.old }
+        ensures grown { HasGrown (scope_of self.old) (scope_of self.new) }
     {
         let name = name.clone()?;
         self.items.reserve(1)?;
@@ -72,6 +77,7 @@ impl Declarations {
             (λ _. scope_so_far self.new ≡ scope_so_far self.old)) }
         ensures kept { OnErr result (scope_so_far self.new ≡ scope_so_far self.old) }
         ensures first { first_resource self.new ≡ first_resource self.old }
+        ensures grown { HasGrown (scope_of self.old) (scope_of self.new) }
     {
         match self.scope.get(index) {
             None => Ok(Some(ValidReason::NoSuchIndex)),
@@ -84,6 +90,7 @@ impl Declarations {
         }
     }
 
+    #[tactic(auto, using(crate::proofs::GrowLaws::unchanged))]
     fn export_equal(
         &mut self,
         name: &ExternName,
@@ -97,6 +104,7 @@ impl Declarations {
             (λ _. scope_so_far self.new ≡ scope_so_far self.old)) }
         ensures kept { OnErr result (scope_so_far self.new ≡ scope_so_far self.old) }
         ensures first { first_resource self.new ≡ first_resource self.old }
+        ensures grown { HasGrown (scope_of self.old) (scope_of self.new) }
     {
         match self.scope.get(index) {
             None => Ok(Some(ValidReason::NoSuchIndex)),
@@ -115,11 +123,13 @@ impl Declarations {
         }
     }
 
+    #[tactic(auto, using(crate::proofs::GrowLaws::unchanged))]
     fn export_fresh(&mut self, name: &ExternName) -> Result<(), AllocError>
         ensures declared { OnOk result
             (scope_so_far self.new ≡ with_fresh (scope_so_far self.old) name.now) }
         ensures kept { OnErr result (scope_so_far self.new ≡ scope_so_far self.old) }
         ensures first { first_resource self.new ≡ first_resource self.old }
+        ensures grown { HasGrown (scope_of self.old) (scope_of self.new) }
     {
         let number = self.next;
         if number == u64::MAX {
@@ -135,6 +145,7 @@ impl Declarations {
     }
 
     /// Reads an export: what it names is of the sort that it says, and gets the name.
+    #[tactic(auto, using(crate::proofs::GrowLaws::unchanged))]
     pub(crate) fn export(
         &mut self,
         name: &ExternName,
@@ -147,6 +158,7 @@ impl Declarations {
             (λ _. scope_so_far self.new ≡ scope_so_far self.old)) }
         ensures kept { OnErr result (scope_so_far self.new ≡ scope_so_far self.old) }
         ensures first { first_resource self.new ≡ first_resource self.old }
+        ensures grown { HasGrown (scope_of self.old) (scope_of self.new) }
     {
         match exported {
             ExportDesc::Func(index) => self.export_func(name, index),

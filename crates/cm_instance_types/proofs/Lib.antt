@@ -1,3 +1,4 @@
 pub mod ScopeLaws
 pub mod InstanceLaws
 pub mod PassLaws
+pub mod GrowLaws

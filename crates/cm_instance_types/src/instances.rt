@@ -9,7 +9,7 @@ ghost use Rattle.cm_validity.specs.Definitions.{instance_type};
 ghost use Rattle.cm_validity.specs.Reasons.{least};
 ghost use Rattle.cm_type_scope.specs.Entries.{instance_of, is_item_placed};
 ghost use Rattle.cm_type_scope.specs.TypeScopes.{arena_funcs, arena_types, own_types};
-ghost use Rattle.cm_type_scope.specs.TypeScopes.{types_around};
+ghost use Rattle.cm_type_scope.specs.TypeScopes.{HasGrown, types_around};
 ghost use Rattle.cm_type_sketches.specs.Faults.{besides_limits};
 
 use crate::laws::instances_are_sketched;
@@ -26,6 +26,7 @@ use std::mem;
 use std::rc::Rc;
 
 /// Adds the type of an instance.
+#[tactic(auto, using(crate::proofs::GrowLaws::unchanged))]
 fn add_instance(
     component: &mut TypeScope,
     alloc: Global,
@@ -38,12 +39,14 @@ fn add_instance(
         instance) ∷ []) }
     ensures kept { OnErr result (own_types component.new ≡ own_types component.old) }
     ensures around { types_around component.new ≡ types_around component.old }
+    ensures grown { HasGrown component.old component.new }
 {
     let shared = Rc::new(alloc, instance)?;
     component.add(TypeEntry::Instance(shared))
 }
 
 /// Reads the type of an instance that breaks nothing besides the limits.
+#[tactic(auto, using(crate::proofs::GrowLaws::through))]
 fn defined(
     alloc: Global,
     component: TypeScope,
@@ -61,6 +64,7 @@ fn defined(
         (λ _. own_types result.0 ≡ own_types component)) }
     ensures kept { OnErr result.1 (own_types result.0 ≡ own_types component) }
     ensures around { types_around result.0 ≡ [] }
+    ensures grown { HasGrown component result.0 }
 {
     instances_are_sketched();
     limits_come_last();
@@ -104,6 +108,7 @@ fn define_within(
         (λ _. own_types scope.new ≡ own_types scope.old)) }
     ensures kept { OnErr result (own_types scope.new ≡ own_types scope.old) }
     ensures around { types_around scope.old ≡ [] → types_around scope.new ≡ [] }
+    ensures grown { HasGrown scope.old scope.new }
 {
     let empty = TypeScope::new(alloc)?;
     let component = mem::replace(scope, empty);
@@ -121,7 +126,9 @@ fn define_within(
 /// component those alone are looked at that a declaration names.
 ///
 /// `AllocError` comes where there is no memory, and where a resource has a number past
-/// 4,294,967,295; the types are then as they were.
+/// 4,294,967,295; the types are then as they were. Whatever comes, each place of the arena stands
+/// for what it stood for.
+#[tactic(auto, using(crate::proofs::GrowLaws::same))]
 pub fn define_instance(
     scope: &mut TypeScope,
     alloc: Global,
@@ -137,6 +144,7 @@ pub fn define_instance(
         (λ _. own_types scope.new ≡ own_types scope.old)) }
     ensures kept { OnErr result (own_types scope.new ≡ own_types scope.old) }
     ensures around { types_around scope.old ≡ [] → types_around scope.new ≡ [] }
+    ensures grown { HasGrown scope.old scope.new }
 {
     instances_are_sketched();
     match sketched_fault(alloc, scope, declarations, next)? {

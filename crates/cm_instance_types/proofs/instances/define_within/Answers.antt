@@ -3,7 +3,7 @@ use Rattle.cm_types.specs.DefTypes.{declaration_tree}
 use Rattle.cm_validity.specs.Declarations.{instance_def_broken, instance_defined}
 use Rattle.cm_validity.specs.Definitions.{instance_type}
 use Rattle.cm_validity.specs.Reasons.{least}
-use Rattle.cm_type_scope.specs.TypeScopes.{own_types}
+use Rattle.cm_type_scope.specs.TypeScopes.{HasGrown, own_types}
 use Rattle.cm_type_scope.specs.declared.scope.TypeScope.{TypeScope}
 use Rattle.cm_instance_types.proofs.instances.define_within.Goals as goal
 
@@ -18,3 +18,6 @@ returns-clause-defined c =
     let after = c.defined-component.result.0 in
     subst (λ (s : TypeScope). IfOk c.defined-component.result.1 (λ r. MatchOption r (own_types after ≡ own_types s ++ instance_type (instance_defined (own_types s) c.args.next ds) ∷ []) (λ _. own_types after ≡ own_types s)))
     c.replace-component.ensures.value c.defined-component.ensures.defined
+
+pub returns-clause-grown : goal.returns-clause-grown
+returns-clause-grown c = subst (λ (s : TypeScope). HasGrown s c.defined-component.result.0) c.replace-component.ensures.value c.defined-component.ensures.grown

@@ -2,7 +2,9 @@ use Rattle.std.proofs.Common.{◌∙◌, ap, sym, map}
 use Rattle.cm_types.specs.DefTypes.{declaration_tree}
 use Rattle.cm_validity.specs.Declarations.{scope_in}
 use Rattle.cm_type_scope.specs.TypeScopes.{own_types}
+use Rattle.cm_declarations.specs.DeclaredScopes.{scope_of}
 use Rattle.cm_declarations.specs.FirstFaults.{first_reason}
+use Rattle.cm_instance_types.proofs.GrowLaws.{through}
 use Rattle.cm_instance_types.proofs.InstanceLaws.{limits_broken, none_broken}
 use Rattle.cm_instance_types.proofs.instances.defined.Goals as goal
 
@@ -19,3 +21,11 @@ returns-in-Ok-clause-fault c =
     let ds = map declaration_tree c.args.declarations.now in
     let first = ap (λ s. first_reason s ds) (sym c.new-reading.ensures.scope) ∙ sym c.in-Ok-None.ensures.fault ∙ c.in-Ok-None.field-0-is in
     none_broken types c.args.next ds c.limits_come_last.ensures.others c.names_are_sketched.ensures.before (c.first_reasons.ensures.none (scope_in types c.args.next) ds first) c.requires.within
+
+pub returns-in-Err-clause-grown : goal.returns-in-Err-clause-grown
+returns-in-Err-clause-grown c =
+    through c.args.component (scope_of c.new-reading.result) (scope_of c.declare_all.new.self) c.finish-component.result.0 c.new-reading.ensures.grown c.declare_all.ensures.grown c.finish-component.ensures.grown
+
+pub returns-in-Ok-Some-clause-grown : goal.returns-in-Ok-Some-clause-grown
+returns-in-Ok-Some-clause-grown c =
+    through c.args.component (scope_of c.new-reading.result) (scope_of c.declare_all.new.self) c.finish-component-in-Ok-Some.result.0 c.new-reading.ensures.grown c.declare_all.ensures.grown c.finish-component-in-Ok-Some.ensures.grown
