@@ -1,5 +1,5 @@
-//! What the types, definitions and functions of WIT texts stand for: the definitions, and the types of
-//! type texts, put into an arena.
+//! What the types, definitions and functions of WIT texts stand for; and the types of type texts,
+//! put into an arena.
 #![tactic(auto)]
 
 mod fault;
