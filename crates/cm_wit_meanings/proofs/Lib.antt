@@ -4,6 +4,3 @@ mod FaultLaws
 mod EachLaws
 mod PushLaws
 mod TypeLaws
-mod MemberLaws
-mod DefinitionLaws
-mod FuncLaws

@@ -12,6 +12,9 @@ use cm_type_arena::{DefFault, TypeDef, Types};
 use std::alloc::Global;
 
 /// Adds a type, and answers its place.
+///
+/// `TooLarge` comes where it would not be within the limits, else `NotSpellable` where no file can
+/// spell it, and `Memory` where there is no memory for it; the types then stay as they are.
 #[tactic(auto, using(crate::proofs::GrowthLaws::push_laws))]
 pub fn push(alloc: Global, types: &mut Types, def: TypeDef) -> Result<usize, MeaningFault>
     requires parts { HasParts (length (types_of types.old)) def }

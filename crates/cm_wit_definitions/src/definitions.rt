@@ -13,13 +13,10 @@ ghost use Rattle.cm_wit_meanings.specs.Meanings.{record_of, typed_meaning, varia
 ghost use Rattle.cm_wit_meanings.specs.Places.{ArePlaced, Extends, IsPlaced, meaning_in, scope_in};
 ghost use Rattle.cm_wit_meanings.specs.Scopes.{as_type};
 
-use crate::fault::MeaningFault;
 use crate::members::{push_cases, push_fields};
-use crate::pushing::push;
-use crate::scope::{Meaning, Scope};
-use crate::types::push_type;
 use cm_type_arena::{TypeDef as ArenaDef, Types};
 use cm_types::ResourceId;
+use cm_wit_meanings::{Meaning, MeaningFault, Scope, push, push_type};
 use cm_wit_text::{Case, TypeDef};
 use cm_wit_types::Typed;
 use std::alloc::Global;

@@ -13,10 +13,9 @@ use Rattle.cm_wit_meanings.specs.Scopes.{value, as_type}
 use Rattle.cm_wit_meanings.specs.Places.{meaning_in}
 use Rattle.cm_wit_meanings.specs.Meanings.{record_of, variant_of}
 use Rattle.cm_wit_meanings.specs.Faults.{IsFaultIn, IsTypeFault, AreFieldsFault}
-use Rattle.cm_wit_meanings.proofs.FaultLaws.{both_false, made_fault}
-use Rattle.cm_wit_meanings.proofs.GrowthLaws.{extends_same, extends_more}
-use Rattle.cm_wit_meanings.proofs.MemberLaws.{mapped_fault}
-use Rattle.cm_wit_meanings.proofs.TypeLaws.{made_type, unmade_type}
+use Rattle.cm_wit_definitions.proofs.FaultLaws.{both_false, made_fault, made_type, unmade_type}
+use Rattle.cm_wit_definitions.proofs.GrowthLaws.{extends_same, extends_more}
+use Rattle.cm_wit_definitions.proofs.MemberLaws.{mapped_fault}
 
 pub record_refused : (o : Option (List TypedLabel)) (f : MeaningFault) → AreFieldsFault o f → IsTypeFault (option_map record_of o) f
 record_refused None fault.NoSuchType h = refl

@@ -23,9 +23,9 @@ use Rattle.cm_wit_meanings.specs.Scopes.{Scope}
 use Rattle.cm_wit_meanings.specs.Places.{Extends, ArePlaced, scope_in}
 use Rattle.cm_wit_meanings.specs.Meanings.{meaning, each_meaning, typed_meaning, case_meaning, payload_meaning, record_of, variant_of}
 use Rattle.cm_wit_meanings.specs.Faults.{IsFaultOf, IsFaultIn, IsTypeFault}
-use Rattle.cm_wit_meanings.proofs.FaultLaws.{both_false, first_false}
-use Rattle.cm_wit_meanings.proofs.GrowthLaws.{place_kept, below_more, extends_same}
-use Rattle.cm_wit_meanings.proofs.PushLaws.{Pushed, pushed_all, pushed_placed, pushed_more, pushed_fault}
+use Rattle.cm_wit_definitions.proofs.FaultLaws.{both_false, first_false}
+use Rattle.cm_wit_definitions.proofs.GrowthLaws.{place_kept, below_more, extends_same}
+use Rattle.cm_wit_definitions.proofs.PushLaws.{Pushed, pushed_all, pushed_placed, pushed_more, pushed_fault}
 
 -- ---- one of them
 

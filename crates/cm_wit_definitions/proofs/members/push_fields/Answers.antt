@@ -1,6 +1,6 @@
 use Rattle.std.proofs.Common.{rules, arith}
-use Rattle.cm_wit_meanings.proofs.MemberLaws.{fields_next, fields_fault, fields_all}
-use Rattle.cm_wit_meanings.proofs.members.push_fields.Goals as goal
+use Rattle.cm_wit_definitions.proofs.MemberLaws.{fields_next, fields_fault, fields_all}
+use Rattle.cm_wit_definitions.proofs.members.push_fields.Goals as goal
 
 pub loop-text-preserved : goal.loop-text-preserved
 loop-text-preserved c =

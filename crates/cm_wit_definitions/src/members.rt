@@ -16,10 +16,8 @@ ghost use Rattle.cm_wit_meanings.specs.Meanings.{case_meaning, each_meaning, pay
 ghost use Rattle.cm_wit_meanings.specs.Meanings.{record_of, typed_meaning, variant_of};
 ghost use Rattle.cm_wit_meanings.specs.Places.{ArePlaced, Extends, scope_in};
 
-use crate::fault::MeaningFault;
-use crate::scope::Scope;
-use crate::types::push_type;
 use cm_type_arena::{CaseDef, FieldDef, Types};
+use cm_wit_meanings::{MeaningFault, Scope, push_type};
 use cm_wit_text::Case;
 use cm_wit_types::{Typed, WitType};
 use std::alloc::Global;

@@ -1,0 +1,8 @@
+mod GrowthLaws
+mod ScopeLaws
+mod FaultLaws
+mod EachLaws
+mod PushLaws
+mod MemberLaws
+mod DefinitionLaws
+mod FuncLaws
