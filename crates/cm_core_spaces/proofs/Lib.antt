@@ -1,2 +1,4 @@
 mod NameLaws
 mod SpaceLaws
+mod ReasonLaws
+mod OptionLaws

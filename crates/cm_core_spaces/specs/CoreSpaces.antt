@@ -5,6 +5,7 @@ use Rattle.std.specs.Borrow.{Bor}
 use Rattle.std.specs.List.{AllByRecursion}
 use Rattle.std.specs.Option.{option_map}
 use Rattle.std.specs.Str.{bytes_eq}
+use Rattle.cm_component.specs.Trees.{CanonTree, lift}
 use Rattle.cm_validity.specs.Definitions.{CoreFuncDef}
 use Rattle.cm_validity.specs.Items.{Item}
 use Rattle.cm_validate.specs.declared.fault.ValidReason.{ValidReason}
@@ -94,3 +95,10 @@ pub record Answers (x : Item) (old : CoreSpaces) (r : Option ValidReason) (new :
   pub fault : (made : ℕ → CoreFuncDef) (s : Spaces) → IsCoreOf made old s → r ≡ least (broken s x)
   pub after : (made : ℕ → CoreFuncDef) (s : Spaces) → IsCoreOf made old s
       → IsCoreOf made new (after_answer r s x)
+
+-- ---- what canonical definitions make
+
+-- the number of the core function that a canonical definition makes; a lift makes none
+abbrev pub number_made : CoreSpaces → CanonTree → Option ℕ
+number_made c (lift f os ty) = None
+number_made c _ = Some c.made

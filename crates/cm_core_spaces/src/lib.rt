@@ -3,6 +3,7 @@
 
 mod aliases;
 mod entries;
+mod options;
 mod spaces;
 
 pub use entries::{CoreFunc, CoreInstanceEntry, CoreItem, GuestExport, GuestMemory};
