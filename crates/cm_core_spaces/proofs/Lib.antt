@@ -2,3 +2,4 @@ mod NameLaws
 mod SpaceLaws
 mod ReasonLaws
 mod OptionLaws
+mod CanonLaws

@@ -2,6 +2,7 @@
 #![tactic(auto)]
 
 mod aliases;
+mod canons;
 mod entries;
 mod options;
 mod spaces;
