@@ -1,5 +1,5 @@
 -- Options of one kind, counted; memories told by their numbers.
-use Rattle.std.proofs.Common.{◌≡◌, ℕ, subst, ◌+◌, ◌<◌, ◌≤◌, ◌==◌, ◌&&◌, Bool, true, false, cond, nat_le, nat_lt, List, [], ◌∷◌, length, get_or, drop, Option, Some, None, refl, sym, ap, ◌∙◌, arith, add-one, drop-cons}
+use Rattle.std.proofs.Common.{◌≡◌, ℕ, subst, ◌+◌, ◌<◌, ◌==◌, ◌&&◌, Bool, true, false, cond, nat_le, nat_lt, List, ◌∷◌, length, get_or, drop, Some, None, refl, sym, ap, ◌∙◌, arith, add-one, drop-cons}
 use Rattle.std.specs.Prelude.{filter, not, position}
 use Rattle.std.specs.Borrow.{Bor}
 use Rattle.std.specs.List.{position_or_len}
@@ -7,7 +7,7 @@ use Rattle.std.specs.Str.{bytes_eq}
 use Rattle.std.proofs.lemmas.Bool.Decides.{nat_tests}
 use Rattle.std.proofs.lemmas.Slice.Eq.{bytes_eq-Decides}
 use Rattle.std.proofs.lemmas.List.Sums.{prefix_len_stops}
-use Rattle.cm_validity.specs.Options.{is_once, is_same_export}
+use Rattle.cm_validity.specs.Options.{is_same_export}
 use Rattle.cm_core_spaces.specs.declared.entries.GuestExport.{GuestExport}
 use Rattle.cm_core_spaces.specs.declared.entries.GuestMemory.{GuestMemory}
 use Rattle.cm_core_spaces.specs.Entries.{memory_of}
@@ -100,12 +100,13 @@ same_number names a b m n = bools (a.number == b.number) (is_same_export (memory
         let k = get_or names a.number d in
         let p = both_named a.export b.export k (hits (is_named a.export) names d a.number m) (subst (λ i. is_named b.export (get_or names i d) ≡ true) (sym (same_of a.number b.number e)) (hits (is_named b.export) names d b.number n)) in
         rw (p.0, p.1, eq_self b.export.instance) ((bytes_eq-Decides b.export.name.now b.export.name.now).1 refl)
+
     back : is_same_export (memory_of a) (memory_of b) ≡ true → (a.number == b.number) ≡ true
     back e =
         let p = both_true (a.export.instance == b.export.instance) (bytes_eq a.export.name.now b.export.name.now) e in
         let i = same_of a.export.instance b.export.instance p.0 in
         let t = (bytes_eq-Decides a.export.name.now b.export.name.now).0 p.1 in
         let same : position (is_named a.export) names ≡ position (is_named b.export) names =
-            ap (λ (x : ℕ). position (λ (k : ℕ × Bor (List ℕ)). (x == k.0) && bytes_eq a.export.name.now k.1.now) names) i
-            ∙ ap (λ (x : List ℕ). position (λ (k : ℕ × Bor (List ℕ)). (b.export.instance == k.0) && bytes_eq x k.1.now) names) t in
+        ap (λ (x : ℕ). position (λ (k : ℕ × Bor (List ℕ)). (x == k.0) && bytes_eq a.export.name.now k.1.now) names) i
+        ∙ ap (λ (x : List ℕ). position (λ (k : ℕ × Bor (List ℕ)). (b.export.instance == k.0) && bytes_eq x k.1.now) names) t in
         rw (some_is a.number b.number (sym m ∙ same ∙ n)) (eq_self b.number)

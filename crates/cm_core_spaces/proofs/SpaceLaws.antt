@@ -1,6 +1,5 @@
 -- The spaces of a component, at an index and with more names.
-use Rattle.std.proofs.Common.{◌≡◌, ℕ, subst, List, [], ◌∷◌, map, Option, Some, None, refl, sym, ap, ◌∙◌, zero, suc, IfSome, Bool, true, false, Result, Ok, Err, OnErr}
-use Rattle.std.specs.Prelude.{not}
+use Rattle.std.proofs.Common.{◌≡◌, ℕ, subst, List, [], ◌∷◌, Option, Some, None, refl, ap, ◌∙◌, zero, suc, IfSome, Result, Ok, Err, OnErr}
 use Rattle.std.proofs.lemmas.Option.{slice_get-map}
 use Rattle.std.specs.List.{AllByRecursion, slice_get}
 use Rattle.std.specs.Option.{option_map, option_and_then}
@@ -19,7 +18,7 @@ use Rattle.cm_core_spaces.specs.declared.entries.CoreInstanceEntry.{CoreInstance
 use Rattle.cm_core_spaces.specs.declared.entries.CoreInstanceEntry.TheVariants as entry
 use Rattle.cm_core_spaces.specs.declared.spaces.CoreSpaces.{CoreSpaces}
 use Rattle.cm_core_spaces.specs.Entries.{instance_of}
-use Rattle.cm_core_spaces.specs.CoreSpaces.{AreItemsNumbered, IsCoreOf, IsFirstNumbered, IsInstanceNumbered, IsItemNumbered, IsNumbered, KeepsNumbers, MemoryNames}
+use Rattle.cm_core_spaces.specs.CoreSpaces.{IsCoreOf, IsFirstNumbered, IsInstanceNumbered, IsItemNumbered, IsNumbered, KeepsNumbers, MemoryNames}
 
 -- ---- at an index
 

@@ -76,7 +76,8 @@ impl<'a> CoreSpaces<'a> {
     /// handles, makes the core function of the next number, and options may name the first memory.
     /// `AllocError` comes where there is no memory; nothing is changed then.
     pub fn add_canon(&mut self, canon: &Canon) -> Result<(), AllocError>
-        ensures added { OnOk result ((made : ℕ → CoreFuncDef) (s : Spaces) → IsCoreOf made self.old s
+        ensures added { OnOk result ((made : ℕ → CoreFuncDef) (s : Spaces)
+            → IsCoreOf made self.old s
             → canon_core_func s (canon_tree canon.now)
             ≡ option_map made (number_made self.old (canon_tree canon.now))
             → IsCoreOf made self.new (after_item s (canon_item (canon_tree canon.now)))) }

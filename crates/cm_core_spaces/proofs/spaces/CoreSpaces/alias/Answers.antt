@@ -1,12 +1,9 @@
-use Rattle.std.proofs.Common.{◌≡◌, ℕ, Option, Some, None, true, false, sym, ap, ◌∙◌, refl}
+use Rattle.std.proofs.Common.{◌≡◌, Some, None, sym, ap, ◌∙◌}
 use Rattle.std.specs.Option.{option_map}
 use Rattle.cm_validate.specs.declared.fault.ValidReason.TheVariants as reason
-use Rattle.cm_validity.specs.Definitions.{CoreDef, CoreFuncDef}
 use Rattle.cm_validity.specs.Reasons.{least, unless}
-use Rattle.cm_validity.specs.Rules.{is_of_core_sort}
-use Rattle.cm_validity.specs.Spaces.{Spaces, aliased_core}
+use Rattle.cm_validity.specs.Spaces.{aliased_core}
 use Rattle.cm_core_spaces.specs.Entries.{def_of}
-use Rattle.cm_core_spaces.specs.CoreSpaces.{IsCoreOf}
 use Rattle.cm_core_spaces.proofs.SpaceLaws.{broken_at, numbered_there, on_any_err}
 use Rattle.cm_component.specs.Trees.{core_instance_export}
 use Rattle.cm_core_spaces.proofs.spaces.CoreSpaces.alias.Goals as goal
