@@ -1,0 +1,5 @@
+mod NameLaws
+mod SpaceLaws
+mod ReasonLaws
+mod OptionLaws
+mod CanonLaws

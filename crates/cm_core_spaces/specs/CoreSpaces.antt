@@ -1,0 +1,104 @@
+-- The core index spaces, as those of a whole component.
+use Rattle.std.specs.Prelude.{◌≡◌, ◌==◌, ◌&&◌, ⊤, ℕ, Bool, false, List, Option, Some, None, map}
+use Rattle.std.specs.Prelude.{position}
+use Rattle.std.specs.Borrow.{Bor}
+use Rattle.std.specs.List.{AllByRecursion}
+use Rattle.std.specs.Option.{option_map}
+use Rattle.std.specs.Str.{bytes_eq}
+use Rattle.cm_component.specs.Trees.{CanonTree, lift}
+use Rattle.cm_validity.specs.Definitions.{CoreFuncDef}
+use Rattle.cm_validity.specs.Items.{Item}
+use Rattle.cm_validate.specs.declared.fault.ValidReason.{ValidReason}
+use Rattle.cm_validity.specs.Options.{is_guest}
+use Rattle.cm_validity.specs.Reasons.{least}
+use Rattle.cm_validity.specs.Rules.{broken}
+use Rattle.cm_validity.specs.Spaces.{Spaces, after_item}
+use Rattle.cm_core_spaces.specs.declared.entries.GuestExport.{GuestExport}
+use Rattle.cm_core_spaces.specs.declared.entries.GuestMemory.{GuestMemory}
+use Rattle.cm_core_spaces.specs.declared.entries.CoreItem.{CoreItem}
+use Rattle.cm_core_spaces.specs.declared.entries.CoreItem.TheVariants as item
+use Rattle.cm_core_spaces.specs.declared.entries.CoreInstanceEntry.{CoreInstanceEntry}
+use Rattle.cm_core_spaces.specs.declared.entries.CoreInstanceEntry.TheVariants as entry
+use Rattle.cm_core_spaces.specs.declared.spaces.CoreSpaces.{CoreSpaces}
+use Rattle.cm_core_spaces.specs.Entries.{export_of, memory_of, func_of, instance_of}
+
+-- ---- the numbers of memories
+
+-- the names of memories, each once: of which instance, and which name there
+abbrev pub MemoryNames : Type 0
+MemoryNames = List (ℕ × Bor (List ℕ))
+
+abbrev pub is_named : GuestExport → ℕ × Bor (List ℕ) → Bool
+is_named e k = (e.instance == k.0) && bytes_eq e.name.now k.1.now
+
+-- the number of a memory is the place of its name
+abbrev pub IsNumbered : MemoryNames → GuestMemory → Type 0
+IsNumbered names m = position (is_named m.export) names ≡ Some m.number
+
+abbrev pub IsItemNumbered : MemoryNames → CoreItem → Type 0
+IsItemNumbered names (item.Memory m) = IsNumbered names m
+IsItemNumbered names _ = ⊤
+
+abbrev pub AreItemsNumbered : MemoryNames → List (Bor (List ℕ) × CoreItem) → Type 0
+AreItemsNumbered names items = AllByRecursion (λ e. IsItemNumbered names e.1) items
+
+abbrev pub IsInstanceNumbered : MemoryNames → CoreInstanceEntry → Type 0
+IsInstanceNumbered names (entry.Instantiated m) = ⊤
+IsInstanceNumbered names (entry.Exporting items) = AreItemsNumbered names items.entries
+
+abbrev pub IsFirstNumbered : MemoryNames → Option GuestMemory → Type 0
+IsFirstNumbered names None = ⊤
+IsFirstNumbered names (Some m) = IsNumbered names m
+
+-- names keep their numbers where others are added
+abbrev pub KeepsNumbers : MemoryNames → MemoryNames → Type 0
+KeepsNumbers old new = (e : GuestExport) (n : ℕ)
+    → position (is_named e) old ≡ Some n → position (is_named e) new ≡ Some n
+
+-- ---- what they are
+
+-- These are the core index spaces among the spaces of a component, where `made` tells by its number
+-- what a canonical definition made.
+pub record IsCoreOf (made : ℕ → CoreFuncDef) (c : CoreSpaces) (s : Spaces) : Type 0 where
+  pub modules : s.core_modules ≡ c.modules
+  pub instances : s.core_instances ≡ map (instance_of made) c.instances.items
+  pub funcs : s.core_funcs ≡ map (func_of made) c.funcs.items
+  pub tables : s.tables ≡ map export_of c.tables.items
+  pub memories : s.memories ≡ map memory_of c.memories.items
+  pub globals : s.globals ≡ map export_of c.globals.items
+  pub memory : s.memory ≡ option_map memory_of c.memory
+  pub no_guests : (n : ℕ) → is_guest (made n) ≡ false
+  pub memories_numbered : AllByRecursion (IsNumbered c.memory_names.keys) c.memories.items
+  pub instances_numbered :
+      AllByRecursion (IsInstanceNumbered c.memory_names.keys) c.instances.items
+  pub memory_numbered : IsFirstNumbered c.memory_names.keys c.memory
+
+-- after an item, whatever the spaces before it were
+abbrev pub Becomes : Item → CoreSpaces → CoreSpaces → Type 0
+Becomes x old new =
+    (made : ℕ → CoreFuncDef) (s : Spaces) → IsCoreOf made old s → IsCoreOf made new (after_item s x)
+
+-- they stand for the same as before
+abbrev pub Stays : CoreSpaces → CoreSpaces → Type 0
+Stays old new = (made : ℕ → CoreFuncDef) (s : Spaces) → IsCoreOf made old s → IsCoreOf made new s
+
+-- ---- what calls answer
+
+-- the spaces after an item that breaks nothing; where it breaks a rule, those before it
+abbrev pub after_answer : Option ValidReason → Spaces → Item → Spaces
+after_answer None s x = after_item s x
+after_answer (Some r) s x = s
+
+-- A call answers for an item: with the least reason that it breaks, or else after it.
+pub record Answers (x : Item) (old : CoreSpaces) (r : Option ValidReason) (new : CoreSpaces)
+    : Type 0 where
+  pub fault : (made : ℕ → CoreFuncDef) (s : Spaces) → IsCoreOf made old s → r ≡ least (broken s x)
+  pub after : (made : ℕ → CoreFuncDef) (s : Spaces) → IsCoreOf made old s
+      → IsCoreOf made new (after_answer r s x)
+
+-- ---- what canonical definitions make
+
+-- the number of the core function that a canonical definition makes; a lift makes none
+abbrev pub number_made : CoreSpaces → CanonTree → Option ℕ
+number_made c (lift f os ty) = None
+number_made c _ = Some c.made

@@ -1,0 +1,3 @@
+pub mod Entries
+pub mod CoreSpaces
+pub mod Kinds

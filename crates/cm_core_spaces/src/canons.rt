@@ -1,0 +1,102 @@
+//! Core functions that canonical definitions make, and the first memory that their options name.
+
+ghost use Rattle.std.specs.Prelude.{◌≡◌, ◌++◌, ◌∷◌, [], ℕ, OnErr, OnOk};
+ghost use Rattle.std.specs.Option.{option_map, option_or};
+ghost use Rattle.cm_component.specs.Trees.{canon_tree};
+ghost use Rattle.cm_validity.specs.Definitions.{CoreFuncDef};
+ghost use Rattle.cm_validity.specs.Items.{canon_item};
+ghost use Rattle.cm_validity.specs.Spaces.{Spaces, after_item, canon_core_func, first_memory};
+ghost use Rattle.cm_validity.specs.Spaces.{option_memory};
+ghost use Rattle.cm_core_spaces.specs.CoreSpaces.{IsCoreOf, IsFirstNumbered, Stays, number_made};
+ghost use Rattle.cm_core_spaces.specs.Entries.{memory_of};
+
+use crate::entries::{CoreFunc, GuestMemory};
+use crate::spaces::CoreSpaces;
+use cm_component::{Canon, CanonOption};
+use std::alloc::AllocError;
+
+impl<'a> CoreSpaces<'a> {
+    /// The memory that an option names, if it names one.
+    fn option_memory(&self, option: CanonOption) -> Option<GuestMemory<'a>>
+        ensures memory { (made : ℕ → CoreFuncDef) (s : Spaces) → IsCoreOf made self.now s
+            → option_map memory_of result ≡ option_memory s option }
+        ensures numbered { (made : ℕ → CoreFuncDef) (s : Spaces) → IsCoreOf made self.now s
+            → IsFirstNumbered self.now.memory_names.keys result }
+    {
+        match option {
+            CanonOption::Memory(index) => self.memories.get(index as usize).copied(),
+            _ => None,
+        }
+    }
+
+    /// The first memory that options name.
+    fn first_memory(&self, options: &[CanonOption]) -> Option<GuestMemory<'a>>
+        ensures memory { (made : ℕ → CoreFuncDef) (s : Spaces) → IsCoreOf made self.now s
+            → option_map memory_of result ≡ first_memory s options.now }
+        ensures numbered { (made : ℕ → CoreFuncDef) (s : Spaces) → IsCoreOf made self.now s
+            → IsFirstNumbered self.now.memory_names.keys result }
+    {
+        for option in options {
+            let memory = self.option_memory(*option);
+            if memory.is_some() {
+                return memory;
+            }
+        }
+        None
+    }
+
+    /// The first memory of the component, after an item with these options.
+    fn memory_after(&self, options: &[CanonOption]) -> Option<GuestMemory<'a>>
+        ensures memory { (made : ℕ → CoreFuncDef) (s : Spaces) → IsCoreOf made self.now s
+            → option_map memory_of result ≡ option_or s.memory (first_memory s options.now) }
+        ensures numbered { (made : ℕ → CoreFuncDef) (s : Spaces) → IsCoreOf made self.now s
+            → IsFirstNumbered self.now.memory_names.keys result }
+    {
+        match self.memory {
+            Some(memory) => Some(memory),
+            None => self.first_memory(options),
+        }
+    }
+
+    /// Adds a core function that a canonical definition makes, of the next number.
+    fn make(&mut self) -> Result<(), AllocError>
+        ensures made { OnOk result ((made : ℕ → CoreFuncDef) (s : Spaces) → IsCoreOf made self.old s
+            → IsCoreOf made self.new
+            (record s { core_funcs = s.core_funcs ++ made self.old.made ∷ [] })) }
+        ensures names { self.new.memory_names ≡ self.old.memory_names }
+        ensures kept { OnErr result (Stays self.old self.new) }
+    {
+        let next = self.made.checked_add(1).ok_or(AllocError)?;
+        self.funcs.push(CoreFunc::Made(self.made))?;
+        self.made = next;
+        Ok(())
+    }
+
+    /// Adds a canonical definition that breaks nothing: a lower, or what makes, drops or reads
+    /// handles, makes the core function of the next number, and options may name the first memory.
+    /// `AllocError` comes where there is no memory; nothing is changed then.
+    pub fn add_canon(&mut self, canon: &Canon) -> Result<(), AllocError>
+        ensures added { OnOk result ((made : ℕ → CoreFuncDef) (s : Spaces)
+            → IsCoreOf made self.old s
+            → canon_core_func s (canon_tree canon.now)
+            ≡ option_map made (number_made self.old (canon_tree canon.now))
+            → IsCoreOf made self.new (after_item s (canon_item (canon_tree canon.now)))) }
+        ensures kept { OnErr result (Stays self.old self.new) }
+    {
+        match canon {
+            Canon::Lift { options, .. } => {
+                self.memory = self.memory_after(options);
+                Ok(())
+            }
+            Canon::Lower { options, .. } => {
+                let memory = self.memory_after(options);
+                self.make()?;
+                self.memory = memory;
+                Ok(())
+            }
+            Canon::ResourceNew { .. } | Canon::ResourceDrop { .. } | Canon::ResourceRep { .. } => {
+                self.make()
+            }
+        }
+    }
+}

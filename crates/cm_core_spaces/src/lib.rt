@@ -1,0 +1,11 @@
+//! The core index spaces of a component: core modules, core instances and what they export.
+#![tactic(auto)]
+
+mod aliases;
+mod canons;
+mod entries;
+mod options;
+mod spaces;
+
+pub use entries::{CoreFunc, CoreInstanceEntry, CoreItem, GuestExport, GuestMemory};
+pub use spaces::CoreSpaces;
