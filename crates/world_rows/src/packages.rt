@@ -70,10 +70,23 @@ fn answer_in<'a>(
 {
     let files = package_files(alloc, packages)?;
     let interfaces = interfaces(alloc, &files)?;
-    let worlds = worlds(alloc, &files)?;
     let directory = Directory::new(alloc, files, names, &interfaces)?;
-    match find_world(alloc, &directory, &worlds, named)? {
-        Some(world) => answer_world(alloc, &directory, &interfaces, &world),
+    answer_from(alloc, &directory, &interfaces, named)
+}
+
+/// The same of packages in a directory, whose interfaces are these.
+fn answer_from<'a>(
+    alloc: Global,
+    directory: &Directory<'a>,
+    interfaces: &[PlacedInterface<'a>],
+    named: Named,
+) -> Result<String, RowFault>
+    requires { map placed_interface interfaces.now
+        ≡ spec.interfaces (files_of directory.now.files.items) }
+{
+    let worlds = worlds(alloc, &directory.files)?;
+    match find_world(alloc, directory, &worlds, named)? {
+        Some(world) => answer_world(alloc, directory, interfaces, &world),
         None => world_fault(alloc, WorldFault::NoSuchWorld),
     }
 }
