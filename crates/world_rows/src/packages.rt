@@ -3,14 +3,18 @@
 ghost use Rattle.std.specs.Prelude.{◌≡◌, map};
 ghost use Rattle.std.specs.String.{string_bytes};
 ghost use Rattle.cm_wit.specs.PackageViews.{package_tree};
+ghost use Rattle.cm_wit_interfaces.specs.Interfaces as spec;
 ghost use Rattle.cm_wit_interfaces.specs.Interfaces.{package_name};
+ghost use Rattle.cm_wit_interfaces.specs.InterfaceViews.{files_of, placed_interface};
 
 use crate::files::package_files;
 use crate::texts::Texts;
 use crate::worlds::{show_externs, world_fault};
 use cm_rows::RowFault;
 use cm_wit::{Package, WitFault, WitReason, parse};
-use cm_wit_interfaces::{Directory, PlacedWorld, interfaces, package_names, worlds};
+use cm_wit_interfaces::{
+    Directory, PlacedInterface, PlacedWorld, interfaces, package_names, worlds,
+};
 use cm_wit_worlds::{WorldFault, externs_of};
 use std::alloc::Global;
 
@@ -66,13 +70,39 @@ fn answer_in<'a>(
 {
     let files = package_files(alloc, packages)?;
     let interfaces = interfaces(alloc, &files)?;
-    let worlds = worlds(alloc, &files)?;
     let directory = Directory::new(alloc, files, names, &interfaces)?;
-    let Some(world) = find_world(alloc, &directory, &worlds, named)? else {
-        return world_fault(alloc, WorldFault::NoSuchWorld);
-    };
-    match externs_of(alloc, &directory, &interfaces, &world) {
-        Ok(externs) => show_externs(alloc, &interfaces, &world, &externs),
+    answer_from(alloc, &directory, &interfaces, named)
+}
+
+/// The same of packages in a directory, whose interfaces are these.
+fn answer_from<'a>(
+    alloc: Global,
+    directory: &Directory<'a>,
+    interfaces: &[PlacedInterface<'a>],
+    named: Named,
+) -> Result<String, RowFault>
+    requires { map placed_interface interfaces.now
+        ≡ spec.interfaces (files_of directory.now.files.items) }
+{
+    let worlds = worlds(alloc, &directory.files)?;
+    match find_world(alloc, directory, &worlds, named)? {
+        Some(world) => answer_world(alloc, directory, interfaces, &world),
+        None => world_fault(alloc, WorldFault::NoSuchWorld),
+    }
+}
+
+/// The same of a world.
+fn answer_world<'a>(
+    alloc: Global,
+    directory: &Directory<'a>,
+    interfaces: &[PlacedInterface<'a>],
+    world: &PlacedWorld<'a>,
+) -> Result<String, RowFault>
+    requires { map placed_interface interfaces.now
+        ≡ spec.interfaces (files_of directory.now.files.items) }
+{
+    match externs_of(alloc, directory, interfaces, world) {
+        Ok(externs) => show_externs(alloc, interfaces, world, &externs),
         Err(fault) => world_fault(alloc, fault),
     }
 }

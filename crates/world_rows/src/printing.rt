@@ -26,19 +26,25 @@ pub fn answer(
     let (Some(written), Some(wanted)) = (texts.file(written), texts.file(wanted)) else {
         return Err(RowFault::NotARow);
     };
-    let once = match printed(alloc, written) {
-        Ok(once) => once,
-        Err(fault) => return show_fault(alloc, fault),
-    };
-    let again = match printed(alloc, once.as_str()) {
-        Ok(again) => again,
-        Err(fault) => return show_fault(alloc, fault),
-    };
+    match printed_twice(alloc, written) {
+        Ok((once, again)) => show_compared(alloc, once.as_str(), again.as_str(), wanted),
+        Err(fault) => show_fault(alloc, fault),
+    }
+}
+
+/// The text that prints the package of a text, and the one that prints the package of that.
+fn printed_twice(alloc: Global, text: &str) -> Result<(String, String), WitFault> {
+    let once = printed(alloc, text)?;
+    let again = printed(alloc, once.as_str())?;
+    Ok((once, again))
+}
+
+fn show_compared(alloc: Global, once: &str, again: &str, wanted: &str) -> Result<String, RowFault> {
     let length = once.len();
-    if once.as_str() != wanted {
+    if once != wanted {
         return Ok(format!(in alloc; "{length} other bytes")?);
     }
-    if again.as_str() != wanted {
+    if again != wanted {
         return Ok(format!(in alloc; "{length} bytes, but others again")?);
     }
     Ok(format!(in alloc; "{length} bytes, and again")?)
