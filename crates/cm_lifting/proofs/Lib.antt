@@ -9,3 +9,4 @@ pub mod ShownLaws
 pub mod ReadLaws
 pub mod FoundLaws
 pub mod PartLemmas
+pub mod MeasureLemmas

@@ -5,3 +5,4 @@ pub mod PartLaws
 pub mod Reading
 pub mod Sized
 pub mod TextReads
+pub mod TextSizes

@@ -85,8 +85,10 @@ pub(crate) fn load(
     }
 }
 
-/// The value of a leaf at an address.
-fn load_leaf(memory: &[u8], leaf: Leaf, at: usize) -> Result<Value, Stop>
+/// The value of a leaf at an address; takes no memory.
+///
+/// It stops with `BadChar` at a number that is no Unicode scalar, for a char.
+pub fn load_leaf(memory: &[u8], leaf: Leaf, at: usize) -> Result<Value, Stop>
     requires laid { at + size_of_leaf leaf ≤ length memory.now }
     requires sized { IsSizedLeaf leaf }
     ensures { (s : State) → Reads value_of result s

@@ -25,7 +25,7 @@ fn number_16(memory: &[u8], at: usize) -> u16
 
 /// The number of 32 bits at an address.
 #[tactic(auto, unfolding(cm_abi_model::specs::Numbers::number_at))]
-pub(crate) fn number_32(memory: &[u8], at: usize) -> u32
+pub fn number_32(memory: &[u8], at: usize) -> u32
     requires { at + 4 ≤ length memory.now }
     ensures { result ≡ number_at 4 memory.now at }
 {
@@ -51,7 +51,7 @@ fn number_64(memory: &[u8], at: usize) -> u64
 }
 
 /// The number of so many bytes at an address.
-pub(crate) fn number_at(memory: &[u8], bytes: u32, at: usize) -> u64
+pub fn number_at(memory: &[u8], bytes: u32, at: usize) -> u64
     requires size { IsNumberSize bytes }
     requires within { at + bytes ≤ length memory.now }
     ensures value { result ≡ number_at bytes memory.now at }

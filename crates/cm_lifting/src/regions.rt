@@ -10,8 +10,11 @@ use cm_abi_model::AbiFault;
 
 /// Looks at so many bytes at a pointer, and counts them as content: they are aligned, lie in the
 /// memory, and are no more than may still come.
+///
+/// It stops with `Misaligned` where they are not aligned, else with `PointerBounds` where they pass
+/// the end of the memory, else with `TooLarge` where fewer bytes may still come.
 #[tactic(auto, unfolding(crate::specs::Reading::region))]
-pub(crate) fn check_region(
+pub fn check_region(
     memory: &[u8],
     align: u32,
     at: u32,

@@ -21,10 +21,10 @@ use cm_values::Value;
 use std::alloc::Global;
 
 /// The bit of a length that says UTF-16.
-const UTF16_TAG: u32 = 0x8000_0000;
+pub(crate) const UTF16_TAG: u32 = 0x8000_0000;
 
 /// The alignment of a string's pointer, in bytes.
-fn text_align(encoding: StringEncoding) -> u32
+pub(crate) fn text_align(encoding: StringEncoding) -> u32
     ensures value { result ≡ text_align encoding }
     ensures positive { 0 < result }
 {
@@ -35,7 +35,7 @@ fn text_align(encoding: StringEncoding) -> u32
 }
 
 /// How many bytes the string of a tagged length has.
-fn text_size(encoding: StringEncoding, tagged: u32) -> u64
+pub(crate) fn text_size(encoding: StringEncoding, tagged: u32) -> u64
     ensures value { result ≡ text_size encoding tagged }
     ensures small { result < 2 ^ 33 }
 {

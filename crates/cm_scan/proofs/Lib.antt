@@ -1,0 +1,3 @@
+pub mod SeenLayouts
+pub mod Readable
+pub mod ScanLemmas

@@ -1,0 +1,14 @@
+//! Values of components looked at where they stand in a memory, with no tree made of them: the same
+//! checks as of a value that is read, and a record of each string and list (CanonicalABI.md,
+//! "Loading").
+#![tactic(auto)]
+
+mod record;
+mod scan;
+mod scanner;
+mod scanning;
+mod texts;
+
+pub use record::{PartKind, PartRecord};
+pub use scan::scan_value;
+pub use scanner::{Scan, Scanner};
