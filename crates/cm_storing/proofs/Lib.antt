@@ -1,0 +1,10 @@
+pub mod BytesLemmas
+pub mod TextLemmas
+pub mod StoringLemmas
+pub mod SeenLayouts
+pub mod LayoutLaws
+pub mod FittingLaws
+pub mod FlatLemmas
+pub mod PassedLaws
+pub mod FlatLaws
+pub mod CallLemmas

@@ -1,0 +1,22 @@
+-- What the values of a call are stored by (CanonicalABI.md, "Lifting and Lowering Values").
+use Rattle.std.specs.Prelude.{ℕ, ◌≤◌, length}
+use Rattle.cm_types.specs.Types.{Fields}
+use Rattle.cm_types.specs.Values.{Val, HasType}
+use Rattle.cm_abi_model.specs.declared.encoding.StringEncoding.{StringEncoding}
+use Rattle.cm_abi_model.specs.Parts.{handle_count}
+use Rattle.cm_abi_model.specs.Receives.{call_kinds}
+use Rattle.cm_abi_model.specs.Regions.{ArePlaced}
+use Rattle.cm_abi_model.specs.Requests.{call_parts, tuple_of}
+use Rattle.cm_abi_model.specs.Stores.{Given}
+use Rattle.cm_abi_model.specs.Views.{Way}
+
+-- A value of the types of a call can be stored in a memory of so many bytes and passed in so many
+-- slots: each of its parts has a place in the memory, each of its handles a number, and there is a
+-- slot for each core value.
+pub record IsProvided (way : Way) (types : Fields) (v : Val) (target : StringEncoding) (g : Given)
+    (memory_length slot_count : ℕ) : Type 0 where
+  pub typed : HasType (tuple_of types) v
+  pub placed : ArePlaced target memory_length g 0 (call_parts way types v)
+  pub places : length (call_parts way types v) ≤ length g.places
+  pub numbers : handle_count v ≤ length g.numbers
+  pub slots : length (call_kinds way types) ≤ slot_count

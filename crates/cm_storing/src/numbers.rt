@@ -1,0 +1,37 @@
+//! Numbers that values are stored as.
+
+ghost use Rattle.std.specs.Prelude.{◌≡◌};
+ghost use Rattle.cm_values.specs.ValueTrees.{value_of};
+ghost use Rattle.cm_storing.specs.FlatLowering.{flat_number};
+ghost use Rattle.cm_storing.specs.Storing.{number_in};
+
+use cm_layout::Leaf;
+use cm_values::Value;
+
+/// The number that a value of one number is stored as, a signed one in two's complement of 64 bits,
+/// and 0 for any other.
+pub(crate) fn number_in(value: &Value) -> u64
+    ensures { result ≡ number_in (value_of value.now) }
+{
+    match value {
+        Value::Bool(truth) => u64::from(*truth),
+        Value::Signed(number) => number.cast_unsigned(),
+        Value::Unsigned(number) => *number,
+        Value::Char(scalar) => u64::from(u32::from(*scalar)),
+        Value::Flags(bits) => u64::from(*bits),
+        _ => 0,
+    }
+}
+
+/// The number that a value of one number is passed as, by its leaf: one with a sign in two's
+/// complement of 32 bits, or of 64 where the leaf itself has as many.
+pub(crate) fn flat_number(leaf: Leaf, value: &Value) -> u64
+    ensures { result ≡ flat_number leaf (value_of value.now) }
+{
+    let number = number_in(value);
+    match leaf {
+        Leaf::Signed(8) => number,
+        Leaf::Signed(_) => number % 0x1_0000_0000,
+        _ => number,
+    }
+}
