@@ -1,20 +1,20 @@
 -- What is required of the values of a call is so of their layout.
-use Rattle.std.proofs.Common.{◌≡◌, ℕ, ◌+◌, ◌*◌, ◌<◌, ◌≤◌, Bool, true, false, List, ◌∷◌, length, refl, sym, ap, ◌∙◌, arith}
-use Rattle.std.specs.Prelude.{nat_lt, if◌then◌else◌}
+use Rattle.std.proofs.Common.{◌≡◌, ℕ, ◌+◌, ◌<◌, ◌≤◌, true, false, ◌∷◌, length, refl, sym, ap, ◌∙◌, arith}
+use Rattle.std.specs.Prelude.{nat_lt}
 use Rattle.std.proofs.lemmas.Bool.{lt-ltb, le-ltb}
 use Rattle.cm_types.specs.Types.{Fields, Ty}
 use Rattle.cm_types.specs.Values.{Val, HasType}
 use Rattle.cm_layout.specs.Flattening.{flat_of_fields}
 use Rattle.cm_layout.specs.Laid.{Laid}
-use Rattle.cm_layout.specs.Shapes.{LayoutTy, Parts, fields_shape, head_of, layout_of_fields_at, parts_at, parts_from, shape_of_type}
+use Rattle.cm_layout.specs.Shapes.{LayoutTy, Parts, fields_shape, layout_of_fields_at, parts_at, parts_from, shape_of_type}
 use Rattle.cm_layout.specs.Sizes.{align_of, size_of}
 use Rattle.cm_abi_model.specs.declared.encoding.StringEncoding.{StringEncoding}
 use Rattle.cm_abi_model.specs.FlatShows.{width_of}
 use Rattle.cm_abi_model.specs.Parts.{element_part, handle_count, part_count, parts_in}
-use Rattle.cm_abi_model.specs.Receives.{behind, call_bytes, call_kinds, call_numbers, put, slots_of}
+use Rattle.cm_abi_model.specs.Receives.{behind, call_bytes, call_numbers, put, slots_of}
 use Rattle.cm_abi_model.specs.Regions.{ArePlaced}
-use Rattle.cm_abi_model.specs.Requests.{call_parts, is_spilled, stored_charset, tuple_of}
-use Rattle.cm_abi_model.specs.Stores.{Given, place_of, poke, stored}
+use Rattle.cm_abi_model.specs.Requests.{is_spilled, stored_charset, tuple_of}
+use Rattle.cm_abi_model.specs.Stores.{Given, place_of, stored}
 use Rattle.cm_abi_model.specs.Views.{Way, flat_limit}
 use Rattle.cm_storing.specs.Calls.{IsProvided}
 use Rattle.cm_storing.specs.Fitting.{Fits}

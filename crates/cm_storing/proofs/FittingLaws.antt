@@ -1,15 +1,15 @@
 -- A value fits where each of its parts has a place, and each of its handles a number.
-use Rattle.std.proofs.Common.{◌≡◌, ℕ, zero, suc, ◌+◌, ◌*◌, ◌<◌, ◌≤◌, List, [], ◌∷◌, ◌++◌, length, refl, sym, ap, ◌∙◌, arith, length-append}
+use Rattle.std.proofs.Common.{◌≡◌, ℕ, zero, suc, ◌+◌, ◌≤◌, List, [], ◌∷◌, ◌++◌, length, refl, arith, length-append}
 use Rattle.cm_types.specs.Types.{Ty, Fields, Cases, bool, signed, unsigned, char, string, list, fixed_list, fields, cases, flags, own, borrow, no_fields, field, no_cases, plain, carrying}
-use Rattle.cm_types.specs.Values.{Val, Vals, no_vals, val, truth, signed_number, number, scalar, text, elements, parts, bare, bearing, flag_set, handle, count_of, AllVals, HasType, HaveTypes, IsCarriedCase}
+use Rattle.cm_types.specs.Values.{Val, Vals, no_vals, val, truth, signed_number, number, scalar, text, elements, parts, bare, bearing, flag_set, handle, AllVals, HasType, HaveTypes, IsCarriedCase}
 use Rattle.cm_layout.specs.Alignment.{align_to}
 use Rattle.cm_layout.specs.Shapes.{parts_at, parts_from, payloads_from, payloads_of, shape_of_type}
 use Rattle.cm_layout.specs.Sizes.{align_of, size_of}
 use Rattle.cm_abi_model.specs.declared.encoding.StringEncoding.{StringEncoding}
 use Rattle.cm_abi_model.specs.Parts.{Part, handle_count, handle_count_each, part_count, part_count_each, parts_each, parts_in, parts_in_fields, parts_in_payload}
 use Rattle.cm_abi_model.specs.Regions.{ArePlaced}
-use Rattle.cm_abi_model.specs.Requests.{stored_charset, text_bytes}
-use Rattle.cm_abi_model.specs.Stores.{Given, place_of}
+use Rattle.cm_abi_model.specs.Requests.{stored_charset}
+use Rattle.cm_abi_model.specs.Stores.{Given}
 use Rattle.cm_storing.specs.Fitting.{FitEach, FitFields, Fits, FitsCase}
 
 -- ---- how many parts
@@ -75,9 +75,10 @@ module _ (target : StringEncoding) (n : ℕ) (g : Given) (is : g.charset ≡ sto
   each_fits P F Q no_vals k h size one all placed room handles = tt
   each_fits P F Q (val v vs) k h size one all placed room handles =
       let count = size v all.0 in
-      let both = placed_both k (P v) (parts_each P vs) (k + part_count v) (omega (arith, count)) placed in
-      (one v k h all.0 both.0 (omega (arith, room)) (omega (arith, handles)),
-      each_fits P F Q vs (k + part_count v) (h + handle_count v) size one all.1 both.1 (omega (arith, room)) (omega (arith, handles)))
+      let both = placed_both k (P v) (parts_each P vs) (k + part_count v) (omega (arith, count)) placed in (
+        one v k h all.0 both.0 (omega (arith, room)) (omega (arith, handles)),
+        each_fits P F Q vs (k + part_count v) (h + handle_count v) size one all.1 both.1 (omega (arith, room)) (omega (arith, handles)),
+      )
 
   mutual
     pub value_fits : (t : Ty) (v : Val) (k h : ℕ) → HasType t v → ArePlaced target n g k (parts_in t v) → k + part_count v ≤ length g.places → h + handle_count v ≤ length g.numbers
@@ -106,9 +107,10 @@ module _ (target : StringEncoding) (n : ℕ) (g : Given) (is : g.charset ≡ sto
     fields_fit (field l t fs) end no_vals k h typed placed room handles = absurd typed
     fields_fit (field l t fs) end (val v vs) k h typed placed room handles =
         let count = counted t v typed.0 in
-        let both = placed_both k (parts_in t v) (parts_in_fields fs vs) (k + part_count v) (omega (arith, count)) placed in
-        (value_fits t v k h typed.0 both.0 (omega (arith, room)) (omega (arith, handles)),
-        fields_fit fs (align_to (align_of t) end + size_of t) vs (k + part_count v) (h + handle_count v) typed.1 both.1 (omega (arith, room)) (omega (arith, handles)))
+        let both = placed_both k (parts_in t v) (parts_in_fields fs vs) (k + part_count v) (omega (arith, count)) placed in (
+          value_fits t v k h typed.0 both.0 (omega (arith, room)) (omega (arith, handles)),
+          fields_fit fs (align_to (align_of t) end + size_of t) vs (k + part_count v) (h + handle_count v) typed.1 both.1 (omega (arith, room)) (omega (arith, handles)),
+        )
 
     case_fits : (cs : Cases) (i : ℕ) (v : Val) (k h : ℕ) → IsCarriedCase cs i v → ArePlaced target n g k (parts_in_payload cs i v) → k + part_count v ≤ length g.places → h + handle_count v ≤ length g.numbers
         → FitsCase n g (payloads_from (payloads_of cs)) i v k h

@@ -1,8 +1,8 @@
 -- By the layout of a type a value is passed as by the type.
-use Rattle.std.proofs.Common.{◌≡◌, ℕ, zero, suc, ◌+◌, ◌*◌, ◌%◌, ◌-◌, ◌^◌, ◌<◌, ◌≤◌, List, [], ◌∷◌, ◌++◌, refl, sym, ap, ◌∙◌, arith, ℤ, pos, negsuc, length}
+use Rattle.std.proofs.Common.{◌≡◌, ℕ, zero, suc, ◌+◌, ◌^◌, ◌<◌, ◌≤◌, List, ◌++◌, refl, ap, ◌∙◌, arith, ℤ, pos, negsuc}
 use Rattle.std.proofs.lemmas.Int.{ints}
 use Rattle.cm_types.specs.Types.{Ty, Fields, Cases, Width, width_bytes, bits_8, bits_16, bits_32, bits_64, bool, signed, unsigned, char, string, list, fixed_list, fields, cases, flags, own, borrow, no_fields, field, no_cases, plain, carrying}
-use Rattle.cm_types.specs.Values.{Val, Vals, no_vals, val, truth, signed_number, number, scalar, text, elements, parts, bare, bearing, flag_set, handle, count_of, AllVals, FitsSignedWidth, HasType, HaveTypes, IsCarriedCase}
+use Rattle.cm_types.specs.Values.{Val, Vals, no_vals, val, truth, signed_number, number, scalar, text, elements, parts, bare, bearing, flag_set, handle, AllVals, FitsSignedWidth, HasType, HaveTypes, IsCarriedCase}
 use Rattle.cm_layout.specs.Alignment.{align_to}
 use Rattle.cm_layout.specs.Shapes.{parts_at, parts_from, payloads_from, payloads_of, shape_of_type}
 use Rattle.cm_layout.specs.Sizes.{align_of, size_of}
@@ -10,7 +10,7 @@ use Rattle.cm_layout.specs.declared.layouts.Leaf.TheVariants as leaf
 use Rattle.cm_abi_model.specs.FlatShows.{width_of}
 use Rattle.cm_abi_model.specs.Parts.{handle_count, part_count}
 use Rattle.cm_abi_model.specs.Receives.{behind, behind_each, behind_fields, behind_payload, put, slot_bytes, slots_of, slots_of_fields, slots_of_payload}
-use Rattle.cm_abi_model.specs.Stores.{Given, Placed, from_signed, place_of, store_each, stored}
+use Rattle.cm_abi_model.specs.Stores.{Given, Placed, from_signed, place_of, stored}
 use Rattle.cm_storing.specs.FlatLowering.{behind_by, behind_by_case, behind_by_fields, flat_number, slots_by, slots_by_case, slots_by_fields}
 use Rattle.cm_storing.specs.Storing.{stored_by}
 use Rattle.cm_storing.proofs.LayoutLaws.{same_each, same_stored}

@@ -1,9 +1,9 @@
 -- Slots of values, one value after another.
-use Rattle.std.proofs.Common.{◌≡◌, ℕ, zero, suc, ◌+◌, ◌*◌, ◌<◌, ◌≤◌, List, [], ◌∷◌, ◌++◌, length, map, drop, refl, sym, ap, ◌∙◌, arith, get_or, Some, None, Option}
+use Rattle.std.proofs.Common.{◌≡◌, ℕ, zero, suc, ◌+◌, ◌<◌, ◌≤◌, List, [], ◌∷◌, ◌++◌, length, map, drop, refl, sym, ap, ◌∙◌, arith, get_or, Some, None, Option}
 use Rattle.std.specs.Prelude.{⊤}
-use Rattle.cm_types.specs.Values.{Val, Vals, no_vals, val}
+use Rattle.cm_types.specs.Values.{Val}
 use Rattle.cm_layout.specs.Layouts.{part_of}
-use Rattle.cm_layout.specs.Shapes.{LayoutTy, Parts, Payloads, no_parts, part, no_payloads, nothing, carried, parts_from, payload_before, payloads_from}
+use Rattle.cm_layout.specs.Shapes.{LayoutTy, Parts, Payloads, no_parts, part, parts_from, payload_before, payloads_from}
 use Rattle.cm_layout.specs.declared.layouts.Part.{Part as CodedPart}
 use Rattle.cm_values.specs.ValueTrees.{value_of, values_of}
 use Rattle.cm_values.specs.declared.values.Value.{Value}

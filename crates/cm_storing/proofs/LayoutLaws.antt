@@ -1,5 +1,5 @@
 -- By the layout of a type the same bytes are stored as by the type.
-use Rattle.std.proofs.Common.{◌≡◌, ℕ, zero, suc, ◌+◌, ◌*◌, ◌/◌, ◌%◌, ◌-◌, ◌^◌, ◌<◌, ◌≤◌, Bool, true, false, List, [], ◌∷◌, ◌++◌, refl, sym, ap, ◌∙◌, arith, ℤ, pos, negsuc}
+use Rattle.std.proofs.Common.{◌≡◌, ℕ, zero, suc, ◌+◌, ◌*◌, ◌/◌, ◌%◌, ◌-◌, ◌^◌, ◌≤◌, Bool, true, false, [], ◌∷◌, ◌++◌, refl, ap, ◌∙◌, arith, ℤ, pos, negsuc}
 use Rattle.std.proofs.lemmas.Int.{ints}
 use Rattle.std.specs.Prelude.{if◌then◌else◌}
 use Rattle.cm_types.specs.Types.{Ty, Fields, Cases, Width, width_bytes, bits_8, bits_16, bits_32, bits_64, bool, signed, unsigned, char, string, list, fixed_list, fields, cases, flags, own, borrow, no_fields, field, no_cases, plain, carrying}
@@ -8,7 +8,7 @@ use Rattle.cm_layout.specs.Alignment.{align_to}
 use Rattle.cm_layout.specs.Shapes.{parts_at, parts_from, payloads_from, payloads_of, shape_of_type}
 use Rattle.cm_layout.specs.Sizes.{align_of, case_count, discriminant_size, payload_offset, size_of}
 use Rattle.cm_abi_model.specs.Parts.{handle_count, part_count}
-use Rattle.cm_abi_model.specs.Stores.{Given, Placed, Storing, bytes_of, from_signed, place_of, placed, pointer_bytes, store_each, stored, stored_fields, stored_payload}
+use Rattle.cm_abi_model.specs.Stores.{Given, Storing, bytes_of, from_signed, place_of, placed, pointer_bytes, store_each, stored, stored_fields, stored_payload}
 use Rattle.cm_storing.specs.Storing.{stored_by, stored_by_case, stored_by_fields}
 
 -- ---- numbers

@@ -1,5 +1,5 @@
 -- What layouts and values the code's are.
-use Rattle.std.proofs.Common.{◌≡◌, ◌∙◌, ap, ℕ, Option, None, Some, Vec, Global, Box, map, rules}
+use Rattle.std.proofs.Common.{◌≡◌, ℕ, Option, None, Some, Vec, Global, Box, map, rules}
 use Rattle.std.specs.declared.rc.Rc.{Rc}
 use Rattle.cm_types.specs.Values.{bearing, parts}
 use Rattle.cm_layout.specs.Layouts.{layout_of, nothings, payload_of, shape_of}

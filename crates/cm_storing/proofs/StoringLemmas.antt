@@ -6,12 +6,12 @@ use Rattle.std.specs.Prelude.{⊤}
 use Rattle.cm_types.specs.Values.{Val, Vals, bare, no_vals, val, count_of}
 use Rattle.cm_layout.specs.Laid.{Laid, PartsLaid, PayloadsLaid}
 use Rattle.cm_layout.specs.Layouts.{nothings, part_of}
-use Rattle.cm_layout.specs.Shapes.{LayoutTy, Parts, Payloads, Shape, cases_shape, no_parts, part, no_payloads, nothing, carried, parts_from, payload_before, payloads_from}
+use Rattle.cm_layout.specs.Shapes.{LayoutTy, Parts, Payloads, cases_shape, no_parts, part, parts_from, payload_before, payloads_from}
 use Rattle.cm_layout.specs.declared.layouts.Part.{Part as CodedPart}
 use Rattle.cm_values.specs.ValueTrees.{payload_value, value_of, values_of}
 use Rattle.cm_values.specs.declared.values.Value.{Value}
 use Rattle.cm_abi_model.specs.Parts.{handle_count, handle_count_each, part_count, part_count_each}
-use Rattle.cm_abi_model.specs.Stores.{Given, Placed, Storing, poke, store_each}
+use Rattle.cm_abi_model.specs.Stores.{Given, Storing, poke, store_each}
 use Rattle.cm_storing.specs.Fitting.{FitEach, FitFields, Fits, FitsCase, FitsPayload, PayloadLies}
 use Rattle.cm_storing.specs.Storing.{stored_by, stored_by_case, stored_by_fields, stored_by_payload}
 use Rattle.cm_storing.proofs.BytesLemmas.{poke_both}

@@ -1,25 +1,20 @@
 -- Texts are stored as their scalars are spelled.
-use Rattle.std.proofs.Common.{◌≡◌, ℕ, suc, ◌*◌, ◌<◌, ◌≤◌, ◌&&◌, true, List, [], ◌∷◌, ◌++◌, length, refl, sym, ap, subst, ◌∙◌, arith, length-append}
+use Rattle.std.proofs.Common.{◌≡◌, ℕ, ◌&&◌, true, List, [], ◌∷◌, ◌++◌, length, refl, sym, ap, subst, ◌∙◌, arith}
 use Rattle.std.proofs.Math.Seq.{take-length}
 use Rattle.std.proofs.lemmas.Bool.{and_parts}
-use Rattle.std.proofs.lemmas.Bool.Decides.{nat_tests}
 use Rattle.std.proofs.lemmas.Str.{chars-encodes, encodes-chars, scalars-chars}
 use Rattle.std.specs.Char.{IsScalar}
-use Rattle.std.specs.Char.Escape.{encode_utf16}
 use Rattle.std.specs.List.{AllByRecursion, flat_map}
 use Rattle.std.specs.Str.{IsUtf8, all_scalars, chars, encode_utf8_all}
 use Rattle.cm_text.specs.Fault.{IsIllFormed}
-
 use Rattle.cm_text.specs.Text.{IsSameText, IsText, IsTextOfSize, IsTextUpTo}
 use Rattle.cm_text.specs.Utf16.{spell_utf16}
-use Rattle.cm_text.specs.Utf16Laws.{length_of_units}
 use Rattle.cm_text.specs.Utf8.{spell_utf8}
 use Rattle.cm_text.specs.Utf8Laws.{spell_utf8-encode}
 use Rattle.cm_text.specs.declared.fault.TextFault.{TextFault}
 use Rattle.cm_text.specs.declared.fault.TextFault.TheVariants as text_fault
 use Rattle.cm_abi_model.specs.Requests.{text_bytes, text_units}
-
-use Rattle.cm_abi_model.specs.Texts.{Charset, spell, utf8, utf16, latin1}
+use Rattle.cm_abi_model.specs.Texts.{utf8, utf16}
 
 -- ---- a string is a text
 

@@ -18,8 +18,7 @@ ghost use Rattle.cm_storing.specs.Storing.{given_of, stored_by};
 
 use crate::flat::lower_fields;
 use crate::laws::{
-    layouts_are_passed, layouts_pass_what_types_do, layouts_store_what_types_do,
-    placed_values_fit,
+    layouts_are_passed, layouts_pass_what_types_do, layouts_store_what_types_do, placed_values_fit,
 };
 use crate::storing::store_fields;
 use crate::target::{Next, Target};
@@ -64,7 +63,15 @@ fn store_tuple(
         (parts (values_of values.now)) at next.old.part next.old.handle) memory.old }
     ensures stays { length memory.new ≡ length memory.old }
 {
-    store_fields(to, memory, fields_of(layout), values, at, layout.head.size, next);
+    store_fields(
+        to,
+        memory,
+        fields_of(layout),
+        values,
+        at,
+        layout.head.size,
+        next,
+    );
 }
 
 /// Passes a tuple of values in slots from the first one on.
@@ -96,12 +103,12 @@ fn lower_tuple(
 
 /// Stores the values of a call in the receiver's memory, and puts the numbers that pass them into
 /// slots, by the layout of the tuple of their types (CanonicalABI.md, "Lifting and Lowering
-/// Values", `lower_flat_values`). `limit` is how many core values are passed flat that way, at most:
-/// beyond it the tuple itself is stored, at the place of the first part, which is the one number
-/// then. Each byte of the values is written at its address, and each number into its slot; no other
-/// byte and no other slot is changed. The values have their types, each of their parts has a place
-/// in the memory, each of their handles a number, and there is a slot for each core value. It takes
-/// no memory.
+/// Values", `lower_flat_values`). `limit` is how many core values are passed flat that way, at
+/// most: beyond it the tuple itself is stored, at the place of the first part, which is the one
+/// number then. Each byte of the values is written at its address, and each number into its slot,
+/// of which there is one for each core value, from 0; no other byte and no other slot is changed.
+/// The values have their types, each of their parts has a place in the memory, and each of their
+/// handles a number. It takes no memory.
 pub fn store_call(
     to: &Target<'_>,
     memory: &mut [u8],

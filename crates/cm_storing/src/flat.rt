@@ -153,7 +153,16 @@ fn lower_flat(
             lower_each(to, slots, memory, element, values, at, next)
         }
         (Form::Fields(parts), Value::Fields(values)) => {
-            lower_fields(to, slots, memory, parts, values, at, layout.head.width, next)
+            lower_fields(
+                to,
+                slots,
+                memory,
+                parts,
+                values,
+                at,
+                layout.head.width,
+                next,
+            )
         }
         (Form::Cases { payloads, .. }, Value::Case { index, payload }) => {
             slots[at] = u64::from(*index);

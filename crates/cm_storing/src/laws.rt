@@ -20,14 +20,14 @@ use cm_layout::laws::layouts;
 
 /// By the layout of a type the same bytes are stored of its values as by the type, each at the
 /// same address.
-pub fn layouts_store_what_types_do()
+pub(crate) fn layouts_store_what_types_do()
     ensures { (g : Given) (t : Ty) (v : Val) (p k h : ℕ) → HasType t v
         → stored_by g (shape_of_type t) v p k h ≡ stored g t v p k h }
 {}
 
 /// By the layout of a type a value is passed as the same numbers in the same slots as by the type,
 /// with the same bytes behind them.
-pub fn layouts_pass_what_types_do()
+pub(crate) fn layouts_pass_what_types_do()
     ensures slots { (g : Given) (t : Ty) (v : Val) (s k h : ℕ) → HasType t v
         → slots_by g (shape_of_type t) v s k h ≡ slots_of g t v s k h }
     ensures behind { (g : Given) (t : Ty) (v : Val) (k h : ℕ) → HasType t v
@@ -35,7 +35,7 @@ pub fn layouts_pass_what_types_do()
 {}
 
 /// What a type holds has its slots within those of the type.
-pub fn layouts_are_passed()
+pub(crate) fn layouts_are_passed()
     ensures { (t : Ty) → IsPassedIn (width_of t) (shape_of_type t) }
 {
     layouts();
@@ -43,7 +43,7 @@ pub fn layouts_are_passed()
 
 /// A value fits by the layout of its type where each of its parts has a place in the memory, and
 /// each of its handles a number.
-pub fn placed_values_fit()
+pub(crate) fn placed_values_fit()
     ensures { (target : StringEncoding) (n : ℕ) (g : Given) (t : Ty) (v : Val) (k h : ℕ)
         → HasType t v → g.charset ≡ stored_charset target
         → ArePlaced target n g k (parts_in t v)

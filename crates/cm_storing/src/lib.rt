@@ -4,7 +4,7 @@
 mod bytes;
 mod calls;
 mod flat;
-pub mod laws;
+mod laws;
 mod numbers;
 mod storing;
 mod target;

@@ -225,7 +225,14 @@ fn store_field(
     ensures part { next.new.part ≡ next.old.part + part_count (value_of value.now) }
     ensures handle { next.new.handle ≡ next.old.handle + handle_count (value_of value.now) }
 {
-    store(to, memory, &part.layout, value, at + part.offset as usize, next);
+    store(
+        to,
+        memory,
+        &part.layout,
+        value,
+        at + part.offset as usize,
+        next,
+    );
 }
 
 /// Stores what the case of this number carries, so far behind an address.

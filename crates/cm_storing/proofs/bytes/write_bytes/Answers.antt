@@ -1,4 +1,4 @@
-use Rattle.std.proofs.Common.{rules, refl, ◌≡◌, ◌-◌, ◌+◌, arith, length}
+use Rattle.std.proofs.Common.{rules, ◌≡◌, ◌-◌, ◌+◌, arith, length}
 use Rattle.cm_storing.proofs.BytesLemmas.{part_written}
 use Rattle.cm_storing.proofs.bytes.write_bytes.Goals as goal
 

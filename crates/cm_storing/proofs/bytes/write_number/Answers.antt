@@ -1,4 +1,4 @@
-use Rattle.std.proofs.Common.{◌≡◌, ◌∙◌, ◌+◌}
+use Rattle.std.proofs.Common.{◌∙◌}
 use Rattle.cm_storing.proofs.BytesLemmas.{number_done, number_next, set_length}
 use Rattle.cm_storing.proofs.bytes.write_number.Goals as goal
 

@@ -1,5 +1,5 @@
-use Rattle.std.proofs.Common.{◌≡◌, ◌∙◌, ◌+◌, ap, sym}
-use Rattle.cm_abi_model.specs.Stores.{bytes_of, placed, poke}
+use Rattle.std.proofs.Common.{◌+◌, sym}
+use Rattle.cm_abi_model.specs.Stores.{bytes_of, placed}
 use Rattle.cm_storing.proofs.BytesLemmas.{poke_both}
 use Rattle.cm_storing.proofs.bytes.write_pointer.Goals as goal
 

@@ -1,4 +1,4 @@
-use Rattle.std.proofs.Common.{rules, refl, ap, sym, ◌∙◌, ◌≡◌, ◌<◌, ◌≤◌, arith, length}
+use Rattle.std.proofs.Common.{rules, refl, ap, ◌∙◌, ◌<◌, ◌≤◌, length}
 use Rattle.cm_types.specs.Values.{parts}
 use Rattle.cm_layout.specs.Layouts.{layout_of}
 use Rattle.cm_layout.specs.declared.heads.Head.{Head}

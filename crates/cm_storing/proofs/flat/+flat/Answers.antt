@@ -1,4 +1,4 @@
-use Rattle.std.proofs.Common.{rules, refl, ap, sym, ◌∙◌, ◌≡◌, ◌+◌, ◌*◌, ◌<◌, ◌≤◌, arith, drop, length, map}
+use Rattle.std.proofs.Common.{rules, refl, ap, sym, ◌∙◌, ◌≡◌, ◌+◌, ◌*◌, ◌<◌, ◌≤◌, arith, length, map}
 use Rattle.cm_types.specs.Values.{bare, parts}
 use Rattle.cm_layout.specs.Layouts.{layout_of, nothings, part_of, payload_of, shape_of}
 use Rattle.cm_layout.specs.Shapes.{cases_shape, fixed_list_shape, parts_from}

@@ -1,4 +1,4 @@
-use Rattle.std.proofs.Common.{◌≡◌, ◌+◌, ◌*◌, ◌≤◌, length, map, drop}
+use Rattle.std.proofs.Common.{◌≡◌, ◌+◌, ◌*◌, length, map, drop}
 use Rattle.cm_layout.specs.Layouts.{layout_of, part_of}
 use Rattle.cm_layout.specs.Shapes.{parts_from}
 use Rattle.cm_values.specs.ValueTrees.{values_of}

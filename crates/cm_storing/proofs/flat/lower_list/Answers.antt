@@ -1,4 +1,4 @@
-use Rattle.std.proofs.Common.{◌≡◌, ◌+◌, ◌*◌, ◌≤◌, length, refl, sym}
+use Rattle.std.proofs.Common.{◌+◌, ◌*◌, ◌≤◌, length, refl, sym}
 use Rattle.cm_layout.specs.Layouts.{layout_of}
 use Rattle.cm_types.specs.Values.{count_of}
 use Rattle.cm_values.specs.ValueTrees.{values_of}

@@ -1,4 +1,4 @@
-use Rattle.std.proofs.Common.{◌≡◌, ◌+◌, ◌≤◌, ◌∙◌, ap, sym, length}
+use Rattle.std.proofs.Common.{◌≡◌, ◌∙◌, ap, sym}
 use Rattle.std.specs.Str.{chars}
 use Rattle.cm_abi_model.specs.Requests.{stored_charset, text_bytes}
 use Rattle.cm_abi_model.specs.Stores.{placed, poke}

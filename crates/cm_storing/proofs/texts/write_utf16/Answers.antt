@@ -1,4 +1,4 @@
-use Rattle.std.proofs.Common.{rules, ◌≡◌, ◌+◌, ◌-◌, ◌≤◌, ◌∙◌, ap, sym, length, arith, take, drop}
+use Rattle.std.proofs.Common.{rules, ◌≡◌, ◌+◌, ◌-◌, ◌∙◌, ap, sym, length, arith, take, drop}
 use Rattle.std.specs.Str.{chars}
 use Rattle.cm_abi_model.specs.Requests.{text_bytes}
 use Rattle.cm_abi_model.specs.Texts.{utf16}
