@@ -1,0 +1,5 @@
+mod PokeLemmas
+mod PutLemmas
+mod SlotLemmas
+mod CountLemmas
+mod CallLemmas
