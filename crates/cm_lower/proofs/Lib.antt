@@ -3,3 +3,4 @@ mod PutLemmas
 mod SlotLemmas
 mod CountLemmas
 mod CallLemmas
+mod ReadyLemmas

@@ -113,7 +113,7 @@ pub fn lower(
         return Err(AbiFault::EngineMemory);
     };
     let places = check_answers(alloc, &requests, answers, memory.len())?;
-    let mut slots = empty_slots(alloc, kinds.len())?;
+    let mut zeros = empty_slots(alloc, kinds.len())?;
     let mut core_values = room_for(alloc, kinds.len())?;
     let numbers = give_values(alloc, table, to, layout, values)?;
     let target = Target {
@@ -121,7 +121,8 @@ pub fn lower(
         places: &places,
         numbers: &numbers,
     };
-    store_call(&target, memory, &mut slots, layout, way.flat_limit(), values);
-    put_core_values(kinds, &slots, &mut core_values);
+    let slots: &mut [u64] = &mut zeros;
+    store_call(&target, memory, slots, layout, way.flat_limit(), values);
+    put_core_values(kinds, slots, &mut core_values);
     Ok(core_values)
 }
