@@ -1,12 +1,11 @@
 -- Numbers put into slots in order, each where its kind fits it.
-use Rattle.std.proofs.Common.{◌≡◌, ℕ, zero, suc, ◌+◌, ◌^◌, ◌<◌, ◌≤◌, List, [], ◌∷◌, ◌++◌, length, map, refl, sym, ap, subst, ◌∙◌, arith, get_or, slice_index, slice_set}
+use Rattle.std.proofs.Common.{◌≡◌, ℕ, zero, suc, ◌+◌, ◌<◌, ◌≤◌, List, [], ◌∷◌, ◌++◌, length, map, refl, ap, subst, ◌∙◌, arith, get_or, slice_index, slice_set}
 use Rattle.std.specs.Prelude.{replicate}
 use Rattle.std.proofs.lemmas.List.{get_or-set_same, get_or-set_other, length-set}
 use Rattle.cm_types.specs.CoreValues.{kind_of}
 use Rattle.cm_types.specs.declared.core_value.CoreKind.{CoreKind}
 use Rattle.cm_types.specs.declared.core_value.CoreKind.TheVariants as kind
 use Rattle.cm_types.specs.declared.core_value.CoreValue.{CoreValue}
-use Rattle.cm_types.specs.declared.core_value.CoreValue.TheVariants as core_value
 use Rattle.cm_layout.specs.Flattening.{join, join_slots}
 use Rattle.cm_abi_model.specs.Numbers.{slot_at, slot_number}
 use Rattle.cm_abi_model.specs.Receives.{AreNumbers, SlotsHold, put}

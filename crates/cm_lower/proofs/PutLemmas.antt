@@ -1,5 +1,5 @@
 -- The numbers of a value are put into its slots in order, each where the kind of its type fits it.
-use Rattle.std.proofs.Common.{◌≡◌, ℕ, zero, suc, ◌+◌, ◌*◌, ◌/◌, ◌^◌, ◌<◌, ◌≤◌, Bool, true, false, List, [], ◌∷◌, ◌++◌, length, refl, sym, ap, subst, ◌∙◌, arith, pos, negsuc, ℤ}
+use Rattle.std.proofs.Common.{◌≡◌, ℕ, zero, suc, ◌+◌, ◌/◌, ◌^◌, ◌<◌, ◌≤◌, Bool, true, false, List, [], ◌∷◌, ◌++◌, length, refl, sym, subst, arith, pos, negsuc, ℤ}
 use Rattle.std.specs.Prelude.{◌&&◌, if◌then◌else◌}
 use Rattle.std.proofs.Math.Nat.{pow-le-pow_right}
 use Rattle.std.proofs.lemmas.Bool.{leb-true}
@@ -8,9 +8,9 @@ use Rattle.std.proofs.lemmas.List.{length-append}
 use Rattle.cm_types.specs.declared.core_value.CoreKind.{CoreKind}
 use Rattle.cm_types.specs.declared.core_value.CoreKind.TheVariants as kind
 use Rattle.cm_types.specs.Spellable.{are_spellable, are_spellable_payloads, is_spellable}
-use Rattle.cm_types.specs.Types.{Ty, Fields, Cases, Width, width_bytes, bits_8, bits_16, bits_32, bits_64, bool, signed, unsigned, char, string, list, fixed_list, fields, cases, flags, own, borrow, no_fields, field, no_cases, plain, carrying}
+use Rattle.cm_types.specs.Types.{Ty, Fields, Cases, Width, bits_8, bits_16, bits_32, bits_64, bool, signed, unsigned, char, string, list, fixed_list, fields, cases, flags, own, borrow, no_fields, field, no_cases, plain, carrying}
 use Rattle.cm_types.specs.Values.{Val, Vals, no_vals, val, truth, signed_number, number, scalar, text, elements, parts, bare, bearing, flag_set, handle, count_of, AllVals, FitsSignedWidth, FitsWidth, HasType, HaveTypes, IsCarriedCase}
-use Rattle.cm_layout.specs.Flattening.{copies, flat_of, flat_of_cases, flat_of_fields, join_slots, number_kind}
+use Rattle.cm_layout.specs.Flattening.{copies, flat_of, flat_of_cases, flat_of_fields, number_kind}
 use Rattle.cm_abi_model.specs.FlatShows.{width_of}
 use Rattle.cm_abi_model.specs.Parts.{AllCasesFit, CasesFit, Part, text_part, element_part, handle_count, part_count, parts_each, parts_in, parts_in_fields, parts_in_payload}
 use Rattle.cm_abi_model.specs.Receives.{put, slot_bytes, slots_of, slots_of_fields, slots_of_payload}
@@ -18,7 +18,7 @@ use Rattle.cm_abi_model.specs.Requests.{text_bytes, text_units}
 use Rattle.cm_abi_model.specs.Stores.{Given, from_signed, number_of, place_of, store_each}
 use Rattle.cm_abi_model.specs.Texts.{Charset, unit_size, utf8, utf16, latin1}
 use Rattle.cm_lower.specs.Kinds.{FitsKind}
-use Rattle.cm_lower.proofs.PokeLemmas.{Covers, FitsAt, PutsIn, covers_behind, covers_join_left, covers_join_right, covers_left, covers_right, longer_left, longer_right, put_one, puts_append, puts_lower, puts_upper}
+use Rattle.cm_lower.proofs.PokeLemmas.{Covers, PutsIn, covers_behind, covers_join_left, covers_join_right, covers_left, covers_right, longer_left, longer_right, put_one, puts_append, puts_upper}
 
 bool_small : (b : Bool) → (if b then 1 else 0) < 2 ^ 32
 bool_small true = omega arith

@@ -1,9 +1,8 @@
 -- What a receiver has, once the answers will do and the handles are given.
-use Rattle.std.proofs.Common.{◌≡◌, ℕ, ◌+◌, ◌^◌, ◌<◌, ◌≤◌, ◌↔◌, List, length, map, None, refl, sym, ap, subst, ◌∙◌, arith, Bool}
+use Rattle.std.proofs.Common.{◌≡◌, ℕ, ◌^◌, ◌<◌, ◌↔◌, List, length, map, None, refl, sym, ap, subst, ◌∙◌, arith, Bool}
 use Rattle.std.specs.List.{All}
 use Rattle.std.specs.Prelude.{replicate}
 use Rattle.cm_types.specs.CoreValues.{kind_of}
-use Rattle.cm_types.specs.declared.core_value.CoreKind.{CoreKind}
 use Rattle.cm_types.specs.declared.core_value.CoreValue.{CoreValue}
 use Rattle.cm_types.specs.Types.{Fields}
 use Rattle.cm_types.specs.Values.{HasType, Val}
@@ -12,8 +11,8 @@ use Rattle.cm_handles.specs.Handles.{Handles, IsSoundHandles}
 use Rattle.cm_abi_model.specs.declared.encoding.StringEncoding.{StringEncoding}
 use Rattle.cm_abi_model.specs.declared.request.Request.{Request}
 use Rattle.cm_abi_model.specs.Numbers.{slot_number}
-use Rattle.cm_abi_model.specs.Parts.{Part, handle_count}
-use Rattle.cm_abi_model.specs.Receives.{AreNumbers, Receives, Serves, call_bytes, call_kinds, call_numbers}
+use Rattle.cm_abi_model.specs.Parts.{Part}
+use Rattle.cm_abi_model.specs.Receives.{AreNumbers, Receives, Serves, call_bytes, call_numbers}
 use Rattle.cm_abi_model.specs.Regions.{AreApart, ArePlaced}
 use Rattle.cm_abi_model.specs.Requests.{IsStored, call_parts, part_requests, stored_charset, tuple_of}
 use Rattle.cm_abi_model.specs.Stores.{Framed, Given, Holds, poke}

@@ -1,4 +1,4 @@
-use Rattle.std.proofs.Common.{◌≡◌, ◌+◌, ◌≤◌, ◌++◌, drop, length, map, vec_capacity}
+use Rattle.std.proofs.Common.{◌≡◌, ◌≤◌, ◌++◌, drop, length, map, vec_capacity}
 use Rattle.cm_types.specs.CoreValues.{kind_of}
 use Rattle.cm_abi_model.specs.Numbers.{slot_number}
 use Rattle.cm_lower.specs.Kinds.{FitKinds}
