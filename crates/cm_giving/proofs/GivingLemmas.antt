@@ -1,6 +1,7 @@
 -- Giving handles, one after another.
-use Rattle.std.proofs.Common.{inl, inr, ◌≡◌, ℕ, zero, suc, ◌+◌, ◌<◌, ◌≤◌, Bool, true, false, List, [], ◌∷◌, ◌++◌, length, take, drop, refl, sym, ap, subst, ◌∙◌, arith, get_or, drop-cons, add-one, Some, None}
+use Rattle.std.proofs.Common.{inl, inr, ◌≡◌, ℕ, zero, suc, ◌+◌, ◌^◌, ◌<◌, ◌≤◌, Bool, true, false, List, [], ◌∷◌, ◌++◌, length, take, drop, refl, sym, ap, subst, ◌∙◌, arith, get_or, drop-cons, add-one, Some, None}
 use Rattle.std.specs.Prelude.{slice_index, ◌==◌, if◌then◌else◌}
+use Rattle.std.specs.List.{All}
 use Rattle.std.specs.Option.{ForSome}
 use Rattle.std.proofs.lemmas.List.Elements.{Contains-append_left, Contains-append_right}
 use Rattle.std.proofs.lemmas.List.{append_assoc, append-nil}
@@ -103,6 +104,7 @@ pub record SoFar (to : Receiver) (start : Handles) (leaves : List CodedLeaf) (t 
   pub left : indices_left t + added_count to (leaves_of leaves) ≡ indices_left start + added_count to (leaves_of (drop i leaves))
   pub sound : IsSoundHandles t
   pub counted : length ns ≡ i
+  pub small : All (λ n. n < 2 ^ 32) ns
 
 pub none_yet : (to : Receiver) (start : Handles) (leaves : List CodedLeaf) (ns : List ℕ) → ns ≡ [] → IsSoundHandles start → SoFar to start leaves start ns 0
 none_yet to start leaves ns none sound =
@@ -115,7 +117,15 @@ none_yet to start leaves ns none sound =
       left = refl;
       sound = sound;
       counted = rw none refl;
+      small = rw none (λ k d lt. absurd (omega (arith, lt)));
     }
+
+-- one more number of 32 bits
+small_more : (ns : List ℕ) (n : ℕ) → All (λ m. m < 2 ^ 32) ns → n < 2 ^ 32 → All (λ m. m < 2 ^ 32) (ns ++ n ∷ [])
+small_more [] n all small zero d lt = small
+small_more [] n all small (suc k) d lt = absurd (omega (arith, lt))
+small_more (m ∷ ns) n all small zero d lt = all 0 d (omega arith)
+small_more (m ∷ ns) n all small (suc k) d lt = small_more ns n (λ j e j_lt. all (suc j) e (omega (arith, j_lt))) small k d (omega (arith, lt))
 
 taken_suc : (ls : List CodedLeaf) (i : ℕ) (d : CodedLeaf) → i < length ls → leaves_of (take (suc i) ls) ≡ leaves_of (take i ls) ++ leaf_of (get_or ls i d) ∷ []
 taken_suc [] i d lt = absurd (omega arith)
@@ -156,8 +166,8 @@ pub one_more : (to : Receiver) (start old new : Handles) (leaves : List CodedLea
     → ForSome (added_for to (leaf_of (get_or leaves i d))) (λ h. handle_at new n ≡ Some h)
     → AllStay old new → NoneElse old new (n ∷ [])
     → indices_left new + added_by (added_for to (leaf_of (get_or leaves i d))) ≡ indices_left old
-    → IsSoundHandles new → SoFar to start leaves new behind (i + 1)
-one_more to start old new leaves ns behind n i d lt so is number table here stay others left sound =
+    → IsSoundHandles new → n < 2 ^ 32 → SoFar to start leaves new behind (i + 1)
+one_more to start old new leaves ns behind n i d lt so is number table here stay others left sound small =
     let next = next_leaf leaves i d lt in
     let counts = count_next to leaves i d lt in
     record {
@@ -174,6 +184,7 @@ one_more to start old new leaves ns behind n i d lt so is number table here stay
       left = omega (arith, so.left, left, counts);
       sound = sound;
       counted = rw is (length_one ns n ∙ ap (λ k. k + 1) so.counted);
+      small = rw is (small_more ns n so.small small);
     }
 
 -- all of them are given
@@ -189,4 +200,5 @@ all_given to start new leaves ns i past so =
       none_else = so.none_else;
       left = so.left ∙ (ap (λ ls. indices_left start + added_count to (leaves_of ls)) none ∙ omega arith);
       sound = so.sound;
+      small = so.small;
     }

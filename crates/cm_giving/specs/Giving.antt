@@ -1,7 +1,8 @@
 -- The handles that a receiver gets for those of a value (CanonicalABI.md, "Storing" of own and
 -- borrow, `lower_own` and `lower_borrow`).
-use Rattle.std.specs.Prelude.{◌≡◌, ℕ, ◌+◌, ◌==◌, ◌⊎◌, if◌then◌else◌, List, [], ◌∷◌, Contains}
-use Rattle.std.specs.Prelude.{Option, Some, None}
+use Rattle.std.specs.Prelude.{◌≡◌, ℕ, ◌+◌, ◌<◌, ◌^◌, ◌==◌, ◌⊎◌, if◌then◌else◌, List, [], ◌∷◌}
+use Rattle.std.specs.Prelude.{Contains, Option, Some, None}
+use Rattle.std.specs.List.{All}
 use Rattle.cm_types.specs.Values.{HandleValue}
 use Rattle.cm_handles.specs.Handles.{Handles, IsSoundHandles, after_add, handle_at}
 use Rattle.cm_handles.specs.Handles.{indices_left, next_index}
@@ -79,11 +80,12 @@ NoneElse old new ns =
     → (handle_at old index ≡ Some h) ⊎ Contains ns index
 
 -- The handles of a value were given: the table got what it is to get, each at the next index, and
--- these numbers stand for them, also as the receiver sees them. No handle that stood is changed,
--- none stands at another index, and so many indices fewer are left.
+-- these numbers of 32 bits stand for them, also as the receiver sees them. No handle that stood is
+-- changed, none stands at another index, and so many indices fewer are left.
 pub record Gives (to : Receiver) (old new : Handles) (leaves : List HandleLeaf) (ns : List ℕ)
     : Type 0 where
   pub numbers : ns ≡ numbers_given to old leaves
+  pub small : All (λ n. n < 2 ^ 32) ns
   pub table : new ≡ after_given to old leaves
   pub stand : (w : View) (g : Given) → IsViewOf w to new → g.numbers ≡ ns → AllStand w g 0 leaves
   pub stay : AllStay old new

@@ -1,0 +1,6 @@
+mod PokeLemmas
+mod PutLemmas
+mod SlotLemmas
+mod CountLemmas
+mod CallLemmas
+mod ReadyLemmas
