@@ -104,7 +104,7 @@ impl TypeStack {
     ) -> Result<TypeNode, RowFault> {
         let resource = ResourceId {
             component: 0,
-            number: operand,
+            number: u64::from(operand),
         };
         Ok(match name {
             "fixed" => TypeNode::FixedList {

@@ -120,7 +120,7 @@ impl Sketching {
         ensures declared { OnOk result (scope_sketched self.new
             ≡ sketch_fresh (scope_sketched self.old) name.now) }
     {
-        let resource = resource_id(self.next)?;
+        let resource = resource_id(self.next);
         self.add_item(name, Some(ItemSketch::Resource(resource)))?;
         self.own.push(Sketch::Resource(resource))?;
         if self.next == u64::MAX {

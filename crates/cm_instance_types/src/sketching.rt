@@ -84,18 +84,17 @@ impl Sketching {
     }
 
     /// The sketch of what an alias names, if it names anything.
-    fn outer(&self, component: &TypeScope, outer: OuterType) -> Result<Option<Sketch>, AllocError>
-        ensures { IfOk result (λ r. r
+    fn outer(&self, component: &TypeScope, outer: OuterType) -> Option<Sketch>
+        ensures { result
             ≡ outer_sketched (own_types component.now) (scope_sketched self.now)
-            outer.count outer.index) }
+            outer.count outer.index }
     {
         match outer.count {
-            0 => Ok(self.own.get(outer.index)),
-            1 => match component.get(outer.index) {
-                Some(entry) => Ok(Some(sketch_entry(component.types(), entry)?)),
-                None => Ok(None),
-            },
-            _ => Ok(None),
+            0 => self.own.get(outer.index),
+            1 => component
+                .get(outer.index)
+                .map(|entry| sketch_entry(component.types(), entry)),
+            _ => None,
         }
     }
 
@@ -112,7 +111,7 @@ impl Sketching {
             ≡ after_sketched (own_types component.now) (scope_sketched self.old)
             (outer_type_decl outer)) }
     {
-        match self.outer(component, outer)? {
+        match self.outer(component, outer) {
             None => {
                 self.own.push(Sketch::Faulty)?;
                 Ok(Some(ValidReason::NoSuchIndex))

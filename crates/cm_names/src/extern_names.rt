@@ -16,10 +16,11 @@ ghost use Rattle.cm_names.specs.ExternNames.{without_front};
 ghost use Rattle.cm_names.specs.ExternNames.{HasLabels, version_in, version_text};
 ghost use Rattle.cm_names.specs.ExternNameForms.{form_tree, pair_view};
 
-use crate::names::{NameFault, label_fault};
+use crate::names::{NameFault, label_fault, shared};
 use semver::{Error, Version};
 use std::alloc::{AllocError, Global};
 use std::marker::Model;
+use std::rc::Rc;
 
 /// What an extern name says, part by part.
 #[derive(Clone, Copy)]
@@ -56,7 +57,7 @@ pub enum ExternNameForm<'a> {
 /// of Explainer.md, "Import and Export Definitions".
 #[derive(Drop)]
 pub struct ExternName {
-    text: String,
+    text: Rc<String>,
 }
 
 impl Model for ExternName {
@@ -66,9 +67,9 @@ impl Model for ExternName {
 
     ghost Value = { List ℕ };
 
-    ghost view = { λ name. string_bytes name.text };
+    ghost view = { λ name. string_bytes name.text.value };
 
-    ghost invariant = { λ name. is_extern_name (string_bytes name.text) ≡ true };
+    ghost invariant = { λ name. is_extern_name (string_bytes name.text.value) ≡ true };
 }
 
 impl ExternName {
@@ -98,7 +99,7 @@ impl ExternName {
         match extern_name_fault(alloc, text) {
             Err(AllocError) => Err(NameFault::Memory),
             Ok(Some(fault)) => Err(fault),
-            Ok(None) => match String::from_str(alloc, text) {
+            Ok(None) => match shared(alloc, text) {
                 Ok(text) => Ok(ExternName { text }),
                 Err(AllocError) => Err(NameFault::Memory),
             },
@@ -139,8 +140,8 @@ impl ExternName {
 impl Clone for ExternName {
     ghost is_clone = { λ name copy. copy ≡ name };
 
-    /// The same name once more; its text is not looked at again. `AllocError` comes where there is
-    /// no memory for it.
+    /// The same name once more; its text is shared. `AllocError` comes where it is shared too often
+    /// to be counted.
     fn clone(&self) -> Result<ExternName, AllocError> {
         let text = self.text.clone()?;
         Ok(ExternName { text })

@@ -2,12 +2,14 @@
 
 ghost use Rattle.std.specs.Prelude.{◌≡◌, IfOk, IfErr, ◌⊎◌, Some};
 ghost use Rattle.std.specs.List.{list_all};
+ghost use Rattle.std.specs.String.{string_bytes};
 ghost use Rattle.cm_names.specs.Names.{is_in_word, is_in_acronym, is_fragment, is_label};
 ghost use Rattle.cm_names.specs.Names.{is_same_name, label_fault};
 ghost use Rattle.cm_names.specs.Faults.{fault_number};
 
 use std::alloc::{AllocError, Global};
 use std::marker::Model;
+use std::rc::Rc;
 use thiserror::Error;
 
 /// Why a text is refused as a name, the most basic reason first.
@@ -47,7 +49,7 @@ impl NameFault {
 /// Contracts see a label as the bytes of its text.
 #[derive(Drop)]
 pub struct Label {
-    text: String,
+    text: Rc<String>,
 }
 
 impl Model for Label {
@@ -57,9 +59,9 @@ impl Model for Label {
 
     ghost Value = { List ℕ };
 
-    ghost view = { λ label. string_bytes label.text };
+    ghost view = { λ label. string_bytes label.text.value };
 
-    ghost invariant = { λ label. is_label (string_bytes label.text) ≡ true };
+    ghost invariant = { λ label. is_label (string_bytes label.text.value) ≡ true };
 }
 
 impl Label {
@@ -83,7 +85,7 @@ impl Label {
     {
         match label_fault(text) {
             Some(fault) => Err(fault),
-            None => match String::from_str(alloc, text) {
+            None => match shared(alloc, text) {
                 Ok(text) => Ok(Label { text }),
                 Err(AllocError) => Err(NameFault::Memory),
             },
@@ -108,11 +110,19 @@ impl Label {
     }
 }
 
+/// A copy of the text that can be shared.
+pub(crate) fn shared(alloc: Global, text: &str) -> Result<Rc<String>, AllocError>
+    ensures { IfOk result (λ copy. string_bytes copy.value ≡ text.now) }
+{
+    let copy = String::from_str(alloc, text)?;
+    Ok(Rc::new(alloc, copy)?)
+}
+
 impl Clone for Label {
     ghost is_clone = { λ label copy. copy ≡ label };
 
-    /// The same label once more; its text is not looked at again. `AllocError` comes where there is
-    /// no memory for it.
+    /// The same label once more; its text is shared. `AllocError` comes where it is shared too often
+    /// to be counted.
     fn clone(&self) -> Result<Label, AllocError> {
         let text = self.text.clone()?;
         Ok(Label { text })

@@ -1,6 +1,6 @@
 //! Resources that are counted from another number on.
 
-ghost use Rattle.std.specs.Prelude.{◌≡◌, ◌+◌, ◌≤◌, ◌^◌, IfNone, IfSome};
+ghost use Rattle.std.specs.Prelude.{◌≡◌, ◌+◌, ◌<◌, ◌^◌, IfNone, IfSome};
 ghost use Rattle.cm_replaced.specs.Moves.{moved};
 
 use crate::replacement::Replacement;
@@ -15,25 +15,21 @@ use cm_types::ResourceId;
 /// the place, and only where its own nodes are asked for is it copied.
 #[derive(Clone, Copy)]
 pub struct Move {
-    first: u32,
-    count: u32,
-    next: u32,
-    ghost fits: { next + count ≤ 2 ^ 32 },
+    first: u64,
+    count: u64,
+    next: u64,
+    ghost fits: { next + count < 2 ^ 64 },
 }
 
 impl Move {
     /// The move of so many resources from the number `first` on to the number `next` on; none where
-    /// the last of them would have no number below 2^32.
-    pub fn new(first: u32, count: u32, next: u32) -> Option<Move>
+    /// the number behind the last of them is not below 2^64.
+    pub fn new(first: u64, count: u64, next: u64) -> Option<Move>
         ensures made { IfSome result (λ m. m.first ≡ first × m.count ≡ count × m.next ≡ next) }
-        ensures refused { IfNone result (¬ (next + count ≤ 2 ^ 32)) }
+        ensures refused { IfNone result (¬ (next + count < 2 ^ 64)) }
     {
-        let last = u64::from(next) + u64::from(count);
-        if last <= 1 << 32 {
-            Some(Move { first, count, next })
-        } else {
-            None
-        }
+        next.checked_add(count)?;
+        Some(Move { first, count, next })
     }
 }
 

@@ -19,11 +19,11 @@ pub(crate) enum Key {
     Flags(usize),
     Own {
         component: u32,
-        number: u32,
+        number: u64,
     },
     Borrow {
         component: u32,
-        number: u32,
+        number: u64,
     },
     Field {
         label: usize,

@@ -29,18 +29,14 @@ fn primitive(primitive: PrimValType) -> Primitive
     }
 }
 
-/// The resource of this number. `AllocError` comes where the number is too large for a handle to
-/// tell.
-fn resource_id(number: u64) -> Result<ResourceId, AllocError>
-    ensures { IfOk result (λ r. r ≡ resource_id number) }
+/// The resource of this number.
+fn resource_id(number: u64) -> ResourceId
+    ensures { result ≡ resource_id number }
 {
-    if number > u64::from(u32::MAX) {
-        return Err(AllocError);
-    }
-    Ok(ResourceId {
+    ResourceId {
         component: 0,
-        number: number as u32,
-    })
+        number,
+    }
 }
 
 impl TypeScope {
@@ -84,9 +80,8 @@ impl TypeScope {
     }
 
     /// The resource that an index names; the first one where it names none.
-    fn resource(&self, index: u32) -> Result<ResourceId, AllocError>
-        ensures { IfOk result (λ r.
-            r ≡ resource_id (resource_or_zero (own_types self.now) index)) }
+    fn resource(&self, index: u32) -> ResourceId
+        ensures { result ≡ resource_id (resource_or_zero (own_types self.now) index) }
     {
         match self.own.entries.get(index as usize) {
             Some(TypeEntry::Resource(number)) => resource_id(*number),
@@ -170,8 +165,8 @@ impl TypeScope {
                 ok: self.payload_place(*ok),
                 error: self.payload_place(*error),
             },
-            DefValType::Own(index) => TypeDef::Own(self.resource(*index)?),
-            DefValType::Borrow(index) => TypeDef::Borrow(self.resource(*index)?),
+            DefValType::Own(index) => TypeDef::Own(self.resource(*index)),
+            DefValType::Borrow(index) => TypeDef::Borrow(self.resource(*index)),
         })
     }
 

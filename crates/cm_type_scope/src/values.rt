@@ -73,8 +73,7 @@ impl TypeScope {
     /// own. It costs the definition's own length and a look-up for each of its labels: nothing
     /// below a part is walked.
     ///
-    /// `AllocError` comes where there is no memory, and where a handle is of a resource with a
-    /// number past 4,294,967,295; its own types are then as they were.
+    /// `AllocError` comes where there is no memory; its own types are then as they were.
     pub fn define_value(
         &mut self,
         alloc: Global,

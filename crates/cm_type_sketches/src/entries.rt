@@ -1,6 +1,6 @@
 //! The sketch of a type that stands in an arena.
 
-ghost use Rattle.std.specs.Prelude.{◌≡◌, ◌<◌, IfOk, length, true};
+ghost use Rattle.std.specs.Prelude.{◌≡◌, ◌<◌, length, true};
 ghost use Rattle.cm_types.specs.Funcs.{func_of};
 ghost use Rattle.cm_types.specs.TypeTrees.{type_of};
 ghost use Rattle.cm_type_arena.specs.Places.{funcs_of, types_of};
@@ -14,7 +14,6 @@ use crate::sketches::{FuncSketch, Sketch, ValueSketch, resource_id};
 use cm_type_arena::Types;
 use cm_type_scope::TypeEntry;
 use cm_types::{Func, ResourceId, TypeNode};
-use std::alloc::AllocError;
 
 /// The sketch of the value type at a place.
 fn sketch_value(types: &Types, place: usize) -> ValueSketch
@@ -88,17 +87,17 @@ fn sketch_func(func: &Func) -> FuncSketch
 }
 
 /// The sketch of what an index of a type stands for, from what the arena knows of it: nothing below
-/// it is walked. `AllocError` comes where it is a resource with a number past 4,294,967,295.
-pub fn sketch_entry(types: &Types, entry: &TypeEntry) -> Result<Sketch, AllocError>
+/// it is walked.
+pub fn sketch_entry(types: &Types, entry: &TypeEntry) -> Sketch
     requires placed { is_placed (length (types_of types.now)) (length (funcs_of types.now))
         entry.now ≡ true }
-    ensures { IfOk result (λ s. s
-        ≡ sketch_of (def_of (types_of types.now) (funcs_of types.now) entry.now)) }
+    ensures { result
+        ≡ sketch_of (def_of (types_of types.now) (funcs_of types.now) entry.now) }
 {
-    Ok(match entry {
+    match entry {
         TypeEntry::Value(place) => Sketch::Value(sketch_value(types, *place)),
         TypeEntry::Func(place) => Sketch::Func(sketch_func(types.func(*place))),
-        TypeEntry::Resource(number) => Sketch::Resource(resource_id(*number)?),
+        TypeEntry::Resource(number) => Sketch::Resource(resource_id(*number)),
         TypeEntry::Instance(_) => Sketch::Instance,
-    })
+    }
 }

@@ -1,12 +1,11 @@
 //! What the rules on the types of instances need to know of a type.
 
-ghost use Rattle.std.specs.Prelude.{◌≡◌, IfOk};
+ghost use Rattle.std.specs.Prelude.{◌≡◌};
 ghost use Rattle.cm_validity.specs.Scopes.{resource_id};
 ghost use Rattle.cm_type_sketches.specs.Sketches.{borrowed, holds_borrow, owned, sketch_sort};
 
 use cm_types::ResourceId;
 use cm_validity::TypeSort;
-use std::alloc::AllocError;
 
 /// What is kept of a value type: whether it is a handle, and of which resource; else whether it
 /// holds a borrow.
@@ -43,18 +42,14 @@ pub enum Sketch {
     Faulty,
 }
 
-/// The resource of this number, of the component itself. `AllocError` comes where the number is
-/// past 4,294,967,295.
-pub fn resource_id(number: u64) -> Result<ResourceId, AllocError>
-    ensures { IfOk result (λ r. r ≡ resource_id number) }
+/// The resource of this number, of the component itself.
+pub fn resource_id(number: u64) -> ResourceId
+    ensures { result ≡ resource_id number }
 {
-    if number > u64::from(u32::MAX) {
-        return Err(AllocError);
-    }
-    Ok(ResourceId {
+    ResourceId {
         component: 0,
-        number: number as u32,
-    })
+        number,
+    }
 }
 
 impl ValueSketch {

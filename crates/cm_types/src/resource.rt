@@ -10,7 +10,7 @@ ghost use Rattle.cm_types.specs.Resources.{resolve, same_resource};
 #[derive(Clone, Copy, Debug, PartialEq, Eq)]
 pub struct ResourceId {
     pub component: u32,
-    pub number: u32,
+    pub number: u64,
 }
 
 /// Whether two are the same resource.

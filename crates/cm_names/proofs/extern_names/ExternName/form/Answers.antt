@@ -7,10 +7,10 @@ use Rattle.cm_names.proofs.extern_names.ExternName.form.Goals as goal
 
 pub returns-clause-spelled : goal.returns-clause-spelled
 returns-clause-spelled c =
-    let holds : is_extern_name (string_bytes c.self.inside.text) ≡ true = c.self.invariant in
-    (form_fine c.args.self.now (form_tree c.in-Some.form) (ap is_extern_name (sym c.self.view_is) ∙ holds) (ap form_of (sym c.self.view_is ∙ sym c.as_str.ensures.value) ∙ sym c.in-Some.ensures)).0
+    let holds : is_extern_name (string_bytes c.self.inside.text.value) ≡ true = c.self.invariant in
+    (form_fine c.args.self.now (form_tree c.in-Some.form) (ap is_extern_name (sym c.self.view_is) ∙ holds) (ap form_of (sym c.self.view_is ∙ ap string_bytes (sym c.deref.ensures) ∙ sym c.as_str.ensures.value) ∙ sym c.in-Some.ensures)).0
 
 pub returns-clause-labels : goal.returns-clause-labels
 returns-clause-labels c =
-    let holds : is_extern_name (string_bytes c.self.inside.text) ≡ true = c.self.invariant in
-    (form_fine c.args.self.now (form_tree c.in-Some.form) (ap is_extern_name (sym c.self.view_is) ∙ holds) (ap form_of (sym c.self.view_is ∙ sym c.as_str.ensures.value) ∙ sym c.in-Some.ensures)).1
+    let holds : is_extern_name (string_bytes c.self.inside.text.value) ≡ true = c.self.invariant in
+    (form_fine c.args.self.now (form_tree c.in-Some.form) (ap is_extern_name (sym c.self.view_is) ∙ holds) (ap form_of (sym c.self.view_is ∙ ap string_bytes (sym c.deref.ensures) ∙ sym c.as_str.ensures.value) ∙ sym c.in-Some.ensures)).1
