@@ -1,0 +1,8 @@
+//! Types of an arena by place, with the resources in them counted as an import counts them.
+#![tactic(auto)]
+
+mod instances;
+mod placed;
+
+pub use instances::{InstanceType, Item, ItemDesc};
+pub use placed::{Placed, moved_resource};
