@@ -1,0 +1,3 @@
+pub mod TypeLaws
+pub mod ScopeLaws
+pub mod SpaceLaws
