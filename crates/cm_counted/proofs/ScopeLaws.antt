@@ -1,5 +1,5 @@
 -- The types and items of an instance's type, as declarations make them.
-use Rattle.std.proofs.Common.{◌≡◌, ℕ, zero, suc, ◌+◌, ◌-◌, ◌≤◌, List, [], ◌∷◌, ◌++◌, Option, Some, None, refl, ap, sym, ◌∙◌, subst, arith}
+use Rattle.std.proofs.Common.{◌≡◌, ℕ, zero, suc, ◌+◌, ◌-◌, ◌≤◌, List, [], ◌∷◌, ◌++◌, map, Option, Some, None, refl, ap, sym, ◌∙◌, subst, arith}
 use Rattle.std.specs.Prelude.{IfSome, slice_get, unwrap_or}
 use Rattle.std.specs.List.{AllByRecursion}
 use Rattle.std.specs.Option.{option_and_then}
@@ -10,7 +10,9 @@ use Rattle.cm_types.specs.declared.def_types.TypeBound.TheVariants as bound
 use Rattle.cm_types.specs.DefTypes.{DeclarationTree, type_decl, outer_type_decl, export_decl, DeclaredTypeTree, declared_value, declared_func}
 use Rattle.cm_types.specs.Signatures.{ItemTy, NamedItem, func_item, equal_type, equal_resource, fresh_resource}
 use Rattle.cm_validity.specs.Declarations.{Scope, scope_in, outer_type_of, func_in, type_in, with_item, declared_type_of, with_type, with_equal, with_fresh, with_export, after_declaration, after_declarations, instance_of, instance_defined}
-use Rattle.cm_validity.specs.Definitions.{TypeDef, value, func_type, resource, instance_type, faulty}
+use Rattle.std.proofs.lemmas.Bool.{le-ltb}
+use Rattle.cm_validity.specs.Moves.{moved}
+use Rattle.cm_validity.specs.Definitions.{InstanceTy, TypeDef, value, func_type, resource, instance_type, faulty}
 use Rattle.cm_counted.specs.Counted.{IsItemCounted}
 use Rattle.cm_counted.specs.CountedSpaces.{AreItemsCounted, fresh_of, fresh_numbers, numbers_from, IsInstanceCounted, IsDefCounted}
 use Rattle.cm_counted.proofs.TypeLaws.{all_append, all_weaker, got, number_grows, grows, func_grows, value_def_counted, func_def_counted}
@@ -198,3 +200,22 @@ from_scope first s c n le =
 
 pub instance_counted : (types : List TypeDef) (next : ℕ) (ds : List DeclarationTree) → AllByRecursion (IsDefCounted next) types → (n : ℕ) → next ≤ n → IsInstanceCounted n (instance_defined types next ds)
 instance_counted types next ds h n le = from_scope next (after_declarations (scope_in types next) ds) (declared_all next (scope_in types next) ds (at_first types next h)) n le
+
+-- ---- the resources that an import brings
+
+one_number : (i : InstanceTy) (next k : ℕ) → moved i next (i.first + k) ≡ next + k
+one_number i next k = rw (le-ltb (i.first + k) i.first (omega arith)) (omega arith)
+
+numbers_moved : (i : InstanceTy) (next k m : ℕ) → map (moved i next) (numbers_from (i.first + k) m) ≡ numbers_from (next + k) m
+numbers_moved i next k zero = refl
+numbers_moved i next k (suc m) =
+    ap (λ x. x ∷ map (moved i next) (numbers_from (suc (i.first + k)) m)) (one_number i next k)
+    ∙ ap (λ x. (next + k) ∷ map (moved i next) (numbers_from x m)) (omega arith)
+    ∙ ap (λ l. (next + k) ∷ l) (numbers_moved i next (suc k) m)
+    ∙ ap (λ x. (next + k) ∷ numbers_from x m) (omega arith)
+
+pub fresh_moved : (n : ℕ) (i : InstanceTy) (next : ℕ) → IsInstanceCounted n i → map (moved i next) (fresh_numbers i.items) ≡ numbers_from next i.fresh
+fresh_moved n i next h =
+    ap (map (moved i next)) (h.fresh ∙ ap (λ x. numbers_from x i.fresh) (omega arith))
+    ∙ numbers_moved i next 0 i.fresh
+    ∙ ap (λ x. numbers_from x i.fresh) (omega arith)

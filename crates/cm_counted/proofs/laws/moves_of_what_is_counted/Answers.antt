@@ -1,4 +1,5 @@
 use Rattle.cm_counted.proofs.TypeLaws.{type_ranged, func_ranged, type_stays}
+use Rattle.cm_counted.proofs.ScopeLaws.{fresh_moved}
 use Rattle.cm_counted.proofs.laws.moves_of_what_is_counted.Goals as goal
 
 pub returns-clause-types : goal.returns-clause-types
@@ -9,3 +10,6 @@ returns-clause-funcs c = func_ranged
 
 pub returns-clause-stay : goal.returns-clause-stay
 returns-clause-stay c = type_stays
+
+pub returns-clause-fresh : goal.returns-clause-fresh
+returns-clause-fresh c = fresh_moved
