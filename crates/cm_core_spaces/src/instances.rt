@@ -44,8 +44,8 @@ impl<'a> CoreSpaces<'a> {
     ghost use Rattle.cm_validity.specs.Spaces.{after_item, core_def_at, core_instance_of};
     ghost use Rattle.cm_validity.specs.Spaces.{named_core_def};
     ghost use Rattle.std.specs.List.{flat_map};
-    ghost use Rattle.cm_core_spaces.specs.CoreSpaces.{Answers, AreItemsNumbered, IsInstanceNumbered};
-    ghost use Rattle.cm_core_spaces.specs.CoreSpaces.{IsItemNumbered, Stays};
+    ghost use Rattle.cm_core_spaces.specs.CoreSpaces.{Answers, AreItemsNumbered, IsItemNumbered};
+    ghost use Rattle.cm_core_spaces.specs.CoreSpaces.{IsInstanceNumbered, Stays};
     ghost use Rattle.cm_core_spaces.specs.Entries.{def_of, instance_of, named_def};
     ghost use Rattle.cm_core_spaces.specs.Instances.{is_arg_there, is_export_there};
 
@@ -146,7 +146,8 @@ impl<'a> CoreSpaces<'a> {
     ) -> Result<Option<ValidReason>, AllocError>
         ensures { IfOk result (λ r. (made : ℕ → CoreFuncDef) (s : Spaces)
             → IsCoreOf made self.now s
-            → r ≡ least (core_instance_broken s (instantiate module_index (map arg_tree args.now)))) }
+            → r ≡ least (core_instance_broken s
+            (instantiate module_index (map arg_tree args.now)))) }
     {
         if module_index >= self.modules || !self.args_are_there(args) {
             return Ok(Some(ValidReason::NoSuchIndex));
