@@ -3,3 +3,5 @@ mod SpaceLaws
 mod ReasonLaws
 mod OptionLaws
 mod CanonLaws
+mod TextLaws
+mod InstanceLaws

@@ -1,3 +1,4 @@
 pub mod Entries
 pub mod CoreSpaces
 pub mod Kinds
+pub mod Instances

@@ -81,7 +81,7 @@ fn memory_number<'a>(
 }
 
 /// The core instance of an index, if there is one.
-fn instance_at<'b, 'a>(
+pub(crate) fn instance_at<'b, 'a>(
     instances: &'b [CoreInstanceEntry<'a>],
     index: u32,
 ) -> Option<&'b CoreInstanceEntry<'a>>

@@ -4,6 +4,7 @@
 mod aliases;
 mod canons;
 mod entries;
+mod instances;
 mod options;
 mod spaces;
 

@@ -1,8 +1,10 @@
-//! Answers rows on types of instances.
+//! Answers rows on types of instances, on core index spaces and on names of imports and exports.
 #![tactic(auto)]
 
+mod cores;
 mod definitions;
 mod instances;
+mod names;
 
 use cm_rows::{Driver, RowFault, answer_rows};
 use std::alloc::Global;
@@ -15,6 +17,8 @@ impl Driver for InstanceRows {
     fn answer(&mut self, alloc: Global, words: &[&str]) -> Result<String, RowFault> {
         match words {
             ["instance", next, rest @ ..] => instances::answer(alloc, next, rest),
+            ["core", rest @ ..] => cores::answer(alloc, rest),
+            ["names", rest @ ..] => names::answer(alloc, rest),
             _ => Err(RowFault::NotARow),
         }
     }
