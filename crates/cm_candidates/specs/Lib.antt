@@ -1,0 +1,4 @@
+pub mod Fitting
+pub mod Readings
+pub mod Greatest
+pub mod Tables
