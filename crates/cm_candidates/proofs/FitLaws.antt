@@ -28,7 +28,7 @@ use Rattle.cm_candidates.proofs.Splits.{split}
 numbers_itself : (a b c : ℕ) (s L : Bool) → s ≡ false → ((caret_numbers a b c a b c s && true) && (L || (((a == a) && (b == b) && (c == c) && not L) || false))) ≡ true
 numbers_itself a b c s L h = grind (arith, common_steps)
 
-allows_itself : (v : Parts) → allows v v ≡ true
+pub allows_itself : (v : Parts) → allows v v ≡ true
 allows_itself v = allows_is v v ∙ numbers_itself v.0 v.1 v.2 (is_lt (pre_cmp v.3 v.3)) (length v.3 == 0) (ap is_lt (tied_itself pre_total v.3))
 
 pub record ReadVersion (text : List ℕ) : Type 0 where
@@ -43,7 +43,7 @@ pub version_read : (text : List ℕ) → IsTrue (is_version text) → ReadVersio
 unfolding is_version
 version_read text h = read_ok text (version_parts text) refl h
 
-compatible_is : (v w : List ℕ) (p q : Parts) → version_parts v ≡ Ok p → version_parts w ≡ Ok q → is_compatible v w ≡ allows p q
+pub compatible_is : (v w : List ℕ) (p q : Parts) → version_parts v ≡ Ok p → version_parts w ≡ Ok q → is_compatible v w ≡ allows p q
 compatible_is v w p q h k = rw (caret_read v p h, k) refl
 
 -- ---- names

@@ -6,3 +6,4 @@ mod Carets
 mod Requirements
 mod Splits
 mod FitLaws
+mod RangeLaws
