@@ -1,9 +1,9 @@
 -- The rows that have what the caret of a version allows.
-use Rattle.std.proofs.Common.{◌≡◌, ◌∙◌, ℕ, Bool, true, false, List, [], ◌∷◌, length, Option, Some, None, refl, sym, ap, arith, inl, inr}
+use Rattle.std.proofs.Common.{◌≡◌, ◌∙◌, ℕ, Bool, true, false, List, [], length, Option, Some, None, refl, sym, ap, arith, inl, inr}
 use Rattle.std.proofs.lemmas.Bool.{cases_Bool}
 use Rattle.std.proofs.lemmas.Grind.{common_steps}
 use Rattle.std.proofs.lemmas.Map.Text.{is_eq-slice_cmp}
-use Rattle.std.specs.Cmp.{tied_then, unsigned_Decides}
+use Rattle.std.specs.Cmp.{tied_then}
 use Rattle.std.specs.Cmp.Lexicographic.{slice_cmp}
 use Rattle.std.specs.Prelude.{not, ◌&&◌, ◌||◌, ◌==◌, nat_lt, if◌then◌else◌}
 use Rattle.std.specs.Ordering.{is_eq, is_ge, is_lt, nat_cmp, ordering_then}
@@ -144,13 +144,13 @@ in_releases n m v w y =
     let a = leads v in
     let b = leads w in
     let tied : is_eq (row_cmp (releases_row n v) (releases_row m w)) ≡ (bytes_eq n m && (true && same_leading v w)) =
-        row_tied (releases_row n v) (releases_row m w)
-        ∙ ap (λ t. bytes_eq n m && (true && ((t == (leading w).0) && (((leading v).1 == (leading w).1) && ((leading v).2 == (leading w).2))))) a.0
-        ∙ ap (λ t. bytes_eq n m && (true && ((first v.0 v.1 v.2 == t) && (((leading v).1 == (leading w).1) && ((leading v).2 == (leading w).2))))) b.0
-        ∙ ap (λ t. bytes_eq n m && (true && ((first v.0 v.1 v.2 == first w.0 w.1 w.2) && ((t == (leading w).1) && ((leading v).2 == (leading w).2))))) a.1
-        ∙ ap (λ t. bytes_eq n m && (true && ((first v.0 v.1 v.2 == first w.0 w.1 w.2) && ((second v.0 v.1 v.2 == t) && ((leading v).2 == (leading w).2))))) b.1
-        ∙ ap (λ t. bytes_eq n m && (true && ((first v.0 v.1 v.2 == first w.0 w.1 w.2) && ((second v.0 v.1 v.2 == second w.0 w.1 w.2) && (t == (leading w).2))))) a.2
-        ∙ ap (λ t. bytes_eq n m && (true && ((first v.0 v.1 v.2 == first w.0 w.1 w.2) && ((second v.0 v.1 v.2 == second w.0 w.1 w.2) && (third v.0 v.1 v.2 == t))))) b.2 in
+    row_tied (releases_row n v) (releases_row m w)
+    ∙ ap (λ t. bytes_eq n m && (true && ((t == (leading w).0) && (((leading v).1 == (leading w).1) && ((leading v).2 == (leading w).2))))) a.0
+    ∙ ap (λ t. bytes_eq n m && (true && ((first v.0 v.1 v.2 == t) && (((leading v).1 == (leading w).1) && ((leading v).2 == (leading w).2))))) b.0
+    ∙ ap (λ t. bytes_eq n m && (true && ((first v.0 v.1 v.2 == first w.0 w.1 w.2) && ((t == (leading w).1) && ((leading v).2 == (leading w).2))))) a.1
+    ∙ ap (λ t. bytes_eq n m && (true && ((first v.0 v.1 v.2 == first w.0 w.1 w.2) && ((second v.0 v.1 v.2 == t) && ((leading v).2 == (leading w).2))))) b.1
+    ∙ ap (λ t. bytes_eq n m && (true && ((first v.0 v.1 v.2 == first w.0 w.1 w.2) && ((second v.0 v.1 v.2 == second w.0 w.1 w.2) && (t == (leading w).2))))) a.2
+    ∙ ap (λ t. bytes_eq n m && (true && ((first v.0 v.1 v.2 == first w.0 w.1 w.2) && ((second v.0 v.1 v.2 == second w.0 w.1 w.2) && (third v.0 v.1 v.2 == t))))) b.2 in
     ap (λ r. is_eq (row_cmp (releases_row n v) r) && not (is_below w v)) (release_row m w y)
     ∙ ap (λ t. t && not (is_below w v)) tied
     ∙ ap (λ t. (bytes_eq n m && (true && same_leading v w)) && not t) (before_told v w)

@@ -12,10 +12,10 @@ use Rattle.std.specs.Result.{result_ok}
 use Rattle.std.specs.Str.{bytes_eq}
 use Rattle.semver.specs.Order.{pre_cmp}
 use Rattle.semver.specs.OrderLaws.{pre_total}
-use Rattle.semver.specs.Parse.{Parts, req_of, version_parts}
+use Rattle.semver.specs.Parse.{Parts, version_parts}
 use Rattle.semver.specs.declared.error.Error.{Error}
 use Rattle.cm_names.specs.ExternNames.{HasLabels, NameTree, constructor, form_of, interface, is_version, method, name_spelling, plain, static}
-use Rattle.cm_candidates.specs.Fitting.{NamedExport, candidates, fits, is_compatible, is_compatible_name, is_met_by, only}
+use Rattle.cm_candidates.specs.Fitting.{NamedExport, candidates, fits, is_compatible, is_compatible_name, only}
 use Rattle.cm_candidates.specs.Greatest.{and_also}
 use Rattle.cm_candidates.specs.Readings.{HasForm, allows, fits_read, is_in_row, is_prerelease, name_read, prereleases_row, releases_row, tree_read, unversioned_row}
 use Rattle.cm_candidates.proofs.Carets.{allows_is, caret_is, caret_numbers, rows_apart, unversioned_is}
@@ -212,7 +212,7 @@ pub releases_all : (n : List ℕ) (v : Parts) (es : List NamedExport) → is_pre
     → only (filter (λ e. is_in_row (releases_row n v) v (name_read e.name)) es) ≡ only (filter (λ e. fits_read (n, Some v) (name_read e.name)) es)
 releases_all n v es h =
     let each : (m : List ℕ × Option Parts) → is_in_row (releases_row n v) v m ≡ fits_read (n, Some v) m =
-        λ m. sym (caret_is n v m ∙ ap (λ t. is_in_row (releases_row n v) v m || (t && is_in_row (prereleases_row n v) v m)) h ∙ or_false (is_in_row (releases_row n v) v m)) in
+    λ m. sym (caret_is n v m ∙ ap (λ t. is_in_row (releases_row n v) v m || (t && is_in_row (prereleases_row n v) v m)) h ∙ or_false (is_in_row (releases_row n v) v m)) in
     λ i. only (filter (λ e. each (name_read e.name) i) es)
 
 pub both_all : (n : List ℕ) (v : Parts) (es : List NamedExport) → is_prerelease v ≡ true

@@ -12,7 +12,6 @@ use Rattle.semver.specs.Parse.{Parts, version_parts}
 use Rattle.cm_names.specs.ExternNames.{NameTree, constructor, form_of, interface, is_version, method, plain, static, version_of}
 use Rattle.cm_candidates.specs.Fitting.{fits, is_compatible, is_compatible_name}
 use Rattle.cm_candidates.specs.Ranges.{comes_before, is_later_prerelease, next_incompatible, numbers}
-use Rattle.cm_candidates.specs.Readings.{allows}
 use Rattle.cm_candidates.proofs.Carets.{allows_is, caret_at, caret_numbers, of_release}
 use Rattle.cm_candidates.proofs.FitLaws.{allows_itself, compatible_is, version_read}
 
@@ -23,7 +22,6 @@ not_empty b rest = grind (arith, common_steps)
 release_last : (p : List ℕ) → is_lt (pre_cmp [] p) ≡ false
 release_last [] = refl
 release_last (b ∷ rest) = ap is_lt (pre_cmp-left [] (b ∷ rest) refl (not_empty b rest))
-
 
 range_major : (a b c x y z : ℕ) → nat_lt 0 a ≡ true → caret_numbers a b c x y z false ≡ (not (nat_lt x a || ((x == a) && (nat_lt y b || ((y == b) && nat_lt z c)))) && nat_lt x (a + 1))
 range_major a b c x y z h = rw h (grind (arith, common_steps))

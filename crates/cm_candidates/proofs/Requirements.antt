@@ -1,5 +1,5 @@
 -- What `^` and a version are read as.
-use Rattle.std.proofs.Common.{◌≡◌, ◌∙◌, ℕ, suc, Bool, true, false, List, [], ◌∷◌, length, Option, Some, None, Ok, Err, refl, sym, ap, subst, arith, inl, inr}
+use Rattle.std.proofs.Common.{◌≡◌, ◌∙◌, ℕ, suc, true, false, List, [], ◌∷◌, length, Some, None, Ok, Err, refl, sym, ap, arith, inl, inr}
 use Rattle.std.proofs.lemmas.Bool.{cases_Bool, eqb-true}
 use Rattle.std.proofs.lemmas.Grind.{common_steps}
 use Rattle.std.specs.Char.{is_ascii_digit}
@@ -109,8 +109,19 @@ comparator_is : (text t u : List ℕ) (x y z : ℕ × List ℕ) (v : Parts) → 
     → comparator_of (94 ∷ text) ≡ Ok (op.Caret, x.0, Some y.0, Some z.0, e.pre, e.build.at, [])
 unfolding strip_spaces
 comparator_is text t u x y z v hx dx hy dy hz e =
-    rw (longer text, no_spaces text (digit_first place.Major text x hx), hx, dot_is place.Major x.1 t dx, no_wildcard t (digit_first place.Minor t y hy), hy,
-    dot_is place.Minor y.1 u dy, no_wildcard u (digit_first place.Patch u z hz), hz, e.read, e.build.read) refl
+    rw (
+      longer text,
+      no_spaces text (digit_first place.Major text x hx),
+      hx,
+      dot_is place.Major x.1 t dx,
+      no_wildcard t (digit_first place.Minor t y hy),
+      hy,
+      dot_is place.Minor y.1 u dy,
+      no_wildcard u (digit_first place.Patch u z hz),
+      hz,
+      e.read,
+      e.build.read,
+    ) refl
 
 requirement_is : (text t u : List ℕ) (x y z : ℕ × List ℕ) (v : Parts) → numeric place.Major text ≡ Ok x → dot_of place.Major x.1 ≡ Ok t
     → numeric place.Minor t ≡ Ok y → dot_of place.Minor y.1 ≡ Ok u → numeric place.Patch u ≡ Ok z → PreRead z.1 v x.0 y.0 z.0

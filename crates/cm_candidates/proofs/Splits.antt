@@ -1,7 +1,6 @@
 -- Candidates by two tests that no export passes both.
 use Rattle.std.proofs.Common.{◌≡◌, ◌∙◌, ℕ, Bool, true, false, List, [], ◌∷◌, refl, sym, ap, filter, inl, inr}
 use Rattle.std.proofs.lemmas.Bool.{cases_Bool}
-use Rattle.std.specs.List.{AllByRecursion}
 use Rattle.std.specs.Prelude.{◌||◌, ◌&&◌}
 use Rattle.cm_candidates.specs.declared.candidates.Candidate.{Candidate}
 use Rattle.cm_candidates.specs.declared.candidates.Candidate.TheVariants as candidate
@@ -12,7 +11,6 @@ and_several : (c : Candidate) → and_also candidate.Several c ≡ candidate.Sev
 and_several candidate.None = refl
 and_several (candidate.One a b) = refl
 and_several candidate.Several = refl
-
 
 -- one more in front
 front : (e : NamedExport) (es : List NamedExport) → only (e ∷ es) ≡ and_also (candidate.One e.component e.number) (only es)

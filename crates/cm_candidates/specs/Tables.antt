@@ -9,7 +9,8 @@ use Rattle.cm_candidates.specs.declared.greatest.Greatest.{Greatest}
 use Rattle.cm_candidates.specs.declared.series.Series.{Series}
 use Rattle.cm_candidates.specs.Fitting.{NamedExport, only}
 use Rattle.cm_candidates.specs.Greatest.{from_row}
-use Rattle.cm_candidates.specs.Readings.{HasForm, fits_read, is_in_row, name_read, series_order, series_view}
+use Rattle.cm_candidates.specs.Readings.{HasForm, fits_read, is_in_row, name_read}
+use Rattle.cm_candidates.specs.Readings.{series_order, series_view}
 
 -- each row answers for those of the exports that are in it
 abbrev pub Answers : BTreeMap Series Greatest → List NamedExport → Type 0

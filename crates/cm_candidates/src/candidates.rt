@@ -9,10 +9,7 @@ pub enum Candidate {
     /// No export fits.
     None,
     /// One export alone fits: this one of this component.
-    One {
-        component: usize,
-        export: usize,
-    },
+    One { component: usize, export: usize },
     /// More than one export fits.
     Several,
 }

@@ -10,9 +10,10 @@ ghost use Rattle.cm_candidates.specs.Fitting.{candidates, fits, is_compatible, o
 ghost use Rattle.cm_candidates.specs.Ranges.{comes_before, exports_named, is_later_prerelease};
 ghost use Rattle.cm_candidates.specs.Ranges.{next_incompatible, numbers};
 
-/// Which versions are compatible: a release with each version from which on it comes, up to the
-/// next one with another first number that is not 0; a pre-release with the pre-releases of the same
-/// release that do not come after it; each version with itself. Build metadata does not count.
+/// Which versions meet the requirement `^` and a version, as Cargo reads it. A release meets it from
+/// that version on, up to the next one that has another first number that is not 0; a pre-release
+/// where the version is a pre-release of the same release and does not come after it. Build
+/// metadata does not count. Each version meets its own.
 pub fn compatible_versions()
     ensures release { (v w : List ℕ) (p q : Parts)
         → version_parts v ≡ Ok p → version_parts w ≡ Ok q → q.3 ≡ []
@@ -22,8 +23,7 @@ pub fn compatible_versions()
         → version_parts v ≡ Ok p → version_parts w ≡ Ok q → (length q.3 == 0) ≡ false
         → is_compatible v w ≡ is_later_prerelease p q }
     ensures itself { (v : List ℕ) → IsTrue (is_version v) → is_compatible v v ≡ true }
-{
-}
+{}
 
 /// Which names fit: each name itself; a name without a version fits no other, and no other fits it.
 pub fn names_fit()
@@ -32,8 +32,7 @@ pub fn names_fit()
         → fits a b ≡ bytes_eq a b }
     ensures exported { (a b : List ℕ) (t : NameTree) → form_of b ≡ Some t → version_of t ≡ None
         → fits a b ≡ bytes_eq a b }
-{
-}
+{}
 
 /// Cases that were worked by hand from Cargo's rules.
 pub fn worked_cases()
@@ -58,5 +57,4 @@ pub fn worked_cases()
     ensures unversioned { fits (codes "a:b/c") (codes "a:b/c@1.0.0") ≡ false }
     ensures versioned { fits (codes "a:b/c@1.0.0") (codes "a:b/c") ≡ false }
     ensures label { fits (codes "c") (codes "C") ≡ false }
-{
-}
+{}

@@ -16,9 +16,9 @@ returns-in-Some-clause-ok c = λ es has.
     record {
       names = names_more es e has.names c.read.ensures.form;
       answers = answers_more c.args.self.now.rows (c.get_mut.follows.lender c.add.new.self) key c.add.new.self _ es e ((c.get_mut.follows.holds c.add.new.self).3 (search rules)).0
-        (c.place-series.ensures.series ∙ ap (λ n. row_of n.0 n.1) c.in_ok-read.ensures.read)
-        (c.place-series.ensures.version ∙ ap (λ n. version_or_zero n.1) c.in_ok-read.ensures.read)
-        (λ w. c.add.ensures w ∙ ap (λ o. and_also (from_row o w) (if_not_below (is_below (parts_of c.place-series.result.1) w) (candidate.One e.component e.number))) (sym found)) has.answers;
+          (c.place-series.ensures.series ∙ ap (λ n. row_of n.0 n.1) c.in_ok-read.ensures.read)
+          (c.place-series.ensures.version ∙ ap (λ n. version_or_zero n.1) c.in_ok-read.ensures.read)
+          (λ w. c.add.ensures w ∙ ap (λ o. and_also (from_row o w) (if_not_below (is_below (parts_of c.place-series.result.1) w) (candidate.One e.component e.number))) (sym found)) has.answers;
     }
 
 pub returns-in_ok-insert-clause-ok : goal.returns-in_ok-insert-clause-ok
@@ -29,7 +29,7 @@ returns-in_ok-insert-clause-ok c = λ es has.
     record {
       names = names_more es e has.names c.read.ensures.form;
       answers = answers_more c.args.self.now.rows c.insert.new.self key c.new-greatest.result _ es e (λ q. c.in_ok-insert.ensures.updates.0 q ∙ ap (λ m. cond (is_at (series_order key) q) (Some c.new-greatest.result) (get series_order m q)) c.get_mut.follows.holds-at-none)
-        (c.place-series.ensures.series ∙ ap (λ n. row_of n.0 n.1) c.in_ok-read.ensures.read)
-        (c.place-series.ensures.version ∙ ap (λ n. version_or_zero n.1) c.in_ok-read.ensures.read)
-        (λ w. c.new-greatest.ensures w ∙ ap (λ o. and_also (from_row o w) (if_not_below (is_below (parts_of c.place-series.result.1) w) (candidate.One e.component e.number))) (sym none)) has.answers;
+          (c.place-series.ensures.series ∙ ap (λ n. row_of n.0 n.1) c.in_ok-read.ensures.read)
+          (c.place-series.ensures.version ∙ ap (λ n. version_or_zero n.1) c.in_ok-read.ensures.read)
+          (λ w. c.new-greatest.ensures w ∙ ap (λ o. and_also (from_row o w) (if_not_below (is_below (parts_of c.place-series.result.1) w) (candidate.One e.component e.number))) (sym none)) has.answers;
     }
