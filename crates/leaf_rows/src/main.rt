@@ -2,6 +2,7 @@
 //! own.
 #![tactic(auto)]
 
+mod candidates;
 mod cursors;
 mod handles;
 mod layouts;
@@ -32,6 +33,7 @@ impl Driver for LeafRows {
             ["layout", rest @ ..] => layouts::answer(alloc, rest),
             ["text", rest @ ..] => texts::answer(alloc, rest),
             ["table", rest @ ..] => self.handles.answer(alloc, rest),
+            ["fit", rest @ ..] => candidates::answer(alloc, rest),
             _ => Err(RowFault::NotARow),
         }
     }
