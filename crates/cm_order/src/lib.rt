@@ -1,0 +1,4 @@
+//! Nodes in an order in which each stands behind those that it needs.
+#![tactic(auto)]
+
+pub mod laws;
