@@ -25,11 +25,15 @@ IsWithin count needs = (k : ℕ) → All (λ j. j < count) (needs k)
 abbrev pub IsRanked : Needs → (ℕ → ℕ) → Type 0
 IsRanked needs rank = (k : ℕ) → All (λ j. rank j < rank k) (needs k)
 
+-- each node in a list stands behind those that it needs
+abbrev pub IsBehind : Needs → List ℕ → Type 0
+IsBehind needs order = (i : ℕ) → i < length order
+    → All (Contains (take i order)) (needs (slice_index_or order i 0))
+
 -- The order has each node below a number, and each node in it stands behind those that it needs.
 pub record IsOrder (count : ℕ) (needs : Needs) (order : List ℕ) : Type 0 where
   pub whole : (k : ℕ) → k < count → Contains order k
-  pub behind : (i : ℕ) → i < length order
-      → All (Contains (take i order)) (needs (slice_index_or order i 0))
+  pub behind : IsBehind needs order
 
 -- an order, if there is one: there is none where a node needs itself
 abbrev pub IsOrderOf : ℕ → Needs → Option (List ℕ) → Type 0

@@ -2,3 +2,8 @@
 #![tactic(auto)]
 
 pub mod laws;
+mod ordering;
+mod waiting;
+mod walk;
+
+pub use ordering::order_of;
