@@ -1,6 +1,7 @@
 -- How a walk stands that places nodes: a node that is not placed waits for one that it needs.
 use Rattle.std.specs.Prelude.{◌≡◌, ◌↔◌, ℕ, suc, ◌+◌, ◌<◌, ◌≤◌, ◌⊎◌, Bool, true, false}
-use Rattle.std.specs.Prelude.{List, [], ◌∷◌, Option, MatchOption, length, map, slice_index_or, vec_len}
+use Rattle.std.specs.Prelude.{List, [], ◌∷◌, Option, MatchOption, length, map, vec_len}
+use Rattle.std.specs.Prelude.{slice_index_or}
 use Rattle.std.specs.List.{Contains}
 use Rattle.std.specs.Global.{Vec}
 use Rattle.cm_order.specs.Orders.{Needs, IsWithin, IsBehind, needs_of}

@@ -87,7 +87,8 @@ impl<'a> Walk<'a> {
     /// Settles the nodes that wait for those of the order, in turn.
     pub fn go_through(&mut self, alloc: Global) -> Result<(), AllocError>
         requires { IsThrough (standing self.old) 0 }
-        ensures through { OnOk result (IsThrough (standing self.new) (length self.new.order.items)) }
+        ensures through { OnOk result
+            (IsThrough (standing self.new) (length self.new.order.items)) }
         ensures nodes { OnOk result (AreSameNodes (standing self.old) (standing self.new)) }
     {
         for head in 0..self.rows.len() {
