@@ -1,3 +1,5 @@
 mod AgreeLaws
 mod TableLaws
 mod ResourceLaws
+mod RankLaws
+mod ThereLaws

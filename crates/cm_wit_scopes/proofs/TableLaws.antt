@@ -29,35 +29,40 @@ same_list (x ∷ xs) (y ∷ ys) h =
     let rest = same_list xs ys (λ k. h (suc k)) in
     rw (e, rest) refl
 
+-- ---- what tables say of a declaration that agree on those that it uses
+
+module _ (ds : List Declaration) (P : ℕ → Type 0) (a b : Table) (same : (k : ℕ) → P k → at a k ≡ at b k) where
+  one_agrees : (o : Option ℕ) (rest : List ℕ) → AllByRecursion P (cons_option o rest) → (option_and_then (λ k. at a k) o ≡ option_and_then (λ k. at b k) o) × AllByRecursion P rest
+  one_agrees None rest h = (refl, h)
+  one_agrees (Some j) rest h = (same j h.0, h.1)
+
+  keys_agree : (keys : List Key) → AllByRecursion P (filter_map (target ds) keys) → AllByRecursion (λ (key : Key). scope_of ds a key.0 key.1 ≡ scope_of ds b key.0 key.1) keys
+  keys_agree [] h = tt
+  keys_agree (key ∷ keys) h =
+      let p = one_agrees (target ds key) (filter_map (target ds) keys) h in
+      (p.0, keys_agree keys p.1)
+
+  names_agree : (l : ℕ) (names : List (List ℕ)) → AllByRecursion (λ (key : Key). scope_of ds a key.0 key.1 ≡ scope_of ds b key.0 key.1) (map (λ n. (l, n)) names) → Agree (scope_of ds a l) (scope_of ds b l) names
+  names_agree l [] h = tt
+  names_agree l (n ∷ names) h = (h.0, names_agree l names h.1)
+
+  entry_agrees : (k l : ℕ) (d : Declared) → AllByRecursion P (filter_map (target ds) (referred l d)) → declared_meaning ds a k l d ≡ declared_meaning ds b k l d
+  entry_agrees k l (brought None) h = refl
+  entry_agrees k l (brought (Some key)) h = (keys_agree (key ∷ []) h).0
+  entry_agrees k l (defined t) h = def_agrees (scope_of ds a l) (scope_of ds b l) (resource_of ds k) t (names_agree l (names_in_def t) (keys_agree (map (λ n. (l, n)) (names_in_def t)) h))
+
+  pub declaration_agrees : (k : ℕ) (o : Option Declaration) → AllByRecursion P (filter_map (target ds) (option_map_or refers o [])) → option_map (entry_meaning ds a k) o ≡ option_map (entry_meaning ds b k) o
+  declaration_agrees k None h = refl
+  declaration_agrees k (Some d) h = ap Some (entry_agrees k d.in_list d.is h)
+
+-- tables that agree on what a declaration uses agree on what it stands for
+pub uses_decide : (ds : List Declaration) (a b : Table) (k : ℕ) → AllByRecursion (λ j. at a j ≡ at b j) (uses ds k) → option_map (entry_meaning ds a k) (slice_get ds k) ≡ option_map (entry_meaning ds b k) (slice_get ds k)
+uses_decide ds a b k h = declaration_agrees ds (λ j. at a j ≡ at b j) a b (λ j e. e) k (slice_get ds k) h
+
 module _ (ds : List Declaration) (rank : ℕ → ℕ) where
   -- two tables agree on what stands below a rank
   abbrev AgreeBelow : ℕ → Table → Table → Type 0
   AgreeBelow m a b = (k : ℕ) → rank k < m → at a k ≡ at b k
-
-  -- keys that lead below a rank mean the same by both
-  module _ (m : ℕ) (a b : Table) (same : AgreeBelow m a b) where
-    one_agrees : (o : Option ℕ) (rest : List ℕ) → AllByRecursion (λ j. rank j < m) (cons_option o rest) → (option_and_then (λ k. at a k) o ≡ option_and_then (λ k. at b k) o) × AllByRecursion (λ j. rank j < m) rest
-    one_agrees None rest h = (refl, h)
-    one_agrees (Some j) rest h = (same j h.0, h.1)
-
-    keys_agree : (keys : List Key) → AllByRecursion (λ j. rank j < m) (filter_map (target ds) keys) → AllByRecursion (λ (key : Key). scope_of ds a key.0 key.1 ≡ scope_of ds b key.0 key.1) keys
-    keys_agree [] h = tt
-    keys_agree (key ∷ keys) h =
-        let p = one_agrees (target ds key) (filter_map (target ds) keys) h in
-        (p.0, keys_agree keys p.1)
-
-    names_agree : (l : ℕ) (names : List (List ℕ)) → AllByRecursion (λ (key : Key). scope_of ds a key.0 key.1 ≡ scope_of ds b key.0 key.1) (map (λ n. (l, n)) names) → Agree (scope_of ds a l) (scope_of ds b l) names
-    names_agree l [] h = tt
-    names_agree l (n ∷ names) h = (h.0, names_agree l names h.1)
-
-    entry_agrees : (k l : ℕ) (d : Declared) → AllByRecursion (λ j. rank j < m) (filter_map (target ds) (referred l d)) → declared_meaning ds a k l d ≡ declared_meaning ds b k l d
-    entry_agrees k l (brought None) h = refl
-    entry_agrees k l (brought (Some key)) h = (keys_agree (key ∷ []) h).0
-    entry_agrees k l (defined t) h = def_agrees (scope_of ds a l) (scope_of ds b l) (resource_of ds k) t (names_agree l (names_in_def t) (keys_agree (map (λ n. (l, n)) (names_in_def t)) h))
-
-    declaration_agrees : (k : ℕ) (o : Option Declaration) → AllByRecursion (λ j. rank j < m) (filter_map (target ds) (option_map_or refers o [])) → option_map (entry_meaning ds a k) o ≡ option_map (entry_meaning ds b k) o
-    declaration_agrees k None h = refl
-    declaration_agrees k (Some d) h = ap Some (entry_agrees k d.in_list d.is h)
 
   -- what the equation gives at a place
   abbrev given : Table → ℕ → Option (Option Meaning)
@@ -69,7 +74,7 @@ module _ (ds : List Declaration) (rank : ℕ → ℕ) where
 
   module _ (ranked : IsRanked ds rank) where
     given_agrees : (m : ℕ) (a b : Table) → AgreeBelow m a b → (k : ℕ) → rank k ≤ m → given a k ≡ given b k
-    given_agrees m a b same k le = declaration_agrees m a b same k (slice_get ds k) (all_lower (rank k) m (uses ds k) le (ranked k))
+    given_agrees m a b same k le = declaration_agrees ds (λ j. rank j < m) a b same k (slice_get ds k) (all_lower (rank k) m (uses ds k) le (ranked k))
 
     -- ---- no other
 

@@ -5,6 +5,7 @@ use Rattle.std.specs.Prelude.{None, map, slice_get}
 use Rattle.std.specs.List.{AllByRecursion, filter_map, flat_map}
 use Rattle.std.specs.Option.{option_map_or}
 use Rattle.cm_keys.specs.Keys.{Key, first_key}
+use Rattle.cm_order.specs.Orders.{NeedsItself}
 use Rattle.cm_wit_types.specs.Types.{Ty, Tys, primitive, named, borrow, list, fixed_list, option}
 use Rattle.cm_wit_types.specs.Types.{tuple, plain_result, ok_result, error_result, result}
 use Rattle.cm_wit_types.specs.Types.{no_types, types}
@@ -88,3 +89,7 @@ uses ds k = filter_map (target ds) (option_map_or refers (slice_get ds k) [])
 -- of others or not.
 abbrev pub IsRanked : List Declaration → (ℕ → ℕ) → Type 0
 IsRanked ds rank = (k : ℕ) → AllByRecursion (λ j. rank j < rank k) (uses ds k)
+
+-- A declaration uses itself, by way of others or not.
+abbrev pub HasTypeCycle : List Declaration → Type 0
+HasTypeCycle ds = (k : ℕ) × NeedsItself (uses ds) k

@@ -1,5 +1,6 @@
 -- What the declarations of a world stand for: a table that solves one equation.
-use Rattle.std.specs.Prelude.{◌≡◌, ℕ, Bool, true, false, List, Option, Some, None, filter, length}
+use Rattle.std.specs.Prelude.{◌≡◌, ◌<◌, ℕ, Bool, true, false, List, Option, Some, None, filter}
+use Rattle.std.specs.Prelude.{length}
 use Rattle.std.specs.Prelude.{slice_get, take}
 use Rattle.std.specs.Option.{option_map}
 use Rattle.cm_types.specs.declared.resource.ResourceId.{ResourceId}
@@ -57,3 +58,8 @@ abbrev pub HasOneTable : List Declaration → Type 0
 HasOneTable ds =
     (table : List (Option Meaning)) × Solves ds table
     × ((other : List (Option Meaning)) → Solves ds other → other ≡ table)
+
+-- Each declaration stands for something.
+abbrev pub IsWhole : List Declaration → List (Option Meaning) → Type 0
+IsWhole ds table =
+    (k : ℕ) → k < length ds → (m : Meaning) × (slice_get table k ≡ Some (Some m))

@@ -1,0 +1,3 @@
+mod RankLaws
+mod WaitLaws
+mod StandLaws

@@ -1,0 +1,3 @@
+pub mod DeclaredViews
+pub mod InstanceKeys
+pub mod Placings
