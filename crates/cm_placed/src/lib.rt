@@ -2,6 +2,7 @@
 #![tactic(auto)]
 
 mod instances;
+pub mod laws;
 mod placed;
 
 pub use instances::{InstanceType, Item, ItemDesc};

@@ -1,0 +1,83 @@
+use Rattle.std.proofs.Common.{◌∙◌, ap, arith, length, List, ℕ, map, sym, subst, ◌<◌, is_some, codes}
+use Rattle.std.specs.List.{AllByRecursion}
+use Rattle.cm_types.specs.declared.type_trees.Case.{Case}
+use Rattle.cm_types.specs.declared.type_trees.Field.{Field}
+use Rattle.cm_types.specs.Types.{Ty, fields, cases, flags, record_type, tuple_type, variant_type, enum_type, option_type, plain, carrying, no_cases}
+use Rattle.cm_types.specs.TypeTrees.{case_of, field_of, parts_from, plain_from, type_of}
+use Rattle.cm_type_arena.specs.TypeDefs.{type_at}
+use Rattle.cm_type_arena.specs.Arena.{parts_in}
+use Rattle.cm_replaced.specs.Replaced.{replaced}
+use Rattle.cm_type_copies.proofs.DefLaws.{cloned, cases_below, cases_same, fields_below, fields_long, fields_same, first_below, one_same, parts_same, labels_same}
+use Rattle.cm_type_copies.proofs.Seen.{seen_Record, seen_Tuple, seen_Variant, seen_Enum, seen_Flags, seen_Option}
+use Rattle.cm_type_copies.proofs.definitions.replaced_def.Goals as goal
+
+pub field_defs-requires : goal.field_defs-requires
+field_defs-requires g c =
+    let seen = ap type_of c.in-Record.is ∙ seen_Record c.in-Record.fields in
+    let items = c.deref-in-Record.ensures.value ∙ ap (λ v. v.items) c.deref.ensures in
+    c.requires ∙ ap (λ y. length (parts_in y)) seen ∙ fields_long c.in-Record.fields.value.items ∙ sym (ap length items)
+
+pub returns-in_ok-field_defs-in-Record-clause-there : goal.returns-in_ok-field_defs-in-Record-clause-there
+returns-in_ok-field_defs-in-Record-clause-there g c = λ count all.
+    fields_below count c.in_ok-field_defs-in-Record.field-0.items (subst (λ (ps : List ℕ). AllByRecursion (λ p. p < count) ps) (sym c.in_ok-field_defs-in-Record.ensures.places) all)
+
+pub returns-in_ok-field_defs-in-Record-clause-ty : goal.returns-in_ok-field_defs-in-Record-clause-ty
+returns-in_ok-field_defs-in-Record-clause-ty g c = λ types are.
+    let s = g.R.Replacement.replacement c.args.by.now in
+    let seen = ap type_of c.in-Record.is ∙ seen_Record c.in-Record.fields in
+    let items = c.deref-in-Record.ensures.value ∙ ap (λ v. v.items) c.deref.ensures in
+    let defs = c.in_ok-field_defs-in-Record.ensures in
+    let labels = c.in_ok-field_defs-in-Record.ensures.labels ∙ ap (map (λ (f : Field). (field_of f).0)) items in
+    let held = ap (λ (t : Ty). map (replaced s) (parts_in t)) (sym seen) ∙ are ∙ ap (map (type_at types)) (sym c.in_ok-field_defs-in-Record.ensures.places) in
+    ap (fields record_type) (fields_same s types c.in_ok-field_defs-in-Record.field-0.items c.in-Record.fields.value.items labels held) ∙ ap (replaced s) (sym seen)
+
+pub returns-in_ok-from_slice-in-Tuple-clause-ty : goal.returns-in_ok-from_slice-in-Tuple-clause-ty
+returns-in_ok-from_slice-in-Tuple-clause-ty g c = λ types are.
+    let s = g.R.Replacement.replacement c.args.by.now in
+    let seen = ap type_of c.in-Tuple.is ∙ seen_Tuple c.in-Tuple.field-0 in
+    let held = ap (λ (t : Ty). map (replaced s) (parts_in t)) (sym seen) ∙ are in
+    ap (λ (ps : List ℕ). fields tuple_type (parts_from (map (type_at types) ps))) c.in_ok-from_slice-in-Tuple.ensures.items
+    ∙ ap (fields tuple_type) (parts_same s types (map type_of c.in-Tuple.field-0.value.items) c.args.parts.now held)
+    ∙ ap (replaced s) (sym seen)
+
+pub returns-in_ok-case_defs-in-Variant-clause-there : goal.returns-in_ok-case_defs-in-Variant-clause-there
+returns-in_ok-case_defs-in-Variant-clause-there g c = λ count all.
+    cases_below count c.in_ok-case_defs-in-Variant.field-0.items (subst (λ (ps : List ℕ). AllByRecursion (λ p. p < count) ps) (sym c.in_ok-case_defs-in-Variant.ensures.places) all)
+
+pub returns-in_ok-case_defs-in-Variant-clause-ty : goal.returns-in_ok-case_defs-in-Variant-clause-ty
+returns-in_ok-case_defs-in-Variant-clause-ty g c = λ types are.
+    let s = g.R.Replacement.replacement c.args.by.now in
+    let seen = ap type_of c.in-Variant.is ∙ seen_Variant c.in-Variant.cases in
+    let items = c.deref-in-Variant-2.ensures.value ∙ ap (λ v. v.items) c.deref-in-Variant.ensures in
+    let labels = c.in_ok-case_defs-in-Variant.ensures.labels ∙ ap (map (λ (x : Case). (case_of x).0)) items in
+    let carrying = c.in_ok-case_defs-in-Variant.ensures.carrying ∙ ap (map (λ (x : Case). is_some (case_of x).1)) items in
+    let held = ap (λ (t : Ty). map (replaced s) (parts_in t)) (sym seen) ∙ are ∙ ap (map (type_at types)) (sym c.in_ok-case_defs-in-Variant.ensures.places) in
+    ap (cases variant_type) (cases_same s types c.in_ok-case_defs-in-Variant.field-0.items c.in-Variant.cases.value.items labels carrying held) ∙ ap (replaced s) (sym seen)
+
+pub returns-in_ok-clone-in-Enum-clause-ty : goal.returns-in_ok-clone-in-Enum-clause-ty
+returns-in_ok-clone-in-Enum-clause-ty g c = λ types are.
+    let s = g.R.Replacement.replacement c.args.by.now in
+    let seen = ap type_of c.in-Enum.is ∙ seen_Enum c.in-Enum.labels in
+    let same = cloned c.deref-in-Enum.result.now.items c.in_ok-clone-in-Enum.field-0.items c.in_ok-clone-in-Enum.ensures.cases.0 ∙ ap (λ v. v.items) c.deref-in-Enum.ensures in
+    ap (λ (ls : List (List ℕ)). cases enum_type (plain_from ls)) same ∙ ap (cases enum_type) (sym (labels_same s c.in-Enum.labels.value.items)) ∙ ap (replaced s) (sym seen)
+
+pub returns-in_ok-clone-in-Flags-clause-ty : goal.returns-in_ok-clone-in-Flags-clause-ty
+returns-in_ok-clone-in-Flags-clause-ty g c = λ types are.
+    let s = g.R.Replacement.replacement c.args.by.now in
+    let seen = ap type_of c.in-Flags.is ∙ seen_Flags c.in-Flags.labels in
+    let same = cloned c.deref-in-Flags.result.now.items c.in_ok-clone-in-Flags.field-0.items c.in_ok-clone-in-Flags.ensures.cases.0 ∙ ap (λ v. v.items) c.deref-in-Flags.ensures in
+    ap (λ (ls : List (List ℕ)). flags ls) same ∙ ap (replaced s) (sym seen)
+
+pub returns-in-Option-clause-there : goal.returns-in-Option-clause-there
+returns-in-Option-clause-there g c = λ count all.
+    let seen = ap type_of c.in-Option.is ∙ seen_Option c.in-Option.field-0 in
+    let one = c.requires ∙ ap (λ y. length (parts_in y)) seen in
+    first_below count c.args.parts.now (omega (arith, one)) all
+
+pub returns-in-Option-clause-ty : goal.returns-in-Option-clause-ty
+returns-in-Option-clause-ty g c = λ types are.
+    let s = g.R.Replacement.replacement c.args.by.now in
+    let seen = ap type_of c.in-Option.is ∙ seen_Option c.in-Option.field-0 in
+    let held = ap (λ (t : Ty). map (replaced s) (parts_in t)) (sym seen) ∙ are in
+    ap (λ (t : Ty). cases option_type (plain (codes "none") (carrying (codes "some") t no_cases))) (one_same s types (type_of c.in-Option.field-0.value) c.args.parts.now held)
+    ∙ ap (replaced s) (sym seen)
