@@ -1,0 +1,2 @@
+mod FirstLaws
+mod PairLaws

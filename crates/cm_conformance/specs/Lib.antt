@@ -1,0 +1,3 @@
+pub mod Comparisons
+pub mod Conformance
+pub mod Faults
