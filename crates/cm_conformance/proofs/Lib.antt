@@ -1,2 +1,3 @@
 mod FirstLaws
 mod PairLaws
+mod MoreLaws

@@ -2,8 +2,9 @@
 -- which fault is the first, is this project's own choice).
 use Rattle.std.specs.Prelude.{◌≡◌, ℕ, Bool, false, List, ◌∷◌, ◌++◌, Option, Some, None}
 use Rattle.std.specs.List.{AllByRecursion, position_from}
+use Rattle.std.specs.Str.{bytes_eq}
 use Rattle.cm_types.specs.Resources.{same_resource}
-use Rattle.cm_types.specs.Signatures.{SignatureTy}
+use Rattle.cm_types.specs.Signatures.{NamedExtern, SignatureTy}
 use Rattle.cm_types.specs.declared.resource.ResourceId.{ResourceId}
 use Rattle.cm_replaced.specs.Replaced.{Standing, replaced, replaced_func}
 use Rattle.cm_conformance.specs.Comparisons.{Comparison, nothing, two_sorts, two_funcs, two_types}
@@ -90,3 +91,7 @@ pub record IsFirstIn (all : List Entry) (item : ConformItem) (r : ConformReason)
 -- The first fault of a signature against a world is at this item, for this reason.
 abbrev pub IsFirstFault : SignatureTy → SignatureTy → ConformItem → ConformReason → Type 0
 IsFirstFault have world item r = IsFirstIn (entries have world) item r
+
+-- The world exports nothing of this name.
+abbrev pub IsUnasked : SignatureTy → NamedExtern → Type 0
+IsUnasked world e = AllByRecursion (λ w. bytes_eq w.name e.name ≡ false) world.exports

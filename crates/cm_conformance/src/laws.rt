@@ -1,12 +1,13 @@
 //! What holds of the definitions, as laws: each function here does nothing, and its contract is the
 //! law.
 
-ghost use Rattle.std.specs.Prelude.{◌≡◌, ◌↔◌, List};
-ghost use Rattle.cm_types.specs.Signatures.{SignatureTy};
+ghost use Rattle.std.specs.Prelude.{◌≡◌, ◌↔◌, ◌∷◌, ◌++◌, List};
+ghost use Rattle.cm_types.specs.Signatures.{NamedExtern, SignatureTy};
 ghost use Rattle.cm_types.specs.Types.{own, borrow};
 ghost use Rattle.cm_types.specs.declared.resource.ResourceId.{ResourceId};
-ghost use Rattle.cm_conformance.specs.Comparisons.{Entry, two_resources, two_types};
+ghost use Rattle.cm_conformance.specs.Comparisons.{Entry, entries, two_resources, two_types};
 ghost use Rattle.cm_conformance.specs.Conformance.{Conforms, Correspond, Fits, IsFirstFault};
+ghost use Rattle.cm_conformance.specs.Conformance.{IsUnasked};
 ghost use Rattle.cm_conformance.specs.declared.fault.ConformItem.{ConformItem};
 ghost use Rattle.cm_conformance.specs.declared.fault.ConformReason.{ConformReason};
 
@@ -37,4 +38,13 @@ pub fn at_most_one_fault_is_the_first()
         → Conforms have world → IsFirstFault have world item r → ⊥ }
     ensures one { (have world : SignatureTy) (i j : ConformItem) (q r : ConformReason)
         → IsFirstFault have world i q → IsFirstFault have world j r → (i ≡ j) × (q ≡ r) }
+{}
+
+/// What a signature exports beside what the world asks for changes nothing: all that is compared
+/// stays the same, and with it whether the signature fits, and its first fault.
+pub fn exports_more_change_nothing()
+    ensures { (imports front rest : List NamedExtern) (more : NamedExtern) (world : SignatureTy)
+        → IsUnasked world more
+        → entries (record { imports = imports; exports = front ++ more ∷ rest }) world
+        ≡ entries (record { imports = imports; exports = front ++ rest }) world }
 {}

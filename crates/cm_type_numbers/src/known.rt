@@ -36,11 +36,11 @@ impl Known {
     }
 
     /// Keeps the number of the type at a place.
-    pub(crate) fn note(&mut self, place: usize, number: usize) -> Result<(), AllocError>
+    pub(crate) fn note(&mut self, place: usize, known: usize) -> Result<(), AllocError>
         ensures { (t : Numbering) (s : Standing) (ts : List Ty) → Knows t s ts self.old
-            → number t (replaced s (type_at ts place)) ≡ Some number → Knows t s ts self.new }
+            → number t (replaced s (type_at ts place)) ≡ Some known → Knows t s ts self.new }
     {
-        self.numbers.insert(place, number)?;
+        self.numbers.insert(place, known)?;
         Ok(())
     }
 }
