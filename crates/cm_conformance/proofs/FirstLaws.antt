@@ -1,9 +1,8 @@
 -- The first entry that does not fit.
-use Rattle.std.proofs.Common.{◌≡◌, ◌⊎◌, inl, inr, List, [], ◌∷◌, ◌++◌, refl, sym, ap, subst, ◌∙◌}
+use Rattle.std.proofs.Common.{◌≡◌, List, [], ◌∷◌, ◌++◌, sym, ap, subst, ◌∙◌}
 use Rattle.std.specs.List.{AllByRecursion}
-use Rattle.cm_types.specs.Signatures.{SignatureTy}
-use Rattle.cm_conformance.specs.Comparisons.{Entry, entries}
-use Rattle.cm_conformance.specs.Conformance.{Fits, AllFit, Conforms, IsFirstIn, IsFirstFault, reason_of}
+use Rattle.cm_conformance.specs.Comparisons.{Entry}
+use Rattle.cm_conformance.specs.Conformance.{Fits, AllFit, IsFirstIn, reason_of}
 use Rattle.cm_conformance.specs.declared.fault.ConformItem.{ConformItem}
 use Rattle.cm_conformance.specs.declared.fault.ConformReason.{ConformReason}
 

@@ -1,5 +1,5 @@
 -- The pairs of resources.
-use Rattle.std.proofs.Common.{◌≡◌, ℕ, zero, suc, ◌+◌, ◌<◌, ◌≤◌, ◌==◌, ◌&&◌, Bool, true, false, cond, List, [], ◌∷◌, length, get_or, inl, inr, Option, Some, None, refl, sym, ap, subst, ◌∙◌, arith}
+use Rattle.std.proofs.Common.{◌≡◌, ℕ, zero, suc, ◌+◌, ◌<◌, ◌==◌, ◌&&◌, Bool, true, false, cond, List, [], ◌∷◌, length, get_or, inl, inr, Option, Some, None, refl, sym, ap, subst, ◌∙◌, arith}
 use Rattle.std.specs.List.{position_from}
 use Rattle.std.proofs.lemmas.Bool.{cases_Bool}
 use Rattle.std.proofs.lemmas.Bool.Decides.{nat_tests}
@@ -60,7 +60,6 @@ one_number : (m n : ℕ) (o : Option ℕ) → o ≡ Some m → o ≡ Some n → 
 unfolding number_of
 one_number m n o h k = ap number_of (sym h ∙ k)
 
-
 pub one_of_the_world : (all : List Entry) (a b c : ResourceId) → Correspond all a b → Correspond all a c → b ≡ c
 one_of_the_world all a b c h k =
     let same : h.0 ≡ k.0 = one_number h.0 k.0 (have_pair all a) h.1 k.1 in
@@ -84,3 +83,9 @@ one_of_the_signature all a b c h k =
     by_entry : (all : List Entry) (b c : ResourceId) (i : ℕ) → i < length all → ((d : Entry) → meets_world b (get_or all i d).what ≡ true) → ((d : Entry) → meets_world c (get_or all i d).what ≡ true) → b ≡ c
     by_entry [] b c i lt f g = absurd (omega (arith, lt))
     by_entry (e ∷ es) b c i lt f g = met_have (get_or (e ∷ es) i e).what b c (f e) (g e)
+
+eq_self : (x : ℕ) → (x == x) ≡ true
+eq_self x = grind (arith, nat_tests)
+
+pub same_self : (r : ResourceId) → same_resource r r ≡ true
+same_self r = ap (λ (b : Bool). b && (r.number == r.number)) (eq_self r.component) ∙ eq_self r.number

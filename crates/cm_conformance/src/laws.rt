@@ -8,6 +8,7 @@ ghost use Rattle.cm_types.specs.declared.resource.ResourceId.{ResourceId};
 ghost use Rattle.cm_conformance.specs.Comparisons.{Entry, entries, two_resources, two_types};
 ghost use Rattle.cm_conformance.specs.Conformance.{Conforms, Correspond, Fits, IsFirstFault};
 ghost use Rattle.cm_conformance.specs.Conformance.{IsUnasked};
+ghost use Rattle.cm_conformance.specs.Itself.{IsWellNamed};
 ghost use Rattle.cm_conformance.specs.declared.fault.ConformItem.{ConformItem};
 ghost use Rattle.cm_conformance.specs.declared.fault.ConformReason.{ConformReason};
 
@@ -47,4 +48,10 @@ pub fn exports_more_change_nothing()
         → IsUnasked world more
         → entries (record { imports = imports; exports = front ++ more ∷ rest }) world
         ≡ entries (record { imports = imports; exports = front ++ rest }) world }
+{}
+
+/// A signature fits itself, where each import, export and item is found under its name and each
+/// resource in its types is that of an item with a name.
+pub fn signatures_fit_themselves()
+    ensures { (s : SignatureTy) → IsWellNamed s → Conforms s s }
 {}
