@@ -1,6 +1,7 @@
 //! Imports and exports.
 
-ghost use Rattle.cm_signatures.specs.Signatures.{are_externs_in};
+ghost use Rattle.std.specs.Prelude.{◌≡◌, true};
+ghost use Rattle.cm_signatures.specs.Externs.{are_externs_in};
 
 use cm_placed::{InstanceType, Placed};
 use cm_replaced::Move;
@@ -40,8 +41,8 @@ pub enum ExternDesc {
 }
 
 impl Signature {
-    ghost use Rattle.std.specs.Prelude.{◌≡◌, true};
-    ghost use Rattle.cm_signatures.specs.Signatures.{exports_in, externs_in, imports_in};
+    ghost use Rattle.cm_signatures.specs.Externs.{externs_in};
+    ghost use Rattle.cm_signatures.specs.Signatures.{exports_in, imports_in};
 
     /// These imports and exports, whose places are of this arena.
     pub fn new(types: Types, imports: Vec<Extern>, exports: Vec<Extern>) -> Signature

@@ -10,3 +10,5 @@ mod ChainLemmas
 mod Blank
 mod NodeLemmas
 mod ArenaLemmas
+mod KnownLaws
+mod KnownFuncs

@@ -4,9 +4,12 @@
 mod chains;
 mod key;
 pub mod laws;
+mod known;
 mod nodes;
 mod numbers;
+mod single_types;
 mod texts;
 mod type_numbers;
 
+pub use known::Known;
 pub use numbers::Numbers;

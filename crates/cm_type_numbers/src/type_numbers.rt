@@ -97,7 +97,7 @@ impl Numbers {
     }
 
     /// The node of a type, from the numbers of the types that it holds.
-    fn key<R: Replacement>(
+    pub(crate) fn key<R: Replacement>(
         &mut self,
         replacement: &R,
         parts: &[usize],

@@ -1,0 +1,4 @@
+mod FirstLaws
+mod PairLaws
+mod MoreLaws
+mod ItselfLaws

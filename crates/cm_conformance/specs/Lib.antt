@@ -1,0 +1,4 @@
+pub mod Comparisons
+pub mod Conformance
+pub mod Faults
+pub mod Itself

@@ -1,0 +1,5 @@
+mod KeyLaws
+mod WalkLaws
+mod PairLaws
+mod FaultLaws
+mod JudgeLaws

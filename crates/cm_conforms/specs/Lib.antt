@@ -1,0 +1,4 @@
+pub mod Judging
+pub mod Keys
+pub mod Pairs
+pub mod Views
