@@ -118,8 +118,8 @@ pub(crate) fn keep_tag(
     tagged: u32,
     progress: &mut Progress,
 ) -> Result<(), Stop>
-    ensures { Reads (λ u. tt) result (state_of progress.new)
-        (Ok (tt, after_text encoding tagged (state_of progress.old))) }
+    ensures { Reads (λ u. tt {0}) result (state_of progress.new)
+        (Ok (tt {0}, after_text encoding tagged (state_of progress.old))) }
 {
     if let StringEncoding::Latin1OrUtf16 = encoding {
         progress.tags.push(tagged >= UTF16_TAG)?;
