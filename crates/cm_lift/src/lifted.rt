@@ -83,8 +83,11 @@ pub fn lift(
     ensures ok { IfOk result (λ l.
         lift_of memory.now table.old.handles encoding (way_of passed.now.way)
         (layout_of passed.now.layout.now) passed.now.slots.now
-        ≡ Ok (parts (values_of l.values.items), l.tagged.items,
-        handed_with table.new.handles l)) }
+        ≡ Ok (
+          parts (values_of l.values.items),
+          l.tagged.items,
+          handed_with table.new.handles l,
+        )) }
     ensures err { IfErr result (λ e. (e ≡ AbiFault.EngineMemory)
         ⊎ (lift_of memory.now table.old.handles encoding (way_of passed.now.way)
         (layout_of passed.now.layout.now) passed.now.slots.now ≡ Err e)) }
@@ -121,8 +124,11 @@ fn lift_values(
     ensures ok { IfOk result (λ l.
         lift_of memory.now table.old.handles encoding (way_of passed.now.way)
         (layout_of passed.now.layout.now) passed.now.slots.now
-        ≡ Ok (parts (values_of l.values.items), l.tagged.items,
-        handed_with table.new.handles l)) }
+        ≡ Ok (
+          parts (values_of l.values.items),
+          l.tagged.items,
+          handed_with table.new.handles l,
+        )) }
     ensures err { IfErr result (λ e. (e ≡ AbiFault.EngineMemory)
         ⊎ (lift_of memory.now table.old.handles encoding (way_of passed.now.way)
         (layout_of passed.now.layout.now) passed.now.slots.now ≡ Err e)) }
