@@ -6,7 +6,7 @@ use Rattle.std.proofs.lemmas.Bool.{cases_lt, cases_eq}
 use Rattle.std.proofs.lemmas.List.{get_or_past, get_or-set_same, get_or-set_other, length-set}
 use Rattle.cm_handles.specs.Handles.{Handles, IsDistinct, handle_at, after_release, after_lend, with_lends}
 use Rattle.cm_handles.specs.declared.handle.Handle.{Handle}
-use Rattle.cm_abi_model.specs.Taken.{Met, content, taken, lent, content_of, taken_of, lent_of, CanGo, IsFree, IsThere, GoesInTurn, AllThere}
+use Rattle.cm_abi_model.specs.Taken.{Met, content, text_content, taken, lent, content_of, taken_of, lent_of, CanGo, IsFree, IsThere, GoesInTurn, AllThere}
 
 -- ---- lists
 
@@ -61,6 +61,7 @@ there_lent t i j here there = elim (cases_eq j i) [
 never : (t : Handles) (most : ℕ) (ms : List Met) (i : ℕ) → handle_at t i ≡ None → GoesInTurn t most ms
     → (Contains (taken_of ms) i → ⊥) × (Contains (lent_of ms) i → ⊥)
 never t most [] i gone go = (in_none i, in_none i)
+never t most (text_content tags n ∷ ms) i gone go = never t (most - n) ms i gone go.1
 never t most (content n ∷ ms) i gone go = never t (most - n) ms i gone go.1
 never t most (taken j ∷ ms) i gone go =
     let other : i ≢ j = λ e. none_is (sym gone ∙ ap (handle_at t) e ∙ go.0.stands) in
@@ -78,6 +79,9 @@ to_all t most [] go = record {
   apart = λ i c d. in_none i c;
   small = omega arith;
 }
+to_all t most (text_content tags n ∷ ms) go =
+    let r = to_all t (most - n) ms go.1 in
+    record { once = r.once; free = r.free; apart = r.apart; small = omega (arith, go.0, r.small) }
 to_all t most (content n ∷ ms) go =
     let r = to_all t (most - n) ms go.1 in
     record { once = r.once; free = r.free; apart = r.apart; small = omega (arith, go.0, r.small) }
@@ -114,6 +118,7 @@ to_all t most (lent i ∷ ms) go =
 there_released : (t : Handles) (i : ℕ) (ms : List Met) → (Contains (taken_of ms) i → ⊥) → (Contains (lent_of ms) i → ⊥) → AllThere t ms
     → AllThere (after_release t i) ms
 there_released t i [] a b there = tt {0}
+there_released t i (text_content tags n ∷ ms) a b there = there_released t i ms a b there
 there_released t i (content n ∷ ms) a b there = there_released t i ms a b there
 there_released t i (taken j ∷ ms) a b there =
     let other : j ≢ i = λ e. a (subst (Contains (j ∷ taken_of ms)) e (first j (taken_of ms))) in
@@ -124,12 +129,17 @@ there_released t i (lent j ∷ ms) a b there =
 
 all_there_lent : (t : Handles) (i : ℕ) (ms : List Met) → IsThere t i → AllThere t ms → AllThere (after_lend t i) ms
 all_there_lent t i [] here there = tt {0}
+all_there_lent t i (text_content tags n ∷ ms) here there = all_there_lent t i ms here there
 all_there_lent t i (content n ∷ ms) here there = all_there_lent t i ms here there
 all_there_lent t i (taken j ∷ ms) here there = (there_lent t i j here there.0, all_there_lent t i ms here there.1)
 all_there_lent t i (lent j ∷ ms) here there = (there_lent t i j here there.0, all_there_lent t i ms here there.1)
 
 from_all : (t : Handles) (most : ℕ) (ms : List Met) → AllThere t ms → CanGo t most ms → GoesInTurn t most ms
 from_all t most [] there r = tt {0}
+from_all t most (text_content tags n ∷ ms) there r = (
+  omega (arith, r.small),
+  from_all t (most - n) ms there (record { once = r.once; free = r.free; apart = r.apart; small = omega (arith, r.small) }),
+)
 from_all t most (content n ∷ ms) there r = (
   omega (arith, r.small),
   from_all t (most - n) ms there (record { once = r.once; free = r.free; apart = r.apart; small = omega (arith, r.small) }),

@@ -1,7 +1,7 @@
 -- What lifting a value takes from its giver (CanonicalABI.md, "Lifting" of own and borrow; the
 -- limit on content is this project's own choice).
 use Rattle.std.specs.Prelude.{◌≡◌, ℕ, zero, suc, ◌+◌, ◌-◌, ◌*◌, ◌≤◌, ⊤, List, [], ◌∷◌, ◌++◌}
-use Rattle.std.specs.Prelude.{Contains, Some, if◌then◌else◌}
+use Rattle.std.specs.Prelude.{Bool, Contains, Some, if◌then◌else◌}
 use Rattle.cm_types.specs.declared.core_value.CoreValue.{CoreValue}
 use Rattle.cm_types.specs.Types.{Ty, Fields, Cases, string, list, fixed_list, fields, cases, own}
 use Rattle.cm_types.specs.Types.{borrow, no_fields, field, no_cases, plain, carrying}
@@ -11,18 +11,25 @@ use Rattle.cm_handles.specs.Handles.{Handles, IsDistinct, after_lend, after_rele
 use Rattle.cm_handles.specs.declared.handle.Handle.{Handle}
 use Rattle.cm_layout.specs.Alignment.{align_to}
 use Rattle.cm_layout.specs.Sizes.{align_of, size_of, payload_offset}
+use Rattle.cm_abi_model.specs.declared.encoding.StringEncoding.{StringEncoding}
 use Rattle.cm_abi_model.specs.Numbers.{number_at, wrapped_at}
 use Rattle.cm_abi_model.specs.Views.{View, Way}
-use Rattle.cm_abi_model.specs.Texts.{text_size}
+use Rattle.cm_abi_model.specs.Texts.{tag_of, text_size}
 use Rattle.cm_abi_model.specs.FlatShows.{width_of}
 use Rattle.cm_abi_model.specs.Requests.{is_spilled, tuple_of}
 
--- what a reader meets: so many bytes of a string or of the elements of a list; the index of a
--- handle to be owned; that of one to be borrowed
+-- what a reader meets: a string, with the tag of its length, if that has one, and so many bytes; so
+-- many bytes of the elements of a list; the index of a handle to be owned; that of one to be
+-- borrowed
 pub data Met : Type 0 where
+  text_content : List Bool → ℕ → Met
   content : ℕ → Met
   taken : ℕ → Met
   lent : ℕ → Met
+
+-- the string of a tagged length, as it is met
+abbrev pub met_text : StringEncoding → ℕ → Met
+met_text e n = text_content (tag_of e n) (text_size e n)
 
 -- what is met in each of some values in a row
 abbrev pub met_each : (ℕ → Val → List Met) → ℕ → ℕ → Vals → List Met
@@ -32,7 +39,7 @@ met_each M size at (val v vs) = M at v ++ met_each M size (at + size) vs
 abbrev mutual
   -- what is met in the value that bytes at an address show, in reading order
   pub met_at : View → Ty → ℕ → Val → List Met
-  met_at w string p (text cs) = content (text_size w.encoding (number_at 4 w.memory (p + 4))) ∷ []
+  met_at w string p (text cs) = met_text w.encoding (number_at 4 w.memory (p + 4)) ∷ []
   met_at w (list t) p (elements vs) =
       content (count_of vs * size_of t)
       ∷ met_each (met_at w t) (size_of t) (number_at 4 w.memory p) vs
@@ -60,7 +67,7 @@ abbrev mutual
 abbrev mutual
   -- what is met in the value that slots show
   pub met_flat : View → List CoreValue → Ty → ℕ → Val → List Met
-  met_flat w s string k (text cs) = content (text_size w.encoding (wrapped_at 4 s (k + 1))) ∷ []
+  met_flat w s string k (text cs) = met_text w.encoding (wrapped_at 4 s (k + 1)) ∷ []
   met_flat w s (list t) k (elements vs) =
       content (count_of vs * size_of t)
       ∷ met_each (met_at w t) (size_of t) (wrapped_at 4 s k) vs
@@ -91,21 +98,32 @@ met w way types slots v =
     then met_at w (tuple_of types) (wrapped_at 4 slots 0) v
     else met_flat w slots (tuple_of types) 0 v
 
--- the bytes met, the indices of handles to be owned, and of those to be borrowed
+-- the bytes met, the tags of strings, the indices of handles to be owned, and of those to be
+-- borrowed
 abbrev pub content_of : List Met → ℕ
 content_of [] = 0
+content_of (text_content tags n ∷ ms) = n + content_of ms
 content_of (content n ∷ ms) = n + content_of ms
 content_of (taken i ∷ ms) = content_of ms
 content_of (lent i ∷ ms) = content_of ms
 
+abbrev pub tags_of : List Met → List Bool
+tags_of [] = []
+tags_of (text_content tags n ∷ ms) = tags ++ tags_of ms
+tags_of (content n ∷ ms) = tags_of ms
+tags_of (taken i ∷ ms) = tags_of ms
+tags_of (lent i ∷ ms) = tags_of ms
+
 abbrev pub taken_of : List Met → List ℕ
 taken_of [] = []
+taken_of (text_content tags n ∷ ms) = taken_of ms
 taken_of (content n ∷ ms) = taken_of ms
 taken_of (taken i ∷ ms) = i ∷ taken_of ms
 taken_of (lent i ∷ ms) = taken_of ms
 
 abbrev pub lent_of : List Met → List ℕ
 lent_of [] = []
+lent_of (text_content tags n ∷ ms) = lent_of ms
 lent_of (content n ∷ ms) = lent_of ms
 lent_of (taken i ∷ ms) = lent_of ms
 lent_of (lent i ∷ ms) = i ∷ lent_of ms
@@ -131,6 +149,7 @@ Transferable w way types slots v = CanGo w.table MAX_CONTENT (met w way types sl
 
 -- the handles after something was met: an own handle goes, a borrowed one is lent once more
 abbrev pub after_one : Handles → Met → Handles
+after_one t (text_content tags n) = t
 after_one t (content n) = t
 after_one t (taken i) = after_release t i
 after_one t (lent i) = after_lend t i
@@ -153,11 +172,13 @@ IsThere t index = (h : Handle) × (handle_at t index ≡ Some h)
 -- one thing can be handed over now, with so much content left: there is room for it; its handle
 -- stands, to be owned lent to nobody
 abbrev pub GoesNow : Handles → ℕ → Met → Type 0
+GoesNow t left (text_content tags n) = n ≤ left
 GoesNow t left (content n) = n ≤ left
 GoesNow t left (taken i) = IsFree t i
 GoesNow t left (lent i) = IsThere t i
 
 abbrev pub left_after : ℕ → Met → ℕ
+left_after left (text_content tags n) = left - n
 left_after left (content n) = left - n
 left_after left (taken i) = left
 left_after left (lent i) = left
@@ -170,6 +191,7 @@ GoesInTurn t left (m ∷ ms) = GoesNow t left m × GoesInTurn (after_one t m) (l
 -- each index that is met has a handle
 abbrev pub AllThere : Handles → List Met → Type 0
 AllThere t [] = ⊤
+AllThere t (text_content tags n ∷ ms) = AllThere t ms
 AllThere t (content n ∷ ms) = AllThere t ms
 AllThere t (taken i ∷ ms) = IsThere t i × AllThere t ms
 AllThere t (lent i ∷ ms) = IsThere t i × AllThere t ms

@@ -1,6 +1,6 @@
 -- Strings in memory: a pointer and a tagged length (CanonicalABI.md, "Loading" of strings).
-use Rattle.std.specs.Prelude.{◌≡◌, ℕ, ◌+◌, ◌*◌, ◌-◌, ◌≤◌, List, take, drop, nat_lt}
-use Rattle.std.specs.Prelude.{if◌then◌else◌, length}
+use Rattle.std.specs.Prelude.{◌≡◌, ℕ, ◌+◌, ◌*◌, ◌-◌, ◌≤◌, List, [], ◌∷◌, take, drop, not, nat_lt}
+use Rattle.std.specs.Prelude.{if◌then◌else◌, Bool, length}
 use Rattle.std.specs.Char.{IsScalar}
 use Rattle.cm_text.specs.Text.{IsText}
 use Rattle.cm_text.specs.Utf8.{spell_utf8}
@@ -47,6 +47,12 @@ abbrev pub units_of : StringEncoding → ℕ → ℕ
 units_of encoding.Utf8 n = n
 units_of encoding.Utf16 n = n
 units_of encoding.Latin1OrUtf16 n = if nat_lt n UTF16_TAG then n else n - UTF16_TAG
+
+-- the tag of that length, whether it says UTF-16; none where strings are in one encoding alone
+abbrev pub tag_of : StringEncoding → ℕ → List Bool
+tag_of encoding.Utf8 n = []
+tag_of encoding.Utf16 n = []
+tag_of encoding.Latin1OrUtf16 n = not (nat_lt n UTF16_TAG) ∷ []
 
 -- how many bytes the string of that length has
 abbrev pub text_size : StringEncoding → ℕ → ℕ

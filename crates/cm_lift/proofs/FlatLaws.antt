@@ -17,7 +17,7 @@ use Rattle.cm_layout.specs.Sizes.{align_of, size_of}
 use Rattle.cm_abi_model.specs.Numbers.{as_signed, slot_number, wrapped_at}
 use Rattle.cm_abi_model.specs.FlatShows.{FlatShowFields, FlatShows, FlatShowsPayload, width_of}
 use Rattle.cm_abi_model.specs.Shows.{ShowEach}
-use Rattle.cm_abi_model.specs.Taken.{Met, content, taken, lent, content_of, met_each, met_flat, met_flat_fields, met_flat_payload}
+use Rattle.cm_abi_model.specs.Taken.{Met, text_content, content, taken, lent, content_of, met_each, met_flat, met_flat_fields, met_flat_payload}
 use Rattle.cm_abi_model.specs.Views.{View}
 use Rattle.cm_abi_model.specs.declared.fault.AbiFault.{AbiFault}
 use Rattle.cm_abi_model.specs.declared.fault.AbiFault.TheVariants as fault
@@ -99,6 +99,7 @@ drop_twice w (suc k) (x ∷ s) =
 
 content_both : (xs ys : List Met) → content_of (xs ++ ys) ≡ content_of xs + content_of ys
 content_both [] ys = let e : content_of ys ≡ 0 + content_of ys = omega arith in e
+content_both (text_content tags n ∷ xs) ys = let e : content_of (xs ++ ys) ≡ content_of xs + content_of ys = content_both xs ys in omega (arith, e)
 content_both (content n ∷ xs) ys = let e : content_of (xs ++ ys) ≡ content_of xs + content_of ys = content_both xs ys in omega (arith, e)
 content_both (taken i ∷ xs) ys = content_both xs ys
 content_both (lent i ∷ xs) ys = content_both xs ys

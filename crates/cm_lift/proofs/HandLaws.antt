@@ -15,7 +15,7 @@ use Rattle.cm_handles.specs.declared.fault.HandleFault.{HandleFault}
 use Rattle.cm_handles.specs.declared.fault.HandleFault.TheVariants as handle_fault
 use Rattle.cm_layout.specs.declared.layouts.HandleType.{HandleType}
 use Rattle.cm_layout.specs.declared.layouts.HandleType.TheVariants as handle_type
-use Rattle.cm_abi_model.specs.Taken.{AllThere, CanGo, GoesInTurn, IsThere, Met, after_met, content, content_of, lent, lent_of, taken, taken_of}
+use Rattle.cm_abi_model.specs.Taken.{AllThere, CanGo, GoesInTurn, IsThere, Met, after_met, text_content, content, content_of, lent, lent_of, taken, taken_of}
 use Rattle.cm_abi_model.specs.declared.fault.AbiFault.{AbiFault}
 use Rattle.cm_lifting.specs.declared.progress.MetHandle.{MetHandle}
 use Rattle.cm_lifting.specs.Meeting.{AreAsWanted, IsOfKind, handles_in, met_as, met_index}
@@ -256,24 +256,28 @@ all_go first h (m ∷ ms) kept wanted go =
 
 taken_handles : (ms : List Met) → taken_of (handles_in ms) ≡ taken_of ms
 taken_handles [] = refl
+taken_handles (text_content tags n ∷ ms) = taken_handles ms
 taken_handles (content n ∷ ms) = taken_handles ms
 taken_handles (taken i ∷ ms) = ap (λ is. i ∷ is) (taken_handles ms)
 taken_handles (lent i ∷ ms) = taken_handles ms
 
 lent_handles : (ms : List Met) → lent_of (handles_in ms) ≡ lent_of ms
 lent_handles [] = refl
+lent_handles (text_content tags n ∷ ms) = lent_handles ms
 lent_handles (content n ∷ ms) = lent_handles ms
 lent_handles (taken i ∷ ms) = lent_handles ms
 lent_handles (lent i ∷ ms) = ap (λ is. i ∷ is) (lent_handles ms)
 
 no_content : (ms : List Met) → content_of (handles_in ms) ≡ 0
 no_content [] = refl
+no_content (text_content tags n ∷ ms) = no_content ms
 no_content (content n ∷ ms) = no_content ms
 no_content (taken i ∷ ms) = no_content ms
 no_content (lent i ∷ ms) = no_content ms
 
 after_handles : (t : Handles) (ms : List Met) → after_met t (handles_in ms) ≡ after_met t ms
 after_handles t [] = refl
+after_handles t (text_content tags n ∷ ms) = after_handles t ms
 after_handles t (content n ∷ ms) = after_handles t ms
 after_handles t (taken i ∷ ms) = after_handles (after_release t i) ms
 after_handles t (lent i ∷ ms) = after_handles (after_lend t i) ms

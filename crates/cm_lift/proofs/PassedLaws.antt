@@ -113,32 +113,33 @@ passed_found laws w way types slots s v (inr x) room =
 
 -- ---- lifting
 
-handed_ok : (r : Outcome Val) (o : Result Hands AbiFault) (v : Val) (h : Hands) → handed r o ≡ Ok (v, h) → (s : State) × (r ≡ Ok (v, s)) × (o ≡ Ok h)
-handed_ok r (Err e) v h is = absurd (cc)
-handed_ok (Err r) (Ok g) v h is = absurd (cc)
-handed_ok (Ok r) (Ok g) v h is =
-    let same : (r.0, g) ≡ (v, h) = cc in
-    (r.1, ap (λ x. Ok (x, r.1)) (ap (λ (z : Val × Hands). z.0) same), ap (λ x. Ok x) (ap (λ (z : Val × Hands). z.1) same))
+handed_ok : (r : Outcome Val) (o : Result Hands AbiFault) (v : Val) (tags : List Bool) (h : Hands) → handed r o ≡ Ok (v, tags, h)
+    → (s : State) × (r ≡ Ok (v, s)) × (s.tags ≡ tags) × (o ≡ Ok h)
+handed_ok r (Err e) v tags h is = absurd (cc)
+handed_ok (Err r) (Ok g) v tags h is = absurd (cc)
+handed_ok (Ok r) (Ok g) v tags h is =
+    let same : (r.0, r.1.tags, g) ≡ (v, tags, h) = cc in
+    (r.1, ap (λ x. Ok (x, r.1)) (ap (λ (z : Val × List Bool × Hands). z.0) same), ap (λ (z : Val × List Bool × Hands). z.1) same, ap (λ x. Ok x) (ap (λ (z : Val × List Bool × Hands). z.2) same))
 
-pub lifts_view : AllLaws → (w : View) (way : Way) (types : Fields) (slots : List CoreValue) (v : Val) (h : Hands)
-    → lift_of w.memory w.table w.encoding way (layout_of_fields_at types) slots ≡ Ok (v, h) → Lifts w way types slots v h
-lifts_view laws w way types slots v h e =
+pub lifts_view : AllLaws → (w : View) (way : Way) (types : Fields) (slots : List CoreValue) (v : Val) (tags : List Bool) (h : Hands)
+    → lift_of w.memory w.table w.encoding way (layout_of_fields_at types) slots ≡ Ok (v, tags, h) → Lifts w way types slots v tags h
+lifts_view laws w way types slots v tags h e =
     let r = read_passed (seen_by w) (flat_limit way) (layout_of_fields_at types) slots fresh in
-    let ok = handed_ok r (hand_over (untouched w.table) (state_in r).handles) v h e in
+    let ok = handed_ok r (hand_over (untouched w.table) (state_in r).handles) v tags h e in
     let passes = passed_shows laws w way types slots fresh ok.0 v ok.1 in
     let met_in = passes.1 in
-    let hands : hand_over (untouched w.table) met_in.found ≡ Ok h = ap (λ hs. hand_over (untouched w.table) hs) (sym met_in.handles) ∙ (ap (λ x. hand_over (untouched w.table) (state_in x).handles) (sym ok.1) ∙ ok.2) in
+    let hands : hand_over (untouched w.table) met_in.found ≡ Ok h = ap (λ hs. hand_over (untouched w.table) hs) (sym met_in.handles) ∙ (ap (λ x. hand_over (untouched w.table) (state_in x).handles) (sym ok.1) ∙ ok.3) in
     let done = over laws.turn w.table MAX_CONTENT (met w way types slots v) met_in.found h (omega (arith, met_in.counted)) met_in.same met_in.wanted hands in
-    record { denoted = passes.0; transferable = done.can; table = done.table; owns = done.owns; lends = done.lends }
+    record { denoted = passes.0; transferable = done.can; tagged = sym ok.2 ∙ met_in.tagged; table = done.table; owns = done.owns; lends = done.lends }
 
 pub must_lift_view : AllLaws → (w : View) (way : Way) (types : Fields) (slots : List CoreValue) (v : Val) → Denotes w way types slots v → Transferable w way types slots v
-    → (h : Hands) × (lift_of w.memory w.table w.encoding way (layout_of_fields_at types) slots ≡ Ok (v, h))
+    → (tags : List Bool) × (h : Hands) × (lift_of w.memory w.table w.encoding way (layout_of_fields_at types) slots ≡ Ok (v, tags, h))
 must_lift_view laws w way types slots v denoted can =
     let found = passed_found laws w way types slots fresh v denoted can.small in
     let met_in = (passed_shows laws w way types slots fresh found.after v found.is).1 in
     let goes = goes_over laws.turn w.table MAX_CONTENT (met w way types slots v) met_in.found met_in.same met_in.wanted can in
     let hands : hand_over (untouched w.table) found.after.handles ≡ Ok goes.0 = ap (λ hs. hand_over (untouched w.table) hs) met_in.handles ∙ goes.1 in
-    (goes.0, ap (lifted w.table) found.is ∙ ap (handed (Ok (v, found.after))) hands)
+    (found.after.tags, goes.0, ap (lifted w.table) found.is ∙ ap (handed (Ok (v, found.after))) hands)
 
 -- ---- of the code's
 
@@ -150,26 +151,26 @@ same_lift w memory table encoding way l k slots is same =
     ∙ (ap (λ e. lift_of w.memory w.table e way l slots) (sym is.encoding_is) ∙ ap (λ x. lift_of w.memory w.table w.encoding way x slots) same))
 
 abbrev pub LiftsLaw : Type 0
-LiftsLaw = (w : View) (way : Way) (types : Fields) (slots : List CoreValue) (v : Val) (h : Hands)
-    → lift_of w.memory w.table w.encoding way (layout_of_fields_at types) slots ≡ Ok (v, h) → Lifts w way types slots v h
+LiftsLaw = (w : View) (way : Way) (types : Fields) (slots : List CoreValue) (v : Val) (tags : List Bool) (h : Hands)
+    → lift_of w.memory w.table w.encoding way (layout_of_fields_at types) slots ≡ Ok (v, tags, h) → Lifts w way types slots v tags h
 
 abbrev pub OnlyLaw : Type 0
 OnlyLaw = (w : View) (way : Way) (types : Fields) (slots : List CoreValue) (v : Val) → Denotes w way types slots v → Transferable w way types slots v
-    → (h : Hands) × (lift_of w.memory w.table w.encoding way (layout_of_fields_at types) slots ≡ Ok (v, h))
+    → (tags : List Bool) × (h : Hands) × (lift_of w.memory w.table w.encoding way (layout_of_fields_at types) slots ≡ Ok (v, tags, h))
 
-pub lifts_given : LiftsLaw → (w : View) (memory : List ℕ) (table : Handles) (encoding : StringEncoding) (way : Way) (l : LayoutTy) (types : Fields) (slots : List CoreValue) (v : Val) (h : Hands)
-    → IsGivenBy w memory table encoding → l ≡ layout_of_fields_at types → lift_of memory table encoding way l slots ≡ Ok (v, h) → Lifts w way types slots v h
-lifts_given law w memory table encoding way l types slots v h is same e =
-    law w way types slots v h (sym (same_lift w memory table encoding way l (layout_of_fields_at types) slots is same) ∙ e)
+pub lifts_given : LiftsLaw → (w : View) (memory : List ℕ) (table : Handles) (encoding : StringEncoding) (way : Way) (l : LayoutTy) (types : Fields) (slots : List CoreValue) (v : Val) (tags : List Bool) (h : Hands)
+    → IsGivenBy w memory table encoding → l ≡ layout_of_fields_at types → lift_of memory table encoding way l slots ≡ Ok (v, tags, h) → Lifts w way types slots v tags h
+lifts_given law w memory table encoding way l types slots v tags h is same e =
+    law w way types slots v tags h (sym (same_lift w memory table encoding way l (layout_of_fields_at types) slots is same) ∙ e)
 
-not_both : (r : Result (Val × Hands) AbiFault) (x : Val × Hands) (f : AbiFault) → r ≡ Ok x → r ≡ Err f → ⊥
+not_both : (r : Result (Val × List Bool × Hands) AbiFault) (x : Val × List Bool × Hands) (f : AbiFault) → r ≡ Ok x → r ≡ Err f → ⊥
 not_both r x f a b = cc
 
 pub only_given : OnlyLaw → (w : View) (memory : List ℕ) (table : Handles) (encoding : StringEncoding) (way : Way) (l : LayoutTy) (types : Fields) (slots : List CoreValue) (v : Val) (f : AbiFault)
     → IsGivenBy w memory table encoding → l ≡ layout_of_fields_at types → Denotes w way types slots v → Transferable w way types slots v → lift_of memory table encoding way l slots ≡ Err f → ⊥
 only_given law w memory table encoding way l types slots v f is same denoted can e =
     let found = law w way types slots v denoted can in
-    not_both (lift_of w.memory w.table w.encoding way (layout_of_fields_at types) slots) (v, found.0) f found.1
+    not_both (lift_of w.memory w.table w.encoding way (layout_of_fields_at types) slots) (v, found.0, found.1) f found.2
     (sym (same_lift w memory table encoding way l (layout_of_fields_at types) slots is same) ∙ e)
 
 -- what is read of a tuple is fields

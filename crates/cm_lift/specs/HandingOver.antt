@@ -1,5 +1,5 @@
 -- Handing over the handles that a reader met (CanonicalABI.md, "Lifting" of own and borrow).
-use Rattle.std.specs.Prelude.{◌≡◌, ℕ, ◌<◌, List, [], ◌∷◌, ◌++◌, Some, Result, Ok, Err}
+use Rattle.std.specs.Prelude.{◌≡◌, ℕ, ◌<◌, Bool, List, [], ◌∷◌, ◌++◌, Some, Result, Ok, Err}
 use Rattle.cm_types.specs.Values.{Val}
 use Rattle.cm_handles.specs.Handles.{Handles, after_lend, after_release, handle_at, if_not_lent}
 use Rattle.cm_handles.specs.Handles.{if_owned, look_up}
@@ -81,12 +81,12 @@ state_in (Err r) = r.1
 
 -- what lifting comes to: the first fault in reading order is that of the first handle that cannot
 -- be handed over, of those that were met; else the one at which reading stopped
-abbrev pub handed : Outcome Val → Result Hands AbiFault → Result (Val × Hands) AbiFault
+abbrev pub handed : Outcome Val → Result Hands AbiFault → Result (Val × List Bool × Hands) AbiFault
 handed r (Err e) = Err e
 handed (Err r) (Ok h) = Err r.0
-handed (Ok r) (Ok h) = Ok (r.0, h)
+handed (Ok r) (Ok h) = Ok (r.0, r.1.tags, h)
 
-abbrev pub lifted : Handles → Outcome Val → Result (Val × Hands) AbiFault
+abbrev pub lifted : Handles → Outcome Val → Result (Val × List Bool × Hands) AbiFault
 lifted table r = handed r (hand_over (untouched table) (state_in r).handles)
 
 -- each handle is lent fewer times

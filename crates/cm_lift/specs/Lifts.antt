@@ -1,5 +1,5 @@
 -- Lifting what a call passes (CanonicalABI.md, "Lifting and Lowering Values").
-use Rattle.std.specs.Prelude.{◌≡◌, ℕ, List, [], map, Result, Some}
+use Rattle.std.specs.Prelude.{◌≡◌, ℕ, Bool, List, [], map, Result, Some}
 use Rattle.cm_types.specs.declared.core_value.CoreValue.{CoreValue}
 use Rattle.cm_types.specs.Types.{Fields}
 use Rattle.cm_types.specs.Values.{Val}
@@ -8,7 +8,8 @@ use Rattle.cm_layout.specs.Shapes.{LayoutTy}
 use Rattle.cm_abi_model.specs.declared.encoding.StringEncoding.{StringEncoding}
 use Rattle.cm_abi_model.specs.declared.fault.AbiFault.{AbiFault}
 use Rattle.cm_abi_model.specs.Denotes.{Denotes}
-use Rattle.cm_abi_model.specs.Taken.{MAX_CONTENT, Transferable, after_met, lent_of, met, taken_of}
+use Rattle.cm_abi_model.specs.Taken.{MAX_CONTENT, Transferable, after_met, lent_of, met, tags_of}
+use Rattle.cm_abi_model.specs.Taken.{taken_of}
 use Rattle.cm_abi_model.specs.Views.{View, Way, flat_limit}
 use Rattle.cm_lifting.specs.Outcomes.{State}
 use Rattle.cm_lift.specs.FlatReading.{read_passed}
@@ -24,11 +25,12 @@ pub record IsGivenBy (w : View) (memory : List ℕ) (table : Handles) (encoding 
 
 -- a reader that has met nothing
 abbrev pub fresh : State
-fresh = record { left = MAX_CONTENT; handles = [] }
+fresh = record { left = MAX_CONTENT; handles = []; tags = [] }
 
--- what lifting comes to: the value and the handles then, or the first fault in reading order
+-- what lifting comes to: the value, the tags of its strings, and the handles then; or the first
+-- fault in reading order
 abbrev pub lift_of : List ℕ → Handles → StringEncoding → Way → LayoutTy → List CoreValue
-    → Result (Val × Hands) AbiFault
+    → Result (Val × List Bool × Hands) AbiFault
 lift_of memory table encoding way l slots =
     lifted table (read_passed (record { memory = memory; table = table; encoding = encoding })
     (flat_limit way) l slots fresh)
@@ -39,11 +41,12 @@ handed_with table l = record { table = table; owns = l.owns.items; lends = l.len
 
 -- A value was lifted in a view: the core values denote it, and it can be handed over. The handles
 -- that it owns are out of the table, and those that it borrows are lent once more, in reading
--- order; no other handle is changed.
+-- order; no other handle is changed. The tags are those of its strings, in reading order.
 pub record Lifts (w : View) (way : Way) (types : Fields) (slots : List CoreValue) (v : Val)
-    (h : Hands) : Type 0 where
+    (tags : List Bool) (h : Hands) : Type 0 where
   pub denoted : Denotes w way types slots v
   pub transferable : Transferable w way types slots v
+  pub tagged : tags ≡ tags_of (met w way types slots v)
   pub table : h.table ≡ after_met w.table (met w way types slots v)
   pub owns : map Some h.owns ≡ map (handle_at w.table) (taken_of (met w way types slots v))
   pub lends : h.lends ≡ lent_of (met w way types slots v)

@@ -1,6 +1,6 @@
 //! What lifting means, as laws: each function here does nothing, and its contract is the law.
 
-ghost use Rattle.std.specs.Prelude.{◌≡◌, List, Ok};
+ghost use Rattle.std.specs.Prelude.{◌≡◌, Bool, List, Ok};
 ghost use Rattle.cm_types.specs.declared.core_value.CoreValue.{CoreValue};
 ghost use Rattle.cm_types.specs.Types.{Fields};
 ghost use Rattle.cm_types.specs.Values.{Val};
@@ -22,13 +22,13 @@ use cm_lifting::laws::{
 /// denoted, or where it cannot be handed over.
 pub fn lifting_is_exact()
     ensures lifts { (w : View) (way : Way) (types : Fields) (slots : List CoreValue) (v : Val)
-        (h : Hands)
-        → lift_of w.memory w.table w.encoding way (layout_of_fields_at types) slots ≡ Ok (v, h)
-        → Lifts w way types slots v h }
+        (tags : List Bool) (h : Hands)
+        → lift_of w.memory w.table w.encoding way (layout_of_fields_at types) slots
+        ≡ Ok (v, tags, h) → Lifts w way types slots v tags h }
     ensures only { (w : View) (way : Way) (types : Fields) (slots : List CoreValue) (v : Val)
         → Denotes w way types slots v → Transferable w way types slots v
-        → (h : Hands) × (lift_of w.memory w.table w.encoding way (layout_of_fields_at types)
-        slots ≡ Ok (v, h)) }
+        → (tags : List Bool) × (h : Hands) × (lift_of w.memory w.table w.encoding way
+        (layout_of_fields_at types) slots ≡ Ok (v, tags, h)) }
 {
     what_is_read_is_shown();
     what_is_shown_is_read();

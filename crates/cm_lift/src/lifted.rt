@@ -37,6 +37,9 @@ pub struct Lifted {
     pub owns: Vec<Handle>,
     /// The indices of the handles that were lent, in reading order.
     pub lends: Vec<u32>,
+    /// Of each string of the values, in reading order, whether its length was tagged as UTF-16;
+    /// empty where strings are in UTF-8 or in UTF-16 alone, whose lengths have no tags.
+    pub tagged: Vec<bool>,
 }
 
 /// The fields of a tuple.
@@ -57,8 +60,9 @@ fn fields_of(tuple: Value) -> Vec<Value>
 /// It succeeds exactly where the core values denote values that can be handed over: no handle is
 /// owned twice, none that is to be owned is lent or borrowed as well, and strings and lists hold at
 /// most 16,777,216 bytes. Then each handle that is to be owned is taken out of the table, and each
-/// that is to be borrowed is lent once more, in reading order; nothing else is changed. The caller
-/// gives a table whose handles are lent fewer than 2^100 times.
+/// that is to be borrowed is lent once more, in reading order; nothing else is changed. The tags of
+/// strings are told as they stood. The caller gives a table whose handles are lent fewer than 2^100
+/// times.
 ///
 /// Else the answer is the first fault in reading order, and the table is as it was. At a pointer it
 /// is `Misaligned`, else `PointerBounds`, else `TooLarge`, else `BadText`; at a char `BadChar`; at
@@ -79,7 +83,11 @@ pub fn lift(
     ensures ok { IfOk result (λ l.
         lift_of memory.now table.old.handles encoding (way_of passed.now.way)
         (layout_of passed.now.layout.now) passed.now.slots.now
-        ≡ Ok (parts (values_of l.values.items), handed_with table.new.handles l)) }
+        ≡ Ok (
+          parts (values_of l.values.items),
+          l.tagged.items,
+          handed_with table.new.handles l,
+        )) }
     ensures err { IfErr result (λ e. (e ≡ AbiFault.EngineMemory)
         ⊎ (lift_of memory.now table.old.handles encoding (way_of passed.now.way)
         (layout_of passed.now.layout.now) passed.now.slots.now ≡ Err e)) }
@@ -87,7 +95,8 @@ pub fn lift(
         → IsGivenBy w memory.now table.old.handles encoding
         → layout_of passed.now.layout.now ≡ layout_of_fields_at types
         → IfOk result (λ l. Lifts w (way_of passed.now.way) types passed.now.slots.now
-        (parts (values_of l.values.items)) (handed_with table.new.handles l)) }
+        (parts (values_of l.values.items)) l.tagged.items
+        (handed_with table.new.handles l)) }
     ensures only { (w : View) (types : Fields) (v : Val)
         → IsGivenBy w memory.now table.old.handles encoding
         → layout_of passed.now.layout.now ≡ layout_of_fields_at types
@@ -115,7 +124,11 @@ fn lift_values(
     ensures ok { IfOk result (λ l.
         lift_of memory.now table.old.handles encoding (way_of passed.now.way)
         (layout_of passed.now.layout.now) passed.now.slots.now
-        ≡ Ok (parts (values_of l.values.items), handed_with table.new.handles l)) }
+        ≡ Ok (
+          parts (values_of l.values.items),
+          l.tagged.items,
+          handed_with table.new.handles l,
+        )) }
     ensures err { IfErr result (λ e. (e ≡ AbiFault.EngineMemory)
         ⊎ (lift_of memory.now table.old.handles encoding (way_of passed.now.way)
         (layout_of passed.now.layout.now) passed.now.slots.now ≡ Err e)) }
@@ -124,6 +137,7 @@ fn lift_values(
     let mut progress = Progress {
         left: MAX_CONTENT,
         handles: Vec::new(alloc),
+        tags: Vec::new(alloc),
     };
     let giver = Giver {
         alloc,
@@ -138,6 +152,7 @@ fn lift_values(
                 values: fields_of(tuple),
                 owns: handed.owns,
                 lends: handed.lends,
+                tagged: progress.tags,
             })
         }
         Err(Stop::Memory) => Err(AbiFault::EngineMemory),

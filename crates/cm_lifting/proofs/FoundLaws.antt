@@ -25,7 +25,7 @@ use Rattle.cm_abi_model.specs.declared.fault.AbiFault.{AbiFault}
 use Rattle.cm_abi_model.specs.declared.fault.AbiFault.TheVariants as fault
 use Rattle.cm_lifting.specs.Decoded.{decoded}
 use Rattle.cm_lifting.specs.Outcomes.{Outcome, State, mapped, ◌>>=◌}
-use Rattle.cm_lifting.specs.Reading.{Source, after_meeting, read_at, read_case, read_each, read_elements, read_handle, read_parts, read_text, region, seen_by, text_value, value_of_handle}
+use Rattle.cm_lifting.specs.Reading.{Source, after_meeting, after_text, read_at, read_case, read_each, read_elements, read_handle, read_parts, read_text, region, seen_by, text_value, value_of_handle}
 use Rattle.cm_lifting.proofs.MeetLaws.{content_both}
 use Rattle.cm_lifting.proofs.ReadLaws.{Told, as_handle, read_shows}
 use Rattle.cm_lifting.proofs.ShownLaws.{IsTold, read_err, read_ok}
@@ -67,10 +67,10 @@ text_found_at memory e at n cs s shown room =
     let behind = record s { left = s.left - text_size e n } in
     let d = decoded (charset_of e n) (bytes_from memory at (text_size e n)) in
     record {
-      after = behind;
-      is = bind_found (region memory (text_align e) at (text_size e n) s) (λ r. text_value d r.1) (tt, behind) (read_ok (text cs) behind)
+      after = after_text e n behind;
+      is = bind_found (region memory (text_align e) at (text_size e n) s) (λ r. text_value d (after_text e n r.1)) (tt, behind) (read_ok (text cs) (after_text e n behind))
           (region_there memory (text_align e) at (text_size e n) s shown.aligned shown.inside room)
-          (ap (λ o. text_value o behind) (found_text (charset_of e n) cs (bytes_from memory at (text_size e n)) shown.text));
+          (ap (λ o. text_value o (after_text e n behind)) (found_text (charset_of e n) cs (bytes_from memory at (text_size e n)) shown.text));
     }
 
 -- ---- values in a row

@@ -3,20 +3,21 @@ use Rattle.std.proofs.Common.{◌≡◌, ℕ, List, [], ◌∷◌, refl}
 use Rattle.cm_types.specs.Values.{HandleValue, Val, text, handle}
 use Rattle.cm_layout.specs.Shapes.{head_of, shape_of_type}
 use Rattle.cm_abi_model.specs.Shows.{Shows, ShowsHandle, ShowsOwned}
-use Rattle.cm_abi_model.specs.Taken.{content, lent, met_at, taken}
-use Rattle.cm_abi_model.specs.Texts.{ShowsText, text_size}
+use Rattle.cm_abi_model.specs.Taken.{lent, met_at, met_text, taken}
+use Rattle.cm_abi_model.specs.Texts.{ShowsText}
 use Rattle.cm_lifting.specs.Meeting.{Meets}
 use Rattle.cm_lifting.specs.Outcomes.{State}
 use Rattle.cm_lifting.specs.PartLaws.{BorrowIsRead, BorrowIsShown, ElementsAreRead, ElementsAreShown, OwnIsRead, OwnIsShown, TextIsRead, TextIsShown}
 use Rattle.cm_lifting.specs.Reading.{read_at, seen_by}
 use Rattle.cm_lifting.proofs.FoundLaws.{borrow_found, elements_found, own_found, shown_found, text_found_at}
-use Rattle.cm_lifting.proofs.ReadLaws.{borrow_read, own_read, read_shows, string_told, text_shown}
+use Rattle.cm_lifting.proofs.ReadLaws.{borrow_read, own_read, read_shows, text_shown}
+use Rattle.cm_lifting.proofs.MeetLaws.{meets_text}
 use Rattle.cm_lifting.proofs.ShownLaws.{elements_shown}
 
 pub text_is_shown : TextIsShown
 text_is_shown memory e at n table s after v is =
-    text_shown (λ u a. (cs : List ℕ) × (u ≡ text cs) × ShowsText e memory at n cs × Meets table s a (content (text_size e n) ∷ [])) memory e at n s after v is
-    (λ cs shown room. (cs, refl, shown, string_told table s (text_size e n) room))
+    text_shown (λ u a. (cs : List ℕ) × (u ≡ text cs) × ShowsText e memory at n cs × Meets table s a (met_text e n ∷ [])) memory e at n s after v is
+    (λ cs shown room. (cs, refl, shown, meets_text table s e n room))
 
 pub text_is_read : TextIsRead
 text_is_read memory e at n cs s shown room = let found = text_found_at memory e at n cs s shown room in (found.after, found.is)

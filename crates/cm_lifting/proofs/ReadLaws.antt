@@ -22,11 +22,11 @@ use Rattle.cm_abi_model.specs.Views.{View}
 use Rattle.cm_abi_model.specs.declared.fault.AbiFault.{AbiFault}
 use Rattle.cm_abi_model.specs.declared.encoding.StringEncoding.{StringEncoding}
 use Rattle.cm_lifting.specs.Decoded.{decoded}
-use Rattle.cm_abi_model.specs.Taken.{content, lent, met_at, met_in_fields, met_in_payload, taken}
+use Rattle.cm_abi_model.specs.Taken.{lent, met_at, met_in_fields, met_in_payload, taken}
 use Rattle.cm_lifting.specs.Meeting.{Meets}
 use Rattle.cm_lifting.specs.Outcomes.{State, mapped}
-use Rattle.cm_lifting.specs.Reading.{after_meeting, handle_value, read_at, read_case, read_each, read_elements, read_handle, read_parts, read_text, region, seen_by, text_value, value_of_handle}
-use Rattle.cm_lifting.proofs.MeetLaws.{meets_both, meets_borrow, meets_content, meets_none, meets_own}
+use Rattle.cm_lifting.specs.Reading.{after_meeting, after_text, handle_value, read_at, read_case, read_each, read_elements, read_handle, read_parts, read_text, region, seen_by, text_value, value_of_handle}
+use Rattle.cm_lifting.proofs.MeetLaws.{meets_both, meets_borrow, meets_none, meets_own, meets_text}
 use Rattle.cm_lifting.proofs.ShownLaws.{bind_ok, char_ok, each_shown, elements_shown, mapped_ok, moved, read_ok, region_ok}
 use Rattle.cm_lifting.proofs.TextLemmas.{text_found, text_is}
 
@@ -36,16 +36,13 @@ Told w t p s v after = Shows w t p v × Meets w.table s after (met_at w t p v)
 
 -- strings
 pub text_shown : (P : Val → State → Type 0) (memory : List ℕ) (e : StringEncoding) (at n : ℕ) (s t : State) (v : Val) → read_text memory e at n s ≡ Ok (v, t)
-    → ((cs : List ℕ) → ShowsText e memory at n cs → text_size e n ≤ s.left → P (text cs) (record s { left = s.left - text_size e n })) → P v t
+    → ((cs : List ℕ) → ShowsText e memory at n cs → text_size e n ≤ s.left → P (text cs) (after_text e n (record s { left = s.left - text_size e n }))) → P v t
 unfolding read_text
 text_shown P memory e at n s t v is h =
-    let first = bind_ok (region memory (text_align e) at (text_size e n) s) (λ r. text_value (decoded (charset_of e n) (bytes_from memory at (text_size e n))) r.1) (v, t) is in
+    let first = bind_ok (region memory (text_align e) at (text_size e n) s) (λ r. text_value (decoded (charset_of e n) (bytes_from memory at (text_size e n))) (after_text e n r.1)) (v, t) is in
     let there = region_ok memory (text_align e) at (text_size e n) s first.0 first.1 in
-    text_found P (decoded (charset_of e n) (bytes_from memory at (text_size e n))) first.0.1 t v first.2 (λ cs found. subst (P (text cs)) there.counted
+    text_found P (decoded (charset_of e n) (bytes_from memory at (text_size e n))) (after_text e n first.0.1) t v first.2 (λ cs found. subst (λ x. P (text cs) (after_text e n x)) there.counted
     (h cs (record { aligned = there.aligned; inside = there.inside; text = text_is (charset_of e n) (bytes_from memory at (text_size e n)) cs found }) there.room))
-
-pub string_told : (t : Handles) (s : State) (size : ℕ) → size ≤ s.left → Meets t s (record s { left = s.left - size }) (content size ∷ [])
-string_told t s size room = meets_content t s (record s { left = s.left - size }) size [] room (meets_none t (record s { left = s.left - size }))
 
 -- handles
 same_is : (a b : ResourceId) → is_same_resource a b ≡ true → a ≡ b
@@ -129,7 +126,7 @@ mutual
   read_shows w char p s after v e = char_ok (Told w char p s) (number_at 4 w.memory p) s after v e (λ is. ((refl, is), meets_none w.table s))
   read_shows w string p s after v e =
       text_shown (Told w string p s) w.memory w.encoding (number_at 4 w.memory p) (number_at 4 w.memory (p + 4)) s after v e
-      (λ cs shown room. (shown, string_told w.table s (text_size w.encoding (number_at 4 w.memory (p + 4))) room))
+      (λ cs shown room. (shown, meets_text w.table s w.encoding (number_at 4 w.memory (p + 4)) room))
   read_shows w (list t) p s after v e =
       let r = mapped_ok elements (read_elements (read_at (seen_by w) (shape_of_type t)) w.memory (head_of t) (number_at 4 w.memory p) (number_at 4 w.memory (p + 4)) s) (v, after) e in
       subst (λ u. Told w (list t) p s u after) r.2

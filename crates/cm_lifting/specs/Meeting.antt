@@ -1,12 +1,12 @@
--- What a reader meets on its way: so many bytes of strings and lists, and handles (what of it is
--- told is this project's own choice).
+-- What a reader meets on its way: so many bytes of strings and lists, tags of strings, and handles
+-- (what of it is told is this project's own choice).
 use Rattle.std.specs.Prelude.{◌≡◌, ℕ, ◌+◌, ⊤, List, [], ◌∷◌, ◌++◌, map, Some}
 use Rattle.cm_handles.specs.Handles.{Handles, handle_at}
 use Rattle.cm_handles.specs.declared.handle.Handle.{Handle}
 use Rattle.cm_handles.specs.declared.handle.HandleKind.TheVariants.{Owned}
 use Rattle.cm_layout.specs.declared.layouts.HandleType.{HandleType}
 use Rattle.cm_layout.specs.declared.layouts.HandleType.TheVariants as handle_type
-use Rattle.cm_abi_model.specs.Taken.{Met, content, taken, lent, content_of}
+use Rattle.cm_abi_model.specs.Taken.{Met, text_content, content, taken, lent, content_of, tags_of}
 use Rattle.cm_lifting.specs.declared.progress.MetHandle.{MetHandle}
 use Rattle.cm_lifting.specs.Outcomes.{State}
 use Rattle.cm_lifting.specs.Reading.{resource_of}
@@ -22,6 +22,7 @@ met_as m = met_index m.wanted m.index
 -- the handles among what is met
 abbrev pub handles_in : List Met → List Met
 handles_in [] = []
+handles_in (text_content tags n ∷ ms) = handles_in ms
 handles_in (content n ∷ ms) = handles_in ms
 handles_in (taken i ∷ ms) = taken i ∷ handles_in ms
 handles_in (lent i ∷ ms) = lent i ∷ handles_in ms
@@ -43,9 +44,10 @@ AreAsWanted table [] = ⊤
 AreAsWanted table (m ∷ ms) = IsAsWanted table m × AreAsWanted table ms
 
 -- All this was met between two states of a reader: its bytes are taken from those that may still
--- come, and its handles, each as wanted, follow those met before.
+-- come, and its tags and its handles, each as wanted, follow those met before.
 pub record Meets (table : Handles) (before after : State) (ms : List Met) : Type 0 where
   pub counted : after.left + content_of ms ≡ before.left
+  pub tagged : after.tags ≡ before.tags ++ tags_of ms
   pub found : List MetHandle
   pub handles : after.handles ≡ before.handles ++ found
   pub same : map met_as found ≡ handles_in ms

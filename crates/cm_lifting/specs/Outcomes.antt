@@ -1,19 +1,21 @@
 -- How far a reader of a value has come, and what reading a part of it comes to.
-use Rattle.std.specs.Prelude.{◌≡◌, ℕ, List, Result, Ok, Err, ⊤}
+use Rattle.std.specs.Prelude.{◌≡◌, ℕ, Bool, List, Result, Ok, Err, ⊤}
 use Rattle.cm_abi_model.specs.declared.fault.AbiFault.{AbiFault}
 use Rattle.cm_lifting.specs.declared.progress.MetHandle.{MetHandle}
 use Rattle.cm_lifting.specs.declared.progress.Progress.{Progress}
 use Rattle.cm_lifting.specs.declared.stop.Stop.{Stop}
 use Rattle.cm_lifting.specs.declared.stop.Stop.TheVariants as stop
 
--- how many bytes of strings and lists may still come, and the handles met so far, in order
+-- how many bytes of strings and lists may still come; and the handles met so far, and the tags of
+-- strings, in order
 pub record State : Type 0 where
   pub left : ℕ
   pub handles : List MetHandle
+  pub tags : List Bool
 
 -- that of the code's
 abbrev pub state_of : Progress → State
-state_of p = record { left = p.left; handles = p.handles.items }
+state_of p = record { left = p.left; handles = p.handles.items; tags = p.tags.items }
 
 -- what reading comes to: a value, or the first fault; and how far the reader has come
 abbrev pub Outcome : Type 0 → Type 0

@@ -10,19 +10,20 @@ use Rattle.cm_layout.specs.Sizes.{align_of, size_of}
 use Rattle.cm_abi_model.specs.declared.encoding.StringEncoding.{StringEncoding}
 use Rattle.cm_abi_model.specs.Shows.{Shows, ShowsElements, ShowsHandle, ShowsOwned}
 use Rattle.cm_abi_model.specs.Taken.{Met, content, taken, lent, content_of, met_at, met_each}
+use Rattle.cm_abi_model.specs.Taken.{met_text}
 use Rattle.cm_abi_model.specs.Texts.{ShowsText, text_size}
 use Rattle.cm_abi_model.specs.Views.{View}
 use Rattle.cm_lifting.specs.Meeting.{Meets}
 use Rattle.cm_lifting.specs.Outcomes.{State}
 use Rattle.cm_lifting.specs.Reading.{read_at, read_elements, read_handle, read_text, seen_by}
 
--- a string that is read is shown, and its bytes are met
+-- a string that is read is shown, and its bytes and its tag are met
 abbrev pub TextIsShown : Type 0
 TextIsShown =
     (memory : List ℕ) (e : StringEncoding) (at n : ℕ) (table : Handles) (s after : State) (v : Val)
     → read_text memory e at n s ≡ Ok (v, after)
     → (cs : List ℕ) × (v ≡ text cs) × ShowsText e memory at n cs
-    × Meets table s after (content (text_size e n) ∷ [])
+    × Meets table s after (met_text e n ∷ [])
 
 -- a string that is shown, within what may still come, is read
 abbrev pub TextIsRead : Type 0

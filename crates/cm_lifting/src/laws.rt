@@ -23,7 +23,7 @@ pub fn numbers_are_sized()
 {}
 
 /// What is read at an address is what the bytes there show; its bytes were taken from those that
-/// may still come, and its handles were met in reading order, each one as wanted.
+/// may still come, and its tags and its handles were met in reading order, each handle as wanted.
 pub fn what_is_read_is_shown()
     ensures shown { (w : View) (t : Ty) (p : ℕ) (s after : State) (v : Val)
         → read_at (seen_by w) (shape_of_type t) p s ≡ Ok (v, after) → Shows w t p v }

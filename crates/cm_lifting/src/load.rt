@@ -26,8 +26,8 @@ use cm_values::Value;
 /// The value that the bytes at an address are, by the layout of its type; `at` is in bytes from 0,
 /// and all bytes of the layout lie in the memory.
 ///
-/// The reader goes through the value in order, adds each handle that it meets to `progress`, and
-/// takes the bytes of each string and list from those that are left. It stops at the first fault:
+/// The reader goes through the value in order, adds each handle and each tag of a string that it
+/// meets to `progress`, and takes the bytes of each string and list from those that are left. It stops at the first fault:
 /// a pointer that is not aligned, else one past the end of the memory, else more bytes than are
 /// left, else an ill-formed text; a char that is none; a case past the last one; a handle that is
 /// absent, of another resource, or not owned where it is to be. `EngineMemory` comes where there is

@@ -14,7 +14,7 @@ use crate::giver::Giver;
 use crate::progress::Progress;
 use crate::regions::check_region;
 use crate::stop::Stop;
-use crate::texts::{UTF16_TAG, text_align, text_size};
+use crate::texts::{UTF16_TAG, keep_tag, text_align, text_size};
 use cm_abi_model::{AbiFault, StringEncoding};
 use cm_text::{Encoding, Latin1, Source, Utf8, Utf16, transcoded_size};
 
@@ -94,7 +94,8 @@ fn measure_of(
 }
 
 /// How many bytes the string at a pointer, of a tagged length, takes where strings are stored in
-/// the encoding `target`; takes no memory. Its bytes are taken from those that may still come.
+/// the encoding `target`; takes no memory but for its tag, if it has one. Its bytes are taken from
+/// those that may still come, and its tag is kept.
 ///
 /// It stops as `load_text` does.
 #[tactic(auto, unfolding(crate::specs::Reading::read_text))]
@@ -111,6 +112,7 @@ pub fn measure_text(
 {
     let size = text_size(giver.encoding, tagged);
     check_region(giver.memory, text_align(giver.encoding), at, size, progress)?;
+    keep_tag(giver.encoding, tagged, progress)?;
     let start = at as usize;
     let bytes = &giver.memory[start..start + size as usize];
     measure_of(target, giver.encoding, tagged, bytes)

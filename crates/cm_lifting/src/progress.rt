@@ -18,4 +18,7 @@ pub struct Progress {
     pub left: u32,
     /// The handles met so far, in order.
     pub handles: Vec<MetHandle>,
+    /// The tags of the strings met so far, in order: of each string in Latin-1 or in UTF-16
+    /// (`Latin1OrUtf16`) whether its length is tagged as UTF-16.
+    pub tags: Vec<bool>,
 }

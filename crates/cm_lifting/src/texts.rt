@@ -1,6 +1,6 @@
 //! Strings.
 
-ghost use Rattle.std.specs.Prelude.{◌≡◌, ◌^◌, ◌<◌, IfErr, IfOk};
+ghost use Rattle.std.specs.Prelude.{◌≡◌, ◌^◌, ◌<◌, IfErr, IfOk, Ok};
 ghost use Rattle.std.specs.Str.{chars};
 ghost use Rattle.std.specs.String.{string_bytes};
 ghost use Rattle.cm_text.specs.Text.{IsText};
@@ -8,7 +8,7 @@ ghost use Rattle.cm_values.specs.ValueTrees.{value_of};
 ghost use Rattle.cm_abi_model.specs.Texts.{charset_of, latin1, text_align, text_size, utf16, utf8};
 ghost use Rattle.cm_lifting.specs.Decoded.{decoded};
 ghost use Rattle.cm_lifting.specs.Outcomes.{Reads, State, state_of};
-ghost use Rattle.cm_lifting.specs.Reading.{read_text, text_value};
+ghost use Rattle.cm_lifting.specs.Reading.{after_text, read_text, text_value};
 ghost use Rattle.cm_lifting.specs.TextReads.{StopsAtText};
 
 use crate::giver::Giver;
@@ -112,7 +112,23 @@ fn text_of(
     }
 }
 
-/// The string at a pointer, of a tagged length; its bytes are taken from those that may still come.
+/// Keeps the tag of a length, if it has one.
+pub(crate) fn keep_tag(
+    encoding: StringEncoding,
+    tagged: u32,
+    progress: &mut Progress,
+) -> Result<(), Stop>
+    ensures { Reads (λ u. tt {0}) result (state_of progress.new)
+        (Ok (tt {0}, after_text encoding tagged (state_of progress.old))) }
+{
+    if let StringEncoding::Latin1OrUtf16 = encoding {
+        progress.tags.push(tagged >= UTF16_TAG)?;
+    }
+    Ok(())
+}
+
+/// The string at a pointer, of a tagged length; its bytes are taken from those that may still come,
+/// and its tag is kept, if it has one.
 ///
 /// It stops with `Misaligned` where the pointer is not aligned, else with `PointerBounds` where the
 /// string passes the end of the memory, else with `TooLarge` where fewer bytes may still come, else
@@ -129,6 +145,7 @@ pub fn load_text(
 {
     let size = text_size(giver.encoding, tagged);
     check_region(giver.memory, text_align(giver.encoding), at, size, progress)?;
+    keep_tag(giver.encoding, tagged, progress)?;
     let start = at as usize;
     let bytes = &giver.memory[start..start + size as usize];
     text_of(giver.alloc, giver.encoding, tagged, bytes)

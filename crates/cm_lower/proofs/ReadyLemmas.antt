@@ -1,30 +1,34 @@
 -- What a receiver has, once the answers will do and the handles are given.
-use Rattle.std.proofs.Common.{◌≡◌, ℕ, ◌^◌, ◌<◌, ◌↔◌, List, length, map, None, refl, sym, ap, subst, ◌∙◌, arith, Bool}
+use Rattle.std.proofs.Common.{◌≡◌, ℕ, ◌^◌, ◌<◌, ◌≤◌, ◌↔◌, List, length, map, None, refl, sym, ap, subst, ◌∙◌, arith, Bool, true}
 use Rattle.std.specs.List.{All}
 use Rattle.std.specs.Prelude.{replicate}
 use Rattle.cm_types.specs.CoreValues.{kind_of}
 use Rattle.cm_types.specs.declared.core_value.CoreValue.{CoreValue}
-use Rattle.cm_types.specs.Types.{Fields}
+use Rattle.cm_types.specs.Spellable.{are_spellable}
+use Rattle.cm_types.specs.Types.{Fields, Ty}
 use Rattle.cm_types.specs.Values.{HasType, Val}
 use Rattle.cm_values.specs.ValueTrees.{values_of}
 use Rattle.cm_handles.specs.Handles.{Handles, IsSoundHandles}
 use Rattle.cm_abi_model.specs.declared.encoding.StringEncoding.{StringEncoding}
 use Rattle.cm_abi_model.specs.declared.request.Request.{Request}
 use Rattle.cm_abi_model.specs.Numbers.{slot_number}
-use Rattle.cm_abi_model.specs.Parts.{Part}
-use Rattle.cm_abi_model.specs.Receives.{AreNumbers, Receives, Serves, call_bytes, call_numbers}
+use Rattle.cm_abi_model.specs.declared.encoding.StringEncoding.TheVariants as encoding
+use Rattle.cm_abi_model.specs.Parts.{CasesFit, Part, parts_in}
+use Rattle.cm_abi_model.specs.Taken.{MAX_CONTENT}
+use Rattle.cm_abi_model.specs.Receives.{AreNumbers, Receives, Serves, call_bytes, call_kinds, call_numbers}
 use Rattle.cm_abi_model.specs.Regions.{AreApart, ArePlaced}
 use Rattle.cm_abi_model.specs.Requests.{IsStored, call_parts, part_requests, stored_charset, tuple_of}
 use Rattle.cm_abi_model.specs.Stores.{Framed, Given, Holds, poke}
 use Rattle.cm_abi_model.specs.Views.{View, Way}
 use Rattle.cm_abi_model.specs.Ways.{way_of}
 use Rattle.cm_lowering.specs.Answering.{AreCounted, HaveScalars, first_fault, places_of, regions_of}
+use Rattle.cm_lowering.specs.Asking.{content_of_parts}
 use Rattle.cm_lowering.specs.Overlap.{AreDisjoint}
 use Rattle.cm_giving.specs.Giving.{Gives, numbers_given}
 use Rattle.cm_giving.specs.declared.receiver.Receiver.{Receiver}
 use Rattle.cm_storing.specs.Calls.{IsProvided}
 use Rattle.cm_lower.specs.Kinds.{FitKinds}
-use Rattle.cm_lower.specs.Lowers.{CanBeLowered, IsReceiving, asked_for, given_for, handles_passed, tuple_in}
+use Rattle.cm_lower.specs.Lowers.{CanBeLowered, IsReceiving, asked_for, given_for, handles_passed, parts_passed, tuple_in}
 use Rattle.cm_lower.specs.declared.passing.Passing.{Passing}
 use Rattle.cm_lower.proofs.CallLemmas.{call_counted, call_puts, call_scalars}
 use Rattle.cm_lower.proofs.CountLemmas.{handles_counted, numbers_counted, places_counted}
@@ -47,7 +51,39 @@ StaysLaw = (way : Way) (types : Fields) (g : Given) (v : Val) (target : StringEn
     → ArePlaced target (length memory) g 0 (call_parts way types v) → AreApart target g 0 (call_parts way types v)
     → Holds (poke (call_bytes g way types v) memory) (call_bytes g way types v) × Framed memory (poke (call_bytes g way types v) memory) (call_bytes g way types v)
 
-module _ (p : Passing) (types : Fields) (to : Receiver) (before after : Handles) (answers : List ℕ) (can : CanBeLowered p types) where
+abbrev pub SpelledLaw : Type 0
+SpelledLaw = (t : Ty) (u : Val) (source : StringEncoding) (tags : List Bool) → IsStored source → HasType t u → HaveScalars source tags (parts_in t u)
+
+abbrev pub CountedLaw : Type 0
+CountedLaw = (ts : Fields) (u : Val) (source : StringEncoding) (tags : List Bool) → are_spellable ts ≡ true → content_of_parts source tags (parts_in (tuple_of ts) u) ≤ MAX_CONTENT → AreCounted (parts_in (tuple_of ts) u)
+
+-- values that can be lowered, with what follows for them
+pub record IsReady (p : Passing) (types : Fields) : Type 0 where
+  pub kinds : p.kinds.now ≡ call_kinds (way_of p.way) types
+  pub typed : HasType (tuple_of types) (tuple_in p)
+  pub spellable : are_spellable types ≡ true
+  pub cases : CasesFit (tuple_in p)
+  pub counted : AreCounted (parts_passed p types)
+  pub stores : IsStored p.encodings.target
+  pub spelled : HaveScalars p.encodings.source p.encodings.tags.now (parts_passed p types)
+
+spelled_in : SpelledLaw → (e : StringEncoding) (tags : List Bool) (t : Ty) (u : Val) → HasType t u → (e ≡ encoding.Latin1OrUtf16 → HaveScalars e tags (parts_in t u)) → HaveScalars e tags (parts_in t u)
+spelled_in law encoding.Utf8 tags t u typed told = law t u encoding.Utf8 tags tt typed
+spelled_in law encoding.Utf16 tags t u typed told = law t u encoding.Utf16 tags tt typed
+spelled_in law encoding.Latin1OrUtf16 tags t u typed told = told refl
+
+pub ready : (p : Passing) (types : Fields) → SpelledLaw → CountedLaw → CasesFit (tuple_in p) → CanBeLowered p types → IsReady p types
+ready p types spelled counted cases can = record {
+  kinds = can.kinds;
+  typed = can.typed;
+  spellable = can.spellable;
+  cases = cases;
+  counted = counted types (tuple_in p) p.encodings.source p.encodings.tags.now can.spellable can.small;
+  stores = can.stores;
+  spelled = spelled_in spelled p.encodings.source p.encodings.tags.now (tuple_of types) (tuple_in p) can.typed can.spelled;
+}
+
+module _ (p : Passing) (types : Fields) (to : Receiver) (before after : Handles) (answers : List ℕ) (can : IsReady p types) where
   abbrev g : Given
   g = given_for p types to before answers
 

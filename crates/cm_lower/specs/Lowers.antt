@@ -7,17 +7,18 @@ use Rattle.cm_handles.specs.Handles.{Handles, indices_left}
 use Rattle.cm_layout.specs.Layouts.{layout_of}
 use Rattle.cm_layout.specs.Shapes.{layout_of_fields_at}
 use Rattle.cm_values.specs.ValueTrees.{values_of}
+use Rattle.cm_abi_model.specs.declared.encoding.StringEncoding.TheVariants as encoding
 use Rattle.cm_abi_model.specs.declared.fault.AbiFault.{AbiFault}
 use Rattle.cm_abi_model.specs.declared.fault.AbiFault.TheVariants as fault
 use Rattle.cm_abi_model.specs.declared.request.Request.{Request}
-use Rattle.cm_abi_model.specs.Parts.{CasesFit, Part, parts_in}
+use Rattle.cm_abi_model.specs.Parts.{Part, parts_in}
 use Rattle.cm_abi_model.specs.Receives.{HandleLeaf, call_kinds, leaves_in}
 use Rattle.cm_abi_model.specs.Requests.{IsStored, requests, stored_charset, tuple_of}
 use Rattle.cm_abi_model.specs.Stores.{Given}
 use Rattle.cm_abi_model.specs.Taken.{MAX_CONTENT}
 use Rattle.cm_abi_model.specs.Views.{View}
 use Rattle.cm_abi_model.specs.Ways.{way_of}
-use Rattle.cm_lowering.specs.Answering.{AreCounted, HaveScalars, IsFaultOfAnswers, first_fault}
+use Rattle.cm_lowering.specs.Answering.{HaveScalars, IsFaultOfAnswers, first_fault}
 use Rattle.cm_lowering.specs.Answering.{places_of, regions_of}
 use Rattle.cm_lowering.specs.Asking.{content_of_parts}
 use Rattle.cm_lowering.specs.Overlap.{AreDisjoint}
@@ -42,18 +43,17 @@ asked_for p types =
     p.encodings.tags.now
 
 -- Values of these types can be lowered: their layout and the kinds of the core values that pass
--- them are those of the types, which a file can spell; the numbers of cases and the counts of
--- elements fit 32 bits; strings can be stored in their target, are spelled in their source, and
--- with the lists are within the limit of one direction of a call.
+-- them are those of the types, which a file can spell; strings can be stored in their target, and
+-- with the lists are within the limit of one direction of a call. Where strings come in Latin-1 or
+-- in UTF-16, each is spelled in the one that its tag says.
 pub record CanBeLowered (p : Passing) (types : Fields) : Type 0 where
   pub layout : layout_of p.layout.now ≡ layout_of_fields_at types
   pub kinds : p.kinds.now ≡ call_kinds (way_of p.way) types
   pub typed : HasType (tuple_of types) (tuple_in p)
   pub spellable : are_spellable types ≡ true
-  pub cases : CasesFit (tuple_in p)
-  pub counted : AreCounted (parts_passed p types)
   pub stores : IsStored p.encodings.target
-  pub spelled : HaveScalars p.encodings.source p.encodings.tags.now (parts_passed p types)
+  pub spelled : p.encodings.source ≡ encoding.Latin1OrUtf16
+      → HaveScalars p.encodings.source p.encodings.tags.now (parts_passed p types)
   pub small :
       content_of_parts p.encodings.source p.encodings.tags.now (parts_passed p types) ≤ MAX_CONTENT
 

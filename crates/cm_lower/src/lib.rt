@@ -2,6 +2,7 @@
 //! Values").
 #![tactic(auto)]
 
+mod cases;
 mod lowering;
 mod passing;
 mod slots;

@@ -12,13 +12,14 @@ ghost use Rattle.cm_giving.specs.Giving.{Gives, numbers_given};
 ghost use Rattle.cm_lower.specs.Lowers.{CanBeLowered, IsFaultOfLowering, IsReceiving, WillDo};
 ghost use Rattle.cm_lower.specs.Lowers.{asked_for, given_for, handles_passed, tuple_in};
 
+use crate::cases::cases_fit;
 use crate::passing::Passing;
 use crate::slots::put_core_values;
 use cm_abi_model::AbiFault;
 use cm_abi_model::laws::{what_is_received_is_denoted, what_is_stored_stays};
 use cm_giving::{Receiver, give_values};
 use cm_handles::Table;
-use cm_lowering::laws::answers_place_parts;
+use cm_lowering::laws::{answers_place_parts, what_is_typed_can_be_lowered};
 use cm_lowering::{check_answers, requests};
 use cm_storing::{Target, store_call};
 use cm_types::CoreValue;
@@ -102,6 +103,8 @@ pub fn lower(
     answers_place_parts();
     what_is_stored_stays();
     what_is_received_is_denoted();
+    what_is_typed_can_be_lowered();
+    cases_fit(passing.values);
     let Passing {
         way,
         layout,

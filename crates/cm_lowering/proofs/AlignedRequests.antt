@@ -15,13 +15,13 @@ use Rattle.cm_lowering.specs.Answering.{AreAligned}
 
 -- ---- types
 
-width_some : (w : Width) → 0 < width_bytes w
+pub width_some : (w : Width) → 0 < width_bytes w
 width_some bits_8 = omega arith
 width_some bits_16 = omega arith
 width_some bits_32 = omega arith
 width_some bits_64 = omega arith
 
-choice_some : (a b : Bool) → 0 < (if a then 1 else if b then 2 else 4)
+pub choice_some : (a b : Bool) → 0 < (if a then 1 else if b then 2 else 4)
 choice_some true b = omega arith
 choice_some false true = omega arith
 choice_some false false = omega arith
@@ -30,7 +30,7 @@ max_some : (m n : ℕ) → 0 < m → 0 < max m n
 max_some m n some = omega arith
 
 mutual
-  type_some : (t : Ty) → 0 < align_of t
+  pub type_some : (t : Ty) → 0 < align_of t
   type_some bool = omega arith
   type_some (signed w) = width_some w
   type_some (unsigned w) = width_some w
@@ -44,7 +44,7 @@ mutual
   type_some (own r) = omega arith
   type_some (borrow r) = omega arith
 
-  fields_some : (fs : Fields) → 0 < align_of_fields fs
+  pub fields_some : (fs : Fields) → 0 < align_of_fields fs
   fields_some no_fields = omega arith
   fields_some (field l t fs) = max_some (align_of t) (align_of_fields fs) (type_some t)
 

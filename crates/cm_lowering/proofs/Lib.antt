@@ -8,3 +8,4 @@ pub mod RegionLaws
 pub mod RegionWalk
 pub mod PassedContent
 pub mod PassedTypes
+mod CountedParts

@@ -7,21 +7,20 @@ use Rattle.cm_types.specs.Types.{Ty, Fields, Cases, bool, signed, unsigned, char
 use Rattle.cm_types.specs.Values.{Val, Vals, no_vals, val, truth, signed_number, number, scalar, text, elements, parts, bare, bearing, flag_set, handle, count_of}
 use Rattle.cm_layout.specs.Flattening.{flat_of_fields}
 use Rattle.cm_layout.specs.Sizes.{align_of, size_of}
-use Rattle.cm_abi_model.specs.declared.encoding.StringEncoding.{StringEncoding}
-use Rattle.cm_abi_model.specs.declared.encoding.StringEncoding.TheVariants as encoding
 use Rattle.cm_abi_model.specs.Denotes.{Denotes}
 use Rattle.cm_abi_model.specs.FlatShows.{FlatShowFields, FlatShows, FlatShowsPayload, width_of}
 use Rattle.cm_abi_model.specs.Numbers.{wrapped_at}
-use Rattle.cm_abi_model.specs.Parts.{Part, parts_each, parts_in, parts_in_fields, parts_in_payload}
-use Rattle.cm_abi_model.specs.Requests.{IsStored, charset, first_tag, is_spilled, tags_behind, tuple_of}
+use Rattle.cm_abi_model.specs.Parts.{parts_each, parts_in, parts_in_fields, parts_in_payload}
+use Rattle.cm_abi_model.specs.Requests.{IsStored, is_spilled, tuple_of}
 use Rattle.cm_abi_model.specs.Shows.{Shows}
-use Rattle.cm_abi_model.specs.Taken.{content_of, met, met_at, met_each, met_flat, met_flat_fields, met_flat_payload}
+use Rattle.cm_abi_model.specs.Taken.{content_of, tags_of, met, met_at, met_each, met_flat, met_flat_fields, met_flat_payload}
 use Rattle.cm_abi_model.specs.Views.{View, Way, flat_limit}
-use Rattle.cm_lowering.specs.Asking.{content_of_parts, part_content}
-use Rattle.cm_lowering.proofs.ContentLaws.{Counts, both, counts, counts_alone, each_counts, list_counts, none, text_counts}
+use Rattle.cm_lowering.specs.Answering.{HaveScalars}
+use Rattle.cm_lowering.specs.Asking.{content_of_parts}
+use Rattle.cm_lowering.proofs.ContentLaws.{Counts, both, counts, counts_alone, each_counts, list_counts, none, same_content, text_counts}
 
 mutual
-  flat_counts : (w : View) (s : List CoreValue) (t : Ty) (k : ℕ) (v : Val) → FlatShows w s t k v → Counts w.encoding (parts_in t v) (content_of (met_flat w s t k v))
+  flat_counts : (w : View) (s : List CoreValue) (t : Ty) (k : ℕ) (v : Val) → FlatShows w s t k v → Counts w.encoding (parts_in t v) (met_flat w s t k v)
   flat_counts w s bool k (truth b) h = none w.encoding
   flat_counts w s (signed n) k (signed_number z) h = none w.encoding
   flat_counts w s (unsigned n) k (number m) h = none w.encoding
@@ -39,7 +38,7 @@ mutual
   flat_counts w s (borrow r) k (handle x) h = none w.encoding
   flat_counts w s _ k _ h = absurd h
 
-  flat_field_counts : (w : View) (s : List CoreValue) (fs : Fields) (k : ℕ) (vs : Vals) → FlatShowFields w s fs k vs → Counts w.encoding (parts_in_fields fs vs) (content_of (met_flat_fields w s fs k vs))
+  flat_field_counts : (w : View) (s : List CoreValue) (fs : Fields) (k : ℕ) (vs : Vals) → FlatShowFields w s fs k vs → Counts w.encoding (parts_in_fields fs vs) (met_flat_fields w s fs k vs)
   flat_field_counts w s no_fields k no_vals h = none w.encoding
   flat_field_counts w s no_fields k (val v vs) h = absurd h
   flat_field_counts w s (field l t fs) k no_vals h = absurd h
@@ -47,7 +46,7 @@ mutual
       both w.encoding (parts_in t v) (parts_in_fields fs vs) (met_flat w s t k v) (met_flat_fields w s fs (k + width_of t) vs)
       (flat_counts w s t k v h.0) (flat_field_counts w s fs (k + width_of t) vs h.1)
 
-  flat_payload_counts : (w : View) (s : List CoreValue) (cs : Cases) (k i : ℕ) (v : Val) → FlatShowsPayload w s cs k i v → Counts w.encoding (parts_in_payload cs i v) (content_of (met_flat_payload w s cs k i v))
+  flat_payload_counts : (w : View) (s : List CoreValue) (cs : Cases) (k i : ℕ) (v : Val) → FlatShowsPayload w s cs k i v → Counts w.encoding (parts_in_payload cs i v) (met_flat_payload w s cs k i v)
   flat_payload_counts w s no_cases k i v h = absurd h
   flat_payload_counts w s (plain l cs) k zero v h = absurd h
   flat_payload_counts w s (plain l cs) k (suc i) v h = flat_payload_counts w s cs k i v h
@@ -58,30 +57,20 @@ met_as : (w : View) (way : Way) (types : Fields) (slots : List CoreValue) (v : V
     → met w way types slots v ≡ (if b then met_at w (tuple_of types) (wrapped_at 4 slots 0) v else met_flat w slots (tuple_of types) 0 v)
 met_as w way types slots v b is = ap (λ c. if c then met_at w (tuple_of types) (wrapped_at 4 slots 0) v else met_flat w slots (tuple_of types) 0 v) is
 
-pub passed_counts : (w : View) (way : Way) (types : Fields) (slots : List CoreValue) (v : Val) → Denotes w way types slots v
-    → (tags : List Bool) × (content_of_parts w.encoding tags (parts_in (tuple_of types) v) ≡ content_of (met w way types slots v))
-passed_counts w way types slots v h = counts_alone w.encoding (parts_in (tuple_of types) v) (content_of (met w way types slots v)) (elim h [
-  | inl flat ↦ subst (λ ms. Counts w.encoding (parts_in (tuple_of types) v) (content_of ms)) (sym (met_as w way types slots v false (le-ltb (flat_limit way) (length (flat_of_fields types)) flat.fits)))
+passed_tagged : (w : View) (way : Way) (types : Fields) (slots : List CoreValue) (v : Val) → Denotes w way types slots v → Counts w.encoding (parts_in (tuple_of types) v) (met w way types slots v)
+passed_tagged w way types slots v h = elim h [
+  | inl flat ↦ subst (λ ms. Counts w.encoding (parts_in (tuple_of types) v) ms) (sym (met_as w way types slots v false (le-ltb (flat_limit way) (length (flat_of_fields types)) flat.fits)))
       (flat_counts w slots (tuple_of types) 0 v flat.shown)
-  | inr spilled ↦ subst (λ ms. Counts w.encoding (parts_in (tuple_of types) v) (content_of ms)) (sym (met_as w way types slots v true (lt-ltb (flat_limit way) (length (flat_of_fields types)) spilled.spilled)))
+  | inr spilled ↦ subst (λ ms. Counts w.encoding (parts_in (tuple_of types) v) ms) (sym (met_as w way types slots v true (lt-ltb (flat_limit way) (length (flat_of_fields types)) spilled.spilled)))
       (counts w (tuple_of types) (wrapped_at 4 slots 0) v spilled.shown)
-])
+]
 
--- ---- tags say nothing of what is stored
-
-untagged : (e : StringEncoding) (a b : Bool) → IsStored e → charset e a ≡ charset e b
-untagged encoding.Utf8 a b stored = refl
-untagged encoding.Utf16 a b stored = refl
-untagged encoding.Latin1OrUtf16 a b stored = absurd stored
-
-same_content : (e : StringEncoding) (ts us : List Bool) (ps : List Part) → IsStored e → content_of_parts e ts ps ≡ content_of_parts e us ps
-same_content e ts us [] stored = refl
-same_content e ts us (p ∷ ps) stored =
-    ap (λ s. part_content s p + content_of_parts e (tags_behind p ts) ps) (untagged e (first_tag ts) (first_tag us) stored)
-    ∙ ap (λ n. part_content (charset e (first_tag us)) p + n) (same_content e (tags_behind p ts) (tags_behind p us) ps stored)
+pub passed_counts : (w : View) (way : Way) (types : Fields) (slots : List CoreValue) (v : Val) → Denotes w way types slots v
+    → (content_of_parts w.encoding (tags_of (met w way types slots v)) (parts_in (tuple_of types) v) ≡ content_of (met w way types slots v))
+    × HaveScalars w.encoding (tags_of (met w way types slots v)) (parts_in (tuple_of types) v)
+passed_counts w way types slots v h = counts_alone w.encoding (tags_of (met w way types slots v)) (parts_in (tuple_of types) v) (content_of (met w way types slots v)) (passed_tagged w way types slots v h)
 
 pub stored_counts : (w : View) (way : Way) (types : Fields) (slots : List CoreValue) (v : Val) (tags : List Bool) → Denotes w way types slots v → IsStored w.encoding
     → content_of_parts w.encoding tags (parts_in (tuple_of types) v) ≡ content_of (met w way types slots v)
 stored_counts w way types slots v tags h stored =
-    let some = passed_counts w way types slots v h in
-    same_content w.encoding tags some.0 (parts_in (tuple_of types) v) stored ∙ some.1
+    same_content w.encoding tags (tags_of (met w way types slots v)) (parts_in (tuple_of types) v) stored ∙ (passed_counts w way types slots v h).0

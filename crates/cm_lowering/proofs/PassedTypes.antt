@@ -204,6 +204,22 @@ text_back encoding.Utf8 tag cs stored all = scalars_back cs all
 text_back encoding.Utf16 tag cs stored all = scalars_back cs all
 text_back encoding.Latin1OrUtf16 tag cs stored all = absurd stored
 
+-- the scalars of each string are scalars
+abbrev HaveTexts : List Part → Type 0
+HaveTexts [] = Unit {0}
+HaveTexts (text_part cs ∷ ps) = AllByRecursion IsScalarValue cs × HaveTexts ps
+HaveTexts (element_part count size align ∷ ps) = HaveTexts ps
+
+texts_both : (ps qs : List Part) → HaveTexts ps → HaveTexts qs → HaveTexts (ps ++ qs)
+texts_both [] qs h k = k
+texts_both (text_part cs ∷ ps) qs h k = (h.0, texts_both ps qs h.1 k)
+texts_both (element_part count size align ∷ ps) qs h k = texts_both ps qs h k
+
+texts_have : (e : StringEncoding) (tags : List Bool) (ps : List Part) → IsStored e → HaveTexts ps → HaveScalars e tags ps
+texts_have e tags [] stored h = tt
+texts_have e tags (text_part cs ∷ ps) stored h = (text_back e (first_tag tags) cs stored h.0, texts_have e (tags_behind (text_part cs) tags) ps stored h.1)
+texts_have e tags (element_part count size align ∷ ps) stored h = (tt, texts_have e tags ps stored h)
+
 scalars_have : (e : StringEncoding) (tags : List Bool) (ps : List Part) → IsStored e → AreSound ps → HaveScalars e tags ps
 scalars_have e tags [] stored h = tt
 scalars_have e tags (text_part cs ∷ ps) stored h = (text_back e (first_tag tags) cs stored h.0, scalars_have e (tags_behind (text_part cs) tags) ps stored h.1)
@@ -212,6 +228,44 @@ scalars_have e tags (element_part count size align ∷ ps) stored h = (tt, scala
 scalars_call : (e : StringEncoding) (tags : List Bool) (size align : ℕ) (ps : List Part) (b : Bool) → IsStored e → AreSound ps → HaveScalars e tags (if b then element_part 1 size align ∷ ps else ps)
 scalars_call e tags size align ps true stored h = (tt, scalars_have e tags ps stored h)
 scalars_call e tags size align ps false stored h = scalars_have e tags ps stored h
+
+-- what has its type has scalars in its strings
+sound_each : (t : Ty) → ((v : Val) → HasType t v → HaveTexts (parts_in t v)) → (vs : Vals) → AllVals (HasType t) vs → HaveTexts (parts_each (parts_in t) vs)
+sound_each t one no_vals h = tt
+sound_each t one (val v vs) h = texts_both (parts_in t v) (parts_each (parts_in t) vs) (one v h.0) (sound_each t one vs h.1)
+
+mutual
+  typed_texts : (t : Ty) (v : Val) → HasType t v → HaveTexts (parts_in t v)
+  typed_texts bool (truth b) h = tt
+  typed_texts (signed k) (signed_number z) h = tt
+  typed_texts (unsigned k) (number n) h = tt
+  typed_texts char (scalar c) h = tt
+  typed_texts string (text cs) h = (h, tt)
+  typed_texts (list t) (elements vs) h = sound_each t (typed_texts t) vs h
+  typed_texts (fixed_list t n) (parts vs) h = sound_each t (typed_texts t) vs h.1
+  typed_texts (fields k fs) (parts vs) h = typed_fields fs vs h
+  typed_texts (cases k cs) (bare i) h = tt
+  typed_texts (cases k cs) (bearing i v) h = typed_payload cs i v h
+  typed_texts (flags ls) (flag_set n) h = tt
+  typed_texts (own r) (handle e) h = tt
+  typed_texts (borrow r) (handle e) h = tt
+  typed_texts _ _ h = absurd h
+
+  typed_fields : (fs : Fields) (vs : Vals) → HaveTypes fs vs → HaveTexts (parts_in_fields fs vs)
+  typed_fields no_fields no_vals h = tt
+  typed_fields no_fields (val v vs) h = absurd h
+  typed_fields (field l t fs) no_vals h = absurd h
+  typed_fields (field l t fs) (val v vs) h = texts_both (parts_in t v) (parts_in_fields fs vs) (typed_texts t v h.0) (typed_fields fs vs h.1)
+
+  typed_payload : (cs : Cases) (i : ℕ) (v : Val) → IsCarriedCase cs i v → HaveTexts (parts_in_payload cs i v)
+  typed_payload no_cases i v h = absurd h
+  typed_payload (plain l cs) zero v h = absurd h
+  typed_payload (plain l cs) (suc i) v h = typed_payload cs i v h
+  typed_payload (carrying l t cs) zero v h = typed_texts t v h
+  typed_payload (carrying l t cs) (suc i) v h = typed_payload cs i v h
+
+pub typed_spelled : (t : Ty) (v : Val) (source : StringEncoding) (tags : List Bool) → IsStored source → HasType t v → HaveScalars source tags (parts_in t v)
+typed_spelled t v source tags stored h = texts_have source tags (parts_in t v) stored (typed_texts t v h)
 
 pub denoted_typed : (w : View) (way : Way) (types : Fields) (slots : List CoreValue) (v : Val) → ((i : ℕ) → slice_index w.memory i < 2 ^ 8) → Denotes w way types slots v → HasType (tuple_of types) v
 denoted_typed w way types slots v bytes h = (denoted_good w way types slots v bytes h).0

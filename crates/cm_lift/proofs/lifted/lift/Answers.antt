@@ -7,7 +7,7 @@ use Rattle.cm_lift.proofs.lifted.lift.Goals as goal
 
 pub returns-clause-lifts : goal.returns-clause-lifts
 returns-clause-lifts c = λ w types is same. IfOk-weaker c.lift_values.result _ _
-    (λ l e. lifts_given c.lifting_is_exact.ensures.lifts w c.args.memory.now c.args.table.now.handles c.args.encoding (way_of c.args.passed.now.way) (layout_of c.args.passed.now.layout.now) types c.args.passed.now.slots.now _ _ is same e)
+    (λ l e. lifts_given c.lifting_is_exact.ensures.lifts w c.args.memory.now c.args.table.now.handles c.args.encoding (way_of c.args.passed.now.way) (layout_of c.args.passed.now.layout.now) types c.args.passed.now.slots.now _ _ _ is same e)
     c.lift_values.ensures.ok
 
 pub returns-clause-only : goal.returns-clause-only

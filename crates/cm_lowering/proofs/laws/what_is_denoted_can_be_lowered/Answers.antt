@@ -1,3 +1,4 @@
+use Rattle.cm_lowering.proofs.PassedContent.{passed_counts}
 use Rattle.cm_lowering.proofs.PassedTypes.{denoted_counted, denoted_scalars, denoted_typed}
 use Rattle.cm_lowering.proofs.laws.what_is_denoted_can_be_lowered.Goals as goal
 
@@ -9,3 +10,6 @@ returns-clause-counted c = denoted_counted
 
 pub returns-clause-spelled : goal.returns-clause-spelled
 returns-clause-spelled c = denoted_scalars
+
+pub returns-clause-tagged : goal.returns-clause-tagged
+returns-clause-tagged c = λ w way types slots v h. (passed_counts w way types slots v h).1

@@ -1,0 +1,28 @@
+//! Values of components between core instances: the adapters of the Canonical ABI
+//! (CanonicalABI.md, "Lifting and Lowering Values").
+//!
+//! The way of a call. Of each function a layout of the tuple of its parameters and one of its
+//! results is made once (`cm_layout`), and the kinds of the core values that pass them
+//! (`cm_flat`).
+//!
+//! 1. `lift` reads the values that the giver's core values denote, takes the handles that are owned
+//!    out of the giver's table and lends those that are borrowed. The giver's memory may change from
+//!    then on: what was lifted does not.
+//! 2. `requests` lists the memory that lowering the values asks the receiver for. Its `realloc` is
+//!    called for each in turn, with the answer to the one before where a request is chained;
+//!    `check_answer` looks at one answer at a time. The pointer to a tuple of results is the one
+//!    that the caller gave.
+//! 3. `lower` looks at all answers, adds the handles to the receiver's table and writes the values
+//!    into its memory. Its core values pass them.
+//!
+//! The law `laws::one_call` says that what `lift` promises is what `requests` and `lower` want to
+//! know, and that then both sides denote the same value.
+#![tactic(auto)]
+
+pub mod laws;
+
+pub use cm_abi_model::{AbiFault, Request, StringEncoding, Way};
+pub use cm_giving::Receiver;
+pub use cm_lift::{Lifted, Passed, lift};
+pub use cm_lower::{Passing, lower};
+pub use cm_lowering::{Encodings, check_answer, check_answers, requests};
