@@ -44,6 +44,7 @@ impl PartRequests {
         requires askable { AreAskable records.items }
         ensures answered { IfOk result (λ s. IsAnswered s []) }
         ensures none { records.items ≡ [] → IsOk result }
+        ensures records { IfOk result (λ s. s.records ≡ records) }
         ensures requests { IfOk result (λ s.
             all_requests s ≡ requests_for source target records.items) }
     {
@@ -113,7 +114,8 @@ impl PartRequests {
             → IsSomeAnd (next_of (all_requests self.old) answers)
             (λ r. answer_fault memory_length r.0 at ≡ Some e)) }
         ensures unchanged { OnErr result (self.new ≡ self.old) }
-        ensures same { all_requests self.new ≡ all_requests self.old }
+        ensures records { self.new.records ≡ self.old.records }
+        ensures requests { all_requests self.new ≡ all_requests self.old }
     {
         let Some(part) = self.next_part() else {
             unreachable!()
@@ -137,7 +139,8 @@ impl PartRequests {
             ≡ Some part }
         ensures kept { (answers : List ℕ) → IsAnswered self.old answers
             → IsAnswered self.new (answers ++ at ∷ []) }
-        ensures same { all_requests self.new ≡ all_requests self.old }
+        ensures records { self.new.records ≡ self.old.records }
+        ensures requests { all_requests self.new ≡ all_requests self.old }
     {
         let next = self.stage + 1;
         match request_at(part, self.source, self.target, next) {
