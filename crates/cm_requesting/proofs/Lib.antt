@@ -1,0 +1,3 @@
+pub mod TextUnits
+pub mod AskLaws
+pub mod StageLaws

@@ -1,0 +1,2 @@
+pub mod RecordRequests
+pub mod Asking

@@ -1,0 +1,4 @@
+pub mod FlatLemmas
+pub mod FlatTells
+pub mod SeenLayouts
+pub mod CallLemmas

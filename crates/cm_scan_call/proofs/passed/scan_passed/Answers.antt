@@ -1,0 +1,11 @@
+use Rattle.std.proofs.Common.{ap, sym, subst}
+use Rattle.cm_layout.specs.Shapes.{LayoutTy, shape_of_type}
+use Rattle.cm_layout.specs.Sizes.{size_of}
+use Rattle.cm_lift.specs.FlatReading.{IsReady}
+use Rattle.cm_scan_call.proofs.FlatLemmas.{laid_ready}
+use Rattle.cm_scan_call.proofs.passed.scan_passed.Goals as goal
+
+pub scan_flat-requires-clause-ready : goal.scan_flat-requires-clause-ready
+scan_flat-requires-clause-ready c =
+    let t = c.requires.layout.0 in
+    subst IsReady (sym (ap (λ (l : LayoutTy). l.shape) c.requires.layout.1)) (laid_ready (size_of t) (shape_of_type t) (c.layouts.ensures.laid t) (c.numbers_are_sized.ensures.sized t))

@@ -1,0 +1,3 @@
+pub mod FlatRecords
+pub mod CallPlaces
+pub mod Scans

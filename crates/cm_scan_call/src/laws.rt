@@ -1,0 +1,33 @@
+//! What the records of a call are, as laws: each function here does nothing, and its contract is
+//! the law.
+
+ghost use Rattle.std.specs.Prelude.{List};
+ghost use Rattle.cm_types.specs.declared.core_value.CoreValue.{CoreValue};
+ghost use Rattle.cm_types.specs.Types.{Fields};
+ghost use Rattle.cm_types.specs.Values.{Val};
+ghost use Rattle.cm_layout.specs.Shapes.{layout_of_fields_at};
+ghost use Rattle.cm_abi_model.specs.declared.encoding.StringEncoding.{StringEncoding};
+ghost use Rattle.cm_abi_model.specs.Denotes.{Denotes};
+ghost use Rattle.cm_abi_model.specs.Requests.{call_parts};
+ghost use Rattle.cm_abi_model.specs.Views.{View, Way, flat_limit};
+ghost use Rattle.cm_lifting.specs.Reading.{seen_by};
+ghost use Rattle.cm_scan.specs.Telling.{TellAll};
+ghost use Rattle.cm_scan_call.specs.CallPlaces.{call_places};
+ghost use Rattle.cm_scan_call.specs.FlatRecords.{passed_records};
+
+use cm_lifting::laws::numbers_are_sized;
+use cm_scan::laws::{parts_that_are_shown_are_told, records_tell_parts};
+
+/// The records of what core values denote tell its parts, one for one and in order, each at its
+/// place: where the values are behind a pointer their tuple first, then their strings and lists.
+pub fn records_tell_what_is_passed()
+    ensures { (w : View) (target : StringEncoding) (way : Way) (types : Fields)
+        (slots : List CoreValue) (v : Val) → Denotes w way types slots v
+        → TellAll w target
+        (passed_records (seen_by w) target (flat_limit way) (layout_of_fields_at types) slots v)
+        (call_parts way types v) (call_places w way types slots v) }
+{
+    numbers_are_sized();
+    records_tell_parts();
+    parts_that_are_shown_are_told();
+}

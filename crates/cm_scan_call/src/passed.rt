@@ -1,0 +1,82 @@
+//! What a call passes.
+
+ghost use Rattle.std.specs.Prelude.{◌≡◌, ◌^◌, ◌<◌, length};
+ghost use Rattle.cm_types.specs.Types.{Ty};
+ghost use Rattle.cm_layout.specs.Layouts.{layout_of};
+ghost use Rattle.cm_layout.specs.Shapes.{layout_at};
+ghost use Rattle.cm_abi_model.specs.Views.{flat_limit};
+ghost use Rattle.cm_abi_model.specs.Ways.{way_of};
+ghost use Rattle.cm_lifting.specs.Reading.{source_of};
+ghost use Rattle.cm_lift.specs.FlatReading.{read_passed, read_spilled};
+ghost use Rattle.cm_scan.specs.Records.{Scans};
+ghost use Rattle.cm_scan_call.specs.FlatRecords.{passed_records, spilled_records};
+
+use crate::walk::scan_flat;
+use cm_abi_model::AbiFault;
+use cm_layout::Layout;
+use cm_layout::laws::layouts;
+use cm_lift::{Passed, number_32};
+use cm_lifting::Stop;
+use cm_lifting::laws::numbers_are_sized;
+use cm_scan::{PartKind, PartRecord, Scan, Scanner, scan_value};
+
+/// Scans the tuple of the values that are passed.
+pub(crate) fn scan_passed(
+    scanner: &Scanner<'_>,
+    passed: &Passed<'_>,
+    scan: &mut Scan,
+) -> Result<(), Stop>
+    requires layout { (t : Ty) × (layout_of passed.now.layout.now ≡ layout_at t) }
+    requires few { length scanner.now.giver.memory.now < 2 ^ 62 }
+    ensures { Scans
+        (passed_records (source_of scanner.now.giver) scanner.now.target
+        (flat_limit (way_of passed.now.way)) (layout_of passed.now.layout.now) passed.now.slots.now)
+        (read_passed (source_of scanner.now.giver) (flat_limit (way_of passed.now.way))
+        (layout_of passed.now.layout.now) passed.now.slots.now)
+        scan.old scan.new result }
+{
+    layouts();
+    numbers_are_sized();
+    if passed.layout.head.width as usize > passed.way.flat_limit() {
+        scan_spilled(scanner, passed.layout, number_32(passed.slots, 0), scan)
+    } else {
+        scan_flat(scanner, passed.layout, passed.slots, scan)
+    }
+}
+
+/// Scans the value at a pointer, of which its own bytes are the first part.
+#[tactic(auto, unfolding(cm_lift::specs::FlatReading::read_spilled))]
+fn scan_spilled(
+    scanner: &Scanner<'_>,
+    layout: &Layout,
+    pointer: u32,
+    scan: &mut Scan,
+) -> Result<(), Stop>
+    requires layout { (t : Ty) × (layout_of layout.now ≡ layout_at t) }
+    requires few { length scanner.now.giver.memory.now < 2 ^ 62 }
+    ensures { Scans
+        (spilled_records (source_of scanner.now.giver) scanner.now.target (layout_of layout.now)
+        pointer)
+        (read_spilled (source_of scanner.now.giver) (layout_of layout.now) pointer)
+        scan.old scan.new result }
+{
+    numbers_are_sized();
+    if pointer % layout.head.align != 0 {
+        return Err(Stop::Fault(AbiFault::Misaligned));
+    }
+    if u64::from(pointer) + u64::from(layout.head.size) > scanner.giver.memory.len() as u64 {
+        return Err(Stop::Fault(AbiFault::PointerBounds));
+    }
+    scan.records.push(PartRecord {
+        at: pointer,
+        count: 1,
+        size: u64::from(layout.head.size),
+        align: layout.head.align,
+        kind: PartKind::Elements,
+    })?;
+    match scan_value(scanner, layout, pointer as usize, scan) {
+        Ok(()) => Ok(()),
+        Err(AbiFault::EngineMemory) => Err(Stop::Memory),
+        Err(fault) => Err(Stop::Fault(fault)),
+    }
+}

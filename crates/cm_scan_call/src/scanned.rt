@@ -1,0 +1,170 @@
+//! Values that core values denote, with no tree made of them.
+
+ghost use Rattle.std.specs.Prelude.{◌≡◌, ◌^◌, ◌<◌, ◌⊎◌, Err, IfErr, IfOk, IsOkUnless, Ok, OnErr};
+ghost use Rattle.std.specs.Prelude.{length};
+ghost use Rattle.cm_types.specs.Types.{Fields};
+ghost use Rattle.cm_types.specs.Values.{Val};
+ghost use Rattle.cm_layout.specs.Layouts.{layout_of};
+ghost use Rattle.cm_layout.specs.Shapes.{layout_of_fields_at};
+ghost use Rattle.cm_abi_model.specs.Denotes.{Denotes};
+ghost use Rattle.cm_abi_model.specs.Taken.{Transferable};
+ghost use Rattle.cm_abi_model.specs.Views.{View, flat_limit};
+ghost use Rattle.cm_abi_model.specs.Ways.{way_of};
+ghost use Rattle.cm_lift.specs.HandingOver.{LendsBelow};
+ghost use Rattle.cm_lift.specs.Lifts.{IsGivenBy, lift_of};
+ghost use Rattle.cm_scan_call.specs.FlatRecords.{passed_records};
+ghost use Rattle.cm_scan_call.specs.Scans.{ScansCall, giver_of, scanned_with};
+ghost use Rattle.cm_requesting.specs.RecordRequests.{AreAskable};
+
+use crate::laws::records_tell_what_is_passed;
+use crate::passed::scan_passed;
+use cm_abi_model::{AbiFault, StringEncoding};
+use cm_handles::{Handle, Table};
+use cm_layout::Layout;
+use cm_lift::laws::lifting_is_exact;
+use cm_lift::{Passed, first_fault, hand_over};
+use cm_lifting::{Giver, Progress, Stop};
+use cm_lowering::laws::content_of_what_is_denoted;
+use cm_requesting::laws::small_parts_can_be_asked_for;
+use cm_scan::{PartRecord, Scan, Scanner};
+use std::alloc::Global;
+
+/// The most bytes of strings and lists in one direction of a call: of a list its length times the
+/// size of an element, and of a string its bytes as they stand in the giver's memory.
+const MAX_CONTENT: u32 = 16_777_216;
+
+/// Values that were scanned.
+#[derive(Drop)]
+pub struct Scanned {
+    /// A record of each part of the values, in reading order, a list before its elements; where the
+    /// values are behind a pointer, their tuple is the first part.
+    pub records: Vec<PartRecord>,
+    /// The handles that were taken out of the giver's table, in reading order.
+    pub owns: Vec<Handle>,
+    /// The indices of the handles that were lent, in reading order.
+    pub lends: Vec<u32>,
+}
+
+/// How strings are encoded in the source, and where the values go.
+#[derive(Clone, Copy)]
+pub struct Encodings {
+    pub source: StringEncoding,
+    pub target: StringEncoding,
+}
+
+/// Looks at the values that core values denote, by the layout of the tuple of their types, in the
+/// view of an instance: its memory, its handle table and how its strings are encoded
+/// (CanonicalABI.md, "Lifting and Lowering Values"). No tree is made of them: a record of each
+/// part is kept.
+///
+/// It succeeds where `cm_lift::lift` does, with the same handles taken out of the table and lent,
+/// and else answers the same first fault, with the table as it was. The caller gives a table whose
+/// handles are lent fewer than 2^100 times. The records tell the parts of the values, each at its
+/// place, and can be asked for. Memory is taken for records and handles alone; `EngineMemory` comes
+/// where there is none for them.
+pub fn scan(
+    alloc: Global,
+    memory: &[u8],
+    table: &mut Table,
+    encodings: Encodings,
+    passed: &Passed<'_>,
+) -> Result<Scanned, AbiFault>
+    requires layout { (types : Fields)
+        × (layout_of passed.now.layout.now ≡ layout_of_fields_at types) }
+    requires few { length memory.now < 2 ^ 62 }
+    requires lends { LendsBelow (2 ^ 100) table.old.handles }
+    ensures ok { IfOk result (λ s. (v : Val)
+        × (lift_of memory.now table.old.handles encodings.source (way_of passed.now.way)
+        (layout_of passed.now.layout.now) passed.now.slots.now
+        ≡ Ok (v, scanned_with table.new.handles s))
+        × (s.records.items
+        ≡ passed_records (giver_of memory.now table.old.handles encodings.source) encodings.target
+        (flat_limit (way_of passed.now.way)) (layout_of passed.now.layout.now) passed.now.slots.now
+        v)) }
+    ensures err { IfErr result (λ e. (e ≡ AbiFault.EngineMemory)
+        ⊎ (lift_of memory.now table.old.handles encodings.source (way_of passed.now.way)
+        (layout_of passed.now.layout.now) passed.now.slots.now ≡ Err e)) }
+    ensures scans { (w : View) (types : Fields)
+        → IsGivenBy w memory.now table.old.handles encodings.source
+        → layout_of passed.now.layout.now ≡ layout_of_fields_at types
+        → IfOk result (λ s. (v : Val) × ScansCall w encodings.target (way_of passed.now.way) types
+        passed.now.slots.now v table.new.handles s) }
+    ensures only { (w : View) (types : Fields) (v : Val)
+        → IsGivenBy w memory.now table.old.handles encodings.source
+        → layout_of passed.now.layout.now ≡ layout_of_fields_at types
+        → Denotes w (way_of passed.now.way) types passed.now.slots.now v
+        → Transferable w (way_of passed.now.way) types passed.now.slots.now v
+        → IsOkUnless result AbiFault.EngineMemory }
+    ensures askable { IfOk result (λ s. AreAskable s.records.items) }
+    ensures unchanged { OnErr result (table.new ≡ table.old) }
+{
+    lifting_is_exact();
+    records_tell_what_is_passed();
+    content_of_what_is_denoted();
+    small_parts_can_be_asked_for();
+    size_fits(passed.layout);
+    scan_values(alloc, memory, table, encodings, passed)
+}
+
+/// The size of a layout fits 32 bits.
+fn size_fits(layout: &Layout)
+    ensures { (layout_of layout.now).head.size < 2 ^ 32 }
+{
+    let _size = layout.head.size;
+}
+
+/// The same by the definitions of reading and of what is kept alone.
+fn scan_values(
+    alloc: Global,
+    memory: &[u8],
+    table: &mut Table,
+    encodings: Encodings,
+    passed: &Passed<'_>,
+) -> Result<Scanned, AbiFault>
+    requires layout { (types : Fields)
+        × (layout_of passed.now.layout.now ≡ layout_of_fields_at types) }
+    requires few { length memory.now < 2 ^ 62 }
+    requires lends { LendsBelow (2 ^ 100) table.old.handles }
+    ensures ok { IfOk result (λ s. (v : Val)
+        × (lift_of memory.now table.old.handles encodings.source (way_of passed.now.way)
+        (layout_of passed.now.layout.now) passed.now.slots.now
+        ≡ Ok (v, scanned_with table.new.handles s))
+        × (s.records.items
+        ≡ passed_records (giver_of memory.now table.old.handles encodings.source) encodings.target
+        (flat_limit (way_of passed.now.way)) (layout_of passed.now.layout.now) passed.now.slots.now
+        v)) }
+    ensures err { IfErr result (λ e. (e ≡ AbiFault.EngineMemory)
+        ⊎ (lift_of memory.now table.old.handles encodings.source (way_of passed.now.way)
+        (layout_of passed.now.layout.now) passed.now.slots.now ≡ Err e)) }
+    ensures unchanged { OnErr result (table.new ≡ table.old) }
+{
+    let mut scan = Scan {
+        progress: Progress {
+            left: MAX_CONTENT,
+            handles: Vec::new(alloc),
+        },
+        records: Vec::new(alloc),
+    };
+    let giver = Giver {
+        alloc,
+        memory,
+        table: &*table,
+        encoding: encodings.source,
+    };
+    let scanner = Scanner {
+        giver,
+        target: encodings.target,
+    };
+    match scan_passed(&scanner, passed, &mut scan) {
+        Ok(()) => {
+            let handed = hand_over(alloc, table, &scan.progress.handles)?;
+            Ok(Scanned {
+                records: scan.records,
+                owns: handed.owns,
+                lends: handed.lends,
+            })
+        }
+        Err(Stop::Memory) => Err(AbiFault::EngineMemory),
+        Err(Stop::Fault(fault)) => Err(first_fault(alloc, table, &scan.progress.handles, fault)),
+    }
+}
