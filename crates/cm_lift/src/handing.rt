@@ -14,13 +14,13 @@ use cm_lifting::MetHandle;
 use cm_types::ResourceId;
 use std::alloc::Global;
 
-/// What was handed over.
+/// The handles that were handed over.
 #[derive(Drop)]
-pub(crate) struct Handed {
+pub struct Handed {
     /// The handles that were taken out of the table, in order.
-    pub(crate) owns: Vec<Handle>,
+    pub owns: Vec<Handle>,
     /// The indices of the handles that were lent, in order.
-    pub(crate) lends: Vec<u32>,
+    pub lends: Vec<u32>,
 }
 
 /// Why a handle is not handed over.
@@ -135,7 +135,7 @@ impl Handed {
     }
 
     /// Takes back all that was handed over, the last first.
-    pub(crate) fn take_back(&mut self, table: &mut Table, met: &[MetHandle])
+    pub fn take_back(&mut self, table: &mut Table, met: &[MetHandle])
         requires all { (before : Handles) × (hand_over (untouched before) met.now
             ≡ Ok (hands_of table.old.handles self.old)) }
         ensures undone { (before : Handles) → hand_over (untouched before) met.now
@@ -153,12 +153,10 @@ impl Handed {
 /// Hands over the handles that were met, one after another: an own handle is taken out of the
 /// table, and one to be borrowed is lent once more.
 ///
-/// Refused at the first that cannot be handed over, with the table as it was.
-pub(crate) fn hand_over(
-    alloc: Global,
-    table: &mut Table,
-    met: &[MetHandle],
-) -> Result<Handed, AbiFault>
+/// Refused at the first that cannot be handed over, with the table as it was: with `NoHandle`, else
+/// `WrongResource`, else for one to be owned `StillLent`, else `NotOwned`. `EngineMemory` comes
+/// where there is no memory for what is handed over.
+pub fn hand_over(alloc: Global, table: &mut Table, met: &[MetHandle]) -> Result<Handed, AbiFault>
     requires lends { LendsBelow (2 ^ 100) table.old.handles }
     ensures ok { IfOk result (λ h. hand_over (untouched table.old.handles) met.now
         ≡ Ok (hands_of table.new.handles h)) }

@@ -9,5 +9,7 @@ mod passed;
 mod slots;
 mod walk;
 
-pub use lifted::{Lifted, lift};
+pub use handing::{Handed, hand_over};
+pub use lifted::{Lifted, first_fault, lift};
 pub use passed::Passed;
+pub use slots::{behind, number_32, wrapped_at};

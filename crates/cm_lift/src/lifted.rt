@@ -146,7 +146,8 @@ fn lift_values(
 }
 
 /// The first fault, where reading stopped at one: that of a handle that was met before comes first.
-fn first_fault(alloc: Global, table: &mut Table, met: &[MetHandle], fault: AbiFault) -> AbiFault
+/// `EngineMemory` comes where there is no memory to hand those over. The table stays as it is.
+pub fn first_fault(alloc: Global, table: &mut Table, met: &[MetHandle], fault: AbiFault) -> AbiFault
     requires lends { LendsBelow (2 ^ 100) table.old.handles }
     ensures first { (result ≡ AbiFault.EngineMemory)
         ⊎ ((s : State) → handed (Err (fault, s))

@@ -19,7 +19,7 @@ fn slot_at(slots: &[CoreValue], at: usize) -> u64
 
 /// The number in a slot, wanted in so many bytes: what is above them is left out.
 #[tactic(auto, using(crate::proofs::SlotLemmas::slots))]
-pub(crate) fn wrapped_at(slots: &[CoreValue], bytes: u32, at: usize) -> u64
+pub fn wrapped_at(slots: &[CoreValue], bytes: u32, at: usize) -> u64
     requires size { IsNumberSize bytes }
     ensures value { result ≡ wrapped_at bytes slots.now at }
     ensures fits { result < 2 ^ (8 * bytes) }
@@ -34,14 +34,14 @@ pub(crate) fn wrapped_at(slots: &[CoreValue], bytes: u32, at: usize) -> u64
 }
 
 /// The number in a slot, wanted in 32 bits.
-pub(crate) fn number_32(slots: &[CoreValue], at: usize) -> u32
+pub fn number_32(slots: &[CoreValue], at: usize) -> u32
     ensures { result ≡ wrapped_at 4 slots.now at }
 {
     (slot_at(slots, at) % 0x1_0000_0000) as u32
 }
 
 /// The slots behind so many.
-pub(crate) fn behind(slots: &[CoreValue], width: u32) -> &[CoreValue]
+pub fn behind(slots: &[CoreValue], width: u32) -> &[CoreValue]
     ensures { result.now ≡ drop width slots.now }
 {
     match slots.get(width as usize..) {

@@ -1,3 +1,4 @@
 pub mod SeenLayouts
 pub mod Readable
 pub mod ScanLemmas
+pub mod TellLaws

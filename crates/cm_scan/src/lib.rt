@@ -3,6 +3,7 @@
 //! "Loading").
 #![tactic(auto)]
 
+pub mod laws;
 mod record;
 mod scan;
 mod scanner;
@@ -12,3 +13,5 @@ mod texts;
 pub use record::{PartKind, PartRecord};
 pub use scan::scan_value;
 pub use scanner::{Scan, Scanner};
+pub use scanning::scan_list;
+pub use texts::scan_text;

@@ -122,10 +122,15 @@ fn scan_enum(index: u32, count: usize) -> Result<(), Stop>
     }
 }
 
-/// Scans the list of so many elements at a pointer, by the layout of an element.
+/// Scans the list of so many elements at a pointer, by the layout of an element; the record of the
+/// elements comes before those of their parts.
+///
+/// It stops with `Misaligned` where the pointer is not aligned, else with `PointerBounds` where the
+/// elements pass the end of the memory, else with `TooLarge` where they are more bytes than may
+/// still come, else where the first element that stops does.
 #[cycle(scanning)]
 #[tactic(auto, unfolding(cm_lifting::specs::Reading::read_elements))]
-pub(crate) fn scan_list(
+pub fn scan_list(
     scanner: &Scanner<'_>,
     element: &Layout,
     pointer: u32,

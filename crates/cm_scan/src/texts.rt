@@ -44,13 +44,10 @@ fn text_align(encoding: StringEncoding) -> u32
     }
 }
 
-/// Scans the string at a pointer, of a tagged length.
-pub(crate) fn scan_text(
-    scanner: &Scanner<'_>,
-    at: u32,
-    tagged: u32,
-    scan: &mut Scan,
-) -> Result<(), Stop>
+/// Scans the string at a pointer, of a tagged length, and keeps its record.
+///
+/// It stops as `cm_lifting::load_text` does.
+pub fn scan_text(scanner: &Scanner<'_>, at: u32, tagged: u32, scan: &mut Scan) -> Result<(), Stop>
     ensures { Scans
         (λ v. text_record scanner.now.giver.encoding scanner.now.target at tagged v ∷ [])
         (read_text scanner.now.giver.memory.now scanner.now.giver.encoding at tagged)
