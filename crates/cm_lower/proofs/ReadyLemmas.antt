@@ -26,7 +26,7 @@ use Rattle.cm_lowering.specs.Asking.{content_of_parts}
 use Rattle.cm_lowering.specs.Overlap.{AreDisjoint}
 use Rattle.cm_giving.specs.Giving.{Gives, numbers_given}
 use Rattle.cm_giving.specs.declared.receiver.Receiver.{Receiver}
-use Rattle.cm_storing.specs.Calls.{IsProvided}
+use Rattle.cm_stored.specs.Calls.{IsProvided}
 use Rattle.cm_lower.specs.Kinds.{FitKinds}
 use Rattle.cm_lower.specs.Lowers.{CanBeLowered, IsReceiving, asked_for, given_for, handles_passed, parts_passed, tuple_in}
 use Rattle.cm_lower.specs.declared.passing.Passing.{Passing}

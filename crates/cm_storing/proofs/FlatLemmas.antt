@@ -10,8 +10,8 @@ use Rattle.cm_values.specs.declared.values.Value.{Value}
 use Rattle.cm_abi_model.specs.Parts.{handle_count, part_count}
 use Rattle.cm_abi_model.specs.Receives.{behind_each}
 use Rattle.cm_abi_model.specs.Stores.{Given, Placed, poke}
-use Rattle.cm_storing.specs.FlatLowering.{ArePassedIn, IsPassedIn, PayloadIsPassed, PayloadsPassedIn, behind_by, behind_by_case, behind_by_fields, behind_by_payload, slots_by, slots_by_case, slots_by_fields, slots_by_payload}
-use Rattle.cm_storing.proofs.BytesLemmas.{poke_both}
+use Rattle.cm_stored.specs.FlatLowering.{ArePassedIn, IsPassedIn, PayloadIsPassed, PayloadsPassedIn, behind_by, behind_by_case, behind_by_fields, behind_by_payload, slots_by, slots_by_case, slots_by_fields, slots_by_payload}
+use Rattle.cm_storing.proofs.StoringLemmas.{poke_both}
 use Rattle.cm_storing.proofs.StoringLemmas.{parts_next, values_next}
 
 -- fields are passed in slots from this one on, of so many

@@ -1,13 +1,3 @@
-pub mod BytesLemmas
-pub mod TextLemmas
 pub mod StoringLemmas
 pub mod SeenLayouts
-pub mod LayoutLaws
-pub mod FittingLaws
 pub mod FlatLemmas
-pub mod PassedLaws
-pub mod FlatLaws
-pub mod CallLemmas
-pub mod RisingLaws
-pub mod KindLaws
-pub mod CoreValueLemmas

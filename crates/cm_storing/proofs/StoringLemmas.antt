@@ -2,19 +2,27 @@
 use Rattle.std.proofs.Common.{◌≡◌, ℕ, zero, suc, ◌+◌, ◌*◌, ◌<◌, ◌≤◌, List, [], ◌∷◌, ◌++◌, length, map, drop, refl, sym, ap, ◌∙◌, arith, get_or, drop-cons, add-one, Some, None, Option}
 use Rattle.std.proofs.Common.{inl, inr}
 use Rattle.std.proofs.lemmas.Bool.{cases_lt}
-use Rattle.std.specs.Prelude.{⊤}
+use Rattle.std.specs.Prelude.{⊤, slice_set}
+use Rattle.cm_types.specs.Types.{Fields}
 use Rattle.cm_types.specs.Values.{Val, Vals, bare, no_vals, val, count_of}
 use Rattle.cm_layout.specs.Laid.{Laid, PartsLaid, PayloadsLaid}
 use Rattle.cm_layout.specs.Layouts.{nothings, part_of}
-use Rattle.cm_layout.specs.Shapes.{LayoutTy, Parts, Payloads, cases_shape, no_parts, part, parts_from, payload_before, payloads_from}
+use Rattle.cm_layout.specs.Shapes.{LayoutTy, Parts, Payloads, cases_shape, fields_shape, layout_of_fields_at, no_parts, part, parts_at, parts_from, payload_before, payloads_from}
 use Rattle.cm_layout.specs.declared.layouts.Part.{Part as CodedPart}
 use Rattle.cm_values.specs.ValueTrees.{payload_value, value_of, values_of}
 use Rattle.cm_values.specs.declared.values.Value.{Value}
 use Rattle.cm_abi_model.specs.Parts.{handle_count, handle_count_each, part_count, part_count_each}
-use Rattle.cm_abi_model.specs.Stores.{Given, Storing, poke, store_each}
-use Rattle.cm_storing.specs.Fitting.{FitEach, FitFields, Fits, FitsCase, FitsPayload, PayloadLies}
-use Rattle.cm_storing.specs.Storing.{stored_by, stored_by_case, stored_by_fields, stored_by_payload}
-use Rattle.cm_storing.proofs.BytesLemmas.{poke_both}
+use Rattle.cm_abi_model.specs.Stores.{Given, Placed, Storing, poke, store_each}
+use Rattle.cm_stored.specs.Fitting.{FitEach, FitFields, Fits, FitsCase, FitsPayload, PayloadLies}
+use Rattle.cm_stored.specs.Storing.{stored_by, stored_by_case, stored_by_fields, stored_by_payload}
+
+pub poke_both : (xs ys : List Placed) (m : List ℕ) → poke (xs ++ ys) m ≡ poke ys (poke xs m)
+poke_both [] ys m = refl
+poke_both (x ∷ xs) ys m = poke_both xs ys (slice_set m x.0 x.1)
+
+-- a tuple has fields
+pub tuple_shape : (l : LayoutTy) (types : Fields) → l ≡ layout_of_fields_at types → (ps : Parts) × (l.shape ≡ fields_shape ps)
+tuple_shape l types is = (parts_from (parts_at types 0), ap (λ (x : LayoutTy). x.shape) is)
 
 -- fields lie within a memory of so many bytes, where what has them stands at an address
 abbrev pub PartsLie : ℕ → ℕ → Parts → Type 0

@@ -11,19 +11,16 @@ ghost use Rattle.cm_abi_model.specs.Receives.{call_bytes, call_numbers};
 ghost use Rattle.cm_abi_model.specs.Requests.{tuple_of};
 ghost use Rattle.cm_abi_model.specs.Stores.{poke};
 ghost use Rattle.cm_abi_model.specs.Views.{Way, flat_limit};
-ghost use Rattle.cm_storing.specs.Calls.{IsProvided};
-ghost use Rattle.cm_storing.specs.Fitting.{Fits};
-ghost use Rattle.cm_storing.specs.FlatLowering.{IsPassedIn, behind_by, slots_by};
-ghost use Rattle.cm_storing.specs.Storing.{given_of, stored_by};
+ghost use Rattle.cm_stored.specs.Calls.{IsProvided};
+ghost use Rattle.cm_stored.specs.Fitting.{Fits};
+ghost use Rattle.cm_stored.specs.FlatLowering.{IsPassedIn, behind_by, slots_by};
+ghost use Rattle.cm_stored.specs.Storing.{given_of, stored_by};
 
 use crate::flat::lower_fields;
-use crate::laws::{
-    layouts_are_passed, layouts_pass_what_types_do, layouts_store_what_types_do, placed_values_fit,
-};
 use crate::storing::store_fields;
-use crate::target::{Next, Target};
-use cm_layout::laws::layouts;
 use cm_layout::{Form, Layout, Part};
+use cm_stored::laws::{flat_tuples_are_passed, spilled_tuples_are_stored};
+use cm_stored::{Next, Target};
 use cm_values::Value;
 
 /// The fields of the layout of a tuple.
@@ -136,11 +133,8 @@ pub fn store_call(
     ensures stays { length memory.new ≡ length memory.old }
     ensures slots_stay { length slots.new ≡ length slots.old }
 {
-    layouts();
-    layouts_are_passed();
-    layouts_store_what_types_do();
-    layouts_pass_what_types_do();
-    placed_values_fit();
+    spilled_tuples_are_stored();
+    flat_tuples_are_passed();
     let mut next = Next { part: 0, handle: 0 };
     if layout.head.width as usize > limit {
         let place = to.places[0];

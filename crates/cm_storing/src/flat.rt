@@ -12,20 +12,19 @@ ghost use Rattle.cm_abi_model.specs.Parts.{part_count_each};
 ghost use Rattle.cm_abi_model.specs.Receives.{behind_each, put};
 ghost use Rattle.cm_abi_model.specs.Requests.{stored_charset, text_bytes};
 ghost use Rattle.cm_abi_model.specs.Stores.{poke, store_each};
-ghost use Rattle.cm_storing.specs.Fitting.{FitEach, FitFields, Fits, FitsCase, FitsPayload};
-ghost use Rattle.cm_storing.specs.Fitting.{HasRoom};
-ghost use Rattle.cm_storing.specs.FlatLowering.{IsPassedIn, PayloadIsPassed, PayloadsPassedIn};
-ghost use Rattle.cm_storing.specs.FlatLowering.{behind_by, behind_by_case, behind_by_fields};
-ghost use Rattle.cm_storing.specs.FlatLowering.{behind_by_payload, flat_number as number_passed};
-ghost use Rattle.cm_storing.specs.FlatLowering.{slots_by, slots_by_case, slots_by_fields};
-ghost use Rattle.cm_storing.specs.FlatLowering.{ArePassedIn, slots_by_payload};
-ghost use Rattle.cm_storing.specs.Storing.{given_of};
+ghost use Rattle.cm_stored.specs.Fitting.{FitEach, FitFields, Fits, FitsCase, FitsPayload};
+ghost use Rattle.cm_stored.specs.Fitting.{HasRoom};
+ghost use Rattle.cm_stored.specs.FlatLowering.{IsPassedIn, PayloadIsPassed, PayloadsPassedIn};
+ghost use Rattle.cm_stored.specs.FlatLowering.{behind_by, behind_by_case, behind_by_fields};
+ghost use Rattle.cm_stored.specs.FlatLowering.{behind_by_payload, flat_number as number_passed};
+ghost use Rattle.cm_stored.specs.FlatLowering.{slots_by, slots_by_case, slots_by_fields};
+ghost use Rattle.cm_stored.specs.FlatLowering.{ArePassedIn, slots_by_payload};
+ghost use Rattle.cm_stored.specs.Storing.{given_of};
 
 use crate::numbers::flat_number;
 use crate::storing::store_each;
-use crate::target::{Next, Target};
-use crate::texts::{stored_units, write_text};
 use cm_layout::{Form, Layout, Part, Payload};
+use cm_stored::{Next, Target, stored_units, write_text};
 use cm_values::Value;
 
 /// How many core values pass a field.

@@ -1,16 +1,10 @@
-//! Values of components, stored into the memory of a receiver (CanonicalABI.md, "Storing").
+//! Values of components, stored into the memory of a receiver and passed in slots (CanonicalABI.md,
+//! "Storing" and "Flattening").
 #![tactic(auto)]
 
-mod bytes;
 mod calls;
-mod core_values;
 mod flat;
-pub mod laws;
 mod numbers;
 mod storing;
-mod target;
-mod texts;
 
 pub use calls::store_call;
-pub use core_values::put_numbers;
-pub use target::Target;

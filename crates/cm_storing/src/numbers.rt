@@ -2,8 +2,8 @@
 
 ghost use Rattle.std.specs.Prelude.{◌≡◌};
 ghost use Rattle.cm_values.specs.ValueTrees.{value_of};
-ghost use Rattle.cm_storing.specs.FlatLowering.{flat_number};
-ghost use Rattle.cm_storing.specs.Storing.{number_in};
+ghost use Rattle.cm_stored.specs.FlatLowering.{flat_number};
+ghost use Rattle.cm_stored.specs.Storing.{number_in};
 
 use cm_layout::Leaf;
 use cm_values::Value;

@@ -11,16 +11,14 @@ ghost use Rattle.cm_abi_model.specs.Parts.{handle_count, handle_count_each, part
 ghost use Rattle.cm_abi_model.specs.Parts.{part_count_each};
 ghost use Rattle.cm_abi_model.specs.Requests.{stored_charset, text_bytes};
 ghost use Rattle.cm_abi_model.specs.Stores.{bytes_of, placed, poke, store_each};
-ghost use Rattle.cm_storing.specs.Fitting.{FitEach, FitFields, Fits, FitsCase, FitsPayload};
-ghost use Rattle.cm_storing.specs.Fitting.{HasRoom, PayloadLies};
-ghost use Rattle.cm_storing.specs.Storing.{given_of, stored_by, stored_by_case, stored_by_fields};
-ghost use Rattle.cm_storing.specs.Storing.{stored_by_payload};
+ghost use Rattle.cm_stored.specs.Fitting.{FitEach, FitFields, Fits, FitsCase, FitsPayload};
+ghost use Rattle.cm_stored.specs.Fitting.{HasRoom, PayloadLies};
+ghost use Rattle.cm_stored.specs.Storing.{given_of, stored_by, stored_by_case, stored_by_fields};
+ghost use Rattle.cm_stored.specs.Storing.{stored_by_payload};
 
-use crate::bytes::{write_number, write_pointer};
 use crate::numbers::number_in;
-use crate::target::{Next, Target};
-use crate::texts::{stored_units, write_text};
 use cm_layout::{Form, Layout, Part, Payload};
+use cm_stored::{Next, Target, stored_units, write_number, write_pointer, write_text};
 use cm_values::Value;
 
 /// Stores a handle: its number.

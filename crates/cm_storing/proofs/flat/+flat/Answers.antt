@@ -6,9 +6,9 @@ use Rattle.cm_layout.specs.declared.heads.Head.{Head}
 use Rattle.cm_layout.specs.declared.layouts.Form.{the_lemmas}
 use Rattle.cm_layout.specs.declared.layouts.Layout.{Layout}
 use Rattle.cm_values.specs.ValueTrees.{value_of, values_of}
-use Rattle.cm_storing.specs.Fitting.{Fits, FitsPayload}
-use Rattle.cm_storing.specs.FlatLowering.{IsPassedIn, PayloadIsPassed, behind_by, slots_by}
-use Rattle.cm_storing.specs.Storing.{given_of}
+use Rattle.cm_stored.specs.Fitting.{Fits, FitsPayload}
+use Rattle.cm_stored.specs.FlatLowering.{IsPassedIn, PayloadIsPassed, behind_by, slots_by}
+use Rattle.cm_stored.specs.Storing.{given_of}
 use Rattle.cm_storing.proofs.FlatLemmas.{case_behind, case_passes, case_slots, each_behind, fields_behind, fields_pass, fields_slots, parts_pass}
 use Rattle.cm_storing.proofs.StoringLemmas.{case_fits, case_is_there, count_values, each_fits, each_stored, enum_is_bare, field_has_value, fields_fit, handles_counted, parts_counted, place_next}
 use Rattle.cm_storing.proofs.SeenLayouts.{seen_Case, seen_Enum, seen_Fields, seen_FixedList, seen_head, seen_shape}

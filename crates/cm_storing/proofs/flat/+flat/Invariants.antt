@@ -5,9 +5,9 @@ use Rattle.cm_values.specs.ValueTrees.{values_of}
 use Rattle.cm_abi_model.specs.Parts.{handle_count_each, part_count_each}
 use Rattle.cm_abi_model.specs.Receives.{behind_each}
 use Rattle.cm_abi_model.specs.Stores.{poke, store_each}
-use Rattle.cm_storing.specs.Fitting.{FitEach, FitFields, Fits}
-use Rattle.cm_storing.specs.FlatLowering.{behind_by, behind_by_fields, slots_by, slots_by_fields}
-use Rattle.cm_storing.specs.Storing.{given_of}
+use Rattle.cm_stored.specs.Fitting.{FitEach, FitFields, Fits}
+use Rattle.cm_stored.specs.FlatLowering.{behind_by, behind_by_fields, slots_by, slots_by_fields}
+use Rattle.cm_stored.specs.Storing.{given_of}
 use Rattle.cm_storing.proofs.FlatLemmas.{PartsPass}
 use Rattle.cm_storing.proofs.flat.+flat.Given as goal
 

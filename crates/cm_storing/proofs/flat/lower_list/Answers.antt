@@ -3,7 +3,7 @@ use Rattle.cm_layout.specs.Layouts.{layout_of}
 use Rattle.cm_types.specs.Values.{count_of}
 use Rattle.cm_values.specs.ValueTrees.{values_of}
 use Rattle.cm_abi_model.specs.Stores.{place_of}
-use Rattle.cm_storing.specs.Storing.{given_of}
+use Rattle.cm_stored.specs.Storing.{given_of}
 use Rattle.cm_storing.proofs.StoringLemmas.{count_values}
 use Rattle.cm_storing.proofs.flat.lower_list.Goals as goal
 

@@ -5,9 +5,9 @@ use Rattle.cm_layout.specs.Shapes.{cases_shape, fixed_list_shape, parts_from, pa
 use Rattle.cm_layout.specs.declared.heads.Head.{Head}
 use Rattle.cm_layout.specs.declared.layouts.Form.{the_lemmas}
 use Rattle.cm_values.specs.ValueTrees.{value_of, values_of}
-use Rattle.cm_storing.specs.Fitting.{FitEach, Fits, FitsPayload, PayloadLies}
-use Rattle.cm_storing.specs.Storing.{given_of, stored_by}
-use Rattle.cm_storing.proofs.BytesLemmas.{poke_both}
+use Rattle.cm_stored.specs.Fitting.{FitEach, Fits, FitsPayload, PayloadLies}
+use Rattle.cm_stored.specs.Storing.{given_of, stored_by}
+use Rattle.cm_storing.proofs.StoringLemmas.{poke_both}
 use Rattle.cm_storing.proofs.StoringLemmas.{case_fits, case_is_there, case_lies, case_there, count_values, each_fits, enum_is_bare, each_stored, field_has_value, fields_fit, fields_lie, fields_stored, handles_counted, parts_counted, parts_lie, place_next}
 use Rattle.cm_types.specs.Values.{bare, bearing, count_of, parts}
 use Rattle.cm_layout.specs.declared.layouts.Layout.{Layout}

@@ -4,8 +4,8 @@ use Rattle.cm_layout.specs.Shapes.{parts_from}
 use Rattle.cm_values.specs.ValueTrees.{values_of}
 use Rattle.cm_abi_model.specs.Parts.{handle_count_each, part_count_each}
 use Rattle.cm_abi_model.specs.Stores.{poke, store_each}
-use Rattle.cm_storing.specs.Fitting.{FitEach, FitFields, Fits}
-use Rattle.cm_storing.specs.Storing.{given_of, stored_by, stored_by_fields}
+use Rattle.cm_stored.specs.Fitting.{FitEach, FitFields, Fits}
+use Rattle.cm_stored.specs.Storing.{given_of, stored_by, stored_by_fields}
 use Rattle.cm_storing.proofs.StoringLemmas.{PartsLie}
 use Rattle.cm_storing.proofs.storing.+storing.Given as goal
 

@@ -2,8 +2,8 @@ use Rattle.std.proofs.Common.{sym}
 use Rattle.std.specs.Str.{chars}
 use Rattle.cm_abi_model.specs.Requests.{stored_charset, text_bytes, text_units}
 use Rattle.cm_abi_model.specs.Stores.{place_of, placed, pointer_bytes}
-use Rattle.cm_storing.specs.Storing.{given_of}
-use Rattle.cm_storing.proofs.BytesLemmas.{poke_both}
+use Rattle.cm_stored.specs.Storing.{given_of}
+use Rattle.cm_storing.proofs.StoringLemmas.{poke_both}
 use Rattle.cm_storing.proofs.storing.store_text.Goals as goal
 
 pub returns-clause-stored : goal.returns-clause-stored

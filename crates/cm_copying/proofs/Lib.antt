@@ -1,0 +1,5 @@
+pub mod LeafLemmas
+pub mod SeenLayouts
+pub mod CopyLemmas
+pub mod ReadLemmas
+pub mod HandleLemmas

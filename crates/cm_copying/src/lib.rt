@@ -1,0 +1,13 @@
+//! Values of components, copied from the memory in which they stand into that of a receiver, with
+//! no tree made of them (CanonicalABI.md, "Loading" and "Storing").
+#![tactic(auto)]
+
+mod copier;
+mod copies;
+mod copying;
+mod laws;
+mod leaves;
+mod texts;
+
+pub use copier::Copier;
+pub use copies::copy_value;

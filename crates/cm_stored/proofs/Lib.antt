@@ -1,0 +1,10 @@
+pub mod BytesLemmas
+pub mod TextLemmas
+pub mod LayoutLaws
+pub mod FittingLaws
+pub mod PassedLaws
+pub mod FlatLaws
+pub mod CallLemmas
+pub mod RisingLaws
+pub mod KindLaws
+pub mod CoreValueLemmas

@@ -1,0 +1,36 @@
+//! Bytes in memory.
+
+ghost use Rattle.std.specs.Prelude.{◌≡◌, ◌+◌, ◌≤◌, length};
+ghost use Rattle.cm_abi_model.specs.Stores.{bytes_of, placed, pointer_bytes, poke};
+
+/// Writes bytes that lie inside.
+pub fn write_bytes(memory: &mut [u8], at: usize, bytes: &[u8])
+    requires inside { at + length bytes.now ≤ length memory.old }
+    ensures stored { memory.new ≡ poke (placed at bytes.now) memory.old }
+    ensures stays { length memory.new ≡ length memory.old }
+{
+    memory[at..at + bytes.len()].copy_from_slice(bytes);
+}
+
+/// Writes the lowest bytes of a number, so many, little end first.
+pub fn write_number(memory: &mut [u8], at: usize, size: u32, number: u64)
+    requires inside { at + size ≤ length memory.old }
+    ensures stored { memory.new ≡ poke (placed at (bytes_of size number)) memory.old }
+    ensures stays { length memory.new ≡ length memory.old }
+{
+    let mut rest = number;
+    for i in 0..size {
+        memory[at + i as usize] = (rest % 0x100) as u8;
+        rest /= 0x100;
+    }
+}
+
+/// Writes a pointer and a length.
+pub fn write_pointer(memory: &mut [u8], at: usize, pointer: u32, count: usize)
+    requires inside { at + 8 ≤ length memory.old }
+    ensures stored { memory.new ≡ poke (pointer_bytes at pointer count) memory.old }
+    ensures stays { length memory.new ≡ length memory.old }
+{
+    write_number(memory, at, 4, u64::from(pointer));
+    write_number(memory, at + 4, 4, count as u64);
+}
