@@ -10,10 +10,10 @@ ghost use Rattle.cm_candidates.specs.Fitting.{candidates, fits, is_compatible, o
 ghost use Rattle.cm_candidates.specs.Ranges.{comes_before, exports_named, is_later_prerelease};
 ghost use Rattle.cm_candidates.specs.Ranges.{next_incompatible, numbers};
 
-/// Which versions meet the requirement `^` and a version, as Cargo reads it. A release meets it from
-/// that version on, up to the next one that has another first number that is not 0; a pre-release
-/// where the version is a pre-release of the same release and does not come after it. Build
-/// metadata does not count. Each version meets its own.
+/// Which versions meet the requirement `^` and a version, as Cargo reads it. A release meets it
+/// from that version on, up to the next one that has another first number that is not 0; a
+/// pre-release where the version is a pre-release of the same release and does not come after it.
+/// Build metadata does not count. Each version meets its own.
 pub fn compatible_versions()
     ensures release { (v w : List ℕ) (p q : Parts)
         → version_parts v ≡ Ok p → version_parts w ≡ Ok q → q.3 ≡ []

@@ -11,8 +11,8 @@ ghost use Rattle.cm_validity.specs.Items.{Item};
 ghost use Rattle.cm_validity.specs.Moves.{moved, moved_func, moved_type};
 ghost use Rattle.cm_validity.specs.Spaces.{after_items, empty_spaces, spaces_of};
 ghost use Rattle.cm_counted.specs.Counted.{IsCounted, IsFuncCounted};
-ghost use Rattle.cm_counted.specs.CountedSpaces.{AreSpacesCounted, IsInstanceCounted, fresh_numbers};
-ghost use Rattle.cm_counted.specs.CountedSpaces.{numbers_from};
+ghost use Rattle.cm_counted.specs.CountedSpaces.{AreSpacesCounted, IsInstanceCounted};
+ghost use Rattle.cm_counted.specs.CountedSpaces.{fresh_numbers, numbers_from};
 
 /// Wherever in a component, and whether it is valid or not: each type in the index spaces names
 /// only resources that the component has so far, and the type of an instance numbers the resources

@@ -125,8 +125,8 @@ fn define_within(
 /// It costs the declarations' own length and a look-up for each label and name; of the types of the
 /// component those alone are looked at that a declaration names.
 ///
-/// `AllocError` comes where there is no memory; the types are then as they were. Whatever comes, each place of the arena stands
-/// for what it stood for.
+/// `AllocError` comes where there is no memory; the types are then as they were. Whatever comes,
+/// each place of the arena stands for what it stood for.
 #[tactic(auto, using(crate::proofs::GrowLaws::same))]
 pub fn define_instance(
     scope: &mut TypeScope,
