@@ -193,6 +193,7 @@ module _ (ds : List Declaration) (table : Table) where
     where
       some_is : (a b : ℕ) → Some a ≡ Some b → a ≡ b
       some_is a b e = cc
+
       one_led : (o : Option ℕ) → AllByRecursion P (cons_option o (filter_map (target ds) keys)) → ((j : ℕ) → o ≡ Some j → P j) × AllByRecursion P (filter_map (target ds) keys)
       one_led None g = ((λ j e. absurd cc), g)
       one_led (Some i) g = ((λ j e. subst P (some_is i j e) g.0), g.1)
