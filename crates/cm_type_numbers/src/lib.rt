@@ -3,8 +3,8 @@
 
 mod chains;
 mod key;
-pub mod laws;
 mod known;
+pub mod laws;
 mod nodes;
 mod numbers;
 mod single_types;
