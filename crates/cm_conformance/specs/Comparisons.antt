@@ -37,8 +37,8 @@ two_items (fresh_resource a) (equal_resource b) = two_resources a b
 two_items (fresh_resource a) (fresh_resource b) = two_resources a b
 two_items x y = two_sorts
 
--- Of the world's exports each is looked for in the signature, and of the signature's imports each in
--- the world: so what a list has is the world's, or the signature's.
+-- Of the world's exports each is looked for in the signature, and of the signature's imports each
+-- in the world: so what a list has is the world's, or the signature's.
 abbrev pub facing : {A : Type 0} → (A → A → Comparison) → ConformList → A → A → Comparison
 facing two walked.WorldExports x found = two found x
 facing two walked.HaveImports x found = two x found

@@ -87,8 +87,8 @@ impl Numbers {
     /// replaced by what stands for it; behind the last place stands that of a function with neither
     /// parameters nor a result. A type that has no number gets the next.
     ///
-    /// It costs what `number_type` says. `AllocError` comes where there is no memory; the types that
-    /// have a number keep it.
+    /// It costs what `number_type` says. `AllocError` comes where there is no memory; the types
+    /// that have a number keep it.
     pub fn number_func_type<R: Replacement>(
         &mut self,
         alloc: Global,
