@@ -1,12 +1,12 @@
 -- Whether what is compared fits, by the numbers of types.
-use Rattle.std.proofs.Common.{◌≡◌, ◌==◌, ◌↔◌, ℕ, Bool, true, false, List, [], ◌∷◌, map, Option, Some, None, IsTrue, refl, sym, ap, subst, ◌∙◌, arith}
+use Rattle.std.proofs.Common.{◌≡◌, ◌==◌, ◌↔◌, ℕ, Bool, true, List, [], ◌∷◌, Option, Some, None, IsTrue, sym, ap, subst, ◌∙◌, arith}
 use Rattle.std.specs.Prelude.{Result, Ok, Err, IfOk}
 use Rattle.std.proofs.Math.Path.{fun_ext}
 use Rattle.std.proofs.lemmas.Bool.Decides.{nat_tests}
 use Rattle.cm_types.specs.Types.{Ty, FuncTy}
 use Rattle.cm_types.specs.declared.resource.ResourceId.{ResourceId}
 use Rattle.cm_replaced.specs.Replaced.{Standing, replaced, replaced_func}
-use Rattle.cm_type_numbers.specs.Numbering.{Numbering, Extends, AreFuncNumbers, AreNumbers, number, number_func, TellsTypes, TellsFuncs}
+use Rattle.cm_type_numbers.specs.Numbering.{Numbering, AreFuncNumbers, AreNumbers, number, number_func}
 use Rattle.cm_conformance.specs.Comparisons.{Entry}
 use Rattle.cm_conformance.specs.Conformance.{have_mark, mark, world_mark}
 use Rattle.cm_conforms.specs.Judging.{AreSides, marks_of}
@@ -39,9 +39,10 @@ eq_self : (m : ℕ) → (m == m) ≡ true
 eq_self m = grind (arith, nat_tests)
 
 pub test_tells : (m n : ℕ) (same : Bool) (P : Type 0) → same ≡ (m == n) → (m ≡ n) ↔ P → IsTrue same ↔ P
-test_tells m n same P is tells =
-    (λ t. tells.0 (test_is m n (sym is ∙ t)),
-    λ p. is ∙ subst (λ (k : ℕ). (m == k) ≡ true) (tells.1 p) (eq_self m))
+test_tells m n same P is tells = (
+  λ t. tells.0 (test_is m n (sym is ∙ t)),
+  λ p. is ∙ subst (λ (k : ℕ). (m == k) ≡ true) (tells.1 p) (eq_self m),
+)
 
 -- the marks of both sides
 pub have_marks : (all : List Entry) (have world : Side) → AreSides all have world → marks_of have ≡ have_mark all

@@ -1,10 +1,10 @@
 -- Keys made one by one, and what they find.
-use Rattle.std.proofs.Common.{◌≡◌, ◌==◌, ◌&&◌, ℕ, zero, suc, ◌+◌, ◌<◌, ◌≤◌, Bool, true, false, cond, if◌then◌else◌, List, [], ◌∷◌, ◌++◌, length, map, drop, get_or, inl, inr, Option, Some, None, refl, sym, ap, ◌∙◌, append_assoc, append-nil, arith}
+use Rattle.std.proofs.Common.{◌≡◌, ℕ, zero, suc, ◌+◌, ◌<◌, ◌≤◌, Bool, cond, List, [], ◌∷◌, ◌++◌, length, map, drop, get_or, inl, inr, Option, Some, None, refl, sym, ap, ◌∙◌, append_assoc, append-nil, arith}
 use Rattle.std.specs.List.{position_from}
 use Rattle.std.specs.Str.{bytes_eq}
 use Rattle.std.proofs.lemmas.Bool.{cases_Bool}
 use Rattle.std.proofs.lemmas.List.{drop_all, drop_more, map-append}
-use Rattle.cm_keys.specs.Keys.{Key, is_key, first_key}
+use Rattle.cm_keys.specs.Keys.{Key, is_key}
 use Rattle.cm_conformance.specs.Comparisons.{named}
 
 next_element : {A B : Type 0} (view : A → B) (xs : List A) (i : ℕ) (x : A) → i < length xs → x ≡ get_or xs i x → map view (drop i xs) ≡ view x ∷ map view (drop (i + 1) xs)
@@ -36,7 +36,6 @@ some_is : (i n : ℕ) → Some i ≡ Some n → n ≡ i
 some_is i n e = cc
 
 module _ {A B : Type 0} (name_of : A → List ℕ) (what : A → B) (name : List ℕ) where
-
   abbrev pub At : List A → ℕ → ℕ → Type 0
   At xs i p = (k : ℕ) × (p ≡ i + k) × (k < length xs) × ((d : A) → named name_of what name xs ≡ Some (what (get_or xs k d)))
 

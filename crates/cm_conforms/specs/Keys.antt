@@ -1,5 +1,4 @@
 -- The names of items, and of imports and exports, as keys.
-use Rattle.std.specs.Prelude.{ℕ}
 use Rattle.cm_keys.specs.Keys.{Key}
 use Rattle.cm_placed.specs.declared.instances.Item.{Item}
 use Rattle.cm_signatures.specs.declared.signatures.Extern.{Extern}

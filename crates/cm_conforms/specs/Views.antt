@@ -1,5 +1,5 @@
 -- What the code compares, among the types of the signature's arena and of the world's.
-use Rattle.std.specs.Prelude.{ℕ, List, Option, Some, None}
+use Rattle.std.specs.Prelude.{Option}
 use Rattle.cm_types.specs.Types.{Ty, FuncTy}
 use Rattle.cm_types.specs.Signatures.{ItemTy, NamedItem, ExternTy}
 use Rattle.cm_replaced.specs.Replaced.{Standing, replaced, replaced_func}

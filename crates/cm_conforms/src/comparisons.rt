@@ -14,7 +14,8 @@ ghost use Rattle.cm_conforms.specs.Views.{comparison_of, other, own};
 
 use cm_conformance::{ConformItem, ConformList, ConformReason};
 use cm_placed::{ItemDesc, Placed, moved_resource};
-use cm_replaced::{Move, laws::replacing};
+use cm_replaced::Move;
+use cm_replaced::laws::replacing;
 use cm_types::ResourceId;
 
 /// A type, or the type of a function, that an item of an instance brings: by its place, and as the
@@ -142,10 +143,7 @@ pub(crate) fn facing_funcs(list: ConformList, func: Placed, found: Placed) -> Co
         (placed_func (funcs_of (own list h w)) func)
         (placed_func (funcs_of (other list h w)) found) }
 {
-    let func = Brought {
-        ty: func,
-        by: None,
-    };
+    let func = Brought { ty: func, by: None };
     let found = Brought {
         ty: found,
         by: None,

@@ -56,11 +56,7 @@ fn judge(
 ///
 /// It costs time linear in the items of what both have, with a search for each resource, and for
 /// each of these items in the types that it reaches, each once.
-pub fn conforms(
-    alloc: Global,
-    have: &Signature,
-    world: &Signature,
-) -> Result<(), ConformFault>
+pub fn conforms(alloc: Global, have: &Signature, world: &Signature) -> Result<(), ConformFault>
     ensures ok { OnOk result (Conforms (signature_of have.now) (signature_of world.now)) }
     ensures err { IfErr result (λ f. (f.reason ≡ ConformReason.Memory)
         ⊎ IsFirstFault (signature_of have.now) (signature_of world.now) f.item f.reason) }

@@ -2,9 +2,7 @@
 
 ghost use Rattle.std.specs.Prelude.{◌≡◌, IfOk, OnOk, None, map};
 ghost use Rattle.cm_type_arena.specs.declared.types.Types.{Types};
-
 ghost use Rattle.cm_types.specs.declared.resource.ResourceId.{ResourceId as Resource};
-
 ghost use Rattle.cm_types.specs.Resources.{same_resource};
 ghost use Rattle.cm_conformance.specs.Conformance.{have_pair, mark, meets_have, meets_world};
 ghost use Rattle.cm_conformance.specs.Conformance.{world_pair};
@@ -88,10 +86,7 @@ impl Pairs {
     }
 
     /// The pairs of the signature's resources. Refused only where there is no memory.
-    pub(crate) fn of_have(
-        alloc: Global,
-        all: &[PlacedComparison],
-    ) -> Result<Pairs, AllocError>
+    pub(crate) fn of_have(alloc: Global, all: &[PlacedComparison]) -> Result<Pairs, AllocError>
         ensures { IfOk result (λ pairs. (h w : Types)
             → HasPairs (have_pair (map (entry_of h w) all.now)) pairs) }
     {
@@ -103,10 +98,7 @@ impl Pairs {
     }
 
     /// The pairs of the world's resources. Refused only where there is no memory.
-    pub(crate) fn of_world(
-        alloc: Global,
-        all: &[PlacedComparison],
-    ) -> Result<Pairs, AllocError>
+    pub(crate) fn of_world(alloc: Global, all: &[PlacedComparison]) -> Result<Pairs, AllocError>
         ensures { IfOk result (λ pairs. (h w : Types)
             → HasPairs (world_pair (map (entry_of h w) all.now)) pairs) }
     {

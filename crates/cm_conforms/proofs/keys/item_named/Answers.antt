@@ -1,7 +1,5 @@
-use Rattle.std.proofs.Common.{◌≡◌, ◌∙◌, ◌<◌, ℕ, List, Option, Some, None, arith, ap, length, sym, get_or}
-use Rattle.std.specs.List.{position_from}
-use Rattle.cm_keys.specs.Keys.{Key, first_key, is_key}
-use Rattle.cm_conforms.specs.Keys.{item_key}
+use Rattle.std.proofs.Common.{◌∙◌, List, arith, ap, sym}
+use Rattle.cm_keys.specs.Keys.{Key, first_key}
 use Rattle.cm_conforms.proofs.KeyLaws.{found_at, none_found, place_read}
 use Rattle.cm_conforms.proofs.keys.item_named.Goals as goal
 

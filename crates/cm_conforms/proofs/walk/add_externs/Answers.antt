@@ -1,10 +1,9 @@
-use Rattle.std.proofs.Common.{◌≡◌, ◌++◌, ◌∙◌, ℕ, ap, sym, refl, List, map, Some, None, Option, Vec, Global}
+use Rattle.std.proofs.Common.{◌≡◌, ◌++◌, ◌∙◌, ℕ, ap, sym, refl, List, map, Option, Vec, Global}
 use Rattle.std.specs.Option.{option_copied, option_map}
 use Rattle.cm_type_arena.specs.Places.{funcs_of, types_of}
 use Rattle.cm_types.specs.Signatures.{ExternTy}
 use Rattle.cm_signatures.specs.Externs.{extern_of, externs_in}
-use Rattle.cm_signatures.specs.declared.signatures.ExternDesc.{ExternDesc}
-use Rattle.cm_conformance.specs.Comparisons.{Entry, entries_from, extern_entries, extern_named, named}
+use Rattle.cm_conformance.specs.Comparisons.{entries_from, extern_entries, extern_named}
 use Rattle.cm_conforms.specs.Views.{desc_in, entry_of, other, own}
 use Rattle.cm_conforms.specs.declared.comparisons.PlacedComparison.{PlacedComparison}
 use Rattle.cm_conforms.proofs.WalkLaws.{adds_end, adds_join, named_view}
@@ -18,9 +17,9 @@ loop-place-preserved c = λ h w.
     let others = externs_in (other list h w) c.args.others.now in
     let x = c.index-externs-place.result in
     let looked : extern_named x.name others ≡ option_map (desc_in (other list h w)) (option_copied c.extern_named.result) =
-        ap (λ (n : List ℕ). extern_named n others) (sym c.as_str.ensures.text)
-        ∙ named_view (λ e. e.name) (λ e. e.desc) (desc_in (other list h w)) c.as_str.result.now (extern_of (types_of (other list h w)) (funcs_of (other list h w))) (λ e. e.name) (λ e. e.desc) (λ e. refl) (λ e. refl) c.args.others.now
-        ∙ ap (option_map (desc_in (other list h w))) (sym c.extern_named.ensures) in
+    ap (λ (n : List ℕ). extern_named n others) (sym c.as_str.ensures.text)
+    ∙ named_view (λ e. e.name) (λ e. e.desc) (desc_in (other list h w)) c.as_str.result.now (extern_of (types_of (other list h w)) (funcs_of (other list h w))) (λ e. e.name) (λ e. e.desc) (λ e. refl) (λ e. refl) c.args.others.now
+    ∙ ap (option_map (desc_in (other list h w))) (sym c.extern_named.ensures) in
     let part = extern_entries list c.loop-place.place (extern_named x.name others) (desc_in mine x.desc) in
     let goes : map (entry_of h w) c.match-extern_named.out.items ≡ map (entry_of h w) c.loop-place.out.items ++ part = elim c.match-extern_named.branch [
       | in-Some+in_ok-add_extern-in-Some k ↦

@@ -1,4 +1,4 @@
-use Rattle.std.proofs.Common.{◌≡◌, ◌++◌, [], ◌∷◌, ap, refl, map, Some}
+use Rattle.std.proofs.Common.{[], ◌∷◌, ap, refl, map, Some}
 use Rattle.cm_conformance.specs.Comparisons.{item_comparison, item_entries, item_entry}
 use Rattle.cm_conforms.specs.Views.{brought_item, entry_of, other, own}
 use Rattle.cm_conforms.specs.declared.comparisons.PlacedComparison.{PlacedComparison}

@@ -13,9 +13,9 @@ returns-in-Some c = λ h w.
     let others = map (brought_item theirs c.args.others.by) c.args.others.items.now in
     let mine = brought_desc (own list h w) c.args.by c.args.item.now.desc in
     let looked : item_named c.args.item.now.name others ≡ option_map (brought_desc theirs c.args.others.by) (Some c.in-Some.found) =
-        ap (λ (n : List ℕ). item_named n others) (sym c.as_str.ensures.text)
-        ∙ named_view (λ i. i.name) (λ i. i.desc) (brought_desc theirs c.args.others.by) c.as_str.result.now (brought_item theirs c.args.others.by) (λ i. i.name) (λ i. i.desc) (λ i. refl) (λ i. refl) c.args.others.items.now
-        ∙ ap (option_map (brought_desc theirs c.args.others.by)) (sym c.item_named.ensures ∙ c.in-Some.is) in
+    ap (λ (n : List ℕ). item_named n others) (sym c.as_str.ensures.text)
+    ∙ named_view (λ i. i.name) (λ i. i.desc) (brought_desc theirs c.args.others.by) c.as_str.result.now (brought_item theirs c.args.others.by) (λ i. i.name) (λ i. i.desc) (λ i. refl) (λ i. refl) c.args.others.items.now
+    ∙ ap (option_map (brought_desc theirs c.args.others.by)) (sym c.item_named.ensures ∙ c.in-Some.is) in
     c.facing_items.ensures h w ∙ sym (ap (λ (o : Option ItemTy). or_nothing (option_map (facing two_items list mine) o)) looked)
 
 pub returns-in-None : goal.returns-in-None
@@ -25,7 +25,7 @@ returns-in-None c = λ h w.
     let others = map (brought_item theirs c.args.others.by) c.args.others.items.now in
     let mine = brought_desc (own list h w) c.args.by c.args.item.now.desc in
     let looked : item_named c.args.item.now.name others ≡ None =
-        ap (λ (n : List ℕ). item_named n others) (sym c.as_str.ensures.text)
-        ∙ named_view (λ i. i.name) (λ i. i.desc) (brought_desc theirs c.args.others.by) c.as_str.result.now (brought_item theirs c.args.others.by) (λ i. i.name) (λ i. i.desc) (λ i. refl) (λ i. refl) c.args.others.items.now
-        ∙ ap (option_map (brought_desc theirs c.args.others.by)) (sym c.item_named.ensures ∙ c.in-None.is) in
+    ap (λ (n : List ℕ). item_named n others) (sym c.as_str.ensures.text)
+    ∙ named_view (λ i. i.name) (λ i. i.desc) (brought_desc theirs c.args.others.by) c.as_str.result.now (brought_item theirs c.args.others.by) (λ i. i.name) (λ i. i.desc) (λ i. refl) (λ i. refl) c.args.others.items.now
+    ∙ ap (option_map (brought_desc theirs c.args.others.by)) (sym c.item_named.ensures ∙ c.in-None.is) in
     sym (ap (λ (o : Option ItemTy). or_nothing (option_map (facing two_items list mine) o)) looked)
