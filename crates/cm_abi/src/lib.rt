@@ -6,8 +6,8 @@
 //! (`cm_flat`).
 //!
 //! 1. `lift` reads the values that the giver's core values denote, takes the handles that are owned
-//!    out of the giver's table and lends those that are borrowed. The giver's memory may change from
-//!    then on: what was lifted does not.
+//!    out of the giver's table and lends those that are borrowed. The giver's memory may change
+//!    from then on: what was lifted does not.
 //! 2. `requests` lists the memory that lowering the values asks the receiver for. Its `realloc` is
 //!    called for each in turn, with the answer to the one before where a request is chained;
 //!    `check_answer` looks at one answer at a time. The pointer to a tuple of results is the one

@@ -27,11 +27,11 @@ use cm_values::Value;
 /// and all bytes of the layout lie in the memory.
 ///
 /// The reader goes through the value in order, adds each handle and each tag of a string that it
-/// meets to `progress`, and takes the bytes of each string and list from those that are left. It stops at the first fault:
-/// a pointer that is not aligned, else one past the end of the memory, else more bytes than are
-/// left, else an ill-formed text; a char that is none; a case past the last one; a handle that is
-/// absent, of another resource, or not owned where it is to be. `EngineMemory` comes where there is
-/// no memory for the value. The handle table stays as it is.
+/// meets to `progress`, and takes the bytes of each string and list from those that are left. It
+/// stops at the first fault: a pointer that is not aligned, else one past the end of the memory,
+/// else more bytes than are left, else an ill-formed text; a char that is none; a case past the
+/// last one; a handle that is absent, of another resource, or not owned where it is to be.
+/// `EngineMemory` comes where there is no memory for the value. The handle table stays as it is.
 pub fn load_value(
     giver: &Giver<'_>,
     layout: &Layout,

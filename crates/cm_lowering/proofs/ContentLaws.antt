@@ -152,9 +152,10 @@ mutual
 -- nothing stands behind the parts
 pub counts_alone : (e : StringEncoding) (tags : List Bool) (ps : List Part) (n : ℕ) → Tagged e tags ps n → (content_of_parts e tags ps ≡ n) × HaveScalars e tags ps
 counts_alone e tags ps n it =
-    let alone = it [] [] in
-    (ap (λ ts. content_of_parts e ts ps) (sym (append-nil tags)) ∙ (ap (λ qs. content_of_parts e (tags ++ []) qs) (sym (append-nil ps)) ∙ (alone.0 ∙ omega arith)),
-    subst (λ qs. HaveScalars e tags qs) (append-nil ps) (subst (λ ts. HaveScalars e ts (ps ++ [])) (append-nil tags) (alone.1 tt)))
+    let alone = it [] [] in (
+      ap (λ ts. content_of_parts e ts ps) (sym (append-nil tags)) ∙ (ap (λ qs. content_of_parts e (tags ++ []) qs) (sym (append-nil ps)) ∙ (alone.0 ∙ omega arith)),
+      subst (λ qs. HaveScalars e tags qs) (append-nil ps) (subst (λ ts. HaveScalars e ts (ps ++ [])) (append-nil tags) (alone.1 tt)),
+    )
 
 pub shown_counts : (w : View) (t : Ty) (p : ℕ) (v : Val) → Shows w t p v → content_of_parts w.encoding (tags_of (met_at w t p v)) (parts_in t v) ≡ content_of (met_at w t p v)
 shown_counts w t p v h = (counts_alone w.encoding (tags_of (met_at w t p v)) (parts_in t v) (content_of (met_at w t p v)) (counts w t p v h)).0
