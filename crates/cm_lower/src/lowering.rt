@@ -53,7 +53,10 @@ fn room_for(alloc: Global, count: usize) -> Result<Vec<CoreValue>, AbiFault>
 /// Lowers the values of a call for its receiver: the core values that pass them, with the answers
 /// of its `realloc` to the requests that lowering them makes, of which the pointer to a spilled
 /// tuple is the first (CanonicalABI.md, "Lifting and Lowering Values", `lower_flat_values`). The
-/// memory is below 2^32 bytes, and there are as many answers as requests.
+/// values have their types, and their strings and lists are at most 16,777,216 bytes, strings
+/// counted as in their source; where they come in Latin-1 or in UTF-16, each string is spelled in
+/// the one that its tag says. The memory is below 2^32 bytes, and there are as many answers as
+/// requests.
 ///
 /// Then the receiver has the values: each part at the answer to the last request for it, each
 /// handle in its table or, of a resource that it implements and is lent, as the representation.

@@ -31,9 +31,9 @@ use cm_lifting::laws::{numbers_are_sized, what_is_read_is_shown};
 /// It comes as far as `cm_lifting::load_value` and stops at the same first fault, with the same
 /// handles met and the same bytes taken from those that may still come; the records of the parts of
 /// the value follow those kept before, and tell its parts, each at its place. `EngineMemory` comes
-/// where there is no memory for a record or a handle that was met: no memory is taken for anything
-/// else. After a fault the records are those kept before and those of the parts that were met. The
-/// handle table stays as it is.
+/// where there is no memory for a record, for the tag of a string or for a handle that was met: no
+/// memory is taken for anything else. After a fault the records are those kept before and those of
+/// the parts that were met. The handle table stays as it is.
 pub fn scan_value(
     scanner: &Scanner<'_>,
     layout: &Layout,
