@@ -1,15 +1,14 @@
 -- What serves a resource, and what it is then.
-use Rattle.std.proofs.Common.{◌≡◌, ◌∙◌, ℕ, zero, suc, ◌<◌, Bool, true, false, List, [], ◌∷◌, length, Option, Some, None, refl, sym, ap, arith, option_and_then, slice_get, is_some}
+use Rattle.std.proofs.Common.{◌≡◌, ◌∙◌, ℕ, zero, suc, ◌<◌, true, false, List, [], ◌∷◌, length, Option, Some, None, refl, ap, arith, option_and_then, slice_get, is_some}
 use Rattle.std.specs.Prelude.{unwrap_or}
 use Rattle.std.specs.Option.{option_map}
 use Rattle.cm_types.specs.declared.resource.ResourceId.{ResourceId}
 use Rattle.cm_validity.specs.Definitions.{ResourceDef, brought, defined}
 use Rattle.cm_validity.specs.Spaces.{Spaces}
 use Rattle.cm_origins.specs.declared.component.Component.{Component}
-use Rattle.cm_origins.specs.declared.component.Link.{Link}
 use Rattle.cm_origins.specs.Components.{source_in}
 use Rattle.cm_origins.specs.Origins.{AreOrigins, LeadEarlier, Links, Table, definition_of, exported_resource, item_name, origin_by, resource_at, resource_of, served}
-use Rattle.cm_origins.specs.Sets.{Describes, link_at, linked_at, member_at, member_of, served_at, source_at, source_by, source_of}
+use Rattle.cm_origins.specs.Sets.{Describes, linked_at, member_at, served_at, source_at, source_by}
 use Rattle.cm_origins.proofs.OriginLaws.{served_earlier}
 
 -- what serves a resource, by what it is

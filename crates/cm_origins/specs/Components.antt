@@ -1,15 +1,11 @@
 -- What the code's components tell, and which spaces they describe.
-use Rattle.std.specs.Prelude.{◌≡◌, ℕ, ◌-◌, List, [], ◌∷◌, Option, Some, None, slice_get, nat_le}
+use Rattle.std.specs.Prelude.{ℕ, ◌-◌, List, [], ◌∷◌, Option, Some, None, slice_get, nat_le}
 use Rattle.std.specs.Prelude.{if◌then◌else◌, nat_lt, option_and_then}
 use Rattle.std.specs.BTreeMap.{get_by_text}
 use Rattle.std.specs.Option.{option_map, option_or}
-use Rattle.cm_types.specs.declared.resource.ResourceId.{ResourceId}
-use Rattle.cm_validity.specs.Definitions.{ResourceDef, brought, defined}
-use Rattle.cm_validity.specs.Spaces.{Spaces}
 use Rattle.cm_origins.specs.declared.component.Brought.{Brought}
 use Rattle.cm_origins.specs.declared.component.Component.{Component}
 use Rattle.cm_origins.specs.declared.component.Link.{Link}
-use Rattle.cm_origins.specs.Origins.{Links, definition_of, exported_resource, item_name}
 
 -- ---- one component
 

@@ -1,5 +1,5 @@
 -- What the code's components of a set tell, and which spaces they describe.
-use Rattle.std.specs.Prelude.{◌≡◌, ℕ, List, Option, Some, None, slice_get, option_and_then}
+use Rattle.std.specs.Prelude.{◌≡◌, ℕ, List, Option, None, slice_get, option_and_then}
 use Rattle.std.specs.List.{AllByRecursion}
 use Rattle.std.specs.List.Sorted.{IsNonDecreasingBy}
 use Rattle.std.specs.Option.{option_map}
@@ -61,8 +61,8 @@ abbrev pub AreOrdered : List Component → Type 0
 AreOrdered components =
     AllByRecursion (λ k. IsNonDecreasingBy (λ r. r.first) k.brought.items) components
 
--- components describe the spaces of a set with these links: which resources there are, which of them
--- an import brings under which name, what it is linked to, and which resources exports have
+-- components describe the spaces of a set with these links: which resources there are, which of
+-- them an import brings under which name, what it is linked to, and which resources exports have
 pub record Describes (components : List Component) (set : List Spaces) (links : Links)
     : Type 0 where
   pub ordered : AreOrdered components

@@ -8,8 +8,8 @@ ghost use Rattle.cm_validity.specs.Spaces.{Spaces};
 ghost use Rattle.cm_origins.specs.Origins.{AreOrigins, LeadEarlier, Links, Table};
 ghost use Rattle.cm_origins.specs.Origins.{definition_of, origin_of, served};
 
-/// Where imports are linked to earlier components, one table tells what each resource is in the end,
-/// and no other.
+/// Where imports are linked to earlier components, one table tells what each resource is in the
+/// end, and no other.
 pub fn origins_are_unique()
     ensures one { (set : List Spaces) (links : Links) → LeadEarlier links
         → AreOrigins set links (origin_of set links) }
