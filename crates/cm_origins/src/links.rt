@@ -10,8 +10,8 @@ use cm_types::ResourceId;
 
 /// What a resource of a set is in the end: itself where its component defines it, and else what
 /// the resource is that serves it; `None` where there is no such resource. A resource that an
-/// import brings and nothing serves is itself. Each link is followed by three look-ups, and leads to
-/// an earlier component.
+/// import brings and nothing serves is itself. Each link is followed by three look-ups, and leads
+/// to an earlier component.
 pub fn origin(components: &[Component], resource: ResourceId) -> Option<ResourceId>
     ensures { (set : List Spaces) (links : Links) (table : Table)
         → Describes components.now set links → LeadEarlier links → AreOrigins set links table
