@@ -1,0 +1,3 @@
+mod OriginLaws
+mod Ranges
+mod Following

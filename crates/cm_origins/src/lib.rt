@@ -1,0 +1,9 @@
+//! What a resource is in the end, over a set of linked components.
+#![tactic(auto)]
+
+mod component;
+pub mod laws;
+mod links;
+
+pub use component::{Brought, Component, Link};
+pub use links::origin;
