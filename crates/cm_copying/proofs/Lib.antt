@@ -3,3 +3,4 @@ pub mod SeenLayouts
 pub mod CopyLemmas
 pub mod ReadLemmas
 pub mod HandleLemmas
+pub mod BulkLemmas

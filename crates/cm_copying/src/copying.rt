@@ -18,6 +18,7 @@ ghost use Rattle.cm_layout.specs.Shapes.{list_shape, parts_from, payloads_from, 
 ghost use Rattle.cm_stored.specs.Storing.{given_of, stored_by, stored_by_fields};
 ghost use Rattle.cm_types.specs.Values.{elements, text};
 
+use crate::bulk::copy_numbers;
 use crate::copier::Copier;
 use crate::leaves::copy_leaf;
 use crate::texts::{text_of, units_stored, write_text_of};
@@ -219,7 +220,7 @@ fn copy_list(
     );
 }
 
-/// Copies so many values, one behind the other.
+/// Copies so many values, one behind the other; plain bytes as they stand.
 #[cycle(copying)]
 pub(crate) fn copy_each(
     from: &Copier<'_>,
@@ -257,6 +258,10 @@ pub(crate) fn copy_each(
         (values_each (shown_to (copying_of from.now) (layout_of element.now).shape)
         (layout_of element.now).head.size count source) }
 {
+    if element.head.is_bulk {
+        copy_numbers(from, memory, element, count, source, at);
+        return;
+    }
     let size = element.head.size as usize;
     let mut here = source;
     let mut there = at;

@@ -2,6 +2,7 @@
 //! no tree made of them (CanonicalABI.md, "Loading" and "Storing").
 #![tactic(auto)]
 
+mod bulk;
 mod copier;
 mod copies;
 mod copying;
