@@ -25,7 +25,7 @@ use Rattle.cm_abi_model.specs.Texts.{ShowsText, bytes_from, charset_of, text_ali
 use Rattle.cm_lifting.specs.Decoded.{decoded}
 use Rattle.cm_lifting.specs.Outcomes.{Outcome, State, mapped, ◌>>=◌}
 use Rattle.cm_lifting.specs.PartLaws.{TextIsShown}
-use Rattle.cm_lifting.specs.Reading.{Source, handle_value, leaf_value, read_at, read_case, read_each, read_elements, read_handle, read_parts, read_text, region, text_value}
+use Rattle.cm_lifting.specs.Reading.{Source, after_text, handle_value, leaf_value, read_at, read_case, read_each, read_elements, read_handle, read_parts, read_text, region, text_value}
 use Rattle.cm_stored.specs.Fitting.{FitEach, FitFields, Fits, FitsCase}
 use Rattle.cm_copying.proofs.CopyLemmas.{IsOfCase, each_counted}
 use Rattle.cm_copying.specs.Copying.{Copying, shown_to}
@@ -110,14 +110,14 @@ elements_there : (R : ℕ → State → Outcome Val) (memory : List ℕ) (e : He
 unfolding read_elements
 elements_there R memory e at n s y is = bind_ok (region memory e.align at (n * e.size) s) _ y is
 
-text_there : (r : Outcome ⊤) (o : Option (List ℕ)) (v : Val) (after : State) → (r >>= λ x. text_value o x.1) ≡ Ok (v, after) → v ≡ text (or_no_scalars o)
-text_there (Ok x) None v after is = absurd cc
-text_there (Ok x) (Some cs) v after is = sym (ap (λ (z : Val × State). z.0) (same_ok (text cs, x.1) (v, after) is))
-text_there (Err e) o v after is = absurd cc
+text_there : (r : Outcome ⊤) (o : Option (List ℕ)) (behind : State → State) (v : Val) (after : State) → (r >>= λ x. text_value o (behind x.1)) ≡ Ok (v, after) → v ≡ text (or_no_scalars o)
+text_there (Ok x) None behind v after is = absurd cc
+text_there (Ok x) (Some cs) behind v after is = sym (ap (λ (z : Val × State). z.0) (same_ok (text cs, behind x.1) (v, after) is))
+text_there (Err e) o behind v after is = absurd cc
 
 text_read : (memory : List ℕ) (e : StringEncoding) (at n : ℕ) (s after : State) (v : Val) → read_text memory e at n s ≡ Ok (v, after) → v ≡ text (scalars_at memory e at n)
 unfolding read_text
-text_read memory e at n s after v is = text_there (region memory (text_align e) at (text_size e n) s) (decoded (charset_of e n) (bytes_from memory at (text_size e n))) v after is
+text_read memory e at n s after v is = text_there (region memory (text_align e) at (text_size e n) s) (decoded (charset_of e n) (bytes_from memory at (text_size e n))) (after_text e n) v after is
 
 char_read : (b : Bool) (n : ℕ) (s after : State) (v : Val) → (if b then answer (scalar n, s) else fails fault.BadChar s) ≡ answer (v, after) → v ≡ scalar n
 char_read true n s after v is = sym (ap (λ (z : Val × State). z.0) (same_ok (scalar n, s) (v, after) is))
