@@ -12,7 +12,7 @@ use Rattle.cm_abi_model.specs.declared.fault.AbiFault.{AbiFault}
 use Rattle.cm_abi_model.specs.Denotes.{Denotes}
 use Rattle.cm_abi_model.specs.Parts.{Part, element_part, parts_in}
 use Rattle.cm_abi_model.specs.Requests.{call_parts, is_spilled, tuple_of}
-use Rattle.cm_abi_model.specs.Taken.{MAX_CONTENT, Transferable, content_of, met}
+use Rattle.cm_abi_model.specs.Taken.{MAX_CONTENT, Transferable, content_of, met, tags_of}
 use Rattle.cm_abi_model.specs.Views.{View, Way, flat_limit}
 use Rattle.cm_lifting.specs.declared.progress.MetHandle.{MetHandle}
 use Rattle.cm_lifting.specs.declared.stop.Stop.{Stop}
@@ -49,44 +49,44 @@ same_records w target memory table encoding limit l k slots v is same =
 
 -- what the laws promise
 abbrev pub LiftsLaw : Type 0
-LiftsLaw = (w : View) (way : Way) (types : Fields) (slots : List CoreValue) (v : Val) (h : Hands)
-    → lift_of w.memory w.table w.encoding way (layout_of_fields_at types) slots ≡ Ok (v, h) → Lifts w way types slots v h
+LiftsLaw = (w : View) (way : Way) (types : Fields) (slots : List CoreValue) (v : Val) (tags : List Bool) (h : Hands)
+    → lift_of w.memory w.table w.encoding way (layout_of_fields_at types) slots ≡ Ok (v, tags, h) → Lifts w way types slots v tags h
 
 abbrev pub OnlyLaw : Type 0
 OnlyLaw = (w : View) (way : Way) (types : Fields) (slots : List CoreValue) (v : Val) → Denotes w way types slots v → Transferable w way types slots v
-    → (h : Hands) × (lift_of w.memory w.table w.encoding way (layout_of_fields_at types) slots ≡ Ok (v, h))
+    → (tags : List Bool) × (h : Hands) × (lift_of w.memory w.table w.encoding way (layout_of_fields_at types) slots ≡ Ok (v, tags, h))
 
 abbrev pub TellsLaw : Type 0
 TellsLaw = (w : View) (target : StringEncoding) (way : Way) (types : Fields) (slots : List CoreValue) (v : Val) → Denotes w way types slots v
     → TellAll w target (passed_records (seen_by w) target (flat_limit way) (layout_of_fields_at types) slots v) (call_parts way types v) (call_places w way types slots v)
 
-pub scans_given : LiftsLaw → TellsLaw → (w : View) (target : StringEncoding) (memory : List ℕ) (table after : Handles) (encoding : StringEncoding) (way : Way) (l : LayoutTy) (types : Fields) (slots : List CoreValue) (v : Val) (s : Scanned)
-    → IsGivenBy w memory table encoding → l ≡ layout_of_fields_at types → lift_of memory table encoding way l slots ≡ Ok (v, scanned_with after s)
+pub scans_given : LiftsLaw → TellsLaw → (w : View) (target : StringEncoding) (memory : List ℕ) (table after : Handles) (encoding : StringEncoding) (way : Way) (l : LayoutTy) (types : Fields) (slots : List CoreValue) (v : Val) (tags : List Bool) (s : Scanned)
+    → IsGivenBy w memory table encoding → l ≡ layout_of_fields_at types → lift_of memory table encoding way l slots ≡ Ok (v, tags, scanned_with after s)
     → s.records.items ≡ passed_records (giver_of memory table encoding) target (flat_limit way) l slots v
     → ScansCall w target way types slots v after s
-scans_given lifts tells w target memory table after encoding way l types slots v s is same e records =
-    let lifted = lifts w way types slots v (scanned_with after s) (sym (same_lift w memory table encoding way l (layout_of_fields_at types) slots is same) ∙ e) in
+scans_given lifts tells w target memory table after encoding way l types slots v tags s is same e records =
+    let lifted = lifts w way types slots v tags (scanned_with after s) (sym (same_lift w memory table encoding way l (layout_of_fields_at types) slots is same) ∙ e) in
     let records_are = records ∙ same_records w target memory table encoding (flat_limit way) l (layout_of_fields_at types) slots v is same in
     record {
-      lifts = lifted;
+      lifts = (tags, lifted);
       tells = subst (λ rs. TellAll w target rs (call_parts way types v) (call_places w way types slots v)) (sym records_are) (tells w target way types slots v lifted.denoted);
     }
 
-not_both : (r : Result (Val × Hands) AbiFault) (x : Val × Hands) (f : AbiFault) → r ≡ Ok x → r ≡ Err f → ⊥
+not_both : (r : Result (Val × List Bool × Hands) AbiFault) (x : Val × List Bool × Hands) (f : AbiFault) → r ≡ Ok x → r ≡ Err f → ⊥
 not_both r x f a b = cc
 
 pub only_given : OnlyLaw → (w : View) (memory : List ℕ) (table : Handles) (encoding : StringEncoding) (way : Way) (l : LayoutTy) (types : Fields) (slots : List CoreValue) (v : Val) (f : AbiFault)
     → IsGivenBy w memory table encoding → l ≡ layout_of_fields_at types → Denotes w way types slots v → Transferable w way types slots v → lift_of memory table encoding way l slots ≡ Err f → ⊥
 only_given law w memory table encoding way l types slots v f is same denoted can e =
     let found = law w way types slots v denoted can in
-    not_both (lift_of w.memory w.table w.encoding way (layout_of_fields_at types) slots) (v, found.0) f found.1
+    not_both (lift_of w.memory w.table w.encoding way (layout_of_fields_at types) slots) (v, found.0, found.1) f found.2
     (sym (same_lift w memory table encoding way l (layout_of_fields_at types) slots is same) ∙ e)
 
 -- ---- what is scanned can be asked for
 
 abbrev pub ContentLaw : Type 0
-ContentLaw = (w : View) (way : Way) (types : Fields) (slots : List CoreValue) (v : Val) → Denotes w way types slots v → (tags : List Bool)
-    × (content_of_parts w.encoding tags (parts_in (tuple_of types) v) ≡ content_of (met w way types slots v))
+ContentLaw = (w : View) (way : Way) (types : Fields) (slots : List CoreValue) (v : Val) → Denotes w way types slots v
+    → content_of_parts w.encoding (tags_of (met w way types slots v)) (parts_in (tuple_of types) v) ≡ content_of (met w way types slots v)
 
 abbrev pub SmallLaw : Type 0
 SmallLaw = (w : View) (target : StringEncoding) (rs : List PartRecord) (parts : List Part) (places : List ℕ) (tags : List Bool) → TellAll w target rs parts places
@@ -115,23 +115,23 @@ by_way law w target (r ∷ rs) types v tags (at ∷ places) true lt small told =
 call_askable : ContentLaw → SmallLaw → (w : View) (target : StringEncoding) (way : Way) (types : Fields) (slots : List CoreValue) (v : Val) (after : Handles) (s : Scanned) → size_of (tuple_of types) < 2 ^ 32
     → ScansCall w target way types slots v after s → AreAskable s.records.items
 call_askable content law w target way types slots v after s lt scans =
-    let counted = content w way types slots v scans.lifts.denoted in
-    let room = scans.lifts.transferable.small in
-    by_way law w target s.records.items types v counted.0 (call_places w way types slots v) (is_spilled way types) lt (omega (arith, counted.1, room)) scans.tells
+    let counted = content w way types slots v scans.lifts.1.denoted in
+    let room = scans.lifts.1.transferable.small in
+    by_way law w target s.records.items types v (tags_of (met w way types slots v)) (call_places w way types slots v) (is_spilled way types) lt (omega (arith, counted, room)) scans.tells
 
 -- a view of what is read from
 abbrev view_of : List ℕ → Handles → StringEncoding → View
 view_of memory table encoding = record { memory = memory; table = table; instance = 0; encoding = encoding; call = 0 }
 
-pub given_askable : LiftsLaw → TellsLaw → ContentLaw → SmallLaw → (target : StringEncoding) (memory : List ℕ) (table after : Handles) (encoding : StringEncoding) (way : Way) (l : LayoutTy) (types : Fields) (slots : List CoreValue) (v : Val) (s : Scanned)
-    → l.head.size < 2 ^ 32 → l ≡ layout_of_fields_at types → lift_of memory table encoding way l slots ≡ Ok (v, scanned_with after s)
+pub given_askable : LiftsLaw → TellsLaw → ContentLaw → SmallLaw → (target : StringEncoding) (memory : List ℕ) (table after : Handles) (encoding : StringEncoding) (way : Way) (l : LayoutTy) (types : Fields) (slots : List CoreValue) (v : Val) (tags : List Bool) (s : Scanned)
+    → l.head.size < 2 ^ 32 → l ≡ layout_of_fields_at types → lift_of memory table encoding way l slots ≡ Ok (v, tags, scanned_with after s)
     → s.records.items ≡ passed_records (giver_of memory table encoding) target (flat_limit way) l slots v
     → AreAskable s.records.items
-given_askable lifts tells content law target memory table after encoding way l types slots v s small same e records =
+given_askable lifts tells content law target memory table after encoding way l types slots v tags s small same e records =
     let w = view_of memory table encoding in
     let lt : size_of (tuple_of types) < 2 ^ 32 = subst (λ (x : LayoutTy). x.head.size < 2 ^ 32) same small in
     call_askable content law w target way types slots v after s lt
-    (scans_given lifts tells w target memory table after encoding way l types slots v s (record { memory_is = refl; table_is = refl; encoding_is = refl }) same e records)
+    (scans_given lifts tells w target memory table after encoding way l types slots v tags s (record { memory_is = refl; table_is = refl; encoding_is = refl }) same e records)
 
 -- ---- of the code's
 
@@ -145,20 +145,20 @@ fault_same : {A B : Type 0} (f : A → B) (r : Outcome A) (e : AbiFault) (s : St
 fault_same f (Ok x) e s is = absurd (cc)
 fault_same f (Err z) e s is = cc
 
-pub starts_fresh : (hs : List MetHandle) → hs ≡ [] → record { left = MAX_CONTENT; handles = hs } ≡ fresh
-starts_fresh hs is = ap (λ xs. record { left = MAX_CONTENT; handles = xs }) is
+pub starts_fresh : (hs : List MetHandle) (ts : List Bool) → hs ≡ [] → ts ≡ [] → record { left = MAX_CONTENT; handles = hs; tags = ts } ≡ fresh
+starts_fresh hs ts none no_tags = ap (λ xs. record { left = MAX_CONTENT; handles = xs; tags = ts }) none ∙ ap (λ xs. record { left = MAX_CONTENT; handles = []; tags = xs }) no_tags
 
 -- what was read, and what its handles come to, is what lifting comes to
 pub scan_lifts : (w : Source) (target : StringEncoding) (table : Handles) (limit : ℕ) (l : LayoutTy) (slots : List CoreValue) (old now : List PartRecord) (start after : State) (met_in : List MetHandle) (h : Hands) → old ≡ [] → start ≡ fresh
     → mapped (λ v. old ++ passed_records w target limit l slots v) (read_passed w limit l slots start) ≡ Ok (now, after)
     → met_in ≡ after.handles → hand_over (untouched table) met_in ≡ Ok h
-    → (v : Val) × (lifted table (read_passed w limit l slots fresh) ≡ Ok (v, h)) × (now ≡ passed_records w target limit l slots v)
+    → (v : Val) × (tags : List Bool) × (lifted table (read_passed w limit l slots fresh) ≡ Ok (v, tags, h)) × (now ≡ passed_records w target limit l slots v)
 scan_lifts w target table limit l slots old now start after met_in h none begins e met_is hands =
     let kept : mapped (λ v. passed_records w target limit l slots v) (read_passed w limit l slots fresh) ≡ Ok (now, after) =
     ap (λ s. mapped (λ v. passed_records w target limit l slots v) (read_passed w limit l slots s)) (sym begins) ∙ (ap (λ rs. mapped (λ v. rs ++ passed_records w target limit l slots v) (read_passed w limit l slots start)) (sym none) ∙ e) in
     let one = kept_value (λ v. passed_records w target limit l slots v) (read_passed w limit l slots fresh) now after kept in
     let over : hand_over (untouched table) after.handles ≡ Ok h = ap (hand_over (untouched table)) (sym met_is) ∙ hands in
-    (one.0, ap (lifted table) one.1 ∙ ap (handed (Ok (one.0, after))) over, sym one.2)
+    (one.0, after.tags, ap (lifted table) one.1 ∙ ap (handed (Ok (one.0, after))) over, sym one.2)
 
 pub scan_stops : (w : Source) (target : StringEncoding) (table : Handles) (limit : ℕ) (l : LayoutTy) (slots : List CoreValue) (old : List PartRecord) (start after : State) (met_in : List MetHandle) (stopped : Stop) (e first : AbiFault) → start ≡ fresh → stopped ≡ stop.Fault e
     → Stops stopped after (mapped (λ v. old ++ passed_records w target limit l slots v) (read_passed w limit l slots start))

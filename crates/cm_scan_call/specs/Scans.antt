@@ -1,5 +1,5 @@
 -- Scanning what a call passes (CanonicalABI.md, "Lifting and Lowering Values").
-use Rattle.std.specs.Prelude.{ℕ, List}
+use Rattle.std.specs.Prelude.{ℕ, Bool, List}
 use Rattle.cm_types.specs.declared.core_value.CoreValue.{CoreValue}
 use Rattle.cm_types.specs.Types.{Fields}
 use Rattle.cm_types.specs.Values.{Val}
@@ -26,6 +26,6 @@ scanned_with table s = record { table = table; owns = s.owns.items; lends = s.le
 -- one that can be handed over, its handles are, and the records tell its parts, each at its place.
 pub record ScansCall (w : View) (target : StringEncoding) (way : Way) (types : Fields)
     (slots : List CoreValue) (v : Val) (table : Handles) (s : Scanned) : Type 0 where
-  pub lifts : Lifts w way types slots v (scanned_with table s)
+  pub lifts : (tags : List Bool) × Lifts w way types slots v tags (scanned_with table s)
   pub tells : TellAll w target s.records.items (call_parts way types v)
       (call_places w way types slots v)

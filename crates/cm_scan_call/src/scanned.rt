@@ -1,7 +1,7 @@
 //! Values that core values denote, with no tree made of them.
 
 ghost use Rattle.std.specs.Prelude.{◌≡◌, ◌^◌, ◌<◌, ◌⊎◌, Err, IfErr, IfOk, IsOkUnless, Ok, OnErr};
-ghost use Rattle.std.specs.Prelude.{length};
+ghost use Rattle.std.specs.Prelude.{Bool, List, length};
 ghost use Rattle.cm_types.specs.Types.{Fields};
 ghost use Rattle.cm_types.specs.Values.{Val};
 ghost use Rattle.cm_layout.specs.Layouts.{layout_of};
@@ -60,8 +60,8 @@ pub struct Encodings {
 /// It succeeds where `cm_lift::lift` does, with the same handles taken out of the table and lent,
 /// and else answers the same first fault, with the table as it was. The caller gives a table whose
 /// handles are lent fewer than 2^100 times. The records tell the parts of the values, each at its
-/// place, and can be asked for. Memory is taken for records and handles alone; `EngineMemory` comes
-/// where there is none for them.
+/// place, and can be asked for. Memory is taken for records, tags of strings and handles alone;
+/// `EngineMemory` comes where there is none for them.
 pub fn scan(
     alloc: Global,
     memory: &[u8],
@@ -73,10 +73,10 @@ pub fn scan(
         × (layout_of passed.now.layout.now ≡ layout_of_fields_at types) }
     requires few { length memory.now < 2 ^ 62 }
     requires lends { LendsBelow (2 ^ 100) table.old.handles }
-    ensures ok { IfOk result (λ s. (v : Val)
+    ensures ok { IfOk result (λ s. (v : Val) × (tags : List Bool)
         × (lift_of memory.now table.old.handles encodings.source (way_of passed.now.way)
         (layout_of passed.now.layout.now) passed.now.slots.now
-        ≡ Ok (v, scanned_with table.new.handles s))
+        ≡ Ok (v, tags, scanned_with table.new.handles s))
         × (s.records.items
         ≡ passed_records (giver_of memory.now table.old.handles encodings.source) encodings.target
         (flat_limit (way_of passed.now.way)) (layout_of passed.now.layout.now) passed.now.slots.now
@@ -125,10 +125,10 @@ fn scan_values(
         × (layout_of passed.now.layout.now ≡ layout_of_fields_at types) }
     requires few { length memory.now < 2 ^ 62 }
     requires lends { LendsBelow (2 ^ 100) table.old.handles }
-    ensures ok { IfOk result (λ s. (v : Val)
+    ensures ok { IfOk result (λ s. (v : Val) × (tags : List Bool)
         × (lift_of memory.now table.old.handles encodings.source (way_of passed.now.way)
         (layout_of passed.now.layout.now) passed.now.slots.now
-        ≡ Ok (v, scanned_with table.new.handles s))
+        ≡ Ok (v, tags, scanned_with table.new.handles s))
         × (s.records.items
         ≡ passed_records (giver_of memory.now table.old.handles encodings.source) encodings.target
         (flat_limit (way_of passed.now.way)) (layout_of passed.now.layout.now) passed.now.slots.now
@@ -142,6 +142,7 @@ fn scan_values(
         progress: Progress {
             left: MAX_CONTENT,
             handles: Vec::new(alloc),
+            tags: Vec::new(alloc),
         },
         records: Vec::new(alloc),
     };
