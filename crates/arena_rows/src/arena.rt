@@ -253,7 +253,7 @@ impl Arena {
 }
 
 /// Each place after a space; `-` for none.
-fn write_places(out: &mut String, places: &[usize]) -> Result<(), AllocError> {
+pub fn write_places(out: &mut String, places: &[usize]) -> Result<(), AllocError> {
     if places.is_empty() {
         return out.push_str(" -");
     }

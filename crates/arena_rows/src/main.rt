@@ -1,8 +1,10 @@
-//! Answers rows on types by places and their numbers, and on layouts that are made part by part.
+//! Answers rows on types by places, their copies and their numbers, and on layouts that are made
+//! part by part.
 #![tactic(auto)]
 
 mod arena;
 mod built;
+mod copies;
 mod layouts;
 mod numbers;
 mod runs;
@@ -20,6 +22,7 @@ impl Driver for ArenaRows {
         match words {
             ["types", rest @ ..] => arena::answer(alloc, rest),
             ["built", rest @ ..] => built::answer(alloc, rest),
+            ["copies", rest @ ..] => copies::answer(alloc, rest),
             ["layouts", rest @ ..] => layouts::answer(alloc, rest),
             ["numbers", rest @ ..] => numbers::answer(alloc, rest),
             _ => Err(RowFault::NotARow),
