@@ -1,0 +1,7 @@
+mod ListLemmas
+mod LinkLaws
+mod AnswerLaws
+mod TargetLaws
+mod ServedLaws
+mod ImportedLaws
+mod ReachLaws

@@ -1,0 +1,4 @@
+pub mod Imports
+pub mod Serving
+pub mod Links
+pub mod Targets

@@ -1,0 +1,134 @@
+-- What an imported function comes to in the end, where each component that exports an import again
+-- is passed through (how components are linked is this project's own choice).
+use Rattle.std.specs.Prelude.{◌≡◌, ⊤, ℕ, zero, suc, List, Option, Some, None, slice_get}
+use Rattle.std.specs.List.{AllByRecursion}
+use Rattle.std.specs.Option.{option_map, option_and_then}
+use Rattle.cm_types.specs.Types.{FuncTy}
+use Rattle.cm_types.specs.Signatures.{ItemTy, func_item, ExternTy}
+use Rattle.cm_types.specs.Signatures as extern
+use Rattle.cm_component.specs.declared.canons.CanonOption.{CanonOption}
+use Rattle.cm_validity.specs.Definitions.{ExportDef, exported_func, exported_instance, FuncDef}
+use Rattle.cm_validity.specs.Definitions.{lifted, imported, MemberDef, func_member, type_member}
+use Rattle.cm_validity.specs.Definitions.{NamedMember, CoreFuncDef, lowered}
+use Rattle.cm_validity.specs.Spaces.{Spaces, func_of_member, member_named}
+use Rattle.cm_origins.specs.Origins.{Links, item_name}
+use Rattle.cm_origins.specs.declared.component.Link.{Link}
+use Rattle.cm_links.specs.Imports.{export_in}
+
+-- a lifted function: its component, the core function that is lifted, the type and the options
+pub record Target : Type 0 where
+  pub component : ℕ
+  pub core_func : ℕ
+  pub ty : FuncTy
+  pub options : List CanonOption
+
+-- a function of a component
+pub record FuncAt : Type 0 where
+  pub component : ℕ
+  pub func : FuncDef
+
+-- the function that an export is, and that it has under a name
+abbrev pub exported_alone : ExportDef → Option FuncDef
+exported_alone (exported_func f) = Some f
+exported_alone (exported_instance members) = None
+
+abbrev pub exported_under : List ℕ → ExportDef → Option FuncDef
+exported_under name (exported_func f) = None
+exported_under name (exported_instance members) =
+    option_and_then func_of_member (member_named members name)
+
+-- the one that an import is served by, and, of an import of an instance, its item of a number
+abbrev pub func_for : Spaces → ℕ → Option ℕ → ExportDef → Option FuncDef
+func_for s import None e = exported_alone e
+func_for s import (Some item) e =
+    option_and_then (λ name. exported_under name e) (item_name s import item)
+
+abbrev pub linked_func : List Spaces → Spaces → ℕ → Option ℕ → Link → Option FuncAt
+linked_func set s import item l =
+    option_map (λ f. record { component = l.component; func = f })
+    (option_and_then (func_for s import item) (export_in set l.component l.export))
+
+-- the function of another component by which an import, or an item of one, is served
+abbrev pub serving_func : List Spaces → Links → ℕ → ℕ → Option ℕ → Option FuncAt
+serving_func set links component import item =
+    option_and_then (λ s. option_and_then (linked_func set s import item) (links component import))
+    (slice_get set component)
+
+-- targets of imports, and of their items, by component, import and item
+abbrev pub Targets : Type 0
+Targets = ℕ → ℕ → Option ℕ → Option Target
+
+-- the target of a function: a lift is one itself, and an import has that of what serves it
+abbrev pub target_by : Targets → ℕ → FuncDef → Option Target
+target_by targets component (lifted f ty os) =
+    Some (record { component = component; core_func = f; ty = ty; options = os })
+target_by targets component (imported import item ty) = targets component import item
+
+abbrev pub target_of : Targets → FuncAt → Option Target
+target_of targets f = target_by targets f.component f.func
+
+-- The targets of a set: that of each import, or item of one, is the target of what serves it.
+abbrev pub AreTargets : List Spaces → Links → Targets → Type 0
+AreTargets set links targets =
+    (component import : ℕ) (item : Option ℕ)
+    → targets component import item
+    ≡ option_and_then (target_of targets) (serving_func set links component import item)
+
+-- the same, for the imports of the components before this one
+abbrev pub target_within : ℕ → List Spaces → Links → Targets
+target_within zero set links component import item = None
+target_within (suc count) set links component import item =
+    option_and_then (target_of (target_within count set links))
+    (serving_func set links component import item)
+
+-- and of each component
+abbrev pub targets_of : List Spaces → Links → Targets
+targets_of set links component import item =
+    target_within (suc component) set links component import item
+
+-- ---- what a component says of its imports
+
+-- the type of a function that is imported, and of an item that is one
+abbrev pub func_item_of : ItemTy → Option FuncTy
+func_item_of (func_item f) = Some f
+func_item_of _ = None
+
+abbrev pub wanted_of : Option ℕ → ExternTy → Option FuncTy
+wanted_of None (extern.func f) = Some f
+wanted_of (Some item) (extern.instance items) =
+    option_and_then (λ i. func_item_of i.desc) (slice_get items item)
+wanted_of _ _ = None
+
+abbrev pub wanted_func : Spaces → ℕ → Option ℕ → Option FuncTy
+wanted_func s import item =
+    option_and_then (λ i. wanted_of item i.desc) (slice_get s.imports import)
+
+-- a function that is imported has the type with which it is imported
+abbrev pub IsAsImported : Spaces → FuncDef → Type 0
+IsAsImported s (lifted f ty os) = ⊤
+IsAsImported s (imported import item ty) = wanted_func s import item ≡ Some ty
+
+-- ---- the functions of a component
+
+abbrev pub IsMemberAsImported : Spaces → MemberDef → Type 0
+IsMemberAsImported s (func_member f) = IsAsImported s f
+IsMemberAsImported s (type_member t) = ⊤
+
+abbrev pub AreMembersAsImported : Spaces → List NamedMember → Type 0
+AreMembersAsImported s ms = AllByRecursion (λ m. IsMemberAsImported s m.def) ms
+
+abbrev pub IsExportAsImported : Spaces → ExportDef → Type 0
+IsExportAsImported s (exported_func f) = IsAsImported s f
+IsExportAsImported s (exported_instance ms) = AreMembersAsImported s ms
+
+-- so has a core function that lowers one
+abbrev pub IsLoweredAsImported : Spaces → CoreFuncDef → Type 0
+IsLoweredAsImported s (lowered import item ty os) = wanted_func s import item ≡ Some ty
+IsLoweredAsImported s _ = ⊤
+
+-- Wherever in the index spaces, a function that is imported has the type with which it is imported.
+pub record AreAsImported (s : Spaces) : Type 0 where
+  pub funcs : AllByRecursion (IsAsImported s) s.funcs
+  pub instances : AllByRecursion (AreMembersAsImported s) s.instances
+  pub exports : AllByRecursion (λ e. IsExportAsImported s e.def) s.exports
+  pub core_funcs : AllByRecursion (IsLoweredAsImported s) s.core_funcs

@@ -1,0 +1,69 @@
+//! What holds of the definitions, as laws: each function here does nothing, and its contract is the
+//! law.
+
+ghost use Rattle.std.specs.Prelude.{◌≡◌, ◌<◌, ℕ, List, Option, Some, map, slice_get};
+ghost use Rattle.cm_component.specs.Trees.{SectionTree};
+ghost use Rattle.cm_types.specs.Types.{FuncTy};
+ghost use Rattle.cm_validity.specs.Definitions.{func_type_of};
+ghost use Rattle.cm_validity.specs.Spaces.{Spaces, spaces_of};
+ghost use Rattle.cm_match.specs.declared.fault.LinkReason.{LinkReason};
+ghost use Rattle.cm_origins.specs.Origins.{LeadEarlier, Links};
+ghost use Rattle.cm_links.specs.Imports.{links_of};
+ghost use Rattle.cm_links.specs.Links.{CanBeLinked, IsLinkFault};
+ghost use Rattle.cm_links.specs.Serving.{IsSameFunc};
+ghost use Rattle.cm_links.specs.Targets.{AreAsImported, AreTargets, FuncAt, Target, Targets};
+ghost use Rattle.cm_links.specs.Targets.{serving_func, targets_of, wanted_func};
+
+/// What an import is linked to is an export of an earlier component.
+pub fn links_lead_earlier()
+    ensures { (set : List Spaces) → LeadEarlier (links_of set) }
+{}
+
+/// A set that can be linked has no fault, and one that can't has one fault alone.
+pub fn sets_have_one_answer()
+    ensures never_both { (set : List Spaces) (c n : ℕ) (r : LinkReason)
+        → CanBeLinked set → IsLinkFault set c n r → ⊥ }
+    ensures one { (set : List Spaces) (c d m n : ℕ) (q r : LinkReason)
+        → IsLinkFault set c m q → IsLinkFault set d n r → (c ≡ d) × (m ≡ n) × (q ≡ r) }
+{}
+
+/// Where imports are linked to earlier components, there is one answer to what each imported
+/// function comes to in the end, and no other.
+pub fn targets_are_unique()
+    ensures one { (set : List Spaces) (links : Links) → LeadEarlier links
+        → AreTargets set links (targets_of set links) }
+    ensures no_other { (set : List Spaces) (links : Links) (s t : Targets) → LeadEarlier links
+        → AreTargets set links s → AreTargets set links t
+        → (component import : ℕ) (item : Option ℕ)
+        → s component import item ≡ t component import item }
+{}
+
+/// In a set that can be linked, each function that a component imports, by itself or as an item of
+/// an instance, is served by a function of an earlier component of the same type.
+pub fn imported_functions_are_served()
+    ensures { (set : List Spaces) → CanBeLinked set → (c : ℕ) (s : Spaces)
+        → slice_get set c ≡ Some s → (import : ℕ) (item : Option ℕ) (f : FuncTy)
+        → wanted_func s import item ≡ Some f
+        → (g : FuncAt) × (serving_func set (links_of set) c import item ≡ Some g)
+        × (g.component < c) × IsSameFunc set c f g.component (func_type_of g.func) }
+{}
+
+/// In the index spaces of each component, valid or not, a function that is imported has the type
+/// with which it is imported, and so has a core function that lowers one.
+pub fn functions_are_as_imported()
+    ensures { (sections : List SectionTree) → AreAsImported (spaces_of sections) }
+{}
+
+/// In a set that can be linked, each function that a component imports, by itself or as an item of
+/// an instance, comes to a lifted function of an earlier component of the same type.
+pub fn imported_functions_reach_lifts()
+    ensures { (components : List (List SectionTree)) → CanBeLinked (map spaces_of components)
+        → (c import : ℕ) (s : Spaces) (item : Option ℕ) (f : FuncTy)
+        → slice_get (map spaces_of components) c ≡ Some s → wanted_func s import item ≡ Some f
+        → (t : Target) × (targets_of (map spaces_of components)
+        (links_of (map spaces_of components)) c import item ≡ Some t)
+        × (t.component < c) × IsSameFunc (map spaces_of components) c f t.component t.ty }
+{
+    imported_functions_are_served();
+    functions_are_as_imported();
+}
