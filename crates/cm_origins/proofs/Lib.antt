@@ -1,3 +1,2 @@
 mod OriginLaws
-mod Ranges
 mod Following

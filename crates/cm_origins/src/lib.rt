@@ -5,5 +5,5 @@ mod component;
 pub mod laws;
 mod links;
 
-pub use component::{Brought, Component, Link};
+pub use component::{Component, Link, Source};
 pub use links::origin;

@@ -1,33 +1,34 @@
-use Rattle.std.proofs.Common.{◌≡◌, ◌∙◌, true, Some, refl, sym, ap, arith, is_some, option_and_then}
+use Rattle.std.proofs.Common.{◌≡◌, ◌∙◌, true, Some, map, refl, sym, ap, arith, is_some, option_and_then}
+use Rattle.std.proofs.lemmas.List.{length-map}
 use Rattle.cm_origins.specs.Origins.{definition_of}
 use Rattle.cm_origins.proofs.Following.{absent, earlier, exists_told, follow, served_by, served_told, stay, there_is}
 use Rattle.cm_origins.proofs.links.origin.Goals as goal
 
 pub loop-step-init : goal.loop-step-init
-loop-step-init c = λ set links table d early a.
-    (refl, sym (exists_told c.args.components.now set links d c.args.resource) ∙ sym c.if-not-exists.ensures, omega arith)
+loop-step-init g c = λ set links table d early a.
+    (refl, sym (exists_told (map g.C.Component.told c.args.components.now) set links d c.args.resource) ∙ sym c.if-not-exists.ensures, omega arith)
 
 pub returns-in_default : goal.returns-in_default
-returns-in_default c = λ set links table d early a.
+returns-in_default g c = λ set links table d early a.
     let kept = c.loop-step.invariant set links table d early a in
-    let next : served_by set links c.loop-step.origin ≡ Some c.in-Some.next = sym (served_told c.args.components.now set links d c.loop-step.origin) ∙ sym (c.served.ensures d.ordered) ∙ c.in-Some.is in
-    let gone = sym (exists_told c.args.components.now set links d c.in-Some.next) ∙ sym c.if-exists.ensures in
+    let next : served_by set links c.loop-step.origin ≡ Some c.in-Some.next = sym (served_told (map g.C.Component.told c.args.components.now) set links d c.loop-step.origin) ∙ sym c.served.ensures ∙ c.in-Some.is in
+    let gone = sym (exists_told (map g.C.Component.told c.args.components.now) set links d c.in-Some.next) ∙ sym c.if-exists.ensures in
     sym (kept.0 ∙ stay set links table a c.loop-step.origin (ap (option_and_then table) next ∙ absent set links table a c.in-Some.next gone) kept.1)
 
 pub returns-in_default-2 : goal.returns-in_default-2
-returns-in_default-2 c = λ set links table d early a.
+returns-in_default-2 g c = λ set links table d early a.
     let kept = c.loop-step.invariant set links table d early a in
-    let none = sym (served_told c.args.components.now set links d c.loop-step.origin) ∙ sym (c.served.ensures d.ordered) ∙ c.in_default.is in
+    let none = sym (served_told (map g.C.Component.told c.args.components.now) set links d c.loop-step.origin) ∙ sym c.served.ensures ∙ c.in_default.is in
     sym (kept.0 ∙ stay set links table a c.loop-step.origin (ap (option_and_then table) none) kept.1)
 
 pub loop-step-preserved : goal.loop-step-preserved
-loop-step-preserved c = λ set links table d early a.
+loop-step-preserved g c = λ set links table d early a.
     let kept = c.loop-step.invariant set links table d early a in
-    let next : served_by set links c.loop-step.origin ≡ Some c.in-Some.next = sym (served_told c.args.components.now set links d c.loop-step.origin) ∙ sym (c.served.ensures d.ordered) ∙ c.in-Some.is in
-    let there : is_some (definition_of set c.in-Some.next) ≡ true = sym (exists_told c.args.components.now set links d c.in-Some.next) ∙ sym c.if-exists.ensures in
+    let next : served_by set links c.loop-step.origin ≡ Some c.in-Some.next = sym (served_told (map g.C.Component.told c.args.components.now) set links d c.loop-step.origin) ∙ sym c.served.ensures ∙ c.in-Some.is in
+    let there : is_some (definition_of set c.in-Some.next) ≡ true = sym (exists_told (map g.C.Component.told c.args.components.now) set links d c.in-Some.next) ∙ sym c.if-exists.ensures in
     (kept.0 ∙ follow set links table a c.loop-step.origin c.in-Some.next next there, there, omega (arith, kept.2, earlier set links early c.loop-step.origin c.in-Some.next next))
 
 pub returns : goal.returns
-returns c = λ set links table d early a.
+returns g c = λ set links table d early a.
     let kept = c.loop-step.invariant set links table d early a in
-    absurd (omega (arith, kept.2, there_is c.args.components.now c.args.resource (sym c.if-not-exists.ensures), c.loop-step-test.false))
+    absurd (omega (arith, kept.2, there_is (map g.C.Component.told c.args.components.now) c.args.resource (sym c.if-not-exists.ensures), length-map c.args.components.now g.C.Component.told, c.loop-step-test.false))
