@@ -15,8 +15,8 @@ use cm_types::ResourceId;
 /// stands there, and leads to an earlier component.
 pub fn origin<C: Component>(components: &[C], resource: ResourceId) -> Option<ResourceId>
     ensures { (set : List Spaces) (links : Links) (table : Table)
-        → Describes (map C.told components.now) set links → LeadEarlier links → AreOrigins set links table
-        → result ≡ table resource }
+        → Describes (map C.told components.now) set links → LeadEarlier links
+        → AreOrigins set links table → result ≡ table resource }
 {
     if !exists(components, resource) {
         return None;
