@@ -3,5 +3,4 @@ mod LinkLaws
 mod AnswerLaws
 mod TargetLaws
 mod ServedLaws
-mod ImportedLaws
 mod ReachLaws

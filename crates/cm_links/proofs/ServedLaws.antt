@@ -13,7 +13,8 @@ use Rattle.cm_origins.specs.declared.component.Link.{Link}
 use Rattle.cm_links.specs.Imports.{ImportAt, all_imports_from, export_in, import_at, import_in, imports_from, imports_of, link_of, links_of}
 use Rattle.cm_links.specs.Links.{CanBeLinked, IsServed}
 use Rattle.cm_links.specs.Serving.{IsItemServed, IsSameFunc, Serves, ServesExtern, item_under}
-use Rattle.cm_links.specs.Targets.{FuncAt, exported_under, func_for, func_item_of, linked_func, serving_func, wanted_func, wanted_of}
+use Rattle.cm_functions.specs.Imported.{func_item_of, wanted_func, wanted_of}
+use Rattle.cm_links.specs.Targets.{FuncAt, exported_under, func_for, linked_func, serving_func}
 use Rattle.cm_links.proofs.LinkLaws.{linked_earlier}
 use Rattle.cm_links.proofs.ListLemmas.{all_at, all_front, all_rest, some_same, stepped}
 

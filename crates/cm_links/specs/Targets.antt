@@ -1,15 +1,11 @@
 -- What an imported function comes to in the end, where each component that exports an import again
 -- is passed through (how components are linked is this project's own choice).
-use Rattle.std.specs.Prelude.{◌≡◌, ⊤, ℕ, zero, suc, List, Option, Some, None, slice_get}
-use Rattle.std.specs.List.{AllByRecursion}
+use Rattle.std.specs.Prelude.{◌≡◌, ℕ, zero, suc, List, Option, Some, None, slice_get}
 use Rattle.std.specs.Option.{option_map, option_and_then}
 use Rattle.cm_types.specs.Types.{FuncTy}
-use Rattle.cm_types.specs.Signatures.{ItemTy, func_item, ExternTy}
-use Rattle.cm_types.specs.Signatures as extern
 use Rattle.cm_component.specs.declared.canons.CanonOption.{CanonOption}
 use Rattle.cm_validity.specs.Definitions.{ExportDef, exported_func, exported_instance, FuncDef}
-use Rattle.cm_validity.specs.Definitions.{lifted, imported, MemberDef, func_member, type_member}
-use Rattle.cm_validity.specs.Definitions.{NamedMember, CoreFuncDef, lowered}
+use Rattle.cm_validity.specs.Definitions.{lifted, imported}
 use Rattle.cm_validity.specs.Spaces.{Spaces, func_of_member, member_named}
 use Rattle.cm_origins.specs.Origins.{Links, item_name}
 use Rattle.cm_origins.specs.declared.component.Link.{Link}
@@ -85,50 +81,3 @@ target_within (suc count) set links component import item =
 abbrev pub targets_of : List Spaces → Links → Targets
 targets_of set links component import item =
     target_within (suc component) set links component import item
-
--- ---- what a component says of its imports
-
--- the type of a function that is imported, and of an item that is one
-abbrev pub func_item_of : ItemTy → Option FuncTy
-func_item_of (func_item f) = Some f
-func_item_of _ = None
-
-abbrev pub wanted_of : Option ℕ → ExternTy → Option FuncTy
-wanted_of None (extern.func f) = Some f
-wanted_of (Some item) (extern.instance items) =
-    option_and_then (λ i. func_item_of i.desc) (slice_get items item)
-wanted_of _ _ = None
-
-abbrev pub wanted_func : Spaces → ℕ → Option ℕ → Option FuncTy
-wanted_func s import item =
-    option_and_then (λ i. wanted_of item i.desc) (slice_get s.imports import)
-
--- a function that is imported has the type with which it is imported
-abbrev pub IsAsImported : Spaces → FuncDef → Type 0
-IsAsImported s (lifted f ty os) = ⊤
-IsAsImported s (imported import item ty) = wanted_func s import item ≡ Some ty
-
--- ---- the functions of a component
-
-abbrev pub IsMemberAsImported : Spaces → MemberDef → Type 0
-IsMemberAsImported s (func_member f) = IsAsImported s f
-IsMemberAsImported s (type_member t) = ⊤
-
-abbrev pub AreMembersAsImported : Spaces → List NamedMember → Type 0
-AreMembersAsImported s ms = AllByRecursion (λ m. IsMemberAsImported s m.def) ms
-
-abbrev pub IsExportAsImported : Spaces → ExportDef → Type 0
-IsExportAsImported s (exported_func f) = IsAsImported s f
-IsExportAsImported s (exported_instance ms) = AreMembersAsImported s ms
-
--- so has a core function that lowers one
-abbrev pub IsLoweredAsImported : Spaces → CoreFuncDef → Type 0
-IsLoweredAsImported s (lowered import item ty os) = wanted_func s import item ≡ Some ty
-IsLoweredAsImported s _ = ⊤
-
--- Wherever in the index spaces, a function that is imported has the type with which it is imported.
-pub record AreAsImported (s : Spaces) : Type 0 where
-  pub funcs : AllByRecursion (IsAsImported s) s.funcs
-  pub instances : AllByRecursion (AreMembersAsImported s) s.instances
-  pub exports : AllByRecursion (λ e. IsExportAsImported s e.def) s.exports
-  pub core_funcs : AllByRecursion (IsLoweredAsImported s) s.core_funcs

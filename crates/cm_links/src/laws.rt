@@ -4,15 +4,21 @@
 ghost use Rattle.std.specs.Prelude.{◌≡◌, ◌<◌, ℕ, List, Option, Some, map, slice_get};
 ghost use Rattle.cm_component.specs.Trees.{SectionTree};
 ghost use Rattle.cm_types.specs.Types.{FuncTy};
-ghost use Rattle.cm_validity.specs.Definitions.{func_type_of};
+ghost use Rattle.cm_validity.specs.Definitions.{func_type_of, lifted};
+ghost use Rattle.cm_validity.specs.Valid.{IsValid};
+ghost use Rattle.std.specs.List.{AllByRecursion};
 ghost use Rattle.cm_validity.specs.Spaces.{Spaces, spaces_of};
 ghost use Rattle.cm_match.specs.declared.fault.LinkReason.{LinkReason};
 ghost use Rattle.cm_origins.specs.Origins.{LeadEarlier, Links};
 ghost use Rattle.cm_links.specs.Imports.{links_of};
 ghost use Rattle.cm_links.specs.Links.{CanBeLinked, IsLinkFault};
 ghost use Rattle.cm_links.specs.Serving.{IsSameFunc};
-ghost use Rattle.cm_links.specs.Targets.{AreAsImported, AreTargets, FuncAt, Target, Targets};
-ghost use Rattle.cm_links.specs.Targets.{serving_func, targets_of, wanted_func};
+ghost use Rattle.cm_functions.specs.Imported.{wanted_func};
+ghost use Rattle.cm_functions.specs.Named.{IsLiftWhole};
+ghost use Rattle.cm_links.specs.Targets.{AreTargets, FuncAt, Target, Targets, serving_func};
+ghost use Rattle.cm_links.specs.Targets.{targets_of};
+
+use cm_functions::laws::{functions_are_as_imported, what_functions_name_is_there};
 
 /// What an import is linked to is an export of an earlier component.
 pub fn links_lead_earlier()
@@ -48,12 +54,6 @@ pub fn imported_functions_are_served()
         × (g.component < c) × IsSameFunc set c f g.component (func_type_of g.func) }
 {}
 
-/// In the index spaces of each component, valid or not, a function that is imported has the type
-/// with which it is imported, and so has a core function that lowers one.
-pub fn functions_are_as_imported()
-    ensures { (sections : List SectionTree) → AreAsImported (spaces_of sections) }
-{}
-
 /// In a set that can be linked, each function that a component imports, by itself or as an item of
 /// an instance, comes to a lifted function of an earlier component of the same type.
 pub fn imported_functions_reach_lifts()
@@ -66,4 +66,17 @@ pub fn imported_functions_reach_lifts()
 {
     imported_functions_are_served();
     functions_are_as_imported();
+}
+
+/// Where components are valid, what an imported function comes to is a lift of a guest's core
+/// function of its component, with options that name what is there and that its type needs.
+pub fn targets_are_lifts()
+    ensures { (components : List (List SectionTree)) → AllByRecursion IsValid components
+        → (c import : ℕ) (item : Option ℕ) (t : Target)
+        → targets_of (map spaces_of components) (links_of (map spaces_of components)) c import
+        item ≡ Some t
+        → (s : Spaces) × (slice_get (map spaces_of components) t.component ≡ Some s)
+        × IsLiftWhole s (lifted t.core_func t.ty t.options) }
+{
+    what_functions_name_is_there();
 }

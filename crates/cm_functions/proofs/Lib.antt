@@ -1,0 +1,4 @@
+mod ListLemmas
+mod ItemLaws
+mod ImportedLaws
+mod NamedLaws

@@ -1,0 +1,4 @@
+//! The functions of a component: where they come from, and what they name. Definitions and laws.
+#![tactic(auto)]
+
+pub mod laws;
