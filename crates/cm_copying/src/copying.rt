@@ -43,7 +43,7 @@ fn copy_handle(from: &Copier<'_>, memory: &mut [u8], at: usize, next: &mut Next)
 }
 
 /// How many bytes the part of this number takes where it is stored.
-pub(crate) fn size_of_part(from: &Copier<'_>, part: usize) -> usize
+pub fn size_of_part(from: &Copier<'_>, part: usize) -> usize
     requires known { part < length (copying_of from.now).sizes }
     ensures { result ≡ slice_index (copying_of from.now).sizes part }
 {
@@ -52,13 +52,7 @@ pub(crate) fn size_of_part(from: &Copier<'_>, part: usize) -> usize
 
 /// Copies the bytes of the string at a pointer, of a tagged length, to the place of the part of
 /// this number.
-pub(crate) fn copy_text_bytes(
-    from: &Copier<'_>,
-    memory: &mut [u8],
-    pointer: u32,
-    tagged: u32,
-    part: usize,
-)
+pub fn copy_text_bytes(from: &Copier<'_>, memory: &mut [u8], pointer: u32, tagged: u32, part: usize)
     requires ready { IsTextReady (length memory.old) (copying_of from.now) pointer tagged part }
     ensures stored { memory.new
         ≡ poke (placed (place_of (given_of from.now.target) part)
@@ -222,7 +216,7 @@ fn copy_list(
 
 /// Copies so many values, one behind the other; plain bytes as they stand.
 #[cycle(copying)]
-pub(crate) fn copy_each(
+pub fn copy_each(
     from: &Copier<'_>,
     memory: &mut [u8],
     element: &Layout,

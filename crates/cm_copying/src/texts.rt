@@ -107,7 +107,7 @@ pub(crate) fn text_of(source: StringEncoding, memory: &[u8], at: u32, tagged: u3
 }
 
 /// How many units a text of so many bytes has where it is stored.
-pub(crate) fn units_stored(target: StringEncoding, size: usize) -> usize
+pub fn units_stored(target: StringEncoding, size: usize) -> usize
     requires size { (scalars : List ℕ)
         × (size ≡ length (text_bytes (stored_charset target) scalars)) }
     ensures { (scalars : List ℕ) → size ≡ length (text_bytes (stored_charset target) scalars)
