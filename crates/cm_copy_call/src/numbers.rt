@@ -16,7 +16,8 @@ use cm_types::CoreValue;
 /// number, one with a sign in two's complement of 32 bits, or of 64 where the leaf has as many.
 pub(crate) fn leaf_number(leaf: Leaf, given: &[CoreValue], at: usize) -> u64
     requires sized { IsSizedLeaf leaf }
-    ensures { result ≡ flat_number leaf (leaf_shown leaf (wrapped (size_of_core leaf) given.now at)) }
+    ensures { result
+        ≡ flat_number leaf (leaf_shown leaf (wrapped (size_of_core leaf) given.now at)) }
 {
     let number = number_stored(leaf, wrapped_at(given, core_size(leaf), at));
     match leaf {

@@ -106,7 +106,7 @@ pub(crate) fn text_of(source: StringEncoding, memory: &[u8], at: u32, tagged: u3
     &memory[at as usize..at as usize + size]
 }
 
-/// How many units a text of so many bytes has where it is stored.
+/// How many units a text of so many bytes has where it is stored: bytes of UTF-8, pairs in UTF-16.
 pub fn units_stored(target: StringEncoding, size: usize) -> usize
     requires size { (scalars : List ℕ)
         × (size ≡ length (text_bytes (stored_charset target) scalars)) }
