@@ -126,4 +126,3 @@ passed w way types slots v h = elim h [
   | inl x ↦ subst (λ ms. Agree w.table ms (leaves_in (tuple_of types) v)) (sym (met_as w way types slots v false (le-ltb (flat_limit way) (length (flat_of_fields types)) x.fits))) (flat w slots (tuple_of types) 0 v x.shown)
   | inr x ↦ subst (λ ms. Agree w.table ms (leaves_in (tuple_of types) v)) (sym (met_as w way types slots v true (lt-ltb (flat_limit way) (length (flat_of_fields types)) x.spilled))) (shown w (tuple_of types) (wrapped_at 4 slots 0) v x.shown)
 ]
-

@@ -69,8 +69,8 @@ module _ (w : View) (target : StringEncoding) (g : Given) where
       let rest = in_one rs parts starts places (k + 1) told.1 (omega (arith, long)) (behind k at places is) a in
       let size = told.0.size in
       let here = first k at places is in (
-        λ x. elim x [ | inl y ↦ inl (rw (here, sym size) y) | inr y ↦ inr (rest.0 y) ],
-        λ x. elim x [ | inl y ↦ inl (rw (sym here, size) y) | inr y ↦ inr (rest.1 y) ],
+        λ x. elim x [ inl y ↦ inl (rw (here, sym size) y) | inr y ↦ inr (rest.0 y) ],
+        λ x. elim x [ inl y ↦ inl (rw (sym here, size) y) | inr y ↦ inr (rest.1 y) ],
       )
 
   pub apart : (rs : List PartRecord) (parts : List Part) (starts places : List ℕ) (k : ℕ) → TellAll w target rs parts starts → length rs ≤ length places → Behind k places

@@ -42,8 +42,7 @@ returns-in-Ok-clause-ok c =
     was_read c.args.memory.now c.args.table.now.handles c.args.encodings.source c.args.encodings.target (way_of c.args.passed.now.way) (layout_of c.args.passed.now.layout.now) c.args.passed.now.slots.now
     c.new-3.result.items c.scan_passed.new.scan.records.items _ (state_of c.scan_passed.new.scan.progress) c.new-3.ensures.items (starts_fresh c.new.result.items c.new-2.result.items c.new.ensures.items c.new-2.ensures.items) c.in-Ok.ensures in
     let kept = c.in_ok-requests-in-Ok.ensures in
-    let records_are = ap (λ rs. rs.items) kept.records in
-    (
+    let records_are = ap (λ rs. rs.items) kept.records in (
       r.v,
       (state_of c.scan_passed.new.scan.progress).tags,
       read_lifts c.args.memory.now c.args.table.now.handles c.args.encodings.source c.args.encodings.target (way_of c.args.passed.now.way) (layout_of c.args.passed.now.layout.now) c.args.passed.now.slots.now
