@@ -9,7 +9,6 @@ use Rattle.cm_abi_model.specs.Views.{View}
 use Rattle.cm_abi_model.specs.Ways.{way_of}
 use Rattle.cm_copy.specs.declared.found.Found.{Found}
 use Rattle.cm_requesting.specs.declared.part_requests.PartRequests.{PartRequests}
-use Rattle.cm_scan.specs.declared.record.PartRecord.{PartRecord}
 use Rattle.cm_scan.specs.Telling.{TellAll}
 use Rattle.cm_scan_call.specs.CallPlaces.{call_places}
 use Rattle.cm_scan_call.specs.Scans.{ScansCall}

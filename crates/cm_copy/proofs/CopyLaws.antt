@@ -1,11 +1,10 @@
 -- What a receiver has, once the places are apart and the handles are given.
-use Rattle.std.proofs.Common.{◌≡◌, ℕ, zero, suc, ◌^◌, ◌<◌, ◌≤◌, true, List, [], ◌∷◌, length, map, take, refl, sym, ap, subst, ◌∙◌, arith}
+use Rattle.std.proofs.Common.{◌≡◌, ℕ, zero, suc, ◌^◌, ◌<◌, ◌≤◌, List, [], ◌∷◌, length, map, take, refl, sym, ap, subst, ◌∙◌, arith}
 use Rattle.std.specs.Prelude.{replicate, slice_index}
 use Rattle.cm_types.specs.CoreValues.{kind_of}
 use Rattle.cm_types.specs.declared.core_value.CoreKind.{CoreKind}
 use Rattle.cm_types.specs.declared.core_value.CoreKind.TheVariants as kind
 use Rattle.cm_types.specs.declared.core_value.CoreValue.{CoreValue}
-use Rattle.cm_types.specs.Spellable.{are_spellable}
 use Rattle.cm_types.specs.Types.{Fields}
 use Rattle.cm_types.specs.Values.{HasType, Val}
 use Rattle.cm_handles.specs.Handles.{Handles, IsSoundHandles}

@@ -1,5 +1,5 @@
 -- What is settled of a value that can be copied.
-use Rattle.std.proofs.Common.{◌≡◌, ◌↔◌, ℕ, zero, suc, ◌+◌, ◌^◌, ◌<◌, ◌≤◌, Bool, true, false, List, [], ◌∷◌, length, None, refl, sym, ap, subst, ◌∙◌, arith}
+use Rattle.std.proofs.Common.{◌≡◌, ◌↔◌, ℕ, suc, ◌^◌, ◌<◌, ◌≤◌, Bool, true, false, List, [], ◌∷◌, length, None, refl, sym, ap, subst, ◌∙◌, arith}
 use Rattle.std.specs.Prelude.{if◌then◌else◌, nat_lt, slice_index}
 use Rattle.std.proofs.lemmas.Bool.{ltb-false}
 use Rattle.cm_types.specs.declared.core_value.CoreKind.{CoreKind}
@@ -27,8 +27,8 @@ use Rattle.cm_requesting.specs.declared.part_requests.PartRequests.{PartRequests
 use Rattle.cm_scan.specs.declared.record.PartRecord.{PartRecord}
 use Rattle.cm_scan.specs.declared.record.PartKind.{PartKind}
 use Rattle.cm_scan.specs.declared.record.PartKind.TheVariants as record_kind
-use Rattle.cm_scan.specs.Telling.{TellAll, Tells, TellsSource}
-use Rattle.cm_copy.specs.Copies.{FoundCanBeCopied, PartsAreApart, given_by, handles_of_values}
+use Rattle.cm_scan.specs.Telling.{TellAll, TellsSource}
+use Rattle.cm_copy.specs.Copies.{FoundCanBeCopied, given_by}
 use Rattle.cm_copy.specs.Settled.{IsSettled}
 use Rattle.cm_copy.specs.declared.found.Found.{Found}
 use Rattle.cm_copy.proofs.CountLaws.{counted}

@@ -1,5 +1,5 @@
 -- Copying the values of a call to its receiver (CanonicalABI.md, "Lifting and Lowering Values").
-use Rattle.std.specs.Prelude.{◌≡◌, ℕ, ◌<◌, ◌≤◌, true, List, [], length, None}
+use Rattle.std.specs.Prelude.{◌≡◌, ℕ, ◌<◌, ◌≤◌, true, List, [], None}
 use Rattle.cm_types.specs.declared.core_value.CoreKind.{CoreKind}
 use Rattle.cm_types.specs.Spellable.{are_spellable}
 use Rattle.cm_types.specs.Types.{Fields}
@@ -79,8 +79,8 @@ abbrev pub PartsAreApart : PartRequests → List ℕ → Type 0
 PartsAreApart s answers = AreDisjoint (regions_of (all_requests s) answers)
 
 -- Why a value is not copied: the regions of two of its parts overlap; where they do not, that the
--- table has fewer indices left than it is to get handles; where it has not, that there is no memory,
--- which is wanted where the value has handles alone.
+-- table has fewer indices left than it is to get handles; where it has enough, that there is no
+-- memory, which is wanted where the value has handles alone.
 abbrev pub IsFaultOfCopying : PartRequests → List ℕ → Receiver → Handles → List HandleLeaf
     → AbiFault → Type 0
 IsFaultOfCopying s answers to table leaves fault.Overlap = PartsAreApart s answers → ⊥

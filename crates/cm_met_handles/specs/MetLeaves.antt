@@ -1,5 +1,5 @@
 -- The handles of a value by what a reader met of it (CanonicalABI.md, "Lifting" of own and borrow).
-use Rattle.std.specs.Prelude.{ℕ, List, [], ◌∷◌, ◌++◌, map, Option, Some, None}
+use Rattle.std.specs.Prelude.{List, [], ◌∷◌, ◌++◌, map, Option, Some, None}
 use Rattle.cm_types.specs.Values.{HandleValue}
 use Rattle.cm_handles.specs.Handles.{Handles, handle_at}
 use Rattle.cm_handles.specs.declared.handle.Handle.{Handle}

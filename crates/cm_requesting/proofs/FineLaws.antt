@@ -1,5 +1,5 @@
 -- Answers that have no fault, in a memory that may grow.
-use Rattle.std.proofs.Common.{◌≡◌, ℕ, zero, suc, ◌+◌, ◌%◌, ◌≤◌, Bool, true, false, List, [], ◌∷◌, ◌++◌, length, Option, Some, None, refl, sym, ap, ◌∙◌, arith}
+use Rattle.std.proofs.Common.{◌≡◌, ℕ, ◌+◌, ◌%◌, ◌≤◌, Bool, true, false, List, [], ◌∷◌, ◌++◌, length, Option, Some, None, refl, arith}
 use Rattle.std.specs.Prelude.{◌==◌, if◌then◌else◌, nat_lt, not, slice_get}
 use Rattle.std.specs.Option.{IsSomeAnd, option_map}
 use Rattle.std.proofs.lemmas.Bool.{le-ltb, ltb-false}
@@ -7,7 +7,7 @@ use Rattle.cm_abi_model.specs.declared.fault.AbiFault.{AbiFault}
 use Rattle.cm_abi_model.specs.declared.fault.AbiFault.TheVariants as fault
 use Rattle.cm_abi_model.specs.declared.request.Request.{Request}
 use Rattle.cm_lowering.specs.Answering.{answer_fault, fault_before, first_fault}
-use Rattle.cm_requesting.specs.Asking.{last_answer, next_of, with_last, with_old}
+use Rattle.cm_requesting.specs.Asking.{next_of, with_old}
 
 some_fault : (f : AbiFault) → Some f ≡ None → ⊥
 some_fault f is = cc

@@ -1,15 +1,15 @@
 -- The regions of parts, each at its place.
-use Rattle.std.proofs.Common.{◌≡◌, ◌↔◌, ℕ, zero, suc, ◌+◌, ◌^◌, ◌<◌, ◌≤◌, List, [], ◌∷◌, ◌++◌, drop, length, get_or, drop-cons, add-one, inl, inr, refl, sym, ap, subst, ◌∙◌, arith, append-nil, append_assoc}
+use Rattle.std.proofs.Common.{◌≡◌, ◌↔◌, ℕ, zero, suc, ◌+◌, ◌<◌, ◌≤◌, List, [], ◌∷◌, ◌++◌, drop, length, get_or, drop-cons, add-one, inl, inr, refl, sym, ap, subst, ◌∙◌, arith, append-nil, append_assoc}
 use Rattle.std.specs.Prelude.{slice_index}
 use Rattle.cm_abi_model.specs.declared.encoding.StringEncoding.{StringEncoding}
 use Rattle.cm_abi_model.specs.Parts.{Part}
-use Rattle.cm_abi_model.specs.Regions.{AreApart, IsIn, IsInPart, part_size}
+use Rattle.cm_abi_model.specs.Regions.{AreApart, IsInPart}
 use Rattle.cm_abi_model.specs.Stores.{Given, place_of}
 use Rattle.cm_abi_model.specs.Views.{View}
 use Rattle.cm_lowering.specs.declared.regions.Region.{Region}
 use Rattle.cm_lowering.specs.Overlap.{AreDisjoint, IsInOne}
 use Rattle.cm_scan.specs.declared.record.PartRecord.{PartRecord}
-use Rattle.cm_scan.specs.Telling.{TellAll, Tells}
+use Rattle.cm_scan.specs.Telling.{TellAll}
 use Rattle.cm_requesting.specs.Placing.{regions_at}
 use Rattle.cm_requesting.specs.RecordRequests.{AreAskable, IsAskable}
 

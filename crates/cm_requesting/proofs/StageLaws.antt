@@ -3,11 +3,11 @@ use Rattle.std.proofs.Common.{◌≡◌, ℕ, Global, zero, suc, ◌+◌, ◌*�
 use Rattle.std.specs.Prelude.{if◌then◌else◌, nat_lt, slice_get, vec_capacity, IsSome}
 use Rattle.std.specs.declared.vec.Vec.{Vec}
 use Rattle.std.specs.Option.{option_map, IsSomeAnd}
-use Rattle.std.proofs.lemmas.Option.{slice_get_past, slice_get_within}
+use Rattle.std.proofs.lemmas.Option.{slice_get_within}
 use Rattle.std.proofs.lemmas.List.{map-append}
 use Rattle.cm_abi_model.specs.declared.encoding.StringEncoding.{StringEncoding}
 use Rattle.cm_abi_model.specs.declared.request.Request.{Request}
-use Rattle.cm_abi_model.specs.Requests.{chain, charset, growths, shrunk, stored_charset, text_sizes}
+use Rattle.cm_abi_model.specs.Requests.{chain, charset, growths, stored_charset, text_sizes}
 use Rattle.cm_abi_model.specs.Texts.{Charset, utf8, utf16, latin1}
 use Rattle.cm_lowering.specs.Answering.{begins_part, places_of, regions_of}
 use Rattle.cm_lowering.specs.declared.regions.Region.{Region}

@@ -5,7 +5,7 @@ use Rattle.cm_abi_model.specs.declared.fault.AbiFault.{AbiFault}
 use Rattle.cm_abi_model.specs.declared.fault.AbiFault.TheVariants as fault
 use Rattle.cm_types.specs.CoreValues.{kind_of}
 use Rattle.cm_abi_model.specs.Receives.{call_bytes, call_kinds, call_numbers}
-use Rattle.cm_abi_model.specs.Stores.{number_of, place_of, poke}
+use Rattle.cm_abi_model.specs.Stores.{poke}
 use Rattle.cm_abi_model.specs.Ways.{way_of}
 use Rattle.cm_copying.specs.declared.copier.Copier.{Copier}
 use Rattle.cm_requesting.specs.declared.part_requests.PartRequests.{PartRequests}

@@ -1,4 +1,4 @@
-use Rattle.std.proofs.Common.{◌≡◌, ◌+◌, ap, arith}
+use Rattle.std.proofs.Common.{ap, arith}
 use Rattle.cm_abi_model.specs.Stores.{place_of}
 use Rattle.cm_requesting.proofs.PlaceLaws.{apart}
 use Rattle.cm_requesting.proofs.laws.regions_of_records_are_those_of_parts.Goals as goal

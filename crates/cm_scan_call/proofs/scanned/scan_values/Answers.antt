@@ -1,4 +1,4 @@
-use Rattle.std.proofs.Common.{Err, inl, inr, refl, sym, ap, subst, ◌∙◌, ◌≡◌}
+use Rattle.std.proofs.Common.{Err, inl, inr, sym, ap, subst, ◌∙◌, ◌≡◌}
 use Rattle.cm_layout.specs.Layouts.{layout_of}
 use Rattle.cm_abi_model.specs.Views.{flat_limit}
 use Rattle.cm_abi_model.specs.Ways.{way_of}
