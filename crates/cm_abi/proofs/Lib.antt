@@ -1,1 +1,2 @@
 mod OwnedLaws
+mod CopiedLaws

@@ -3,14 +3,17 @@ use Rattle.std.specs.Prelude.{◌≡◌, ◌<◌, ◌^◌, ℕ, true, List, [], 
 use Rattle.cm_types.specs.Spellable.{are_spellable}
 use Rattle.cm_types.specs.Types.{Fields}
 use Rattle.cm_types.specs.Values.{HandleValue}
-use Rattle.cm_handles.specs.declared.handle.Handle.{Handle}
 use Rattle.cm_layout.specs.Layouts.{layout_of}
 use Rattle.cm_layout.specs.Shapes.{layout_of_fields_at}
 use Rattle.cm_abi_model.specs.Receives.{HandleLeaf, call_kinds, owned_leaf, borrowed_leaf}
 use Rattle.cm_abi_model.specs.Requests.{IsStored}
 use Rattle.cm_abi_model.specs.Views.{View}
 use Rattle.cm_abi_model.specs.Ways.{way_of}
+use Rattle.cm_abi_model.specs.declared.encoding.StringEncoding.{StringEncoding}
+use Rattle.cm_copy.specs.declared.found.Found.{Found}
 use Rattle.cm_lower.specs.declared.passing.Passing.{Passing}
+use Rattle.cm_requesting.specs.declared.part_requests.PartRequests.{PartRequests}
+use Rattle.cm_scan_call.specs.declared.scanned.Scanned.{Scanned}
 
 -- a memory of bytes
 abbrev pub AreBytes : List ℕ → Type 0
@@ -25,12 +28,22 @@ pub record GoOn (giver : View) (p : Passing) (types : Fields) : Type 0 where
   pub source : p.encodings.source ≡ giver.encoding
   pub stores : IsStored p.encodings.target
 
--- what a handle stands for
-abbrev pub stands_for : Handle → HandleValue
-stands_for h = record { serial = h.serial; rep = h.rep; resource = h.resource }
-
 -- the handles to be owned among those of a value, in order
 abbrev pub owned_in : List HandleLeaf → List HandleValue
 owned_in [] = []
 owned_in (owned_leaf h ∷ leaves) = h ∷ owned_in leaves
 owned_in (borrowed_leaf h ∷ leaves) = owned_in leaves
+
+-- What a scan found in a view goes on as it stood: by the layout of the types, which a file can
+-- spell, from that memory, with the handles and the records that were kept, from the encoding of
+-- the view to one in which strings are stored. The requests may be answered meanwhile.
+pub record GoesOnAsFound (giver : View) (target : StringEncoding) (scanned : Scanned) (f : Found)
+    (s : PartRequests) (types : Fields) : Type 0 where
+  pub layout : layout_of f.passed.layout.now ≡ layout_of_fields_at types
+  pub spellable : are_spellable types ≡ true
+  pub memory : giver.memory ≡ f.memory.now
+  pub handles : f.handles.now ≡ scanned.handles.items
+  pub records : s.records ≡ scanned.requests.records
+  pub source : giver.encoding ≡ s.source
+  pub goes_to : s.target ≡ target
+  pub stores : IsStored target

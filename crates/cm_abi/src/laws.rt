@@ -6,17 +6,29 @@ ghost use Rattle.cm_types.specs.Values.{Val};
 ghost use Rattle.cm_types.specs.declared.core_value.CoreValue.{CoreValue};
 ghost use Rattle.cm_abi_model.specs.Denotes.{Denotes};
 ghost use Rattle.cm_abi_model.specs.Receives.{leaves_in};
-ghost use Rattle.cm_abi_model.specs.Requests.{tuple_of};
+ghost use Rattle.cm_abi_model.specs.Requests.{requests, tuple_of};
 ghost use Rattle.cm_abi_model.specs.Views.{View, Way};
 ghost use Rattle.cm_abi_model.specs.Ways.{way_of};
 ghost use Rattle.cm_lift.specs.HandingOver.{Hands};
 ghost use Rattle.cm_lift.specs.Lifts.{Lifts};
 ghost use Rattle.cm_lower.specs.Lowers.{CanBeLowered, tuple_in};
 ghost use Rattle.cm_lower.specs.declared.passing.Passing.{Passing};
-ghost use Rattle.cm_abi.specs.Calls.{AreBytes, GoOn, owned_in, stands_for};
+ghost use Rattle.cm_handles.specs.Handles.{Handles};
+ghost use Rattle.cm_abi_model.specs.declared.encoding.StringEncoding.{StringEncoding};
+ghost use Rattle.cm_met_handles.specs.MetLeaves.{stands_for};
+ghost use Rattle.cm_requesting.specs.Asking.{all_requests};
+ghost use Rattle.cm_requesting.specs.RecordRequests.{tags_of};
+ghost use Rattle.cm_requesting.specs.declared.part_requests.PartRequests.{PartRequests};
+ghost use Rattle.cm_scan_call.specs.Scans.{ScansCall};
+ghost use Rattle.cm_scan_call.specs.declared.scanned.Scanned.{Scanned};
+ghost use Rattle.cm_copy.specs.Copies.{GoesOn};
+ghost use Rattle.cm_copy.specs.declared.found.Found.{Found};
+ghost use Rattle.cm_abi.specs.Calls.{AreBytes, GoOn, GoesOnAsFound, owned_in};
 
 use cm_abi_model::laws::denotations_are_unique;
 use cm_lowering::laws::{content_of_what_is_denoted, what_is_denoted_can_be_lowered};
+use cm_met_handles::laws::handles_that_are_met_are_the_values;
+use cm_requesting::laws::records_ask_for_parts;
 
 /// One call, end to end: parameters or results, of all types, from UTF-8, UTF-16 or Latin-1 and
 /// UTF-16 to UTF-8 or UTF-16.
@@ -47,4 +59,42 @@ pub fn one_call()
     denotations_are_unique();
     content_of_what_is_denoted();
     what_is_denoted_can_be_lowered();
+    handles_that_are_met_are_the_values();
+}
+
+/// One call, end to end, with no tree made of its values: parameters or results, of all types, from
+/// UTF-8, UTF-16 or Latin-1 and UTF-16 to UTF-8 or UTF-16.
+///
+/// Where `scan` found values, and these go on as they stood, they can be copied: what `copy` asks
+/// of its caller besides the answers holds, whichever of the requests are answered; and the
+/// requests are those of the values. Where `copy` then leaves core values that denote the values in
+/// the receiver's view, both sides denote them, and no other: what the giver's core values denoted
+/// when they were scanned is what the receiver's denote.
+///
+/// The handles that `scan` took out of the giver's table are, in reading order, those of the values
+/// that are to be owned, which `copy` adds to the receiver's.
+pub fn one_copied_call()
+    ensures copied { (giver : View) (target : StringEncoding) (types : Fields) (v : Val)
+        (t : Handles) (scanned : Scanned) (f : Found) (s : PartRequests)
+        → ScansCall giver target (way_of f.passed.way) types f.passed.slots.now v t scanned
+        → GoesOnAsFound giver target scanned f s types → GoesOn giver f s types v }
+    ensures asked { (giver : View) (target : StringEncoding) (types : Fields) (v : Val)
+        (t : Handles) (scanned : Scanned) (f : Found) (s : PartRequests)
+        → ScansCall giver target (way_of f.passed.way) types f.passed.slots.now v t scanned
+        → GoesOnAsFound giver target scanned f s types
+        → all_requests s ≡ requests (way_of f.passed.way) types v giver.encoding target
+        (tags_of s.records.items) }
+    ensures same { (giver receiver : View) (target : StringEncoding) (way : Way) (types : Fields)
+        (given received : List CoreValue) (v : Val) (t : Handles) (scanned : Scanned)
+        → ScansCall giver target way types given v t scanned
+        → Denotes receiver way types received v → (u : Val)
+        → Denotes giver way types given u ↔ Denotes receiver way types received u }
+    ensures owned { (giver : View) (target : StringEncoding) (way : Way) (types : Fields)
+        (given : List CoreValue) (v : Val) (t : Handles) (scanned : Scanned)
+        → ScansCall giver target way types given v t scanned
+        → map stands_for scanned.owns.items ≡ owned_in (leaves_in (tuple_of types) v) }
+{
+    denotations_are_unique();
+    records_ask_for_parts();
+    handles_that_are_met_are_the_values();
 }

@@ -17,12 +17,28 @@
 //!
 //! The law `laws::one_call` says that what `lift` promises is what `requests` and `lower` want to
 //! know, and that then both sides denote the same value.
+//!
+//! With no tree made of the values, where the giver's memory stays as it is until they are copied:
+//!
+//! 1. `scan` looks at the values where they stand, with the same answer and the same handles as
+//!    `lift`, and keeps a record of each part.
+//! 2. `PartRequests` tells the same requests by these records, one after another, and keeps each
+//!    answer, which has no fault.
+//! 3. `copy` looks whether the parts are apart, adds the handles to the receiver's table, and
+//!    copies the values from the giver's memory into the receiver's, and into the core values that
+//!    pass them.
+//!
+//! The law `laws::one_copied_call` says the same of these.
 #![tactic(auto)]
 
 pub mod laws;
 
 pub use cm_abi_model::{AbiFault, Request, StringEncoding, Way};
-pub use cm_giving::Receiver;
+pub use cm_copy::{Found, copy};
+pub use cm_giving::{HandleLeaf, Receiver};
 pub use cm_lift::{Lifted, Passed, lift};
 pub use cm_lower::{Passing, lower};
 pub use cm_lowering::{Encodings, check_answer, check_answers, requests};
+pub use cm_requesting::PartRequests;
+pub use cm_scan::{PartKind, PartRecord};
+pub use cm_scan_call::{Encodings as ScanEncodings, Scanned, scan};

@@ -4,3 +4,4 @@ pub mod CopyLemmas
 pub mod ReadLemmas
 pub mod HandleLemmas
 pub mod BulkLemmas
+pub mod SizeLaws

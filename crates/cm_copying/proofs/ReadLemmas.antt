@@ -30,6 +30,7 @@ use Rattle.cm_stored.specs.Fitting.{FitEach, FitFields, Fits, FitsCase}
 use Rattle.cm_copying.proofs.CopyLemmas.{IsOfCase, each_counted}
 use Rattle.cm_copying.specs.Copying.{Copying, shown_to}
 use Rattle.cm_copying.specs.Known.{HasSizes, HaveSizes, source_with}
+use Rattle.cm_copying.specs.PartLaws.{ElementsAreCopied, TextIsCopied}
 use Rattle.cm_copying.specs.Ready.{AreElementsReady, AreFieldsReady, AreReady, IsCaseReady, IsReady}
 use Rattle.cm_copying.specs.Shown.{all_without_handles, case_at, leaf_shown, or_no_scalars, scalars_at, values_at, values_each, without_handles}
 
@@ -307,3 +308,20 @@ module _ (n : ℕ) (c : Copying) (table : Handles) (texts : TextIsShown) where
     case_shown (carried e sh ps) i (suc left) p s after v is =
         let one = case_shown ps i left p s after v is in
         record { is = one.is; of_case = one.of_case; ready = λ k h fits sizes. one.ready k h (skip_carried e sh ps left v k h fits) sizes }
+
+-- a string that is read at a pointer, and elements, can be copied
+pub text_copied : TextIsShown → TextIsCopied
+text_copied texts n c table at tagged s after v is =
+    let there = texts c.memory c.encoding at tagged table s after v is in
+    let same = text_read c.memory c.encoding at tagged s after v is in
+    let scalars_are : there.0 ≡ scalars_at c.memory c.encoding at tagged = same_text _ _ (sym there.1 ∙ same) in
+    let shows : ShowsText c.encoding c.memory at tagged (scalars_at c.memory c.encoding at tagged) = rw scalars_are at there.2 in
+    rw same (
+      refl,
+      λ k h fits sizes. record { inside = shows.inside; text = shows.text; room = fits; known = sizes.0; size = sizes.1 },
+    )
+
+pub elements_copied : TextIsShown → ElementsAreCopied
+elements_copied texts n c table e sh at count s after vs is =
+    let there = elements_shown n c table texts e sh at count s after vs (shown n c table texts sh) is in
+    (there.is, there.ready)

@@ -1,12 +1,15 @@
 -- What is known of a value that is to be copied (CanonicalABI.md, "Storing" of strings).
 use Rattle.std.specs.Prelude.{◌≡◌, ℕ, ◌+◌, ◌<◌, ⊤, List, length, slice_index, Ok}
+use Rattle.std.specs.Prelude.{if◌then◌else◌}
+use Rattle.cm_types.specs.Types.{Fields}
 use Rattle.cm_types.specs.Values.{Val, Vals, no_vals, val, truth, signed_number, number, scalar}
 use Rattle.cm_types.specs.Values.{text, elements, parts, bare, bearing, flag_set, handle}
 use Rattle.cm_handles.specs.Handles.{Handles}
 use Rattle.cm_layout.specs.Shapes.{Shape}
 use Rattle.cm_abi_model.specs.Parts.{part_count}
-use Rattle.cm_abi_model.specs.Requests.{text_bytes}
+use Rattle.cm_abi_model.specs.Requests.{is_spilled, text_bytes}
 use Rattle.cm_abi_model.specs.Texts.{Charset}
+use Rattle.cm_abi_model.specs.Views.{Way}
 use Rattle.cm_lifting.specs.Outcomes.{State}
 use Rattle.cm_lifting.specs.Reading.{Source, read_at}
 use Rattle.cm_stored.specs.Fitting.{Fits}
@@ -49,3 +52,8 @@ pub record CanBeCopied (n : ℕ) (c : Copying) (sh : Shape) (p : ℕ) (v : Val) 
   pub read : read_at (source_with c table) sh p before ≡ Ok (v, after)
   pub fits : Fits n c.given sh v k h
   pub sizes : HasSizes c.sizes c.given.charset v k
+
+-- the number of the first part of the values that a call passes: where they are spilled, their
+-- tuple is the part before it
+abbrev pub first_part : Way → Fields → ℕ
+first_part way types = if is_spilled way types then 1 else 0

@@ -3,3 +3,4 @@ pub mod Copying
 pub mod Ready
 pub mod Copied
 pub mod Known
+pub mod PartLaws

@@ -42,8 +42,8 @@ fn copy_handle(from: &Copier<'_>, memory: &mut [u8], at: usize, next: &mut Next)
     write_number(memory, at, 4, u64::from(number));
 }
 
-/// How many bytes the part of this number takes where it is stored.
-pub(crate) fn size_of_part(from: &Copier<'_>, part: usize) -> usize
+/// How many bytes the part of this number, from 0, takes where it is stored, by its record.
+pub fn size_of_part(from: &Copier<'_>, part: usize) -> usize
     requires known { part < length (copying_of from.now).sizes }
     ensures { result ≡ slice_index (copying_of from.now).sizes part }
 {
@@ -51,14 +51,8 @@ pub(crate) fn size_of_part(from: &Copier<'_>, part: usize) -> usize
 }
 
 /// Copies the bytes of the string at a pointer, of a tagged length, to the place of the part of
-/// this number.
-pub(crate) fn copy_text_bytes(
-    from: &Copier<'_>,
-    memory: &mut [u8],
-    pointer: u32,
-    tagged: u32,
-    part: usize,
-)
+/// this number, from 0, in the target's encoding (CanonicalABI.md, "Storing" of strings).
+pub fn copy_text_bytes(from: &Copier<'_>, memory: &mut [u8], pointer: u32, tagged: u32, part: usize)
     requires ready { IsTextReady (length memory.old) (copying_of from.now) pointer tagged part }
     ensures stored { memory.new
         ≡ poke (placed (place_of (given_of from.now.target) part)
@@ -220,9 +214,11 @@ fn copy_list(
     );
 }
 
-/// Copies so many values, one behind the other; plain bytes as they stand.
+/// Copies so many values of one layout, one behind the other, from an address of the source to one
+/// of the memory, both in bytes from 0; plain bytes as they stand (CanonicalABI.md, "Storing" of
+/// lists). The next part and handle are then those behind the values'; it takes no memory.
 #[cycle(copying)]
-pub(crate) fn copy_each(
+pub fn copy_each(
     from: &Copier<'_>,
     memory: &mut [u8],
     element: &Layout,

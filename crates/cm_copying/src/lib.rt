@@ -6,9 +6,12 @@ mod bulk;
 mod copier;
 mod copies;
 mod copying;
-mod laws;
+pub mod laws;
 mod leaves;
 mod texts;
 
 pub use copier::Copier;
 pub use copies::copy_value;
+pub use copying::{copy_each, copy_text_bytes, size_of_part};
+pub use leaves::number_stored;
+pub use texts::units_stored;

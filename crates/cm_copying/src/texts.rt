@@ -106,8 +106,8 @@ pub(crate) fn text_of(source: StringEncoding, memory: &[u8], at: u32, tagged: u3
     &memory[at as usize..at as usize + size]
 }
 
-/// How many units a text of so many bytes has where it is stored.
-pub(crate) fn units_stored(target: StringEncoding, size: usize) -> usize
+/// How many units a text of so many bytes has where it is stored: bytes of UTF-8, pairs in UTF-16.
+pub fn units_stored(target: StringEncoding, size: usize) -> usize
     requires size { (scalars : List ℕ)
         × (size ≡ length (text_bytes (stored_charset target) scalars)) }
     ensures { (scalars : List ℕ) → size ≡ length (text_bytes (stored_charset target) scalars)

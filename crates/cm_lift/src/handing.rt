@@ -1,7 +1,7 @@
 //! Handing over the handles that a reader met, and taking them back.
 
 ghost use Rattle.std.specs.Prelude.{◌≡◌, ◌+◌, ◌<◌, ◌^◌, ◌⊎◌, Err, IfErr, IfOk, Ok, OnErr, OnOk};
-ghost use Rattle.std.specs.Prelude.{length};
+ghost use Rattle.std.specs.Prelude.{[], IsOk, length};
 ghost use Rattle.std.specs.Option.{ForSome};
 ghost use Rattle.cm_handles.specs.Handles.{Handles, handle_at, if_not_lent, if_owned, look_up};
 ghost use Rattle.cm_lift.specs.HandingOver.{Hands, LendsBelow, hand_fault, hand_one, hand_over};
@@ -155,7 +155,7 @@ impl Handed {
 ///
 /// Refused at the first that cannot be handed over, with the table as it was: with `NoHandle`, else
 /// `WrongResource`, else for one to be owned `StillLent`, else `NotOwned`. `EngineMemory` comes
-/// where there is no memory for what is handed over.
+/// where there is no memory for what is handed over; where nothing is, none is taken.
 pub fn hand_over(alloc: Global, table: &mut Table, met: &[MetHandle]) -> Result<Handed, AbiFault>
     requires lends { LendsBelow (2 ^ 100) table.old.handles }
     ensures ok { IfOk result (λ h. hand_over (untouched table.old.handles) met.now
@@ -164,6 +164,7 @@ pub fn hand_over(alloc: Global, table: &mut Table, met: &[MetHandle]) -> Result<
         ≡ table.old.room + length h.owns.items) }
     ensures err { IfErr result (λ e. (e ≡ AbiFault.EngineMemory)
         ⊎ (hand_over (untouched table.old.handles) met.now ≡ Err e)) }
+    ensures nothing { met.now ≡ [] → IsOk result }
     ensures unchanged { OnErr result (table.new ≡ table.old) }
 {
     let mut handed = Handed {

@@ -1,8 +1,7 @@
 -- The requests by records are those for the parts that they tell.
-use Rattle.std.proofs.Common.{◌≡◌, ℕ, ◌+◌, ◌*◌, ◌^◌, ◌<◌, ◌≤◌, Bool, List, [], ◌∷◌, ◌++◌, refl, ap, sym, ◌∙◌, arith, length}
+use Rattle.std.proofs.Common.{◌≡◌, ℕ, ◌^◌, ◌<◌, ◌≤◌, Bool, List, [], ◌∷◌, ◌++◌, refl, ap, sym, ◌∙◌, arith}
 use Rattle.cm_abi_model.specs.declared.encoding.StringEncoding.{StringEncoding}
 use Rattle.cm_abi_model.specs.declared.encoding.StringEncoding.TheVariants as encoding
-use Rattle.cm_abi_model.specs.declared.request.Request.{Request}
 use Rattle.cm_abi_model.specs.Parts.{Part, text_part, element_part}
 use Rattle.cm_abi_model.specs.Regions.{part_size}
 use Rattle.cm_abi_model.specs.Requests.{IsStored, chain, charset, first_tag, part_align, part_requests, part_sizes, stored_charset, tags_behind, text_sizes, text_units}
@@ -12,8 +11,8 @@ use Rattle.cm_lowering.specs.Asking.{content_of_parts, part_content}
 use Rattle.cm_scan.specs.declared.record.PartKind.{PartKind}
 use Rattle.cm_scan.specs.declared.record.PartKind.TheVariants as kind
 use Rattle.cm_scan.specs.declared.record.PartRecord.{PartRecord}
-use Rattle.cm_scan.specs.Telling.{TellAll, Tells, TellsSource}
-use Rattle.cm_requesting.specs.RecordRequests.{AreAskable, IsCounted, IsAskable, kind_sizes, record_requests, requests_for, tag_before, tags_of}
+use Rattle.cm_scan.specs.Telling.{TellAll, TellsSource}
+use Rattle.cm_requesting.specs.RecordRequests.{AreAskable, IsCounted, kind_sizes, requests_for, tag_before, tags_of}
 use Rattle.cm_requesting.proofs.TextUnits.{bytes_within, units_within}
 
 -- ---- one part

@@ -1,3 +1,5 @@
 pub mod TextUnits
 pub mod AskLaws
 pub mod StageLaws
+mod PlaceLaws
+mod FineLaws

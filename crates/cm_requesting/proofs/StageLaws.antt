@@ -3,11 +3,11 @@ use Rattle.std.proofs.Common.{◌≡◌, ℕ, Global, zero, suc, ◌+◌, ◌*�
 use Rattle.std.specs.Prelude.{if◌then◌else◌, nat_lt, slice_get, vec_capacity, IsSome}
 use Rattle.std.specs.declared.vec.Vec.{Vec}
 use Rattle.std.specs.Option.{option_map, IsSomeAnd}
-use Rattle.std.proofs.lemmas.Option.{slice_get_past, slice_get_within}
+use Rattle.std.proofs.lemmas.Option.{slice_get_within}
 use Rattle.std.proofs.lemmas.List.{map-append}
 use Rattle.cm_abi_model.specs.declared.encoding.StringEncoding.{StringEncoding}
 use Rattle.cm_abi_model.specs.declared.request.Request.{Request}
-use Rattle.cm_abi_model.specs.Requests.{chain, charset, growths, shrunk, stored_charset, text_sizes}
+use Rattle.cm_abi_model.specs.Requests.{chain, charset, growths, stored_charset, text_sizes}
 use Rattle.cm_abi_model.specs.Texts.{Charset, utf8, utf16, latin1}
 use Rattle.cm_lowering.specs.Answering.{begins_part, places_of, regions_of}
 use Rattle.cm_lowering.specs.declared.regions.Region.{Region}
@@ -211,6 +211,7 @@ kept_more s answers a n r h is next lt =
     record {
       askable = h.askable;
       room = h.room;
+      space = h.space;
       done = h.done;
       rest = h.rest;
       parts = h.parts;
@@ -251,6 +252,7 @@ kept_last s answers a r places h is past pushed room =
     record {
       askable = h.askable;
       room = omega (arith, room_was, room);
+      space = h.space;
       done = h.done ++ r ∷ [];
       rest = rest.others;
       parts = h.parts ∙ (ap (λ xs. h.done ++ xs) rest.are ∙ sym (append_assoc h.done (r ∷ []) rest.others));
@@ -296,21 +298,44 @@ no_more : (xs : List ℕ) → length xs ≡ 0 → xs ≡ []
 no_more [] is = refl
 no_more (x ∷ xs) is = absurd (omega (arith, is))
 
-pub all_placed : (s : PartRequests) (answers : List ℕ) → IsAnswered s answers → next_of (all_requests s) answers ≡ None → s.places.items ≡ places_of (all_requests s) answers
-all_placed s answers h is =
+-- all answers are those of whole parts
+record Ended (s : PartRequests) (answers : List ℕ) (h : IsAnswered s answers) : Type 0 where
+  none : h.rest ≡ []
+  records_are : h.done ≡ s.records.items
+  answers_are : h.whole ≡ answers
+
+ended : (s : PartRequests) (answers : List ℕ) (h : IsAnswered s answers) → next_of (all_requests s) answers ≡ None → Ended s answers h
+ended s answers h is =
     let past : length (requests_for s.source s.target h.rest) ≤ s.stage = past_end (requests_for s.source s.target h.rest) s.stage (sym (asked s answers h) ∙ option_none (with_old answers) (slice_get (all_requests s) (length answers)) is) in
     let none = nothing_left s.source s.target h.rest s.stage h.within past in
     let begun = no_more h.begun (h.stage ∙ stage_zero s.source s.target h.rest s.stage h.within none) in
-    let records_are : h.done ≡ s.records.items = sym (append-nil h.done) ∙ (ap (λ xs. h.done ++ xs) (sym none) ∙ sym h.parts) in
-    let answers_are : h.whole ≡ answers = sym (append-nil h.whole) ∙ (ap (λ xs. h.whole ++ xs) (sym begun) ∙ sym h.given) in
-    h.placed ∙ (ap (λ xs. places_of (requests_for s.source s.target xs) h.whole) records_are ∙ ap (places_of (all_requests s)) answers_are)
+    record {
+      none = none;
+      records_are = sym (append-nil h.done) ∙ (ap (λ xs. h.done ++ xs) (sym none) ∙ sym h.parts);
+      answers_are = sym (append-nil h.whole) ∙ (ap (λ xs. h.whole ++ xs) (sym begun) ∙ sym h.given);
+    }
 
-pub none_answered : (records : List PartRecord) (s : PartRequests) → s.records.items ≡ records → AreAskable records → length records ≤ vec_capacity s.places → s.places.items ≡ [] → s.stage ≡ 0 → s.last ≡ 0
+pub all_placed : (s : PartRequests) (answers : List ℕ) → IsAnswered s answers → next_of (all_requests s) answers ≡ None → s.places.items ≡ places_of (all_requests s) answers
+all_placed s answers h is =
+    let end = ended s answers h is in
+    h.placed ∙ (ap (λ xs. places_of (requests_for s.source s.target xs) h.whole) end.records_are ∙ ap (places_of (all_requests s)) end.answers_are)
+
+-- each part has a place then, and each request an answer
+pub as_many_placed : (s : PartRequests) (answers : List ℕ) → IsAnswered s answers → next_of (all_requests s) answers ≡ None → length s.places.items ≡ length s.records.items
+as_many_placed s answers h is = h.as_many ∙ ap length (ended s answers h is).records_are
+
+pub as_many_answered : (s : PartRequests) (answers : List ℕ) → IsAnswered s answers → next_of (all_requests s) answers ≡ None → length answers ≡ length (all_requests s)
+as_many_answered s answers h is =
+    let end = ended s answers h is in
+    sym (ap length end.answers_are) ∙ (h.counted ∙ ap (λ xs. length (requests_for s.source s.target xs)) end.records_are)
+
+pub none_answered : (records : List PartRecord) (s : PartRequests) → s.records.items ≡ records → AreAskable records → length records ≤ vec_capacity s.places → length records ≤ vec_capacity s.regions → s.places.items ≡ [] → s.stage ≡ 0 → s.last ≡ 0
     → IsAnswered s []
-none_answered records s are askable room places stage last =
+none_answered records s are askable room space places stage last =
     record {
       askable = subst AreAskable (sym are) askable;
       room = let same = ap length are in omega (arith, same, room);
+      space = let same = ap length are in omega (arith, same, space);
       done = [];
       rest = s.records.items;
       parts = refl;

@@ -1,6 +1,6 @@
 -- Requests that are answered one after another (CanonicalABI.md, `realloc`).
-use Rattle.std.specs.Prelude.{◌≡◌, ℕ, ◌<◌, ◌≤◌, Bool, true, false, List, [], ◌∷◌, ◌++◌, length}
-use Rattle.std.specs.Prelude.{Option, Some, None, if◌then◌else◌, option_map, slice_get}
+use Rattle.std.specs.Prelude.{◌≡◌, ℕ, ◌<◌, ◌≤◌, List, [], ◌∷◌, ◌++◌, length}
+use Rattle.std.specs.Prelude.{Option, None, if◌then◌else◌, option_map, slice_get}
 use Rattle.std.specs.Prelude.{vec_capacity}
 use Rattle.std.specs.declared.vec.Vec.{Vec}
 use Rattle.std.specs.declared.alloc.Global.{Global}
@@ -42,6 +42,7 @@ IsStage source target (r ∷ rs) stage = stage < length (record_requests source 
 pub record IsAnswered (s : PartRequests) (answers : List ℕ) : Type 0 where
   pub askable : AreAskable s.records.items
   pub room : length s.records.items ≤ vec_capacity s.places
+  pub space : length s.records.items ≤ vec_capacity s.regions
   pub done : List PartRecord
   pub rest : List PartRecord
   pub parts : s.records.items ≡ done ++ rest
@@ -54,6 +55,10 @@ pub record IsAnswered (s : PartRequests) (answers : List ℕ) : Type 0 where
   pub stage : length begun ≡ s.stage
   pub within : IsStage s.source s.target rest s.stage
   pub last : s.last ≡ last_answer answers
+
+-- all requests are answered
+abbrev pub IsAllAnswered : PartRequests → List ℕ → Type 0
+IsAllAnswered s answers = IsAnswered s answers × (next_of (all_requests s) answers ≡ None)
 
 -- the code has one answer more, the last one for the next part, which stands there
 pub record IsPlacedLast (old : PartRequests) (at : ℕ) (new : PartRequests) : Type 0 where

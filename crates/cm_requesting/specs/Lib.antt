@@ -1,2 +1,3 @@
 pub mod RecordRequests
 pub mod Asking
+pub mod Placing

@@ -4,6 +4,7 @@
 
 pub mod laws;
 mod part_requests;
+mod placing;
 mod record_requests;
 mod sizes;
 

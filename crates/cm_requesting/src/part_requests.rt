@@ -1,17 +1,21 @@
 //! Requests for the parts of a value, answered one after another.
 
-ghost use Rattle.std.specs.Prelude.{◌≡◌, ◌<◌, ◌++◌, ◌∷◌, [], IfErr, IfOk, IsOk, IsSome, List};
-ghost use Rattle.std.specs.Prelude.{None, OnErr, OnOk, Some, ℕ, length, slice_get, vec_capacity};
+ghost use Rattle.std.specs.Prelude.{◌≡◌, ◌↔◌, ◌<◌, ◌++◌, ◌∷◌, [], IfErr, IfOk, IsOk, IsSome, List};
+ghost use Rattle.std.specs.Prelude.{IsTrue, None, OnErr, OnOk, Some, ℕ, length, slice_get};
+ghost use Rattle.std.specs.Prelude.{vec_capacity};
 ghost use Rattle.std.specs.Option.{IsSomeAnd, option_map};
 ghost use Rattle.cm_lowering.specs.Answering.{answer_fault, places_of};
-ghost use Rattle.cm_requesting.specs.Asking.{IsAnswered, IsPlacedLast, all_requests, next_of};
-ghost use Rattle.cm_requesting.specs.Asking.{with_last};
+ghost use Rattle.cm_lowering.specs.Overlap.{AreDisjoint};
+ghost use Rattle.cm_requesting.specs.Asking.{IsAllAnswered, IsAnswered, IsPlacedLast};
+ghost use Rattle.cm_requesting.specs.Asking.{all_requests, next_of, with_last};
+ghost use Rattle.cm_requesting.specs.Placing.{regions_at};
 ghost use Rattle.cm_requesting.specs.RecordRequests.{AreAskable, IsAskable, record_requests};
 ghost use Rattle.cm_requesting.specs.RecordRequests.{requests_for};
 
+use crate::placing::put_regions;
 use crate::record_requests::request_at;
 use cm_abi_model::{AbiFault, Request, StringEncoding};
-use cm_lowering::check_answer;
+use cm_lowering::{Region, are_disjoint, check_answer};
 use cm_scan::PartRecord;
 use std::alloc::{AllocError, Global};
 
@@ -22,6 +26,8 @@ pub struct PartRequests {
     pub records: Vec<PartRecord>,
     /// Where the parts stand that have all their answers, in order: each at the last one.
     pub places: Vec<u32>,
+    /// Room for a region of each part, to look at when all have their places.
+    pub regions: Vec<Region>,
     /// How strings are encoded in the source.
     pub source: StringEncoding,
     /// How they are encoded where they are stored.
@@ -34,7 +40,8 @@ pub struct PartRequests {
 
 impl PartRequests {
     /// The requests for the parts of these records, none of them answered. `AllocError` comes where
-    /// there is no memory for the places of the parts; where there is no part none is taken.
+    /// there is no memory for the places and regions of the parts; where there is no part none is
+    /// taken.
     pub fn new(
         alloc: Global,
         records: Vec<PartRecord>,
@@ -49,9 +56,11 @@ impl PartRequests {
             all_requests s ≡ requests_for source target records.items) }
     {
         let places = Vec::with_capacity(alloc, records.len())?;
+        let regions = Vec::with_capacity(alloc, records.len())?;
         Ok(PartRequests {
             records,
             places,
+            regions,
             source,
             target,
             stage: 0,
@@ -176,5 +185,18 @@ impl PartRequests {
             → result.now ≡ places_of (all_requests self.now) answers }
     {
         &self.places
+    }
+
+    /// Whether no address is in the regions of two parts, once all requests are answered; a part of
+    /// no bytes has no region. Nothing else is changed, and no memory is taken.
+    pub fn are_apart(&mut self) -> bool
+        requires answered { (answers : List ℕ) × IsAllAnswered self.old answers }
+        ensures answer { IsTrue result
+            ↔ AreDisjoint (regions_at self.old.records.items self.old.places.items) }
+        ensures same { self.new ≡ record self.old { regions = self.new.regions } }
+    {
+        self.regions.clear();
+        put_regions(&self.records, &self.places, &mut self.regions);
+        are_disjoint(&mut self.regions)
     }
 }

@@ -1,5 +1,5 @@
 -- The records of what core values denote tell its parts.
-use Rattle.std.proofs.Common.{◌≡◌, ℕ, zero, suc, ◌+◌, ◌<◌, ◌%◌, ◌^◌, ◌*◌, Bool, true, false, List, [], ◌∷◌, ◌++◌, length, drop, get_or, Option, Some, None, refl, sym, ap, subst, ◌∙◌, arith, inl, inr, nat_lt}
+use Rattle.std.proofs.Common.{◌≡◌, ℕ, zero, suc, ◌+◌, ◌<◌, ◌%◌, ◌^◌, Bool, true, false, List, [], ◌∷◌, ◌++◌, length, drop, get_or, Some, None, refl, sym, ap, subst, ◌∙◌, arith, inl, inr}
 use Rattle.std.specs.Prelude.{if◌then◌else◌}
 use Rattle.std.proofs.Math.Seq.{drop-nil}
 use Rattle.std.proofs.lemmas.Bool.{le-ltb, lt-ltb}
@@ -23,8 +23,8 @@ use Rattle.cm_abi_model.specs.Views.{View, Way, flat_limit}
 use Rattle.cm_lifting.specs.Reading.{seen_by}
 use Rattle.cm_scan.specs.declared.record.PartRecord.{PartRecord}
 use Rattle.cm_scan.specs.Places.{places_at, places_each}
-use Rattle.cm_scan.specs.Records.{element_record, records_at, records_of_list, text_record}
-use Rattle.cm_scan.specs.Telling.{ElementsAreTold, TellAll, Tells, TextIsTold}
+use Rattle.cm_scan.specs.Records.{records_at, records_of_list, text_record}
+use Rattle.cm_scan.specs.Telling.{ElementsAreTold, TellAll, TextIsTold}
 use Rattle.cm_scan_call.specs.CallPlaces.{call_places, flat_places, flat_places_in_fields, flat_places_in_payload}
 use Rattle.cm_scan_call.specs.FlatRecords.{flat_records, flat_records_each, flat_records_of_case, flat_records_of_fields, passed_records, spilled_records}
 

@@ -1,16 +1,22 @@
 -- Scanning what a call passes (CanonicalABI.md, "Lifting and Lowering Values").
-use Rattle.std.specs.Prelude.{ℕ, Bool, List}
+use Rattle.std.specs.Prelude.{◌≡◌, ℕ, Bool, List, []}
 use Rattle.cm_types.specs.declared.core_value.CoreValue.{CoreValue}
 use Rattle.cm_types.specs.Types.{Fields}
 use Rattle.cm_types.specs.Values.{Val}
 use Rattle.cm_handles.specs.Handles.{Handles}
 use Rattle.cm_abi_model.specs.declared.encoding.StringEncoding.{StringEncoding}
-use Rattle.cm_abi_model.specs.Requests.{call_parts}
+use Rattle.cm_layout.specs.Shapes.{LayoutTy, layout_of_fields_at}
+use Rattle.cm_abi_model.specs.Receives.{leaves_in}
+use Rattle.cm_abi_model.specs.Requests.{call_parts, tuple_of}
 use Rattle.cm_abi_model.specs.Views.{View, Way}
 use Rattle.cm_lifting.specs.Reading.{Source}
 use Rattle.cm_lift.specs.HandingOver.{Hands}
 use Rattle.cm_lift.specs.Lifts.{Lifts}
+use Rattle.cm_giving.specs.Leaves.{leaves_of}
 use Rattle.cm_scan.specs.Telling.{TellAll}
+use Rattle.cm_requesting.specs.Asking.{IsAnswered, all_requests}
+use Rattle.cm_requesting.specs.RecordRequests.{requests_for}
+use Rattle.cm_scan_call.specs.FlatRecords.{passed_records}
 use Rattle.cm_scan_call.specs.CallPlaces.{call_places}
 use Rattle.cm_scan_call.specs.declared.scanned.Scanned.{Scanned}
 
@@ -22,10 +28,24 @@ giver_of memory table encoding = record { memory = memory; table = table; encodi
 abbrev pub scanned_with : Handles → Scanned → Hands
 scanned_with table s = record { table = table; owns = s.owns.items; lends = s.lends.items }
 
+-- What is kept of a value that was scanned: a record of each part, with the requests for them, none
+-- of them answered; and its handles, each as its type has it, in reading order.
+pub record IsKept (w : Source) (target : StringEncoding) (limit : ℕ) (l : LayoutTy)
+    (slots : List CoreValue) (v : Val) (s : Scanned) : Type 0 where
+  pub records : s.requests.records.items ≡ passed_records w target limit l slots v
+  pub asks : all_requests s.requests ≡ requests_for w.encoding target s.requests.records.items
+  pub unanswered : IsAnswered s.requests []
+  pub handles : (types : Fields) → l ≡ layout_of_fields_at types
+      → leaves_of s.handles.items ≡ leaves_in (tuple_of types) v
+
 -- Values were scanned in a view, for strings to be stored in an encoding: the core values denote
--- one that can be handed over, its handles are, and the records tell its parts, each at its place.
+-- one that can be handed over, its handles are, and are told as the value has them; and the records
+-- tell its parts, each at its place, with the requests for them, none of them answered.
 pub record ScansCall (w : View) (target : StringEncoding) (way : Way) (types : Fields)
     (slots : List CoreValue) (v : Val) (table : Handles) (s : Scanned) : Type 0 where
   pub lifts : (tags : List Bool) × Lifts w way types slots v tags (scanned_with table s)
-  pub tells : TellAll w target s.records.items (call_parts way types v)
+  pub tells : TellAll w target s.requests.records.items (call_parts way types v)
       (call_places w way types slots v)
+  pub asks : all_requests s.requests ≡ requests_for w.encoding target s.requests.records.items
+  pub unanswered : IsAnswered s.requests []
+  pub handles : leaves_of s.handles.items ≡ leaves_in (tuple_of types) v

@@ -1,7 +1,7 @@
 //! Values that core values denote, with no tree made of them.
 
-ghost use Rattle.std.specs.Prelude.{◌≡◌, ◌^◌, ◌<◌, ◌⊎◌, Err, IfErr, IfOk, IsOkUnless, Ok, OnErr};
-ghost use Rattle.std.specs.Prelude.{Bool, List, length};
+ghost use Rattle.std.specs.Prelude.{◌≡◌, ◌^◌, ◌<◌, ◌⊎◌, [], Err, IfErr, IfOk, IsOkUnless, Ok};
+ghost use Rattle.std.specs.Prelude.{Bool, List, OnErr, length};
 ghost use Rattle.cm_types.specs.Types.{Fields};
 ghost use Rattle.cm_types.specs.Values.{Val};
 ghost use Rattle.cm_layout.specs.Layouts.{layout_of};
@@ -12,19 +12,26 @@ ghost use Rattle.cm_abi_model.specs.Views.{View, flat_limit};
 ghost use Rattle.cm_abi_model.specs.Ways.{way_of};
 ghost use Rattle.cm_lift.specs.HandingOver.{LendsBelow};
 ghost use Rattle.cm_lift.specs.Lifts.{IsGivenBy, lift_of};
-ghost use Rattle.cm_scan_call.specs.FlatRecords.{passed_records};
-ghost use Rattle.cm_scan_call.specs.Scans.{ScansCall, giver_of, scanned_with};
-ghost use Rattle.cm_requesting.specs.RecordRequests.{AreAskable};
+ghost use Rattle.cm_lifting.specs.Meeting.{AreAsWanted};
+ghost use Rattle.cm_giving.specs.Leaves.{leaves_of};
+ghost use Rattle.cm_met_handles.specs.MetLeaves.{leaves_found};
+ghost use Rattle.cm_requesting.specs.Asking.{IsAnswered, all_requests};
+ghost use Rattle.cm_requesting.specs.RecordRequests.{AreAskable, requests_for};
+ghost use Rattle.cm_scan_call.specs.Scans.{IsKept, ScansCall, giver_of, scanned_with};
 
 use crate::laws::records_tell_what_is_passed;
 use crate::passed::scan_passed;
 use cm_abi_model::{AbiFault, StringEncoding};
+use cm_giving::HandleLeaf;
 use cm_handles::{Handle, Table};
 use cm_layout::Layout;
-use cm_lift::laws::lifting_is_exact;
+use cm_lift::laws::{lifting_is_exact, what_is_passed_is_met};
 use cm_lift::{Passed, first_fault, hand_over};
-use cm_lifting::{Giver, Progress, Stop};
+use cm_lifting::{Giver, MetHandle, Progress, Stop};
 use cm_lowering::laws::content_of_what_is_denoted;
+use cm_met_handles::handles_met;
+use cm_met_handles::laws::handles_that_are_met_are_the_values;
+use cm_requesting::PartRequests;
 use cm_requesting::laws::small_parts_can_be_asked_for;
 use cm_scan::{PartRecord, Scan, Scanner};
 use std::alloc::Global;
@@ -36,9 +43,13 @@ const MAX_CONTENT: u32 = 16_777_216;
 /// Values that were scanned.
 #[derive(Drop)]
 pub struct Scanned {
-    /// A record of each part of the values, in reading order, a list before its elements; where the
-    /// values are behind a pointer, their tuple is the first part.
-    pub records: Vec<PartRecord>,
+    /// The requests for the parts of the values, none of them answered, with a record of each part,
+    /// in reading order, a list before its elements; where the values are behind a pointer, their
+    /// tuple is the first part.
+    pub requests: PartRequests,
+    /// The handles of the values, in reading order, each as its type has it: to be owned, or to be
+    /// borrowed. They are what the receiver is given.
+    pub handles: Vec<HandleLeaf>,
     /// The handles that were taken out of the giver's table, in reading order.
     pub owns: Vec<Handle>,
     /// The indices of the handles that were lent, in reading order.
@@ -60,7 +71,8 @@ pub struct Encodings {
 /// It succeeds where `cm_lift::lift` does, with the same handles taken out of the table and lent,
 /// and else answers the same first fault, with the table as it was. The caller gives a table whose
 /// handles are lent fewer than 2^100 times. The records tell the parts of the values, each at its
-/// place, and can be asked for. Memory is taken for records, tags of strings and handles alone;
+/// place, and can be asked for; the handles are told as the values have them. Memory is taken for
+/// parts, tags of strings and handles alone, and all of it before a handle is handed over;
 /// `EngineMemory` comes where there is none for them.
 pub fn scan(
     alloc: Global,
@@ -77,10 +89,9 @@ pub fn scan(
         × (lift_of memory.now table.old.handles encodings.source (way_of passed.now.way)
         (layout_of passed.now.layout.now) passed.now.slots.now
         ≡ Ok (v, tags, scanned_with table.new.handles s))
-        × (s.records.items
-        ≡ passed_records (giver_of memory.now table.old.handles encodings.source) encodings.target
+        × IsKept (giver_of memory.now table.old.handles encodings.source) encodings.target
         (flat_limit (way_of passed.now.way)) (layout_of passed.now.layout.now) passed.now.slots.now
-        v)) }
+        v s) }
     ensures err { IfErr result (λ e. (e ≡ AbiFault.EngineMemory)
         ⊎ (lift_of memory.now table.old.handles encodings.source (way_of passed.now.way)
         (layout_of passed.now.layout.now) passed.now.slots.now ≡ Err e)) }
@@ -95,14 +106,10 @@ pub fn scan(
         → Denotes w (way_of passed.now.way) types passed.now.slots.now v
         → Transferable w (way_of passed.now.way) types passed.now.slots.now v
         → IsOkUnless result AbiFault.EngineMemory }
-    ensures askable { IfOk result (λ s. AreAskable s.records.items) }
     ensures unchanged { OnErr result (table.new ≡ table.old) }
 {
     lifting_is_exact();
     records_tell_what_is_passed();
-    content_of_what_is_denoted();
-    small_parts_can_be_asked_for();
-    size_fits(passed.layout);
     scan_values(alloc, memory, table, encodings, passed)
 }
 
@@ -111,6 +118,38 @@ fn size_fits(layout: &Layout)
     ensures { (layout_of layout.now).head.size < 2 ^ 32 }
 {
     let _size = layout.head.size;
+}
+
+/// The requests for the parts of records, none of them answered.
+fn ask_for(
+    alloc: Global,
+    records: Vec<PartRecord>,
+    encodings: Encodings,
+) -> Result<PartRequests, AbiFault>
+    requires askable { AreAskable records.items }
+    ensures answered { IfOk result (λ s. IsAnswered s []) }
+    ensures records { IfOk result (λ s. s.records ≡ records) }
+    ensures requests { IfOk result (λ s. all_requests s
+        ≡ requests_for encodings.source encodings.target records.items) }
+    ensures err { IfErr result (λ e. e ≡ AbiFault.EngineMemory) }
+{
+    match PartRequests::new(alloc, records, encodings.source, encodings.target) {
+        Ok(requests) => Ok(requests),
+        Err(_) => Err(AbiFault::EngineMemory),
+    }
+}
+
+/// The handles that were met, each as the type of the value has it.
+fn handles_of(alloc: Global, table: &Table, met: &[MetHandle]) -> Result<Vec<HandleLeaf>, AbiFault>
+    requires wanted { AreAsWanted table.now.handles met.now }
+    ensures leaves { IfOk result (λ ls.
+        leaves_of ls.items ≡ leaves_found table.now.handles met.now) }
+    ensures err { IfErr result (λ e. e ≡ AbiFault.EngineMemory) }
+{
+    match handles_met(alloc, table, met) {
+        Ok(handles) => Ok(handles),
+        Err(_) => Err(AbiFault::EngineMemory),
+    }
 }
 
 /// The same by the definitions of reading and of what is kept alone.
@@ -129,15 +168,20 @@ fn scan_values(
         × (lift_of memory.now table.old.handles encodings.source (way_of passed.now.way)
         (layout_of passed.now.layout.now) passed.now.slots.now
         ≡ Ok (v, tags, scanned_with table.new.handles s))
-        × (s.records.items
-        ≡ passed_records (giver_of memory.now table.old.handles encodings.source) encodings.target
+        × IsKept (giver_of memory.now table.old.handles encodings.source) encodings.target
         (flat_limit (way_of passed.now.way)) (layout_of passed.now.layout.now) passed.now.slots.now
-        v)) }
+        v s) }
     ensures err { IfErr result (λ e. (e ≡ AbiFault.EngineMemory)
         ⊎ (lift_of memory.now table.old.handles encodings.source (way_of passed.now.way)
         (layout_of passed.now.layout.now) passed.now.slots.now ≡ Err e)) }
     ensures unchanged { OnErr result (table.new ≡ table.old) }
 {
+    what_is_passed_is_met();
+    handles_that_are_met_are_the_values();
+    records_tell_what_is_passed();
+    content_of_what_is_denoted();
+    small_parts_can_be_asked_for();
+    size_fits(passed.layout);
     let mut scan = Scan {
         progress: Progress {
             left: MAX_CONTENT,
@@ -158,9 +202,12 @@ fn scan_values(
     };
     match scan_passed(&scanner, passed, &mut scan) {
         Ok(()) => {
+            let requests = ask_for(alloc, scan.records, encodings)?;
+            let handles = handles_of(alloc, table, &scan.progress.handles)?;
             let handed = hand_over(alloc, table, &scan.progress.handles)?;
             Ok(Scanned {
-                records: scan.records,
+                requests,
+                handles,
                 owns: handed.owns,
                 lends: handed.lends,
             })

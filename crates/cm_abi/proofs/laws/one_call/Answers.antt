@@ -1,8 +1,10 @@
-use Rattle.std.proofs.Common.{subst}
+use Rattle.std.proofs.Common.{◌∙◌, ap, subst}
 use Rattle.cm_abi_model.specs.Denotes.{Denotes}
 use Rattle.cm_abi_model.specs.Ways.{way_of}
 use Rattle.cm_lower.specs.Lowers.{tuple_in}
-use Rattle.cm_abi.proofs.OwnedLaws.{owned_go}
+use Rattle.cm_abi_model.specs.Taken.{met}
+use Rattle.cm_abi.specs.Calls.{owned_in}
+use Rattle.cm_abi.proofs.OwnedLaws.{owned_are_taken}
 use Rattle.cm_abi.proofs.laws.one_call.Goals as goal
 
 pub returns-clause-lowerable : goal.returns-clause-lowerable
@@ -29,4 +31,5 @@ returns-clause-same c = λ giver receiver types given received h p lifts denoted
     )
 
 pub returns-clause-owned : goal.returns-clause-owned
-returns-clause-owned c = λ giver way types given v tags h lifts. owned_go giver way types given v h.owns lifts.denoted lifts.owns
+returns-clause-owned c = λ giver way types given v tags h lifts.
+    owned_are_taken giver.table (met giver way types given v) h.owns lifts.owns ∙ ap owned_in (c.handles_that_are_met_are_the_values.ensures.met giver way types given v lifts.denoted)

@@ -1,4 +1,4 @@
-use Rattle.std.proofs.Common.{ap, sym, ◌∙◌}
+use Rattle.std.proofs.Common.{sym, ◌∙◌}
 use Rattle.cm_requesting.proofs.StageLaws.{next_askable, next_is, next_none}
 use Rattle.cm_requesting.proofs.part_requests.PartRequests.next_request.Goals as goal
 

@@ -1,0 +1,3 @@
+mod CountLaws
+mod SettledLaws
+mod CopyLaws

@@ -1,0 +1,5 @@
+pub mod SeenLayouts
+pub mod FlatLemmas
+pub mod HandleLemmas
+pub mod FlatLaws
+pub mod CallLemmas

@@ -1,0 +1,4 @@
+pub mod FlatShown
+pub mod FlatReady
+pub mod PassingOn
+pub mod CallCopies

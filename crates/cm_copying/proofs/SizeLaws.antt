@@ -1,0 +1,140 @@
+-- The sizes in records are those of the strings that they tell.
+use Rattle.std.proofs.Common.{◌≡◌, ℕ, zero, suc, ◌+◌, ◌<◌, List, [], ◌∷◌, ◌++◌, Bool, true, false, length, map, refl, sym, ap, subst, ◌∙◌, arith}
+use Rattle.std.specs.Prelude.{⊤, slice_index, if◌then◌else◌}
+use Rattle.cm_types.specs.Types.{Ty, Fields, Cases, bool, signed, unsigned, char, string, list, fixed_list, fields, cases, flags, own, borrow, no_fields, field, no_cases, plain, carrying}
+use Rattle.cm_types.specs.Values.{Val, Vals, no_vals, val, truth, signed_number, number, scalar, text, elements, parts, bare, bearing, flag_set, handle, count_of, AllVals, HasType, HaveTypes, IsCarriedCase}
+use Rattle.cm_layout.specs.Sizes.{align_of, size_of}
+use Rattle.cm_abi_model.specs.declared.encoding.StringEncoding.{StringEncoding}
+use Rattle.cm_abi_model.specs.Parts.{Part, text_part, element_part, part_count, part_count_each, parts_each, parts_in, parts_in_fields, parts_in_payload}
+use Rattle.cm_abi_model.specs.Regions.{part_size}
+use Rattle.cm_abi_model.specs.Requests.{call_parts, is_spilled, stored_charset, tuple_of}
+use Rattle.cm_abi_model.specs.Views.{View, Way}
+use Rattle.cm_scan.specs.declared.record.PartRecord.{PartRecord}
+use Rattle.cm_scan.specs.Telling.{TellAll}
+use Rattle.cm_copying.specs.Copying.{size_kept}
+use Rattle.cm_copying.specs.Known.{HasSizes, HaveSizes, first_part}
+
+-- the sizes from the one of this number on are those of parts
+abbrev AreSizes : List ℕ → StringEncoding → ℕ → List Part → Type 0
+AreSizes sizes target k [] = ⊤
+AreSizes sizes target k (p ∷ ps) = (k < length sizes) × (slice_index sizes k ≡ part_size target p) × AreSizes sizes target (k + 1) ps
+
+one_more : (n : ℕ) (sizes : List ℕ) (target : StringEncoding) (k j : ℕ) (ps : List Part) → j ≡ suc k → AreSizes sizes target k ps → AreSizes (n ∷ sizes) target j ps
+one_more n sizes target k j [] is are = tt
+one_more n sizes target k j (p ∷ ps) is are =
+    let here : j < length (n ∷ sizes) = omega (arith, is, are.0) in
+    (here, rw is are.1, one_more n sizes target (k + 1) (j + 1) ps (omega (arith, is)) are.2)
+
+told : (w : View) (target : StringEncoding) (rs after : List PartRecord) (ps : List Part) (places : List ℕ) → TellAll w target rs ps places → AreSizes (map size_kept (rs ++ after)) target 0 ps
+told w target [] after [] [] tell = tt
+told w target (r ∷ rs) after (p ∷ ps) (at ∷ places) tell =
+    (omega arith, tell.0.size, one_more r.size (map size_kept (rs ++ after)) target 0 (0 + 1) ps (omega arith) (told w target rs after ps places tell.1))
+told w target [] after [] (at ∷ places) tell = absurd tell
+told w target [] after (p ∷ ps) places tell = absurd tell
+told w target (r ∷ rs) after [] places tell = absurd tell
+told w target (r ∷ rs) after (p ∷ ps) [] tell = absurd tell
+
+told_behind : (w : View) (target : StringEncoding) (before rs after : List PartRecord) (ps : List Part) (places : List ℕ) → TellAll w target rs ps places
+    → AreSizes (map size_kept (before ++ (rs ++ after))) target (length before) ps
+told_behind w target [] rs after ps places tell = told w target rs after ps places tell
+told_behind w target (b ∷ before) rs after ps places tell =
+    one_more b.size (map size_kept (before ++ (rs ++ after))) target (length before) (length (b ∷ before)) ps (omega arith) (told_behind w target before rs after ps places tell)
+
+both : (sizes : List ℕ) (target : StringEncoding) (k : ℕ) (xs ys : List Part) → AreSizes sizes target k (xs ++ ys) → AreSizes sizes target k xs × AreSizes sizes target (k + length xs) ys
+both sizes target k [] ys are = let here : k ≡ k + 0 = omega arith in (tt, subst (λ j. AreSizes sizes target j ys) here are)
+both sizes target k (x ∷ xs) ys are =
+    let rest = both sizes target (k + 1) xs ys are.2 in
+    let here : k + 1 + length xs ≡ k + length (x ∷ xs) = omega arith in
+    ((are.0, are.1, rest.0), subst (λ j. AreSizes sizes target j ys) here rest.1)
+
+module _ (sizes : List ℕ) (target : StringEncoding) where
+  -- the sizes of a value's strings are known, and its parts are counted
+  record Known (ps : List Part) (v : Val) : Type 0 where
+    pub counted : length ps ≡ part_count v
+    pub known : (k : ℕ) → AreSizes sizes target k ps → HasSizes sizes (stored_charset target) v k
+
+  record AllKnown (ps : List Part) (vs : Vals) : Type 0 where
+    pub counted : length ps ≡ part_count_each vs
+    pub known : (k : ℕ) → AreSizes sizes target k ps → HaveSizes sizes (stored_charset target) vs k
+
+  joined : (ps qs : List Part) (v : Val) (vs : Vals) → Known ps v → AllKnown qs vs → AllKnown (ps ++ qs) (val v vs)
+  joined ps qs v vs here behind =
+      record {
+        counted = length_both ps qs ∙ (ap (λ n. n + length qs) here.counted ∙ ap (λ n. part_count v + n) behind.counted);
+        known = λ k are.
+            let split = both sizes target k ps qs are in
+            (here.known k split.0, behind.known (k + part_count v) (subst (λ n. AreSizes sizes target (k + n) qs) here.counted split.1));
+      }
+    where
+      length_both : (xs ys : List Part) → length (xs ++ ys) ≡ length xs + length ys
+      length_both [] ys = let e : length ys ≡ 0 + length ys = omega arith in e
+      length_both (x ∷ xs) ys = let e = length_both xs ys in omega (arith, e)
+
+  each_known : (P : Val → List Part) (T : Val → Type 0) (vs : Vals) → AllVals T vs → ((v : Val) → T v → Known (P v) v) → AllKnown (parts_each P vs) vs
+  each_known P T no_vals typed one = record { counted = refl; known = λ k are. tt }
+  each_known P T (val v vs) typed one = joined (P v) (parts_each P vs) v vs (one v typed.0) (each_known P T vs typed.1 one)
+
+  none : (v : Val) → part_count v ≡ 0 → ((k : ℕ) → HasSizes sizes (stored_charset target) v k) → Known [] v
+  none v is all = record { counted = sym is; known = λ k are. all k }
+
+  mutual
+    value_known : (t : Ty) (v : Val) → HasType t v → Known (parts_in t v) v
+    value_known bool (truth b) typed = none (truth b) refl (λ k. tt)
+    value_known (signed w) (signed_number z) typed = none (signed_number z) refl (λ k. tt)
+    value_known (unsigned w) (number n) typed = none (number n) refl (λ k. tt)
+    value_known char (scalar c) typed = none (scalar c) refl (λ k. tt)
+    value_known string (text cs) typed = record { counted = refl; known = λ k are. (are.0, are.1) }
+    value_known (list t) (elements vs) typed =
+        let all = each_known (parts_in t) (HasType t) vs typed (value_known t) in
+        record { counted = omega (arith, all.counted); known = λ k are. all.known (k + 1) are.2 }
+    value_known (fixed_list t n) (parts vs) typed =
+        let all = each_known (parts_in t) (HasType t) vs typed.1 (value_known t) in
+        record { counted = all.counted; known = all.known }
+    value_known (fields f fs) (parts vs) typed =
+        let all = fields_known fs vs typed in
+        record { counted = all.counted; known = all.known }
+    value_known (cases f cs) (bare i) typed = none (bare i) refl (λ k. tt)
+    value_known (cases f cs) (bearing i v) typed =
+        let one = payload_known cs i v typed in
+        record { counted = one.counted; known = one.known }
+    value_known (flags ls) (flag_set n) typed = none (flag_set n) refl (λ k. tt)
+    value_known (own r) (handle h) typed = none (handle h) refl (λ k. tt)
+    value_known (borrow r) (handle h) typed = none (handle h) refl (λ k. tt)
+    value_known _ _ typed = absurd typed
+
+    fields_known : (fs : Fields) (vs : Vals) → HaveTypes fs vs → AllKnown (parts_in_fields fs vs) vs
+    fields_known no_fields no_vals typed = record { counted = refl; known = λ k are. tt }
+    fields_known no_fields (val v vs) typed = absurd typed
+    fields_known (field l t fs) no_vals typed = absurd typed
+    fields_known (field l t fs) (val v vs) typed = joined (parts_in t v) (parts_in_fields fs vs) v vs (value_known t v typed.0) (fields_known fs vs typed.1)
+
+    payload_known : (cs : Cases) (i : ℕ) (v : Val) → IsCarriedCase cs i v → Known (parts_in_payload cs i v) v
+    payload_known no_cases i v typed = absurd typed
+    payload_known (plain l cs) zero v typed = absurd typed
+    payload_known (plain l cs) (suc i) v typed = payload_known cs i v typed
+    payload_known (carrying l t cs) zero v typed = value_known t v typed
+    payload_known (carrying l t cs) (suc i) v typed = payload_known cs i v typed
+
+pub value_sizes : (w : View) (target : StringEncoding) (t : Ty) (v : Val) (before rs after : List PartRecord) (places : List ℕ) → HasType t v → TellAll w target rs (parts_in t v) places
+    → HasSizes (map size_kept (before ++ (rs ++ after))) (stored_charset target) v (length before)
+value_sizes w target t v before rs after places typed tell =
+    (value_known (map size_kept (before ++ (rs ++ after))) target t v typed).known (length before) (told_behind w target before rs after (parts_in t v) places tell)
+
+nothing_behind : (rs : List PartRecord) → rs ++ [] ≡ rs
+nothing_behind [] = refl
+nothing_behind (r ∷ rs) = ap (λ xs. r ∷ xs) (nothing_behind rs)
+
+pub call_sizes : (w : View) (target : StringEncoding) (way : Way) (types : Fields) (v : Val) (rs : List PartRecord) (places : List ℕ) → HasType (tuple_of types) v
+    → TellAll w target rs (call_parts way types v) places → HasSizes (map size_kept rs) (stored_charset target) v (first_part way types)
+call_sizes w target way types v rs places typed tell = go (is_spilled way types) tell
+  where
+    tuple : Part
+    tuple = element_part 1 (size_of (tuple_of types)) (align_of (tuple_of types))
+
+    sizes : (all : List Part) → TellAll w target rs all places → AreSizes (map size_kept rs) target 0 all
+    sizes all tells = subst (λ xs. AreSizes (map size_kept xs) target 0 all) (nothing_behind rs) (told w target rs [] all places tells)
+
+    go : (b : Bool) → TellAll w target rs (if b then tuple ∷ parts_in (tuple_of types) v else parts_in (tuple_of types) v) places
+        → HasSizes (map size_kept rs) (stored_charset target) v (if b then 1 else 0)
+    go true tells = (value_known (map size_kept rs) target (tuple_of types) v typed).known 1 (sizes (tuple ∷ parts_in (tuple_of types) v) tells).2
+    go false tells = (value_known (map size_kept rs) target (tuple_of types) v typed).known 0 (sizes (parts_in (tuple_of types) v) tells)
