@@ -1,5 +1,5 @@
 -- Values of a call that can be passed on can be copied.
-use Rattle.std.proofs.Common.{◌≡◌, ℕ, ◌+◌, ◌*◌, ◌<◌, ◌≤◌, ◌⊎◌, List, [], length, map, true, false, nat_lt, inl, inr, Ok, refl, sym, ap, subst, ◌∙◌, arith}
+use Rattle.std.proofs.Common.{◌≡◌, ℕ, ◌<◌, ◌≤◌, List, [], length, map, inl, inr, Ok, refl, sym, ap, subst, ◌∙◌, arith}
 use Rattle.std.specs.Prelude.{if◌then◌else◌}
 use Rattle.std.proofs.lemmas.Bool.{le-ltb, lt-ltb}
 use Rattle.cm_types.specs.Types.{Fields, Ty}
@@ -31,7 +31,7 @@ use Rattle.cm_stored.specs.FlatLowering.{behind_by, slots_by}
 use Rattle.cm_stored.specs.Storing.{given_of, stored_by}
 use Rattle.cm_copying.specs.Copying.{copying_of, size_kept}
 use Rattle.cm_copying.specs.declared.copier.Copier.{Copier}
-use Rattle.cm_copying.specs.Known.{HasSizes, first_part, source_with}
+use Rattle.cm_copying.specs.Known.{HasSizes, first_part}
 use Rattle.cm_copying.specs.Ready.{IsSound}
 use Rattle.cm_copying.specs.Shown.{without_handles}
 use Rattle.cm_copy_call.specs.CallCopies.{IsFlatCopy, IsSpilledCopy}

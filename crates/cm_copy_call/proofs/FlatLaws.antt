@@ -1,14 +1,14 @@
 -- What core values show is what is copied from them.
-use Rattle.std.proofs.Common.{◌≡◌, ℕ, zero, suc, ◌+◌, ◌*◌, ◌%◌, ◌^◌, ◌<◌, ◌≤◌, ◌==◌, List, [], length, not, refl, sym, ap, subst, ◌∙◌, arith}
+use Rattle.std.proofs.Common.{◌≡◌, ℕ, zero, suc, ◌+◌, ◌*◌, List, [], refl, sym, ap, subst, ◌∙◌, arith}
 use Rattle.cm_types.specs.declared.core_value.CoreValue.{CoreValue}
-use Rattle.cm_types.specs.Types.{Ty, Fields, Cases, CasesKind, width_bytes, bool, signed, unsigned, char, string, list, fixed_list, fields, cases, flags, own, borrow, no_fields, field, no_cases, plain, carrying}
+use Rattle.cm_types.specs.Types.{Ty, Fields, Cases, CasesKind, bool, signed, unsigned, char, string, list, fixed_list, fields, cases, flags, own, borrow, no_fields, field, no_cases, plain, carrying}
 use Rattle.cm_types.specs.Values.{Val, Vals, IsPlainCase, no_vals, val, truth, signed_number, number, scalar, text, elements, parts, bare, bearing, flag_set, handle, count_of}
 use Rattle.cm_handles.specs.Handles.{Handles}
 use Rattle.cm_layout.specs.Alignment.{align_to}
 use Rattle.cm_layout.specs.Shapes.{head_of, parts_at, parts_from, payloads_from, payloads_of, shape_of_type}
-use Rattle.cm_layout.specs.Sizes.{align_of, case_count, discriminant_size, payload_offset, size_of}
+use Rattle.cm_layout.specs.Sizes.{align_of, size_of}
 use Rattle.cm_abi_model.specs.FlatShows.{FlatShowFields, FlatShows, FlatShowsPayload, width_of}
-use Rattle.cm_abi_model.specs.Numbers.{as_signed, wrapped_at}
+use Rattle.cm_abi_model.specs.Numbers.{wrapped_at}
 use Rattle.cm_abi_model.specs.Parts.{handle_count, part_count}
 use Rattle.cm_abi_model.specs.Shows.{ShowEach}
 use Rattle.cm_abi_model.specs.Taken.{content_of, met_at, met_each}

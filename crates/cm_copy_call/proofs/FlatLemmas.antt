@@ -5,7 +5,7 @@ use Rattle.cm_types.specs.declared.core_value.CoreValue.{CoreValue}
 use Rattle.cm_types.specs.Values.{Val, bare, bearing, val, count_of}
 use Rattle.cm_layout.specs.Laid.{IsMarked, Laid, PartsLaid, PayloadsLaid, ArePartsMarked, ArePayloadsMarked}
 use Rattle.cm_layout.specs.Layouts.{nothings, part_of}
-use Rattle.cm_layout.specs.Shapes.{LayoutTy, Parts, Payloads, Shape, cases_shape, fields_shape, fixed_list_shape, list_shape, no_parts, part, no_payloads, nothing, carried, parts_from, payload_before, payloads_from}
+use Rattle.cm_layout.specs.Shapes.{LayoutTy, Parts, Payloads, cases_shape, fields_shape, fixed_list_shape, list_shape, no_parts, part, no_payloads, nothing, carried, parts_from, payload_before, payloads_from}
 use Rattle.cm_layout.specs.declared.layouts.Part.{Part as CodedPart}
 use Rattle.cm_lifting.specs.Sized.{ArePartsSized, ArePayloadsSized, IsSized}
 use Rattle.cm_abi_model.specs.Parts.{handle_count, handle_count_each, part_count, part_count_each}

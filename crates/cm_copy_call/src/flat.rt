@@ -9,7 +9,7 @@ ghost use Rattle.cm_abi_model.specs.Receives.{behind_each, put};
 ghost use Rattle.cm_abi_model.specs.Stores.{poke, store_each};
 ghost use Rattle.cm_copying.specs.Copying.{copying_of, shown_to};
 ghost use Rattle.cm_copying.specs.Ready.{AreElementsReady, AreReady, IsReady, IsSound, IsTextReady};
-ghost use Rattle.cm_copying.specs.Shown.{scalars_at, values_each};
+ghost use Rattle.cm_copying.specs.Shown.{values_each};
 ghost use Rattle.cm_copy_call.specs.FlatReady.{AreFieldsInSlots, AreFlatFieldsReady};
 ghost use Rattle.cm_copy_call.specs.FlatReady.{ArePayloadsInSlots, IsFlatCaseReady};
 ghost use Rattle.cm_copy_call.specs.FlatReady.{IsFlatPayloadReady, IsFlatReady, IsInSlots};
@@ -21,7 +21,7 @@ ghost use Rattle.cm_layout.specs.Shapes.{list_shape, parts_from, payloads_from, 
 ghost use Rattle.cm_stored.specs.FlatLowering.{behind_by, behind_by_fields, slots_by};
 ghost use Rattle.cm_stored.specs.FlatLowering.{IsPassedIn, slots_by_fields};
 ghost use Rattle.cm_stored.specs.Storing.{given_of};
-ghost use Rattle.cm_types.specs.Values.{elements, text};
+ghost use Rattle.cm_types.specs.Values.{elements};
 
 use crate::numbers::leaf_number;
 use cm_copying::{Copier, copy_each as copy_elements, copy_text_bytes, size_of_part, units_stored};

@@ -2,10 +2,10 @@
 use Rattle.std.proofs.Common.{◌≡◌, ℕ, zero, suc, ◌+◌, ◌<◌, List, [], ◌∷◌, ◌++◌, Bool, true, false, length, map, refl, sym, ap, subst, ◌∙◌, arith}
 use Rattle.std.specs.Prelude.{⊤, slice_index, if◌then◌else◌}
 use Rattle.cm_types.specs.Types.{Ty, Fields, Cases, bool, signed, unsigned, char, string, list, fixed_list, fields, cases, flags, own, borrow, no_fields, field, no_cases, plain, carrying}
-use Rattle.cm_types.specs.Values.{Val, Vals, no_vals, val, truth, signed_number, number, scalar, text, elements, parts, bare, bearing, flag_set, handle, count_of, AllVals, HasType, HaveTypes, IsCarriedCase}
+use Rattle.cm_types.specs.Values.{Val, Vals, no_vals, val, truth, signed_number, number, scalar, text, elements, parts, bare, bearing, flag_set, handle, AllVals, HasType, HaveTypes, IsCarriedCase}
 use Rattle.cm_layout.specs.Sizes.{align_of, size_of}
 use Rattle.cm_abi_model.specs.declared.encoding.StringEncoding.{StringEncoding}
-use Rattle.cm_abi_model.specs.Parts.{Part, text_part, element_part, part_count, part_count_each, parts_each, parts_in, parts_in_fields, parts_in_payload}
+use Rattle.cm_abi_model.specs.Parts.{Part, element_part, part_count, part_count_each, parts_each, parts_in, parts_in_fields, parts_in_payload}
 use Rattle.cm_abi_model.specs.Regions.{part_size}
 use Rattle.cm_abi_model.specs.Requests.{call_parts, is_spilled, stored_charset, tuple_of}
 use Rattle.cm_abi_model.specs.Views.{View, Way}

@@ -1,7 +1,6 @@
 //! Values from one memory to another: one walk down a layout.
 
 ghost use Rattle.std.specs.Prelude.{◌≡◌, ◌+◌, ◌*◌, ◌<◌, ◌≤◌, IfSome, length, map, slice_index};
-ghost use Rattle.cm_abi_model.specs.Numbers.{number_at as bytes_at};
 ghost use Rattle.cm_abi_model.specs.Parts.{handle_count, handle_count_each, part_count};
 ghost use Rattle.cm_abi_model.specs.Parts.{part_count_each};
 ghost use Rattle.cm_abi_model.specs.Requests.{stored_charset, text_bytes};

@@ -4,7 +4,7 @@ ghost use Rattle.std.specs.Prelude.{◌≡◌, ◌+◌, ◌≤◌, List, length,
 ghost use Rattle.cm_abi_model.specs.Requests.{stored_charset, text_bytes, text_units};
 ghost use Rattle.cm_abi_model.specs.Stores.{placed, poke};
 ghost use Rattle.cm_abi_model.specs.Texts.{Has, bytes_from, charset_of, latin1, spell, text_size};
-ghost use Rattle.cm_abi_model.specs.Texts.{unit_size, utf16, utf8};
+ghost use Rattle.cm_abi_model.specs.Texts.{utf16, utf8};
 ghost use Rattle.cm_text.specs.Text.{IsText, IsTextOfSize};
 
 use cm_abi_model::StringEncoding;

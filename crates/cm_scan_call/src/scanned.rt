@@ -72,8 +72,7 @@ pub struct Encodings {
 /// and else answers the same first fault, with the table as it was. The caller gives a table whose
 /// handles are lent fewer than 2^100 times. The records tell the parts of the values, each at its
 /// place, and can be asked for; the handles are told as the values have them. Memory is taken for
-/// parts, tags of strings and handles alone, and all of it before a handle is handed over;
-/// `EngineMemory` comes where there is none for them.
+/// parts, tags of strings and handles alone; `EngineMemory` comes where there is none for them.
 pub fn scan(
     alloc: Global,
     memory: &[u8],

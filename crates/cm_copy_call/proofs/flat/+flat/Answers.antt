@@ -9,7 +9,6 @@ use Rattle.cm_layout.specs.declared.layouts.Layout.{Layout}
 use Rattle.cm_layout.specs.declared.layouts.Part.{Part}
 use Rattle.cm_abi_model.specs.Numbers.{wrapped_at}
 use Rattle.cm_abi_model.specs.Parts.{handle_count, part_count}
-use Rattle.cm_abi_model.specs.Receives.{put}
 use Rattle.cm_abi_model.specs.Stores.{poke}
 use Rattle.cm_types.specs.Values.{Val}
 use Rattle.cm_stored.specs.FlatLowering.{IsPassedIn, behind_by, slots_by}
@@ -18,7 +17,7 @@ use Rattle.cm_copying.specs.Copying.{copying_of, shown_to}
 use Rattle.cm_copying.specs.Ready.{AreElementsReady, AreReady, IsReady, IsSound}
 use Rattle.cm_copy_call.specs.FlatReady.{AreFieldsInSlots, AreFlatFieldsReady, ArePayloadsInSlots, IsFlatCaseReady, IsFlatPayloadReady, IsFlatReady, IsInSlots}
 use Rattle.cm_copy_call.specs.FlatShown.{flat_shown, flat_shown_case, slots_in_case}
-use Rattle.cm_copy_call.proofs.FlatLemmas.{case_behind, case_copied, case_is, case_lies, case_past, case_ready, cases_lie, each_behind, each_copied, each_handle, each_lies, each_part, each_ready, enum_is, fixed_lies, is_of_case, list_lies, next_behind, next_copied, next_handle, next_lies, next_part, next_ready, payload_passed, payload_stored, same_handles, same_parts, step_on, tuple_lies}
+use Rattle.cm_copy_call.proofs.FlatLemmas.{case_copied, case_is, case_lies, case_past, case_ready, cases_lie, each_behind, each_copied, each_handle, each_part, each_ready, enum_is, fixed_lies, is_of_case, list_lies, next_behind, next_copied, next_handle, next_lies, next_part, next_ready, payload_passed, payload_stored, same_handles, same_parts, step_on, tuple_lies}
 use Rattle.cm_copy_call.proofs.SeenLayouts.{seen_Cases, seen_Enum, seen_Fields, seen_FixedList, seen_List, seen_head, seen_shape}
 use Rattle.cm_copy_call.proofs.flat.+flat.Goals as goal
 
