@@ -2,6 +2,7 @@
 use Rattle.std.proofs.Common.{◌≡◌, ℕ, ◌<◌, ◌≤◌, List, [], length, map, inl, inr, Ok, refl, sym, ap, subst, ◌∙◌, arith}
 use Rattle.std.specs.Prelude.{if◌then◌else◌}
 use Rattle.std.proofs.lemmas.Bool.{le-ltb, lt-ltb}
+use Rattle.cm_types.specs.declared.core_value.CoreValue.{CoreValue}
 use Rattle.cm_types.specs.Types.{Fields, Ty}
 use Rattle.cm_types.specs.Values.{HasType, Val}
 use Rattle.cm_layout.specs.Flattening.{flat_of_fields}
@@ -47,7 +48,7 @@ pub record Below : Type 0 where
   pub marked : (t : Ty) → IsMarked (head_of t) (shape_of_type t)
   pub sized : (t : Ty) → IsSized (shape_of_type t)
   pub read : (w : View) (t : Ty) (p : ℕ) (s : State) (v : Val) → Shows w t p v → content_of (met_at w t p v) ≤ s.left → (after : State) × (read_at (seen_by w) (shape_of_type t) p s ≡ Ok (v, after))
-  pub sizes : (w : View) (target : StringEncoding) (way : Way) (types : Fields) (v : Val) (rs : List PartRecord) (places : List ℕ) → HasType (tuple_of types) v
+  pub sizes : (w : View) (target : StringEncoding) (way : Way) (types : Fields) (slots : List CoreValue) (v : Val) (rs : List PartRecord) (places : List ℕ) → Denotes w way types slots v
       → TellAll w target rs (call_parts way types v) places → HasSizes (map size_kept rs) (stored_charset target) v (first_part way types)
   pub slots_stay : (g : Given) (sh : Shape) (v : Val) (s k h : ℕ) → slots_by g sh (without_handles v) s k h ≡ slots_by g sh v s k h
   pub bytes_stay : (g : Given) (sh : Shape) (v : Val) (k h : ℕ) → behind_by g sh (without_handles v) k h ≡ behind_by g sh v k h
@@ -94,7 +95,7 @@ module _ (below : Below) (n m : ℕ) (from : Copier) (passed : Passed) (types : 
   size_is = ap (λ (x : LayoutTy). x.head.size) can.layout
 
   sizes : HasSizes (map size_kept from.records.now) (stored_charset from.target.encoding) v (first_part way types)
-  sizes = below.sizes can.view from.target.encoding way types v from.records.now can.starts can.provided.typed can.told
+  sizes = below.sizes can.view from.target.encoding way types passed.slots.now v from.records.now can.starts can.denoted can.told
 
   pub spilled : flat_limit way < l.head.width → IsSpilledCopy n m from passed types v
   spilled over = go denoted

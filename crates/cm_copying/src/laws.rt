@@ -2,11 +2,14 @@
 
 ghost use Rattle.std.specs.Prelude.{◌≡◌, ◌+◌, ◌++◌, List, length, map, ℕ};
 ghost use Rattle.cm_types.specs.Types.{Fields, Ty};
-ghost use Rattle.cm_types.specs.Values.{HasType, Val};
+ghost use Rattle.cm_types.specs.Values.{Val};
+ghost use Rattle.cm_types.specs.declared.core_value.CoreValue.{CoreValue};
 ghost use Rattle.cm_layout.specs.Shapes.{Shape};
 ghost use Rattle.cm_abi_model.specs.declared.encoding.StringEncoding.{StringEncoding};
+ghost use Rattle.cm_abi_model.specs.Denotes.{Denotes};
 ghost use Rattle.cm_abi_model.specs.Parts.{handle_count, part_count, parts_in};
-ghost use Rattle.cm_abi_model.specs.Requests.{call_parts, stored_charset, tuple_of};
+ghost use Rattle.cm_abi_model.specs.Requests.{call_parts, stored_charset};
+ghost use Rattle.cm_abi_model.specs.Shows.{Shows};
 ghost use Rattle.cm_abi_model.specs.Stores.{Given};
 ghost use Rattle.cm_abi_model.specs.Views.{View, Way};
 ghost use Rattle.cm_copying.specs.Copying.{Copying, shown_to, size_kept};
@@ -48,17 +51,17 @@ pub fn parts_that_are_read_are_copied()
     parts_that_are_read_are_shown();
 }
 
-/// The sizes in records that tell the parts of a value, wherever they begin among others, are those
-/// of the bytes that its strings take where they are stored; so it is of what a call passes, the
-/// tuple of which is the first part where it is spilled.
+/// The sizes in records that tell the parts of a value that bytes show, wherever they begin among
+/// others, are those of the bytes that its strings take where they are stored; so it is of what a
+/// call passes, the tuple of which is the first part where it is spilled.
 pub fn records_tell_sizes()
-    ensures value { (w : View) (target : StringEncoding) (t : Ty) (v : Val)
-        (before rs after : List PartRecord) (places : List ℕ) → HasType t v
+    ensures value { (w : View) (target : StringEncoding) (t : Ty) (p : ℕ) (v : Val)
+        (before rs after : List PartRecord) (places : List ℕ) → Shows w t p v
         → TellAll w target rs (parts_in t v) places
         → HasSizes (map size_kept (before ++ (rs ++ after))) (stored_charset target) v
         (length before) }
-    ensures call { (w : View) (target : StringEncoding) (way : Way) (types : Fields) (v : Val)
-        (rs : List PartRecord) (places : List ℕ) → HasType (tuple_of types) v
-        → TellAll w target rs (call_parts way types v) places
+    ensures call { (w : View) (target : StringEncoding) (way : Way) (types : Fields)
+        (slots : List CoreValue) (v : Val) (rs : List PartRecord) (places : List ℕ)
+        → Denotes w way types slots v → TellAll w target rs (call_parts way types v) places
         → HasSizes (map size_kept rs) (stored_charset target) v (first_part way types) }
 {}

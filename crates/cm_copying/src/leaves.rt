@@ -55,9 +55,8 @@ fn labels_set(labels: usize, number: u32) -> u32
     }
 }
 
-/// The number that a leaf is stored as, from the one that it is read from: a bool becomes 0 or 1, a
-/// number with a sign gets the two's complement of 64 bits, and bits beside the labels of flags are
-/// left out.
+/// The number that a leaf is stored as, from the one that is read: a bool becomes 0 or 1, one with
+/// a sign gets the two's complement of 64 bits, and bits beside the labels of flags are left out.
 pub fn number_stored(leaf: Leaf, number: u64) -> u64
     requires sized { IsSizedLeaf leaf }
     requires fits { number < 2 ^ (8 * core_size leaf) }
