@@ -78,7 +78,7 @@ module _ (ds : List Declaration) (order : List ℕ) where
             let old : at whole place ≡ m = get_or_from_slice_get whole place m None (subst (λ (k : ℕ). slice_get whole k ≡ entry_at ds table k) (sym is) (entry_same i table whole lt h s) ∙ e) in
             subst (λ (k : ℕ). at (set table place m) k ≡ at whole k) (sym same) (new ∙ sym old))
         | inr other ↦ (
-            let small : p < i = elim (cases_lt p i) [ | inl l ↦ l | inr le ↦ absurd (other (ap (λ (k : ℕ). get_or order k 0) (let q : p ≡ i = omega (arith, le, less) in q) ∙ sym is)) ] in
+            let small : p < i = elim (cases_lt p i) [ inl l ↦ l | inr le ↦ absurd (other (ap (λ (k : ℕ). get_or order k 0) (let q : p ≡ i = omega (arith, le, less) in q) ∙ sym is)) ] in
             get_or-set_other table place (get_or order p 0) m None other ∙ h.agrees whole s p small below)
       ];
     }

@@ -39,7 +39,6 @@ module _ {A : Type 0} (view : A → Declaration) (xs : List A) where
   got_last [] id = refl
   got_last (x ∷ ids) id = got_last ids id
 
-
   counts : (i : ℕ) (x : A) → i < length xs → x ≡ get_or xs i x → count (i + 1) ≡ count i + length (cond (declares_resource (view x)) (view x ∷ []) [])
   counts i x lt is =
       let more : map view (take (i + 1) xs) ≡ map view (take i xs) ++ view x ∷ [] = ap (map view) (take_more xs i x lt ∙ ap (λ (y : A). take i xs ++ y ∷ []) (sym is)) ∙ map-append view (take i xs) (x ∷ []) in
