@@ -1,6 +1,5 @@
 -- What a table that is filled says of its declarations, and what a fault does.
-use Rattle.std.proofs.Common.{◌≡◌, ℕ, zero, suc, List, [], ◌∷◌, map, Option, Some, None, IfSome, slice_get, subst, sym}
-use Rattle.std.specs.Option.{option_map}
+use Rattle.std.proofs.Common.{◌≡◌, ℕ, zero, suc, List, [], ◌∷◌, Option, Some, None, slice_get, subst, sym}
 use Rattle.std.proofs.lemmas.Option.{same_Some}
 use Rattle.cm_types.specs.Types.{Ty}
 use Rattle.cm_types.specs.Limits.{IsWithinLimits}

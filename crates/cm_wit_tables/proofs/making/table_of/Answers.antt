@@ -1,4 +1,4 @@
-use Rattle.std.proofs.Common.{rules, ◌≡◌, ℕ, map, length, IsTrue}
+use Rattle.std.proofs.Common.{rules, map, length}
 use Rattle.std.proofs.lemmas.Option.{MatchOption-at_some}
 use Rattle.cm_order.specs.Orders.{IsOrder}
 use Rattle.cm_type_arena.specs.Places.{types_of}
