@@ -41,9 +41,9 @@ fn write_value(out: &mut String, value: &Value) -> Result<(), AllocError> {
     }
 }
 
-/// Writes values, a space between each two: numbers and truth values as they are, a char as `U+` and
-/// its number in hexadecimal digits, a string in quotes, a list in square brackets and fields in
-/// round ones, a case as `case:INDEX` with what it carries in round brackets, a set of labels as
+/// Writes values, a space between two: numbers and truth values as they are, a char as `U+` and its
+/// number in hexadecimal digits, a string in quotes, a list in square brackets and fields in round
+/// ones, a case as `case:INDEX` with what it carries in round brackets, a set of labels as
 /// `flags:BITS`, a handle as `handle:SERIAL.REP`.
 #[cycle(writing)]
 pub fn write_values(out: &mut String, values: &[Value]) -> Result<(), AllocError> {
