@@ -6,10 +6,10 @@
 ghost use Rattle.std.specs.Prelude.{◌<◌, IfOk};
 ghost use Rattle.cm_lowering.specs.Answering.{AreAligned};
 
-use crate::types::split_words;
-use cm_abi_model::{AbiFault, Request};
+use cm_abi_model::Request;
 use cm_lowering::check_answers;
-use cm_rows::{RowFault, read_number};
+use cm_row_values::write_fault;
+use cm_rows::{RowFault, read_number, split_words};
 use std::alloc::Global;
 
 /// Where the parts stand, or the number of the fault.
@@ -29,11 +29,7 @@ pub fn answer(alloc: Global, length: &str, words: &[&str]) -> Result<String, Row
                 write!(out, " {place}")?;
             }
         }
-        Err(AbiFault::EngineMemory) => return Err(RowFault::Memory),
-        Err(fault) => {
-            let number = fault.number();
-            write!(out, "fault {number}")?;
-        }
+        Err(fault) => write_fault(&mut out, fault)?,
     }
     Ok(out)
 }

@@ -4,10 +4,10 @@
 //! of that place, and the call has number 9. A handle is spelled as one of a table, where an owned
 //! one is to be owned and another to be borrowed.
 
-use crate::tables::{read_handle, read_table, write_table};
 use cm_abi_model::AbiFault;
 use cm_giving::{HandleLeaf, HandleValue, Receiver, give};
 use cm_handles::{Handle, HandleKind, Table};
+use cm_row_values::{read_handle, read_table, write_fault, write_table};
 use cm_rows::{RowFault, read_number};
 use std::alloc::Global;
 
@@ -62,11 +62,7 @@ pub fn write_given(
                 write!(out, " {number}")?;
             }
         }
-        Err(AbiFault::EngineMemory) => return Err(RowFault::Memory),
-        Err(fault) => {
-            let number = fault.number();
-            write!(out, "fault {number}")?;
-        }
+        Err(fault) => write_fault(&mut out, fault)?,
     }
     write_table(&mut out, table)?;
     Ok(out)

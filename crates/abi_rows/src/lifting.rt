@@ -1,26 +1,23 @@
 //! Rows on lifting: `lift WAY ENCODING MEMORY TABLE TYPE.. = SLOT..`.
 //!
-//! WAY is `params` or `results`; ENCODING `utf8`, `utf16` or `latin1`. MEMORY is bytes in
-//! hexadecimal digits, and TABLE handles, as `tables` reads them. A slot is `i32:NUMBER` or
-//! `i64:NUMBER`, and `N*` before it stands for N of them. The handles that were lifted go on to a
-//! receiver by `pass WAY ENCODING MEMORY TABLE INSTANCE TYPE.. = SLOT..`, whose table is empty.
+//! MEMORY is bytes in hexadecimal digits; the other words are as `cm_row_values` reads them. The
+//! handles that were lifted go on to a receiver by
+//! `pass WAY ENCODING MEMORY TABLE INSTANCE TYPE.. = SLOT..`, whose table is empty.
 
-ghost use Rattle.std.specs.Prelude.{IfOk};
+ghost use Rattle.std.specs.Prelude.{◌^◌, IfOk};
 ghost use Rattle.cm_abi_model.specs.Requests.{IsStored};
 ghost use Rattle.cm_lift.specs.HandingOver.{LendsBelow};
 
 use crate::asking::{asked, write_requests};
 use crate::giving::{read_receiver, write_given};
-use crate::tables::{read_table, write_table};
-use crate::types::{read_func, split_words};
-use crate::values::write_value;
-use cm_abi_model::{AbiFault, StringEncoding, Way};
+use cm_abi_model::StringEncoding;
 use cm_giving::give_values;
 use cm_handles::Table;
 use cm_layout::layout_of_params;
 use cm_lift::{Lifted, Passed, lift};
-use cm_rows::{RowFault, read_bytes, read_number, split_repeat};
-use cm_types::CoreValue;
+use cm_row_values::{read_encoding, read_func, read_slots, read_table, read_way};
+use cm_row_values::{write_fault, write_hands, write_table, write_values};
+use cm_rows::{RowFault, read_bytes, split_words};
 use std::alloc::{AllocError, Global};
 
 /// Whose values are lifted.
@@ -38,7 +35,7 @@ pub fn read_giver(
     memory: &str,
     table: &str,
 ) -> Result<RowGiver, RowFault>
-    ensures { IfOk result (λ g. LendsBelow 256 g.table.handles) }
+    ensures { IfOk result (λ g. LendsBelow (2 ^ 100) g.table.handles) }
 {
     Ok(RowGiver {
         encoding: read_encoding(encoding)?,
@@ -47,18 +44,9 @@ pub fn read_giver(
     })
 }
 
-fn read_way(word: &str) -> Result<Way, RowFault> {
-    match word {
-        "params" => Ok(Way::Params),
-        "results" => Ok(Way::Results),
-        _ => Err(RowFault::NotARow),
-    }
-}
-
 /// The values, what went with them, and the table then; or the number of the fault, and the table.
-#[tactic(auto, using(crate::proofs::TableLemmas::lends))]
 pub fn answer(alloc: Global, giver: RowGiver, way: &str, words: &[&str]) -> Result<String, RowFault>
-    requires { LendsBelow 256 giver.table.handles }
+    requires { LendsBelow (2 ^ 100) giver.table.handles }
 {
     let way = read_way(way)?;
     let (types, slots) = split_words(words, "=")?;
@@ -82,11 +70,7 @@ pub fn answer(alloc: Global, giver: RowGiver, way: &str, words: &[&str]) -> Resu
     let mut out = String::new(alloc);
     match lifted {
         Ok(lifted) => write_lifted(&mut out, &lifted)?,
-        Err(AbiFault::EngineMemory) => return Err(RowFault::Memory),
-        Err(fault) => {
-            let number = fault.number();
-            write!(out, "fault {number}")?;
-        }
+        Err(fault) => write_fault(&mut out, fault)?,
     }
     write_table(&mut out, &table)?;
     Ok(out)
@@ -94,7 +78,6 @@ pub fn answer(alloc: Global, giver: RowGiver, way: &str, words: &[&str]) -> Resu
 
 /// The numbers that stand for the handles of the values where they were given to the receiver of a
 /// call, and its table then.
-#[tactic(auto, using(crate::proofs::TableLemmas::lends))]
 pub fn pass(
     alloc: Global,
     giver: RowGiver,
@@ -102,7 +85,7 @@ pub fn pass(
     instance: &str,
     words: &[&str],
 ) -> Result<String, RowFault>
-    requires { LendsBelow 256 giver.table.handles }
+    requires { LendsBelow (2 ^ 100) giver.table.handles }
 {
     let (types, slots) = split_words(words, "=")?;
     let func = read_func(alloc, types)?;
@@ -131,7 +114,6 @@ pub fn pass(
 }
 
 /// What lowering the values to this encoding asks for.
-#[tactic(auto, using(crate::proofs::TableLemmas::lends))]
 pub fn ask(
     alloc: Global,
     giver: RowGiver,
@@ -139,7 +121,7 @@ pub fn ask(
     target: &str,
     words: &[&str],
 ) -> Result<String, RowFault>
-    requires { LendsBelow 256 giver.table.handles }
+    requires { LendsBelow (2 ^ 100) giver.table.handles }
 {
     let (types, slots) = split_words(words, "=")?;
     let func = read_func(alloc, types)?;
@@ -174,45 +156,8 @@ fn stored(encoding: StringEncoding) -> Result<StringEncoding, RowFault>
     }
 }
 
-fn read_encoding(word: &str) -> Result<StringEncoding, RowFault> {
-    match word {
-        "utf8" => Ok(StringEncoding::Utf8),
-        "utf16" => Ok(StringEncoding::Utf16),
-        "latin1" => Ok(StringEncoding::Latin1OrUtf16),
-        _ => Err(RowFault::NotARow),
-    }
-}
-
-fn read_slots(alloc: Global, words: &[&str]) -> Result<Vec<CoreValue>, RowFault> {
-    let mut slots = Vec::new(alloc);
-    for word in words {
-        let (times, word) = split_repeat(word);
-        let slot = match word.split_once(':') {
-            Some(("i32", number)) => CoreValue::I32(read_number(number)?),
-            Some(("i64", number)) => CoreValue::I64(read_number(number)?),
-            _ => return Err(RowFault::NotARow),
-        };
-        for _ in 0..times {
-            slots.push(slot)?;
-        }
-    }
-    Ok(slots)
-}
-
 /// `VALUE..`, then `owns SERIAL..` and `lends INDEX..` where there are some.
 fn write_lifted(out: &mut String, lifted: &Lifted) -> Result<(), AllocError> {
-    for (i, value) in lifted.values.iter().enumerate() {
-        if i > 0 {
-            out.push_str(" ")?;
-        }
-        write_value(out, value)?;
-    }
-    for (i, handle) in lifted.owns.iter().enumerate() {
-        let serial = handle.serial;
-        write!(out, "{} {serial}", if i > 0 { "" } else { " owns" })?;
-    }
-    for (i, index) in lifted.lends.iter().enumerate() {
-        write!(out, "{} {index}", if i > 0 { "" } else { " lends" })?;
-    }
-    Ok(())
+    write_values(out, &lifted.values)?;
+    write_hands(out, &lifted.owns, &lifted.lends)
 }

@@ -5,9 +5,6 @@ mod answers;
 mod asking;
 mod giving;
 mod lifting;
-mod tables;
-mod types;
-mod values;
 
 use cm_rows::{Driver, RowFault, answer_rows};
 use std::alloc::Global;

@@ -9,4 +9,4 @@ mod words;
 pub use answering::{Driver, answer_rows};
 pub use bytes::{read_bytes, write_bytes, write_units};
 pub use fault::RowFault;
-pub use words::{read_number, split_repeat};
+pub use words::{read_number, split_repeat, split_words};

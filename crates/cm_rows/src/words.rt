@@ -24,3 +24,19 @@ pub fn split_repeat(word: &str) -> (u32, &str) {
         None => (1, word),
     }
 }
+
+/// The words before and after the first that is `mark`.
+pub fn split_words<'a, 'b>(
+    words: &'a [&'b str],
+    mark: &str,
+) -> Result<(&'a [&'b str], &'a [&'b str]), RowFault> {
+    let place = words
+        .iter()
+        .position(|word| *word == mark)
+        .ok_or(RowFault::NotARow)?;
+    let (before, after) = words.split_at(place);
+    match after {
+        [_, after @ ..] => Ok((before, after)),
+        [] => Err(RowFault::NotARow),
+    }
+}

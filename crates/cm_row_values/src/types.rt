@@ -11,22 +11,6 @@ use cm_types::{Case, Field, Func, Label, NameFault, ResourceId, TypeNode};
 use std::alloc::Global;
 use std::rc::Rc;
 
-/// The words before and after the first that is `mark`.
-pub fn split_words<'a, 'b>(
-    words: &'a [&'b str],
-    mark: &str,
-) -> Result<(&'a [&'b str], &'a [&'b str]), RowFault> {
-    let place = words
-        .iter()
-        .position(|word| *word == mark)
-        .ok_or(RowFault::NotARow)?;
-    let (before, after) = words.split_at(place);
-    match after {
-        [_, after @ ..] => Ok((before, after)),
-        [] => Err(RowFault::NotARow),
-    }
-}
-
 /// A function with parameters of the types that words spell, one after another.
 pub fn read_func(alloc: Global, words: &[&str]) -> Result<Func, RowFault> {
     let mut stack = TypeStack {

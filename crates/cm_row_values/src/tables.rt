@@ -5,7 +5,7 @@
 //! behind it says how often it is lent. Its representation is its serial number and 100. `N*`
 //! before a handle stands for N of it.
 
-ghost use Rattle.std.specs.Prelude.{◌<◌, IfOk};
+ghost use Rattle.std.specs.Prelude.{◌<◌, ◌^◌, IfOk};
 ghost use Rattle.cm_lift.specs.HandingOver.{LendsBelow};
 
 use cm_handles::{Handle, HandleFault, HandleKind, Table};
@@ -13,9 +13,11 @@ use cm_rows::{RowFault, read_number, split_repeat};
 use cm_types::ResourceId;
 use std::alloc::{AllocError, Global};
 
-/// The table that a word spells.
+/// The table that a word spells. Its handles are lent fewer than 256 times, so few enough for what
+/// lifts them.
+#[tactic(auto, using(crate::proofs::TableLemmas::lends))]
 pub fn read_table(alloc: Global, word: &str) -> Result<Table, RowFault>
-    ensures { IfOk result (λ t. LendsBelow 256 t.handles) }
+    ensures { IfOk result (λ t. LendsBelow (2 ^ 100) t.handles) }
 {
     let mut table = empty(alloc);
     if word == "-" {

@@ -1,5 +1,5 @@
 use Rattle.cm_lift.specs.HandingOver.{LendsBelow}
-use Rattle.abi_rows.proofs.tables.read_table.Given as goal
+use Rattle.cm_row_values.proofs.tables.read_table.Given as goal
 
 abbrev pub invariant-loop-part : goal.invariant-loop-part
 invariant-loop-part l =

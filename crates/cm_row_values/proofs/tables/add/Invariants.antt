@@ -1,5 +1,5 @@
 use Rattle.cm_lift.specs.HandingOver.{LendsBelow}
-use Rattle.abi_rows.proofs.tables.add.Given as goal
+use Rattle.cm_row_values.proofs.tables.add.Given as goal
 
 abbrev pub invariant-loop : goal.invariant-loop
 invariant-loop l = LendsBelow 256 l.table.handles

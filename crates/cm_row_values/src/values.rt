@@ -3,12 +3,9 @@
 use cm_values::Value;
 use std::alloc::AllocError;
 
-/// Writes a value: numbers and truth values as they are, a char as `U+` and its number in
-/// hexadecimal digits, a string in quotes, a list in square brackets and fields in round ones, a
-/// case as `case:INDEX` with what it carries in round brackets, a set of labels as `flags:BITS`, a
-/// handle as `handle:SERIAL.REP`.
+/// Writes a value.
 #[cycle(writing)]
-pub fn write_value(out: &mut String, value: &Value) -> Result<(), AllocError> {
+fn write_value(out: &mut String, value: &Value) -> Result<(), AllocError> {
     match value {
         Value::Bool(truth) => write!(out, "{truth}"),
         Value::Signed(number) => write!(out, "{number}"),
@@ -44,8 +41,12 @@ pub fn write_value(out: &mut String, value: &Value) -> Result<(), AllocError> {
     }
 }
 
+/// Writes values, a space between two: numbers and truth values as they are, a char as `U+` and its
+/// number in hexadecimal digits, a string in quotes, a list in square brackets and fields in round
+/// ones, a case as `case:INDEX` with what it carries in round brackets, a set of labels as
+/// `flags:BITS`, a handle as `handle:SERIAL.REP`.
 #[cycle(writing)]
-fn write_values(out: &mut String, values: &[Value]) -> Result<(), AllocError> {
+pub fn write_values(out: &mut String, values: &[Value]) -> Result<(), AllocError> {
     for (i, value) in values.iter().enumerate() {
         if i > 0 {
             out.push_str(" ")?;
