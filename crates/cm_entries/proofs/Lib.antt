@@ -1,0 +1,6 @@
+mod ItemLaws
+mod RangeLaws
+mod MemberLaws
+mod StepLaws
+mod AliasLaws
+mod MoveLaws
