@@ -61,32 +61,32 @@ pub func_aliased : (types : List Ty) (funcs : List FuncTy) (old new : ComponentS
     → aliased_member s i name ≡ Some (func_member (func_def funcs f)) → is_func_there (length funcs) f ≡ true → IsComponentOf types funcs old s → PushesFunc f old new
     → IsComponentOf types funcs new (after_item s (alias_item (instance_export sort i name)))
 func_aliased types funcs old new s sort i name f e there r p = grown types funcs old new s (alias_item (instance_export sort i name)) r (record {
-      funcs_added = mapped_more (func_def funcs) old.funcs.items new.funcs.items f p.pushed ∙ ap (λ (o : Option MemberDef). map (func_def funcs) old.funcs.items ++ option_to_list (option_and_then func_of_member o)) (sym e);
-      funcs_there = all_more (is_func_there (length funcs)) old.funcs.items new.funcs.items f p.pushed r.funcs_there there;
-      instances_added = mapped_same (members_of types funcs) old.instances.items new.instances.items (ap (λ v. v.items) p.instances);
-      instances_there = ap (λ v. list_all (are_members_there (length types) (length funcs)) v.items) p.instances ∙ r.instances_there;
-      resources_added = none_more (resources_in old.resources) (resources_in new.resources) (ap resources_in p.resources);
-      imports_added = mapped_same (extern_of types funcs) old.imports.items new.imports.items (ap (λ v. v.items) p.imports);
-      import_names_added = none_more (names_of old.import_names) (names_of new.import_names) (ap names_of p.import_names);
-      exports_added = mapped_same (export_def types funcs) old.exports.items new.exports.items (ap (λ v. v.items) p.exports);
-      export_names_added = none_more (names_of old.export_names) (names_of new.export_names) (ap names_of p.export_names);
-    })
+  funcs_added = mapped_more (func_def funcs) old.funcs.items new.funcs.items f p.pushed ∙ ap (λ (o : Option MemberDef). map (func_def funcs) old.funcs.items ++ option_to_list (option_and_then func_of_member o)) (sym e);
+  funcs_there = all_more (is_func_there (length funcs)) old.funcs.items new.funcs.items f p.pushed r.funcs_there there;
+  instances_added = mapped_same (members_of types funcs) old.instances.items new.instances.items (ap (λ v. v.items) p.instances);
+  instances_there = ap (λ v. list_all (are_members_there (length types) (length funcs)) v.items) p.instances ∙ r.instances_there;
+  resources_added = none_more (resources_in old.resources) (resources_in new.resources) (ap resources_in p.resources);
+  imports_added = mapped_same (extern_of types funcs) old.imports.items new.imports.items (ap (λ v. v.items) p.imports);
+  import_names_added = none_more (names_of old.import_names) (names_of new.import_names) (ap names_of p.import_names);
+  exports_added = mapped_same (export_def types funcs) old.exports.items new.exports.items (ap (λ v. v.items) p.exports);
+  export_names_added = none_more (names_of old.export_names) (names_of new.export_names) (ap names_of p.export_names);
+})
 
 -- a type that is aliased: nothing is added but the type
 pub type_aliased : (types : List Ty) (funcs : List FuncTy) (c : ComponentSpaces) (s : Spaces) (sort : InstanceExportSort) (i : ℕ) (name : List ℕ) (d : MemberDef)
     → aliased_member s i name ≡ Some d → func_of_member d ≡ None → IsComponentOf types funcs c s
     → IsComponentOf types funcs c (after_item s (alias_item (instance_export sort i name)))
 type_aliased types funcs c s sort i name d e no_func r = grown types funcs c c s (alias_item (instance_export sort i name)) r (record {
-      funcs_added = mapped_same (func_def funcs) c.funcs.items c.funcs.items refl ∙ ap (λ o. map (func_def funcs) c.funcs.items ++ option_to_list o) (sym no_func) ∙ ap (λ (o : Option MemberDef). map (func_def funcs) c.funcs.items ++ option_to_list (option_and_then func_of_member o)) (sym e);
-      funcs_there = r.funcs_there;
-      instances_added = mapped_same (members_of types funcs) c.instances.items c.instances.items refl;
-      instances_there = r.instances_there;
-      resources_added = none_more (resources_in c.resources) (resources_in c.resources) refl;
-      imports_added = mapped_same (extern_of types funcs) c.imports.items c.imports.items refl;
-      import_names_added = none_more (names_of c.import_names) (names_of c.import_names) refl;
-      exports_added = mapped_same (export_def types funcs) c.exports.items c.exports.items refl;
-      export_names_added = none_more (names_of c.export_names) (names_of c.export_names) refl;
-    })
+  funcs_added = mapped_same (func_def funcs) c.funcs.items c.funcs.items refl ∙ ap (λ o. map (func_def funcs) c.funcs.items ++ option_to_list o) (sym no_func) ∙ ap (λ (o : Option MemberDef). map (func_def funcs) c.funcs.items ++ option_to_list (option_and_then func_of_member o)) (sym e);
+  funcs_there = r.funcs_there;
+  instances_added = mapped_same (members_of types funcs) c.instances.items c.instances.items refl;
+  instances_there = r.instances_there;
+  resources_added = none_more (resources_in c.resources) (resources_in c.resources) refl;
+  imports_added = mapped_same (extern_of types funcs) c.imports.items c.imports.items refl;
+  import_names_added = none_more (names_of c.import_names) (names_of c.import_names) refl;
+  exports_added = mapped_same (export_def types funcs) c.exports.items c.exports.items refl;
+  export_names_added = none_more (names_of c.export_names) (names_of c.export_names) refl;
+})
 
 -- ---- what a call answers
 

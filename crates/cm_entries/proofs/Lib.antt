@@ -4,3 +4,7 @@ mod MemberLaws
 mod StepLaws
 mod AliasLaws
 mod MoveLaws
+mod ImportLaws
+mod AnswerLaws
+mod ExportLaws
+mod StayLaws

@@ -58,9 +58,10 @@ both_cons x y xs ys e f = cc
 pub follows : (rs : List Range) (next end : ℕ) → map (λ (r : Range). r.first) rs ≡ starts_from next rs → end ≡ next + length (range_defs rs) → FollowFrom next rs end
 follows [] next end e f = omega (arith, f)
 follows (r ∷ rs) next end e f =
-    let more = length-append (source_defs r.source) (range_defs rs) in
-    (heads r.first next (map (λ (x : Range). x.first) rs) (starts_from (next + length (source_defs r.source)) rs) e,
-    follows rs (next + length (source_defs r.source)) end (tails r.first next (map (λ (x : Range). x.first) rs) (starts_from (next + length (source_defs r.source)) rs) e) (omega (arith, more, f)))
+    let more = length-append (source_defs r.source) (range_defs rs) in (
+      heads r.first next (map (λ (x : Range). x.first) rs) (starts_from (next + length (source_defs r.source)) rs) e,
+      follows rs (next + length (source_defs r.source)) end (tails r.first next (map (λ (x : Range). x.first) rs) (starts_from (next + length (source_defs r.source)) rs) e) (omega (arith, more, f)),
+    )
 
 pub starts : (rs : List Range) (next end : ℕ) → FollowFrom next rs end → map (λ (r : Range). r.first) rs ≡ starts_from next rs
 starts [] next end f = refl

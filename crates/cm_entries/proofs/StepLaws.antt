@@ -1,5 +1,5 @@
 -- The index spaces after an item.
-use Rattle.std.proofs.Common.{◌≡◌, ℕ, zero, suc, Bool, true, false, ◌&&◌, List, [], ◌∷◌, ◌++◌, length, map, Option, Some, None, refl, sym, ap, ◌∙◌, Result, Ok, Err, OnErr, IfSome}
+use Rattle.std.proofs.Common.{◌≡◌, ℕ, zero, suc, Bool, true, false, ◌&&◌, List, [], ◌∷◌, ◌++◌, length, map, Option, Some, None, refl, sym, ap, ◌∙◌, Result, Ok, Err, OnErr, OnOk, IfSome}
 use Rattle.std.proofs.lemmas.List.{append-nil, map-append}
 use Rattle.std.specs.List.{list_all, slice_get}
 use Rattle.cm_types.specs.Types.{Ty, FuncTy}
@@ -39,7 +39,7 @@ all_more test old new x e f g = ap (list_all test) e ∙ all_pushed test old x f
 pub all_same : {A : Type 0} (test : A → Bool) (old new : List A) → new ≡ old → list_all test old ≡ true → list_all test new ≡ true
 all_same test old new e f = ap (list_all test) e ∙ f
 
-all_found : {A : Type 0} (test : A → Bool) (xs : List A) (i : ℕ) (x : A) → list_all test xs ≡ true → slice_get xs i ≡ Some x → test x ≡ true
+pub all_found : {A : Type 0} (test : A → Bool) (xs : List A) (i : ℕ) (x : A) → list_all test xs ≡ true → slice_get xs i ≡ Some x → test x ≡ true
 all_found test [] i x e f = absurd cc
 all_found test (y ∷ ys) zero x e f = ap test (sym (some_is f)) ∙ left (test y) e
   where
@@ -104,3 +104,7 @@ grown types funcs old new s x r a = record {
 pub on_any_err : {A E P : Type 0} (r : Result A E) → P → OnErr r P
 on_any_err (Ok x) p = tt
 on_any_err (Err e) p = p
+
+pub on_ok : {A E P Q : Type 0} (r : Result A E) → (P → Q) → OnOk r P → OnOk r Q
+on_ok (Ok x) f p = f p
+on_ok (Err e) f p = p

@@ -69,12 +69,35 @@ Stays old new =
     (types : List Ty) (funcs : List FuncTy) (s : Spaces) → IsComponentOf types funcs old s
     → IsComponentOf types funcs new s
 
+-- what stands for the spaces before an item stands for those after it
+abbrev pub StaysAfter : Item → Type 0
+StaysAfter x =
+    (types : List Ty) (funcs : List FuncTy) (c : ComponentSpaces) (s : Spaces)
+    → IsComponentOf types funcs c s → IsComponentOf types funcs c (after_item s x)
+
 -- ---- what calls answer
 
 -- the spaces after an item that breaks nothing; where it breaks a rule, those before it
 abbrev pub after_answer : Option ValidReason → Spaces → Item → Spaces
 after_answer None s x = after_item s x
 after_answer (Some r) s x = s
+
+-- A call answers for an item, after types: with the least reason that it breaks, or else after it.
+pub record Answers (es : List TypeEntry) (x : Item) (old : ComponentSpaces)
+    (r : Option ValidReason) (new : ComponentSpaces) : Type 0 where
+  pub fault : (types : List Ty) (funcs : List FuncTy) (s : Spaces)
+      → IsComponentOf types funcs old s → AreTypesOf types funcs es s → r ≡ least (broken s x)
+  pub after : (types : List Ty) (funcs : List FuncTy) (s : Spaces)
+      → IsComponentOf types funcs old s → AreTypesOf types funcs es s
+      → IsComponentOf types funcs new (after_answer r s x)
+
+-- the same for an item that names no types
+pub record AnswersAlone (x : Item) (old : ComponentSpaces) (r : Option ValidReason)
+    (new : ComponentSpaces) : Type 0 where
+  pub fault : (types : List Ty) (funcs : List FuncTy) (s : Spaces)
+      → IsComponentOf types funcs old s → r ≡ least (broken s x)
+  pub after : (types : List Ty) (funcs : List FuncTy) (s : Spaces)
+      → IsComponentOf types funcs old s → IsComponentOf types funcs new (after_answer r s x)
 
 -- what an alias breaks, and the type that it adds
 abbrev pub alias_fault : Aliased → Option ValidReason

@@ -4,6 +4,8 @@ use Rattle.std.specs.Prelude.{⊤, ℕ, ◌+◌, Bool, true, List, [], ◌∷◌
 use Rattle.std.specs.Borrow.{Bor}
 use Rattle.std.specs.List.{AllByRecursion, list_all}
 use Rattle.std.specs.Option.{option_or}
+use Rattle.std.specs.declared.alloc.Global.{Global}
+use Rattle.std.specs.declared.rc.Rc.{Rc}
 use Rattle.cm_types.specs.Types.{Ty, FuncTy}
 use Rattle.cm_replaced.specs.Moves.{moved}
 use Rattle.cm_replaced.specs.declared.moves.Move.{Move}
@@ -20,6 +22,7 @@ use Rattle.cm_validity.specs.declared.sorts.TypeSort.{TypeSort}
 use Rattle.cm_validity.specs.declared.sorts.TypeSort.TheVariants as sort
 use Rattle.cm_counted.specs.Counted.{IsCounted, IsFuncCounted}
 use Rattle.cm_entries.specs.InstanceTypes.{instance_type_of, instance_of}
+use Rattle.cm_entries.specs.declared.items.InstanceItems.{InstanceItems}
 use Rattle.cm_entries.specs.declared.entries.TypeEntry.{TypeEntry}
 use Rattle.cm_entries.specs.declared.entries.TypeEntry.TheVariants as entry
 use Rattle.cm_entries.specs.declared.entries.FuncEntry.{FuncEntry}
@@ -43,6 +46,20 @@ entry_sort (entry.Value p) = sort.Value
 entry_sort (entry.Func p) = sort.Func
 entry_sort (entry.Resource n) = sort.Resource
 entry_sort (entry.Instance i) = sort.Instance
+
+-- the type of a function that it is, and that of an instance
+abbrev pub entry_func : TypeEntry → Option Placed
+entry_func (entry.Func p) = Some p
+entry_func _ = None
+
+abbrev pub entry_instance : TypeEntry → Option (Rc InstanceItems Global)
+entry_instance (entry.Instance i) = Some i
+entry_instance _ = None
+
+-- the resource that it is
+abbrev pub entry_resource : TypeEntry → Option ℕ
+entry_resource (entry.Resource n) = Some n
+entry_resource _ = None
 
 -- ---- functions, and members of instances
 

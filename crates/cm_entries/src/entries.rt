@@ -1,13 +1,9 @@
 //! What stands in the index spaces of types, functions and instances.
 
-ghost use Rattle.std.specs.Prelude.{◌≡◌};
-ghost use Rattle.cm_entries.specs.Entries.{entry_sort};
-
 use crate::items::InstanceItems;
 use cm_component::CanonOption;
 use cm_placed::Placed;
 use cm_replaced::Move;
-use cm_validity::TypeSort;
 use indexmap::IndexMap;
 use std::rc::Rc;
 
@@ -64,18 +60,4 @@ pub enum InstanceEntry<'a> {
     },
     /// Definitions under names, shared by all who name the instance.
     Exporting(Rc<IndexMap<&'a str, MemberEntry<'a>>>),
-}
-
-impl TypeEntry {
-    /// The sort of the type.
-    pub fn sort(&self) -> TypeSort
-        ensures { result ≡ entry_sort self.now }
-    {
-        match self {
-            TypeEntry::Value(_) => TypeSort::Value,
-            TypeEntry::Func(_) => TypeSort::Func,
-            TypeEntry::Resource(_) => TypeSort::Resource,
-            TypeEntry::Instance(_) => TypeSort::Instance,
-        }
-    }
 }

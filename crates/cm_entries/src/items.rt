@@ -86,10 +86,17 @@ impl InstanceItems {
     }
 
     /// The type.
-    pub fn ty(&self) -> &Rc<InstanceType>
-        ensures { result.now.value ≡ instance_type_of self.now }
+    pub fn ty(&self) -> &InstanceType
+        ensures { result.now ≡ instance_type_of self.now }
     {
         &self.ty
+    }
+
+    /// The type, shared. `AllocError` comes where it is shared too often to be counted.
+    pub fn share_type(&self) -> Result<Rc<InstanceType>, AllocError>
+        ensures { IfOk result (λ ty. ty.value ≡ instance_type_of self.now) }
+    {
+        self.ty.clone()
     }
 
     /// The number of the item of this name, from 0, and what it is; the first of several. It costs

@@ -79,11 +79,7 @@ impl<'a> ComponentSpaces<'a> {
     }
 
     /// Adds an import under a name.
-    pub(crate) fn add_import(
-        &mut self,
-        entry: Extern,
-        folded: FoldedName,
-    ) -> Result<(), AllocError>
+    pub(crate) fn add_import(&mut self, entry: Extern, folded: FoldedName) -> Result<(), AllocError>
         ensures { OnOk result (AddsImport entry (name_of folded) self.old self.new) }
     {
         self.imports.push(entry)?;
