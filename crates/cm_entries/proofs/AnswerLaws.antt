@@ -20,7 +20,7 @@ use Rattle.cm_entries.specs.Steps.{AddsImport, PushesFunc}
 use Rattle.cm_entries.specs.declared.entries.FuncEntry.TheVariants as func
 use Rattle.cm_entries.specs.declared.entries.TypeEntry.{TypeEntry}
 use Rattle.cm_entries.specs.declared.entries.TypeEntry.TheVariants as entry
-use Rattle.cm_entries.specs.declared.items.InstanceItems.{InstanceItems}
+use Rattle.cm_instance_items.specs.declared.items.InstanceItems.{InstanceItems}
 use Rattle.cm_entries.specs.declared.spaces.ComponentSpaces.{ComponentSpaces}
 use Rattle.std.specs.declared.alloc.Global.{Global}
 use Rattle.std.specs.declared.rc.Rc.{Rc}

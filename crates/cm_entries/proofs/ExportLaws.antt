@@ -18,7 +18,7 @@ use Rattle.cm_validity.specs.Spaces.{Spaces, after_item, func_exported, instance
 use Rattle.cm_extern_names.specs.NameSets.{names_of}
 use Rattle.cm_entries.specs.ComponentSpaces.{AnswersAlone, IsComponentOf, export_def}
 use Rattle.cm_entries.specs.Entries.{func_def, members_of, is_func_there, are_members_there}
-use Rattle.cm_entries.specs.Resources.{resources_in}
+use Rattle.cm_instance_items.specs.Resources.{resources_in}
 use Rattle.cm_entries.specs.Steps.{AddsExport, PushesFunc, PushesInstance}
 use Rattle.cm_entries.specs.declared.entries.FuncEntry.{FuncEntry}
 use Rattle.cm_entries.specs.declared.entries.InstanceEntry.{InstanceEntry}

@@ -33,9 +33,9 @@ use Rattle.cm_validity.specs.declared.sorts.TypeSort.TheVariants as sort
 use Rattle.cm_counted.specs.CountedSpaces.{AreItemsCounted, AreSpacesCounted, IsDefCounted, IsInstanceCounted}
 use Rattle.cm_extern_names.specs.NameSets.{names_of}
 use Rattle.cm_entries.specs.Entries.{entry_sort, func_def, members_of, is_func_there, is_type_there, are_members_there, type_def, AreItemsSettled, IsEntrySettled, item_members}
-use Rattle.cm_entries.specs.InstanceTypes.{instance_of, instance_type_of}
-use Rattle.cm_entries.specs.Items.{fresh_of}
-use Rattle.cm_entries.specs.Resources.{resources_in}
+use Rattle.cm_instance_items.specs.InstanceTypes.{instance_of, instance_type_of}
+use Rattle.cm_instance_items.specs.Items.{fresh_of}
+use Rattle.cm_instance_items.specs.Resources.{resources_in}
 use Rattle.cm_entries.specs.ComponentSpaces.{AreTypesOf, IsComponentOf, after_answer, export_def}
 use Rattle.cm_entries.specs.Steps.{AddsImport, PushesFunc, PushesInstance}
 use Rattle.cm_entries.specs.declared.entries.FuncEntry.TheVariants as func
@@ -43,8 +43,8 @@ use Rattle.cm_entries.specs.declared.entries.InstanceEntry.{InstanceEntry}
 use Rattle.cm_entries.specs.declared.entries.InstanceEntry.TheVariants as instance
 use Rattle.cm_entries.specs.declared.entries.TypeEntry.{TypeEntry}
 use Rattle.cm_entries.specs.declared.entries.TypeEntry.TheVariants as entry
-use Rattle.cm_entries.specs.declared.items.InstanceItems.{InstanceItems}
-use Rattle.cm_entries.specs.declared.ranges.Resources.{Resources}
+use Rattle.cm_instance_items.specs.declared.items.InstanceItems.{InstanceItems}
+use Rattle.cm_instance_items.specs.declared.ranges.Resources.{Resources}
 use Rattle.cm_entries.specs.declared.spaces.ComponentSpaces.{ComponentSpaces}
 use Rattle.cm_entries.proofs.MoveLaws.{Laws, all_brought, items_told, members_told}
 use Rattle.cm_entries.proofs.StepLaws.{all_more, all_same, all_found, grown, mapped_more, mapped_same, none_more}

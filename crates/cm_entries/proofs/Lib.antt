@@ -1,5 +1,3 @@
-mod ItemLaws
-mod RangeLaws
 mod MemberLaws
 mod StepLaws
 mod AliasLaws

@@ -13,7 +13,7 @@ use Rattle.cm_placed.specs.declared.instances.Item.{Item}
 use Rattle.cm_placed.specs.declared.instances.ItemDesc.{ItemDesc}
 use Rattle.cm_placed.specs.declared.instances.ItemDesc.TheVariants as item
 use Rattle.cm_validity.specs.Spaces.{member_named}
-use Rattle.cm_entries.specs.Items.{item_named}
+use Rattle.cm_instance_items.specs.Items.{item_named}
 use Rattle.cm_entries.specs.Entries.{item_member, item_members, member_def, named_member, is_member_there}
 use Rattle.cm_entries.specs.declared.entries.MemberEntry.{MemberEntry}
 

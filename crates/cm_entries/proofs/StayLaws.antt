@@ -25,13 +25,13 @@ use Rattle.cm_extern_names.specs.NameSets.{names_of}
 use Rattle.cm_entries.specs.ComponentSpaces.{AreTypesOf, IsComponentOf, export_def}
 use Rattle.cm_entries.specs.Entries.{are_members_there, entry_sort, func_def, is_func_there, members_of, type_def}
 use Rattle.cm_entries.specs.declared.entries.InstanceEntry.{InstanceEntry}
-use Rattle.cm_entries.specs.Ranges.{resource_def as resource_of}
-use Rattle.cm_entries.specs.Resources.{resources_in}
+use Rattle.cm_instance_items.specs.Ranges.{resource_def as resource_of}
+use Rattle.cm_instance_items.specs.Resources.{resources_in}
 use Rattle.cm_entries.specs.declared.spaces.ComponentSpaces.{ComponentSpaces}
 use Rattle.cm_entries.specs.declared.entries.TypeEntry.{TypeEntry}
 use Rattle.cm_entries.specs.declared.entries.TypeEntry.TheVariants as entry
-use Rattle.cm_entries.specs.declared.ranges.Resource.{Resource}
-use Rattle.cm_entries.specs.declared.ranges.Resources.{Resources}
+use Rattle.cm_instance_items.specs.declared.ranges.Resource.{Resource}
+use Rattle.cm_instance_items.specs.declared.ranges.Resources.{Resources}
 use Rattle.cm_entries.proofs.ImportLaws.{sorts_are}
 use Rattle.cm_entries.specs.Steps.{PushesInstance}
 use Rattle.cm_entries.proofs.StepLaws.{all_at, all_more, all_same, grown, mapped_more, mapped_same, none_more}

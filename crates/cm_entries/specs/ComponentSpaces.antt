@@ -16,7 +16,7 @@ use Rattle.cm_validity.specs.Spaces.{Spaces, empty_spaces, after_item, after_ite
 use Rattle.cm_extern_names.specs.NameSets.{names_of}
 use Rattle.cm_entries.specs.Entries.{func_def, members_of, is_func_there, are_members_there}
 use Rattle.cm_entries.specs.Entries.{type_def, is_type_there, IsEntrySettled}
-use Rattle.cm_entries.specs.Resources.{resources_in}
+use Rattle.cm_instance_items.specs.Resources.{resources_in}
 use Rattle.cm_entries.specs.declared.aliases.Aliased.{Aliased}
 use Rattle.cm_entries.specs.declared.aliases.Aliased.TheVariants as aliased
 use Rattle.cm_entries.specs.declared.entries.TypeEntry.{TypeEntry}

@@ -21,8 +21,8 @@ use Rattle.cm_validity.specs.Definitions.{type_member, NamedMember}
 use Rattle.cm_validity.specs.declared.sorts.TypeSort.{TypeSort}
 use Rattle.cm_validity.specs.declared.sorts.TypeSort.TheVariants as sort
 use Rattle.cm_counted.specs.Counted.{IsCounted, IsFuncCounted}
-use Rattle.cm_entries.specs.InstanceTypes.{instance_type_of, instance_of}
-use Rattle.cm_entries.specs.declared.items.InstanceItems.{InstanceItems}
+use Rattle.cm_instance_items.specs.InstanceTypes.{instance_type_of, instance_of}
+use Rattle.cm_instance_items.specs.declared.items.InstanceItems.{InstanceItems}
 use Rattle.cm_entries.specs.declared.entries.TypeEntry.{TypeEntry}
 use Rattle.cm_entries.specs.declared.entries.TypeEntry.TheVariants as entry
 use Rattle.cm_entries.specs.declared.entries.FuncEntry.{FuncEntry}

@@ -1,7 +1,7 @@
 //! What stands in the index spaces of types, functions and instances.
 
-use crate::items::InstanceItems;
 use cm_component::CanonOption;
+use cm_instance_items::InstanceItems;
 use cm_placed::Placed;
 use cm_replaced::Move;
 use indexmap::IndexMap;

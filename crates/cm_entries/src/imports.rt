@@ -3,12 +3,12 @@
 ghost use Rattle.std.specs.Prelude.{◌≡◌, IfOk, IfSome};
 
 use crate::entries::{FuncEntry, InstanceEntry, TypeEntry};
-use crate::items::InstanceItems;
 use crate::spaces::ComponentSpaces;
 use crate::types::{func_at, instance_at};
 use cm_component::{ExternDesc, Import};
 use cm_counted::laws::{moves_of_what_is_counted, resources_are_counted};
 use cm_extern_names::{ExternSort, FoldedName};
+use cm_instance_items::InstanceItems;
 use cm_placed::InstanceType;
 use cm_placed::laws::unmoved;
 use cm_replaced::Move;
@@ -155,8 +155,8 @@ impl<'a> ComponentSpaces<'a> {
     /// `NoSuchIndex` comes where its type is not there, `WrongSort` where that is of another sort,
     /// `DuplicateName` where an import before it has its name, ASCII case aside, and
     /// `BadAnnotatedName` where its name is none that it may have; the spaces then stay as they are
-    /// (Explainer.md, "Import and Export Definitions"). `AllocError` comes where there is no memory,
-    /// or where the numbers of resources pass 2^64; the spaces are then to be dropped.
+    /// (Explainer.md, "Import and Export Definitions"). `AllocError` comes where there is no
+    /// memory, or where the numbers of resources pass 2^64; the spaces are then to be dropped.
     ///
     /// What it costs is its name: neither the items of an instance nor the resources that they
     /// bring are written out.

@@ -7,13 +7,15 @@ use std::alloc::{AllocError, Global};
 use std::rc::Rc;
 
 impl<'a> ComponentSpaces<'a> {
-    ghost use Rattle.std.specs.Prelude.{◌≡◌, IfSome, List, OnErr, OnOk, length, map, slice_get, true};
+    ghost use Rattle.std.specs.Prelude.{◌≡◌, IfSome, List, OnErr, OnOk, length, map, slice_get};
+    ghost use Rattle.std.specs.Prelude.{true};
     ghost use Rattle.std.specs.List.{flat_map, list_all};
     ghost use Rattle.std.specs.Option.{option_map};
     ghost use Rattle.cm_types.specs.Types.{FuncTy, Ty};
     ghost use Rattle.cm_component.specs.declared.instances.InlineExport.{InlineExport};
     ghost use Rattle.cm_validity.specs.Items.{instance_item};
-    ghost use Rattle.cm_validity.specs.Spaces.{Spaces, after_item, named_member as member_of_export};
+    ghost use Rattle.cm_validity.specs.Spaces.{Spaces, after_item};
+    ghost use Rattle.cm_validity.specs.Spaces.{named_member as member_of_export};
     ghost use Rattle.cm_entries.specs.ComponentSpaces.{IsComponentOf, Stays};
     ghost use Rattle.cm_entries.specs.Entries.{func_def, is_func_there, is_member_there};
     ghost use Rattle.cm_entries.specs.Entries.{named_member};

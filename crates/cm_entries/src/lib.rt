@@ -7,16 +7,12 @@ mod entries;
 mod exports;
 mod imports;
 mod instances;
-mod items;
 pub mod laws;
-mod ranges;
 mod resources;
 mod spaces;
 mod types;
 
 pub use aliases::Aliased;
 pub use entries::{FuncEntry, InstanceEntry, MemberEntry, TypeEntry};
-pub use items::InstanceItems;
-pub use ranges::{Resource, Resources};
 pub use resources::resource_fault;
 pub use spaces::{ComponentSpaces, ExportEntry, ExportedEntry};

@@ -11,12 +11,12 @@ ghost use Rattle.cm_validity.specs.TypeRules.{has_sort};
 ghost use Rattle.cm_validity.specs.declared.sorts.TypeSort.TheVariants as sort;
 ghost use Rattle.cm_entries.specs.ComponentSpaces.{AreTypesOf};
 ghost use Rattle.cm_entries.specs.Entries.{entry_resource, entry_sort};
-ghost use Rattle.cm_entries.specs.Ranges.{resource_def};
+ghost use Rattle.cm_instance_items.specs.Ranges.{resource_def};
 ghost use Rattle.cm_entries.specs.declared.entries.TypeEntry.TheVariants as entry;
 
 use crate::entries::TypeEntry;
-use crate::ranges::Resource;
 use crate::spaces::ComponentSpaces;
+use cm_instance_items::Resource;
 use cm_validate::ValidReason;
 use std::alloc::AllocError;
 
@@ -31,15 +31,14 @@ impl TypeEntry {
     }
 }
 
-impl Resource {
-    /// What it breaks where the component has to define it.
-    fn own_fault(self) -> Option<ValidReason>
-        ensures { result ≡ least (unless (is_defined (resource_def self)) reason.NotOwnResource) }
-    {
-        match self {
-            Resource::Defined { .. } => None,
-            Resource::Brought { .. } => Some(ValidReason::NotOwnResource),
-        }
+/// What a resource breaks where the component has to define it.
+fn brought_fault(resource: Resource) -> Option<ValidReason>
+    ensures { result
+        ≡ least (unless (is_defined (resource_def resource)) reason.NotOwnResource) }
+{
+    match resource {
+        Resource::Defined { .. } => None,
+        Resource::Brought { .. } => Some(ValidReason::NotOwnResource),
     }
 }
 
@@ -60,8 +59,8 @@ pub(crate) fn resource_at(types: &[TypeEntry], index: u32) -> Result<u64, ValidR
 }
 
 /// What an index of a type breaks that has to name a resource, as that of what drops a handle:
-/// `NoSuchIndex` where nothing is there, `WrongSort` where another type is (Explainer.md, "Canonical
-/// Built-ins").
+/// `NoSuchIndex` where nothing is there, `WrongSort` where another type is (Explainer.md,
+/// "Canonical Built-ins").
 pub fn resource_fault(types: &[TypeEntry], index: u32) -> Option<ValidReason>
     ensures { (tys : List Ty) (funcs : List FuncTy) (s : Spaces)
         → AreTypesOf tys funcs types.now s → result ≡ least (canon_broken s (resource_drop index)) }
@@ -89,7 +88,7 @@ impl<'a> ComponentSpaces<'a> {
     {
         match self.resources.get(number) {
             None => None,
-            Some(resource) => resource.own_fault(),
+            Some(resource) => brought_fault(resource),
         }
     }
 

@@ -1,8 +1,8 @@
 //! The index spaces of functions and instances.
 
 use crate::entries::{FuncEntry, InstanceEntry};
-use crate::ranges::Resources;
 use cm_extern_names::{FoldedName, NameSet};
+use cm_instance_items::Resources;
 use cm_signatures::Extern;
 use std::alloc::{AllocError, Global};
 

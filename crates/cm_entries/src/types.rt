@@ -9,7 +9,7 @@ ghost use Rattle.cm_entries.specs.Entries.{entry_func, entry_instance, entry_sor
 ghost use Rattle.cm_entries.specs.declared.entries.TypeEntry.TheVariants as entry;
 
 use crate::entries::TypeEntry;
-use crate::items::InstanceItems;
+use cm_instance_items::InstanceItems;
 use cm_placed::Placed;
 use cm_validate::ValidReason;
 use cm_validity::TypeSort;

@@ -3,8 +3,8 @@ use Rattle.std.specs.List.{list_all}
 use Rattle.std.specs.Option.{option_map}
 use Rattle.cm_placed.specs.Instances.{are_items_there}
 use Rattle.cm_validity.specs.Spaces.{member_named}
-use Rattle.cm_entries.specs.InstanceTypes.{instance_type_of}
-use Rattle.cm_entries.specs.Items.{item_named}
+use Rattle.cm_instance_items.specs.InstanceTypes.{instance_type_of}
+use Rattle.cm_instance_items.specs.Items.{item_named}
 use Rattle.cm_entries.specs.Entries.{are_members_there, is_member_there, item_member, member_def, members_of, named_member}
 use Rattle.cm_entries.proofs.MemberLaws.{named_item, item_there, some_has, looked_up, looked_there}
 use Rattle.cm_entries.proofs.entries.InstanceEntry.member.Goals as goal

@@ -1,9 +1,9 @@
 use Rattle.std.proofs.Common.{◌≡◌, ◌++◌, ap, ◌∙◌, subst, map, length}
 use Rattle.cm_placed.specs.declared.instances.InstanceType.{InstanceType}
 use Rattle.cm_validity.specs.Definitions.{brought}
-use Rattle.cm_entries.specs.Items.{fresh_of}
-use Rattle.cm_entries.specs.InstanceTypes.{instance_type_of}
-use Rattle.cm_entries.specs.Resources.{resources_in}
+use Rattle.cm_instance_items.specs.Items.{fresh_of}
+use Rattle.cm_instance_items.specs.InstanceTypes.{instance_type_of}
+use Rattle.cm_instance_items.specs.Resources.{resources_in}
 use Rattle.cm_entries.specs.Steps.{PushesInstance}
 use Rattle.cm_entries.specs.declared.entries.InstanceEntry.TheVariants as instance
 use Rattle.cm_entries.proofs.ImportLaws.{instance_imported}

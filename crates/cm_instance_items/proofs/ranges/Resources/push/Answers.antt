@@ -1,8 +1,8 @@
 use Rattle.std.proofs.Common.{◌≡◌, ◌+◌, length, sym, ap, ◌∙◌, arith, subst}
-use Rattle.cm_entries.specs.Ranges.{range_defs, source_defs}
-use Rattle.cm_entries.specs.declared.ranges.Range.{Range}
-use Rattle.cm_entries.proofs.RangeLaws.{FollowFrom, counted, defs_more, follows, one_more, starts}
-use Rattle.cm_entries.proofs.ranges.Resources.push.Goals as goal
+use Rattle.cm_instance_items.specs.Ranges.{range_defs, source_defs}
+use Rattle.cm_instance_items.specs.declared.ranges.Range.{Range}
+use Rattle.cm_instance_items.proofs.RangeLaws.{FollowFrom, counted, defs_more, follows, one_more, starts}
+use Rattle.cm_instance_items.proofs.ranges.Resources.push.Goals as goal
 
 pub invariant_of-self-2 : goal.invariant_of-self-2
 invariant_of-self-2 c =

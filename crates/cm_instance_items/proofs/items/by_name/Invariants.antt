@@ -1,6 +1,6 @@
 use Rattle.std.proofs.Common.{drop}
-use Rattle.cm_entries.specs.Items.{AreFound}
-use Rattle.cm_entries.proofs.items.by_name.Given as goal
+use Rattle.cm_instance_items.specs.Items.{AreFound}
+use Rattle.cm_instance_items.proofs.items.by_name.Given as goal
 
 -- those of the last items, which are read from behind
 abbrev pub invariant-loop-number : goal.invariant-loop-number

@@ -3,7 +3,7 @@
 ghost use Rattle.std.specs.Prelude.{◌≡◌, ◌++◌, ℕ, List, IfOk, OnOk, Some, cond};
 ghost use Rattle.std.specs.BTreeMap.{get_by_text};
 ghost use Rattle.std.specs.Str.{bytes_eq};
-ghost use Rattle.cm_entries.specs.Items.{AreFound, fresh_at, fresh_from};
+ghost use Rattle.cm_instance_items.specs.Items.{AreFound, fresh_at, fresh_from};
 
 use cm_placed::{InstanceType, Item, ItemDesc};
 use std::alloc::{AllocError, Global};
@@ -72,8 +72,8 @@ fn fresh_items(alloc: Global, items: &[Item]) -> Result<Vec<usize>, AllocError>
 }
 
 impl InstanceItems {
-    ghost use Rattle.cm_entries.specs.InstanceTypes.{instance_type_of};
-    ghost use Rattle.cm_entries.specs.Items.{fresh_of, item_named};
+    ghost use Rattle.cm_instance_items.specs.InstanceTypes.{instance_type_of};
+    ghost use Rattle.cm_instance_items.specs.Items.{fresh_of, item_named};
 
     /// The items of this type. Each name is copied once. `AllocError` comes where there is no
     /// memory for it.

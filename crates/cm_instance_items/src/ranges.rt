@@ -3,8 +3,8 @@
 ghost use Rattle.std.specs.Prelude.{◌≡◌, length, map, slice_get};
 ghost use Rattle.std.specs.List.Sorted.{IsNonDecreasingBy};
 ghost use Rattle.std.specs.Option.{option_map};
-ghost use Rattle.cm_entries.specs.Ranges.{begun, range_defs, resource_def, source_defs};
-ghost use Rattle.cm_entries.specs.Ranges.{starts_from};
+ghost use Rattle.cm_instance_items.specs.Ranges.{begun, range_defs, resource_def, source_defs};
+ghost use Rattle.cm_instance_items.specs.Ranges.{starts_from};
 
 use crate::items::InstanceItems;
 use std::alloc::{AllocError, Global};
@@ -102,9 +102,9 @@ fn begun(ranges: &[Range], number: u64) -> Option<&Range>
 impl Resources {
     ghost use Rattle.std.specs.Prelude.{◌++◌, ◌∷◌, [], OnOk, OnErr};
     ghost use Rattle.cm_validity.specs.Definitions.{brought, defined};
-    ghost use Rattle.cm_entries.specs.Items.{fresh_of};
-    ghost use Rattle.cm_entries.specs.InstanceTypes.{instance_type_of};
-    ghost use Rattle.cm_entries.specs.Resources.{resources_in};
+    ghost use Rattle.cm_instance_items.specs.Items.{fresh_of};
+    ghost use Rattle.cm_instance_items.specs.InstanceTypes.{instance_type_of};
+    ghost use Rattle.cm_instance_items.specs.Resources.{resources_in};
 
     /// No resources.
     pub fn new(alloc: Global) -> Resources

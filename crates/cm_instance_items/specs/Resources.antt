@@ -1,8 +1,8 @@
 -- The resources of a component, by their numbers.
 use Rattle.std.specs.Prelude.{List}
 use Rattle.cm_validity.specs.Definitions.{ResourceDef}
-use Rattle.cm_entries.specs.Ranges.{range_defs}
-use Rattle.cm_entries.specs.declared.ranges.Resources.{Resources}
+use Rattle.cm_instance_items.specs.Ranges.{range_defs}
+use Rattle.cm_instance_items.specs.declared.ranges.Resources.{Resources}
 
 -- in the order of their numbers
 abbrev pub resources_in : Resources → List ResourceDef

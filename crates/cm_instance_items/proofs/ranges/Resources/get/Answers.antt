@@ -1,9 +1,9 @@
 use Rattle.std.proofs.Common.{◌≡◌, ◌-◌, ◌≤◌, Some, None, sym, ap, ◌∙◌, arith, slice_get}
 use Rattle.std.proofs.lemmas.Bool.{leb-true}
 use Rattle.std.specs.Option.{option_map}
-use Rattle.cm_entries.specs.Ranges.{begun, resource_def, source_defs}
-use Rattle.cm_entries.proofs.RangeLaws.{FollowFrom, begun_before, follow_sorted, follows, got}
-use Rattle.cm_entries.proofs.ranges.Resources.get.Goals as goal
+use Rattle.cm_instance_items.specs.Ranges.{begun, resource_def, source_defs}
+use Rattle.cm_instance_items.proofs.RangeLaws.{FollowFrom, begun_before, follow_sorted, follows, got}
+use Rattle.cm_instance_items.proofs.ranges.Resources.get.Goals as goal
 
 pub returns-in_err-range : goal.returns-in_err-range
 returns-in_err-range c =

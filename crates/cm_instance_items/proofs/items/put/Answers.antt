@@ -3,7 +3,7 @@ use Rattle.std.proofs.lemmas.Map.Text.{btree_map_updates_text}
 use Rattle.std.specs.BTreeMap.{get_by_text}
 use Rattle.std.specs.Str.{bytes_eq}
 use Rattle.std.specs.String.{string_bytes}
-use Rattle.cm_entries.proofs.items.put.Goals as goal
+use Rattle.cm_instance_items.proofs.items.put.Goals as goal
 
 pub returns : goal.returns
 returns c = λ q.

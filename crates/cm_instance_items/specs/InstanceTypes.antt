@@ -4,7 +4,7 @@ use Rattle.cm_types.specs.Types.{Ty, FuncTy}
 use Rattle.cm_placed.specs.Instances.{items_of}
 use Rattle.cm_placed.specs.declared.instances.InstanceType.{InstanceType}
 use Rattle.cm_validity.specs.Definitions.{InstanceTy}
-use Rattle.cm_entries.specs.declared.items.InstanceItems.{InstanceItems}
+use Rattle.cm_instance_items.specs.declared.items.InstanceItems.{InstanceItems}
 
 -- the type whose items these are
 abbrev pub instance_type_of : InstanceItems → InstanceType

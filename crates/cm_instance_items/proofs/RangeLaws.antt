@@ -6,8 +6,8 @@ use Rattle.std.specs.List.Sorted.{IsNonDecreasingBy}
 use Rattle.std.specs.Option.{option_or, option_and_then}
 use Rattle.std.specs.Prelude.{nat_le, if◌then◌else◌}
 use Rattle.cm_validity.specs.Definitions.{ResourceDef}
-use Rattle.cm_entries.specs.declared.ranges.Range.{Range}
-use Rattle.cm_entries.specs.Ranges.{begun, source_defs, range_defs, starts_from}
+use Rattle.cm_instance_items.specs.declared.ranges.Range.{Range}
+use Rattle.cm_instance_items.specs.Ranges.{begun, source_defs, range_defs, starts_from}
 
 -- ---- the range that begins last at or before a number
 

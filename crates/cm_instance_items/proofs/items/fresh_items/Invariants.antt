@@ -1,6 +1,6 @@
 use Rattle.std.proofs.Common.{◌≡◌, ◌++◌, drop}
-use Rattle.cm_entries.specs.Items.{fresh_from}
-use Rattle.cm_entries.proofs.items.fresh_items.Given as goal
+use Rattle.cm_instance_items.specs.Items.{fresh_from}
+use Rattle.cm_instance_items.proofs.items.fresh_items.Given as goal
 
 -- those so far, and those of the items to come
 abbrev pub invariant-loop-number : goal.invariant-loop-number

@@ -3,13 +3,13 @@ use Rattle.std.specs.Prelude.{◌+◌, ℕ, List, [], ◌∷◌, ◌++◌, map, 
 use Rattle.std.specs.Prelude.{nat_le, if◌then◌else◌}
 use Rattle.std.specs.Option.{option_or}
 use Rattle.cm_validity.specs.Definitions.{ResourceDef, defined, brought}
-use Rattle.cm_entries.specs.Items.{fresh_of}
-use Rattle.cm_entries.specs.InstanceTypes.{instance_type_of}
-use Rattle.cm_entries.specs.declared.ranges.Range.{Range}
-use Rattle.cm_entries.specs.declared.ranges.Source.{Source}
-use Rattle.cm_entries.specs.declared.ranges.Source.TheVariants as source
-use Rattle.cm_entries.specs.declared.ranges.Resource.{Resource}
-use Rattle.cm_entries.specs.declared.ranges.Resource.TheVariants as resource
+use Rattle.cm_instance_items.specs.Items.{fresh_of}
+use Rattle.cm_instance_items.specs.InstanceTypes.{instance_type_of}
+use Rattle.cm_instance_items.specs.declared.ranges.Range.{Range}
+use Rattle.cm_instance_items.specs.declared.ranges.Source.{Source}
+use Rattle.cm_instance_items.specs.declared.ranges.Source.TheVariants as source
+use Rattle.cm_instance_items.specs.declared.ranges.Resource.{Resource}
+use Rattle.cm_instance_items.specs.declared.ranges.Resource.TheVariants as resource
 
 -- what a resource is
 abbrev pub resource_def : Resource → ResourceDef

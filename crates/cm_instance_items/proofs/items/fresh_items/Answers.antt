@@ -1,7 +1,7 @@
 use Rattle.std.proofs.Common.{◌++◌, sym, ap, ◌∙◌}
-use Rattle.cm_entries.specs.Items.{fresh_at}
-use Rattle.cm_entries.proofs.ItemLaws.{fresh_more}
-use Rattle.cm_entries.proofs.items.fresh_items.Goals as goal
+use Rattle.cm_instance_items.specs.Items.{fresh_at}
+use Rattle.cm_instance_items.proofs.ItemLaws.{fresh_more}
+use Rattle.cm_instance_items.proofs.items.fresh_items.Goals as goal
 
 pub loop-number-preserved : goal.loop-number-preserved
 loop-number-preserved c =

@@ -1,6 +1,6 @@
 use Rattle.std.proofs.Common.{◌-◌, arith}
-use Rattle.cm_entries.proofs.ItemLaws.{put_before}
-use Rattle.cm_entries.proofs.items.by_name.Goals as goal
+use Rattle.cm_instance_items.proofs.ItemLaws.{put_before}
+use Rattle.cm_instance_items.proofs.items.by_name.Goals as goal
 
 pub loop-number-preserved : goal.loop-number-preserved
 loop-number-preserved c =

@@ -5,8 +5,8 @@ use Rattle.std.proofs.lemmas.Option.{gets}
 use Rattle.std.proofs.lemmas.List.Sorted.{IsPartitionPoint-from_clause, IsPartitionedBy-leb}
 use Rattle.std.specs.Option.{option_map}
 use Rattle.std.specs.Prelude.{nat_le}
-use Rattle.cm_entries.proofs.RangeLaws.{before, begun_at}
-use Rattle.cm_entries.proofs.ranges.begun.Goals as goal
+use Rattle.cm_instance_items.proofs.RangeLaws.{before, begun_at}
+use Rattle.cm_instance_items.proofs.ranges.begun.Goals as goal
 
 pub returns-in-Some : goal.returns-in-Some
 returns-in-Some c = λ sorted.

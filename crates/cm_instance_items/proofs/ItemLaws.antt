@@ -6,7 +6,7 @@ use Rattle.std.specs.declared.alloc.Global.{Global}
 use Rattle.std.specs.declared.string.String.{String}
 use Rattle.cm_placed.specs.declared.instances.Item.{Item}
 use Rattle.cm_placed.specs.declared.instances.ItemDesc.{ItemDesc}
-use Rattle.cm_entries.specs.Items.{AreFound, item_named, fresh_at, fresh_from}
+use Rattle.cm_instance_items.specs.Items.{AreFound, item_named, fresh_at, fresh_from}
 
 pub put_before : (xs : List Item) (j i : ℕ) (x : Item) (old new : BTreeMap (String Global) (ℕ × ItemDesc))
     → i ≡ j + 1 → j < length xs → x ≡ get_or xs j x
