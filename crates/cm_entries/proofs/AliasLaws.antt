@@ -9,7 +9,9 @@ use Rattle.cm_component.specs.declared.instances.InstanceExportSort.{InstanceExp
 use Rattle.cm_component.specs.declared.instances.InstanceExportSort.TheVariants as member_sort
 use Rattle.cm_placed.specs.declared.placed.Placed.{Placed}
 use Rattle.cm_component.specs.Trees.{instance_export}
-use Rattle.cm_signatures.specs.Externs.{extern_of}
+use Rattle.cm_signatures.specs.Externs.{extern_of, is_extern_there}
+use Rattle.cm_signatures.specs.declared.signatures.Extern.{Extern}
+use Rattle.cm_entries.specs.declared.spaces.ExportEntry.{ExportEntry}
 use Rattle.cm_validate.specs.declared.fault.ValidReason.TheVariants as reason
 use Rattle.cm_validity.specs.Definitions.{MemberDef, NamedMember, func_member}
 use Rattle.cm_validity.specs.Items.{alias_item}
@@ -19,7 +21,7 @@ use Rattle.cm_validity.specs.Spaces.{Spaces, after_item, aliased_member, member_
 use Rattle.cm_extern_names.specs.NameSets.{names_of}
 use Rattle.cm_entries.specs.Entries.{func_def, members_of, member_def, is_func_there, are_members_there, is_member_there}
 use Rattle.cm_instance_items.specs.Resources.{resources_in}
-use Rattle.cm_entries.specs.ComponentSpaces.{AnswersAlias, IsComponentOf, export_def}
+use Rattle.cm_entries.specs.ComponentSpaces.{AnswersAlias, IsComponentOf, export_def, is_exported_there}
 use Rattle.cm_entries.specs.declared.aliases.Aliased.TheVariants as aliased
 use Rattle.cm_entries.specs.declared.entries.MemberEntry.{MemberEntry}
 use Rattle.cm_entries.specs.declared.entries.MemberEntry.TheVariants as member
@@ -28,7 +30,7 @@ use Rattle.cm_entries.specs.Steps.{PushesFunc}
 use Rattle.cm_entries.specs.declared.entries.FuncEntry.{FuncEntry}
 use Rattle.cm_entries.specs.declared.entries.InstanceEntry.{InstanceEntry}
 use Rattle.cm_entries.specs.declared.spaces.ComponentSpaces.{ComponentSpaces}
-use Rattle.cm_entries.proofs.StepLaws.{all_at, all_more, grown, mapped_more, mapped_same, none_more}
+use Rattle.cm_entries.proofs.StepLaws.{all_at, all_more, all_same, grown, mapped_more, mapped_same, none_more}
 
 -- ---- what an alias names
 
@@ -70,6 +72,8 @@ func_aliased types funcs old new s sort i name f e there r p = grown types funcs
   import_names_added = none_more (names_of old.import_names) (names_of new.import_names) (ap names_of p.import_names);
   exports_added = mapped_same (export_def types funcs) old.exports.items new.exports.items (ap (λ v. v.items) p.exports);
   export_names_added = none_more (names_of old.export_names) (names_of new.export_names) (ap names_of p.export_names);
+  imports_there = all_same (λ (e : Extern). is_extern_there (length types) (length funcs) e.desc) old.imports.items new.imports.items (ap (λ v. v.items) p.imports) r.imports_there;
+  exports_there = all_same (λ (e : ExportEntry). is_exported_there (length types) (length funcs) e.def) old.exports.items new.exports.items (ap (λ v. v.items) p.exports) r.exports_there;
 })
 
 -- a type that is aliased: nothing is added but the type
@@ -86,6 +90,8 @@ type_aliased types funcs c s sort i name d e no_func r = grown types funcs c c s
   import_names_added = none_more (names_of c.import_names) (names_of c.import_names) refl;
   exports_added = mapped_same (export_def types funcs) c.exports.items c.exports.items refl;
   export_names_added = none_more (names_of c.export_names) (names_of c.export_names) refl;
+  imports_there = r.imports_there;
+  exports_there = r.exports_there;
 })
 
 -- ---- what a call answers

@@ -7,7 +7,8 @@ use Rattle.std.specs.Option.{option_map, option_and_then}
 use Rattle.std.specs.Borrow.{Bor}
 use Rattle.cm_types.specs.Types.{Ty, FuncTy}
 use Rattle.cm_component.specs.declared.externs.ExportSort.TheVariants as export_sort
-use Rattle.cm_signatures.specs.Externs.{extern_of}
+use Rattle.cm_signatures.specs.Externs.{extern_of, is_extern_there}
+use Rattle.cm_signatures.specs.declared.signatures.Extern.{Extern}
 use Rattle.cm_validate.specs.declared.fault.ValidReason.{ValidReason}
 use Rattle.cm_validate.specs.declared.fault.ValidReason.TheVariants as reason
 use Rattle.cm_validity.specs.Definitions.{FuncDef, NamedExport, NamedMember, exported_func, exported_instance}
@@ -16,7 +17,7 @@ use Rattle.cm_validity.specs.Reasons.{bare_index_broken, found, least, lesser}
 use Rattle.cm_validity.specs.Rules.{broken, func_name_broken, instance_name_broken, name_broken}
 use Rattle.cm_validity.specs.Spaces.{Spaces, after_item, func_exported, instance_exported, new_exports, new_funcs, new_instances}
 use Rattle.cm_extern_names.specs.NameSets.{names_of}
-use Rattle.cm_entries.specs.ComponentSpaces.{AnswersAlone, IsComponentOf, export_def}
+use Rattle.cm_entries.specs.ComponentSpaces.{AnswersAlone, IsComponentOf, export_def, is_exported_there}
 use Rattle.cm_entries.specs.Entries.{func_def, members_of, is_func_there, are_members_there}
 use Rattle.cm_instance_items.specs.Resources.{resources_in}
 use Rattle.cm_entries.specs.Steps.{AddsExport, PushesFunc, PushesInstance}
@@ -94,12 +95,14 @@ module _ (both : LeastOfBoth) (i : ℕ) (name : Bor (List ℕ)) (old : Component
             import_names_added = none_more (names_of old.import_names) (names_of new.import_names) (ap names_of (b.import_names ∙ a.import_names));
             exports_added = mapped_more (export_def types funcs) old.exports.items new.exports.items (entry_of_func f) now_exports ∙ ap (λ v. map (export_def types funcs) old.exports.items ++ v) (sym export_is);
             export_names_added = b.named (ap (λ v. name_broken name.now (names_of v)) a.export_names ∙ fine) ∙ ap (λ v. names_of v ++ name.now ∷ []) a.export_names ∙ ap (λ (v : List NamedExport). names_of old.export_names ++ map (λ y. y.name) v) (sym export_is);
+            imports_there = all_same (λ (e : Extern). is_extern_there (length types) (length funcs) e.desc) old.imports.items new.imports.items (ap (λ v. v.items) (b.imports ∙ a.imports)) r.imports_there;
+            exports_there = all_more (λ (e : ExportEntry). is_exported_there (length types) (length funcs) e.def) old.exports.items new.exports.items (entry_of_func f) now_exports r.exports_there (all_found (is_func_there (length funcs)) old.funcs.items i f r.funcs_there is);
           })
 
       instance_exports : (e f g : InstanceEntry) → slice_get old.instances.items i ≡ Some e → members_of types funcs f ≡ members_of types funcs e → members_of types funcs g ≡ members_of types funcs e
-          → are_members_there (length types) (length funcs) f ≡ are_members_there (length types) (length funcs) e
+          → are_members_there (length types) (length funcs) f ≡ are_members_there (length types) (length funcs) e → are_members_there (length types) (length funcs) g ≡ are_members_there (length types) (length funcs) e
           → PushesInstance f old mid → AddsExport (entry_of_instance g) name.now mid new → IsComponentOf types funcs new (after_item s of_instance)
-      instance_exports e f g is same_f same_g there a b =
+      instance_exports e f g is same_f same_g there there_g a b =
           let at : slice_get s.instances i ≡ Some (members_of types funcs e) = instance_at (Some e) is in
           let now_instances : new.instances.items ≡ old.instances.items ++ f ∷ [] = ap (λ v. v.items) b.instances ∙ a.pushed in
           let now_exports : new.exports.items ≡ old.exports.items ++ entry_of_instance g ∷ [] = b.added ∙ ap (λ v. v.items ++ entry_of_instance g ∷ []) a.exports in
@@ -117,6 +120,8 @@ module _ (both : LeastOfBoth) (i : ℕ) (name : Bor (List ℕ)) (old : Component
             import_names_added = none_more (names_of old.import_names) (names_of new.import_names) (ap names_of (b.import_names ∙ a.import_names));
             exports_added = mapped_more (export_def types funcs) old.exports.items new.exports.items (entry_of_instance g) now_exports ∙ ap (λ v. map (export_def types funcs) old.exports.items ++ v) (sym export_is);
             export_names_added = b.named (ap (λ v. name_broken name.now (names_of v)) a.export_names ∙ fine) ∙ ap (λ v. names_of v ++ name.now ∷ []) a.export_names ∙ ap (λ (v : List NamedExport). names_of old.export_names ++ map (λ y. y.name) v) (sym export_is);
+            imports_there = all_same (λ (e : Extern). is_extern_there (length types) (length funcs) e.desc) old.imports.items new.imports.items (ap (λ v. v.items) (b.imports ∙ a.imports)) r.imports_there;
+            exports_there = all_more (λ (x : ExportEntry). is_exported_there (length types) (length funcs) x.def) old.exports.items new.exports.items (entry_of_instance g) now_exports r.exports_there (there_g ∙ all_found (are_members_there (length types) (length funcs)) old.instances.items i e r.instances_there is);
           })
 
   -- ---- what calls answer
@@ -156,10 +161,10 @@ module _ (both : LeastOfBoth) (i : ℕ) (name : Bor (List ℕ)) (old : Component
 
     pub instance_added_answer : (e g h : InstanceEntry) (mid new : ComponentSpaces) → slice_get old.instances.items i ≡ Some e → is_some b ≡ false
         → ((types : List Ty) (funcs : List FuncTy) → members_of types funcs g ≡ members_of types funcs e) → ((types : List Ty) (funcs : List FuncTy) → members_of types funcs h ≡ members_of types funcs e)
-        → ((types funcs : ℕ) → are_members_there types funcs g ≡ are_members_there types funcs e)
+        → ((types funcs : ℕ) → are_members_there types funcs g ≡ are_members_there types funcs e) → ((types funcs : ℕ) → are_members_there types funcs h ≡ are_members_there types funcs e)
         → PushesInstance g old mid → AddsExport (record { name = name; def = export.Instance h }) name.now mid new
         → AnswersAlone of_instance old None new
-    instance_added_answer e g h mid new is none same_g same_h there a x = record {
+    instance_added_answer e g h mid new is none same_g same_h there there_h a x = record {
       fault = λ types funcs s r. sym (is_none b none) ∙ instance_fault types funcs s r (Some e) b is f;
-      after = λ types funcs s r. instance_exports types funcs s r mid new (none_last (instance_name_broken name.now) (name_broken name.now (names_of old.export_names)) (sym f ∙ is_none b none)) e g h is (same_g types funcs) (same_h types funcs) (there (length types) (length funcs)) a x;
+      after = λ types funcs s r. instance_exports types funcs s r mid new (none_last (instance_name_broken name.now) (name_broken name.now (names_of old.export_names)) (sym f ∙ is_none b none)) e g h is (same_g types funcs) (same_h types funcs) (there (length types) (length funcs)) (there_h (length types) (length funcs)) a x;
     }

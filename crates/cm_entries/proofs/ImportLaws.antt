@@ -15,7 +15,8 @@ use Rattle.cm_placed.specs.Placed.{moved_by, placed_func}
 use Rattle.cm_placed.specs.Instances.{are_items_there, items_of, replaced_item}
 use Rattle.cm_placed.specs.declared.instances.InstanceType.{InstanceType}
 use Rattle.cm_placed.specs.declared.placed.Placed.{Placed}
-use Rattle.cm_signatures.specs.Externs.{extern_of}
+use Rattle.cm_signatures.specs.Externs.{extern_of, is_extern_there}
+use Rattle.cm_entries.specs.declared.spaces.ExportEntry.{ExportEntry}
 use Rattle.cm_signatures.specs.declared.signatures.Extern.{Extern}
 use Rattle.cm_signatures.specs.declared.signatures.ExternDesc.TheVariants as extern
 use Rattle.cm_validate.specs.declared.fault.ValidReason.{ValidReason}
@@ -36,7 +37,7 @@ use Rattle.cm_entries.specs.Entries.{entry_sort, func_def, members_of, is_func_t
 use Rattle.cm_instance_items.specs.InstanceTypes.{instance_of, instance_type_of}
 use Rattle.cm_instance_items.specs.Items.{fresh_of}
 use Rattle.cm_instance_items.specs.Resources.{resources_in}
-use Rattle.cm_entries.specs.ComponentSpaces.{AreTypesOf, IsComponentOf, after_answer, export_def}
+use Rattle.cm_entries.specs.ComponentSpaces.{AreTypesOf, IsComponentOf, after_answer, export_def, is_exported_there}
 use Rattle.cm_entries.specs.Steps.{AddsImport, PushesFunc, PushesInstance}
 use Rattle.cm_entries.specs.declared.entries.FuncEntry.TheVariants as func
 use Rattle.cm_entries.specs.declared.entries.InstanceEntry.{InstanceEntry}
@@ -167,6 +168,8 @@ module _ (types : List Ty) (funcs : List FuncTy) (old mid new : ComponentSpaces)
         import_names_added = b.named (ap (λ v. name_broken name (names_of v)) a.import_names ∙ fine) ∙ ap (λ v. names_of v ++ name ∷ []) a.import_names ∙ ap (λ (v : List NamedExtern). names_of old.import_names ++ map (λ y. y.name) v) (sym import_is);
         exports_added = mapped_same (export_def types funcs) old.exports.items new.exports.items (ap (λ v. v.items) (b.exports ∙ a.exports));
         export_names_added = none_more (names_of old.export_names) (names_of new.export_names) (ap names_of (b.export_names ∙ a.export_names));
+        imports_there = all_more (λ (e : Extern). is_extern_there (length types) (length funcs) e.desc) old.imports.items new.imports.items (record { name = name; desc = extern.Func p }) now_imports r.imports_there (all_found (is_type_there (length types) (length funcs)) es i (entry.Func p) t.types_there is);
+        exports_there = all_same (λ (e : ExportEntry). is_exported_there (length types) (length funcs) e.def) old.exports.items new.exports.items (ap (λ v. v.items) (b.exports ∙ a.exports)) r.exports_there;
       })
 
 -- ---- an instance that is imported
@@ -265,4 +268,6 @@ module _ (laws : Laws) (counts : AreCounted) (types : List Ty) (funcs : List Fun
         import_names_added = b.named (ap (λ v. name_broken name (names_of v)) a.import_names ∙ fine) ∙ ap (λ v. names_of v ++ name ∷ []) a.import_names ∙ ap (λ (v : List NamedExtern). names_of old.import_names ++ map (λ y. y.name) v) (sym import_is);
         exports_added = mapped_same (export_def types funcs) old.exports.items new.exports.items (ap (λ v. v.items) (b.exports ∙ a.exports));
         export_names_added = none_more (names_of old.export_names) (names_of new.export_names) (ap names_of (b.export_names ∙ a.export_names));
+        imports_there = all_more (λ (e : Extern). is_extern_there (length types) (length funcs) e.desc) old.imports.items new.imports.items (added_import ty) now_imports r.imports_there (ap (λ (v : InstanceType). are_items_there (length types) (length funcs) v.items.items) shared ∙ all_found (is_type_there (length types) (length funcs)) es i (entry.Instance items) t.types_there is);
+        exports_there = all_same (λ (e : ExportEntry). is_exported_there (length types) (length funcs) e.def) old.exports.items new.exports.items (ap (λ v. v.items) (b.exports ∙ a.exports)) r.exports_there;
       })

@@ -6,3 +6,4 @@ mod ImportLaws
 mod AnswerLaws
 mod ExportLaws
 mod StayLaws
+mod GrowLaws

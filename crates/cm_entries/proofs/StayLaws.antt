@@ -2,7 +2,9 @@
 -- more types.
 use Rattle.std.proofs.Common.{◌≡◌, ℕ, true, List, [], ◌∷◌, ◌++◌, length, map, Option, Some, None, refl, sym, ap, ◌∙◌, IfSome, append-nil}
 use Rattle.cm_types.specs.Types.{Ty, FuncTy}
-use Rattle.cm_signatures.specs.Externs.{extern_of}
+use Rattle.cm_signatures.specs.Externs.{extern_of, is_extern_there}
+use Rattle.cm_signatures.specs.declared.signatures.Extern.{Extern}
+use Rattle.cm_entries.specs.declared.spaces.ExportEntry.{ExportEntry}
 use Rattle.cm_validity.specs.Definitions.{FuncDef, ResourceDef, NamedMember, NamedExport, TypeDef, defined, sort_of}
 use Rattle.cm_types.specs.Signatures.{NamedExtern}
 use Rattle.cm_component.specs.declared.instances.InlineExport.{InlineExport}
@@ -22,7 +24,7 @@ use Rattle.std.specs.List.{flat_map, slice_get}
 use Rattle.std.specs.Option.{option_map, option_and_then}
 use Rattle.cm_validity.specs.Spaces.{Spaces, after_item, named_member as member_of_export, new_exports, new_funcs, new_imports, new_instances, new_resources}
 use Rattle.cm_extern_names.specs.NameSets.{names_of}
-use Rattle.cm_entries.specs.ComponentSpaces.{AreTypesOf, IsComponentOf, export_def}
+use Rattle.cm_entries.specs.ComponentSpaces.{AreTypesOf, IsComponentOf, export_def, is_exported_there}
 use Rattle.cm_entries.specs.Entries.{are_members_there, entry_sort, func_def, is_func_there, members_of, type_def}
 use Rattle.cm_entries.specs.declared.entries.InstanceEntry.{InstanceEntry}
 use Rattle.cm_instance_items.specs.Ranges.{resource_def as resource_of}
@@ -52,6 +54,8 @@ nothing_added types funcs c s x fs is rs ims exs r = grown types funcs c c s x r
   import_names_added = behind (names_of c.import_names) (map (λ (i : NamedExtern). i.name) (new_imports s x)) (ap (map (λ (i : NamedExtern). i.name)) ims);
   exports_added = behind (map (export_def types funcs) c.exports.items) (new_exports s x) exs;
   export_names_added = behind (names_of c.export_names) (map (λ (e : NamedExport). e.name) (new_exports s x)) (ap (map (λ (e : NamedExport). e.name)) exs);
+  imports_there = r.imports_there;
+  exports_there = r.exports_there;
 })
 
 -- a resource that is defined
@@ -68,6 +72,8 @@ resource_defined types funcs c more s destructor e r = grown types funcs c (reco
   import_names_added = behind (names_of c.import_names) [] refl;
   exports_added = behind (map (export_def types funcs) c.exports.items) [] refl;
   export_names_added = behind (names_of c.export_names) [] refl;
+  imports_there = r.imports_there;
+  exports_there = r.exports_there;
 })
 
 pub resources_stay : (types : List Ty) (funcs : List FuncTy) (c : ComponentSpaces) (same : Resources) (s : Spaces) → resources_in same ≡ resources_in c.resources → IsComponentOf types funcs c s → IsComponentOf types funcs (record c { resources = same }) s
@@ -82,6 +88,8 @@ resources_stay types funcs c same s e r = record {
   export_names = r.export_names;
   funcs_there = r.funcs_there;
   instances_there = r.instances_there;
+  imports_there = r.imports_there;
+  exports_there = r.exports_there;
 }
 
 -- ---- what makes, drops and reads handles
@@ -159,4 +167,6 @@ members_pushed types funcs old new s es e same there a r = grown types funcs old
   import_names_added = none_more (names_of old.import_names) (names_of new.import_names) (ap names_of a.import_names);
   exports_added = mapped_same (export_def types funcs) old.exports.items new.exports.items (ap (λ v. v.items) a.exports);
   export_names_added = none_more (names_of old.export_names) (names_of new.export_names) (ap names_of a.export_names);
+  imports_there = all_same (λ (e : Extern). is_extern_there (length types) (length funcs) e.desc) old.imports.items new.imports.items (ap (λ v. v.items) a.imports) r.imports_there;
+  exports_there = all_same (λ (e : ExportEntry). is_exported_there (length types) (length funcs) e.def) old.exports.items new.exports.items (ap (λ v. v.items) a.exports) r.exports_there;
 })

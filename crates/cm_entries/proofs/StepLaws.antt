@@ -4,14 +4,16 @@ use Rattle.std.proofs.lemmas.List.{append-nil, map-append}
 use Rattle.std.specs.List.{list_all, slice_get}
 use Rattle.cm_types.specs.Types.{Ty, FuncTy}
 use Rattle.cm_types.specs.Signatures.{NamedExtern}
-use Rattle.cm_signatures.specs.Externs.{extern_of}
+use Rattle.cm_signatures.specs.Externs.{extern_of, is_extern_there}
+use Rattle.cm_signatures.specs.declared.signatures.Extern.{Extern}
+use Rattle.cm_entries.specs.declared.spaces.ExportEntry.{ExportEntry}
 use Rattle.cm_validity.specs.Definitions.{NamedExport}
 use Rattle.cm_validity.specs.Items.{Item}
 use Rattle.cm_validity.specs.Spaces.{Spaces, empty_spaces, after_item, after_items, new_funcs, new_instances, new_resources, new_imports, new_exports}
 use Rattle.cm_extern_names.specs.NameSets.{names_of}
 use Rattle.cm_entries.specs.Entries.{func_def, members_of, is_func_there, are_members_there}
 use Rattle.cm_instance_items.specs.Resources.{resources_in}
-use Rattle.cm_entries.specs.ComponentSpaces.{IsComponentOf, IsReached, export_def}
+use Rattle.cm_entries.specs.ComponentSpaces.{IsComponentOf, IsReached, export_def, is_exported_there}
 use Rattle.cm_entries.specs.declared.spaces.ComponentSpaces.{ComponentSpaces}
 
 -- ---- lists with one more
@@ -79,6 +81,8 @@ pub record Adds (types : List Ty) (funcs : List FuncTy) (old new : ComponentSpac
   pub imports_added : map (extern_of types funcs) new.imports.items ≡ map (extern_of types funcs) old.imports.items ++ new_imports s x
   pub import_names_added : names_of new.import_names ≡ names_of old.import_names ++ map (λ (i : NamedExtern). i.name) (new_imports s x)
   pub exports_added : map (export_def types funcs) new.exports.items ≡ map (export_def types funcs) old.exports.items ++ new_exports s x
+  pub imports_there : list_all (λ (e : Extern). is_extern_there (length types) (length funcs) e.desc) new.imports.items ≡ true
+  pub exports_there : list_all (λ (e : ExportEntry). is_exported_there (length types) (length funcs) e.def) new.exports.items ≡ true
   pub export_names_added : names_of new.export_names ≡ names_of old.export_names ++ map (λ (e : NamedExport). e.name) (new_exports s x)
 
 joined : {A : Type 0} (xs ys zs new : List A) → xs ≡ ys → new ≡ ys ++ zs → xs ++ zs ≡ new
@@ -99,6 +103,8 @@ grown types funcs old new s x r a = record {
   export_names = named_joined (λ (e : NamedExport). e.name) s.exports (new_exports s x) (names_of old.export_names) (names_of new.export_names) r.export_names a.export_names_added;
   funcs_there = a.funcs_there;
   instances_there = a.instances_there;
+  imports_there = a.imports_there;
+  exports_there = a.exports_there;
 }
 
 pub on_any_err : {A E P : Type 0} (r : Result A E) → P → OnErr r P

@@ -1,12 +1,12 @@
 -- The index spaces of functions and instances, the resources, the imports and the exports, as those
 -- of a whole component.
-use Rattle.std.specs.Prelude.{◌≡◌, true, List, map, length, Option, Some, None}
+use Rattle.std.specs.Prelude.{◌≡◌, ℕ, Bool, true, List, map, length, Option, Some, None}
 use Rattle.std.specs.Prelude.{option_to_list, IfSome}
 use Rattle.std.specs.List.{AllByRecursion, list_all}
 use Rattle.std.specs.Option.{option_map}
 use Rattle.cm_types.specs.Types.{Ty, FuncTy}
 use Rattle.cm_component.specs.Trees.{AliasTree}
-use Rattle.cm_signatures.specs.Externs.{extern_of}
+use Rattle.cm_signatures.specs.Externs.{extern_of, is_extern_there}
 use Rattle.cm_validate.specs.declared.fault.ValidReason.{ValidReason}
 use Rattle.cm_validity.specs.Definitions.{ExportDef, exported_func, exported_instance, NamedExport}
 use Rattle.cm_validity.specs.Items.{Item, alias_item}
@@ -34,6 +34,11 @@ exported_def types funcs (export.Instance i) = exported_instance (members_of typ
 abbrev pub export_def : List Ty → List FuncTy → ExportEntry → NamedExport
 export_def types funcs e = record { name = e.name.now; def = exported_def types funcs e.def }
 
+-- the places in it are among so many types, and so many types of functions
+abbrev pub is_exported_there : ℕ → ℕ → ExportedEntry → Bool
+is_exported_there types funcs (export.Func f) = is_func_there funcs f
+is_exported_there types funcs (export.Instance i) = are_members_there types funcs i
+
 -- ---- what they are
 
 -- some items lead to these spaces
@@ -55,6 +60,10 @@ pub record IsComponentOf (types : List Ty) (funcs : List FuncTy) (c : ComponentS
   pub funcs_there : list_all (is_func_there (length funcs)) c.funcs.items ≡ true
   pub instances_there :
       list_all (are_members_there (length types) (length funcs)) c.instances.items ≡ true
+  pub imports_there :
+      list_all (λ e. is_extern_there (length types) (length funcs) e.desc) c.imports.items ≡ true
+  pub exports_there :
+      list_all (λ e. is_exported_there (length types) (length funcs) e.def) c.exports.items ≡ true
 
 -- these are its types
 pub record AreTypesOf (types : List Ty) (funcs : List FuncTy) (es : List TypeEntry) (s : Spaces)

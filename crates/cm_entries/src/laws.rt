@@ -1,7 +1,7 @@
 //! What holds of the index spaces of functions and instances, as laws: each function here does
 //! nothing, and its contract is the law.
 
-ghost use Rattle.std.specs.Prelude.{ℕ, List};
+ghost use Rattle.std.specs.Prelude.{◌≡◌, ◌++◌, ◌∷◌, [], ℕ, List, length, true};
 ghost use Rattle.cm_types.specs.DefTypes.{DefValTypeTree, DeclarationTree, FuncTypeTree};
 ghost use Rattle.cm_types.specs.DefTypes.{func_def, instance_def, value_def};
 ghost use Rattle.cm_types.specs.Types.{FuncTy, Ty};
@@ -10,9 +10,13 @@ ghost use Rattle.cm_component.specs.declared.canons.CanonOption.{CanonOption};
 ghost use Rattle.cm_component.specs.declared.instances.CoreSort.{CoreSort};
 ghost use Rattle.cm_component.specs.Trees.{CoreInstanceTree, core_instance_export, lower};
 ghost use Rattle.cm_component.specs.Trees.{outer_type, resource_drop, resource_new, resource_rep};
-ghost use Rattle.cm_validity.specs.Items.{alias_item, canon_item, core_instance_item};
+ghost use Rattle.cm_validity.specs.Items.{Item, alias_item, canon_item, core_instance_item};
 ghost use Rattle.cm_validity.specs.Items.{core_module_item, type_item};
-ghost use Rattle.cm_entries.specs.ComponentSpaces.{StaysAfter};
+ghost use Rattle.cm_validity.specs.Spaces.{Spaces, after_item, new_types};
+ghost use Rattle.cm_entries.specs.Entries.{IsEntrySettled, is_type_there, type_def};
+ghost use Rattle.cm_entries.specs.ComponentSpaces.{AreTypesOf, IsComponentOf, StaysAfter};
+ghost use Rattle.cm_entries.specs.declared.entries.TypeEntry.{TypeEntry};
+ghost use Rattle.cm_entries.specs.declared.spaces.ComponentSpaces.{ComponentSpaces};
 
 /// These items add no function, instance, resource, import or export: what stands for the spaces
 /// before one of them stands for those after it.
@@ -30,4 +34,25 @@ pub fn others_add_nothing()
     ensures making { (i : ℕ) → StaysAfter (canon_item (resource_new i)) }
     ensures dropping { (i : ℕ) → StaysAfter (canon_item (resource_drop i)) }
     ensures reading { (i : ℕ) → StaysAfter (canon_item (resource_rep i)) }
+{}
+
+/// Entries stand for what they stood for while the arena of types grows.
+pub fn entries_stay()
+    ensures component { (types more : List Ty) (funcs others : List FuncTy) (c : ComponentSpaces)
+        (s : Spaces) → IsComponentOf types funcs c s
+        → IsComponentOf (types ++ more) (funcs ++ others) c s }
+    ensures types { (types more : List Ty) (funcs others : List FuncTy) (es : List TypeEntry)
+        (s : Spaces) → AreTypesOf types funcs es s
+        → AreTypesOf (types ++ more) (funcs ++ others) es s }
+{}
+
+/// The types after an item: those before it, and the one that it adds, if it adds one.
+pub fn types_after()
+    ensures none { (types : List Ty) (funcs : List FuncTy) (es : List TypeEntry) (s : Spaces)
+        (x : Item) → new_types s x ≡ [] → AreTypesOf types funcs es s
+        → AreTypesOf types funcs es (after_item s x) }
+    ensures one { (types : List Ty) (funcs : List FuncTy) (es : List TypeEntry) (e : TypeEntry)
+        (s : Spaces) (x : Item) → new_types s x ≡ type_def types funcs e ∷ []
+        → is_type_there (length types) (length funcs) e ≡ true → IsEntrySettled types funcs e
+        → AreTypesOf types funcs es s → AreTypesOf types funcs (es ++ e ∷ []) (after_item s x) }
 {}

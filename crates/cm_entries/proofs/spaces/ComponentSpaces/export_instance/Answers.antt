@@ -24,5 +24,5 @@ returns c =
     let named : c.fault-fault.result ≡ least (instance_name_broken c.args.name.now ++ name_broken c.args.name.now (names_of c.args.self.now.export_names)) =
     c.fault-fault.ensures ∙ ap (λ v. least (instance_name_broken v ++ name_broken v (names_of c.args.self.now.export_names))) c.requires in
     instance_added_answer c.least_of_both.ensures c.args.index c.args.name c.args.self.now c.fault-fault.result named c.in-Some.instance.now c.in_ok-added.added c.in_ok-share.field-0 c.push_instance.new.self c.add_export.new.self
-    (sym c.instance_entry.ensures ∙ ap (option_map (λ e. e.now)) c.in-Some.is) (sym c.is_some.ensures ∙ c.if-is_some.false) c.in_ok-added.ensures.same c.in_ok-share.ensures.same c.in_ok-added.ensures.there
+    (sym c.instance_entry.ensures ∙ ap (option_map (λ e. e.now)) c.in-Some.is) (sym c.is_some.ensures ∙ c.if-is_some.false) c.in_ok-added.ensures.same c.in_ok-share.ensures.same c.in_ok-added.ensures.there c.in_ok-share.ensures.there
     c.in_ok-push_instance.ensures.pushed (rw c.requires at c.in_ok-add_export.ensures)
