@@ -1,0 +1,18 @@
+//! The index spaces of functions and of instances of a component, and its resources, imports and
+//! exports.
+#![tactic(auto)]
+
+mod aliases;
+mod entries;
+mod exports;
+mod imports;
+mod instances;
+pub mod laws;
+mod resources;
+mod spaces;
+mod types;
+
+pub use aliases::Aliased;
+pub use entries::{FuncEntry, InstanceEntry, MemberEntry, TypeEntry};
+pub use resources::resource_fault;
+pub use spaces::{ComponentSpaces, ExportEntry, ExportedEntry};

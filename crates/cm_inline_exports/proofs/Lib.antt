@@ -1,0 +1,6 @@
+mod TextLaws
+mod ReasonLaws
+mod SketchLaws
+mod MemberLaws
+mod NameLaws
+mod GatherLaws

@@ -1,0 +1,4 @@
+pub mod Items
+pub mod InstanceTypes
+pub mod Ranges
+pub mod Resources
