@@ -31,16 +31,16 @@ pub fn answer(alloc: Global, call: &Call, table: &str, out: &mut String) -> Resu
     match scan(alloc, &call.memory, &mut table, encodings, &passed) {
         Ok(
             Scanned {
-                records,
+                requests,
                 owns,
                 lends,
+                ..
             },
         ) => {
-            write_records(out, &records)?;
+            write_records(out, &requests.records)?;
             write_hands(out, &owns, &lends)?;
             write_table(out, &table)?;
-            let parts = PartRequests::new(alloc, records, encodings.source, encodings.target)?;
-            ask(parts, &call.answers, call.sides.length as usize, out)
+            ask(requests, &call.answers, call.sides.length as usize, out)
         }
         Err(fault) => {
             write_fault(out, fault)?;
