@@ -2,3 +2,4 @@ pub mod Seen
 pub mod PageLaws
 pub mod ListLaws
 pub mod LineLaws
+pub mod NumberLaws

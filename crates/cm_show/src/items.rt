@@ -8,9 +8,11 @@ ghost use Rattle.cm_types.specs.Funcs.{func_of, tree_type};
 ghost use Rattle.cm_types.specs.TypeTrees.{type_of};
 ghost use Rattle.cm_replaced.specs.Replaced.{replaced, replaced_func};
 ghost use Rattle.cm_type_arena.specs.Places.{funcs_of, types_of};
-ghost use Rattle.cm_placed.specs.Instances.{are_items_there, desc_of, is_desc_there, items_of, numbered, replaced_desc, replaced_item};
+ghost use Rattle.cm_placed.specs.Instances.{are_items_there, desc_of, is_desc_there, items_of};
+ghost use Rattle.cm_placed.specs.Instances.{numbered, replaced_desc, replaced_item};
 ghost use Rattle.cm_placed.specs.Placed.{moved_by};
-ghost use Rattle.cm_signatures.specs.Externs.{are_externs_in, extern_desc_of, externs_in, is_extern_there};
+ghost use Rattle.cm_signatures.specs.Externs.{are_externs_in, extern_desc_of, externs_in};
+ghost use Rattle.cm_signatures.specs.Externs.{is_extern_there};
 ghost use Rattle.cm_show.specs.Counted.{counted};
 ghost use Rattle.cm_show.specs.Pages.{IsOver, seen_on};
 ghost use Rattle.cm_show.specs.Pieces.{chars, number_of, seen_behind, text_behind};
@@ -33,9 +35,12 @@ use cm_types::{ExternName, Func, ResourceId, TypeNode, TypeTree};
 #[tactic(auto, using(crate::proofs::PageLaws::page_laws))]
 fn begin_line(page: &mut Page, word: &str, name: &ExternName) -> Result<(), ShowFault>
     ensures text { OnOk result (string_bytes page.new.text
-        ≡ string_bytes page.old.text ++ text_behind (seen_on page.old) (chars word.now ∷ chars name.now ∷ chars (codes " ") ∷ [])) }
-    ensures seen { OnOk result (seen_on page.new ≡ seen_behind (seen_on page.old) (chars word.now ∷ chars name.now ∷ chars (codes " ") ∷ [])) }
-    ensures over { IsErrOf result fault.TooLong → IsOver page.old (chars word.now ∷ chars name.now ∷ chars (codes " ") ∷ []) }
+        ≡ string_bytes page.old.text ++ text_behind (seen_on page.old) (chars word.now ∷ chars
+        name.now ∷ chars (codes " ") ∷ [])) }
+    ensures seen { OnOk result (seen_on page.new ≡ seen_behind (seen_on page.old) (chars word.now ∷
+        chars name.now ∷ chars (codes " ") ∷ [])) }
+    ensures over { IsErrOf result fault.TooLong → IsOver page.old (chars word.now ∷ chars name.now ∷
+        chars (codes " ") ∷ []) }
 {
     page.put(word)?;
     page.put(name.as_str())?;
@@ -46,9 +51,12 @@ fn begin_line(page: &mut Page, word: &str, name: &ExternName) -> Result<(), Show
 #[tactic(auto, using(crate::proofs::PageLaws::page_laws))]
 fn show_answer(page: &mut Page, tree: &Option<TypeTree>, by: Counting) -> Result<(), ShowFault>
     ensures text { OnOk result (string_bytes page.new.text
-        ≡ string_bytes page.old.text ++ text_behind (seen_on page.old) (answer_pieces (option_map (replaced (counted by)) (option_map tree_type tree.now)))) }
-    ensures seen { OnOk result (seen_on page.new ≡ seen_behind (seen_on page.old) (answer_pieces (option_map (replaced (counted by)) (option_map tree_type tree.now)))) }
-    ensures over { IsErrOf result fault.TooLong → IsOver page.old (answer_pieces (option_map (replaced (counted by)) (option_map tree_type tree.now))) }
+        ≡ string_bytes page.old.text ++ text_behind (seen_on page.old) (answer_pieces (option_map
+        (replaced (counted by)) (option_map tree_type tree.now)))) }
+    ensures seen { OnOk result (seen_on page.new ≡ seen_behind (seen_on page.old) (answer_pieces
+        (option_map (replaced (counted by)) (option_map tree_type tree.now)))) }
+    ensures over { IsErrOf result fault.TooLong → IsOver page.old (answer_pieces (option_map
+        (replaced (counted by)) (option_map tree_type tree.now))) }
 {
     let Some(tree) = tree else {
         return Ok(());
@@ -61,9 +69,12 @@ fn show_answer(page: &mut Page, tree: &Option<TypeTree>, by: Counting) -> Result
 #[tactic(auto, using(crate::proofs::PageLaws::page_laws))]
 fn end_with_func(page: &mut Page, func: &Func, by: Counting) -> Result<(), ShowFault>
     ensures text { OnOk result (string_bytes page.new.text
-        ≡ string_bytes page.old.text ++ text_behind (seen_on page.old) (func_pieces (replaced_func (counted by) (func_of func.now)) ++ chars (codes "\n") ∷ [])) }
-    ensures seen { OnOk result (seen_on page.new ≡ seen_behind (seen_on page.old) (func_pieces (replaced_func (counted by) (func_of func.now)) ++ chars (codes "\n") ∷ [])) }
-    ensures over { IsErrOf result fault.TooLong → IsOver page.old (func_pieces (replaced_func (counted by) (func_of func.now)) ++ chars (codes "\n") ∷ []) }
+        ≡ string_bytes page.old.text ++ text_behind (seen_on page.old) (func_pieces (replaced_func
+        (counted by) (func_of func.now)) ++ chars (codes "\n") ∷ [])) }
+    ensures seen { OnOk result (seen_on page.new ≡ seen_behind (seen_on page.old) (func_pieces
+        (replaced_func (counted by) (func_of func.now)) ++ chars (codes "\n") ∷ [])) }
+    ensures over { IsErrOf result fault.TooLong → IsOver page.old (func_pieces (replaced_func
+        (counted by) (func_of func.now)) ++ chars (codes "\n") ∷ []) }
 {
     page.put("(")?;
     show_fields(page, &func.params, by)?;
@@ -76,9 +87,12 @@ fn end_with_func(page: &mut Page, func: &Func, by: Counting) -> Result<(), ShowF
 #[tactic(auto, using(crate::proofs::PageLaws::page_laws))]
 fn end_with_type(page: &mut Page, node: &TypeNode, by: Counting) -> Result<(), ShowFault>
     ensures text { OnOk result (string_bytes page.new.text
-        ≡ string_bytes page.old.text ++ text_behind (seen_on page.old) (type_pieces (replaced (counted by) (type_of node.now)) ++ chars (codes "\n") ∷ [])) }
-    ensures seen { OnOk result (seen_on page.new ≡ seen_behind (seen_on page.old) (type_pieces (replaced (counted by) (type_of node.now)) ++ chars (codes "\n") ∷ [])) }
-    ensures over { IsErrOf result fault.TooLong → IsOver page.old (type_pieces (replaced (counted by) (type_of node.now)) ++ chars (codes "\n") ∷ []) }
+        ≡ string_bytes page.old.text ++ text_behind (seen_on page.old) (type_pieces (replaced
+        (counted by) (type_of node.now)) ++ chars (codes "\n") ∷ [])) }
+    ensures seen { OnOk result (seen_on page.new ≡ seen_behind (seen_on page.old) (type_pieces
+        (replaced (counted by) (type_of node.now)) ++ chars (codes "\n") ∷ [])) }
+    ensures over { IsErrOf result fault.TooLong → IsOver page.old (type_pieces (replaced (counted
+        by) (type_of node.now)) ++ chars (codes "\n") ∷ []) }
 {
     show_type(page, node, by)?;
     page.put("\n")
@@ -88,9 +102,12 @@ fn end_with_type(page: &mut Page, node: &TypeNode, by: Counting) -> Result<(), S
 #[tactic(auto, using(crate::proofs::PageLaws::page_laws))]
 fn end_with_resource(page: &mut Page, id: ResourceId) -> Result<(), ShowFault>
     ensures text { OnOk result (string_bytes page.new.text
-        ≡ string_bytes page.old.text ++ text_behind (seen_on page.old) (resource_pieces id ++ chars (codes "\n") ∷ [])) }
-    ensures seen { OnOk result (seen_on page.new ≡ seen_behind (seen_on page.old) (resource_pieces id ++ chars (codes "\n") ∷ [])) }
-    ensures over { IsErrOf result fault.TooLong → IsOver page.old (resource_pieces id ++ chars (codes "\n") ∷ []) }
+        ≡ string_bytes page.old.text ++ text_behind (seen_on page.old) (resource_pieces id ++ chars
+        (codes "\n") ∷ [])) }
+    ensures seen { OnOk result (seen_on page.new ≡ seen_behind (seen_on page.old) (resource_pieces
+        id ++ chars (codes "\n") ∷ [])) }
+    ensures over { IsErrOf result fault.TooLong → IsOver page.old (resource_pieces id ++ chars
+        (codes "\n") ∷ []) }
 {
     page.put("resource#")?;
     page.put_resource(id)?;
@@ -108,9 +125,15 @@ fn show_item(
     requires { is_desc_there (length (types_of types.now)) (length (funcs_of types.now))
         item.now.desc ≡ true }
     ensures text { OnOk result (string_bytes page.new.text
-        ≡ string_bytes page.old.text ++ text_behind (seen_on page.old) (item_line item.now.name (replaced_desc (moved_by brought) (desc_of (types_of types.now) (funcs_of types.now) item.now.desc)))) }
-    ensures seen { OnOk result (seen_on page.new ≡ seen_behind (seen_on page.old) (item_line item.now.name (replaced_desc (moved_by brought) (desc_of (types_of types.now) (funcs_of types.now) item.now.desc)))) }
-    ensures over { IsErrOf result fault.TooLong → IsOver page.old (item_line item.now.name (replaced_desc (moved_by brought) (desc_of (types_of types.now) (funcs_of types.now) item.now.desc))) }
+        ≡ string_bytes page.old.text ++ text_behind (seen_on page.old) (item_line item.now.name
+        (replaced_desc (moved_by brought) (desc_of (types_of types.now) (funcs_of types.now)
+        item.now.desc)))) }
+    ensures seen { OnOk result (seen_on page.new ≡ seen_behind (seen_on page.old) (item_line
+        item.now.name (replaced_desc (moved_by brought) (desc_of (types_of types.now) (funcs_of
+        types.now) item.now.desc)))) }
+    ensures over { IsErrOf result fault.TooLong → IsOver page.old (item_line item.now.name
+        (replaced_desc (moved_by brought) (desc_of (types_of types.now) (funcs_of types.now)
+        item.now.desc))) }
 {
     replacing();
     match item.desc {
@@ -159,9 +182,15 @@ fn show_items(
     requires { are_items_there (length (types_of types.now)) (length (funcs_of types.now))
         items.now ≡ true }
     ensures text { OnOk result (string_bytes page.new.text
-        ≡ string_bytes page.old.text ++ text_behind (seen_on page.old) (flat_map (λ i. item_line i.name i.desc) (map (replaced_item (moved_by brought)) (items_of (types_of types.now) (funcs_of types.now) items.now)))) }
-    ensures seen { OnOk result (seen_on page.new ≡ seen_behind (seen_on page.old) (flat_map (λ i. item_line i.name i.desc) (map (replaced_item (moved_by brought)) (items_of (types_of types.now) (funcs_of types.now) items.now)))) }
-    ensures over { IsErrOf result fault.TooLong → IsOver page.old (flat_map (λ i. item_line i.name i.desc) (map (replaced_item (moved_by brought)) (items_of (types_of types.now) (funcs_of types.now) items.now))) }
+        ≡ string_bytes page.old.text ++ text_behind (seen_on page.old) (flat_map (λ i. item_line
+        i.name i.desc) (map (replaced_item (moved_by brought)) (items_of (types_of types.now)
+        (funcs_of types.now) items.now)))) }
+    ensures seen { OnOk result (seen_on page.new ≡ seen_behind (seen_on page.old) (flat_map (λ i.
+        item_line i.name i.desc) (map (replaced_item (moved_by brought)) (items_of (types_of
+        types.now) (funcs_of types.now) items.now)))) }
+    ensures over { IsErrOf result fault.TooLong → IsOver page.old (flat_map (λ i. item_line i.name
+        i.desc) (map (replaced_item (moved_by brought)) (items_of (types_of types.now) (funcs_of
+        types.now) items.now))) }
 {
     for item in items {
         show_item(page, types, item, brought)?;
@@ -175,9 +204,13 @@ fn show_extern(page: &mut Page, types: &Types, word: &str, each: &Extern) -> Res
     requires { is_extern_there (length (types_of types.now)) (length (funcs_of types.now))
         each.now.desc ≡ true }
     ensures text { OnOk result (string_bytes page.new.text
-        ≡ string_bytes page.old.text ++ text_behind (seen_on page.old) (extern_lines word.now each.now.name (extern_desc_of (types_of types.now) (funcs_of types.now) each.now.desc))) }
-    ensures seen { OnOk result (seen_on page.new ≡ seen_behind (seen_on page.old) (extern_lines word.now each.now.name (extern_desc_of (types_of types.now) (funcs_of types.now) each.now.desc))) }
-    ensures over { IsErrOf result fault.TooLong → IsOver page.old (extern_lines word.now each.now.name (extern_desc_of (types_of types.now) (funcs_of types.now) each.now.desc)) }
+        ≡ string_bytes page.old.text ++ text_behind (seen_on page.old) (extern_lines word.now
+        each.now.name (extern_desc_of (types_of types.now) (funcs_of types.now) each.now.desc))) }
+    ensures seen { OnOk result (seen_on page.new ≡ seen_behind (seen_on page.old) (extern_lines
+        word.now each.now.name (extern_desc_of (types_of types.now) (funcs_of types.now)
+        each.now.desc))) }
+    ensures over { IsErrOf result fault.TooLong → IsOver page.old (extern_lines word.now
+        each.now.name (extern_desc_of (types_of types.now) (funcs_of types.now) each.now.desc)) }
 {
     begin_line(page, word, &each.name)?;
     match &each.desc {
@@ -207,9 +240,12 @@ pub(crate) fn show_externs(
 ) -> Result<(), ShowFault>
     requires { are_externs_in types.now externs.now ≡ true }
     ensures text { OnOk result (string_bytes page.new.text
-        ≡ string_bytes page.old.text ++ text_behind (seen_on page.old) (externs_lines word.now (externs_in types.now externs.now))) }
-    ensures seen { OnOk result (seen_on page.new ≡ seen_behind (seen_on page.old) (externs_lines word.now (externs_in types.now externs.now))) }
-    ensures over { IsErrOf result fault.TooLong → IsOver page.old (externs_lines word.now (externs_in types.now externs.now)) }
+        ≡ string_bytes page.old.text ++ text_behind (seen_on page.old) (externs_lines word.now
+        (externs_in types.now externs.now))) }
+    ensures seen { OnOk result (seen_on page.new ≡ seen_behind (seen_on page.old) (externs_lines
+        word.now (externs_in types.now externs.now))) }
+    ensures over { IsErrOf result fault.TooLong → IsOver page.old (externs_lines word.now
+        (externs_in types.now externs.now)) }
 {
     for each in externs {
         show_extern(page, types, word, each)?;

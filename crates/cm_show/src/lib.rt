@@ -4,6 +4,7 @@
 mod counting;
 mod fault;
 mod items;
+pub mod laws;
 mod lists;
 mod page;
 mod signatures;

@@ -17,7 +17,8 @@ use cm_types::Label;
 pub(crate) fn separate(page: &mut Page, index: usize) -> Result<(), ShowFault>
     ensures text { OnOk result (string_bytes page.new.text
         ≡ string_bytes page.old.text ++ text_behind (seen_on page.old) (comma_before index)) }
-    ensures seen { OnOk result (seen_on page.new ≡ seen_behind (seen_on page.old) (comma_before index)) }
+    ensures seen { OnOk result (seen_on page.new ≡ seen_behind (seen_on page.old) (comma_before
+        index)) }
     ensures over { IsErrOf result fault.TooLong → IsOver page.old (comma_before index) }
 {
     if index == 0 {
@@ -30,9 +31,12 @@ pub(crate) fn separate(page: &mut Page, index: usize) -> Result<(), ShowFault>
 #[tactic(auto, using(crate::proofs::PageLaws::page_laws))]
 fn show_label(page: &mut Page, index: usize, label: &Label) -> Result<(), ShowFault>
     ensures text { OnOk result (string_bytes page.new.text
-        ≡ string_bytes page.old.text ++ text_behind (seen_on page.old) (comma_before index ++ label_pieces label.now)) }
-    ensures seen { OnOk result (seen_on page.new ≡ seen_behind (seen_on page.old) (comma_before index ++ label_pieces label.now)) }
-    ensures over { IsErrOf result fault.TooLong → IsOver page.old (comma_before index ++ label_pieces label.now) }
+        ≡ string_bytes page.old.text ++ text_behind (seen_on page.old) (comma_before index ++
+        label_pieces label.now)) }
+    ensures seen { OnOk result (seen_on page.new ≡ seen_behind (seen_on page.old) (comma_before
+        index ++ label_pieces label.now)) }
+    ensures over { IsErrOf result fault.TooLong → IsOver page.old (comma_before index ++
+        label_pieces label.now) }
 {
     separate(page, index)?;
     page.put(label.as_str())
@@ -42,9 +46,12 @@ fn show_label(page: &mut Page, index: usize, label: &Label) -> Result<(), ShowFa
 #[tactic(auto, using(crate::proofs::PageLaws::page_laws))]
 pub(crate) fn show_labels(page: &mut Page, word: &str, labels: &[Label]) -> Result<(), ShowFault>
     ensures text { OnOk result (string_bytes page.new.text
-        ≡ string_bytes page.old.text ++ text_behind (seen_on page.old) (between word.now (codes "}") (with_commas (map label_pieces labels.now)))) }
-    ensures seen { OnOk result (seen_on page.new ≡ seen_behind (seen_on page.old) (between word.now (codes "}") (with_commas (map label_pieces labels.now)))) }
-    ensures over { IsErrOf result fault.TooLong → IsOver page.old (between word.now (codes "}") (with_commas (map label_pieces labels.now))) }
+        ≡ string_bytes page.old.text ++ text_behind (seen_on page.old) (between word.now (codes "}")
+        (with_commas (map label_pieces labels.now)))) }
+    ensures seen { OnOk result (seen_on page.new ≡ seen_behind (seen_on page.old) (between word.now
+        (codes "}") (with_commas (map label_pieces labels.now)))) }
+    ensures over { IsErrOf result fault.TooLong → IsOver page.old (between word.now (codes "}")
+        (with_commas (map label_pieces labels.now))) }
 {
     page.put(word)?;
     show_label_list(page, labels)?;
@@ -55,9 +62,12 @@ pub(crate) fn show_labels(page: &mut Page, word: &str, labels: &[Label]) -> Resu
 #[tactic(auto, using(crate::proofs::ListLaws::label_laws))]
 fn show_label_list(page: &mut Page, labels: &[Label]) -> Result<(), ShowFault>
     ensures text { OnOk result (string_bytes page.new.text
-        ≡ string_bytes page.old.text ++ text_behind (seen_on page.old) (with_commas (map label_pieces labels.now))) }
-    ensures seen { OnOk result (seen_on page.new ≡ seen_behind (seen_on page.old) (with_commas (map label_pieces labels.now))) }
-    ensures over { IsErrOf result fault.TooLong → IsOver page.old (with_commas (map label_pieces labels.now)) }
+        ≡ string_bytes page.old.text ++ text_behind (seen_on page.old) (with_commas (map
+        label_pieces labels.now))) }
+    ensures seen { OnOk result (seen_on page.new ≡ seen_behind (seen_on page.old) (with_commas (map
+        label_pieces labels.now))) }
+    ensures over { IsErrOf result fault.TooLong → IsOver page.old (with_commas (map label_pieces
+        labels.now)) }
 {
     for (index, label) in labels.iter().enumerate() {
         show_label(page, index, label)?;

@@ -21,8 +21,8 @@ use std::alloc::Global;
 ///
 /// What several items hold is written for each of them, so the text may be much longer than what it
 /// is of. `TooLong` comes where it has more than `MAX_SHOWN` bytes, as soon as so many are written;
-/// `Memory` where there is no memory. It costs time and memory linear in the bytes that are written,
-/// with a search for each handle.
+/// `Memory` where there is no memory. It costs time and memory linear in the bytes that are
+/// written, with a search for each handle.
 #[tactic(auto, using(crate::proofs::PageLaws::page_laws))]
 pub fn show(alloc: Global, signature: &Signature) -> Result<String, ShowFault>
     ensures text { IfOk result

@@ -24,9 +24,12 @@ use cm_types::{Case, Field, ResourceId, TypeNode};
 #[tactic(auto, using(crate::proofs::ListLaws::type_laws))]
 pub(crate) fn show_type(page: &mut Page, node: &TypeNode, by: Counting) -> Result<(), ShowFault>
     ensures text { OnOk result (string_bytes page.new.text
-        ≡ string_bytes page.old.text ++ text_behind (seen_on page.old) (type_pieces (replaced (counted by) (type_of node.now)))) }
-    ensures seen { OnOk result (seen_on page.new ≡ seen_behind (seen_on page.old) (type_pieces (replaced (counted by) (type_of node.now)))) }
-    ensures over { IsErrOf result fault.TooLong → IsOver page.old (type_pieces (replaced (counted by) (type_of node.now))) }
+        ≡ string_bytes page.old.text ++ text_behind (seen_on page.old) (type_pieces (replaced
+        (counted by) (type_of node.now)))) }
+    ensures seen { OnOk result (seen_on page.new ≡ seen_behind (seen_on page.old) (type_pieces
+        (replaced (counted by) (type_of node.now)))) }
+    ensures over { IsErrOf result fault.TooLong → IsOver page.old (type_pieces (replaced (counted
+        by) (type_of node.now))) }
 {
     match node {
         TypeNode::Bool => page.put("bool"),
@@ -48,25 +51,15 @@ pub(crate) fn show_type(page: &mut Page, node: &TypeNode, by: Counting) -> Resul
         TypeNode::Enum(labels) => show_labels(page, "enum{", labels),
         TypeNode::Flags(labels) => show_labels(page, "flags{", labels),
         TypeNode::Option(payload) => show_one(page, "option<", payload, by),
-        TypeNode::Result {
-            ok: None,
-            error: None,
-        } => page.put("result"),
-        TypeNode::Result {
-            ok: Some(ok),
-            error: None,
-        } => show_one(page, "result<", ok, by),
-        TypeNode::Result {
-            ok: None,
-            error: Some(error),
-        } => { show_one(page, "result<_, ", error, by) }
-        TypeNode::Result {
-            ok: Some(ok),
-            error: Some(error),
-        } => {
-            show_first(page, "result<", ok, by)?;
-            show_one(page, ", ", error, by)
-        }
+        TypeNode::Result { ok, error } => match (ok, error) {
+            (None, None) => page.put("result"),
+            (Some(ok), None) => show_one(page, "result<", ok, by),
+            (None, Some(error)) => show_one(page, "result<_, ", error, by),
+            (Some(ok), Some(error)) => {
+                show_first(page, "result<", ok, by)?;
+                show_one(page, ", ", error, by)
+            }
+        },
         TypeNode::Own(id) => show_handle(page, "own<#", by.resource(*id)),
         TypeNode::Borrow(id) => show_handle(page, "borrow<#", by.resource(*id)),
     }
@@ -76,9 +69,12 @@ pub(crate) fn show_type(page: &mut Page, node: &TypeNode, by: Counting) -> Resul
 #[tactic(auto, using(crate::proofs::PageLaws::page_laws))]
 fn show_handle(page: &mut Page, word: &str, id: ResourceId) -> Result<(), ShowFault>
     ensures text { OnOk result (string_bytes page.new.text
-        ≡ string_bytes page.old.text ++ text_behind (seen_on page.old) (between word.now (codes ">") (number_of id ∷ []))) }
-    ensures seen { OnOk result (seen_on page.new ≡ seen_behind (seen_on page.old) (between word.now (codes ">") (number_of id ∷ []))) }
-    ensures over { IsErrOf result fault.TooLong → IsOver page.old (between word.now (codes ">") (number_of id ∷ [])) }
+        ≡ string_bytes page.old.text ++ text_behind (seen_on page.old) (between word.now (codes ">")
+        (number_of id ∷ []))) }
+    ensures seen { OnOk result (seen_on page.new ≡ seen_behind (seen_on page.old) (between word.now
+        (codes ">") (number_of id ∷ []))) }
+    ensures over { IsErrOf result fault.TooLong → IsOver page.old (between word.now (codes ">")
+        (number_of id ∷ [])) }
 {
     page.put(word)?;
     page.put_resource(id)?;
@@ -90,9 +86,12 @@ fn show_handle(page: &mut Page, word: &str, id: ResourceId) -> Result<(), ShowFa
 #[tactic(auto, using(crate::proofs::PageLaws::page_laws))]
 fn show_one(page: &mut Page, word: &str, node: &TypeNode, by: Counting) -> Result<(), ShowFault>
     ensures text { OnOk result (string_bytes page.new.text
-        ≡ string_bytes page.old.text ++ text_behind (seen_on page.old) (between word.now (codes ">") (type_pieces (replaced (counted by) (type_of node.now))))) }
-    ensures seen { OnOk result (seen_on page.new ≡ seen_behind (seen_on page.old) (between word.now (codes ">") (type_pieces (replaced (counted by) (type_of node.now))))) }
-    ensures over { IsErrOf result fault.TooLong → IsOver page.old (between word.now (codes ">") (type_pieces (replaced (counted by) (type_of node.now)))) }
+        ≡ string_bytes page.old.text ++ text_behind (seen_on page.old) (between word.now (codes ">")
+        (type_pieces (replaced (counted by) (type_of node.now))))) }
+    ensures seen { OnOk result (seen_on page.new ≡ seen_behind (seen_on page.old) (between word.now
+        (codes ">") (type_pieces (replaced (counted by) (type_of node.now))))) }
+    ensures over { IsErrOf result fault.TooLong → IsOver page.old (between word.now (codes ">")
+        (type_pieces (replaced (counted by) (type_of node.now)))) }
 {
     page.put(word)?;
     show_type(page, node, by)?;
@@ -109,9 +108,15 @@ fn show_fixed_list(
     by: Counting,
 ) -> Result<(), ShowFault>
     ensures text { OnOk result (string_bytes page.new.text
-        ≡ string_bytes page.old.text ++ text_behind (seen_on page.old) (between (codes "list<") (codes ">") (type_pieces (replaced (counted by) (type_of node.now)) ++ chars (codes ", ") ∷ chars (decimal length) ∷ []))) }
-    ensures seen { OnOk result (seen_on page.new ≡ seen_behind (seen_on page.old) (between (codes "list<") (codes ">") (type_pieces (replaced (counted by) (type_of node.now)) ++ chars (codes ", ") ∷ chars (decimal length) ∷ []))) }
-    ensures over { IsErrOf result fault.TooLong → IsOver page.old (between (codes "list<") (codes ">") (type_pieces (replaced (counted by) (type_of node.now)) ++ chars (codes ", ") ∷ chars (decimal length) ∷ [])) }
+        ≡ string_bytes page.old.text ++ text_behind (seen_on page.old) (between (codes "list<")
+        (codes ">") (type_pieces (replaced (counted by) (type_of node.now)) ++ chars (codes ", ") ∷
+        chars (decimal length) ∷ []))) }
+    ensures seen { OnOk result (seen_on page.new ≡ seen_behind (seen_on page.old) (between (codes
+        "list<") (codes ">") (type_pieces (replaced (counted by) (type_of node.now)) ++ chars (codes
+        ", ") ∷ chars (decimal length) ∷ []))) }
+    ensures over { IsErrOf result fault.TooLong → IsOver page.old (between (codes "list<") (codes
+        ">") (type_pieces (replaced (counted by) (type_of node.now)) ++ chars (codes ", ") ∷ chars
+        (decimal length) ∷ [])) }
 {
     page.put("list<")?;
     show_type(page, node, by)?;
@@ -125,9 +130,14 @@ fn show_fixed_list(
 #[tactic(auto, using(crate::proofs::PageLaws::page_laws))]
 fn show_record(page: &mut Page, fields: &[Field], by: Counting) -> Result<(), ShowFault>
     ensures text { OnOk result (string_bytes page.new.text
-        ≡ string_bytes page.old.text ++ text_behind (seen_on page.old) (between (codes "record{") (codes "}") (with_commas (field_pieces (replaced_fields (counted by) (fields_of fields.now)))))) }
-    ensures seen { OnOk result (seen_on page.new ≡ seen_behind (seen_on page.old) (between (codes "record{") (codes "}") (with_commas (field_pieces (replaced_fields (counted by) (fields_of fields.now)))))) }
-    ensures over { IsErrOf result fault.TooLong → IsOver page.old (between (codes "record{") (codes "}") (with_commas (field_pieces (replaced_fields (counted by) (fields_of fields.now))))) }
+        ≡ string_bytes page.old.text ++ text_behind (seen_on page.old) (between (codes "record{")
+        (codes "}") (with_commas (field_pieces (replaced_fields (counted by) (fields_of
+        fields.now)))))) }
+    ensures seen { OnOk result (seen_on page.new ≡ seen_behind (seen_on page.old) (between (codes
+        "record{") (codes "}") (with_commas (field_pieces (replaced_fields (counted by) (fields_of
+        fields.now)))))) }
+    ensures over { IsErrOf result fault.TooLong → IsOver page.old (between (codes "record{") (codes
+        "}") (with_commas (field_pieces (replaced_fields (counted by) (fields_of fields.now))))) }
 {
     page.put("record{")?;
     show_fields(page, fields, by)?;
@@ -139,9 +149,12 @@ fn show_record(page: &mut Page, fields: &[Field], by: Counting) -> Result<(), Sh
 #[tactic(auto, using(crate::proofs::ListLaws::loop_laws))]
 pub(crate) fn show_fields(page: &mut Page, fields: &[Field], by: Counting) -> Result<(), ShowFault>
     ensures text { OnOk result (string_bytes page.new.text
-        ≡ string_bytes page.old.text ++ text_behind (seen_on page.old) (with_commas (field_pieces (replaced_fields (counted by) (fields_of fields.now))))) }
-    ensures seen { OnOk result (seen_on page.new ≡ seen_behind (seen_on page.old) (with_commas (field_pieces (replaced_fields (counted by) (fields_of fields.now))))) }
-    ensures over { IsErrOf result fault.TooLong → IsOver page.old (with_commas (field_pieces (replaced_fields (counted by) (fields_of fields.now)))) }
+        ≡ string_bytes page.old.text ++ text_behind (seen_on page.old) (with_commas (field_pieces
+        (replaced_fields (counted by) (fields_of fields.now))))) }
+    ensures seen { OnOk result (seen_on page.new ≡ seen_behind (seen_on page.old) (with_commas
+        (field_pieces (replaced_fields (counted by) (fields_of fields.now))))) }
+    ensures over { IsErrOf result fault.TooLong → IsOver page.old (with_commas (field_pieces
+        (replaced_fields (counted by) (fields_of fields.now)))) }
 {
     for (index, field) in fields.iter().enumerate() {
         show_field(page, index, field, by)?;
@@ -154,9 +167,15 @@ pub(crate) fn show_fields(page: &mut Page, fields: &[Field], by: Counting) -> Re
 #[tactic(auto, using(crate::proofs::PageLaws::page_laws))]
 fn show_field(page: &mut Page, index: usize, field: &Field, by: Counting) -> Result<(), ShowFault>
     ensures text { OnOk result (string_bytes page.new.text
-        ≡ string_bytes page.old.text ++ text_behind (seen_on page.old) (comma_before index ++ chars field.now.label ∷ chars (codes ": ") ∷ type_pieces (replaced (counted by) (type_of field.now.ty)))) }
-    ensures seen { OnOk result (seen_on page.new ≡ seen_behind (seen_on page.old) (comma_before index ++ chars field.now.label ∷ chars (codes ": ") ∷ type_pieces (replaced (counted by) (type_of field.now.ty)))) }
-    ensures over { IsErrOf result fault.TooLong → IsOver page.old (comma_before index ++ chars field.now.label ∷ chars (codes ": ") ∷ type_pieces (replaced (counted by) (type_of field.now.ty))) }
+        ≡ string_bytes page.old.text ++ text_behind (seen_on page.old) (comma_before index ++ chars
+        field.now.label ∷ chars (codes ": ") ∷ type_pieces (replaced (counted by) (type_of
+        field.now.ty)))) }
+    ensures seen { OnOk result (seen_on page.new ≡ seen_behind (seen_on page.old) (comma_before
+        index ++ chars field.now.label ∷ chars (codes ": ") ∷ type_pieces (replaced (counted by)
+        (type_of field.now.ty)))) }
+    ensures over { IsErrOf result fault.TooLong → IsOver page.old (comma_before index ++ chars
+        field.now.label ∷ chars (codes ": ") ∷ type_pieces (replaced (counted by) (type_of
+        field.now.ty))) }
 {
     separate(page, index)?;
     page.put(field.label.as_str())?;
@@ -169,9 +188,14 @@ fn show_field(page: &mut Page, index: usize, field: &Field, by: Counting) -> Res
 #[tactic(auto, using(crate::proofs::PageLaws::page_laws))]
 fn show_tuple(page: &mut Page, parts: &[TypeNode], by: Counting) -> Result<(), ShowFault>
     ensures text { OnOk result (string_bytes page.new.text
-        ≡ string_bytes page.old.text ++ text_behind (seen_on page.old) (between (codes "tuple<") (codes ">") (with_commas (part_pieces (replaced_fields (counted by) (parts_of parts.now)))))) }
-    ensures seen { OnOk result (seen_on page.new ≡ seen_behind (seen_on page.old) (between (codes "tuple<") (codes ">") (with_commas (part_pieces (replaced_fields (counted by) (parts_of parts.now)))))) }
-    ensures over { IsErrOf result fault.TooLong → IsOver page.old (between (codes "tuple<") (codes ">") (with_commas (part_pieces (replaced_fields (counted by) (parts_of parts.now))))) }
+        ≡ string_bytes page.old.text ++ text_behind (seen_on page.old) (between (codes "tuple<")
+        (codes ">") (with_commas (part_pieces (replaced_fields (counted by) (parts_of
+        parts.now)))))) }
+    ensures seen { OnOk result (seen_on page.new ≡ seen_behind (seen_on page.old) (between (codes
+        "tuple<") (codes ">") (with_commas (part_pieces (replaced_fields (counted by) (parts_of
+        parts.now)))))) }
+    ensures over { IsErrOf result fault.TooLong → IsOver page.old (between (codes "tuple<") (codes
+        ">") (with_commas (part_pieces (replaced_fields (counted by) (parts_of parts.now))))) }
 {
     page.put("tuple<")?;
     show_parts(page, parts, by)?;
@@ -183,9 +207,12 @@ fn show_tuple(page: &mut Page, parts: &[TypeNode], by: Counting) -> Result<(), S
 #[tactic(auto, using(crate::proofs::ListLaws::loop_laws))]
 fn show_parts(page: &mut Page, parts: &[TypeNode], by: Counting) -> Result<(), ShowFault>
     ensures text { OnOk result (string_bytes page.new.text
-        ≡ string_bytes page.old.text ++ text_behind (seen_on page.old) (with_commas (part_pieces (replaced_fields (counted by) (parts_of parts.now))))) }
-    ensures seen { OnOk result (seen_on page.new ≡ seen_behind (seen_on page.old) (with_commas (part_pieces (replaced_fields (counted by) (parts_of parts.now))))) }
-    ensures over { IsErrOf result fault.TooLong → IsOver page.old (with_commas (part_pieces (replaced_fields (counted by) (parts_of parts.now)))) }
+        ≡ string_bytes page.old.text ++ text_behind (seen_on page.old) (with_commas (part_pieces
+        (replaced_fields (counted by) (parts_of parts.now))))) }
+    ensures seen { OnOk result (seen_on page.new ≡ seen_behind (seen_on page.old) (with_commas
+        (part_pieces (replaced_fields (counted by) (parts_of parts.now))))) }
+    ensures over { IsErrOf result fault.TooLong → IsOver page.old (with_commas (part_pieces
+        (replaced_fields (counted by) (parts_of parts.now)))) }
 {
     for (index, part) in parts.iter().enumerate() {
         show_part(page, index, part, by)?;
@@ -198,9 +225,12 @@ fn show_parts(page: &mut Page, parts: &[TypeNode], by: Counting) -> Result<(), S
 #[tactic(auto, using(crate::proofs::PageLaws::page_laws))]
 fn show_part(page: &mut Page, index: usize, part: &TypeNode, by: Counting) -> Result<(), ShowFault>
     ensures text { OnOk result (string_bytes page.new.text
-        ≡ string_bytes page.old.text ++ text_behind (seen_on page.old) (comma_before index ++ type_pieces (replaced (counted by) (type_of part.now)))) }
-    ensures seen { OnOk result (seen_on page.new ≡ seen_behind (seen_on page.old) (comma_before index ++ type_pieces (replaced (counted by) (type_of part.now)))) }
-    ensures over { IsErrOf result fault.TooLong → IsOver page.old (comma_before index ++ type_pieces (replaced (counted by) (type_of part.now))) }
+        ≡ string_bytes page.old.text ++ text_behind (seen_on page.old) (comma_before index ++
+        type_pieces (replaced (counted by) (type_of part.now)))) }
+    ensures seen { OnOk result (seen_on page.new ≡ seen_behind (seen_on page.old) (comma_before
+        index ++ type_pieces (replaced (counted by) (type_of part.now)))) }
+    ensures over { IsErrOf result fault.TooLong → IsOver page.old (comma_before index ++ type_pieces
+        (replaced (counted by) (type_of part.now))) }
 {
     separate(page, index)?;
     show_type(page, part, by)
@@ -211,9 +241,14 @@ fn show_part(page: &mut Page, index: usize, part: &TypeNode, by: Counting) -> Re
 #[tactic(auto, using(crate::proofs::PageLaws::page_laws))]
 fn show_variant(page: &mut Page, cases: &[Case], by: Counting) -> Result<(), ShowFault>
     ensures text { OnOk result (string_bytes page.new.text
-        ≡ string_bytes page.old.text ++ text_behind (seen_on page.old) (between (codes "variant{") (codes "}") (with_commas (case_pieces (replaced_cases (counted by) (cases_of cases.now)))))) }
-    ensures seen { OnOk result (seen_on page.new ≡ seen_behind (seen_on page.old) (between (codes "variant{") (codes "}") (with_commas (case_pieces (replaced_cases (counted by) (cases_of cases.now)))))) }
-    ensures over { IsErrOf result fault.TooLong → IsOver page.old (between (codes "variant{") (codes "}") (with_commas (case_pieces (replaced_cases (counted by) (cases_of cases.now))))) }
+        ≡ string_bytes page.old.text ++ text_behind (seen_on page.old) (between (codes "variant{")
+        (codes "}") (with_commas (case_pieces (replaced_cases (counted by)
+        (cases_of cases.now)))))) }
+    ensures seen { OnOk result (seen_on page.new ≡ seen_behind (seen_on page.old) (between (codes
+        "variant{") (codes "}") (with_commas (case_pieces (replaced_cases (counted by) (cases_of
+        cases.now)))))) }
+    ensures over { IsErrOf result fault.TooLong → IsOver page.old (between (codes "variant{") (codes
+        "}") (with_commas (case_pieces (replaced_cases (counted by) (cases_of cases.now))))) }
 {
     page.put("variant{")?;
     show_cases(page, cases, by)?;
@@ -225,9 +260,12 @@ fn show_variant(page: &mut Page, cases: &[Case], by: Counting) -> Result<(), Sho
 #[tactic(auto, using(crate::proofs::ListLaws::loop_laws))]
 fn show_cases(page: &mut Page, cases: &[Case], by: Counting) -> Result<(), ShowFault>
     ensures text { OnOk result (string_bytes page.new.text
-        ≡ string_bytes page.old.text ++ text_behind (seen_on page.old) (with_commas (case_pieces (replaced_cases (counted by) (cases_of cases.now))))) }
-    ensures seen { OnOk result (seen_on page.new ≡ seen_behind (seen_on page.old) (with_commas (case_pieces (replaced_cases (counted by) (cases_of cases.now))))) }
-    ensures over { IsErrOf result fault.TooLong → IsOver page.old (with_commas (case_pieces (replaced_cases (counted by) (cases_of cases.now)))) }
+        ≡ string_bytes page.old.text ++ text_behind (seen_on page.old) (with_commas (case_pieces
+        (replaced_cases (counted by) (cases_of cases.now))))) }
+    ensures seen { OnOk result (seen_on page.new ≡ seen_behind (seen_on page.old) (with_commas
+        (case_pieces (replaced_cases (counted by) (cases_of cases.now))))) }
+    ensures over { IsErrOf result fault.TooLong → IsOver page.old (with_commas (case_pieces
+        (replaced_cases (counted by) (cases_of cases.now)))) }
 {
     for (index, case) in cases.iter().enumerate() {
         show_case(page, index, case, by)?;
@@ -240,9 +278,12 @@ fn show_cases(page: &mut Page, cases: &[Case], by: Counting) -> Result<(), ShowF
 #[tactic(auto, using(crate::proofs::PageLaws::page_laws))]
 fn show_case(page: &mut Page, index: usize, case: &Case, by: Counting) -> Result<(), ShowFault>
     ensures text { OnOk result (string_bytes page.new.text
-        ≡ string_bytes page.old.text ++ text_behind (seen_on page.old) (comma_before index ++ case_piece (counted by) case.now)) }
-    ensures seen { OnOk result (seen_on page.new ≡ seen_behind (seen_on page.old) (comma_before index ++ case_piece (counted by) case.now)) }
-    ensures over { IsErrOf result fault.TooLong → IsOver page.old (comma_before index ++ case_piece (counted by) case.now) }
+        ≡ string_bytes page.old.text ++ text_behind (seen_on page.old) (comma_before index ++
+        case_piece (counted by) case.now)) }
+    ensures seen { OnOk result (seen_on page.new ≡ seen_behind (seen_on page.old) (comma_before
+        index ++ case_piece (counted by) case.now)) }
+    ensures over { IsErrOf result fault.TooLong → IsOver page.old (comma_before index ++ case_piece
+        (counted by) case.now) }
 {
     separate(page, index)?;
     page.put(case.label.as_str())?;
@@ -259,9 +300,12 @@ fn show_case(page: &mut Page, index: usize, case: &Case, by: Counting) -> Result
 #[tactic(auto, using(crate::proofs::PageLaws::page_laws))]
 fn show_first(page: &mut Page, word: &str, node: &TypeNode, by: Counting) -> Result<(), ShowFault>
     ensures text { OnOk result (string_bytes page.new.text
-        ≡ string_bytes page.old.text ++ text_behind (seen_on page.old) (chars word.now ∷ type_pieces (replaced (counted by) (type_of node.now)))) }
-    ensures seen { OnOk result (seen_on page.new ≡ seen_behind (seen_on page.old) (chars word.now ∷ type_pieces (replaced (counted by) (type_of node.now)))) }
-    ensures over { IsErrOf result fault.TooLong → IsOver page.old (chars word.now ∷ type_pieces (replaced (counted by) (type_of node.now))) }
+        ≡ string_bytes page.old.text ++ text_behind (seen_on page.old) (chars word.now ∷ type_pieces
+        (replaced (counted by) (type_of node.now)))) }
+    ensures seen { OnOk result (seen_on page.new ≡ seen_behind (seen_on page.old) (chars word.now ∷
+        type_pieces (replaced (counted by) (type_of node.now)))) }
+    ensures over { IsErrOf result fault.TooLong → IsOver page.old (chars word.now ∷ type_pieces
+        (replaced (counted by) (type_of node.now))) }
 {
     page.put(word)?;
     show_type(page, node, by)

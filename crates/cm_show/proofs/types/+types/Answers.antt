@@ -54,17 +54,17 @@ show_type-returns-in-Enum-clause-seen t c = subst (λ (ps : List Piece). OnOk c.
 pub show_type-returns-in-Enum-clause-over : goal.show_type-returns-in-Enum-clause-over
 show_type-returns-in-Enum-clause-over t c = subst (λ (ps : List Piece). IsErrOf c.show_labels.result fault.TooLong → IsOver c.args.page.now ps) (sym (enum_is (counted c.args.by) c.args.node.now c.in-Enum.labels (search rules))) (search rules)
 
-pub show_type-returns-in-Result-None-Some-clause-text : goal.show_type-returns-in-Result-None-Some-clause-text
-show_type-returns-in-Result-None-Some-clause-text t c = subst (λ (ps : List Piece). OnOk c.show_one-in-Result-None-Some.result (string_bytes c.show_one-in-Result-None-Some.new.page.text ≡ string_bytes c.args.page.now.text ++ text_behind (seen_on c.args.page.now) ps)) (sym (error_is (counted c.args.by) (type_of c.args.node.now) (type_of c.in-Result-None-Some.error.value) (search (rules, the_lemmas)))) (search rules)
+pub show_type-returns-in-None-Some-clause-text : goal.show_type-returns-in-None-Some-clause-text
+show_type-returns-in-None-Some-clause-text t c = subst (λ (ps : List Piece). OnOk c.show_one-in-None-Some.result (string_bytes c.show_one-in-None-Some.new.page.text ≡ string_bytes c.args.page.now.text ++ text_behind (seen_on c.args.page.now) ps)) (sym (error_is (counted c.args.by) (type_of c.args.node.now) (type_of c.in-None-Some.error.value) (search (rules, the_lemmas)))) (search rules)
 
-pub show_type-returns-in_err-show_first-in-Result-Some-Some-clause-over : goal.show_type-returns-in_err-show_first-in-Result-Some-Some-clause-over
-show_type-returns-in_err-show_first-in-Result-Some-Some-clause-over t c = subst (λ (ps : List Piece). IsErrOf c.from_residual.result fault.TooLong → IsOver c.args.page.now ps) (sym (two_is (counted c.args.by) (type_of c.args.node.now) (type_of c.in-Result-Some-Some.ok.value) (type_of c.in-Result-Some-Some.error.value) (search (rules, the_lemmas)))) (search (rules, page_laws))
+pub show_type-returns-in_err-show_first-in-Some-Some-clause-over : goal.show_type-returns-in_err-show_first-in-Some-Some-clause-over
+show_type-returns-in_err-show_first-in-Some-Some-clause-over t c = subst (λ (ps : List Piece). IsErrOf c.from_residual.result fault.TooLong → IsOver c.args.page.now ps) (sym (two_is (counted c.args.by) (type_of c.args.node.now) (type_of c.in-Some-Some.ok.value) (type_of c.in-Some-Some.error.value) (search (rules, the_lemmas)))) (search (rules, page_laws))
 
-pub show_type-returns-in_ok-show_first-in-Result-Some-Some-clause-text : goal.show_type-returns-in_ok-show_first-in-Result-Some-Some-clause-text
-show_type-returns-in_ok-show_first-in-Result-Some-Some-clause-text t c = subst (λ (ps : List Piece). OnOk c.show_one-in-Result-Some-Some.result (string_bytes c.show_one-in-Result-Some-Some.new.page.text ≡ string_bytes c.args.page.now.text ++ text_behind (seen_on c.args.page.now) ps)) (sym (two_is (counted c.args.by) (type_of c.args.node.now) (type_of c.in-Result-Some-Some.ok.value) (type_of c.in-Result-Some-Some.error.value) (search (rules, the_lemmas)))) (search (rules, page_laws))
+pub show_type-returns-in_ok-show_first-in-Some-Some-clause-text : goal.show_type-returns-in_ok-show_first-in-Some-Some-clause-text
+show_type-returns-in_ok-show_first-in-Some-Some-clause-text t c = subst (λ (ps : List Piece). OnOk c.show_one-in-Some-Some.result (string_bytes c.show_one-in-Some-Some.new.page.text ≡ string_bytes c.args.page.now.text ++ text_behind (seen_on c.args.page.now) ps)) (sym (two_is (counted c.args.by) (type_of c.args.node.now) (type_of c.in-Some-Some.ok.value) (type_of c.in-Some-Some.error.value) (search (rules, the_lemmas)))) (search (rules, page_laws))
 
-pub show_type-returns-in_ok-show_first-in-Result-Some-Some-clause-seen : goal.show_type-returns-in_ok-show_first-in-Result-Some-Some-clause-seen
-show_type-returns-in_ok-show_first-in-Result-Some-Some-clause-seen t c = subst (λ (ps : List Piece). OnOk c.show_one-in-Result-Some-Some.result (seen_on c.show_one-in-Result-Some-Some.new.page ≡ seen_behind (seen_on c.args.page.now) ps)) (sym (two_is (counted c.args.by) (type_of c.args.node.now) (type_of c.in-Result-Some-Some.ok.value) (type_of c.in-Result-Some-Some.error.value) (search (rules, the_lemmas)))) (search (rules, page_laws))
+pub show_type-returns-in_ok-show_first-in-Some-Some-clause-seen : goal.show_type-returns-in_ok-show_first-in-Some-Some-clause-seen
+show_type-returns-in_ok-show_first-in-Some-Some-clause-seen t c = subst (λ (ps : List Piece). OnOk c.show_one-in-Some-Some.result (seen_on c.show_one-in-Some-Some.new.page ≡ seen_behind (seen_on c.args.page.now) ps)) (sym (two_is (counted c.args.by) (type_of c.args.node.now) (type_of c.in-Some-Some.ok.value) (type_of c.in-Some-Some.error.value) (search (rules, the_lemmas)))) (search (rules, page_laws))
 
-pub show_type-returns-in_ok-show_first-in-Result-Some-Some-clause-over : goal.show_type-returns-in_ok-show_first-in-Result-Some-Some-clause-over
-show_type-returns-in_ok-show_first-in-Result-Some-Some-clause-over t c = subst (λ (ps : List Piece). IsErrOf c.show_one-in-Result-Some-Some.result fault.TooLong → IsOver c.args.page.now ps) (sym (two_is (counted c.args.by) (type_of c.args.node.now) (type_of c.in-Result-Some-Some.ok.value) (type_of c.in-Result-Some-Some.error.value) (search (rules, the_lemmas)))) (search (rules, page_laws))
+pub show_type-returns-in_ok-show_first-in-Some-Some-clause-over : goal.show_type-returns-in_ok-show_first-in-Some-Some-clause-over
+show_type-returns-in_ok-show_first-in-Some-Some-clause-over t c = subst (λ (ps : List Piece). IsErrOf c.show_one-in-Some-Some.result fault.TooLong → IsOver c.args.page.now ps) (sym (two_is (counted c.args.by) (type_of c.args.node.now) (type_of c.in-Some-Some.ok.value) (type_of c.in-Some-Some.error.value) (search (rules, the_lemmas)))) (search (rules, page_laws))
