@@ -188,7 +188,7 @@ impl Arena {
     }
 
     /// A place by its number, by the name of a primitive type, or as `last`.
-    fn read_place(&self, word: &str) -> Result<usize, RowFault> {
+    pub fn read_place(&self, word: &str) -> Result<usize, RowFault> {
         if word == "last" {
             return self.types.len().checked_sub(1).ok_or(RowFault::NotARow);
         }

@@ -1,0 +1,5 @@
+pub mod Seen
+pub mod PageLaws
+pub mod ListLaws
+pub mod LineLaws
+pub mod NumberLaws

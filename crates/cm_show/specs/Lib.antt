@@ -1,0 +1,5 @@
+pub mod Faults
+pub mod Pieces
+pub mod Shown
+pub mod Pages
+pub mod Counted
