@@ -1,0 +1,3 @@
+pub mod MemberViews
+pub mod ItemFaults
+pub mod Own

@@ -1,0 +1,10 @@
+//! The items of the instances that interfaces stand for.
+#![tactic(auto)]
+
+mod items;
+mod members;
+mod names;
+
+pub use items::push_items;
+pub use members::{Member, members};
+pub use names::extern_name;

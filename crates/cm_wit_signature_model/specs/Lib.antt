@@ -1,0 +1,5 @@
+pub mod Members
+pub mod Functions
+pub mod Signatures
+pub mod Named
+pub mod Faults

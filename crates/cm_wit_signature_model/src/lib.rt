@@ -1,0 +1,2 @@
+//! The signature of a world: definitions and laws.
+#![tactic(auto)]
