@@ -27,7 +27,7 @@ use Rattle.cm_wit_signature_model.specs.Members.{Member, member_item, items_in}
 use Rattle.cm_wit_items.specs.declared.members.Member as code
 use Rattle.cm_wit_items.specs.MemberViews.{member_view}
 use Rattle.cm_wit_items.specs.ItemFaults.{AreWithin, are_spelled, IsFaultWith, IsItemFault, AreItemsFault}
-use Rattle.cm_wit_items.specs.Own.{AreOwn}
+use Rattle.cm_wit_signature_model.specs.Own.{AreOwn}
 use Rattle.cm_wit_items.proofs.GrowthLaws.{place_kept, func_kept, less_of, test_of, extends_length, below_more}
 use Rattle.cm_wit_items.proofs.ScopeLaws.{scope_kept, scope_placed}
 use Rattle.cm_wit_items.proofs.EachLaws.{makes_fault}
@@ -86,13 +86,13 @@ second_false false b h = refl
 first_false : (a b : Bool) → a ≡ false → (a && b) ≡ false
 first_false a b h = ap (λ (x : Bool). x && b) h
 
+one_unspelled : (b c d : Bool) → (c ≡ false → d ≡ false) → (b && c) ≡ false → (b && d) ≡ false
+one_unspelled true c d h e = h e
+one_unspelled false c d h e = refl
+
 first_unspelled : (xs ys : List FuncTy) → are_spelled xs ≡ false → are_spelled (xs ++ ys) ≡ false
 first_unspelled [] ys h = absurd cc
-first_unspelled (x ∷ xs) ys h = by_one (is_func_spellable x) h
-  where
-    by_one : (b : Bool) → (b && are_spelled xs) ≡ false → (b && are_spelled (xs ++ ys)) ≡ false
-    by_one true e = first_unspelled xs ys e
-    by_one false e = refl
+first_unspelled (x ∷ xs) ys h = one_unspelled (is_func_spellable x) (are_spelled xs) (are_spelled (xs ++ ys)) (first_unspelled xs ys) h
 
 second_unspelled : (xs ys : List FuncTy) → are_spelled ys ≡ false → are_spelled (xs ++ ys) ≡ false
 second_unspelled [] ys h = h
@@ -144,7 +144,7 @@ module _ (sc : code_scope.Scope) (ms : List code.Member) (first now : Types) (pl
 
   pub items_next : (next : Types) (x : code.Member) (d : Item) (new : List Item) → i < length ms → x ≡ get_or ms i x → meant_in sc now x ≡ Some (item_view next d) → is_desc_there (length (types_of next)) (length (funcs_of next)) d.desc ≡ true → AreWithin (item_funcs (item_view next d)) → Extends (types_of now) (types_of next) → Extends (funcs_of now) (funcs_of next) → new ≡ done ++ d ∷ [] → PushedItems sc ms first (i + 1) next new
   items_next next x d new lt is e q w g f n =
-      pushed_next (meant_in sc first) item_view IsItemThere ms first (λ a b k grown t. item_kept a b grown k t.there) item_more now next i x d done new lt is (ap (λ (s : Scope). member_item s (member_view x)) (sym same) ∙ e) (record { there = q; within = w }) (record { types = g; funcs = f }) n h
+      pushed_next (meant_in sc first) item_view IsItemThere ms first (λ a b k grown t. item_kept a b grown k t.there) (λ a b k grown t. item_more a b grown k t) now next i x d done new lt is (ap (λ (s : Scope). member_item s (member_view x)) (sym same) ∙ e) (record { there = q; within = w }) (record { types = g; funcs = f }) n h
 
   pub items_fault : (x : code.Member) (f : MeaningFault) → i < length ms → x ≡ get_or ms i x → IsItemFault (meant_in sc now x) f → AreItemsFault (each_meaning (member_item (scope_in (types_of first) sc)) (map member_view ms)) f
   items_fault x f lt is e =

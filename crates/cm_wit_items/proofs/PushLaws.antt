@@ -47,3 +47,5 @@ module _ {A B D : Type 0} (meant : A → Option B) (view : Types → D → B) (I
 
   pub pushed_all : (now : Types) (i : ℕ) (made : List D) → length texts ≤ i → Pushed meant view IsThere texts first i now made → each_meaning meant texts ≡ Some (map (view now) made)
   pushed_all now i made le h = makes_all meant texts i (map (view now) made) le h.makes
+
+pub ruleset push_laws = (extends_same, extends_more, pushed_none)

@@ -1,3 +1,2 @@
 pub mod MemberViews
 pub mod ItemFaults
-pub mod Own

@@ -1,6 +1,6 @@
 //! The items of instances, whose types are put into an arena.
 
-ghost use Rattle.std.specs.Prelude.{◌≡◌, ℕ, List, None, Some, [], true, IfOk, IfErr, length};
+ghost use Rattle.std.specs.Prelude.{◌≡◌, ℕ, List, None, Some, [], true, IfOk, IfErr, length, map};
 ghost use Rattle.cm_types.specs.Types.{FuncTy, Ty};
 ghost use Rattle.cm_type_arena.specs.Places.{funcs_of, types_of};
 ghost use Rattle.cm_placed.specs.Instances.{are_items_there, desc_of, is_desc_there, item_of};
@@ -12,15 +12,16 @@ ghost use Rattle.cm_wit_meanings.specs.declared.fault.MeaningFault.TheVariants a
 ghost use Rattle.cm_wit_meanings.specs.Scopes as meant;
 ghost use Rattle.cm_wit_signature_model.specs.Functions.{item_funcs};
 ghost use Rattle.cm_wit_signature_model.specs.Members.{items_in, member_item, own_type};
+ghost use Rattle.cm_wit_meanings.specs.Meanings.{each_meaning};
 ghost use Rattle.cm_wit_signature_model.specs.Members.{used_type};
 ghost use Rattle.cm_wit_signature_model.specs.Members as spec;
 ghost use Rattle.std.specs.List.{flat_map};
 ghost use Rattle.std.specs.Option.{option_and_then};
 ghost use Rattle.cm_wit_items.specs.ItemFaults.{AreItemsFault, AreWithin, IsItemFault};
 ghost use Rattle.cm_wit_items.specs.MemberViews.{member_view};
-ghost use Rattle.cm_wit_items.specs.Own.{AreOwn, IsOwn};
+ghost use Rattle.cm_wit_signature_model.specs.Own.{AreOwn, IsOwn};
 
-use crate::members::{Member, members};
+use crate::members::{Member, interface_members};
 use crate::names::{extern_name, func_name};
 use cm_placed::laws::unmoved;
 use cm_placed::{Item, ItemDesc, Placed};
@@ -219,6 +220,40 @@ fn push_item(
     }
 }
 
+/// Adds the types in members, and answers the items.
+#[tactic(auto, using(crate::proofs::PushLaws::push_laws))]
+fn push_members(
+    alloc: Global,
+    types: &mut Types,
+    scope: &Scope<'_>,
+    members: &[Member<'_>],
+) -> Result<Vec<Item>, MeaningFault>
+    requires placed { ArePlaced (length (types_of types.old)) scope.now.table.now }
+    requires own { AreOwn (scope_in (types_of types.old) scope.now) }
+    ensures items { IfOk result (λ v.
+        each_meaning (member_item (scope_in (types_of types.old) scope.now))
+        (map member_view members.now)
+        ≡ Some (items_of (types_of types.new) (funcs_of types.new) v.items)) }
+    ensures there { IfOk result (λ v. are_items_there (length (types_of types.new))
+        (length (funcs_of types.new)) v.items ≡ true) }
+    ensures within { IfOk result (λ v. AreWithin (flat_map item_funcs
+        (items_of (types_of types.new) (funcs_of types.new) v.items))) }
+    ensures fault { IfErr result (AreItemsFault
+        (each_meaning (member_item (scope_in (types_of types.old) scope.now))
+        (map member_view members.now))) }
+    ensures grown { Extends (types_of types.old) (types_of types.new) }
+    ensures funcs { Extends (funcs_of types.old) (funcs_of types.new) }
+{
+    let mut items = Vec::new(alloc);
+    for member in members {
+        let item = push_item(alloc, types, scope, member)?;
+        if items.push(item).is_err() {
+            return Err(MeaningFault::Memory);
+        }
+    }
+    Ok(items)
+}
+
 /// Adds the types of the functions of an interface, and the types in them, and answers the items of
 /// the instance that it stands for, in the order of its text (WIT.md, "Interfaces").
 ///
@@ -248,13 +283,6 @@ pub fn push_items(
     ensures grown { Extends (types_of types.old) (types_of types.new) }
     ensures funcs { Extends (funcs_of types.old) (funcs_of types.new) }
 {
-    let parts = members(alloc, interface)?;
-    let mut items = Vec::new(alloc);
-    for member in &parts {
-        let item = push_item(alloc, types, scope, member)?;
-        if items.push(item).is_err() {
-            return Err(MeaningFault::Memory);
-        }
-    }
-    Ok(items)
+    let members = interface_members(alloc, interface)?;
+    push_members(alloc, types, scope, &members)
 }

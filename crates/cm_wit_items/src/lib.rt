@@ -6,5 +6,5 @@ mod members;
 mod names;
 
 pub use items::push_items;
-pub use members::{Member, members};
+pub use members::{Member, interface_members};
 pub use names::extern_name;

@@ -87,16 +87,17 @@ fn add_item<'a>(out: &mut Vec<Member<'a>>, item: &'a InterfaceItem) -> Result<()
         ++ members_of (interface_item_tree item.now)) }
 {
     match item {
-        InterfaceItem::Use(used) => add_used(out, &used.names),
-        InterfaceItem::Type(name, definition) => add_defined(out, name, definition),
-        InterfaceItem::Func(name, func) => out.push(Member::Function(name, func)),
+        InterfaceItem::Use(used) => add_used(out, &used.names)?,
+        InterfaceItem::Type(name, definition) => add_defined(out, name, definition)?,
+        InterfaceItem::Func(name, func) => out.push(Member::Function(name, func))?,
     }
+    Ok(())
 }
 
 /// What an interface has, in the order of its text: a resource stands before its functions. Refused
 /// only where there is no memory.
 #[tactic(auto, using(crate::proofs::ListLaws::list_laws))]
-pub fn members<'a>(
+pub fn interface_members<'a>(
     alloc: Global,
     interface: &'a Interface,
 ) -> Result<Vec<Member<'a>>, AllocError>

@@ -3,3 +3,4 @@ pub mod Functions
 pub mod Signatures
 pub mod Named
 pub mod Faults
+pub mod Own

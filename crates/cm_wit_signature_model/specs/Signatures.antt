@@ -6,7 +6,7 @@ use Rattle.cm_types.specs.Signatures.{NamedExtern, SignatureTy, func, instance}
 use Rattle.cm_wit_types.specs.Signatures.{Func}
 use Rattle.cm_wit_text.specs.Trees.{File, WorldExtern, WorldItem, interface_at, named_func}
 use Rattle.cm_wit_text.specs.Trees.{imports, exports}
-use Rattle.cm_wit_interfaces.specs.Interfaces.{PlacedWorld, full_name, interfaces}
+use Rattle.cm_wit_interfaces.specs.Interfaces.{PlacedInterface, PlacedWorld, full_name, interfaces}
 use Rattle.cm_wit_meanings.specs.Scopes.{Meaning, Scope}
 use Rattle.cm_wit_meanings.specs.Meanings.{func_meaning}
 use Rattle.cm_wit_scopes.specs.Declarations.{Declaration}
@@ -42,30 +42,36 @@ Scopes = ℕ → Scope
 abbrev pub func_extern : Scope → NamedFunc → Option NamedExtern
 func_extern s f = option_map (λ t. record { name = f.0; desc = func t }) (func_meaning s f.1)
 
--- the instance of the n-th interface, by its full name
-abbrev pub instance_extern : List File → Scope → ℕ → Option NamedExtern
-instance_extern fs s n = option_and_then (λ i.
+-- the instance of an interface, by its full name
+abbrev pub interface_extern : Scope → PlacedInterface → Option NamedExtern
+interface_extern s i =
     option_map (λ is. record { name = full_name i.file i.interface.name; desc = instance is })
-    (items_in s i.interface)) (slice_get (interfaces fs) n)
+    (items_in s i.interface)
 
--- what a number stands for: that of an interface for the instance that has the l-th list of names;
--- and from `count` on for a function of the world, whose names are those of the list `own`
-abbrev pub extern_at : List File → PlacedWorld → Scopes → ℕ → ℕ → ℕ → Option NamedExtern
-extern_at fs w scopes own l n =
-    if nat_lt n (length (interfaces fs)) then instance_extern fs (scopes l) n
-    else option_and_then (func_extern (scopes own)) (func_at w (n - length (interfaces fs)))
+abbrev pub instance_extern : List File → Scope → ℕ → Option NamedExtern
+instance_extern fs s n = option_and_then (interface_extern s) (slice_get (interfaces fs) n)
 
 -- one in front of others, where all are there
 abbrev pub in_front : {A : Type 0} → Option A → Option (List A) → Option (List A)
 in_front one others = option_and_then (λ x. option_map (λ xs. x ∷ xs) others) one
 
--- those of these numbers, of which the first instance has the l-th list of names
+-- a function of the world itself in front of others
+abbrev pub func_in_front : Scope → Option NamedFunc → Option (List NamedExtern)
+    → Option (List NamedExtern)
+func_in_front s None others = others
+func_in_front s (Some f) others = in_front (func_extern s f) others
+
+-- what these numbers stand for: that of an interface for its instance, the first of which has the
+-- l-th list of names; and from `count`, the number of all interfaces, on for a function of the
+-- world itself, whose names are those of the list `own`
 abbrev pub externs_from : List File → PlacedWorld → Scopes → ℕ → ℕ → List ℕ
     → Option (List NamedExtern)
 externs_from fs w scopes own l [] = Some []
 externs_from fs w scopes own l (n ∷ ns) =
-    in_front (extern_at fs w scopes own l n) (externs_from fs w scopes own
-    (if nat_lt n (length (interfaces fs)) then l + 1 else l) ns)
+    if nat_lt n (length (interfaces fs)) then in_front (instance_extern fs (scopes l) n)
+    (externs_from fs w scopes own (l + 1) ns)
+    else func_in_front (scopes own) (func_at w (n - length (interfaces fs)))
+    (externs_from fs w scopes own l ns)
 
 -- the interfaces among what is imported or exported
 abbrev pub interfaces_among : List File → List ℕ → List ℕ

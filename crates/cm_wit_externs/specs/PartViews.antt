@@ -1,0 +1,17 @@
+-- What the imports and exports of a world are made of.
+use Rattle.std.specs.Prelude.{ℕ, List, Option}
+use Rattle.cm_types.specs.Types.{Ty}
+use Rattle.cm_keys.specs.Listed.{listed}
+use Rattle.cm_wit_types.specs.SignatureViews.{func_tree}
+use Rattle.cm_wit_meanings.specs.Places.{table_in}
+use Rattle.cm_wit_meanings.specs.Scopes.{Meaning, scope_at}
+use Rattle.cm_wit_signature_model.specs.Signatures.{NamedFunc, Scopes}
+use Rattle.cm_wit_externs.specs.declared.parts.Parts.{Parts}
+use Rattle.cm_wit_externs.specs.declared.parts.OwnFunc.{OwnFunc}
+
+abbrev pub own_func_view : OwnFunc → NamedFunc
+own_func_view f = (f.name.now, func_tree f.func.now)
+
+-- what the names of each list stand for, among the types of an arena
+abbrev pub scopes_in : List Ty → Parts → Scopes
+scopes_in types p l = scope_at (listed p.names.now) (table_in types p.table.now) l
