@@ -3,8 +3,7 @@ use Rattle.std.specs.Prelude.{◌≡◌, ℕ, List, ◌∷◌, ◌++◌, Option}
 use Rattle.std.specs.List.{flat_map}
 use Rattle.std.specs.Option.{option_map}
 use Rattle.cm_types.specs.Signatures.{NamedExtern}
-use Rattle.cm_wit_text.specs.Trees.{File}
-use Rattle.cm_wit_interfaces.specs.Interfaces.{PlacedWorld}
+use Rattle.cm_wit_interfaces.specs.Interfaces.{PlacedInterface, PlacedWorld}
 use Rattle.cm_wit_meanings.specs.declared.fault.MeaningFault.{MeaningFault}
 use Rattle.cm_wit_items.specs.ItemFaults.{IsFaultWith}
 use Rattle.cm_wit_signature_model.specs.Functions.{extern_funcs}
@@ -21,8 +20,8 @@ AreExternsFault what f = IsFaultWith (flat_map extern_funcs) what f
 -- What a number stands for was added: whatever others follow it, what stood there with the number
 -- and the others behind it is what stands there now with the others behind it. The number of the
 -- list of names of the next instance was l, and is m.
-abbrev pub Adds : List File → PlacedWorld → Scopes → ℕ → ℕ → ℕ → ℕ → List NamedExtern
+abbrev pub Adds : List PlacedInterface → PlacedWorld → Scopes → ℕ → ℕ → ℕ → ℕ → List NamedExtern
     → List NamedExtern → Type 0
-Adds fs w scopes own number l m old new = (ns : List ℕ)
-    → behind old (externs_from fs w scopes own l (number ∷ ns))
-    ≡ behind new (externs_from fs w scopes own m ns)
+Adds all w scopes own number l m old new = (ns : List ℕ)
+    → behind old (externs_from all w scopes own l (number ∷ ns))
+    ≡ behind new (externs_from all w scopes own m ns)

@@ -18,12 +18,13 @@ use Rattle.cm_placed.specs.declared.instances.ItemDesc.TheVariants as desc
 use Rattle.cm_wit_meanings.specs.declared.fault.MeaningFault.{MeaningFault}
 use Rattle.cm_wit_meanings.specs.declared.fault.MeaningFault.TheVariants as fault
 use Rattle.cm_wit_meanings.specs.declared.scope.Scope as code_scope
-use Rattle.cm_wit_meanings.specs.Scopes.{Scope, Meaning}
-use Rattle.cm_wit_meanings.specs.Meanings.{each_meaning}
+use Rattle.cm_wit_meanings.specs.Scopes.{Scope, Meaning, resource, as_resource}
+use Rattle.cm_wit_meanings.specs.Meanings.{each_meaning, resource_func_meaning}
 use Rattle.cm_wit_meanings.specs.Places.{Extends, ArePlaced, scope_in}
 use Rattle.cm_wit_meanings.specs.Faults.{IsFaultOf, IsFuncWithin, is_func_spellable}
 use Rattle.cm_wit_signature_model.specs.Functions.{item_funcs}
-use Rattle.cm_wit_signature_model.specs.Members.{Member, member_item, items_in}
+use Rattle.cm_wit_signature_model.specs.Members.{Member, member_item, member_func, item_with, items_in}
+use Rattle.cm_wit_text.specs.Trees.{ResourceFunc}
 use Rattle.cm_wit_items.specs.declared.members.Member as code
 use Rattle.cm_wit_items.specs.MemberViews.{member_view}
 use Rattle.cm_wit_items.specs.ItemFaults.{AreWithin, are_spelled, IsFaultWith, IsItemFault, AreItemsFault}
@@ -43,27 +44,53 @@ pub record IsItemThere (t : Types) (i : Item) : Type 0 where
 abbrev pub item_view : Types → Item → NamedItem
 item_view t i = item_of (types_of t) (funcs_of t) i
 
+test_more : (m n p : ℕ) → m ≤ n → nat_lt p m ≡ true → nat_lt p n ≡ true
+test_more m n p le e = test_of p n (below_more m n p le (less_of p m e))
+
+module _ (types more : List Ty) (funcs further : List FuncTy) (e : Extends types more) (g : Extends funcs further) where
+  desc_more : (d : ItemDesc) → is_desc_there (length types) (length funcs) d ≡ true → is_desc_there (length more) (length further) d ≡ true
+  desc_more (desc.Func p) h = test_more (length funcs) (length further) p.place (extends_length funcs further g) h
+  desc_more (desc.EqualType p) h = test_more (length types) (length more) p.place (extends_length types more e) h
+  desc_more (desc.EqualResource n) h = refl
+  desc_more (desc.FreshResource n) h = refl
+
+  desc_kept : (d : ItemDesc) → is_desc_there (length types) (length funcs) d ≡ true → desc_of more further d ≡ desc_of types funcs d
+  desc_kept (desc.Func p) h = ap (λ (f : FuncTy). func_item (replaced_func (moved_by p.by) f)) (func_kept funcs further p.place g (less_of p.place (length funcs) h))
+  desc_kept (desc.EqualType p) h = ap (λ (t : Ty). equal_type (replaced (moved_by p.by) t)) (place_kept types more p.place e (less_of p.place (length types) h))
+  desc_kept (desc.EqualResource n) h = refl
+  desc_kept (desc.FreshResource n) h = refl
+
+  one_kept : (i : Item) → is_desc_there (length types) (length funcs) i.desc ≡ true → item_of more further i ≡ item_of types funcs i
+  one_kept i h = ap (λ (d : ItemTy). record { name = i.name; desc = d }) (desc_kept i.desc h)
+
+  first_true : (a b : Bool) → (a && b) ≡ true → a ≡ true
+  first_true true b h = refl
+  first_true false b h = absurd cc
+
+  second_true : (a b : Bool) → (a && b) ≡ true → b ≡ true
+  second_true true b h = h
+  second_true false b h = absurd cc
+
+  pub items_stay : (is : List Item) → are_items_there (length types) (length funcs) is ≡ true → items_of more further is ≡ items_of types funcs is
+  items_stay [] h = refl
+  items_stay (i ∷ is) h =
+      let p = first_true (is_desc_there (length types) (length funcs) i.desc) (are_items_there (length types) (length funcs) is) h in
+      let q = second_true (is_desc_there (length types) (length funcs) i.desc) (are_items_there (length types) (length funcs) is) h in
+      rw (one_kept i p, items_stay is q) refl
+
+  pub items_stay_there : (is : List Item) → are_items_there (length types) (length funcs) is ≡ true → are_items_there (length more) (length further) is ≡ true
+  items_stay_there [] h = refl
+  items_stay_there (i ∷ is) h =
+      let p = first_true (is_desc_there (length types) (length funcs) i.desc) (are_items_there (length types) (length funcs) is) h in
+      let q = second_true (is_desc_there (length types) (length funcs) i.desc) (are_items_there (length types) (length funcs) is) h in
+      ap (λ (x : Bool). x && are_items_there (length more) (length further) is) (desc_more i.desc p) ∙ items_stay_there is q
+
 module _ (old new : Types) (g : Grown old new) where
-  test_more : (m n p : ℕ) → m ≤ n → nat_lt p m ≡ true → nat_lt p n ≡ true
-  test_more m n p le e = test_of p n (below_more m n p le (less_of p m e))
-
-  desc_more : (d : ItemDesc) → is_desc_there (length (types_of old)) (length (funcs_of old)) d ≡ true → is_desc_there (length (types_of new)) (length (funcs_of new)) d ≡ true
-  desc_more (desc.Func p) e = test_more (length (funcs_of old)) (length (funcs_of new)) p.place (extends_length (funcs_of old) (funcs_of new) g.funcs) e
-  desc_more (desc.EqualType p) e = test_more (length (types_of old)) (length (types_of new)) p.place (extends_length (types_of old) (types_of new) g.types) e
-  desc_more (desc.EqualResource n) e = refl
-  desc_more (desc.FreshResource n) e = refl
-
-  pub desc_kept : (d : ItemDesc) → is_desc_there (length (types_of old)) (length (funcs_of old)) d ≡ true → desc_of (types_of new) (funcs_of new) d ≡ desc_of (types_of old) (funcs_of old) d
-  desc_kept (desc.Func p) e = ap (λ (f : FuncTy). func_item (replaced_func (moved_by p.by) f)) (func_kept (funcs_of old) (funcs_of new) p.place g.funcs (less_of p.place (length (funcs_of old)) e))
-  desc_kept (desc.EqualType p) e = ap (λ (t : Ty). equal_type (replaced (moved_by p.by) t)) (place_kept (types_of old) (types_of new) p.place g.types (less_of p.place (length (types_of old)) e))
-  desc_kept (desc.EqualResource n) e = refl
-  desc_kept (desc.FreshResource n) e = refl
-
   pub item_kept : (i : Item) → is_desc_there (length (types_of old)) (length (funcs_of old)) i.desc ≡ true → item_view new i ≡ item_view old i
-  item_kept i e = ap (λ (d : ItemTy). record { name = i.name; desc = d }) (desc_kept i.desc e)
+  item_kept i e = one_kept (types_of old) (types_of new) (funcs_of old) (funcs_of new) g.types g.funcs i e
 
   pub item_more : (i : Item) → IsItemThere old i → IsItemThere new i
-  item_more i h = record { there = desc_more i.desc h.there; within = subst (λ (x : NamedItem). AreWithin (item_funcs x)) (sym (item_kept i h.there)) h.within }
+  item_more i h = record { there = desc_more (types_of old) (types_of new) (funcs_of old) (funcs_of new) g.types g.funcs i.desc h.there; within = subst (λ (x : NamedItem). AreWithin (item_funcs x)) (sym (item_kept i h.there)) h.within }
 
 -- ---- several
 
@@ -159,3 +186,21 @@ module _ (sc : code_scope.Scope) (ms : List code.Member) (first now : Types) (pl
 
   pub all_within : AreWithin (flat_map item_funcs (items_of (types_of now) (funcs_of now) done))
   all_within = items_within now done h.there
+
+-- ---- one of them
+
+pub refused : (g : Meaning → NamedItem) (o : Option Meaning) (f : MeaningFault) → f ≡ fault.NoSuchType → o ≡ None → IsItemFault (option_map g o) f
+refused g o f e n = subst (λ (w : MeaningFault). IsItemFault (option_map g o) w) (sym e) (ap (option_map g) n)
+
+pub func_refused : (g : FuncTy → NamedItem) (o : Option FuncTy) (f : MeaningFault) → f ≡ fault.NoSuchType → o ≡ None → IsItemFault (option_map g o) f
+func_refused g o f e n = subst (λ (w : MeaningFault). IsItemFault (option_map g o) w) (sym e) (ap (option_map g) n)
+
+pub no_resource : (s : Scope) (n : List ℕ) (f : ResourceFunc) → option_and_then as_resource (s n) ≡ None → member_func s n f ≡ None
+no_resource s n f e = ap (option_and_then (λ x. resource_func_meaning s x f)) e
+
+pub of_resource_made : (s : Scope) (n : List ℕ) (f : ResourceFunc) (r : ResourceId) (t : FuncTy) → s n ≡ Some (resource r) → resource_func_meaning s r f ≡ Some t → member_func s n f ≡ Some t
+of_resource_made s n f r t e q = ap (λ (o : Option Meaning). option_and_then (λ x. resource_func_meaning s x f) (option_and_then as_resource o)) e ∙ q
+
+pub item_made : (name n : List ℕ) (types : List Ty) (funcs : List FuncTy) (p : Placed) (place : ℕ) (o : Option FuncTy) → ((f : FuncTy) → replaced_func (moved_by None) f ≡ f) → name ≡ n → p.place ≡ place → p.by ≡ None → o ≡ Some (func_at funcs place) → option_map (λ t. item_with n (func_item t)) o ≡ Some (item_of types funcs (record { name = name; desc = desc.Func p }))
+item_made name n types funcs p place o stays a b d e =
+    ap (option_map (λ t. item_with n (func_item t))) e ∙ sym (rw (a, b, d, stays (func_at funcs place)) refl)

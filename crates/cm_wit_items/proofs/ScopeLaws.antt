@@ -24,7 +24,7 @@ meaning_kept : (old new : List Ty) (m : code.Meaning) → Extends old new → Is
 meaning_kept old new (meant.Value p) e h = ap value (place_kept old new p e h)
 meaning_kept old new (meant.Resource r) e h = refl
 
-table_kept : (old new : List Ty) (table : List (Option code.Meaning)) → Extends old new → ArePlaced (length old) table → table_in new table ≡ table_in old table
+pub table_kept : (old new : List Ty) (table : List (Option code.Meaning)) → Extends old new → ArePlaced (length old) table → table_in new table ≡ table_in old table
 table_kept old new [] e h = refl
 table_kept old new (None ∷ ms) e h = rw (table_kept old new ms e h.1) refl
 table_kept old new (Some m ∷ ms) e h = rw (meaning_kept old new m e h.0, table_kept old new ms e h.1) refl

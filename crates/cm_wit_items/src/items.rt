@@ -10,7 +10,7 @@ ghost use Rattle.cm_wit_text.specs.Views.{interface_tree, resource_func_tree};
 ghost use Rattle.cm_wit_meanings.specs.Places.{ArePlaced, Extends, IsPlaced, meaning_in, scope_in};
 ghost use Rattle.cm_wit_meanings.specs.declared.fault.MeaningFault.TheVariants as fault;
 ghost use Rattle.cm_wit_meanings.specs.Scopes as meant;
-ghost use Rattle.cm_wit_signature_model.specs.Functions.{item_funcs};
+ghost use Rattle.cm_wit_signature_model.specs.Functions.{desc_funcs, item_funcs};
 ghost use Rattle.cm_wit_signature_model.specs.Members.{items_in, member_item, own_type};
 ghost use Rattle.cm_wit_meanings.specs.Meanings.{each_meaning};
 ghost use Rattle.cm_wit_signature_model.specs.Members.{used_type};
@@ -67,6 +67,8 @@ fn found_resource(scope: &Scope<'_>, name: &Label) -> Result<ResourceId, Meaning
 fn used_desc(meaning: Meaning) -> ItemDesc
     ensures desc { (types : List Ty) (funcs : List FuncTy) → IsOwn (meaning_in types meaning)
         → desc_of types funcs result ≡ used_type (meaning_in types meaning) }
+    ensures no_func { (types : List Ty) (funcs : List FuncTy) →
+        desc_funcs (desc_of types funcs result) ≡ [] }
     ensures there { (types funcs : ℕ) → IsPlaced types meaning
         → is_desc_there types funcs result ≡ true }
 {
@@ -82,6 +84,8 @@ fn used_desc(meaning: Meaning) -> ItemDesc
 fn own_desc(meaning: Meaning) -> ItemDesc
     ensures desc { (types : List Ty) (funcs : List FuncTy) → IsOwn (meaning_in types meaning)
         → desc_of types funcs result ≡ own_type (meaning_in types meaning) }
+    ensures no_func { (types : List Ty) (funcs : List FuncTy) →
+        desc_funcs (desc_of types funcs result) ≡ [] }
     ensures there { (types funcs : ℕ) → IsPlaced types meaning
         → is_desc_there types funcs result ≡ true }
 {
@@ -162,8 +166,8 @@ fn used_item(alloc: Global, scope: &Scope<'_>, name: &Label) -> Result<Item, Mea
         → is_desc_there types funcs i.desc ≡ true) }
     ensures no_func { IfOk result (λ i. (types : List Ty) (funcs : List FuncTy) →
         item_funcs (item_of types funcs i) ≡ []) }
-    ensures fault { IfErr result (λ f. (types : List Ty) →
-        IsItemFault (member_item (scope_in types scope.now) (spec.used name.now)) f) }
+    ensures fault { (types : List Ty) → IfErr result
+        (IsItemFault (member_item (scope_in types scope.now) (spec.used name.now))) }
 {
     let meaning = found(scope, name)?;
     Ok(Item {
@@ -181,8 +185,8 @@ fn own_item(alloc: Global, scope: &Scope<'_>, name: &Label) -> Result<Item, Mean
         → is_desc_there types funcs i.desc ≡ true) }
     ensures no_func { IfOk result (λ i. (types : List Ty) (funcs : List FuncTy) →
         item_funcs (item_of types funcs i) ≡ []) }
-    ensures fault { IfErr result (λ f. (types : List Ty) →
-        IsItemFault (member_item (scope_in types scope.now) (spec.declared name.now)) f) }
+    ensures fault { (types : List Ty) → IfErr result
+        (IsItemFault (member_item (scope_in types scope.now) (spec.declared name.now))) }
 {
     let meaning = found(scope, name)?;
     Ok(Item {

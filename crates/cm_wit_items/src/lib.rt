@@ -2,6 +2,7 @@
 #![tactic(auto)]
 
 mod items;
+pub mod laws;
 mod members;
 mod names;
 

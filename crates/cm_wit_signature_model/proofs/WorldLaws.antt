@@ -46,7 +46,7 @@ module _ (fs : List File) (w : PlacedWorld) (ds : List Declaration) (table : Lis
   instance_by l None h t = let e = h.1 in absurd cc
   instance_by l (Some i) h t = mapped (λ is. record { name = full_name i.file i.interface.name; desc = instance is }) (items_in (scope_of ds table l) i.interface) (typed_members ds table whole ones l (members i.interface) (t i refl))
 
-  instance_there : (l n : ℕ) → n < length (interfaces fs) → Typed l n → Has (instance_extern fs (scope_of ds table l) n)
+  instance_there : (l n : ℕ) → n < length (interfaces fs) → Typed l n → Has (instance_extern (interfaces fs) (scope_of ds table l) n)
   instance_there l n lt t = instance_by l (slice_get (interfaces fs) n) (got_within (interfaces fs) n lt) t
 
   func_there : (f : NamedFunc) → FuncHasTypes ds own f.1 → Has (func_extern (scope_of ds table own) f)
@@ -64,23 +64,23 @@ module _ (fs : List File) (w : PlacedWorld) (ds : List Declaration) (table : Lis
   func_typed j = at_item (slice_get w.world.items j) (λ e q. all_at (λ x. MatchOption (item_func x) (Unit {0}) (λ f. FuncHasTypes ds own f.1)) w.world.items j e funcs q)
 
   abbrev pub TypedFrom : ℕ → List ℕ → Type 0
-  TypedFrom l ns = (k n : ℕ) → slice_get (interfaces_among fs ns) k ≡ Some n → Typed (l + k) n
+  TypedFrom l ns = (k n : ℕ) → slice_get (interfaces_among (interfaces fs) ns) k ≡ Some n → Typed (l + k) n
 
-  pub externs_there : (l : ℕ) (ns : List ℕ) → TypedFrom l ns → Has (externs_from fs w (scope_of ds table) own l ns)
+  pub externs_there : (l : ℕ) (ns : List ℕ) → TypedFrom l ns → Has (externs_from (interfaces fs) w (scope_of ds table) own l ns)
   externs_there l [] t = ([], refl)
   externs_there l (n ∷ ns) t = by_test (λ m h. externs_there m ns h) (nat_lt n (length (interfaces fs))) refl
     where
-      among : (b : Bool) → nat_lt n (length (interfaces fs)) ≡ b → interfaces_among fs (n ∷ ns) ≡ cond b (n ∷ interfaces_among fs ns) (interfaces_among fs ns)
-      among b e = ap (λ (x : Bool). cond x (n ∷ interfaces_among fs ns) (interfaces_among fs ns)) e
+      among : (b : Bool) → nat_lt n (length (interfaces fs)) ≡ b → interfaces_among (interfaces fs) (n ∷ ns) ≡ cond b (n ∷ interfaces_among (interfaces fs) ns) (interfaces_among (interfaces fs) ns)
+      among b e = ap (λ (x : Bool). cond x (n ∷ interfaces_among (interfaces fs) ns) (interfaces_among (interfaces fs) ns)) e
 
-      by_test : ((m : ℕ) → TypedFrom m ns → Has (externs_from fs w (scope_of ds table) own m ns)) → (b : Bool) → nat_lt n (length (interfaces fs)) ≡ b → Has (if nat_lt n (length (interfaces fs)) then in_front (instance_extern fs (scope_of ds table l) n) (externs_from fs w (scope_of ds table) own (l + 1) ns) else func_in_front (scope_of ds table own) (func_at w (n - length (interfaces fs))) (externs_from fs w (scope_of ds table) own l ns))
+      by_test : ((m : ℕ) → TypedFrom m ns → Has (externs_from (interfaces fs) w (scope_of ds table) own m ns)) → (b : Bool) → nat_lt n (length (interfaces fs)) ≡ b → Has (if nat_lt n (length (interfaces fs)) then in_front (instance_extern (interfaces fs) (scope_of ds table l) n) (externs_from (interfaces fs) w (scope_of ds table) own (l + 1) ns) else func_in_front (scope_of ds table own) (func_at w (n - length (interfaces fs))) (externs_from (interfaces fs) w (scope_of ds table) own l ns))
       by_test others true e =
           let here : Typed l n = subst (λ (m : ℕ). Typed m n) (omega arith) (t 0 n (ap (λ (xs : List ℕ). slice_get xs 0) (among true e))) in
           let rest : TypedFrom (l + 1) ns = λ k m q. subst (λ (i : ℕ). Typed i m) (omega arith) (t (suc k) m (ap (λ (xs : List ℕ). slice_get xs (suc k)) (among true e) ∙ q)) in
-          rw e (both_there (instance_extern fs (scope_of ds table l) n) (externs_from fs w (scope_of ds table) own (l + 1) ns) (instance_there l n (less_of n (length (interfaces fs)) e) here) (others (l + 1) rest))
+          rw e (both_there (instance_extern (interfaces fs) (scope_of ds table l) n) (externs_from (interfaces fs) w (scope_of ds table) own (l + 1) ns) (instance_there l n (less_of n (length (interfaces fs)) e) here) (others (l + 1) rest))
       by_test others false e =
           let rest : TypedFrom l ns = λ k m q. t k m (ap (λ (xs : List ℕ). slice_get xs k) (among false e) ∙ q) in
-          rw e (front_there (func_at w (n - length (interfaces fs))) (externs_from fs w (scope_of ds table) own l ns) (func_typed (n - length (interfaces fs))) (others l rest))
+          rw e (front_there (func_at w (n - length (interfaces fs))) (externs_from (interfaces fs) w (scope_of ds table) own l ns) (func_typed (n - length (interfaces fs))) (others l rest))
 
 -- ---- the instances of a world
 
@@ -110,15 +110,15 @@ module _ (fs : List File) (w : PlacedWorld) (into out : List ℕ) (table : List 
     into_typed : TypedFrom fs w ds table (length xs) whole ones typed.of_world 0 into
     into_typed k n e i q =
         subst (λ (l : ℕ). AllByRecursion (MemberHasTypes ds l) (members i.interface)) (omega arith)
-        (typed.of_instances k (imported n) i (get_left (map imported (interfaces_among fs into)) (map (λ m. record { exported = true; interface = m }) (interfaces_among fs out)) k (imported n) (get_map imported (interfaces_among fs into) k n e)) q)
+        (typed.of_instances k (imported n) i (get_left (map imported (interfaces_among (interfaces fs) into)) (map (λ m. record { exported = true; interface = m }) (interfaces_among (interfaces fs) out)) k (imported n) (get_map imported (interfaces_among (interfaces fs) into) k n e)) q)
 
-    out_typed : TypedFrom fs w ds table (length xs) whole ones typed.of_world (length (interfaces_among fs into)) out
+    out_typed : TypedFrom fs w ds table (length xs) whole ones typed.of_world (length (interfaces_among (interfaces fs) into)) out
     out_typed k n e i q =
-        typed.of_instances (length (interfaces_among fs into) + k) (record { exported = true; interface = n }) i
-        (get_right imported (interfaces_among fs into) (map (λ m. record { exported = true; interface = m }) (interfaces_among fs out)) k (record { exported = true; interface = n }) (get_map (λ m. record { exported = true; interface = m }) (interfaces_among fs out) k n e)) q
+        typed.of_instances (length (interfaces_among (interfaces fs) into) + k) (record { exported = true; interface = n }) i
+        (get_right imported (interfaces_among (interfaces fs) into) (map (λ m. record { exported = true; interface = m }) (interfaces_among (interfaces fs) out)) k (record { exported = true; interface = n }) (get_map (λ m. record { exported = true; interface = m }) (interfaces_among (interfaces fs) out) k n e)) q
 
     pub signature_there : Has (signature_in fs w into out table)
     signature_there =
         let p = externs_there fs w ds table (length xs) whole ones typed.of_world 0 into into_typed in
-        let q = externs_there fs w ds table (length xs) whole ones typed.of_world (length (interfaces_among fs into)) out out_typed in
+        let q = externs_there fs w ds table (length xs) whole ones typed.of_world (length (interfaces_among (interfaces fs) into)) out out_typed in
         (record { imports = p.0; exports = q.0 }, rw (p.1, q.1) refl)

@@ -48,8 +48,9 @@ interface_extern s i =
     option_map (λ is. record { name = full_name i.file i.interface.name; desc = instance is })
     (items_in s i.interface)
 
-abbrev pub instance_extern : List File → Scope → ℕ → Option NamedExtern
-instance_extern fs s n = option_and_then (interface_extern s) (slice_get (interfaces fs) n)
+-- that of the n-th of all interfaces
+abbrev pub instance_extern : List PlacedInterface → Scope → ℕ → Option NamedExtern
+instance_extern all s n = option_and_then (interface_extern s) (slice_get all n)
 
 -- one in front of others, where all are there
 abbrev pub in_front : {A : Type 0} → Option A → Option (List A) → Option (List A)
@@ -61,21 +62,27 @@ abbrev pub func_in_front : Scope → Option NamedFunc → Option (List NamedExte
 func_in_front s None others = others
 func_in_front s (Some f) others = in_front (func_extern s f) others
 
--- what these numbers stand for: that of an interface for its instance, the first of which has the
--- l-th list of names; and from `count`, the number of all interfaces, on for a function of the
--- world itself, whose names are those of the list `own`
-abbrev pub externs_from : List File → PlacedWorld → Scopes → ℕ → ℕ → List ℕ
+-- What these numbers stand for, of all interfaces. That of an interface stands for its instance,
+-- the first of which has the l-th list of names; and those from the number of all interfaces on
+-- stand for functions of the world itself, whose names are those of the list `own`.
+abbrev pub externs_from : List PlacedInterface → PlacedWorld → Scopes → ℕ → ℕ → List ℕ
     → Option (List NamedExtern)
-externs_from fs w scopes own l [] = Some []
-externs_from fs w scopes own l (n ∷ ns) =
-    if nat_lt n (length (interfaces fs)) then in_front (instance_extern fs (scopes l) n)
-    (externs_from fs w scopes own (l + 1) ns)
-    else func_in_front (scopes own) (func_at w (n - length (interfaces fs)))
-    (externs_from fs w scopes own l ns)
+externs_from all w scopes own l [] = Some []
+externs_from all w scopes own l (n ∷ ns) =
+    if nat_lt n (length all) then in_front (instance_extern all (scopes l) n)
+    (externs_from all w scopes own (l + 1) ns)
+    else func_in_front (scopes own) (func_at w (n - length all))
+    (externs_from all w scopes own l ns)
 
 -- the interfaces among what is imported or exported
-abbrev pub interfaces_among : List File → List ℕ → List ℕ
-interfaces_among fs ns = filter (λ n. nat_lt n (length (interfaces fs))) ns
+abbrev pub interfaces_among : List PlacedInterface → List ℕ → List ℕ
+interfaces_among all ns = filter (λ n. nat_lt n (length all)) ns
+
+-- imports with exports, where both are there
+abbrev pub with_exports : Option (List NamedExtern) → Option (List NamedExtern)
+    → Option SignatureTy
+with_exports into out =
+    option_and_then (λ is. option_map (λ es. record { imports = is; exports = es }) out) into
 
 -- The signature of a world that imports and exports these, in order, where the declarations of its
 -- interfaces stand for what this table has. The instances have the lists of names in order, imports
@@ -83,8 +90,8 @@ interfaces_among fs ns = filter (λ n. nat_lt n (length (interfaces fs))) ns
 abbrev pub signature_in : List File → PlacedWorld → List ℕ → List ℕ → List (Option Meaning)
     → Option SignatureTy
 signature_in fs w into out table =
-    let xs = instances (length (interfaces fs)) into out in
+    let all = interfaces fs in
+    let xs = instances (length all) into out in
     let scopes = scope_of (declarations fs xs) table in
-    option_and_then (λ is. option_map (λ es. record { imports = is; exports = es })
-    (externs_from fs w scopes (length xs) (length (interfaces_among fs into)) out))
-    (externs_from fs w scopes (length xs) 0 into)
+    with_exports (externs_from all w scopes (length xs) 0 into)
+    (externs_from all w scopes (length xs) (length (interfaces_among all into)) out)

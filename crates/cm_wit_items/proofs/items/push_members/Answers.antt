@@ -14,7 +14,7 @@ loop-member-preserved c =
 
 pub returns-in_err-item-clause-fault : goal.returns-in_err-item-clause-fault
 returns-in_err-item-clause-fault c =
-    let h = items_fault c.args.scope.now c.args.members.now c.args.types.now c.loop-member.types c.requires.placed c.loop-member.member-index c.loop-member.items.items c.loop-member.invariant c.member-item.result c.in_err-item.item-0.0 (omega arith) c.member-item.is c.in_err-item.ensures.fault in
+    let h = items_fault c.args.scope.now c.args.members.now c.args.types.now c.loop-member.types c.requires.placed c.loop-member.member-index c.loop-member.items.items c.loop-member.invariant c.member-item.result c.in_err-item.field-0.0 (omega arith) c.member-item.is c.in_err-item.ensures.fault in
     search (rules, h)
 
 pub returns-clause-items : goal.returns-clause-items

@@ -1,0 +1,3 @@
+mod GrowthLaws
+mod ExternLaws
+mod LoopLaws
