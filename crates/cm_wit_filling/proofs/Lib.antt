@@ -1,0 +1,4 @@
+mod OrderLaws
+mod GrowthLaws
+mod EntryLaws
+mod FillLaws

@@ -1,0 +1,7 @@
+mod MapLaws
+mod AddLaws
+mod RowLaws
+mod EdgeLaws
+mod ResourceLaws
+mod LeadLaws
+mod IdLaws
