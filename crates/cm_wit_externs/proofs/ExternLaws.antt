@@ -1,5 +1,5 @@
 -- Imports and exports that are added one after another.
-use Rattle.std.proofs.Common.{◌≡◌, ℕ, suc, ◌+◌, ◌-◌, ◌<◌, ◌≤◌, nat_lt, Bool, true, false, ◌&&◌, if◌then◌else◌, List, [], ◌∷◌, ◌++◌, length, map, drop, get_or, Option, Some, None, slice_get, refl, sym, ap, subst, ◌∙◌, arith, append_assoc, append-nil, drop-cons, add-one}
+use Rattle.std.proofs.Common.{◌≡◌, ℕ, suc, ◌+◌, ◌-◌, ◌<◌, ◌≤◌, nat_lt, Bool, true, false, ◌&&◌, if◌then◌else◌, List, [], ◌∷◌, ◌++◌, length, map, drop, get_or, Option, Some, None, slice_get, slice_index_or, zero, refl, sym, ap, subst, ◌∙◌, arith, append_assoc, append-nil, drop-cons, add-one}
 use Rattle.std.specs.List.{AllByRecursion, flat_map, list_all}
 use Rattle.std.specs.Option.{option_map, option_and_then}
 use Rattle.std.proofs.lemmas.List.{drop_all, map-append}
@@ -92,17 +92,17 @@ funcs_joined : (xs ys : List NamedExtern) → AreWithin (flat_map extern_funcs x
 funcs_joined [] ys h g = g
 funcs_joined (x ∷ xs) ys h g = all_both (extern_funcs x) (flat_map extern_funcs (xs ++ ys)) (left (extern_funcs x) (flat_map extern_funcs xs) h) (funcs_joined xs ys (right (extern_funcs x) (flat_map extern_funcs xs) h) g)
   where
-    left : (as bs : List FuncTy) → AreWithin (as ++ bs) → AreWithin as
-    left [] bs w = tt
-    left (a ∷ as) bs w = (w.0, left as bs w.1)
+    left : (fs gs : List FuncTy) → AreWithin (fs ++ gs) → AreWithin fs
+    left [] gs w = tt
+    left (a ∷ fs) gs w = (w.0, left fs gs w.1)
 
-    right : (as bs : List FuncTy) → AreWithin (as ++ bs) → AreWithin bs
-    right [] bs w = w
-    right (a ∷ as) bs w = right as bs w.1
+    right : (fs gs : List FuncTy) → AreWithin (fs ++ gs) → AreWithin gs
+    right [] gs w = w
+    right (a ∷ fs) gs w = right fs gs w.1
 
-    all_both : (as bs : List FuncTy) → AreWithin as → AreWithin bs → AreWithin (as ++ bs)
-    all_both [] bs w v = v
-    all_both (a ∷ as) bs w v = (w.0, all_both as bs w.1 v)
+    all_both : (fs gs : List FuncTy) → AreWithin fs → AreWithin gs → AreWithin (fs ++ gs)
+    all_both [] gs w v = v
+    all_both (a ∷ fs) gs w v = (w.0, all_both fs gs w.1 v)
 
 module _ (stay : ItemsStay) (there : ItemsStayThere) (old new : Types) (e : Extends (types_of old) (types_of new)) (g : Extends (funcs_of old) (funcs_of new)) (es : List Extern) (h : are_externs_in old es ≡ true) where
   pub made_kept : made new es ≡ made old es
@@ -158,13 +158,13 @@ module _ (all : List PlacedInterface) (w : PlacedWorld) (scopes : Scopes) (own l
 
 -- ---- faults
 
-left_within : (as bs : List FuncTy) → AreWithin (as ++ bs) → AreWithin as
-left_within [] bs w = tt
-left_within (a ∷ as) bs w = (w.0, left_within as bs w.1)
+left_within : (fs gs : List FuncTy) → AreWithin (fs ++ gs) → AreWithin fs
+left_within [] gs w = tt
+left_within (a ∷ fs) gs w = (w.0, left_within fs gs w.1)
 
-right_within : (as bs : List FuncTy) → AreWithin (as ++ bs) → AreWithin bs
-right_within [] bs w = w
-right_within (a ∷ as) bs w = right_within as bs w.1
+right_within : (fs gs : List FuncTy) → AreWithin (fs ++ gs) → AreWithin gs
+right_within [] gs w = w
+right_within (a ∷ fs) gs w = right_within fs gs w.1
 
 one_unspelled : (b c d : Bool) → (c ≡ false → d ≡ false) → (b && c) ≡ false → (b && d) ≡ false
 one_unspelled true c d h e = h e
@@ -216,9 +216,9 @@ module _ (all : List PlacedInterface) (w : PlacedWorld) (scopes : Scopes) (own l
 
 -- ---- imports and exports together
 
-all_joined : (as bs : List FuncTy) → AreWithin as → AreWithin bs → AreWithin (as ++ bs)
-all_joined [] bs w v = v
-all_joined (a ∷ as) bs w v = (w.0, all_joined as bs w.1 v)
+all_joined : (fs gs : List FuncTy) → AreWithin fs → AreWithin gs → AreWithin (fs ++ gs)
+all_joined [] gs w v = v
+all_joined (a ∷ fs) gs w v = (w.0, all_joined fs gs w.1 v)
 
 unspelled_of : (is es : List NamedExtern) → are_spelled (flat_map extern_funcs is) ≡ false → are_spelled (funcs_in (record { imports = is; exports = es })) ≡ false
 unspelled_of is es h = first_unspelled (flat_map extern_funcs is) (flat_map extern_funcs es) h
@@ -272,3 +272,8 @@ all_stay_there stay there types more funcs further e g (x ∷ es) h =
 
 pub made_there : (stay : ItemsStay) (there : ItemsStayThere) (old new : Types) (es : List Extern) → Extends (types_of old) (types_of new) → Extends (funcs_of old) (funcs_of new) → are_externs_in old es ≡ true → are_externs_in new es ≡ true
 made_there stay there old new es e g h = all_stay_there stay there (types_of old) (types_of new) (funcs_of old) (funcs_of new) e g es h
+
+pub at_index : {A B : Type 0} (view : A → B) (xs : List A) (n : ℕ) (d : A) → n < length xs → slice_get (map view xs) n ≡ Some (view (slice_index_or xs n d))
+at_index view [] n d lt = absurd (omega (arith, lt))
+at_index view (x ∷ xs) zero d lt = refl
+at_index view (x ∷ xs) (suc n) d lt = at_index view xs n d (omega (arith, lt))

@@ -57,10 +57,10 @@ module _ (p : Parts) (first : Types) (start : ℕ) (numbers : List ℕ) where
     pub made_own : ((l : ℕ) → AreOwn (scopes_in (types_of first) p l)) → (l : ℕ) → AreOwn (scopes_in (types_of now) p l)
     made_own o l = subst (λ (s : Scopes). AreOwn (s l)) (sym same) (o l)
 
-    cut : (x : ℕ) → i < length numbers → x ≡ get_or numbers i x → drop i numbers ≡ x ∷ drop (i + 1) numbers
-    cut x lt e = drop-cons numbers i x lt ∙ (ap (λ (a : ℕ). a ∷ drop (suc i) numbers) (sym e) ∙ rw (add-one i) refl)
+    cut : (x : ℕ) → i < length numbers → x ≡ get_or numbers i 0 → drop i numbers ≡ x ∷ drop (i + 1) numbers
+    cut x lt e = drop-cons numbers i 0 lt ∙ (ap (λ (a : ℕ). a ∷ drop (suc i) numbers) (sym e) ∙ rw (add-one i) refl)
 
-    pub made_next : (next : Types) (x m : ℕ) (new : List Extern) → i < length numbers → x ≡ get_or numbers i x → Adds (interfaces_in p) (world_in p) (scopes_in (types_of now) p) p.own x list m (externs_in now out) (externs_in next new) → m ≤ list + 1 → are_externs_in next new ≡ true → AreWithin (flat_map extern_funcs (externs_in next new)) → Extends (types_of now) (types_of next) → Extends (funcs_of now) (funcs_of next) → Made p first start numbers (i + 1) next m new
+    pub made_next : (next : Types) (x m : ℕ) (new : List Extern) → i < length numbers → x ≡ get_or numbers i 0 → Adds (interfaces_in p) (world_in p) (scopes_in (types_of now) p) p.own x list m (externs_in now out) (externs_in next new) → m ≤ list + 1 → are_externs_in next new ≡ true → AreWithin (flat_map extern_funcs (externs_in next new)) → Extends (types_of now) (types_of next) → Extends (funcs_of now) (funcs_of next) → Made p first start numbers (i + 1) next m new
     made_next next x m new lt e adds le q w t f = record {
       is = sym (subst (λ (s : Scopes). Adds (interfaces_in p) (world_in p) s p.own x list m (externs_in now out) (externs_in next new)) same adds (drop (i + 1) numbers))
           ∙ (sym (ap (λ (ns : List ℕ). behind (externs_in now out) (externs_from (interfaces_in p) (world_in p) (scopes_in (types_of first) p) p.own list ns)) (cut x lt e)) ∙ h.is);
@@ -71,7 +71,7 @@ module _ (p : Parts) (first : Types) (start : ℕ) (numbers : List ℕ) where
       funcs = extends_more (funcs_of first) (funcs_of now) (funcs_of next) h.funcs f;
     }
 
-    pub made_fault : (x : ℕ) (f : MeaningFault) → i < length numbers → x ≡ get_or numbers i x → ((ns : List ℕ) → AreExternsFault (behind (externs_in now out) (externs_from (interfaces_in p) (world_in p) (scopes_in (types_of now) p) p.own list (x ∷ ns))) f) → AreExternsFault (externs_from (interfaces_in p) (world_in p) (scopes_in (types_of first) p) p.own start numbers) f
+    pub made_fault : (x : ℕ) (f : MeaningFault) → i < length numbers → x ≡ get_or numbers i 0 → ((ns : List ℕ) → AreExternsFault (behind (externs_in now out) (externs_from (interfaces_in p) (world_in p) (scopes_in (types_of now) p) p.own list (x ∷ ns))) f) → AreExternsFault (externs_from (interfaces_in p) (world_in p) (scopes_in (types_of first) p) p.own start numbers) f
     made_fault x f lt e g =
         let told = subst (λ (s : Scopes). AreExternsFault (behind (externs_in now out) (externs_from (interfaces_in p) (world_in p) s p.own list (x ∷ drop (i + 1) numbers))) f) same (g (drop (i + 1) numbers)) in
         let all : behind (externs_in now out) (externs_from (interfaces_in p) (world_in p) (scopes_in (types_of first) p) p.own list (x ∷ drop (i + 1) numbers)) ≡ externs_from (interfaces_in p) (world_in p) (scopes_in (types_of first) p) p.own start numbers =
@@ -81,3 +81,15 @@ module _ (p : Parts) (first : Types) (start : ℕ) (numbers : List ℕ) where
     pub made_all : length numbers ≤ i → externs_from (interfaces_in p) (world_in p) (scopes_in (types_of first) p) p.own start numbers ≡ Some (externs_in now out)
     made_all le =
         sym h.is ∙ (ap (λ (ns : List ℕ). behind (externs_in now out) (externs_from (interfaces_in p) (world_in p) (scopes_in (types_of first) p) p.own list ns)) (drop_all i numbers le) ∙ ap Some (append-nil (externs_in now out)))
+
+-- ---- the same names among more types
+
+module _ (p : Parts) (stay : TablesStay) (first mid : Types) (e : Extends (types_of first) (types_of mid)) (placed : ArePlaced (length (types_of first)) p.table.now) where
+  pub scopes_stay : scopes_in (types_of mid) p ≡ scopes_in (types_of first) p
+  scopes_stay = ap (λ (t : List (Option meant.Meaning)). λ (l : ℕ). scope_at (listed p.names.now) t l) (stay (types_of first) (types_of mid) p.table.now e placed)
+
+  pub own_stays : ((l : ℕ) → AreOwn (scopes_in (types_of first) p l)) → (l : ℕ) → AreOwn (scopes_in (types_of mid) p l)
+  own_stays o l = subst (λ (s : Scopes). AreOwn (s l)) (sym scopes_stay) (o l)
+
+  pub externs_same : (start : ℕ) (numbers : List ℕ) → externs_from (interfaces_in p) (world_in p) (scopes_in (types_of mid) p) p.own start numbers ≡ externs_from (interfaces_in p) (world_in p) (scopes_in (types_of first) p) p.own start numbers
+  externs_same start numbers = ap (λ (s : Scopes). externs_from (interfaces_in p) (world_in p) s p.own start numbers) scopes_stay

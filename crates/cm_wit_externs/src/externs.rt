@@ -29,8 +29,15 @@ use cm_wit_interfaces::{PlacedInterface, full_name};
 use cm_wit_items::laws::{items_stay, tables_stay};
 use cm_wit_items::{extern_name, push_items};
 use cm_wit_meanings::MeaningFault;
-use std::alloc::Global;
+use std::alloc::{AllocError, Global};
 use std::rc::Rc;
+
+/// A type of an instance that can be shared.
+fn shared(alloc: Global, ty: InstanceType) -> Result<Rc<InstanceType>, AllocError>
+    ensures { IfOk result (λ shared. shared.value ≡ ty) }
+{
+    Ok(Rc::new(alloc, ty)?)
+}
 
 /// Adds the types of the instance of an interface whose names are those of a list, and answers it.
 fn push_instance(
@@ -43,8 +50,8 @@ fn push_instance(
     requires placed { ArePlaced (length (types_of types.old)) parts.now.table.now }
     requires own { (l : ℕ) → AreOwn (scopes_in (types_of types.old) parts.now l) }
     ensures is { IfOk result (λ e.
-        interface_extern (scopes_in (types_of types.old) parts.now list) (placed_interface placed.now)
-        ≡ Some (extern_of (types_of types.new) (funcs_of types.new) e)) }
+        interface_extern (scopes_in (types_of types.old) parts.now list)
+        (placed_interface placed.now) ≡ Some (extern_of (types_of types.new) (funcs_of types.new) e)) }
     ensures there { IfOk result (λ e. is_extern_there (length (types_of types.new))
         (length (funcs_of types.new)) e.desc ≡ true) }
     ensures within { IfOk result (λ e. AreWithin
@@ -54,6 +61,7 @@ fn push_instance(
     ensures grown { Extends (types_of types.old) (types_of types.new) }
     ensures funcs { Extends (funcs_of types.old) (funcs_of types.new) }
 {
+    unmoved();
     let scope = parts.scope(list);
     let items = push_items(alloc, types, &scope, placed.interface)?;
     let name = full_name(alloc, placed.file, &placed.interface.name)?;
@@ -65,7 +73,7 @@ fn push_instance(
     Ok(Extern {
         name: extern_name(alloc, name.as_str())?,
         desc: ExternDesc::Instance {
-            ty: Rc::new(alloc, ty)?,
+            ty: shared(alloc, ty)?,
             by: None,
         },
     })
@@ -80,8 +88,8 @@ fn push_own_func(
 ) -> Result<Extern, MeaningFault>
     requires placed { ArePlaced (length (types_of types.old)) parts.now.table.now }
     ensures is { IfOk result (λ e.
-        func_extern (scopes_in (types_of types.old) parts.now parts.now.own) (own_func_view own.entry)
-        ≡ Some (extern_of (types_of types.new) (funcs_of types.new) e)) }
+        func_extern (scopes_in (types_of types.old) parts.now parts.now.own)
+        (own_func_view own.entry) ≡ Some (extern_of (types_of types.new) (funcs_of types.new) e)) }
     ensures there { IfOk result (λ e. is_extern_there (length (types_of types.new))
         (length (funcs_of types.new)) e.desc ≡ true) }
     ensures within { IfOk result (λ e. AreWithin
@@ -120,10 +128,10 @@ fn add_instance(
     ensures there { OnOk result (are_externs_in types.new out.new.items ≡ true) }
     ensures within { OnOk result
         (AreWithin (flat_map extern_funcs (externs_in types.new out.new.items))) }
-    ensures fault { IfErr result (λ f. (ns : List ℕ) → AreExternsFault
+    ensures fault { (ns : List ℕ) → IfErr result (AreExternsFault
         (behind (externs_in types.old out.old.items)
         (externs_from (interfaces_in parts.now) (world_in parts.now)
-        (scopes_in (types_of types.old) parts.now) parts.now.own list (number ∷ ns))) f) }
+        (scopes_in (types_of types.old) parts.now) parts.now.own list (number ∷ ns)))) }
     ensures grown { Extends (types_of types.old) (types_of types.new) }
     ensures funcs { Extends (funcs_of types.old) (funcs_of types.new) }
 {
@@ -154,10 +162,10 @@ fn add_own_func(
     ensures there { OnOk result (are_externs_in types.new out.new.items ≡ true) }
     ensures within { OnOk result
         (AreWithin (flat_map extern_funcs (externs_in types.new out.new.items))) }
-    ensures fault { IfErr result (λ f. (ns : List ℕ) → AreExternsFault
+    ensures fault { (ns : List ℕ) → IfErr result (AreExternsFault
         (behind (externs_in types.old out.old.items)
         (externs_from (interfaces_in parts.now) (world_in parts.now)
-        (scopes_in (types_of types.old) parts.now) parts.now.own list (number ∷ ns))) f) }
+        (scopes_in (types_of types.old) parts.now) parts.now.own list (number ∷ ns)))) }
     ensures grown { Extends (types_of types.old) (types_of types.new) }
     ensures funcs { Extends (funcs_of types.old) (funcs_of types.new) }
 {
@@ -193,10 +201,10 @@ fn add_number(
     ensures there { OnOk result (are_externs_in types.new out.new.items ≡ true) }
     ensures within { OnOk result
         (AreWithin (flat_map extern_funcs (externs_in types.new out.new.items))) }
-    ensures fault { IfErr result (λ f. (ns : List ℕ) → AreExternsFault
+    ensures fault { (ns : List ℕ) → IfErr result (AreExternsFault
         (behind (externs_in types.old out.old.items)
         (externs_from (interfaces_in parts.now) (world_in parts.now)
-        (scopes_in (types_of types.old) parts.now) parts.now.own list (number ∷ ns))) f) }
+        (scopes_in (types_of types.old) parts.now) parts.now.own list (number ∷ ns)))) }
     ensures grown { Extends (types_of types.old) (types_of types.new) }
     ensures funcs { Extends (funcs_of types.old) (funcs_of types.new) }
 {

@@ -13,8 +13,9 @@ ghost use Rattle.cm_wit_signature_model.specs.Named.{HaveTypes};
 ghost use Rattle.cm_wit_signature_model.specs.Own.{AreOwn};
 ghost use Rattle.cm_wit_signature_model.specs.Signatures.{signature_in};
 
-use cm_wit_scopes::laws::{acyclic_ones_can_be_ranked, each_stands_where_names_lead};
-use cm_wit_scopes::laws::resources_stand_for_resources;
+use cm_wit_scopes::laws::{
+    acyclic_ones_can_be_ranked, each_stands_where_names_lead, resources_stand_for_resources,
+};
 
 /// Where each name in what a world reaches leads to a type, that of a borrow to a resource, and no
 /// type uses itself, the world has a signature.
