@@ -1,2 +1,0 @@
-pub mod PartViews
-pub mod Adding

@@ -1,9 +1,0 @@
-//! The signatures of worlds.
-#![tactic(auto)]
-
-mod instances;
-mod reached;
-mod signing;
-mod world;
-
-pub use world::world_signature;
