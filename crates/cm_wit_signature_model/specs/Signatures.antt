@@ -86,7 +86,8 @@ with_exports into out =
 
 -- The signature of a world that imports and exports these, in order, where the declarations of its
 -- interfaces stand for what this table has. The instances have the lists of names in order, imports
--- first; the functions of the world itself have the list behind those, in which nothing is declared.
+-- first; the functions of the world itself have the list behind those, in which nothing is
+-- declared.
 abbrev pub signature_in : List File → PlacedWorld → List ℕ → List ℕ → List (Option Meaning)
     → Option SignatureTy
 signature_in fs w into out table =

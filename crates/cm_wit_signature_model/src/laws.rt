@@ -1,5 +1,5 @@
-//! What holds of the signatures of worlds, as laws: each function here does nothing, and its contract
-//! is the law.
+//! What holds of the signatures of worlds, as laws: each function here does nothing, and its
+//! contract is the law.
 
 ghost use Rattle.std.specs.Prelude.{◌≡◌, ℕ, List, Option, Some, length};
 ghost use Rattle.cm_types.specs.Signatures.{SignatureTy};
