@@ -51,7 +51,8 @@ fn push_instance(
     requires own { (l : ℕ) → AreOwn (scopes_in (types_of types.old) parts.now l) }
     ensures is { IfOk result (λ e.
         interface_extern (scopes_in (types_of types.old) parts.now list)
-        (placed_interface placed.now) ≡ Some (extern_of (types_of types.new) (funcs_of types.new) e)) }
+        (placed_interface placed.now)
+        ≡ Some (extern_of (types_of types.new) (funcs_of types.new) e)) }
     ensures there { IfOk result (λ e. is_extern_there (length (types_of types.new))
         (length (funcs_of types.new)) e.desc ≡ true) }
     ensures within { IfOk result (λ e. AreWithin

@@ -1,23 +1,21 @@
 -- What one declaration stands for, given what each does.
-use Rattle.std.proofs.Common.{◌≡◌, ℕ, zero, suc, ◌<◌, List, [], ◌∷◌, length, map, get_or, Option, Some, None, IfSome, slice_get, slice_index_or, refl, sym, ap, subst, ◌∙◌, arith}
+use Rattle.std.proofs.Common.{◌≡◌, ℕ, zero, suc, ◌<◌, List, [], ◌∷◌, length, get_or, Option, Some, None, IfSome, slice_index_or, refl, sym, ap, subst, ◌∙◌, arith}
 use Rattle.std.specs.Option.{option_map, option_and_then}
 use Rattle.std.proofs.lemmas.Option.{slice_get-map, slice_get-get_or, same_Some}
 use Rattle.cm_types.specs.Types.{Ty}
 use Rattle.cm_types.specs.Limits.{IsWithinLimits}
 use Rattle.cm_types.specs.declared.resource.ResourceId.{ResourceId}
-use Rattle.cm_keys.specs.Keys.{Key}
-use Rattle.cm_keys.specs.Listed.{listed}
 use Rattle.cm_wit_meanings.specs.declared.fault.MeaningFault.{MeaningFault}
 use Rattle.cm_wit_meanings.specs.declared.scope.Meaning as code
 use Rattle.cm_wit_meanings.specs.declared.scope.Scope as code_scope
 use Rattle.cm_wit_meanings.specs.Faults.{IsFaultIn}
 use Rattle.cm_wit_meanings.specs.Meanings.{def_meaning}
 use Rattle.cm_wit_meanings.specs.Places.{meaning_in, table_in, scope_in}
-use Rattle.cm_wit_meanings.specs.Scopes.{Meaning, Scope, as_type, scope_at}
+use Rattle.cm_wit_meanings.specs.Scopes.{Meaning, Scope, as_type}
 use Rattle.cm_wit_text.specs.Trees.{TypeDef}
 use Rattle.cm_wit_declared.specs.DeclaredViews.{declaration_view, declared_view}
 use Rattle.cm_wit_declared.specs.declared.declarations.Declaration as code_declaration
-use Rattle.cm_wit_scopes.specs.Declarations.{Declaration, Declared, brought, defined, keys_of}
+use Rattle.cm_wit_scopes.specs.Declarations.{Declared, defined}
 use Rattle.cm_wit_scopes.specs.Tables.{declared_meaning, entry_meaning, resource_of, scope_of}
 use Rattle.cm_wit_filling.specs.declared.listing.Listing.{Listing}
 use Rattle.cm_wit_filling.specs.Filled.{AreWithin, IsWithin, entry_at}

@@ -1,14 +1,13 @@
 -- A table that is filled in an order in which each declaration stands behind those that it uses
 -- solves their equation.
-use Rattle.std.proofs.Common.{◌≡◌, ◌↔◌, ℕ, zero, suc, ◌+◌, ◌<◌, ◌≤◌, ◌≢◌, List, [], ◌∷◌, length, map, take, get_or, Option, Some, None, IfSome, is_some, slice_get, slice_index_or, inl, inr, refl, sym, ap, subst, ◌∙◌, arith}
-use Rattle.std.specs.List.{All, AllByRecursion, Contains}
+use Rattle.std.proofs.Common.{◌≡◌, ℕ, zero, suc, ◌+◌, ◌<◌, ◌≤◌, List, [], ◌∷◌, length, map, take, get_or, Option, Some, None, IfSome, is_some, slice_get, slice_index_or, inl, inr, refl, sym, ap, subst, ◌∙◌, arith}
+use Rattle.std.specs.List.{AllByRecursion, Contains}
 use Rattle.std.specs.Option.{option_map}
 use Rattle.std.proofs.Math.ListN.{set, replicate}
 use Rattle.std.proofs.lemmas.Bool.{cases_lt, cases_eq}
-use Rattle.std.proofs.lemmas.List.{ext_get_or, get_or-set_same, get_or-set_other, get_or-take, get_or_default, length-set, length-map, length-take, length-replicate, map-set}
+use Rattle.std.proofs.lemmas.List.{ext_get_or, get_or-set_same, get_or-set_other, get_or-take, get_or_default, length-set, length-map, length-take, length-replicate}
 use Rattle.std.proofs.lemmas.List.Elements.{recursion_from_All}
-use Rattle.std.proofs.lemmas.Option.{slice_get-get_or, get_or_from_slice_get}
-use Rattle.cm_types.specs.Types.{Ty}
+use Rattle.std.proofs.lemmas.Option.{get_or_from_slice_get}
 use Rattle.cm_order.specs.Orders.{IsOrder, IsWithin as IsBounded}
 use Rattle.cm_type_arena.specs.Places.{types_of, funcs_of}
 use Rattle.cm_type_arena.specs.declared.types.Types.{Types}
@@ -21,7 +20,7 @@ use Rattle.cm_wit_meanings.specs.Scopes.{Meaning, as_type}
 use Rattle.cm_wit_scopes.specs.Declarations.{Declaration, uses}
 use Rattle.cm_wit_scopes.specs.Tables.{Solves, IsWhole}
 use Rattle.cm_wit_filling.specs.Filled.{AreWithin, IsWithin, entry_at}
-use Rattle.cm_wit_filling.specs.FillFaults.{IsFillFault, StandsFor}
+use Rattle.cm_wit_filling.specs.FillFaults.{IsFillFault}
 use Rattle.cm_wit_filling.proofs.GrowthLaws.{extends_same, extends_more, table_kept, placed_more, within_more, all_set, all_same}
 
 abbrev pub Table : Type 0
@@ -78,7 +77,7 @@ module _ (ds : List Declaration) (order : List ℕ) where
             let old : at whole place ≡ m = get_or_from_slice_get whole place m None (subst (λ (k : ℕ). slice_get whole k ≡ entry_at ds table k) (sym is) (entry_same i table whole lt h s) ∙ e) in
             subst (λ (k : ℕ). at (set table place m) k ≡ at whole k) (sym same) (new ∙ sym old))
         | inr other ↦ (
-            let small : p < i = elim (cases_lt p i) [ | inl l ↦ l | inr le ↦ absurd (other (ap (λ (k : ℕ). get_or order k 0) (let q : p ≡ i = omega (arith, le, less) in q) ∙ sym is)) ] in
+            let small : p < i = elim (cases_lt p i) [ inl l ↦ l | inr le ↦ absurd (other (ap (λ (k : ℕ). get_or order k 0) (let q : p ≡ i = omega (arith, le, less) in q) ∙ sym is)) ] in
             get_or-set_other table place (get_or order p 0) m None other ∙ h.agrees whole s p small below)
       ];
     }

@@ -1,5 +1,5 @@
 -- Declarations in an order are ranked by their first places in it, and then none uses itself.
-use Rattle.std.proofs.Common.{◌≡◌, ℕ, zero, suc, ◌+◌, ◌<◌, ◌≤◌, ◌≢◌, nat_eq, Bool, true, false, cond, List, [], ◌∷◌, length, take, get_or, Option, Some, None, slice_get, slice_index_or, inl, inr, refl, sym, ap, subst, ◌∙◌, arith}
+use Rattle.std.proofs.Common.{◌≡◌, ℕ, zero, suc, ◌+◌, ◌<◌, ◌≤◌, nat_eq, Bool, true, false, cond, List, [], ◌∷◌, length, take, get_or, Option, inl, inr, refl, sym, ap, subst, ◌∙◌, arith}
 use Rattle.std.specs.List.{All, AllByRecursion, Contains, filter_map}
 use Rattle.std.specs.Option.{option_map_or}
 use Rattle.std.proofs.lemmas.Bool.{cases_lt}
@@ -7,7 +7,7 @@ use Rattle.std.proofs.lemmas.Bool.Decides.{nat_tests}
 use Rattle.std.proofs.lemmas.List.{get_or-take, get_or_default, length-take}
 use Rattle.std.proofs.lemmas.List.Elements.{All-from_recursion, recursion_from_All}
 use Rattle.std.proofs.lemmas.Option.{slice_get_past}
-use Rattle.cm_order.specs.Orders.{Needs, Walk, NeedsItself, IsOrder, IsBehind}
+use Rattle.cm_order.specs.Orders.{Needs, Walk, IsOrder, IsBehind}
 use Rattle.cm_wit_scopes.specs.Declarations.{Declaration, HasTypeCycle, IsRanked, refers, target, uses}
 
 -- ---- the first place of a number

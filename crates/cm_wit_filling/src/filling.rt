@@ -15,8 +15,9 @@ use crate::laws::{ordered_ones_can_be_ranked, ranked_ones_are_acyclic};
 use crate::listing::Listing;
 use cm_type_arena::Types;
 use cm_wit_meanings::{Meaning, MeaningFault};
-use cm_wit_scopes::laws::{each_stands_where_names_lead, one_table};
-use cm_wit_scopes::laws::{what_is_used_decides, what_is_used_is_declared};
+use cm_wit_scopes::laws::{
+    each_stands_where_names_lead, one_table, what_is_used_decides, what_is_used_is_declared,
+};
 use std::alloc::{AllocError, Global};
 
 /// A table of so many declarations that has nothing for each.

@@ -1,8 +1,7 @@
 -- Names that are added one part behind the other.
 use Rattle.std.proofs.Common.{◌≡◌, ℕ, ◌+◌, ◌<◌, ◌≤◌, List, [], ◌∷◌, ◌++◌, length, map, drop, get_or, Some, Box, Global, rules, refl, sym, ap, ◌∙◌, append_assoc, append-nil}
-use Rattle.std.proofs.lemmas.List.{drop_all, map-append}
+use Rattle.std.proofs.lemmas.List.{drop_all}
 use Rattle.std.specs.List.{flat_map}
-use Rattle.std.specs.Borrow.{Bor}
 use Rattle.cm_wit_types.specs.declared.types.WitType.{WitType, the_lemmas}
 use Rattle.cm_wit_types.specs.declared.types.WitType.TheViews as node
 use Rattle.cm_wit_types.specs.Types.{Ty, result, types_from}

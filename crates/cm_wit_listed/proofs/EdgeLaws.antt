@@ -6,7 +6,7 @@ use Rattle.cm_graph.specs.Graphs.{Edges}
 use Rattle.cm_keys.specs.Keys.{Key}
 use Rattle.cm_wit_scopes.specs.Declarations.{Declaration}
 use Rattle.cm_wit_listed.specs.Leading.{brought_target}
-use Rattle.cm_wit_listed.specs.Resources.{brought_edge, brought_edges}
+use Rattle.cm_wit_listed.specs.Resources.{brought_edges}
 use Rattle.cm_wit_listed.proofs.MapLaws.{Makes, makes_none, makes_push, makes_skip, makes_all}
 
 pub edge_some : {A : Type 0} (view : A → Declaration) (keys : List Key) (xs : List A) (i : ℕ) (out : Edges) (x : A) (j : ℕ) → i < length xs → x ≡ get_or xs i x → Some j ≡ brought_target keys (view x).is → Makes view (brought_edges keys) xs i out → Makes view (brought_edges keys) xs (i + 1) (out ++ (i, j) ∷ [])

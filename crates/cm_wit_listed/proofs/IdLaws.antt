@@ -1,5 +1,5 @@
 -- Resources that are numbered in order.
-use Rattle.std.proofs.Common.{◌≡◌, ℕ, zero, suc, ◌+◌, ◌<◌, ◌≤◌, Bool, true, false, cond, List, [], ◌∷◌, ◌++◌, length, map, take, get_or, Option, Some, None, slice_get, inl, inr, refl, sym, ap, subst, ◌∙◌, arith}
+use Rattle.std.proofs.Common.{◌≡◌, ℕ, zero, suc, ◌+◌, ◌<◌, ◌≤◌, Bool, true, false, cond, List, [], ◌∷◌, ◌++◌, length, map, take, get_or, Some, slice_get, inl, inr, refl, sym, ap, subst, ◌∙◌, arith}
 use Rattle.std.specs.Prelude.{filter}
 use Rattle.std.proofs.lemmas.List.{length-append, length_push, map-append, take_more, take-map}
 use Rattle.std.proofs.lemmas.Bool.{cases_lt}
@@ -38,7 +38,6 @@ module _ {A : Type 0} (view : A → Declaration) (xs : List A) where
   got_last : (ids : List ResourceId) (id : ResourceId) → slice_get (ids ++ id ∷ []) (length ids) ≡ Some id
   got_last [] id = refl
   got_last (x ∷ ids) id = got_last ids id
-
 
   counts : (i : ℕ) (x : A) → i < length xs → x ≡ get_or xs i x → count (i + 1) ≡ count i + length (cond (declares_resource (view x)) (view x ∷ []) [])
   counts i x lt is =

@@ -1,5 +1,5 @@
 -- Each name leads to a type just where the tests say so.
-use Rattle.std.proofs.Common.{◌≡◌, ◌↔◌, ℕ, zero, suc, Bool, true, false, ◌&&◌, is_some, List, [], ◌∷◌, map, Option, Some, None, slice_get, slice_index_or, Result, IfOk, IsTrue, refl, sym, ap, subst, ◌∙◌}
+use Rattle.std.proofs.Common.{◌≡◌, ◌↔◌, ℕ, zero, suc, Bool, true, false, ◌&&◌, is_some, List, [], ◌∷◌, Option, Some, None, slice_get, Result, IfOk, IsTrue, refl, sym, ap, subst, ◌∙◌}
 use Rattle.std.proofs.lemmas.Result.{IfOk-weaker}
 use Rattle.std.specs.declared.alloc.AllocError.{AllocError}
 use Rattle.std.specs.List.{AllByRecursion, list_all}
@@ -71,9 +71,10 @@ module _ (ds : List Declaration) (marks : List Bool) (marked : (k : ℕ) → IsM
   types_there l (brought None) h = absurd cc
   types_there l (brought (Some key)) h = (leads_is key).0 h
   types_there l (defined t) h =
-      let q = both_true (list_all (λ key. is_some (found (keys_of ds) key)) (named l (names_in_def t))) (list_all (λ key. is_marked_place marks (found (keys_of ds) key)) (named l (borrowed_in_def t))) h in
-      (all_hold (λ key. is_some (found (keys_of ds) key)) (LeadsToType ds) leads_is l (names_in_def t) q.0,
-       all_hold (λ key. is_marked_place marks (found (keys_of ds) key)) (LeadsToResource ds) resource_is l (borrowed_in_def t) q.1)
+      let q = both_true (list_all (λ key. is_some (found (keys_of ds) key)) (named l (names_in_def t))) (list_all (λ key. is_marked_place marks (found (keys_of ds) key)) (named l (borrowed_in_def t))) h in (
+        all_hold (λ key. is_some (found (keys_of ds) key)) (LeadsToType ds) leads_is l (names_in_def t) q.0,
+        all_hold (λ key. is_marked_place marks (found (keys_of ds) key)) (LeadsToResource ds) resource_is l (borrowed_in_def t) q.1,
+      )
 
   there_types : (l : ℕ) (d : Declared) → HasTypes ds l d → have_types (keys_of ds) marks l d ≡ true
   there_types l (brought None) h = absurd h
@@ -84,9 +85,10 @@ module _ (ds : List Declaration) (marks : List Bool) (marked : (k : ℕ) → IsM
       (all_pass (λ key. is_marked_place marks (found (keys_of ds) key)) (LeadsToResource ds) resource_is l (borrowed_in_def t) h.1)
 
   pub all_lead_is : (keys : List Key) → keys ≡ keys_of ds → (list_all (has_types keys marks) ds ≡ true) ↔ AllHaveTypes ds
-  all_lead_is keys e = subst (λ (ks : List Key). (list_all (has_types ks marks) ds ≡ true) ↔ AllHaveTypes ds) (sym e)
-      ((λ h k d g. types_there d.in_list d.is (each_passes (has_types (keys_of ds) marks) ds k d h g)),
-       (λ h. all_from (has_types (keys_of ds) marks) ds (λ k d g. there_types d.in_list d.is (h k d g))))
+  all_lead_is keys e = subst (λ (ks : List Key). (list_all (has_types ks marks) ds ≡ true) ↔ AllHaveTypes ds) (sym e) (
+    (λ h k d g. types_there d.in_list d.is (each_passes (has_types (keys_of ds) marks) ds k d h g)),
+    (λ h. all_from (has_types (keys_of ds) marks) ds (λ k d g. there_types d.in_list d.is (h k d g))),
+  )
 
 -- ---- one definition
 

@@ -1,17 +1,16 @@
 -- Just the declarations that lead to one of a resource are of resources.
-use Rattle.std.proofs.Common.{◌≡◌, ◌↔◌, ℕ, zero, suc, ◌+◌, ◌<◌, ◌≤◌, Bool, true, false, cond, List, [], ◌∷◌, length, map, get_or, Option, Some, None, slice_get, slice_index_or, inl, inr, refl, sym, ap, subst, ◌∙◌, arith}
-use Rattle.std.specs.List.{All, Contains, cons_option, position_from}
+use Rattle.std.proofs.Common.{◌≡◌, ◌↔◌, ℕ, zero, suc, ◌+◌, ◌<◌, Bool, true, false, cond, List, [], ◌∷◌, length, map, get_or, Option, Some, None, slice_get, refl, sym, ap, subst, ◌∙◌, arith}
+use Rattle.std.specs.List.{Contains, cons_option, position_from}
 use Rattle.std.specs.Option.{option_map}
 use Rattle.std.proofs.lemmas.List.{length-map, get_or_default}
 use Rattle.std.proofs.lemmas.Option.{slice_get_within, same_Some}
-use Rattle.cm_graph.specs.Graphs.{Edges, HasEdge, Walk, Leads, LeadsToMarked, IsMarked, IsWithin}
+use Rattle.cm_graph.specs.Graphs.{Edges, HasEdge, Walk, LeadsToMarked, IsMarked, IsWithin}
 use Rattle.cm_keys.specs.Keys.{Key, is_key}
-use Rattle.cm_wit_text.specs.Trees.{TypeDef}
 use Rattle.cm_wit_scopes.specs.Declarations.{Declaration, Declared, brought, defined, keys_of, key_of, target}
-use Rattle.cm_wit_scopes.specs.Tables.{is_resource, defines_resource, declares_resource}
-use Rattle.cm_wit_scopes.specs.TypeFaults.{IsResource, own_one, brought_one, Declares}
+use Rattle.cm_wit_scopes.specs.Tables.{defines_resource, declares_resource}
+use Rattle.cm_wit_scopes.specs.TypeFaults.{IsResource, own_one, brought_one}
 use Rattle.cm_wit_listed.specs.Leading.{found, brought_target}
-use Rattle.cm_wit_listed.specs.Resources.{brought_edge, brought_edges}
+use Rattle.cm_wit_listed.specs.Resources.{brought_edges}
 
 -- ---- what stands in the lists of edges
 

@@ -1,12 +1,12 @@
 -- What names lead to, listed.
-use Rattle.std.proofs.Common.{◌≡◌, ℕ, zero, suc, ◌+◌, ◌<◌, ◌≤◌, List, [], ◌∷◌, ◌++◌, length, map, drop, get_or, Option, Some, None, vec_len, slice_get, slice_index_or, refl, sym, ap, subst, ◌∙◌, append_assoc, append-nil}
+use Rattle.std.proofs.Common.{◌≡◌, ℕ, zero, suc, ◌+◌, ◌<◌, ◌≤◌, List, [], ◌∷◌, ◌++◌, length, map, drop, get_or, Option, Some, None, slice_get, slice_index_or, refl, sym, ap, ◌∙◌, append_assoc, append-nil}
 use Rattle.std.proofs.lemmas.List.{drop_all, drop_more, length-map}
 use Rattle.std.specs.List.{filter_map, cons_option}
 use Rattle.std.specs.Option.{option_map_or}
 use Rattle.std.specs.Borrow.{Bor}
 use Rattle.std.specs.Global.{Vec}
 use Rattle.cm_keys.specs.Keys.{Key, first_key}
-use Rattle.cm_order.specs.Orders.{Needs, needs_of}
+use Rattle.cm_order.specs.Orders.{needs_of}
 use Rattle.cm_wit_scopes.specs.Declarations.{Declaration, keys_of, refers, target, uses}
 use Rattle.cm_wit_listed.specs.Leading.{found, named, uses_by}
 use Rattle.cm_wit_listed.specs.Names.{texts}

@@ -39,9 +39,7 @@ fn are_marked(keys: &Keys<'_>, marks: &[bool], list: usize, names: &[&str]) -> b
         ≡ list_all (λ n. is_marked_place marks.now (found (listed keys.now) (list, n.now)))
         names.now }
 {
-    names
-        .iter()
-        .all(|name| is_marked(keys, marks, list, name))
+    names.iter().all(|name| is_marked(keys, marks, list, name))
 }
 
 /// Whether each name in the text of a declaration leads to a declaration, and that of a borrow to a
@@ -102,10 +100,7 @@ pub fn all_lead(
 
 /// Whether each name in the texts of declarations leads to a type, and that of a borrow to a
 /// resource. It takes time linear in the texts. Refused only where there is no memory.
-pub fn all_have_types(
-    alloc: Global,
-    declarations: &[Declaration<'_>],
-) -> Result<bool, AllocError>
+pub fn all_have_types(alloc: Global, declarations: &[Declaration<'_>]) -> Result<bool, AllocError>
     ensures { IfOk result (λ b.
         IsTrue b ↔ AllHaveTypes (map declaration_view declarations.now)) }
 {

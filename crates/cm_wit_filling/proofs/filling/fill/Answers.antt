@@ -1,4 +1,4 @@
-use Rattle.std.proofs.Common.{rules, ◌≡◌, ℕ, ◌+◌, ◌<◌, List, Option, length, get_or, arith, sym, ap, subst, refl}
+use Rattle.std.proofs.Common.{rules, ◌≡◌, ℕ, ◌+◌, List, Option, length, get_or, arith, sym, ap, subst, refl}
 use Rattle.std.proofs.lemmas.List.{length-map}
 use Rattle.cm_type_arena.specs.Places.{types_of}
 use Rattle.cm_type_arena.specs.declared.types.Types.{Types}

@@ -1,4 +1,4 @@
-use Rattle.std.proofs.Common.{rules, ◌≡◌, ◌+◌, cond, length, arith, ap, sym, ◌∙◌}
+use Rattle.std.proofs.Common.{rules, ◌≡◌, ◌+◌, cond, arith, ap, sym, ◌∙◌}
 use Rattle.cm_wit_declared.specs.DeclaredViews.{declaration_view}
 use Rattle.cm_wit_listed.proofs.IdLaws.{numbered_push, numbered_all}
 use Rattle.cm_wit_listed.proofs.resources.resource_ids.Goals as goal

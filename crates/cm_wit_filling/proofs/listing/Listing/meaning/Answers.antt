@@ -1,13 +1,11 @@
-use Rattle.std.proofs.Common.{rules, ◌≡◌, ℕ, Some, None, length, ap, sym, ◌∙◌}
+use Rattle.std.proofs.Common.{rules, Some, length, ap, sym, ◌∙◌}
 use Rattle.std.specs.Option.{option_map}
 use Rattle.cm_keys.specs.Keys.{key_view}
-use Rattle.cm_types.specs.declared.resource.ResourceId.{ResourceId}
 use Rattle.cm_type_arena.specs.Places.{types_of}
-use Rattle.cm_wit_meanings.specs.Meanings.{def_meaning}
-use Rattle.cm_wit_meanings.specs.Places.{table_in, scope_in}
+use Rattle.cm_wit_meanings.specs.Places.{table_in}
 use Rattle.cm_wit_text.specs.Views.{type_def_tree}
 use Rattle.cm_wit_declared.specs.DeclaredViews.{declared_view}
-use Rattle.cm_wit_scopes.specs.Declarations.{brought, defined}
+use Rattle.cm_wit_scopes.specs.Declarations.{brought}
 use Rattle.cm_wit_filling.specs.Filled.{entry_at}
 use Rattle.cm_wit_filling.specs.Listings.{declared}
 use Rattle.cm_wit_filling.proofs.EntryLaws.{nth, entry_is, defined_is, entry_fault}

@@ -1,6 +1,6 @@
-use Rattle.std.proofs.Common.{ap, ◌∙◌, length, sym, subst, List, Option, IfSome}
+use Rattle.std.proofs.Common.{ap, ◌∙◌, sym, subst, List, Option}
 use Rattle.cm_wit_meanings.specs.declared.scope.Meaning as code
-use Rattle.cm_wit_meanings.specs.Places.{ArePlaced, IsPlaced}
+use Rattle.cm_wit_meanings.specs.Places.{ArePlaced}
 use Rattle.cm_wit_meanings.specs.Scopes.{Scope}
 use Rattle.cm_wit_filling.specs.Filled.{AreWithin}
 use Rattle.cm_wit_filling.proofs.EntryLaws.{scope_is, scope_within}
