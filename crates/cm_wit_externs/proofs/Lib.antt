@@ -1,0 +1,4 @@
+mod GrowthLaws
+mod ExternLaws
+mod OneLaws
+mod LoopLaws

@@ -1,0 +1,2 @@
+pub mod PartViews
+pub mod Adding

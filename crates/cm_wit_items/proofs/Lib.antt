@@ -1,0 +1,6 @@
+mod ListLaws
+mod GrowthLaws
+mod ScopeLaws
+mod EachLaws
+mod PushLaws
+mod ItemLaws

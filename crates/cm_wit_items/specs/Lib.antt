@@ -1,0 +1,2 @@
+pub mod MemberViews
+pub mod ItemFaults

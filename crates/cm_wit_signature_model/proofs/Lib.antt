@@ -1,0 +1,3 @@
+mod ThereLaws
+mod OwnLaws
+mod WorldLaws

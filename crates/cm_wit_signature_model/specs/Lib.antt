@@ -1,0 +1,6 @@
+pub mod Members
+pub mod Functions
+pub mod Signatures
+pub mod Named
+pub mod Faults
+pub mod Own

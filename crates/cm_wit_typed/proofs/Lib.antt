@@ -1,0 +1,2 @@
+mod RestLaws
+mod LedLaws

@@ -1,0 +1,8 @@
+//! Whether the names in what a world reaches lead to types.
+#![tactic(auto)]
+
+mod members;
+mod texts;
+mod worlds;
+
+pub use worlds::members_have_types;
