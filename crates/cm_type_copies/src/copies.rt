@@ -1,6 +1,6 @@
 //! Copies of types in an arena.
 
-ghost use Rattle.std.specs.Prelude.{◌≡◌, ◌<◌, IfOk, length, true};
+ghost use Rattle.std.specs.Prelude.{◌≡◌, ◌<◌, IfOk, length, true, false};
 ghost use Rattle.std.specs.BTreeMap.{get};
 ghost use Rattle.std.specs.Ordering.{nat_cmp};
 ghost use Rattle.cm_types.specs.Holds.{holds, is_handle};
@@ -36,6 +36,10 @@ pub fn push_replaced<R: Replacement>(
     ensures there { IfOk result (λ copy. copy < length (types_of types.new)) }
     ensures copied { IfOk result (λ copy. type_at (types_of types.new) copy
         ≡ replaced (R.replacement by.now) (type_at (types_of types.old) place)) }
+    ensures itself { holds is_handle (type_at (types_of types.old) place) ≡ false
+        → IfOk result (λ copy. copy ≡ place) }
+    ensures none { holds is_handle (type_at (types_of types.old) place) ≡ false
+        → types_of types.new ≡ types_of types.old }
     ensures kept { BeginsWith (types_of types.new) (types_of types.old) }
     ensures funcs { funcs_of types.new ≡ funcs_of types.old }
 {
@@ -60,6 +64,10 @@ fn copy_at<R: Replacement>(
         IsCopy (R.replacement by.now) (types_of types.new) place copy) }
     ensures copies { IfOk result (λ _. AreCopies (R.replacement by.now) (types_of types.new)
         (get nat_cmp copies.new)) }
+    ensures itself { holds is_handle (type_at (types_of types.old) place) ≡ false
+        → IfOk result (λ copy. copy ≡ place) }
+    ensures none { holds is_handle (type_at (types_of types.old) place) ≡ false
+        → types_of types.new ≡ types_of types.old }
     ensures kept { BeginsWith (types_of types.new) (types_of types.old) }
     ensures funcs { funcs_of types.new ≡ funcs_of types.old }
 {
