@@ -60,7 +60,14 @@ impl Level {
             (is_entry_unmoved (slice_get self.now.entries.items index) ≡ true) }
     {
         match self.entries.get(index) {
-            Some(TypeEntry::Value(Placed { place, by: Some(by) })) => Some((*place, *by)),
+            Some(
+                TypeEntry::Value(
+                    Placed {
+                        place,
+                        by: Some(by),
+                    },
+                ),
+            ) => Some((*place, *by)),
             _ => None,
         }
     }

@@ -80,8 +80,8 @@ impl TypeScope {
         alloc: Global,
         def: &DefValType,
     ) -> Result<Option<ValidReason>, AllocError>
-        requires parts {
-            parts_broken (sorts_of (own_types self.old)) (def_val_type_tree def.now) ≡ [] }
+        requires parts { parts_broken (sorts_of (own_types self.old))
+            (def_val_type_tree def.now) ≡ [] }
         ensures fault { IfOk result (λ r.
             r ≡ least (value_def_broken (own_types self.old) (def_val_type_tree def.now))) }
         ensures defined { IfOk result (λ r. MatchOption r
