@@ -1,9 +1,10 @@
 -- The scope that declarations were read into.
-use Rattle.std.specs.Prelude.{ℕ, List, [], ◌∷◌, ◌++◌, map}
+use Rattle.std.specs.Prelude.{ℕ, List, [], ◌∷◌, ◌++◌}
 use Rattle.cm_types.specs.Signatures.{NamedItem}
+use Rattle.cm_placed.specs.Instances.{desc_of, items_of}
+use Rattle.cm_placed.specs.declared.instances.ItemDesc.{ItemDesc}
 use Rattle.cm_validity.specs.Declarations.{Scope}
-use Rattle.cm_type_scope.specs.Entries.{def_of, desc_of, item_of}
-use Rattle.cm_type_scope.specs.declared.entries.ItemDesc.{ItemDesc}
+use Rattle.cm_type_scope.specs.Entries.{def_of}
 use Rattle.cm_type_scope.specs.declared.entries.TypeEntry.{TypeEntry}
 use Rattle.cm_type_scope.specs.declared.scope.TypeScope.{TypeScope}
 use Rattle.cm_type_scope.specs.TypeScopes.{arena_funcs, arena_types, own_types, types_around}
@@ -11,7 +12,7 @@ use Rattle.cm_declarations.specs.declared.declarations.Declarations.{Declaration
 
 -- the items so far
 abbrev pub items_so_far : Declarations → List NamedItem
-items_so_far d = map (item_of (arena_types d.scope) (arena_funcs d.scope)) d.items.items
+items_so_far d = items_of (arena_types d.scope) (arena_funcs d.scope) d.items.items
 
 abbrev pub scope_so_far : Declarations → Scope
 scope_so_far d =

@@ -4,8 +4,9 @@ ghost use Rattle.std.specs.Prelude.{◌≡◌, ◌≤◌, length, true};
 ghost use Rattle.cm_type_scope.specs.TypeScopes.{arena_funcs, arena_types};
 ghost use Rattle.cm_declarations.specs.DeclaredItems.{items_in};
 
+use cm_placed::{InstanceType, Item};
 use cm_type_scope::laws::items_stay;
-use cm_type_scope::{InstanceType, ItemEntry, TypeEntry, TypeScope};
+use cm_type_scope::{TypeEntry, TypeScope};
 use cm_types::{Declaration, DeclaredType, DefValType, FuncType, OuterType};
 use cm_validate::ValidReason;
 use std::alloc::{AllocError, Global};
@@ -16,7 +17,7 @@ use std::alloc::{AllocError, Global};
 #[derive(Drop)]
 pub struct Declarations {
     pub(crate) scope: TypeScope,
-    pub(crate) items: Vec<ItemEntry>,
+    pub(crate) items: Vec<Item>,
     pub(crate) first: u64,
     pub(crate) next: u64,
     ghost counted: { first ≤ next },
@@ -159,7 +160,7 @@ impl Declarations {
         ensures there { option_map
             (λ e. entry.def_of (arena_types self.now.scope) (arena_funcs self.now.scope) e.now)
             result ≡ outer_type_of (scope_so_far self.now) outer.count outer.index }
-        ensures placed { IfSome result (λ e. entry.is_placed
+        ensures placed { IfSome result (λ e. entry.is_entry_there
             (length (arena_types self.now.scope)) (length (arena_funcs self.now.scope)) e.now
             ≡ true) }
     {

@@ -1,7 +1,8 @@
 //! Exports among the declarations of the type of an instance.
 
 use crate::declarations::Declarations;
-use cm_type_scope::{ItemDesc, ItemEntry, TypeEntry};
+use cm_placed::{Item, ItemDesc};
+use cm_type_scope::TypeEntry;
 use cm_types::{ExportDesc, ExternName, TypeBound};
 use cm_validate::ValidReason;
 use std::alloc::AllocError;
@@ -14,7 +15,8 @@ impl Declarations {
     ghost use Rattle.cm_validity.specs.Declarations.{export_desc_broken, with_export, with_fresh};
     ghost use Rattle.cm_validity.specs.Definitions.{sorts_of};
     ghost use Rattle.cm_validity.specs.Reasons.{least};
-    ghost use Rattle.cm_type_scope.specs.Entries as entries;
+    ghost use Rattle.cm_placed.specs.Instances.{is_desc_there};
+    ghost use Rattle.cm_type_scope.specs.Entries.{is_entry_there};
     ghost use Rattle.cm_type_scope.specs.TypeScopes.{HasGrown, arena_funcs, arena_types};
     ghost use Rattle.cm_type_scope.specs.TypeScopes.{own_types};
     ghost use Rattle.cm_declarations.specs.DeclaredScopes.{first_resource, scope_of, scope_so_far};
@@ -23,7 +25,7 @@ impl Declarations {
     /// Adds an item.
     #[tactic(auto, using(crate::proofs::GrowLaws::unchanged))]
     fn add_item(&mut self, name: &ExternName, item: ItemDesc) -> Result<(), AllocError>
-        requires placed { entries.is_desc_placed (length (arena_types self.old.scope))
+        requires placed { is_desc_there (length (arena_types self.old.scope))
             (length (arena_funcs self.old.scope)) item ≡ true }
         ensures added { OnOk result
             (scope_so_far self.new ≡ with_desc self.old name.now item) }
@@ -32,7 +34,7 @@ impl Declarations {
         ensures grown { HasGrown (scope_of self.old) (scope_of self.new) }
     {
         let name = name.clone()?;
-        self.items.push(ItemEntry { name, desc: item })?;
+        self.items.push(Item { name, desc: item })?;
         Ok(())
     }
 
@@ -44,9 +46,9 @@ impl Declarations {
         item: ItemDesc,
         entry: TypeEntry,
     ) -> Result<(), AllocError>
-        requires placed { entries.is_desc_placed (length (arena_types self.old.scope))
+        requires placed { is_desc_there (length (arena_types self.old.scope))
             (length (arena_funcs self.old.scope)) item ≡ true }
-        requires there { entries.is_placed (length (arena_types self.old.scope))
+        requires there { is_entry_there (length (arena_types self.old.scope))
             (length (arena_funcs self.old.scope)) entry ≡ true }
         ensures added { OnOk result
             (scope_so_far self.new ≡ with_both self.old name.now item entry) }
@@ -57,7 +59,7 @@ impl Declarations {
         let name = name.clone()?;
         self.items.reserve(1)?;
         self.scope.add(entry)?;
-        match self.items.push(ItemEntry { name, desc: item }) {
+        match self.items.push(Item { name, desc: item }) {
             Ok(()) => Ok(()),
             // Room was reserved.
             Err(_) => unreachable!(),
@@ -81,8 +83,8 @@ impl Declarations {
     {
         match self.scope.get(index) {
             None => Ok(Some(ValidReason::NoSuchIndex)),
-            Some(TypeEntry::Func(place)) => {
-                let item = ItemDesc::Func(*place);
+            Some(TypeEntry::Func(placed)) => {
+                let item = ItemDesc::Func(*placed);
                 self.add_item(name, item)?;
                 Ok(None)
             }
@@ -108,9 +110,9 @@ impl Declarations {
     {
         match self.scope.get(index) {
             None => Ok(Some(ValidReason::NoSuchIndex)),
-            Some(TypeEntry::Value(place)) => {
-                let place = *place;
-                self.add_both(name, ItemDesc::EqualType(place), TypeEntry::Value(place))?;
+            Some(TypeEntry::Value(placed)) => {
+                let placed = *placed;
+                self.add_both(name, ItemDesc::EqualType(placed), TypeEntry::Value(placed))?;
                 Ok(None)
             }
             Some(TypeEntry::Resource(number)) => {

@@ -2,12 +2,12 @@
 
 ghost use Rattle.std.specs.Prelude.{◌≡◌, ◌++◌, ◌∷◌, [], None, IfOk, MatchOption, OnErr, OnOk, map};
 ghost use Rattle.std.specs.Prelude.{length, true};
-ghost use Rattle.std.specs.List.{list_all};
 ghost use Rattle.cm_types.specs.DefTypes.{declaration_tree};
 ghost use Rattle.cm_validity.specs.Declarations.{instance_def_broken, instance_defined};
 ghost use Rattle.cm_validity.specs.Definitions.{instance_type};
 ghost use Rattle.cm_validity.specs.Reasons.{least};
-ghost use Rattle.cm_type_scope.specs.Entries.{instance_of, is_item_placed};
+ghost use Rattle.cm_placed.specs.Instances.{are_items_there};
+ghost use Rattle.cm_type_scope.specs.Entries.{instance_of};
 ghost use Rattle.cm_type_scope.specs.TypeScopes.{arena_funcs, arena_types, own_types};
 ghost use Rattle.cm_type_scope.specs.TypeScopes.{HasGrown, types_around};
 ghost use Rattle.cm_type_sketches.specs.Faults.{besides_limits};
@@ -17,7 +17,8 @@ use crate::passes::sketched_fault;
 use cm_declarations::Declarations;
 use cm_declarations::laws::first_reasons;
 use cm_item_names::laws::names_are_sketched;
-use cm_type_scope::{InstanceType, TypeEntry, TypeScope};
+use cm_placed::InstanceType;
+use cm_type_scope::{NamedInstanceType, TypeEntry, TypeScope};
 use cm_type_sketches::laws::limits_come_last;
 use cm_types::Declaration;
 use cm_validate::ValidReason;
@@ -25,15 +26,15 @@ use std::alloc::{AllocError, Global};
 use std::mem;
 use std::rc::Rc;
 
-/// Adds the type of an instance.
+/// Adds the type of an instance, with its items by name.
 #[tactic(auto, using(crate::proofs::GrowLaws::unchanged))]
 fn add_instance(
     component: &mut TypeScope,
     alloc: Global,
     instance: InstanceType,
 ) -> Result<(), AllocError>
-    requires placed { list_all (is_item_placed (length (arena_types component.old))
-        (length (arena_funcs component.old))) instance.items.items ≡ true }
+    requires there { are_items_there (length (arena_types component.old))
+        (length (arena_funcs component.old)) instance.items.items ≡ true }
     ensures added { OnOk result (own_types component.new ≡ own_types component.old
         ++ instance_type (instance_of (arena_types component.old) (arena_funcs component.old)
         instance) ∷ []) }
@@ -41,8 +42,8 @@ fn add_instance(
     ensures around { types_around component.new ≡ types_around component.old }
     ensures grown { HasGrown component.old component.new }
 {
-    let shared = Rc::new(alloc, instance)?;
-    component.add(TypeEntry::Instance(shared))
+    let named = NamedInstanceType::new(alloc, instance)?;
+    component.add(TypeEntry::Instance(Rc::new(alloc, named)?))
 }
 
 /// Reads the type of an instance that breaks nothing besides the limits.

@@ -1,3 +1,4 @@
 pub mod Seen
 pub mod DefLaws
 pub mod CopyLaws
+pub mod OnceLaws

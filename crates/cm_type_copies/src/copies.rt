@@ -1,6 +1,7 @@
 //! Copies of types in an arena.
 
-ghost use Rattle.std.specs.Prelude.{◌≡◌, ◌<◌, IfOk, length, true};
+ghost use Rattle.std.specs.Prelude.{◌≡◌, ◌+◌, ◌<◌, ◌++◌, ◌∷◌, [], IfOk, OnOk, length, true};
+ghost use Rattle.std.specs.Prelude.{false};
 ghost use Rattle.std.specs.BTreeMap.{get};
 ghost use Rattle.std.specs.Ordering.{nat_cmp};
 ghost use Rattle.cm_types.specs.Holds.{holds, is_handle};
@@ -9,7 +10,7 @@ ghost use Rattle.cm_types.specs.Spellable.{is_spellable};
 ghost use Rattle.cm_type_arena.specs.Places.{HasParts, funcs_of, types_of};
 ghost use Rattle.cm_type_arena.specs.TypeDefs.{def_type, type_at};
 ghost use Rattle.cm_replaced.specs.Replaced.{replaced};
-ghost use Rattle.cm_type_copies.specs.Copies.{AreCopies, BeginsWith, IsCopy};
+ghost use Rattle.cm_type_copies.specs.Copies.{AddsOnce, AreCopies, BeginsWith, CopiesOnce, IsCopy};
 
 use crate::definitions::replaced_def;
 use cm_replaced::Replacement;
@@ -36,6 +37,12 @@ pub fn push_replaced<R: Replacement>(
     ensures there { IfOk result (λ copy. copy < length (types_of types.new)) }
     ensures copied { IfOk result (λ copy. type_at (types_of types.new) copy
         ≡ replaced (R.replacement by.now) (type_at (types_of types.old) place)) }
+    ensures itself { holds is_handle (type_at (types_of types.old) place) ≡ false
+        → IfOk result (λ copy. copy ≡ place) }
+    ensures none { holds is_handle (type_at (types_of types.old) place) ≡ false
+        → types_of types.new ≡ types_of types.old }
+    ensures once { OnOk result (AddsOnce (R.replacement by.now) (types_of types.old)
+        (types_of types.new) (place + 1)) }
     ensures kept { BeginsWith (types_of types.new) (types_of types.old) }
     ensures funcs { funcs_of types.new ≡ funcs_of types.old }
 {
@@ -46,6 +53,7 @@ pub fn push_replaced<R: Replacement>(
 /// The place of the copy of the type at a place: the one that is known, else one that is made. The
 /// calls in it go down the type, and are no more than its depth inside one another, which is at
 /// most 64.
+#[tactic(auto, using(crate::proofs::OnceLaws::nothing_once))]
 fn copy_at<R: Replacement>(
     types: &mut Types,
     alloc: Global,
@@ -60,6 +68,12 @@ fn copy_at<R: Replacement>(
         IsCopy (R.replacement by.now) (types_of types.new) place copy) }
     ensures copies { IfOk result (λ _. AreCopies (R.replacement by.now) (types_of types.new)
         (get nat_cmp copies.new)) }
+    ensures itself { holds is_handle (type_at (types_of types.old) place) ≡ false
+        → IfOk result (λ copy. copy ≡ place) }
+    ensures none { holds is_handle (type_at (types_of types.old) place) ≡ false
+        → types_of types.new ≡ types_of types.old }
+    ensures once { OnOk result (CopiesOnce (R.replacement by.now) (types_of types.old)
+        (types_of types.new) (get nat_cmp copies.old) (get nat_cmp copies.new) (place + 1)) }
     ensures kept { BeginsWith (types_of types.new) (types_of types.old) }
     ensures funcs { funcs_of types.new ≡ funcs_of types.old }
 {
@@ -91,6 +105,8 @@ fn push_lawful(types: &mut Types, alloc: Global, def: TypeDef) -> Result<usize, 
     ensures there { IfOk result (λ place. place < length (types_of types.new)) }
     ensures ty { IfOk result (λ place.
         type_at (types_of types.new) place ≡ def_type (types_of types.old) def) }
+    ensures pushed { OnOk result
+        (types_of types.new ≡ types_of types.old ++ def_type (types_of types.old) def ∷ []) }
     ensures kept { BeginsWith (types_of types.new) (types_of types.old) }
     ensures funcs { funcs_of types.new ≡ funcs_of types.old }
 {

@@ -1,4 +1,8 @@
 pub mod ExpandLaws
-pub mod SpellLaws
+pub mod GrowLaws
 pub mod LimitLaws
+pub mod MovedLaws
+pub mod NumberLaws
 pub mod ScopeLaws
+pub mod SettledLaws
+pub mod SpellLaws

@@ -11,6 +11,7 @@ use Rattle.cm_types.specs.declared.def_types.PrimValType.{PrimValType}
 use Rattle.cm_types.specs.declared.def_types.PrimValType.TheVariants as prim
 use Rattle.cm_types.specs.declared.def_types.ValType.{ValType}
 use Rattle.cm_types.specs.declared.def_types.ValType.TheVariants as val_type
+use Rattle.cm_types.specs.Limits.{nodes_of, depth_of}
 use Rattle.cm_types.specs.Spellable.{is_spellable}
 use Rattle.cm_validity.specs.TypeRules.{is_within_limits}
 use Rattle.cm_type_scope.proofs.LimitLaws.{within_told, AllWithin}
@@ -24,10 +25,14 @@ use Rattle.cm_validity.specs.Definitions.{value, func_type, instance_type, sort_
 use Rattle.cm_validity.specs.Scopes.{value_in, primitive_type}
 use Rattle.cm_type_scope.specs.declared.entries.TypeEntry.{TypeEntry}
 use Rattle.cm_type_scope.specs.declared.entries.TypeEntry.TheVariants as entry
-use Rattle.cm_type_scope.specs.declared.entries.ItemEntry.{ItemEntry}
-use Rattle.cm_type_scope.specs.declared.entries.ItemDesc.{ItemDesc}
-use Rattle.cm_type_scope.specs.declared.entries.ItemDesc.TheVariants as item
-use Rattle.cm_type_scope.specs.Entries.{def_of, desc_of, item_of, entry_sort, is_placed, is_desc_placed, is_item_placed, in_arena}
+use Rattle.cm_placed.specs.declared.instances.Item.{Item}
+use Rattle.cm_placed.specs.declared.instances.ItemDesc.{ItemDesc}
+use Rattle.cm_placed.specs.declared.instances.ItemDesc.TheVariants as item
+use Rattle.cm_placed.specs.Instances.{desc_of, items_of, is_desc_there, are_items_there}
+use Rattle.cm_placed.specs.Placed.{moved_by, placed_func, placed_type}
+use Rattle.cm_placed.specs.declared.placed.Placed.{Placed}
+use Rattle.cm_replaced.specs.Replaced.{Standing, replaced, replaced_func}
+use Rattle.cm_type_scope.specs.Entries.{def_of, entry_sort, is_entry_there, in_arena}
 use Rattle.cm_type_scope.specs.Expansion.{value_or_bool}
 use Rattle.cm_type_scope.specs.TypeScopes.{Extends}
 
@@ -63,30 +68,30 @@ module _ (types more : List Ty) (funcs others : List FuncTy) where
   func_kept : (p : ℕ) → nat_lt p (length funcs) ≡ true → func_at (funcs ++ others) p ≡ func_at funcs p
   func_kept p h = get_or_append_left funcs others _ p (ltb-true p (length funcs) h)
 
-  desc_kept : (d : ItemDesc) → is_desc_placed (length types) (length funcs) d ≡ true → desc_of (types ++ more) (funcs ++ others) d ≡ desc_of types funcs d
-  desc_kept (item.Func p) h = rw (func_kept p h) refl
-  desc_kept (item.EqualType p) h = rw (type_kept p h) refl
+  desc_kept : (d : ItemDesc) → is_desc_there (length types) (length funcs) d ≡ true → desc_of (types ++ more) (funcs ++ others) d ≡ desc_of types funcs d
+  desc_kept (item.Func p) h = rw (func_kept p.place h) refl
+  desc_kept (item.EqualType p) h = rw (type_kept p.place h) refl
   desc_kept (item.EqualResource n) h = refl
   desc_kept (item.FreshResource n) h = refl
 
-  items_kept : (is : List ItemEntry) → list_all (λ x. is_desc_placed (length types) (length funcs) x.desc) is ≡ true → map (item_of (types ++ more) (funcs ++ others)) is ≡ map (item_of types funcs) is
+  items_kept : (is : List Item) → list_all (λ x. is_desc_there (length types) (length funcs) x.desc) is ≡ true → items_of (types ++ more) (funcs ++ others) is ≡ items_of types funcs is
   items_kept [] h = refl
   items_kept (x ∷ xs) h =
-      let now = desc_kept x.desc (both_left (is_desc_placed (length types) (length funcs) x.desc) (list_all (λ y. is_desc_placed (length types) (length funcs) y.desc) xs) h) in
-      let rest = items_kept xs (both_right (is_desc_placed (length types) (length funcs) x.desc) (list_all (λ y. is_desc_placed (length types) (length funcs) y.desc) xs) h) in
+      let now = desc_kept x.desc (both_left (is_desc_there (length types) (length funcs) x.desc) (list_all (λ y. is_desc_there (length types) (length funcs) y.desc) xs) h) in
+      let rest = items_kept xs (both_right (is_desc_there (length types) (length funcs) x.desc) (list_all (λ y. is_desc_there (length types) (length funcs) y.desc) xs) h) in
       rw (now, rest) refl
 
-  def_kept : (e : TypeEntry) → is_placed (length types) (length funcs) e ≡ true → def_of (types ++ more) (funcs ++ others) e ≡ def_of types funcs e
-  def_kept (entry.Value p) h = ap value (type_kept p h)
-  def_kept (entry.Func p) h = ap func_type (func_kept p h)
+  def_kept : (e : TypeEntry) → is_entry_there (length types) (length funcs) e ≡ true → def_of (types ++ more) (funcs ++ others) e ≡ def_of types funcs e
+  def_kept (entry.Value p) h = ap (λ t. value (replaced (moved_by p.by) t)) (type_kept p.place h)
+  def_kept (entry.Func p) h = ap (λ f. func_type (replaced_func (moved_by p.by) f)) (func_kept p.place h)
   def_kept (entry.Resource n) h = refl
-  def_kept (entry.Instance i) h = ap (λ is. instance_type (record { items = is; first = i.value.first; fresh = i.value.fresh })) (items_kept i.value.items.items h)
+  def_kept (entry.Instance i) h = ap (λ is. instance_type (record { items = is; first = i.value.ty.value.first; fresh = i.value.ty.value.fresh })) (items_kept i.value.ty.value.items.items h)
 
   pub defs_kept : (es : List TypeEntry) → in_arena types funcs es ≡ true → map (def_of (types ++ more) (funcs ++ others)) es ≡ map (def_of types funcs) es
   defs_kept [] h = refl
   defs_kept (e ∷ es) h =
-      let now = def_kept e (both_left (is_placed (length types) (length funcs) e) (in_arena types funcs es) h) in
-      let rest = defs_kept es (both_right (is_placed (length types) (length funcs) e) (in_arena types funcs es) h) in
+      let now = def_kept e (both_left (is_entry_there (length types) (length funcs) e) (in_arena types funcs es) h) in
+      let rest = defs_kept es (both_right (is_entry_there (length types) (length funcs) e) (in_arena types funcs es) h) in
       rw (now, rest) refl
 
 -- ---- places
@@ -95,27 +100,27 @@ below_more : (p m n : ℕ) → m ≤ n → nat_lt p m ≡ true → nat_lt p n �
 below_more p m n le h = let lt : p < m = ltb-true p m h in lt-ltb p n (omega arith)
 
 module _ (t u f g : ℕ) (types : t ≤ u) (funcs : f ≤ g) where
-  desc_more : (d : ItemDesc) → is_desc_placed t f d ≡ true → is_desc_placed u g d ≡ true
-  desc_more (item.Func p) h = below_more p f g funcs h
-  desc_more (item.EqualType p) h = below_more p t u types h
+  desc_more : (d : ItemDesc) → is_desc_there t f d ≡ true → is_desc_there u g d ≡ true
+  desc_more (item.Func p) h = below_more p.place f g funcs h
+  desc_more (item.EqualType p) h = below_more p.place t u types h
   desc_more (item.EqualResource n) h = refl
   desc_more (item.FreshResource n) h = refl
 
-  items_more : (is : List ItemEntry) → list_all (λ x. is_desc_placed t f x.desc) is ≡ true → list_all (λ x. is_desc_placed u g x.desc) is ≡ true
+  items_more : (is : List Item) → list_all (λ x. is_desc_there t f x.desc) is ≡ true → list_all (λ x. is_desc_there u g x.desc) is ≡ true
   items_more [] h = refl
   items_more (x ∷ xs) h =
-      rw (desc_more x.desc (both_left (is_desc_placed t f x.desc) (list_all (λ y. is_desc_placed t f y.desc) xs) h), items_more xs (both_right (is_desc_placed t f x.desc) (list_all (λ y. is_desc_placed t f y.desc) xs) h)) refl
+      rw (desc_more x.desc (both_left (is_desc_there t f x.desc) (list_all (λ y. is_desc_there t f y.desc) xs) h), items_more xs (both_right (is_desc_there t f x.desc) (list_all (λ y. is_desc_there t f y.desc) xs) h)) refl
 
-  placed_more : (e : TypeEntry) → is_placed t f e ≡ true → is_placed u g e ≡ true
-  placed_more (entry.Value p) h = below_more p t u types h
-  placed_more (entry.Func p) h = below_more p f g funcs h
+  placed_more : (e : TypeEntry) → is_entry_there t f e ≡ true → is_entry_there u g e ≡ true
+  placed_more (entry.Value p) h = below_more p.place t u types h
+  placed_more (entry.Func p) h = below_more p.place f g funcs h
   placed_more (entry.Resource n) h = refl
-  placed_more (entry.Instance i) h = items_more i.value.items.items h
+  placed_more (entry.Instance i) h = items_more i.value.ty.value.items.items h
 
-  pub all_more : (es : List TypeEntry) → list_all (is_placed t f) es ≡ true → list_all (is_placed u g) es ≡ true
+  pub all_more : (es : List TypeEntry) → list_all (is_entry_there t f) es ≡ true → list_all (is_entry_there u g) es ≡ true
   all_more [] h = refl
   all_more (e ∷ es) h =
-      rw (placed_more e (both_left (is_placed t f e) (list_all (is_placed t f) es) h), all_more es (both_right (is_placed t f e) (list_all (is_placed t f) es) h)) refl
+      rw (placed_more e (both_left (is_entry_there t f e) (list_all (is_entry_there t f) es) h), all_more es (both_right (is_entry_there t f e) (list_all (is_entry_there t f) es) h)) refl
 
 -- ---- what an arena became
 
@@ -133,11 +138,11 @@ pub placed_among_more : (t u : List Ty) (f g : List FuncTy) → Extends t u → 
 placed_among_more t u f g p q es h =
     all_more (length t) (length u) (length f) (length g) (omega (arith, ap length p.1, length-append t p.0)) (omega (arith, ap length q.1, length-append f q.0)) es h
 
-pub items_stay : (t u : List Ty) (f g : List FuncTy) (is : List ItemEntry) → Extends t u → Extends f g → list_all (is_item_placed (length t) (length f)) is ≡ true → map (item_of u g) is ≡ map (item_of t f) is
+pub items_stay : (t u : List Ty) (f g : List FuncTy) (is : List Item) → Extends t u → Extends f g → are_items_there (length t) (length f) is ≡ true → items_of u g is ≡ items_of t f is
 items_stay t u f g is p q h = rw (p.1, q.1) (items_kept t p.0 f q.0 is h)
 
-pub items_placed : (t u : List Ty) (f g : List FuncTy) (is : List ItemEntry) → Extends t u → Extends f g → list_all (is_item_placed (length t) (length f)) is ≡ true → list_all (is_item_placed (length u) (length g)) is ≡ true
-items_placed t u f g is p q h =
+pub items_there : (t u : List Ty) (f g : List FuncTy) (is : List Item) → Extends t u → Extends f g → are_items_there (length t) (length f) is ≡ true → are_items_there (length u) (length g) is ≡ true
+items_there t u f g is p q h =
     items_more (length t) (length u) (length f) (length g) (omega (arith, ap length p.1, length-append t p.0)) (omega (arith, ap length q.1, length-append f q.0)) is h
 
 -- the last type of an arena
@@ -200,10 +205,10 @@ primitive_within prim.String = refl
 
 -- ---- what may be named passes each test that the arena's types pass
 
-module _ (test : Ty → Bool) (prims : (p : PrimValType) → test (primitive_type p) ≡ true) (types : List Ty) (all : (k : ℕ) → test (type_at types k) ≡ true) (funcs : List FuncTy) where
+module _ (test : Ty → Bool) (stays : (s : Standing) (t : Ty) → test (replaced s t) ≡ test t) (prims : (p : PrimValType) → test (primitive_type p) ≡ true) (types : List Ty) (all : (k : ℕ) → test (type_at types k) ≡ true) (funcs : List FuncTy) where
   entry_passes : (o : Option TypeEntry) → test (unwrap_or (option_and_then value_in (option_map (def_of types funcs) o)) bool) ≡ true
   entry_passes None = prims prim.Bool
-  entry_passes (Some (entry.Value p)) = all p
+  entry_passes (Some (entry.Value p)) = stays (moved_by p.by) (type_at types p.place) ∙ all p.place
   entry_passes (Some (entry.Func p)) = prims prim.Bool
   entry_passes (Some (entry.Resource n)) = prims prim.Bool
   entry_passes (Some (entry.Instance i)) = prims prim.Bool
@@ -212,10 +217,27 @@ module _ (test : Ty → Bool) (prims : (p : PrimValType) → test (primitive_typ
   value_passes es (val_type.Primitive p) = prims p
   value_passes es (val_type.Index i) = rw (slice_get-map (def_of types funcs) es i) (entry_passes (slice_get es i))
 
-pub values_spelled : (arena_entries : List arena.TypeEntry) → ∥ IsArena arena_entries ∥₁ → (funcs : List FuncTy) (es : List TypeEntry) (t : ValType) → is_spellable (value_or_bool (map (def_of (types_in arena_entries) funcs) es) t) ≡ true
-values_spelled arena_entries a funcs es t = value_passes is_spellable primitive_spelled (types_in arena_entries) (spelled_at arena_entries a) funcs es t
+abbrev pub Spellings : Type 0
+Spellings = (s : Standing) (t : Ty) → is_spellable (replaced s t) ≡ is_spellable t
 
-pub result_within : (arena_entries : List arena.TypeEntry) → ∥ IsArena arena_entries ∥₁ → (funcs : List FuncTy) (es : List TypeEntry) (o : Option ValType)
+pub values_spelled : Spellings → (arena_entries : List arena.TypeEntry) → ∥ IsArena arena_entries ∥₁ → (funcs : List FuncTy) (es : List TypeEntry) (t : ValType) → is_spellable (value_or_bool (map (def_of (types_in arena_entries) funcs) es) t) ≡ true
+values_spelled stays arena_entries a funcs es t = value_passes is_spellable stays primitive_spelled (types_in arena_entries) (spelled_at arena_entries a) funcs es t
+
+within_same : ((s : Standing) (t : Ty) → nodes_of (replaced s t) ≡ nodes_of t) → ((s : Standing) (t : Ty) → depth_of (replaced s t) ≡ depth_of t) → (s : Standing) (t : Ty) → is_within_limits (replaced s t) ≡ is_within_limits t
+within_same nodes depth s t = rw (nodes s t, depth s t) refl
+
+pub result_within : ((s : Standing) (t : Ty) → nodes_of (replaced s t) ≡ nodes_of t) → ((s : Standing) (t : Ty) → depth_of (replaced s t) ≡ depth_of t)
+    → (arena_entries : List arena.TypeEntry) → ∥ IsArena arena_entries ∥₁ → (funcs : List FuncTy) (es : List TypeEntry) (o : Option ValType)
     → AllWithin (option_map (value_or_bool (map (def_of (types_in arena_entries) funcs) es)) o)
-result_within arena_entries a funcs es None = tt
-result_within arena_entries a funcs es (Some t) = value_passes is_within_limits primitive_within (types_in arena_entries) (within_at arena_entries a) funcs es t
+result_within nodes depth arena_entries a funcs es None = tt
+result_within nodes depth arena_entries a funcs es (Some t) = value_passes is_within_limits (within_same nodes depth) primitive_within (types_in arena_entries) (within_at arena_entries a) funcs es t
+
+-- ---- the last type, where nothing moved it
+
+pub value_added : ((t : Ty) → replaced (moved_by None) t ≡ t) → (old new : List Ty) (t : Ty) (p : Placed) → new ≡ old ++ t ∷ [] → p.place ≡ length old → p.by ≡ None → value (placed_type new p) ≡ value t
+value_added unmoved old new t p pushed place none =
+    ap value (ap (λ o. replaced (moved_by o) (type_at new p.place)) none ∙ unmoved (type_at new p.place) ∙ ap (λ ts. type_at ts p.place) pushed ∙ ap (type_at (old ++ t ∷ [])) place ∙ last_type old t)
+
+pub func_added : ((f : FuncTy) → replaced_func (moved_by None) f ≡ f) → (old new : List FuncTy) (f : FuncTy) (p : Placed) → new ≡ old ++ f ∷ [] → p.place ≡ length old → p.by ≡ None → func_type (placed_func new p) ≡ func_type f
+func_added unmoved old new f p pushed place none =
+    ap func_type (ap (λ o. replaced_func (moved_by o) (func_at new p.place)) none ∙ unmoved (func_at new p.place) ∙ ap (λ fs. func_at fs p.place) pushed ∙ ap (func_at (old ++ f ∷ [])) place ∙ last_func old f)

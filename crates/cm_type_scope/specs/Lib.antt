@@ -1,3 +1,6 @@
 pub mod Expansion
 pub mod Entries
+pub mod Uses
+pub mod ItemNumbers
+pub mod InstanceNames
 pub mod TypeScopes

@@ -4,7 +4,7 @@ use Rattle.cm_types.specs.Types.{Ty, FuncTy}
 use Rattle.cm_type_arena.specs.Places.{types_of, funcs_of}
 use Rattle.cm_validity.specs.Definitions.{TypeDef}
 use Rattle.cm_type_scope.specs.declared.scope.TypeScope.{TypeScope}
-use Rattle.cm_type_scope.specs.Entries.{def_of}
+use Rattle.cm_type_scope.specs.Entries.{def_of, unmoved_def_of}
 
 -- those of its arena
 abbrev pub arena_types : TypeScope → List Ty
@@ -19,6 +19,10 @@ own_types s = map (def_of (arena_types s) (arena_funcs s)) s.own.entries.items
 
 abbrev pub types_around : TypeScope → List TypeDef
 types_around s = map (def_of (arena_types s) (arena_funcs s)) s.around.entries.items
+
+-- the types of its own, each value type the one at its place, with no resource moved
+abbrev pub unmoved_types : TypeScope → List TypeDef
+unmoved_types s = map (unmoved_def_of (arena_types s) (arena_funcs s)) s.own.entries.items
 
 -- a list has what it had, and maybe more behind it
 abbrev pub Extends : {A : Type 0} → List A → List A → Type 0

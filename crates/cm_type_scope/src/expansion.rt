@@ -50,18 +50,19 @@ impl TypeScope {
     ghost use Rattle.cm_type_scope.specs.Expansion.{case_or_bool, func_or_bool};
     ghost use Rattle.cm_type_scope.specs.Expansion.{labeled_or_bool, resource_or_zero};
     ghost use Rattle.cm_type_scope.specs.Expansion.{type_or_bool, value_or_bool};
-    ghost use Rattle.cm_type_scope.specs.TypeScopes.{arena_types, own_types};
+    ghost use Rattle.cm_type_scope.specs.TypeScopes.{arena_types, unmoved_types};
 
-    /// The place of a value type where it is used; that of `bool` where it names none.
+    /// The place of a value type where it is used, with no resource moved; that of `bool` where it
+    /// names none.
     pub(crate) fn value_place(&self, ty: ValType) -> usize
         ensures there { result < length (arena_types self.now) }
         ensures ty { type_at (arena_types self.now) result
-            ≡ value_or_bool (own_types self.now) ty }
+            ≡ value_or_bool (unmoved_types self.now) ty }
     {
         match ty {
             ValType::Primitive(p) => self.types.primitive(primitive(p)),
             ValType::Index(index) => match self.own.entries.get(index as usize) {
-                Some(TypeEntry::Value(place)) => *place,
+                Some(TypeEntry::Value(placed)) => placed.place,
                 _ => self.types.primitive(Primitive::Bool),
             },
         }
@@ -71,7 +72,7 @@ impl TypeScope {
     pub(crate) fn payload_place(&self, payload: Option<ValType>) -> Option<usize>
         ensures there { IsBelow (length (arena_types self.now)) result }
         ensures ty { option_map (type_at (arena_types self.now)) result
-            ≡ option_map (value_or_bool (own_types self.now)) payload }
+            ≡ option_map (value_or_bool (unmoved_types self.now)) payload }
     {
         match payload {
             Some(ty) => Some(self.value_place(ty)),
@@ -81,7 +82,7 @@ impl TypeScope {
 
     /// The resource that an index names; the first one where it names none.
     fn resource(&self, index: u32) -> ResourceId
-        ensures { result ≡ resource_id (resource_or_zero (own_types self.now) index) }
+        ensures { result ≡ resource_id (resource_or_zero (unmoved_types self.now) index) }
     {
         match self.own.entries.get(index as usize) {
             Some(TypeEntry::Resource(number)) => resource_id(*number),
@@ -98,7 +99,7 @@ impl TypeScope {
             AllByRecursion (λ d. d.ty < length (arena_types self.now)) defs.items) }
         ensures types { IfOk result (λ defs.
             map (field_def_type (arena_types self.now)) defs.items
-            ≡ map (labeled_or_bool (own_types self.now)) fields.now) }
+            ≡ map (labeled_or_bool (unmoved_types self.now)) fields.now) }
     {
         let mut defs = Vec::new(alloc);
         for field in fields {
@@ -115,7 +116,7 @@ impl TypeScope {
             AllByRecursion (λ d. IsBelow (length (arena_types self.now)) d.payload) defs.items) }
         ensures types { IfOk result (λ defs.
             map (case_def_type (arena_types self.now)) defs.items
-            ≡ map (case_or_bool (own_types self.now)) cases.now) }
+            ≡ map (case_or_bool (unmoved_types self.now)) cases.now) }
     {
         let mut defs = Vec::new(alloc);
         for case in cases {
@@ -132,7 +133,7 @@ impl TypeScope {
             AllByRecursion (λ p. p < length (arena_types self.now)) places.items) }
         ensures types { IfOk result (λ places.
             map (type_at (arena_types self.now)) places.items
-            ≡ map (value_or_bool (own_types self.now)) types.now) }
+            ≡ map (value_or_bool (unmoved_types self.now)) types.now) }
     {
         let mut places = Vec::new(alloc);
         for ty in types {
@@ -146,7 +147,7 @@ impl TypeScope {
     pub(crate) fn arena_def(&self, alloc: Global, def: &DefValType) -> Result<TypeDef, AllocError>
         ensures parts { IfOk result (HasParts (length (arena_types self.now))) }
         ensures ty { IfOk result (λ d. def_type (arena_types self.now) d
-            ≡ type_or_bool (own_types self.now) (def_val_type_tree def.now)) }
+            ≡ type_or_bool (unmoved_types self.now) (def_val_type_tree def.now)) }
     {
         Ok(match def {
             DefValType::Primitive(p) => TypeDef::Primitive(primitive(*p)),
@@ -174,7 +175,7 @@ impl TypeScope {
     pub(crate) fn arena_func(&self, alloc: Global, func: &FuncType) -> Result<FuncDef, AllocError>
         ensures parts { IfOk result (HasFuncParts (length (arena_types self.now))) }
         ensures ty { IfOk result (λ d. func_def_type (arena_types self.now) d
-            ≡ func_or_bool (own_types self.now) (func_type_tree func.now)) }
+            ≡ func_or_bool (unmoved_types self.now) (func_type_tree func.now)) }
     {
         Ok(FuncDef {
             params: self.field_defs(alloc, &func.params)?,

@@ -2,6 +2,10 @@
 
 use crate::entries::TypeEntry;
 use crate::scope::TypeScope;
+use crate::uses::{param_uses, with_result};
+use cm_placed::Placed;
+use cm_placed::laws::unmoved;
+use cm_replaced::laws::what_stays;
 use cm_type_arena::{DefFault, FuncDef};
 use cm_type_rules::{broken_unless, lesser, params_fault, uses_fault};
 use cm_types::{FuncType, ValType};
@@ -23,7 +27,7 @@ impl TypeScope {
     ghost use Rattle.cm_validity.specs.Scopes.{func_def_of};
     ghost use Rattle.cm_validity.specs.TypeRules.{func_def_broken, limits_broken};
     ghost use Rattle.cm_validity.specs.TypeRules.{no_borrow_broken, uses_broken};
-    ghost use Rattle.cm_type_scope.specs.Expansion.{value_or_bool};
+    ghost use Rattle.cm_type_scope.specs.Expansion.{func_or_bool, value_or_bool};
     ghost use Rattle.cm_type_scope.specs.TypeScopes.{arena_funcs, arena_types, own_types};
     ghost use Rattle.cm_type_scope.specs.TypeScopes.{HasGrown, types_around};
 
@@ -60,13 +64,14 @@ impl TypeScope {
         ensures around { types_around self.new ≡ types_around self.old }
         ensures grown { HasGrown self.old self.new }
     {
+        unmoved();
         let place = match self.push_func(alloc, def) {
             Ok(place) => place,
             Err(DefFault::TooLarge) => return Ok(Some(ValidReason::TooLarge)),
             Err(DefFault::NotSpellable) => unreachable!(),
             Err(DefFault::Memory) => return Err(AllocError),
         };
-        self.add(TypeEntry::Func(place))?;
+        self.add(TypeEntry::Func(Placed::at(place)))?;
         Ok(None)
     }
 
@@ -75,6 +80,7 @@ impl TypeScope {
         ensures { result ≡ least
             (if_found no_borrow_broken (option_map (value_or_bool (own_types self.now)) payload)) }
     {
+        what_stays();
         match payload {
             None => None,
             Some(ty) => {
@@ -82,6 +88,35 @@ impl TypeScope {
                 broken_unless(!known.holds_borrow, ValidReason::BorrowInResult)
             }
         }
+    }
+
+    /// The same as `define_func`, where the definition breaks nothing but a limit on its
+    /// parameters.
+    fn define_known(
+        &mut self,
+        alloc: Global,
+        def: &FuncType,
+    ) -> Result<Option<ValidReason>, AllocError>
+        requires uses { uses_broken (sorts_of (own_types self.old)) (func_type_tree def.now) ≡ [] }
+        ensures fault { IfOk result (λ r. r ≡ least (limits_broken
+            (params_type (func_or_bool (own_types self.old) (func_type_tree def.now))))) }
+        ensures defined { IfOk result (λ r. MatchOption r
+            (own_types self.new ≡ own_types self.old
+            ++ func_def_of (own_types self.old) (func_type_tree def.now) ∷ [])
+            (λ _. own_types self.new ≡ own_types self.old)) }
+        ensures kept { OnErr result (own_types self.new ≡ own_types self.old) }
+        ensures around { types_around self.new ≡ types_around self.old }
+        ensures grown { HasGrown self.old self.new }
+    {
+        unmoved();
+        let params = param_uses(alloc, def)?;
+        if !self.are_within(&params) {
+            return Ok(Some(ValidReason::TooLarge));
+        }
+        let uses = with_result(params, def.result)?;
+        self.settle_all(alloc, &uses)?;
+        let placed = self.arena_func(alloc, def)?;
+        self.add_func(alloc, placed)
     }
 
     /// The same as `define_func`, where each type that the definition uses is there.
@@ -101,19 +136,19 @@ impl TypeScope {
         ensures around { types_around self.new ≡ types_around self.old }
         ensures grown { HasGrown self.old self.new }
     {
+        what_stays();
         let twice = params_fault(alloc, def)?;
         match lesser(twice, self.borrow_fault(def.result)) {
             Some(fault) => Ok(Some(fault)),
-            None => {
-                let placed = self.arena_func(alloc, def)?;
-                self.add_func(alloc, placed)
-            }
+            None => self.define_known(alloc, def),
         }
     }
 
     /// Adds the type of a function as a definition says it, and answers none; or the least reason
     /// that the definition breaks, and then adds nothing. What it names by index are types of this
-    /// scope's own. It costs the definition's own length and a look-up for each of its labels.
+    /// scope's own. It costs the definition's own length and a look-up for each of its labels; a
+    /// type that an import moved is copied as `define_value` says, and the result beside the
+    /// parameters.
     ///
     /// `AllocError` comes where there is no memory; its own types are then as they were.
     pub fn define_func(

@@ -4,6 +4,8 @@ ghost use Rattle.std.specs.Prelude.{◌≡◌, map};
 ghost use Rattle.cm_type_scope.specs.Entries.{entry_sort};
 
 use crate::entries::TypeEntry;
+use cm_placed::Placed;
+use cm_replaced::Move;
 use cm_validity::TypeSort;
 use std::alloc::{AllocError, Global};
 
@@ -16,7 +18,12 @@ pub(crate) struct Level {
 }
 
 impl Level {
-    ghost use Rattle.std.specs.Prelude.{◌++◌, ◌∷◌, [], OnOk, OnErr};
+    ghost use Rattle.std.specs.Prelude.{◌++◌, ◌∷◌, [], IfNone, IfSome, OnOk, OnErr, Some, true};
+    ghost use Rattle.std.specs.Prelude.{slice_get, slice_set};
+    ghost use Rattle.std.specs.Option.{option_map};
+    ghost use Rattle.cm_type_scope.specs.declared.entries.TypeEntry.TheVariants as entry;
+    ghost use Rattle.cm_type_scope.specs.Uses.{is_entry_unmoved};
+    ghost use Rattle.cm_validity.specs.declared.sorts.TypeSort.TheVariants as sort;
 
     pub(crate) fn new(alloc: Global) -> Level
         ensures { result.entries.items ≡ [] }
@@ -42,5 +49,36 @@ impl Level {
             // Room was reserved.
             Err(_) => unreachable!(),
         }
+    }
+
+    /// The place and the move of the value type under an index, where one stands there that is
+    /// moved.
+    pub(crate) fn moved_value(&self, index: usize) -> Option<(usize, Move)>
+        ensures moved { IfSome result (λ m. slice_get self.now.entries.items index
+            ≡ Some (entry.Value (record { place = m.0; by = Some m.1 }))) }
+        ensures unmoved { IfNone result
+            (is_entry_unmoved (slice_get self.now.entries.items index) ≡ true) }
+    {
+        match self.entries.get(index) {
+            Some(
+                TypeEntry::Value(
+                    Placed {
+                        place,
+                        by: Some(by),
+                    },
+                ),
+            ) => Some((*place, *by)),
+            _ => None,
+        }
+    }
+
+    /// Puts a value type in place of another.
+    pub(crate) fn put_value(&mut self, index: usize, placed: Placed)
+        requires { option_map entry_sort (slice_get self.old.entries.items index)
+            ≡ Some sort.Value }
+        ensures { self.new.entries.items
+            ≡ slice_set self.old.entries.items index (entry.Value placed) }
+    {
+        self.entries[index] = TypeEntry::Value(placed);
     }
 }

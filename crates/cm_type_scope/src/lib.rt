@@ -5,10 +5,14 @@
 mod entries;
 mod expansion;
 mod functions;
+mod instance_types;
 pub mod laws;
 mod level;
 mod scope;
+mod settling;
+mod uses;
 mod values;
 
-pub use entries::{InstanceType, ItemDesc, ItemEntry, TypeEntry};
+pub use entries::TypeEntry;
+pub use instance_types::NamedInstanceType;
 pub use scope::TypeScope;

@@ -26,7 +26,7 @@ impl TypeScope {
     ghost use Rattle.std.specs.Option.{option_map};
     ghost use Rattle.cm_type_arena.specs.TypeDefs.{primitive_types};
     ghost use Rattle.cm_validity.specs.Definitions.{sorts_of};
-    ghost use Rattle.cm_type_scope.specs.Entries.{def_of, is_placed};
+    ghost use Rattle.cm_type_scope.specs.Entries.{def_of, is_entry_there};
     ghost use Rattle.cm_type_scope.specs.TypeScopes.{arena_funcs, arena_types, own_types};
     ghost use Rattle.cm_type_scope.specs.TypeScopes.{types_around};
 
@@ -101,7 +101,7 @@ impl TypeScope {
         ensures there { option_map (λ e. def_of (arena_types self.now) (arena_funcs self.now) e.now)
             result ≡ slice_get (own_types self.now) index }
         ensures placed { IfSome result (λ e.
-            is_placed (length (arena_types self.now)) (length (arena_funcs self.now)) e.now
+            is_entry_there (length (arena_types self.now)) (length (arena_funcs self.now)) e.now
             ≡ true) }
     {
         self.own.entries.get(index as usize)
@@ -112,7 +112,7 @@ impl TypeScope {
         ensures there { option_map (λ e. def_of (arena_types self.now) (arena_funcs self.now) e.now)
             result ≡ slice_get (types_around self.now) index }
         ensures placed { IfSome result (λ e.
-            is_placed (length (arena_types self.now)) (length (arena_funcs self.now)) e.now
+            is_entry_there (length (arena_types self.now)) (length (arena_funcs self.now)) e.now
             ≡ true) }
     {
         self.around.entries.get(index as usize)
@@ -121,8 +121,8 @@ impl TypeScope {
     /// Adds a type that stands in the arena. `AllocError` comes where there is no memory for it;
     /// the types then stay as they are.
     pub fn add(&mut self, entry: TypeEntry) -> Result<(), AllocError>
-        requires placed { is_placed (length (arena_types self.old)) (length (arena_funcs self.old))
-            entry ≡ true }
+        requires there { is_entry_there (length (arena_types self.old))
+            (length (arena_funcs self.old)) entry ≡ true }
         ensures added { OnOk result (own_types self.new ≡ own_types self.old
             ++ def_of (arena_types self.old) (arena_funcs self.old) entry ∷ []) }
         ensures kept { OnErr result (own_types self.new ≡ own_types self.old) }

@@ -2,6 +2,10 @@
 
 use crate::entries::TypeEntry;
 use crate::scope::TypeScope;
+use crate::uses::uses;
+use cm_placed::Placed;
+use cm_placed::laws::unmoved;
+use cm_replaced::laws::what_stays;
 use cm_type_arena::{DefFault, TypeDef};
 use cm_type_rules::parts_fault;
 use cm_types::DefValType;
@@ -18,10 +22,11 @@ impl TypeScope {
     ghost use Rattle.cm_type_arena.specs.Places.{HasParts};
     ghost use Rattle.cm_type_arena.specs.TypeDefs.{def_type};
     ghost use Rattle.cm_type_arena.specs.declared.types.DefFault.TheVariants as def_fault;
-    ghost use Rattle.cm_validity.specs.Definitions.{value};
+    ghost use Rattle.cm_validity.specs.Definitions.{sorts_of, value};
     ghost use Rattle.cm_validity.specs.Reasons.{least};
     ghost use Rattle.cm_validity.specs.Scopes.{value_def_of};
-    ghost use Rattle.cm_validity.specs.TypeRules.{limits_broken, value_def_broken};
+    ghost use Rattle.cm_validity.specs.TypeRules.{limits_broken, parts_broken};
+    ghost use Rattle.cm_validity.specs.TypeRules.{value_def_broken};
     ghost use Rattle.cm_type_scope.specs.TypeScopes.{arena_funcs, arena_types, own_types};
     ghost use Rattle.cm_type_scope.specs.TypeScopes.{HasGrown, types_around};
 
@@ -58,20 +63,55 @@ impl TypeScope {
         ensures around { types_around self.new ≡ types_around self.old }
         ensures grown { HasGrown self.old self.new }
     {
+        unmoved();
         let place = match self.push_type(alloc, def) {
             Ok(place) => place,
             Err(DefFault::TooLarge) => return Ok(Some(ValidReason::TooLarge)),
             Err(DefFault::NotSpellable) => unreachable!(),
             Err(DefFault::Memory) => return Err(AllocError),
         };
-        self.add(TypeEntry::Value(place))?;
+        self.add(TypeEntry::Value(Placed::at(place)))?;
         Ok(None)
+    }
+
+    /// The same as `define_value`, where the parts of the definition break nothing.
+    fn define_parts(
+        &mut self,
+        alloc: Global,
+        def: &DefValType,
+    ) -> Result<Option<ValidReason>, AllocError>
+        requires parts { parts_broken (sorts_of (own_types self.old))
+            (def_val_type_tree def.now) ≡ [] }
+        ensures fault { IfOk result (λ r.
+            r ≡ least (value_def_broken (own_types self.old) (def_val_type_tree def.now))) }
+        ensures defined { IfOk result (λ r. MatchOption r
+            (own_types self.new ≡ own_types self.old
+            ++ value_def_of (own_types self.old) (def_val_type_tree def.now) ∷ [])
+            (λ _. own_types self.new ≡ own_types self.old)) }
+        ensures kept { OnErr result (own_types self.new ≡ own_types self.old) }
+        ensures around { types_around self.new ≡ types_around self.old }
+        ensures grown { HasGrown self.old self.new }
+    {
+        unmoved();
+        what_stays();
+        let uses = uses(alloc, def)?;
+        if !self.are_within(&uses) {
+            return Ok(Some(ValidReason::TooLarge));
+        }
+        self.settle_all(alloc, &uses)?;
+        let placed = self.arena_def(alloc, def)?;
+        self.add_value(alloc, placed)
     }
 
     /// Adds a value type as a definition says it, and answers none; or the least reason that the
     /// definition breaks, and then adds nothing. What it names by index are types of this scope's
-    /// own. It costs the definition's own length and a look-up for each of its labels: nothing
-    /// below a part is walked.
+    /// own.
+    ///
+    /// It costs the definition's own length and a look-up for each of its labels: nothing below a
+    /// part is walked. Only a type that an import moved is copied, where its handles are of
+    /// resources that the import counts anew, each node once; the copy stands under its index from
+    /// then on, so no later definition copies it again. Nothing is copied where the types that the
+    /// definition uses have more than 10,000 nodes together, so one definition copies no more.
     ///
     /// `AllocError` comes where there is no memory; its own types are then as they were.
     pub fn define_value(
@@ -92,10 +132,7 @@ impl TypeScope {
         least_of_both();
         match parts_fault(alloc, self.sorts(), def)? {
             Some(fault) => Ok(Some(fault)),
-            None => {
-                let placed = self.arena_def(alloc, def)?;
-                self.add_value(alloc, placed)
-            }
+            None => self.define_parts(alloc, def),
         }
     }
 }

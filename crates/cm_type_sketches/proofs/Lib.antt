@@ -1,2 +1,3 @@
 pub mod SketchLaws
 pub mod FaultLaws
+pub mod MoveLaws

@@ -1,10 +1,11 @@
 -- What the rules on the types of instances need to know of a type (this project's own choice).
 use Rattle.std.specs.Prelude.{Bool, true, false, Option, Some, None, codes, if◌then◌else◌}
-use Rattle.std.specs.Option.{option_and_then}
+use Rattle.std.specs.Option.{option_and_then, option_map}
 use Rattle.std.specs.Str.{bytes_eq}
 use Rattle.cm_types.specs.declared.resource.ResourceId.{ResourceId}
 use Rattle.cm_types.specs.Holds.{holds, is_borrow}
 use Rattle.cm_types.specs.Types.{Ty, Fields, FuncTy, own, borrow, no_fields, field}
+use Rattle.cm_replaced.specs.Replaced.{Standing}
 use Rattle.cm_validity.specs.Definitions.{TypeDef, value, func_type, resource, instance_type}
 use Rattle.cm_validity.specs.Definitions.{faulty}
 use Rattle.cm_validity.specs.Scopes.{resource_id}
@@ -71,6 +72,20 @@ own_result t = option_and_then resource_owned t
 abbrev pub sketch_func : FuncTy → FuncSketch
 sketch_func f =
     record { self_borrow = self_borrow f.params; own_result = own_result f.result }
+
+-- ---- with each resource replaced
+
+abbrev pub value_replaced : Standing → ValueSketch → ValueSketch
+value_replaced s (value_sketch.Own r) = value_sketch.Own (s r)
+value_replaced s (value_sketch.Borrow r) = value_sketch.Borrow (s r)
+value_replaced s v = v
+
+abbrev pub func_replaced : Standing → FuncSketch → FuncSketch
+func_replaced s f =
+    record {
+      self_borrow = option_map s f.self_borrow;
+      own_result = option_map s f.own_result;
+    }
 
 -- ---- of what an index stands for
 

@@ -4,13 +4,16 @@ ghost use Rattle.std.specs.Prelude.{◌≡◌, ◌<◌, length, true};
 ghost use Rattle.cm_types.specs.Funcs.{func_of};
 ghost use Rattle.cm_types.specs.TypeTrees.{type_of};
 ghost use Rattle.cm_type_arena.specs.Places.{funcs_of, types_of};
-ghost use Rattle.cm_type_arena.specs.TypeDefs.{func_at, type_at};
-ghost use Rattle.cm_type_scope.specs.Entries.{def_of, is_placed};
+ghost use Rattle.cm_type_arena.specs.TypeDefs.{type_at};
+ghost use Rattle.cm_placed.specs.Placed.{is_there, placed_func, placed_type};
+ghost use Rattle.cm_type_scope.specs.Entries.{def_of, is_entry_there};
 ghost use Rattle.cm_type_sketches.specs.Sketches.{own_result, resource_borrowed, resource_owned};
 ghost use Rattle.cm_type_sketches.specs.Sketches.{self_borrow, sketch_func, sketch_of};
 ghost use Rattle.cm_type_sketches.specs.Sketches.{sketch_value};
 
 use crate::sketches::{FuncSketch, Sketch, ValueSketch, resource_id};
+use cm_placed::Placed;
+use cm_replaced::laws::what_stays;
 use cm_type_arena::Types;
 use cm_type_scope::TypeEntry;
 use cm_types::{Func, ResourceId, TypeNode};
@@ -31,6 +34,15 @@ fn sketch_value(types: &Types, place: usize) -> ValueSketch
             }
         }
     }
+}
+
+/// The same, its resources moved.
+fn sketch_placed(types: &Types, placed: Placed) -> ValueSketch
+    requires { is_there (length (types_of types.now)) placed ≡ true }
+    ensures { result ≡ sketch_value (placed_type (types_of types.now) placed) }
+{
+    what_stays();
+    sketch_value(types, placed.place).moved(placed.by)
 }
 
 /// The resource that a type borrows, if it is a borrow.
@@ -86,17 +98,25 @@ fn sketch_func(func: &Func) -> FuncSketch
     }
 }
 
+/// The sketch of the type of a function at a place, its resources moved.
+fn sketch_placed_func(types: &Types, placed: Placed) -> FuncSketch
+    requires { is_there (length (funcs_of types.now)) placed ≡ true }
+    ensures { result ≡ sketch_func (placed_func (funcs_of types.now) placed) }
+{
+    sketch_func(types.func(placed.place)).moved(placed.by)
+}
+
 /// The sketch of what an index of a type stands for, from what the arena knows of it: nothing below
 /// it is walked.
 pub fn sketch_entry(types: &Types, entry: &TypeEntry) -> Sketch
-    requires placed { is_placed (length (types_of types.now)) (length (funcs_of types.now))
+    requires there { is_entry_there (length (types_of types.now)) (length (funcs_of types.now))
         entry.now ≡ true }
     ensures { result
         ≡ sketch_of (def_of (types_of types.now) (funcs_of types.now) entry.now) }
 {
     match entry {
-        TypeEntry::Value(place) => Sketch::Value(sketch_value(types, *place)),
-        TypeEntry::Func(place) => Sketch::Func(sketch_func(types.func(*place))),
+        TypeEntry::Value(placed) => Sketch::Value(sketch_placed(types, *placed)),
+        TypeEntry::Func(placed) => Sketch::Func(sketch_placed_func(types, *placed)),
         TypeEntry::Resource(number) => Sketch::Resource(resource_id(*number)),
         TypeEntry::Instance(_) => Sketch::Instance,
     }

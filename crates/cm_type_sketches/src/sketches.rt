@@ -2,8 +2,13 @@
 
 ghost use Rattle.std.specs.Prelude.{◌≡◌};
 ghost use Rattle.cm_validity.specs.Scopes.{resource_id};
-ghost use Rattle.cm_type_sketches.specs.Sketches.{borrowed, holds_borrow, owned, sketch_sort};
+ghost use Rattle.std.specs.Option.{option_map};
+ghost use Rattle.cm_placed.specs.Placed.{moved_by};
+ghost use Rattle.cm_type_sketches.specs.Sketches.{borrowed, func_replaced, holds_borrow, owned};
+ghost use Rattle.cm_type_sketches.specs.Sketches.{sketch_sort, value_replaced};
 
+use cm_placed::moved_resource;
+use cm_replaced::Move;
 use cm_types::ResourceId;
 use cm_validity::TypeSort;
 
@@ -52,7 +57,40 @@ pub fn resource_id(number: u64) -> ResourceId
     }
 }
 
+/// The resource that stands for one, if there is one.
+fn moved_option(by: Option<Move>, resource: Option<ResourceId>) -> Option<ResourceId>
+    ensures { result ≡ option_map (moved_by by) resource }
+{
+    match resource {
+        None => None,
+        Some(resource) => Some(moved_resource(by, resource)),
+    }
+}
+
+impl FuncSketch {
+    /// The same where an import may have moved the resources.
+    pub(crate) fn moved(self, by: Option<Move>) -> FuncSketch
+        ensures { result ≡ func_replaced (moved_by by) self }
+    {
+        FuncSketch {
+            self_borrow: moved_option(by, self.self_borrow),
+            own_result: moved_option(by, self.own_result),
+        }
+    }
+}
+
 impl ValueSketch {
+    /// The same where an import may have moved the resources.
+    pub(crate) fn moved(self, by: Option<Move>) -> ValueSketch
+        ensures { result ≡ value_replaced (moved_by by) self }
+    {
+        match self {
+            ValueSketch::Own(resource) => ValueSketch::Own(moved_resource(by, resource)),
+            ValueSketch::Borrow(resource) => ValueSketch::Borrow(moved_resource(by, resource)),
+            ValueSketch::Plain | ValueSketch::HoldsBorrow => self,
+        }
+    }
+
     /// Whether the type is a borrow or holds one.
     pub(crate) fn holds_borrow(self) -> bool
         ensures { result ≡ holds_borrow self }

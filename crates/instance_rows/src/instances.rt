@@ -1,14 +1,19 @@
 //! Rows on types of instances: `instance NEXT TYPE ; TYPE .. | DECLARATION ; DECLARATION ..`.
 //!
 //! NEXT is the number of the component's next resource. The types of the component come first, each
-//! a definition, or `resource:NUMBER`; of no types there is nothing before the bar. A declaration
-//! is a definition, `outer COUNT INDEX`, `export NAME func INDEX`, `export NAME type INDEX` or
-//! `export NAME resource`.
+//! a definition, `resource:NUMBER`, or `moved:FIRST,COUNT,NEXT INDEX`, which is the type of that
+//! index with so many resources from FIRST on counted from NEXT on; of no types there is nothing
+//! before the bar. A declaration is a definition, `outer COUNT INDEX`, `export NAME func INDEX`,
+//! `export NAME type INDEX` or `export NAME resource`.
+
+ghost use Rattle.std.specs.Prelude.{◌≡◌};
 
 use crate::definitions::read_type;
 use cm_instance_types::define_instance;
+use cm_placed::{InstanceType, ItemDesc, Placed};
+use cm_replaced::Move;
 use cm_rows::{RowFault, read_number};
-use cm_type_scope::{InstanceType, ItemDesc, TypeEntry, TypeScope};
+use cm_type_scope::{TypeEntry, TypeScope};
 use cm_types::{
     Declaration, DeclaredType, ExportDecl, ExportDesc, ExternName, NameFault, OuterType, TypeBound,
 };
@@ -43,6 +48,11 @@ fn add_type(alloc: Global, scope: &mut TypeScope, words: &[&str]) -> Result<(), 
             return Ok(());
         }
     }
+    if let [word, index] = words {
+        if let Some(("moved", range)) = word.split_once(':') {
+            return add_moved(scope, read_move(range)?, read_number(index)?);
+        }
+    }
     let fault = match read_type(alloc, words)? {
         DeclaredType::Value(def) => scope.define_value(alloc, &def)?,
         DeclaredType::Func(def) => scope.define_func(alloc, &def)?,
@@ -50,6 +60,34 @@ fn add_type(alloc: Global, scope: &mut TypeScope, words: &[&str]) -> Result<(), 
     match fault {
         Some(_) => Err(RowFault::NotARow),
         None => Ok(()),
+    }
+}
+
+fn read_move(range: &str) -> Result<Move, RowFault> {
+    let (first, rest) = range.split_once(',').ok_or(RowFault::NotARow)?;
+    let (count, next) = rest.split_once(',').ok_or(RowFault::NotARow)?;
+    let by = Move::new(read_number(first)?, read_number(count)?, read_number(next)?);
+    by.ok_or(RowFault::NotARow)
+}
+
+/// Adds the type of an index once more, with its resources moved.
+fn add_moved(scope: &mut TypeScope, by: Move, index: u32) -> Result<(), RowFault> {
+    let entry = match scope.get(index) {
+        Some(TypeEntry::Value(placed)) => TypeEntry::Value(moved(*placed, by)),
+        Some(TypeEntry::Func(placed)) => TypeEntry::Func(moved(*placed, by)),
+        _ => return Err(RowFault::NotARow),
+    };
+    scope.add(entry)?;
+    Ok(())
+}
+
+/// What stands at the place of another, with its resources moved.
+fn moved(placed: Placed, by: Move) -> Placed
+    ensures { result.place ≡ placed.place }
+{
+    Placed {
+        place: placed.place,
+        by: Some(by),
     }
 }
 
@@ -117,7 +155,7 @@ fn write_last(out: &mut String, scope: &TypeScope) -> Result<(), RowFault> {
     let last = u32::try_from(scope.len().saturating_sub(1));
     match last {
         Ok(last) => match scope.get(last) {
-            Some(TypeEntry::Instance(instance)) => Ok(write_instance(out, instance)?),
+            Some(TypeEntry::Instance(instance)) => Ok(write_instance(out, instance.ty())?),
             _ => Err(RowFault::NotARow),
         },
         Err(_) => Err(RowFault::NotARow),

@@ -1,4 +1,4 @@
-use Rattle.std.proofs.Common.{◌≡◌, ℕ, ◌<◌, List, length, map, get_or, sym, ap, subst, ◌∙◌, arith}
+use Rattle.std.proofs.Common.{◌≡◌, ℕ, ◌+◌, ◌<◌, List, length, map, get_or, refl, sym, ap, subst, ◌∙◌, arith}
 use Rattle.std.specs.BTreeMap.{get}
 use Rattle.std.specs.List.{AllByRecursion}
 use Rattle.std.specs.Ordering.{nat_cmp}
@@ -10,11 +10,24 @@ use Rattle.cm_type_arena.specs.Places.{types_of}
 use Rattle.cm_type_arena.specs.TypeDefs.{def_type, type_at}
 use Rattle.cm_replaced.specs.Replaced.{replaced}
 use Rattle.cm_type_copies.specs.Copies.{BeginsWith, IsCopy}
-use Rattle.cm_type_copies.proofs.CopyLaws.{all_and_one, all_below_more, at_front, below_at, copies_more, copies_stay, front_of_front, held_replaced, longer, part_copied, part_shallower}
+use Rattle.cm_type_copies.proofs.CopyLaws.{all_and_one, all_below_more, at_front, below_at, copies_more, copies_stay, front_of_front, held_replaced, itself, longer, part_copied, part_shallower}
+use Rattle.cm_type_copies.proofs.OnceLaws.{both_once, last_once, nothing_once, wider}
 use Rattle.cm_type_copies.proofs.copies.+copy_at.Goals as goal
 
 pub returns-in-Some-clause-copy : goal.returns-in-Some-clause-copy
 returns-in-Some-clause-copy g n c = c.requires.copies c.args.place c.in-Some.copy.now (sym c.in-Some.ensures.value)
+
+pub loop-part-init : goal.loop-part-init
+loop-part-init g n c =
+    let old = types_of c.args.types.now in
+    record {
+      kept = itself old;
+      funcs = refl;
+      copies = c.requires.copies;
+      once = nothing_once (g.R.Replacement.replacement c.args.by.now) old (get nat_cmp c.args.copies.now) c.args.place;
+      there = subst (λ (xs : List ℕ). AllByRecursion (λ p. p < length old) xs) (sym c.in_ok-copied.ensures.items) tt;
+      copied = ap (map (type_at old)) c.in_ok-copied.ensures.items;
+    }
 
 pub copy_at-requires : goal.copy_at-requires
 copy_at-requires g n c =
@@ -55,6 +68,8 @@ loop-part-preserved g n c =
     let lows = all_and_one (length new) c.loop-part.copied.items copy (all_below_more (length mid) (length new) long c.loop-part.copied.items c.loop-part.invariant.there) is.copy_there in
     record {
       kept = kept;
+      once = both_once s old mid new (get nat_cmp c.args.copies.now) (get nat_cmp c.loop-part.copies) (get nat_cmp c.copy_at.new.copies) c.args.place (omega (arith, c.requires.there)) c.loop-part.invariant.once
+          (wider s mid new (get nat_cmp c.loop-part.copies) (get nat_cmp c.copy_at.new.copies) (part + 1) c.args.place (omega (arith, before)) c.in_ok-copy_at.ensures.once);
       funcs = c.copy_at.ensures.funcs ∙ c.loop-part.invariant.funcs;
       copies = c.in_ok-copy_at.ensures.copies;
       there = subst (λ (xs : List ℕ). AllByRecursion (λ p. p < length new) xs) (sym c.in_ok-push.ensures.items) lows;
@@ -125,3 +140,19 @@ returns-clause-copies g n c =
     let new = types_of c.push_lawful.new.types in
     copies_more s new (get nat_cmp c.loop-part.copies) (get nat_cmp c.insert.new.self) c.args.place c.in_ok-copy.copy c.in_ok-insert.ensures.updates.1 c.in_ok-insert.ensures.updates.2 (returns-clause-copy g n c)
     (copies_stay s mid new (get nat_cmp c.loop-part.copies) c.push_lawful.ensures.kept c.loop-part.invariant.copies)
+
+pub returns-clause-once : goal.returns-clause-once
+returns-clause-once g n c =
+    let s = g.R.Replacement.replacement c.args.by.now in
+    let old = types_of c.args.types.now in
+    let mid = types_of c.loop-part.types in
+    let new = types_of c.push_lawful.new.types in
+    let ps = c.deref-part-items.result.now in
+    let items : ps ≡ c.parts.result.now = c.deref-part-items.ensures.value ∙ c.in_ok-parts.ensures.items in
+    let all : c.loop-part.part-index ≡ length ps = omega (arith, c.loop-part-test.false, c.loop-part.auto.part-index-end) in
+    let t = type_of c.in_ok-tree.tree.root in
+    let held : parts_in t ≡ map (type_at old) ps = ap parts_in c.in_ok-tree.ensures ∙ c.parts.ensures.parts ∙ ap (map (type_at old)) (sym items) in
+    let of = held_replaced s old mid ps c.loop-part.part-index t c.loop-part.copied.items all held c.loop-part.invariant.copied ∙ ap (map (type_at mid)) (sym c.deref.ensures.value) in
+    let ty : def_type mid c.in_ok-def.def ≡ replaced s t = c.in_ok-def.ensures.ty mid of in
+    last_once s old mid new (get nat_cmp c.args.copies.now) (get nat_cmp c.loop-part.copies) (get nat_cmp c.insert.new.self) c.args.place c.in_ok-copy.copy (def_type mid c.in_ok-def.def)
+    c.requires.there c.loop-part.invariant.once c.in_ok-copy.ensures.pushed (ty ∙ ap (replaced s) c.in_ok-tree.ensures) (sym c.in_default.ensures.value) c.in_ok-insert.ensures.updates.1 c.in_ok-insert.ensures.updates.2

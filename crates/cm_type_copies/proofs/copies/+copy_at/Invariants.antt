@@ -6,7 +6,7 @@ use Rattle.cm_types.specs.Limits.{depth_of}
 use Rattle.cm_type_arena.specs.Places.{funcs_of, types_of}
 use Rattle.cm_type_arena.specs.TypeDefs.{type_at}
 use Rattle.cm_replaced.specs.Replaced.{replaced}
-use Rattle.cm_type_copies.specs.Copies.{AreCopies, BeginsWith}
+use Rattle.cm_type_copies.specs.Copies.{AreCopies, BeginsWith, CopiesOnce}
 use Rattle.cm_type_copies.proofs.copies.+copy_at.Given as goal
 
 -- what a type holds is less deep than the type
@@ -19,6 +19,7 @@ invariant-loop-part g l = record {
   kept : BeginsWith (types_of l.types) (types_of l.fn.types);
   funcs : funcs_of l.types ≡ funcs_of l.fn.types;
   copies : AreCopies (g.R.Replacement.replacement l.by) (types_of l.types) (get nat_cmp l.copies);
+  once : CopiesOnce (g.R.Replacement.replacement l.by) (types_of l.fn.types) (types_of l.types) (get nat_cmp l.fn.copies) (get nat_cmp l.copies) l.place;
   there : AllByRecursion (λ p. p < length (types_of l.types)) l.copied.items;
   copied : map (type_at (types_of l.types)) l.copied.items ≡ map (λ p. replaced (g.R.Replacement.replacement l.by) (type_at (types_of l.fn.types) p)) (take l.part-index l.part-items);
 }

@@ -1,15 +1,12 @@
 use Rattle.std.proofs.Common.{◌≡◌, sym, ap, ◌∙◌}
 use Rattle.cm_types.specs.DefTypes.{func_type_tree}
-use Rattle.cm_types.specs.Types.{FuncTy}
 use Rattle.cm_type_arena.specs.Places.{funcs_of}
-use Rattle.cm_type_arena.specs.TypeDefs.{func_def_type, params_type}
-use Rattle.cm_validity.specs.Definitions.{func_type}
+use Rattle.cm_type_arena.specs.TypeDefs.{params_type}
 use Rattle.cm_validity.specs.Reasons.{least, lesser}
-use Rattle.cm_validity.specs.Scopes.{func_def_of}
 use Rattle.cm_validity.specs.TypeRules.{func_def_broken, limits_broken, params_broken}
 use Rattle.cm_type_scope.specs.Expansion.{func_or_bool}
-use Rattle.cm_type_scope.specs.TypeScopes.{arena_types, own_types}
-use Rattle.cm_type_scope.proofs.LimitLaws.{borrow_broken, func_early, func_last, func_made}
+use Rattle.cm_type_scope.specs.TypeScopes.{own_types}
+use Rattle.cm_type_scope.proofs.LimitLaws.{borrow_broken, func_early, func_last}
 use Rattle.cm_type_scope.proofs.ScopeLaws.{result_within}
 use Rattle.cm_type_scope.proofs.scope.TypeScope.define_used.Goals as goal
 
@@ -19,22 +16,14 @@ returns-in-Some-clause-fault c =
     let f = func_type_tree c.args.def.now in
     let told : c.lesser.result ≡ lesser (least (params_broken f)) (least (borrow_broken (func_or_bool (own_types s) f).result)) =
     c.lesser.ensures ∙ ap (λ v. lesser v c.borrow_fault.result) c.in_ok-twice.ensures ∙ ap (lesser (least (params_broken f))) c.borrow_fault.ensures in
-    sym (func_early (own_types s) f c.in-Some.fault c.requires.uses (result_within s.types.entries.items s.types.arena (funcs_of s.types) s.own.entries.items c.args.def.now.result) (sym told ∙ c.in-Some.is))
+    sym (func_early (own_types s) f c.in-Some.fault c.requires.uses (result_within c.what_stays.ensures.nodes c.what_stays.ensures.depth s.types.entries.items s.types.arena (funcs_of s.types) s.own.entries.items c.args.def.now.result) (sym told ∙ c.in-Some.is))
 
-pub returns-in_ok-placed-in-None-clause-fault : goal.returns-in_ok-placed-in-None-clause-fault
-returns-in_ok-placed-in-None-clause-fault c =
+pub returns-in-None-clause-fault : goal.returns-in-None-clause-fault
+returns-in-None-clause-fault c =
     let s = c.args.self.now in
     let f = func_type_tree c.args.def.now in
     let told : c.lesser.result ≡ lesser (least (params_broken f)) (least (borrow_broken (func_or_bool (own_types s) f).result)) =
     c.lesser.ensures ∙ ap (λ v. lesser v c.borrow_fault.result) c.in_ok-twice.ensures ∙ ap (lesser (least (params_broken f))) c.borrow_fault.ensures in
-    let left : least (func_def_broken (own_types s) f) ≡ least (limits_broken (params_type (func_def_type (arena_types s) c.in_ok-placed-in-None.placed))) =
-    func_last (own_types s) f c.requires.uses (result_within s.types.entries.items s.types.arena (funcs_of s.types) s.own.entries.items c.args.def.now.result) (sym told ∙ c.in-None.is)
-    ∙ ap (λ (g : FuncTy). least (limits_broken (params_type g))) (sym c.in_ok-placed-in-None.ensures.ty) in
-    rw left c.add_func.ensures.fault
-
-pub returns-in_ok-placed-in-None-clause-defined : goal.returns-in_ok-placed-in-None-clause-defined
-returns-in_ok-placed-in-None-clause-defined c =
-    let s = c.args.self.now in
-    let f = func_type_tree c.args.def.now in
-    let told : func_def_of (own_types s) f ≡ func_type (func_def_type (arena_types s) c.in_ok-placed-in-None.placed) = func_made (own_types s) f c.requires.uses ∙ ap func_type (sym c.in_ok-placed-in-None.ensures.ty) in
-    rw told c.add_func.ensures.added
+    let left : least (func_def_broken (own_types s) f) ≡ least (limits_broken (params_type (func_or_bool (own_types s) f))) =
+    func_last (own_types s) f c.requires.uses (result_within c.what_stays.ensures.nodes c.what_stays.ensures.depth s.types.entries.items s.types.arena (funcs_of s.types) s.own.entries.items c.args.def.now.result) (sym told ∙ c.in-None.is) in
+    rw left c.define_known.ensures.fault

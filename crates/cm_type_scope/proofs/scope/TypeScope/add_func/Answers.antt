@@ -1,0 +1,17 @@
+use Rattle.std.proofs.Common.{◌++◌, ◌∷◌, [], ap, ◌∙◌, List}
+use Rattle.cm_type_arena.specs.TypeDefs.{func_def_type}
+use Rattle.cm_validity.specs.Definitions.{TypeDef}
+use Rattle.cm_type_scope.specs.declared.entries.TypeEntry.TheVariants as entry
+use Rattle.cm_type_scope.specs.Entries.{def_of}
+use Rattle.cm_type_scope.specs.TypeScopes.{arena_funcs, arena_types, own_types}
+use Rattle.cm_type_scope.proofs.ScopeLaws.{func_added}
+use Rattle.cm_type_scope.proofs.scope.TypeScope.add_func.Goals as goal
+
+pub returns-clause-added : goal.returns-clause-added
+returns-clause-added c =
+    let old = c.args.self.now in
+    let new = c.push_func.new.self in
+    c.in_ok-add.ensures.added
+    ∙ ap (λ (ts : List TypeDef). ts ++ def_of (arena_types new) (arena_funcs new) (entry.Func c.at.result) ∷ []) c.push_func.ensures.own
+    ∙ ap (λ (d : TypeDef). own_types old ++ d ∷ [])
+    (func_added c.unmoved.ensures.funcs (arena_funcs old) (arena_funcs new) (func_def_type (arena_types old) c.args.def) c.at.result c.in-Ok.ensures.pushed (c.at.ensures.place ∙ c.in-Ok.ensures.place) c.at.ensures.by)
