@@ -54,6 +54,8 @@ impl PartRequests {
         ensures records { IfOk result (λ s. s.records ≡ records) }
         ensures requests { IfOk result (λ s.
             all_requests s ≡ requests_for source target records.items) }
+        ensures source { IfOk result (λ s. s.source ≡ source) }
+        ensures target { IfOk result (λ s. s.target ≡ target) }
     {
         let places = Vec::with_capacity(alloc, records.len())?;
         let regions = Vec::with_capacity(alloc, records.len())?;
@@ -125,6 +127,8 @@ impl PartRequests {
         ensures unchanged { OnErr result (self.new ≡ self.old) }
         ensures records { self.new.records ≡ self.old.records }
         ensures requests { all_requests self.new ≡ all_requests self.old }
+        ensures source { self.new.source ≡ self.old.source }
+        ensures target { self.new.target ≡ self.old.target }
     {
         let Some(part) = self.next_part() else {
             unreachable!()
@@ -150,6 +154,8 @@ impl PartRequests {
             → IsAnswered self.new (answers ++ at ∷ []) }
         ensures records { self.new.records ≡ self.old.records }
         ensures requests { all_requests self.new ≡ all_requests self.old }
+        ensures source { self.new.source ≡ self.old.source }
+        ensures target { self.new.target ≡ self.old.target }
     {
         let next = self.stage + 1;
         match request_at(part, self.source, self.target, next) {

@@ -75,6 +75,8 @@ scans_given lifts tells w target memory table after encoding way l types slots v
       tells = subst (λ rs. TellAll w target rs (call_parts way types v) (call_places w way types slots v)) (sym records_are) (tells w target way types slots v lifted.denoted);
       asks = keeps.asks ∙ ap (λ x. requests_for x target s.requests.records.items) (sym is.encoding_is);
       unanswered = keeps.unanswered;
+      source = keeps.source ∙ sym is.encoding_is;
+      goes_to = keeps.goes_to;
       handles = keeps.handles types same;
     }
 

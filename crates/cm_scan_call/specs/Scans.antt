@@ -29,12 +29,14 @@ abbrev pub scanned_with : Handles → Scanned → Hands
 scanned_with table s = record { table = table; owns = s.owns.items; lends = s.lends.items }
 
 -- What is kept of a value that was scanned: a record of each part, with the requests for them, none
--- of them answered; and its handles, each as its type has it, in reading order.
+-- of them answered, from one encoding to another; and its handles, each as its type has it, in reading order.
 pub record IsKept (w : Source) (target : StringEncoding) (limit : ℕ) (l : LayoutTy)
     (slots : List CoreValue) (v : Val) (s : Scanned) : Type 0 where
   pub records : s.requests.records.items ≡ passed_records w target limit l slots v
   pub asks : all_requests s.requests ≡ requests_for w.encoding target s.requests.records.items
   pub unanswered : IsAnswered s.requests []
+  pub source : s.requests.source ≡ w.encoding
+  pub goes_to : s.requests.target ≡ target
   pub handles : (types : Fields) → l ≡ layout_of_fields_at types
       → leaves_of s.handles.items ≡ leaves_in (tuple_of types) v
 
@@ -48,4 +50,6 @@ pub record ScansCall (w : View) (target : StringEncoding) (way : Way) (types : F
       (call_places w way types slots v)
   pub asks : all_requests s.requests ≡ requests_for w.encoding target s.requests.records.items
   pub unanswered : IsAnswered s.requests []
+  pub source : s.requests.source ≡ w.encoding
+  pub goes_to : s.requests.target ≡ target
   pub handles : leaves_of s.handles.items ≡ leaves_in (tuple_of types) v

@@ -130,6 +130,8 @@ fn ask_for(
     ensures records { IfOk result (λ s. s.records ≡ records) }
     ensures requests { IfOk result (λ s. all_requests s
         ≡ requests_for encodings.source encodings.target records.items) }
+    ensures source { IfOk result (λ s. s.source ≡ encodings.source) }
+    ensures target { IfOk result (λ s. s.target ≡ encodings.target) }
     ensures err { IfErr result (λ e. e ≡ AbiFault.EngineMemory) }
 {
     match PartRequests::new(alloc, records, encodings.source, encodings.target) {

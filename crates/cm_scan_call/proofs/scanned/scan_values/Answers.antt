@@ -51,6 +51,8 @@ returns-in-Ok-clause-ok c =
         records = records_are ∙ r.records;
         asks = kept.requests ∙ ap (requests_for c.args.encodings.source c.args.encodings.target) (sym records_are);
         unanswered = kept.answered;
+        source = kept.source;
+        goes_to = kept.target;
         handles = λ types same.
             read_leaves c.args.memory.now c.args.table.now.handles c.args.encodings.source c.args.encodings.target (way_of c.args.passed.now.way) (layout_of c.args.passed.now.layout.now) types c.args.passed.now.slots.now
             c.scan_passed.new.scan.records.items (state_of c.scan_passed.new.scan.progress) same r
