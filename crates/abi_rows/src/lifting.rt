@@ -15,8 +15,10 @@ use cm_giving::give_values;
 use cm_handles::Table;
 use cm_layout::layout_of_params;
 use cm_lift::{Lifted, Passed, lift};
-use cm_row_values::{read_encoding, read_func, read_slots, read_table, read_way};
-use cm_row_values::{write_fault, write_hands, write_table, write_values};
+use cm_row_values::{
+    read_encoding, read_func, read_slots, read_table, read_way, write_fault, write_hands,
+    write_table, write_values,
+};
 use cm_rows::{RowFault, read_bytes, split_words};
 use std::alloc::{AllocError, Global};
 
