@@ -1,5 +1,5 @@
 -- The calls of rows (CanonicalABI.md, "Lifting and Lowering Values").
-use Rattle.std.specs.Prelude.{◌≡◌, ◌<◌, ◌^◌, true, length}
+use Rattle.std.specs.Prelude.{◌≡◌, ◌<◌, ◌^◌, true, List, length}
 use Rattle.cm_types.specs.Spellable.{are_spellable}
 use Rattle.cm_types.specs.Types.{Fields}
 use Rattle.cm_layout.specs.Layouts.{layout_of}
@@ -7,6 +7,13 @@ use Rattle.cm_layout.specs.Shapes.{layout_of_fields_at}
 use Rattle.cm_abi_model.specs.Receives.{call_kinds}
 use Rattle.cm_abi_model.specs.Requests.{IsStored}
 use Rattle.cm_abi_model.specs.Ways.{way_of}
+use Rattle.cm_giving.specs.declared.leaf.HandleLeaf.{HandleLeaf}
+use Rattle.cm_handles.specs.Handles.{Handles}
+use Rattle.cm_types.specs.Values.{Val}
+use Rattle.cm_abi_model.specs.Views.{View}
+use Rattle.cm_requesting.specs.declared.part_requests.PartRequests.{PartRequests}
+use Rattle.cm_scan_call.specs.Scans.{ScansCall}
+use Rattle.cm_scan_call.specs.declared.scanned.Scanned.{Scanned}
 use Rattle.call_rows.specs.declared.call.Call.{Call}
 
 -- A call passes values of these types, which a file can spell: its layout and the kinds of its core
@@ -17,3 +24,15 @@ pub record IsOf (c : Call) (types : Fields) : Type 0 where
   pub spellable : are_spellable types ≡ true
   pub stores : IsStored c.sides.target
   pub few : length c.memory.items < 2 ^ 62
+
+-- These requests and handles are what a scan of the call kept, in a view of its giver.
+pub record IsScanned (c : Call) (types : Fields) (requests : PartRequests)
+    (handles : List HandleLeaf) : Type 0 where
+  pub giver : View
+  pub value : Val
+  pub table : Handles
+  pub scanned : Scanned
+  pub memory : giver.memory ≡ c.memory.items
+  pub scans : ScansCall giver c.sides.target (way_of c.way) types c.slots.items value table scanned
+  pub requests_are : scanned.requests ≡ requests
+  pub handles_are : scanned.handles.items ≡ handles

@@ -7,14 +7,15 @@ ghost use Rattle.call_rows.specs.Calls.{IsOf};
 
 use crate::call::{Call, write_request};
 use cm_abi::laws::one_call;
-use cm_abi::{Encodings, Lifted, Passed, Passing, Request, lift, lower, requests};
+use cm_abi::{AbiFault, Encodings, Lifted, Passed, Passing, Request, lift, lower, requests};
 use cm_handles::Table;
 use cm_row_values::{read_table, write_fault, write_hands, write_slots, write_table, write_values};
 use cm_rows::{RowFault, write_units};
+use cm_types::CoreValue;
 use std::alloc::{AllocError, Global};
 
 /// What the receiver's memory holds before the call.
-const FILL: u8 = 0xaa;
+pub const FILL: u8 = 0xaa;
 
 /// What a call passes on: the values that were lifted, with the tags of their strings.
 fn passed_on<'a>(call: &'a Call, lifted: &'a Lifted) -> Passing<'a>
@@ -110,14 +111,25 @@ fn lower_values(
     let mut received = received;
     let mut memory = Vec::from_elem(alloc, FILL, call.sides.length as usize)?;
     let to = call.sides.to;
-    match lower(
+    let lowered = lower(
         alloc,
         &mut memory,
         &mut received,
         to,
         passing,
         &call.answers,
-    ) {
+    );
+    write_received(out, lowered, &memory, &received)
+}
+
+/// Writes the core values that pass what the receiver got, or the fault, and its memory and table.
+pub fn write_received(
+    out: &mut String,
+    slots: Result<Vec<CoreValue>, AbiFault>,
+    memory: &[u8],
+    received: &Table,
+) -> Result<(), RowFault> {
+    match slots {
         Ok(slots) => {
             out.push_str(" gives")?;
             write_slots(out, &slots)?;
@@ -128,8 +140,8 @@ fn lower_values(
         }
     }
     out.push_str(" memory ")?;
-    write_units(out, &memory, 1)?;
-    Ok(write_table(out, &received)?)
+    write_units(out, memory, 1)?;
+    Ok(write_table(out, received)?)
 }
 
 /// Writes requests, each with its old pointer: where it is chained the answer to the one before.

@@ -1,5 +1,5 @@
 //! Answers rows on calls: what their giver passes is lifted, asked for and lowered as a tree, and
-//! is looked at and asked for by the records of its parts.
+//! is looked at, asked for by the records of its parts, and copied.
 //!
 //! A row is `call WAY SOURCE TARGET MEMORY TABLE LENGTH RECEIVED INSTANCE TYPE.. = SLOT.. at
 //! ANSWER..`. MEMORY in hexadecimal digits and TABLE are the giver's, whose strings are encoded as
@@ -12,7 +12,8 @@
 //! what lowering them asks for, the core values that pass them, or the fault, and the receiver's
 //! memory and table then. The second has the records of the parts, the giver's table then, what
 //! they ask for, one request after another, and the places of the parts; where an answer will not
-//! do, its fault and what is asked for again. A request is `(OLD POINTER,OLD SIZE,ALIGNMENT,SIZE)`.
+//! do, its fault and what is asked for again; else what copying them comes to, as of lowering. A
+//! request is `(OLD POINTER,OLD SIZE,ALIGNMENT,SIZE)`.
 //! A row with `scan` in the place of `call` is answered by the second half alone.
 #![tactic(auto)]
 
@@ -53,7 +54,7 @@ impl Driver for CallRows {
                     "scan" => {}
                     _ => return Err(RowFault::NotARow),
                 }
-                scanned::answer(alloc, &given, table, &mut out)?;
+                scanned::answer(alloc, &given, table, received, &mut out)?;
                 Ok(out)
             }
             _ => Err(RowFault::NotARow),
