@@ -29,7 +29,8 @@ abbrev pub scanned_with : Handles → Scanned → Hands
 scanned_with table s = record { table = table; owns = s.owns.items; lends = s.lends.items }
 
 -- What is kept of a value that was scanned: a record of each part, with the requests for them, none
--- of them answered, from one encoding to another; and its handles, each as its type has it, in reading order.
+-- of them answered, from one encoding to another; and its handles, each as its type has it, in
+-- reading order.
 pub record IsKept (w : Source) (target : StringEncoding) (limit : ℕ) (l : LayoutTy)
     (slots : List CoreValue) (v : Val) (s : Scanned) : Type 0 where
   pub records : s.requests.records.items ≡ passed_records w target limit l slots v
