@@ -4,12 +4,14 @@
 #![tactic(auto)]
 
 pub mod laws;
+mod leaves;
 mod record;
 mod scan;
 mod scanner;
 mod scanning;
 mod texts;
 
+pub use leaves::scan_char;
 pub use record::{PartKind, PartRecord};
 pub use scan::scan_value;
 pub use scanner::{Scan, Scanner};

@@ -18,12 +18,13 @@ ghost use Rattle.cm_scan.specs.Records.{payload as payload_in, records_of_fields
 ghost use Rattle.cm_scan.specs.Records.{records_of_list, records_of_payload};
 ghost use Rattle.cm_scan.specs.declared.scanner.Scan.{Scan as Scanned};
 
+use crate::leaves::scan_char;
 use crate::record::{PartKind, PartRecord};
 use crate::scanner::{Scan, Scanner};
 use crate::texts::scan_text;
 use cm_abi_model::AbiFault;
 use cm_layout::{Form, HandleType, Layout, Leaf, Part, Payload};
-use cm_lifting::{Stop, check_region, load_handle, load_leaf, number_32, number_at};
+use cm_lifting::{Stop, check_region, load_handle, number_32, number_at};
 
 /// Scans what a layout has at an address.
 #[cycle(scanning)]
@@ -91,8 +92,10 @@ fn scan_leaf(memory: &[u8], leaf: Leaf, at: usize) -> Result<(), Stop>
     ensures { (scan : Scanned) → Scans (λ v. [])
         (value_of_leaf leaf (bytes_at (size_of_leaf leaf) memory.now at)) scan scan result }
 {
-    load_leaf(memory, leaf, at)?;
-    Ok(())
+    match leaf {
+        Leaf::Char => scan_char(number_32(memory, at)),
+        Leaf::Bool | Leaf::Signed(_) | Leaf::Unsigned(_) | Leaf::Flags { .. } => Ok(()),
+    }
 }
 
 /// Scans the handle of an index; it is met, also where it is refused.

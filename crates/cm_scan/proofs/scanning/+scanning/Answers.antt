@@ -7,6 +7,7 @@ use Rattle.cm_lifting.specs.Outcomes.{Outcome, Reads, state_of}
 use Rattle.cm_lifting.specs.Reading.{read_at, read_case, source_of}
 use Rattle.cm_lifting.specs.Sized.{IsReadable}
 use Rattle.cm_scan.specs.declared.record.PartRecord.{PartRecord}
+use Rattle.cm_scan.specs.Keeping.{StopsToKeep, count_kept}
 use Rattle.cm_scan.specs.Records.{Scans, records_at, records_of_cases}
 use Rattle.cm_scan.proofs.Readable.{case_readable, parts_readable, payloads_readable, step_on}
 use Rattle.cm_scan.proofs.ScanLemmas.{case_past, case_there, each_turn}
@@ -44,19 +45,20 @@ scan_case-scan_payload-requires t c =
 
 pub scan_case-returns-in-Some : goal.scan_case-returns-in-Some
 scan_case-returns-in-Some t c =
-    subst (λ (z : Outcome (List PartRecord)). Reads (λ u. c.scan_payload.new.scan.records.items) c.scan_payload.result (state_of c.scan_payload.new.scan.progress) z)
+    subst (λ (z : Outcome (List PartRecord)). Reads (λ u. c.scan_payload.new.scan.records.items) c.scan_payload.result (state_of c.scan_payload.new.scan.progress) z × StopsToKeep c.scan_payload.result (count_kept c.args.scan.now.records.items (state_of c.args.scan.now.progress)) z)
     (sym (case_there payload_of (source_of c.args.scanner.now.giver) c.args.scanner.now.target c.args.payloads.now c.args.index (c.args.at + c.args.offset) (state_of c.args.scan.now.progress) c.in-Some.payload.now c.args.scan.now.records.items c.in-Some.ensures.lookup.3.0 c.in-Some.ensures.lookup.1))
     c.scan_payload.ensures
 
 pub scan_case-returns-in-None : goal.scan_case-returns-in-None
-scan_case-returns-in-None t c = rw (case_past payload_of (source_of c.args.scanner.now.giver) c.args.payloads.now c.args.index c.args.index (c.args.at + c.args.offset) (state_of c.args.scan.now.progress) c.in-None.ensures.lookup.3) refl
+scan_case-returns-in-None t c = rw (case_past payload_of (source_of c.args.scanner.now.giver) c.args.payloads.now c.args.index c.args.index (c.args.at + c.args.offset) (state_of c.args.scan.now.progress) c.in-None.ensures.lookup.3) (refl, tt)
 
 pub scan_each-loop-preserved : goal.scan_each-loop-preserved
 scan_each-loop-preserved t c =
     let step = ap (λ h. h.size) (sym (seen_size c.args.element.now)) in (
       step_on c.loop.next c.args.at c.loop.counter (layout_of c.args.element.now).head.size _ step c.loop.invariant.0,
-      each_turn (read_at (source_of c.args.scanner.now.giver) (layout_of c.args.element.now).shape) (records_at (source_of c.args.scanner.now.giver) c.args.scanner.now.target (layout_of c.args.element.now).shape) (layout_of c.args.element.now).head.size c.args.count c.loop.counter c.loop.next _ c.loop.scan.records.items c.scan_at.new.scan.records.items (state_of c.loop.scan.progress) (state_of c.scan_at.new.scan.progress) _ c.loop-test.true (ap (λ z. c.loop.next + z) step) c.in_ok-scan_at.ensures c.loop.invariant.1,
+      each_turn (read_at (source_of c.args.scanner.now.giver) (layout_of c.args.element.now).shape) (records_at (source_of c.args.scanner.now.giver) c.args.scanner.now.target (layout_of c.args.element.now).shape) (layout_of c.args.element.now).head.size c.args.count c.loop.counter c.loop.next _ c.loop.scan.records.items c.scan_at.new.scan.records.items (state_of c.loop.scan.progress) (state_of c.scan_at.new.scan.progress) _ c.loop-test.true (ap (λ z. c.loop.next + z) step) c.in_ok-scan_at.ensures.0 c.loop.invariant.1,
+      ?,
     )
 
 pub scan_fields-loop-part-init : goal.scan_fields-loop-part-init
-scan_fields-loop-part-init t c = (parts_readable (length c.args.scanner.now.giver.memory.now) c.args.at c.args.size 0 (parts_from (map part_of c.args.parts.now)) c.requires.within c.requires.laid c.requires.sized, refl)
+scan_fields-loop-part-init t c = (parts_readable (length c.args.scanner.now.giver.memory.now) c.args.at c.args.size 0 (parts_from (map part_of c.args.parts.now)) c.requires.within c.requires.laid c.requires.sized, refl, ?)

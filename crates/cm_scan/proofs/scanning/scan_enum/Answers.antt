@@ -4,7 +4,7 @@ use Rattle.cm_scan.proofs.ScanLemmas.{enum_kept, enum_past}
 use Rattle.cm_scan.proofs.scanning.scan_enum.Goals as goal
 
 pub returns-then-index-count : goal.returns-then-index-count
-returns-then-index-count c = λ w t p scan. enum_kept w t c.args.count c.args.index p scan.records.items (state_of scan.progress) c.if-index-count.true
+returns-then-index-count c = λ w t p scan. (enum_kept w t c.args.count c.args.index p scan.records.items (state_of scan.progress) c.if-index-count.true, tt)
 
 pub returns-else-index-count : goal.returns-else-index-count
-returns-else-index-count c = λ w t p scan. rw (enum_past w c.args.count c.args.index c.args.index p (state_of scan.progress) c.if-index-count.false) refl
+returns-else-index-count c = λ w t p scan. rw (enum_past w c.args.count c.args.index c.args.index p (state_of scan.progress) c.if-index-count.false) (refl, tt)
