@@ -27,7 +27,7 @@ use Rattle.cm_scan.specs.Keeping.{KeepsHandles, KeepsMore, StopsToKeep, WantsToK
 use Rattle.cm_layout.specs.Layouts.{part_of}
 use Rattle.cm_layout.specs.Shapes.{parts_from}
 use Rattle.cm_layout.specs.declared.layouts.Part.{Part}
-use Rattle.cm_scan.specs.Records.{records_at, records_each, records_of_fields}
+use Rattle.cm_scan.specs.Records.{element_record, held, records_at, records_each, records_of_fields, records_of_list}
 use Rattle.cm_scan.specs.declared.record.PartRecord.{PartRecord}
 use Rattle.cm_scan.proofs.Readable.{parts_next}
 
@@ -217,3 +217,23 @@ fields_want w t ps i at p n old s e total lt there le wants so_far =
     rw (parts_next ps i p lt there) (one_wants old (records_at w t (part_of p).1.shape (at + (part_of p).0)) (records_of_fields w t (part (part_of p).0 (part_of p).1.head (part_of p).1.shape rest) at) (records_of_fields w t rest at) (read_at w (part_of p).1.shape (at + (part_of p).0) s) (λ z. read_parts w rest at z) n (count_kept old s) e (λ x vs. refl)
     (λ z. keeps_parts w rest at z) le wants) in
     rw so_far at one
+
+pub elements_want : (w : Source) (t : StringEncoding) (sh : Shape) (size count i p n : ℕ) (old : List PartRecord) (s : State) (e : Stop) (total : Outcome (List PartRecord))
+    → i < count → n ≤ count_kept old s → WantsToKeep e (count_kept old s) (mapped (λ v. old ++ records_at w t sh p v) (read_at w sh p s))
+    → mapped (λ vs. old ++ records_each (records_at w t sh) size p vs) (read_each (read_at w sh) size (count - i) p s) ≡ total
+    → WantsToKeep e n total
+elements_want w t sh size count i p n old s e total lt le wants so_far =
+    each_wants (read_at w sh) (records_at w t sh) size count i p n old s e total lt le (λ q z. keeps_at w sh q z) wants so_far
+
+-- a list
+pub list_wanted : (w : Source) (t : StringEncoding) (sh : Shape) (memory : List ℕ) (e : Head) (at n : ℕ) (old : List PartRecord) (s : State)
+    → KeepsMore (count_kept old s) (mapped (λ v. old ++ records_of_list (records_at w t sh) e at n v) (mapped elements (read_elements (read_at w sh) memory e at n s)))
+list_wanted w t sh memory e at n old s =
+    record_kept old (λ v. element_record e at n) (λ v. records_each (records_at w t sh) e.size at (held v)) s _
+    (keeps_mapped elements s (read_elements (read_at w sh) memory e at n s) (keeps_elements (read_at w sh) memory e at n s (λ q z. keeps_at w sh q z)))
+
+pub le_self : (n : ℕ) → n ≤ n
+le_self n = omega arith
+
+pub grows_on : (a b c : ℕ) → a ≤ b → b ≤ c → a ≤ c
+grows_on a b c le more = omega (arith, le, more)

@@ -112,13 +112,17 @@ abbrev pub records_of_payload : Source → StringEncoding → Option LayoutTy �
 records_of_payload w target (Some l) p (Some v) = records_at w target l.shape p v
 records_of_payload w target o p v = []
 
--- a reader that makes no value came as far as one that does; where that one has a value, the records
--- of its parts follow those kept before; want of memory comes only where there is more to keep than
--- was kept before
+-- a reader that makes no value came as far as one that does, want of memory aside; where that one
+-- has a value, the records of its parts follow those kept before
 abbrev pub Scans : {X V : Type 0} → (V → List PartRecord) → (State → Outcome V) → Scan → Scan
     → Result X Stop → Type 0
 Scans R read old new result =
     Reads (λ u. new.records.items) result (state_of new.progress)
     (mapped (λ v. old.records.items ++ R v) (read (state_of old.progress)))
-    × StopsToKeep result (count_kept old.records.items (state_of old.progress))
+
+-- it stops for want of memory only where there is more to keep than was kept before
+abbrev pub ScansToKeep : {X V : Type 0} → (V → List PartRecord) → (State → Outcome V) → Scan
+    → Result X Stop → Type 0
+ScansToKeep R read old result =
+    StopsToKeep result (count_kept old.records.items (state_of old.progress))
     (mapped (λ v. old.records.items ++ R v) (read (state_of old.progress)))
