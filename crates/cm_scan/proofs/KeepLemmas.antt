@@ -1,6 +1,6 @@
 -- What is kept while values are read one after another.
-use Rattle.std.proofs.Common.{◌≡◌, ℕ, zero, suc, ◌+◌, ◌-◌, ◌*◌, ◌%◌, ◌<◌, ◌≤◌, Bool, true, false, List, [], ◌∷◌, ◌++◌, length, map, drop, get_or, Option, Some, None, Ok, Err, Result, refl, sym, ap, subst, ◌∙◌, arith}
-use Rattle.std.specs.Prelude.{⊤, not, nat_lt, ◌==◌, if◌then◌else◌}
+use Rattle.std.proofs.Common.{◌≡◌, ℕ, zero, suc, ◌+◌, ◌-◌, ◌*◌, ◌%◌, ◌<◌, ◌≤◌, Bool, true, false, List, [], ◌∷◌, ◌++◌, length, map, drop, get_or, Option, Some, None, Ok, Err, Result, refl, ap, ◌∙◌, arith}
+use Rattle.std.specs.Prelude.{not, nat_lt, ◌==◌, if◌then◌else◌}
 use Rattle.std.proofs.lemmas.List.{length-append}
 use Rattle.cm_types.specs.Values.{Val, Vals, val, bearing, elements, parts}
 use Rattle.cm_values.specs.TypedValues.{is_scalar_value}
@@ -14,7 +14,7 @@ use Rattle.cm_layout.specs.declared.layouts.HandleType.TheVariants as handle_typ
 use Rattle.cm_layout.specs.declared.layouts.Leaf.{Leaf}
 use Rattle.cm_layout.specs.declared.layouts.Leaf.TheVariants as leaf
 use Rattle.cm_layout.specs.Laid.{leaf_size}
-use Rattle.cm_layout.specs.Shapes.{LayoutTy, Shape, Parts, Payloads, leaf_shape, string_shape, list_shape, fixed_list_shape, fields_shape, cases_shape, handle_shape, no_parts, part, no_payloads, nothing, carried}
+use Rattle.cm_layout.specs.Shapes.{Shape, Parts, Payloads, leaf_shape, string_shape, list_shape, fixed_list_shape, fields_shape, cases_shape, handle_shape, no_parts, part, no_payloads, nothing, carried}
 use Rattle.cm_abi_model.specs.declared.encoding.StringEncoding.{StringEncoding}
 use Rattle.cm_abi_model.specs.Numbers.{number_at}
 use Rattle.cm_abi_model.specs.Texts.{bytes_from, charset_of, text_align, text_size}
@@ -22,7 +22,7 @@ use Rattle.cm_lifting.specs.Decoded.{decoded}
 use Rattle.cm_lifting.specs.declared.stop.Stop.{Stop}
 use Rattle.cm_lifting.specs.declared.stop.Stop.TheVariants as stop
 use Rattle.cm_lifting.specs.Outcomes.{Outcome, State, mapped, ◌>>=◌}
-use Rattle.cm_lifting.specs.Reading.{Source, after_meeting, after_text, handle_value, leaf_value, read_at, read_case, read_each, read_elements, read_handle, read_parts, read_payload, read_text, region, resource_of, text_value}
+use Rattle.cm_lifting.specs.Reading.{Source, after_meeting, after_text, handle_value, leaf_value, read_at, read_case, read_each, read_elements, read_handle, read_parts, read_text, region, resource_of, text_value}
 use Rattle.cm_scan.specs.Keeping.{KeepsHandles, KeepsMore, StopsToKeep, WantsToKeep, count_kept}
 use Rattle.cm_layout.specs.Layouts.{part_of}
 use Rattle.cm_layout.specs.Shapes.{parts_from}
@@ -237,3 +237,7 @@ le_self n = omega arith
 
 pub grows_on : (a b c : ℕ) → a ≤ b → b ≤ c → a ≤ c
 grows_on a b c le more = omega (arith, le, more)
+
+-- a stop that is passed on
+pub passed_stop : {X : Type 0} (r : Result X Stop) (e : Stop) (n : ℕ) (total : Outcome (List PartRecord)) → r ≡ Err e → WantsToKeep e n total → StopsToKeep r n total
+passed_stop r e n total is wants = rw is wants

@@ -1,17 +1,18 @@
-use Rattle.std.proofs.Common.{rules, ap, sym, refl, subst, ◌∙◌, ◌≡◌, ◌+◌, ◌<◌, List, IfSome, length, map, ℕ}
+use Rattle.std.proofs.Common.{rules, ap, sym, refl, subst, ◌∙◌, ◌≡◌, ◌+◌, ◌++◌, ◌<◌, List, IfSome, length, map, ℕ}
 use Rattle.cm_layout.specs.Layouts.{layout_of, nothings, part_of, payload_of, shape_of}
 use Rattle.cm_layout.specs.Shapes.{cases_shape, fixed_list_shape, list_shape, parts_from, payloads_from}
 use Rattle.cm_layout.specs.declared.layouts.Layout.{Layout}
 use Rattle.cm_layout.specs.declared.layouts.Form.{the_lemmas}
 use Rattle.cm_lifting.specs.Outcomes.{Outcome, Reads, state_of}
-use Rattle.cm_lifting.specs.Reading.{read_at, read_case, read_elements, source_of}
+use Rattle.cm_lifting.specs.Reading.{read_at, read_case, read_elements, read_parts, source_of}
 use Rattle.cm_lifting.specs.Sized.{IsReadable}
 use Rattle.cm_scan.specs.declared.record.PartRecord.{PartRecord}
 use Rattle.cm_scan.specs.Keeping.{StopsToKeep, count_kept}
-use Rattle.cm_scan.specs.Records.{Scans, records_at, records_of_cases}
+use Rattle.cm_types.specs.Values.{parts}
+use Rattle.cm_scan.specs.Records.{Scans, ScansToKeep, held, records_at, records_of_cases, records_of_fields}
 use Rattle.cm_scan.proofs.Readable.{case_readable, parts_readable, payloads_readable, readable_next, step_on}
-use Rattle.cm_scan.proofs.KeepLemmas.{any_stop, grows_on, keeps_at, kept_grows, le_self, list_wanted}
-use Rattle.cm_scan.proofs.ScanLemmas.{case_past, case_there, each_turn, fields_turn}
+use Rattle.cm_scan.proofs.KeepLemmas.{any_stop, elements_want, fields_want, grows_on, keeps_at, kept_grows, le_self, list_wanted, passed_stop}
+use Rattle.cm_scan.proofs.ScanLemmas.{case_past, case_there, each_turn, fields_turn, mapped_twice}
 use Rattle.cm_scan.proofs.SeenLayouts.{seen_Enum, seen_FixedList, seen_List, seen_shape, seen_size}
 use Rattle.cm_scan.proofs.scanning.+scanning.Goals as goal
 
@@ -59,8 +60,8 @@ scan_each-loop-preserved t c =
       step_on c.loop.next c.args.at c.loop.counter (layout_of c.args.element.now).head.size _ step c.loop.invariant.0,
       each_turn (read_at (source_of c.args.scanner.now.giver) (layout_of c.args.element.now).shape) (records_at (source_of c.args.scanner.now.giver) c.args.scanner.now.target (layout_of c.args.element.now).shape) (layout_of c.args.element.now).head.size c.args.count c.loop.counter c.loop.next _ c.loop.scan.records.items c.scan_at.new.scan.records.items (state_of c.loop.scan.progress) (state_of c.scan_at.new.scan.progress) _ c.loop-test.true (ap (λ z. c.loop.next + z) step) c.in_ok-scan_at.ensures.reads c.loop.invariant.1,
       grows_on (count_kept c.args.scan.now.records.items (state_of c.args.scan.now.progress)) (count_kept c.loop.scan.records.items (state_of c.loop.scan.progress)) (count_kept c.scan_at.new.scan.records.items (state_of c.scan_at.new.scan.progress)) c.loop.invariant.2
-      (kept_grows c.loop.scan.records.items c.scan_at.new.scan.records.items (records_at (source_of c.args.scanner.now.giver) c.args.scanner.now.target (layout_of c.args.element.now).shape c.loop.next) (state_of c.loop.scan.progress) (state_of c.scan_at.new.scan.progress) (read_at (source_of c.args.scanner.now.giver) (layout_of c.args.element.now).shape c.loop.next (state_of c.loop.scan.progress)) c.in_ok-scan_at.ensures.reads
-      (keeps_at (source_of c.args.scanner.now.giver) (layout_of c.args.element.now).shape c.loop.next (state_of c.loop.scan.progress))),
+          (kept_grows c.loop.scan.records.items c.scan_at.new.scan.records.items (records_at (source_of c.args.scanner.now.giver) c.args.scanner.now.target (layout_of c.args.element.now).shape c.loop.next) (state_of c.loop.scan.progress) (state_of c.scan_at.new.scan.progress) (read_at (source_of c.args.scanner.now.giver) (layout_of c.args.element.now).shape c.loop.next (state_of c.loop.scan.progress)) c.in_ok-scan_at.ensures.reads
+          (keeps_at (source_of c.args.scanner.now.giver) (layout_of c.args.element.now).shape c.loop.next (state_of c.loop.scan.progress))),
     )
 
 pub scan_fields-loop-part-init : goal.scan_fields-loop-part-init
@@ -105,3 +106,25 @@ scan_fields-loop-part-preserved t c = (
       (kept_grows c.loop-part.scan.records.items c.scan_field.new.scan.records.items (records_at (source_of c.args.scanner.now.giver) c.args.scanner.now.target (part_of c.part-item.result).1.shape (c.args.at + (part_of c.part-item.result).0)) (state_of c.loop-part.scan.progress) (state_of c.scan_field.new.scan.progress) (read_at (source_of c.args.scanner.now.giver) (part_of c.part-item.result).1.shape (c.args.at + (part_of c.part-item.result).0) (state_of c.loop-part.scan.progress)) c.in_ok-scan_field.ensures.reads
       (keeps_at (source_of c.args.scanner.now.giver) (part_of c.part-item.result).1.shape (c.args.at + (part_of c.part-item.result).0) (state_of c.loop-part.scan.progress))),
 )
+
+pub scan_at-returns-in-Enum-clause-keeps : goal.scan_at-returns-in-Enum-clause-keeps
+scan_at-returns-in-Enum-clause-keeps t c =
+    let shape_is : (layout_of c.args.layout.now).shape ≡ cases_shape c.in-Enum.discriminant c.in-Enum.discriminant (nothings c.in-Enum.count) =
+    seen_shape c.args.layout.now ∙ (ap shape_of c.in-Enum.is ∙ seen_Enum c.in-Enum.discriminant c.in-Enum.count) in
+    rw shape_is (subst (λ (i : ℕ). ScansToKeep (records_of_cases (source_of c.args.scanner.now.giver) c.args.scanner.now.target (nothings c.in-Enum.count) (c.args.at + c.in-Enum.discriminant)) (read_case (source_of c.args.scanner.now.giver) (nothings c.in-Enum.count) i i (c.args.at + c.in-Enum.discriminant)) c.args.scan.now c.scan_enum.result)
+    c.number_at.ensures.value
+    (c.scan_enum.ensures.keeps (source_of c.args.scanner.now.giver) c.args.scanner.now.target (c.args.at + c.in-Enum.discriminant) c.args.scan.now))
+
+pub scan_each-returns-in_err-scan_at-clause-keeps : goal.scan_each-returns-in_err-scan_at-clause-keeps
+scan_each-returns-in_err-scan_at-clause-keeps t c =
+    passed_stop c.from_residual.result c.in_err-scan_at.field-0.0 _ _ (search (rules))
+    (elements_want (source_of c.args.scanner.now.giver) c.args.scanner.now.target (layout_of c.args.element.now).shape (layout_of c.args.element.now).head.size c.args.count c.loop.counter c.loop.next (count_kept c.args.scan.now.records.items (state_of c.args.scan.now.progress)) c.loop.scan.records.items (state_of c.loop.scan.progress) c.in_err-scan_at.field-0.0 _ c.loop-test.true c.loop.invariant.2 c.in_err-scan_at.ensures.keeps c.loop.invariant.1)
+
+pub scan_fields-returns-in_err-scan_field-clause-keeps : goal.scan_fields-returns-in_err-scan_field-clause-keeps
+scan_fields-returns-in_err-scan_field-clause-keeps t c =
+    let n = count_kept c.args.scan.now.records.items (state_of c.args.scan.now.progress) in
+    let all = parts_from (map part_of c.args.parts.now) in
+    subst (λ (z : Outcome (List PartRecord)). StopsToKeep c.from_residual.result n z)
+    (sym (mapped_twice (λ v. c.args.scan.now.records.items ++ records_of_fields (source_of c.args.scanner.now.giver) c.args.scanner.now.target all c.args.at (held v)) (λ vs. parts vs) (read_parts (source_of c.args.scanner.now.giver) all c.args.at (state_of c.args.scan.now.progress))))
+    (passed_stop c.from_residual.result c.in_err-scan_field.field-0.0 _ _ (search (rules))
+    (fields_want (source_of c.args.scanner.now.giver) c.args.scanner.now.target c.args.parts.now c.loop-part.part-index c.args.at c.part-item.result n c.loop-part.scan.records.items (state_of c.loop-part.scan.progress) c.in_err-scan_field.field-0.0 _ c.loop-part-test.true c.part-item.is c.loop-part.invariant.2 c.in_err-scan_field.ensures.keeps c.loop-part.invariant.1))
