@@ -14,7 +14,8 @@ use cm_lifting::Stop;
 /// It stops with `BadChar` at a number that is no Unicode scalar.
 pub fn scan_char(number: u32) -> Result<(), Stop>
     ensures reads { (scan : Scan) → Scans (λ v. []) (leaf_value Leaf.Char number) scan scan result }
-    ensures keeps { (scan : Scan) → ScansToKeep (λ v. []) (leaf_value Leaf.Char number) scan result }
+    ensures keeps { (scan : Scan) → ScansToKeep (λ v. []) (leaf_value Leaf.Char number) scan
+        result }
 {
     match char::from_u32(number) {
         Some(_) => Ok(()),

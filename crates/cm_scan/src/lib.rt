@@ -15,5 +15,5 @@ pub use leaves::scan_char;
 pub use record::{PartKind, PartRecord};
 pub use scan::scan_value;
 pub use scanner::{Scan, Scanner};
-pub use scanning::scan_list;
+pub use scanning::{scan_handle, scan_list};
 pub use texts::scan_text;

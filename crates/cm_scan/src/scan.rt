@@ -33,8 +33,9 @@ use cm_lifting::laws::{numbers_are_sized, what_is_read_is_shown};
 /// handles met and the same bytes taken from those that may still come; the records of the parts of
 /// the value follow those kept before, and tell its parts, each at its place. `EngineMemory` comes
 /// where there is no memory for a record, for the tag of a string or for a handle that was met: a
-/// value that has no part and no handle is never refused for want of memory. After a fault the records are those kept before and those of
-/// the parts that were met. The handle table stays as it is.
+/// value that has no part and no handle is never refused for want of memory. After a fault the
+/// records are those kept before and those of the parts that were met. The handle table stays as it
+/// is.
 pub fn scan_value(
     scanner: &Scanner<'_>,
     layout: &Layout,

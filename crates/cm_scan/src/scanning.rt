@@ -107,7 +107,9 @@ fn scan_leaf(memory: &[u8], leaf: Leaf, at: usize) -> Result<(), Stop>
 }
 
 /// Scans the handle of an index; it is met, also where it is refused.
-fn scan_handle(
+///
+/// It stops as `cm_lifting::load_handle` does.
+pub fn scan_handle(
     scanner: &Scanner<'_>,
     wanted: HandleType,
     index: u32,

@@ -1,5 +1,6 @@
 -- What is kept while values are read one after another, from core values.
-use Rattle.std.proofs.Common.{◌≡◌, ℕ, zero, suc, ◌+◌, ◌-◌, ◌<◌, ◌≤◌, List, [], ◌∷◌, ◌++◌, length, map, drop, get_or, Ok, Err, Result, refl, sym, ap, ◌∙◌, arith}
+use Rattle.std.proofs.Common.{◌≡◌, ℕ, zero, suc, ◌+◌, ◌-◌, ◌%◌, ◌<◌, ◌≤◌, Bool, true, false, List, [], ◌∷◌, ◌++◌, length, map, drop, get_or, Ok, Err, Result, refl, sym, ap, ◌∙◌, arith, append_assoc, le-ltb}
+use Rattle.std.specs.Prelude.{not, nat_lt, ◌==◌, if◌then◌else◌}
 use Rattle.std.proofs.lemmas.List.{length-append}
 use Rattle.cm_types.specs.declared.core_value.CoreValue.{CoreValue}
 use Rattle.cm_types.specs.Values.{Val, Vals, val, bearing, elements, parts}
@@ -9,7 +10,7 @@ use Rattle.cm_layout.specs.declared.layouts.HandleType.{HandleType}
 use Rattle.cm_layout.specs.declared.layouts.Leaf.{Leaf}
 use Rattle.cm_layout.specs.declared.layouts.Part.{Part}
 use Rattle.cm_layout.specs.Layouts.{part_of}
-use Rattle.cm_layout.specs.Shapes.{Shape, Parts, Payloads, leaf_shape, string_shape, list_shape, fixed_list_shape, fields_shape, cases_shape, handle_shape, no_parts, part, no_payloads, nothing, carried, parts_from}
+use Rattle.cm_layout.specs.Shapes.{LayoutTy, Shape, Parts, Payloads, leaf_shape, string_shape, list_shape, fixed_list_shape, fields_shape, cases_shape, handle_shape, no_parts, part, no_payloads, nothing, carried, parts_from}
 use Rattle.cm_abi_model.specs.declared.encoding.StringEncoding.{StringEncoding}
 use Rattle.cm_abi_model.specs.Numbers.{wrapped_at}
 use Rattle.cm_lifting.specs.declared.stop.Stop.{Stop}
@@ -17,10 +18,11 @@ use Rattle.cm_lifting.specs.declared.stop.Stop.TheVariants as stop
 use Rattle.cm_lifting.specs.Outcomes.{Outcome, State, mapped, ◌>>=◌}
 use Rattle.cm_lifting.specs.Reading.{Source, leaf_value, read_at, read_elements, read_handle, read_text}
 use Rattle.cm_lifting.specs.Sized.{core_size}
-use Rattle.cm_lift.specs.FlatReading.{read_flat, read_flat_case, read_flat_each, read_flat_parts}
+use Rattle.cm_lift.specs.FlatReading.{read_flat, read_flat_case, read_flat_each, read_flat_parts, read_spilled}
 use Rattle.cm_scan.specs.Keeping.{KeepsHandles, KeepsMore, StopsToKeep, WantsToKeep, count_kept}
+use Rattle.cm_scan.specs.Records.{element_record, records_at}
 use Rattle.cm_scan.specs.declared.record.PartRecord.{PartRecord}
-use Rattle.cm_scan_call.specs.FlatRecords.{flat_records, flat_records_each, flat_records_of_fields}
+use Rattle.cm_scan_call.specs.FlatRecords.{flat_records, flat_records_each, flat_records_of_fields, spilled_records}
 use Rattle.cm_scan_call.proofs.FlatLemmas.{parts_next}
 
 -- ---- one thing after another
@@ -161,3 +163,30 @@ fields_want laws w t ps i n slots p old s e total lt there le wants so_far =
     rw (parts_next ps i p lt there) (one_wants old (flat_records w t (part_of p).1.shape slots) (flat_records_of_fields w t (part (part_of p).0 (part_of p).1.head (part_of p).1.shape rest) slots) (flat_records_of_fields w t rest next) (read_flat w (part_of p).1.shape slots s) (λ z. read_flat_parts w rest next z) n (count_kept old s) e (λ x vs. refl)
     (λ z. keeps_fields laws w rest next z) le wants) in
     rw so_far at one
+
+-- ---- what is behind a pointer
+
+by_test : {A : Type 0} (b : Bool) (s : State) (x y : Outcome A) → KeepsHandles s x → KeepsHandles s y → KeepsHandles s (if b then x else y)
+by_test true s x y h k = h
+by_test false s x y h k = k
+
+keeps_spilled : ((w : Source) (sh : Shape) (p : ℕ) (t : State) → KeepsHandles t (read_at w sh p t)) → (w : Source) (l : LayoutTy) (at : ℕ) (s : State) → KeepsHandles s (read_spilled w l at s)
+unfolding read_spilled
+keeps_spilled value w l at s =
+    by_test (not (at % l.head.align == 0)) s _ _ tt
+    (by_test (nat_lt (length w.memory) (at + l.head.size)) s _ _ tt (value w l.shape at s))
+
+pub spilled_wanted : ((w : Source) (sh : Shape) (p : ℕ) (t : State) → KeepsHandles t (read_at w sh p t)) → (w : Source) (target : StringEncoding) (l : LayoutTy) (at : ℕ) (old : List PartRecord) (s : State)
+    → KeepsMore (count_kept old s) (mapped (λ v. old ++ spilled_records w target l at v) (read_spilled w l at s))
+spilled_wanted value w target l at old s = record_kept old (λ v. element_record l.head at 1) (λ v. records_at w target l.shape at v) s (read_spilled w l at s) (keeps_spilled value w l at s)
+
+pub spilled_ok : (w : Source) (target : StringEncoding) (l : LayoutTy) (at : ℕ) (old pushed new : List PartRecord) (s t : State) (v : Val)
+    → at % l.head.align ≡ 0 → at + l.head.size ≤ length w.memory → pushed ≡ old ++ element_record l.head at 1 ∷ []
+    → read_at w l.shape at s ≡ Ok (v, t) → new ≡ pushed ++ records_at w target l.shape at v
+    → mapped (λ v. old ++ spilled_records w target l at v) (read_spilled w l at s) ≡ Ok (new, t)
+unfolding read_spilled
+spilled_ok w target l at old pushed new s t v aligned inside pushes reads news =
+    let even : (at % l.head.align == 0) ≡ true = ap (λ n. n == 0) aligned in
+    let whole : old ++ spilled_records w target l at v ≡ new =
+    sym (append_assoc old (element_record l.head at 1 ∷ []) (records_at w target l.shape at v)) ∙ (ap (λ rs. rs ++ records_at w target l.shape at v) (sym pushes) ∙ sym news) in
+    rw (even, le-ltb (length w.memory) (at + l.head.size) inside, reads) (ap (λ rs. answer (rs, t)) whole)

@@ -18,6 +18,7 @@ use cm_layout::laws::layouts;
 use cm_lift::{Passed, number_32};
 use cm_lifting::Stop;
 use cm_lifting::laws::numbers_are_sized;
+use cm_scan::laws::handles_stay_met;
 use cm_scan::{PartKind, PartRecord, Scan, Scanner, scan_value};
 
 /// Scans the tuple of the values that are passed.
@@ -72,6 +73,7 @@ fn scan_spilled(
         scan.old result }
 {
     numbers_are_sized();
+    handles_stay_met();
     if pointer % layout.head.align != 0 {
         return Err(Stop::Fault(AbiFault::Misaligned));
     }

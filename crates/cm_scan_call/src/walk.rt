@@ -8,8 +8,7 @@ ghost use Rattle.cm_layout.specs.Shapes.{parts_from, payloads_from};
 ghost use Rattle.cm_abi_model.specs.declared.encoding.StringEncoding.{StringEncoding as Encoded};
 ghost use Rattle.cm_abi_model.specs.Numbers.{wrapped_at as wrapped};
 ghost use Rattle.cm_lifting.specs.Outcomes.{mapped};
-ghost use Rattle.cm_lifting.specs.Reading.{Source, leaf_value as value_of_leaf, read_handle};
-ghost use Rattle.cm_lifting.specs.Reading.{source_of};
+ghost use Rattle.cm_lifting.specs.Reading.{Source, leaf_value as value_of_leaf, source_of};
 ghost use Rattle.cm_lifting.specs.Sized.{IsSizedLeaf, core_size as size_of_core};
 ghost use Rattle.cm_lift.specs.FlatReading.{ArePartsReady, ArePayloadsReady, IsReady};
 ghost use Rattle.cm_lift.specs.FlatReading.{IsReadyLayout, read_flat, read_flat_case};
@@ -21,11 +20,11 @@ ghost use Rattle.cm_scan_call.specs.FlatRecords.{flat_records_of_cases, flat_rec
 ghost use Rattle.cm_scan_call.specs.FlatRecords.{flat_records_of_payload};
 
 use cm_abi_model::AbiFault;
-use cm_layout::{Form, HandleType, Layout, Leaf, Part, Payload};
+use cm_layout::{Form, Layout, Leaf, Part, Payload};
 use cm_lift::{behind, number_32};
-use cm_lifting::{Stop, load_handle};
+use cm_lifting::Stop;
 use cm_scan::laws::handles_stay_met;
-use cm_scan::{Scan, Scanner, scan_char, scan_list, scan_text};
+use cm_scan::{Scan, Scanner, scan_char, scan_handle, scan_list, scan_text};
 use cm_types::CoreValue;
 
 /// Scans what a layout has in the first of these core values.
@@ -85,22 +84,6 @@ fn scan_leaf(leaf: Leaf, slots: &[CoreValue]) -> Result<(), Stop>
         Leaf::Char => scan_char(number_32(slots, 0)),
         Leaf::Bool | Leaf::Signed(_) | Leaf::Unsigned(_) | Leaf::Flags { .. } => Ok(()),
     }
-}
-
-/// Scans the handle of an index; it is met, also where it is refused.
-fn scan_handle(
-    scanner: &Scanner<'_>,
-    wanted: HandleType,
-    index: u32,
-    scan: &mut Scan,
-) -> Result<(), Stop>
-    ensures reads { Scans (λ v. []) (read_handle scanner.now.giver.table.now.handles wanted index)
-        scan.old scan.new result }
-    ensures keeps { ScansToKeep (λ v. []) (read_handle scanner.now.giver.table.now.handles wanted index)
-        scan.old result }
-{
-    load_handle(scanner.giver.table, wanted, index, &mut scan.progress)?;
-    Ok(())
 }
 
 /// Scans the case of this number of an enum of so many.
