@@ -1,4 +1,5 @@
 pub mod SeenLayouts
 pub mod Readable
 pub mod ScanLemmas
+pub mod KeepLemmas
 pub mod TellLaws

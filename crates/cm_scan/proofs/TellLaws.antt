@@ -1,5 +1,5 @@
 -- The records of what bytes show tell its parts.
-use Rattle.std.proofs.Common.{◌≡◌, ℕ, zero, suc, ◌+◌, ◌*◌, ◌/◌, ◌<◌, ◌≤◌, Bool, true, false, List, [], ◌∷◌, ◌++◌, length, drop, Option, Some, None, Ok, Err, refl, sym, ap, subst, ◌∙◌, arith, length-drop}
+use Rattle.std.proofs.Common.{◌≡◌, ℕ, zero, suc, ◌+◌, ◌*◌, ◌/◌, ◌<◌, ◌≤◌, Bool, true, false, List, [], ◌∷◌, ◌++◌, length, drop, Some, None, Ok, Err, refl, sym, ap, subst, ◌∙◌, arith, length-drop}
 use Rattle.std.specs.Prelude.{not, nat_lt, if◌then◌else◌}
 use Rattle.std.proofs.lemmas.List.{length-take-le}
 use Rattle.cm_types.specs.Types.{Ty, Fields, Cases, bool, signed, unsigned, char, string, list, fixed_list, fields, cases, flags, own, borrow, no_fields, field, no_cases, plain, carrying}
@@ -11,7 +11,7 @@ use Rattle.cm_abi_model.specs.declared.encoding.StringEncoding.{StringEncoding}
 use Rattle.cm_abi_model.specs.declared.encoding.StringEncoding.TheVariants as encoding
 use Rattle.cm_abi_model.specs.Numbers.{number_at}
 use Rattle.cm_abi_model.specs.Parts.{Part, text_part, element_part, parts_each, parts_in, parts_in_fields, parts_in_payload}
-use Rattle.cm_abi_model.specs.Requests.{charset, tagged_charset, text_bytes, text_units}
+use Rattle.cm_abi_model.specs.Requests.{charset, tagged_charset, text_bytes}
 use Rattle.cm_abi_model.specs.Shows.{ShowEach, ShowFields, Shows, ShowsElements, ShowsPayload}
 use Rattle.cm_abi_model.specs.Texts.{Charset, Has, ShowsText, UTF16_TAG, bytes_from, charset_of, latin1, spell, text_align, text_size, unit_size, units_of, utf16, utf8}
 use Rattle.cm_abi_model.specs.Views.{View}

@@ -1,3 +1,4 @@
+pub mod Keeping
 pub mod Records
 pub mod Places
 pub mod Telling

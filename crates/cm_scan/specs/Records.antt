@@ -20,6 +20,7 @@ use Rattle.cm_lifting.specs.TextSizes.{text_length}
 use Rattle.cm_scan.specs.declared.record.PartRecord.{PartRecord}
 use Rattle.cm_scan.specs.declared.record.PartKind.TheVariants as kind
 use Rattle.cm_scan.specs.declared.scanner.Scan.{Scan}
+use Rattle.cm_scan.specs.Keeping.{StopsToKeep, count_kept}
 
 -- a length says UTF-16 by its tag
 abbrev pub is_tagged : StringEncoding → ℕ → Bool
@@ -117,4 +118,11 @@ abbrev pub Scans : {X V : Type 0} → (V → List PartRecord) → (State → Out
     → Result X Stop → Type 0
 Scans R read old new result =
     Reads (λ u. new.records.items) result (state_of new.progress)
+    (mapped (λ v. old.records.items ++ R v) (read (state_of old.progress)))
+
+-- it stops for want of memory only where there is more to keep than was kept before
+abbrev pub ScansToKeep : {X V : Type 0} → (V → List PartRecord) → (State → Outcome V) → Scan
+    → Result X Stop → Type 0
+ScansToKeep R read old result =
+    StopsToKeep result (count_kept old.records.items (state_of old.progress))
     (mapped (λ v. old.records.items ++ R v) (read (state_of old.progress)))

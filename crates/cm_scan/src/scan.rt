@@ -9,8 +9,9 @@ ghost use Rattle.cm_layout.specs.Shapes.{layout_at};
 ghost use Rattle.cm_abi_model.specs.Parts.{parts_in};
 ghost use Rattle.cm_abi_model.specs.Shows.{Shows};
 ghost use Rattle.cm_abi_model.specs.Views.{View};
-ghost use Rattle.cm_lifting.specs.Outcomes.{state_of};
+ghost use Rattle.cm_lifting.specs.Outcomes.{mapped, state_of};
 ghost use Rattle.cm_lifting.specs.Reading.{read_at, seen_by, source_of};
+ghost use Rattle.cm_scan.specs.Keeping.{KeepsMore, count_kept};
 ghost use Rattle.cm_scan.specs.Places.{places_at};
 ghost use Rattle.cm_scan.specs.Records.{records_at};
 ghost use Rattle.cm_scan.specs.Telling.{TellAll};
@@ -31,9 +32,10 @@ use cm_lifting::laws::{numbers_are_sized, what_is_read_is_shown};
 /// It comes as far as `cm_lifting::load_value` and stops at the same first fault, with the same
 /// handles met and the same bytes taken from those that may still come; the records of the parts of
 /// the value follow those kept before, and tell its parts, each at its place. `EngineMemory` comes
-/// where there is no memory for a record, for the tag of a string or for a handle that was met: no
-/// memory is taken for anything else. After a fault the records are those kept before and those of
-/// the parts that were met. The handle table stays as it is.
+/// where there is no memory for a record, for the tag of a string or for a handle that was met: a
+/// value that has no part and no handle is never refused for want of memory. After a fault the
+/// records are those kept before and those of the parts that were met. The handle table stays as it
+/// is.
 pub fn scan_value(
     scanner: &Scanner<'_>,
     layout: &Layout,
@@ -55,6 +57,13 @@ pub fn scan_value(
         → OnOk result ((v : Val) × (rs : List Told) × Shows w t at v
         × (scan.new.records.items ≡ scan.old.records.items ++ rs)
         × TellAll w scanner.now.target rs (parts_in t v) (places_at w t at v)) }
+    ensures keeps { IfErr result (λ e. e ≡ AbiFault.EngineMemory
+        → KeepsMore (count_kept scan.old.records.items (state_of scan.old.progress))
+        (mapped (λ v. scan.old.records.items
+        ++ records_at (source_of scanner.now.giver) scanner.now.target
+        (layout_of layout.now).shape at v)
+        (read_at (source_of scanner.now.giver) (layout_of layout.now).shape at
+        (state_of scan.old.progress)))) }
     ensures err { IfErr result (λ e. (e ≡ AbiFault.EngineMemory)
         ⊎ (read_at (source_of scanner.now.giver) (layout_of layout.now).shape at
         (state_of scan.old.progress) ≡ Err (e, state_of scan.new.progress))) }

@@ -13,17 +13,19 @@ ghost use Rattle.cm_lifting.specs.Reading.{read_each, read_elements, read_handle
 ghost use Rattle.cm_lifting.specs.Reading.{read_payload, source_of};
 ghost use Rattle.cm_lifting.specs.Sized.{ArePartsSized, ArePayloadsSized, IsReadable, IsSized};
 ghost use Rattle.cm_lifting.specs.Sized.{IsSizedLeaf};
-ghost use Rattle.cm_scan.specs.Records.{Scans, held, records_at, records_each, records_of_cases};
+ghost use Rattle.cm_scan.specs.Records.{Scans, ScansToKeep, held, records_at, records_each};
+ghost use Rattle.cm_scan.specs.Records.{records_of_cases};
 ghost use Rattle.cm_scan.specs.Records.{payload as payload_in, records_of_fields};
 ghost use Rattle.cm_scan.specs.Records.{records_of_list, records_of_payload};
 ghost use Rattle.cm_scan.specs.declared.scanner.Scan.{Scan as Scanned};
 
+use crate::leaves::scan_char;
 use crate::record::{PartKind, PartRecord};
 use crate::scanner::{Scan, Scanner};
 use crate::texts::scan_text;
 use cm_abi_model::AbiFault;
 use cm_layout::{Form, HandleType, Layout, Leaf, Part, Payload};
-use cm_lifting::{Stop, check_region, load_handle, load_leaf, number_32, number_at};
+use cm_lifting::{Stop, check_region, load_handle, number_32, number_at};
 
 /// Scans what a layout has at an address.
 #[cycle(scanning)]
@@ -38,11 +40,16 @@ pub(crate) fn scan_at(
     requires within { at + (layout_of layout.now).head.size
         ≤ length scanner.now.giver.memory.now }
     requires few { length scanner.now.giver.memory.now < 2 ^ 62 }
-    ensures { Scans
+    ensures reads { Scans
         (records_at (source_of scanner.now.giver) scanner.now.target (layout_of layout.now).shape
         at)
         (read_at (source_of scanner.now.giver) (layout_of layout.now).shape at)
         scan.old scan.new result }
+    ensures keeps { ScansToKeep
+        (records_at (source_of scanner.now.giver) scanner.now.target (layout_of layout.now).shape
+        at)
+        (read_at (source_of scanner.now.giver) (layout_of layout.now).shape at)
+        scan.old result }
 {
     let memory = scanner.giver.memory;
     match &layout.form {
@@ -88,22 +95,30 @@ pub(crate) fn scan_at(
 fn scan_leaf(memory: &[u8], leaf: Leaf, at: usize) -> Result<(), Stop>
     requires laid { at + size_of_leaf leaf ≤ length memory.now }
     requires sized { IsSizedLeaf leaf }
-    ensures { (scan : Scanned) → Scans (λ v. [])
+    ensures reads { (scan : Scanned) → Scans (λ v. [])
         (value_of_leaf leaf (bytes_at (size_of_leaf leaf) memory.now at)) scan scan result }
+    ensures keeps { (scan : Scanned) → ScansToKeep (λ v. [])
+        (value_of_leaf leaf (bytes_at (size_of_leaf leaf) memory.now at)) scan result }
 {
-    load_leaf(memory, leaf, at)?;
-    Ok(())
+    match leaf {
+        Leaf::Char => scan_char(number_32(memory, at)),
+        Leaf::Bool | Leaf::Signed(_) | Leaf::Unsigned(_) | Leaf::Flags { .. } => Ok(()),
+    }
 }
 
 /// Scans the handle of an index; it is met, also where it is refused.
-fn scan_handle(
+///
+/// It stops as `cm_lifting::load_handle` does.
+pub fn scan_handle(
     scanner: &Scanner<'_>,
     wanted: HandleType,
     index: u32,
     scan: &mut Scan,
 ) -> Result<(), Stop>
-    ensures { Scans (λ v. []) (read_handle scanner.now.giver.table.now.handles wanted index)
+    ensures reads { Scans (λ v. []) (read_handle scanner.now.giver.table.now.handles wanted index)
         scan.old scan.new result }
+    ensures keeps { ScansToKeep (λ v. [])
+        (read_handle scanner.now.giver.table.now.handles wanted index) scan.old result }
 {
     load_handle(scanner.giver.table, wanted, index, &mut scan.progress)?;
     Ok(())
@@ -111,9 +126,12 @@ fn scan_handle(
 
 /// Scans the case of this number of an enum of so many.
 fn scan_enum(index: u32, count: usize) -> Result<(), Stop>
-    ensures { (w : Source) (target : Encoded) (p : ℕ) (scan : Scanned)
+    ensures reads { (w : Source) (target : Encoded) (p : ℕ) (scan : Scanned)
         → Scans (records_of_cases w target (nothings count) p)
         (read_case w (nothings count) index index p) scan scan result }
+    ensures keeps { (w : Source) (target : Encoded) (p : ℕ) (scan : Scanned)
+        → ScansToKeep (records_of_cases w target (nothings count) p)
+        (read_case w (nothings count) index index p) scan result }
 {
     if (index as usize) < count {
         Ok(())
@@ -141,7 +159,7 @@ pub fn scan_list(
     requires aligned { 0 < (layout_of element.now).head.align }
     requires sized { IsSized (layout_of element.now).shape }
     requires few { length scanner.now.giver.memory.now < 2 ^ 62 }
-    ensures { Scans
+    ensures reads { Scans
         (records_of_list
         (records_at (source_of scanner.now.giver) scanner.now.target
         (layout_of element.now).shape) (layout_of element.now).head pointer count)
@@ -150,6 +168,15 @@ pub fn scan_list(
         (read_at (source_of scanner.now.giver) (layout_of element.now).shape)
         scanner.now.giver.memory.now (layout_of element.now).head pointer count s))
         scan.old scan.new result }
+    ensures keeps { ScansToKeep
+        (records_of_list
+        (records_at (source_of scanner.now.giver) scanner.now.target
+        (layout_of element.now).shape) (layout_of element.now).head pointer count)
+        (λ s. mapped elements
+        (read_elements
+        (read_at (source_of scanner.now.giver) (layout_of element.now).shape)
+        scanner.now.giver.memory.now (layout_of element.now).head pointer count s))
+        scan.old result }
 {
     let size = u64::from(count) * u64::from(element.head.size);
     let align = element.head.align;
@@ -184,7 +211,7 @@ fn scan_fixed_list(
     requires within { at + count * (layout_of element.now).head.size
         ≤ length scanner.now.giver.memory.now }
     requires few { length scanner.now.giver.memory.now < 2 ^ 62 }
-    ensures { Scans
+    ensures reads { Scans
         (λ v. records_each
         (records_at (source_of scanner.now.giver) scanner.now.target (layout_of element.now).shape)
         (layout_of element.now).head.size at (held v))
@@ -192,6 +219,14 @@ fn scan_fixed_list(
         (read_each (read_at (source_of scanner.now.giver) (layout_of element.now).shape)
         (layout_of element.now).head.size count at s))
         scan.old scan.new result }
+    ensures keeps { ScansToKeep
+        (λ v. records_each
+        (records_at (source_of scanner.now.giver) scanner.now.target (layout_of element.now).shape)
+        (layout_of element.now).head.size at (held v))
+        (λ s. mapped values_in_place
+        (read_each (read_at (source_of scanner.now.giver) (layout_of element.now).shape)
+        (layout_of element.now).head.size count at s))
+        scan.old result }
 {
     scan_each(scanner, element, at, count, scan)
 }
@@ -210,13 +245,20 @@ fn scan_each(
     requires within { at + count * (layout_of element.now).head.size
         ≤ length scanner.now.giver.memory.now }
     requires few { length scanner.now.giver.memory.now < 2 ^ 62 }
-    ensures { Scans
+    ensures reads { Scans
         (records_each
         (records_at (source_of scanner.now.giver) scanner.now.target (layout_of element.now).shape)
         (layout_of element.now).head.size at)
         (read_each (read_at (source_of scanner.now.giver) (layout_of element.now).shape)
         (layout_of element.now).head.size count at)
         scan.old scan.new result }
+    ensures keeps { ScansToKeep
+        (records_each
+        (records_at (source_of scanner.now.giver) scanner.now.target (layout_of element.now).shape)
+        (layout_of element.now).head.size at)
+        (read_each (read_at (source_of scanner.now.giver) (layout_of element.now).shape)
+        (layout_of element.now).head.size count at)
+        scan.old result }
 {
     let mut next = at;
     for _ in 0..count {
@@ -239,12 +281,18 @@ fn scan_fields(
     requires sized { ArePartsSized (parts_from (map part_of parts.now)) }
     requires within { at + size ≤ length scanner.now.giver.memory.now }
     requires few { length scanner.now.giver.memory.now < 2 ^ 62 }
-    ensures { Scans
+    ensures reads { Scans
         (λ v. records_of_fields (source_of scanner.now.giver) scanner.now.target
         (parts_from (map part_of parts.now)) at (held v))
         (λ s. mapped values_in_place
         (read_parts (source_of scanner.now.giver) (parts_from (map part_of parts.now)) at s))
         scan.old scan.new result }
+    ensures keeps { ScansToKeep
+        (λ v. records_of_fields (source_of scanner.now.giver) scanner.now.target
+        (parts_from (map part_of parts.now)) at (held v))
+        (λ s. mapped values_in_place
+        (read_parts (source_of scanner.now.giver) (parts_from (map part_of parts.now)) at s))
+        scan.old result }
 {
     for part in parts {
         scan_field(scanner, part, at, scan)?;
@@ -260,12 +308,18 @@ fn scan_field(scanner: &Scanner<'_>, part: &Part, at: usize, scan: &mut Scan) ->
     requires within { at + (part_of part.now).0 + (part_of part.now).1.head.size
         ≤ length scanner.now.giver.memory.now }
     requires few { length scanner.now.giver.memory.now < 2 ^ 62 }
-    ensures { Scans
+    ensures reads { Scans
         (records_at (source_of scanner.now.giver) scanner.now.target (part_of part.now).1.shape
         (at + (part_of part.now).0))
         (read_at (source_of scanner.now.giver) (part_of part.now).1.shape
         (at + (part_of part.now).0))
         scan.old scan.new result }
+    ensures keeps { ScansToKeep
+        (records_at (source_of scanner.now.giver) scanner.now.target (part_of part.now).1.shape
+        (at + (part_of part.now).0))
+        (read_at (source_of scanner.now.giver) (part_of part.now).1.shape
+        (at + (part_of part.now).0))
+        scan.old result }
 {
     let at = at + part.offset as usize;
     scan_at(scanner, &part.layout, at, scan)
@@ -287,12 +341,18 @@ fn scan_case(
     requires offset { offset ≤ size }
     requires within { at + size ≤ length scanner.now.giver.memory.now }
     requires few { length scanner.now.giver.memory.now < 2 ^ 62 }
-    ensures { Scans
+    ensures reads { Scans
         (records_of_cases (source_of scanner.now.giver) scanner.now.target
         (payloads_from (map payload_of payloads.now)) (at + offset))
         (read_case (source_of scanner.now.giver) (payloads_from (map payload_of payloads.now))
         index index (at + offset))
         scan.old scan.new result }
+    ensures keeps { ScansToKeep
+        (records_of_cases (source_of scanner.now.giver) scanner.now.target
+        (payloads_from (map payload_of payloads.now)) (at + offset))
+        (read_case (source_of scanner.now.giver) (payloads_from (map payload_of payloads.now))
+        index index (at + offset))
+        scan.old result }
 {
     match payloads.get(index as usize) {
         Some(payload) => scan_payload(scanner, payload, index, at + offset as usize, scan),
@@ -312,11 +372,16 @@ fn scan_payload(
     requires readable { IfSome (payload_of payload.now)
         (IsReadable (length scanner.now.giver.memory.now) at) }
     requires few { length scanner.now.giver.memory.now < 2 ^ 62 }
-    ensures { Scans
+    ensures reads { Scans
         (λ v. records_of_payload (source_of scanner.now.giver) scanner.now.target
         (payload_of payload.now) at (payload_in v))
         (read_payload (source_of scanner.now.giver) (payload_of payload.now) index at)
         scan.old scan.new result }
+    ensures keeps { ScansToKeep
+        (λ v. records_of_payload (source_of scanner.now.giver) scanner.now.target
+        (payload_of payload.now) at (payload_in v))
+        (read_payload (source_of scanner.now.giver) (payload_of payload.now) index at)
+        scan.old result }
 {
     match payload {
         Payload::Nothing => Ok(()),

@@ -3,7 +3,7 @@
 ghost use Rattle.std.specs.Prelude.{◌≡◌, ◌∷◌, []};
 ghost use Rattle.cm_abi_model.specs.Texts.{text_align, units_of};
 ghost use Rattle.cm_lifting.specs.Reading.{read_text};
-ghost use Rattle.cm_scan.specs.Records.{Scans, is_tagged, text_record};
+ghost use Rattle.cm_scan.specs.Records.{Scans, ScansToKeep, is_tagged, text_record};
 
 use crate::record::{PartKind, PartRecord};
 use crate::scanner::{Scan, Scanner};
@@ -48,10 +48,14 @@ fn text_align(encoding: StringEncoding) -> u32
 ///
 /// It stops as `cm_lifting::load_text` does.
 pub fn scan_text(scanner: &Scanner<'_>, at: u32, tagged: u32, scan: &mut Scan) -> Result<(), Stop>
-    ensures { Scans
+    ensures reads { Scans
         (λ v. text_record scanner.now.giver.encoding scanner.now.target at tagged v ∷ [])
         (read_text scanner.now.giver.memory.now scanner.now.giver.encoding at tagged)
         scan.old scan.new result }
+    ensures keeps { ScansToKeep
+        (λ v. text_record scanner.now.giver.encoding scanner.now.target at tagged v ∷ [])
+        (read_text scanner.now.giver.memory.now scanner.now.giver.encoding at tagged)
+        scan.old result }
 {
     let size = measure_text(
         &scanner.giver,

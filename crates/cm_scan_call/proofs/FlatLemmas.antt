@@ -114,7 +114,7 @@ each_ends R P width count i slots old s total past so_far =
 
 -- ---- fields
 
-parts_next : (ps : List Part) (i : ℕ) (p : Part) → i < length ps → p ≡ get_or ps i p
+pub parts_next : (ps : List Part) (i : ℕ) (p : Part) → i < length ps → p ≡ get_or ps i p
     → parts_from (map part_of (drop i ps)) ≡ part (part_of p).0 (part_of p).1.head (part_of p).1.shape (parts_from (map part_of (drop (i + 1) ps)))
 parts_next ps i p lt is =
     let split : drop i ps ≡ p ∷ drop (i + 1) ps = rw (add-one, drop-cons ps i p lt, ← is) refl in

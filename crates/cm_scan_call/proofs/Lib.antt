@@ -1,4 +1,5 @@
 pub mod FlatLemmas
+pub mod FlatKeepLemmas
 pub mod FlatTells
 pub mod SeenLayouts
 pub mod CallLemmas

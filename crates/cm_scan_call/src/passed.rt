@@ -8,7 +8,7 @@ ghost use Rattle.cm_abi_model.specs.Views.{flat_limit};
 ghost use Rattle.cm_abi_model.specs.Ways.{way_of};
 ghost use Rattle.cm_lifting.specs.Reading.{source_of};
 ghost use Rattle.cm_lift.specs.FlatReading.{read_passed, read_spilled};
-ghost use Rattle.cm_scan.specs.Records.{Scans};
+ghost use Rattle.cm_scan.specs.Records.{Scans, ScansToKeep};
 ghost use Rattle.cm_scan_call.specs.FlatRecords.{passed_records, spilled_records};
 
 use crate::walk::scan_flat;
@@ -18,6 +18,7 @@ use cm_layout::laws::layouts;
 use cm_lift::{Passed, number_32};
 use cm_lifting::Stop;
 use cm_lifting::laws::numbers_are_sized;
+use cm_scan::laws::handles_stay_met;
 use cm_scan::{PartKind, PartRecord, Scan, Scanner, scan_value};
 
 /// Scans the tuple of the values that are passed.
@@ -28,12 +29,18 @@ pub(crate) fn scan_passed(
 ) -> Result<(), Stop>
     requires layout { (t : Ty) × (layout_of passed.now.layout.now ≡ layout_at t) }
     requires few { length scanner.now.giver.memory.now < 2 ^ 62 }
-    ensures { Scans
+    ensures reads { Scans
         (passed_records (source_of scanner.now.giver) scanner.now.target
         (flat_limit (way_of passed.now.way)) (layout_of passed.now.layout.now) passed.now.slots.now)
         (read_passed (source_of scanner.now.giver) (flat_limit (way_of passed.now.way))
         (layout_of passed.now.layout.now) passed.now.slots.now)
         scan.old scan.new result }
+    ensures keeps { ScansToKeep
+        (passed_records (source_of scanner.now.giver) scanner.now.target
+        (flat_limit (way_of passed.now.way)) (layout_of passed.now.layout.now) passed.now.slots.now)
+        (read_passed (source_of scanner.now.giver) (flat_limit (way_of passed.now.way))
+        (layout_of passed.now.layout.now) passed.now.slots.now)
+        scan.old result }
 {
     layouts();
     numbers_are_sized();
@@ -54,13 +61,19 @@ fn scan_spilled(
 ) -> Result<(), Stop>
     requires layout { (t : Ty) × (layout_of layout.now ≡ layout_at t) }
     requires few { length scanner.now.giver.memory.now < 2 ^ 62 }
-    ensures { Scans
+    ensures reads { Scans
         (spilled_records (source_of scanner.now.giver) scanner.now.target (layout_of layout.now)
         pointer)
         (read_spilled (source_of scanner.now.giver) (layout_of layout.now) pointer)
         scan.old scan.new result }
+    ensures keeps { ScansToKeep
+        (spilled_records (source_of scanner.now.giver) scanner.now.target (layout_of layout.now)
+        pointer)
+        (read_spilled (source_of scanner.now.giver) (layout_of layout.now) pointer)
+        scan.old result }
 {
     numbers_are_sized();
+    handles_stay_met();
     if pointer % layout.head.align != 0 {
         return Err(Stop::Fault(AbiFault::Misaligned));
     }

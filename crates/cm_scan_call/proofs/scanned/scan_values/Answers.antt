@@ -15,7 +15,7 @@ read : (c : goal.In-Ok) → WasRead c.args.memory.now c.args.table.now.handles c
     c.scan_passed.new.scan.records.items (state_of c.scan_passed.new.scan.progress)
 read c =
     was_read c.args.memory.now c.args.table.now.handles c.args.encodings.source c.args.encodings.target (way_of c.args.passed.now.way) (layout_of c.args.passed.now.layout.now) c.args.passed.now.slots.now
-    c.new-3.result.items c.scan_passed.new.scan.records.items _ (state_of c.scan_passed.new.scan.progress) c.new-3.ensures.items (starts_fresh c.new.result.items c.new-2.result.items c.new.ensures.items c.new-2.ensures.items) c.in-Ok.ensures
+    c.new-3.result.items c.scan_passed.new.scan.records.items _ (state_of c.scan_passed.new.scan.progress) c.new-3.ensures.items (starts_fresh c.new.result.items c.new-2.result.items c.new.ensures.items c.new-2.ensures.items) c.in-Ok.ensures.reads
 
 pub ask_for-requires : goal.ask_for-requires
 ask_for-requires c =
@@ -29,7 +29,7 @@ pub handles_of-requires : goal.handles_of-requires
 handles_of-requires c =
     let r =
     was_read c.args.memory.now c.args.table.now.handles c.args.encodings.source c.args.encodings.target (way_of c.args.passed.now.way) (layout_of c.args.passed.now.layout.now) c.args.passed.now.slots.now
-    c.new-3.result.items c.scan_passed.new.scan.records.items _ (state_of c.scan_passed.new.scan.progress) c.new-3.ensures.items (starts_fresh c.new.result.items c.new-2.result.items c.new.ensures.items c.new-2.ensures.items) c.in-Ok.ensures in
+    c.new-3.result.items c.scan_passed.new.scan.records.items _ (state_of c.scan_passed.new.scan.progress) c.new-3.ensures.items (starts_fresh c.new.result.items c.new-2.result.items c.new.ensures.items c.new-2.ensures.items) c.in-Ok.ensures.reads in
     record {
       wanted = read_wanted c.args.memory.now c.args.table.now.handles c.args.encodings.source c.args.encodings.target (way_of c.args.passed.now.way) (layout_of c.args.passed.now.layout.now) c.requires.layout.0 c.args.passed.now.slots.now
           c.scan_passed.new.scan.records.items (state_of c.scan_passed.new.scan.progress) c.requires.layout.1 r
@@ -40,7 +40,7 @@ pub returns-in-Ok-clause-ok : goal.returns-in-Ok-clause-ok
 returns-in-Ok-clause-ok c =
     let r =
     was_read c.args.memory.now c.args.table.now.handles c.args.encodings.source c.args.encodings.target (way_of c.args.passed.now.way) (layout_of c.args.passed.now.layout.now) c.args.passed.now.slots.now
-    c.new-3.result.items c.scan_passed.new.scan.records.items _ (state_of c.scan_passed.new.scan.progress) c.new-3.ensures.items (starts_fresh c.new.result.items c.new-2.result.items c.new.ensures.items c.new-2.ensures.items) c.in-Ok.ensures in
+    c.new-3.result.items c.scan_passed.new.scan.records.items _ (state_of c.scan_passed.new.scan.progress) c.new-3.ensures.items (starts_fresh c.new.result.items c.new-2.result.items c.new.ensures.items c.new-2.ensures.items) c.in-Ok.ensures.reads in
     let kept = c.in_ok-requests-in-Ok.ensures in
     let records_are = ap (λ rs. rs.items) kept.records in (
       r.v,
@@ -64,6 +64,6 @@ pub returns-clause-err : goal.returns-clause-err
 returns-clause-err c = elim c.first_fault.ensures.first [
   | inl memory ↦ inl memory
   | inr first ↦ inr (scan_stops (giver_of c.args.memory.now c.args.table.now.handles c.args.encodings.source) c.args.encodings.target c.args.table.now.handles (flat_limit (way_of c.args.passed.now.way)) (layout_of c.args.passed.now.layout.now) c.args.passed.now.slots.now
-      c.new-3.result.items _ (state_of c.scan_passed.new.scan.progress) c.deref-in-Err-Fault.result.now c.in-Err-Fault.field-0 c.in-Err-Fault.fault c.first_fault.result (starts_fresh c.new.result.items c.new-2.result.items c.new.ensures.items c.new-2.ensures.items) c.in-Err-Fault.field-0-is c.in-Err-Fault.ensures c.deref-in-Err-Fault.ensures.value
+      c.new-3.result.items _ (state_of c.scan_passed.new.scan.progress) c.deref-in-Err-Fault.result.now c.in-Err-Fault.field-0 c.in-Err-Fault.fault c.first_fault.result (starts_fresh c.new.result.items c.new-2.result.items c.new.ensures.items c.new-2.ensures.items) c.in-Err-Fault.field-0-is c.in-Err-Fault.ensures.reads c.deref-in-Err-Fault.ensures.value
       (subst (λ f. (s : State) → handed (Err (f, s)) (hand_over (untouched c.args.table.now.handles) c.deref-in-Err-Fault.result.now) ≡ Err c.first_fault.result) c.in-Err-Fault.fault-is first))
 ]

@@ -3,8 +3,8 @@ use Rattle.cm_lifting.specs.Outcomes.{state_of}
 use Rattle.cm_scan_call.proofs.FlatLemmas.{enum_kept, enum_past}
 use Rattle.cm_scan_call.proofs.walk.scan_enum.Goals as goal
 
-pub returns-then-index-count : goal.returns-then-index-count
-returns-then-index-count c = λ w t slots scan. enum_kept w t c.args.count c.args.index slots scan.records.items (state_of scan.progress) c.if-index-count.true
+pub returns-then-index-count-clause-reads : goal.returns-then-index-count-clause-reads
+returns-then-index-count-clause-reads c = λ w t slots scan. enum_kept w t c.args.count c.args.index slots scan.records.items (state_of scan.progress) c.if-index-count.true
 
-pub returns-else-index-count : goal.returns-else-index-count
-returns-else-index-count c = λ w t slots scan. rw (enum_past w c.args.count c.args.index c.args.index slots (state_of scan.progress) c.if-index-count.false) refl
+pub returns-else-index-count-clause-reads : goal.returns-else-index-count-clause-reads
+returns-else-index-count-clause-reads c = λ w t slots scan. rw (enum_past w c.args.count c.args.index c.args.index slots (state_of scan.progress) c.if-index-count.false) refl
