@@ -5,7 +5,7 @@ ghost use Rattle.std.specs.Prelude.{◌≡◌, ◌+◌, ◌*◌, ◌<◌, ◌≤
 ghost use Rattle.cm_abi_model.specs.Numbers.{wrapped_at as wrapped};
 ghost use Rattle.cm_abi_model.specs.Parts.{handle_count, handle_count_each, part_count};
 ghost use Rattle.cm_abi_model.specs.Parts.{part_count_each};
-ghost use Rattle.cm_abi_model.specs.Receives.{behind_each, put};
+ghost use Rattle.cm_abi_model.specs.Receives.{behind_each};
 ghost use Rattle.cm_abi_model.specs.Stores.{poke, store_each};
 ghost use Rattle.cm_copying.specs.Copying.{copying_of, shown_to};
 ghost use Rattle.cm_copying.specs.Ready.{AreElementsReady, AreReady, IsReady, IsSound, IsTextReady};
@@ -24,32 +24,11 @@ ghost use Rattle.cm_stored.specs.Storing.{given_of};
 ghost use Rattle.cm_types.specs.Values.{elements};
 
 use crate::numbers::leaf_number;
-use cm_copying::{Copier, copy_each as copy_elements, copy_text_bytes, size_of_part, units_stored};
+use cm_copying::{Copier, copy_each as copy_elements, copy_text_bytes, size_of_part};
 use cm_layout::{Form, Layout, Part, Payload};
 use cm_lift::number_32;
-use cm_stored::Next;
+use cm_stored::{Next, field_width, pass_handle, pass_pointer, units_stored};
 use cm_types::CoreValue;
-
-/// How many core values pass a field.
-fn field_width(part: &Part) -> usize
-    ensures { result ≡ (part_of part.now).1.head.width }
-{
-    part.layout.head.width as usize
-}
-
-/// Copies a handle: its number.
-fn copy_handle(from: &Copier<'_>, slots: &mut [u64], at: usize, next: &mut Next)
-    requires inside { at + 1 ≤ length slots.old }
-    requires ready { next.old.handle < length from.now.target.numbers.now }
-    ensures slots { slots.new
-        ≡ poke (put at (slice_index from.now.target.numbers.now next.old.handle)) slots.old }
-    ensures slots_stay { length slots.new ≡ length slots.old }
-    ensures part { next.new.part ≡ next.old.part }
-    ensures handle { next.new.handle ≡ next.old.handle + 1 }
-{
-    slots[at] = u64::from(from.target.numbers[next.handle]);
-    next.handle += 1;
-}
 
 /// Copies a string: a pointer to its place and how many units it has there, and its bytes at its
 /// place.
@@ -79,11 +58,10 @@ fn copy_text(
 {
     let pointer = number_32(given, at);
     let tagged = number_32(given, at + 1);
-    let size = size_of_part(from, next.part);
-    slots[at] = u64::from(from.target.places[next.part]);
-    slots[at + 1] = units_stored(from.target.encoding, size) as u64;
-    copy_text_bytes(from, memory, pointer, tagged, next.part);
-    next.part += 1;
+    let part = next.part;
+    let units = units_stored(from.target.encoding, size_of_part(from, part));
+    pass_pointer(&from.target, slots, at, units, next);
+    copy_text_bytes(from, memory, pointer, tagged, part);
 }
 
 /// Copies a list: a pointer to its place and how many elements it has, and these at its place.
@@ -128,19 +106,8 @@ fn copy_list(
 {
     let pointer = number_32(given, at);
     let count = number_32(given, at + 1);
-    let place = from.target.places[next.part];
-    next.part += 1;
-    slots[at] = u64::from(place);
-    slots[at + 1] = u64::from(count);
-    copy_elements(
-        from,
-        memory,
-        element,
-        count,
-        pointer as usize,
-        place as usize,
-        next,
-    );
+    let place = pass_pointer(&from.target, slots, at, count as usize, next);
+    copy_elements(from, memory, element, count, pointer as usize, place, next);
 }
 
 /// Copies what a layout has in the slots from this one on.
@@ -189,7 +156,7 @@ pub(crate) fn copy_flat(
             copy_case(from, payloads, index, given, at + 1, slots, memory, next);
         }
         Form::Enum { .. } => slots[at] = u64::from(number_32(given, at)),
-        Form::Handle(_) => copy_handle(from, slots, at, next),
+        Form::Handle(_) => pass_handle(&from.target, slots, at, next),
     }
 }
 

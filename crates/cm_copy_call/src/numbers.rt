@@ -10,6 +10,7 @@ use cm_copying::number_stored;
 use cm_layout::Leaf;
 use cm_lift::wrapped_at;
 use cm_lifting::core_size;
+use cm_stored::number_passed;
 use cm_types::CoreValue;
 
 /// The number that passes a leaf on, from the slot that passes it: what is wanted there of its
@@ -20,9 +21,5 @@ pub(crate) fn leaf_number(leaf: Leaf, given: &[CoreValue], at: usize) -> u64
         ≡ flat_number leaf (leaf_shown leaf (wrapped (size_of_core leaf) given.now at)) }
 {
     let number = number_stored(leaf, wrapped_at(given, core_size(leaf), at));
-    match leaf {
-        Leaf::Signed(8) => number,
-        Leaf::Signed(_) => number % 0x1_0000_0000,
-        _ => number,
-    }
+    number_passed(leaf, number)
 }

@@ -4,7 +4,7 @@ ghost use Rattle.std.specs.Prelude.{◌≡◌, ◌+◌, ◌*◌, ◌<◌, ◌≤
 ghost use Rattle.cm_abi_model.specs.Parts.{handle_count, handle_count_each, part_count};
 ghost use Rattle.cm_abi_model.specs.Parts.{part_count_each};
 ghost use Rattle.cm_abi_model.specs.Requests.{stored_charset, text_bytes};
-ghost use Rattle.cm_abi_model.specs.Stores.{bytes_of, place_of, placed, poke, store_each};
+ghost use Rattle.cm_abi_model.specs.Stores.{place_of, placed, poke, store_each};
 ghost use Rattle.cm_copying.specs.Copied.{copied_payload, stored_behind};
 ghost use Rattle.cm_copying.specs.Copying.{copying_of, shown_to};
 ghost use Rattle.cm_copying.specs.Ready.{AreElementsReady, AreFieldsReady, AreReady};
@@ -20,26 +20,10 @@ ghost use Rattle.cm_types.specs.Values.{elements, text};
 use crate::bulk::copy_numbers;
 use crate::copier::Copier;
 use crate::leaves::copy_leaf;
-use crate::texts::{text_of, units_stored, write_text_of};
+use crate::texts::text_of;
 use cm_layout::{Form, Layout, Part, Payload};
 use cm_lifting::{number_32, number_at};
-use cm_stored::{Next, write_number, write_pointer};
-
-/// Copies a handle: its number.
-fn copy_handle(from: &Copier<'_>, memory: &mut [u8], at: usize, next: &mut Next)
-    requires inside { at + 4 ≤ length memory.old }
-    requires ready { next.old.handle < length from.now.target.numbers.now }
-    ensures stored { memory.new
-        ≡ poke (placed at (bytes_of 4
-        (slice_index from.now.target.numbers.now next.old.handle))) memory.old }
-    ensures stays { length memory.new ≡ length memory.old }
-    ensures part { next.new.part ≡ next.old.part }
-    ensures handle { next.new.handle ≡ next.old.handle + 1 }
-{
-    let number = from.target.numbers[next.handle];
-    next.handle += 1;
-    write_number(memory, at, 4, u64::from(number));
-}
+use cm_stored::{Next, store_handle, store_pointer, units_stored, write_number, write_text_of};
 
 /// How many bytes the part of this number, from 0, takes where it is stored, by its record.
 pub fn size_of_part(from: &Copier<'_>, part: usize) -> usize
@@ -87,11 +71,10 @@ fn copy_text(
     ensures part { next.new.part ≡ next.old.part + 1 }
     ensures handle { next.new.handle ≡ next.old.handle }
 {
-    let place = from.target.places[next.part];
-    let size = size_of_part(from, next.part);
-    write_pointer(memory, at, place, units_stored(from.target.encoding, size));
-    copy_text_bytes(from, memory, pointer, tagged, next.part);
-    next.part += 1;
+    let part = next.part;
+    let units = units_stored(from.target.encoding, size_of_part(from, part));
+    store_pointer(&from.target, memory, at, units, next);
+    copy_text_bytes(from, memory, pointer, tagged, part);
 }
 
 /// Copies what a layout has at an address of the source to an address of the memory.
@@ -159,7 +142,7 @@ pub(crate) fn copy_at(
             let index = number_at(from.memory, *discriminant, source);
             write_number(memory, at, *discriminant, index);
         }
-        Form::Handle(_) => copy_handle(from, memory, at, next),
+        Form::Handle(_) => store_handle(&from.target, memory, at, next),
     }
 }
 
@@ -199,18 +182,8 @@ fn copy_list(
         (values_each (shown_to (copying_of from.now) (layout_of element.now).shape)
         (layout_of element.now).head.size count pointer) }
 {
-    let place = from.target.places[next.part];
-    next.part += 1;
-    write_pointer(memory, at, place, count as usize);
-    copy_each(
-        from,
-        memory,
-        element,
-        count,
-        pointer as usize,
-        place as usize,
-        next,
-    );
+    let place = store_pointer(&from.target, memory, at, count as usize, next);
+    copy_each(from, memory, element, count, pointer as usize, place, next);
 }
 
 /// Copies so many values of one layout, one behind the other, from an address of the source to one

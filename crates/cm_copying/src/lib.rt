@@ -14,4 +14,3 @@ pub use copier::Copier;
 pub use copies::copy_value;
 pub use copying::{copy_each, copy_text_bytes, size_of_part};
 pub use leaves::number_stored;
-pub use texts::units_stored;

@@ -6,7 +6,7 @@ use Rattle.cm_types.specs.Types.{Fields, Ty}
 use Rattle.cm_types.specs.Values.{Val, HasType}
 use Rattle.cm_layout.specs.Flattening.{flat_of_fields}
 use Rattle.cm_layout.specs.Laid.{Laid}
-use Rattle.cm_layout.specs.Shapes.{LayoutTy, Parts, fields_shape, layout_of_fields_at, parts_at, parts_from, shape_of_type}
+use Rattle.cm_layout.specs.Shapes.{LayoutTy, layout_of_fields_at, shape_of_type}
 use Rattle.cm_layout.specs.Sizes.{align_of, size_of}
 use Rattle.cm_abi_model.specs.declared.encoding.StringEncoding.{StringEncoding}
 use Rattle.cm_abi_model.specs.FlatShows.{width_of}

@@ -1,5 +1,5 @@
 -- Texts are stored as their scalars are spelled.
-use Rattle.std.proofs.Common.{◌≡◌, ℕ, ◌&&◌, true, List, [], ◌∷◌, ◌++◌, length, refl, sym, ap, subst, ◌∙◌, arith}
+use Rattle.std.proofs.Common.{◌≡◌, ℕ, ◌&&◌, true, List, [], ◌∷◌, ◌++◌, length, refl, sym, ap, subst, ◌∙◌}
 use Rattle.std.proofs.Math.Seq.{take-length}
 use Rattle.std.proofs.lemmas.Bool.{and_parts}
 use Rattle.std.proofs.lemmas.Str.{chars-encodes, encodes-chars, scalars-chars}
@@ -7,14 +7,12 @@ use Rattle.std.specs.Char.{IsScalar}
 use Rattle.std.specs.List.{AllByRecursion, flat_map}
 use Rattle.std.specs.Str.{IsUtf8, all_scalars, chars, encode_utf8_all}
 use Rattle.cm_text.specs.Fault.{IsIllFormed}
-use Rattle.cm_text.specs.Text.{IsSameText, IsText, IsTextOfSize, IsTextUpTo}
+use Rattle.cm_text.specs.Text.{IsText, IsTextOfSize, IsTextUpTo}
 use Rattle.cm_text.specs.Utf16.{spell_utf16}
 use Rattle.cm_text.specs.Utf8.{spell_utf8}
 use Rattle.cm_text.specs.Utf8Laws.{spell_utf8-encode}
 use Rattle.cm_text.specs.declared.fault.TextFault.{TextFault}
 use Rattle.cm_text.specs.declared.fault.TextFault.TheVariants as text_fault
-use Rattle.cm_abi_model.specs.Requests.{text_bytes, text_units}
-use Rattle.cm_abi_model.specs.Texts.{utf8, utf16}
 
 -- ---- a string is a text
 
@@ -49,15 +47,3 @@ size_8 bytes h = ap length (sym (spelled_chars bytes h))
 
 pub size_16 : (bytes : List ℕ) (size : ℕ) → IsTextOfSize IsScalar spell_utf8 spell_utf16 bytes size → size ≡ length (flat_map spell_utf16 (chars bytes))
 size_16 bytes size t = sym t.size_is ∙ ap (λ cs. length (flat_map spell_utf16 cs)) (same_chars t.scalars bytes t.text)
-
-pub bytes_8 : (bytes : List ℕ) → IsUtf8 bytes → text_bytes utf8 (chars bytes) ≡ bytes
-bytes_8 bytes h = spelled_chars bytes h
-
-pub units_8 : (bytes : List ℕ) → IsUtf8 bytes → length bytes ≡ text_units utf8 (chars bytes)
-units_8 bytes h = rw (sym (size_8 bytes h)) (omega arith)
-
-pub text_16 : (bytes : List ℕ) (size : ℕ) → IsUtf8 bytes → size ≡ length (text_bytes utf16 (chars bytes)) → IsTextOfSize IsScalar spell_utf8 spell_utf16 bytes size
-text_16 bytes size h is = record { scalars = chars bytes; text = text_of bytes h; size_is = sym is }
-
-pub same_16 : (bytes out : List ℕ) → IsUtf8 bytes → IsSameText IsScalar spell_utf8 spell_utf16 bytes out → out ≡ text_bytes utf16 (chars bytes)
-same_16 bytes out h is = is (chars bytes) (text_of bytes h)

@@ -26,7 +26,7 @@ pub fn write_number(memory: &mut [u8], at: usize, size: u32, number: u64)
 }
 
 /// Writes a pointer and a length.
-pub fn write_pointer(memory: &mut [u8], at: usize, pointer: u32, count: usize)
+pub(crate) fn write_pointer(memory: &mut [u8], at: usize, pointer: u32, count: usize)
     requires inside { at + 8 ≤ length memory.old }
     ensures stored { memory.new ≡ poke (pointer_bytes at pointer count) memory.old }
     ensures stays { length memory.new ≡ length memory.old }

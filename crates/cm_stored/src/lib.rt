@@ -4,11 +4,15 @@
 
 mod bytes;
 mod core_values;
+mod given;
 pub mod laws;
 mod target;
 mod texts;
 
-pub use bytes::{write_bytes, write_number, write_pointer};
+pub use bytes::{write_bytes, write_number};
 pub use core_values::put_numbers;
+pub use given::{
+    field_width, number_passed, pass_handle, pass_pointer, store_handle, store_pointer,
+};
 pub use target::{Next, Target};
-pub use texts::{stored_units, write_text, write_transcoded};
+pub use texts::{stored_units, units_stored, write_text, write_text_of};

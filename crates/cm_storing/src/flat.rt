@@ -1,6 +1,6 @@
 //! Values in core values: one walk down a layout, and what is behind pointers in memory.
 
-ghost use Rattle.std.specs.Prelude.{◌≡◌, ◌+◌, ◌*◌, ◌<◌, ◌≤◌, length, map, slice_index};
+ghost use Rattle.std.specs.Prelude.{◌≡◌, ◌+◌, ◌*◌, ◌≤◌, length, map};
 ghost use Rattle.std.specs.Str.{chars};
 ghost use Rattle.cm_layout.specs.Laid.{Laid};
 ghost use Rattle.cm_layout.specs.Layouts.{layout_of, part_of, payload_of};
@@ -9,7 +9,7 @@ ghost use Rattle.cm_types.specs.Values.{elements, text};
 ghost use Rattle.cm_values.specs.ValueTrees.{value_of, values_of};
 ghost use Rattle.cm_abi_model.specs.Parts.{handle_count, handle_count_each, part_count};
 ghost use Rattle.cm_abi_model.specs.Parts.{part_count_each};
-ghost use Rattle.cm_abi_model.specs.Receives.{behind_each, put};
+ghost use Rattle.cm_abi_model.specs.Receives.{behind_each};
 ghost use Rattle.cm_abi_model.specs.Requests.{stored_charset, text_bytes};
 ghost use Rattle.cm_abi_model.specs.Stores.{poke, store_each};
 ghost use Rattle.cm_stored.specs.Fitting.{FitEach, FitFields, Fits, FitsCase, FitsPayload};
@@ -24,29 +24,8 @@ ghost use Rattle.cm_stored.specs.Storing.{given_of};
 use crate::numbers::flat_number;
 use crate::storing::store_each;
 use cm_layout::{Form, Layout, Part, Payload};
-use cm_stored::{Next, Target, stored_units, write_text};
+use cm_stored::{Next, Target, field_width, pass_handle, pass_pointer, stored_units, write_text};
 use cm_values::Value;
-
-/// How many core values pass a field.
-fn field_width(part: &Part) -> usize
-    ensures { result ≡ (part_of part.now).1.head.width }
-{
-    part.layout.head.width as usize
-}
-
-/// Passes a handle: its number.
-fn lower_handle(to: &Target<'_>, slots: &mut [u64], at: usize, next: &mut Next)
-    requires inside { at + 1 ≤ length slots.old }
-    requires fits { next.old.handle < length to.now.numbers.now }
-    ensures slots { slots.new
-        ≡ poke (put at (slice_index to.now.numbers.now next.old.handle)) slots.old }
-    ensures slots_stay { length slots.new ≡ length slots.old }
-    ensures part { next.new.part ≡ next.old.part }
-    ensures handle { next.new.handle ≡ next.old.handle + 1 }
-{
-    slots[at] = u64::from(to.numbers[next.handle]);
-    next.handle += 1;
-}
 
 /// Passes a string: a pointer to its place and how many units it has, and its bytes at its place.
 fn lower_text(
@@ -71,11 +50,8 @@ fn lower_text(
     ensures part { next.new.part ≡ next.old.part + 1 }
     ensures handle { next.new.handle ≡ next.old.handle }
 {
-    let place = to.places[next.part];
-    next.part += 1;
-    slots[at] = u64::from(place);
-    slots[at + 1] = stored_units(to.encoding, string) as u64;
-    write_text(to.encoding, memory, place as usize, string);
+    let place = pass_pointer(to, slots, at, stored_units(to.encoding, string), next);
+    write_text(to.encoding, memory, place, string);
 }
 
 /// Passes a list: a pointer to its place and how many elements it has, and these at its place.
@@ -107,11 +83,8 @@ fn lower_list(
     ensures handle { next.new.handle
         ≡ next.old.handle + handle_count (elements (values_of values.now)) }
 {
-    let place = to.places[next.part];
-    next.part += 1;
-    slots[at] = u64::from(place);
-    slots[at + 1] = values.len() as u64;
-    store_each(to, memory, element, values, place as usize, next);
+    let place = pass_pointer(to, slots, at, values.len(), next);
+    store_each(to, memory, element, values, place, next);
 }
 
 /// Passes a value by its layout in slots from this one on.
@@ -171,7 +144,7 @@ fn lower_flat(
             }
         }
         (Form::Enum { .. }, Value::Case { index, .. }) => slots[at] = u64::from(*index),
-        (Form::Handle(_), _) => lower_handle(to, slots, at, next),
+        (Form::Handle(_), _) => pass_handle(to, slots, at, next),
         _ => {}
     }
 }

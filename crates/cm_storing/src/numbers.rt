@@ -6,6 +6,7 @@ ghost use Rattle.cm_stored.specs.FlatLowering.{flat_number};
 ghost use Rattle.cm_stored.specs.Storing.{number_in};
 
 use cm_layout::Leaf;
+use cm_stored::number_passed;
 use cm_values::Value;
 
 /// The number that a value of one number is stored as, a signed one in two's complement of 64 bits,
@@ -23,15 +24,9 @@ pub(crate) fn number_in(value: &Value) -> u64
     }
 }
 
-/// The number that a value of one number is passed as, by its leaf: one with a sign in two's
-/// complement of 32 bits, or of 64 where the leaf itself has as many.
+/// The number that a value of one number is passed as, by its leaf.
 pub(crate) fn flat_number(leaf: Leaf, value: &Value) -> u64
     ensures { result ≡ flat_number leaf (value_of value.now) }
 {
-    let number = number_in(value);
-    match leaf {
-        Leaf::Signed(8) => number,
-        Leaf::Signed(_) => number % 0x1_0000_0000,
-        _ => number,
-    }
+    number_passed(leaf, number_in(value))
 }

@@ -1,6 +1,6 @@
 //! Values in memory: one walk down a layout.
 
-ghost use Rattle.std.specs.Prelude.{◌≡◌, ◌+◌, ◌*◌, ◌<◌, ◌≤◌, length, map, slice_index};
+ghost use Rattle.std.specs.Prelude.{◌≡◌, ◌+◌, ◌*◌, ◌≤◌, length, map};
 ghost use Rattle.std.specs.Str.{chars};
 ghost use Rattle.cm_layout.specs.Laid.{Laid, PartsLaid, PayloadsLaid};
 ghost use Rattle.cm_layout.specs.Layouts.{layout_of, part_of, payload_of};
@@ -10,7 +10,7 @@ ghost use Rattle.cm_values.specs.ValueTrees.{value_of, values_of};
 ghost use Rattle.cm_abi_model.specs.Parts.{handle_count, handle_count_each, part_count};
 ghost use Rattle.cm_abi_model.specs.Parts.{part_count_each};
 ghost use Rattle.cm_abi_model.specs.Requests.{stored_charset, text_bytes};
-ghost use Rattle.cm_abi_model.specs.Stores.{bytes_of, placed, poke, store_each};
+ghost use Rattle.cm_abi_model.specs.Stores.{poke, store_each};
 ghost use Rattle.cm_stored.specs.Fitting.{FitEach, FitFields, Fits, FitsCase, FitsPayload};
 ghost use Rattle.cm_stored.specs.Fitting.{HasRoom, PayloadLies};
 ghost use Rattle.cm_stored.specs.Storing.{given_of, stored_by, stored_by_case, stored_by_fields};
@@ -18,24 +18,10 @@ ghost use Rattle.cm_stored.specs.Storing.{stored_by_payload};
 
 use crate::numbers::number_in;
 use cm_layout::{Form, Layout, Part, Payload};
-use cm_stored::{Next, Target, stored_units, write_number, write_pointer, write_text};
+use cm_stored::{
+    Next, Target, store_handle, store_pointer, stored_units, write_number, write_text,
+};
 use cm_values::Value;
-
-/// Stores a handle: its number.
-fn store_handle(to: &Target<'_>, memory: &mut [u8], at: usize, next: &mut Next)
-    requires inside { at + 4 ≤ length memory.old }
-    requires fits { next.old.handle < length to.now.numbers.now }
-    ensures stored { memory.new
-        ≡ poke (placed at (bytes_of 4 (slice_index to.now.numbers.now next.old.handle)))
-        memory.old }
-    ensures stays { length memory.new ≡ length memory.old }
-    ensures part { next.new.part ≡ next.old.part }
-    ensures handle { next.new.handle ≡ next.old.handle + 1 }
-{
-    let number = to.numbers[next.handle];
-    next.handle += 1;
-    write_number(memory, at, 4, u64::from(number));
-}
 
 /// Stores a string: a pointer to its place and how many units it has, and its bytes at its place.
 fn store_text(to: &Target<'_>, memory: &mut [u8], string: &str, at: usize, next: &mut Next)
@@ -49,10 +35,8 @@ fn store_text(to: &Target<'_>, memory: &mut [u8], string: &str, at: usize, next:
     ensures part { next.new.part ≡ next.old.part + 1 }
     ensures handle { next.new.handle ≡ next.old.handle }
 {
-    let place = to.places[next.part];
-    next.part += 1;
-    write_pointer(memory, at, place, stored_units(to.encoding, string));
-    write_text(to.encoding, memory, place as usize, string);
+    let place = store_pointer(to, memory, at, stored_units(to.encoding, string), next);
+    write_text(to.encoding, memory, place, string);
 }
 
 /// Stores a value by its layout at an address.
@@ -134,10 +118,8 @@ fn store_list(
     ensures handle { next.new.handle
         ≡ next.old.handle + handle_count (elements (values_of values.now)) }
 {
-    let place = to.places[next.part];
-    next.part += 1;
-    write_pointer(memory, at, place, values.len());
-    store_each(to, memory, element, values, place as usize, next);
+    let place = store_pointer(to, memory, at, values.len(), next);
+    store_each(to, memory, element, values, place, next);
 }
 
 /// Stores values of one layout, one behind the other.

@@ -8,4 +8,4 @@ use Rattle.cm_copy_call.proofs.flat.copy_list.Goals as goal
 pub returns-clause-slots : goal.returns-clause-slots
 returns-clause-slots c =
     let counted = each_counted (shown_to (copying_of c.args.from.now) (layout_of c.args.element.now).shape) (layout_of c.args.element.now).head.size (wrapped_at 4 c.args.given.now (c.args.at + 1)) (wrapped_at 4 c.args.given.now c.args.at) in
-    rw (c.from.ensures, c.from-2.ensures, c.number_32-count.ensures, counted) refl
+    rw (c.pass_pointer-place.ensures.slots, c.number_32-count.ensures, counted) refl

@@ -11,6 +11,6 @@ returns-clause-stored c =
     let place = place_of (given_of c.args.from.now.target) c.args.next.now.part in
     let charset = stored_charset c.args.from.now.target.encoding in
     let scalars = scalars_at c.args.from.now.memory.now c.args.from.now.encoding c.args.pointer c.args.tagged in
-    let units = c.units_stored.ensures scalars (c.size_of_part-size.ensures ∙ c.requires.ready.size) in
-    c.copy_text_bytes.ensures.stored ∙ (ap (λ m. poke (placed place (text_bytes charset scalars)) m) (c.write_pointer.ensures.stored ∙ ap (λ n. poke (pointer_bytes c.args.at place n) c.args.memory.now) units)
+    let units = c.units_stored-units.ensures scalars (c.size_of_part.ensures ∙ c.requires.ready.size) in
+    c.copy_text_bytes.ensures.stored ∙ (ap (λ m. poke (placed place (text_bytes charset scalars)) m) (c.store_pointer.ensures.stored ∙ ap (λ n. poke (pointer_bytes c.args.at place n) c.args.memory.now) units)
     ∙ sym (poke_both (pointer_bytes c.args.at place (text_units charset scalars)) (placed place (text_bytes charset scalars)) c.args.memory.now))

@@ -118,8 +118,10 @@ store_list-store_each-requires t c =
     let same = count_values c.args.values.now in
     let room : place_of (given_of c.args.to.now) c.args.next.now.part + count_of (values_of c.args.values.now) * (layout_of c.args.element.now).head.size ≤ length c.args.memory.now = c.requires.fits.0.1 in
     let one = c.requires.laid in
-    let inside : place_of (given_of c.args.to.now) c.args.next.now.part + length c.args.values.now * (layout_of c.args.element.now).head.size ≤ length c.write_pointer.new.memory = rw (c.write_pointer.ensures.stays, sym same) room in
-    let each : FitEach (Fits (length c.write_pointer.new.memory) (given_of c.args.to.now) (layout_of c.args.element.now).shape) (values_of c.args.values.now) (c.args.next.now.part + 1) c.args.next.now.handle = rw c.write_pointer.ensures.stays c.requires.fits.1 in
+    let inside : c.store_pointer-place.result + length c.args.values.now * (layout_of c.args.element.now).head.size ≤ length c.store_pointer-place.new.memory =
+    rw (c.store_pointer-place.ensures.place, c.store_pointer-place.ensures.stays, sym same) room in
+    let each : FitEach (Fits (length c.store_pointer-place.new.memory) (given_of c.args.to.now) (layout_of c.args.element.now).shape) (values_of c.args.values.now) c.store_pointer-place.new.next.part c.store_pointer-place.new.next.handle =
+    rw (c.store_pointer-place.ensures.stays, c.store_pointer-place.ensures.part, c.store_pointer-place.ensures.handle) c.requires.fits.1 in
     (search (rules, the_lemmas), search (rules, the_lemmas, inside, each, one))
 
 pub store_fields-store_field-requires : goal.store_fields-store_field-requires

@@ -10,5 +10,5 @@ pub returns-clause-stored : goal.returns-clause-stored
 returns-clause-stored c =
     let place = place_of (given_of c.args.to.now) c.args.next.now.part in
     let charset = stored_charset c.args.to.now.encoding in
-    rw (c.write_text.ensures.stored, c.write_pointer.ensures.stored, c.stored_units.ensures)
+    rw (c.write_text.ensures.stored, c.store_pointer-place.ensures.place, c.store_pointer-place.ensures.stored, c.stored_units.ensures)
     (sym (poke_both (pointer_bytes c.args.at place (text_units charset (chars c.args.string.now))) (placed place (text_bytes charset (chars c.args.string.now))) c.args.memory.now))

@@ -1,7 +1,7 @@
 use Rattle.std.proofs.Common.{inl, inr}
 use Rattle.cm_abi_model.specs.Texts.{Has, spell, utf8, utf16}
 use Rattle.cm_text.specs.Text.{IsTextOfSize}
-use Rattle.cm_copying.proofs.texts.write_utf8.Goals as goal
+use Rattle.cm_stored.proofs.texts.write_utf8.Goals as goal
 
 pub write_transcoded-requires : goal.write_transcoded-requires
 write_transcoded-requires c =

@@ -1,5 +1,5 @@
 use Rattle.std.proofs.Common.{inl, inr}
-use Rattle.cm_copying.proofs.texts.write_latin1.Goals as goal
+use Rattle.cm_stored.proofs.texts.write_latin1.Goals as goal
 
 pub returns-in-Utf8-clause-stored : goal.returns-in-Utf8-clause-stored
 returns-in-Utf8-clause-stored c = rw c.in-Utf8.is c.write_transcoded.ensures.stored
