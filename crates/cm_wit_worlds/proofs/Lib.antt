@@ -1,2 +1,3 @@
 mod ListLaws
+mod NamedLaws
 mod OrderLaws
