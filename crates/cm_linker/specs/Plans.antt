@@ -5,7 +5,7 @@ use Rattle.cm_candidates.specs.Fitting.{NamedExport, candidates}
 use Rattle.cm_match.specs.declared.fault.LinkFault.{LinkFault}
 use Rattle.cm_match.specs.declared.fault.LinkReason.{LinkReason}
 use Rattle.cm_match.specs.declared.fault.LinkReason.TheVariants as reason
-use Rattle.cm_linker.specs.declared.plan.Line.{Line}
+use Rattle.cm_linker.specs.declared.lines.Line.{Line}
 use Rattle.cm_linker.specs.Names.{Names, exports_from}
 
 -- the fault at an import

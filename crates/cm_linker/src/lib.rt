@@ -1,8 +1,8 @@
 //! Linking of components of every form.
 #![tactic(auto)]
 
+mod lines;
 mod names;
-mod plan;
 
+pub use lines::{Line, plan};
 pub use names::Named;
-pub use plan::{Line, plan};

@@ -23,7 +23,7 @@ pub struct Line {
     pub export: usize,
 }
 
-fn fault(component: usize, import: usize, reason: LinkReason) -> LinkFault
+fn fault_at(component: usize, import: usize, reason: LinkReason) -> LinkFault
     ensures { result ≡ fault_at component import reason }
 {
     LinkFault {
@@ -33,8 +33,8 @@ fn fault(component: usize, import: usize, reason: LinkReason) -> LinkFault
     }
 }
 
-/// The line of an import of this name.
-fn line(
+/// The line of an import of this name, or why there is none.
+fn line_to(
     alloc: Global,
     exports: &Exports,
     importer: usize,
@@ -46,9 +46,9 @@ fn line(
         ⊎ (result ≡ line_of importer import (candidates before name.now)) }
 {
     match exports.candidate(alloc, name) {
-        Err(AllocError) => Err(fault(importer, import, LinkReason::Memory)),
-        Ok(Candidate::None) => Err(fault(importer, import, LinkReason::NoProvider)),
-        Ok(Candidate::Several) => Err(fault(importer, import, LinkReason::TwoProviders)),
+        Err(AllocError) => Err(fault_at(importer, import, LinkReason::Memory)),
+        Ok(Candidate::None) => Err(fault_at(importer, import, LinkReason::NoProvider)),
+        Ok(Candidate::Several) => Err(fault_at(importer, import, LinkReason::TwoProviders)),
         Ok(Candidate::One { component, export }) => Ok(Line {
             importer,
             import,
@@ -74,15 +74,19 @@ fn add_lines<C: Named>(
         ⊎ (lines_from importer before 0 (C.names component.now).imports ≡ Err f)) }
 {
     for number in 0..component.import_count() {
-        let line = line(
+        match line_to(
             alloc,
             exports,
             importer,
             number,
             component.import_name(number),
-        )?;
-        if plan.push(line).is_err() {
-            return Err(fault(importer, number, LinkReason::Memory));
+        ) {
+            Ok(line) => {
+                if plan.push(line).is_err() {
+                    return Err(fault_at(importer, number, LinkReason::Memory));
+                }
+            }
+            Err(fault) => return Err(fault),
         }
     }
     Ok(())
@@ -118,9 +122,11 @@ pub fn plan<C: Named>(alloc: Global, components: &[C]) -> Result<Vec<Line>, Link
     let mut exports = Exports::new(alloc);
     let mut plan = Vec::new(alloc);
     for (at, component) in components.iter().enumerate() {
-        add_lines(alloc, &exports, at, component, &mut plan)?;
+        if let Err(fault) = add_lines(alloc, &exports, at, component, &mut plan) {
+            return Err(fault);
+        }
         if add_exports(&mut exports, at, component).is_err() {
-            return Err(fault(at, component.import_count(), LinkReason::Memory));
+            return Err(fault_at(at, component.import_count(), LinkReason::Memory));
         }
     }
     Ok(plan)
