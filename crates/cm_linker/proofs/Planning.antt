@@ -1,6 +1,6 @@
 -- How a plan grows.
 use Rattle.std.proofs.Common.{◌≡◌, ℕ, ◌+◌, ◌<◌, List, [], ◌∷◌, ◌++◌, Some, length, get_or, drop, map, slice_get, refl, sym, ap, ◌∙◌, append_assoc, append-nil, add-one, drop-cons}
-use Rattle.std.specs.Prelude.{Result, Ok, Err, is_ok, is_err, if◌then◌else◌, false}
+use Rattle.std.specs.Prelude.{Result, Ok, Err, OnOk, is_ok, is_err, if◌then◌else◌, false}
 use Rattle.cm_candidates.specs.Fitting.{NamedExport, candidates}
 use Rattle.cm_match.specs.declared.fault.LinkFault.{LinkFault}
 use Rattle.cm_linker.specs.declared.lines.Line.{Line}
@@ -75,3 +75,8 @@ pub no_component : {A : Type 0} (names : A → Names) (at : ℕ) (before : List 
 no_component names at before cs c old f all lt is fails so_far =
     sym so_far
     ∙ ap (behind old) (component_here names at before cs c lt is ∙ ap (λ r. and_then r (plan_from (at + 1) (before ++ exports_from at 0 (names c).exports) (map names (drop (at + 1) cs)))) fails)
+
+-- what a call promises where it was no error
+pub promised : {A E : Type 0} (r : Result A E) (P : Type 0) → OnOk r P → is_err r ≡ false → P
+promised (Ok u) P h f = h
+promised (Err y) P h f = absurd cc
