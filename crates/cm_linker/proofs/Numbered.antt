@@ -1,5 +1,5 @@
 -- Names by their numbers.
-use Rattle.std.proofs.Common.{◌≡◌, ℕ, ◌+◌, ◌<◌, List, [], ◌∷◌, ◌++◌, Some, length, get_or, drop, take, slice_get, refl, sym, ap, ◌∙◌, append_assoc, add-one, drop-cons, arith, subst, length-take}
+use Rattle.std.proofs.Common.{◌≡◌, ℕ, ◌+◌, ◌<◌, List, [], ◌∷◌, ◌++◌, Some, length, get_or, drop, take, slice_get, refl, sym, ap, ◌∙◌, append_assoc, add-one, drop-cons, arith, length-take}
 use Rattle.std.proofs.lemmas.List.{take_more}
 use Rattle.std.proofs.lemmas.Option.{get_or_from_slice_get, slice_get_within}
 use Rattle.cm_candidates.specs.Fitting.{NamedExport, named_export}

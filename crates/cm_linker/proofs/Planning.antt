@@ -1,5 +1,5 @@
 -- How a plan grows.
-use Rattle.std.proofs.Common.{◌≡◌, ℕ, ◌+◌, ◌<◌, List, [], ◌∷◌, ◌++◌, Some, length, get_or, drop, map, slice_get, refl, sym, ap, ◌∙◌, append_assoc, append-nil, add-one, drop-cons}
+use Rattle.std.proofs.Common.{◌≡◌, ℕ, ◌+◌, ◌<◌, List, [], ◌∷◌, ◌++◌, Some, length, get_or, drop, map, slice_get, refl, sym, ap, ◌∙◌, append_assoc, add-one, drop-cons}
 use Rattle.std.specs.Prelude.{Result, Ok, Err, OnOk, is_ok, is_err, if◌then◌else◌, false}
 use Rattle.cm_candidates.specs.Fitting.{NamedExport, candidates}
 use Rattle.cm_match.specs.declared.fault.LinkFault.{LinkFault}

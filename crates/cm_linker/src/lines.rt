@@ -1,6 +1,7 @@
 //! Which export each import is linked to, by its name.
 
-ghost use Rattle.std.specs.Prelude.{◌≡◌, ◌⊎◌, List, [], ◌++◌, length, map, IfErr, IfOk, OnOk, Ok, Err};
+ghost use Rattle.std.specs.Prelude.{◌≡◌, ◌⊎◌, List, [], ◌++◌, length};
+ghost use Rattle.std.specs.Prelude.{map, IfErr, IfOk, OnOk, Ok, Err};
 ghost use Rattle.cm_candidates.specs.Fitting.{NamedExport, candidates};
 ghost use Rattle.cm_candidates.specs.Tables.{HasExports};
 ghost use Rattle.cm_match.specs.declared.fault.LinkReason.TheVariants as reason;
