@@ -3,3 +3,4 @@ pub mod FlatKeepLemmas
 pub mod FlatTells
 pub mod SeenLayouts
 pub mod CallLemmas
+pub mod NothingLaws

@@ -1,5 +1,5 @@
 -- Scanning what a call passes (CanonicalABI.md, "Lifting and Lowering Values").
-use Rattle.std.specs.Prelude.{◌≡◌, ℕ, Bool, List, []}
+use Rattle.std.specs.Prelude.{◌≡◌, ℕ, Bool, List, [], Ok}
 use Rattle.cm_types.specs.declared.core_value.CoreValue.{CoreValue}
 use Rattle.cm_types.specs.Types.{Fields}
 use Rattle.cm_types.specs.Values.{Val}
@@ -9,9 +9,11 @@ use Rattle.cm_layout.specs.Shapes.{LayoutTy, layout_of_fields_at}
 use Rattle.cm_abi_model.specs.Receives.{leaves_in}
 use Rattle.cm_abi_model.specs.Requests.{call_parts, tuple_of}
 use Rattle.cm_abi_model.specs.Views.{View, Way}
+use Rattle.cm_lifting.specs.Outcomes.{State}
 use Rattle.cm_lifting.specs.Reading.{Source}
 use Rattle.cm_lift.specs.HandingOver.{Hands}
-use Rattle.cm_lift.specs.Lifts.{Lifts}
+use Rattle.cm_lift.specs.FlatReading.{read_passed}
+use Rattle.cm_lift.specs.Lifts.{Lifts, fresh}
 use Rattle.cm_giving.specs.Leaves.{leaves_of}
 use Rattle.cm_scan.specs.Telling.{TellAll}
 use Rattle.cm_requesting.specs.Asking.{IsAnswered, all_requests}
@@ -54,3 +56,13 @@ pub record ScansCall (w : View) (target : StringEncoding) (way : Way) (types : F
   pub source : s.requests.source ≡ w.encoding
   pub goes_to : s.requests.target ≡ target
   pub handles : leaves_of s.handles.items ≡ leaves_in (tuple_of types) v
+
+-- Nothing is to be kept of what core values pass: a value is read, it has no part, and no handle is
+-- met.
+pub record KeepsNothing (w : Source) (target : StringEncoding) (limit : ℕ) (l : LayoutTy)
+    (slots : List CoreValue) : Type 0 where
+  pub v : Val
+  pub after : State
+  pub read : read_passed w limit l slots fresh ≡ Ok (v, after)
+  pub parts : passed_records w target limit l slots v ≡ []
+  pub handles : after.handles ≡ []

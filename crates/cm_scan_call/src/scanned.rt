@@ -1,6 +1,6 @@
 //! Values that core values denote, with no tree made of them.
 
-ghost use Rattle.std.specs.Prelude.{◌≡◌, ◌^◌, ◌<◌, ◌⊎◌, [], Err, IfErr, IfOk, IsOkUnless, Ok};
+ghost use Rattle.std.specs.Prelude.{◌≡◌, ◌^◌, ◌<◌, ◌⊎◌, [], Err, IfErr, IfOk, IsOk, IsOkUnless, Ok};
 ghost use Rattle.std.specs.Prelude.{Bool, List, OnErr, length};
 ghost use Rattle.cm_types.specs.Types.{Fields};
 ghost use Rattle.cm_types.specs.Values.{Val};
@@ -17,7 +17,8 @@ ghost use Rattle.cm_giving.specs.Leaves.{leaves_of};
 ghost use Rattle.cm_met_handles.specs.MetLeaves.{leaves_found};
 ghost use Rattle.cm_requesting.specs.Asking.{IsAnswered, all_requests};
 ghost use Rattle.cm_requesting.specs.RecordRequests.{AreAskable, requests_for};
-ghost use Rattle.cm_scan_call.specs.Scans.{IsKept, ScansCall, giver_of, scanned_with};
+ghost use Rattle.cm_scan_call.specs.Scans.{IsKept, KeepsNothing, ScansCall, giver_of};
+ghost use Rattle.cm_scan_call.specs.Scans.{scanned_with};
 
 use crate::laws::records_tell_what_is_passed;
 use crate::passed::scan_passed;
@@ -72,7 +73,8 @@ pub struct Encodings {
 /// and else answers the same first fault, with the table as it was. The caller gives a table whose
 /// handles are lent fewer than 2^100 times. The records tell the parts of the values, each at its
 /// place, and can be asked for; the handles are told as the values have them. Memory is taken for
-/// parts, tags of strings and handles alone; `EngineMemory` comes where there is none for them.
+/// parts, tags of strings and handles alone; `EngineMemory` comes where there is none for them, and
+/// values that have no part and no handle are never refused for it.
 pub fn scan(
     alloc: Global,
     memory: &[u8],
@@ -94,6 +96,9 @@ pub fn scan(
     ensures err { IfErr result (λ e. (e ≡ AbiFault.EngineMemory)
         ⊎ (lift_of memory.now table.old.handles encodings.source (way_of passed.now.way)
         (layout_of passed.now.layout.now) passed.now.slots.now ≡ Err e)) }
+    ensures nothing { KeepsNothing (giver_of memory.now table.old.handles encodings.source)
+        encodings.target (flat_limit (way_of passed.now.way)) (layout_of passed.now.layout.now)
+        passed.now.slots.now → IsOk result }
     ensures scans { (w : View) (types : Fields)
         → IsGivenBy w memory.now table.old.handles encodings.source
         → layout_of passed.now.layout.now ≡ layout_of_fields_at types
@@ -127,6 +132,7 @@ fn ask_for(
 ) -> Result<PartRequests, AbiFault>
     requires askable { AreAskable records.items }
     ensures answered { IfOk result (λ s. IsAnswered s []) }
+    ensures none { records.items ≡ [] → IsOk result }
     ensures records { IfOk result (λ s. s.records ≡ records) }
     ensures requests { IfOk result (λ s. all_requests s
         ≡ requests_for encodings.source encodings.target records.items) }
@@ -145,6 +151,7 @@ fn handles_of(alloc: Global, table: &Table, met: &[MetHandle]) -> Result<Vec<Han
     requires wanted { AreAsWanted table.now.handles met.now }
     ensures leaves { IfOk result (λ ls.
         leaves_of ls.items ≡ leaves_found table.now.handles met.now) }
+    ensures none { met.now ≡ [] → IsOk result }
     ensures err { IfErr result (λ e. e ≡ AbiFault.EngineMemory) }
 {
     match handles_met(alloc, table, met) {
@@ -175,6 +182,9 @@ fn scan_values(
     ensures err { IfErr result (λ e. (e ≡ AbiFault.EngineMemory)
         ⊎ (lift_of memory.now table.old.handles encodings.source (way_of passed.now.way)
         (layout_of passed.now.layout.now) passed.now.slots.now ≡ Err e)) }
+    ensures nothing { KeepsNothing (giver_of memory.now table.old.handles encodings.source)
+        encodings.target (flat_limit (way_of passed.now.way)) (layout_of passed.now.layout.now)
+        passed.now.slots.now → IsOk result }
     ensures unchanged { OnErr result (table.new ≡ table.old) }
 {
     what_is_passed_is_met();

@@ -8,6 +8,7 @@ use Rattle.cm_lifting.specs.Outcomes.{State, state_of}
 use Rattle.cm_requesting.specs.RecordRequests.{requests_for}
 use Rattle.cm_scan_call.specs.Scans.{giver_of}
 use Rattle.cm_scan_call.proofs.CallLemmas.{WasRead, read_askable, read_leaves, read_lifts, read_wanted, scan_stops, starts_fresh, was_read}
+use Rattle.cm_scan_call.proofs.NothingLaws.{none_wants}
 use Rattle.cm_scan_call.proofs.scanned.scan_values.Goals as goal
 
 -- what was read
@@ -67,3 +68,6 @@ returns-clause-err c = elim c.first_fault.ensures.first [
       c.new-3.result.items _ (state_of c.scan_passed.new.scan.progress) c.deref-in-Err-Fault.result.now c.in-Err-Fault.field-0 c.in-Err-Fault.fault c.first_fault.result (starts_fresh c.new.result.items c.new-2.result.items c.new.ensures.items c.new-2.ensures.items) c.in-Err-Fault.field-0-is c.in-Err-Fault.ensures.reads c.deref-in-Err-Fault.ensures.value
       (subst (λ f. (s : State) → handed (Err (f, s)) (hand_over (untouched c.args.table.now.handles) c.deref-in-Err-Fault.result.now) ≡ Err c.first_fault.result) c.in-Err-Fault.fault-is first))
 ]
+
+pub returns-in-Err-Memory-clause-nothing : goal.returns-in-Err-Memory-clause-nothing
+returns-in-Err-Memory-clause-nothing c = λ k. absurd (none_wants (giver_of c.args.memory.now c.args.table.now.handles c.args.encodings.source) c.args.encodings.target (flat_limit (way_of c.args.passed.now.way)) (layout_of c.args.passed.now.layout.now) c.args.passed.now.slots.now c.new-3.result.items _ c.in-Err-Memory.field-0 k c.new-3.ensures.items (starts_fresh c.new.result.items c.new-2.result.items c.new.ensures.items c.new-2.ensures.items) c.in-Err-Memory.field-0-is c.in-Err-Memory.ensures.keeps)

@@ -1,0 +1,69 @@
+-- Where nothing is to be kept nothing is wanted.
+use Rattle.std.proofs.Common.{◌≡◌, ℕ, List, [], ◌++◌, length, Ok, Err, sym, ap, subst, ◌∙◌, arith}
+use Rattle.cm_types.specs.declared.core_value.CoreValue.{CoreValue}
+use Rattle.cm_types.specs.Values.{Val}
+use Rattle.cm_handles.specs.Handles.{Handles}
+use Rattle.cm_layout.specs.Shapes.{LayoutTy}
+use Rattle.cm_abi_model.specs.declared.encoding.StringEncoding.{StringEncoding}
+use Rattle.cm_abi_model.specs.declared.fault.AbiFault.{AbiFault}
+use Rattle.cm_abi_model.specs.Views.{Way, flat_limit}
+use Rattle.cm_lifting.specs.declared.stop.Stop.{Stop}
+use Rattle.cm_lifting.specs.declared.stop.Stop.TheVariants as stop
+use Rattle.cm_lifting.specs.Outcomes.{Outcome, State, Stops, mapped}
+use Rattle.cm_lifting.specs.Reading.{Source}
+use Rattle.cm_lift.specs.FlatReading.{read_passed}
+use Rattle.cm_lift.specs.Lifts.{fresh}
+use Rattle.cm_scan.specs.Keeping.{KeepsMore, WantsToKeep, count_kept}
+use Rattle.cm_scan.specs.declared.record.PartRecord.{PartRecord}
+use Rattle.cm_scan_call.specs.FlatRecords.{passed_records}
+use Rattle.cm_scan_call.specs.Scans.{KeepsNothing, giver_of}
+use Rattle.cm_scan_call.proofs.CallLemmas.{WasRead}
+
+abbrev answer : {A : Type 0} → A × State → Outcome A
+answer x = Ok x
+
+same_answer : {A : Type 0} (x y : A × State) → answer x ≡ answer y → x ≡ y
+same_answer x y is = cc
+
+-- with nothing kept before
+none_more : (R : Val → List PartRecord) (r : Outcome Val) (v : Val) (after : State) → r ≡ Ok (v, after) → R v ≡ [] → after.handles ≡ [] → KeepsMore 0 (mapped R r) → ⊥
+none_more R r v after is none met more =
+    let kept : KeepsMore 0 (answer (R v, after)) = rw is at more in
+    omega (arith, kept, ap length none, ap length met)
+
+none_wanted : (w : Source) (target : StringEncoding) (limit : ℕ) (l : LayoutTy) (slots : List CoreValue) (old : List PartRecord) (start : State) → KeepsNothing w target limit l slots → old ≡ [] → start ≡ fresh
+    → KeepsMore (count_kept old start) (mapped (λ v. old ++ passed_records w target limit l slots v) (read_passed w limit l slots start)) → ⊥
+none_wanted w target limit l slots old start k none begins more =
+    let one : KeepsMore (count_kept [] fresh) (mapped (λ v. [] ++ passed_records w target limit l slots v) (read_passed w limit l slots fresh)) =
+    subst (λ s. KeepsMore (count_kept [] s) (mapped (λ v. [] ++ passed_records w target limit l slots v) (read_passed w limit l slots s))) begins
+    (subst (λ rs. KeepsMore (count_kept rs start) (mapped (λ v. rs ++ passed_records w target limit l slots v) (read_passed w limit l slots start))) none more) in
+    none_more (λ v. passed_records w target limit l slots v) (read_passed w limit l slots fresh) k.v k.after k.read k.parts k.handles one
+
+pub none_wants : (w : Source) (target : StringEncoding) (limit : ℕ) (l : LayoutTy) (slots : List CoreValue) (old : List PartRecord) (start : State) (stopped : Stop) → KeepsNothing w target limit l slots → old ≡ [] → start ≡ fresh → stopped ≡ stop.Memory
+    → WantsToKeep stopped (count_kept old start) (mapped (λ v. old ++ passed_records w target limit l slots v) (read_passed w limit l slots start)) → ⊥
+none_wants w target limit l slots old start stopped k none begins is wants =
+    none_wanted w target limit l slots old start k none begins (subst (λ e. WantsToKeep e (count_kept old start) (mapped (λ v. old ++ passed_records w target limit l slots v) (read_passed w limit l slots start))) is wants)
+
+stops_none : (r : Outcome Val) (v : Val) (after behind : State) (R : Val → List PartRecord) (e : AbiFault) → r ≡ Ok (v, after) → mapped R r ≡ Err (e, behind) → ⊥
+stops_none r v after behind R e is fails =
+    let whole : answer (R v, after) ≡ Err (e, behind) = rw is at fails in
+    absurd (cc)
+
+pub none_stops : (w : Source) (target : StringEncoding) (limit : ℕ) (l : LayoutTy) (slots : List CoreValue) (old : List PartRecord) (start behind : State) (stopped : Stop) (e : AbiFault) → KeepsNothing w target limit l slots → start ≡ fresh → stopped ≡ stop.Fault e
+    → Stops stopped behind (mapped (λ v. old ++ passed_records w target limit l slots v) (read_passed w limit l slots start)) → ⊥
+none_stops w target limit l slots old start behind stopped e k begins is stops =
+    let one : mapped (λ v. old ++ passed_records w target limit l slots v) (read_passed w limit l slots fresh) ≡ Err (e, behind) =
+    subst (λ s. mapped (λ v. old ++ passed_records w target limit l slots v) (read_passed w limit l slots s) ≡ Err (e, behind)) begins
+    (subst (λ x. Stops x behind (mapped (λ v. old ++ passed_records w target limit l slots v) (read_passed w limit l slots start))) is stops) in
+    stops_none (read_passed w limit l slots fresh) k.v k.after behind (λ v. old ++ passed_records w target limit l slots v) e k.read one
+
+-- what was read has no records and no handles
+pub none_kept : (memory : List ℕ) (table : Handles) (encoding target : StringEncoding) (way : Way) (l : LayoutTy) (slots : List CoreValue) (now : List PartRecord) (after : State)
+    → KeepsNothing (giver_of memory table encoding) target (flat_limit way) l slots → WasRead memory table encoding target way l slots now after → (now ≡ []) × (after.handles ≡ [])
+none_kept memory table encoding target way l slots now after k r =
+    let both : (k.v, k.after) ≡ (r.v, after) = same_answer (k.v, k.after) (r.v, after) (sym k.read ∙ r.read) in
+    let value : k.v ≡ r.v = ap (λ (z : Val × State). z.0) both in
+    let state : k.after ≡ after = ap (λ (z : Val × State). z.1) both in (
+      r.records ∙ (ap (λ v. passed_records (giver_of memory table encoding) target (flat_limit way) l slots v) (sym value) ∙ k.parts),
+      ap (λ (s : State). s.handles) (sym state) ∙ k.handles,
+    )
