@@ -1,5 +1,5 @@
 -- Where nothing is to be kept nothing is wanted.
-use Rattle.std.proofs.Common.{◌≡◌, ℕ, List, [], ◌++◌, length, Ok, Err, sym, ap, subst, ◌∙◌, arith}
+use Rattle.std.proofs.Common.{◌∷◌, refl, Bool, map, Some, Result, ◌≡◌, ℕ, List, [], ◌++◌, length, Ok, Err, sym, ap, subst, ◌∙◌, arith}
 use Rattle.cm_types.specs.declared.core_value.CoreValue.{CoreValue}
 use Rattle.cm_types.specs.Values.{Val}
 use Rattle.cm_handles.specs.Handles.{Handles}
@@ -17,7 +17,26 @@ use Rattle.cm_scan.specs.Keeping.{KeepsMore, WantsToKeep, count_kept}
 use Rattle.cm_scan.specs.declared.record.PartRecord.{PartRecord}
 use Rattle.cm_scan_call.specs.FlatRecords.{passed_records}
 use Rattle.cm_scan_call.specs.Scans.{KeepsNothing, giver_of}
-use Rattle.cm_scan_call.proofs.CallLemmas.{WasRead}
+use Rattle.cm_scan_call.specs.CallPlaces.{call_places}
+use Rattle.cm_types.specs.Types.{Fields}
+use Rattle.cm_handles.specs.Handles.{handle_at}
+use Rattle.cm_handles.specs.declared.handle.Handle.{Handle}
+use Rattle.cm_layout.specs.declared.layouts.HandleType.{HandleType}
+use Rattle.cm_layout.specs.declared.layouts.HandleType.TheVariants as handle_type
+use Rattle.cm_layout.specs.Shapes.{layout_of_fields_at}
+use Rattle.cm_abi_model.specs.Denotes.{Denotes}
+use Rattle.cm_abi_model.specs.Receives.{leaves_in, owned_leaf, borrowed_leaf}
+use Rattle.cm_abi_model.specs.Requests.{call_parts, tuple_of}
+use Rattle.cm_abi_model.specs.Taken.{Met, Transferable}
+use Rattle.cm_abi_model.specs.Views.{View}
+use Rattle.cm_lifting.specs.declared.progress.MetHandle.{MetHandle}
+use Rattle.cm_lifting.specs.Meeting.{AreAsWanted, met_as, met_index}
+use Rattle.cm_lifting.specs.Reading.{seen_by}
+use Rattle.cm_lift.specs.HandingOver.{Hands, handed}
+use Rattle.cm_lift.specs.Lifts.{lift_of}
+use Rattle.cm_met_handles.specs.MetLeaves.{leaf_at, leaves_found, leaves_met}
+use Rattle.cm_scan.specs.Telling.{TellAll}
+use Rattle.cm_scan_call.proofs.CallLemmas.{FoundLaw, MetLaw, TellsLaw, WantedLaw, WasRead}
 
 abbrev answer : {A : Type 0} → A × State → Outcome A
 answer x = Ok x
@@ -67,3 +86,47 @@ none_kept memory table encoding target way l slots now after k r =
       r.records ∙ (ap (λ v. passed_records (giver_of memory table encoding) target (flat_limit way) l slots v) (sym value) ∙ k.parts),
       ap (λ (s : State). s.handles) (sym state) ∙ k.handles,
     )
+
+-- ---- a value that is denoted
+
+handed_value : (r : Outcome Val) (over : Result Hands AbiFault) (v : Val) (tags : List Bool) (h : Hands) → handed r over ≡ Ok (v, tags, h) → (after : State) × (r ≡ Ok (v, after))
+handed_value r (Err e) v tags h is = absurd (cc)
+handed_value (Err x) (Ok g) v tags h is = absurd (cc)
+handed_value (Ok x) (Ok g) v tags h is =
+    let same : (x.0, x.1.tags, g) ≡ (v, tags, h) = cc in
+    (x.1, ap (λ z. answer (z, x.1)) (ap (λ (z : Val × List Bool × Hands). z.0) same))
+
+none_told : (w : View) (target : StringEncoding) (rs : List PartRecord) (ms : List ℕ) → TellAll w target rs [] ms → rs ≡ []
+none_told w target [] ms h = refl
+none_told w target (r ∷ rs) ms h = absurd h
+
+one_found : (table : Handles) (t : HandleType) (index : ℕ) (ms : List Met) (h : Handle) → handle_at table index ≡ Some h → leaves_met table (met_index t index ∷ ms) ≡ [] → ⊥
+one_found table (handle_type.Own r) index ms h stands none =
+    let some : leaf_at owned_leaf (Some h) ++ leaves_met table ms ≡ [] = subst (λ o. leaf_at owned_leaf o ++ leaves_met table ms ≡ []) stands none in
+    absurd (cc)
+one_found table (handle_type.Borrow r) index ms h stands none =
+    let some : leaf_at borrowed_leaf (Some h) ++ leaves_met table ms ≡ [] = subst (λ o. leaf_at borrowed_leaf o ++ leaves_met table ms ≡ []) stands none in
+    absurd (cc)
+
+none_found : (table : Handles) (ms : List MetHandle) → AreAsWanted table ms → leaves_found table ms ≡ [] → ms ≡ []
+none_found table [] wanted none = refl
+none_found table (m ∷ ms) wanted none = absurd (one_found table m.wanted m.index (map met_as ms) wanted.0.entry wanted.0.stands none)
+
+abbrev pub OnlyLaw : Type 0
+OnlyLaw = (w : View) (way : Way) (types : Fields) (slots : List CoreValue) (v : Val) → Denotes w way types slots v → Transferable w way types slots v
+    → (tags : List Bool) × (h : Hands) × (lift_of w.memory w.table w.encoding way (layout_of_fields_at types) slots ≡ Ok (v, tags, h))
+
+pub nothing_is_kept : OnlyLaw → TellsLaw → MetLaw → WantedLaw → FoundLaw → (w : View) (target : StringEncoding) (way : Way) (types : Fields) (slots : List CoreValue) (v : Val)
+    → Denotes w way types slots v → Transferable w way types slots v → call_parts way types v ≡ [] → leaves_in (tuple_of types) v ≡ []
+    → KeepsNothing (seen_by w) target (flat_limit way) (layout_of_fields_at types) slots
+nothing_is_kept only tells meets wanted found w target way types slots v denoted can no_parts no_handles =
+    let lifts = only w way types slots v denoted can in
+    let was = handed_value (read_passed (seen_by w) (flat_limit way) (layout_of_fields_at types) slots fresh) _ v lifts.0 lifts.1 lifts.2 in
+    let met_is = meets w way types slots fresh was.0 v was.1 in
+    record {
+      v = v;
+      after = was.0;
+      read = was.1;
+      parts = none_told w target _ (call_places w way types slots v) (subst (λ ps. TellAll w target (passed_records (seen_by w) target (flat_limit way) (layout_of_fields_at types) slots v) ps (call_places w way types slots v)) no_parts (tells w target way types slots v denoted));
+      handles = none_found w.table was.0.handles (wanted w way types slots v fresh was.0 refl met_is) (found w way types slots v fresh was.0 denoted refl met_is ∙ no_handles);
+    }
