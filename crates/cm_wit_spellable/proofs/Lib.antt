@@ -1,1 +1,4 @@
 pub mod MeaningLaws
+mod ReadLaws
+mod TypeTexts
+pub mod FileTexts

@@ -1,22 +1,27 @@
 -- What written types and definitions stand for.
-use Rattle.std.proofs.Common.{◌≡◌, ℕ, zero, suc, ◌<◌, ◌≤◌, ◌&&◌, not, nat_lt, nat_le, Bool, true, false, List, [], ◌∷◌, length, refl, sym, ap, subst, ◌∙◌, Option, Some, None, arith}
+use Rattle.std.proofs.Common.{◌≡◌, ℕ, ◌<◌, ◌≤◌, ◌&&◌, not, nat_lt, nat_le, Bool, true, List, [], ◌∷◌, length, refl, ap, ◌∙◌, Option, Some, None, arith}
 use Rattle.std.proofs.lemmas.Bool.Decides.{nat_tests}
 use Rattle.std.specs.List.{AllByRecursion}
 use Rattle.std.specs.Option.{IfSome, option_map, option_and_then}
 use Rattle.cm_types.specs.declared.spellable.TheConstants.{MAX_FLAGS}
 use Rattle.cm_types.specs.declared.resource.ResourceId.{ResourceId}
 use Rattle.cm_types.specs.Types as types
-use Rattle.cm_types.specs.Spellable.{is_spellable, are_spellable, are_spellable_payloads, has_no_cases}
+use Rattle.cm_types.specs.Spellable.{is_spellable, are_spellable, are_spellable_payloads, is_spellable_payload, has_no_cases}
 use Rattle.cm_types.specs.TypeTrees.{TypedLabel, CaseOf, fields_from, parts_from, cases_from, case_before, plain_from}
 use Rattle.cm_wit_types.specs.Types as wit
-use Rattle.cm_wit_types.specs.Signatures.{Typed}
+use Rattle.cm_wit_types.specs.Signatures.{Typed, Func}
 use Rattle.cm_wit_types.specs.declared.types.Primitive.{Primitive}
 use Rattle.cm_wit_types.specs.declared.types.Primitive.TheVariants as primitive_is
-use Rattle.cm_wit_text.specs.Trees.{Case, TypeDef, alias, record_of, variant, enum, flags, resource}
+use Rattle.cm_wit_text.specs.Trees.{Case, TypeDef, alias, record_of, variant, enum, flags, resource, ResourceFunc, method, static, constructor}
 use Rattle.cm_wit_meanings.specs.Meanings as meant
-use Rattle.cm_wit_meanings.specs.Meanings.{meaning, meanings, each_meaning, typed_meaning, case_meaning, payload_meaning, def_meaning, option_of, result_of, tuple_of, variant_of, primitive_type}
+use Rattle.cm_wit_meanings.specs.Meanings.{meaning, meanings, each_meaning, typed_meaning, case_meaning, payload_meaning, def_meaning, option_of, result_of, tuple_of, variant_of, primitive_type, func_meaning, with_self, resource_func_meaning}
+use Rattle.cm_wit_meanings.specs.Faults.{is_func_spellable}
 use Rattle.cm_wit_meanings.specs.Scopes.{Scope, Meaning, value, as_type, as_resource}
 use Rattle.cm_wit_spellable.specs.Written.{IsWritten, AreWritten, IsWrittenDef, NamesSpellable}
+use Rattle.cm_wit_spellable.specs.Files.{IsWrittenFunc, IsWrittenResourceFunc}
+
+abbrev types_func : types.Fields → Option types.Ty → types.FuncTy
+types_func ps t = record { params = ps; result = t }
 
 abbrev pub Spelled : types.Ty → Type 0
 Spelled x = is_spellable x ≡ true
@@ -182,3 +187,36 @@ def_spelled s names r (variant cs) w = variant_spelled s names cs w.0 w.1
 def_spelled s names r (enum ls) w = enum_spelled ls w
 def_spelled s names r (flags ls) w = both (nat_lt 0 (length ls)) (nat_le (length ls) MAX_FLAGS) (below (length ls) w.0) (at_most (length ls) MAX_FLAGS w.1)
 def_spelled s names r (resource fs) w = refl
+
+-- ---- functions
+
+payload_spelled : (s : Scope) → NamesSpellable s → (o : Option wit.Ty) → IfSome o IsWritten → IfSome (payload_meaning s o) (λ p. is_spellable_payload p ≡ true)
+payload_spelled s names None w = refl
+payload_spelled s names (Some t) w = by (meaning s t) (meaning_spelled s names t w)
+  where
+    by : (m : Option types.Ty) → IfSome m Spelled → IfSome (option_map Some m) (λ (p : Option types.Ty). is_spellable_payload p ≡ true)
+    by None p = tt {0}
+    by (Some x) p = p
+
+func_made : (ps : Option (List TypedLabel)) (t : Option (Option types.Ty)) → IfSome ps (λ xs. are_spellable (fields_from xs) ≡ true) → IfSome t (λ x. is_spellable_payload x ≡ true)
+    → IfSome (option_and_then (λ (xs : List TypedLabel). option_map (λ (x : Option types.Ty). types_func (fields_from xs) x) t) ps) (λ f. is_func_spellable f ≡ true)
+func_made None t p q = tt {0}
+func_made (Some xs) None p q = tt {0}
+func_made (Some xs) (Some x) p q = both (are_spellable (fields_from xs)) (is_spellable_payload x) p q
+
+pub func_spelled : (s : Scope) → NamesSpellable s → (f : Func) → IsWrittenFunc f → IfSome (func_meaning s f) (λ t. is_func_spellable t ≡ true)
+func_spelled s names f w = func_made (each_meaning (typed_meaning s) f.params) (payload_meaning s f.result) (fields_spelled s names f.params w.0) (payload_spelled s names f.result w.1)
+
+with_self_spelled : (r : ResourceId) (f : Option types.FuncTy) → IfSome f (λ t. is_func_spellable t ≡ true) → IfSome (option_map (with_self r) f) (λ t. is_func_spellable t ≡ true)
+with_self_spelled r None p = tt {0}
+with_self_spelled r (Some f) p = p
+
+constructor_made : (r : ResourceId) (ps : Option (List TypedLabel)) → IfSome ps (λ xs. are_spellable (fields_from xs) ≡ true)
+    → IfSome (option_map (λ (xs : List TypedLabel). types_func (fields_from xs) (Some (types.own r))) ps) (λ f. is_func_spellable f ≡ true)
+constructor_made r None p = tt {0}
+constructor_made r (Some xs) p = with_true (are_spellable (fields_from xs)) p
+
+pub resource_func_spelled : (s : Scope) → NamesSpellable s → (r : ResourceId) (f : ResourceFunc) → IsWrittenResourceFunc f → IfSome (resource_func_meaning s r f) (λ t. is_func_spellable t ≡ true)
+resource_func_spelled s names r (method n f) w = with_self_spelled r (func_meaning s f) (func_spelled s names f w)
+resource_func_spelled s names r (static n f) w = func_spelled s names f w
+resource_func_spelled s names r (constructor ps) w = constructor_made r (each_meaning (typed_meaning s) ps) (fields_spelled s names ps w)
