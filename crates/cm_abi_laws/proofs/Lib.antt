@@ -1,0 +1,4 @@
+mod NumberLaws
+mod BitLaws
+mod FrameLaws
+mod TruthLaws
