@@ -1,13 +1,14 @@
 //! Core functions that canonical definitions make, and the first memory that their options name.
 
-ghost use Rattle.std.specs.Prelude.{◌≡◌, ◌++◌, ◌∷◌, [], ℕ, OnErr, OnOk};
+ghost use Rattle.std.specs.Prelude.{◌≡◌, ◌+◌, ◌++◌, ◌∷◌, [], ℕ, OnErr, OnOk};
 ghost use Rattle.std.specs.Option.{option_map, option_or};
 ghost use Rattle.cm_component.specs.Trees.{canon_tree};
 ghost use Rattle.cm_validity.specs.Definitions.{CoreFuncDef};
 ghost use Rattle.cm_validity.specs.Items.{canon_item};
 ghost use Rattle.cm_validity.specs.Spaces.{Spaces, after_item, canon_core_func, first_memory};
 ghost use Rattle.cm_validity.specs.Spaces.{option_memory};
-ghost use Rattle.cm_core_spaces.specs.CoreSpaces.{IsCoreOf, IsFirstNumbered, Stays, number_made};
+ghost use Rattle.cm_core_spaces.specs.CoreSpaces.{IsCoreOf, IsFirstNumbered, Stays, count_made};
+ghost use Rattle.cm_core_spaces.specs.CoreSpaces.{made_count, number_made};
 ghost use Rattle.cm_core_spaces.specs.Entries.{memory_of};
 
 use crate::entries::{CoreFunc, GuestMemory};
@@ -63,8 +64,10 @@ impl<'a> CoreSpaces<'a> {
         ensures made { OnOk result ((made : ℕ → CoreFuncDef) (s : Spaces) → IsCoreOf made self.old s
             → IsCoreOf made self.new
             (record s { core_funcs = s.core_funcs ++ made self.old.made ∷ [] })) }
+        ensures counted { OnOk result (made_count self.new ≡ made_count self.old + 1) }
         ensures names { self.new.memory_names ≡ self.old.memory_names }
         ensures kept { OnErr result (Stays self.old self.new) }
+        ensures uncounted { OnErr result (made_count self.new ≡ made_count self.old) }
     {
         let next = self.made.checked_add(1).ok_or(AllocError)?;
         self.funcs.push(CoreFunc::Made(self.made))?;
@@ -74,14 +77,17 @@ impl<'a> CoreSpaces<'a> {
 
     /// Adds a canonical definition that breaks nothing: a lower, or what makes, drops or reads
     /// handles, makes the core function of the next number, and options may name the first memory.
-    /// `AllocError` comes where there is no memory; nothing is changed then.
+    /// `AllocError` comes where there is no memory for it; nothing is changed then.
     pub fn add_canon(&mut self, canon: &Canon) -> Result<(), AllocError>
         ensures added { OnOk result ((made : ℕ → CoreFuncDef) (s : Spaces)
             → IsCoreOf made self.old s
             → canon_core_func s (canon_tree canon.now)
             ≡ option_map made (number_made self.old (canon_tree canon.now))
             → IsCoreOf made self.new (after_item s (canon_item (canon_tree canon.now)))) }
+        ensures counted { OnOk result (made_count self.new
+            ≡ made_count self.old + count_made (canon_tree canon.now)) }
         ensures kept { OnErr result (Stays self.old self.new) }
+        ensures uncounted { OnErr result (made_count self.new ≡ made_count self.old) }
     {
         match canon {
             Canon::Lift { options, .. } => {
