@@ -1,1 +1,2 @@
-pub mod PlacedLaws
+mod FirstLaws
+mod PlacedLaws

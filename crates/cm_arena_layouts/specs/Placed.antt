@@ -1,5 +1,5 @@
 -- Layouts by the places of types.
-use Rattle.std.specs.Prelude.{◌≡◌, ℕ, ◌<◌, ⊤, List, [], ◌∷◌, map, length, slice_index_or}
+use Rattle.std.specs.Prelude.{◌≡◌, ℕ, ◌<◌, ⊤, List, [], ◌∷◌, ◌++◌, map, length, slice_index_or}
 use Rattle.std.specs.Prelude.{Option, Some, None, codes}
 use Rattle.cm_types.specs.Types.{Ty, Cases, bool, plain, carrying, no_cases}
 use Rattle.cm_types.specs.TypeTrees.{case_before}
@@ -15,6 +15,10 @@ layouts_in ls = map layout_of ls.by_place.items
 -- the layout at a place
 abbrev pub at_place : List LayoutTy → ℕ → LayoutTy
 at_place ls place = slice_index_or ls place (layout_at bool)
+
+-- they are those of the first of these types, in order
+abbrev pub AreOfFirst : List LayoutTy → List Ty → Type 0
+AreOfFirst ls types = (more : List LayoutTy) × (map layout_at types ≡ ls ++ more)
 
 -- at these places stand the layouts of these types, in order
 abbrev pub AreOf : List LayoutTy → List ℕ → List Ty → Type 0

@@ -1,12 +1,12 @@
 //! The layouts of an arena's types.
 
-ghost use Rattle.std.specs.Prelude.{◌≡◌, ◌<◌, IfOk, length, map, take};
+ghost use Rattle.std.specs.Prelude.{◌≡◌, ◌<◌, [], IfOk, OnOk, length, map, take};
 ghost use Rattle.cm_types.specs.Funcs.{func_of};
 ghost use Rattle.cm_layout.specs.Layouts.{layout_of};
 ghost use Rattle.cm_layout.specs.Shapes.{layout_at, layout_of_fields_at};
 ghost use Rattle.cm_type_arena.specs.Places.{funcs_of, types_of};
 ghost use Rattle.cm_type_arena.specs.TypeDefs.{func_at, type_at};
-ghost use Rattle.cm_arena_layouts.specs.Placed.{at_place, layouts_in};
+ghost use Rattle.cm_arena_layouts.specs.Placed.{AreOfFirst, at_place, layouts_in};
 
 use crate::nodes::{fields_layout, node_layout};
 use cm_layout::Layout;
@@ -20,16 +20,38 @@ pub struct Layouts {
 }
 
 impl Layouts {
+    /// No layouts.
+    pub fn new(alloc: Global) -> Layouts
+        ensures { layouts_in result ≡ [] }
+    {
+        Layouts {
+            by_place: Vec::new(alloc),
+        }
+    }
+
     /// The layouts of the types of an arena. Each costs what its definition says, and shares the
     /// layouts of what it holds. `AllocError` comes where there is no memory for them.
     pub fn of(alloc: Global, types: &Types) -> Result<Layouts, AllocError>
         ensures { IfOk result (λ ls. layouts_in ls ≡ map layout_at (types_of types.now)) }
     {
-        let mut by_place = Vec::with_capacity(alloc, types.len())?;
-        for place in 0..types.len() {
-            by_place.push(place_layout(alloc, types, place, &by_place)?)?;
+        let mut layouts = Layouts::new(alloc);
+        layouts.extend(alloc, types)?;
+        Ok(layouts)
+    }
+
+    /// Adds the layouts of the types that were added to an arena since its first types were laid
+    /// out; those are not looked at again. `AllocError` comes where there is no memory for one; the
+    /// layouts are then still those of the arena's first types.
+    pub fn extend(&mut self, alloc: Global, types: &Types) -> Result<(), AllocError>
+        requires { AreOfFirst (layouts_in self.old) (types_of types.now) }
+        ensures all { OnOk result (layouts_in self.new ≡ map layout_at (types_of types.now)) }
+        ensures first { AreOfFirst (layouts_in self.new) (types_of types.now) }
+    {
+        for place in self.by_place.len()..types.len() {
+            let layout = place_layout(alloc, types, place, &self.by_place)?;
+            self.by_place.push(layout)?;
         }
-        Ok(Layouts { by_place })
+        Ok(())
     }
 
     /// The layout of the type at a place.

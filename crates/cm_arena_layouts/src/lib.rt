@@ -2,6 +2,7 @@
 //! what it holds, which it shares (CanonicalABI.md, "Alignment", "Element Size" and "Flattening").
 #![tactic(auto)]
 
+pub mod laws;
 mod layouts;
 mod nodes;
 mod placed;

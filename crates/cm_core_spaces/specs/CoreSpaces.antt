@@ -98,7 +98,16 @@ pub record Answers (x : Item) (old : CoreSpaces) (r : Option ValidReason) (new :
 
 -- ---- what canonical definitions make
 
+-- how many core functions they made so far, which have the numbers from 0 on
+abbrev pub made_count : CoreSpaces → ℕ
+made_count c = c.made
+
 -- the number of the core function that a canonical definition makes; a lift makes none
 abbrev pub number_made : CoreSpaces → CanonTree → Option ℕ
 number_made c (lift f os ty) = None
-number_made c _ = Some c.made
+number_made c _ = Some (made_count c)
+
+-- how many it makes
+abbrev pub count_made : CanonTree → ℕ
+count_made (lift f os ty) = 0
+count_made _ = 1

@@ -95,7 +95,7 @@ impl<'a> CoreSpaces<'a> {
     ghost use Rattle.cm_component.specs.Trees.{AliasTree, core_instance_export};
     ghost use Rattle.cm_validity.specs.Items.{alias_item};
     ghost use Rattle.cm_validity.specs.Spaces.{Spaces, after_item, aliased_core, core_alias};
-    ghost use Rattle.cm_core_spaces.specs.CoreSpaces.{Answers, IsCoreOf, Stays};
+    ghost use Rattle.cm_core_spaces.specs.CoreSpaces.{Answers, IsCoreOf, Stays, made_count};
 
     /// What an alias names, if anything.
     fn aliased(
@@ -110,6 +110,7 @@ impl<'a> CoreSpaces<'a> {
         ensures numbered { IfOk result (λ i. (made : ℕ → CoreFuncDef) (s : Spaces)
             → IsCoreOf made self.old s
             → IfSome i (IsItemNumbered self.new.memory_names.keys)) }
+        ensures counted { made_count self.new ≡ made_count self.old }
         ensures kept { Stays self.old self.new }
     {
         match instance_at(&self.instances, instance) {
@@ -129,6 +130,7 @@ impl<'a> CoreSpaces<'a> {
             → IsItemNumbered self.old.memory_names.keys item.entry
             → core_alias s a ≡ Some (def_of made item.entry)
             → IsCoreOf made self.old s → IsCoreOf made self.new (after_item s (alias_item a))) }
+        ensures counted { made_count self.new ≡ made_count self.old }
         ensures kept { OnErr result (Stays self.old self.new) }
     {
         match item {
@@ -152,6 +154,7 @@ impl<'a> CoreSpaces<'a> {
     ) -> Result<Option<ValidReason>, AllocError>
         ensures answer { IfOk result (λ r. Answers
             (alias_item (core_instance_export sort instance name.now)) self.old r self.new) }
+        ensures counted { made_count self.new ≡ made_count self.old }
         ensures kept { OnErr result (Stays self.old self.new) }
     {
         let Some(item) = self.aliased(sort, instance, name)? else {

@@ -1,13 +1,14 @@
 //! Core functions that canonical definitions make, and the first memory that their options name.
 
-ghost use Rattle.std.specs.Prelude.{◌≡◌, ◌++◌, ◌∷◌, [], ℕ, OnErr, OnOk};
+ghost use Rattle.std.specs.Prelude.{◌≡◌, ◌+◌, ◌++◌, ◌∷◌, [], ℕ, OnErr, OnOk, Some};
 ghost use Rattle.std.specs.Option.{option_map, option_or};
-ghost use Rattle.cm_component.specs.Trees.{canon_tree};
+ghost use Rattle.cm_component.specs.Trees.{canon_tree, lift, lower};
 ghost use Rattle.cm_validity.specs.Definitions.{CoreFuncDef};
 ghost use Rattle.cm_validity.specs.Items.{canon_item};
 ghost use Rattle.cm_validity.specs.Spaces.{Spaces, after_item, canon_core_func, first_memory};
 ghost use Rattle.cm_validity.specs.Spaces.{option_memory};
-ghost use Rattle.cm_core_spaces.specs.CoreSpaces.{IsCoreOf, IsFirstNumbered, Stays, number_made};
+ghost use Rattle.cm_core_spaces.specs.CoreSpaces.{IsCoreOf, IsFirstNumbered, Stays, count_made};
+ghost use Rattle.cm_core_spaces.specs.CoreSpaces.{made_count, number_made};
 ghost use Rattle.cm_core_spaces.specs.Entries.{memory_of};
 
 use crate::entries::{CoreFunc, GuestMemory};
@@ -63,8 +64,10 @@ impl<'a> CoreSpaces<'a> {
         ensures made { OnOk result ((made : ℕ → CoreFuncDef) (s : Spaces) → IsCoreOf made self.old s
             → IsCoreOf made self.new
             (record s { core_funcs = s.core_funcs ++ made self.old.made ∷ [] })) }
+        ensures counted { OnOk result (made_count self.new ≡ made_count self.old + 1) }
         ensures names { self.new.memory_names ≡ self.old.memory_names }
         ensures kept { OnErr result (Stays self.old self.new) }
+        ensures uncounted { OnErr result (made_count self.new ≡ made_count self.old) }
     {
         let next = self.made.checked_add(1).ok_or(AllocError)?;
         self.funcs.push(CoreFunc::Made(self.made))?;
@@ -72,28 +75,53 @@ impl<'a> CoreSpaces<'a> {
         Ok(())
     }
 
+    /// Adds a lift with these options, which breaks nothing: they may name the first memory.
+    pub fn add_lift(&mut self, options: &[CanonOption])
+        ensures added { (made : ℕ → CoreFuncDef) (s : Spaces) (f ty : ℕ) → IsCoreOf made self.old s
+            → IsCoreOf made self.new (after_item s (canon_item (lift f options.now ty))) }
+        ensures counted { made_count self.new ≡ made_count self.old }
+    {
+        self.memory = self.memory_after(options);
+    }
+
+    /// Adds a lower with these options, which breaks nothing: it makes the core function of the
+    /// next number, and they may name the first memory. `AllocError` comes where there is no
+    /// memory; nothing is changed then.
+    pub fn add_lower(&mut self, options: &[CanonOption]) -> Result<(), AllocError>
+        ensures added { OnOk result ((made : ℕ → CoreFuncDef) (s : Spaces) (f : ℕ)
+            → canon_core_func s (lower f options.now) ≡ Some (made (made_count self.old))
+            → IsCoreOf made self.old s
+            → IsCoreOf made self.new (after_item s (canon_item (lower f options.now)))) }
+        ensures counted { OnOk result (made_count self.new ≡ made_count self.old + 1) }
+        ensures kept { OnErr result (Stays self.old self.new) }
+        ensures uncounted { OnErr result (made_count self.new ≡ made_count self.old) }
+    {
+        let memory = self.memory_after(options);
+        self.make()?;
+        self.memory = memory;
+        Ok(())
+    }
+
     /// Adds a canonical definition that breaks nothing: a lower, or what makes, drops or reads
     /// handles, makes the core function of the next number, and options may name the first memory.
-    /// `AllocError` comes where there is no memory; nothing is changed then.
+    /// `AllocError` comes where there is no memory for it; nothing is changed then.
     pub fn add_canon(&mut self, canon: &Canon) -> Result<(), AllocError>
         ensures added { OnOk result ((made : ℕ → CoreFuncDef) (s : Spaces)
             → IsCoreOf made self.old s
             → canon_core_func s (canon_tree canon.now)
             ≡ option_map made (number_made self.old (canon_tree canon.now))
             → IsCoreOf made self.new (after_item s (canon_item (canon_tree canon.now)))) }
+        ensures counted { OnOk result (made_count self.new
+            ≡ made_count self.old + count_made (canon_tree canon.now)) }
         ensures kept { OnErr result (Stays self.old self.new) }
+        ensures uncounted { OnErr result (made_count self.new ≡ made_count self.old) }
     {
         match canon {
             Canon::Lift { options, .. } => {
-                self.memory = self.memory_after(options);
+                self.add_lift(options);
                 Ok(())
             }
-            Canon::Lower { options, .. } => {
-                let memory = self.memory_after(options);
-                self.make()?;
-                self.memory = memory;
-                Ok(())
-            }
+            Canon::Lower { options, .. } => self.add_lower(options),
             Canon::ResourceNew { .. } | Canon::ResourceDrop { .. } | Canon::ResourceRep { .. } => {
                 self.make()
             }

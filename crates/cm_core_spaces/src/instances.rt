@@ -45,7 +45,7 @@ impl<'a> CoreSpaces<'a> {
     ghost use Rattle.cm_validity.specs.Spaces.{named_core_def};
     ghost use Rattle.std.specs.List.{flat_map};
     ghost use Rattle.cm_core_spaces.specs.CoreSpaces.{Answers, AreItemsNumbered, IsItemNumbered};
-    ghost use Rattle.cm_core_spaces.specs.CoreSpaces.{IsInstanceNumbered, Stays};
+    ghost use Rattle.cm_core_spaces.specs.CoreSpaces.{IsInstanceNumbered, Stays, made_count};
     ghost use Rattle.cm_core_spaces.specs.Entries.{def_of, instance_of, named_def};
     ghost use Rattle.cm_core_spaces.specs.Instances.{is_arg_there, is_export_there};
 
@@ -131,6 +131,7 @@ impl<'a> CoreSpaces<'a> {
             → core_instance_of s t ≡ instance_of made entry.entry
             → IsCoreOf made self.old s
             → IsCoreOf made self.new (after_item s (core_instance_item t))) }
+        ensures counted { made_count self.new ≡ made_count self.old }
         ensures kept { OnErr result (Stays self.old self.new) }
     {
         self.instances.push(entry)?;
@@ -166,6 +167,7 @@ impl<'a> CoreSpaces<'a> {
         ensures answer { IfOk result (λ r. Answers
             (core_instance_item (instantiate module_index (map arg_tree args.now)))
             self.old r self.new) }
+        ensures counted { made_count self.new ≡ made_count self.old }
         ensures kept { OnErr result (Stays self.old self.new) }
     {
         let fault = self.instantiation_fault(alloc, module_index, args)?;
@@ -184,6 +186,7 @@ impl<'a> CoreSpaces<'a> {
         ensures answer { IfOk result (λ r. Answers
             (core_instance_item (core_exports (map core_export_tree exports.now)))
             self.old r self.new) }
+        ensures counted { made_count self.new ≡ made_count self.old }
         ensures kept { OnErr result (Stays self.old self.new) }
     {
         if !self.exports_are_there(exports) {
@@ -208,6 +211,7 @@ impl<'a> CoreSpaces<'a> {
     ) -> Result<Option<ValidReason>, AllocError>
         ensures answer { IfOk result (λ r. Answers
             (core_instance_item (core_instance_tree instance.now)) self.old r self.new) }
+        ensures counted { made_count self.new ≡ made_count self.old }
         ensures kept { OnErr result (Stays self.old self.new) }
     {
         match instance {

@@ -29,12 +29,13 @@ impl<'a> CoreSpaces<'a> {
     ghost use Rattle.cm_validity.specs.Options.{guest_broken, is_guest};
     ghost use Rattle.cm_validity.specs.Reasons.{least};
     ghost use Rattle.cm_validity.specs.Spaces.{Spaces, after_item, empty_spaces};
-    ghost use Rattle.cm_core_spaces.specs.CoreSpaces.{Becomes, Stays};
+    ghost use Rattle.cm_core_spaces.specs.CoreSpaces.{Becomes, Stays, made_count};
 
     /// No definitions.
     pub fn new(alloc: Global) -> CoreSpaces<'a>
-        ensures { (made : ℕ → CoreFuncDef) → ((n : ℕ) → is_guest (made n) ≡ false)
+        ensures empty { (made : ℕ → CoreFuncDef) → ((n : ℕ) → is_guest (made n) ≡ false)
             → IsCoreOf made result empty_spaces }
+        ensures counted { made_count result ≡ 0 }
     {
         CoreSpaces {
             modules: 0,
@@ -53,6 +54,7 @@ impl<'a> CoreSpaces<'a> {
     /// changed then.
     pub fn add_module(&mut self) -> Result<(), AllocError>
         ensures added { OnOk result (Becomes core_module_item self.old self.new) }
+        ensures counted { made_count self.new ≡ made_count self.old }
         ensures kept { OnErr result (Stays self.old self.new) }
     {
         self.modules = self.modules.checked_add(1).ok_or(AllocError)?;
