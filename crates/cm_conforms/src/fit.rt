@@ -8,12 +8,11 @@ ghost use Rattle.cm_conforms.specs.Judging.{AreSides};
 ghost use Rattle.cm_conforms.specs.Views.{entry_of};
 
 use crate::comparisons::PlacedComparison;
-use crate::judge::{Side, fits};
+use crate::judge::{Side, Tables};
 use crate::pairs::Pairs;
 use crate::walk::entries;
 use cm_conformance::{ConformFault, ConformReason};
 use cm_signatures::Signature;
-use cm_type_numbers::Numbers;
 use std::alloc::Global;
 
 /// Whether all that is compared fits, or the first fault.
@@ -31,9 +30,9 @@ fn judge(
         ⊎ IsFirstIn (map (entry_of have.now.types.now world.now.types.now) all.now)
         f.item f.reason) }
 {
-    let mut numbers = Numbers::new(alloc);
+    let mut tables = Tables::new(alloc);
     for each in all {
-        if !fits(alloc, &mut numbers, have, world, each.what)? {
+        if !tables.fits(alloc, have, world, each.what)? {
             return Err(ConformFault {
                 item: each.item,
                 reason: each.reason(),
