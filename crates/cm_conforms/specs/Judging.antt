@@ -23,4 +23,5 @@ pub record AreSides (all : List Entry) (have world : Side) : Type 0 where
 -- What is known of the types of both sides are their numbers, the resources in them marked.
 pub record AreKnown (have world : Side) (tables : Tables) : Type 0 where
   pub of_have : KnowsPlaced (numbering tables.numbers) (marks_of have) have.types.now tables.have
-  pub of_world : KnowsPlaced (numbering tables.numbers) (marks_of world) world.types.now tables.world
+  pub of_world :
+      KnowsPlaced (numbering tables.numbers) (marks_of world) world.types.now tables.world
