@@ -1,16 +1,14 @@
 -- What the code compares, among the types of the signature's arena and of the world's.
 use Rattle.std.specs.Prelude.{Option}
-use Rattle.cm_types.specs.Types.{Ty, FuncTy}
 use Rattle.cm_types.specs.Signatures.{ItemTy, NamedItem, ExternTy}
-use Rattle.cm_replaced.specs.Replaced.{Standing, replaced, replaced_func}
 use Rattle.cm_replaced.specs.declared.moves.Move.{Move}
 use Rattle.cm_type_arena.specs.Places.{types_of, funcs_of}
-use Rattle.cm_type_arena.specs.TypeDefs.{type_at, func_at}
 use Rattle.cm_type_arena.specs.declared.types.Types.{Types}
 use Rattle.cm_placed.specs.Placed.{moved_by}
 use Rattle.cm_placed.specs.Instances.{desc_of, item_of, replaced_desc, replaced_item}
 use Rattle.cm_placed.specs.declared.instances.Item.{Item}
 use Rattle.cm_placed.specs.declared.instances.ItemDesc.{ItemDesc}
+use Rattle.cm_placed_numbers.specs.Moved.{brought_func, brought_type}
 use Rattle.cm_signatures.specs.Externs.{extern_desc_of}
 use Rattle.cm_signatures.specs.declared.signatures.ExternDesc.{ExternDesc}
 use Rattle.cm_conformance.specs.Comparisons as all
@@ -18,20 +16,9 @@ use Rattle.cm_conformance.specs.Comparisons.{Entry, nothing, two_sorts, two_func
 use Rattle.cm_conformance.specs.Comparisons.{two_resources}
 use Rattle.cm_conformance.specs.declared.fault.ConformList.{ConformList}
 use Rattle.cm_conformance.specs.declared.fault.ConformList.TheVariants as walked
-use Rattle.cm_conforms.specs.declared.comparisons.Brought.{Brought}
 use Rattle.cm_conforms.specs.declared.comparisons.Comparison.{Comparison}
 use Rattle.cm_conforms.specs.declared.comparisons.Comparison.TheVariants as two
 use Rattle.cm_conforms.specs.declared.comparisons.PlacedComparison.{PlacedComparison}
-
--- what stands for each resource of a type that an item brings
-abbrev pub brought_by : Brought → Standing
-brought_by b r = moved_by b.by (moved_by b.ty.by r)
-
-abbrev pub brought_type : Types → Brought → Ty
-brought_type types b = replaced (brought_by b) (type_at (types_of types) b.ty.place)
-
-abbrev pub brought_func : Types → Brought → FuncTy
-brought_func types b = replaced_func (brought_by b) (func_at (funcs_of types) b.ty.place)
 
 -- what is compared
 abbrev pub comparison_of : Types → Types → Comparison → all.Comparison

@@ -9,22 +9,15 @@ ghost use Rattle.cm_types.specs.Signatures.{equal_resource, equal_type, fresh_re
 ghost use Rattle.cm_types.specs.Signatures.{func_item};
 ghost use Rattle.cm_conformance.specs.Comparisons.{facing, two_funcs, two_items};
 ghost use Rattle.cm_conformance.specs.Conformance.{reason_of};
-ghost use Rattle.cm_conforms.specs.Views.{brought_desc, brought_func, brought_type};
-ghost use Rattle.cm_conforms.specs.Views.{comparison_of, other, own};
+ghost use Rattle.cm_placed_numbers.specs.Moved.{brought_func, brought_type};
+ghost use Rattle.cm_conforms.specs.Views.{brought_desc, comparison_of, other, own};
 
 use cm_conformance::{ConformItem, ConformList, ConformReason};
 use cm_placed::{ItemDesc, Placed, moved_resource};
+use cm_placed_numbers::Brought;
 use cm_replaced::Move;
 use cm_replaced::laws::replacing;
 use cm_types::ResourceId;
-
-/// A type, or the type of a function, that an item of an instance brings: by its place, and as the
-/// import or export counts the resources in it.
-#[derive(Clone, Copy)]
-pub(crate) struct Brought {
-    pub(crate) ty: Placed,
-    pub(crate) by: Option<Move>,
-}
 
 /// What is held against what: the signature's stands first, then the world's.
 #[derive(Clone, Copy)]

@@ -8,12 +8,11 @@ ghost use Rattle.cm_conforms.specs.Judging.{AreSides};
 ghost use Rattle.cm_conforms.specs.Views.{entry_of};
 
 use crate::comparisons::PlacedComparison;
-use crate::judge::{Side, fits};
+use crate::judge::{Side, Tables};
 use crate::pairs::Pairs;
 use crate::walk::entries;
 use cm_conformance::{ConformFault, ConformReason};
 use cm_signatures::Signature;
-use cm_type_numbers::Numbers;
 use std::alloc::Global;
 
 /// Whether all that is compared fits, or the first fault.
@@ -31,9 +30,9 @@ fn judge(
         ⊎ IsFirstIn (map (entry_of have.now.types.now world.now.types.now) all.now)
         f.item f.reason) }
 {
-    let mut numbers = Numbers::new(alloc);
+    let mut tables = Tables::new(alloc);
     for each in all {
-        if !fits(alloc, &mut numbers, have, world, each.what)? {
+        if !tables.fits(alloc, have, world, each.what)? {
             return Err(ConformFault {
                 item: each.item,
                 reason: each.reason(),
@@ -54,8 +53,9 @@ fn judge(
 /// corresponds to another one already, and where a function stands against an instance. A resource
 /// that no two items of one name pair corresponds to none. `Memory` comes where memory is refused.
 ///
-/// It costs time linear in the items of what both have, with a search for each resource, and for
-/// each of these items in the types that it reaches, each once.
+/// It costs time linear in the items of the imports and exports of both, a shared instance counted
+/// for each of them, with a search for each name and resource; and in the types of both, each once
+/// for each way in which imports and exports move its resources.
 pub fn conforms(alloc: Global, have: &Signature, world: &Signature) -> Result<(), ConformFault>
     ensures ok { OnOk result (Conforms (signature_of have.now) (signature_of world.now)) }
     ensures err { IfErr result (λ f. (f.reason ≡ ConformReason.Memory)

@@ -10,8 +10,6 @@ ghost use Rattle.cm_conforms.specs.Pairs.{HasPairs, Notes, key_of, pair_in};
 ghost use Rattle.cm_conforms.specs.Views.{comparison_of, entry_of};
 
 use crate::comparisons::{Comparison, PlacedComparison};
-use cm_placed::moved_resource;
-use cm_replaced::{Move, Replacement};
 use cm_types::ResourceId;
 use std::alloc::{AllocError, Global};
 use std::collections::BTreeMap;
@@ -119,17 +117,6 @@ fn key(resource: ResourceId) -> ResourceKey
     }
 }
 
-/// What stands for the resources of a type that an item brings: the pair of each, or a mark of its
-/// side where it belongs to none.
-#[derive(Clone, Copy)]
-pub(crate) struct Marks<'a> {
-    pub(crate) pairs: &'a Pairs,
-    pub(crate) side: u32,
-    /// How the type is moved at its place, and how the import or export moves it.
-    pub(crate) inner: Option<Move>,
-    pub(crate) outer: Option<Move>,
-}
-
 /// What stands for a resource, given its pair.
 pub(crate) fn mark(side: u32, pair: Option<usize>) -> ResourceId
     ensures { result ≡ mark side pair }
@@ -143,19 +130,5 @@ pub(crate) fn mark(side: u32, pair: Option<usize>) -> ResourceId
             component: side,
             number: 0,
         },
-    }
-}
-
-impl<'a> Replacement for Marks<'a> {
-    ghost use Rattle.cm_placed.specs.Placed.{moved_by};
-    ghost use Rattle.cm_conformance.specs.Conformance.{mark};
-    ghost use Rattle.cm_conforms.specs.Pairs.{pair_in};
-
-    ghost replacement = { λ m r.
-        mark m.side (pair_in m.pairs.now (moved_by m.outer (moved_by m.inner r))) };
-
-    fn replace(&self, id: ResourceId) -> ResourceId {
-        let moved = moved_resource(self.outer, moved_resource(self.inner, id));
-        mark(self.side, self.pairs.pair(moved))
     }
 }

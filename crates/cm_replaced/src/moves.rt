@@ -13,7 +13,7 @@ use cm_types::ResourceId;
 /// `next` on; another resource is not moved. A type need not be copied to be moved: its place in an
 /// arena with the move says what it is. Its labels and what is known of it are those of the type at
 /// the place, and only where its own nodes are asked for is it copied.
-#[derive(Clone, Copy)]
+#[derive(Clone, Copy, PartialEq, Eq, PartialOrd, Ord)]
 pub struct Move {
     first: u64,
     count: u64,
