@@ -5,4 +5,3 @@ mod EachLaws
 mod PushLaws
 mod MemberLaws
 mod DefinitionLaws
-mod FuncLaws

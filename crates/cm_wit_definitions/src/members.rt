@@ -46,7 +46,12 @@ fn push_field(
     Ok(FieldDef { label, ty })
 }
 
-/// Adds the types of fields or parameters, and answers these with their places.
+/// Adds the types of fields or parameters, and answers these with their places, in order.
+///
+/// The names in them are looked up in the scope. Faults come as those of `push_type`, in the order
+/// of the texts, and `Memory` also where the answer finds none; then some of the types may have
+/// been added. Earlier types stay as they are. It costs the length of the texts and a look-up for
+/// each name. (WIT.md, "Item: `record`", "Item: `func`")
 pub fn push_fields(
     alloc: Global,
     types: &mut Types,
@@ -76,7 +81,11 @@ pub fn push_fields(
     Ok(fields)
 }
 
-/// Adds the type of a payload or a result, if there is one, and answers its place.
+/// Adds the type of a payload or a result, if there is one, and answers its place; none is added
+/// for none.
+///
+/// Faults come as those of `push_type`; then some of the types in it may have been added. Earlier
+/// types stay as they are. (WIT.md, "Item: `variant`", "Item: `func`")
 #[tactic(auto, using(crate::proofs::MemberLaws::payload_laws))]
 pub fn push_payload(
     alloc: Global,

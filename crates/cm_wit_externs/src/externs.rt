@@ -24,7 +24,7 @@ use cm_placed::laws::unmoved;
 use cm_placed::{InstanceType, Placed};
 use cm_signatures::{Extern, ExternDesc};
 use cm_type_arena::Types;
-use cm_wit_definitions::push_func;
+use cm_wit_functions::push_func;
 use cm_wit_interfaces::{PlacedInterface, full_name};
 use cm_wit_items::laws::{items_stay, tables_stay};
 use cm_wit_items::{extern_name, push_items};
@@ -222,7 +222,7 @@ fn add_number(
 /// interface by its own, and the function of the world's item j by j and the number of all
 /// interfaces. The names of the first instance are those of the list `first`.
 ///
-/// Faults come as those of `cm_wit_items::push_items` and `cm_wit_definitions::push_func`. It costs
+/// Faults come as those of `cm_wit_items::push_items` and `cm_wit_functions::push_func`. It costs
 /// the texts' own length and a look-up for each of their names.
 pub fn push_externs(
     alloc: Global,

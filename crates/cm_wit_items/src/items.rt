@@ -27,7 +27,7 @@ use cm_placed::laws::unmoved;
 use cm_placed::{Item, ItemDesc, Placed};
 use cm_type_arena::Types;
 use cm_types::{Label, ResourceId};
-use cm_wit_definitions::{push_func, push_resource_func};
+use cm_wit_functions::{push_func, push_resource_func};
 use cm_wit_meanings::{Meaning, MeaningFault, Scope};
 use cm_wit_text::{Interface, ResourceFunc};
 use cm_wit_types::Func;

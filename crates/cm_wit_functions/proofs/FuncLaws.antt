@@ -23,9 +23,9 @@ use Rattle.cm_wit_meanings.specs.Scopes.{Scope}
 use Rattle.cm_wit_meanings.specs.Places.{Extends, ArePlaced, scope_in}
 use Rattle.cm_wit_meanings.specs.Meanings.{func_meaning, each_meaning, typed_meaning, payload_meaning, with_self}
 use Rattle.cm_wit_meanings.specs.Faults.{IsFuncWithin, IsFuncFault, AreFieldsFault, IsPayloadFault, IsTypeFault}
-use Rattle.cm_wit_definitions.proofs.FaultLaws.{both_false, first_false}
-use Rattle.cm_wit_definitions.proofs.GrowthLaws.{extends_same, extends_one, extends_more, place_kept, extends_length, arena_within}
-use Rattle.cm_wit_definitions.proofs.ScopeLaws.{scope_kept, scope_placed}
+use Rattle.cm_wit_functions.proofs.FaultLaws.{both_false, first_false}
+use Rattle.cm_wit_functions.proofs.GrowthLaws.{extends_same, extends_one, extends_more, place_kept, extends_length, arena_within}
+use Rattle.cm_wit_functions.proofs.ScopeLaws.{scope_kept, scope_placed}
 
 -- ---- the last one
 

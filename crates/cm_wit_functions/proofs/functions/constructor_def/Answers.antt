@@ -3,8 +3,8 @@ use Rattle.cm_type_arena.specs.Places.{types_of}
 use Rattle.cm_wit_types.specs.SignatureViews.{typed_tree}
 use Rattle.cm_wit_meanings.specs.Meanings.{each_meaning, typed_meaning}
 use Rattle.cm_wit_meanings.specs.Places.{scope_in}
-use Rattle.cm_wit_definitions.proofs.FuncLaws.{constructor_made}
-use Rattle.cm_wit_definitions.proofs.functions.constructor_def.Goals as goal
+use Rattle.cm_wit_functions.proofs.FuncLaws.{constructor_made}
+use Rattle.cm_wit_functions.proofs.functions.constructor_def.Goals as goal
 
 pub returns-clause-meaning : goal.returns-clause-meaning
 returns-clause-meaning c =

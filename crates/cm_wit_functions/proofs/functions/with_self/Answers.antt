@@ -1,8 +1,8 @@
 use Rattle.std.proofs.Common.{rules, ◌≡◌, ◌∷◌, refl}
 use Rattle.cm_type_arena.specs.Places.{types_of}
 use Rattle.cm_type_arena.specs.declared.type_defs.FieldDef.{FieldDef}
-use Rattle.cm_wit_definitions.proofs.FuncLaws.{self_made}
-use Rattle.cm_wit_definitions.proofs.functions.with_self.Goals as goal
+use Rattle.cm_wit_functions.proofs.FuncLaws.{self_made}
+use Rattle.cm_wit_functions.proofs.functions.with_self.Goals as goal
 
 pub returns-clause-ty : goal.returns-clause-ty
 returns-clause-ty c =

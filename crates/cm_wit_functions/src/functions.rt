@@ -12,9 +12,9 @@ ghost use Rattle.cm_wit_meanings.specs.Faults.{IsFuncFault, IsFuncWithin};
 ghost use Rattle.cm_wit_meanings.specs.Meanings.{func_meaning, resource_func_meaning, with_self};
 ghost use Rattle.cm_wit_meanings.specs.Places.{ArePlaced, Extends, scope_in};
 
-use crate::members::{push_fields, push_payload};
 use cm_type_arena::{DefFault, FieldDef, FuncDef, TypeDef, Types};
 use cm_types::{Label, ResourceId};
+use cm_wit_definitions::{push_fields, push_payload};
 use cm_wit_meanings::{MeaningFault, Scope, push};
 use cm_wit_text::ResourceFunc;
 use cm_wit_types::{Func, Typed};

@@ -1,7 +1,7 @@
 use Rattle.cm_type_arena.specs.Places.{types_of, funcs_of}
 use Rattle.cm_type_arena.specs.TypeDefs.{func_def_type}
-use Rattle.cm_wit_definitions.proofs.FuncLaws.{func_last, func_within}
-use Rattle.cm_wit_definitions.proofs.functions.push_func_def.Goals as goal
+use Rattle.cm_wit_functions.proofs.FuncLaws.{func_last, func_within}
+use Rattle.cm_wit_functions.proofs.functions.push_func_def.Goals as goal
 
 pub returns-in-Ok-clause-within : goal.returns-in-Ok-clause-within
 returns-in-Ok-clause-within c =

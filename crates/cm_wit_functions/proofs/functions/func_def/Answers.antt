@@ -5,8 +5,8 @@ use Rattle.cm_wit_types.specs.declared.signatures.Typed as typed_code
 use Rattle.cm_wit_types.specs.SignatureViews.{typed_tree}
 use Rattle.cm_wit_meanings.specs.Meanings.{each_meaning, typed_meaning}
 use Rattle.cm_wit_meanings.specs.Places.{scope_in}
-use Rattle.cm_wit_definitions.proofs.FuncLaws.{func_of_parts, answer_refused, fields_below}
-use Rattle.cm_wit_definitions.proofs.functions.func_def.Goals as goal
+use Rattle.cm_wit_functions.proofs.FuncLaws.{func_of_parts, answer_refused, fields_below}
+use Rattle.cm_wit_functions.proofs.functions.func_def.Goals as goal
 
 pub returns-in_err-answer-clause-fault : goal.returns-in_err-answer-clause-fault
 returns-in_err-answer-clause-fault c =

@@ -1,0 +1,4 @@
+mod GrowthLaws
+mod ScopeLaws
+mod FaultLaws
+mod FuncLaws
