@@ -40,7 +40,7 @@ pub struct Call {
 }
 
 /// An encoding in which strings are stored.
-fn read_stored(word: &str) -> Result<StringEncoding, RowFault>
+pub fn read_stored(word: &str) -> Result<StringEncoding, RowFault>
     ensures { IfOk result IsStored }
 {
     match read_encoding(word)? {
@@ -85,19 +85,19 @@ fn kinds_passed(alloc: Global, func: &Func, way: Way) -> Result<Vec<CoreKind>, A
     Ok(pointer)
 }
 
-/// The call that words say: `TYPE.. = SLOT.. at ANSWER..`, and the giver's memory.
+/// The call that words say: `TYPE.. = SLOT..`, the giver's memory, and the answers.
 pub fn read_call(
     alloc: Global,
     sides: Sides,
     way: &str,
     memory: &str,
     words: &[&str],
+    answers: &[&str],
 ) -> Result<Call, RowFault>
     requires { IsStored sides.target }
     ensures { IfOk result (λ c. (types : Fields) × IsOf c types) }
 {
-    let (types, words) = split_words(words, "=")?;
-    let (slots, answers) = split_words(words, "at")?;
+    let (types, slots) = split_words(words, "=")?;
     let func = read_func(alloc, types)?;
     let way = read_way(way)?;
     let layout = layout_of_params(alloc, &func)?;
@@ -117,7 +117,8 @@ pub fn read_call(
     })
 }
 
-fn read_answers(alloc: Global, words: &[&str]) -> Result<Vec<u32>, RowFault> {
+/// The numbers that words say.
+pub fn read_answers(alloc: Global, words: &[&str]) -> Result<Vec<u32>, RowFault> {
     let mut answers = Vec::new(alloc);
     for word in words {
         answers.push(read_number(word)?)?;

@@ -1,51 +1,21 @@
 //! Values of calls as trees: lifted, asked for and lowered.
 
-ghost use Rattle.std.specs.Prelude.{◌≡◌, ◌^◌, ◌<◌, slice_index, ℕ};
 ghost use Rattle.cm_lower.specs.Lowers.{CanBeLowered};
 ghost use Rattle.cm_types.specs.Types.{Fields};
 ghost use Rattle.call_rows.specs.Calls.{IsOf};
 
 use crate::call::{Call, write_request};
+use crate::lifted::{lift_call, passed_on, write_lifted};
 use cm_abi::laws::one_call;
-use cm_abi::{AbiFault, Encodings, Lifted, Passed, Passing, Request, lift, lower, requests};
+use cm_abi::{AbiFault, Passing, Request, lower, requests};
 use cm_handles::Table;
-use cm_row_values::{read_table, write_fault, write_hands, write_slots, write_table, write_values};
+use cm_row_values::{read_table, write_fault, write_slots, write_table};
 use cm_rows::{RowFault, write_units};
 use cm_types::CoreValue;
 use std::alloc::{AllocError, Global};
 
 /// What the receiver's memory holds before the call.
 pub const FILL: u8 = 0xaa;
-
-/// What a call passes on: the values that were lifted, with the tags of their strings.
-fn passed_on<'a>(call: &'a Call, lifted: &'a Lifted) -> Passing<'a>
-    ensures way { result.way ≡ call.now.way }
-    ensures layout { result.layout.now ≡ call.now.layout }
-    ensures kinds { result.kinds.now ≡ call.now.kinds.items }
-    ensures values { result.values.now ≡ lifted.now.values.items }
-    ensures source { result.encodings.source ≡ call.now.sides.source }
-    ensures target { result.encodings.target ≡ call.now.sides.target }
-    ensures tags { result.encodings.tags.now ≡ lifted.now.tagged.items }
-{
-    let tags: &'a [bool] = &lifted.tagged;
-    let encodings: Encodings<'a> = Encodings {
-        source: call.sides.source,
-        target: call.sides.target,
-        tags,
-    };
-    Passing {
-        way: call.way,
-        layout: &call.layout,
-        kinds: &call.kinds,
-        values: &lifted.values,
-        encodings,
-    }
-}
-
-/// Each number in a memory is one of 8 bits.
-fn are_bytes(memory: &[u8])
-    ensures { (i : ℕ) → slice_index memory.now i < 2 ^ 8 }
-{}
 
 /// Writes the values of a call, the giver's table then, and what lowering them comes to.
 pub fn answer(
@@ -59,14 +29,7 @@ pub fn answer(
 {
     one_call();
     let mut table = read_table(alloc, table)?;
-    let passed = Passed {
-        way: call.way,
-        layout: &call.layout,
-        slots: &call.slots,
-    };
-    let memory: &[u8] = &call.memory;
-    are_bytes(memory);
-    match lift(alloc, memory, &mut table, call.sides.source, &passed) {
+    match lift_call(alloc, call, &mut table) {
         Ok(lifted) => {
             write_lifted(out, &lifted, &table)?;
             let passing = passed_on(call, &lifted);
@@ -77,12 +40,6 @@ pub fn answer(
             Ok(write_table(out, &table)?)
         }
     }
-}
-
-fn write_lifted(out: &mut String, lifted: &Lifted, table: &Table) -> Result<(), AllocError> {
-    write_values(out, &lifted.values)?;
-    write_hands(out, &lifted.owns, &lifted.lends)?;
-    write_table(out, table)
 }
 
 /// Writes what lowering values asks for and, with the answers of the call, the core values that

@@ -15,13 +15,23 @@
 //! do, its fault and what is asked for again; else what copying them comes to, as of lowering. A
 //! request is `(OLD POINTER,OLD SIZE,ALIGNMENT,SIZE)`.
 //! A row with `scan` in the place of `call` is answered by the second half alone.
+//!
+//! The other rows are on one step of a call. `lift WAY SOURCE MEMORY TABLE TYPE.. = SLOT..` is
+//! answered by the values, or the fault, and the giver's table then; `requests WAY SOURCE MEMORY
+//! TABLE TARGET TYPE.. = SLOT..`, from UTF-8 or UTF-16, by what lowering them asks for,
+//! `ALIGN:SIZE`, or `>ALIGN:OLD:SIZE` of a request that hands back what the one before it got; and
+//! `pass WAY SOURCE MEMORY TABLE INSTANCE TYPE.. = SLOT..` by the numbers of their handles at a
+//! receiver whose table is empty, and its table then.
 #![tactic(auto)]
 
+mod answers;
 mod call;
+mod giving;
+mod lifted;
 mod lowered;
 mod scanned;
 
-use cm_rows::{Driver, RowFault, answer_rows};
+use cm_rows::{Driver, RowFault, answer_rows, split_words};
 use std::alloc::Global;
 use std::io;
 
@@ -31,35 +41,74 @@ struct CallRows;
 impl Driver for CallRows {
     fn answer(&mut self, alloc: Global, words: &[&str]) -> Result<String, RowFault> {
         match words {
-            [
-                verb,
-                way,
-                source,
-                target,
-                memory,
-                table,
-                length,
-                received,
-                instance,
-                rest @ ..,
-            ] => {
-                let sides = call::read_sides(source, target, length, instance)?;
-                let given = call::read_call(alloc, sides, way, memory, rest)?;
-                let mut out = String::new(alloc);
-                match *verb {
-                    "call" => {
-                        lowered::answer(alloc, &given, table, received, &mut out)?;
-                        out.push_str(" | ")?;
-                    }
-                    "scan" => {}
-                    _ => return Err(RowFault::NotARow),
-                }
-                scanned::answer(alloc, &given, table, received, &mut out)?;
-                Ok(out)
-            }
-            _ => Err(RowFault::NotARow),
+            ["lift", rest @ ..] => lift(alloc, rest),
+            ["pass", rest @ ..] => pass(alloc, rest),
+            ["requests", rest @ ..] => ask(alloc, rest),
+            ["give", table, instance, rest @ ..] => giving::answer(alloc, table, instance, rest),
+            ["answers", length, rest @ ..] => answers::answer(alloc, length, rest),
+            [verb, rest @ ..] => call_or_scan(alloc, verb, rest),
+            [] => Err(RowFault::NotARow),
         }
     }
+}
+
+fn lift(alloc: Global, words: &[&str]) -> Result<String, RowFault> {
+    let [way, source, memory, table, rest @ ..] = words else {
+        return Err(RowFault::NotARow);
+    };
+    let sides = call::read_sides(source, "utf8", "0", "0")?;
+    let given = call::read_call(alloc, sides, way, memory, rest, &[])?;
+    lifted::answer(alloc, &given, table)
+}
+
+fn pass(alloc: Global, words: &[&str]) -> Result<String, RowFault> {
+    let [way, source, memory, table, instance, rest @ ..] = words else {
+        return Err(RowFault::NotARow);
+    };
+    let sides = call::read_sides(source, "utf8", "0", instance)?;
+    let given = call::read_call(alloc, sides, way, memory, rest, &[])?;
+    lifted::pass(alloc, &given, table)
+}
+
+fn ask(alloc: Global, words: &[&str]) -> Result<String, RowFault> {
+    let [way, source, memory, table, target, rest @ ..] = words else {
+        return Err(RowFault::NotARow);
+    };
+    call::read_stored(source)?;
+    let sides = call::read_sides(source, target, "0", "0")?;
+    let given = call::read_call(alloc, sides, way, memory, rest, &[])?;
+    lifted::ask(alloc, &given, table)
+}
+
+fn call_or_scan(alloc: Global, verb: &str, words: &[&str]) -> Result<String, RowFault> {
+    let [
+        way,
+        source,
+        target,
+        memory,
+        table,
+        length,
+        received,
+        instance,
+        rest @ ..,
+    ] = words
+    else {
+        return Err(RowFault::NotARow);
+    };
+    let sides = call::read_sides(source, target, length, instance)?;
+    let (rest, answers) = split_words(rest, "at")?;
+    let given = call::read_call(alloc, sides, way, memory, rest, answers)?;
+    let mut out = String::new(alloc);
+    match verb {
+        "call" => {
+            lowered::answer(alloc, &given, table, received, &mut out)?;
+            out.push_str(" | ")?;
+        }
+        "scan" => {}
+        _ => return Err(RowFault::NotARow),
+    }
+    scanned::answer(alloc, &given, table, received, &mut out)?;
+    Ok(out)
 }
 
 fn main(rt: HostRuntime) -> io::Result<()> {

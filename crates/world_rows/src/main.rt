@@ -1,28 +1,21 @@
-//! Answers rows on worlds, and on packages in files, by the public calls of the libraries that read
-//! them.
+//! Answers rows on worlds, on the tables of what packages declare, and on packages as texts, by the
+//! public calls of the libraries that read them.
 #![tactic(auto)]
 
 mod files;
+mod instances;
 mod packages;
 mod printing;
+mod showing;
+mod tables;
 mod texts;
 mod worlds;
 
-use cm_rows::{Driver, RowFault, answer_rows};
-use packages::Named;
+use cm_rows::{Driver, RowFault, answer_rows, read_number};
+use packages::Question;
 use std::alloc::Global;
 use std::io;
 use texts::Texts;
-
-/// The packages that stand in files, each as it was written, and as it is printed.
-const FILES: [&str; 6] = [
-    "io.wit",
-    "io.printed",
-    "clocks.wit",
-    "clocks.printed",
-    "filesystem.wit",
-    "filesystem.printed",
-];
 
 #[derive(Drop)]
 struct WorldRows {
@@ -31,22 +24,28 @@ struct WorldRows {
 
 impl Driver for WorldRows {
     fn answer(&mut self, alloc: Global, words: &[&str]) -> Result<String, RowFault> {
-        let texts = &self.texts;
         match words {
-            ["print", written, printed] => printing::answer(alloc, texts, written, printed),
-            ["world", name, rest @ ..] => {
-                packages::answer(alloc, texts, Named::FullName(*name), rest)
-            }
+            ["text", name] => self.texts.begin(alloc, name),
+            ["line", line @ ..] => self.texts.add_line(alloc, line),
+            ["print", written, printed] => printing::answer(alloc, &self.texts, written, printed),
+            ["world", name, rest @ ..] => self.ask(alloc, Question::WorldOfName(*name), rest),
             ["number", number, rest @ ..] => {
-                let number = cm_rows::read_number(number)?;
-                packages::answer(alloc, texts, Named::Number(number), rest)
+                let number = read_number(number)?;
+                self.ask(alloc, Question::WorldOfNumber(number), rest)
             }
+            ["table", instances, rest @ ..] => self.ask(alloc, Question::Table(*instances), rest),
             _ => Err(RowFault::NotARow),
         }
     }
 }
 
+impl WorldRows {
+    fn ask(&self, alloc: Global, question: Question, words: &[&str]) -> Result<String, RowFault> {
+        packages::answer(alloc, &self.texts, question, words)
+    }
+}
+
 fn main(rt: HostRuntime) -> io::Result<()> {
-    let texts = Texts::load(&rt, &FILES)?;
+    let texts = Texts::new(rt.alloc());
     answer_rows(&rt, &mut WorldRows { texts })
 }

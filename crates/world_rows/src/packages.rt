@@ -8,6 +8,7 @@ ghost use Rattle.cm_wit_interfaces.specs.Interfaces.{package_name};
 ghost use Rattle.cm_wit_interfaces.specs.InterfaceViews.{files_of, placed_interface};
 
 use crate::files::package_files;
+use crate::tables;
 use crate::texts::Texts;
 use crate::worlds::{show_externs, world_fault};
 use cm_rows::RowFault;
@@ -18,11 +19,15 @@ use cm_wit_interfaces::{
 use cm_wit_worlds::{WorldFault, externs_of};
 use std::alloc::Global;
 
-/// How a row names a world: by its full name, or by its number among those of all packages.
+/// What a row asks of packages.
 #[derive(Clone, Copy)]
-pub enum Named<'a> {
-    FullName(&'a str),
-    Number(usize),
+pub enum Question<'a> {
+    /// What the world of a full name imports and exports.
+    WorldOfName(&'a str),
+    /// The same of the world of a number, among those of all packages.
+    WorldOfNumber(usize),
+    /// What the declarations of instances stand for.
+    Table(&'a str),
 }
 
 /// The number and the name of a text's fault, and its place.
@@ -36,11 +41,11 @@ pub fn show_fault(alloc: Global, fault: WitFault) -> Result<String, RowFault> {
     Ok(format!(in alloc; "{number} {name} at {at}")?)
 }
 
-/// What a world of the packages imports and exports, in order, or the first fault.
+/// The answer to a question of the packages of texts, or the first fault.
 pub fn answer(
     alloc: Global,
     texts: &Texts,
-    named: Named,
+    question: Question,
     words: &[&str],
 ) -> Result<String, RowFault> {
     let texts = texts.texts(alloc, words)?;
@@ -51,12 +56,12 @@ pub fn answer(
             Err(fault) => return show_fault(alloc, fault),
         }
     }
-    answer_of(alloc, &packages, named)
+    answer_of(alloc, &packages, question)
 }
 
-fn answer_of(alloc: Global, packages: &[Package], named: Named) -> Result<String, RowFault> {
+fn answer_of(alloc: Global, packages: &[Package], question: Question) -> Result<String, RowFault> {
     let names = package_names(alloc, &package_files(alloc, packages)?)?;
-    answer_in(alloc, packages, &names, named)
+    answer_in(alloc, packages, &names, question)
 }
 
 /// The same, where the names of the packages are these.
@@ -64,28 +69,32 @@ fn answer_in<'a>(
     alloc: Global,
     packages: &'a [Package],
     names: &'a [String],
-    named: Named,
+    question: Question,
 ) -> Result<String, RowFault>
     requires { map string_bytes names.now ≡ map package_name (map package_tree packages.now) }
 {
     let files = package_files(alloc, packages)?;
     let interfaces = interfaces(alloc, &files)?;
     let directory = Directory::new(alloc, files, names, &interfaces)?;
-    answer_from(alloc, &directory, &interfaces, named)
+    if let Question::Table(instances) = question {
+        return tables::answer(alloc, &directory, &interfaces, instances);
+    }
+    answer_worlds(alloc, &directory, &interfaces, question)
 }
 
-/// The same of packages in a directory, whose interfaces are these.
-fn answer_from<'a>(
+/// What the world that is asked for imports and exports, in order, or the first fault, of packages
+/// in a directory, whose interfaces are these.
+fn answer_worlds<'a>(
     alloc: Global,
     directory: &Directory<'a>,
     interfaces: &[PlacedInterface<'a>],
-    named: Named,
+    question: Question,
 ) -> Result<String, RowFault>
     requires { map placed_interface interfaces.now
         ≡ spec.interfaces (files_of directory.now.files.items) }
 {
     let worlds = worlds(alloc, &directory.files)?;
-    match find_world(alloc, directory, &worlds, named)? {
+    match find_world(alloc, directory, &worlds, question)? {
         Some(world) => answer_world(alloc, directory, interfaces, &world),
         None => world_fault(alloc, WorldFault::NoSuchWorld),
     }
@@ -111,11 +120,12 @@ fn find_world<'a>(
     alloc: Global,
     directory: &Directory<'a>,
     worlds: &[PlacedWorld<'a>],
-    named: Named,
+    question: Question,
 ) -> Result<Option<PlacedWorld<'a>>, RowFault> {
-    let number = match named {
-        Named::FullName(name) => directory.world_at(alloc, worlds, name)?,
-        Named::Number(number) => Some(number),
+    let number = match question {
+        Question::WorldOfName(name) => directory.world_at(alloc, worlds, name)?,
+        Question::WorldOfNumber(number) => Some(number),
+        Question::Table(_) => None,
     };
     match number {
         Some(number) => Ok(worlds.get(number).copied()),

@@ -15,7 +15,7 @@ fn printed(alloc: Global, text: &str) -> Result<String, WitFault> {
     }
 }
 
-/// Whether the package in one file is printed as another file stands, and so is what was printed:
+/// Whether the package of one text is printed as another text stands, and so is what was printed:
 /// then how many bytes that is.
 pub fn answer(
     alloc: Global,
@@ -23,7 +23,7 @@ pub fn answer(
     written: &str,
     wanted: &str,
 ) -> Result<String, RowFault> {
-    let (Some(written), Some(wanted)) = (texts.file(written), texts.file(wanted)) else {
+    let (Some(written), Some(wanted)) = (texts.named(written), texts.named(wanted)) else {
         return Err(RowFault::NotARow);
     };
     match printed_twice(alloc, written) {

@@ -1,59 +1,68 @@
-//! The texts of packages, in rows and in files.
+//! The texts of packages, in rows.
+//!
+//! `text NAME` begins a text, and `line WORD ..` adds a line to the one that was begun last. Rows
+//! after them name the text.
 
 use cm_rows::RowFault;
 use std::alloc::{AllocError, Global};
-use std::{fs, io, rt};
 
-/// A file's name and its text.
+/// A text and its name.
 #[derive(Drop)]
-struct TextFile {
+struct NamedText {
     name: String,
     text: String,
 }
 
-/// Texts in files.
+/// The texts that rows have named.
 #[derive(Drop)]
 pub struct Texts {
-    files: Vec<TextFile>,
+    named: Vec<NamedText>,
 }
 
 impl Texts {
-    /// Those in the files of these names.
-    pub fn load<R: rt::Files + AllocGlobal>(rt: &R, names: &[&str]) -> io::Result<Texts> {
-        let mut files = Vec::new(rt.alloc());
-        for name in names {
-            let text = fs::read_to_string(rt, *name)?;
-            let name = String::from_str(rt.alloc(), name)?;
-            files.push(TextFile { name, text })?;
+    pub fn new(alloc: Global) -> Texts {
+        Texts {
+            named: Vec::new(alloc),
         }
-        Ok(Texts { files })
     }
 
-    /// The text in the file of a name.
-    pub fn file(&self, name: &str) -> Option<&str> {
-        for file in &self.files {
-            if file.name.as_str() == name {
-                return Some(file.text.as_str());
+    /// Begins a text.
+    pub fn begin(&mut self, alloc: Global, name: &str) -> Result<String, RowFault> {
+        let name = String::from_str(alloc, name)?;
+        let text = String::new(alloc);
+        self.named.push(NamedText { name, text })?;
+        Ok(String::from_str(alloc, "begun")?)
+    }
+
+    /// Adds a line to the last text: how many bytes that then has.
+    pub fn add_line(&mut self, alloc: Global, words: &[&str]) -> Result<String, RowFault> {
+        let last = self.named.last_mut().ok_or(RowFault::NotARow)?;
+        add_words(&mut last.text, words)?;
+        last.text.push_str("\n")?;
+        let length = last.text.len();
+        Ok(format!(in alloc; "{length} bytes")?)
+    }
+
+    /// The text of a name.
+    pub fn named(&self, name: &str) -> Option<&str> {
+        for named in &self.named {
+            if named.name.as_str() == name {
+                return Some(named.text.as_str());
             }
         }
         None
     }
 
-    /// The text that words of a row stand for: that of the file whose name they are, or else the
-    /// words themselves, one blank apart.
+    /// The text that words of a row stand for: that of the name that they are, or else the words
+    /// themselves, one blank apart.
     fn text(&self, alloc: Global, words: &[&str]) -> Result<String, AllocError> {
         if let [name] = words {
-            if let Some(text) = self.file(name) {
+            if let Some(text) = self.named(name) {
                 return String::from_str(alloc, text);
             }
         }
         let mut text = String::new(alloc);
-        for (index, word) in words.iter().enumerate() {
-            if index > 0 {
-                text.push_str(" ")?;
-            }
-            text.push_str(word)?;
-        }
+        add_words(&mut text, words)?;
         Ok(text)
     }
 
@@ -65,4 +74,15 @@ impl Texts {
         }
         Ok(texts)
     }
+}
+
+/// Adds words, one blank apart.
+fn add_words(text: &mut String, words: &[&str]) -> Result<(), AllocError> {
+    for (index, word) in words.iter().enumerate() {
+        if index > 0 {
+            text.push_str(" ")?;
+        }
+        text.push_str(word)?;
+    }
+    Ok(())
 }

@@ -8,7 +8,7 @@ use cm_wit_tables::{Table, TableFault};
 use std::alloc::{AllocError, Global};
 
 /// The number and the name of a table's fault.
-pub fn show_fault(alloc: Global, fault: TableFault) -> Result<String, RowFault> {
+pub fn table_fault(alloc: Global, fault: TableFault) -> Result<String, RowFault> {
     if fault == TableFault::Memory {
         return Err(RowFault::Memory);
     }

@@ -6,6 +6,7 @@
 ghost use Rattle.std.specs.Prelude.{◌<◌, IfOk};
 ghost use Rattle.cm_lowering.specs.Answering.{AreAligned};
 
+use crate::call::read_answers;
 use cm_abi_model::Request;
 use cm_lowering::check_answers;
 use cm_row_values::write_fault;
@@ -62,12 +63,4 @@ fn read_request(word: &str) -> Result<Request, RowFault>
         align,
         size: read_number(size)?,
     })
-}
-
-fn read_answers(alloc: Global, words: &[&str]) -> Result<Vec<u32>, RowFault> {
-    let mut answers = Vec::new(alloc);
-    for word in words {
-        answers.push(read_number(word)?)?;
-    }
-    Ok(answers)
 }
