@@ -1,14 +1,15 @@
 //! The commands.
 
 use crate::fault::{Fault, report};
-use crate::files::Files;
-use crate::loading::{load, load_script, load_set};
+use crate::loading::{load_script, load_set};
 use crate::outcome::Outcome;
 use crate::plan::write_plan;
 use crate::play_help::SetSize;
 use crate::playing::play;
 use cm_machine::Set;
 use cm_match::Linked;
+use cm_tool_files::{Files, load};
+use cm_tool_signatures::show_component;
 use cm_validate::Checked;
 use cm_words::{Request, WordsFault};
 use std::alloc::Global;
@@ -51,6 +52,7 @@ fn run<'a, F: Files, O: Write, E: Write>(
 ) -> Result<Outcome, Fault<'a>> {
     match read_words(alloc, words)? {
         Request::Check { file } => run_check(alloc, file, files, out),
+        Request::Show { file } => run_show(alloc, file, files, out),
         Request::Link { files: names } => run_link(alloc, names.as_slice(), files, out),
         Request::Play {
             script,
@@ -76,6 +78,27 @@ fn run_check<'a, F: Files, O: Write>(
     let checked = load(alloc, files, name)?;
     write_counts(out, &checked)?;
     Ok(Outcome::Done)
+}
+
+fn run_show<'a, F: Files, O: Write>(
+    alloc: Global,
+    name: &'a str,
+    files: &mut F,
+    out: &mut O,
+) -> Result<Outcome, Fault<'a>> {
+    let component = load(alloc, files, name)?;
+    match show_component(alloc, &component) {
+        Ok(text) => {
+            write_text(out, text.as_str())?;
+            Ok(Outcome::Done)
+        }
+        Err(fault) => Err(Fault::Show { name, fault }),
+    }
+}
+
+fn write_text<O: Write>(out: &mut O, text: &str) -> io::Result<()> {
+    out.write_all(text.as_bytes())?;
+    out.flush()
 }
 
 /// Writes how many imports and exports a component has.

@@ -3,15 +3,14 @@
 ghost use Rattle.std.specs.Prelude.{◌≡◌};
 ghost use Rattle.cm_tool.specs.declared.fault.Fault.TheVariants as fault;
 
-use crate::file_help::{write_bad_utf8, write_decode_fault, write_file_fault, write_valid_fault};
-use crate::files::FileFault;
 use crate::link_help::{SignatureNames, write_link_fault};
 use crate::play_help::{Drive, SetSize, write_begin_fault, write_limit, write_set_fault};
 use crate::script_help::{BadLine, write_bad_line};
-use cm_binary::DecodeFault;
 use cm_machine::Misuse;
 use cm_match::LinkFault;
-use cm_validate::ValidFault;
+use cm_show::ShowFault;
+use cm_tool_files::BadFile;
+use cm_tool_signatures::write_show_fault;
 use cm_words::USAGE;
 use std::alloc::{AllocError, AllocFailed};
 use std::io::Write;
@@ -24,31 +23,17 @@ pub enum Fault<'a> {
     Usage,
     /// There was no memory.
     Memory,
-    /// A file cannot be read.
-    File {
+    /// A file is not what the command wants.
+    File(BadFile<'a>),
+    /// The component of a file is not shown.
+    Show {
         name: &'a str,
-        fault: FileFault,
-    },
-    /// A file is no component file. `found` is the byte at the fault, where the file has one there.
-    Decode {
-        name: &'a str,
-        fault: DecodeFault,
-        found: Option<u8>,
-    },
-    /// A file's component is not valid.
-    Valid {
-        name: &'a str,
-        fault: ValidFault,
+        fault: ShowFault,
     },
     /// Components do not link, whose names are these.
     Link {
         fault: LinkFault,
         names: Vec<SignatureNames<'a>>,
-    },
-    /// A file that should be text is not UTF-8, from the byte `at` on.
-    BadUtf8 {
-        name: &'a str,
-        at: usize,
     },
     /// A script has a line at fault.
     Script(BadLine),
@@ -76,12 +61,11 @@ impl Fault<'_> {
     pub fn status(&self) -> u8 {
         match self {
             Fault::Usage => 2,
-            Fault::File { .. } | Fault::Output => 4,
+            Fault::Output => 4,
+            Fault::File(bad) => bad.status(),
             Fault::Memory
-            | Fault::Decode { .. }
-            | Fault::Valid { .. }
+            | Fault::Show { .. }
             | Fault::Link { .. }
-            | Fault::BadUtf8 { .. }
             | Fault::Script(_)
             | Fault::Set { .. }
             | Fault::Begin { .. }
@@ -106,6 +90,14 @@ impl<T: Drop> From<AllocFailed<T>> for Fault<'_> {
     }
 }
 
+impl<'a> From<BadFile<'a>> for Fault<'a> {
+    ghost from_gives = { λ bad f. f ≡ fault.File bad };
+
+    fn from(bad: BadFile<'a>) -> Self {
+        Fault::File(bad)
+    }
+}
+
 impl From<io::Error> for Fault<'_> {
     ghost from_gives = { λ _ f. f ≡ fault.Output };
 
@@ -119,11 +111,9 @@ impl fmt::Display for Fault<'_> {
         match self {
             Fault::Usage => write!(f, "usage: {USAGE}"),
             Fault::Memory => f.write_str("Memory"),
-            Fault::File { name, fault } => write_file_fault(f, name, *fault),
-            Fault::Decode { name, fault, found } => write_decode_fault(f, name, *fault, *found),
-            Fault::Valid { name, fault } => write_valid_fault(f, name, *fault),
+            Fault::File(bad) => write!(f, "{bad}"),
+            Fault::Show { name, fault } => write_show_fault(f, name, *fault),
             Fault::Link { fault, names } => write_link_fault(f, *fault, names.as_slice()),
-            Fault::BadUtf8 { name, at } => write_bad_utf8(f, name, *at),
             Fault::Script(bad) => write_bad_line(f, bad),
             Fault::Set { misuse, size } => write_set_fault(f, *misuse, *size),
             Fault::Begin { misuse, drive } => write_begin_fault(f, *misuse, *drive),

@@ -1,46 +1,13 @@
 //! Reading the files of a command.
 
 use crate::fault::Fault;
-use crate::files::Files;
 use crate::link_help::SignatureNames;
 use crate::script_help::BadLine;
-use cm_binary::decode;
 use cm_match::{Linked, link};
 use cm_script::Script;
-use cm_validate::{Checked, validate};
+use cm_tool_files::{Files, load, read_file, text_of};
+use cm_validate::Checked;
 use std::alloc::{AllocError, Global};
-
-/// The bytes of a file.
-fn read_file<'a, F: Files>(
-    alloc: Global,
-    files: &mut F,
-    name: &'a str,
-) -> Result<Vec<u8>, Fault<'a>> {
-    match files.read(alloc, name) {
-        Ok(bytes) => Ok(bytes),
-        Err(fault) => Err(Fault::File { name, fault }),
-    }
-}
-
-/// The component of a file: its bytes are read, decoded and validated.
-pub fn load<'a, F: Files>(
-    alloc: Global,
-    files: &mut F,
-    name: &'a str,
-) -> Result<Checked, Fault<'a>> {
-    let bytes = read_file(alloc, files, name)?;
-    let component = match decode(alloc, bytes.as_slice()) {
-        Ok(component) => component,
-        Err(fault) => {
-            let found = bytes.get(fault.at).copied();
-            return Err(Fault::Decode { name, fault, found });
-        }
-    };
-    match validate(alloc, component) {
-        Ok(checked) => Ok(checked),
-        Err(fault) => Err(Fault::Valid { name, fault }),
-    }
-}
 
 /// The components of some files, with their names.
 #[derive(Drop)]
@@ -95,13 +62,7 @@ pub fn load_script<'a, F: Files>(
     components: usize,
 ) -> Result<Script, Fault<'a>> {
     let bytes = read_file(alloc, files, name)?;
-    let text = match str::from_utf8(bytes.as_slice()) {
-        Ok(text) => text,
-        Err(error) => {
-            let at = error.valid_up_to();
-            return Err(Fault::BadUtf8 { name, at });
-        }
-    };
+    let text = text_of(name, bytes.as_slice())?;
     match Script::parse(alloc, text, components) {
         Ok(script) => Ok(script),
         Err(refusal) => {

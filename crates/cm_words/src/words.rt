@@ -1,13 +1,13 @@
 //! What the words of the command line ask for.
 
 use clap::error::ErrorKind;
-use clap::{Arg, ArgAction, ArgMatches, Command, Error};
+use clap::{Arg, ArgAction, ArgMatches, Command};
 use std::alloc::{AllocError, Global};
 use std::fmt;
 
 /// The commands, as a line of standard error names them.
-pub const USAGE: &str = "component_tool check FILE | component_tool link FILE.. \
-    | component_tool play --script S FILE..";
+pub const USAGE: &str = "component_tool check FILE | component_tool show FILE \
+    | component_tool link FILE.. | component_tool play --script S FILE..";
 
 /// Why words are no command.
 #[derive(Clone, Copy)]
@@ -34,6 +34,10 @@ pub enum Request<'a> {
     Check {
         file: &'a str,
     },
+    /// `show FILE`
+    Show {
+        file: &'a str,
+    },
     /// `link FILE..`
     Link {
         files: Vec<&'a str>,
@@ -53,49 +57,92 @@ impl<'a> Request<'a> {
     pub fn read(alloc: Global, words: &'a [String]) -> Result<Request<'a>, WordsFault> {
         let matches = match_words(alloc, words)?;
         match matches.subcommand() {
-            Some(("check", found)) => Ok(Request::Check {
-                file: found.get_str("file").ok_or(WordsFault::NoCommand)?,
-            }),
-            Some(("link", found)) => Ok(Request::Link {
-                files: files_of(alloc, found)?,
-            }),
-            Some(("play", found)) => Ok(Request::Play {
-                script: found.get_str("script").ok_or(WordsFault::NoCommand)?,
-                files: files_of(alloc, found)?,
-            }),
+            Some(("check", found)) => Request::check(found),
+            Some(("show", found)) => Request::show(found),
+            Some(("link", found)) => Request::link(alloc, found),
+            Some(("play", found)) => Request::play(alloc, found),
             _ => Err(WordsFault::NoCommand),
         }
+    }
+
+    fn check(found: &ArgMatches<'a>) -> Result<Request<'a>, WordsFault> {
+        let file = value_of(found, "file")?;
+        Ok(Request::Check { file })
+    }
+
+    fn show(found: &ArgMatches<'a>) -> Result<Request<'a>, WordsFault> {
+        let file = value_of(found, "file")?;
+        Ok(Request::Show { file })
+    }
+
+    fn link(alloc: Global, found: &ArgMatches<'a>) -> Result<Request<'a>, WordsFault> {
+        let files = files_of(alloc, found)?;
+        Ok(Request::Link { files })
+    }
+
+    fn play(alloc: Global, found: &ArgMatches<'a>) -> Result<Request<'a>, WordsFault> {
+        let script = value_of(found, "script")?;
+        let files = files_of(alloc, found)?;
+        Ok(Request::Play { script, files })
     }
 }
 
 fn match_words<'a>(alloc: Global, words: &'a [String]) -> Result<ArgMatches<'a>, WordsFault> {
-    match try_match(alloc, words) {
+    let tool = match commands(alloc) {
+        Ok(tool) => tool,
+        Err(AllocError) => return Err(WordsFault::Memory),
+    };
+    match tool.try_get_matches_from(words) {
         Ok(matches) => Ok(matches),
         Err(error) if error.kind() == ErrorKind::OutOfMemory => Err(WordsFault::Memory),
         Err(_) => Err(WordsFault::NoCommand),
     }
 }
 
-fn try_match<'a>(alloc: Global, words: &'a [String]) -> Result<ArgMatches<'a>, Error> {
-    let check = Command::new(alloc, "check").arg(Arg::new(alloc, "file").required(true))?;
-    let link = Command::new(alloc, "link").arg(files(alloc))?;
-    let script = Arg::new(alloc, "script").long("script").required(true);
-    let play = Command::new(alloc, "play").arg(script)?.arg(files(alloc))?;
-    Command::new(alloc, "component_tool")
+/// The tool with all its commands.
+fn commands<'a>(alloc: Global) -> Result<Command<'a>, AllocError> {
+    let tool = Command::new(alloc, "component_tool")
         .no_binary_name(true)
-        .subcommand_required(true)
-        .subcommand(check)?
-        .subcommand(link)?
-        .subcommand(play)?
-        .try_get_matches_from(words)
+        .subcommand_required(true);
+    let tool = add(tool, on_file(alloc, "check"))?;
+    let tool = add(tool, on_file(alloc, "show"))?;
+    let tool = add(tool, on_files(alloc, "link"))?;
+    add(tool, play(alloc))
 }
 
-/// One file or more.
-fn files<'a>(alloc: Global) -> Arg<'a> {
-    Arg::new(alloc, "files")
+/// The tool with one command more.
+fn add<'a>(
+    tool: Command<'a>,
+    command: Result<Command<'a>, AllocError>,
+) -> Result<Command<'a>, AllocError> {
+    tool.subcommand(command?)
+}
+
+/// The command of this name, on one file.
+fn on_file<'a>(alloc: Global, name: &'a str) -> Result<Command<'a>, AllocError> {
+    Command::new(alloc, name).arg(Arg::new(alloc, "file").required(true))
+}
+
+/// The command of this name, on one file or more.
+fn on_files<'a>(alloc: Global, name: &'a str) -> Result<Command<'a>, AllocError> {
+    let files = Arg::new(alloc, "files")
         .required(true)
         .num_args(1..)
-        .action(ArgAction::Append)
+        .action(ArgAction::Append);
+    Command::new(alloc, name).arg(files)
+}
+
+fn play<'a>(alloc: Global) -> Result<Command<'a>, AllocError> {
+    on_files(alloc, "play")?.arg(option(alloc, "script"))
+}
+
+/// An option with a value, which is given once.
+fn option<'a>(alloc: Global, name: &'a str) -> Arg<'a> {
+    Arg::new(alloc, name).long(name).required(true)
+}
+
+fn value_of<'a>(found: &ArgMatches<'a>, id: &str) -> Result<&'a str, WordsFault> {
+    found.get_str(id).ok_or(WordsFault::NoCommand)
 }
 
 fn files_of<'a>(alloc: Global, found: &ArgMatches<'a>) -> Result<Vec<&'a str>, WordsFault> {

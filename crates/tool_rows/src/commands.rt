@@ -102,6 +102,7 @@ fn show_request(alloc: Global, request: Result<Request, WordsFault>) -> Result<S
     let mut out = String::new(alloc);
     match request {
         Ok(Request::Check { file }) => write!(out, "check of {file}")?,
+        Ok(Request::Show { file }) => write!(out, "show of {file}")?,
         Ok(Request::Link { files }) => {
             out.push_str("link of")?;
             write_names(&mut out, &files)?;

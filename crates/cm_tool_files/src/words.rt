@@ -1,4 +1,4 @@
-//! The lines of faults in one file.
+//! The lines of what is wrong with a file.
 
 use crate::files::FileFault;
 use cm_binary::{DecodeFault, DecodeReason};
@@ -6,7 +6,7 @@ use cm_validate::{ValidFault, ValidReason};
 use std::fmt;
 
 /// Writes why a file cannot be read.
-pub fn write_file_fault<W: fmt::Write>(
+pub(crate) fn write_file_fault<W: fmt::Write>(
     f: &mut fmt::Formatter<W>,
     name: &str,
     fault: FileFault,
@@ -15,18 +15,18 @@ pub fn write_file_fault<W: fmt::Write>(
     write!(f, "{name}: {reason_name}: {fault}")
 }
 
-/// Writes from which byte on a script is not UTF-8.
-pub fn write_bad_utf8<W: fmt::Write>(
+/// Writes from which byte on a file is not UTF-8.
+pub(crate) fn write_bad_utf8<W: fmt::Write>(
     f: &mut fmt::Formatter<W>,
     name: &str,
     at: usize,
 ) -> fmt::Result {
-    write!(f, "{name}: BadUtf8 at {at}: a script is UTF-8 text")
+    write!(f, "{name}: BadUtf8 at {at}: expected a text in UTF-8")
 }
 
 /// Writes the fault of a file that is no component file: the reason, the place, what the reason
 /// says, and the byte that stands there where the byte itself is at fault.
-pub fn write_decode_fault<W: fmt::Write>(
+pub(crate) fn write_decode_fault<W: fmt::Write>(
     f: &mut fmt::Formatter<W>,
     name: &str,
     fault: DecodeFault,
@@ -91,7 +91,7 @@ fn decode_reason_name(reason: DecodeReason) -> &'static str {
 
 /// Writes the fault of a component that is not valid: the reason, the place, and what the reason
 /// means.
-pub fn write_valid_fault<W: fmt::Write>(
+pub(crate) fn write_valid_fault<W: fmt::Write>(
     f: &mut fmt::Formatter<W>,
     name: &str,
     fault: ValidFault,

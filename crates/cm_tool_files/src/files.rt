@@ -1,7 +1,7 @@
 //! Where the bytes of files come from.
 
 ghost use Rattle.std.specs.Prelude.{◌≡◌};
-ghost use Rattle.cm_tool.specs.Numbers.{file_fault_number};
+ghost use Rattle.cm_tool_files.specs.Numbers.{file_fault_number};
 
 use std::alloc::Global;
 use std::io::ErrorKind;

@@ -1,0 +1,3 @@
+pub mod FuncLaws
+pub mod PlaceLaws
+pub mod SpaceLaws

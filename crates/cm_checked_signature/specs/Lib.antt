@@ -1,0 +1,2 @@
+pub mod OverU32
+pub mod Placed

@@ -1,0 +1,89 @@
+//! Reading the files of a command.
+
+ghost use Rattle.std.specs.Prelude.{◌≡◌, IfOk, IfErr, OnOk, List};
+ghost use Rattle.std.specs.Str.{IsUtf8};
+ghost use Rattle.std.specs.Str.Lossy.{utf8_valid_len};
+ghost use Rattle.cm_component.specs.Trees.{SectionTree};
+ghost use Rattle.cm_reading.specs.File.{Spells};
+ghost use Rattle.cm_validate.specs.Valid.{IsValid};
+ghost use Rattle.cm_tool_files.specs.Refusals.{IsNoText, IsRefused, IsWantOfMemory};
+
+use crate::bad_file::{BadFile, FileReason};
+use crate::files::Files;
+use cm_binary::decode;
+use cm_validate::{Checked, validate};
+use std::alloc::Global;
+
+/// The bytes of a file.
+pub fn read_file<'a, F: Files>(
+    alloc: Global,
+    files: &mut F,
+    name: &'a str,
+) -> Result<Vec<u8>, BadFile<'a>> {
+    match files.read(alloc, name) {
+        Ok(bytes) => Ok(bytes),
+        Err(fault) => Err(BadFile {
+            name,
+            reason: FileReason::Unread(fault),
+        }),
+    }
+}
+
+/// The component whose file has these bytes, which is decoded and validated (Binary.md;
+/// Explainer.md, "Component Definitions"). The first fault is that of `decode`, or else that of
+/// `validate`.
+pub fn component_of<'a>(alloc: Global, name: &'a str, bytes: &[u8]) -> Result<Checked, BadFile<'a>>
+    ensures found { IfOk result (λ c. Spells c bytes.now) }
+    ensures valid { IfOk result (λ c. IsValid c) }
+    ensures only { (c : List SectionTree) → Spells c bytes.now → IsValid c
+        → IfErr result (λ e. IsWantOfMemory e.reason) }
+    ensures refused { IfErr result (λ e. IsRefused bytes.now e.reason) }
+    ensures name { IfErr result (λ e. e.name ≡ name.entry) }
+{
+    let component = match decode(alloc, bytes) {
+        Ok(component) => component,
+        Err(fault) => {
+            let found = bytes.get(fault.at).copied();
+            return Err(BadFile {
+                name,
+                reason: FileReason::NoComponent { fault, found },
+            });
+        }
+    };
+    match validate(alloc, component) {
+        Ok(checked) => Ok(checked),
+        Err(fault) => Err(BadFile {
+            name,
+            reason: FileReason::NotValid(fault),
+        }),
+    }
+}
+
+/// The component of a file: its bytes are read, decoded and validated.
+pub fn load<'a, F: Files>(
+    alloc: Global,
+    files: &mut F,
+    name: &'a str,
+) -> Result<Checked, BadFile<'a>> {
+    let bytes = read_file(alloc, files, name)?;
+    component_of(alloc, name, bytes.as_slice())
+}
+
+/// The text whose file has these bytes. They are refused where they are not UTF-8, at the first
+/// byte of what is ill-formed.
+pub fn text_of<'a, 'b>(name: &'a str, bytes: &'b [u8]) -> Result<&'b str, BadFile<'a>>
+    ensures text { IfOk result (λ text. text.now ≡ bytes.now) }
+    ensures utf8 { IsUtf8 bytes.now → IfErr result (λ e. ⊥) }
+    ensures place { IfErr result (λ e. IsNoText (utf8_valid_len bytes.now) e.reason) }
+    ensures name { IfErr result (λ e. e.name ≡ name.entry) }
+{
+    match str::from_utf8(bytes) {
+        Ok(text) => Ok(text),
+        Err(error) => Err(BadFile {
+            name,
+            reason: FileReason::NoText {
+                at: error.valid_up_to(),
+            },
+        }),
+    }
+}
