@@ -1,0 +1,8 @@
+mod ListLaws
+mod MarkLaws
+mod TypedLaws
+mod ReachLaws
+mod MadeLaws
+mod SignLaws
+mod OrderLaws
+mod FoundLaws

@@ -1,0 +1,4 @@
+pub mod Sides
+pub mod Faults
+pub mod Typed
+pub mod Made
