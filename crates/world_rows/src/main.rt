@@ -7,6 +7,7 @@ mod instances;
 mod packages;
 mod printing;
 mod showing;
+mod signatures;
 mod tables;
 mod texts;
 mod worlds;
@@ -34,6 +35,7 @@ impl Driver for WorldRows {
                 self.ask(alloc, Question::WorldOfNumber(number), rest)
             }
             ["table", instances, rest @ ..] => self.ask(alloc, Question::Table(*instances), rest),
+            ["signature", name, rest @ ..] => self.ask(alloc, Question::Signature(*name), rest),
             _ => Err(RowFault::NotARow),
         }
     }

@@ -8,9 +8,9 @@ ghost use Rattle.cm_wit_interfaces.specs.Interfaces.{package_name};
 ghost use Rattle.cm_wit_interfaces.specs.InterfaceViews.{files_of, placed_interface};
 
 use crate::files::package_files;
-use crate::tables;
 use crate::texts::Texts;
 use crate::worlds::{show_externs, world_fault};
+use crate::{signatures, tables};
 use cm_rows::RowFault;
 use cm_wit::{Package, WitFault, WitReason, parse};
 use cm_wit_interfaces::{
@@ -28,6 +28,8 @@ pub enum Question<'a> {
     WorldOfNumber(usize),
     /// What the declarations of instances stand for.
     Table(&'a str),
+    /// The signature of the world of a full name.
+    Signature(&'a str),
 }
 
 /// The number and the name of a text's fault, and its place.
@@ -60,6 +62,17 @@ pub fn answer(
 }
 
 fn answer_of(alloc: Global, packages: &[Package], question: Question) -> Result<String, RowFault> {
+    match question {
+        Question::Signature(name) => signatures::answer(alloc, packages, name),
+        _ => answer_named(alloc, packages, question),
+    }
+}
+
+fn answer_named(
+    alloc: Global,
+    packages: &[Package],
+    question: Question,
+) -> Result<String, RowFault> {
     let names = package_names(alloc, &package_files(alloc, packages)?)?;
     answer_in(alloc, packages, &names, question)
 }
@@ -125,7 +138,7 @@ fn find_world<'a>(
     let number = match question {
         Question::WorldOfName(name) => directory.world_at(alloc, worlds, name)?,
         Question::WorldOfNumber(number) => Some(number),
-        Question::Table(_) => None,
+        Question::Table(_) | Question::Signature(_) => None,
     };
     match number {
         Some(number) => Ok(worlds.get(number).copied()),
