@@ -8,8 +8,8 @@ use crate::play_help::SetSize;
 use crate::playing::play;
 use cm_machine::Set;
 use cm_match::Linked;
-use cm_tool_files::{Files, load};
-use cm_tool_signatures::show_component;
+use cm_tool_files::{Files, load, read_file, text_of};
+use cm_tool_signatures::{Unfit, conform_component, show_component};
 use cm_validate::Checked;
 use cm_words::{Request, WordsFault};
 use std::alloc::Global;
@@ -24,9 +24,10 @@ pub const LIMIT: u64 = 1_000_000;
 /// trapped, 4 where a file cannot be read or standard output not be written.
 ///
 /// The words are those after the program's name. Files are read, decoded and validated in their
-/// order, `link` and `play` then link them, and `play` reads its script after that. The first fault
-/// ends the command, with one line on standard error that begins with `error: `; of `play`, also
-/// each drive that is refused or reaches its limit has such a line, and the later ones run.
+/// order, `link` and `play` then link them, and `play` reads its script after that, as `conform`
+/// does its text. The first fault ends the command, with one line on standard error that begins
+/// with `error: `; of `play`, also each drive that is refused or reaches its limit has such a line,
+/// and the later ones run.
 pub fn tool<F: Files, O: Write, E: Write>(
     alloc: Global,
     words: &[String],
@@ -53,6 +54,7 @@ fn run<'a, F: Files, O: Write, E: Write>(
     match read_words(alloc, words)? {
         Request::Check { file } => run_check(alloc, file, files, out),
         Request::Show { file } => run_show(alloc, file, files, out),
+        Request::Conform { wit, world, file } => run_conform(alloc, wit, world, file, files, out),
         Request::Link { files: names } => run_link(alloc, names.as_slice(), files, out),
         Request::Play {
             script,
@@ -93,6 +95,31 @@ fn run_show<'a, F: Files, O: Write>(
             Ok(Outcome::Done)
         }
         Err(fault) => Err(Fault::Show { name, fault }),
+    }
+}
+
+fn run_conform<'a, F: Files, O: Write>(
+    alloc: Global,
+    wit: &'a str,
+    world: &'a str,
+    file: &'a str,
+    files: &mut F,
+    out: &mut O,
+) -> Result<Outcome, Fault<'a>> {
+    let component = load(alloc, files, file)?;
+    let bytes = read_file(alloc, files, wit)?;
+    let text = text_of(wit, bytes.as_slice())?;
+    match conform_component(alloc, text, world, &component) {
+        Ok(()) => {
+            write_text(out, "ok\n")?;
+            Ok(Outcome::Done)
+        }
+        Err(reason) => Err(Fault::Unfit(Unfit {
+            wit,
+            world,
+            file,
+            reason,
+        })),
     }
 }
 

@@ -10,7 +10,7 @@ use cm_machine::Misuse;
 use cm_match::LinkFault;
 use cm_show::ShowFault;
 use cm_tool_files::BadFile;
-use cm_tool_signatures::write_show_fault;
+use cm_tool_signatures::{Unfit, write_show_fault};
 use cm_words::USAGE;
 use std::alloc::{AllocError, AllocFailed};
 use std::io::Write;
@@ -30,6 +30,8 @@ pub enum Fault<'a> {
         name: &'a str,
         fault: ShowFault,
     },
+    /// The component of a file does not fit a world.
+    Unfit(Unfit<'a>),
     /// Components do not link, whose names are these.
     Link {
         fault: LinkFault,
@@ -65,6 +67,7 @@ impl Fault<'_> {
             Fault::File(bad) => bad.status(),
             Fault::Memory
             | Fault::Show { .. }
+            | Fault::Unfit(_)
             | Fault::Link { .. }
             | Fault::Script(_)
             | Fault::Set { .. }
@@ -113,6 +116,7 @@ impl fmt::Display for Fault<'_> {
             Fault::Memory => f.write_str("Memory"),
             Fault::File(bad) => write!(f, "{bad}"),
             Fault::Show { name, fault } => write_show_fault(f, name, *fault),
+            Fault::Unfit(unfit) => write!(f, "{unfit}"),
             Fault::Link { fault, names } => write_link_fault(f, *fault, names.as_slice()),
             Fault::Script(bad) => write_bad_line(f, bad),
             Fault::Set { misuse, size } => write_set_fault(f, *misuse, *size),

@@ -7,7 +7,8 @@ use std::fmt;
 
 /// The commands, as a line of standard error names them.
 pub const USAGE: &str = "component_tool check FILE | component_tool show FILE \
-    | component_tool link FILE.. | component_tool play --script S FILE..";
+    | component_tool conform --wit W --world N FILE | component_tool link FILE.. \
+    | component_tool play --script S FILE..";
 
 /// Why words are no command.
 #[derive(Clone, Copy)]
@@ -38,6 +39,12 @@ pub enum Request<'a> {
     Show {
         file: &'a str,
     },
+    /// `conform --wit W --world N FILE`
+    Conform {
+        wit: &'a str,
+        world: &'a str,
+        file: &'a str,
+    },
     /// `link FILE..`
     Link {
         files: Vec<&'a str>,
@@ -59,6 +66,7 @@ impl<'a> Request<'a> {
         match matches.subcommand() {
             Some(("check", found)) => Request::check(found),
             Some(("show", found)) => Request::show(found),
+            Some(("conform", found)) => Request::conform(found),
             Some(("link", found)) => Request::link(alloc, found),
             Some(("play", found)) => Request::play(alloc, found),
             _ => Err(WordsFault::NoCommand),
@@ -73,6 +81,13 @@ impl<'a> Request<'a> {
     fn show(found: &ArgMatches<'a>) -> Result<Request<'a>, WordsFault> {
         let file = value_of(found, "file")?;
         Ok(Request::Show { file })
+    }
+
+    fn conform(found: &ArgMatches<'a>) -> Result<Request<'a>, WordsFault> {
+        let wit = value_of(found, "wit")?;
+        let world = value_of(found, "world")?;
+        let file = value_of(found, "file")?;
+        Ok(Request::Conform { wit, world, file })
     }
 
     fn link(alloc: Global, found: &ArgMatches<'a>) -> Result<Request<'a>, WordsFault> {
@@ -106,6 +121,7 @@ fn commands<'a>(alloc: Global) -> Result<Command<'a>, AllocError> {
         .subcommand_required(true);
     let tool = add(tool, on_file(alloc, "check"))?;
     let tool = add(tool, on_file(alloc, "show"))?;
+    let tool = add(tool, conform(alloc))?;
     let tool = add(tool, on_files(alloc, "link"))?;
     add(tool, play(alloc))
 }
@@ -130,6 +146,12 @@ fn on_files<'a>(alloc: Global, name: &'a str) -> Result<Command<'a>, AllocError>
         .num_args(1..)
         .action(ArgAction::Append);
     Command::new(alloc, name).arg(files)
+}
+
+fn conform<'a>(alloc: Global) -> Result<Command<'a>, AllocError> {
+    on_file(alloc, "conform")?
+        .arg(option(alloc, "wit"))?
+        .arg(option(alloc, "world"))
 }
 
 fn play<'a>(alloc: Global) -> Result<Command<'a>, AllocError> {

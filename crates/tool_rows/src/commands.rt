@@ -103,6 +103,9 @@ fn show_request(alloc: Global, request: Result<Request, WordsFault>) -> Result<S
     match request {
         Ok(Request::Check { file }) => write!(out, "check of {file}")?,
         Ok(Request::Show { file }) => write!(out, "show of {file}")?,
+        Ok(Request::Conform { wit, world, file }) => {
+            write!(out, "conform of {file} to {world} of {wit}")?
+        }
         Ok(Request::Link { files }) => {
             out.push_str("link of")?;
             write_names(&mut out, &files)?;

@@ -1,0 +1,159 @@
+//! Why a component does not fit a world, and the line that says so.
+
+ghost use Rattle.std.specs.Prelude.{◌≡◌};
+ghost use Rattle.cm_tool_signatures.specs.declared.unfit.UnfitReason.TheVariants as reason;
+
+use cm_conformance::{ConformFault, ConformItem, ConformList, ConformReason};
+use cm_wit::WitFault;
+use cm_wit_worlds::WorldFault;
+use std::alloc::AllocError;
+use std::fmt;
+
+/// Why a component does not fit a world.
+#[derive(Clone, Copy)]
+pub enum UnfitReason {
+    /// The text of the world is no package.
+    Wit(WitFault),
+    /// The package has no such world, or the world has no signature.
+    World(WorldFault),
+    /// The component's signature does not fit the world's.
+    Signature(ConformFault),
+    /// There was no memory for the component's signature.
+    Memory,
+}
+
+impl From<WitFault> for UnfitReason {
+    ghost from_gives = { λ e r. r ≡ reason.Wit e };
+
+    fn from(fault: WitFault) -> UnfitReason {
+        UnfitReason::Wit(fault)
+    }
+}
+
+impl From<WorldFault> for UnfitReason {
+    ghost from_gives = { λ e r. r ≡ reason.World e };
+
+    fn from(fault: WorldFault) -> UnfitReason {
+        UnfitReason::World(fault)
+    }
+}
+
+impl From<ConformFault> for UnfitReason {
+    ghost from_gives = { λ e r. r ≡ reason.Signature e };
+
+    fn from(fault: ConformFault) -> UnfitReason {
+        UnfitReason::Signature(fault)
+    }
+}
+
+impl From<AllocError> for UnfitReason {
+    ghost from_gives = { λ _ r. r ≡ reason.Memory };
+
+    fn from(_error: AllocError) -> UnfitReason {
+        UnfitReason::Memory
+    }
+}
+
+/// Why the component of a file does not fit a world of a text, with the words of the command line
+/// that name them.
+#[derive(Clone, Copy)]
+pub struct Unfit<'a> {
+    pub wit: &'a str,
+    pub world: &'a str,
+    pub file: &'a str,
+    pub reason: UnfitReason,
+}
+
+impl fmt::Display for Unfit<'_> {
+    fn fmt<W: fmt::Write>(&self, f: &mut fmt::Formatter<W>) -> fmt::Result {
+        match self.reason {
+            UnfitReason::Wit(fault) => write_wit_fault(f, self.wit, fault),
+            UnfitReason::World(fault) => write_world_fault(f, self.wit, self.world, fault),
+            UnfitReason::Signature(fault) => write_conform_fault(f, self.file, fault),
+            UnfitReason::Memory => write_no_memory(f, self.file),
+        }
+    }
+}
+
+fn write_no_memory<W: fmt::Write>(f: &mut fmt::Formatter<W>, name: &str) -> fmt::Result {
+    write!(f, "{name}: Memory: no memory")
+}
+
+/// Writes why a text is no package: the reason, the place, and what the reason says.
+fn write_wit_fault<W: fmt::Write>(
+    f: &mut fmt::Formatter<W>,
+    name: &str,
+    fault: WitFault,
+) -> fmt::Result {
+    let WitFault { at, reason } = fault;
+    let reason_name = reason.name();
+    write!(f, "{name}: {reason_name} at {at}: {reason}")
+}
+
+/// Writes why a world of a text has no signature.
+fn write_world_fault<W: fmt::Write>(
+    f: &mut fmt::Formatter<W>,
+    name: &str,
+    world: &str,
+    fault: WorldFault,
+) -> fmt::Result {
+    let fault_name = world_fault_name(fault);
+    write!(f, "{name}: {fault_name} in world {world}: {fault}")
+}
+
+fn world_fault_name(fault: WorldFault) -> &'static str {
+    match fault {
+        WorldFault::NoSuchWorld => "NoSuchWorld",
+        WorldFault::NoSuchInterface => "NoSuchInterface",
+        WorldFault::NoSuchType => "NoSuchType",
+        WorldFault::Cycle => "Cycle",
+        WorldFault::TooLarge => "TooLarge",
+        WorldFault::Memory => "Memory",
+    }
+}
+
+/// Writes why a component does not fit a world, and of which import or export this is said.
+fn write_conform_fault<W: fmt::Write>(
+    f: &mut fmt::Formatter<W>,
+    name: &str,
+    fault: ConformFault,
+) -> fmt::Result {
+    let ConformFault { item, reason } = fault;
+    let reason_name = conform_reason_name(reason);
+    write!(f, "{name}: {reason_name}")?;
+    write_place(f, item, reason)?;
+    write!(f, ": {reason}")
+}
+
+/// Writes the place of what does not fit; want of memory has none.
+fn write_place<W: fmt::Write>(
+    f: &mut fmt::Formatter<W>,
+    item: ConformItem,
+    reason: ConformReason,
+) -> fmt::Result {
+    if let ConformReason::Memory = reason {
+        return Ok(());
+    }
+    let list = list_name(item.list);
+    let place = item.place;
+    match item.item {
+        Some(number) => write!(f, " in {list} {place}, item {number}"),
+        None => write!(f, " in {list} {place}"),
+    }
+}
+
+fn list_name(list: ConformList) -> &'static str {
+    match list {
+        ConformList::WorldExports => "the world's export",
+        ConformList::HaveImports => "the component's import",
+    }
+}
+
+fn conform_reason_name(reason: ConformReason) -> &'static str {
+    match reason {
+        ConformReason::Missing => "Missing",
+        ConformReason::NotInWorld => "NotInWorld",
+        ConformReason::DifferentType => "DifferentType",
+        ConformReason::Memory => "Memory",
+    }
+}
