@@ -1,4 +1,3 @@
-mod ListLaws
 mod GrowthLaws
 mod ScopeLaws
 mod EachLaws

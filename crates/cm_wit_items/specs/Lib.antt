@@ -1,2 +1,1 @@
-pub mod MemberViews
 pub mod ItemFaults

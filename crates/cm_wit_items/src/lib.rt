@@ -3,9 +3,5 @@
 
 mod items;
 pub mod laws;
-mod members;
-mod names;
 
 pub use items::push_items;
-pub use members::{Member, interface_members};
-pub use names::extern_name;

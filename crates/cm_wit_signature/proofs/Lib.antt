@@ -1,7 +1,3 @@
-mod ListLaws
-mod MarkLaws
-mod TypedLaws
-mod ReachLaws
 mod MadeLaws
 mod SignLaws
 mod OrderLaws

@@ -10,7 +10,7 @@ use Rattle.cm_wit_worlds.specs.Worlds.{AreWorldExterns}
 use Rattle.cm_wit_worlds.specs.declared.fault.WorldFault.{WorldFault}
 use Rattle.cm_wit_signature_model.specs.Faults.{IsFaultIn, IsWorldSignature, world_of}
 use Rattle.cm_wit_signature_model.specs.Named.{HaveTypes}
-use Rattle.cm_wit_signature.specs.Sides.{interfaces_below}
+use Rattle.cm_wit_typing.specs.Sides.{interfaces_below}
 use Rattle.cm_wit_signature.specs.Typed.{IsTyped}
 
 pub instances_same : (xs : List Instance) (n m : ℕ) (i into o out : List ℕ) → n ≡ m → i ≡ into → o ≡ out → xs ≡ instances n i o → xs ≡ instances m into out

@@ -1,4 +1,3 @@
-pub mod Sides
 pub mod Faults
 pub mod Typed
 pub mod Made

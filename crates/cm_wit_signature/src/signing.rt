@@ -19,8 +19,6 @@ ghost use Rattle.cm_wit_signature.specs.Made.{signature_made};
 ghost use Rattle.cm_wit_signature.specs.Typed.{IsTyped};
 
 use crate::faults::{fault_of_meaning, fault_of_table};
-use crate::instances::{WorldInstances, instances_of};
-use crate::typing::typed_declarations;
 use cm_signatures::Signature;
 use cm_type_arena::Types;
 use cm_wit_declared::Declaration;
@@ -29,6 +27,8 @@ use cm_wit_interfaces::{Directory, PlacedInterface, PlacedWorld};
 use cm_wit_meanings::MeaningFault;
 use cm_wit_signature_model::laws::{resources_are_own, typed_ones_have_signatures};
 use cm_wit_tables::{Table, table_of};
+use cm_wit_typing::laws::typing_faults_are_of_worlds;
+use cm_wit_typing::{WorldInstances, instances_of, typed_declarations};
 use cm_wit_worlds::{WorldExterns, WorldFault};
 use std::alloc::Global;
 
@@ -132,6 +132,7 @@ pub fn signature_in_order<'a>(
     ensures fault { IfErr result
         (IsFaultIn (files_of directory.now.files.items) (placed_world world.now)) }
 {
+    typing_faults_are_of_worlds();
     let count = interfaces.len();
     let instances = instances_of(alloc, count, &externs.imports, &externs.exports)?;
     let declarations = typed_declarations(alloc, directory, interfaces, world, &instances.list)?;

@@ -10,14 +10,13 @@ ghost use Rattle.cm_wit_interfaces.specs.InterfaceViews.{files_of, placed_interf
 ghost use Rattle.cm_wit_signature_model.specs.Faults.{IsFaultIn, IsFaultOfWorld};
 ghost use Rattle.cm_wit_signature_model.specs.Faults.{IsWorldSignature, world_of};
 
-use crate::files::package_files;
-use crate::reaching::cycle_fault;
 use crate::signing::signature_in_order;
 use cm_signatures::Signature;
 use cm_wit::Package;
 use cm_wit_interfaces::{
     Directory, PlacedInterface, PlacedWorld, interfaces, package_names, worlds,
 };
+use cm_wit_typing::{cycle_fault, package_files};
 use cm_wit_worlds::{WorldFault, externs_of};
 use std::alloc::Global;
 

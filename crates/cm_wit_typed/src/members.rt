@@ -4,12 +4,12 @@ ghost use Rattle.std.specs.Prelude.{◌≡◌, IfOk, map};
 ghost use Rattle.std.specs.List.{list_all};
 ghost use Rattle.cm_keys.specs.Listed.{listed};
 ghost use Rattle.cm_wit_text.specs.Views.{interface_tree};
-ghost use Rattle.cm_wit_items.specs.MemberViews.{member_view};
+ghost use Rattle.cm_wit_members.specs.MemberViews.{member_view};
 ghost use Rattle.cm_wit_signature_model.specs.Members as spec;
 ghost use Rattle.cm_wit_typed.specs.Tests as test;
 
 use crate::texts::{Names, func_led, is_led, is_resource_led, resource_func_led};
-use cm_wit_items::{Member, interface_members};
+use cm_wit_members::{Member, interface_members};
 use cm_wit_text::Interface;
 use std::alloc::{AllocError, Global};
 

@@ -5,8 +5,7 @@ use Rattle.cm_wit_interfaces.specs.Interfaces.{interfaces}
 use Rattle.cm_wit_interfaces.specs.InterfaceViews.{files_of, placed_interface, placed_world}
 use Rattle.cm_wit_scopes.specs.Worlds.{Instance, instances, declarations}
 use Rattle.cm_wit_signature_model.specs.Named.{HaveTypes, in_order}
-use Rattle.cm_wit_signature.specs.Typed.{IsTypingFault}
-use Rattle.cm_wit_signature.proofs.ReachLaws.{typing_fault}
+use Rattle.cm_wit_typing.specs.Typing.{IsTypingFault}
 use Rattle.cm_wit_signature.proofs.OrderLaws.{instances_same, imported_same, is_typed, signed_in, fault_in}
 use Rattle.cm_wit_signature.proofs.signing.signature_in_order.Goals as goal
 
@@ -17,7 +16,7 @@ returns-in_err-declarations-clause-fault c =
     let count : length c.args.interfaces.now ≡ length (interfaces fs) = sym (length-map c.args.interfaces.now placed_interface) ∙ ap length c.requires.interfaces in
     let xs = instances_same (map instance_view c.in_ok-instances.instances.list.items) (length c.args.interfaces.now) (length (interfaces fs)) c.deref.result.now c.args.externs.now.imports.items c.deref-2.result.now c.args.externs.now.exports.items count c.deref.ensures.value c.deref-2.ensures.value c.in_ok-instances.ensures.list in
     let seen : map instance_view c.deref-3.result.now ≡ instances (length (interfaces fs)) c.args.externs.now.imports.items c.args.externs.now.exports.items = ap (map instance_view) c.deref-3.ensures.value ∙ xs in
-    let h = typing_fault fs w (instances (length (interfaces fs)) c.args.externs.now.imports.items c.args.externs.now.exports.items) c.in_err-declarations.field-0.0 c.requires.externs.found (in_order c.args.externs.now.imports.items c.args.externs.now.exports.items c.requires.externs) (subst (λ (l : List Instance). IsTypingFault fs w l c.in_err-declarations.field-0.0) seen c.in_err-declarations.ensures.fault) in
+    let h = c.typing_faults_are_of_worlds.ensures fs w (instances (length (interfaces fs)) c.args.externs.now.imports.items c.args.externs.now.exports.items) c.in_err-declarations.field-0.0 c.requires.externs.found (in_order c.args.externs.now.imports.items c.args.externs.now.exports.items c.requires.externs) (subst (λ (l : List Instance). IsTypingFault fs w l c.in_err-declarations.field-0.0) seen c.in_err-declarations.ensures.fault) in
     search (rules, h)
 
 pub returns-clause-signature : goal.returns-clause-signature

@@ -1,6 +1,6 @@
 use Rattle.std.specs.List.{list_all}
 use Rattle.cm_keys.specs.Listed.{listed}
-use Rattle.cm_wit_items.specs.MemberViews.{member_view}
+use Rattle.cm_wit_members.specs.MemberViews.{member_view}
 use Rattle.cm_wit_typed.specs.Tests as test
 use Rattle.cm_wit_typed.proofs.RestLaws.{Rests}
 use Rattle.cm_wit_typed.proofs.members.members_led.Given as goal

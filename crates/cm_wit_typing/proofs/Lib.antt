@@ -1,0 +1,4 @@
+mod ListLaws
+mod MarkLaws
+mod TypedLaws
+mod ReachLaws
