@@ -1,7 +1,7 @@
 -- Aliases of what instances export.
 use Rattle.std.proofs.Common.{◌≡◌, ℕ, true, List, ◌++◌, length, map, Option, Some, None, refl, sym, ap, ◌∙◌, IfSome}
 use Rattle.std.proofs.lemmas.Option.{slice_get-map}
-use Rattle.std.specs.List.{list_all, slice_get}
+use Rattle.std.specs.List.{slice_get}
 use Rattle.std.specs.Prelude.{option_to_list}
 use Rattle.std.specs.Option.{option_map, option_and_then}
 use Rattle.cm_types.specs.Types.{Ty, FuncTy}
@@ -9,9 +9,7 @@ use Rattle.cm_component.specs.declared.instances.InstanceExportSort.{InstanceExp
 use Rattle.cm_component.specs.declared.instances.InstanceExportSort.TheVariants as member_sort
 use Rattle.cm_placed.specs.declared.placed.Placed.{Placed}
 use Rattle.cm_component.specs.Trees.{instance_export}
-use Rattle.cm_signatures.specs.Externs.{extern_of, is_extern_there}
-use Rattle.cm_signatures.specs.declared.signatures.Extern.{Extern}
-use Rattle.cm_entries.specs.declared.spaces.ExportEntry.{ExportEntry}
+use Rattle.cm_signatures.specs.Externs.{extern_of}
 use Rattle.cm_validate.specs.declared.fault.ValidReason.TheVariants as reason
 use Rattle.cm_validity.specs.Definitions.{MemberDef, NamedMember, func_member}
 use Rattle.cm_validity.specs.Items.{alias_item}
@@ -21,7 +19,7 @@ use Rattle.cm_validity.specs.Spaces.{Spaces, after_item, aliased_member, member_
 use Rattle.cm_extern_names.specs.NameSets.{names_of}
 use Rattle.cm_entries.specs.Entries.{func_def, members_of, member_def, is_func_there, are_members_there, is_member_there}
 use Rattle.cm_instance_items.specs.Resources.{resources_in}
-use Rattle.cm_entries.specs.ComponentSpaces.{AnswersAlias, IsComponentOf, export_def, is_exported_there}
+use Rattle.cm_entries.specs.ComponentSpaces.{AnswersAlias, IsComponentOf, export_def}
 use Rattle.cm_entries.specs.declared.aliases.Aliased.TheVariants as aliased
 use Rattle.cm_entries.specs.declared.entries.MemberEntry.{MemberEntry}
 use Rattle.cm_entries.specs.declared.entries.MemberEntry.TheVariants as member
