@@ -1,7 +1,7 @@
 -- Aliases of what instances export.
 use Rattle.std.proofs.Common.{◌≡◌, ℕ, true, List, ◌++◌, length, map, Option, Some, None, refl, sym, ap, ◌∙◌, IfSome}
 use Rattle.std.proofs.lemmas.Option.{slice_get-map}
-use Rattle.std.specs.List.{list_all, slice_get}
+use Rattle.std.specs.List.{slice_get}
 use Rattle.std.specs.Prelude.{option_to_list}
 use Rattle.std.specs.Option.{option_map, option_and_then}
 use Rattle.cm_types.specs.Types.{Ty, FuncTy}
@@ -9,9 +9,7 @@ use Rattle.cm_component.specs.declared.instances.InstanceExportSort.{InstanceExp
 use Rattle.cm_component.specs.declared.instances.InstanceExportSort.TheVariants as member_sort
 use Rattle.cm_placed.specs.declared.placed.Placed.{Placed}
 use Rattle.cm_component.specs.Trees.{instance_export}
-use Rattle.cm_signatures.specs.Externs.{extern_of, is_extern_there}
-use Rattle.cm_signatures.specs.declared.signatures.Extern.{Extern}
-use Rattle.cm_entries.specs.declared.spaces.ExportEntry.{ExportEntry}
+use Rattle.cm_signatures.specs.Externs.{extern_of}
 use Rattle.cm_validate.specs.declared.fault.ValidReason.TheVariants as reason
 use Rattle.cm_validity.specs.Definitions.{MemberDef, NamedMember, func_member}
 use Rattle.cm_validity.specs.Items.{alias_item}
@@ -21,7 +19,7 @@ use Rattle.cm_validity.specs.Spaces.{Spaces, after_item, aliased_member, member_
 use Rattle.cm_extern_names.specs.NameSets.{names_of}
 use Rattle.cm_entries.specs.Entries.{func_def, members_of, member_def, is_func_there, are_members_there, is_member_there}
 use Rattle.cm_instance_items.specs.Resources.{resources_in}
-use Rattle.cm_entries.specs.ComponentSpaces.{AnswersAlias, IsComponentOf, export_def, is_exported_there}
+use Rattle.cm_entries.specs.ComponentSpaces.{AnswersAlias, IsComponentOf, export_def}
 use Rattle.cm_entries.specs.declared.aliases.Aliased.TheVariants as aliased
 use Rattle.cm_entries.specs.declared.entries.MemberEntry.{MemberEntry}
 use Rattle.cm_entries.specs.declared.entries.MemberEntry.TheVariants as member
@@ -30,7 +28,7 @@ use Rattle.cm_entries.specs.Steps.{PushesFunc}
 use Rattle.cm_entries.specs.declared.entries.FuncEntry.{FuncEntry}
 use Rattle.cm_entries.specs.declared.entries.InstanceEntry.{InstanceEntry}
 use Rattle.cm_entries.specs.declared.spaces.ComponentSpaces.{ComponentSpaces}
-use Rattle.cm_entries.proofs.StepLaws.{all_at, all_more, all_same, grown, mapped_more, mapped_same, none_more}
+use Rattle.cm_entries.proofs.StepLaws.{all_at, func_pushed, grown, mapped_same, none_more}
 
 -- ---- what an alias names
 
@@ -62,19 +60,9 @@ module _ (s : Spaces) (sort : InstanceExportSort) (i : ℕ) (name : List ℕ) (o
 pub func_aliased : (types : List Ty) (funcs : List FuncTy) (old new : ComponentSpaces) (s : Spaces) (sort : InstanceExportSort) (i : ℕ) (name : List ℕ) (f : FuncEntry)
     → aliased_member s i name ≡ Some (func_member (func_def funcs f)) → is_func_there (length funcs) f ≡ true → IsComponentOf types funcs old s → PushesFunc f old new
     → IsComponentOf types funcs new (after_item s (alias_item (instance_export sort i name)))
-func_aliased types funcs old new s sort i name f e there r p = grown types funcs old new s (alias_item (instance_export sort i name)) r (record {
-  funcs_added = mapped_more (func_def funcs) old.funcs.items new.funcs.items f p.pushed ∙ ap (λ (o : Option MemberDef). map (func_def funcs) old.funcs.items ++ option_to_list (option_and_then func_of_member o)) (sym e);
-  funcs_there = all_more (is_func_there (length funcs)) old.funcs.items new.funcs.items f p.pushed r.funcs_there there;
-  instances_added = mapped_same (members_of types funcs) old.instances.items new.instances.items (ap (λ v. v.items) p.instances);
-  instances_there = ap (λ v. list_all (are_members_there (length types) (length funcs)) v.items) p.instances ∙ r.instances_there;
-  resources_added = none_more (resources_in old.resources) (resources_in new.resources) (ap resources_in p.resources);
-  imports_added = mapped_same (extern_of types funcs) old.imports.items new.imports.items (ap (λ v. v.items) p.imports);
-  import_names_added = none_more (names_of old.import_names) (names_of new.import_names) (ap names_of p.import_names);
-  exports_added = mapped_same (export_def types funcs) old.exports.items new.exports.items (ap (λ v. v.items) p.exports);
-  export_names_added = none_more (names_of old.export_names) (names_of new.export_names) (ap names_of p.export_names);
-  imports_there = all_same (λ (e : Extern). is_extern_there (length types) (length funcs) e.desc) old.imports.items new.imports.items (ap (λ v. v.items) p.imports) r.imports_there;
-  exports_there = all_same (λ (e : ExportEntry). is_exported_there (length types) (length funcs) e.def) old.exports.items new.exports.items (ap (λ v. v.items) p.exports) r.exports_there;
-})
+func_aliased types funcs old new s sort i name f e there r p =
+    func_pushed types funcs old new s (alias_item (instance_export sort i name)) f
+    (ap (λ (o : Option MemberDef). option_to_list (option_and_then func_of_member o)) e) refl refl refl refl there r p
 
 -- a type that is aliased: nothing is added but the type
 pub type_aliased : (types : List Ty) (funcs : List FuncTy) (c : ComponentSpaces) (s : Spaces) (sort : InstanceExportSort) (i : ℕ) (name : List ℕ) (d : MemberDef)

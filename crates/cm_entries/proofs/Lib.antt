@@ -7,3 +7,4 @@ mod AnswerLaws
 mod ExportLaws
 mod StayLaws
 mod GrowLaws
+mod LiftLaws

@@ -14,6 +14,8 @@ use Rattle.cm_extern_names.specs.NameSets.{names_of}
 use Rattle.cm_entries.specs.Entries.{func_def, members_of, is_func_there, are_members_there}
 use Rattle.cm_instance_items.specs.Resources.{resources_in}
 use Rattle.cm_entries.specs.ComponentSpaces.{IsComponentOf, IsReached, export_def, is_exported_there}
+use Rattle.cm_entries.specs.Steps.{PushesFunc}
+use Rattle.cm_entries.specs.declared.entries.FuncEntry.{FuncEntry}
 use Rattle.cm_entries.specs.declared.spaces.ComponentSpaces.{ComponentSpaces}
 
 -- ---- lists with one more
@@ -106,6 +108,27 @@ grown types funcs old new s x r a = record {
   imports_there = a.imports_there;
   exports_there = a.exports_there;
 }
+
+behind : {A : Type 0} (old new more : List A) → new ≡ old ++ [] → more ≡ [] → new ≡ old ++ more
+behind old new more e f = e ∙ ap (λ v. old ++ v) (sym f)
+
+-- after an item that adds a function alone
+pub func_pushed : (types : List Ty) (funcs : List FuncTy) (old new : ComponentSpaces) (s : Spaces) (x : Item) (f : FuncEntry)
+    → new_funcs s x ≡ func_def funcs f ∷ [] → new_instances s x ≡ [] → new_resources s x ≡ [] → new_imports s x ≡ [] → new_exports s x ≡ []
+    → is_func_there (length funcs) f ≡ true → IsComponentOf types funcs old s → PushesFunc f old new → IsComponentOf types funcs new (after_item s x)
+func_pushed types funcs old new s x f fs is rs ims exs there r p = grown types funcs old new s x r (record {
+  funcs_added = mapped_more (func_def funcs) old.funcs.items new.funcs.items f p.pushed ∙ ap (λ v. map (func_def funcs) old.funcs.items ++ v) (sym fs);
+  funcs_there = all_more (is_func_there (length funcs)) old.funcs.items new.funcs.items f p.pushed r.funcs_there there;
+  instances_added = behind (map (members_of types funcs) old.instances.items) (map (members_of types funcs) new.instances.items) (new_instances s x) (mapped_same (members_of types funcs) old.instances.items new.instances.items (ap (λ v. v.items) p.instances)) is;
+  instances_there = all_same (are_members_there (length types) (length funcs)) old.instances.items new.instances.items (ap (λ v. v.items) p.instances) r.instances_there;
+  resources_added = behind (resources_in old.resources) (resources_in new.resources) (new_resources s x) (none_more (resources_in old.resources) (resources_in new.resources) (ap resources_in p.resources)) rs;
+  imports_added = behind (map (extern_of types funcs) old.imports.items) (map (extern_of types funcs) new.imports.items) (new_imports s x) (mapped_same (extern_of types funcs) old.imports.items new.imports.items (ap (λ v. v.items) p.imports)) ims;
+  import_names_added = behind (names_of old.import_names) (names_of new.import_names) (map (λ (i : NamedExtern). i.name) (new_imports s x)) (none_more (names_of old.import_names) (names_of new.import_names) (ap names_of p.import_names)) (ap (map (λ (i : NamedExtern). i.name)) ims);
+  exports_added = behind (map (export_def types funcs) old.exports.items) (map (export_def types funcs) new.exports.items) (new_exports s x) (mapped_same (export_def types funcs) old.exports.items new.exports.items (ap (λ v. v.items) p.exports)) exs;
+  export_names_added = behind (names_of old.export_names) (names_of new.export_names) (map (λ (e : NamedExport). e.name) (new_exports s x)) (none_more (names_of old.export_names) (names_of new.export_names) (ap names_of p.export_names)) (ap (map (λ (e : NamedExport). e.name)) exs);
+  imports_there = all_same (λ (e : Extern). is_extern_there (length types) (length funcs) e.desc) old.imports.items new.imports.items (ap (λ v. v.items) p.imports) r.imports_there;
+  exports_there = all_same (λ (e : ExportEntry). is_exported_there (length types) (length funcs) e.def) old.exports.items new.exports.items (ap (λ v. v.items) p.exports) r.exports_there;
+})
 
 pub on_any_err : {A E P : Type 0} (r : Result A E) → P → OnErr r P
 on_any_err (Ok x) p = tt

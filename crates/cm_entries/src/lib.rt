@@ -8,11 +8,13 @@ mod exports;
 mod imports;
 mod instances;
 pub mod laws;
+mod lifts;
 mod resources;
 mod spaces;
 mod types;
 
 pub use aliases::Aliased;
 pub use entries::{FuncEntry, InstanceEntry, MemberEntry, TypeEntry};
+pub use lifts::func_type_at;
 pub use resources::resource_fault;
 pub use spaces::{ComponentSpaces, ExportEntry, ExportedEntry};

@@ -1,0 +1,2 @@
+mod ReasonLaws
+mod AnswerLaws
