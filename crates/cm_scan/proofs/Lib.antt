@@ -3,3 +3,4 @@ pub mod Readable
 pub mod ScanLemmas
 pub mod KeepLemmas
 pub mod TellLaws
+pub mod PlainLemmas

@@ -1,6 +1,7 @@
 //! Values in memory, with no tree made of them: one walk down a layout.
 
-ghost use Rattle.std.specs.Prelude.{◌≡◌, ◌+◌, ◌*◌, ◌^◌, ◌<◌, ◌≤◌, ◌∷◌, [], IfSome, length, map, ℕ};
+ghost use Rattle.std.specs.Prelude.{◌≡◌, ◌+◌, ◌*◌, ◌^◌, ◌<◌, ◌≤◌, ◌∷◌, [], IfSome, IsTrue, length};
+ghost use Rattle.std.specs.Prelude.{map, ℕ};
 ghost use Rattle.cm_abi_model.specs.Numbers.{number_at as bytes_at};
 ghost use Rattle.cm_abi_model.specs.declared.encoding.StringEncoding.{StringEncoding as Encoded};
 ghost use Rattle.cm_layout.specs.Laid.{Laid, PartsLaid, PayloadsLaid, leaf_size as size_of_leaf};
@@ -13,6 +14,7 @@ ghost use Rattle.cm_lifting.specs.Reading.{read_each, read_elements, read_handle
 ghost use Rattle.cm_lifting.specs.Reading.{read_payload, source_of};
 ghost use Rattle.cm_lifting.specs.Sized.{ArePartsSized, ArePayloadsSized, IsReadable, IsSized};
 ghost use Rattle.cm_lifting.specs.Sized.{IsSizedLeaf};
+ghost use Rattle.cm_scan.specs.Plain.{IsPlain};
 ghost use Rattle.cm_scan.specs.Records.{Scans, ScansToKeep, held, records_at, records_each};
 ghost use Rattle.cm_scan.specs.Records.{records_of_cases};
 ghost use Rattle.cm_scan.specs.Records.{payload as payload_in, records_of_fields};
@@ -231,7 +233,17 @@ fn scan_fixed_list(
     scan_each(scanner, element, at, count, scan)
 }
 
-/// Scans so many values, one behind the other.
+/// Whether each number is a value of what is laid out so: a number, a bool or flags.
+fn is_plain(layout: &Layout) -> bool
+    ensures { IsTrue result → IsPlain (layout_of layout.now).shape }
+{
+    match &layout.form {
+        Form::Leaf(Leaf::Bool | Leaf::Signed(_) | Leaf::Unsigned(_) | Leaf::Flags { .. }) => true,
+        _ => false,
+    }
+}
+
+/// Scans so many values, one behind the other; of numbers nothing is to be looked at.
 #[cycle(scanning)]
 fn scan_each(
     scanner: &Scanner<'_>,
@@ -260,6 +272,9 @@ fn scan_each(
         (layout_of element.now).head.size count at)
         scan.old result }
 {
+    if is_plain(element) {
+        return Ok(());
+    }
     let mut next = at;
     for _ in 0..count {
         scan_at(scanner, element, next, scan)?;

@@ -12,6 +12,7 @@ use Rattle.cm_types.specs.Values.{parts}
 use Rattle.cm_scan.specs.Records.{Scans, ScansToKeep, held, records_at, records_of_cases, records_of_fields}
 use Rattle.cm_scan.proofs.Readable.{case_readable, parts_readable, payloads_readable, readable_next, step_on}
 use Rattle.cm_scan.proofs.KeepLemmas.{any_stop, elements_want, fields_want, grows_on, keeps_at, kept_grows, le_self, list_wanted, passed_stop}
+use Rattle.cm_scan.proofs.PlainLemmas.{plain_kept}
 use Rattle.cm_scan.proofs.ScanLemmas.{case_past, case_there, each_turn, fields_turn, mapped_twice}
 use Rattle.cm_scan.proofs.SeenLayouts.{seen_Enum, seen_FixedList, seen_List, seen_shape, seen_size}
 use Rattle.cm_scan.proofs.scanning.+scanning.Goals as goal
@@ -128,3 +129,7 @@ scan_fields-returns-in_err-scan_field-clause-keeps t c =
     (sym (mapped_twice (λ v. c.args.scan.now.records.items ++ records_of_fields (source_of c.args.scanner.now.giver) c.args.scanner.now.target all c.args.at (held v)) (λ vs. parts vs) (read_parts (source_of c.args.scanner.now.giver) all c.args.at (state_of c.args.scan.now.progress))))
     (passed_stop c.from_residual.result c.in_err-scan_field.field-0.0 _ _ (search (rules))
     (fields_want (source_of c.args.scanner.now.giver) c.args.scanner.now.target c.args.parts.now c.loop-part.part-index c.args.at c.part-item.result n c.loop-part.scan.records.items (state_of c.loop-part.scan.progress) c.in_err-scan_field.field-0.0 _ c.loop-part-test.true c.part-item.is c.loop-part.invariant.2 c.in_err-scan_field.ensures.keeps c.loop-part.invariant.1))
+
+pub scan_each-returns-then-is_plain-clause-reads : goal.scan_each-returns-then-is_plain-clause-reads
+scan_each-returns-then-is_plain-clause-reads t c =
+    plain_kept (source_of c.args.scanner.now.giver) c.args.scanner.now.target (layout_of c.args.element.now).shape (c.is_plain.ensures c.if-is_plain.true) (layout_of c.args.element.now).head.size c.args.count c.args.at c.args.scan.now.records.items (state_of c.args.scan.now.progress)
