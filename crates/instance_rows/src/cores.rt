@@ -142,7 +142,7 @@ fn read_exports(alloc: Global, words: &[&str]) -> Result<Vec<CoreInlineExport>, 
     Ok(exports)
 }
 
-fn read_sort(word: &str) -> Result<CoreSort, RowFault> {
+pub fn read_sort(word: &str) -> Result<CoreSort, RowFault> {
     Ok(match word {
         "func" => CoreSort::Func,
         "table" => CoreSort::Table,
@@ -152,7 +152,7 @@ fn read_sort(word: &str) -> Result<CoreSort, RowFault> {
     })
 }
 
-fn read_options(alloc: Global, words: &[&str]) -> Result<Vec<CanonOption>, RowFault> {
+pub fn read_options(alloc: Global, words: &[&str]) -> Result<Vec<CanonOption>, RowFault> {
     let mut options = Vec::new(alloc);
     for word in words {
         options.push(read_option(word)?)?;

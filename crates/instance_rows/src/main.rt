@@ -1,6 +1,8 @@
-//! Answers rows on types of instances, on core index spaces and on names of imports and exports.
+//! Answers rows on types of instances, on core index spaces, on lifts and lowers and on names of
+//! imports and exports.
 #![tactic(auto)]
 
+mod canons;
 mod cores;
 mod definitions;
 mod instances;
@@ -17,6 +19,7 @@ impl Driver for InstanceRows {
     fn answer(&mut self, alloc: Global, words: &[&str]) -> Result<String, RowFault> {
         match words {
             ["instance", next, rest @ ..] => instances::answer(alloc, next, rest),
+            ["canons", rest @ ..] => canons::answer(alloc, rest),
             ["core", rest @ ..] => cores::answer(alloc, rest),
             ["names", rest @ ..] => names::answer(alloc, rest),
             _ => Err(RowFault::NotARow),
