@@ -1,5 +1,1 @@
-pub mod Seen
-pub mod PageLaws
-pub mod ListLaws
 pub mod LineLaws
-pub mod NumberLaws

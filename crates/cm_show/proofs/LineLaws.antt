@@ -1,9 +1,11 @@
 -- Lines that are written one behind the other.
-use Rattle.std.proofs.Common.{◌≡◌, ℕ, ◌+◌, ◌<◌, ◌≤◌, Bool, true, false, List, [], ◌∷◌, ◌++◌, length, map, get_or, refl, sym, ap, subst, ◌∙◌, Option, None}
+use Rattle.std.proofs.Common.{◌≡◌, ℕ, zero, suc, ◌+◌, ◌<◌, ◌≤◌, Bool, true, false, List, [], ◌∷◌, ◌++◌, length, map, take, drop, get_or, refl, sym, ap, subst, ◌∙◌, Option, None, append_assoc, append-nil, drop-cons, add-one}
+use Rattle.std.proofs.Math.Seq.{take-suc}
+use Rattle.std.proofs.lemmas.Grind.{flat_map-append}
+use Rattle.std.proofs.lemmas.List.{length-append, take_all, take-append-drop}
 use Rattle.std.proofs.lemmas.List.Folds.{list_all_at}
 use Rattle.std.specs.Prelude.{codes}
 use Rattle.std.specs.List.{flat_map, list_all}
-use Rattle.std.specs.String.{string_bytes}
 use Rattle.cm_types.specs.Types.{Ty, FuncTy}
 use Rattle.cm_replaced.specs.Replaced.{Standing, replaced, replaced_func}
 use Rattle.cm_replaced.specs.declared.moves.Move.{Move}
@@ -20,17 +22,46 @@ use Rattle.cm_signatures.specs.Externs.{are_externs_in, extern_desc_of, externs_
 use Rattle.cm_signatures.specs.declared.signatures.Extern.{Extern}
 use Rattle.cm_signatures.specs.declared.signatures.ExternDesc.{ExternDesc}
 use Rattle.cm_signatures.specs.declared.signatures.ExternDesc.TheVariants as extern
-use Rattle.cm_show.specs.Counted.{counted}
-use Rattle.cm_show.specs.declared.counting.Counting.{Counting}
-use Rattle.cm_show.specs.Pages.{IsOver, seen_on}
-use Rattle.cm_show.specs.Pieces.{Piece, chars, seen_behind, text_behind}
-use Rattle.cm_show.specs.Shown.{extern_lines, externs_lines, func_pieces, item_line, line, type_pieces}
-use Rattle.cm_show.specs.declared.page.Page.{Page}
-use Rattle.cm_show.proofs.PageLaws.{Adds, members, adds_none, adds_next, all_text, all_seen, all_over}
+use Rattle.cm_pages.specs.Pages.{IsOver, seen_on, text_on}
+use Rattle.cm_pages.specs.Pieces.{Piece, chars, seen_behind, text_behind}
+use Rattle.cm_pages.specs.declared.page.Page.{Page}
+use Rattle.cm_show_types.specs.Counted.{counted}
+use Rattle.cm_show_types.specs.ShownTypes.{type_pieces}
+use Rattle.cm_show_types.specs.Written.{Wrote}
+use Rattle.cm_show_types.specs.declared.counting.Counting.{Counting}
+use Rattle.cm_show.specs.Shown.{extern_lines, externs_lines, func_pieces, item_line, line}
 
--- lines, whatever their place
-abbrev pub lines : {A : Type 0} → (A → List Piece) → ℕ → A → List Piece
-lines g n x = g x
+pub ruleset page_laws = (append_assoc, append-nil, length-append)
+
+-- ---- lines so far
+
+-- the lines of the first i of some things
+abbrev pub first_lines : {A : Type 0} → (A → List Piece) → List A → ℕ → List Piece
+first_lines f xs i = flat_map f (take i xs)
+
+pub next_line : {A : Type 0} (f : A → List Piece) (xs : List A) (i : ℕ) (x : A) → i < length xs → x ≡ get_or xs i x → first_lines f xs (i + 1) ≡ first_lines f xs i ++ f x
+next_line {A} f xs i x lt e =
+    ap (λ (n : ℕ). flat_map f (take n xs)) (add-one i)
+    ∙ (ap (λ (ys : List A). flat_map f ys) (take-suc xs i x lt)
+    ∙ (flat_map-append f (take i xs) (get_or xs i x ∷ [])
+    ∙ ap (λ (ps : List Piece). flat_map f (take i xs) ++ ps) (append-nil (f (get_or xs i x)) ∙ ap f (sym e))))
+
+-- where a line is written behind those before it
+pub one_more : {A : Type 0} (f : A → List Piece) (xs : List A) (i : ℕ) (x : A) (start now new : Page) → i < length xs → x ≡ get_or xs i x → ((a b : List Piece) (p q r : Page) → Wrote a p q → Wrote b q r → Wrote (a ++ b) p r) → Wrote (first_lines f xs i) start now → text_on new ≡ text_on now ++ text_behind (seen_on now) (f x) → seen_on new ≡ seen_behind (seen_on now) (f x) → Wrote (first_lines f xs (i + 1)) start new
+one_more f xs i x start now new lt e more before text seen = subst (λ (ps : List Piece). Wrote ps start new) (sym (next_line f xs i x lt e)) (more (first_lines f xs i) (f x) start now new before (record { text = text; seen = seen }))
+
+-- the lines are those before one, it, and those behind it
+split_at : {A : Type 0} (f : A → List Piece) (xs : List A) (i : ℕ) (x : A) → i < length xs → x ≡ get_or xs i x → flat_map f xs ≡ first_lines f xs i ++ (f x ++ flat_map f (drop (suc i) xs))
+split_at {A} f xs i x lt e =
+    ap (λ (ys : List A). flat_map f ys) (sym (take-append-drop i xs))
+    ∙ (flat_map-append f (take i xs) (drop i xs)
+    ∙ ap (λ (ys : List A). first_lines f xs i ++ flat_map f ys) (drop-cons xs i x lt ∙ ap (λ (a : A). a ∷ drop (suc i) xs) (sym e)))
+
+pub too_long : {A : Type 0} (f : A → List Piece) (xs : List A) (i : ℕ) (x : A) (start now : Page) → i < length xs → x ≡ get_or xs i x → ((a b c : List Piece) (p q : Page) → Wrote a p q → IsOver q b → IsOver p (a ++ (b ++ c))) → Wrote (first_lines f xs i) start now → IsOver now (f x) → IsOver start (flat_map f xs)
+too_long f xs i x start now lt e over before o = subst (λ (ps : List Piece). IsOver start ps) (sym (split_at f xs i x lt e)) (over (first_lines f xs i) (f x) (flat_map f (drop (suc i) xs)) start now before o)
+
+pub all_lines : {A : Type 0} (f : A → List Piece) (xs : List A) (i : ℕ) (start now : Page) → length xs ≤ i → Wrote (first_lines f xs i) start now → Wrote (flat_map f xs) start now
+all_lines {A} f xs i start now le w = subst (λ (ys : List A). Wrote (flat_map f ys) start now) (take_all i xs le) w
 
 all_at : {A : Type 0} (p : A → Bool) (xs : List A) (i : ℕ) (x : A) → list_all p xs ≡ true → i < length xs → x ≡ get_or xs i x → p x ≡ true
 all_at p xs i x all lt e = by (p x) refl
@@ -48,20 +79,16 @@ brought_line types by i = item_line i.name (replaced_desc (moved_by by) (desc_of
 pub item_there : (types funcs : ℕ) (xs : List Item) (i : ℕ) (x : Item) → are_items_there types funcs xs ≡ true → i < length xs → x ≡ get_or xs i x → is_desc_there types funcs x.desc ≡ true
 item_there types funcs xs i x all lt e = all_at (λ (y : Item). is_desc_there types funcs y.desc) xs i x all lt e
 
-item_lines : (types : Types) (by : Option Move) (n : ℕ) (xs : List Item) → members (lines (brought_line types by)) n xs ≡ flat_map (λ i. item_line i.name i.desc) (map (replaced_item (moved_by by)) (items_of (types_of types) (funcs_of types) xs))
-item_lines types by n [] = refl
-item_lines types by n (x ∷ xs) = ap (λ (ps : List Piece). brought_line types by x ++ ps) (item_lines types by (n + 1) xs)
+pub item_lines : (types : Types) (by : Option Move) (xs : List Item) → flat_map (brought_line types by) xs ≡ flat_map (λ i. item_line i.name i.desc) (map (replaced_item (moved_by by)) (items_of (types_of types) (funcs_of types) xs))
+item_lines types by [] = refl
+item_lines types by (x ∷ xs) = ap (λ (ps : List Piece). brought_line types by x ++ ps) (item_lines types by xs)
 
-pub items_text : (types : Types) (by : Option Move) (xs : List Item) (i : ℕ) (start now : Page) → length xs ≤ i → Adds (lines (brought_line types by)) xs i start now → string_bytes now.text ≡ string_bytes start.text ++ text_behind (seen_on start) (flat_map (λ i. item_line i.name i.desc) (map (replaced_item (moved_by by)) (items_of (types_of types) (funcs_of types) xs)))
-items_text types by xs i start now le s = subst (λ (ps : List Piece). string_bytes now.text ≡ string_bytes start.text ++ text_behind (seen_on start) ps) (item_lines types by 0 xs) (all_text (lines (brought_line types by)) xs i start now le s)
+-- all lines of items were written
+pub items_wrote : (types : Types) (by : Option Move) (xs : List Item) (i : ℕ) (start now : Page) → length xs ≤ i → Wrote (first_lines (brought_line types by) xs i) start now → Wrote (flat_map (λ i. item_line i.name i.desc) (map (replaced_item (moved_by by)) (items_of (types_of types) (funcs_of types) xs))) start now
+items_wrote types by xs i start now le w = subst (λ (ps : List Piece). Wrote ps start now) (item_lines types by xs) (all_lines (brought_line types by) xs i start now le w)
 
-pub items_seen : (types : Types) (by : Option Move) (xs : List Item) (i : ℕ) (start now : Page) → length xs ≤ i → Adds (lines (brought_line types by)) xs i start now → seen_on now ≡ seen_behind (seen_on start) (flat_map (λ i. item_line i.name i.desc) (map (replaced_item (moved_by by)) (items_of (types_of types) (funcs_of types) xs)))
-items_seen types by xs i start now le s = subst (λ (ps : List Piece). seen_on now ≡ seen_behind (seen_on start) ps) (item_lines types by 0 xs) (all_seen (lines (brought_line types by)) xs i start now le s)
-
-pub items_over : (types : Types) (by : Option Move) (xs : List Item) (i : ℕ) (x : Item) (start now : Page) → i < length xs → x ≡ get_or xs i x → IsOver now (brought_line types by x) → Adds (lines (brought_line types by)) xs i start now → IsOver start (flat_map (λ i. item_line i.name i.desc) (map (replaced_item (moved_by by)) (items_of (types_of types) (funcs_of types) xs)))
-items_over types by xs i x start now lt at o s = subst (λ (ps : List Piece). IsOver start ps) (item_lines types by 0 xs) (all_over (lines (brought_line types by)) xs i x start now lt at o s)
-
-pub ruleset item_laws = (adds_none, adds_next, item_there, items_text, items_seen, items_over)
+pub items_over : (F : Type 0) (types : Types) (by : Option Move) (xs : List Item) (i : ℕ) (x : Item) (start now : Page) → i < length xs → x ≡ get_or xs i x → ((a b c : List Piece) (p q : Page) → Wrote a p q → IsOver q b → IsOver p (a ++ (b ++ c))) → Wrote (first_lines (brought_line types by) xs i) start now → (F → IsOver now (brought_line types by x)) → F → IsOver start (flat_map (λ i. item_line i.name i.desc) (map (replaced_item (moved_by by)) (items_of (types_of types) (funcs_of types) xs)))
+items_over F types by xs i x start now lt e over w o q = subst (λ (ps : List Piece). IsOver start ps) (item_lines types by xs) (too_long (brought_line types by) xs i x start now lt e over w (o q))
 
 -- the line of a function, and of a type, whose resources are counted as its place and as what brings it move them
 pub func_line : (types : Types) (by : Option Move) (i : Item) (p : Placed) (c : Counting) (f : FuncTy) → i.desc ≡ item.Func p → c.place ≡ p.by → c.brought ≡ by → f ≡ func_at (funcs_of types) p.place → ((s u : Standing) (g : FuncTy) → replaced_func u (replaced_func s g) ≡ replaced_func (λ r. u (s r)) g) → brought_line types by i ≡ line (codes "  func ") i.name (func_pieces (replaced_func (counted c) f))
@@ -88,6 +115,17 @@ placed_lines types word e = extern_lines word e.name (extern_desc_of (types_of t
 pub extern_there : (types : Types) (xs : List Extern) (i : ℕ) (x : Extern) → are_externs_in types xs ≡ true → i < length xs → x ≡ get_or xs i x → is_extern_there (length (types_of types)) (length (funcs_of types)) x.desc ≡ true
 extern_there types xs i x all lt e = all_at (λ (y : Extern). is_extern_there (length (types_of types)) (length (funcs_of types)) y.desc) xs i x all lt e
 
+pub all_externs : (types : Types) (word : List ℕ) (xs : List Extern) → flat_map (placed_lines types word) xs ≡ externs_lines word (externs_in types xs)
+all_externs types word [] = refl
+all_externs types word (x ∷ xs) = ap (λ (ps : List Piece). placed_lines types word x ++ ps) (all_externs types word xs)
+
+-- all lines of imports, or of exports, were written
+pub externs_wrote : (types : Types) (word : List ℕ) (xs : List Extern) (i : ℕ) (start now : Page) → length xs ≤ i → Wrote (first_lines (placed_lines types word) xs i) start now → Wrote (externs_lines word (externs_in types xs)) start now
+externs_wrote types word xs i start now le w = subst (λ (ps : List Piece). Wrote ps start now) (all_externs types word xs) (all_lines (placed_lines types word) xs i start now le w)
+
+pub externs_over : (F : Type 0) (types : Types) (word : List ℕ) (xs : List Extern) (i : ℕ) (x : Extern) (start now : Page) → i < length xs → x ≡ get_or xs i x → ((a b c : List Piece) (p q : Page) → Wrote a p q → IsOver q b → IsOver p (a ++ (b ++ c))) → Wrote (first_lines (placed_lines types word) xs i) start now → (F → IsOver now (placed_lines types word x)) → F → IsOver start (externs_lines word (externs_in types xs))
+externs_over F types word xs i x start now lt e over w o q = subst (λ (ps : List Piece). IsOver start ps) (all_externs types word xs) (too_long (placed_lines types word) xs i x start now lt e over w (o q))
+
 pub extern_func_line : (types : Types) (word : List ℕ) (e : Extern) (p : Placed) (c : Counting) (f : FuncTy) → e.desc ≡ extern.Func p → c.place ≡ p.by → c.brought ≡ None → f ≡ func_at (funcs_of types) p.place → placed_lines types word e ≡ line word e.name (chars (codes "func ") ∷ func_pieces (replaced_func (counted c) f))
 extern_func_line types word e p c f d place brought at =
     ap (λ (x : ExternDesc). extern_lines word e.name (extern_desc_of (types_of types) (funcs_of types) x)) d
@@ -96,17 +134,4 @@ extern_func_line types word e p c f d place brought at =
     ∙ (ap (λ (b : Option Move). replaced_func (λ r. moved_by b (moved_by c.place r)) (func_at (funcs_of types) p.place)) (sym brought)
     ∙ ap (replaced_func (counted c)) (sym at)))
 
-extern_all : (types : Types) (word : List ℕ) (n : ℕ) (xs : List Extern) → members (lines (placed_lines types word)) n xs ≡ externs_lines word (externs_in types xs)
-extern_all types word n [] = refl
-extern_all types word n (x ∷ xs) = ap (λ (ps : List Piece). placed_lines types word x ++ ps) (extern_all types word (n + 1) xs)
-
-pub externs_text : (types : Types) (word : List ℕ) (xs : List Extern) (i : ℕ) (start now : Page) → length xs ≤ i → Adds (lines (placed_lines types word)) xs i start now → string_bytes now.text ≡ string_bytes start.text ++ text_behind (seen_on start) (externs_lines word (externs_in types xs))
-externs_text types word xs i start now le s = subst (λ (ps : List Piece). string_bytes now.text ≡ string_bytes start.text ++ text_behind (seen_on start) ps) (extern_all types word 0 xs) (all_text (lines (placed_lines types word)) xs i start now le s)
-
-pub externs_seen : (types : Types) (word : List ℕ) (xs : List Extern) (i : ℕ) (start now : Page) → length xs ≤ i → Adds (lines (placed_lines types word)) xs i start now → seen_on now ≡ seen_behind (seen_on start) (externs_lines word (externs_in types xs))
-externs_seen types word xs i start now le s = subst (λ (ps : List Piece). seen_on now ≡ seen_behind (seen_on start) ps) (extern_all types word 0 xs) (all_seen (lines (placed_lines types word)) xs i start now le s)
-
-pub externs_over : (types : Types) (word : List ℕ) (xs : List Extern) (i : ℕ) (x : Extern) (start now : Page) → i < length xs → x ≡ get_or xs i x → IsOver now (placed_lines types word x) → Adds (lines (placed_lines types word)) xs i start now → IsOver start (externs_lines word (externs_in types xs))
-externs_over types word xs i x start now lt at o s = subst (λ (ps : List Piece). IsOver start ps) (extern_all types word 0 xs) (all_over (lines (placed_lines types word)) xs i x start now lt at o s)
-
-pub ruleset extern_laws = (adds_none, adds_next, extern_there, externs_text, externs_seen, externs_over)
+pub ruleset line_laws = (item_there, extern_there)

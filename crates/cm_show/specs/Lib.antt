@@ -1,5 +1,1 @@
-pub mod Faults
-pub mod Pieces
 pub mod Shown
-pub mod Pages
-pub mod Counted

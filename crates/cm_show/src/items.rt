@@ -2,7 +2,6 @@
 
 ghost use Rattle.std.specs.Prelude.{◌≡◌, ◌++◌, ◌∷◌, [], OnOk, IsErrOf, codes, length, map, true};
 ghost use Rattle.std.specs.List.{flat_map};
-ghost use Rattle.std.specs.String.{string_bytes};
 ghost use Rattle.std.specs.Option.{option_map};
 ghost use Rattle.cm_types.specs.Funcs.{func_of, tree_type};
 ghost use Rattle.cm_types.specs.TypeTrees.{type_of};
@@ -13,51 +12,53 @@ ghost use Rattle.cm_placed.specs.Instances.{numbered, replaced_desc, replaced_it
 ghost use Rattle.cm_placed.specs.Placed.{moved_by};
 ghost use Rattle.cm_signatures.specs.Externs.{are_externs_in, extern_desc_of, externs_in};
 ghost use Rattle.cm_signatures.specs.Externs.{is_extern_there};
-ghost use Rattle.cm_show.specs.Counted.{counted};
-ghost use Rattle.cm_show.specs.Pages.{IsOver, seen_on};
-ghost use Rattle.cm_show.specs.Pieces.{chars, number_of, seen_behind, text_behind};
+ghost use Rattle.cm_show_types.specs.Counted.{counted};
+ghost use Rattle.cm_pages.specs.Pages.{IsOver, seen_on, text_on};
+ghost use Rattle.cm_pages.specs.Pieces.{chars, number_of, seen_behind, text_behind};
 ghost use Rattle.cm_show.specs.Shown.{answer_pieces, extern_lines, externs_lines, func_pieces};
-ghost use Rattle.cm_show.specs.Shown.{item_line, resource_pieces, type_pieces};
-ghost use Rattle.cm_show.specs.declared.fault.ShowFault.TheVariants as fault;
+ghost use Rattle.cm_show_types.specs.ShownTypes.{type_pieces};
+ghost use Rattle.cm_show.specs.Shown.{item_line, resource_pieces};
+ghost use Rattle.cm_pages.specs.declared.fault.ShowFault.TheVariants as fault;
 
-use crate::counting::Counting;
-use crate::fault::ShowFault;
-use crate::page::Page;
-use crate::types::{show_fields, show_type};
+use cm_pages::{Page, ShowFault};
 use cm_placed::{Item, ItemDesc, moved_resource};
 use cm_replaced::Move;
 use cm_replaced::laws::replacing;
+use cm_show_types::laws::{pages_join, pieces_join};
+use cm_show_types::{Counting, show_fields, show_type};
 use cm_signatures::{Extern, ExternDesc};
 use cm_type_arena::Types;
 use cm_types::{ExternName, Func, ResourceId, TypeNode, TypeTree};
 
 /// Adds what a line begins with: a word, a name and a blank.
-#[tactic(auto, using(crate::proofs::PageLaws::page_laws))]
+#[tactic(auto, using(crate::proofs::LineLaws::page_laws))]
 fn begin_line(page: &mut Page, word: &str, name: &ExternName) -> Result<(), ShowFault>
-    ensures text { OnOk result (string_bytes page.new.text
-        ≡ string_bytes page.old.text ++ text_behind (seen_on page.old) (chars word.now ∷ chars
+    ensures text { OnOk result (text_on page.new
+        ≡ text_on page.old ++ text_behind (seen_on page.old) (chars word.now ∷ chars
         name.now ∷ chars (codes " ") ∷ [])) }
     ensures seen { OnOk result (seen_on page.new ≡ seen_behind (seen_on page.old) (chars word.now ∷
         chars name.now ∷ chars (codes " ") ∷ [])) }
     ensures over { IsErrOf result fault.TooLong → IsOver page.old (chars word.now ∷ chars name.now ∷
         chars (codes " ") ∷ []) }
 {
+    pieces_join();
     page.put(word)?;
     page.put(name.as_str())?;
     page.put(" ")
 }
 
 /// Adds the type of a result, if there is one.
-#[tactic(auto, using(crate::proofs::PageLaws::page_laws))]
+#[tactic(auto, using(crate::proofs::LineLaws::page_laws))]
 fn show_answer(page: &mut Page, tree: &Option<TypeTree>, by: Counting) -> Result<(), ShowFault>
-    ensures text { OnOk result (string_bytes page.new.text
-        ≡ string_bytes page.old.text ++ text_behind (seen_on page.old) (answer_pieces (option_map
+    ensures text { OnOk result (text_on page.new
+        ≡ text_on page.old ++ text_behind (seen_on page.old) (answer_pieces (option_map
         (replaced (counted by)) (option_map tree_type tree.now)))) }
     ensures seen { OnOk result (seen_on page.new ≡ seen_behind (seen_on page.old) (answer_pieces
         (option_map (replaced (counted by)) (option_map tree_type tree.now)))) }
     ensures over { IsErrOf result fault.TooLong → IsOver page.old (answer_pieces (option_map
         (replaced (counted by)) (option_map tree_type tree.now))) }
 {
+    pieces_join();
     let Some(tree) = tree else {
         return Ok(());
     };
@@ -66,16 +67,17 @@ fn show_answer(page: &mut Page, tree: &Option<TypeTree>, by: Counting) -> Result
 }
 
 /// Adds the type of a function, and ends the line.
-#[tactic(auto, using(crate::proofs::PageLaws::page_laws))]
+#[tactic(auto, using(crate::proofs::LineLaws::page_laws))]
 fn end_with_func(page: &mut Page, func: &Func, by: Counting) -> Result<(), ShowFault>
-    ensures text { OnOk result (string_bytes page.new.text
-        ≡ string_bytes page.old.text ++ text_behind (seen_on page.old) (func_pieces (replaced_func
+    ensures text { OnOk result (text_on page.new
+        ≡ text_on page.old ++ text_behind (seen_on page.old) (func_pieces (replaced_func
         (counted by) (func_of func.now)) ++ chars (codes "\n") ∷ [])) }
     ensures seen { OnOk result (seen_on page.new ≡ seen_behind (seen_on page.old) (func_pieces
         (replaced_func (counted by) (func_of func.now)) ++ chars (codes "\n") ∷ [])) }
     ensures over { IsErrOf result fault.TooLong → IsOver page.old (func_pieces (replaced_func
         (counted by) (func_of func.now)) ++ chars (codes "\n") ∷ []) }
 {
+    pieces_join();
     page.put("(")?;
     show_fields(page, &func.params, by)?;
     page.put(")")?;
@@ -84,38 +86,40 @@ fn end_with_func(page: &mut Page, func: &Func, by: Counting) -> Result<(), ShowF
 }
 
 /// Adds a type, and ends the line.
-#[tactic(auto, using(crate::proofs::PageLaws::page_laws))]
+#[tactic(auto, using(crate::proofs::LineLaws::page_laws))]
 fn end_with_type(page: &mut Page, node: &TypeNode, by: Counting) -> Result<(), ShowFault>
-    ensures text { OnOk result (string_bytes page.new.text
-        ≡ string_bytes page.old.text ++ text_behind (seen_on page.old) (type_pieces (replaced
+    ensures text { OnOk result (text_on page.new
+        ≡ text_on page.old ++ text_behind (seen_on page.old) (type_pieces (replaced
         (counted by) (type_of node.now)) ++ chars (codes "\n") ∷ [])) }
     ensures seen { OnOk result (seen_on page.new ≡ seen_behind (seen_on page.old) (type_pieces
         (replaced (counted by) (type_of node.now)) ++ chars (codes "\n") ∷ [])) }
     ensures over { IsErrOf result fault.TooLong → IsOver page.old (type_pieces (replaced (counted
         by) (type_of node.now)) ++ chars (codes "\n") ∷ []) }
 {
+    pieces_join();
     show_type(page, node, by)?;
     page.put("\n")
 }
 
 /// Adds a resource, and ends the line.
-#[tactic(auto, using(crate::proofs::PageLaws::page_laws))]
+#[tactic(auto, using(crate::proofs::LineLaws::page_laws))]
 fn end_with_resource(page: &mut Page, id: ResourceId) -> Result<(), ShowFault>
-    ensures text { OnOk result (string_bytes page.new.text
-        ≡ string_bytes page.old.text ++ text_behind (seen_on page.old) (resource_pieces id ++ chars
+    ensures text { OnOk result (text_on page.new
+        ≡ text_on page.old ++ text_behind (seen_on page.old) (resource_pieces id ++ chars
         (codes "\n") ∷ [])) }
     ensures seen { OnOk result (seen_on page.new ≡ seen_behind (seen_on page.old) (resource_pieces
         id ++ chars (codes "\n") ∷ [])) }
     ensures over { IsErrOf result fault.TooLong → IsOver page.old (resource_pieces id ++ chars
         (codes "\n") ∷ []) }
 {
+    pieces_join();
     page.put("resource#")?;
     page.put_resource(id)?;
     page.put("\n")
 }
 
 /// Adds the line of an item that an import or an export brings so.
-#[tactic(auto, using(crate::proofs::PageLaws::page_laws))]
+#[tactic(auto, using(crate::proofs::LineLaws::page_laws))]
 fn show_item(
     page: &mut Page,
     types: &Types,
@@ -124,8 +128,8 @@ fn show_item(
 ) -> Result<(), ShowFault>
     requires { is_desc_there (length (types_of types.now)) (length (funcs_of types.now))
         item.now.desc ≡ true }
-    ensures text { OnOk result (string_bytes page.new.text
-        ≡ string_bytes page.old.text ++ text_behind (seen_on page.old) (item_line item.now.name
+    ensures text { OnOk result (text_on page.new
+        ≡ text_on page.old ++ text_behind (seen_on page.old) (item_line item.now.name
         (replaced_desc (moved_by brought) (desc_of (types_of types.now) (funcs_of types.now)
         item.now.desc)))) }
     ensures seen { OnOk result (seen_on page.new ≡ seen_behind (seen_on page.old) (item_line
@@ -135,6 +139,7 @@ fn show_item(
         (replaced_desc (moved_by brought) (desc_of (types_of types.now) (funcs_of types.now)
         item.now.desc))) }
 {
+    pieces_join();
     replacing();
     match item.desc {
         ItemDesc::Func(placed) => {
@@ -172,7 +177,7 @@ fn brought_resource(brought: Option<Move>, number: u64) -> ResourceId
 }
 
 /// Adds the lines of the items of an instance.
-#[tactic(auto, using(crate::proofs::LineLaws::item_laws))]
+#[tactic(auto, using(crate::proofs::LineLaws::line_laws))]
 fn show_items(
     page: &mut Page,
     types: &Types,
@@ -181,8 +186,8 @@ fn show_items(
 ) -> Result<(), ShowFault>
     requires { are_items_there (length (types_of types.now)) (length (funcs_of types.now))
         items.now ≡ true }
-    ensures text { OnOk result (string_bytes page.new.text
-        ≡ string_bytes page.old.text ++ text_behind (seen_on page.old) (flat_map (λ i. item_line
+    ensures text { OnOk result (text_on page.new
+        ≡ text_on page.old ++ text_behind (seen_on page.old) (flat_map (λ i. item_line
         i.name i.desc) (map (replaced_item (moved_by brought)) (items_of (types_of types.now)
         (funcs_of types.now) items.now)))) }
     ensures seen { OnOk result (seen_on page.new ≡ seen_behind (seen_on page.old) (flat_map (λ i.
@@ -192,6 +197,7 @@ fn show_items(
         i.desc) (map (replaced_item (moved_by brought)) (items_of (types_of types.now) (funcs_of
         types.now) items.now))) }
 {
+    pages_join();
     for item in items {
         show_item(page, types, item, brought)?;
     }
@@ -199,12 +205,12 @@ fn show_items(
 }
 
 /// Adds the lines of an import or an export.
-#[tactic(auto, using(crate::proofs::PageLaws::page_laws))]
+#[tactic(auto, using(crate::proofs::LineLaws::page_laws))]
 fn show_extern(page: &mut Page, types: &Types, word: &str, each: &Extern) -> Result<(), ShowFault>
     requires { is_extern_there (length (types_of types.now)) (length (funcs_of types.now))
         each.now.desc ≡ true }
-    ensures text { OnOk result (string_bytes page.new.text
-        ≡ string_bytes page.old.text ++ text_behind (seen_on page.old) (extern_lines word.now
+    ensures text { OnOk result (text_on page.new
+        ≡ text_on page.old ++ text_behind (seen_on page.old) (extern_lines word.now
         each.now.name (extern_desc_of (types_of types.now) (funcs_of types.now) each.now.desc))) }
     ensures seen { OnOk result (seen_on page.new ≡ seen_behind (seen_on page.old) (extern_lines
         word.now each.now.name (extern_desc_of (types_of types.now) (funcs_of types.now)
@@ -212,6 +218,7 @@ fn show_extern(page: &mut Page, types: &Types, word: &str, each: &Extern) -> Res
     ensures over { IsErrOf result fault.TooLong → IsOver page.old (extern_lines word.now
         each.now.name (extern_desc_of (types_of types.now) (funcs_of types.now) each.now.desc)) }
 {
+    pieces_join();
     begin_line(page, word, &each.name)?;
     match &each.desc {
         ExternDesc::Func(placed) => {
@@ -231,7 +238,7 @@ fn show_extern(page: &mut Page, types: &Types, word: &str, each: &Extern) -> Res
 }
 
 /// Adds the lines of imports, or of exports.
-#[tactic(auto, using(crate::proofs::LineLaws::extern_laws))]
+#[tactic(auto, using(crate::proofs::LineLaws::line_laws))]
 pub(crate) fn show_externs(
     page: &mut Page,
     types: &Types,
@@ -239,14 +246,15 @@ pub(crate) fn show_externs(
     externs: &[Extern],
 ) -> Result<(), ShowFault>
     requires { are_externs_in types.now externs.now ≡ true }
-    ensures text { OnOk result (string_bytes page.new.text
-        ≡ string_bytes page.old.text ++ text_behind (seen_on page.old) (externs_lines word.now
+    ensures text { OnOk result (text_on page.new
+        ≡ text_on page.old ++ text_behind (seen_on page.old) (externs_lines word.now
         (externs_in types.now externs.now))) }
     ensures seen { OnOk result (seen_on page.new ≡ seen_behind (seen_on page.old) (externs_lines
         word.now (externs_in types.now externs.now))) }
     ensures over { IsErrOf result fault.TooLong → IsOver page.old (externs_lines word.now
         (externs_in types.now externs.now)) }
 {
+    pages_join();
     for each in externs {
         show_extern(page, types, word, each)?;
     }

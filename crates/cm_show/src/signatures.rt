@@ -4,12 +4,12 @@ ghost use Rattle.std.specs.Prelude.{◌≡◌, ◌≤◌, ◌<◌, IfOk, IsErrOf
 ghost use Rattle.std.specs.String.{string_bytes};
 ghost use Rattle.cm_signatures.specs.Signatures.{signature_of};
 ghost use Rattle.cm_show.specs.Shown.{shown};
-ghost use Rattle.cm_show.specs.declared.fault.ShowFault.TheVariants as fault;
-ghost use Rattle.cm_show.specs.declared.page.TheConstants.{MAX_SHOWN};
+ghost use Rattle.cm_pages.specs.declared.fault.ShowFault.TheVariants as fault;
+ghost use Rattle.cm_pages.specs.declared.page.TheConstants.{MAX_SHOWN};
 
-use crate::fault::ShowFault;
 use crate::items::show_externs;
-use crate::page::Page;
+use cm_pages::{Page, ShowFault};
+use cm_show_types::laws::pieces_join;
 use cm_signatures::Signature;
 use std::alloc::Global;
 
@@ -23,7 +23,7 @@ use std::alloc::Global;
 /// is of. `TooLong` comes where it has more than `MAX_SHOWN` bytes, as soon as so many are written;
 /// `Memory` where there is no memory. It costs time and memory linear in the bytes that are
 /// written, with a search for each handle.
-#[tactic(auto, using(crate::proofs::PageLaws::page_laws))]
+#[tactic(auto, using(crate::proofs::LineLaws::page_laws))]
 pub fn show(alloc: Global, signature: &Signature) -> Result<String, ShowFault>
     ensures text { IfOk result
         (λ text. string_bytes text ≡ shown (signature_of signature.now)) }
@@ -31,6 +31,7 @@ pub fn show(alloc: Global, signature: &Signature) -> Result<String, ShowFault>
     ensures too_long { IsErrOf result fault.TooLong
         → MAX_SHOWN < length (shown (signature_of signature.now)) }
 {
+    pieces_join();
     let mut page = Page::new(alloc);
     show_externs(&mut page, signature.types(), "import ", signature.imports())?;
     show_externs(&mut page, signature.types(), "export ", signature.exports())?;

@@ -1,14 +1,10 @@
 //! The commands.
 
-use crate::fault::{Fault, report};
-use crate::loading::{load_script, load_set};
-use crate::outcome::Outcome;
-use crate::plan::write_plan;
-use crate::play_help::SetSize;
-use crate::playing::play;
 use cm_machine::Set;
 use cm_match::Linked;
 use cm_tool_files::{Files, load, read_file, text_of};
+use cm_tool_lines::{SetSize, write_plan};
+use cm_tool_sets::{Fault, Outcome, load_script, load_set, play, report};
 use cm_tool_signatures::{conform_component, show_component};
 use cm_tool_worlds::Unfit;
 use cm_validate::Checked;

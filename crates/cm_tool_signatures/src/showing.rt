@@ -4,8 +4,8 @@ ghost use Rattle.std.specs.Prelude.{◌≡◌, ◌≤◌, ◌<◌, IfOk, IsErrOf
 ghost use Rattle.std.specs.String.{string_bytes};
 ghost use Rattle.cm_validate.specs.Spaces.{signature, spaces_of};
 ghost use Rattle.cm_show.specs.Shown.{shown};
-ghost use Rattle.cm_show.specs.declared.fault.ShowFault.TheVariants as fault;
-ghost use Rattle.cm_show.specs.declared.page.TheConstants.{MAX_SHOWN};
+ghost use Rattle.cm_pages.specs.declared.fault.ShowFault.TheVariants as fault;
+ghost use Rattle.cm_pages.specs.declared.page.TheConstants.{MAX_SHOWN};
 
 use cm_checked_signature::signature;
 use cm_show::{ShowFault, show};

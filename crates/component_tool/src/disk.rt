@@ -1,6 +1,6 @@
 //! The files of the machine that the program runs on.
 
-use cm_tool::{FileFault, Files};
+use cm_tool_files::{FileFault, Files};
 use std::alloc::Global;
 use std::{fs, rt};
 

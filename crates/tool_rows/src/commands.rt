@@ -5,7 +5,8 @@ use crate::files::MemoryFiles;
 use crate::streams::Pipe;
 use cm_machine::Set;
 use cm_rows::{RowFault, read_number};
-use cm_tool::{Fault, LIMIT, Outcome, load_script, load_set, play, report, tool};
+use cm_tool::{LIMIT, tool};
+use cm_tool_sets::{Fault, Outcome, load_script, load_set, play, report};
 use cm_words::{Request, USAGE, WordsFault};
 use std::alloc::{AllocError, Global};
 

@@ -3,7 +3,7 @@
 use crate::escapes::write_text;
 use cm_machine::{Event, Flat, Trap};
 use cm_rows::{RowFault, read_number};
-use cm_tool::write_event;
+use cm_tool_lines::write_event;
 use cm_types::CoreValue;
 use std::alloc::Global;
 

@@ -2,7 +2,7 @@
 
 use crate::escapes::read_text;
 use cm_rows::{RowFault, read_bytes};
-use cm_tool::{FileFault, Files};
+use cm_tool_files::{FileFault, Files};
 use std::alloc::Global;
 use std::io::ErrorKind;
 

@@ -1,7 +1,16 @@
-use Rattle.std.proofs.Common.{rules}
-use Rattle.cm_show.proofs.PageLaws.{adds_next}
-use Rattle.cm_show.proofs.LineLaws.{lines, placed_lines}
+use Rattle.std.proofs.Common.{rules, IsErrOf}
+use Rattle.cm_pages.specs.declared.fault.ShowFault.TheVariants as fault
+use Rattle.cm_show.proofs.LineLaws.{one_more, externs_over, externs_wrote, placed_lines}
 use Rattle.cm_show.proofs.items.show_externs.Goals as goal
 
 pub loop-each-preserved : goal.loop-each-preserved
-loop-each-preserved c = adds_next (lines (placed_lines c.args.types.now c.args.word.now)) c.args.externs.now c.loop-each.each-index c.each-item.result c.args.page.now c.loop-each.page c.show_extern.new.page (search rules) (search rules) (search rules) (search rules) c.loop-each.invariant
+loop-each-preserved c = one_more (placed_lines c.args.types.now c.args.word.now) c.args.externs.now c.loop-each.each-index c.each-item.result c.args.page.now c.loop-each.page c.show_extern.new.page (search rules) (search rules) c.pages_join.ensures.more c.loop-each.invariant (search rules) (search rules)
+
+pub returns-clause-text : goal.returns-clause-text
+returns-clause-text c = (externs_wrote c.args.types.now c.args.word.now c.args.externs.now c.loop-each.each-index c.args.page.now c.loop-each.page (search rules) c.loop-each.invariant).text
+
+pub returns-clause-seen : goal.returns-clause-seen
+returns-clause-seen c = (externs_wrote c.args.types.now c.args.word.now c.args.externs.now c.loop-each.each-index c.args.page.now c.loop-each.page (search rules) c.loop-each.invariant).seen
+
+pub returns-in_err-show_extern-clause-over : goal.returns-in_err-show_extern-clause-over
+returns-in_err-show_extern-clause-over c = externs_over (IsErrOf c.from_residual.result fault.TooLong) c.args.types.now c.args.word.now c.args.externs.now c.loop-each.each-index c.each-item.result c.args.page.now c.loop-each.page (search rules) (search rules) c.pages_join.ensures.over c.loop-each.invariant (search rules)

@@ -1,6 +1,6 @@
-use Rattle.cm_show.proofs.PageLaws.{Adds}
-use Rattle.cm_show.proofs.LineLaws.{lines, placed_lines}
+use Rattle.cm_show_types.specs.Written.{Wrote}
+use Rattle.cm_show.proofs.LineLaws.{first_lines, placed_lines}
 use Rattle.cm_show.proofs.items.show_externs.Given as goal
 
 abbrev pub invariant-loop-each : goal.invariant-loop-each
-invariant-loop-each l = Adds (lines (placed_lines l.types l.word)) l.externs l.each-index l.fn.page l.page
+invariant-loop-each l = Wrote (first_lines (placed_lines l.types l.word) l.externs l.each-index) l.fn.page l.page

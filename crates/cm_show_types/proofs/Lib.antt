@@ -1,0 +1,4 @@
+pub mod Seen
+pub mod PageLaws
+pub mod ListLaws
+pub mod JoinLaws

@@ -1,0 +1,4 @@
+pub mod Lists
+pub mod ShownTypes
+pub mod Counted
+pub mod Written

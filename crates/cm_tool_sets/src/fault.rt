@@ -1,0 +1,135 @@
+//! Why a command ends early, and the line that says so.
+
+ghost use Rattle.std.specs.Prelude.{◌≡◌};
+ghost use Rattle.cm_tool_sets.specs.declared.fault.Fault.TheVariants as fault;
+
+use cm_machine::Misuse;
+use cm_match::LinkFault;
+use cm_pages::ShowFault;
+use cm_tool_files::BadFile;
+use cm_tool_lines::{
+    BadLine, Drive, SetSize, SignatureNames, write_bad_line, write_begin_fault, write_limit,
+    write_link_fault, write_set_fault,
+};
+use cm_tool_signatures::write_show_fault;
+use cm_tool_worlds::Unfit;
+use cm_words::USAGE;
+use std::alloc::{AllocError, AllocFailed};
+use std::io::Write;
+use std::{fmt, io};
+
+/// What has a line on standard error. A name is the word of the command line.
+#[derive(Drop)]
+pub enum Fault<'a> {
+    /// The words are no command, or ask for help.
+    Usage,
+    /// There was no memory.
+    Memory,
+    /// A file is not what the command wants.
+    File(BadFile<'a>),
+    /// The component of a file is not shown.
+    Show {
+        name: &'a str,
+        fault: ShowFault,
+    },
+    /// The component of a file does not fit a world.
+    Unfit(Unfit<'a>),
+    /// Components do not link, whose names are these.
+    Link {
+        fault: LinkFault,
+        names: Vec<SignatureNames<'a>>,
+    },
+    /// A script has a line at fault.
+    Script(BadLine),
+    /// The machine refused to make a set.
+    Set {
+        misuse: Misuse,
+        size: SetSize,
+    },
+    /// The machine refused to begin a drive.
+    Begin {
+        misuse: Misuse,
+        drive: Drive,
+    },
+    /// A drive made its last move, and its root has not returned.
+    Limit {
+        limit: u64,
+        drive: Drive,
+    },
+    /// Standard output cannot be written.
+    Output,
+}
+
+impl Fault<'_> {
+    /// The exit status of a command that ends by this fault.
+    pub fn status(&self) -> u8 {
+        match self {
+            Fault::Usage => 2,
+            Fault::Output => 4,
+            Fault::File(bad) => bad.status(),
+            Fault::Memory
+            | Fault::Show { .. }
+            | Fault::Unfit(_)
+            | Fault::Link { .. }
+            | Fault::Script(_)
+            | Fault::Set { .. }
+            | Fault::Begin { .. }
+            | Fault::Limit { .. } => 1,
+        }
+    }
+}
+
+impl From<AllocError> for Fault<'_> {
+    ghost from_gives = { λ _ f. f ≡ fault.Memory };
+
+    fn from(_error: AllocError) -> Self {
+        Fault::Memory
+    }
+}
+
+impl<T: Drop> From<AllocFailed<T>> for Fault<'_> {
+    ghost from_gives = { λ _ f. f ≡ fault.Memory };
+
+    fn from(_error: AllocFailed<T>) -> Self {
+        Fault::Memory
+    }
+}
+
+impl<'a> From<BadFile<'a>> for Fault<'a> {
+    ghost from_gives = { λ bad f. f ≡ fault.File bad };
+
+    fn from(bad: BadFile<'a>) -> Self {
+        Fault::File(bad)
+    }
+}
+
+impl From<io::Error> for Fault<'_> {
+    ghost from_gives = { λ _ f. f ≡ fault.Output };
+
+    fn from(_error: io::Error) -> Self {
+        Fault::Output
+    }
+}
+
+impl fmt::Display for Fault<'_> {
+    fn fmt<W: fmt::Write>(&self, f: &mut fmt::Formatter<W>) -> fmt::Result {
+        match self {
+            Fault::Usage => write!(f, "usage: {USAGE}"),
+            Fault::Memory => f.write_str("Memory"),
+            Fault::File(bad) => write!(f, "{bad}"),
+            Fault::Show { name, fault } => write_show_fault(f, name, *fault),
+            Fault::Unfit(unfit) => write!(f, "{unfit}"),
+            Fault::Link { fault, names } => write_link_fault(f, *fault, names.as_slice()),
+            Fault::Script(bad) => write_bad_line(f, bad),
+            Fault::Set { misuse, size } => write_set_fault(f, *misuse, *size),
+            Fault::Begin { misuse, drive } => write_begin_fault(f, *misuse, *drive),
+            Fault::Limit { limit, drive } => write_limit(f, *limit, *drive),
+            Fault::Output => f.write_str("standard output: Write: it cannot be written"),
+        }
+    }
+}
+
+/// Writes the line of a fault. Where that fails too, there is nobody left to tell.
+pub fn report<E: Write>(err: &mut E, fault: &Fault) {
+    let _ = writeln!(err, "error: {fault}");
+}
