@@ -1,0 +1,102 @@
+-- What calls answer for items.
+use Rattle.std.proofs.Common.{◌≡◌, ℕ, List, [], ◌∷◌, ◌++◌, length, Option, Some, None, refl, sym, ap, ◌∙◌, subst, append-nil, MatchOption}
+use Rattle.cm_types.specs.Types.{Ty, FuncTy}
+use Rattle.cm_validate.specs.declared.fault.ValidReason.{ValidReason}
+use Rattle.cm_validity.specs.Definitions.{CoreFuncDef, TypeDef}
+use Rattle.cm_validity.specs.Items.{Item}
+use Rattle.cm_validity.specs.Reasons.{least}
+use Rattle.cm_validity.specs.Rules.{broken}
+use Rattle.cm_validity.specs.Spaces.{Spaces, after_item, new_types}
+use Rattle.cm_core_spaces.specs.CoreSpaces.{Answers as CoreAnswers, IsCoreOf, StaysAfter as CoreStaysAfter, made_count}
+use Rattle.cm_core_spaces.specs.CoreSpaces as core
+use Rattle.cm_core_spaces.specs.declared.spaces.CoreSpaces.{CoreSpaces}
+use Rattle.cm_type_scope.specs.SettledScopes.{AreSettled}
+use Rattle.cm_type_scope.specs.TypeScopes.{Extends, HasGrown, arena_funcs, arena_types, own_types}
+use Rattle.cm_type_scope.specs.declared.scope.TypeScope.{TypeScope}
+use Rattle.cm_entries.specs.ComponentSpaces.{IsComponentOf, StaysAfter, after_answer}
+use Rattle.cm_entries.specs.declared.spaces.ComponentSpaces.{ComponentSpaces}
+use Rattle.cm_index_spaces.specs.IndexSpaces.{Answers, IsAt, defs_made, funcs_in, types_in}
+use Rattle.cm_index_spaces.specs.Made.{Tells}
+use Rattle.cm_index_spaces.specs.declared.spaces.IndexSpaces.{IndexSpaces}
+use Rattle.cm_index_spaces.proofs.MadeLaws.{defs_kept, still_there, tells, told_by}
+
+-- the spaces after an answer: those before, or those after the item
+pub either : (P : Spaces → Type 0) (x : Item) (s : Spaces) (r : Option ValidReason) → P s → (r ≡ None → P (after_item s x)) → P (after_answer r s x)
+either P x s None p q = q refl
+either P x s (Some e) p q = p
+
+core_either : (x : Item) (tell : ℕ → CoreFuncDef) (c : CoreSpaces) (s : Spaces) (r : Option ValidReason) → IsCoreOf tell c (core.after_answer r s x) → IsCoreOf tell c (after_answer r s x)
+core_either x tell c s None h = h
+core_either x tell c s (Some e) h = h
+
+none_more : (x : Item) (s : Spaces) (ts : List TypeDef) → new_types s x ≡ [] → s.types ≡ ts → (after_item s x).types ≡ ts
+none_more x s ts none e = ap (λ v. s.types ++ v) none ∙ append-nil s.types ∙ e
+
+-- an item of the core spaces
+pub core_answer : (x : Item) (w : IndexSpaces) (r : Option ValidReason) (d : CoreSpaces) → CoreAnswers x w.core r d → made_count d ≡ made_count w.core
+    → StaysAfter x → ((s : Spaces) → new_types s x ≡ []) → Answers x w r (record w { core = d })
+core_answer x w r d a count stays none = record {
+  fault = λ s at. a.fault (told_by (funcs_in w) w.made.items) s (at.core_is (told_by (funcs_in w) w.made.items) (tells (funcs_in w) w.made.items));
+  after = λ s at. record {
+    core_is = λ tell t. core_either x tell d s r (a.after tell s (at.core_is tell t));
+    component_is = either (IsComponentOf (types_in w) (funcs_in w) w.component) x s r at.component_is (λ e. stays (types_in w) (funcs_in w) w.component s at.component_is);
+    types_are = either (λ (v : Spaces). v.types ≡ own_types w.types) x s r at.types_are (λ e. none_more x s (own_types w.types) (none s) at.types_are);
+    settled = at.settled;
+    counted = count ∙ at.counted;
+    made_there = at.made_there;
+  };
+}
+
+-- a function, an instance, an import or an export
+pub component_answer : (x : Item) (w : IndexSpaces) (r : Option ValidReason) (d : ComponentSpaces)
+    → ((s : Spaces) → IsAt w s → r ≡ least (broken s x))
+    → ((s : Spaces) → IsAt w s → IsComponentOf (types_in w) (funcs_in w) d (after_answer r s x))
+    → CoreStaysAfter x → ((s : Spaces) → new_types s x ≡ []) → Answers x w r (record w { component = d })
+component_answer x w r d fault after stays none = record {
+  fault = fault;
+  after = λ s at. record {
+    core_is = λ tell t. either (IsCoreOf tell w.core) x s r (at.core_is tell t) (λ e. stays tell w.core s (at.core_is tell t));
+    component_is = after s at;
+    types_are = either (λ (v : Spaces). v.types ≡ own_types w.types) x s r at.types_are (λ e. none_more x s (own_types w.types) (none s) at.types_are);
+    settled = at.settled;
+    counted = at.counted;
+    made_there = at.made_there;
+  };
+}
+
+-- ---- types
+
+-- the component's entries stay while the arena grows
+abbrev pub ComponentGrows : Type 0
+ComponentGrows =
+    (types more : List Ty) (funcs others : List FuncTy) (c : ComponentSpaces) (s : Spaces) → IsComponentOf types funcs c s → IsComponentOf (types ++ more) (funcs ++ others) c s
+
+component_grown : ComponentGrows → (t u : TypeScope) (c : ComponentSpaces) (s : Spaces) → HasGrown t u → IsComponentOf (arena_types t) (arena_funcs t) c s → IsComponentOf (arena_types u) (arena_funcs u) c s
+component_grown grows t u c s g h =
+    subst (λ (types : List Ty). IsComponentOf types (arena_funcs u) c s) (sym g.0.1)
+    (subst (λ (funcs : List FuncTy). IsComponentOf (arena_types t ++ g.0.0) funcs c s) (sym g.1.1) (grows (arena_types t) g.0.0 (arena_funcs t) g.1.0 c s h))
+
+types_after : (x : Item) (s : Spaces) (r : Option ValidReason) (old new : List TypeDef) → s.types ≡ old → MatchOption r (new ≡ old ++ new_types s x) (λ q. new ≡ old) → (after_answer r s x).types ≡ new
+types_after x s None old new e m = ap (λ v. v ++ new_types s x) e ∙ sym m
+types_after x s (Some q) old new e m = e ∙ sym m
+
+pub types_answer : ComponentGrows → (x : Item) (w : IndexSpaces) (r : Option ValidReason) (t : TypeScope)
+    → ((s : Spaces) → IsAt w s → r ≡ least (broken s x))
+    → ((s : Spaces) → IsAt w s → MatchOption r (own_types t ≡ own_types w.types ++ new_types s x) (λ q. own_types t ≡ own_types w.types))
+    → HasGrown w.types t → ((s : Spaces) → IsAt w s → AreSettled t)
+    → CoreStaysAfter x → StaysAfter x → Answers x w r (record w { types = t })
+types_answer grows x w r t fault defined grown settled core_stays stays = record {
+  fault = fault;
+  after = λ s at. record {
+    core_is = λ tell told.
+        let h = at.core_is tell (subst (Tells tell) (defs_kept (funcs_in w) (arena_funcs t) w.made.items grown.1 at.made_there) told) in
+        either (IsCoreOf tell w.core) x s r h (λ e. core_stays tell w.core s h);
+    component_is =
+        let h = component_grown grows w.types t w.component s grown at.component_is in
+        either (IsComponentOf (arena_types t) (arena_funcs t) w.component) x s r h (λ e. stays (arena_types t) (arena_funcs t) w.component s h);
+    types_are = types_after x s r (own_types w.types) (own_types t) at.types_are (defined s at);
+    settled = settled s at;
+    counted = at.counted;
+    made_there = still_there (funcs_in w) (arena_funcs t) w.made.items grown.1 at.made_there;
+  };
+}

@@ -1,0 +1,2 @@
+mod MadeLaws
+mod AnswerLaws
