@@ -23,7 +23,7 @@ use Rattle.cm_entries.specs.ComponentSpaces.{AnswersAlias, IsComponentOf, export
 use Rattle.cm_entries.specs.declared.aliases.Aliased.TheVariants as aliased
 use Rattle.cm_entries.specs.declared.entries.MemberEntry.{MemberEntry}
 use Rattle.cm_entries.specs.declared.entries.MemberEntry.TheVariants as member
-use Rattle.cm_entries.specs.declared.entries.TypeEntry.TheVariants as entry
+use Rattle.cm_type_scope.specs.declared.entries.TypeEntry.TheVariants as entry
 use Rattle.cm_entries.specs.Steps.{PushesFunc}
 use Rattle.cm_entries.specs.declared.entries.FuncEntry.{FuncEntry}
 use Rattle.cm_entries.specs.declared.entries.InstanceEntry.{InstanceEntry}

@@ -22,8 +22,8 @@ use Rattle.cm_entries.specs.ComponentSpaces.{AreTypesOf, IsComponentOf}
 use Rattle.cm_entries.specs.Entries.{func_def, is_member_there, member_def, named_member}
 use Rattle.cm_entries.specs.declared.entries.MemberEntry.{MemberEntry}
 use Rattle.cm_entries.specs.declared.entries.MemberEntry.TheVariants as member
-use Rattle.cm_entries.specs.declared.entries.TypeEntry.{TypeEntry}
-use Rattle.cm_entries.specs.declared.entries.TypeEntry.TheVariants as entry
+use Rattle.cm_type_scope.specs.declared.entries.TypeEntry.{TypeEntry}
+use Rattle.cm_type_scope.specs.declared.entries.TypeEntry.TheVariants as entry
 use Rattle.cm_entries.specs.declared.spaces.ComponentSpaces.{ComponentSpaces}
 
 -- these are the functions, the instances and the types of the spaces of a component

@@ -16,9 +16,10 @@ use crate::laws::instances_are_sketched;
 use crate::passes::sketched_fault;
 use cm_declarations::Declarations;
 use cm_declarations::laws::first_reasons;
+use cm_instance_items::InstanceItems;
 use cm_item_names::laws::names_are_sketched;
 use cm_placed::InstanceType;
-use cm_type_scope::{NamedInstanceType, TypeEntry, TypeScope};
+use cm_type_scope::{TypeEntry, TypeScope};
 use cm_type_sketches::laws::limits_come_last;
 use cm_types::Declaration;
 use cm_validate::ValidReason;
@@ -42,8 +43,8 @@ fn add_instance(
     ensures around { types_around component.new ≡ types_around component.old }
     ensures grown { HasGrown component.old component.new }
 {
-    let named = NamedInstanceType::new(alloc, instance)?;
-    component.add(TypeEntry::Instance(Rc::new(alloc, named)?))
+    let items = InstanceItems::new(alloc, Rc::new(alloc, instance)?)?;
+    component.add(TypeEntry::Instance(Rc::new(alloc, items)?))
 }
 
 /// Reads the type of an instance that breaks nothing besides the limits.

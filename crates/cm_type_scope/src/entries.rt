@@ -4,7 +4,7 @@ ghost use Rattle.std.specs.Prelude.{◌≡◌, ℕ, IfOk, List};
 ghost use Rattle.cm_types.specs.Types.{FuncTy, Ty};
 ghost use Rattle.cm_type_scope.specs.Entries.{def_of, entry_sort, is_entry_there};
 
-use crate::instance_types::NamedInstanceType;
+use cm_instance_items::InstanceItems;
 use cm_placed::Placed;
 use cm_validity::TypeSort;
 use std::alloc::AllocError;
@@ -23,7 +23,7 @@ pub enum TypeEntry {
     /// A resource, by its number in the component.
     Resource(u64),
     /// The type of an instance, shared by all who name it.
-    Instance(Rc<NamedInstanceType>),
+    Instance(Rc<InstanceItems>),
 }
 
 impl TypeEntry {

@@ -27,8 +27,8 @@ impl TypeScope {
     ghost use Rattle.cm_type_arena.specs.TypeDefs.{primitive_types};
     ghost use Rattle.cm_validity.specs.Definitions.{sorts_of};
     ghost use Rattle.cm_type_scope.specs.Entries.{def_of, is_entry_there};
-    ghost use Rattle.cm_type_scope.specs.TypeScopes.{arena_funcs, arena_types, own_types};
-    ghost use Rattle.cm_type_scope.specs.TypeScopes.{types_around};
+    ghost use Rattle.cm_type_scope.specs.TypeScopes.{arena_funcs, arena_types, entries_of};
+    ghost use Rattle.cm_type_scope.specs.TypeScopes.{own_types, types_around};
 
     /// No types, with none around. `AllocError` comes where there is no memory for the arena.
     pub fn new(alloc: Global) -> Result<TypeScope, AllocError>
@@ -80,6 +80,14 @@ impl TypeScope {
         ensures funcs { funcs_of result.now ≡ arena_funcs self.now }
     {
         &self.types
+    }
+
+    /// What the indices of its own stand for, in order.
+    pub fn entries(&self) -> &[TypeEntry]
+        ensures entries { result.now ≡ entries_of self.now }
+        ensures placed { in_arena (arena_types self.now) (arena_funcs self.now) result.now ≡ true }
+    {
+        &self.own.entries
     }
 
     /// The sorts of its own types.
