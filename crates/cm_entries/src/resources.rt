@@ -72,13 +72,14 @@ pub fn resource_fault(types: &[TypeEntry], index: u32) -> Option<ValidReason>
 }
 
 impl<'a> ComponentSpaces<'a> {
-    ghost use Rattle.std.specs.Prelude.{OnErr};
+    ghost use Rattle.std.specs.Prelude.{ℕ, OnErr, true};
     ghost use Rattle.cm_types.specs.DefTypes.{resource_def as resource_type};
     ghost use Rattle.cm_validity.specs.Items.{type_item};
     ghost use Rattle.cm_validity.specs.Rules.{own_resource_broken};
-    ghost use Rattle.cm_validity.specs.Spaces.{after_item, new_types};
+    ghost use Rattle.cm_validity.specs.Spaces.{after_item, new_types, next_resource};
     ghost use Rattle.cm_entries.specs.ComponentSpaces.{IsComponentOf, Stays};
-    ghost use Rattle.cm_type_scope.specs.Entries.{def_of};
+    ghost use Rattle.cm_type_scope.specs.Entries.{def_of, is_entry_there};
+    ghost use Rattle.cm_type_scope.specs.Settled.{IsEntrySettled};
 
     /// What a resource of this number breaks that the component has to define.
     fn own_fault(&self, number: u64) -> Option<ValidReason>
@@ -110,6 +111,14 @@ impl<'a> ComponentSpaces<'a> {
         }
     }
 
+    /// How many resources there are, which is the number of the next one.
+    pub fn resource_count(&self) -> u64
+        ensures { (types : List Ty) (funcs : List FuncTy) (s : Spaces)
+            → IsComponentOf types funcs self.now s → result ≡ next_resource s }
+    {
+        self.resources.count()
+    }
+
     /// Adds a resource that the component defines, and answers its type, which is to be added to
     /// those of the component. Its destructor is one that breaks no rule. `AllocError` comes where
     /// there is no memory; the spaces then stay as they are (Binary.md, `resourcetype`).
@@ -122,6 +131,9 @@ impl<'a> ComponentSpaces<'a> {
             → IsComponentOf types funcs self.old s
             → new_types s (type_item (resource_type destructor))
             ≡ def_of types funcs t ∷ []) }
+        ensures there { IfOk result (λ t. (types funcs : ℕ) → is_entry_there types funcs t ≡ true) }
+        ensures settled { IfOk result (λ t. (types : List Ty) (funcs : List FuncTy)
+            → IsEntrySettled types funcs t) }
         ensures kept { OnErr result (Stays self.old self.new) }
     {
         let number = self.resources.count();

@@ -111,7 +111,8 @@ impl<'a> IndexSpaces<'a> {
             self.old None self.new) }
     {
         self.core.add_canon(canon)?;
-        self.made.push(made)
+        self.made.push(made)?;
+        Ok(())
     }
 
     /// Adds a canonical definition that makes a core function, unless it breaks a rule.
