@@ -5,3 +5,4 @@ pub mod MovedLaws
 pub mod ScopeLaws
 pub mod SettledLaws
 pub mod SpellLaws
+pub mod StayLaws

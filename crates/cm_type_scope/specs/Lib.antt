@@ -3,3 +3,4 @@ pub mod Entries
 pub mod Uses
 pub mod Settled
 pub mod TypeScopes
+pub mod SettledScopes

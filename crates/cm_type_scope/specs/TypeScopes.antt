@@ -14,16 +14,19 @@ arena_types s = types_of s.types
 abbrev pub arena_funcs : TypeScope → List FuncTy
 arena_funcs s = funcs_of s.types
 
--- the entries of its own
+-- the entries of its own, and those around
 abbrev pub entries_of : TypeScope → List TypeEntry
 entries_of s = s.own.entries.items
+
+abbrev pub entries_around : TypeScope → List TypeEntry
+entries_around s = s.around.entries.items
 
 -- the types of its own, and those around
 abbrev pub own_types : TypeScope → List TypeDef
 own_types s = map (def_of (arena_types s) (arena_funcs s)) (entries_of s)
 
 abbrev pub types_around : TypeScope → List TypeDef
-types_around s = map (def_of (arena_types s) (arena_funcs s)) s.around.entries.items
+types_around s = map (def_of (arena_types s) (arena_funcs s)) (entries_around s)
 
 -- the types of its own, each value type the one at its place, with no resource moved
 abbrev pub unmoved_types : TypeScope → List TypeDef
