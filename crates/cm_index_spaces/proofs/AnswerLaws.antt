@@ -1,6 +1,9 @@
 -- What calls answer for items.
-use Rattle.std.proofs.Common.{◌≡◌, ℕ, List, [], ◌∷◌, ◌++◌, length, Option, Some, None, refl, sym, ap, ◌∙◌, subst, append-nil, MatchOption}
+use Rattle.std.specs.List.{AllByRecursion}
+use Rattle.std.proofs.Common.{◌≡◌, ℕ, true, List, [], ◌++◌, map, Option, Some, None, refl, sym, ap, ◌∙◌, subst, append-nil, MatchOption}
 use Rattle.cm_types.specs.Types.{Ty, FuncTy}
+use Rattle.cm_arena_layouts.specs.Placed.{AreOfFirst, layouts_in}
+use Rattle.cm_layout.specs.Shapes.{LayoutTy}
 use Rattle.cm_validate.specs.declared.fault.ValidReason.{ValidReason}
 use Rattle.cm_validity.specs.Definitions.{CoreFuncDef, TypeDef}
 use Rattle.cm_validity.specs.Items.{Item}
@@ -11,9 +14,12 @@ use Rattle.cm_core_spaces.specs.CoreSpaces.{Answers as CoreAnswers, IsCoreOf, St
 use Rattle.cm_core_spaces.specs.CoreSpaces as core
 use Rattle.cm_core_spaces.specs.declared.spaces.CoreSpaces.{CoreSpaces}
 use Rattle.cm_type_scope.specs.SettledScopes.{AreSettled}
-use Rattle.cm_type_scope.specs.TypeScopes.{Extends, HasGrown, arena_funcs, arena_types, own_types}
+use Rattle.cm_type_scope.specs.Entries.{def_of, in_arena}
+use Rattle.cm_type_scope.specs.Settled.{IsEntrySettled}
+use Rattle.cm_type_scope.specs.TypeScopes.{HasGrown, arena_funcs, arena_types, entries_of, own_types}
+use Rattle.cm_type_scope.specs.declared.entries.TypeEntry.{TypeEntry}
 use Rattle.cm_type_scope.specs.declared.scope.TypeScope.{TypeScope}
-use Rattle.cm_entries.specs.ComponentSpaces.{IsComponentOf, StaysAfter, after_answer}
+use Rattle.cm_entries.specs.ComponentSpaces.{AreTypesOf, IsComponentOf, StaysAfter, after_answer}
 use Rattle.cm_entries.specs.declared.spaces.ComponentSpaces.{ComponentSpaces}
 use Rattle.cm_index_spaces.specs.IndexSpaces.{Answers, IsAt, defs_made, funcs_in, types_in}
 use Rattle.cm_index_spaces.specs.Made.{Tells}
@@ -44,6 +50,7 @@ core_answer x w r d a count stays none = record {
     settled = at.settled;
     counted = count ∙ at.counted;
     made_there = at.made_there;
+    laid = at.laid;
   };
 }
 
@@ -61,6 +68,7 @@ component_answer x w r d fault after stays none = record {
     settled = at.settled;
     counted = at.counted;
     made_there = at.made_there;
+    laid = at.laid;
   };
 }
 
@@ -71,6 +79,10 @@ abbrev pub ComponentGrows : Type 0
 ComponentGrows =
     (types more : List Ty) (funcs others : List FuncTy) (c : ComponentSpaces) (s : Spaces) → IsComponentOf types funcs c s → IsComponentOf (types ++ more) (funcs ++ others) c s
 
+-- the layouts of the first types too
+abbrev pub LayoutsStay : Type 0
+LayoutsStay = (ls : List LayoutTy) (types more : List Ty) → AreOfFirst ls types → AreOfFirst ls (types ++ more)
+
 component_grown : ComponentGrows → (t u : TypeScope) (c : ComponentSpaces) (s : Spaces) → HasGrown t u → IsComponentOf (arena_types t) (arena_funcs t) c s → IsComponentOf (arena_types u) (arena_funcs u) c s
 component_grown grows t u c s g h =
     subst (λ (types : List Ty). IsComponentOf types (arena_funcs u) c s) (sym g.0.1)
@@ -80,23 +92,41 @@ types_after : (x : Item) (s : Spaces) (r : Option ValidReason) (old new : List T
 types_after x s None old new e m = ap (λ v. v ++ new_types s x) e ∙ sym m
 types_after x s (Some q) old new e m = e ∙ sym m
 
-pub types_answer : ComponentGrows → (x : Item) (w : IndexSpaces) (r : Option ValidReason) (t : TypeScope)
+-- a type, and maybe a resource
+pub types_answer : ComponentGrows → LayoutsStay → (x : Item) (w : IndexSpaces) (r : Option ValidReason) (d : ComponentSpaces) (t : TypeScope)
     → ((s : Spaces) → IsAt w s → r ≡ least (broken s x))
+    → ((s : Spaces) → IsAt w s → IsComponentOf (types_in w) (funcs_in w) d (after_answer r s x))
     → ((s : Spaces) → IsAt w s → MatchOption r (own_types t ≡ own_types w.types ++ new_types s x) (λ q. own_types t ≡ own_types w.types))
     → HasGrown w.types t → ((s : Spaces) → IsAt w s → AreSettled t)
-    → CoreStaysAfter x → StaysAfter x → Answers x w r (record w { types = t })
-types_answer grows x w r t fault defined grown settled core_stays stays = record {
+    → CoreStaysAfter x → Answers x w r (record w { component = d; types = t })
+types_answer grows lays x w r d t fault after defined grown settled core_stays = record {
   fault = fault;
   after = λ s at. record {
     core_is = λ tell told.
         let h = at.core_is tell (subst (Tells tell) (defs_kept (funcs_in w) (arena_funcs t) w.made.items grown.1 at.made_there) told) in
         either (IsCoreOf tell w.core) x s r h (λ e. core_stays tell w.core s h);
-    component_is =
-        let h = component_grown grows w.types t w.component s grown at.component_is in
-        either (IsComponentOf (arena_types t) (arena_funcs t) w.component) x s r h (λ e. stays (arena_types t) (arena_funcs t) w.component s h);
+    component_is = component_grown grows w.types t d (after_answer r s x) grown (after s at);
     types_are = types_after x s r (own_types w.types) (own_types t) at.types_are (defined s at);
     settled = settled s at;
     counted = at.counted;
     made_there = still_there (funcs_in w) (arena_funcs t) w.made.items grown.1 at.made_there;
+    laid = subst (AreOfFirst (layouts_in w.layouts)) (sym grown.0.1) (lays (layouts_in w.layouts) (types_in w) grown.0.0 at.laid);
   };
+}
+
+pub component_stays : (x : Item) (w : IndexSpaces) (r : Option ValidReason) → StaysAfter x → (s : Spaces) → IsAt w s → IsComponentOf (types_in w) (funcs_in w) w.component (after_answer r s x)
+component_stays x w r stays s at = either (IsComponentOf (types_in w) (funcs_in w) w.component) x s r at.component_is (λ e. stays (types_in w) (funcs_in w) w.component s at.component_is)
+
+-- ---- what breaks a rule
+
+pub fault_answer : (x : Item) (w : IndexSpaces) (q : ValidReason) → ((s : Spaces) → IsAt w s → Some q ≡ least (broken s x)) → Answers x w (Some q) w
+fault_answer x w q fault = record { fault = fault; after = λ s at. at }
+
+-- ---- the types by index
+
+pub types_at : (w : IndexSpaces) (es : List TypeEntry) → es ≡ entries_of w.types → in_arena (types_in w) (funcs_in w) es ≡ true → (s : Spaces) → IsAt w s → AreTypesOf (types_in w) (funcs_in w) es s
+types_at w es e there s at = record {
+  types_are = at.types_are ∙ sym (ap (map (def_of (types_in w) (funcs_in w))) e);
+  types_there = there;
+  settled = subst (AllByRecursion (IsEntrySettled (types_in w) (funcs_in w))) (sym e) at.settled;
 }

@@ -3,6 +3,7 @@
 use Rattle.std.specs.Prelude.{◌≡◌, ℕ, true, List, length, map, Option}
 use Rattle.std.specs.List.{list_all}
 use Rattle.cm_types.specs.Types.{Ty, FuncTy}
+use Rattle.cm_arena_layouts.specs.Placed.{AreOfFirst, layouts_in}
 use Rattle.cm_validate.specs.declared.fault.ValidReason.{ValidReason}
 use Rattle.cm_validity.specs.Definitions.{CoreFuncDef}
 use Rattle.cm_validity.specs.Items.{Item}
@@ -29,7 +30,8 @@ defs_made w = map (made_def (funcs_in w)) w.made.items
 
 -- The index spaces are these: the core ones, whatever else tells what canonical definitions made;
 -- functions, instances, resources, imports and exports; and types, where what a move brought into
--- the type of an instance names no resource of that instance.
+-- the type of an instance names no resource of that instance. The layouts are those of the arena's
+-- first types.
 pub record IsAt (w : IndexSpaces) (s : Spaces) : Type 0 where
   pub core_is : (made : ℕ → CoreFuncDef) → Tells made (defs_made w) → IsCoreOf made w.core s
   pub component_is : IsComponentOf (types_in w) (funcs_in w) w.component s
@@ -37,6 +39,7 @@ pub record IsAt (w : IndexSpaces) (s : Spaces) : Type 0 where
   pub settled : AreSettled w.types
   pub counted : made_count w.core ≡ length w.made.items
   pub made_there : list_all (is_made_there (length (funcs_in w))) w.made.items ≡ true
+  pub laid : AreOfFirst (layouts_in w.layouts) (types_in w)
 
 -- they are those of some component, after some of its items
 abbrev pub Stands : IndexSpaces → Type 0

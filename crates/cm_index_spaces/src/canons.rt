@@ -19,7 +19,6 @@ ghost use Rattle.cm_index_spaces.specs.Made.{is_made_there, made_def};
 use crate::made::MadeFunc;
 use crate::spaces::IndexSpaces;
 use cm_arena_layouts::Layouts;
-use cm_arena_layouts::laws::first_layouts_stay;
 use cm_canons::{LaidTypes, add_lift, lower_fault};
 use cm_component::{Canon, CanonOption};
 use cm_entries::laws::others_add_nothing as component_stays;
@@ -78,7 +77,7 @@ fn lowered<'a>(
 }
 
 impl<'a> IndexSpaces<'a> {
-    ghost use Rattle.cm_index_spaces.specs.IndexSpaces.{Answers};
+    ghost use Rattle.cm_index_spaces.specs.IndexSpaces.{Answers, Stands};
     ghost use Rattle.cm_index_spaces.specs.Making.{Makes};
 
     /// Adds a lift.
@@ -89,6 +88,7 @@ impl<'a> IndexSpaces<'a> {
         options: &'a [CanonOption],
         ty: u32,
     ) -> Result<Option<ValidReason>, AllocError>
+        requires { Stands self.old }
         ensures { IfOk result (λ r. Answers (canon_item (lift core_func options.now ty))
             self.old r self.new) }
     {
@@ -146,7 +146,8 @@ impl<'a> IndexSpaces<'a> {
         func: u32,
         options: &'a [CanonOption],
     ) -> Result<Option<ValidReason>, AllocError>
-        requires { canon_tree canon.now ≡ lower func options.now }
+        requires stands { Stands self.old }
+        requires lower { canon_tree canon.now ≡ lower func options.now }
         ensures { IfOk result (λ r. Answers (canon_item (canon_tree canon.now))
             self.old r self.new) }
     {
@@ -221,6 +222,7 @@ impl<'a> IndexSpaces<'a> {
         alloc: Global,
         canon: &'a Canon,
     ) -> Result<Option<ValidReason>, AllocError>
+        requires { Stands self.old }
         ensures { IfOk result (λ r. Answers (canon_item (canon_tree canon.now))
             self.old r self.new) }
     {

@@ -1,10 +1,11 @@
 //! Instances, aliases of what they export, aliases of types, imports and exports.
 
 use crate::spaces::IndexSpaces;
+use cm_arena_layouts::laws::first_layouts_stay;
 use cm_component::{Export, Import, Instance, InstanceExportSort};
 use cm_core_spaces::laws::others_add_nothing as core_stays;
 use cm_entries::Aliased;
-use cm_entries::laws::others_add_nothing as component_stays;
+use cm_entries::laws::{entries_stay, others_add_nothing as component_stays};
 use cm_inline_exports::add_instance;
 use cm_type_scope::TypeEntry;
 use cm_types::OuterType;
@@ -61,7 +62,9 @@ impl<'a> IndexSpaces<'a> {
         ensures { IfOk result (λ r. Answers
             (alias_item (instance_export sort instance name.now)) self.old r self.new) }
     {
+        first_layouts_stay();
         core_stays();
+        entries_stay();
         match self.component.alias(sort, instance, name)? {
             Aliased::Broken(reason) => Ok(Some(reason)),
             Aliased::Func => Ok(None),
@@ -95,8 +98,10 @@ impl<'a> IndexSpaces<'a> {
         ensures { IfOk result (λ r. Answers (alias_item (outer_type outer))
             self.old r self.new) }
     {
+        first_layouts_stay();
         core_stays();
         component_stays();
+        entries_stay();
         if outer.count != 0 {
             return Ok(Some(ValidReason::NoSuchIndex));
         }

@@ -1,8 +1,5 @@
 //! The index spaces of a component.
 
-ghost use Rattle.cm_arena_layouts.specs.Placed.{AreOfFirst, layouts_in};
-ghost use Rattle.cm_type_scope.specs.TypeScopes.{arena_types};
-
 use crate::made::MadeFunc;
 use cm_arena_layouts::Layouts;
 use cm_arena_layouts::laws::first_layouts_stay;
@@ -22,7 +19,6 @@ pub struct IndexSpaces<'a> {
     pub(crate) types: TypeScope,
     pub(crate) layouts: Layouts,
     pub(crate) made: Vec<MadeFunc<'a>>,
-    ghost laid: { AreOfFirst (layouts_in layouts) (arena_types types) },
 }
 
 impl<'a> IndexSpaces<'a> {

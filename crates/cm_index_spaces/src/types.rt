@@ -74,7 +74,9 @@ impl<'a> IndexSpaces<'a> {
         ensures { IfOk result (λ r. Answers (type_item (resource_def destructor))
             self.old r self.new) }
     {
+        first_layouts_stay();
         core_stays();
+        entries_stay();
         let fault = self.destructor_fault(destructor);
         if fault.is_some() {
             return Ok(fault);
