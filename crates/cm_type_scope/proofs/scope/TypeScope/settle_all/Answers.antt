@@ -18,3 +18,6 @@ loop-ty-preserved c =
       grown = grown_on c.args.self.now old new c.loop-ty.invariant.grown c.settle.ensures.grown;
       stays = stays_on c.args.self.now old new c.loop-ty.invariant.stays c.settle.ensures.stays;
     }
+
+pub returns-in_err-settle-clause-stays : goal.returns-in_err-settle-clause-stays
+returns-in_err-settle-clause-stays c = stays_on c.args.self.now c.loop-ty.self c.settle.new.self c.loop-ty.invariant.stays c.settle.ensures.stays
