@@ -1,7 +1,7 @@
 //! Canonical definitions.
 
 ghost use Rattle.std.specs.Prelude.{◌≡◌, IfOk, IfSome, List, None, length, slice_get, true};
-ghost use Rattle.std.specs.Prelude.{OnOk, Some};
+ghost use Rattle.std.specs.Prelude.{ℕ, OnOk, Some};
 ghost use Rattle.std.specs.Option.{option_and_then, option_map};
 ghost use Rattle.cm_types.specs.Types.{FuncTy, Ty};
 ghost use Rattle.cm_component.specs.Trees.{canon_tree, lift, lower, resource_drop, resource_new};
@@ -50,6 +50,33 @@ fn resource_at(types: &TypeScope, index: u32) -> Option<u64>
         Some(TypeEntry::Resource(number)) => Some(*number),
         _ => None,
     }
+}
+
+/// What makes handles of the resource under an index of a type, if one stands there.
+fn making<'a>(types: &TypeScope, index: u32) -> Option<MadeFunc<'a>>
+    ensures def { (funcs : List FuncTy) (s : Spaces) → s.types ≡ own_types types.now
+        → option_map (made_def funcs) result ≡ canon_core_func s (resource_new index) }
+    ensures there { (funcs : ℕ) → IfSome result (λ m. is_made_there funcs m ≡ true) }
+{
+    Some(MadeFunc::Making(resource_at(types, index)?))
+}
+
+/// What drops them.
+fn dropping<'a>(types: &TypeScope, index: u32) -> Option<MadeFunc<'a>>
+    ensures def { (funcs : List FuncTy) (s : Spaces) → s.types ≡ own_types types.now
+        → option_map (made_def funcs) result ≡ canon_core_func s (resource_drop index) }
+    ensures there { (funcs : ℕ) → IfSome result (λ m. is_made_there funcs m ≡ true) }
+{
+    Some(MadeFunc::Dropping(resource_at(types, index)?))
+}
+
+/// What tells what they represent.
+fn reading<'a>(types: &TypeScope, index: u32) -> Option<MadeFunc<'a>>
+    ensures def { (funcs : List FuncTy) (s : Spaces) → s.types ≡ own_types types.now
+        → option_map (made_def funcs) result ≡ canon_core_func s (resource_rep index) }
+    ensures there { (funcs : ℕ) → IfSome result (λ m. is_made_there funcs m ≡ true) }
+{
+    Some(MadeFunc::Reading(resource_at(types, index)?))
 }
 
 /// The core function that a lower makes of the function of an index, if that is an import.
@@ -172,7 +199,7 @@ impl<'a> IndexSpaces<'a> {
         component_stays();
         let types = self.types.entries();
         let fault = self.component.own_resource_fault(types, resource);
-        let made = resource_at(&self.types, resource).map(MadeFunc::Making);
+        let made = making(&self.types, resource);
         self.make(canon, fault, made)
     }
 
@@ -188,7 +215,7 @@ impl<'a> IndexSpaces<'a> {
     {
         component_stays();
         let fault = resource_fault(self.types.entries(), resource);
-        let made = resource_at(&self.types, resource).map(MadeFunc::Dropping);
+        let made = dropping(&self.types, resource);
         self.make(canon, fault, made)
     }
 
@@ -205,7 +232,7 @@ impl<'a> IndexSpaces<'a> {
         component_stays();
         let types = self.types.entries();
         let fault = self.component.own_resource_fault(types, resource);
-        let made = resource_at(&self.types, resource).map(MadeFunc::Reading);
+        let made = reading(&self.types, resource);
         self.make(canon, fault, made)
     }
 
