@@ -30,11 +30,13 @@ no_guest funcs (made.Dropping n) = refl
 no_guest funcs (made.Reading n) = refl
 
 none_guests : (funcs : List FuncTy) (ms : List MadeFunc) (n : ℕ) → is_guest (told_by funcs ms n) ≡ false
+unfolding told_by
 none_guests funcs [] n = refl
 none_guests funcs (m ∷ ms) zero = no_guest funcs m
 none_guests funcs (m ∷ ms) (suc n) = none_guests funcs ms n
 
 all_told : (funcs : List FuncTy) (ms : List MadeFunc) (n : ℕ) (d : CoreFuncDef) → slice_get (map (made_def funcs) ms) n ≡ Some d → told_by funcs ms n ≡ d
+unfolding told_by
 all_told funcs [] n d e = absurd cc
 all_told funcs (m ∷ ms) zero d e = some_is (made_def funcs m) d e
 all_told funcs (m ∷ ms) (suc n) d e = all_told funcs ms n d e

@@ -9,5 +9,5 @@ pub returns : goal.returns
 returns c =
     let t = core_instance_tree c.args.instance.now in
     if_one _ _ c.add_instance.result
-    (λ r a. core_answer (core_instance_item t) c.args.self.now r c.add_instance.new.self a c.add_instance.ensures.counted (c.component_stays.ensures.core_instances t) (λ s. refl))
+    (λ r a. core_answer (core_instance_item t) c.args.self.now r c.add_instance.new.self a c.add_instance.ensures.counted (c.others_add_nothing.ensures.core_instances t) (λ s. refl))
     c.add_instance.ensures.answer

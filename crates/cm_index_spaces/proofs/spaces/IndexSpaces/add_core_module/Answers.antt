@@ -7,5 +7,5 @@ use Rattle.cm_index_spaces.proofs.spaces.IndexSpaces.add_core_module.Goals as go
 pub returns : goal.returns
 returns c =
     on_one _ _ c.add_module.result
-    (λ b. core_answer core_module_item c.args.self.now None c.add_module.new.self (record { fault = λ tell s h. refl; after = b }) c.add_module.ensures.counted c.component_stays.ensures.core_modules (λ s. refl))
+    (λ b. core_answer core_module_item c.args.self.now None c.add_module.new.self (record { fault = λ tell s h. refl; after = b }) c.add_module.ensures.counted c.others_add_nothing.ensures.core_modules (λ s. refl))
     c.add_module.ensures.added

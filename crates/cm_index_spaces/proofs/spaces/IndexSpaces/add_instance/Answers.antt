@@ -20,5 +20,5 @@ returns c =
     (λ r b.
     let a = subst (λ (ts : List Ty). AnswersAmong ts (funcs_of c.types.result.now) es x w.component r d) c.types.ensures.types b in
     let a2 = subst (λ (fs : List FuncTy). AnswersAmong (types_in w) fs es x w.component r d) c.types.ensures.funcs a in
-    component_answer x w r d (λ s k. a2.fault s k.component_is (at s k)) (λ s k. a2.after s k.component_is (at s k)) (c.core_stays.ensures.instances (instance_tree c.args.instance.now)) (λ s. refl))
+    component_answer x w r d (λ s k. a2.fault s k.component_is (at s k)) (λ s k. a2.after s k.component_is (at s k)) (c.others_add_nothing.ensures.instances (instance_tree c.args.instance.now)) (λ s. refl))
     c.add_instance.ensures.answer

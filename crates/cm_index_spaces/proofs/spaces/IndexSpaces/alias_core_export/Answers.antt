@@ -9,5 +9,5 @@ pub returns : goal.returns
 returns c =
     let a = core_instance_export c.args.sort c.args.instance c.args.name.now in
     if_one _ _ c.alias.result
-    (λ r b. core_answer (alias_item a) c.args.self.now r c.alias.new.self b c.alias.ensures.counted (c.component_stays.ensures.core_aliases c.args.sort c.args.instance c.args.name.now) (λ s. refl))
+    (λ r b. core_answer (alias_item a) c.args.self.now r c.alias.new.self b c.alias.ensures.counted (c.others_add_nothing.ensures.core_aliases c.args.sort c.args.instance c.args.name.now) (λ s. refl))
     c.alias.ensures.answer

@@ -19,7 +19,7 @@ returns c =
     if_both _ _ _ c.define_func.result
     (λ r fault defined. types_answer c.entries_stay.ensures.component c.first_layouts_stay.ensures.grown x w r w.component t
     (λ s k. fault ∙ ap (λ ts. least (func_def_broken ts v)) (sym k.types_are))
-    (component_stays x w r (c.component_stays.ensures.func_types v))
+    (component_stays x w r (c.others_add_nothing-2.ensures.func_types v))
     (λ s k. defined_is (own_types w.types) s.types (own_types t) (λ ts. func_def_of ts v) r k.types_are defined)
-    c.define_func.ensures.grown (λ s k. c.define_func.ensures.stays.settled k.settled) (c.core_stays.ensures.types (func_def v)))
+    c.define_func.ensures.grown (λ s k. c.define_func.ensures.stays.settled k.settled) (c.others_add_nothing.ensures.types (func_def v)))
     c.define_func.ensures.fault c.define_func.ensures.defined

@@ -26,7 +26,7 @@ returns c =
     (λ s k.
     let e = c.resource_count-next.ensures (types_in w) (funcs_in w) s k.component_is in
     fault ∙ ap (λ ts. least (instance_def_broken ts n ds)) (sym k.types_are) ∙ ap (λ m. least (instance_def_broken s.types m ds)) e)
-    (component_stays x w r (c.component_stays.ensures.instance_types ds))
+    (component_stays x w r (c.others_add_nothing-2.ensures.instance_types ds))
     (λ s k.
     let e = c.resource_count-next.ensures (types_in w) (funcs_in w) s k.component_is in
     defined_with (own_types w.types) (own_types t) (λ m. instance_type (instance_defined s.types m ds)) n (next_resource s) r e
@@ -35,5 +35,5 @@ returns c =
     (λ s k.
     let e = c.resource_count-next.ensures (types_in w) (funcs_in w) s k.component_is in
     c.define_instance.ensures.settled (counted_at (own_types w.types) s n (sym e) k.types_are (subst AreSpacesCounted (sym k.component_is.reached.1) (c.resources_are_counted.ensures.before k.component_is.reached.0))) k.settled)
-    (c.core_stays.ensures.types (instance_def ds)))
+    (c.others_add_nothing.ensures.types (instance_def ds)))
     c.define_instance.ensures.fault c.define_instance.ensures.defined

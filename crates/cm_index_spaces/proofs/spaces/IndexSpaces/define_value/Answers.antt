@@ -19,7 +19,7 @@ returns c =
     if_both _ _ _ c.define_value.result
     (λ r fault defined. types_answer c.entries_stay.ensures.component c.first_layouts_stay.ensures.grown x w r w.component t
     (λ s k. fault ∙ ap (λ ts. least (value_def_broken ts v)) (sym k.types_are))
-    (component_stays x w r (c.component_stays.ensures.value_types v))
+    (component_stays x w r (c.others_add_nothing-2.ensures.value_types v))
     (λ s k. defined_is (own_types w.types) s.types (own_types t) (λ ts. value_def_of ts v) r k.types_are defined)
-    c.define_value.ensures.grown (λ s k. c.define_value.ensures.stays.settled k.settled) (c.core_stays.ensures.types (value_def v)))
+    c.define_value.ensures.grown (λ s k. c.define_value.ensures.stays.settled k.settled) (c.others_add_nothing.ensures.types (value_def v)))
     c.define_value.ensures.fault c.define_value.ensures.defined
