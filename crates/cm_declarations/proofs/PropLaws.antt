@@ -1,6 +1,6 @@
 -- What is known of moves has one proof at most.
-use Rattle.std.proofs.Common.{◌≡◌, ◌<◌, ℕ, List, [], ◌∷◌, Option, Some, None, IfSome}
-use Rattle.std.specs.List.{AllByRecursion, AllByRecursion-prop}
+use Rattle.std.proofs.Common.{ℕ, List, Option, Some, None, IfSome}
+use Rattle.std.specs.List.{AllByRecursion-prop}
 use Rattle.std.specs.Coded.{×_prop, le_prop, Unit-prop}
 use Rattle.std.proofs.Math.Logic.{∥∥₁_elim}
 use Rattle.std.proofs.Math.Nat.{ℕ_set}
