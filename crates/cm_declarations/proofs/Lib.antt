@@ -3,3 +3,4 @@ pub mod FirstLaws
 pub mod BrokenLaws
 pub mod GrowLaws
 pub mod MovedLaws
+pub mod PropLaws

@@ -26,9 +26,9 @@ pub struct Declarations {
     pub(crate) next: u64,
     ghost counted: { first ≤ next },
     ghost items_placed: { items_in (arena_types scope) (arena_funcs scope) items.items ≡ true },
-    ghost moved_counted: { AreCountedAround first scope → AreMovedCounted first scope },
-    ghost items_settled: { AreCountedAround first scope
-        → AreItemsSettled (arena_types scope) (arena_funcs scope) first items.items },
+    ghost moved_counted: { ∥ (AreCountedAround first scope → AreMovedCounted first scope) ∥₁ },
+    ghost items_settled: { ∥ (AreCountedAround first scope
+        → AreItemsSettled (arena_types scope) (arena_funcs scope) first items.items) ∥₁ },
 }
 
 impl Declarations {

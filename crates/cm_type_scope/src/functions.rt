@@ -155,7 +155,8 @@ impl TypeScope {
     /// type that an import moved is copied as `define_value` says, and the result beside the
     /// parameters.
     ///
-    /// `AllocError` comes where there is no memory; its own types are then as they were.
+    /// `AllocError` comes where there is no memory; its own types are then as they were. Whatever
+    /// comes, what an import moved stays counted as it was: in the types of instances too.
     pub fn define_func(
         &mut self,
         alloc: Global,

@@ -115,10 +115,13 @@ impl TypeScope {
     pub fn get(&self, index: u32) -> Option<&TypeEntry>
         ensures there { option_map (λ e. def_of (arena_types self.now) (arena_funcs self.now) e.now)
             result ≡ slice_get (own_types self.now) index }
-        ensures entry { option_map (λ e. e.now) result ≡ slice_get (entries_of self.now) index }
         ensures placed { IfSome result (λ e.
             is_entry_there (length (arena_types self.now)) (length (arena_funcs self.now)) e.now
             ≡ true) }
+        ensures settled { IfSome result (λ e. AreSettled self.now
+            → IsEntrySettled (arena_types self.now) (arena_funcs self.now) e.now) }
+        ensures moved { IfSome result (λ e. (n : ℕ) → AreMovedCounted n self.now
+            → IsMovedCounted (arena_types self.now) (arena_funcs self.now) n e.now) }
     {
         self.own.entries.get(index as usize)
     }
@@ -127,7 +130,6 @@ impl TypeScope {
     pub fn get_around(&self, index: u32) -> Option<&TypeEntry>
         ensures there { option_map (λ e. def_of (arena_types self.now) (arena_funcs self.now) e.now)
             result ≡ slice_get (types_around self.now) index }
-        ensures entry { option_map (λ e. e.now) result ≡ slice_get (entries_around self.now) index }
         ensures placed { IfSome result (λ e.
             is_entry_there (length (arena_types self.now)) (length (arena_funcs self.now)) e.now
             ≡ true) }

@@ -117,7 +117,8 @@ impl TypeScope {
     /// then on, so no later definition copies it again. Nothing is copied where the types that the
     /// definition uses have more than 10,000 nodes together, so one definition copies no more.
     ///
-    /// `AllocError` comes where there is no memory; its own types are then as they were.
+    /// `AllocError` comes where there is no memory; its own types are then as they were. Whatever
+    /// comes, what an import moved stays counted as it was: in the types of instances too.
     pub fn define_value(
         &mut self,
         alloc: Global,
