@@ -5,3 +5,4 @@ mod OptionLaws
 mod CanonLaws
 mod TextLaws
 mod InstanceLaws
+mod StayLaws

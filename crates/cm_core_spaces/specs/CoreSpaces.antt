@@ -82,6 +82,12 @@ Becomes x old new =
 abbrev pub Stays : CoreSpaces → CoreSpaces → Type 0
 Stays old new = (made : ℕ → CoreFuncDef) (s : Spaces) → IsCoreOf made old s → IsCoreOf made new s
 
+-- what stands for the spaces before an item stands for those after it
+abbrev pub StaysAfter : Item → Type 0
+StaysAfter x =
+    (made : ℕ → CoreFuncDef) (c : CoreSpaces) (s : Spaces) → IsCoreOf made c s
+    → IsCoreOf made c (after_item s x)
+
 -- ---- what calls answer
 
 -- the spaces after an item that breaks nothing; where it breaks a rule, those before it

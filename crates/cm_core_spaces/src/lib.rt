@@ -5,6 +5,7 @@ mod aliases;
 mod canons;
 mod entries;
 mod instances;
+pub mod laws;
 mod options;
 mod spaces;
 

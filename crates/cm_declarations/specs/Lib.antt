@@ -1,3 +1,4 @@
 pub mod DeclaredItems
 pub mod DeclaredScopes
 pub mod FirstFaults
+pub mod CountedAround

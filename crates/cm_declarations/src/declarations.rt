@@ -1,11 +1,14 @@
 //! The declarations of the type of an instance.
 
 ghost use Rattle.std.specs.Prelude.{◌≡◌, ◌≤◌, length, true};
+ghost use Rattle.cm_type_scope.specs.Settled.{AreItemsSettled};
+ghost use Rattle.cm_type_scope.specs.SettledScopes.{AreMovedCounted};
 ghost use Rattle.cm_type_scope.specs.TypeScopes.{arena_funcs, arena_types};
+ghost use Rattle.cm_declarations.specs.CountedAround.{AreCountedAround};
 ghost use Rattle.cm_declarations.specs.DeclaredItems.{items_in};
 
 use cm_placed::{InstanceType, Item};
-use cm_type_scope::laws::items_stay;
+use cm_type_scope::laws::{items_stay, moves_stay};
 use cm_type_scope::{TypeEntry, TypeScope};
 use cm_types::{Declaration, DeclaredType, DefValType, FuncType, OuterType};
 use cm_validate::ValidReason;
@@ -13,7 +16,8 @@ use std::alloc::{AllocError, Global};
 
 /// The type of an instance while its declarations are read (Explainer.md, "Instance Types"): types
 /// of its own, those of the component around, the items so far, and the number that the next
-/// resource of its own gets.
+/// resource of its own gets. What an outer alias brings stands for a type of the component, so it
+/// names no resource of the instance's own.
 #[derive(Drop)]
 pub struct Declarations {
     pub(crate) scope: TypeScope,
@@ -22,6 +26,9 @@ pub struct Declarations {
     pub(crate) next: u64,
     ghost counted: { first ≤ next },
     ghost items_placed: { items_in (arena_types scope) (arena_funcs scope) items.items ≡ true },
+    ghost moved_counted: { ∥ (AreCountedAround first scope → AreMovedCounted first scope) ∥₁ },
+    ghost items_settled: { ∥ (AreCountedAround first scope
+        → AreItemsSettled (arena_types scope) (arena_funcs scope) first items.items) ∥₁ },
 }
 
 impl Declarations {
@@ -37,7 +44,9 @@ impl Declarations {
     ghost use Rattle.cm_validity.specs.TypeRules.{func_def_broken, value_def_broken};
     ghost use Rattle.cm_validity.specs.Reasons.{least};
     ghost use Rattle.cm_type_scope.specs.Entries as entry;
-    ghost use Rattle.cm_type_scope.specs.TypeScopes.{HasGrown, own_types, types_around};
+    ghost use Rattle.cm_type_scope.specs.SettledScopes.{IsMovedCounted};
+    ghost use Rattle.cm_type_scope.specs.TypeScopes.{HasGrown, entries_around, entries_of};
+    ghost use Rattle.cm_type_scope.specs.TypeScopes.{own_types, types_around};
     ghost use Rattle.cm_declarations.specs.DeclaredScopes.{first_resource, scope_of, scope_so_far};
     ghost use Rattle.cm_declarations.specs.FirstFaults.{first_reason};
 
@@ -48,6 +57,7 @@ impl Declarations {
         ensures scope { scope_so_far result ≡ scope_in (own_types component) next }
         ensures first { first_resource result ≡ next }
         ensures grown { HasGrown component (scope_of result) }
+        ensures entries { entries_around (scope_of result) ≡ entries_of component }
     {
         Declarations {
             scope: component.enter(alloc),
@@ -76,6 +86,7 @@ impl Declarations {
         ensures kept { OnErr result (scope_so_far self.new ≡ scope_so_far self.old) }
         ensures first { first_resource self.new ≡ first_resource self.old }
         ensures grown { HasGrown (scope_of self.old) (scope_of self.new) }
+        ensures entries { entries_around (scope_of self.new) ≡ entries_around (scope_of self.old) }
     {
         match declaration {
             Declaration::Type(DeclaredType::Value(def)) => self.declare_value(alloc, def),
@@ -104,6 +115,7 @@ impl Declarations {
             (λ _. Unit {0})) }
         ensures first { first_resource self.new ≡ first_resource self.old }
         ensures grown { HasGrown (scope_of self.old) (scope_of self.new) }
+        ensures entries { entries_around (scope_of self.new) ≡ entries_around (scope_of self.old) }
         ensures around { (scope_so_far self.new).around ≡ (scope_so_far self.old).around }
     {
         for declaration in declarations {
@@ -130,8 +142,10 @@ impl Declarations {
         ensures kept { OnErr result (scope_so_far self.new ≡ scope_so_far self.old) }
         ensures first { first_resource self.new ≡ first_resource self.old }
         ensures grown { HasGrown (scope_of self.old) (scope_of self.new) }
+        ensures entries { entries_around (scope_of self.new) ≡ entries_around (scope_of self.old) }
     {
         items_stay();
+        moves_stay();
         self.scope.define_value(alloc, def)
     }
 
@@ -150,8 +164,10 @@ impl Declarations {
         ensures kept { OnErr result (scope_so_far self.new ≡ scope_so_far self.old) }
         ensures first { first_resource self.new ≡ first_resource self.old }
         ensures grown { HasGrown (scope_of self.old) (scope_of self.new) }
+        ensures entries { entries_around (scope_of self.new) ≡ entries_around (scope_of self.old) }
     {
         items_stay();
+        moves_stay();
         self.scope.define_func(alloc, def)
     }
 
@@ -163,7 +179,11 @@ impl Declarations {
         ensures placed { IfSome result (λ e. entry.is_entry_there
             (length (arena_types self.now.scope)) (length (arena_funcs self.now.scope)) e.now
             ≡ true) }
+        ensures moved { IfSome result (λ e. AreCountedAround self.now.first self.now.scope
+            → IsMovedCounted (arena_types self.now.scope) (arena_funcs self.now.scope)
+            self.now.first e.now) }
     {
+        moves_stay();
         match outer.count {
             0 => self.scope.get(outer.index),
             1 => self.scope.get_around(outer.index),
@@ -183,6 +203,7 @@ impl Declarations {
         ensures kept { OnErr result (scope_so_far self.new ≡ scope_so_far self.old) }
         ensures first { first_resource self.new ≡ first_resource self.old }
         ensures grown { HasGrown (scope_of self.old) (scope_of self.new) }
+        ensures entries { entries_around (scope_of self.new) ≡ entries_around (scope_of self.old) }
     {
         match self.outer_entry(outer) {
             None => Ok(Some(ValidReason::NoSuchIndex)),
@@ -195,12 +216,17 @@ impl Declarations {
     }
 
     /// The type that the declarations make, and the scope of the component with the types that it
-    /// had. Its own types are dropped.
+    /// had. Its own types are dropped. Where the types of the component name only resources that it
+    /// had before the instance's own, so does each type in an item that an outer alias brought.
     #[tactic(auto, using(crate::proofs::GrowLaws::unchanged))]
     pub fn finish(self, alloc: Global) -> (TypeScope, InstanceType)
         ensures types { own_types result.0 ≡ (scope_so_far self).around }
         ensures around { types_around result.0 ≡ [] }
         ensures grown { HasGrown (scope_of self) result.0 }
+        ensures entries { entries_of result.0 ≡ entries_around (scope_of self) }
+        ensures settled { AreCountedAround (first_resource self) (scope_of self)
+            → AreItemsSettled (arena_types result.0) (arena_funcs result.0) result.1.first
+            result.1.items.items }
         ensures instance { entry.instance_of (arena_types result.0) (arena_funcs result.0) result.1
             ≡ instance_of (first_resource self) (scope_so_far self) }
         ensures placed { items_in (arena_types result.0) (arena_funcs result.0) result.1.items.items

@@ -17,8 +17,11 @@ impl Declarations {
     ghost use Rattle.cm_validity.specs.Reasons.{least};
     ghost use Rattle.cm_placed.specs.Instances.{is_desc_there};
     ghost use Rattle.cm_type_scope.specs.Entries.{is_entry_there};
+    ghost use Rattle.cm_type_scope.specs.Settled.{IsDescSettled};
+    ghost use Rattle.cm_type_scope.specs.SettledScopes.{IsMovedCounted};
     ghost use Rattle.cm_type_scope.specs.TypeScopes.{HasGrown, arena_funcs, arena_types};
-    ghost use Rattle.cm_type_scope.specs.TypeScopes.{own_types};
+    ghost use Rattle.cm_type_scope.specs.TypeScopes.{entries_around, own_types};
+    ghost use Rattle.cm_declarations.specs.CountedAround.{AreCountedAround};
     ghost use Rattle.cm_declarations.specs.DeclaredScopes.{first_resource, scope_of, scope_so_far};
     ghost use Rattle.cm_declarations.specs.DeclaredScopes.{with_both, with_desc};
 
@@ -27,11 +30,14 @@ impl Declarations {
     fn add_item(&mut self, name: &ExternName, item: ItemDesc) -> Result<(), AllocError>
         requires placed { is_desc_there (length (arena_types self.old.scope))
             (length (arena_funcs self.old.scope)) item ≡ true }
+        requires settled { AreCountedAround self.old.first self.old.scope → IsDescSettled
+            (arena_types self.old.scope) (arena_funcs self.old.scope) self.old.first item }
         ensures added { OnOk result
             (scope_so_far self.new ≡ with_desc self.old name.now item) }
         ensures kept { OnErr result (scope_so_far self.new ≡ scope_so_far self.old) }
         ensures first { first_resource self.new ≡ first_resource self.old }
         ensures grown { HasGrown (scope_of self.old) (scope_of self.new) }
+        ensures entries { entries_around (scope_of self.new) ≡ entries_around (scope_of self.old) }
     {
         let name = name.clone()?;
         self.items.push(Item { name, desc: item })?;
@@ -48,13 +54,18 @@ impl Declarations {
     ) -> Result<(), AllocError>
         requires placed { is_desc_there (length (arena_types self.old.scope))
             (length (arena_funcs self.old.scope)) item ≡ true }
+        requires settled { AreCountedAround self.old.first self.old.scope → IsDescSettled
+            (arena_types self.old.scope) (arena_funcs self.old.scope) self.old.first item }
         requires there { is_entry_there (length (arena_types self.old.scope))
             (length (arena_funcs self.old.scope)) entry ≡ true }
+        requires moved { AreCountedAround self.old.first self.old.scope → IsMovedCounted
+            (arena_types self.old.scope) (arena_funcs self.old.scope) self.old.first entry }
         ensures added { OnOk result
             (scope_so_far self.new ≡ with_both self.old name.now item entry) }
         ensures kept { OnErr result (scope_so_far self.new ≡ scope_so_far self.old) }
         ensures first { first_resource self.new ≡ first_resource self.old }
         ensures grown { HasGrown (scope_of self.old) (scope_of self.new) }
+        ensures entries { entries_around (scope_of self.new) ≡ entries_around (scope_of self.old) }
     {
         let name = name.clone()?;
         self.items.reserve(1)?;
@@ -80,6 +91,7 @@ impl Declarations {
         ensures kept { OnErr result (scope_so_far self.new ≡ scope_so_far self.old) }
         ensures first { first_resource self.new ≡ first_resource self.old }
         ensures grown { HasGrown (scope_of self.old) (scope_of self.new) }
+        ensures entries { entries_around (scope_of self.new) ≡ entries_around (scope_of self.old) }
     {
         match self.scope.get(index) {
             None => Ok(Some(ValidReason::NoSuchIndex)),
@@ -107,6 +119,7 @@ impl Declarations {
         ensures kept { OnErr result (scope_so_far self.new ≡ scope_so_far self.old) }
         ensures first { first_resource self.new ≡ first_resource self.old }
         ensures grown { HasGrown (scope_of self.old) (scope_of self.new) }
+        ensures entries { entries_around (scope_of self.new) ≡ entries_around (scope_of self.old) }
     {
         match self.scope.get(index) {
             None => Ok(Some(ValidReason::NoSuchIndex)),
@@ -132,6 +145,7 @@ impl Declarations {
         ensures kept { OnErr result (scope_so_far self.new ≡ scope_so_far self.old) }
         ensures first { first_resource self.new ≡ first_resource self.old }
         ensures grown { HasGrown (scope_of self.old) (scope_of self.new) }
+        ensures entries { entries_around (scope_of self.new) ≡ entries_around (scope_of self.old) }
     {
         let number = self.next;
         if number == u64::MAX {
@@ -161,6 +175,7 @@ impl Declarations {
         ensures kept { OnErr result (scope_so_far self.new ≡ scope_so_far self.old) }
         ensures first { first_resource self.new ≡ first_resource self.old }
         ensures grown { HasGrown (scope_of self.old) (scope_of self.new) }
+        ensures entries { entries_around (scope_of self.new) ≡ entries_around (scope_of self.old) }
     {
         match exported {
             ExportDesc::Func(index) => self.export_func(name, index),

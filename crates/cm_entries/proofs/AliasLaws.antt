@@ -17,13 +17,13 @@ use Rattle.cm_validity.specs.Reasons.{found, least, unless}
 use Rattle.cm_validity.specs.Rules.{broken, is_of_member_sort}
 use Rattle.cm_validity.specs.Spaces.{Spaces, after_item, aliased_member, member_named, new_types, func_of_member, type_of_member}
 use Rattle.cm_extern_names.specs.NameSets.{names_of}
+use Rattle.cm_type_scope.specs.declared.entries.TypeEntry.TheVariants as entry
 use Rattle.cm_entries.specs.Entries.{func_def, members_of, member_def, is_func_there, are_members_there, is_member_there}
 use Rattle.cm_instance_items.specs.Resources.{resources_in}
 use Rattle.cm_entries.specs.ComponentSpaces.{AnswersAlias, IsComponentOf, export_def}
 use Rattle.cm_entries.specs.declared.aliases.Aliased.TheVariants as aliased
 use Rattle.cm_entries.specs.declared.entries.MemberEntry.{MemberEntry}
 use Rattle.cm_entries.specs.declared.entries.MemberEntry.TheVariants as member
-use Rattle.cm_entries.specs.declared.entries.TypeEntry.TheVariants as entry
 use Rattle.cm_entries.specs.Steps.{PushesFunc}
 use Rattle.cm_entries.specs.declared.entries.FuncEntry.{FuncEntry}
 use Rattle.cm_entries.specs.declared.entries.InstanceEntry.{InstanceEntry}
@@ -99,6 +99,7 @@ module _ (old : ComponentSpaces) (sort : InstanceExportSort) (i : ℕ) (name : L
     after = λ types funcs s r. func_aliased types funcs old new s sort i name f (def types funcs s r ∙ ap (λ v. Some (member_def types funcs v)) g) (sym (ap (is_member_there (length types) (length funcs)) g) ∙ there types funcs s r) r p;
     added = λ types funcs s r none. types_at s sort i name (Some (member_def types funcs m)) (def types funcs s r) ∙ ap (λ v. option_to_list (option_and_then type_of_member (Some (member_def types funcs v)))) g;
     there = λ types funcs s r. tt;
+    settled = λ types funcs. tt;
   }
 
   pub value_answer : (p : Placed) → sort ≡ member_sort.Type → m ≡ member.Value p → AnswersAlias (instance_export sort i name) old (aliased.Type (entry.Value p)) old
@@ -107,6 +108,7 @@ module _ (old : ComponentSpaces) (sort : InstanceExportSort) (i : ℕ) (name : L
     after = λ types funcs s r. type_aliased types funcs old s sort i name (member_def types funcs (member.Value p)) (def types funcs s r ∙ ap (λ v. Some (member_def types funcs v)) g) refl r;
     added = λ types funcs s r none. types_at s sort i name (Some (member_def types funcs m)) (def types funcs s r) ∙ ap (λ v. option_to_list (option_and_then type_of_member (Some (member_def types funcs v)))) g;
     there = λ types funcs s r. sym (ap (is_member_there (length types) (length funcs)) g) ∙ there types funcs s r;
+    settled = λ types funcs. tt;
   }
 
   pub resource_answer : (n : ℕ) → sort ≡ member_sort.Type → m ≡ member.Resource n → AnswersAlias (instance_export sort i name) old (aliased.Type (entry.Resource n)) old
@@ -115,4 +117,5 @@ module _ (old : ComponentSpaces) (sort : InstanceExportSort) (i : ℕ) (name : L
     after = λ types funcs s r. type_aliased types funcs old s sort i name (member_def types funcs (member.Resource n)) (def types funcs s r ∙ ap (λ v. Some (member_def types funcs v)) g) refl r;
     added = λ types funcs s r none. types_at s sort i name (Some (member_def types funcs m)) (def types funcs s r) ∙ ap (λ v. option_to_list (option_and_then type_of_member (Some (member_def types funcs v)))) g;
     there = λ types funcs s r. refl;
+    settled = λ types funcs. tt;
   }

@@ -22,7 +22,11 @@ use Rattle.cm_signatures.specs.declared.signatures.ExternDesc.TheVariants as ext
 use Rattle.cm_validity.specs.Definitions.{ExportDef, MemberDef, NamedMember, exported_func, exported_instance, func_member, func_type, imported, instance_type, lifted, type_member, value}
 use Rattle.cm_counted.specs.Counted.{IsCounted, IsFuncCounted}
 use Rattle.cm_instance_items.specs.InstanceTypes.{instance_type_of}
-use Rattle.cm_entries.specs.Entries.{AreItemsSettled, IsDescSettled, IsEntrySettled, WhereMoved, are_members_there, func_def, is_func_there, is_member_there, is_type_there, item_member, item_members, member_def, members_of, named_member, type_def}
+use Rattle.cm_type_scope.specs.Entries.{def_of, is_entry_there}
+use Rattle.cm_type_scope.specs.Settled.{AreItemsSettled, IsDescSettled, IsEntrySettled, WhereMoved}
+use Rattle.cm_type_scope.specs.declared.entries.TypeEntry.{TypeEntry}
+use Rattle.cm_type_scope.specs.declared.entries.TypeEntry.TheVariants as entry
+use Rattle.cm_entries.specs.Entries.{are_members_there, func_def, is_func_there, is_member_there, item_member, item_members, member_def, members_of, named_member}
 use Rattle.cm_validity.specs.Items.{Item as SpaceItem}
 use Rattle.cm_validity.specs.Spaces.{Spaces, after_item, new_types}
 use Rattle.std.proofs.lemmas.List.{append-nil, map-append}
@@ -35,8 +39,6 @@ use Rattle.cm_entries.specs.declared.entries.InstanceEntry.{InstanceEntry}
 use Rattle.cm_entries.specs.declared.entries.InstanceEntry.TheVariants as instance
 use Rattle.cm_entries.specs.declared.entries.MemberEntry.{MemberEntry}
 use Rattle.cm_entries.specs.declared.entries.MemberEntry.TheVariants as member
-use Rattle.cm_entries.specs.declared.entries.TypeEntry.{TypeEntry}
-use Rattle.cm_entries.specs.declared.entries.TypeEntry.TheVariants as entry
 use Rattle.cm_entries.specs.declared.spaces.ExportEntry.{ExportEntry}
 use Rattle.cm_entries.specs.declared.spaces.ExportedEntry.{ExportedEntry}
 use Rattle.cm_entries.specs.declared.spaces.ExportedEntry.TheVariants as export
@@ -132,7 +134,7 @@ module _ (types more : List Ty) (funcs others : List FuncTy) where
   pub export_kept : (e : ExportEntry) → is_exported_there (length types) (length funcs) e.def ≡ true → export_def U G e ≡ export_def types funcs e
   export_kept e h = ap (λ (d : ExportDef). record { name = e.name.now; def = d }) (exported_kept e.def h)
 
-  pub type_def_kept : (e : TypeEntry) → is_type_there (length types) (length funcs) e ≡ true → type_def U G e ≡ type_def types funcs e
+  pub type_def_kept : (e : TypeEntry) → is_entry_there (length types) (length funcs) e ≡ true → def_of U G e ≡ def_of types funcs e
   type_def_kept (entry.Value p) h = ap value (type_kept p h)
   type_def_kept (entry.Func p) h = ap func_type (func_kept p h)
   type_def_kept (entry.Resource n) h = refl
@@ -158,17 +160,17 @@ module _ (types more : List Ty) (funcs others : List FuncTy) where
     items_settled first xs (right (is_desc_there (length types) (length funcs) x.desc) (are_items_there (length types) (length funcs) xs) h) w.1,
   )
 
-  entry_settled : (e : TypeEntry) → is_type_there (length types) (length funcs) e ≡ true → IsEntrySettled types funcs e → IsEntrySettled U G e
+  entry_settled : (e : TypeEntry) → is_entry_there (length types) (length funcs) e ≡ true → IsEntrySettled types funcs e → IsEntrySettled U G e
   entry_settled (entry.Value p) h w = tt
   entry_settled (entry.Func p) h w = tt
   entry_settled (entry.Resource n) h w = tt
   entry_settled (entry.Instance i) h w = items_settled (instance_type_of i.value).first (instance_type_of i.value).items.items h w
 
-  pub all_settled : (es : List TypeEntry) → list_all (is_type_there (length types) (length funcs)) es ≡ true → AllByRecursion (IsEntrySettled types funcs) es → AllByRecursion (IsEntrySettled U G) es
+  pub all_settled : (es : List TypeEntry) → list_all (is_entry_there (length types) (length funcs)) es ≡ true → AllByRecursion (IsEntrySettled types funcs) es → AllByRecursion (IsEntrySettled U G) es
   all_settled [] h w = tt
   all_settled (e ∷ es) h w = (
-    entry_settled e (left (is_type_there (length types) (length funcs) e) (list_all (is_type_there (length types) (length funcs)) es) h) w.0,
-    all_settled es (right (is_type_there (length types) (length funcs) e) (list_all (is_type_there (length types) (length funcs)) es) h) w.1,
+    entry_settled e (left (is_entry_there (length types) (length funcs) e) (list_all (is_entry_there (length types) (length funcs)) es) h) w.0,
+    all_settled es (right (is_entry_there (length types) (length funcs) e) (list_all (is_entry_there (length types) (length funcs)) es) h) w.1,
   )
 
 -- ---- places
@@ -207,7 +209,7 @@ module _ (t u f g : ℕ) (types : t ≤ u) (funcs : f ≤ g) where
   exported_there_more (export.Func e) h = func_there_more e h
   exported_there_more (export.Instance i) h = members_there_more i h
 
-  pub type_there_more : (e : TypeEntry) → is_type_there t f e ≡ true → is_type_there u g e ≡ true
+  pub type_there_more : (e : TypeEntry) → is_entry_there t f e ≡ true → is_entry_there u g e ≡ true
   type_there_more (entry.Value p) h = below_more p.place t u types h
   type_there_more (entry.Func p) h = below_more p.place f g funcs h
   type_there_more (entry.Resource n) h = refl
@@ -246,8 +248,8 @@ module _ (types more : List Ty) (funcs others : List FuncTy) where
 
   pub types_grow : (es : List TypeEntry) (s : Spaces) → AreTypesOf types funcs es s → AreTypesOf (types ++ more) (funcs ++ others) es s
   types_grow es s t = record {
-    types_are = t.types_are ∙ sym (mapped_same (is_type_there (length types) (length funcs)) (type_def (types ++ more) (funcs ++ others)) (type_def types funcs) (type_def_kept types more funcs others) es t.types_there);
-    types_there = passes_more (is_type_there (length types) (length funcs)) (is_type_there (length (types ++ more)) (length (funcs ++ others)))
+    types_are = t.types_are ∙ sym (mapped_same (is_entry_there (length types) (length funcs)) (def_of (types ++ more) (funcs ++ others)) (def_of types funcs) (type_def_kept types more funcs others) es t.types_there);
+    types_there = passes_more (is_entry_there (length types) (length funcs)) (is_entry_there (length (types ++ more)) (length (funcs ++ others)))
         (type_there_more (length types) (length (types ++ more)) (length funcs) (length (funcs ++ others)) more_types more_funcs) es t.types_there;
     settled = all_settled types more funcs others es t.types_there t.settled;
   }
@@ -265,10 +267,10 @@ all_settled_push : {A : Type 0} (P : A → Type 0) (xs : List A) (x : A) → All
 all_settled_push P [] x a p = (p, tt)
 all_settled_push P (y ∷ ys) x a p = (a.0, all_settled_push P ys x a.1 p)
 
-pub one_type : (types : List Ty) (funcs : List FuncTy) (es : List TypeEntry) (e : TypeEntry) (s : Spaces) (x : SpaceItem) → new_types s x ≡ type_def types funcs e ∷ []
-    → is_type_there (length types) (length funcs) e ≡ true → IsEntrySettled types funcs e → AreTypesOf types funcs es s → AreTypesOf types funcs (es ++ e ∷ []) (after_item s x)
+pub one_type : (types : List Ty) (funcs : List FuncTy) (es : List TypeEntry) (e : TypeEntry) (s : Spaces) (x : SpaceItem) → new_types s x ≡ def_of types funcs e ∷ []
+    → is_entry_there (length types) (length funcs) e ≡ true → IsEntrySettled types funcs e → AreTypesOf types funcs es s → AreTypesOf types funcs (es ++ e ∷ []) (after_item s x)
 one_type types funcs es e s x added there settled t = record {
-  types_are = ap (λ v. s.types ++ v) added ∙ ap (λ v. v ++ type_def types funcs e ∷ []) t.types_are ∙ sym (map-append (type_def types funcs) es (e ∷ []));
-  types_there = all_more (is_type_there (length types) (length funcs)) es (es ++ e ∷ []) e refl t.types_there there;
+  types_are = ap (λ v. s.types ++ v) added ∙ ap (λ v. v ++ def_of types funcs e ∷ []) t.types_are ∙ sym (map-append (def_of types funcs) es (e ∷ []));
+  types_there = all_more (is_entry_there (length types) (length funcs)) es (es ++ e ∷ []) e refl t.types_there there;
   settled = all_settled_push (IsEntrySettled types funcs) es e t.settled settled;
 }

@@ -16,6 +16,10 @@ use Rattle.cm_placed.specs.Instances.{are_items_there, items_of, replaced_item}
 use Rattle.cm_placed.specs.declared.instances.InstanceType.{InstanceType}
 use Rattle.cm_placed.specs.declared.placed.Placed.{Placed}
 use Rattle.cm_signatures.specs.Externs.{extern_of, is_extern_there}
+use Rattle.cm_type_scope.specs.Entries.{def_of, entry_sort, instance_of, is_entry_there}
+use Rattle.cm_type_scope.specs.Settled.{AreItemsSettled, IsEntrySettled}
+use Rattle.cm_type_scope.specs.declared.entries.TypeEntry.{TypeEntry}
+use Rattle.cm_type_scope.specs.declared.entries.TypeEntry.TheVariants as entry
 use Rattle.cm_entries.specs.declared.spaces.ExportEntry.{ExportEntry}
 use Rattle.cm_signatures.specs.declared.signatures.Extern.{Extern}
 use Rattle.cm_signatures.specs.declared.signatures.ExternDesc.TheVariants as extern
@@ -33,8 +37,8 @@ use Rattle.cm_validity.specs.declared.sorts.TypeSort.{TypeSort}
 use Rattle.cm_validity.specs.declared.sorts.TypeSort.TheVariants as sort
 use Rattle.cm_counted.specs.CountedSpaces.{AreItemsCounted, AreSpacesCounted, IsDefCounted, IsInstanceCounted}
 use Rattle.cm_extern_names.specs.NameSets.{names_of}
-use Rattle.cm_entries.specs.Entries.{entry_sort, func_def, members_of, is_func_there, is_type_there, are_members_there, type_def, AreItemsSettled, IsEntrySettled, item_members}
-use Rattle.cm_instance_items.specs.InstanceTypes.{instance_of, instance_type_of}
+use Rattle.cm_entries.specs.Entries.{func_def, members_of, is_func_there, are_members_there, item_members}
+use Rattle.cm_instance_items.specs.InstanceTypes.{instance_type_of}
 use Rattle.cm_instance_items.specs.Items.{fresh_of}
 use Rattle.cm_instance_items.specs.Resources.{resources_in}
 use Rattle.cm_entries.specs.ComponentSpaces.{AreTypesOf, IsComponentOf, after_answer, export_def, is_exported_there}
@@ -42,8 +46,6 @@ use Rattle.cm_entries.specs.Steps.{AddsImport, PushesFunc, PushesInstance}
 use Rattle.cm_entries.specs.declared.entries.FuncEntry.TheVariants as func
 use Rattle.cm_entries.specs.declared.entries.InstanceEntry.{InstanceEntry}
 use Rattle.cm_entries.specs.declared.entries.InstanceEntry.TheVariants as instance
-use Rattle.cm_entries.specs.declared.entries.TypeEntry.{TypeEntry}
-use Rattle.cm_entries.specs.declared.entries.TypeEntry.TheVariants as entry
 use Rattle.cm_instance_items.specs.declared.items.InstanceItems.{InstanceItems}
 use Rattle.cm_instance_items.specs.declared.ranges.Resources.{Resources}
 use Rattle.cm_entries.specs.declared.spaces.ComponentSpaces.{ComponentSpaces}
@@ -71,13 +73,13 @@ lesser_some q (Some r) = here (nat_le (reason_number q) (reason_number r))
     here true = refl
     here false = refl
 
-sort_told : (types : List Ty) (funcs : List FuncTy) (e : TypeEntry) → sort_of (type_def types funcs e) ≡ entry_sort e
+sort_told : (types : List Ty) (funcs : List FuncTy) (e : TypeEntry) → sort_of (def_of types funcs e) ≡ entry_sort e
 sort_told types funcs (entry.Value p) = refl
 sort_told types funcs (entry.Func p) = refl
 sort_told types funcs (entry.Resource n) = refl
 sort_told types funcs (entry.Instance i) = refl
 
-sorts_told : (types : List Ty) (funcs : List FuncTy) (es : List TypeEntry) → sorts_of (map (type_def types funcs) es) ≡ map entry_sort es
+sorts_told : (types : List Ty) (funcs : List FuncTy) (es : List TypeEntry) → sorts_of (map (def_of types funcs) es) ≡ map entry_sort es
 sorts_told types funcs [] = refl
 sorts_told types funcs (e ∷ es) = rw (sort_told types funcs e, sorts_told types funcs es) refl
 
@@ -124,8 +126,8 @@ none_last a b e = none_behind a b (none_least (a ++ b) e)
 
 -- ---- types by index
 
-pub type_at_index : (types : List Ty) (funcs : List FuncTy) (s : Spaces) (es : List TypeEntry) (i : ℕ) (e : TypeEntry) → AreTypesOf types funcs es s → slice_get es i ≡ Some e → slice_get s.types i ≡ Some (type_def types funcs e)
-type_at_index types funcs s es i e t is = ap (λ (ts : List TypeDef). slice_get ts i) t.types_are ∙ slice_get-map (type_def types funcs) es i ∙ ap (option_map (type_def types funcs)) is
+pub type_at_index : (types : List Ty) (funcs : List FuncTy) (s : Spaces) (es : List TypeEntry) (i : ℕ) (e : TypeEntry) → AreTypesOf types funcs es s → slice_get es i ≡ Some e → slice_get s.types i ≡ Some (def_of types funcs e)
+type_at_index types funcs s es i e t is = ap (λ (ts : List TypeDef). slice_get ts i) t.types_are ∙ slice_get-map (def_of types funcs) es i ∙ ap (option_map (def_of types funcs)) is
 
 every_at : {A : Type 0} (P : A → Type 0) (xs : List A) (i : ℕ) (x : A) → AllByRecursion P xs → slice_get xs i ≡ Some x → P x
 every_at P [] i x a e = absurd cc
@@ -160,7 +162,7 @@ module _ (types : List Ty) (funcs : List FuncTy) (old mid new : ComponentSpaces)
       let import_is : new_imports s x ≡ record { name = name; desc = externs.func (placed_func funcs p) } ∷ [] = ap (λ (o : Option FuncTy). option_to_list (option_map (λ d. record { name = name; desc = d }) (option_map externs.func o))) at in
       grown types funcs old new s x r (record {
         funcs_added = mapped_more (func_def funcs) old.funcs.items new.funcs.items (func.Imported (length old.imports.items) None p) now_funcs ∙ ap (λ v. map (func_def funcs) old.funcs.items ++ v) (sym func_is);
-        funcs_there = all_more (is_func_there (length funcs)) old.funcs.items new.funcs.items (func.Imported (length old.imports.items) None p) now_funcs r.funcs_there (all_found (is_type_there (length types) (length funcs)) es i (entry.Func p) t.types_there is);
+        funcs_there = all_more (is_func_there (length funcs)) old.funcs.items new.funcs.items (func.Imported (length old.imports.items) None p) now_funcs r.funcs_there (all_found (is_entry_there (length types) (length funcs)) es i (entry.Func p) t.types_there is);
         instances_added = mapped_same (members_of types funcs) old.instances.items new.instances.items (ap (λ v. v.items) (b.instances ∙ a.instances));
         instances_there = all_same (are_members_there (length types) (length funcs)) old.instances.items new.instances.items (ap (λ v. v.items) (b.instances ∙ a.instances)) r.instances_there;
         resources_added = none_more (resources_in old.resources) (resources_in new.resources) (ap resources_in (b.resources ∙ a.resources));
@@ -168,7 +170,7 @@ module _ (types : List Ty) (funcs : List FuncTy) (old mid new : ComponentSpaces)
         import_names_added = b.named (ap (λ v. name_broken name (names_of v)) a.import_names ∙ fine) ∙ ap (λ v. names_of v ++ name ∷ []) a.import_names ∙ ap (λ (v : List NamedExtern). names_of old.import_names ++ map (λ y. y.name) v) (sym import_is);
         exports_added = mapped_same (export_def types funcs) old.exports.items new.exports.items (ap (λ v. v.items) (b.exports ∙ a.exports));
         export_names_added = none_more (names_of old.export_names) (names_of new.export_names) (ap names_of (b.export_names ∙ a.export_names));
-        imports_there = all_more (λ (e : Extern). is_extern_there (length types) (length funcs) e.desc) old.imports.items new.imports.items (record { name = name; desc = extern.Func p }) now_imports r.imports_there (all_found (is_type_there (length types) (length funcs)) es i (entry.Func p) t.types_there is);
+        imports_there = all_more (λ (e : Extern). is_extern_there (length types) (length funcs) e.desc) old.imports.items new.imports.items (record { name = name; desc = extern.Func p }) now_imports r.imports_there (all_found (is_entry_there (length types) (length funcs)) es i (entry.Func p) t.types_there is);
         exports_there = all_same (λ (e : ExportEntry). is_exported_there (length types) (length funcs) e.def) old.exports.items new.exports.items (ap (λ v. v.items) (b.exports ∙ a.exports)) r.exports_there;
       })
 
@@ -229,7 +231,7 @@ module _ (laws : Laws) (counts : AreCounted) (types : List Ty) (funcs : List Fun
   spaces_counted = subst AreSpacesCounted (sym r.reached.1) (counts r.reached.0)
 
   type_counted : IsInstanceCounted (next_resource s) (instance_of types funcs it)
-  type_counted = every_at (IsDefCounted (next_resource s)) s.types i (type_def types funcs (entry.Instance items)) spaces_counted.types (type_at_index types funcs s es i (entry.Instance items) t is)
+  type_counted = every_at (IsDefCounted (next_resource s)) s.types i (def_of types funcs (entry.Instance items)) spaces_counted.types (type_at_index types funcs s es i (entry.Instance items) t is)
 
   pub instance_imported : (ty : Rc InstanceType Global) → ty.value ≡ it → by.first ≡ it.first → by.count ≡ it.fresh → by.next ≡ length (resources_in old.resources)
       → PushesInstance added_instance old mid → resources_in brings ≡ resources_in mid.resources ++ map (brought (length old.imports.items)) (fresh_of it)
@@ -249,7 +251,7 @@ module _ (laws : Laws) (counts : AreCounted) (types : List Ty) (funcs : List Fun
       ∙ ap (λ (ms : List NamedMember). ms ∷ []) (members_are laws types funcs s it by first count resources_next type_counted.items settled (length old.imports.items) (sym number))
       ∙ ap (λ (v : InstanceItems). item_members types funcs (length old.imports.items) by 0 (instance_type_of v).items.items ∷ []) (sym same) in
       let there : are_members_there (length types) (length funcs) added_instance ≡ true =
-      ap (λ (v : InstanceItems). are_items_there (length types) (length funcs) (instance_type_of v).items.items) same ∙ all_found (is_type_there (length types) (length funcs)) es i (entry.Instance items) t.types_there is in
+      ap (λ (v : InstanceItems). are_items_there (length types) (length funcs) (instance_type_of v).items.items) same ∙ all_found (is_entry_there (length types) (length funcs)) es i (entry.Instance items) t.types_there is in
       let import_is : new_imports s x ≡ extern_of types funcs (added_import ty) ∷ [] =
       ap (λ (o : Option InstanceTy). option_to_list (option_map (λ d. record { name = name; desc = d }) (option_map (λ (v : InstanceTy). externs.instance (map (moved_named s v) v.items)) o))) at
       ∙ ap (λ (is : List NamedItem). record { name = name; desc = externs.instance is } ∷ []) (desc_is laws types funcs s it by first count resources_next type_counted.items settled)
@@ -268,6 +270,6 @@ module _ (laws : Laws) (counts : AreCounted) (types : List Ty) (funcs : List Fun
         import_names_added = b.named (ap (λ v. name_broken name (names_of v)) a.import_names ∙ fine) ∙ ap (λ v. names_of v ++ name ∷ []) a.import_names ∙ ap (λ (v : List NamedExtern). names_of old.import_names ++ map (λ y. y.name) v) (sym import_is);
         exports_added = mapped_same (export_def types funcs) old.exports.items new.exports.items (ap (λ v. v.items) (b.exports ∙ a.exports));
         export_names_added = none_more (names_of old.export_names) (names_of new.export_names) (ap names_of (b.export_names ∙ a.export_names));
-        imports_there = all_more (λ (e : Extern). is_extern_there (length types) (length funcs) e.desc) old.imports.items new.imports.items (added_import ty) now_imports r.imports_there (ap (λ (v : InstanceType). are_items_there (length types) (length funcs) v.items.items) shared ∙ all_found (is_type_there (length types) (length funcs)) es i (entry.Instance items) t.types_there is);
+        imports_there = all_more (λ (e : Extern). is_extern_there (length types) (length funcs) e.desc) old.imports.items new.imports.items (added_import ty) now_imports r.imports_there (ap (λ (v : InstanceType). are_items_there (length types) (length funcs) v.items.items) shared ∙ all_found (is_entry_there (length types) (length funcs)) es i (entry.Instance items) t.types_there is);
         exports_there = all_same (λ (e : ExportEntry). is_exported_there (length types) (length funcs) e.def) old.exports.items new.exports.items (ap (λ v. v.items) (b.exports ∙ a.exports)) r.exports_there;
       })

@@ -17,12 +17,12 @@ use Rattle.cm_validity.specs.Rules.{func_ty_at, type_index_broken}
 use Rattle.cm_validity.specs.Spaces.{Spaces, after_item, func_ty_in, lifted_func}
 use Rattle.cm_validity.specs.TypeRules.{has_sort}
 use Rattle.cm_validity.specs.declared.sorts.TypeSort.TheVariants as sort
+use Rattle.cm_type_scope.specs.Entries.{entry_sort, is_entry_there}
+use Rattle.cm_type_scope.specs.declared.entries.TypeEntry.{TypeEntry}
+use Rattle.cm_type_scope.specs.declared.entries.TypeEntry.TheVariants as entry
 use Rattle.cm_entries.specs.ComponentSpaces.{AreTypesOf, IsComponentOf}
-use Rattle.cm_entries.specs.Entries.{entry_sort, is_type_there}
 use Rattle.cm_entries.specs.Steps.{PushesFunc}
 use Rattle.cm_entries.specs.declared.entries.FuncEntry.TheVariants as func
-use Rattle.cm_entries.specs.declared.entries.TypeEntry.{TypeEntry}
-use Rattle.cm_entries.specs.declared.entries.TypeEntry.TheVariants as entry
 use Rattle.cm_entries.specs.declared.spaces.ComponentSpaces.{ComponentSpaces}
 use Rattle.cm_entries.proofs.ImportLaws.{sorts_are, type_at_index}
 use Rattle.cm_entries.proofs.StepLaws.{all_found, func_pushed}
@@ -53,4 +53,4 @@ pub func_lifted : (types : List Ty) (funcs : List FuncTy) (old new : ComponentSp
 func_lifted types funcs old new s es i core_func options p r t is pushes =
     func_pushed types funcs old new s (canon_item (lift core_func options.now i)) (func.Lifted core_func p options)
     (ap (λ (o : Option TypeDef). option_to_list (option_and_then (lifted_func core_func options.now) o)) (type_at_index types funcs s es i (entry.Func p) t is)) refl refl refl refl
-    (all_found (is_type_there (length types) (length funcs)) es i (entry.Func p) t.types_there is) r pushes
+    (all_found (is_entry_there (length types) (length funcs)) es i (entry.Func p) t.types_there is) r pushes

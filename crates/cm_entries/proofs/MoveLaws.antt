@@ -21,7 +21,8 @@ use Rattle.cm_validity.specs.Spaces.{member_of_item, members_from, brought_by, b
 use Rattle.cm_counted.specs.Counted.{IsCounted, IsFuncCounted, IsItemCounted}
 use Rattle.cm_counted.specs.CountedSpaces.{AreItemsCounted}
 use Rattle.cm_instance_items.specs.Items.{fresh_at, fresh_from}
-use Rattle.cm_entries.specs.Entries.{AreItemsSettled, IsDescSettled, WhereMoved, item_member, item_members, member_def, moved_place}
+use Rattle.cm_type_scope.specs.Settled.{AreItemsSettled, IsDescSettled, WhereMoved}
+use Rattle.cm_entries.specs.Entries.{item_member, item_members, member_def, moved_place}
 
 -- ---- laws of the crates below
 

@@ -4,6 +4,9 @@ use Rattle.std.proofs.Common.{◌≡◌, ℕ, true, List, [], ◌∷◌, ◌++�
 use Rattle.cm_types.specs.Types.{Ty, FuncTy}
 use Rattle.cm_signatures.specs.Externs.{extern_of, is_extern_there}
 use Rattle.cm_signatures.specs.declared.signatures.Extern.{Extern}
+use Rattle.cm_type_scope.specs.Entries.{def_of, entry_sort}
+use Rattle.cm_type_scope.specs.declared.entries.TypeEntry.{TypeEntry}
+use Rattle.cm_type_scope.specs.declared.entries.TypeEntry.TheVariants as entry
 use Rattle.cm_entries.specs.declared.spaces.ExportEntry.{ExportEntry}
 use Rattle.cm_validity.specs.Definitions.{FuncDef, ResourceDef, NamedMember, NamedExport, TypeDef, defined, sort_of}
 use Rattle.cm_types.specs.Signatures.{NamedExtern}
@@ -25,13 +28,11 @@ use Rattle.std.specs.Option.{option_map, option_and_then}
 use Rattle.cm_validity.specs.Spaces.{Spaces, after_item, named_member as member_of_export, new_exports, new_funcs, new_imports, new_instances, new_resources}
 use Rattle.cm_extern_names.specs.NameSets.{names_of}
 use Rattle.cm_entries.specs.ComponentSpaces.{AreTypesOf, IsComponentOf, export_def, is_exported_there}
-use Rattle.cm_entries.specs.Entries.{are_members_there, entry_sort, func_def, is_func_there, members_of, type_def}
+use Rattle.cm_entries.specs.Entries.{are_members_there, func_def, is_func_there, members_of}
 use Rattle.cm_entries.specs.declared.entries.InstanceEntry.{InstanceEntry}
 use Rattle.cm_instance_items.specs.Ranges.{resource_def as resource_of}
 use Rattle.cm_instance_items.specs.Resources.{resources_in}
 use Rattle.cm_entries.specs.declared.spaces.ComponentSpaces.{ComponentSpaces}
-use Rattle.cm_entries.specs.declared.entries.TypeEntry.{TypeEntry}
-use Rattle.cm_entries.specs.declared.entries.TypeEntry.TheVariants as entry
 use Rattle.cm_instance_items.specs.declared.ranges.Resource.{Resource}
 use Rattle.cm_instance_items.specs.declared.ranges.Resources.{Resources}
 use Rattle.cm_entries.proofs.ImportLaws.{sorts_are}
@@ -102,13 +103,13 @@ module _ (types : List Ty) (funcs : List FuncTy) (s : Spaces) (es : List TypeEnt
   abbrev own_rules : Option TypeDef → List ValidReason
   own_rules o = sort_rules (option_map sort_of o) ++ if_found (own_resource_broken s) (option_and_then resource_in o)
 
-  def_at : (o : Option TypeEntry) → slice_get es i ≡ o → slice_get s.types i ≡ option_map (type_def types funcs) o
-  def_at o e = ap (λ (ts : List TypeDef). slice_get ts i) t.types_are ∙ slice_get-map (type_def types funcs) es i ∙ ap (option_map (type_def types funcs)) e
+  def_at : (o : Option TypeEntry) → slice_get es i ≡ o → slice_get s.types i ≡ option_map (def_of types funcs) o
+  def_at o e = ap (λ (ts : List TypeDef). slice_get ts i) t.types_are ∙ slice_get-map (def_of types funcs) es i ∙ ap (option_map (def_of types funcs)) e
 
   index_is : (o : Option TypeEntry) → slice_get es i ≡ o → least (index_broken (has_sort sort.Resource) (map entry_sort es) i) ≡ least (sort_rules (option_map entry_sort o))
   index_is o e = ap (λ v. least (sort_rules v)) (slice_get-map entry_sort es i ∙ ap (option_map entry_sort) e)
 
-  own_is : (o : Option TypeEntry) → slice_get es i ≡ o → least (canon_broken s (resource_new i)) ≡ least (own_rules (option_map (type_def types funcs) o))
+  own_is : (o : Option TypeEntry) → slice_get es i ≡ o → least (canon_broken s (resource_new i)) ≡ least (own_rules (option_map (def_of types funcs) o))
   own_is o e =
       ap (λ (v : Option TypeSort). least (sort_rules v ++ if_found (own_resource_broken s) (option_and_then resource_in (slice_get s.types i)))) (slice_get-map sort_of s.types i)
       ∙ ap (λ (v : Option TypeDef). least (own_rules v)) (def_at o e)
@@ -116,7 +117,7 @@ module _ (types : List Ty) (funcs : List FuncTy) (s : Spaces) (es : List TypeEnt
   dropped_is : least (index_broken (has_sort sort.Resource) (map entry_sort es) i) ≡ least (canon_broken s (resource_drop i))
   dropped_is = ap (λ v. least (index_broken (has_sort sort.Resource) v i)) (sym (sorts_are types funcs es s t))
 
-  own_broken : (q : ValidReason) (o : Option TypeEntry) → Some q ≡ least (sort_rules (option_map entry_sort o)) → Some q ≡ least (own_rules (option_map (type_def types funcs) o))
+  own_broken : (q : ValidReason) (o : Option TypeEntry) → Some q ≡ least (sort_rules (option_map entry_sort o)) → Some q ≡ least (own_rules (option_map (def_of types funcs) o))
   own_broken q None e = e
   own_broken q (Some (entry.Value p)) e = e
   own_broken q (Some (entry.Func p)) e = e

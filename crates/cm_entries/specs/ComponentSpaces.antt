@@ -14,12 +14,13 @@ use Rattle.cm_validity.specs.Reasons.{least}
 use Rattle.cm_validity.specs.Rules.{broken}
 use Rattle.cm_validity.specs.Spaces.{Spaces, empty_spaces, after_item, after_items, new_types}
 use Rattle.cm_extern_names.specs.NameSets.{names_of}
+use Rattle.cm_type_scope.specs.Entries.{def_of, is_entry_there}
+use Rattle.cm_type_scope.specs.Settled.{IsEntrySettled}
+use Rattle.cm_type_scope.specs.declared.entries.TypeEntry.{TypeEntry}
 use Rattle.cm_entries.specs.Entries.{func_def, members_of, is_func_there, are_members_there}
-use Rattle.cm_entries.specs.Entries.{type_def, is_type_there, IsEntrySettled}
 use Rattle.cm_instance_items.specs.Resources.{resources_in}
 use Rattle.cm_entries.specs.declared.aliases.Aliased.{Aliased}
 use Rattle.cm_entries.specs.declared.aliases.Aliased.TheVariants as aliased
-use Rattle.cm_entries.specs.declared.entries.TypeEntry.{TypeEntry}
 use Rattle.cm_entries.specs.declared.spaces.ComponentSpaces.{ComponentSpaces}
 use Rattle.cm_entries.specs.declared.spaces.ExportEntry.{ExportEntry}
 use Rattle.cm_entries.specs.declared.spaces.ExportedEntry.{ExportedEntry}
@@ -68,8 +69,8 @@ pub record IsComponentOf (types : List Ty) (funcs : List FuncTy) (c : ComponentS
 -- these are its types
 pub record AreTypesOf (types : List Ty) (funcs : List FuncTy) (es : List TypeEntry) (s : Spaces)
     : Type 0 where
-  pub types_are : s.types ≡ map (type_def types funcs) es
-  pub types_there : list_all (is_type_there (length types) (length funcs)) es ≡ true
+  pub types_are : s.types ≡ map (def_of types funcs) es
+  pub types_there : list_all (is_entry_there (length types) (length funcs)) es ≡ true
   pub settled : AllByRecursion (IsEntrySettled types funcs) es
 
 -- they stand for the same as before
@@ -131,7 +132,9 @@ pub record AnswersAlias (a : AliasTree) (old : ComponentSpaces) (r : Aliased)
   pub added : (types : List Ty) (funcs : List FuncTy) (s : Spaces)
       → IsComponentOf types funcs old s → alias_fault r ≡ None
       → new_types s (alias_item a)
-      ≡ option_to_list (option_map (type_def types funcs) (alias_type r))
+      ≡ option_to_list (option_map (def_of types funcs) (alias_type r))
   pub there : (types : List Ty) (funcs : List FuncTy) (s : Spaces)
       → IsComponentOf types funcs old s
-      → IfSome (alias_type r) (λ t. is_type_there (length types) (length funcs) t ≡ true)
+      → IfSome (alias_type r) (λ t. is_entry_there (length types) (length funcs) t ≡ true)
+  pub settled : (types : List Ty) (funcs : List FuncTy)
+      → IfSome (alias_type r) (IsEntrySettled types funcs)

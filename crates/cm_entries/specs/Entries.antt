@@ -1,8 +1,8 @@
 -- What the entries of the index spaces of types, functions and instances stand for, among the types
 -- of an arena (Explainer.md, "Index Spaces").
-use Rattle.std.specs.Prelude.{⊤, ℕ, ◌+◌, Bool, true, List, [], ◌∷◌, map, Option, Some, None}
+use Rattle.std.specs.Prelude.{ℕ, ◌+◌, Bool, true, List, [], ◌∷◌, map, Option, Some, None}
 use Rattle.std.specs.Borrow.{Bor}
-use Rattle.std.specs.List.{AllByRecursion, list_all}
+use Rattle.std.specs.List.{list_all}
 use Rattle.std.specs.Option.{option_or}
 use Rattle.std.specs.declared.alloc.Global.{Global}
 use Rattle.std.specs.declared.rc.Rc.{Rc}
@@ -15,16 +15,12 @@ use Rattle.cm_placed.specs.declared.placed.Placed.{Placed}
 use Rattle.cm_placed.specs.declared.instances.Item.{Item}
 use Rattle.cm_placed.specs.declared.instances.ItemDesc.{ItemDesc}
 use Rattle.cm_placed.specs.declared.instances.ItemDesc.TheVariants as item
-use Rattle.cm_validity.specs.Definitions.{TypeDef, value, func_type, resource, instance_type}
-use Rattle.cm_validity.specs.Definitions.{FuncDef, lifted, imported, MemberDef, func_member}
-use Rattle.cm_validity.specs.Definitions.{type_member, NamedMember}
-use Rattle.cm_validity.specs.declared.sorts.TypeSort.{TypeSort}
-use Rattle.cm_validity.specs.declared.sorts.TypeSort.TheVariants as sort
-use Rattle.cm_counted.specs.Counted.{IsCounted, IsFuncCounted}
-use Rattle.cm_instance_items.specs.InstanceTypes.{instance_type_of, instance_of}
+use Rattle.cm_validity.specs.Definitions.{value, resource, FuncDef, lifted, imported, MemberDef}
+use Rattle.cm_validity.specs.Definitions.{func_member, type_member, NamedMember}
+use Rattle.cm_instance_items.specs.InstanceTypes.{instance_type_of}
 use Rattle.cm_instance_items.specs.declared.items.InstanceItems.{InstanceItems}
-use Rattle.cm_entries.specs.declared.entries.TypeEntry.{TypeEntry}
-use Rattle.cm_entries.specs.declared.entries.TypeEntry.TheVariants as entry
+use Rattle.cm_type_scope.specs.declared.entries.TypeEntry.{TypeEntry}
+use Rattle.cm_type_scope.specs.declared.entries.TypeEntry.TheVariants as entry
 use Rattle.cm_entries.specs.declared.entries.FuncEntry.{FuncEntry}
 use Rattle.cm_entries.specs.declared.entries.FuncEntry.TheVariants as func
 use Rattle.cm_entries.specs.declared.entries.MemberEntry.{MemberEntry}
@@ -33,19 +29,6 @@ use Rattle.cm_entries.specs.declared.entries.InstanceEntry.{InstanceEntry}
 use Rattle.cm_entries.specs.declared.entries.InstanceEntry.TheVariants as instance
 
 -- ---- types
-
-abbrev pub type_def : List Ty → List FuncTy → TypeEntry → TypeDef
-type_def types funcs (entry.Value p) = value (placed_type types p)
-type_def types funcs (entry.Func p) = func_type (placed_func funcs p)
-type_def types funcs (entry.Resource n) = resource n
-type_def types funcs (entry.Instance i) =
-    instance_type (instance_of types funcs (instance_type_of i.value))
-
-abbrev pub entry_sort : TypeEntry → TypeSort
-entry_sort (entry.Value p) = sort.Value
-entry_sort (entry.Func p) = sort.Func
-entry_sort (entry.Resource n) = sort.Resource
-entry_sort (entry.Instance i) = sort.Instance
 
 -- the type of a function that it is, and that of an instance
 abbrev pub entry_func : TypeEntry → Option Placed
@@ -111,13 +94,6 @@ members_of types funcs (instance.Exporting members) =
 
 -- ---- their places are among so many types, and so many types of functions
 
-abbrev pub is_type_there : ℕ → ℕ → TypeEntry → Bool
-is_type_there types funcs (entry.Value p) = is_there types p
-is_type_there types funcs (entry.Func p) = is_there funcs p
-is_type_there types funcs (entry.Resource n) = true
-is_type_there types funcs (entry.Instance i) =
-    are_items_there types funcs (instance_type_of i.value).items.items
-
 abbrev pub is_func_there : ℕ → FuncEntry → Bool
 is_func_there funcs (func.Lifted core_func ty options) = is_there funcs ty
 is_func_there funcs (func.Imported import number ty) = is_there funcs ty
@@ -132,26 +108,3 @@ are_members_there types funcs (instance.Imported import items by) =
     are_items_there types funcs (instance_type_of items.value).items.items
 are_members_there types funcs (instance.Exporting members) =
     list_all (λ e. is_member_there types funcs e.1) members.value.entries
-
--- ---- what an import has moved names none of the resources that an instance's type brings
-
-abbrev pub WhereMoved : Option Move → Type 0 → Type 0
-WhereMoved None P = ⊤
-WhereMoved (Some by) P = P
-
-abbrev pub IsDescSettled : List Ty → List FuncTy → ℕ → ItemDesc → Type 0
-IsDescSettled types funcs first (item.Func p) =
-    WhereMoved p.by (IsFuncCounted first (placed_func funcs p))
-IsDescSettled types funcs first (item.EqualType p) =
-    WhereMoved p.by (IsCounted first (placed_type types p))
-IsDescSettled types funcs first _ = ⊤
-
-abbrev pub AreItemsSettled : List Ty → List FuncTy → ℕ → List Item → Type 0
-AreItemsSettled types funcs first items =
-    AllByRecursion (λ i. IsDescSettled types funcs first i.desc) items
-
-abbrev pub IsEntrySettled : List Ty → List FuncTy → TypeEntry → Type 0
-IsEntrySettled types funcs (entry.Instance i) =
-    AreItemsSettled types funcs (instance_type_of i.value).first
-    (instance_type_of i.value).items.items
-IsEntrySettled types funcs _ = ⊤

@@ -6,11 +6,12 @@ ghost use Rattle.cm_types.specs.Types.{FuncTy, Ty};
 ghost use Rattle.cm_entries.specs.Entries.{are_members_there, is_member_there, item_member};
 ghost use Rattle.cm_entries.specs.Entries.{member_def, members_of, moved_number, moved_place};
 
-use crate::entries::{FuncEntry, InstanceEntry, MemberEntry, TypeEntry};
+use crate::entries::{FuncEntry, InstanceEntry, MemberEntry};
 use crate::spaces::ComponentSpaces;
 use cm_component::InstanceExportSort;
 use cm_placed::{ItemDesc, Placed};
 use cm_replaced::{Move, Replacement};
+use cm_type_scope::TypeEntry;
 use cm_types::ResourceId;
 use cm_validate::ValidReason;
 use std::alloc::AllocError;

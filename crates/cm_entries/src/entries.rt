@@ -1,4 +1,4 @@
-//! What stands in the index spaces of types, functions and instances.
+//! What stands in the index spaces of functions and instances.
 
 use cm_component::CanonOption;
 use cm_instance_items::InstanceItems;
@@ -6,19 +6,6 @@ use cm_placed::Placed;
 use cm_replaced::Move;
 use indexmap::IndexMap;
 use std::rc::Rc;
-
-/// What an index of a type stands for (Explainer.md, "Index Spaces"), with places in an arena of
-/// types.
-#[derive(Drop)]
-pub enum TypeEntry {
-    Value(Placed),
-    /// The type of a function, by its place among those of functions.
-    Func(Placed),
-    /// A resource, by its number in the component.
-    Resource(u64),
-    /// The type of an instance, shared by all who name it.
-    Instance(Rc<InstanceItems>),
-}
 
 /// A function of a component.
 #[derive(Clone, Copy)]

@@ -2,7 +2,7 @@
 
 ghost use Rattle.std.specs.Prelude.{◌≡◌, IfOk, IfSome};
 
-use crate::entries::{FuncEntry, InstanceEntry, TypeEntry};
+use crate::entries::{FuncEntry, InstanceEntry};
 use crate::spaces::ComponentSpaces;
 use crate::types::{func_at, instance_at};
 use cm_component::{ExternDesc, Import};
@@ -14,6 +14,7 @@ use cm_placed::laws::unmoved;
 use cm_replaced::Move;
 use cm_signatures::{Extern, ExternDesc as ExternEntry};
 use cm_type_rules::lesser;
+use cm_type_scope::TypeEntry;
 use cm_types::ExternName;
 use cm_validate::ValidReason;
 use cm_validity::laws::least_of_both;
@@ -44,9 +45,9 @@ impl<'a> ComponentSpaces<'a> {
     ghost use Rattle.cm_validity.specs.Rules.{name_broken};
     ghost use Rattle.cm_validity.specs.Spaces.{Spaces, after_item};
     ghost use Rattle.cm_extern_names.specs.NameSets.{name_of, names_of};
+    ghost use Rattle.cm_type_scope.specs.declared.entries.TypeEntry.{TypeEntry};
+    ghost use Rattle.cm_type_scope.specs.declared.entries.TypeEntry.TheVariants as entry;
     ghost use Rattle.cm_entries.specs.ComponentSpaces.{Answers, AreTypesOf, IsComponentOf};
-    ghost use Rattle.cm_entries.specs.declared.entries.TypeEntry.{TypeEntry};
-    ghost use Rattle.cm_entries.specs.declared.entries.TypeEntry.TheVariants as entry;
 
     /// How many imports there are.
     fn import_count(&self) -> usize

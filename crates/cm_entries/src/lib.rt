@@ -14,7 +14,7 @@ mod spaces;
 mod types;
 
 pub use aliases::Aliased;
-pub use entries::{FuncEntry, InstanceEntry, MemberEntry, TypeEntry};
+pub use entries::{FuncEntry, InstanceEntry, MemberEntry};
 pub use lifts::func_type_at;
 pub use resources::resource_fault;
 pub use spaces::{ComponentSpaces, ExportEntry, ExportedEntry};

@@ -9,25 +9,25 @@ ghost use Rattle.cm_validity.specs.Rules.{canon_broken, is_defined};
 ghost use Rattle.cm_validity.specs.Spaces.{Spaces};
 ghost use Rattle.cm_validity.specs.TypeRules.{has_sort};
 ghost use Rattle.cm_validity.specs.declared.sorts.TypeSort.TheVariants as sort;
+ghost use Rattle.cm_type_scope.specs.Entries.{entry_sort};
+ghost use Rattle.cm_type_scope.specs.declared.entries.TypeEntry.TheVariants as entry;
 ghost use Rattle.cm_entries.specs.ComponentSpaces.{AreTypesOf};
-ghost use Rattle.cm_entries.specs.Entries.{entry_resource, entry_sort};
+ghost use Rattle.cm_entries.specs.Entries.{entry_resource};
 ghost use Rattle.cm_instance_items.specs.Ranges.{resource_def};
-ghost use Rattle.cm_entries.specs.declared.entries.TypeEntry.TheVariants as entry;
 
-use crate::entries::TypeEntry;
 use crate::spaces::ComponentSpaces;
 use cm_instance_items::Resource;
+use cm_type_scope::TypeEntry;
 use cm_validate::ValidReason;
 use std::alloc::AllocError;
 
-impl TypeEntry {
-    fn as_resource(&self) -> Option<u64>
-        ensures { result ≡ entry_resource self.now }
-    {
-        match self {
-            TypeEntry::Resource(number) => Some(*number),
-            TypeEntry::Value(_) | TypeEntry::Func(_) | TypeEntry::Instance(_) => None,
-        }
+/// The number of the resource that it is, if it is one.
+fn as_resource(ty: &TypeEntry) -> Option<u64>
+    ensures { result ≡ entry_resource ty.now }
+{
+    match ty {
+        TypeEntry::Resource(number) => Some(*number),
+        TypeEntry::Value(_) | TypeEntry::Func(_) | TypeEntry::Instance(_) => None,
     }
 }
 
@@ -51,7 +51,7 @@ pub(crate) fn resource_at(types: &[TypeEntry], index: u32) -> Result<u64, ValidR
 {
     match types.get(index as usize) {
         None => Err(ValidReason::NoSuchIndex),
-        Some(entry) => match entry.as_resource() {
+        Some(entry) => match as_resource(entry) {
             Some(number) => Ok(number),
             None => Err(ValidReason::WrongSort),
         },
@@ -72,13 +72,14 @@ pub fn resource_fault(types: &[TypeEntry], index: u32) -> Option<ValidReason>
 }
 
 impl<'a> ComponentSpaces<'a> {
-    ghost use Rattle.std.specs.Prelude.{OnErr};
+    ghost use Rattle.std.specs.Prelude.{ℕ, OnErr, true};
     ghost use Rattle.cm_types.specs.DefTypes.{resource_def as resource_type};
     ghost use Rattle.cm_validity.specs.Items.{type_item};
     ghost use Rattle.cm_validity.specs.Rules.{own_resource_broken};
-    ghost use Rattle.cm_validity.specs.Spaces.{after_item, new_types};
+    ghost use Rattle.cm_validity.specs.Spaces.{after_item, new_types, next_resource};
+    ghost use Rattle.cm_type_scope.specs.Entries.{def_of, is_entry_there};
+    ghost use Rattle.cm_type_scope.specs.Settled.{IsEntrySettled};
     ghost use Rattle.cm_entries.specs.ComponentSpaces.{IsComponentOf, Stays};
-    ghost use Rattle.cm_entries.specs.Entries.{type_def};
 
     /// What a resource of this number breaks that the component has to define.
     fn own_fault(&self, number: u64) -> Option<ValidReason>
@@ -110,6 +111,14 @@ impl<'a> ComponentSpaces<'a> {
         }
     }
 
+    /// How many resources there are, which is the number of the next one.
+    pub fn resource_count(&self) -> u64
+        ensures { (types : List Ty) (funcs : List FuncTy) (s : Spaces)
+            → IsComponentOf types funcs self.now s → result ≡ next_resource s }
+    {
+        self.resources.count()
+    }
+
     /// Adds a resource that the component defines, and answers its type, which is to be added to
     /// those of the component. Its destructor is one that breaks no rule. `AllocError` comes where
     /// there is no memory; the spaces then stay as they are (Binary.md, `resourcetype`).
@@ -121,7 +130,10 @@ impl<'a> ComponentSpaces<'a> {
         ensures ty { IfOk result (λ t. (types : List Ty) (funcs : List FuncTy) (s : Spaces)
             → IsComponentOf types funcs self.old s
             → new_types s (type_item (resource_type destructor))
-            ≡ type_def types funcs t ∷ []) }
+            ≡ def_of types funcs t ∷ []) }
+        ensures there { IfOk result (λ t. (types funcs : ℕ) → is_entry_there types funcs t ≡ true) }
+        ensures settled { IfOk result (λ t. (types : List Ty) (funcs : List FuncTy)
+            → IsEntrySettled types funcs t) }
         ensures kept { OnErr result (Stays self.old self.new) }
     {
         let number = self.resources.count();

@@ -5,45 +5,33 @@ ghost use Rattle.std.specs.Option.{option_map};
 ghost use Rattle.cm_validity.specs.Reasons.{index_broken, least};
 ghost use Rattle.cm_validity.specs.TypeRules.{has_sort};
 ghost use Rattle.cm_validity.specs.declared.sorts.TypeSort.TheVariants as sort;
-ghost use Rattle.cm_entries.specs.Entries.{entry_func, entry_instance, entry_sort};
-ghost use Rattle.cm_entries.specs.declared.entries.TypeEntry.TheVariants as entry;
+ghost use Rattle.cm_type_scope.specs.Entries.{entry_sort};
+ghost use Rattle.cm_type_scope.specs.declared.entries.TypeEntry.TheVariants as entry;
+ghost use Rattle.cm_entries.specs.Entries.{entry_func, entry_instance};
 
-use crate::entries::TypeEntry;
 use cm_instance_items::InstanceItems;
 use cm_placed::Placed;
+use cm_type_scope::TypeEntry;
 use cm_validate::ValidReason;
-use cm_validity::TypeSort;
 use std::rc::Rc;
 
-impl TypeEntry {
-    /// The sort of the type.
-    pub fn sort(&self) -> TypeSort
-        ensures { result ≡ entry_sort self.now }
-    {
-        match self {
-            TypeEntry::Value(_) => TypeSort::Value,
-            TypeEntry::Func(_) => TypeSort::Func,
-            TypeEntry::Resource(_) => TypeSort::Resource,
-            TypeEntry::Instance(_) => TypeSort::Instance,
-        }
+/// The type of a function that it is, if it is one.
+fn as_func(ty: &TypeEntry) -> Option<Placed>
+    ensures { result ≡ entry_func ty.now }
+{
+    match ty {
+        TypeEntry::Func(ty) => Some(*ty),
+        TypeEntry::Value(_) | TypeEntry::Resource(_) | TypeEntry::Instance(_) => None,
     }
+}
 
-    fn as_func(&self) -> Option<Placed>
-        ensures { result ≡ entry_func self.now }
-    {
-        match self {
-            TypeEntry::Func(ty) => Some(*ty),
-            TypeEntry::Value(_) | TypeEntry::Resource(_) | TypeEntry::Instance(_) => None,
-        }
-    }
-
-    fn as_instance(&self) -> Option<&Rc<InstanceItems>>
-        ensures { option_map (λ i. i.now) result ≡ entry_instance self.now }
-    {
-        match self {
-            TypeEntry::Instance(items) => Some(items),
-            TypeEntry::Value(_) | TypeEntry::Resource(_) | TypeEntry::Func(_) => None,
-        }
+/// The type of an instance that it is, if it is one.
+fn as_instance(ty: &TypeEntry) -> Option<&Rc<InstanceItems>>
+    ensures { option_map (λ i. i.now) result ≡ entry_instance ty.now }
+{
+    match ty {
+        TypeEntry::Instance(items) => Some(items),
+        TypeEntry::Value(_) | TypeEntry::Resource(_) | TypeEntry::Func(_) => None,
     }
 }
 
@@ -56,7 +44,7 @@ pub(crate) fn func_at(types: &[TypeEntry], index: u32) -> Result<Placed, ValidRe
 {
     match types.get(index as usize) {
         None => Err(ValidReason::NoSuchIndex),
-        Some(entry) => match entry.as_func() {
+        Some(entry) => match as_func(entry) {
             Some(ty) => Ok(ty),
             None => Err(ValidReason::WrongSort),
         },
@@ -74,7 +62,7 @@ pub(crate) fn instance_at(
 {
     match types.get(index as usize) {
         None => Err(ValidReason::NoSuchIndex),
-        Some(entry) => match entry.as_instance() {
+        Some(entry) => match as_instance(entry) {
             Some(items) => Ok(items),
             None => Err(ValidReason::WrongSort),
         },

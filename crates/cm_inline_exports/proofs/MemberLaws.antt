@@ -17,12 +17,13 @@ use Rattle.cm_validity.specs.Spaces.{named_member as member_of_export}
 use Rattle.cm_validity.specs.TypeRules.{is_value_or_resource}
 use Rattle.cm_validity.specs.declared.sorts.TypeSort.{TypeSort}
 use Rattle.cm_item_names.specs.Sketches.{SketchedItem, named_sketch}
-use Rattle.cm_entries.specs.Entries.{func_def, is_func_there, is_type_there, member_def, type_def}
+use Rattle.cm_type_scope.specs.Entries.{def_of, is_entry_there}
+use Rattle.cm_type_scope.specs.declared.entries.TypeEntry.{TypeEntry}
+use Rattle.cm_type_scope.specs.declared.entries.TypeEntry.TheVariants as entry
+use Rattle.cm_entries.specs.Entries.{func_def, is_func_there, member_def}
 use Rattle.cm_entries.specs.declared.entries.FuncEntry.{FuncEntry}
 use Rattle.cm_entries.specs.declared.entries.MemberEntry.{MemberEntry}
 use Rattle.cm_entries.specs.declared.entries.MemberEntry.TheVariants as member
-use Rattle.cm_entries.specs.declared.entries.TypeEntry.{TypeEntry}
-use Rattle.cm_entries.specs.declared.entries.TypeEntry.TheVariants as entry
 use Rattle.cm_entries.specs.declared.spaces.ComponentSpaces.{ComponentSpaces}
 use Rattle.cm_inline_exports.specs.Members.{IsAnswered, IsBroken, IsFine, Stand, export_sketches, sketch_member, type_answer}
 
@@ -53,18 +54,18 @@ module _ (types : List Ty) (funcs : List FuncTy) (c : ComponentSpaces) (s : Spac
   -- ---- a type
 
   module _ (sort : e.sort ≡ member_sort.Type) where
-    abbrev def_of : Option TypeEntry → Option TypeDef
-    def_of o = option_map (type_def types funcs) o
+    abbrev def_found : Option TypeEntry → Option TypeDef
+    def_found o = option_map (def_of types funcs) o
 
-    def_at : (o : Option TypeEntry) → slice_get es e.index ≡ o → slice_get s.types e.index ≡ def_of o
-    def_at o is = ap (λ (ts : List TypeDef). slice_get ts e.index) t.types_of.types_are ∙ slice_get-map (type_def types funcs) es e.index ∙ ap (option_map (type_def types funcs)) is
+    def_at : (o : Option TypeEntry) → slice_get es e.index ≡ o → slice_get s.types e.index ≡ def_found o
+    def_at o is = ap (λ (ts : List TypeDef). slice_get ts e.index) t.types_of.types_are ∙ slice_get-map (def_of types funcs) es e.index ∙ ap (option_map (def_of types funcs)) is
 
-    broken_by : (o : Option TypeEntry) → slice_get es e.index ≡ o → member_broken s e ≡ found (λ d. unless (is_value_or_resource d) reason.WrongSort) (option_map sort_of (def_of o))
+    broken_by : (o : Option TypeEntry) → slice_get es e.index ≡ o → member_broken s e ≡ found (λ d. unless (is_value_or_resource d) reason.WrongSort) (option_map sort_of (def_found o))
     broken_by o is =
         ap (λ v. member_of_sort_broken s v e.index) sort
         ∙ ap (λ (v : Option TypeSort). found (λ d. unless (is_value_or_resource d) reason.WrongSort) v) (slice_get-map sort_of s.types e.index ∙ ap (option_map sort_of) (def_at o is))
 
-    names_by : (o : Option TypeEntry) → slice_get es e.index ≡ o → member_at s e.sort e.index ≡ option_map type_member (def_of o)
+    names_by : (o : Option TypeEntry) → slice_get es e.index ≡ o → member_at s e.sort e.index ≡ option_map type_member (def_found o)
     names_by o is = ap (λ v. member_at s v e.index) sort ∙ ap (option_map type_member) (def_at o is)
 
     pub type_answered : (o : Option TypeEntry) → slice_get es e.index ≡ o → IsAnswered types funcs s e (type_answer o)
@@ -72,16 +73,16 @@ module _ (types : List Ty) (funcs : List FuncTy) (c : ComponentSpaces) (s : Spac
     type_answered (Some (entry.Value p)) is = record {
       fine = broken_by (Some (entry.Value p)) is;
       names = names_by (Some (entry.Value p)) is;
-      there = all_found (is_type_there (length types) (length funcs)) es e.index (entry.Value p) t.types_of.types_there is;
+      there = all_found (is_entry_there (length types) (length funcs)) es e.index (entry.Value p) t.types_of.types_there is;
     }
     type_answered (Some (entry.Resource n)) is = record { fine = broken_by (Some (entry.Resource n)) is; names = names_by (Some (entry.Resource n)) is; there = refl }
     type_answered (Some (entry.Func p)) is = record {
       broken = sym (ap least (broken_by (Some (entry.Func p)) is));
-      none = members_by (option_map type_member (def_of (Some (entry.Func p)))) (names_by (Some (entry.Func p)) is);
+      none = members_by (option_map type_member (def_found (Some (entry.Func p)))) (names_by (Some (entry.Func p)) is);
     }
     type_answered (Some (entry.Instance i)) is = record {
       broken = sym (ap least (broken_by (Some (entry.Instance i)) is));
-      none = members_by (option_map type_member (def_of (Some (entry.Instance i)))) (names_by (Some (entry.Instance i)) is);
+      none = members_by (option_map type_member (def_found (Some (entry.Instance i)))) (names_by (Some (entry.Instance i)) is);
     }
 
   -- ---- a function

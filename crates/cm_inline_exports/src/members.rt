@@ -14,10 +14,11 @@ ghost use Rattle.cm_inline_exports.specs.Members.{export_sketches, sketch_member
 
 use crate::sketches::item_sketch;
 use cm_component::{InlineExport, InstanceExportSort};
-use cm_entries::{ComponentSpaces, MemberEntry, TypeEntry};
+use cm_entries::{ComponentSpaces, MemberEntry};
 use cm_item_names::NamedSketch;
 use cm_type_arena::Types;
 use cm_type_rules::lesser;
+use cm_type_scope::TypeEntry;
 use cm_validate::ValidReason;
 use cm_validity::laws::least_of_both;
 use indexmap::IndexMap;

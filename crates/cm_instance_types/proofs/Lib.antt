@@ -2,3 +2,4 @@ pub mod ScopeLaws
 pub mod InstanceLaws
 pub mod PassLaws
 pub mod GrowLaws
+pub mod SettledLaws

@@ -2,12 +2,16 @@
 
 ghost use Rattle.std.specs.Prelude.{◌≡◌, ◌++◌, ◌∷◌, [], None, IfOk, MatchOption, OnErr, OnOk, map};
 ghost use Rattle.std.specs.Prelude.{length, true};
+ghost use Rattle.std.specs.List.{AllByRecursion};
 ghost use Rattle.cm_types.specs.DefTypes.{declaration_tree};
 ghost use Rattle.cm_validity.specs.Declarations.{instance_def_broken, instance_defined};
 ghost use Rattle.cm_validity.specs.Definitions.{instance_type};
 ghost use Rattle.cm_validity.specs.Reasons.{least};
 ghost use Rattle.cm_placed.specs.Instances.{are_items_there};
+ghost use Rattle.cm_counted.specs.CountedSpaces.{IsDefCounted};
 ghost use Rattle.cm_type_scope.specs.Entries.{instance_of};
+ghost use Rattle.cm_type_scope.specs.Settled.{AreItemsSettled};
+ghost use Rattle.cm_type_scope.specs.SettledScopes.{AreSettled};
 ghost use Rattle.cm_type_scope.specs.TypeScopes.{arena_funcs, arena_types, own_types};
 ghost use Rattle.cm_type_scope.specs.TypeScopes.{HasGrown, types_around};
 ghost use Rattle.cm_type_sketches.specs.Faults.{besides_limits};
@@ -16,9 +20,11 @@ use crate::laws::instances_are_sketched;
 use crate::passes::sketched_fault;
 use cm_declarations::Declarations;
 use cm_declarations::laws::first_reasons;
+use cm_instance_items::InstanceItems;
 use cm_item_names::laws::names_are_sketched;
 use cm_placed::InstanceType;
-use cm_type_scope::{NamedInstanceType, TypeEntry, TypeScope};
+use cm_type_scope::laws::moves_stay;
+use cm_type_scope::{TypeEntry, TypeScope};
 use cm_type_sketches::laws::limits_come_last;
 use cm_types::Declaration;
 use cm_validate::ValidReason;
@@ -41,9 +47,11 @@ fn add_instance(
     ensures kept { OnErr result (own_types component.new ≡ own_types component.old) }
     ensures around { types_around component.new ≡ types_around component.old }
     ensures grown { HasGrown component.old component.new }
+    ensures settled { AreItemsSettled (arena_types component.old) (arena_funcs component.old)
+        instance.first instance.items.items → AreSettled component.old → AreSettled component.new }
 {
-    let named = NamedInstanceType::new(alloc, instance)?;
-    component.add(TypeEntry::Instance(Rc::new(alloc, named)?))
+    let items = InstanceItems::new(alloc, Rc::new(alloc, instance)?)?;
+    component.add(TypeEntry::Instance(Rc::new(alloc, items)?))
 }
 
 /// Reads the type of an instance that breaks nothing besides the limits.
@@ -66,11 +74,14 @@ fn defined(
     ensures kept { OnErr result.1 (own_types result.0 ≡ own_types component) }
     ensures around { types_around result.0 ≡ [] }
     ensures grown { HasGrown component result.0 }
+    ensures settled { AllByRecursion (IsDefCounted next) (own_types component)
+        → AreSettled component → AreSettled result.0 }
 {
     instances_are_sketched();
     limits_come_last();
     names_are_sketched();
     first_reasons();
+    moves_stay();
     let mut reading = Declarations::new(alloc, component, next);
     match reading.declare_all(alloc, declarations) {
         Err(AllocError) => {
@@ -110,6 +121,8 @@ fn define_within(
     ensures kept { OnErr result (own_types scope.new ≡ own_types scope.old) }
     ensures around { types_around scope.old ≡ [] → types_around scope.new ≡ [] }
     ensures grown { HasGrown scope.old scope.new }
+    ensures settled { AllByRecursion (IsDefCounted next) (own_types scope.old)
+        → AreSettled scope.old → AreSettled scope.new }
 {
     let empty = TypeScope::new(alloc)?;
     let component = mem::replace(scope, empty);
@@ -127,7 +140,9 @@ fn define_within(
 /// component those alone are looked at that a declaration names.
 ///
 /// `AllocError` comes where there is no memory; the types are then as they were. Whatever comes,
-/// each place of the arena stands for what it stood for.
+/// each place of the arena stands for what it stood for. And what an outer alias brings into the
+/// type of an instance names no resource of that instance: it stands for a type of the component,
+/// whose resources have numbers before `next` (Explainer.md, "Alias Definitions").
 #[tactic(auto, using(crate::proofs::GrowLaws::same))]
 pub fn define_instance(
     scope: &mut TypeScope,
@@ -145,6 +160,8 @@ pub fn define_instance(
     ensures kept { OnErr result (own_types scope.new ≡ own_types scope.old) }
     ensures around { types_around scope.old ≡ [] → types_around scope.new ≡ [] }
     ensures grown { HasGrown scope.old scope.new }
+    ensures settled { AllByRecursion (IsDefCounted next) (own_types scope.old)
+        → AreSettled scope.old → AreSettled scope.new }
 {
     instances_are_sketched();
     match sketched_fault(alloc, scope, declarations, next)? {

@@ -2,7 +2,7 @@ pub mod ExpandLaws
 pub mod GrowLaws
 pub mod LimitLaws
 pub mod MovedLaws
-pub mod NumberLaws
 pub mod ScopeLaws
 pub mod SettledLaws
 pub mod SpellLaws
+pub mod StayLaws

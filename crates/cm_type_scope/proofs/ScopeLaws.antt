@@ -62,10 +62,10 @@ no_func : FuncTy
 no_func = record { params = no_fields; result = None }
 
 module _ (types more : List Ty) (funcs others : List FuncTy) where
-  type_kept : (p : ℕ) → nat_lt p (length types) ≡ true → type_at (types ++ more) p ≡ type_at types p
+  pub type_kept : (p : ℕ) → nat_lt p (length types) ≡ true → type_at (types ++ more) p ≡ type_at types p
   type_kept p h = get_or_append_left types more bool p (ltb-true p (length types) h)
 
-  func_kept : (p : ℕ) → nat_lt p (length funcs) ≡ true → func_at (funcs ++ others) p ≡ func_at funcs p
+  pub func_kept : (p : ℕ) → nat_lt p (length funcs) ≡ true → func_at (funcs ++ others) p ≡ func_at funcs p
   func_kept p h = get_or_append_left funcs others _ p (ltb-true p (length funcs) h)
 
   desc_kept : (d : ItemDesc) → is_desc_there (length types) (length funcs) d ≡ true → desc_of (types ++ more) (funcs ++ others) d ≡ desc_of types funcs d

@@ -10,6 +10,7 @@ use Rattle.cm_validity.specs.Definitions.{TypeDef, value, func_type, resource, i
 use Rattle.cm_validity.specs.Definitions.{InstanceTy}
 use Rattle.cm_validity.specs.declared.sorts.TypeSort.{TypeSort}
 use Rattle.cm_validity.specs.declared.sorts.TypeSort.TheVariants as sort
+use Rattle.cm_instance_items.specs.InstanceTypes.{instance_type_of}
 use Rattle.cm_type_scope.specs.declared.entries.TypeEntry.{TypeEntry}
 use Rattle.cm_type_scope.specs.declared.entries.TypeEntry.TheVariants as entry
 
@@ -26,7 +27,7 @@ def_of types funcs (entry.Value p) = value (placed_type types p)
 def_of types funcs (entry.Func p) = func_type (placed_func funcs p)
 def_of types funcs (entry.Resource n) = resource n
 def_of types funcs (entry.Instance i) =
-    instance_type (instance_of types funcs i.value.ty.value)
+    instance_type (instance_of types funcs (instance_type_of i.value))
 
 -- the same, but of a value type the one at its place, with no resource moved
 abbrev pub unmoved_def_of : List Ty → List FuncTy → TypeEntry → TypeDef
@@ -48,7 +49,7 @@ is_entry_there types funcs (entry.Value p) = is_there types p
 is_entry_there types funcs (entry.Func p) = is_there funcs p
 is_entry_there types funcs (entry.Resource n) = true
 is_entry_there types funcs (entry.Instance i) =
-    are_items_there types funcs i.value.ty.value.items.items
+    are_items_there types funcs (instance_type_of i.value).items.items
 
 abbrev pub in_arena : List Ty → List FuncTy → List TypeEntry → Bool
 in_arena types funcs es = list_all (is_entry_there (length types) (length funcs)) es

@@ -1,6 +1,6 @@
 pub mod Expansion
 pub mod Entries
 pub mod Uses
-pub mod ItemNumbers
-pub mod InstanceNames
+pub mod Settled
 pub mod TypeScopes
+pub mod SettledScopes

@@ -3,8 +3,10 @@
 ghost use Rattle.std.specs.Prelude.{◌≡◌, ℕ, IfOk, List};
 ghost use Rattle.cm_types.specs.Types.{FuncTy, Ty};
 ghost use Rattle.cm_type_scope.specs.Entries.{def_of, entry_sort, is_entry_there};
+ghost use Rattle.cm_type_scope.specs.Settled.{IsEntrySettled};
+ghost use Rattle.cm_type_scope.specs.SettledScopes.{IsMovedCounted};
 
-use crate::instance_types::NamedInstanceType;
+use cm_instance_items::InstanceItems;
 use cm_placed::Placed;
 use cm_validity::TypeSort;
 use std::alloc::AllocError;
@@ -23,7 +25,7 @@ pub enum TypeEntry {
     /// A resource, by its number in the component.
     Resource(u64),
     /// The type of an instance, shared by all who name it.
-    Instance(Rc<NamedInstanceType>),
+    Instance(Rc<InstanceItems>),
 }
 
 impl TypeEntry {
@@ -45,6 +47,10 @@ impl TypeEntry {
             → def_of types funcs e ≡ def_of types funcs self.now) }
         ensures there { IfOk result (λ e. (types funcs : ℕ)
             → is_entry_there types funcs e ≡ is_entry_there types funcs self.now) }
+        ensures settled { IfOk result (λ e. (types : List Ty) (funcs : List FuncTy)
+            → IsEntrySettled types funcs self.now → IsEntrySettled types funcs e) }
+        ensures moved { IfOk result (λ e. (types : List Ty) (funcs : List FuncTy) (n : ℕ)
+            → IsMovedCounted types funcs n self.now → IsMovedCounted types funcs n e) }
     {
         Ok(match self {
             TypeEntry::Value(placed) => TypeEntry::Value(*placed),

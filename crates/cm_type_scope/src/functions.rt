@@ -29,6 +29,7 @@ impl TypeScope {
     ghost use Rattle.cm_validity.specs.TypeRules.{no_borrow_broken, uses_broken};
     ghost use Rattle.cm_type_scope.specs.Expansion.{func_or_bool, value_or_bool};
     ghost use Rattle.cm_type_scope.specs.TypeScopes.{arena_funcs, arena_types, own_types};
+    ghost use Rattle.cm_type_scope.specs.SettledScopes.{StaysSettled};
     ghost use Rattle.cm_type_scope.specs.TypeScopes.{HasGrown, types_around};
 
     /// Adds the type of a function to the arena alone, and answers its place.
@@ -46,6 +47,7 @@ impl TypeScope {
         ensures own { own_types self.new ≡ own_types self.old }
         ensures around { types_around self.new ≡ types_around self.old }
         ensures grown { HasGrown self.old self.new }
+        ensures stays { StaysSettled self.old self.new }
     {
         self.types.push_func(alloc, def)
     }
@@ -63,6 +65,7 @@ impl TypeScope {
         ensures kept { OnErr result (own_types self.new ≡ own_types self.old) }
         ensures around { types_around self.new ≡ types_around self.old }
         ensures grown { HasGrown self.old self.new }
+        ensures stays { StaysSettled self.old self.new }
     {
         unmoved();
         let place = match self.push_func(alloc, def) {
@@ -107,6 +110,7 @@ impl TypeScope {
         ensures kept { OnErr result (own_types self.new ≡ own_types self.old) }
         ensures around { types_around self.new ≡ types_around self.old }
         ensures grown { HasGrown self.old self.new }
+        ensures stays { StaysSettled self.old self.new }
     {
         unmoved();
         let params = param_uses(alloc, def)?;
@@ -135,6 +139,7 @@ impl TypeScope {
         ensures kept { OnErr result (own_types self.new ≡ own_types self.old) }
         ensures around { types_around self.new ≡ types_around self.old }
         ensures grown { HasGrown self.old self.new }
+        ensures stays { StaysSettled self.old self.new }
     {
         what_stays();
         let twice = params_fault(alloc, def)?;
@@ -150,7 +155,8 @@ impl TypeScope {
     /// type that an import moved is copied as `define_value` says, and the result beside the
     /// parameters.
     ///
-    /// `AllocError` comes where there is no memory; its own types are then as they were.
+    /// `AllocError` comes where there is no memory; its own types are then as they were. Whatever
+    /// comes, what an import moved stays counted as it was: in the types of instances too.
     pub fn define_func(
         &mut self,
         alloc: Global,
@@ -165,6 +171,7 @@ impl TypeScope {
         ensures kept { OnErr result (own_types self.new ≡ own_types self.old) }
         ensures around { types_around self.new ≡ types_around self.old }
         ensures grown { HasGrown self.old self.new }
+        ensures stays { StaysSettled self.old self.new }
     {
         least_of_both();
         match uses_fault(self.sorts(), def) {

@@ -5,7 +5,6 @@
 mod entries;
 mod expansion;
 mod functions;
-mod instance_types;
 pub mod laws;
 mod level;
 mod scope;
@@ -14,5 +13,4 @@ mod uses;
 mod values;
 
 pub use entries::TypeEntry;
-pub use instance_types::NamedInstanceType;
 pub use scope::TypeScope;

@@ -22,17 +22,21 @@ pub struct TypeScope {
 }
 
 impl TypeScope {
-    ghost use Rattle.std.specs.Prelude.{◌++◌, ◌∷◌, [], IfOk, IfSome, OnOk, OnErr, slice_get};
+    ghost use Rattle.std.specs.Prelude.{◌++◌, ◌∷◌, [], ℕ, IfOk, IfSome, OnOk, OnErr, slice_get};
     ghost use Rattle.std.specs.Option.{option_map};
     ghost use Rattle.cm_type_arena.specs.TypeDefs.{primitive_types};
     ghost use Rattle.cm_validity.specs.Definitions.{sorts_of};
     ghost use Rattle.cm_type_scope.specs.Entries.{def_of, is_entry_there};
-    ghost use Rattle.cm_type_scope.specs.TypeScopes.{arena_funcs, arena_types, own_types};
-    ghost use Rattle.cm_type_scope.specs.TypeScopes.{types_around};
+    ghost use Rattle.cm_type_scope.specs.Settled.{IsEntrySettled};
+    ghost use Rattle.cm_type_scope.specs.SettledScopes.{AreMovedCounted, AreSettled};
+    ghost use Rattle.cm_type_scope.specs.SettledScopes.{IsMovedCounted};
+    ghost use Rattle.cm_type_scope.specs.TypeScopes.{arena_funcs, arena_types, entries_around};
+    ghost use Rattle.cm_type_scope.specs.TypeScopes.{entries_of, own_types, types_around};
 
     /// No types, with none around. `AllocError` comes where there is no memory for the arena.
     pub fn new(alloc: Global) -> Result<TypeScope, AllocError>
         ensures own { IfOk result (λ s. own_types s ≡ []) }
+        ensures entries { IfOk result (λ s. entries_of s ≡ []) }
         ensures around { IfOk result (λ s. types_around s ≡ []) }
         ensures types { IfOk result (λ s. arena_types s ≡ primitive_types) }
         ensures funcs { IfOk result (λ s. arena_funcs s ≡ []) }
@@ -47,7 +51,9 @@ impl TypeScope {
     /// The scope of the type of an instance, with no types of its own yet, inside this one.
     pub fn enter(self, alloc: Global) -> TypeScope
         ensures own { own_types result ≡ [] }
+        ensures entries { entries_of result ≡ [] }
         ensures around { types_around result ≡ own_types self }
+        ensures around_entries { entries_around result ≡ entries_of self }
         ensures types { arena_types result ≡ arena_types self }
         ensures funcs { arena_funcs result ≡ arena_funcs self }
     {
@@ -62,6 +68,7 @@ impl TypeScope {
     /// The scope around, with no scope around it: the types of its own are dropped.
     pub fn leave(self, alloc: Global) -> TypeScope
         ensures own { own_types result ≡ types_around self }
+        ensures entries { entries_of result ≡ entries_around self }
         ensures around { types_around result ≡ [] }
         ensures types { arena_types result ≡ arena_types self }
         ensures funcs { arena_funcs result ≡ arena_funcs self }
@@ -80,6 +87,14 @@ impl TypeScope {
         ensures funcs { funcs_of result.now ≡ arena_funcs self.now }
     {
         &self.types
+    }
+
+    /// What the indices of its own stand for, in order.
+    pub fn entries(&self) -> &[TypeEntry]
+        ensures entries { result.now ≡ entries_of self.now }
+        ensures placed { in_arena (arena_types self.now) (arena_funcs self.now) result.now ≡ true }
+    {
+        &self.own.entries
     }
 
     /// The sorts of its own types.
@@ -103,6 +118,10 @@ impl TypeScope {
         ensures placed { IfSome result (λ e.
             is_entry_there (length (arena_types self.now)) (length (arena_funcs self.now)) e.now
             ≡ true) }
+        ensures settled { IfSome result (λ e. AreSettled self.now
+            → IsEntrySettled (arena_types self.now) (arena_funcs self.now) e.now) }
+        ensures moved { IfSome result (λ e. (n : ℕ) → AreMovedCounted n self.now
+            → IsMovedCounted (arena_types self.now) (arena_funcs self.now) n e.now) }
     {
         self.own.entries.get(index as usize)
     }
@@ -126,7 +145,14 @@ impl TypeScope {
         ensures added { OnOk result (own_types self.new ≡ own_types self.old
             ++ def_of (arena_types self.old) (arena_funcs self.old) entry ∷ []) }
         ensures kept { OnErr result (own_types self.new ≡ own_types self.old) }
+        ensures entries { OnOk result (entries_of self.new ≡ entries_of self.old ++ entry ∷ []) }
+        ensures entries_kept { OnErr result (entries_of self.new ≡ entries_of self.old) }
+        ensures settled { IsEntrySettled (arena_types self.old) (arena_funcs self.old) entry
+            → AreSettled self.old → AreSettled self.new }
+        ensures moved { (n : ℕ) → IsMovedCounted (arena_types self.old) (arena_funcs self.old) n
+            entry → AreMovedCounted n self.old → AreMovedCounted n self.new }
         ensures around { types_around self.new ≡ types_around self.old }
+        ensures around_entries { entries_around self.new ≡ entries_around self.old }
         ensures types { arena_types self.new ≡ arena_types self.old }
         ensures funcs { arena_funcs self.new ≡ arena_funcs self.old }
     {

@@ -17,6 +17,7 @@ impl TypeScope {
     ghost use Rattle.cm_placed.specs.Placed.{moved_by};
     ghost use Rattle.cm_replaced.specs.Replaced.{replaced};
     ghost use Rattle.cm_type_scope.specs.TypeScopes.{arena_funcs, arena_types, own_types};
+    ghost use Rattle.cm_type_scope.specs.SettledScopes.{StaysSettled};
     ghost use Rattle.cm_type_scope.specs.TypeScopes.{HasGrown, types_around};
     ghost use Rattle.cm_type_scope.specs.Uses.{are_uses_unmoved, is_use_unmoved, nodes_together};
 
@@ -46,6 +47,7 @@ impl TypeScope {
         ensures own { own_types self.new ≡ own_types self.old }
         ensures around { types_around self.new ≡ types_around self.old }
         ensures grown { HasGrown self.old self.new }
+        ensures stays { StaysSettled self.old self.new }
     {
         push_replaced(&mut self.types, alloc, place, &by)
     }
@@ -59,6 +61,7 @@ impl TypeScope {
         ensures own { own_types self.new ≡ own_types self.old }
         ensures around { types_around self.new ≡ types_around self.old }
         ensures grown { HasGrown self.old self.new }
+        ensures stays { StaysSettled self.old self.new }
     {
         unmoved();
         let index = match ty {
@@ -83,6 +86,7 @@ impl TypeScope {
         ensures own { own_types self.new ≡ own_types self.old }
         ensures around { types_around self.new ≡ types_around self.old }
         ensures grown { HasGrown self.old self.new }
+        ensures stays { StaysSettled self.old self.new }
     {
         for ty in uses {
             self.settle(alloc, *ty)?;

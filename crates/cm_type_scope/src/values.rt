@@ -28,6 +28,7 @@ impl TypeScope {
     ghost use Rattle.cm_validity.specs.TypeRules.{limits_broken, parts_broken};
     ghost use Rattle.cm_validity.specs.TypeRules.{value_def_broken};
     ghost use Rattle.cm_type_scope.specs.TypeScopes.{arena_funcs, arena_types, own_types};
+    ghost use Rattle.cm_type_scope.specs.SettledScopes.{StaysSettled};
     ghost use Rattle.cm_type_scope.specs.TypeScopes.{HasGrown, types_around};
 
     /// Adds a type to the arena alone, and answers its place.
@@ -45,6 +46,7 @@ impl TypeScope {
         ensures own { own_types self.new ≡ own_types self.old }
         ensures around { types_around self.new ≡ types_around self.old }
         ensures grown { HasGrown self.old self.new }
+        ensures stays { StaysSettled self.old self.new }
     {
         self.types.push(alloc, def)
     }
@@ -62,6 +64,7 @@ impl TypeScope {
         ensures kept { OnErr result (own_types self.new ≡ own_types self.old) }
         ensures around { types_around self.new ≡ types_around self.old }
         ensures grown { HasGrown self.old self.new }
+        ensures stays { StaysSettled self.old self.new }
     {
         unmoved();
         let place = match self.push_type(alloc, def) {
@@ -91,6 +94,7 @@ impl TypeScope {
         ensures kept { OnErr result (own_types self.new ≡ own_types self.old) }
         ensures around { types_around self.new ≡ types_around self.old }
         ensures grown { HasGrown self.old self.new }
+        ensures stays { StaysSettled self.old self.new }
     {
         unmoved();
         what_stays();
@@ -113,7 +117,8 @@ impl TypeScope {
     /// then on, so no later definition copies it again. Nothing is copied where the types that the
     /// definition uses have more than 10,000 nodes together, so one definition copies no more.
     ///
-    /// `AllocError` comes where there is no memory; its own types are then as they were.
+    /// `AllocError` comes where there is no memory; its own types are then as they were. Whatever
+    /// comes, what an import moved stays counted as it was: in the types of instances too.
     pub fn define_value(
         &mut self,
         alloc: Global,
@@ -128,6 +133,7 @@ impl TypeScope {
         ensures kept { OnErr result (own_types self.new ≡ own_types self.old) }
         ensures around { types_around self.new ≡ types_around self.old }
         ensures grown { HasGrown self.old self.new }
+        ensures stays { StaysSettled self.old self.new }
     {
         least_of_both();
         match parts_fault(alloc, self.sorts(), def)? {

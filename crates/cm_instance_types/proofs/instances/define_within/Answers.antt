@@ -1,8 +1,11 @@
 use Rattle.std.proofs.Common.{◌≡◌, ◌++◌, ◌∷◌, [], subst, map, IfOk, MatchOption}
+use Rattle.std.specs.List.{AllByRecursion}
+use Rattle.cm_counted.specs.CountedSpaces.{IsDefCounted}
 use Rattle.cm_types.specs.DefTypes.{declaration_tree}
 use Rattle.cm_validity.specs.Declarations.{instance_def_broken, instance_defined}
 use Rattle.cm_validity.specs.Definitions.{instance_type}
 use Rattle.cm_validity.specs.Reasons.{least}
+use Rattle.cm_type_scope.specs.SettledScopes.{AreSettled}
 use Rattle.cm_type_scope.specs.TypeScopes.{HasGrown, own_types}
 use Rattle.cm_type_scope.specs.declared.scope.TypeScope.{TypeScope}
 use Rattle.cm_instance_types.proofs.instances.define_within.Goals as goal
@@ -21,3 +24,7 @@ returns-clause-defined c =
 
 pub returns-clause-grown : goal.returns-clause-grown
 returns-clause-grown c = subst (λ (s : TypeScope). HasGrown s c.defined-component.result.0) c.replace-component.ensures.value c.defined-component.ensures.grown
+
+pub returns-clause-settled : goal.returns-clause-settled
+returns-clause-settled c =
+    subst (λ (s : TypeScope). AllByRecursion (IsDefCounted c.args.next) (own_types s) → AreSettled s → AreSettled c.defined-component.result.0) c.replace-component.ensures.value c.defined-component.ensures.settled

@@ -6,6 +6,7 @@ use Rattle.cm_declarations.specs.DeclaredScopes.{scope_of}
 use Rattle.cm_declarations.specs.FirstFaults.{first_reason}
 use Rattle.cm_instance_types.proofs.GrowLaws.{through}
 use Rattle.cm_instance_types.proofs.InstanceLaws.{limits_broken, none_broken}
+use Rattle.cm_instance_types.proofs.SettledLaws.{counted_around, settled_after}
 use Rattle.cm_instance_types.proofs.instances.defined.Goals as goal
 
 pub returns-in-Ok-Some-clause-fault : goal.returns-in-Ok-Some-clause-fault
@@ -29,3 +30,13 @@ returns-in-Err-clause-grown c =
 pub returns-in-Ok-Some-clause-grown : goal.returns-in-Ok-Some-clause-grown
 returns-in-Ok-Some-clause-grown c =
     through c.args.component (scope_of c.new-reading.result) (scope_of c.declare_all.new.self) c.finish-component-in-Ok-Some.result.0 c.new-reading.ensures.grown c.declare_all.ensures.grown c.finish-component-in-Ok-Some.ensures.grown
+
+pub returns-in-Err-clause-settled : goal.returns-in-Err-clause-settled
+returns-in-Err-clause-settled c = λ counted settled.
+    let grown = through c.args.component (scope_of c.new-reading.result) (scope_of c.declare_all.new.self) c.finish-component.result.0 c.new-reading.ensures.grown c.declare_all.ensures.grown c.finish-component.ensures.grown in
+    settled_after c.moves_stay.ensures.scopes c.args.component c.finish-component.result.0 c.new-reading.result c.declare_all.new.self grown c.new-reading.ensures.entries c.declare_all.ensures.entries c.finish-component.ensures.entries settled
+
+pub returns-in-Ok-Some-clause-settled : goal.returns-in-Ok-Some-clause-settled
+returns-in-Ok-Some-clause-settled c = λ counted settled.
+    let grown = through c.args.component (scope_of c.new-reading.result) (scope_of c.declare_all.new.self) c.finish-component-in-Ok-Some.result.0 c.new-reading.ensures.grown c.declare_all.ensures.grown c.finish-component-in-Ok-Some.ensures.grown in
+    settled_after c.moves_stay.ensures.scopes c.args.component c.finish-component-in-Ok-Some.result.0 c.new-reading.result c.declare_all.new.self grown c.new-reading.ensures.entries c.declare_all.ensures.entries c.finish-component-in-Ok-Some.ensures.entries settled

@@ -1,7 +1,7 @@
 use Rattle.std.proofs.Common.{◌≡◌, map, drop}
 use Rattle.cm_types.specs.DefTypes.{declaration_tree}
 use Rattle.cm_validity.specs.Declarations.{after_declarations}
-use Rattle.cm_type_scope.specs.TypeScopes.{HasGrown}
+use Rattle.cm_type_scope.specs.TypeScopes.{HasGrown, entries_around}
 use Rattle.cm_declarations.specs.DeclaredScopes.{first_resource, scope_of, scope_so_far}
 use Rattle.cm_declarations.specs.FirstFaults.{first_reason}
 use Rattle.cm_declarations.proofs.declarations.Declarations.declare_all.Given as goal
@@ -14,4 +14,5 @@ invariant-loop-declaration l = record {
   around : (scope_so_far l.self).around ≡ (scope_so_far l.fn.self).around;
   grown : HasGrown (scope_of l.fn.self) (scope_of l.self);
   first : first_resource l.self ≡ first_resource l.fn.self;
+  entries : entries_around (scope_of l.self) ≡ entries_around (scope_of l.fn.self);
 }

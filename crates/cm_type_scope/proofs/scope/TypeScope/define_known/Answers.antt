@@ -11,6 +11,7 @@ use Rattle.cm_type_scope.specs.Expansion.{func_or_bool}
 use Rattle.cm_type_scope.specs.TypeScopes.{arena_types, own_types}
 use Rattle.cm_type_scope.proofs.LimitLaws.{func_made}
 use Rattle.cm_type_scope.proofs.SettledLaws.{func_settled, too_many_params}
+use Rattle.cm_type_scope.proofs.StayLaws.{stays_on}
 use Rattle.cm_type_scope.proofs.scope.TypeScope.define_known.Goals as goal
 
 pub returns-then-not-are_within-clause-fault : goal.returns-then-not-are_within-clause-fault
@@ -37,3 +38,6 @@ returns-clause-defined c =
     func_settled c.unmoved.ensures.types c.settle_all.new.self (own_types s) _ f _ same c.in_ok-settle_all.ensures.settled c.settle_all.ensures.own c.in_ok-placed.ensures.ty in
     let told : func_def_of (own_types s) f ≡ func_type (func_def_type (arena_types c.settle_all.new.self) c.in_ok-placed.placed) = func_made (own_types s) f c.requires.uses ∙ ap func_type (sym made) in
     rw (told, sym c.settle_all.ensures.own) c.add_func.ensures.added
+
+pub returns-clause-stays : goal.returns-clause-stays
+returns-clause-stays c = stays_on c.args.self.now c.settle_all.new.self c.add_func.new.self c.settle_all.ensures.stays c.add_func.ensures.stays

@@ -14,6 +14,7 @@ use Rattle.cm_type_scope.proofs.LimitLaws.{value_left, value_made}
 use Rattle.cm_type_scope.proofs.ScopeLaws.{values_spelled}
 use Rattle.cm_type_scope.proofs.SettledLaws.{too_many_nodes, value_settled}
 use Rattle.cm_type_scope.proofs.SpellLaws.{def_spelled}
+use Rattle.cm_type_scope.proofs.StayLaws.{stays_on}
 use Rattle.cm_type_scope.proofs.scope.TypeScope.define_parts.Goals as goal
 
 pub returns-then-not-are_within-clause-fault : goal.returns-then-not-are_within-clause-fault
@@ -46,3 +47,6 @@ returns-clause-defined c =
     value_settled c.unmoved.ensures.types c.settle_all.new.self (own_types s) _ v _ (c.deref-2.ensures.value ∙ c.in_ok-uses.ensures) c.in_ok-settle_all.ensures.settled c.settle_all.ensures.own c.in_ok-placed.ensures.ty in
     let told : value_def_of (own_types s) v ≡ value (def_type (arena_types c.settle_all.new.self) c.in_ok-placed.placed) = value_made (own_types s) v c.requires.parts ∙ ap value (sym made) in
     rw (told, sym c.settle_all.ensures.own) c.add_value.ensures.added
+
+pub returns-clause-stays : goal.returns-clause-stays
+returns-clause-stays c = stays_on c.args.self.now c.settle_all.new.self c.add_value.new.self c.settle_all.ensures.stays c.add_value.ensures.stays

@@ -1,7 +1,9 @@
+use Rattle.std.proofs.Common.{refl}
 use Rattle.cm_type_arena.specs.Places.{types_of, funcs_of}
 use Rattle.cm_type_arena.specs.TypeDefs.{def_type}
 use Rattle.cm_type_scope.specs.TypeScopes.{Extends}
 use Rattle.cm_type_scope.proofs.ScopeLaws.{grown_by, grown_not, defs_among_more, placed_among_more}
+use Rattle.cm_type_scope.proofs.StayLaws.{stays_grown}
 use Rattle.cm_type_scope.proofs.scope.TypeScope.push_type.Goals as goal
 
 pub invariant_of-self : goal.invariant_of-self
@@ -30,3 +32,9 @@ returns-clause-grown c =
     let p : Extends (types_of c.args.self.now.types) (types_of c.push.new.self) = grown_by c.push.result (types_of c.args.self.now.types) (types_of c.push.new.self) (def_type (types_of c.args.self.now.types) c.args.def) c.push.ensures.pushed c.push.ensures.kept in
     let q : Extends (funcs_of c.args.self.now.types) (funcs_of c.push.new.self) = grown_not (funcs_of c.args.self.now.types) (funcs_of c.push.new.self) c.push.ensures.funcs in
     (p, q)
+
+pub returns-clause-stays : goal.returns-clause-stays
+returns-clause-stays c =
+    let p : Extends (types_of c.args.self.now.types) (types_of c.push.new.self) = grown_by c.push.result (types_of c.args.self.now.types) (types_of c.push.new.self) (def_type (types_of c.args.self.now.types) c.args.def) c.push.ensures.pushed c.push.ensures.kept in
+    let q : Extends (funcs_of c.args.self.now.types) (funcs_of c.push.new.self) = grown_not (funcs_of c.args.self.now.types) (funcs_of c.push.new.self) c.push.ensures.funcs in
+    stays_grown c.args.self.now _ (p, q) refl refl

@@ -1,4 +1,4 @@
-use Rattle.std.proofs.Common.{◌≡◌, ◌<◌, ◌∙◌, ap, sym, length, map, true, ℕ, List, None, Some, nat_lt, slice_get}
+use Rattle.std.proofs.Common.{◌≡◌, ◌∙◌, ap, refl, length, map, true, ℕ, List, Some, nat_lt, slice_get}
 use Rattle.std.proofs.lemmas.Bool.{ltb-true, lt-ltb}
 use Rattle.std.specs.Prelude.{is_none, slice_set}
 use Rattle.cm_placed.specs.declared.placed.Placed.{Placed}
@@ -10,6 +10,7 @@ use Rattle.cm_type_scope.specs.TypeScopes.{arena_types, arena_funcs}
 use Rattle.cm_type_scope.specs.Uses.{is_use_unmoved}
 use Rattle.cm_type_scope.proofs.MovedLaws.{set_found, set_passes, settled_here, settled_still}
 use Rattle.cm_type_scope.proofs.SettledLaws.{put_same}
+use Rattle.cm_type_scope.proofs.StayLaws.{stays_on, stays_set, value_unmoved}
 use Rattle.cm_type_scope.proofs.scope.TypeScope.settle.Goals as goal
 
 pub copied-requires : goal.copied-requires
@@ -51,3 +52,9 @@ returns-in_ok-copy-in-Some-clause-own c =
     c.at.ensures.by
     (ap (type_at (arena_types s)) c.at.ensures.place ∙ c.in_ok-copy-in-Some.ensures.ty)
     ∙ c.copied.ensures.own
+
+pub returns-in_ok-copy-in-Some-clause-stays : goal.returns-in_ok-copy-in-Some-clause-stays
+returns-in_ok-copy-in-Some-clause-stays c =
+    let s = c.copied.new.self in
+    stays_on c.args.self.now s _ c.copied.ensures.stays
+    (stays_set s _ refl refl refl c.in-Index.index (entry.Value c.at.result) c.put_value.ensures tt (value_unmoved (arena_types s) (arena_funcs s) c.at.result c.at.ensures.by))

@@ -2,6 +2,7 @@ use Rattle.std.proofs.Common.{◌∙◌, take}
 use Rattle.cm_type_scope.proofs.GrowLaws.{grown_on}
 use Rattle.cm_type_scope.proofs.MovedLaws.{all_still}
 use Rattle.cm_type_scope.proofs.SettledLaws.{one_more_settled}
+use Rattle.cm_type_scope.proofs.StayLaws.{stays_on}
 use Rattle.cm_type_scope.proofs.scope.TypeScope.settle_all.Goals as goal
 
 pub loop-ty-preserved : goal.loop-ty-preserved
@@ -15,4 +16,8 @@ loop-ty-preserved c =
       own = c.settle.ensures.own ∙ c.loop-ty.invariant.own;
       around = c.settle.ensures.around ∙ c.loop-ty.invariant.around;
       grown = grown_on c.args.self.now old new c.loop-ty.invariant.grown c.settle.ensures.grown;
+      stays = stays_on c.args.self.now old new c.loop-ty.invariant.stays c.settle.ensures.stays;
     }
+
+pub returns-in_err-settle-clause-stays : goal.returns-in_err-settle-clause-stays
+returns-in_err-settle-clause-stays c = stays_on c.args.self.now c.loop-ty.self c.settle.new.self c.loop-ty.invariant.stays c.settle.ensures.stays

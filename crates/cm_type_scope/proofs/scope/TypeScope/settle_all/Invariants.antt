@@ -1,4 +1,5 @@
 use Rattle.std.proofs.Common.{◌≡◌, take, true}
+use Rattle.cm_type_scope.specs.SettledScopes.{StaysSettled}
 use Rattle.cm_type_scope.specs.TypeScopes.{HasGrown, own_types, types_around}
 use Rattle.cm_type_scope.specs.Uses.{are_uses_unmoved}
 use Rattle.cm_type_scope.proofs.scope.TypeScope.settle_all.Given as goal
@@ -10,4 +11,5 @@ invariant-loop-ty l = record {
   own : own_types l.self ≡ own_types l.fn.self;
   around : types_around l.self ≡ types_around l.fn.self;
   grown : HasGrown l.fn.self l.self;
+  stays : StaysSettled l.fn.self l.self;
 }

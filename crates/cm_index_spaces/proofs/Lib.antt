@@ -1,0 +1,4 @@
+mod ResultLaws
+mod MadeLaws
+mod AnswerLaws
+mod TypeLaws

@@ -1,0 +1,26 @@
+-- The core functions that canonical definitions made (Explainer.md, "Canonical Definitions").
+use Rattle.std.specs.Prelude.{◌≡◌, ℕ, Bool, true, false, List, Option, Some, slice_get}
+use Rattle.cm_types.specs.Types.{FuncTy}
+use Rattle.cm_placed.specs.Placed.{placed_func, is_there}
+use Rattle.cm_validity.specs.Definitions.{CoreFuncDef, lowered, making, dropping, reading}
+use Rattle.cm_validity.specs.Options.{is_guest}
+use Rattle.cm_index_spaces.specs.declared.made.MadeFunc.{MadeFunc}
+use Rattle.cm_index_spaces.specs.declared.made.MadeFunc.TheVariants as made
+
+-- what each of them is, among the types of functions of an arena
+abbrev pub made_def : List FuncTy → MadeFunc → CoreFuncDef
+made_def funcs (made.Lowered import number ty options) =
+    lowered import number (placed_func funcs ty) options.now
+made_def funcs (made.Making n) = making n
+made_def funcs (made.Dropping n) = dropping n
+made_def funcs (made.Reading n) = reading n
+
+-- its type is one of so many
+abbrev pub is_made_there : ℕ → MadeFunc → Bool
+is_made_there funcs (made.Lowered import number ty options) = is_there funcs ty
+is_made_there funcs _ = true
+
+-- `made` tells each of these by its number; whatever else it tells is no guest's either
+pub record Tells (made : ℕ → CoreFuncDef) (defs : List CoreFuncDef) : Type 0 where
+  pub told : (n : ℕ) (d : CoreFuncDef) → slice_get defs n ≡ Some d → made n ≡ d
+  pub no_guests : (n : ℕ) → is_guest (made n) ≡ false

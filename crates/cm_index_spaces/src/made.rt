@@ -1,0 +1,23 @@
+//! The core functions that canonical definitions make.
+
+use cm_component::CanonOption;
+use cm_placed::Placed;
+
+/// A core function that a canonical definition made (Explainer.md, "Canonical Definitions").
+#[derive(Clone, Copy)]
+pub enum MadeFunc<'a> {
+    /// An import, by its number from 0, or an item of an imported instance, by the item's number
+    /// from 0, that is lowered with these options. Its type is a place among those of functions.
+    Lowered {
+        import: usize,
+        item: Option<usize>,
+        ty: Placed,
+        options: &'a [CanonOption],
+    },
+    /// Makes a handle of the resource of this number.
+    Making(u64),
+    /// Drops a handle of it.
+    Dropping(u64),
+    /// Tells what a handle of it represents.
+    Reading(u64),
+}
