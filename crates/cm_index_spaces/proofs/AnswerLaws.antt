@@ -1,6 +1,7 @@
 -- What calls answer for items.
 use Rattle.std.specs.List.{AllByRecursion}
-use Rattle.std.proofs.Common.{◌≡◌, ℕ, true, List, [], ◌++◌, map, Option, Some, None, refl, sym, ap, ◌∙◌, subst, append-nil, MatchOption}
+use Rattle.std.specs.Prelude.{is_some}
+use Rattle.std.proofs.Common.{◌≡◌, ℕ, true, false, List, [], ◌++◌, map, Option, Some, None, refl, sym, ap, ◌∙◌, subst, append-nil, MatchOption}
 use Rattle.cm_types.specs.Types.{Ty, FuncTy}
 use Rattle.cm_arena_layouts.specs.Placed.{AreOfFirst, layouts_in}
 use Rattle.cm_layout.specs.Shapes.{LayoutTy}
@@ -58,13 +59,13 @@ core_answer x w r d a count stays none = record {
 pub component_answer : (x : Item) (w : IndexSpaces) (r : Option ValidReason) (d : ComponentSpaces)
     → ((s : Spaces) → IsAt w s → r ≡ least (broken s x))
     → ((s : Spaces) → IsAt w s → IsComponentOf (types_in w) (funcs_in w) d (after_answer r s x))
-    → CoreStaysAfter x → ((s : Spaces) → new_types s x ≡ []) → Answers x w r (record w { component = d })
+    → CoreStaysAfter x → ((s : Spaces) → IsAt w s → new_types s x ≡ []) → Answers x w r (record w { component = d })
 component_answer x w r d fault after stays none = record {
   fault = fault;
   after = λ s at. record {
     core_is = λ tell t. either (IsCoreOf tell w.core) x s r (at.core_is tell t) (λ e. stays tell w.core s (at.core_is tell t));
     component_is = after s at;
-    types_are = either (λ (v : Spaces). v.types ≡ own_types w.types) x s r at.types_are (λ e. none_more x s (own_types w.types) (none s) at.types_are);
+    types_are = either (λ (v : Spaces). v.types ≡ own_types w.types) x s r at.types_are (λ e. none_more x s (own_types w.types) (none s at) at.types_are);
     settled = at.settled;
     counted = at.counted;
     made_there = at.made_there;
@@ -130,3 +131,15 @@ types_at w es e there s at = record {
   types_there = there;
   settled = subst (AllByRecursion (IsEntrySettled (types_in w) (funcs_in w))) (sym e) at.settled;
 }
+
+pub is_none : {A : Type 0} (o : Option A) → is_some o ≡ false → o ≡ None
+is_none None e = refl
+is_none (Some x) e = absurd cc
+
+pub faulty_answer : (x : Item) (w : IndexSpaces) (r : Option ValidReason) → is_some r ≡ true → ((s : Spaces) → IsAt w s → r ≡ least (broken s x)) → Answers x w r w
+faulty_answer x w None e fault = absurd cc
+faulty_answer x w (Some q) e fault = fault_answer x w q fault
+
+-- what the core spaces answer, whatever tells what was made
+pub core_at : (w : IndexSpaces) (s : Spaces) (P : Spaces → Type 0) → IsAt w s → ((tell : ℕ → CoreFuncDef) (v : Spaces) → IsCoreOf tell w.core v → P v) → P s
+core_at w s P k f = f (told_by (funcs_in w) w.made.items) s (k.core_is (told_by (funcs_in w) w.made.items) (tells (funcs_in w) w.made.items))

@@ -2,3 +2,4 @@ mod ResultLaws
 mod MadeLaws
 mod AnswerLaws
 mod TypeLaws
+mod CanonLaws

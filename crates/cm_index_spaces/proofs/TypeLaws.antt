@@ -1,5 +1,5 @@
 -- Types that are added to a scope, and types that an alias names.
-use Rattle.std.proofs.Common.{◌≡◌, ℕ, zero, suc, true, false, List, [], ◌∷◌, ◌++◌, Option, Some, None, refl, sym, ap, ◌∙◌, subst, append-nil, MatchOption, IfSome}
+use Rattle.std.proofs.Common.{◌≡◌, ℕ, true, false, List, [], ◌∷◌, ◌++◌, Option, Some, None, refl, sym, ap, ◌∙◌, subst, append-nil, MatchOption}
 use Rattle.std.specs.List.{AllByRecursion, slice_get}
 use Rattle.std.specs.Option.{option_map}
 use Rattle.std.specs.Prelude.{◌==◌, option_to_list}
@@ -26,7 +26,7 @@ use Rattle.cm_entries.specs.declared.aliases.Aliased.TheVariants as aliased
 use Rattle.cm_entries.specs.declared.spaces.ComponentSpaces.{ComponentSpaces}
 use Rattle.cm_index_spaces.specs.IndexSpaces.{Answers, IsAt, funcs_in, types_in}
 use Rattle.cm_index_spaces.specs.declared.spaces.IndexSpaces.{IndexSpaces}
-use Rattle.cm_index_spaces.proofs.AnswerLaws.{ComponentGrows, LayoutsStay, component_stays, types_answer}
+use Rattle.cm_index_spaces.proofs.AnswerLaws.{ComponentGrows, LayoutsStay, component_answer, types_answer}
 
 -- ---- a scope with one type more
 
@@ -53,26 +53,16 @@ settled_with e old new a s p =
     (subst (AllByRecursion (IsEntrySettled (arena_types old) (arena_funcs old))) (sym a.entries)
     (all_pushed (IsEntrySettled (arena_types old) (arena_funcs old)) (entries_of old) e s p)))
 
-pub all_at : {A : Type 0} (P : A → Type 0) (xs : List A) (i : ℕ) (o : Option A) → AllByRecursion P xs → o ≡ slice_get xs i → IfSome o P
-all_at P [] i None a e = tt
-all_at P [] i (Some x) a e = absurd cc
-all_at P (y ∷ ys) zero None a e = tt
-all_at P (y ∷ ys) zero (Some x) a e = subst P (some_is (sym e)) a.0
-  where
-    some_is : Some y ≡ Some x → y ≡ x
-    some_is f = cc
-all_at P (y ∷ ys) (suc i) o a e = all_at P ys i o a.1 e
-
 -- one type that an item adds, and nothing else but maybe a resource
 pub one_answer : ComponentGrows → LayoutsStay → (x : Item) (w : IndexSpaces) (d : ComponentSpaces) (e : TypeEntry) (t : TypeScope)
     → ((s : Spaces) → IsAt w s → None ≡ least (broken s x))
     → ((s : Spaces) → IsAt w s → IsComponentOf (types_in w) (funcs_in w) d (after_item s x))
     → ((s : Spaces) → IsAt w s → new_types s x ≡ def_of (types_in w) (funcs_in w) e ∷ [])
-    → Adds e w.types t → IsEntrySettled (types_in w) (funcs_in w) e
+    → Adds e w.types t → ((s : Spaces) → IsAt w s → IsEntrySettled (types_in w) (funcs_in w) e)
     → CoreStaysAfter x → Answers x w None (record w { component = d; types = t })
 one_answer grows lays x w d e t fault after is a settled stays =
     types_answer grows lays x w None d t fault after (λ s at. a.own ∙ ap (λ v. own_types w.types ++ v) (sym (is s at))) (grown e w.types t a)
-    (λ s at. settled_with e w.types t a at.settled settled) stays
+    (λ s at. settled_with e w.types t a at.settled (settled s at)) stays
 
 -- ---- an alias of a type of the component
 
@@ -103,3 +93,28 @@ defined_with old new def m n (Some q) e h = h
 -- each type names only resources that the component has
 pub counted_at : (ts : List TypeDef) (s : Spaces) (n : ℕ) → next_resource s ≡ n → s.types ≡ ts → AreSpacesCounted s → AllByRecursion (IsDefCounted n) ts
 counted_at ts s n e is a = subst (AllByRecursion (IsDefCounted n)) is (subst (λ (m : ℕ). AllByRecursion (IsDefCounted m) s.types) e a.types)
+
+-- ---- an alias of what an instance exports
+
+module _ (a : AliasTree) (w : IndexSpaces) (d : ComponentSpaces) where
+  pub broken_alias : (q : ValidReason) → AnswersAlias a w.component (aliased.Broken q) d → Answers (alias_item a) w (Some q) (record w { component = d })
+  broken_alias q b = record {
+    fault = λ s at. b.fault (types_in w) (funcs_in w) s at.component_is;
+    after = λ s at. record {
+      core_is = at.core_is;
+      component_is = b.after (types_in w) (funcs_in w) s at.component_is;
+      types_are = at.types_are;
+      settled = at.settled;
+      counted = at.counted;
+      made_there = at.made_there;
+      laid = at.laid;
+    };
+  }
+
+  pub func_alias : CoreStaysAfter (alias_item a) → AnswersAlias a w.component aliased.Func d → Answers (alias_item a) w None (record w { component = d })
+  func_alias stays b = component_answer (alias_item a) w None d (λ s at. b.fault (types_in w) (funcs_in w) s at.component_is) (λ s at. b.after (types_in w) (funcs_in w) s at.component_is) stays
+      (λ s at. b.added (types_in w) (funcs_in w) s at.component_is refl)
+
+  pub type_alias : ComponentGrows → LayoutsStay → CoreStaysAfter (alias_item a) → (e : TypeEntry) (t : TypeScope) → AnswersAlias a w.component (aliased.Type e) d → Adds e w.types t → Answers (alias_item a) w None (record w { component = d; types = t })
+  type_alias grows lays stays e t b adds = one_answer grows lays (alias_item a) w d e t (λ s at. b.fault (types_in w) (funcs_in w) s at.component_is) (λ s at. b.after (types_in w) (funcs_in w) s at.component_is)
+      (λ s at. b.added (types_in w) (funcs_in w) s at.component_is refl) adds (λ s at. b.settled (types_in w) (funcs_in w)) stays

@@ -11,5 +11,5 @@ returns c =
     if_one _ _ c.export.result
     (λ r a. component_answer (export_item c.args.export.now) w r c.export.new.self
     (λ s k. a.fault (types_in w) (funcs_in w) s k.component_is) (λ s k. a.after (types_in w) (funcs_in w) s k.component_is)
-    (c.others_add_nothing.ensures.exports c.args.export.now) (λ s. refl))
+    (c.others_add_nothing.ensures.exports c.args.export.now) (λ s k. refl))
     c.export.ensures

@@ -12,5 +12,5 @@ returns c =
     if_one _ _ c.import.result
     (λ r a. component_answer (import_item c.args.import.now) w r c.import.new.self
     (λ s k. a.fault (types_in w) (funcs_in w) s k.component_is (at s k)) (λ s k. a.after (types_in w) (funcs_in w) s k.component_is (at s k))
-    (c.others_add_nothing.ensures.imports c.args.import.now) (λ s. refl))
+    (c.others_add_nothing.ensures.imports c.args.import.now) (λ s k. refl))
     c.import.ensures
