@@ -13,10 +13,10 @@ use Rattle.cm_validity.specs.Rules.{broken, lowered_broken}
 use Rattle.cm_validity.specs.Spaces.{Spaces, after_item, new_types}
 use Rattle.cm_core_spaces.specs.CoreSpaces.{IsCoreOf, made_count}
 use Rattle.cm_core_spaces.specs.declared.spaces.CoreSpaces.{CoreSpaces}
+use Rattle.cm_type_scope.specs.declared.entries.TypeEntry.{TypeEntry}
 use Rattle.cm_entries.specs.ComponentSpaces.{AreTypesOf, IsComponentOf, after_answer}
 use Rattle.cm_entries.specs.Entries.{func_def}
 use Rattle.cm_entries.specs.declared.entries.FuncEntry.{FuncEntry}
-use Rattle.cm_type_scope.specs.declared.entries.TypeEntry.{TypeEntry}
 use Rattle.cm_entries.specs.declared.spaces.ComponentSpaces.{ComponentSpaces}
 use Rattle.cm_canons.specs.Spaces.{Answers, Stand, TellsNext, count_after}
 use Rattle.cm_canons.specs.Types.{types_in, funcs_in}

@@ -14,12 +14,12 @@ use Rattle.cm_validity.specs.Spaces.{Spaces, after_item}
 use Rattle.cm_validity.specs.TypeRules.{has_sort}
 use Rattle.cm_validity.specs.declared.sorts.TypeSort.TheVariants as sort
 use Rattle.cm_extern_names.specs.NameSets.{names_of}
-use Rattle.cm_entries.specs.ComponentSpaces.{Answers, AreTypesOf, IsComponentOf}
 use Rattle.cm_type_scope.specs.Entries.{entry_sort}
-use Rattle.cm_entries.specs.Steps.{AddsImport, PushesFunc}
-use Rattle.cm_entries.specs.declared.entries.FuncEntry.TheVariants as func
 use Rattle.cm_type_scope.specs.declared.entries.TypeEntry.{TypeEntry}
 use Rattle.cm_type_scope.specs.declared.entries.TypeEntry.TheVariants as entry
+use Rattle.cm_entries.specs.ComponentSpaces.{Answers, AreTypesOf, IsComponentOf}
+use Rattle.cm_entries.specs.Steps.{AddsImport, PushesFunc}
+use Rattle.cm_entries.specs.declared.entries.FuncEntry.TheVariants as func
 use Rattle.cm_instance_items.specs.declared.items.InstanceItems.{InstanceItems}
 use Rattle.cm_entries.specs.declared.spaces.ComponentSpaces.{ComponentSpaces}
 use Rattle.std.specs.declared.alloc.Global.{Global}

@@ -22,8 +22,10 @@ use Rattle.cm_signatures.specs.declared.signatures.ExternDesc.TheVariants as ext
 use Rattle.cm_validity.specs.Definitions.{ExportDef, MemberDef, NamedMember, exported_func, exported_instance, func_member, func_type, imported, instance_type, lifted, type_member, value}
 use Rattle.cm_counted.specs.Counted.{IsCounted, IsFuncCounted}
 use Rattle.cm_instance_items.specs.InstanceTypes.{instance_type_of}
-use Rattle.cm_type_scope.specs.Settled.{AreItemsSettled, IsDescSettled, IsEntrySettled, WhereMoved}
 use Rattle.cm_type_scope.specs.Entries.{def_of, is_entry_there}
+use Rattle.cm_type_scope.specs.Settled.{AreItemsSettled, IsDescSettled, IsEntrySettled, WhereMoved}
+use Rattle.cm_type_scope.specs.declared.entries.TypeEntry.{TypeEntry}
+use Rattle.cm_type_scope.specs.declared.entries.TypeEntry.TheVariants as entry
 use Rattle.cm_entries.specs.Entries.{are_members_there, func_def, is_func_there, is_member_there, item_member, item_members, member_def, members_of, named_member}
 use Rattle.cm_validity.specs.Items.{Item as SpaceItem}
 use Rattle.cm_validity.specs.Spaces.{Spaces, after_item, new_types}
@@ -37,8 +39,6 @@ use Rattle.cm_entries.specs.declared.entries.InstanceEntry.{InstanceEntry}
 use Rattle.cm_entries.specs.declared.entries.InstanceEntry.TheVariants as instance
 use Rattle.cm_entries.specs.declared.entries.MemberEntry.{MemberEntry}
 use Rattle.cm_entries.specs.declared.entries.MemberEntry.TheVariants as member
-use Rattle.cm_type_scope.specs.declared.entries.TypeEntry.{TypeEntry}
-use Rattle.cm_type_scope.specs.declared.entries.TypeEntry.TheVariants as entry
 use Rattle.cm_entries.specs.declared.spaces.ExportEntry.{ExportEntry}
 use Rattle.cm_entries.specs.declared.spaces.ExportedEntry.{ExportedEntry}
 use Rattle.cm_entries.specs.declared.spaces.ExportedEntry.TheVariants as export

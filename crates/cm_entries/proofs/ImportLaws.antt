@@ -16,6 +16,10 @@ use Rattle.cm_placed.specs.Instances.{are_items_there, items_of, replaced_item}
 use Rattle.cm_placed.specs.declared.instances.InstanceType.{InstanceType}
 use Rattle.cm_placed.specs.declared.placed.Placed.{Placed}
 use Rattle.cm_signatures.specs.Externs.{extern_of, is_extern_there}
+use Rattle.cm_type_scope.specs.Entries.{def_of, entry_sort, instance_of, is_entry_there}
+use Rattle.cm_type_scope.specs.Settled.{AreItemsSettled, IsEntrySettled}
+use Rattle.cm_type_scope.specs.declared.entries.TypeEntry.{TypeEntry}
+use Rattle.cm_type_scope.specs.declared.entries.TypeEntry.TheVariants as entry
 use Rattle.cm_entries.specs.declared.spaces.ExportEntry.{ExportEntry}
 use Rattle.cm_signatures.specs.declared.signatures.Extern.{Extern}
 use Rattle.cm_signatures.specs.declared.signatures.ExternDesc.TheVariants as extern
@@ -33,11 +37,8 @@ use Rattle.cm_validity.specs.declared.sorts.TypeSort.{TypeSort}
 use Rattle.cm_validity.specs.declared.sorts.TypeSort.TheVariants as sort
 use Rattle.cm_counted.specs.CountedSpaces.{AreItemsCounted, AreSpacesCounted, IsDefCounted, IsInstanceCounted}
 use Rattle.cm_extern_names.specs.NameSets.{names_of}
-use Rattle.cm_type_scope.specs.Entries.{def_of, entry_sort, is_entry_there}
-use Rattle.cm_type_scope.specs.Settled.{AreItemsSettled, IsEntrySettled}
 use Rattle.cm_entries.specs.Entries.{func_def, members_of, is_func_there, are_members_there, item_members}
 use Rattle.cm_instance_items.specs.InstanceTypes.{instance_type_of}
-use Rattle.cm_type_scope.specs.Entries.{instance_of}
 use Rattle.cm_instance_items.specs.Items.{fresh_of}
 use Rattle.cm_instance_items.specs.Resources.{resources_in}
 use Rattle.cm_entries.specs.ComponentSpaces.{AreTypesOf, IsComponentOf, after_answer, export_def, is_exported_there}
@@ -45,8 +46,6 @@ use Rattle.cm_entries.specs.Steps.{AddsImport, PushesFunc, PushesInstance}
 use Rattle.cm_entries.specs.declared.entries.FuncEntry.TheVariants as func
 use Rattle.cm_entries.specs.declared.entries.InstanceEntry.{InstanceEntry}
 use Rattle.cm_entries.specs.declared.entries.InstanceEntry.TheVariants as instance
-use Rattle.cm_type_scope.specs.declared.entries.TypeEntry.{TypeEntry}
-use Rattle.cm_type_scope.specs.declared.entries.TypeEntry.TheVariants as entry
 use Rattle.cm_instance_items.specs.declared.items.InstanceItems.{InstanceItems}
 use Rattle.cm_instance_items.specs.declared.ranges.Resources.{Resources}
 use Rattle.cm_entries.specs.declared.spaces.ComponentSpaces.{ComponentSpaces}

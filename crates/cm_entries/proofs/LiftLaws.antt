@@ -17,12 +17,12 @@ use Rattle.cm_validity.specs.Rules.{func_ty_at, type_index_broken}
 use Rattle.cm_validity.specs.Spaces.{Spaces, after_item, func_ty_in, lifted_func}
 use Rattle.cm_validity.specs.TypeRules.{has_sort}
 use Rattle.cm_validity.specs.declared.sorts.TypeSort.TheVariants as sort
-use Rattle.cm_entries.specs.ComponentSpaces.{AreTypesOf, IsComponentOf}
 use Rattle.cm_type_scope.specs.Entries.{entry_sort, is_entry_there}
-use Rattle.cm_entries.specs.Steps.{PushesFunc}
-use Rattle.cm_entries.specs.declared.entries.FuncEntry.TheVariants as func
 use Rattle.cm_type_scope.specs.declared.entries.TypeEntry.{TypeEntry}
 use Rattle.cm_type_scope.specs.declared.entries.TypeEntry.TheVariants as entry
+use Rattle.cm_entries.specs.ComponentSpaces.{AreTypesOf, IsComponentOf}
+use Rattle.cm_entries.specs.Steps.{PushesFunc}
+use Rattle.cm_entries.specs.declared.entries.FuncEntry.TheVariants as func
 use Rattle.cm_entries.specs.declared.spaces.ComponentSpaces.{ComponentSpaces}
 use Rattle.cm_entries.proofs.ImportLaws.{sorts_are, type_at_index}
 use Rattle.cm_entries.proofs.StepLaws.{all_found, func_pushed}

@@ -4,6 +4,9 @@ use Rattle.std.proofs.Common.{◌≡◌, ℕ, true, List, [], ◌∷◌, ◌++�
 use Rattle.cm_types.specs.Types.{Ty, FuncTy}
 use Rattle.cm_signatures.specs.Externs.{extern_of, is_extern_there}
 use Rattle.cm_signatures.specs.declared.signatures.Extern.{Extern}
+use Rattle.cm_type_scope.specs.Entries.{def_of, entry_sort}
+use Rattle.cm_type_scope.specs.declared.entries.TypeEntry.{TypeEntry}
+use Rattle.cm_type_scope.specs.declared.entries.TypeEntry.TheVariants as entry
 use Rattle.cm_entries.specs.declared.spaces.ExportEntry.{ExportEntry}
 use Rattle.cm_validity.specs.Definitions.{FuncDef, ResourceDef, NamedMember, NamedExport, TypeDef, defined, sort_of}
 use Rattle.cm_types.specs.Signatures.{NamedExtern}
@@ -25,14 +28,11 @@ use Rattle.std.specs.Option.{option_map, option_and_then}
 use Rattle.cm_validity.specs.Spaces.{Spaces, after_item, named_member as member_of_export, new_exports, new_funcs, new_imports, new_instances, new_resources}
 use Rattle.cm_extern_names.specs.NameSets.{names_of}
 use Rattle.cm_entries.specs.ComponentSpaces.{AreTypesOf, IsComponentOf, export_def, is_exported_there}
-use Rattle.cm_type_scope.specs.Entries.{def_of, entry_sort}
 use Rattle.cm_entries.specs.Entries.{are_members_there, func_def, is_func_there, members_of}
 use Rattle.cm_entries.specs.declared.entries.InstanceEntry.{InstanceEntry}
 use Rattle.cm_instance_items.specs.Ranges.{resource_def as resource_of}
 use Rattle.cm_instance_items.specs.Resources.{resources_in}
 use Rattle.cm_entries.specs.declared.spaces.ComponentSpaces.{ComponentSpaces}
-use Rattle.cm_type_scope.specs.declared.entries.TypeEntry.{TypeEntry}
-use Rattle.cm_type_scope.specs.declared.entries.TypeEntry.TheVariants as entry
 use Rattle.cm_instance_items.specs.declared.ranges.Resource.{Resource}
 use Rattle.cm_instance_items.specs.declared.ranges.Resources.{Resources}
 use Rattle.cm_entries.proofs.ImportLaws.{sorts_are}

@@ -14,13 +14,13 @@ use Rattle.cm_validity.specs.Reasons.{least}
 use Rattle.cm_validity.specs.Rules.{broken}
 use Rattle.cm_validity.specs.Spaces.{Spaces, empty_spaces, after_item, after_items, new_types}
 use Rattle.cm_extern_names.specs.NameSets.{names_of}
-use Rattle.cm_entries.specs.Entries.{func_def, members_of, is_func_there, are_members_there}
 use Rattle.cm_type_scope.specs.Entries.{def_of, is_entry_there}
 use Rattle.cm_type_scope.specs.Settled.{IsEntrySettled}
+use Rattle.cm_type_scope.specs.declared.entries.TypeEntry.{TypeEntry}
+use Rattle.cm_entries.specs.Entries.{func_def, members_of, is_func_there, are_members_there}
 use Rattle.cm_instance_items.specs.Resources.{resources_in}
 use Rattle.cm_entries.specs.declared.aliases.Aliased.{Aliased}
 use Rattle.cm_entries.specs.declared.aliases.Aliased.TheVariants as aliased
-use Rattle.cm_type_scope.specs.declared.entries.TypeEntry.{TypeEntry}
 use Rattle.cm_entries.specs.declared.spaces.ComponentSpaces.{ComponentSpaces}
 use Rattle.cm_entries.specs.declared.spaces.ExportEntry.{ExportEntry}
 use Rattle.cm_entries.specs.declared.spaces.ExportedEntry.{ExportedEntry}

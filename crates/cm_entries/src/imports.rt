@@ -45,9 +45,9 @@ impl<'a> ComponentSpaces<'a> {
     ghost use Rattle.cm_validity.specs.Rules.{name_broken};
     ghost use Rattle.cm_validity.specs.Spaces.{Spaces, after_item};
     ghost use Rattle.cm_extern_names.specs.NameSets.{name_of, names_of};
-    ghost use Rattle.cm_entries.specs.ComponentSpaces.{Answers, AreTypesOf, IsComponentOf};
     ghost use Rattle.cm_type_scope.specs.declared.entries.TypeEntry.{TypeEntry};
     ghost use Rattle.cm_type_scope.specs.declared.entries.TypeEntry.TheVariants as entry;
+    ghost use Rattle.cm_entries.specs.ComponentSpaces.{Answers, AreTypesOf, IsComponentOf};
 
     /// How many imports there are.
     fn import_count(&self) -> usize

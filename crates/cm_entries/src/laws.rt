@@ -13,10 +13,10 @@ ghost use Rattle.cm_component.specs.Trees.{outer_type, resource_drop, resource_n
 ghost use Rattle.cm_validity.specs.Items.{Item, alias_item, canon_item, core_instance_item};
 ghost use Rattle.cm_validity.specs.Items.{core_module_item, type_item};
 ghost use Rattle.cm_validity.specs.Spaces.{Spaces, after_item, new_types};
-ghost use Rattle.cm_type_scope.specs.Settled.{IsEntrySettled};
 ghost use Rattle.cm_type_scope.specs.Entries.{def_of, is_entry_there};
-ghost use Rattle.cm_entries.specs.ComponentSpaces.{AreTypesOf, IsComponentOf, StaysAfter};
+ghost use Rattle.cm_type_scope.specs.Settled.{IsEntrySettled};
 ghost use Rattle.cm_type_scope.specs.declared.entries.TypeEntry.{TypeEntry};
+ghost use Rattle.cm_entries.specs.ComponentSpaces.{AreTypesOf, IsComponentOf, StaysAfter};
 ghost use Rattle.cm_entries.specs.declared.spaces.ComponentSpaces.{ComponentSpaces};
 
 /// These items add no function, instance, resource, import or export: what stands for the spaces

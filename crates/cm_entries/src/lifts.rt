@@ -8,9 +8,9 @@ ghost use Rattle.cm_validity.specs.Rules.{func_ty_at, type_index_broken};
 ghost use Rattle.cm_validity.specs.Spaces.{Spaces};
 ghost use Rattle.cm_validity.specs.TypeRules.{has_sort};
 ghost use Rattle.cm_validity.specs.declared.sorts.TypeSort.TheVariants as sort;
-ghost use Rattle.cm_entries.specs.ComponentSpaces.{AreTypesOf};
 ghost use Rattle.cm_type_scope.specs.declared.entries.TypeEntry.{TypeEntry as Entry};
 ghost use Rattle.cm_type_scope.specs.declared.entries.TypeEntry.TheVariants as entry;
+ghost use Rattle.cm_entries.specs.ComponentSpaces.{AreTypesOf};
 
 use crate::entries::FuncEntry;
 use crate::spaces::ComponentSpaces;

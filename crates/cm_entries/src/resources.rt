@@ -9,11 +9,11 @@ ghost use Rattle.cm_validity.specs.Rules.{canon_broken, is_defined};
 ghost use Rattle.cm_validity.specs.Spaces.{Spaces};
 ghost use Rattle.cm_validity.specs.TypeRules.{has_sort};
 ghost use Rattle.cm_validity.specs.declared.sorts.TypeSort.TheVariants as sort;
-ghost use Rattle.cm_entries.specs.ComponentSpaces.{AreTypesOf};
 ghost use Rattle.cm_type_scope.specs.Entries.{entry_sort};
+ghost use Rattle.cm_type_scope.specs.declared.entries.TypeEntry.TheVariants as entry;
+ghost use Rattle.cm_entries.specs.ComponentSpaces.{AreTypesOf};
 ghost use Rattle.cm_entries.specs.Entries.{entry_resource};
 ghost use Rattle.cm_instance_items.specs.Ranges.{resource_def};
-ghost use Rattle.cm_type_scope.specs.declared.entries.TypeEntry.TheVariants as entry;
 
 use crate::spaces::ComponentSpaces;
 use cm_instance_items::Resource;
@@ -77,8 +77,8 @@ impl<'a> ComponentSpaces<'a> {
     ghost use Rattle.cm_validity.specs.Items.{type_item};
     ghost use Rattle.cm_validity.specs.Rules.{own_resource_broken};
     ghost use Rattle.cm_validity.specs.Spaces.{after_item, new_types};
-    ghost use Rattle.cm_entries.specs.ComponentSpaces.{IsComponentOf, Stays};
     ghost use Rattle.cm_type_scope.specs.Entries.{def_of};
+    ghost use Rattle.cm_entries.specs.ComponentSpaces.{IsComponentOf, Stays};
 
     /// What a resource of this number breaks that the component has to define.
     fn own_fault(&self, number: u64) -> Option<ValidReason>

@@ -6,8 +6,8 @@ ghost use Rattle.cm_validity.specs.Reasons.{index_broken, least};
 ghost use Rattle.cm_validity.specs.TypeRules.{has_sort};
 ghost use Rattle.cm_validity.specs.declared.sorts.TypeSort.TheVariants as sort;
 ghost use Rattle.cm_type_scope.specs.Entries.{entry_sort};
-ghost use Rattle.cm_entries.specs.Entries.{entry_func, entry_instance};
 ghost use Rattle.cm_type_scope.specs.declared.entries.TypeEntry.TheVariants as entry;
+ghost use Rattle.cm_entries.specs.Entries.{entry_func, entry_instance};
 
 use cm_instance_items::InstanceItems;
 use cm_placed::Placed;

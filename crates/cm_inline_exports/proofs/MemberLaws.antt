@@ -18,12 +18,12 @@ use Rattle.cm_validity.specs.TypeRules.{is_value_or_resource}
 use Rattle.cm_validity.specs.declared.sorts.TypeSort.{TypeSort}
 use Rattle.cm_item_names.specs.Sketches.{SketchedItem, named_sketch}
 use Rattle.cm_type_scope.specs.Entries.{def_of, is_entry_there}
+use Rattle.cm_type_scope.specs.declared.entries.TypeEntry.{TypeEntry}
+use Rattle.cm_type_scope.specs.declared.entries.TypeEntry.TheVariants as entry
 use Rattle.cm_entries.specs.Entries.{func_def, is_func_there, member_def}
 use Rattle.cm_entries.specs.declared.entries.FuncEntry.{FuncEntry}
 use Rattle.cm_entries.specs.declared.entries.MemberEntry.{MemberEntry}
 use Rattle.cm_entries.specs.declared.entries.MemberEntry.TheVariants as member
-use Rattle.cm_type_scope.specs.declared.entries.TypeEntry.{TypeEntry}
-use Rattle.cm_type_scope.specs.declared.entries.TypeEntry.TheVariants as entry
 use Rattle.cm_entries.specs.declared.spaces.ComponentSpaces.{ComponentSpaces}
 use Rattle.cm_inline_exports.specs.Members.{IsAnswered, IsBroken, IsFine, Stand, export_sketches, sketch_member, type_answer}
 

@@ -6,8 +6,8 @@ use Rattle.cm_validity.specs.Items.{Item}
 use Rattle.cm_validity.specs.Reasons.{least}
 use Rattle.cm_validity.specs.Rules.{broken}
 use Rattle.cm_validity.specs.Spaces.{Spaces}
-use Rattle.cm_entries.specs.ComponentSpaces.{AreTypesOf, IsComponentOf, after_answer}
 use Rattle.cm_type_scope.specs.declared.entries.TypeEntry.{TypeEntry}
+use Rattle.cm_entries.specs.ComponentSpaces.{AreTypesOf, IsComponentOf, after_answer}
 use Rattle.cm_entries.specs.declared.spaces.ComponentSpaces.{ComponentSpaces}
 
 -- with the least reason that it breaks, or else after it

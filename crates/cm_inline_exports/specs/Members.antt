@@ -18,12 +18,12 @@ use Rattle.cm_type_sketches.specs.Sketches.{sketch_func}
 use Rattle.cm_item_names.specs.Sketches.{SketchedItem, named_sketch}
 use Rattle.cm_item_names.specs.declared.sketches.ItemSketch.{ItemSketch}
 use Rattle.cm_item_names.specs.declared.sketches.ItemSketch.TheVariants as item_sketch
+use Rattle.cm_type_scope.specs.declared.entries.TypeEntry.{TypeEntry}
+use Rattle.cm_type_scope.specs.declared.entries.TypeEntry.TheVariants as entry
 use Rattle.cm_entries.specs.ComponentSpaces.{AreTypesOf, IsComponentOf}
 use Rattle.cm_entries.specs.Entries.{func_def, is_member_there, member_def, named_member}
 use Rattle.cm_entries.specs.declared.entries.MemberEntry.{MemberEntry}
 use Rattle.cm_entries.specs.declared.entries.MemberEntry.TheVariants as member
-use Rattle.cm_type_scope.specs.declared.entries.TypeEntry.{TypeEntry}
-use Rattle.cm_type_scope.specs.declared.entries.TypeEntry.TheVariants as entry
 use Rattle.cm_entries.specs.declared.spaces.ComponentSpaces.{ComponentSpaces}
 
 -- these are the functions, the instances and the types of the spaces of a component
