@@ -77,7 +77,8 @@ impl<'a> IndexSpaces<'a> {
 
     /// The type of an index once more, if there is one.
     fn shared_type(&self, index: u32) -> Result<Option<TypeEntry>, AllocError>
-        ensures def { IfOk result (λ t. option_map (def_of (types_in self.now) (funcs_in self.now)) t
+        ensures def { IfOk result (λ t.
+            option_map (def_of (types_in self.now) (funcs_in self.now)) t
             ≡ slice_get (own_types self.now.types) index) }
         ensures there { IfOk result (λ t. IfSome t (λ e. is_entry_there (length (types_in self.now))
             (length (funcs_in self.now)) e ≡ true)) }

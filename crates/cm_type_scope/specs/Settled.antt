@@ -1,5 +1,5 @@
--- What an import has moved names none of the resources that an instance's type brings (Explainer.md,
--- "Type Definitions").
+-- What an import has moved names none of the resources that an instance's type brings
+-- (Explainer.md, "Type Definitions").
 use Rattle.std.specs.Prelude.{⊤, ℕ, List, Option, Some, None}
 use Rattle.std.specs.List.{AllByRecursion}
 use Rattle.cm_types.specs.Types.{Ty, FuncTy}

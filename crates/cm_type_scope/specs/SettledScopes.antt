@@ -16,7 +16,8 @@ use Rattle.cm_type_scope.specs.TypeScopes.{arena_funcs, arena_types, entries_aro
 -- a type that was moved names only the first so many resources of the component
 abbrev pub IsMovedCounted : List Ty → List FuncTy → ℕ → TypeEntry → Type 0
 IsMovedCounted types funcs n (entry.Value p) = WhereMoved p.by (IsCounted n (placed_type types p))
-IsMovedCounted types funcs n (entry.Func p) = WhereMoved p.by (IsFuncCounted n (placed_func funcs p))
+IsMovedCounted types funcs n (entry.Func p) =
+    WhereMoved p.by (IsFuncCounted n (placed_func funcs p))
 IsMovedCounted types funcs n _ = ⊤
 
 -- ---- scopes
