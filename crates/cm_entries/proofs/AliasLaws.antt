@@ -99,6 +99,7 @@ module _ (old : ComponentSpaces) (sort : InstanceExportSort) (i : ℕ) (name : L
     after = λ types funcs s r. func_aliased types funcs old new s sort i name f (def types funcs s r ∙ ap (λ v. Some (member_def types funcs v)) g) (sym (ap (is_member_there (length types) (length funcs)) g) ∙ there types funcs s r) r p;
     added = λ types funcs s r none. types_at s sort i name (Some (member_def types funcs m)) (def types funcs s r) ∙ ap (λ v. option_to_list (option_and_then type_of_member (Some (member_def types funcs v)))) g;
     there = λ types funcs s r. tt;
+    settled = tt;
   }
 
   pub value_answer : (p : Placed) → sort ≡ member_sort.Type → m ≡ member.Value p → AnswersAlias (instance_export sort i name) old (aliased.Type (entry.Value p)) old
@@ -107,6 +108,7 @@ module _ (old : ComponentSpaces) (sort : InstanceExportSort) (i : ℕ) (name : L
     after = λ types funcs s r. type_aliased types funcs old s sort i name (member_def types funcs (member.Value p)) (def types funcs s r ∙ ap (λ v. Some (member_def types funcs v)) g) refl r;
     added = λ types funcs s r none. types_at s sort i name (Some (member_def types funcs m)) (def types funcs s r) ∙ ap (λ v. option_to_list (option_and_then type_of_member (Some (member_def types funcs v)))) g;
     there = λ types funcs s r. sym (ap (is_member_there (length types) (length funcs)) g) ∙ there types funcs s r;
+    settled = λ types funcs. tt;
   }
 
   pub resource_answer : (n : ℕ) → sort ≡ member_sort.Type → m ≡ member.Resource n → AnswersAlias (instance_export sort i name) old (aliased.Type (entry.Resource n)) old
@@ -115,4 +117,5 @@ module _ (old : ComponentSpaces) (sort : InstanceExportSort) (i : ℕ) (name : L
     after = λ types funcs s r. type_aliased types funcs old s sort i name (member_def types funcs (member.Resource n)) (def types funcs s r ∙ ap (λ v. Some (member_def types funcs v)) g) refl r;
     added = λ types funcs s r none. types_at s sort i name (Some (member_def types funcs m)) (def types funcs s r) ∙ ap (λ v. option_to_list (option_and_then type_of_member (Some (member_def types funcs v)))) g;
     there = λ types funcs s r. refl;
+    settled = λ types funcs. tt;
   }
