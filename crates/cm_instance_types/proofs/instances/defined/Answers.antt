@@ -1,6 +1,6 @@
 use Rattle.std.proofs.Common.{◌∙◌, ap, sym, map}
 use Rattle.cm_types.specs.DefTypes.{declaration_tree}
-use Rattle.cm_validity.specs.Declarations.{scope_in}
+use Rattle.cm_validity.specs.Declarations.{Scope, scope_in}
 use Rattle.cm_type_scope.specs.TypeScopes.{own_types}
 use Rattle.cm_declarations.specs.DeclaredScopes.{scope_of}
 use Rattle.cm_declarations.specs.FirstFaults.{first_reason}
@@ -40,3 +40,21 @@ pub returns-in-Ok-Some-clause-settled : goal.returns-in-Ok-Some-clause-settled
 returns-in-Ok-Some-clause-settled c = λ counted settled.
     let grown = through c.args.component (scope_of c.new-reading.result) (scope_of c.declare_all.new.self) c.finish-component-in-Ok-Some.result.0 c.new-reading.ensures.grown c.declare_all.ensures.grown c.finish-component-in-Ok-Some.ensures.grown in
     settled_after c.moves_stay.ensures.scopes c.args.component c.finish-component-in-Ok-Some.result.0 c.new-reading.result c.declare_all.new.self grown c.new-reading.ensures.entries c.declare_all.ensures.entries c.finish-component-in-Ok-Some.ensures.entries settled
+
+pub returns-in-Ok-clause-settled : goal.returns-in-Ok-clause-settled
+returns-in-Ok-clause-settled c = λ counted settled.
+    let read = c.declare_all.new.self in
+    let fin = c.finish-component-in-Ok-None in
+    let grown = through c.args.component (scope_of c.new-reading.result) (scope_of read) fin.result.0 c.new-reading.ensures.grown c.declare_all.ensures.grown fin.ensures.grown in
+    let around = c.declare_all.ensures.around ∙ ap (λ (s : Scope). s.around) c.new-reading.ensures.scope in
+    let items = fin.ensures.settled (counted_around (own_types c.args.component) c.args.next read around (c.declare_all.ensures.first ∙ c.new-reading.ensures.first) counted) in
+    c.add_instance.ensures.settled items (settled_after c.moves_stay.ensures.scopes c.args.component fin.result.0 c.new-reading.result read grown c.new-reading.ensures.entries c.declare_all.ensures.entries fin.ensures.entries settled)
+
+pub returns-in-Err-add_instance-clause-settled : goal.returns-in-Err-add_instance-clause-settled
+returns-in-Err-add_instance-clause-settled c = λ counted settled.
+    let read = c.declare_all.new.self in
+    let fin = c.finish-component-in-Ok-None in
+    let grown = through c.args.component (scope_of c.new-reading.result) (scope_of read) fin.result.0 c.new-reading.ensures.grown c.declare_all.ensures.grown fin.ensures.grown in
+    let around = c.declare_all.ensures.around ∙ ap (λ (s : Scope). s.around) c.new-reading.ensures.scope in
+    let items = fin.ensures.settled (counted_around (own_types c.args.component) c.args.next read around (c.declare_all.ensures.first ∙ c.new-reading.ensures.first) counted) in
+    c.add_instance.ensures.settled items (settled_after c.moves_stay.ensures.scopes c.args.component fin.result.0 c.new-reading.result read grown c.new-reading.ensures.entries c.declare_all.ensures.entries fin.ensures.entries settled)
