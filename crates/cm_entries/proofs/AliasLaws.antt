@@ -99,7 +99,7 @@ module _ (old : ComponentSpaces) (sort : InstanceExportSort) (i : ℕ) (name : L
     after = λ types funcs s r. func_aliased types funcs old new s sort i name f (def types funcs s r ∙ ap (λ v. Some (member_def types funcs v)) g) (sym (ap (is_member_there (length types) (length funcs)) g) ∙ there types funcs s r) r p;
     added = λ types funcs s r none. types_at s sort i name (Some (member_def types funcs m)) (def types funcs s r) ∙ ap (λ v. option_to_list (option_and_then type_of_member (Some (member_def types funcs v)))) g;
     there = λ types funcs s r. tt;
-    settled = λ types funcs. tt;
+    settled = tt;
   }
 
   pub value_answer : (p : Placed) → sort ≡ member_sort.Type → m ≡ member.Value p → AnswersAlias (instance_export sort i name) old (aliased.Type (entry.Value p)) old

@@ -136,5 +136,5 @@ pub record AnswersAlias (a : AliasTree) (old : ComponentSpaces) (r : Aliased)
   pub there : (types : List Ty) (funcs : List FuncTy) (s : Spaces)
       → IsComponentOf types funcs old s
       → IfSome (alias_type r) (λ t. is_entry_there (length types) (length funcs) t ≡ true)
-  pub settled : (types : List Ty) (funcs : List FuncTy)
-      → IfSome (alias_type r) (IsEntrySettled types funcs)
+  pub settled : IfSome (alias_type r)
+      (λ t. (types : List Ty) (funcs : List FuncTy) → IsEntrySettled types funcs t)

@@ -36,7 +36,7 @@ core_either : (x : Item) (tell : ℕ → CoreFuncDef) (c : CoreSpaces) (s : Spac
 core_either x tell c s None h = h
 core_either x tell c s (Some e) h = h
 
-none_more : (x : Item) (s : Spaces) (ts : List TypeDef) → new_types s x ≡ [] → s.types ≡ ts → (after_item s x).types ≡ ts
+pub none_more : (x : Item) (s : Spaces) (ts : List TypeDef) → new_types s x ≡ [] → s.types ≡ ts → (after_item s x).types ≡ ts
 none_more x s ts none e = ap (λ v. s.types ++ v) none ∙ append-nil s.types ∙ e
 
 -- an item of the core spaces

@@ -168,7 +168,7 @@ sorts_at s i e = ap (found (λ t. unless (has_sort sort.Resource t) reason.Wrong
 
 never_none : (s : Spaces) (c : CanonTree) → count_made c ≡ 1 → canon_broken s c ≡ [] → canon_core_func s c ≡ None → ⊥
 never_none s (lift f os i) one e n = omega (arith, one)
-never_none s (lower f os) one e n = lowered_some os (slice_get s.funcs f) (front_nil (found (lowered_broken os) (slice_get s.funcs f)) (options_broken s os ++ no_post_return_broken os) e) n
+never_none s (lower f os) one e n = lowered_some os (slice_get s.funcs f) (front_nil (found (lowered_broken os) (slice_get s.funcs f)) (options_broken s os) (front_nil (found (lowered_broken os) (slice_get s.funcs f) ++ options_broken s os) (no_post_return_broken os) e)) n
 never_none s (resource_new i) one e n = resource_some making (slice_get s.types i) (sorts_at s i (front_nil (resource_broken s i) (if_found (own_resource_broken s) (resource_at s i)) e)) n
 never_none s (resource_drop i) one e n = resource_some dropping (slice_get s.types i) (sorts_at s i e) n
 never_none s (resource_rep i) one e n = resource_some reading (slice_get s.types i) (sorts_at s i (front_nil (resource_broken s i) (if_found (own_resource_broken s) (resource_at s i)) e)) n
