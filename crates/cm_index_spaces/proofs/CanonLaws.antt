@@ -142,6 +142,7 @@ no_reason (r ∷ rs) e = absurd (some_least r (least rs) e)
     one : (b : Bool) (q p : ValidReason) → None ≡ (if b then Some q else Some p) → ⊥
     one true q p e = absurd cc
     one false q p e = absurd cc
+
     some_least : (r : ValidReason) (o : Option ValidReason) → None ≡ lesser (Some r) o → ⊥
     some_least r None e = absurd cc
     some_least r (Some q) e = one (nat_le (reason_number r) (reason_number q)) r q e
