@@ -2,3 +2,4 @@ mod NumberLaws
 mod BitLaws
 mod FrameLaws
 mod TruthLaws
+mod FlagLaws

@@ -16,6 +16,12 @@ ghost use Rattle.cm_abi_model.specs.Stores.{Framed, Given, Holds, Placed, bytes_
 ghost use Rattle.cm_abi_model.specs.Stores.{placed, stored};
 ghost use Rattle.cm_abi_laws.specs.Bytes.{AreBytes, IsTwosComplement, StandsAt, bit_of};
 ghost use Rattle.cm_abi_laws.specs.Leaves.{IsByteOf};
+ghost use Rattle.cm_types.specs.Types.{flags};
+ghost use Rattle.cm_types.specs.Values.{flag_set};
+ghost use Rattle.cm_layout.specs.Sizes.{flags_size};
+ghost use Rattle.cm_abi_laws.specs.Parts.{AreLabels, bit_at};
+
+use cm_layout::laws::sizes_of_numbers;
 
 /// A number that is stored in so many bytes, or read from them, has its lowest byte first; it is
 /// read as a signed number, and stored for one, in two's complement (CanonicalABI.md, "Loading" and
@@ -82,3 +88,21 @@ pub fn values_are_received()
     ensures scalars { (w : View) (p c : ℕ) → AreBytes w.memory → Shows w char p (scalar c)
         → StandsAt w.memory p 4 c × IsScalarValue c }
 {}
+
+/// Label i of flags is in a set where bit i of the bytes is set, and bits past the last label are
+/// not looked at; where a set is stored these are 0 (CanonicalABI.md, "Loading" and "Storing" of
+/// flags, `unpack_flags_from_int` and `pack_flags_into_int`; flags have 32 labels at most).
+pub fn labels_are_bits()
+    ensures read { (w : View) (labels : List (List ℕ)) (p set : ℕ) → AreBytes w.memory
+        → length labels ≤ 32 → Shows w (flags labels) p (flag_set set)
+        → AreLabels w.memory p (length labels) set }
+    ensures only { (w : View) (labels : List (List ℕ)) (p set : ℕ) → AreBytes w.memory
+        → length labels ≤ 32 → AreLabels w.memory p (length labels) set
+        → Shows w (flags labels) p (flag_set set) }
+    ensures stored { (memory : List ℕ) (g : Given) (labels : List (List ℕ)) (set p k h : ℕ)
+        → length labels ≤ 32 → set < 2 ^ length labels
+        → Holds memory (stored g (flags labels) (flag_set set) p k h)
+        → (i : ℕ) → i < 8 * flags_size (length labels) → bit_at memory p i ≡ bit_of set i }
+{
+    sizes_of_numbers();
+}
