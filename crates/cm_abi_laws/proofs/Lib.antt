@@ -3,3 +3,6 @@ mod BitLaws
 mod FrameLaws
 mod TruthLaws
 mod FlagLaws
+mod PlaceLaws
+mod FieldLaws
+mod StringLaws

@@ -16,10 +16,19 @@ ghost use Rattle.cm_abi_model.specs.Stores.{Framed, Given, Holds, Placed, bytes_
 ghost use Rattle.cm_abi_model.specs.Stores.{placed, stored};
 ghost use Rattle.cm_abi_laws.specs.Bytes.{AreBytes, IsTwosComplement, StandsAt, bit_of};
 ghost use Rattle.cm_abi_laws.specs.Leaves.{IsByteOf};
-ghost use Rattle.cm_types.specs.Types.{flags};
-ghost use Rattle.cm_types.specs.Values.{flag_set};
-ghost use Rattle.cm_layout.specs.Sizes.{flags_size};
-ghost use Rattle.cm_abi_laws.specs.Parts.{AreLabels, bit_at};
+ghost use Rattle.std.specs.Prelude.{None, Some};
+ghost use Rattle.cm_types.specs.declared.resource.ResourceId.{ResourceId};
+ghost use Rattle.cm_types.specs.Types.{Cases, CasesKind, Fields, FieldsKind, bits_16, borrow};
+ghost use Rattle.cm_types.specs.Types.{cases, fixed_list, flags, list, own};
+ghost use Rattle.cm_types.specs.Values.{HandleValue, Vals, bare, bearing, count_of, elements};
+ghost use Rattle.cm_types.specs.Values.{flag_set, handle};
+ghost use Rattle.cm_handles.specs.declared.handle.Handle.{Handle};
+ghost use Rattle.cm_handles.specs.declared.handle.HandleKind.TheVariants.{Owned};
+ghost use Rattle.cm_layout.specs.Alignment.{IsLeastMultiple};
+ghost use Rattle.cm_layout.specs.Sizes.{IsLeastBytes, align_of, align_of_payloads, case_count};
+ghost use Rattle.cm_layout.specs.Sizes.{field_count, field_offset, field_type, flags_size};
+ghost use Rattle.cm_abi_laws.specs.Parts.{AreFieldsAt, AreInRow, AreLabels, AreOffsets, IsCase};
+ghost use Rattle.cm_abi_laws.specs.Parts.{IsGreatestAlignment, IsHandle, IsListAt, bit_at};
 
 use cm_layout::laws::sizes_of_numbers;
 
@@ -106,3 +115,84 @@ pub fn labels_are_bits()
 {
     sizes_of_numbers();
 }
+
+/// Each field of a record or a tuple is shown at its offset, in order: the first at 0, each next
+/// one at the least multiple of its alignment at which the one before it has ended. So each offset
+/// is a multiple of the field's alignment (CanonicalABI.md, "Alignment", "Element Size" and
+/// "Loading", `load_record`). Of a `u8`, a `u32` and a `u16` the offsets are 0, 4 and 8.
+pub fn fields_stand_at_offsets()
+    ensures there { (k : FieldsKind) (fs : Fields) → AreOffsets fs (field_offset (fields k fs)) }
+    ensures aligned { (fs : Fields) (offset : ℕ → ℕ) → AreOffsets fs offset
+        → (i : ℕ) → i < field_count fs
+        → (m : ℕ) × (offset i ≡ m * align_of (field_type fs i)) }
+    ensures read { (w : View) (k : FieldsKind) (fs : Fields) (offset : ℕ → ℕ) (p : ℕ) (vs : Vals)
+        → AreOffsets fs offset → Shows w (fields k fs) p (parts vs)
+        → AreFieldsAt w fs offset p vs }
+    ensures only { (w : View) (k : FieldsKind) (fs : Fields) (offset : ℕ → ℕ) (p : ℕ) (vs : Vals)
+        → AreOffsets fs offset → AreFieldsAt w fs offset p vs
+        → Shows w (fields k fs) p (parts vs) }
+    ensures example { (w : View) (l m o : List ℕ) (x y z p : ℕ) → AreBytes w.memory
+        → Shows w (fields record_type (field l (unsigned bits_8) (field m (unsigned bits_32)
+        (field o (unsigned bits_16) no_fields)))) p
+        (parts (val (number x) (val (number y) (val (number z) no_vals))))
+        → StandsAt w.memory p 1 x × StandsAt w.memory (p + 4) 4 y
+        × StandsAt w.memory (p + 8) 2 z }
+{}
+
+/// A list is the pointer to its elements and behind it their number, each in 4 bytes. The pointer
+/// is a multiple of their alignment, and element i is shown at i times their size behind it, all of
+/// them inside the memory. Of a list of fixed length the elements stand in place (CanonicalABI.md,
+/// "Loading", `load_list`).
+pub fn lists_are_pointers()
+    ensures read { (w : View) (t : Ty) (p : ℕ) (vs : Vals) → AreBytes w.memory
+        → Shows w (list t) p (elements vs) → IsListAt w t p vs }
+    ensures only { (w : View) (t : Ty) (p : ℕ) (vs : Vals) → IsListAt w t p vs
+        → Shows w (list t) p (elements vs) }
+    ensures fixed_read { (w : View) (t : Ty) (n p : ℕ) (vs : Vals)
+        → Shows w (fixed_list t n) p (parts vs) → (count_of vs ≡ n) × AreInRow w t p vs }
+    ensures fixed_only { (w : View) (t : Ty) (n p : ℕ) (vs : Vals) → count_of vs ≡ n
+        → AreInRow w t p vs → Shows w (fixed_list t n) p (parts vs) }
+{}
+
+/// A case is its number, in the least of 1, 2 and 4 bytes that tell so many cases apart; what it
+/// carries is shown behind that at the least multiple of the greatest alignment that any of the
+/// cases wants (CanonicalABI.md, "Alignment", `max_case_alignment`, and "Loading",
+/// `load_variant`).
+pub fn cases_are_numbers()
+    ensures there { (cs : Cases) → IsGreatestAlignment cs (align_of_payloads cs) }
+    ensures bare_read { (w : View) (k : CasesKind) (cs : Cases) (p i b : ℕ) → AreBytes w.memory
+        → case_count cs ≤ 2 ^ 32 → IsLeastBytes (λ x. case_count cs ≤ 256 ^ x) b
+        → Shows w (cases k cs) p (bare i) → StandsAt w.memory p b i × IsCase cs i None }
+    ensures bare_only { (w : View) (k : CasesKind) (cs : Cases) (p i b : ℕ)
+        → case_count cs ≤ 2 ^ 32 → IsLeastBytes (λ x. case_count cs ≤ 256 ^ x) b
+        → StandsAt w.memory p b i → IsCase cs i None → Shows w (cases k cs) p (bare i) }
+    ensures bearing_read { (w : View) (k : CasesKind) (cs : Cases) (p i b a offset : ℕ) (v : Val)
+        → AreBytes w.memory → case_count cs ≤ 2 ^ 32
+        → IsLeastBytes (λ x. case_count cs ≤ 256 ^ x) b → IsGreatestAlignment cs a
+        → IsLeastMultiple a b offset → Shows w (cases k cs) p (bearing i v)
+        → StandsAt w.memory p b i
+        × ((t : Ty) × IsCase cs i (Some t) × Shows w t (p + offset) v) }
+    ensures bearing_only { (w : View) (k : CasesKind) (cs : Cases) (p i b a offset : ℕ) (v : Val)
+        (t : Ty) → case_count cs ≤ 2 ^ 32 → IsLeastBytes (λ x. case_count cs ≤ 256 ^ x) b
+        → IsGreatestAlignment cs a → IsLeastMultiple a b offset → StandsAt w.memory p b i
+        → IsCase cs i (Some t) → Shows w t (p + offset) v → Shows w (cases k cs) p (bearing i v) }
+{
+    sizes_of_numbers();
+}
+
+/// A handle is 4 bytes of an index at which the table has a handle to the resource; to be owned,
+/// it has to own it (CanonicalABI.md, "Loading", `lift_own` and `lift_borrow`).
+pub fn handles_are_indices()
+    ensures own_read { (w : View) (r : ResourceId) (p : ℕ) (h : HandleValue) → AreBytes w.memory
+        → Shows w (own r) p (handle h) → (index : ℕ) × (entry : Handle)
+        × StandsAt w.memory p 4 index × IsHandle w.table index r entry h × (entry.kind ≡ Owned) }
+    ensures own_only { (w : View) (r : ResourceId) (p index : ℕ) (entry : Handle)
+        (h : HandleValue) → StandsAt w.memory p 4 index → IsHandle w.table index r entry h
+        → entry.kind ≡ Owned → Shows w (own r) p (handle h) }
+    ensures borrow_read { (w : View) (r : ResourceId) (p : ℕ) (h : HandleValue)
+        → AreBytes w.memory → Shows w (borrow r) p (handle h) → (index : ℕ) × (entry : Handle)
+        × StandsAt w.memory p 4 index × IsHandle w.table index r entry h }
+    ensures borrow_only { (w : View) (r : ResourceId) (p index : ℕ) (entry : Handle)
+        (h : HandleValue) → StandsAt w.memory p 4 index → IsHandle w.table index r entry h
+        → Shows w (borrow r) p (handle h) }
+{}
