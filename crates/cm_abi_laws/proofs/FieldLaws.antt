@@ -1,6 +1,6 @@
 -- Fields at their offsets, elements in a row, and what cases carry.
 use Rattle.std.proofs.Common.{◌≡◌, ℕ, zero, suc, ◌+◌, ◌*◌, ◌^◌, ◌<◌, ◌≤◌, List, length, Option, Some, None, refl, sym, ap, subst, ◌∙◌, arith}
-use Rattle.cm_types.specs.Types.{Ty, Fields, FieldsKind, Cases, CasesKind, width_bytes, bits_8, bits_16, bits_32, unsigned, list, fixed_list, fields, cases, record_type, no_fields, field, no_cases, plain, carrying, own, borrow}
+use Rattle.cm_types.specs.Types.{Ty, Fields, FieldsKind, Cases, CasesKind, width_bytes, bits_8, bits_16, bits_32, unsigned, list, fixed_list, fields, cases, option_type, record_type, no_fields, field, no_cases, plain, carrying, own, borrow}
 use Rattle.cm_types.specs.Values.{Val, Vals, HandleValue, no_vals, val, number, elements, parts, bare, bearing, handle, count_of, IsPlainCase}
 use Rattle.cm_types.specs.declared.resource.ResourceId.{ResourceId}
 use Rattle.cm_handles.specs.Handles.{Handles, handle_at}
@@ -236,3 +236,7 @@ borrow_read w r p h bytes s = (number_at 4 w.memory p, s.entry, number_stands 4 
 
 pub borrow_only : (w : View) (r : ResourceId) (p index : ℕ) (e : Handle) (h : HandleValue) → StandsAt w.memory p 4 index → IsHandle w.table index r e h → Shows w (borrow r) p (handle h)
 borrow_only w r p index e h s is = handle_only w.table (number_at 4 w.memory p) r e h (subst (λ x. IsHandle w.table x r e h) (stands_number 4 w.memory p index s) is)
+
+pub option_example : (w : View) (l m : List ℕ) (p n : ℕ) → AreBytes w.memory → Shows w (cases option_type (plain l (carrying m (unsigned bits_32) no_cases))) p (bearing 1 (number n))
+    → StandsAt w.memory p 1 1 × StandsAt w.memory (p + 4) 4 n
+option_example w l m p n bytes h = (stands_here w.memory p 1 1 (number_at 1 w.memory p) bytes (sym h.0) refl, stands_here w.memory (p + 4) 4 n n bytes refl h.1)

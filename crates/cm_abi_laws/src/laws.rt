@@ -29,6 +29,12 @@ ghost use Rattle.cm_layout.specs.Sizes.{IsLeastBytes, align_of, align_of_payload
 ghost use Rattle.cm_layout.specs.Sizes.{field_count, field_offset, field_type, flags_size};
 ghost use Rattle.cm_abi_laws.specs.Parts.{AreFieldsAt, AreInRow, AreLabels, AreOffsets, IsCase};
 ghost use Rattle.cm_abi_laws.specs.Parts.{IsGreatestAlignment, IsHandle, IsListAt, bit_at};
+ghost use Rattle.std.specs.Prelude.{[], ◌∷◌};
+ghost use Rattle.cm_types.specs.Types.{carrying, no_cases, option_type, plain, string};
+ghost use Rattle.cm_types.specs.Values.{text};
+ghost use Rattle.cm_abi_model.specs.declared.encoding.StringEncoding.TheVariants.{Latin1OrUtf16};
+ghost use Rattle.cm_abi_model.specs.declared.encoding.StringEncoding.TheVariants.{Utf16, Utf8};
+ghost use Rattle.cm_abi_laws.specs.Strings.{IsStringAt};
 
 use cm_layout::laws::sizes_of_numbers;
 
@@ -139,6 +145,24 @@ pub fn fields_stand_at_offsets()
         × StandsAt w.memory (p + 8) 2 z }
 {}
 
+/// A string is its pointer and behind it its length, each in 4 bytes; the pointer is a multiple of
+/// the alignment, and the units stand there in a row inside the memory. The length counts bytes in
+/// UTF-8 and units of 16 bits in UTF-16; in `latin1+utf16` it counts bytes of Latin-1, or units of
+/// UTF-16 where its highest bit is set (CanonicalABI.md, "Loading", `load_string`). So the length
+/// of a string of the one character U+1F600 is 4, 2 or 0x80000002.
+pub fn strings_are_pointers()
+    ensures read { (w : View) (p : ℕ) (scalars : List ℕ) → AreBytes w.memory
+        → Shows w string p (text scalars) → IsStringAt w p scalars }
+    ensures only { (w : View) (p : ℕ) (scalars : List ℕ) → IsStringAt w p scalars
+        → Shows w string p (text scalars) }
+    ensures in_utf8 { (w : View) (p : ℕ) → AreBytes w.memory → w.encoding ≡ Utf8
+        → Shows w string p (text (0x1F600 ∷ [])) → StandsAt w.memory (p + 4) 4 4 }
+    ensures in_utf16 { (w : View) (p : ℕ) → AreBytes w.memory → w.encoding ≡ Utf16
+        → Shows w string p (text (0x1F600 ∷ [])) → StandsAt w.memory (p + 4) 4 2 }
+    ensures tagged { (w : View) (p : ℕ) → AreBytes w.memory → w.encoding ≡ Latin1OrUtf16
+        → Shows w string p (text (0x1F600 ∷ [])) → StandsAt w.memory (p + 4) 4 0x80000002 }
+{}
+
 /// A list is the pointer to its elements and behind it their number, each in 4 bytes. The pointer
 /// is a multiple of their alignment, and element i is shown at i times their size behind it, all of
 /// them inside the memory. Of a list of fixed length the elements stand in place (CanonicalABI.md,
@@ -157,7 +181,7 @@ pub fn lists_are_pointers()
 /// A case is its number, in the least of 1, 2 and 4 bytes that tell so many cases apart; what it
 /// carries is shown behind that at the least multiple of the greatest alignment that any of the
 /// cases wants (CanonicalABI.md, "Alignment", `max_case_alignment`, and "Loading",
-/// `load_variant`).
+/// `load_variant`). The `some` of an `option<u32>` is a byte 1, with the number 4 bytes behind it.
 pub fn cases_are_numbers()
     ensures there { (cs : Cases) → IsGreatestAlignment cs (align_of_payloads cs) }
     ensures bare_read { (w : View) (k : CasesKind) (cs : Cases) (p i b : ℕ) → AreBytes w.memory
@@ -176,6 +200,9 @@ pub fn cases_are_numbers()
         (t : Ty) → case_count cs ≤ 2 ^ 32 → IsLeastBytes (λ x. case_count cs ≤ 256 ^ x) b
         → IsGreatestAlignment cs a → IsLeastMultiple a b offset → StandsAt w.memory p b i
         → IsCase cs i (Some t) → Shows w t (p + offset) v → Shows w (cases k cs) p (bearing i v) }
+    ensures example { (w : View) (l m : List ℕ) (p n : ℕ) → AreBytes w.memory
+        → Shows w (cases option_type (plain l (carrying m (unsigned bits_32) no_cases))) p
+        (bearing 1 (number n)) → StandsAt w.memory p 1 1 × StandsAt w.memory (p + 4) 4 n }
 {
     sizes_of_numbers();
 }

@@ -1,4 +1,4 @@
-use Rattle.cm_abi_laws.proofs.FieldLaws.{bare_only, bare_read, bearing_only, bearing_read}
+use Rattle.cm_abi_laws.proofs.FieldLaws.{bare_only, bare_read, bearing_only, bearing_read, option_example}
 use Rattle.cm_abi_laws.proofs.PlaceLaws.{greatest_alignment}
 use Rattle.cm_abi_laws.proofs.laws.cases_are_numbers.Goals as goal
 
@@ -16,3 +16,6 @@ returns-clause-bearing_read c = bearing_read c.sizes_of_numbers.ensures.discrimi
 
 pub returns-clause-bearing_only : goal.returns-clause-bearing_only
 returns-clause-bearing_only c = bearing_only c.sizes_of_numbers.ensures.discriminants
+
+pub returns-clause-example : goal.returns-clause-example
+returns-clause-example c = option_example
