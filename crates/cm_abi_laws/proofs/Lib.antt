@@ -6,3 +6,4 @@ mod FlagLaws
 mod PlaceLaws
 mod FieldLaws
 mod StringLaws
+mod AskingLaws

@@ -66,11 +66,11 @@ row_bytes m xs at s =
 
 -- ---- units in a row
 
-unit_length : (us : List ℕ) → length (flat_map bytes_of_unit us) ≡ 2 * length us
+pub unit_length : (us : List ℕ) → length (flat_map bytes_of_unit us) ≡ 2 * length us
 unit_length [] = refl
 unit_length (u ∷ us) = omega (arith, unit_length us)
 
-units_flat : (cs : List ℕ) → flat_map spell_utf16 cs ≡ flat_map bytes_of_unit (utf16_units cs)
+pub units_flat : (cs : List ℕ) → flat_map spell_utf16 cs ≡ flat_map bytes_of_unit (utf16_units cs)
 units_flat [] = refl
 units_flat (c ∷ cs) = ap (λ xs. spell_utf16 c ++ xs) (units_flat cs) ∙ sym (flat_map-append bytes_of_unit (encode_utf16 c) (utf16_units cs))
 
@@ -130,7 +130,7 @@ row_units m us at s =
 taken_length : (m : List ℕ) (at size : ℕ) → at + size ≤ length m → length (take size (drop at m)) ≡ size
 taken_length m at size inside = length-take-le size (drop at m) (omega (arith, length-drop at m, inside))
 
-latin1_flat : (cs : List ℕ) → flat_map spell_latin1 cs ≡ cs
+pub latin1_flat : (cs : List ℕ) → flat_map spell_latin1 cs ≡ cs
 latin1_flat [] = refl
 latin1_flat (c ∷ cs) = ap (λ xs. c ∷ xs) (latin1_flat cs)
 

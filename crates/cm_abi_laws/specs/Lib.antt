@@ -1,3 +1,4 @@
+pub mod Asking
 pub mod Bytes
 pub mod Leaves
 pub mod Parts

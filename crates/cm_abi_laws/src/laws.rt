@@ -34,7 +34,12 @@ ghost use Rattle.cm_types.specs.Types.{carrying, no_cases, option_type, plain, s
 ghost use Rattle.cm_types.specs.Values.{text};
 ghost use Rattle.cm_abi_model.specs.declared.encoding.StringEncoding.TheVariants.{Latin1OrUtf16};
 ghost use Rattle.cm_abi_model.specs.declared.encoding.StringEncoding.TheVariants.{Utf16, Utf8};
-ghost use Rattle.cm_abi_laws.specs.Strings.{IsStringAt};
+ghost use Rattle.cm_abi_laws.specs.Strings.{IsStringAt, utf16_units, utf8_units};
+ghost use Rattle.std.specs.List.{AllByRecursion};
+ghost use Rattle.cm_text.specs.Latin1.{HasLatin1};
+ghost use Rattle.cm_abi_model.specs.Parts.{Part, text_part};
+ghost use Rattle.cm_abi_model.specs.Requests.{part_requests};
+ghost use Rattle.cm_abi_laws.specs.Asking.{AsksToUtf16, AsksToUtf8, again, fresh};
 
 use cm_layout::laws::sizes_of_numbers;
 
@@ -222,4 +227,48 @@ pub fn handles_are_indices()
     ensures borrow_only { (w : View) (r : ResourceId) (p index : ℕ) (entry : Handle)
         (h : HandleValue) → StandsAt w.memory p 4 index → IsHandle w.table index r entry h
         → Shows w (borrow r) p (handle h) }
+{}
+
+/// A string that is stored in another encoding than it is read in asks first for a guess, and then,
+/// with the old pointer and the old size, for what it takes: to UTF-8 for a byte a unit, where a
+/// character is none of ASCII then for the most bytes that its units may take, three of one of
+/// UTF-16 and two of one of Latin-1, and for fewer where it takes fewer; from UTF-8 to UTF-16 for
+/// two bytes a byte, and for fewer where it takes fewer. What is stored as it was read, and Latin-1
+/// to UTF-16, asks once, for what it takes (CanonicalABI.md, "Storing", `store_string_into_range`).
+/// So U+E9 from UTF-16 to UTF-8 asks for 1 byte, then for 3 in place of 1, then for 2 in place
+/// of 3.
+pub fn strings_ask_for_memory()
+    ensures utf16_to_utf8 { (scalars : List ℕ) (others : List Part)
+        → AsksToUtf8 (length (utf16_units scalars)) (3 * length (utf16_units scalars)) scalars
+        (part_requests Utf16 Utf8 [] (text_part scalars ∷ others))
+        (part_requests Utf16 Utf8 [] others) }
+    ensures tagged_to_utf8 { (scalars : List ℕ) (others : List Part) (tags : List Bool)
+        → AsksToUtf8 (length (utf16_units scalars)) (3 * length (utf16_units scalars)) scalars
+        (part_requests Latin1OrUtf16 Utf8 (true ∷ tags) (text_part scalars ∷ others))
+        (part_requests Latin1OrUtf16 Utf8 tags others) }
+    ensures latin1_to_utf8 { (scalars : List ℕ) (others : List Part) (tags : List Bool)
+        → AllByRecursion HasLatin1 scalars
+        → AsksToUtf8 (length scalars) (2 * length scalars) scalars
+        (part_requests Latin1OrUtf16 Utf8 (false ∷ tags) (text_part scalars ∷ others))
+        (part_requests Latin1OrUtf16 Utf8 tags others) }
+    ensures utf8_to_utf16 { (scalars : List ℕ) (others : List Part)
+        → AsksToUtf16 (2 * length (utf8_units scalars)) scalars
+        (part_requests Utf8 Utf16 [] (text_part scalars ∷ others))
+        (part_requests Utf8 Utf16 [] others) }
+    ensures utf8 { (scalars : List ℕ) (others : List Part)
+        → part_requests Utf8 Utf8 [] (text_part scalars ∷ others)
+        ≡ fresh 1 (length (utf8_units scalars)) ∷ part_requests Utf8 Utf8 [] others }
+    ensures utf16 { (scalars : List ℕ) (others : List Part)
+        → part_requests Utf16 Utf16 [] (text_part scalars ∷ others)
+        ≡ fresh 2 (2 * length (utf16_units scalars)) ∷ part_requests Utf16 Utf16 [] others }
+    ensures tagged { (scalars : List ℕ) (others : List Part) (tags : List Bool)
+        → part_requests Latin1OrUtf16 Utf16 (true ∷ tags) (text_part scalars ∷ others)
+        ≡ fresh 2 (2 * length (utf16_units scalars))
+        ∷ part_requests Latin1OrUtf16 Utf16 tags others }
+    ensures latin1 { (scalars : List ℕ) (others : List Part) (tags : List Bool)
+        → AllByRecursion HasLatin1 scalars
+        → part_requests Latin1OrUtf16 Utf16 (false ∷ tags) (text_part scalars ∷ others)
+        ≡ fresh 2 (2 * length scalars) ∷ part_requests Latin1OrUtf16 Utf16 tags others }
+    ensures example { part_requests Utf16 Utf8 [] (text_part (0xE9 ∷ []) ∷ [])
+        ≡ fresh 1 1 ∷ again 1 1 3 ∷ again 3 1 2 ∷ [] }
 {}
