@@ -64,14 +64,14 @@ padded w l m o x y z p bytes h =
 
 -- ---- rows
 
-row_shown : (S : ℕ → Val → Type 0) (size p : ℕ) (vs : Vals) → ShowEach S size p vs → (i : ℕ) → i < count_of vs → S (p + i * size) (value_at vs i)
+pub row_shown : (S : ℕ → Val → Type 0) (size p : ℕ) (vs : Vals) → ShowEach S size p vs → (i : ℕ) → i < count_of vs → S (p + i * size) (value_at vs i)
 row_shown S size p no_vals h i lt = absurd (omega (arith, lt))
 row_shown S size p (val v vs) h zero lt = subst (λ q. S q v) {x = p} {y = p + 0 * size} (omega arith) h.0
 row_shown S size p (val v vs) h (suc i) lt =
     let next : (p + size) + i * size ≡ p + suc i * size = omega arith in
     subst (λ q. S q (value_at vs i)) next (row_shown S size (p + size) vs h.1 i (omega (arith, lt)))
 
-show_row : (S : ℕ → Val → Type 0) (size p : ℕ) (vs : Vals) → ((i : ℕ) → i < count_of vs → S (p + i * size) (value_at vs i)) → ShowEach S size p vs
+pub show_row : (S : ℕ → Val → Type 0) (size p : ℕ) (vs : Vals) → ((i : ℕ) → i < count_of vs → S (p + i * size) (value_at vs i)) → ShowEach S size p vs
 show_row S size p no_vals h = tt {0}
 show_row S size p (val v vs) h =
     let first : p + 0 * size ≡ p = omega arith in
@@ -120,14 +120,14 @@ fixed_only w t n p vs same h = (same, show_row (Shows w t) (size_of t) p vs h.ea
 
 -- ---- cases
 
-plain_read : (cs : Cases) (i : ℕ) → IsPlainCase cs i → IsCase cs i None
+pub plain_read : (cs : Cases) (i : ℕ) → IsPlainCase cs i → IsCase cs i None
 plain_read no_cases i h = absurd h
 plain_read (plain l cs) zero h = refl
 plain_read (plain l cs) (suc i) h = plain_read cs i h
 plain_read (carrying l t cs) zero h = absurd h
 plain_read (carrying l t cs) (suc i) h = plain_read cs i h
 
-plain_only : (cs : Cases) (i : ℕ) → IsCase cs i None → IsPlainCase cs i
+pub plain_only : (cs : Cases) (i : ℕ) → IsCase cs i None → IsPlainCase cs i
 plain_only no_cases i h = absurd h
 plain_only (plain l cs) zero h = tt {0}
 plain_only (plain l cs) (suc i) h = plain_only cs i h
@@ -200,7 +200,7 @@ bearing_only least w k cs p i b a o v t few h g m s c shown =
 
 -- ---- handles
 
-handle_read : (table : Handles) (index : ℕ) (r : ResourceId) (h : HandleValue) (s : ShowsHandle table index r h) → IsHandle table index r s.entry h
+pub handle_read : (table : Handles) (index : ℕ) (r : ResourceId) (h : HandleValue) (s : ShowsHandle table index r h) → IsHandle table index r s.entry h
 handle_read table index r h s =
     record {
       found = s.stands;
@@ -210,7 +210,7 @@ handle_read table index r h s =
       same_resource = ap (λ x. x.resource) s.value;
     }
 
-handle_only : (table : Handles) (index : ℕ) (r : ResourceId) (e : Handle) (h : HandleValue) → IsHandle table index r e h → ShowsHandle table index r h
+unfoldable pub handle_only : (table : Handles) (index : ℕ) (r : ResourceId) (e : Handle) (h : HandleValue) → IsHandle table index r e h → ShowsHandle table index r h
 handle_only table index r e h s = record { entry = e; stands = s.found; of_resource = s.of_resource; value = same h s.same_serial s.same_rep s.same_resource }
   where
     same : (g : HandleValue) → g.serial ≡ e.serial → g.rep ≡ e.rep → g.resource ≡ r → g ≡ record { serial = e.serial; rep = e.rep; resource = r }

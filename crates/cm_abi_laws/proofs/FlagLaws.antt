@@ -33,7 +33,7 @@ bit_stands : (m : List ℕ) (p bytes n i : ℕ) → StandsAt m p bytes n → i <
 bit_stands m p bytes n i s lt = bit_of_byte n i ∙ ap (λ b. bit_of b (i % 8)) (sym (s.each (i / 8) (omega (arith, lt))))
 
 -- numbers with the same bits are the same
-bits_same : (k a b : ℕ) → a < 2 ^ k → b < 2 ^ k → ((i : ℕ) → i < k → bit_of a i ≡ bit_of b i) → a ≡ b
+pub bits_same : (k a b : ℕ) → a < 2 ^ k → b < 2 ^ k → ((i : ℕ) → i < k → bit_of a i ≡ bit_of b i) → a ≡ b
 bits_same zero a b x y same = omega (arith, x, y)
 bits_same (suc k) a b x y same =
     let low : a % 2 ≡ b % 2 = omega (arith, same 0 (omega arith)) in

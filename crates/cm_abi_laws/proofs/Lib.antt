@@ -7,3 +7,4 @@ mod PlaceLaws
 mod FieldLaws
 mod StringLaws
 mod AskingLaws
+mod PassedLaws

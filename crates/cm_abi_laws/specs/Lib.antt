@@ -2,4 +2,5 @@ pub mod Asking
 pub mod Bytes
 pub mod Leaves
 pub mod Parts
+pub mod Passed
 pub mod Strings

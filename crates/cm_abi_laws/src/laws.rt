@@ -39,6 +39,17 @@ ghost use Rattle.std.specs.List.{AllByRecursion};
 ghost use Rattle.cm_text.specs.Latin1.{HasLatin1};
 ghost use Rattle.cm_abi_model.specs.Parts.{Part, text_part};
 ghost use Rattle.cm_abi_model.specs.Requests.{part_requests};
+ghost use Rattle.std.specs.Prelude.{neg_ℤ, pos};
+ghost use Rattle.cm_types.specs.declared.core_value.CoreValue.{CoreValue};
+ghost use Rattle.cm_types.specs.Types.{bits_64, tuple_type};
+ghost use Rattle.cm_layout.specs.Flattening.{flat_of_fields};
+ghost use Rattle.cm_abi_model.specs.Denotes.{Denotes};
+ghost use Rattle.cm_abi_model.specs.FlatShows.{FlatShows};
+ghost use Rattle.cm_abi_model.specs.Views.{params, results};
+ghost use Rattle.cm_abi_laws.specs.Parts.{AreElements};
+ghost use Rattle.cm_abi_laws.specs.Passed.{AreFieldsIn, AreFirst, AreLowBits, ArePassed, IsCore};
+ghost use Rattle.cm_abi_laws.specs.Passed.{IsCore32, IsTupleAt};
+ghost use Rattle.cm_abi_laws.specs.Strings.{IsString};
 ghost use Rattle.cm_abi_laws.specs.Asking.{AsksToUtf16, AsksToUtf8, again, fresh};
 
 use cm_layout::laws::sizes_of_numbers;
@@ -271,4 +282,126 @@ pub fn strings_ask_for_memory()
         ≡ fresh 2 (2 * length scalars) ∷ part_requests Latin1OrUtf16 Utf16 tags others }
     ensures example { part_requests Utf16 Utf8 [] (text_part (0xE9 ∷ []) ∷ [])
         ≡ fresh 1 1 ∷ again 1 1 3 ∷ again 3 1 2 ∷ [] }
+{}
+
+/// Numbers and truth values in core values: of an i32 or an i64 the lowest bits that the type has
+/// are the number, read in two's complement where it has a sign; 0 is false and any other i32 true;
+/// a char is a scalar; flags are the lowest bits. A number with a sign is passed in two's
+/// complement of 32 bits, or of 64 (CanonicalABI.md, "Flat Lifting" and "Flat Lowering"). So an i32
+/// of 0x1FFFE is the `u16` 65534, and -2 as `s8` is 0xFFFFFFFE both ways.
+pub fn numbers_in_core_values()
+    ensures zero_is_false { (w : View) (s : List CoreValue) (k : ℕ) (b : Bool) → IsCore32 s k 0
+        → FlatShows w s bool k (truth b) → b ≡ false }
+    ensures others_are_true { (w : View) (s : List CoreValue) (k n : ℕ) (b : Bool)
+        → IsCore32 s k n → 0 < n → FlatShows w s bool k (truth b) → b ≡ true }
+    ensures unsigned { (w : View) (s : List CoreValue) (t : Width) (k n m : ℕ) → IsCore s k n
+        → FlatShows w s (unsigned t) k (number m) → m ≡ n % 2 ^ (8 * width_bytes t) }
+    ensures signed { (w : View) (s : List CoreValue) (t : Width) (k n : ℕ) (z : ℤ) → IsCore s k n
+        → FlatShows w s (signed t) k (signed_number z)
+        → IsTwosComplement (8 * width_bytes t) (n % 2 ^ (8 * width_bytes t)) z }
+    ensures chars { (w : View) (s : List CoreValue) (k n c : ℕ) → IsCore32 s k n
+        → FlatShows w s char k (scalar c) → (c ≡ n) × IsScalarValue c }
+    ensures flags_read { (w : View) (s : List CoreValue) (labels : List (List ℕ)) (k n set : ℕ)
+        → IsCore32 s k n → FlatShows w s (flags labels) k (flag_set set)
+        → AreLowBits n (length labels) set }
+    ensures flags_only { (w : View) (s : List CoreValue) (labels : List (List ℕ)) (k n set : ℕ)
+        → IsCore32 s k n → AreLowBits n (length labels) set
+        → FlatShows w s (flags labels) k (flag_set set) }
+    ensures narrow { (g : Given) (t : Width) (z : ℤ) (s k h : ℕ) → width_bytes t ≤ 4
+        → FitsSignedWidth t z → (n : ℕ)
+        × (slots_of g (signed t) (signed_number z) s k h ≡ put s n)
+        × (n < 2 ^ 32) × IsTwosComplement 32 n z }
+    ensures wide { (g : Given) (z : ℤ) (s k h : ℕ) → FitsSignedWidth bits_64 z → (n : ℕ)
+        × (slots_of g (signed bits_64) (signed_number z) s k h ≡ put s n)
+        × (n < 2 ^ 64) × IsTwosComplement 64 n z }
+    ensures u16_read { (w : View) (s : List CoreValue) (k m : ℕ) → IsCore s k 0x1FFFE
+        → FlatShows w s (unsigned bits_16) k (number m) → m ≡ 65534 }
+    ensures s8_read { (w : View) (s : List CoreValue) (k : ℕ) (z : ℤ) → IsCore s k 0xFFFFFFFE
+        → FlatShows w s (signed bits_8) k (signed_number z) → z ≡ neg_ℤ (pos 2) }
+    ensures s8_passed { (g : Given) (s k h : ℕ)
+        → slots_of g (signed bits_8) (signed_number (neg_ℤ (pos 2))) s k h ≡ put s 0xFFFFFFFE }
+{}
+
+/// Strings and lists are passed as their pointer and their length, in two i32 in this order; a
+/// handle as its index; fields one after another, each in as many core values as its type has, and
+/// so the elements of a list of fixed length; a case as its number, and behind it what it carries
+/// (CanonicalABI.md, "Flattening" and "Flat Lifting").
+pub fn parts_in_core_values()
+    ensures string { (w : View) (s : List CoreValue) (k at n : ℕ) (scalars : List ℕ)
+        → AreBytes w.memory → IsCore32 s k at → IsCore32 s (k + 1) n
+        → FlatShows w s string k (text scalars) → IsString w at n scalars }
+    ensures string_only { (w : View) (s : List CoreValue) (k at n : ℕ) (scalars : List ℕ)
+        → IsCore32 s k at → IsCore32 s (k + 1) n → IsString w at n scalars
+        → FlatShows w s string k (text scalars) }
+    ensures list { (w : View) (s : List CoreValue) (t : Ty) (k at n : ℕ) (vs : Vals)
+        → IsCore32 s k at → IsCore32 s (k + 1) n → FlatShows w s (list t) k (elements vs)
+        → (count_of vs ≡ n) × AreElements w t at vs }
+    ensures list_only { (w : View) (s : List CoreValue) (t : Ty) (k at n : ℕ) (vs : Vals)
+        → IsCore32 s k at → IsCore32 s (k + 1) n → count_of vs ≡ n → AreElements w t at vs
+        → FlatShows w s (list t) k (elements vs) }
+    ensures own { (w : View) (s : List CoreValue) (r : ResourceId) (k index : ℕ) (h : HandleValue)
+        → IsCore32 s k index → FlatShows w s (own r) k (handle h)
+        → (entry : Handle) × IsHandle w.table index r entry h × (entry.kind ≡ Owned) }
+    ensures own_only { (w : View) (s : List CoreValue) (r : ResourceId) (k index : ℕ)
+        (entry : Handle) (h : HandleValue) → IsCore32 s k index
+        → IsHandle w.table index r entry h → entry.kind ≡ Owned
+        → FlatShows w s (own r) k (handle h) }
+    ensures borrow { (w : View) (s : List CoreValue) (r : ResourceId) (k index : ℕ)
+        (h : HandleValue) → IsCore32 s k index → FlatShows w s (borrow r) k (handle h)
+        → (entry : Handle) × IsHandle w.table index r entry h }
+    ensures borrow_only { (w : View) (s : List CoreValue) (r : ResourceId) (k index : ℕ)
+        (entry : Handle) (h : HandleValue) → IsCore32 s k index
+        → IsHandle w.table index r entry h → FlatShows w s (borrow r) k (handle h) }
+    ensures there { (fs : Fields) → (first : ℕ → ℕ) × AreFirst fs first }
+    ensures fields { (w : View) (s : List CoreValue) (x : FieldsKind) (fs : Fields)
+        (first : ℕ → ℕ) (k : ℕ) (vs : Vals) → AreFirst fs first
+        → FlatShows w s (fields x fs) k (parts vs) → AreFieldsIn w s fs first k vs }
+    ensures fields_only { (w : View) (s : List CoreValue) (x : FieldsKind) (fs : Fields)
+        (first : ℕ → ℕ) (k : ℕ) (vs : Vals) → AreFirst fs first
+        → AreFieldsIn w s fs first k vs → FlatShows w s (fields x fs) k (parts vs) }
+    ensures fixed { (w : View) (s : List CoreValue) (t : Ty) (n k : ℕ) (vs : Vals)
+        → FlatShows w s (fixed_list t n) k (parts vs) → (count_of vs ≡ n) × ArePassed w s t k vs }
+    ensures fixed_only { (w : View) (s : List CoreValue) (t : Ty) (n k : ℕ) (vs : Vals)
+        → count_of vs ≡ n → ArePassed w s t k vs → FlatShows w s (fixed_list t n) k (parts vs) }
+    ensures bare { (w : View) (s : List CoreValue) (x : CasesKind) (cs : Cases) (k n i : ℕ)
+        → IsCore32 s k n → FlatShows w s (cases x cs) k (bare i)
+        → (i ≡ n) × IsCase cs i None }
+    ensures bare_only { (w : View) (s : List CoreValue) (x : CasesKind) (cs : Cases) (k i : ℕ)
+        → IsCore32 s k i → IsCase cs i None → FlatShows w s (cases x cs) k (bare i) }
+    ensures bearing { (w : View) (s : List CoreValue) (x : CasesKind) (cs : Cases) (k n i : ℕ)
+        (v : Val) → IsCore32 s k n → FlatShows w s (cases x cs) k (bearing i v)
+        → (i ≡ n) × ((t : Ty) × IsCase cs i (Some t) × FlatShows w s t (k + 1) v) }
+    ensures bearing_only { (w : View) (s : List CoreValue) (x : CasesKind) (cs : Cases) (k i : ℕ)
+        (v : Val) (t : Ty) → IsCore32 s k i → IsCase cs i (Some t) → FlatShows w s t (k + 1) v
+        → FlatShows w s (cases x cs) k (bearing i v) }
+{}
+
+/// Parameters that take 16 core values at most, and a result that takes 1, are passed in them; else
+/// one i32 is the pointer to the tuple of them in memory (CanonicalABI.md, "Lifting and Lowering
+/// Values", `MAX_FLAT_PARAMS` and `MAX_FLAT_RESULTS`).
+pub fn many_values_are_behind_a_pointer()
+    ensures params_flat { (w : View) (types : Fields) (s : List CoreValue) (v : Val)
+        → length (flat_of_fields types) ≤ 16 → Denotes w params types s v
+        → FlatShows w s (fields tuple_type types) 0 v }
+    ensures params_flat_only { (w : View) (types : Fields) (s : List CoreValue) (v : Val)
+        → length (flat_of_fields types) ≤ 16 → FlatShows w s (fields tuple_type types) 0 v
+        → Denotes w params types s v }
+    ensures params_behind { (w : View) (types : Fields) (s : List CoreValue) (p : ℕ) (v : Val)
+        → 16 < length (flat_of_fields types) → IsCore32 s 0 p → Denotes w params types s v
+        → IsTupleAt w types p v }
+    ensures params_behind_only { (w : View) (types : Fields) (s : List CoreValue) (p : ℕ)
+        (v : Val) → 16 < length (flat_of_fields types) → IsCore32 s 0 p
+        → IsTupleAt w types p v → Denotes w params types s v }
+    ensures result_flat { (w : View) (types : Fields) (s : List CoreValue) (v : Val)
+        → length (flat_of_fields types) ≤ 1 → Denotes w results types s v
+        → FlatShows w s (fields tuple_type types) 0 v }
+    ensures result_flat_only { (w : View) (types : Fields) (s : List CoreValue) (v : Val)
+        → length (flat_of_fields types) ≤ 1 → FlatShows w s (fields tuple_type types) 0 v
+        → Denotes w results types s v }
+    ensures result_behind { (w : View) (types : Fields) (s : List CoreValue) (p : ℕ) (v : Val)
+        → 1 < length (flat_of_fields types) → IsCore32 s 0 p → Denotes w results types s v
+        → IsTupleAt w types p v }
+    ensures result_behind_only { (w : View) (types : Fields) (s : List CoreValue) (p : ℕ)
+        (v : Val) → 1 < length (flat_of_fields types) → IsCore32 s 0 p
+        → IsTupleAt w types p v → Denotes w results types s v }
 {}
