@@ -55,12 +55,11 @@ fields_only w k fs offset p vs o h =
 pub padded : (w : View) (l m o : List ℕ) (x y z p : ℕ) → AreBytes w.memory
     → Shows w (fields record_type (field l (unsigned bits_8) (field m (unsigned bits_32) (field o (unsigned bits_16) no_fields)))) p (parts (val (number x) (val (number y) (val (number z) no_vals))))
     → StandsAt w.memory p 1 x × StandsAt w.memory (p + 4) 4 y × StandsAt w.memory (p + 8) 2 z
-padded w l m o x y z p bytes h =
-    (
-      subst (λ q. StandsAt w.memory q 1 x) {x = p + 0} {y = p} (omega arith) (stands_here w.memory (p + 0) 1 x x bytes refl h.0),
-      stands_here w.memory (p + 4) 4 y y bytes refl h.1.0,
-      stands_here w.memory (p + 8) 2 z z bytes refl h.1.1.0,
-    )
+padded w l m o x y z p bytes h = (
+  subst (λ q. StandsAt w.memory q 1 x) {x = p + 0} {y = p} (omega arith) (stands_here w.memory (p + 0) 1 x x bytes refl h.0),
+  stands_here w.memory (p + 4) 4 y y bytes refl h.1.0,
+  stands_here w.memory (p + 8) 2 z z bytes refl h.1.1.0,
+)
 
 -- ---- rows
 
@@ -74,8 +73,7 @@ row_shown S size p (val v vs) h (suc i) lt =
 pub show_row : (S : ℕ → Val → Type 0) (size p : ℕ) (vs : Vals) → ((i : ℕ) → i < count_of vs → S (p + i * size) (value_at vs i)) → ShowEach S size p vs
 show_row S size p no_vals h = tt {0}
 show_row S size p (val v vs) h =
-    let first : p + 0 * size ≡ p = omega arith in
-    (
+    let first : p + 0 * size ≡ p = omega arith in (
       subst (λ q. S q v) first (h 0 (omega arith)),
       show_row S size (p + size) vs (λ i lt. let next : p + suc i * size ≡ (p + size) + i * size = omega arith in subst (λ q. S q (value_at vs i)) next (h (suc i) (omega (arith, lt)))),
     )

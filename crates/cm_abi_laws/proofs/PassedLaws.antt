@@ -30,7 +30,7 @@ use Rattle.cm_abi_laws.specs.Strings.{IsString}
 use Rattle.cm_abi_laws.proofs.BitLaws.{bits_kept, kept_below}
 use Rattle.cm_abi_laws.proofs.FieldLaws.{elements_only, elements_read, handle_only, handle_read, plain_only, plain_read, row_shown, show_row}
 use Rattle.cm_abi_laws.proofs.FlagLaws.{bits_same}
-use Rattle.cm_abi_laws.proofs.NumberLaws.{signed_read, signed_stored}
+use Rattle.cm_abi_laws.proofs.NumberLaws.{signed_only, signed_read, signed_stored}
 use Rattle.cm_abi_laws.proofs.StringLaws.{shown_string, string_shown}
 
 -- ---- the number of a core value
@@ -172,12 +172,11 @@ unfolding first_from
 in_fields w s no_fields k no_vals n h = tt {0}
 in_fields w s no_fields k (val v vs) n h = absurd (omega (arith, n))
 in_fields w s (field l t fs) k no_vals n h = absurd (omega (arith, n))
-in_fields w s (field l t fs) k (val v vs) n h =
-    (
-      subst (λ q. FlatShows w s t q v) {x = k + 0} {y = k} (omega arith) (h 0 (omega arith)),
-      in_fields w s fs (k + width_of t) vs (omega (arith, n))
+in_fields w s (field l t fs) k (val v vs) n h = (
+  subst (λ q. FlatShows w s t q v) {x = k + 0} {y = k} (omega arith) (h 0 (omega arith)),
+  in_fields w s fs (k + width_of t) vs (omega (arith, n))
       (λ i lt. subst (λ q. FlatShows w s (field_type fs i) q (value_at vs i)) {x = k + (width_of t + first_from fs i)} {y = k + width_of t + first_from fs i} (omega arith) (h (suc i) (omega (arith, lt)))),
-    )
+)
 
 pub fields_passed : (w : View) (s : List CoreValue) (f : FieldsKind) (fs : Fields) (first : ℕ → ℕ) (k : ℕ) (vs : Vals) → AreFirst fs first → FlatShows w s (fields f fs) k (parts vs)
     → AreFieldsIn w s fs first k vs
@@ -295,3 +294,24 @@ pub results_behind : (w : View) (types : Fields) (slots : List CoreValue) (p : �
 results_behind w types slots p v many c h =
     let t = tuple_at w types p (wrapped_at 4 slots 0) v (sym (core32_is slots 0 p c)) h in
     inr (record { spilled = many; aligned = t.aligned; inside = t.inside; shown = t.shown })
+
+-- ---- what is passed is shown
+
+pub zero_pass : (w : View) (s : List CoreValue) (k : ℕ) → IsCore32 s k 0 → FlatShows w s bool k (truth false)
+zero_pass w s k c = sym (ap (λ n. not (n == 0)) (core32_is s k 0 c))
+
+pub other_pass : (w : View) (s : List CoreValue) (k n : ℕ) → IsCore32 s k n → 0 < n → FlatShows w s bool k (truth true)
+other_pass w s k n c some =
+    let same = core32_is s k n c in
+    let test : not (wrapped_at 4 s k == 0) ≡ true = grind (arith, nat_tests, same, some) in
+    sym test
+
+pub unsigned_pass : (w : View) (s : List CoreValue) (t : Width) (k n : ℕ) → IsCore s k n → FlatShows w s (unsigned t) k (number (n % 2 ^ (8 * width_bytes t)))
+unsigned_pass w s t k n c = sym (wrapped_is (width_bytes t) s k n c)
+
+pub signed_pass : (w : View) (s : List CoreValue) (t : Width) (k n : ℕ) (z : ℤ) → IsCore s k n → IsTwosComplement (8 * width_bytes t) (n % 2 ^ (8 * width_bytes t)) z
+    → FlatShows w s (signed t) k (signed_number z)
+signed_pass w s t k n z c h = signed_only t (n % 2 ^ (8 * width_bytes t)) z (below_bytes t n) h ∙ sym (ap (λ y. as_signed (width_bytes t) y) (wrapped_is (width_bytes t) s k n c))
+
+pub scalar_pass : (w : View) (s : List CoreValue) (k c : ℕ) → IsCore32 s k c → IsScalarValue c → FlatShows w s char k (scalar c)
+scalar_pass w s k c i is = (sym (core32_is s k c i), is)

@@ -131,9 +131,9 @@ reached (plain l cs) = elim (reached cs) [ inl one ↦ inl one | inr some ↦ in
 reached (carrying l t cs) = elim (cases_lt (align_of t) (align_of_payloads cs)) [
   | inr more ↦ inr (0, t, refl, omega (arith, more))
   | inl less ↦ elim (reached cs) [
-      | inl one ↦ absurd (omega (arith, less, one, align_pos t))
-      | inr some ↦ inr (suc some.0, some.1, some.2, omega (arith, less, some.3))
-    ]
+    | inl one ↦ absurd (omega (arith, less, one, align_pos t))
+    | inr some ↦ inr (suc some.0, some.1, some.2, omega (arith, less, some.3))
+  ]
 ]
 
 pub greatest_alignment : (cs : Cases) → IsGreatestAlignment cs (align_of_payloads cs)

@@ -56,7 +56,7 @@ bytes_row m xs at bytes inside e =
     record {
       inside = omega (arith, inside);
       each = λ i lt. one_byte m (at + 1 * i) (slice_index xs i) bytes
-        (ap (slice_index m) {x = at + 1 * i} {y = at + i} (omega arith) ∙ sym (taken_at m at (length xs) i lt) ∙ ap (λ ys. slice_index ys i) e);
+          (ap (slice_index m) {x = at + 1 * i} {y = at + i} (omega arith) ∙ sym (taken_at m at (length xs) i lt) ∙ ap (λ ys. slice_index ys i) e);
     }
 
 row_bytes : (m xs : List ℕ) (at : ℕ) → StandInRow m at 1 xs → take (length xs) (drop at m) ≡ xs
@@ -100,8 +100,8 @@ units_row m us at bytes inside e =
     record {
       inside = inside;
       each = λ i lt. unit_stands m (at + 2 * i) (slice_index us i) bytes
-        (sym (taken_at m at (2 * length us) (2 * i) (omega (arith, lt))) ∙ ap (λ ys. slice_index ys (2 * i)) e ∙ unit_low us i lt)
-        (ap (slice_index m) {x = (at + 2 * i) + 1} {y = at + (2 * i + 1)} (omega arith) ∙ sym (taken_at m at (2 * length us) (2 * i + 1) (omega (arith, lt))) ∙ ap (λ ys. slice_index ys (2 * i + 1)) e ∙ unit_high us i lt);
+          (sym (taken_at m at (2 * length us) (2 * i) (omega (arith, lt))) ∙ ap (λ ys. slice_index ys (2 * i)) e ∙ unit_low us i lt)
+          (ap (slice_index m) {x = (at + 2 * i) + 1} {y = at + (2 * i + 1)} (omega arith) ∙ sym (taken_at m at (2 * length us) (2 * i + 1) (omega (arith, lt))) ∙ ap (λ ys. slice_index ys (2 * i + 1)) e ∙ unit_high us i lt);
     }
 
 halves : (P : ℕ → Type 0) → ((i : ℕ) → P (2 * i)) → ((i : ℕ) → P (2 * i + 1)) → (j : ℕ) → P j
@@ -119,6 +119,7 @@ row_units m us at s =
     even i lt =
         let inside : i < length us = omega (arith, lt, unit_length us) in
         ap (slice_index m) {x = at + 2 * i} {y = (at + 2 * i) + 0} (omega arith) ∙ (s.each i inside).each 0 (omega arith) ∙ omega arith ∙ sym (unit_low us i inside)
+
     odd : (i : ℕ) → 2 * i + 1 < length (flat_map bytes_of_unit us) → slice_index m (at + (2 * i + 1)) ≡ slice_index (flat_map bytes_of_unit us) (2 * i + 1)
     odd i lt =
         let inside : i < length us = omega (arith, lt, unit_length us) in

@@ -118,6 +118,17 @@ pub fn values_are_received()
         × IsTwosComplement (8 * width_bytes k) n z }
     ensures scalars { (w : View) (p c : ℕ) → AreBytes w.memory → Shows w char p (scalar c)
         → StandsAt w.memory p 4 c × IsScalarValue c }
+    ensures false_only { (w : View) (p : ℕ) → slice_index w.memory p ≡ 0
+        → Shows w bool p (truth false) }
+    ensures true_only { (w : View) (p : ℕ) → 0 < slice_index w.memory p
+        → Shows w bool p (truth true) }
+    ensures unsigned_only { (w : View) (k : Width) (p n : ℕ)
+        → StandsAt w.memory p (width_bytes k) n → Shows w (unsigned k) p (number n) }
+    ensures signed_only { (w : View) (k : Width) (p n : ℕ) (z : ℤ)
+        → StandsAt w.memory p (width_bytes k) n → IsTwosComplement (8 * width_bytes k) n z
+        → Shows w (signed k) p (signed_number z) }
+    ensures scalars_only { (w : View) (p c : ℕ) → StandsAt w.memory p 4 c → IsScalarValue c
+        → Shows w char p (scalar c) }
 {}
 
 /// Label i of flags is in a set where bit i of the bytes is set, and bits past the last label are
@@ -301,6 +312,17 @@ pub fn numbers_in_core_values()
         → IsTwosComplement (8 * width_bytes t) (n % 2 ^ (8 * width_bytes t)) z }
     ensures chars { (w : View) (s : List CoreValue) (k n c : ℕ) → IsCore32 s k n
         → FlatShows w s char k (scalar c) → (c ≡ n) × IsScalarValue c }
+    ensures false_only { (w : View) (s : List CoreValue) (k : ℕ) → IsCore32 s k 0
+        → FlatShows w s bool k (truth false) }
+    ensures true_only { (w : View) (s : List CoreValue) (k n : ℕ) → IsCore32 s k n → 0 < n
+        → FlatShows w s bool k (truth true) }
+    ensures unsigned_only { (w : View) (s : List CoreValue) (t : Width) (k n : ℕ) → IsCore s k n
+        → FlatShows w s (unsigned t) k (number (n % 2 ^ (8 * width_bytes t))) }
+    ensures signed_only { (w : View) (s : List CoreValue) (t : Width) (k n : ℕ) (z : ℤ)
+        → IsCore s k n → IsTwosComplement (8 * width_bytes t) (n % 2 ^ (8 * width_bytes t)) z
+        → FlatShows w s (signed t) k (signed_number z) }
+    ensures chars_only { (w : View) (s : List CoreValue) (k c : ℕ) → IsCore32 s k c
+        → IsScalarValue c → FlatShows w s char k (scalar c) }
     ensures flags_read { (w : View) (s : List CoreValue) (labels : List (List ℕ)) (k n set : ℕ)
         → IsCore32 s k n → FlatShows w s (flags labels) k (flag_set set)
         → AreLowBits n (length labels) set }

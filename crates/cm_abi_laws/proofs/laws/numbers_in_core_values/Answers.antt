@@ -1,4 +1,4 @@
-use Rattle.cm_abi_laws.proofs.PassedLaws.{labels_pass, labels_passed, narrow_passed, other_passed, s8_example, s8_lowered, scalar_passed, signed_passed, u16_example, unsigned_passed, wide_passed, zero_passed}
+use Rattle.cm_abi_laws.proofs.PassedLaws.{labels_pass, labels_passed, narrow_passed, other_pass, other_passed, s8_example, s8_lowered, scalar_pass, scalar_passed, signed_pass, signed_passed, u16_example, unsigned_pass, unsigned_passed, wide_passed, zero_pass, zero_passed}
 use Rattle.cm_abi_laws.proofs.laws.numbers_in_core_values.Goals as goal
 
 pub returns-clause-zero_is_false : goal.returns-clause-zero_is_false
@@ -36,3 +36,18 @@ returns-clause-s8_read c = s8_example
 
 pub returns-clause-s8_passed : goal.returns-clause-s8_passed
 returns-clause-s8_passed c = s8_lowered
+
+pub returns-clause-false_only : goal.returns-clause-false_only
+returns-clause-false_only c = zero_pass
+
+pub returns-clause-true_only : goal.returns-clause-true_only
+returns-clause-true_only c = other_pass
+
+pub returns-clause-unsigned_only : goal.returns-clause-unsigned_only
+returns-clause-unsigned_only c = unsigned_pass
+
+pub returns-clause-signed_only : goal.returns-clause-signed_only
+returns-clause-signed_only c = signed_pass
+
+pub returns-clause-chars_only : goal.returns-clause-chars_only
+returns-clause-chars_only c = scalar_pass
