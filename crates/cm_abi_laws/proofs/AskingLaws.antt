@@ -1,16 +1,16 @@
 -- What a string asks for.
-use Rattle.std.proofs.Common.{◌≡◌, ℕ, zero, suc, ◌+◌, ◌*◌, ◌/◌, ◌<◌, ◌≤◌, Bool, true, false, List, [], ◌∷◌, ◌++◌, length, slice_index, nat_lt, if◌then◌else◌, refl, sym, ap, subst, ◌∙◌, arith, length-append}
+use Rattle.std.proofs.Common.{◌≡◌, ℕ, zero, suc, ◌*◌, ◌/◌, ◌<◌, ◌≤◌, Bool, true, false, List, [], ◌∷◌, ◌++◌, length, slice_index, nat_lt, if◌then◌else◌, refl, sym, ap, subst, ◌∙◌, arith, length-append}
 use Rattle.std.proofs.lemmas.Bool.Decides.{nat_tests}
 use Rattle.std.specs.Char.Escape.{encode_utf16}
 use Rattle.std.specs.List.{AllByRecursion, flat_map}
 use Rattle.cm_text.specs.Latin1.{HasLatin1, spell_latin1}
 use Rattle.cm_text.specs.Utf8.{spell_utf8}
-use Rattle.cm_text.specs.Utf16.{bytes_of_unit, spell_utf16}
+use Rattle.cm_text.specs.Utf16.{spell_utf16}
 use Rattle.cm_abi_model.specs.declared.encoding.StringEncoding.TheVariants as encoding
 use Rattle.cm_abi_model.specs.declared.request.Request.{Request}
 use Rattle.cm_abi_model.specs.Parts.{Part, text_part}
 use Rattle.cm_abi_model.specs.Requests.{chain, part_requests, shrunk}
-use Rattle.cm_abi_laws.specs.Asking.{AsksToUtf8, AsksToUtf16, HasOther, IsAscii, again, fresh}
+use Rattle.cm_abi_laws.specs.Asking.{AsksToUtf8, AsksToUtf16, IsAscii, again, fresh}
 use Rattle.cm_abi_laws.specs.Strings.{utf16_units, utf8_units}
 use Rattle.cm_abi_laws.proofs.StringLaws.{latin1_flat, unit_length, units_flat}
 

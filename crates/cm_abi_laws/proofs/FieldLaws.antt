@@ -1,9 +1,9 @@
 -- Fields at their offsets, elements in a row, and what cases carry.
-use Rattle.std.proofs.Common.{◌≡◌, ℕ, zero, suc, ◌+◌, ◌*◌, ◌^◌, ◌<◌, ◌≤◌, List, length, Option, Some, None, refl, sym, ap, subst, ◌∙◌, arith}
-use Rattle.cm_types.specs.Types.{Ty, Fields, FieldsKind, Cases, CasesKind, width_bytes, bits_8, bits_16, bits_32, unsigned, list, fixed_list, fields, cases, option_type, record_type, no_fields, field, no_cases, plain, carrying, own, borrow}
+use Rattle.std.proofs.Common.{◌≡◌, ℕ, zero, suc, ◌+◌, ◌*◌, ◌^◌, ◌<◌, ◌≤◌, List, length, Some, None, refl, sym, ap, subst, ◌∙◌, arith}
+use Rattle.cm_types.specs.Types.{Ty, Fields, FieldsKind, Cases, CasesKind, bits_8, bits_16, bits_32, unsigned, list, fixed_list, fields, cases, option_type, record_type, no_fields, field, no_cases, plain, carrying, own, borrow}
 use Rattle.cm_types.specs.Values.{Val, Vals, HandleValue, no_vals, val, number, elements, parts, bare, bearing, handle, count_of, IsPlainCase}
 use Rattle.cm_types.specs.declared.resource.ResourceId.{ResourceId}
-use Rattle.cm_handles.specs.Handles.{Handles, handle_at}
+use Rattle.cm_handles.specs.Handles.{Handles}
 use Rattle.cm_handles.specs.declared.handle.Handle.{Handle}
 use Rattle.cm_handles.specs.declared.handle.HandleKind.TheVariants.{Owned}
 use Rattle.cm_layout.specs.Alignment.{IsLeastMultiple, align_to}

@@ -1,10 +1,10 @@
 -- Alignments, the least multiples of them, and offsets.
-use Rattle.std.proofs.Common.{◌≡◌, ℕ, zero, suc, ◌+◌, ◌-◌, ◌*◌, ◌/◌, ◌^◌, ◌<◌, ◌≤◌, ◌⊎◌, inl, inr, length, max, nat_le, Option, Some, None, refl, sym, ap, subst, ◌∙◌, arith}
+use Rattle.std.proofs.Common.{◌≡◌, ℕ, zero, suc, ◌+◌, ◌-◌, ◌*◌, ◌/◌, ◌<◌, ◌≤◌, ◌⊎◌, inl, inr, length, nat_le, Option, Some, None, refl, sym, ap, subst, ◌∙◌, arith}
 use Rattle.std.proofs.Math.Nat.{div-mul-le_self, lt-div-mul-add, mul-le-mul_right}
 use Rattle.std.proofs.lemmas.Bool.{cases_Bool, cases_lt}
 use Rattle.cm_types.specs.Types.{Ty, Fields, FieldsKind, Cases, Width, width_bytes, bits_8, bits_16, bits_32, bits_64, bool, signed, unsigned, char, string, list, fixed_list, fields, cases, flags, own, borrow, no_fields, field, no_cases, plain, carrying}
 use Rattle.cm_layout.specs.Alignment.{IsLeastMultiple, align_to}
-use Rattle.cm_layout.specs.Sizes.{IsLeastBytes, align_of, align_of_fields, align_of_payloads, end_before, field_count, field_offset, field_offset_from, field_type, flags_size, discriminant_size, size_of}
+use Rattle.cm_layout.specs.Sizes.{IsLeastBytes, align_of, align_of_fields, align_of_payloads, end_before, field_count, field_offset, field_offset_from, field_type, flags_size, size_of}
 use Rattle.cm_abi_laws.specs.Parts.{AreOffsets, IsCase, IsGreatestAlignment}
 
 -- ---- least multiples

@@ -1,7 +1,6 @@
 -- Strings by their units.
-use Rattle.std.proofs.Common.{◌≡◌, ℕ, zero, suc, ◌+◌, ◌-◌, ◌*◌, ◌/◌, ◌%◌, ◌^◌, ◌<◌, ◌≤◌, ◌⊎◌, inl, inr, Bool, true, false, List, [], ◌∷◌, ◌++◌, length, take, drop, slice_index, get_or, nat_lt, if◌then◌else◌, refl, sym, ap, subst, ◌∙◌, arith, length-append}
+use Rattle.std.proofs.Common.{◌≡◌, ℕ, zero, suc, ◌+◌, ◌-◌, ◌*◌, ◌/◌, ◌%◌, ◌^◌, ◌<◌, ◌≤◌, ◌⊎◌, inl, inr, Bool, true, false, List, [], ◌∷◌, ◌++◌, length, take, drop, slice_index, nat_lt, if◌then◌else◌, refl, sym, ap, subst, ◌∙◌, arith}
 use Rattle.std.proofs.Math.Seq.{drop-cons}
-use Rattle.std.proofs.lemmas.Bool.{cases_Bool}
 use Rattle.std.proofs.lemmas.Bool.Decides.{nat_tests}
 use Rattle.std.proofs.lemmas.List.{get_or-drop, get_or-take, length-drop, length-take-le}
 use Rattle.std.proofs.lemmas.List.Concat.{flat_map-append}
@@ -13,13 +12,12 @@ use Rattle.cm_types.specs.Types.{string}
 use Rattle.cm_types.specs.Values.{text}
 use Rattle.cm_text.specs.Text.{IsText}
 use Rattle.cm_text.specs.Latin1.{HasLatin1, spell_latin1}
-use Rattle.cm_text.specs.Utf8.{spell_utf8}
 use Rattle.cm_text.specs.Utf16.{bytes_of_unit, spell_utf16}
 use Rattle.cm_abi_model.specs.declared.encoding.StringEncoding.{StringEncoding}
 use Rattle.cm_abi_model.specs.declared.encoding.StringEncoding.TheVariants as encoding
 use Rattle.cm_abi_model.specs.Numbers.{number_at}
 use Rattle.cm_abi_model.specs.Shows.{Shows}
-use Rattle.cm_abi_model.specs.Texts.{Charset, Has, ShowsText, UTF16_TAG, bytes_from, charset_of, latin1, spell, text_size, unit_size, units_of, utf8, utf16}
+use Rattle.cm_abi_model.specs.Texts.{Has, ShowsText, UTF16_TAG, bytes_from, latin1, spell, unit_size, utf16}
 use Rattle.cm_abi_model.specs.Views.{View}
 use Rattle.cm_abi_laws.specs.Bytes.{AreBytes, StandsAt, byte_of}
 use Rattle.cm_abi_laws.specs.Strings.{AreUnits, AreUnitsIn, IsString, IsStringAt, StandInRow, utf16_units, utf8_units}

@@ -1,5 +1,4 @@
-//! What records say of a memory, as laws: each function here does nothing, and its contract is the
-//! law.
+//! What fits a memory, as laws: each function here does nothing, and its contract is the law.
 
 ghost use Rattle.std.specs.Prelude.{◌≡◌, ◌+◌, ◌<◌, Bool, List, length, slice_index, ℕ};
 ghost use Rattle.cm_abi_model.specs.Parts.{Part, text_part};
@@ -9,7 +8,15 @@ ghost use Rattle.cm_abi_model.specs.declared.encoding.StringEncoding.{StringEnco
 ghost use Rattle.cm_scan.specs.Telling.{TellAll, Tells};
 ghost use Rattle.cm_scan.specs.declared.record.PartKind.TheVariants.{Text};
 ghost use Rattle.cm_scan.specs.declared.record.PartRecord.{PartRecord};
-ghost use Rattle.cm_scan_laws.specs.Reads.{AreAllAlike, ReadsBytes};
+ghost use Rattle.cm_fitting_laws.specs.Reads.{AreAllAlike, ReadsBytes};
+ghost use Rattle.cm_fitting_laws.specs.Inside.{AreInside};
+ghost use Rattle.cm_types.specs.Types.{Ty};
+ghost use Rattle.cm_types.specs.Values.{HasType, Val};
+ghost use Rattle.cm_layout.specs.Shapes.{shape_of_type};
+ghost use Rattle.cm_abi_model.specs.Parts.{parts_in};
+ghost use Rattle.cm_abi_model.specs.Requests.{stored_charset};
+ghost use Rattle.cm_abi_model.specs.Stores.{Given};
+ghost use Rattle.cm_stored.specs.Fitting.{Fits};
 
 use cm_text::laws::one_list_of_scalars;
 use cm_text::{Latin1, Utf8, Utf16};
@@ -40,3 +47,12 @@ pub fn records_tell_the_memory()
     one_list_of_scalars::<Utf16>();
     one_list_of_scalars::<Latin1>();
 }
+
+/// Where a value fits a memory of so many bytes, the region of each of its strings and lists lies
+/// inside it; so a value fits no memory that ends before one of them does (CanonicalABI.md,
+/// "Storing", `store_string` and `store_list`).
+pub fn values_fit_their_memory()
+    ensures { (target : StringEncoding) (n : ℕ) (g : Given) (t : Ty) (v : Val) (k h : ℕ)
+        → HasType t v → g.charset ≡ stored_charset target
+        → Fits n g (shape_of_type t) v k h → AreInside target n g k (parts_in t v) }
+{}

@@ -1,1 +1,2 @@
 mod TellingLaws
+mod InsideLaws

@@ -1,6 +1,6 @@
-use Rattle.cm_scan_laws.proofs.TellingLaws.{OneText, parts_alike, places_alike, told_of_no_other, told_reads}
+use Rattle.cm_fitting_laws.proofs.TellingLaws.{OneText, parts_alike, places_alike, told_of_no_other, told_reads}
 use Rattle.cm_abi_model.specs.Texts.{latin1, utf8, utf16}
-use Rattle.cm_scan_laws.proofs.laws.records_tell_the_memory.Goals as goal
+use Rattle.cm_fitting_laws.proofs.laws.records_tell_the_memory.Goals as goal
 
 -- the law of each charset
 one_text : goal.After-one_list_of_scalars-3 → OneText

@@ -1,5 +1,5 @@
 -- Records that tell parts tell what the memory reads.
-use Rattle.std.proofs.Common.{◌≡◌, ℕ, zero, suc, ◌+◌, ◌*◌, ◌/◌, ◌<◌, ◌≤◌, Bool, true, false, List, [], ◌∷◌, ◌++◌, length, take, drop, slice_index, refl, sym, ap, subst, ◌∙◌, arith, length-append}
+use Rattle.std.proofs.Common.{◌≡◌, ℕ, ◌+◌, ◌*◌, ◌<◌, Bool, List, [], ◌∷◌, length, take, drop, slice_index, refl, sym, ap, subst, ◌∙◌, arith, length-append}
 use Rattle.std.proofs.lemmas.List.{get_or-drop, get_or-take}
 use Rattle.std.specs.List.{flat_map}
 use Rattle.std.specs.Char.Escape.{encode_utf16}
@@ -14,7 +14,7 @@ use Rattle.cm_scan.specs.Telling.{TellAll, Tells, TellsSource, TellsText}
 use Rattle.cm_scan.specs.declared.record.PartKind.{PartKind}
 use Rattle.cm_scan.specs.declared.record.PartKind.TheVariants as kind
 use Rattle.cm_scan.specs.declared.record.PartRecord.{PartRecord}
-use Rattle.cm_scan_laws.specs.Reads.{AreAlike, AreAllAlike, ReadsBytes}
+use Rattle.cm_fitting_laws.specs.Reads.{AreAlike, AreAllAlike, ReadsBytes}
 
 -- ---- what is told is read
 
