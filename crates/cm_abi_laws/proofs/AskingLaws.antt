@@ -8,8 +8,14 @@ use Rattle.cm_text.specs.Utf8.{spell_utf8}
 use Rattle.cm_text.specs.Utf16.{spell_utf16}
 use Rattle.cm_abi_model.specs.declared.encoding.StringEncoding.TheVariants as encoding
 use Rattle.cm_abi_model.specs.declared.request.Request.{Request}
-use Rattle.cm_abi_model.specs.Parts.{Part, text_part}
-use Rattle.cm_abi_model.specs.Requests.{chain, part_requests, shrunk}
+use Rattle.cm_abi_model.specs.Parts.{Part, element_part, parts_each, parts_in, text_part}
+use Rattle.cm_abi_model.specs.Requests.{chain, is_spilled, part_requests, requests, shrunk}
+use Rattle.cm_abi_model.specs.Views.{params}
+use Rattle.cm_types.specs.Types.{Ty, Fields, fields, list, tuple_type}
+use Rattle.cm_types.specs.Values.{Val, Vals, count_of, elements}
+use Rattle.cm_layout.specs.Flattening.{flat_of_fields}
+use Rattle.cm_layout.specs.Sizes.{align_of, size_of}
+use Rattle.cm_abi_model.specs.declared.encoding.StringEncoding.{StringEncoding}
 use Rattle.cm_abi_laws.specs.Asking.{AsksToUtf8, AsksToUtf16, IsAscii, again, fresh}
 use Rattle.cm_abi_laws.specs.Strings.{utf16_units, utf8_units}
 use Rattle.cm_abi_laws.proofs.StringLaws.{latin1_flat, unit_length, units_flat}
@@ -159,3 +165,29 @@ latin1_widened cs ps tags h =
 
 pub asking_example : part_requests encoding.Utf16 encoding.Utf8 [] (text_part (0xE9 ∷ []) ∷ []) ≡ fresh 1 1 ∷ again 1 1 3 ∷ again 3 1 2 ∷ []
 asking_example = refl
+
+-- ---- lists and tuples
+
+pub elements_ask : (source target : StringEncoding) (tags : List Bool) (t : Ty) (vs : Vals)
+    → part_requests source target tags (parts_in (list t) (elements vs)) ≡ fresh (align_of t) (count_of vs * size_of t) ∷ part_requests source target tags (parts_each (parts_in t) vs)
+elements_ask source target tags t vs = refl
+
+tuple_first : (b : Bool) (source target : StringEncoding) (tags : List Bool) (size align : ℕ) (ps : List Part) → b ≡ true
+    → part_requests source target tags (if b then element_part 1 size align ∷ ps else ps) ≡ fresh align size ∷ part_requests source target tags ps
+tuple_first b source target tags size align ps e =
+    let one : 1 * size ≡ size = omega arith in
+    ap (λ x. part_requests source target tags (if x then element_part 1 size align ∷ ps else ps)) e ∙ ap (λ n. fresh align n ∷ part_requests source target tags ps) one
+
+pub tuple_asks : (source target : StringEncoding) (tags : List Bool) (types : Fields) (v : Val) → 16 < length (flat_of_fields types)
+    → requests params types v source target tags
+    ≡ fresh (align_of (fields tuple_type types)) (size_of (fields tuple_type types)) ∷ part_requests source target tags (parts_in (fields tuple_type types) v)
+tuple_asks source target tags types v many =
+    tuple_first (is_spilled params types) source target tags (size_of (fields tuple_type types)) (align_of (fields tuple_type types)) (parts_in (fields tuple_type types) v) (is_less 16 (length (flat_of_fields types)) many)
+
+few_first : (b : Bool) (source target : StringEncoding) (tags : List Bool) (p : Part) (ps : List Part) → b ≡ false → part_requests source target tags (if b then p ∷ ps else ps) ≡ part_requests source target tags ps
+few_first b source target tags p ps e = ap (λ x. part_requests source target tags (if x then p ∷ ps else ps)) e
+
+pub few_ask : (source target : StringEncoding) (tags : List Bool) (types : Fields) (v : Val) → length (flat_of_fields types) ≤ 16
+    → requests params types v source target tags ≡ part_requests source target tags (parts_in (fields tuple_type types) v)
+few_ask source target tags types v few =
+    few_first (is_spilled params types) source target tags (element_part 1 (size_of (fields tuple_type types)) (align_of (fields tuple_type types))) (parts_in (fields tuple_type types) v) (not_less 16 (length (flat_of_fields types)) few)

@@ -37,8 +37,10 @@ ghost use Rattle.cm_abi_model.specs.declared.encoding.StringEncoding.TheVariants
 ghost use Rattle.cm_abi_laws.specs.Strings.{IsStringAt, utf16_units, utf8_units};
 ghost use Rattle.std.specs.List.{AllByRecursion};
 ghost use Rattle.cm_text.specs.Latin1.{HasLatin1};
-ghost use Rattle.cm_abi_model.specs.Parts.{Part, text_part};
-ghost use Rattle.cm_abi_model.specs.Requests.{part_requests};
+ghost use Rattle.cm_abi_model.specs.declared.encoding.StringEncoding.{StringEncoding};
+ghost use Rattle.cm_layout.specs.Sizes.{size_of};
+ghost use Rattle.cm_abi_model.specs.Parts.{Part, parts_each, parts_in, text_part};
+ghost use Rattle.cm_abi_model.specs.Requests.{part_requests, requests};
 ghost use Rattle.std.specs.Prelude.{neg_ℤ, pos};
 ghost use Rattle.cm_types.specs.declared.core_value.CoreValue.{CoreValue};
 ghost use Rattle.cm_types.specs.Types.{bits_64, tuple_type};
@@ -426,4 +428,22 @@ pub fn many_values_are_behind_a_pointer()
     ensures result_behind_only { (w : View) (types : Fields) (s : List CoreValue) (p : ℕ)
         (v : Val) → 1 < length (flat_of_fields types) → IsCore32 s 0 p
         → IsTupleAt w types p v → Denotes w results types s v }
+{}
+
+/// A list asks once for as many bytes as its elements have, at their alignment, before what these
+/// ask for; and parameters that take more than 16 core values ask first for the tuple of them
+/// (CanonicalABI.md, "Storing", `store_list_into_range`, and "Lifting and Lowering Values",
+/// `lower_flat_values`).
+pub fn lists_and_tuples_ask_for_memory()
+    ensures elements { (source target : StringEncoding) (tags : List Bool) (t : Ty) (vs : Vals)
+        → part_requests source target tags (parts_in (list t) (elements vs))
+        ≡ fresh (align_of t) (count_of vs * size_of t)
+        ∷ part_requests source target tags (parts_each (parts_in t) vs) }
+    ensures tuple { (source target : StringEncoding) (tags : List Bool) (types : Fields) (v : Val)
+        → 16 < length (flat_of_fields types) → requests params types v source target tags
+        ≡ fresh (align_of (fields tuple_type types)) (size_of (fields tuple_type types))
+        ∷ part_requests source target tags (parts_in (fields tuple_type types) v) }
+    ensures flat { (source target : StringEncoding) (tags : List Bool) (types : Fields) (v : Val)
+        → length (flat_of_fields types) ≤ 16 → requests params types v source target tags
+        ≡ part_requests source target tags (parts_in (fields tuple_type types) v) }
 {}
