@@ -88,7 +88,7 @@ to_utf8 u n w cs others e f =
       filled = λ h le. asks_filled u w x others (is_less u x (omega (arith, e, f, other_units cs h.0 h.1 h.2))) (not_less x w le);
     })
 
-half : (cs : List ℕ) → length (flat_map spell_utf16 cs) / 2 ≡ length (utf16_units cs)
+pub half : (cs : List ℕ) → length (flat_map spell_utf16 cs) / 2 ≡ length (utf16_units cs)
 half cs =
     let long : length (flat_map spell_utf16 cs) ≡ 2 * length (utf16_units cs) = ap length (units_flat cs) ∙ unit_length (utf16_units cs) in
     omega (arith, long)

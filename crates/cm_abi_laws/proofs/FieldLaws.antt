@@ -158,10 +158,10 @@ payload_only w (carrying l u cs) q (suc i) v t h s = payload_only w cs q i v t h
 abbrev pub LeastSizes : Type 0
 LeastSizes = (n : ℕ) → n ≤ 2 ^ 32 → IsLeastBytes (λ b. n ≤ 256 ^ b) (discriminant_size n)
 
-size_is : LeastSizes → (cs : Cases) (b : ℕ) → case_count cs ≤ 2 ^ 32 → IsLeastBytes (λ x. case_count cs ≤ 256 ^ x) b → discriminant_size (case_count cs) ≡ b
+pub size_is : LeastSizes → (cs : Cases) (b : ℕ) → case_count cs ≤ 2 ^ 32 → IsLeastBytes (λ x. case_count cs ≤ 256 ^ x) b → discriminant_size (case_count cs) ≡ b
 size_is least cs b few h = one_bytes (λ x. case_count cs ≤ 256 ^ x) (discriminant_size (case_count cs)) b (least (case_count cs) few) h
 
-offset_here : LeastSizes → (cs : Cases) (b a o : ℕ) → case_count cs ≤ 2 ^ 32 → IsLeastBytes (λ x. case_count cs ≤ 256 ^ x) b → IsGreatestAlignment cs a → IsLeastMultiple a b o → payload_offset cs ≡ o
+pub offset_here : LeastSizes → (cs : Cases) (b a o : ℕ) → case_count cs ≤ 2 ^ 32 → IsLeastBytes (λ x. case_count cs ≤ 256 ^ x) b → IsGreatestAlignment cs a → IsLeastMultiple a b o → payload_offset cs ≡ o
 offset_here least cs b a o few h g m =
     let size = size_is least cs b few h in
     let greatest = one_greatest cs a g in

@@ -8,3 +8,4 @@ mod FieldLaws
 mod StringLaws
 mod AskingLaws
 mod PassedLaws
+mod StoredLaws

@@ -37,7 +37,7 @@ take_them m (b ∷ bs) at inside h =
     ∙ ap (λ i. b ∷ take (length bs) (drop i m)) {x = suc at} {y = at + 1} (omega arith)
     ∙ ap (λ xs. b ∷ xs) (take_them m bs (at + 1) (omega (arith, inside)) (λ i lt. ap (slice_index m) {x = (at + 1) + i} {y = at + suc i} (omega arith) ∙ h (suc i) (omega (arith, lt))))
 
-one_byte : (m : List ℕ) (at x : ℕ) → AreBytes m → slice_index m at ≡ x → StandsAt m at 1 x
+pub one_byte : (m : List ℕ) (at x : ℕ) → AreBytes m → slice_index m at ≡ x → StandsAt m at 1 x
 one_byte m at x bytes e =
     let small : x < 256 = omega (arith, bytes at, e) in
     record { below = omega (arith, small); each = λ i lt. ap (slice_index m) {x = at + i} {y = at} (omega (arith, lt)) ∙ e ∙ is i lt small }
@@ -73,17 +73,17 @@ units_flat [] = refl
 units_flat (c ∷ cs) = ap (λ xs. spell_utf16 c ++ xs) (units_flat cs) ∙ sym (flat_map-append bytes_of_unit (encode_utf16 c) (utf16_units cs))
 
 -- the bytes of units, and the units
-unit_low : (us : List ℕ) (i : ℕ) → i < length us → slice_index (flat_map bytes_of_unit us) (2 * i) ≡ slice_index us i % 256
+pub unit_low : (us : List ℕ) (i : ℕ) → i < length us → slice_index (flat_map bytes_of_unit us) (2 * i) ≡ slice_index us i % 256
 unit_low [] i lt = absurd (omega (arith, lt))
 unit_low (u ∷ us) zero lt = refl
 unit_low (u ∷ us) (suc i) lt = ap (slice_index (flat_map bytes_of_unit (u ∷ us))) {x = 2 * suc i} {y = suc (suc (2 * i))} (omega arith) ∙ unit_low us i (omega (arith, lt))
 
-unit_high : (us : List ℕ) (i : ℕ) → i < length us → slice_index (flat_map bytes_of_unit us) (2 * i + 1) ≡ slice_index us i / 256
+pub unit_high : (us : List ℕ) (i : ℕ) → i < length us → slice_index (flat_map bytes_of_unit us) (2 * i + 1) ≡ slice_index us i / 256
 unit_high [] i lt = absurd (omega (arith, lt))
 unit_high (u ∷ us) zero lt = refl
 unit_high (u ∷ us) (suc i) lt = ap (slice_index (flat_map bytes_of_unit (u ∷ us))) {x = 2 * suc i + 1} {y = suc (suc (2 * i + 1))} (omega arith) ∙ unit_high us i (omega (arith, lt))
 
-unit_stands : (m : List ℕ) (at u : ℕ) → AreBytes m → slice_index m at ≡ u % 256 → slice_index m (at + 1) ≡ u / 256 → StandsAt m at 2 u
+pub unit_stands : (m : List ℕ) (at u : ℕ) → AreBytes m → slice_index m at ≡ u % 256 → slice_index m (at + 1) ≡ u / 256 → StandsAt m at 2 u
 unit_stands m at u bytes low high =
     let small : u / 256 < 256 = omega (arith, bytes (at + 1), high) in
     record { below = omega (arith, small); each = λ i lt. each i lt small }

@@ -13,7 +13,8 @@ ghost use Rattle.cm_types.specs.Values.{IsScalarValue, scalar, signed_number, tr
 ghost use Rattle.std.specs.Prelude.{Bool, false, true};
 ghost use Rattle.cm_abi_model.specs.Numbers.{as_signed, number_at};
 ghost use Rattle.cm_abi_model.specs.Stores.{Framed, Given, Holds, Placed, bytes_of, from_signed};
-ghost use Rattle.cm_abi_model.specs.Stores.{placed, stored};
+ghost use Rattle.cm_abi_model.specs.Stores.{number_of, place_of, placed, stored};
+ghost use Rattle.cm_abi_model.specs.Texts.{utf16, utf8};
 ghost use Rattle.cm_abi_laws.specs.Bytes.{AreBytes, IsTwosComplement, StandsAt, bit_of};
 ghost use Rattle.cm_abi_laws.specs.Leaves.{IsByteOf};
 ghost use Rattle.std.specs.Prelude.{None, Some};
@@ -29,12 +30,13 @@ ghost use Rattle.cm_layout.specs.Sizes.{IsLeastBytes, align_of, align_of_payload
 ghost use Rattle.cm_layout.specs.Sizes.{field_count, field_offset, field_type, flags_size};
 ghost use Rattle.cm_abi_laws.specs.Parts.{AreFieldsAt, AreInRow, AreLabels, AreOffsets, IsCase};
 ghost use Rattle.cm_abi_laws.specs.Parts.{IsGreatestAlignment, IsHandle, IsListAt, bit_at};
+ghost use Rattle.cm_abi_laws.specs.Parts.{value_at};
 ghost use Rattle.std.specs.Prelude.{[], ◌∷◌};
 ghost use Rattle.cm_types.specs.Types.{carrying, no_cases, option_type, plain, string};
 ghost use Rattle.cm_types.specs.Values.{text};
 ghost use Rattle.cm_abi_model.specs.declared.encoding.StringEncoding.TheVariants.{Latin1OrUtf16};
 ghost use Rattle.cm_abi_model.specs.declared.encoding.StringEncoding.TheVariants.{Utf16, Utf8};
-ghost use Rattle.cm_abi_laws.specs.Strings.{IsStringAt, utf16_units, utf8_units};
+ghost use Rattle.cm_abi_laws.specs.Strings.{IsStringAt, StandInRow, utf16_units, utf8_units};
 ghost use Rattle.std.specs.List.{AllByRecursion};
 ghost use Rattle.cm_text.specs.Latin1.{HasLatin1};
 ghost use Rattle.cm_abi_model.specs.declared.encoding.StringEncoding.{StringEncoding};
@@ -447,3 +449,59 @@ pub fn lists_and_tuples_ask_for_memory()
         → length (flat_of_fields types) ≤ 16 → requests params types v source target tags
         ≡ part_requests source target tags (parts_in (fields tuple_type types) v) }
 {}
+
+/// What is stored stands in the same places: of a string and of a list the pointer, which is the
+/// place that was given, and behind it the length, and there the units, or each element; each field
+/// at its offset; the number of a case in the least bytes that serve, and what it carries at its
+/// offset; of a handle the number that was given for it (CanonicalABI.md, "Storing"). The part and
+/// the handle that a field or an element begins with are some of those given.
+pub fn parts_are_stored_in_place()
+    ensures utf8 { (memory : List ℕ) (g : Given) (scalars : List ℕ) (p k h : ℕ)
+        → AreBytes memory → g.charset ≡ utf8
+        → place_of g k + length (utf8_units scalars) ≤ length memory → length memory < 2 ^ 32
+        → Holds memory (stored g string (text scalars) p k h)
+        → StandsAt memory p 4 (place_of g k)
+        × StandsAt memory (p + 4) 4 (length (utf8_units scalars))
+        × StandInRow memory (place_of g k) 1 (utf8_units scalars) }
+    ensures utf16 { (memory : List ℕ) (g : Given) (scalars : List ℕ) (p k h : ℕ)
+        → AreBytes memory → g.charset ≡ utf16
+        → place_of g k + 2 * length (utf16_units scalars) ≤ length memory
+        → length memory < 2 ^ 32 → Holds memory (stored g string (text scalars) p k h)
+        → StandsAt memory p 4 (place_of g k)
+        × StandsAt memory (p + 4) 4 (length (utf16_units scalars))
+        × StandInRow memory (place_of g k) 2 (utf16_units scalars) }
+    ensures list { (memory : List ℕ) (g : Given) (t : Ty) (vs : Vals) (p k h : ℕ)
+        → place_of g k < 2 ^ 32 → count_of vs < 2 ^ 32
+        → Holds memory (stored g (list t) (elements vs) p k h)
+        → StandsAt memory p 4 (place_of g k) × StandsAt memory (p + 4) 4 (count_of vs)
+        × ((i : ℕ) → i < count_of vs → (a : ℕ) × (b : ℕ)
+        × Holds memory (stored g t (value_at vs i) (place_of g k + i * size_of t) a b)) }
+    ensures fixed { (memory : List ℕ) (g : Given) (t : Ty) (n : ℕ) (vs : Vals) (p k h : ℕ)
+        → Holds memory (stored g (fixed_list t n) (parts vs) p k h)
+        → (i : ℕ) → i < count_of vs → (a : ℕ) × (b : ℕ)
+        × Holds memory (stored g t (value_at vs i) (p + i * size_of t) a b) }
+    ensures fields { (memory : List ℕ) (g : Given) (x : FieldsKind) (fs : Fields)
+        (offset : ℕ → ℕ) (vs : Vals) (p k h : ℕ) → AreOffsets fs offset
+        → count_of vs ≡ field_count fs → Holds memory (stored g (fields x fs) (parts vs) p k h)
+        → (i : ℕ) → i < field_count fs → (a : ℕ) × (b : ℕ)
+        × Holds memory (stored g (field_type fs i) (value_at vs i) (p + offset i) a b) }
+    ensures bare { (memory : List ℕ) (g : Given) (x : CasesKind) (cs : Cases) (i b p k h : ℕ)
+        → case_count cs ≤ 2 ^ 32 → IsLeastBytes (λ x. case_count cs ≤ 256 ^ x) b
+        → i < case_count cs → Holds memory (stored g (cases x cs) (bare i) p k h)
+        → StandsAt memory p b i }
+    ensures bearing { (memory : List ℕ) (g : Given) (x : CasesKind) (cs : Cases)
+        (i b a offset p k h : ℕ) (v : Val) (t : Ty) → case_count cs ≤ 2 ^ 32
+        → IsLeastBytes (λ x. case_count cs ≤ 256 ^ x) b → IsGreatestAlignment cs a
+        → IsLeastMultiple a b offset → i < case_count cs → IsCase cs i (Some t)
+        → Holds memory (stored g (cases x cs) (bearing i v) p k h)
+        → StandsAt memory p b i × Holds memory (stored g t v (p + offset) k h) }
+    ensures own { (memory : List ℕ) (g : Given) (r : ResourceId) (e : HandleValue) (p k h : ℕ)
+        → number_of g h < 2 ^ 32 → Holds memory (stored g (own r) (handle e) p k h)
+        → StandsAt memory p 4 (number_of g h) }
+    ensures borrow { (memory : List ℕ) (g : Given) (r : ResourceId) (e : HandleValue)
+        (p k h : ℕ) → number_of g h < 2 ^ 32
+        → Holds memory (stored g (borrow r) (handle e) p k h)
+        → StandsAt memory p 4 (number_of g h) }
+{
+    sizes_of_numbers();
+}
