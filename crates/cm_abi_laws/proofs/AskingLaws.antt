@@ -70,10 +70,10 @@ asks_filled : (u w x : ℕ) (others : List Request) → nat_lt u x ≡ true → 
     → chain 1 (if nat_lt u x then u ∷ shrunk w x else u ∷ []) ++ others ≡ fresh 1 u ∷ again u 1 w ∷ others
 asks_filled u w x others e f = rw (e, f) refl
 
-is_less : (a b : ℕ) → a < b → nat_lt a b ≡ true
+pub is_less : (a b : ℕ) → a < b → nat_lt a b ≡ true
 is_less a b lt = grind (arith, nat_tests, lt)
 
-not_less : (a b : ℕ) → b ≤ a → nat_lt a b ≡ false
+pub not_less : (a b : ℕ) → b ≤ a → nat_lt a b ≡ false
 not_less a b le = grind (arith, nat_tests, le)
 
 -- by how many units there are: as many as those of UTF-16

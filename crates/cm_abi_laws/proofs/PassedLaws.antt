@@ -1,5 +1,5 @@
 -- What core values pass.
-use Rattle.std.proofs.Common.{◌≡◌, ℕ, zero, suc, ℤ, pos, ◌+◌, ◌*◌, ◌%◌, ◌^◌, ◌<◌, ◌≤◌, inl, inr, Bool, true, false, not, ◌==◌, List, length, Some, None, refl, sym, ap, subst, ◌∙◌, arith}
+use Rattle.std.proofs.Common.{◌≡◌, ℕ, zero, suc, ℤ, pos, ◌+◌, ◌*◌, ◌%◌, ◌^◌, ◌<◌, ◌≤◌, inl, inr, Bool, true, false, not, ◌==◌, List, length, Some, None, refl, sym, ap, subst, ◌∙◌, arith, [], ◌∷◌, if◌then◌else◌}
 use Rattle.std.proofs.lemmas.Bool.Decides.{nat_tests}
 use Rattle.std.proofs.lemmas.Int.{ints}
 use Rattle.std.proofs.lemmas.List.{get_or_default}
@@ -18,10 +18,13 @@ use Rattle.cm_layout.specs.Sizes.{field_count, field_type}
 use Rattle.cm_abi_model.specs.Denotes.{Denotes}
 use Rattle.cm_abi_model.specs.FlatShows.{FlatShowFields, FlatShows, FlatShowsPayload, width_of}
 use Rattle.cm_abi_model.specs.Numbers.{as_signed, slot_at, slot_number, wrapped_at}
-use Rattle.cm_abi_model.specs.Receives.{put, slots_of}
-use Rattle.cm_abi_model.specs.Stores.{Given}
+use Rattle.cm_abi_model.specs.Receives.{behind, call_bytes, call_kinds, call_numbers, put, slots_of}
+use Rattle.cm_abi_model.specs.Stores.{Given, place_of, stored}
 use Rattle.cm_abi_model.specs.Texts.{ShowsText}
-use Rattle.cm_abi_model.specs.Views.{View, params, results}
+use Rattle.cm_abi_model.specs.Views.{View, Way, params, results}
+use Rattle.cm_abi_model.specs.Requests.{is_spilled}
+use Rattle.cm_types.specs.declared.core_value.CoreKind.TheVariants as kind
+use Rattle.cm_abi_laws.proofs.AskingLaws.{is_less, not_less}
 use Rattle.cm_abi_laws.specs.Bytes.{AreBytes, IsTwosComplement, bit_of}
 use Rattle.cm_abi_laws.specs.Parts.{AreElements, IsCase, IsHandle, value_at}
 use Rattle.cm_abi_laws.specs.Passed.{AreFieldsIn, AreFirst, AreLowBits, ArePassed, IsCore, IsCore32, IsTupleAt}
@@ -314,3 +317,29 @@ signed_pass w s t k n z c h = signed_only t (n % 2 ^ (8 * width_bytes t)) z (bel
 
 pub scalar_pass : (w : View) (s : List CoreValue) (k c : ℕ) → IsCore32 s k c → IsScalarValue c → FlatShows w s char k (scalar c)
 scalar_pass w s k c i is = (sym (core32_is s k c i), is)
+
+-- ---- a call that is lowered
+
+abbrev pub IsPassedBehind : Given → Way → Fields → Val → Type 0
+IsPassedBehind g way types v =
+    (call_kinds way types ≡ kind.I32 ∷ []) × (call_numbers g way types v ≡ put 0 (place_of g 0)) × (call_bytes g way types v ≡ stored g (fields tuple_type types) v (place_of g 0) 1 0)
+
+behind_by : (g : Given) (way : Way) (types : Fields) (v : Val) → is_spilled way types ≡ true → IsPassedBehind g way types v
+behind_by g way types v e =
+    (
+      ap (λ b. if b then kind.I32 ∷ [] else flat_of_fields types) e,
+      ap (λ b. if b then put 0 (place_of g 0) else slots_of g (fields tuple_type types) v 0 0 0) e,
+      ap (λ b. if b then stored g (fields tuple_type types) v (place_of g 0) 1 0 else behind g (fields tuple_type types) v 0 0) e,
+    )
+
+pub params_lowered : (g : Given) (types : Fields) (v : Val) → 16 < length (flat_of_fields types) → IsPassedBehind g params types v
+params_lowered g types v many = behind_by g params types v (is_less 16 (length (flat_of_fields types)) many)
+
+pub results_lowered : (g : Given) (types : Fields) (v : Val) → 1 < length (flat_of_fields types) → IsPassedBehind g results types v
+results_lowered g types v many = behind_by g results types v (is_less 1 (length (flat_of_fields types)) many)
+
+pub params_kinds : (types : Fields) → length (flat_of_fields types) ≤ 16 → call_kinds params types ≡ flat_of_fields types
+params_kinds types few = ap (λ b. if b then kind.I32 ∷ [] else flat_of_fields types) (not_less 16 (length (flat_of_fields types)) few)
+
+pub results_kinds : (types : Fields) → length (flat_of_fields types) ≤ 1 → call_kinds results types ≡ flat_of_fields types
+results_kinds types few = ap (λ b. if b then kind.I32 ∷ [] else flat_of_fields types) (not_less 1 (length (flat_of_fields types)) few)

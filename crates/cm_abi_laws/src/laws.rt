@@ -5,7 +5,8 @@ ghost use Rattle.std.specs.Prelude.{length, slice_index};
 ghost use Rattle.cm_types.specs.Types.{Ty, bits_32, bits_8, field, fields, no_fields};
 ghost use Rattle.cm_types.specs.Types.{Width, record_type, unsigned, width_bytes};
 ghost use Rattle.cm_types.specs.Values.{FitsSignedWidth, Val, no_vals, number, parts, val};
-ghost use Rattle.cm_abi_model.specs.Receives.{put, slots_of};
+ghost use Rattle.cm_abi_model.specs.Receives.{call_bytes, call_kinds, call_numbers, put, slots_of};
+ghost use Rattle.cm_types.specs.declared.core_value.CoreKind.TheVariants.{I32};
 ghost use Rattle.cm_abi_model.specs.Shows.{Shows};
 ghost use Rattle.cm_abi_model.specs.Views.{View};
 ghost use Rattle.cm_types.specs.Types.{bool, char, signed};
@@ -430,6 +431,20 @@ pub fn many_values_are_behind_a_pointer()
     ensures result_behind_only { (w : View) (types : Fields) (s : List CoreValue) (p : ℕ)
         (v : Val) → 1 < length (flat_of_fields types) → IsCore32 s 0 p
         → IsTupleAt w types p v → Denotes w results types s v }
+    ensures params_kinds { (types : Fields) → length (flat_of_fields types) ≤ 16
+        → call_kinds params types ≡ flat_of_fields types }
+    ensures result_kinds { (types : Fields) → length (flat_of_fields types) ≤ 1
+        → call_kinds results types ≡ flat_of_fields types }
+    ensures params_lowered { (g : Given) (types : Fields) (v : Val)
+        → 16 < length (flat_of_fields types) → (call_kinds params types ≡ I32 ∷ [])
+        × (call_numbers g params types v ≡ put 0 (place_of g 0))
+        × (call_bytes g params types v
+        ≡ stored g (fields tuple_type types) v (place_of g 0) 1 0) }
+    ensures result_lowered { (g : Given) (types : Fields) (v : Val)
+        → 1 < length (flat_of_fields types) → (call_kinds results types ≡ I32 ∷ [])
+        × (call_numbers g results types v ≡ put 0 (place_of g 0))
+        × (call_bytes g results types v
+        ≡ stored g (fields tuple_type types) v (place_of g 0) 1 0) }
 {}
 
 /// A list asks once for as many bytes as its elements have, at their alignment, before what these
