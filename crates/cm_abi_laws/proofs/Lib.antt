@@ -9,3 +9,4 @@ mod StringLaws
 mod AskingLaws
 mod PassedLaws
 mod StoredLaws
+mod LoweredLaws

@@ -131,7 +131,7 @@ borrow_pass w s r k index e h c x = handle_only w.table (wrapped_at 4 s k) r e h
 
 -- ---- fields, rows and cases
 
-first_from : Fields → ℕ → ℕ
+unfoldable pub first_from : Fields → ℕ → ℕ
 first_from no_fields i = 0
 first_from (field l t fs) zero = 0
 first_from (field l t fs) (suc i) = width_of t + first_from fs i
@@ -147,7 +147,7 @@ first_next no_fields i lt = absurd (omega (arith, lt))
 first_next (field l t fs) zero lt = omega (arith, first_zero fs)
 first_next (field l t fs) (suc i) lt = omega (arith, first_next fs i (omega (arith, lt)))
 
-first_is : (fs : Fields) (first : ℕ → ℕ) → AreFirst fs first → (i : ℕ) → i < field_count fs → first i ≡ first_from fs i
+pub first_is : (fs : Fields) (first : ℕ → ℕ) → AreFirst fs first → (i : ℕ) → i < field_count fs → first i ≡ first_from fs i
 first_is fs first h zero lt = h.start ∙ sym (first_zero fs)
 first_is fs first h (suc i) lt =
     ap first {x = suc i} {y = i + 1} (omega arith) ∙ h.next i (omega (arith, lt)) ∙ ap (λ x. x + width_of (field_type fs i)) (first_is fs first h i (omega (arith, lt)))
@@ -325,12 +325,11 @@ IsPassedBehind g way types v =
     (call_kinds way types ≡ kind.I32 ∷ []) × (call_numbers g way types v ≡ put 0 (place_of g 0)) × (call_bytes g way types v ≡ stored g (fields tuple_type types) v (place_of g 0) 1 0)
 
 behind_by : (g : Given) (way : Way) (types : Fields) (v : Val) → is_spilled way types ≡ true → IsPassedBehind g way types v
-behind_by g way types v e =
-    (
-      ap (λ b. if b then kind.I32 ∷ [] else flat_of_fields types) e,
-      ap (λ b. if b then put 0 (place_of g 0) else slots_of g (fields tuple_type types) v 0 0 0) e,
-      ap (λ b. if b then stored g (fields tuple_type types) v (place_of g 0) 1 0 else behind g (fields tuple_type types) v 0 0) e,
-    )
+behind_by g way types v e = (
+  ap (λ b. if b then kind.I32 ∷ [] else flat_of_fields types) e,
+  ap (λ b. if b then put 0 (place_of g 0) else slots_of g (fields tuple_type types) v 0 0 0) e,
+  ap (λ b. if b then stored g (fields tuple_type types) v (place_of g 0) 1 0 else behind g (fields tuple_type types) v 0 0) e,
+)
 
 pub params_lowered : (g : Given) (types : Fields) (v : Val) → 16 < length (flat_of_fields types) → IsPassedBehind g params types v
 params_lowered g types v many = behind_by g params types v (is_less 16 (length (flat_of_fields types)) many)

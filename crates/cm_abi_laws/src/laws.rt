@@ -5,7 +5,8 @@ ghost use Rattle.std.specs.Prelude.{length, slice_index};
 ghost use Rattle.cm_types.specs.Types.{Ty, bits_32, bits_8, field, fields, no_fields};
 ghost use Rattle.cm_types.specs.Types.{Width, record_type, unsigned, width_bytes};
 ghost use Rattle.cm_types.specs.Values.{FitsSignedWidth, Val, no_vals, number, parts, val};
-ghost use Rattle.cm_abi_model.specs.Receives.{call_bytes, call_kinds, call_numbers, put, slots_of};
+ghost use Rattle.cm_abi_model.specs.Receives.{SlotsHold, call_bytes, call_kinds, call_numbers};
+ghost use Rattle.cm_abi_model.specs.Receives.{put, slots_of};
 ghost use Rattle.cm_types.specs.declared.core_value.CoreKind.TheVariants.{I32};
 ghost use Rattle.cm_abi_model.specs.Shows.{Shows};
 ghost use Rattle.cm_abi_model.specs.Views.{View};
@@ -520,3 +521,42 @@ pub fn parts_are_stored_in_place()
 {
     sizes_of_numbers();
 }
+
+/// What is passed stands in the same core values: of a string and of a list the pointer, which is
+/// the place that was given, and then the length; of a handle the number that was given for it; the
+/// number of a case, and behind it what it carries; each field from its first core value on
+/// (CanonicalABI.md, "Flat Lowering"). The part and the handle that a field begins with are some of
+/// those given.
+pub fn parts_are_lowered_in_place()
+    ensures utf8 { (slots : List CoreValue) (g : Given) (scalars : List ℕ) (s k h : ℕ)
+        → g.charset ≡ utf8 → s + 1 < length slots
+        → SlotsHold slots (slots_of g string (text scalars) s k h)
+        → IsCore slots s (place_of g k) × IsCore slots (s + 1) (length (utf8_units scalars)) }
+    ensures utf16 { (slots : List CoreValue) (g : Given) (scalars : List ℕ) (s k h : ℕ)
+        → g.charset ≡ utf16 → s + 1 < length slots
+        → SlotsHold slots (slots_of g string (text scalars) s k h)
+        → IsCore slots s (place_of g k) × IsCore slots (s + 1) (length (utf16_units scalars)) }
+    ensures list { (slots : List CoreValue) (g : Given) (t : Ty) (vs : Vals) (s k h : ℕ)
+        → s + 1 < length slots → SlotsHold slots (slots_of g (list t) (elements vs) s k h)
+        → IsCore slots s (place_of g k) × IsCore slots (s + 1) (count_of vs) }
+    ensures own { (slots : List CoreValue) (g : Given) (r : ResourceId) (e : HandleValue)
+        (s k h : ℕ) → s < length slots → SlotsHold slots (slots_of g (own r) (handle e) s k h)
+        → IsCore slots s (number_of g h) }
+    ensures borrow { (slots : List CoreValue) (g : Given) (r : ResourceId) (e : HandleValue)
+        (s k h : ℕ) → s < length slots
+        → SlotsHold slots (slots_of g (borrow r) (handle e) s k h)
+        → IsCore slots s (number_of g h) }
+    ensures bare { (slots : List CoreValue) (g : Given) (x : CasesKind) (cs : Cases)
+        (i s k h : ℕ) → s < length slots
+        → SlotsHold slots (slots_of g (cases x cs) (bare i) s k h) → IsCore slots s i }
+    ensures bearing { (slots : List CoreValue) (g : Given) (x : CasesKind) (cs : Cases)
+        (i s k h : ℕ) (v : Val) (t : Ty) → s < length slots → IsCase cs i (Some t)
+        → SlotsHold slots (slots_of g (cases x cs) (bearing i v) s k h)
+        → IsCore slots s i × SlotsHold slots (slots_of g t v (s + 1) k h) }
+    ensures fields { (slots : List CoreValue) (g : Given) (x : FieldsKind) (fs : Fields)
+        (first : ℕ → ℕ) (vs : Vals) (s k h : ℕ) → AreFirst fs first
+        → count_of vs ≡ field_count fs
+        → SlotsHold slots (slots_of g (fields x fs) (parts vs) s k h)
+        → (i : ℕ) → i < field_count fs → (a : ℕ) × (b : ℕ)
+        × SlotsHold slots (slots_of g (field_type fs i) (value_at vs i) (s + first i) a b) }
+{}
