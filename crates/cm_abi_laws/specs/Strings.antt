@@ -22,16 +22,17 @@ utf8_units scalars = flat_map spell_utf8 scalars
 abbrev pub utf16_units : List ℕ → List ℕ
 utf16_units scalars = flat_map encode_utf16 scalars
 
--- so many units stand in a row at a pointer; those of UTF-16, and of Latin-1 which stands for it,
--- are aligned to 2 bytes
+-- so many units, each in so many bytes, stand in a row at a pointer, which is a multiple of an
+-- alignment
 pub record AreUnits (memory : List ℕ) (align bytes at n : ℕ) (units : List ℕ) : Type 0 where
   pub aligned : (k : ℕ) × (at ≡ k * align)
   pub count : n ≡ length units
   pub row : StandInRow memory at bytes units
 
--- A pointer and a length are a string of these characters: the length counts bytes in UTF-8 and
--- units of 16 bits in UTF-16. In `latin1+utf16` a length below 2 to the 31 counts characters, each
--- of which is a byte; one with that bit set counts units of UTF-16 by the other bits.
+-- The units of these characters stand at a pointer, by a length: it counts bytes in UTF-8 and units
+-- of 16 bits in UTF-16. In `latin1+utf16` a length below 2 to the 31 counts characters, each of
+-- which is a byte; one with that bit set counts units of UTF-16 by the other bits. The pointer is
+-- even but in UTF-8.
 abbrev pub AreUnitsIn : StringEncoding → List ℕ → ℕ → ℕ → List ℕ → Type 0
 AreUnitsIn encoding.Utf8 memory at n scalars = AreUnits memory 1 1 at n (utf8_units scalars)
 AreUnitsIn encoding.Utf16 memory at n scalars = AreUnits memory 2 2 at n (utf16_units scalars)
@@ -39,6 +40,7 @@ AreUnitsIn encoding.Latin1OrUtf16 memory at n scalars =
     ((n < 2 ^ 31) × AreUnits memory 2 1 at n scalars)
     ⊎ ((m : ℕ) × (n ≡ 2 ^ 31 + m) × AreUnits memory 2 2 at m (utf16_units scalars))
 
+-- a pointer and a length are a string of these characters, each of which is a Unicode scalar
 pub record IsString (w : View) (at n : ℕ) (scalars : List ℕ) : Type 0 where
   pub scalars_are : AllByRecursion IsScalar scalars
   pub units : AreUnitsIn w.encoding w.memory at n scalars
