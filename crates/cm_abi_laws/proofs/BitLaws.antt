@@ -4,7 +4,7 @@ use Rattle.std.proofs.Math.Nat.{div-div-eq-div-mul, mod-lt}
 use Rattle.std.proofs.lemmas.Nat.{div-add-mod', mod-mul-add, pow_pos}
 use Rattle.cm_abi_laws.specs.Bytes.{bit_of}
 
-bit_up : (n j : ℕ) → bit_of (n / 2) j ≡ bit_of n (suc j)
+pub bit_up : (n j : ℕ) → bit_of (n / 2) j ≡ bit_of n (suc j)
 bit_up n j = ap (λ x. x % 2) (div-div-eq-div-mul n 2 (2 ^ j)) ∙ ap (λ x. n / x % 2) (omega arith)
 
 -- a number by the bits that are kept and those above, which are even

@@ -2,3 +2,11 @@ mod NumberLaws
 mod BitLaws
 mod FrameLaws
 mod TruthLaws
+mod FlagLaws
+mod PlaceLaws
+mod FieldLaws
+mod StringLaws
+mod AskingLaws
+mod PassedLaws
+mod StoredLaws
+mod LoweredLaws

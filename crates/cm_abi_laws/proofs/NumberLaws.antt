@@ -1,9 +1,9 @@
 -- Numbers that stand in bytes.
-use Rattle.std.proofs.Common.{◌≡◌, ℕ, zero, suc, ℤ, pos, negsuc, ◌+◌, ◌*◌, ◌-◌, ◌/◌, ◌%◌, ◌^◌, ◌<◌, ◌≤◌, ◌⊎◌, inl, inr, Bool, true, false, List, slice_index, refl, sym, ap, ◌∙◌, arith}
+use Rattle.std.proofs.Common.{◌≡◌, ℕ, zero, suc, ℤ, pos, negsuc, ◌+◌, ◌*◌, ◌-◌, ◌/◌, ◌%◌, ◌^◌, ◌<◌, ◌≤◌, ◌⊎◌, inl, inr, Bool, true, false, List, slice_index, refl, sym, ap, subst, ◌∙◌, arith}
 use Rattle.std.proofs.Math.Nat.{div-div-eq-div-mul}
 use Rattle.std.proofs.lemmas.Bool.Decides.{nat_tests}
 use Rattle.std.proofs.lemmas.Int.{ints}
-use Rattle.std.specs.Prelude.{nat_lt, if◌then◌else◌, neg_ℤ, ◌≤ℤ◌, ◌<ℤ◌}
+use Rattle.std.specs.Prelude.{nat_lt, if◌then◌else◌, neg_ℤ, ◌≤ℤ◌, ◌<ℤ◌, ◌+ℤ◌}
 use Rattle.cm_types.specs.Types.{Width, bits_8, bits_16, bits_32, bits_64, width_bytes}
 use Rattle.cm_types.specs.Values.{FitsSignedWidth}
 use Rattle.cm_abi_model.specs.Numbers.{number_at, as_signed}
@@ -109,3 +109,27 @@ signed_stored bits_8 z fits = put_in 8 (2 ^ 7) (2 ^ 8) z refl refl refl fits _ (
 signed_stored bits_16 z fits = put_in 16 (2 ^ 15) (2 ^ 16) z refl refl refl fits _ (from_is 2 z)
 signed_stored bits_32 z fits = put_in 32 (2 ^ 31) (2 ^ 32) z refl refl refl fits _ (from_is 4 z)
 signed_stored bits_64 z fits = put_in 64 (2 ^ 63) (2 ^ 64) z refl refl refl fits _ (from_is 8 z)
+
+-- a number is two's complement of one signed number alone
+one_signed : (bits half all n : ℕ) → all ≡ half + half → 2 ^ (bits - 1) ≡ half → 2 ^ bits ≡ all → (y z : ℤ) → IsTwosComplement bits n y → IsTwosComplement bits n z → z ≡ y
+one_signed bits half all n e h a y z u v =
+    let y_low : neg_ℤ (pos half) ≤ℤ y = subst (λ x. neg_ℤ (pos x) ≤ℤ y) h u.lowest in
+    let y_high : y <ℤ pos half = subst (λ x. y <ℤ pos x) h u.highest in
+    let z_low : neg_ℤ (pos half) ≤ℤ z = subst (λ x. neg_ℤ (pos x) ≤ℤ z) h v.lowest in
+    let z_high : z <ℤ pos half = subst (λ x. z <ℤ pos x) h v.highest in
+    elim u.same [
+      | inl p ↦ elim v.same [
+        | inl q ↦ sym q ∙ p
+        | inr q ↦ let q : pos n ≡ z +ℤ pos all = q ∙ ap (λ x. z +ℤ pos x) a in absurd (grind (arith, ints, p, q, y_high, z_low, e))
+      ]
+      | inr p ↦ let p : pos n ≡ y +ℤ pos all = p ∙ ap (λ x. y +ℤ pos x) a in elim v.same [
+        | inl q ↦ absurd (grind (arith, ints, p, q, z_high, y_low, e))
+        | inr q ↦ let q : pos n ≡ z +ℤ pos all = q ∙ ap (λ x. z +ℤ pos x) a in grind (arith, ints, p, q)
+      ]
+    ]
+
+pub signed_only : (k : Width) (n : ℕ) (z : ℤ) → n < 256 ^ width_bytes k → IsTwosComplement (8 * width_bytes k) n z → z ≡ as_signed (width_bytes k) n
+signed_only bits_8 n z lt h = one_signed 8 (2 ^ 7) (2 ^ 8) n refl refl refl (as_signed 1 n) z (signed_read bits_8 n lt) h
+signed_only bits_16 n z lt h = one_signed 16 (2 ^ 15) (2 ^ 16) n refl refl refl (as_signed 2 n) z (signed_read bits_16 n lt) h
+signed_only bits_32 n z lt h = one_signed 32 (2 ^ 31) (2 ^ 32) n refl refl refl (as_signed 4 n) z (signed_read bits_32 n lt) h
+signed_only bits_64 n z lt h = one_signed 64 (2 ^ 63) (2 ^ 64) n refl refl refl (as_signed 8 n) z (signed_read bits_64 n lt) h

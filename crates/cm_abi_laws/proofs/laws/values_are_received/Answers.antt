@@ -1,4 +1,4 @@
-use Rattle.cm_abi_laws.proofs.TruthLaws.{others_are_true, scalar_shown, signed_shown, unsigned_shown, zero_is_false}
+use Rattle.cm_abi_laws.proofs.TruthLaws.{false_shown, others_are_true, scalar_shown, scalar_stands, signed_shown, signed_stands, true_shown, unsigned_shown, unsigned_stands, zero_is_false}
 use Rattle.cm_abi_laws.proofs.laws.values_are_received.Goals as goal
 
 pub returns-clause-zero_is_false : goal.returns-clause-zero_is_false
@@ -15,3 +15,18 @@ returns-clause-signed c = signed_shown
 
 pub returns-clause-scalars : goal.returns-clause-scalars
 returns-clause-scalars c = scalar_shown
+
+pub returns-clause-false_only : goal.returns-clause-false_only
+returns-clause-false_only c = false_shown
+
+pub returns-clause-true_only : goal.returns-clause-true_only
+returns-clause-true_only c = true_shown
+
+pub returns-clause-unsigned_only : goal.returns-clause-unsigned_only
+returns-clause-unsigned_only c = unsigned_stands
+
+pub returns-clause-signed_only : goal.returns-clause-signed_only
+returns-clause-signed_only c = signed_stands
+
+pub returns-clause-scalars_only : goal.returns-clause-scalars_only
+returns-clause-scalars_only c = scalar_stands
