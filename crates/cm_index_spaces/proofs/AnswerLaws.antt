@@ -22,7 +22,7 @@ use Rattle.cm_type_scope.specs.declared.entries.TypeEntry.{TypeEntry}
 use Rattle.cm_type_scope.specs.declared.scope.TypeScope.{TypeScope}
 use Rattle.cm_entries.specs.ComponentSpaces.{AreTypesOf, IsComponentOf, StaysAfter, after_answer}
 use Rattle.cm_entries.specs.declared.spaces.ComponentSpaces.{ComponentSpaces}
-use Rattle.cm_index_spaces.specs.IndexSpaces.{Answers, IsAt, defs_made, funcs_in, types_in}
+use Rattle.cm_index_spaces.specs.IndexSpaces.{Answers, IsAt, funcs_in, types_in}
 use Rattle.cm_index_spaces.specs.Made.{Tells}
 use Rattle.cm_index_spaces.specs.declared.spaces.IndexSpaces.{IndexSpaces}
 use Rattle.cm_index_spaces.proofs.MadeLaws.{defs_kept, still_there, tells, told_by}

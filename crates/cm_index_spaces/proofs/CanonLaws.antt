@@ -1,5 +1,5 @@
 -- What calls answer for canonical definitions.
-use Rattle.std.proofs.Common.{◌≡◌, ℕ, ◌+◌, Bool, true, false, List, [], ◌∷◌, ◌++◌, length, map, Option, Some, None, refl, sym, ap, ◌∙◌, arith, subst, append-nil, IfSome, Vec, Global, length-append}
+use Rattle.std.proofs.Common.{◌≡◌, ℕ, ◌+◌, Bool, true, false, List, [], ◌∷◌, ◌++◌, length, map, Option, Some, None, refl, sym, ap, ◌∙◌, arith, subst, Vec, Global, length-append}
 use Rattle.std.proofs.lemmas.Option.{slice_get-map}
 use Rattle.std.specs.List.{list_all, slice_get}
 use Rattle.std.specs.Prelude.{if◌then◌else◌, nat_le}
@@ -16,15 +16,15 @@ use Rattle.cm_validity.specs.Definitions.{CoreFuncDef, FuncDef, TypeDef, droppin
 use Rattle.cm_validity.specs.Items.{Item, canon_item}
 use Rattle.cm_validity.specs.Options.{no_post_return_broken, options_broken}
 use Rattle.cm_validity.specs.Reasons.{found, if_found, least, lesser, unless}
-use Rattle.cm_validity.specs.Rules.{broken, canon_broken, lowered_broken, own_resource_broken, resource_at, resource_broken}
+use Rattle.cm_validity.specs.Rules.{canon_broken, lowered_broken, own_resource_broken, resource_at, resource_broken}
 use Rattle.cm_validity.specs.Scopes.{resource_in}
-use Rattle.cm_validity.specs.Spaces.{Spaces, after_item, canon_core_func, lower_func, resource_func}
+use Rattle.cm_validity.specs.Spaces.{Spaces, after_item, canon_core_func, lower_func}
 use Rattle.cm_validity.specs.TypeRules.{has_sort}
 use Rattle.cm_validity.specs.declared.sorts.TypeSort.TheVariants as sort
 use Rattle.cm_core_spaces.specs.CoreSpaces.{IsCoreOf, count_made, made_count, number_made}
 use Rattle.cm_core_spaces.specs.declared.spaces.CoreSpaces.{CoreSpaces}
 use Rattle.cm_type_scope.specs.Entries.{in_arena}
-use Rattle.cm_type_scope.specs.TypeScopes.{entries_of, own_types}
+use Rattle.cm_type_scope.specs.TypeScopes.{own_types}
 use Rattle.cm_entries.specs.ComponentSpaces.{AreTypesOf, IsComponentOf, after_answer}
 use Rattle.cm_entries.specs.declared.spaces.ComponentSpaces.{ComponentSpaces}
 use Rattle.cm_canons.specs.Spaces.{Answers as CanonAnswers, Stand, count_after}

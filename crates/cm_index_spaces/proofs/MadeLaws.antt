@@ -1,11 +1,11 @@
 -- What tells the core functions that canonical definitions made.
-use Rattle.std.proofs.Common.{◌≡◌, ℕ, zero, suc, ◌≤◌, ◌<◌, Bool, true, false, ◌&&◌, List, [], ◌∷◌, ◌++◌, length, map, nat_lt, Option, Some, None, refl, sym, ap, ◌∙◌, arith, subst, length-append}
+use Rattle.std.proofs.Common.{◌≡◌, ℕ, zero, suc, ◌≤◌, ◌<◌, Bool, true, false, ◌&&◌, List, [], ◌∷◌, ◌++◌, length, map, Some, refl, sym, ap, ◌∙◌, arith, subst, length-append}
 use Rattle.std.proofs.lemmas.Bool.{ltb-true, lt-ltb}
 use Rattle.std.proofs.lemmas.List.{get_or_append_left, map-append}
 use Rattle.std.specs.List.{list_all, slice_get}
 use Rattle.cm_types.specs.Types.{FuncTy}
 use Rattle.cm_replaced.specs.Replaced.{replaced_func}
-use Rattle.cm_placed.specs.Placed.{moved_by, placed_func}
+use Rattle.cm_placed.specs.Placed.{moved_by}
 use Rattle.cm_validity.specs.Definitions.{CoreFuncDef, lowered, making}
 use Rattle.cm_validity.specs.Options.{is_guest}
 use Rattle.cm_type_scope.specs.TypeScopes.{Extends}

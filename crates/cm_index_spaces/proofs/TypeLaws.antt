@@ -1,8 +1,7 @@
 -- Types that are added to a scope, and types that an alias names.
 use Rattle.std.proofs.Common.{◌≡◌, ℕ, true, false, List, [], ◌∷◌, ◌++◌, Option, Some, None, refl, sym, ap, ◌∙◌, subst, append-nil, MatchOption}
 use Rattle.std.specs.List.{AllByRecursion, slice_get}
-use Rattle.std.specs.Option.{option_map}
-use Rattle.std.specs.Prelude.{◌==◌, option_to_list}
+use Rattle.std.specs.Prelude.{◌==◌}
 use Rattle.cm_types.specs.Types.{Ty, FuncTy}
 use Rattle.cm_types.specs.declared.def_types.OuterType.{OuterType}
 use Rattle.cm_component.specs.Trees.{AliasTree, outer_type}
@@ -21,7 +20,7 @@ use Rattle.cm_type_scope.specs.SettledScopes.{AreSettled}
 use Rattle.cm_type_scope.specs.TypeScopes.{Extends, HasGrown, arena_funcs, arena_types, entries_of, own_types}
 use Rattle.cm_type_scope.specs.declared.entries.TypeEntry.{TypeEntry}
 use Rattle.cm_type_scope.specs.declared.scope.TypeScope.{TypeScope}
-use Rattle.cm_entries.specs.ComponentSpaces.{AnswersAlias, IsComponentOf, StaysAfter, after_answer}
+use Rattle.cm_entries.specs.ComponentSpaces.{AnswersAlias, IsComponentOf}
 use Rattle.cm_entries.specs.declared.aliases.Aliased.TheVariants as aliased
 use Rattle.cm_entries.specs.declared.spaces.ComponentSpaces.{ComponentSpaces}
 use Rattle.cm_index_spaces.specs.IndexSpaces.{Answers, IsAt, funcs_in, types_in}

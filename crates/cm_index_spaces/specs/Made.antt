@@ -1,5 +1,5 @@
 -- The core functions that canonical definitions made (Explainer.md, "Canonical Definitions").
-use Rattle.std.specs.Prelude.{◌≡◌, ℕ, Bool, true, false, List, Option, Some, slice_get}
+use Rattle.std.specs.Prelude.{◌≡◌, ℕ, Bool, true, false, List, Some, slice_get}
 use Rattle.cm_types.specs.Types.{FuncTy}
 use Rattle.cm_placed.specs.Placed.{placed_func, is_there}
 use Rattle.cm_validity.specs.Definitions.{CoreFuncDef, lowered, making, dropping, reading}

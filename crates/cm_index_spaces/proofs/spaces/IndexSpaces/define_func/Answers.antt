@@ -1,4 +1,4 @@
-use Rattle.std.proofs.Common.{ap, ◌++◌, ◌∷◌, [], ◌∙◌, sym}
+use Rattle.std.proofs.Common.{ap, ◌∙◌, sym}
 use Rattle.cm_types.specs.DefTypes.{func_def, func_type_tree}
 use Rattle.cm_validity.specs.Items.{type_item}
 use Rattle.cm_validity.specs.Reasons.{least}

@@ -1,12 +1,11 @@
-use Rattle.std.proofs.Common.{ap, map, ◌∙◌, subst, sym, List, ℕ}
-use Rattle.std.specs.List.{AllByRecursion}
+use Rattle.std.proofs.Common.{ap, map, ◌∙◌, subst, sym}
 use Rattle.cm_types.specs.DefTypes.{declaration_tree, instance_def}
 use Rattle.cm_validity.specs.Declarations.{instance_def_broken, instance_defined}
 use Rattle.cm_validity.specs.Definitions.{instance_type}
 use Rattle.cm_validity.specs.Items.{type_item}
 use Rattle.cm_validity.specs.Reasons.{least}
-use Rattle.cm_validity.specs.Spaces.{Spaces, next_resource}
-use Rattle.cm_counted.specs.CountedSpaces.{AreSpacesCounted, IsDefCounted}
+use Rattle.cm_validity.specs.Spaces.{next_resource}
+use Rattle.cm_counted.specs.CountedSpaces.{AreSpacesCounted}
 use Rattle.cm_type_scope.specs.TypeScopes.{own_types}
 use Rattle.cm_index_spaces.specs.IndexSpaces.{funcs_in, types_in}
 use Rattle.cm_index_spaces.proofs.AnswerLaws.{component_stays, types_answer}

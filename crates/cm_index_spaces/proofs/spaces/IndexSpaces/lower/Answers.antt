@@ -1,8 +1,7 @@
-use Rattle.std.proofs.Common.{◌≡◌, List, Option, subst, sym, refl}
-use Rattle.cm_component.specs.Trees.{CanonTree, canon_tree, lower}
+use Rattle.std.proofs.Common.{List, subst, sym, refl}
+use Rattle.cm_component.specs.Trees.{CanonTree, canon_tree}
 use Rattle.cm_types.specs.Types.{Ty}
 use Rattle.cm_arena_layouts.specs.Placed.{AreOfFirst, layouts_in}
-use Rattle.cm_validate.specs.declared.fault.ValidReason.{ValidReason}
 use Rattle.cm_validity.specs.Items.{canon_item}
 use Rattle.cm_index_spaces.specs.IndexSpaces.{Answers, funcs_in, types_in}
 use Rattle.cm_index_spaces.specs.Making.{Makes}

@@ -1,9 +1,9 @@
-use Rattle.std.proofs.Common.{[], ap, length, sym, subst, ◌∙◌, List}
+use Rattle.std.proofs.Common.{ap, length, sym, subst, ◌∙◌, List}
 use Rattle.std.specs.List.{AllByRecursion, list_all}
-use Rattle.cm_arena_layouts.specs.Placed.{AreOfFirst, layouts_in}
+use Rattle.cm_arena_layouts.specs.Placed.{AreOfFirst}
 use Rattle.cm_layout.specs.Shapes.{LayoutTy}
 use Rattle.cm_type_scope.specs.Settled.{IsEntrySettled}
-use Rattle.cm_type_scope.specs.TypeScopes.{arena_funcs, arena_types, entries_of}
+use Rattle.cm_type_scope.specs.TypeScopes.{arena_funcs, arena_types}
 use Rattle.cm_index_spaces.specs.Made.{is_made_there}
 use Rattle.cm_index_spaces.proofs.spaces.IndexSpaces.new.Goals as goal
 
