@@ -1,17 +1,23 @@
 -- Items one after another, and sections.
-use Rattle.std.proofs.Common.{◌≡◌, ℕ, zero, suc, ◌+◌, ◌<◌, ◌≤◌, Bool, true, false, List, [], ◌∷◌, ◌++◌, length, take, drop, Option, Some, None, refl, sym, ap, ◌∙◌, arith, subst, slice_index_or, add-one, length-append, append_assoc, append-nil}
+use Rattle.std.proofs.Common.{◌≡◌, ℕ, zero, suc, ◌+◌, ◌<◌, ◌≤◌, Bool, true, false, List, [], ◌∷◌, ◌++◌, length, take, drop, Option, Some, None, map, get_or, slice_get, refl, sym, ap, ◌∙◌, arith, subst, slice_index_or, add-one, length-append, append_assoc, append-nil}
 use Rattle.std.proofs.lemmas.Bool.{leb-true, leb-false}
+use Rattle.std.proofs.lemmas.List.{length-map, take_all}
+use Rattle.std.proofs.lemmas.Option.{slice_get-get_or, slice_get-map}
 use Rattle.std.specs.Bool.{⊤}
-use Rattle.std.specs.List.{slice_get}
-use Rattle.std.specs.Prelude.{Contains, if◌then◌else◌, nat_le}
-use Rattle.cm_component.specs.Trees.{SectionTree}
+use Rattle.std.specs.Option.{option_map}
+use Rattle.std.specs.Prelude.{Contains, if◌then◌else◌, nat_le, MatchOption}
+use Rattle.cm_component.specs.Trees.{SectionTree, section_tree}
+use Rattle.cm_component.specs.declared.section.Section.{Section}
 use Rattle.cm_validate.specs.declared.fault.ValidReason.{ValidReason}
 use Rattle.cm_validate.specs.Reasons.{reason_number}
 use Rattle.cm_validity.specs.Items.{Item, all_items, items_of}
 use Rattle.cm_validity.specs.Reasons.{least, lesser}
 use Rattle.cm_validity.specs.Rules.{broken}
-use Rattle.cm_validity.specs.Spaces.{Spaces, after_item, after_items}
-use Rattle.cm_validity.specs.Valid.{IsFirstFault, IsLeast, IsValidFrom}
+use Rattle.cm_validity.specs.Spaces.{Spaces, after_item, after_items, empty_spaces, spaces_of}
+use Rattle.cm_validity.specs.Valid.{IsFaultOf, IsFirstFault, IsLeast, IsValid, IsValidFrom}
+use Rattle.cm_index_spaces.specs.IndexSpaces.{Answers, IsAt, Stands}
+use Rattle.cm_index_spaces.specs.declared.spaces.IndexSpaces.{IndexSpaces}
+use Rattle.cm_component_spaces.specs.Walks.{Walks}
 
 -- ---- items that break nothing, one after another
 
@@ -130,3 +136,107 @@ first_fault s items i x r at fine e = record {
   before = fine_valid s (take i items) fine;
   reason = least_is (broken (after_items s (take i items)) x) r (sym e);
 }
+
+-- ---- the items of a section
+
+-- the items before a place break nothing, and the spaces are those after them
+abbrev pub IsWalked : Spaces → List Item → ℕ → IndexSpaces → Type 0
+IsWalked s items n w = AreFine s (take n items) × IsAt w (after_items s (take n items))
+
+there : {A : Type 0} (xs : List A) (n : ℕ) → n < length xs → (x : A) × (slice_get xs n ≡ Some x)
+there [] n lt = absurd (omega (arith, lt))
+there (y ∷ ys) zero lt = (y, refl)
+there (y ∷ ys) (suc n) lt = there ys n (omega (arith, lt))
+
+pub walk_begins : (s : Spaces) (items : List Item) (w : IndexSpaces) → IsAt w s → IsWalked s items 0 w
+walk_begins s items w at = (tt, at)
+
+pub walk_goes_on : (s : Spaces) (items : List Item) (n : ℕ) (old new : IndexSpaces) → n < length items → ((x : Item) → slice_get items n ≡ Some x → Answers x old None new) → IsWalked s items n old → IsWalked s items (n + 1) new
+walk_goes_on s items n old new lt answers w =
+    let x = there items n lt in
+    let a = answers x.0 x.1 in
+    let more : take (n + 1) items ≡ take n items ++ x.0 ∷ [] = ap (λ (k : ℕ). take k items) (add-one n) ∙ take_next items n x.0 x.1 in (
+      subst (λ (ys : List Item). AreFine s ys) (sym more) (fine_more s (take n items) x.0 w.0 (no_reason (broken (after_items s (take n items)) x.0) (sym (a.fault (after_items s (take n items)) w.1)))),
+      subst (λ (u : Spaces). IsAt new u) (sym (after_both s (take n items) (x.0 ∷ [])) ∙ ap (after_items s) (sym more)) (a.after (after_items s (take n items)) w.1),
+    )
+
+pub walk_breaks : (s : Spaces) (items : List Item) (n : ℕ) (r : ValidReason) (old new : IndexSpaces) → n < length items → ((x : Item) → slice_get items n ≡ Some x → Answers x old (Some r) new) → IsWalked s items n old → IsFirstFault s items n r
+walk_breaks s items n r old new lt answers w =
+    let x = there items n lt in
+    first_fault s items n x.0 r x.1 w.0 ((answers x.0 x.1).fault (after_items s (take n items)) w.1)
+
+pub walk_ends : (s : Spaces) (items : List Item) (n : ℕ) (new : IndexSpaces) → length items ≤ n → IsWalked s items n new → IsValidFrom s items × IsAt new (after_items s items)
+walk_ends s items n new le w =
+    let all : take n items ≡ items = take_all n items le in
+    (fine_valid s items (subst (λ (ys : List Item). AreFine s ys) all w.0), subst (λ (ys : List Item). IsAt new (after_items s ys)) all w.1)
+
+-- ---- the sections of a component
+
+valid_fine : (s : Spaces) (xs : List Item) → IsValidFrom s xs → AreFine s xs
+valid_fine s [] v = tt
+valid_fine s (x ∷ xs) v = (v [] x xs refl, valid_fine (after_item s x) xs (λ front y rest e. v (x ∷ front) y rest (ap (λ (ys : List Item). x ∷ ys) e)))
+
+-- the sections before a place break nothing, and the spaces are those after them
+abbrev pub AreWalked : List SectionTree → ℕ → IndexSpaces → Type 0
+AreWalked sections n w = AreFine empty_spaces (all_items (take n sections)) × IsAt w (after_items empty_spaces (all_items (take n sections)))
+
+items_both : (xs ys : List SectionTree) → all_items (xs ++ ys) ≡ all_items xs ++ all_items ys
+items_both [] ys = refl
+items_both (x ∷ xs) ys = ap (λ (zs : List Item). items_of x ++ zs) (items_both xs ys) ∙ sym (append_assoc (items_of x) (all_items xs) (all_items ys))
+
+items_more : (sections : List SectionTree) (n : ℕ) (t : SectionTree) → slice_get sections n ≡ Some t → all_items (take (n + 1) sections) ≡ all_items (take n sections) ++ items_of t
+items_more sections n t e =
+    ap (λ (k : ℕ). all_items (take k sections)) (add-one n)
+    ∙ (ap all_items (take_next sections n t e)
+    ∙ (items_both (take n sections) (t ∷ [])
+    ∙ ap (λ (zs : List Item). all_items (take n sections) ++ zs) (append-nil (items_of t))))
+
+pub walks_begin : (sections : List SectionTree) (w : IndexSpaces) → IsAt w empty_spaces → AreWalked sections 0 w
+walks_begin sections w at = (tt, at)
+
+pub walks_go_on : (sections : List SectionTree) (n : ℕ) (t : SectionTree) (old new : IndexSpaces) → slice_get sections n ≡ Some t → Walks (items_of t) old None new → AreWalked sections n old → AreWalked sections (n + 1) new
+walks_go_on sections n t old new e walks w =
+    let front = all_items (take n sections) in
+    let step = walks (after_items empty_spaces front) w.1 in
+    let more : all_items (take (n + 1) sections) ≡ front ++ items_of t = items_more sections n t e in (
+      subst (λ (ys : List Item). AreFine empty_spaces ys) (sym more) (fine_both empty_spaces front (items_of t) w.0 (valid_fine (after_items empty_spaces front) (items_of t) step.0)),
+      subst (λ (u : Spaces). IsAt new u) (sym (after_both empty_spaces front (items_of t)) ∙ ap (after_items empty_spaces) (sym more)) step.1,
+    )
+
+pub walks_break : (sections : List SectionTree) (n : ℕ) (t : SectionTree) (i : ℕ) (r : ValidReason) (old new : IndexSpaces) → slice_get sections n ≡ Some t → Walks (items_of t) old (Some (i, r)) new → AreWalked sections n old → IsFaultOf sections n i r
+walks_break sections n t i r old new e walks w = record {
+  before = take n sections;
+  faulty = t;
+  behind = drop (suc n) sections;
+  split = split_at sections n t e;
+  place = length_before sections n t e;
+  fine = fine_valid empty_spaces (all_items (take n sections)) w.0;
+  here = walks (after_items empty_spaces (all_items (take n sections))) w.1;
+}
+
+-- the same answer told otherwise
+pub walks_as : (items : List Item) (old new : IndexSpaces) (q r : Option (ℕ × ValidReason)) → q ≡ r → Walks items old q new → Walks items old r new
+walks_as items old new q r e w = subst (λ (o : Option (ℕ × ValidReason)). Walks items old o new) {y = r} e w
+
+pub walks_end : (sections : List SectionTree) (n : ℕ) (new : IndexSpaces) → length sections ≤ n → AreWalked sections n new → IsValid sections × IsAt new (spaces_of sections)
+walks_end sections n new le w =
+    let all : take n sections ≡ sections = take_all n sections le in
+    (fine_valid empty_spaces (all_items sections) (subst (λ (ys : List SectionTree). AreFine empty_spaces (all_items ys)) all w.0), subst (λ (ys : List SectionTree). IsAt new (after_items empty_spaces (all_items ys))) all w.1)
+
+-- the tree of the section at a place
+pub section_there : (xs : List Section) (trees : List SectionTree) (n : ℕ) (x : Section) → map section_tree xs ≡ trees → n < length xs → x ≡ get_or xs n x → slice_get trees n ≡ Some (section_tree x)
+section_there xs trees n x e lt at = subst (λ (ts : List SectionTree). slice_get ts n ≡ Some (section_tree x)) e (slice_get-map section_tree xs n ∙ ap (λ (o : Option Section). option_map section_tree o) (slice_get-get_or xs n x lt ∙ ap (λ (y : Section). Some y) (sym at)))
+
+pub sections_over : (xs : List Section) (trees : List SectionTree) (n : ℕ) → map section_tree xs ≡ trees → length xs ≤ n → length trees ≤ n
+sections_over xs trees n e le = subst (λ (ts : List SectionTree). length ts ≤ n) e (subst (λ (k : ℕ). k ≤ n) (sym (length-map xs section_tree)) le)
+
+-- the item at a place, made of what stands there
+pub item_there : {A B : Type 0} (tree : A → B) (item : B → Item) (xs : List A) (k : ℕ) (v : A) → slice_get xs k ≡ Some v → Some (item (tree v)) ≡ slice_get (map item (map tree xs)) k
+item_there {A} {B} tree item xs k v e = sym (slice_get-map item (map tree xs) k ∙ ap (λ (o : Option B). option_map item o) (slice_get-map tree xs k ∙ ap (λ (o : Option A). option_map tree o) e))
+
+pub item_itself : {A : Type 0} (item : A → Item) (xs : List A) (k : ℕ) (v : A) → slice_get xs k ≡ Some v → Some (item v) ≡ slice_get (map item xs) k
+item_itself {A} item xs k v e = sym (slice_get-map item xs k ∙ ap (λ (o : Option A). option_map item o) e)
+
+-- what a look-up found, in the list that it looked at
+pub found_at : {A : Type 0} (xs ys : List A) (k : ℕ) (v : A) → ys ≡ xs → k < length ys → v ≡ get_or ys k v → slice_get xs k ≡ Some v
+found_at {A} xs ys k v e lt at = subst (λ (zs : List A). slice_get zs k ≡ Some v) e (slice_get-get_or ys k v lt ∙ ap (λ (y : A). Some y) (sym at))
