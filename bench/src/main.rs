@@ -10,16 +10,18 @@ mod machine;
 mod measure;
 mod plain;
 mod samples;
+mod sets;
 mod text;
 
 fn main() {
     let wanted: Vec<String> = std::env::args().skip(1).collect();
-    let parts: [(&str, fn()); 6] = [
+    let parts: [(&str, fn()); 7] = [
         ("text", text::run),
         ("handles", handles::run),
         ("files", files::run),
         ("layout", layout::run),
         ("link", link::run),
+        ("sets", sets::run),
         ("machine", machine::run),
     ];
     for (name, run) in parts {

@@ -6,7 +6,7 @@ const MODULE: [u8; 8] = [0x00, 0x61, 0x73, 0x6D, 0x01, 0x00, 0x00, 0x00];
 /// The most bytes of a file.
 pub const LARGEST: usize = 16_777_216;
 
-fn number(mut of: usize) -> Vec<u8> {
+pub fn number(mut of: usize) -> Vec<u8> {
     let mut out = Vec::new();
     while of >= 0x80 {
         out.push(of as u8 | 0x80);
@@ -16,19 +16,19 @@ fn number(mut of: usize) -> Vec<u8> {
     out
 }
 
-fn text(of: &str) -> Vec<u8> {
+pub fn text(of: &str) -> Vec<u8> {
     [number(of.len()), of.as_bytes().to_vec()].concat()
 }
 
-fn section(code: u8, contents: &[u8]) -> Vec<u8> {
+pub fn section(code: u8, contents: &[u8]) -> Vec<u8> {
     [vec![code], number(contents.len()), contents.to_vec()].concat()
 }
 
-fn list(items: &[Vec<u8>]) -> Vec<u8> {
+pub fn list(items: &[Vec<u8>]) -> Vec<u8> {
     [number(items.len()), items.concat()].concat()
 }
 
-fn file(sections: &[Vec<u8>]) -> Vec<u8> {
+pub fn file(sections: &[Vec<u8>]) -> Vec<u8> {
     [COMPONENT.to_vec(), sections.concat()].concat()
 }
 

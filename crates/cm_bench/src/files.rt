@@ -1,9 +1,9 @@
 //! Files of components, for `bench/src/files.rs`. Each call answers a number that depends on what
 //! was read.
 
-use cm_binary::{decode, encode};
+use cm_binary::{Component, decode, encode};
 use cm_pieces::{decode_from, decode_pieces};
-use cm_validate::{Checked, validate};
+use cm_validate::validate;
 use std::alloc::Global;
 
 /// Decodes a file: how many sections it has, 0 where it is refused.
@@ -41,14 +41,16 @@ pub extern "C" fn cm_bench_encode(alloc: Global, bytes: &[u8]) -> usize {
 }
 
 /// The component of a file, none where it is refused.
-pub(crate) fn checked(alloc: Global, bytes: &[u8]) -> Option<Checked> {
-    let component = decode(alloc, bytes).ok()?;
-    validate(alloc, component).ok()
+pub(crate) fn component(alloc: Global, bytes: &[u8]) -> Option<Component> {
+    decode(alloc, bytes).ok()
 }
 
 /// Decodes and validates a file: how many imports it has, or the greatest number where it is
 /// refused.
 #[unsafe(no_mangle)]
 pub extern "C" fn cm_bench_validate(alloc: Global, bytes: &[u8]) -> usize {
-    checked(alloc, bytes).map_or(usize::MAX, |checked| checked.signature().imports.len())
+    let Some(component) = component(alloc, bytes) else {
+        return usize::MAX;
+    };
+    validate(alloc, &component).map_or(usize::MAX, |checked| checked.imports().len())
 }

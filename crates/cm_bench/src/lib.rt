@@ -4,5 +4,6 @@
 mod files;
 mod handles;
 mod layouts;
+mod many;
 mod sets;
 mod text;

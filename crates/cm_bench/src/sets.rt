@@ -1,22 +1,31 @@
 //! Sets of two components, for `bench/src/link.rs` and `bench/src/machine.rs`.
 
-use crate::files::checked;
+use crate::files::component;
+use cm_binary::Component;
 use cm_machine::{Event, Misuse, Move, Set};
 use cm_match::{Linked, link};
 use cm_types::CoreValue;
+use cm_validate::validate;
 use std::alloc::Global;
 
-/// The linked set of two files, none where one is refused.
-fn linked(alloc: Global, provider: &[u8], user: &[u8]) -> Option<Linked> {
-    let provider = checked(alloc, provider)?;
-    let user = checked(alloc, user)?;
+/// The linked set of two components, none where one is refused.
+fn linked<'a>(alloc: Global, provider: &'a Component, user: &'a Component) -> Option<Linked<'a>> {
+    let provider = validate(alloc, provider).ok()?;
+    let user = validate(alloc, user).ok()?;
     link(alloc, Vec::from_array(alloc, [provider, user]).ok()?).ok()
 }
 
 /// Decodes, validates and links two files: how many imports are linked, 0 where they are refused.
 #[unsafe(no_mangle)]
 pub extern "C" fn cm_bench_link(alloc: Global, provider: &[u8], user: &[u8]) -> usize {
-    linked(alloc, provider, user).map_or(0, |linked| linked.plan().len())
+    links_of(alloc, provider, user).unwrap_or(0)
+}
+
+fn links_of(alloc: Global, provider: &[u8], user: &[u8]) -> Option<usize> {
+    let provider = component(alloc, provider)?;
+    let user = component(alloc, user)?;
+    let linked = linked(alloc, &provider, &user)?;
+    Some(linked.plan().len())
 }
 
 /// The number that an event carries, 0 where it carries none.
@@ -49,7 +58,10 @@ pub extern "C" fn cm_bench_calls(alloc: Global, provider: &[u8], user: &[u8], ca
 }
 
 fn calls_of(alloc: Global, provider: &[u8], user: &[u8], calls: u32) -> Option<u64> {
-    let mut set = Set::new(alloc, linked(alloc, provider, user)?, &[0, 0]).ok()?;
+    let provider = component(alloc, provider)?;
+    let user = component(alloc, user)?;
+    let linked = linked(alloc, &provider, &user)?;
+    let mut set = Set::new(alloc, &linked, &[0, 0]).ok()?;
     let call = Move::Call {
         func: 0,
         args: Vec::from_array(alloc, [CoreValue::I32(41)]).ok()?,

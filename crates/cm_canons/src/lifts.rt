@@ -19,8 +19,8 @@ use cm_core_spaces::CoreSpaces;
 use cm_entries::laws::types_after;
 use cm_entries::{ComponentSpaces, func_type_at};
 use cm_passing::FuncPassing;
+use cm_reasons::ValidReason;
 use cm_type_rules::lesser;
-use cm_validate::ValidReason;
 use cm_validity::laws::least_of_both;
 use std::alloc::AllocError;
 

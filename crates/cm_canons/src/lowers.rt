@@ -24,8 +24,8 @@ use cm_entries::laws::{others_add_nothing, types_after};
 use cm_entries::{ComponentSpaces, FuncEntry};
 use cm_passing::FuncPassing;
 use cm_placed::Placed;
+use cm_reasons::ValidReason;
 use cm_type_rules::{broken_unless, lesser};
-use cm_validate::ValidReason;
 use cm_validity::laws::least_of_both;
 use std::alloc::AllocError;
 

@@ -1,3 +1,2 @@
-pub mod FuncLaws
-pub mod PlaceLaws
-pub mod SpaceLaws
+pub mod ItemLaws
+pub mod ExternLaws

@@ -1,2 +1,2 @@
-pub mod OverU32
-pub mod Placed
+pub mod Items
+pub mod Exports

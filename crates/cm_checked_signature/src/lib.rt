@@ -2,7 +2,7 @@
 #![tactic(auto)]
 
 mod externs;
-mod funcs;
+mod items;
 mod signatures;
 
 pub use signatures::signature;

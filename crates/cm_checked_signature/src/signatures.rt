@@ -2,26 +2,28 @@
 
 ghost use Rattle.std.specs.Prelude.{◌≡◌, IfOk};
 ghost use Rattle.cm_signatures.specs.Signatures.{signature_of};
-ghost use Rattle.cm_validate.specs.Spaces.{signature, spaces_of};
+ghost use Rattle.cm_validate.specs.Checked.{spaces_in};
+ghost use Rattle.cm_checked_signature.specs.Exports.{signature_in};
 
-use crate::externs::push_externs;
+use crate::externs::exported_externs;
 use cm_signatures::Signature;
-use cm_type_arena::Types;
-use cm_validate::Checked;
+use cm_validate::{Checked, ComponentExterns};
 use std::alloc::{AllocError, Global};
 
 /// What a valid component imports and exports, in the order of its file (Explainer.md, "Import and
-/// Export Definitions"). `AllocError` comes where there is no memory for it.
+/// Export Definitions"). The component is taken over: its arena and its imports are not copied.
+/// `AllocError` comes where there is no memory for its exports.
 ///
-/// It costs time and memory linear in the names and the parameters of what is imported and
-/// exported: the type of a function is made for each import and export that has it, so far, and
-/// labels are shared.
-pub fn signature(alloc: Global, component: &Checked) -> Result<Signature, AllocError>
-    ensures { IfOk result (λ s. signature_of s ≡ signature (spaces_of component.now)) }
+/// The items of an instance are made anew for each export of it, so that the cost is that of all
+/// items of all exports: an instance that is exported many times costs as often.
+pub fn signature(alloc: Global, checked: Checked<'_>) -> Result<Signature, AllocError>
+    ensures { IfOk result (λ s. signature_of s ≡ signature_in (spaces_in checked.entry)) }
 {
-    let checked = component.signature();
-    let mut types = Types::new(alloc)?;
-    let imports = push_externs(alloc, &mut types, &checked.imports)?;
-    let exports = push_externs(alloc, &mut types, &checked.exports)?;
+    let ComponentExterns {
+        types,
+        imports,
+        exports,
+    } = checked.into_externs();
+    let exports = exported_externs(alloc, &exports)?;
     Ok(Signature::new(types, imports, exports))
 }

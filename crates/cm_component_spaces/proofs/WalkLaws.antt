@@ -1,15 +1,16 @@
 -- Items one after another, and sections.
-use Rattle.std.proofs.Common.{◌≡◌, ℕ, zero, suc, ◌+◌, ◌<◌, ◌≤◌, Bool, true, false, List, [], ◌∷◌, ◌++◌, length, take, drop, Option, Some, None, map, get_or, slice_get, refl, sym, ap, ◌∙◌, arith, subst, slice_index_or, add-one, length-append, append_assoc, append-nil}
+use Rattle.std.proofs.Common.{◌≡◌, inl, inr, ℕ, zero, suc, ◌+◌, ◌<◌, ◌≤◌, Bool, true, false, List, [], ◌∷◌, ◌++◌, length, take, drop, Option, Some, None, map, get_or, slice_get, refl, sym, ap, ◌∙◌, arith, subst, slice_index_or, add-one, length-append, append_assoc, append-nil}
 use Rattle.std.proofs.lemmas.Bool.{leb-true, leb-false}
 use Rattle.std.proofs.lemmas.List.{length-map, take_all}
 use Rattle.std.proofs.lemmas.Option.{slice_get-get_or, slice_get-map}
 use Rattle.std.specs.Bool.{⊤}
-use Rattle.std.specs.Option.{option_map}
+use Rattle.std.specs.Option.{option_map, option_map_or}
 use Rattle.std.specs.Prelude.{Contains, if◌then◌else◌, nat_le, MatchOption}
 use Rattle.cm_component.specs.Trees.{SectionTree, section_tree}
 use Rattle.cm_component.specs.declared.section.Section.{Section}
-use Rattle.cm_validate.specs.declared.fault.ValidReason.{ValidReason}
-use Rattle.cm_validate.specs.Reasons.{reason_number}
+use Rattle.cm_reasons.specs.declared.fault.ValidReason.{ValidReason}
+use Rattle.cm_reasons.specs.declared.fault.ValidReason.TheVariants as reason
+use Rattle.cm_reasons.specs.Reasons.{reason_number}
 use Rattle.cm_validity.specs.Items.{Item, all_items, items_of}
 use Rattle.cm_validity.specs.Reasons.{least, lesser}
 use Rattle.cm_validity.specs.Rules.{broken}
@@ -17,7 +18,7 @@ use Rattle.cm_validity.specs.Spaces.{Spaces, after_item, after_items, empty_spac
 use Rattle.cm_validity.specs.Valid.{IsFaultOf, IsFirstFault, IsLeast, IsValid, IsValidFrom}
 use Rattle.cm_index_spaces.specs.IndexSpaces.{Answers, IsAt, Stands}
 use Rattle.cm_index_spaces.specs.declared.spaces.IndexSpaces.{IndexSpaces}
-use Rattle.cm_component_spaces.specs.Walks.{Walks}
+use Rattle.cm_component_spaces.specs.Walks.{IsFaultMet, IsFineBefore, IsMet, Walks, items_at}
 
 -- ---- items that break nothing, one after another
 
@@ -52,6 +53,9 @@ fine_at s y ys a v (z ∷ front) x rest e = ap (λ w. broken (after_items (after
 pub fine_valid : (s : Spaces) (xs : List Item) → AreFine s xs → IsValidFrom s xs
 fine_valid s [] a = λ front x rest e. absurd (omega (arith, ap length e, length-append front (x ∷ rest)))
 fine_valid s (y ∷ ys) a = λ front x rest e. fine_at s y ys a.0 (fine_valid (after_item s y) ys a.1) front x rest e
+
+pub none_valid : IsValidFrom empty_spaces []
+none_valid = fine_valid empty_spaces [] tt
 
 -- ---- at a place
 
@@ -160,10 +164,13 @@ walk_goes_on s items n old new lt answers w =
       subst (λ (u : Spaces). IsAt new u) (sym (after_both s (take n items) (x.0 ∷ [])) ∙ ap (after_items s) (sym more)) (a.after (after_items s (take n items)) w.1),
     )
 
-pub walk_breaks : (s : Spaces) (items : List Item) (n : ℕ) (r : ValidReason) (old new : IndexSpaces) → n < length items → ((x : Item) → slice_get items n ≡ Some x → Answers x old (Some r) new) → IsWalked s items n old → IsFirstFault s items n r
+pub walk_breaks : (s : Spaces) (items : List Item) (n : ℕ) (r : ValidReason) (old new : IndexSpaces) → n < length items → ((x : Item) → slice_get items n ≡ Some x → Answers x old (Some r) new) → IsWalked s items n old → IsMet s items n r
 walk_breaks s items n r old new lt answers w =
     let x = there items n lt in
-    first_fault s items n x.0 r x.1 w.0 ((answers x.0 x.1).fault (after_items s (take n items)) w.1)
+    inr (first_fault s items n x.0 r x.1 w.0 ((answers x.0 x.1).fault (after_items s (take n items)) w.1))
+
+pub walk_lacks : (s : Spaces) (items : List Item) (n : ℕ) (w : IndexSpaces) → IsWalked s items n w → IsMet s items n reason.Memory
+walk_lacks s items n w h = inl (refl, fine_valid s (take n items) h.0)
 
 pub walk_ends : (s : Spaces) (items : List Item) (n : ℕ) (new : IndexSpaces) → length items ≤ n → IsWalked s items n new → IsValidFrom s items × IsAt new (after_items s items)
 walk_ends s items n new le w =
@@ -203,16 +210,31 @@ walks_go_on sections n t old new e walks w =
       subst (λ (u : Spaces). IsAt new u) (sym (after_both empty_spaces front (items_of t)) ∙ ap (after_items empty_spaces) (sym more)) step.1,
     )
 
-pub walks_break : (sections : List SectionTree) (n : ℕ) (t : SectionTree) (i : ℕ) (r : ValidReason) (old new : IndexSpaces) → slice_get sections n ≡ Some t → Walks (items_of t) old (Some (i, r)) new → AreWalked sections n old → IsFaultOf sections n i r
-walks_break sections n t i r old new e walks w = record {
+-- where there was no memory, nothing before is faulty
+fine_before : (sections : List SectionTree) (n : ℕ) (t : SectionTree) (i : ℕ) → slice_get sections n ≡ Some t → AreFine empty_spaces (all_items (take n sections))
+    → IsValidFrom (after_items empty_spaces (all_items (take n sections))) (take i (items_of t)) → IsFineBefore sections n i
+fine_before sections n t i e w v =
+    let front = all_items (take n sections) in
+    let own : items_at sections n ≡ items_of t = ap (λ (o : Option SectionTree). option_map_or items_of o []) e in
+    subst (λ (ys : List Item). IsValidFrom empty_spaces (front ++ take i ys)) (sym own)
+    (fine_valid empty_spaces (front ++ take i (items_of t)) (fine_both empty_spaces front (take i (items_of t)) w (valid_fine (after_items empty_spaces front) (take i (items_of t)) v)))
+
+fault_met : (sections : List SectionTree) (n : ℕ) (t : SectionTree) (i : ℕ) (r : ValidReason) → slice_get sections n ≡ Some t → AreFine empty_spaces (all_items (take n sections))
+    → IsMet (after_items empty_spaces (all_items (take n sections))) (items_of t) i r → IsFaultMet sections (record { section = n; item = i; reason = r })
+fault_met sections n t i r e w (inl m) = inl (m.0, fine_before sections n t i e w m.1)
+fault_met sections n t i r e w (inr f) = inr (record {
   before = take n sections;
   faulty = t;
   behind = drop (suc n) sections;
   split = split_at sections n t e;
   place = length_before sections n t e;
-  fine = fine_valid empty_spaces (all_items (take n sections)) w.0;
-  here = walks (after_items empty_spaces (all_items (take n sections))) w.1;
-}
+  fine = fine_valid empty_spaces (all_items (take n sections)) w;
+  here = f;
+})
+
+pub walks_break : (sections : List SectionTree) (n : ℕ) (t : SectionTree) (i : ℕ) (r : ValidReason) (old new : IndexSpaces) → slice_get sections n ≡ Some t → Walks (items_of t) old (Some (i, r)) new → AreWalked sections n old
+    → IsFaultMet sections (record { section = n; item = i; reason = r })
+walks_break sections n t i r old new e walks w = fault_met sections n t i r e w.0 (walks (after_items empty_spaces (all_items (take n sections))) w.1)
 
 -- the same answer told otherwise
 pub walks_as : (items : List Item) (old new : IndexSpaces) (q r : Option (ℕ × ValidReason)) → q ≡ r → Walks items old q new → Walks items old r new

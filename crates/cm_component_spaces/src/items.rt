@@ -9,8 +9,8 @@ ghost use Rattle.cm_component_spaces.specs.Items.{item_of};
 
 use cm_component::{Alias, Canon, CoreInstance, Export, Import, Instance, Section};
 use cm_index_spaces::IndexSpaces;
+use cm_reasons::ValidReason;
 use cm_types::DefType;
-use cm_validate::ValidReason;
 use std::alloc::{AllocError, Global};
 
 /// One definition of a component, of whatever section.

@@ -1,17 +1,18 @@
 //! The walk over a component's sections, to the first fault.
 
-ghost use Rattle.std.specs.Prelude.{◌≡◌, IfErr, IfOk, Some, slice_get};
+ghost use Rattle.std.specs.Prelude.{◌≡◌, ◌⊎◌, IfErr, IfOk, IfSome, Some, slice_get};
 ghost use Rattle.cm_component.specs.Trees.{section_tree};
 ghost use Rattle.cm_validity.specs.Items.{Item, items_of};
-ghost use Rattle.cm_validity.specs.Spaces.{spaces_of};
+ghost use Rattle.cm_validity.specs.Spaces.{empty_spaces, spaces_of};
 ghost use Rattle.cm_validity.specs.Valid.{IsFaultOf, IsValid};
 ghost use Rattle.cm_index_spaces.specs.IndexSpaces.{Answers, IsAt, Stands};
-ghost use Rattle.cm_component_spaces.specs.Walks.{Walks};
+ghost use Rattle.cm_component_spaces.specs.Walks.{IsFineBefore, Walks, WalksThrough};
+ghost use Rattle.cm_reasons.specs.declared.fault.ValidReason.TheVariants as reason;
 
 use crate::items::{add_item, item_at, item_count};
 use cm_component::{Component, Section};
 use cm_index_spaces::IndexSpaces;
-use cm_validate::{ValidFault, ValidReason};
+use cm_reasons::{ValidFault, ValidReason};
 use std::alloc::{AllocError, Global};
 
 /// Adds the item of this number in a section.
@@ -37,42 +38,66 @@ fn walk_section<'a>(
     alloc: Global,
     section: &'a Section,
     spaces: &mut IndexSpaces<'a>,
-) -> Result<Option<(usize, ValidReason)>, AllocError>
+) -> Option<(usize, ValidReason)>
     requires { Stands spaces.old }
-    ensures { IfOk result (λ r. Walks (items_of (section_tree section.now)) spaces.old r
-        spaces.new) }
+    ensures { Walks (items_of (section_tree section.now)) spaces.old result spaces.new }
 {
     for number in 0..item_count(section) {
-        if let Some(reason) = walk_item(alloc, section, number, spaces)? {
-            return Ok(Some((number, reason)));
+        match walk_item(alloc, section, number, spaces) {
+            Ok(None) => {}
+            Ok(Some(reason)) => return Some((number, reason)),
+            Err(AllocError) => return Some((number, ValidReason::Memory)),
         }
     }
-    Ok(None)
+    None
+}
+
+/// Adds the items of a component's sections, up to the first fault.
+fn walk<'a>(
+    alloc: Global,
+    component: &'a Component,
+    spaces: &mut IndexSpaces<'a>,
+) -> Option<ValidFault>
+    requires { IsAt spaces.old empty_spaces }
+    ensures { WalksThrough component.now result spaces.new }
+{
+    for (at, section) in component.sections().iter().enumerate() {
+        if let Some((item, reason)) = walk_section(alloc, section, spaces) {
+            return Some(ValidFault {
+                section: at,
+                item,
+                reason,
+            });
+        }
+    }
+    None
 }
 
 /// The index spaces of a whole component; or its fault, where it is not valid: the first section
 /// with a faulty item, the first such item there, and of the reasons that it breaks the one with
 /// the smallest number (Explainer.md, "Component Definitions"; this order is this project's own
-/// choice). `AllocError` comes where there is no memory, or where the numbers of core modules or
-/// resources pass what can be counted.
+/// choice). `Memory` comes where there is no memory for an item, or where the numbers of core
+/// modules or resources pass what can be counted, and no item before that one is faulty; the item
+/// itself may be.
 pub fn index_spaces<'a>(
     alloc: Global,
     component: &'a Component,
-) -> Result<Result<IndexSpaces<'a>, ValidFault>, AllocError>
-    ensures valid { IfOk result (λ r. IfOk r (λ w. IsValid component.now
-        × IsAt w (spaces_of component.now))) }
-    ensures fault { IfOk result (λ r. IfErr r (λ f.
-        IsFaultOf component.now f.section f.item f.reason)) }
+) -> Result<IndexSpaces<'a>, ValidFault>
+    ensures valid { IfOk result (λ w. IsValid component.now
+        × IsAt w (spaces_of component.now)) }
+    ensures fault { IfErr result (λ f.
+        ((f.reason ≡ reason.Memory) × IsFineBefore component.now f.section f.item)
+        ⊎ IsFaultOf component.now f.section f.item f.reason) }
 {
-    let mut spaces = IndexSpaces::new(alloc)?;
-    for (at, section) in component.sections().iter().enumerate() {
-        if let Some((item, reason)) = walk_section(alloc, section, &mut spaces)? {
-            return Ok(Err(ValidFault {
-                section: at,
-                item,
-                reason,
-            }));
-        }
+    let Ok(mut spaces) = IndexSpaces::new(alloc) else {
+        return Err(ValidFault {
+            section: 0,
+            item: 0,
+            reason: ValidReason::Memory,
+        });
+    };
+    match walk(alloc, component, &mut spaces) {
+        None => Ok(spaces),
+        Some(fault) => Err(fault),
     }
-    Ok(Ok(spaces))
 }

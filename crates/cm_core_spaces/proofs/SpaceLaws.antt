@@ -7,7 +7,7 @@ use Rattle.cm_component.specs.declared.instances.CoreSort.{CoreSort}
 use Rattle.cm_validity.specs.Definitions.{CoreDef, CoreFuncDef, CoreInstanceDef}
 use Rattle.cm_validity.specs.Spaces.{Spaces, aliased_core, core_export_in}
 use Rattle.cm_component.specs.Trees.{core_instance_export}
-use Rattle.cm_validate.specs.declared.fault.ValidReason.TheVariants as reason
+use Rattle.cm_reasons.specs.declared.fault.ValidReason.TheVariants as reason
 use Rattle.cm_validity.specs.Items.{alias_item}
 use Rattle.cm_validity.specs.Reasons.{found, least, unless}
 use Rattle.cm_validity.specs.Rules.{broken, is_of_core_sort}

@@ -10,7 +10,7 @@ ghost use Rattle.cm_core_spaces.specs.Entries.{def_of, export_of};
 use crate::entries::{CoreFunc, CoreInstanceEntry, CoreItem, GuestExport, GuestMemory};
 use crate::spaces::CoreSpaces;
 use cm_component::CoreSort;
-use cm_validate::ValidReason;
+use cm_reasons::ValidReason;
 use indexmap::{IndexMap, IndexSet};
 use std::alloc::AllocError;
 

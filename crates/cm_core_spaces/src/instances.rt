@@ -14,8 +14,8 @@ use crate::aliases::instance_at;
 use crate::entries::{CoreFunc, CoreInstanceEntry, CoreItem, GuestExport, GuestMemory};
 use crate::spaces::CoreSpaces;
 use cm_component::{CoreInlineExport, CoreInstance, CoreInstantiationArg, CoreSort};
+use cm_reasons::ValidReason;
 use cm_type_rules::broken_unless;
-use cm_validate::ValidReason;
 use indexmap::{IndexMap, IndexSet};
 use std::alloc::{AllocError, Global};
 

@@ -3,7 +3,7 @@
 ghost use Rattle.cm_core_spaces.specs.CoreSpaces.{IsCoreOf};
 
 use crate::entries::{CoreFunc, CoreInstanceEntry, GuestExport, GuestMemory};
-use cm_validate::ValidReason;
+use cm_reasons::ValidReason;
 use indexmap::IndexSet;
 use std::alloc::{AllocError, Global};
 
@@ -23,13 +23,15 @@ pub struct CoreSpaces<'a> {
 }
 
 impl<'a> CoreSpaces<'a> {
-    ghost use Rattle.std.specs.Prelude.{◌≡◌, false, ℕ, OnOk, OnErr};
+    ghost use Rattle.std.specs.Prelude.{◌≡◌, false, length, slice_get, ℕ, OnOk, OnErr};
+    ghost use Rattle.std.specs.Option.{option_map};
     ghost use Rattle.cm_validity.specs.Definitions.{CoreFuncDef};
     ghost use Rattle.cm_validity.specs.Items.{core_module_item};
     ghost use Rattle.cm_validity.specs.Options.{guest_broken, is_guest};
     ghost use Rattle.cm_validity.specs.Reasons.{least};
     ghost use Rattle.cm_validity.specs.Spaces.{Spaces, after_item, empty_spaces};
     ghost use Rattle.cm_core_spaces.specs.CoreSpaces.{Becomes, Stays, made_count};
+    ghost use Rattle.cm_core_spaces.specs.Entries.{func_of};
 
     /// No definitions.
     pub fn new(alloc: Global) -> CoreSpaces<'a>
@@ -59,6 +61,22 @@ impl<'a> CoreSpaces<'a> {
     {
         self.modules = self.modules.checked_add(1).ok_or(AllocError)?;
         Ok(())
+    }
+
+    /// The core function of an index, if there is one.
+    pub fn func(&self, index: u32) -> Option<CoreFunc<'a>>
+        ensures { (made : ℕ → CoreFuncDef) (s : Spaces) → IsCoreOf made self.now s
+            → option_map (func_of made) result ≡ slice_get s.core_funcs index }
+    {
+        self.funcs.get(index as usize).copied()
+    }
+
+    /// How many core functions there are.
+    pub fn func_count(&self) -> usize
+        ensures { (made : ℕ → CoreFuncDef) (s : Spaces) → IsCoreOf made self.now s
+            → result ≡ length s.core_funcs }
+    {
+        self.funcs.len()
     }
 
     /// What an index of a core function breaks that has to be a guest's: `NoSuchIndex` where it

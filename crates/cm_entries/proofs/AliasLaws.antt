@@ -10,7 +10,7 @@ use Rattle.cm_component.specs.declared.instances.InstanceExportSort.TheVariants 
 use Rattle.cm_placed.specs.declared.placed.Placed.{Placed}
 use Rattle.cm_component.specs.Trees.{instance_export}
 use Rattle.cm_signatures.specs.Externs.{extern_of}
-use Rattle.cm_validate.specs.declared.fault.ValidReason.TheVariants as reason
+use Rattle.cm_reasons.specs.declared.fault.ValidReason.TheVariants as reason
 use Rattle.cm_validity.specs.Definitions.{MemberDef, NamedMember, func_member}
 use Rattle.cm_validity.specs.Items.{alias_item}
 use Rattle.cm_validity.specs.Reasons.{found, least, unless}

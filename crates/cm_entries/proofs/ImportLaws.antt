@@ -23,11 +23,11 @@ use Rattle.cm_type_scope.specs.declared.entries.TypeEntry.TheVariants as entry
 use Rattle.cm_entries.specs.declared.spaces.ExportEntry.{ExportEntry}
 use Rattle.cm_signatures.specs.declared.signatures.Extern.{Extern}
 use Rattle.cm_signatures.specs.declared.signatures.ExternDesc.TheVariants as extern
-use Rattle.cm_validate.specs.declared.fault.ValidReason.{ValidReason}
+use Rattle.cm_reasons.specs.declared.fault.ValidReason.{ValidReason}
 use Rattle.cm_validity.specs.Definitions.{InstanceTy, TypeDef, NamedMember, brought, imported, sort_of, sorts_of}
 use Rattle.cm_validity.specs.Items.{Item, import_item}
-use Rattle.cm_validate.specs.declared.fault.ValidReason.TheVariants as reason
-use Rattle.cm_validate.specs.Reasons.{reason_number}
+use Rattle.cm_reasons.specs.declared.fault.ValidReason.TheVariants as reason
+use Rattle.cm_reasons.specs.Reasons.{reason_number}
 use Rattle.cm_validity.specs.Reasons.{found, index_broken, least, lesser, unless}
 use Rattle.cm_validity.specs.Rules.{broken, func_name_broken, instance_name_broken, name_broken, type_index_broken}
 use Rattle.cm_validity.specs.Spaces.{Spaces, after_item, after_items, brought_from, empty_spaces, func_ty_in, instance_ty_in, imported_func, imported_instance, members_from, members_imported, moved_named, new_funcs, new_imports, new_instances, new_resources, next_import, next_resource}

@@ -13,8 +13,8 @@ use Rattle.cm_types.specs.Signatures.{NamedExtern}
 use Rattle.cm_component.specs.declared.instances.InlineExport.{InlineExport}
 use Rattle.cm_component.specs.Trees.{resource_drop, resource_new}
 use Rattle.cm_types.specs.DefTypes.{resource_def}
-use Rattle.cm_validate.specs.declared.fault.ValidReason.{ValidReason}
-use Rattle.cm_validate.specs.declared.fault.ValidReason.TheVariants as reason
+use Rattle.cm_reasons.specs.declared.fault.ValidReason.{ValidReason}
+use Rattle.cm_reasons.specs.declared.fault.ValidReason.TheVariants as reason
 use Rattle.cm_validity.specs.Items.{Item, instance_item, type_item}
 use Rattle.cm_validity.specs.Reasons.{found, if_found, index_broken, least, unless}
 use Rattle.cm_validity.specs.Rules.{canon_broken, is_defined, own_resource_broken}

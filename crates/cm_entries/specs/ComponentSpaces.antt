@@ -7,7 +7,7 @@ use Rattle.std.specs.Option.{option_map}
 use Rattle.cm_types.specs.Types.{Ty, FuncTy}
 use Rattle.cm_component.specs.Trees.{AliasTree}
 use Rattle.cm_signatures.specs.Externs.{extern_of, is_extern_there}
-use Rattle.cm_validate.specs.declared.fault.ValidReason.{ValidReason}
+use Rattle.cm_reasons.specs.declared.fault.ValidReason.{ValidReason}
 use Rattle.cm_validity.specs.Definitions.{ExportDef, exported_func, exported_instance, NamedExport}
 use Rattle.cm_validity.specs.Items.{Item, alias_item}
 use Rattle.cm_validity.specs.Reasons.{least}

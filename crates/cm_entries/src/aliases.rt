@@ -10,10 +10,10 @@ use crate::entries::{FuncEntry, InstanceEntry, MemberEntry};
 use crate::spaces::ComponentSpaces;
 use cm_component::InstanceExportSort;
 use cm_placed::{ItemDesc, Placed};
+use cm_reasons::ValidReason;
 use cm_replaced::{Move, Replacement};
 use cm_type_scope::TypeEntry;
 use cm_types::ResourceId;
-use cm_validate::ValidReason;
 use std::alloc::AllocError;
 
 /// What an alias of an instance's export comes to.
@@ -69,7 +69,7 @@ impl<'a> InstanceEntry<'a> {
     ghost use Rattle.cm_validity.specs.Spaces.{member_named};
 
     /// What the instance has under a name, if anything. It costs one look-up.
-    pub fn member(&self, name: &'a str) -> Option<MemberEntry<'a>>
+    pub fn member(&self, name: &str) -> Option<MemberEntry<'a>>
         ensures def { (types : List Ty) (funcs : List FuncTy)
             → option_map (member_def types funcs) result
             ≡ member_named (members_of types funcs self.now) name.now }

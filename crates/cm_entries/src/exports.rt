@@ -7,8 +7,9 @@ use crate::entries::{FuncEntry, InstanceEntry};
 use crate::spaces::{ComponentSpaces, ExportEntry, ExportedEntry};
 use cm_component::{Export, ExportSort};
 use cm_extern_names::{ExternSort, FoldedName};
+use cm_reasons::ValidReason;
 use cm_type_rules::lesser;
-use cm_validate::ValidReason;
+use cm_types::ExternName;
 use cm_validity::laws::least_of_both;
 use std::alloc::{AllocError, Global};
 
@@ -59,7 +60,7 @@ impl<'a> ComponentSpaces<'a> {
     fn export_func(
         &mut self,
         index: u32,
-        name: &'a str,
+        name: &'a ExternName,
         folded: FoldedName,
     ) -> Result<Option<ValidReason>, AllocError>
         requires { name_of folded ≡ name.now }
@@ -84,7 +85,7 @@ impl<'a> ComponentSpaces<'a> {
     fn export_instance(
         &mut self,
         index: u32,
-        name: &'a str,
+        name: &'a ExternName,
         folded: FoldedName,
     ) -> Result<Option<ValidReason>, AllocError>
         requires { name_of folded ≡ name.now }
@@ -122,7 +123,7 @@ impl<'a> ComponentSpaces<'a> {
         ensures { IfOk result (λ r. AnswersAlone (export_item export.now) self.old r self.new) }
     {
         let folded = FoldedName::new(alloc, &export.name)?;
-        let name = export.name.as_str();
+        let name = &export.name;
         match export.sort {
             ExportSort::Func => self.export_func(export.index, name, folded),
             ExportSort::Instance => self.export_instance(export.index, name, folded),

@@ -9,6 +9,7 @@ mod imports;
 mod instances;
 pub mod laws;
 mod lifts;
+mod lists;
 mod resources;
 mod spaces;
 mod types;

@@ -4,6 +4,7 @@ use crate::entries::{FuncEntry, InstanceEntry};
 use cm_extern_names::{FoldedName, NameSet};
 use cm_instance_items::Resources;
 use cm_signatures::Extern;
+use cm_types::ExternName;
 use std::alloc::{AllocError, Global};
 
 /// What a component exports.
@@ -16,7 +17,7 @@ pub enum ExportedEntry<'a> {
 /// An export with its name, which is borrowed from the component.
 #[derive(Drop)]
 pub struct ExportEntry<'a> {
-    pub name: &'a str,
+    pub name: &'a ExternName,
     pub def: ExportedEntry<'a>,
 }
 

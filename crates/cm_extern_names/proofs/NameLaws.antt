@@ -10,7 +10,7 @@ use Rattle.std.specs.declared.alloc.Global.{Global}
 use Rattle.std.specs.declared.string.String.{String}
 use Rattle.indexmap.specs.IndexMap.{insert_entry}
 use Rattle.cm_types.specs.Names.{is_same_name}
-use Rattle.cm_validate.specs.declared.fault.ValidReason.{ValidReason}
+use Rattle.cm_reasons.specs.declared.fault.ValidReason.{ValidReason}
 use Rattle.cm_validity.specs.Reasons.{unless}
 use Rattle.cm_extern_names.specs.Names.{AreFolded, without_case}
 use Rattle.cm_extern_names.specs.NameSets.{with_name}

@@ -4,9 +4,9 @@ ghost use Rattle.cm_extern_names.specs.Names.{AreFolded};
 
 use crate::forms::{ExternSort, form_fault};
 use crate::names::FoldedName;
+use cm_reasons::ValidReason;
 use cm_type_rules::{broken_unless, lesser};
 use cm_types::ExternName;
-use cm_validate::ValidReason;
 use cm_validity::laws::least_of_both;
 use indexmap::IndexMap;
 use std::alloc::{AllocError, Global};

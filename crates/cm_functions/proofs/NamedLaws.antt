@@ -6,7 +6,7 @@ use Rattle.cm_types.specs.Types.{FuncTy}
 use Rattle.cm_component.specs.Trees.{SectionTree, lift, lower}
 use Rattle.cm_component.specs.declared.canons.CanonOption.{CanonOption}
 use Rattle.cm_component.specs.declared.canons.CanonOption.TheVariants as option
-use Rattle.cm_validate.specs.declared.fault.ValidReason.TheVariants as reason
+use Rattle.cm_reasons.specs.declared.fault.ValidReason.TheVariants as reason
 use Rattle.cm_validity.specs.Definitions.{CoreExport, CoreFuncDef, FuncDef, guest, imported, lowered, making, dropping, reading, sorts_of}
 use Rattle.cm_validity.specs.Declarations.{instance_def_broken}
 use Rattle.cm_validity.specs.Items.{Item, all_items, canon_item}

@@ -1,27 +1,45 @@
 -- What tells the core functions that canonical definitions made.
-use Rattle.std.proofs.Common.{◌≡◌, ℕ, zero, suc, ◌≤◌, ◌<◌, Bool, true, false, ◌&&◌, List, [], ◌∷◌, ◌++◌, length, map, Some, refl, sym, ap, ◌∙◌, arith, subst, length-append}
+use Rattle.std.proofs.Common.{◌≡◌, ℕ, zero, suc, ◌≤◌, ◌<◌, Bool, true, false, ◌&&◌, List, [], ◌∷◌, ◌++◌, length, map, Option, Some, None, refl, sym, ap, ◌∙◌, arith, subst, length-append}
 use Rattle.std.proofs.lemmas.Bool.{ltb-true, lt-ltb}
 use Rattle.std.proofs.lemmas.List.{get_or_append_left, map-append}
 use Rattle.std.specs.List.{list_all, slice_get}
 use Rattle.cm_types.specs.Types.{FuncTy}
 use Rattle.cm_replaced.specs.Replaced.{replaced_func}
 use Rattle.cm_placed.specs.Placed.{moved_by}
-use Rattle.cm_validity.specs.Definitions.{CoreFuncDef, lowered, making}
+use Rattle.cm_validity.specs.Definitions.{CoreFuncDef, guest, lowered, making}
 use Rattle.cm_validity.specs.Options.{is_guest}
 use Rattle.cm_type_scope.specs.TypeScopes.{Extends}
+use Rattle.std.specs.Option.{option_map}
+use Rattle.cm_validity.specs.Spaces.{Spaces}
+use Rattle.cm_core_spaces.specs.CoreSpaces.{IsCoreOf}
+use Rattle.cm_core_spaces.specs.Entries.{export_of, func_of}
+use Rattle.cm_core_spaces.specs.declared.entries.CoreFunc.{CoreFunc}
+use Rattle.cm_core_spaces.specs.declared.entries.CoreFunc.TheVariants as func
+use Rattle.cm_core_spaces.specs.declared.entries.GuestExport.{GuestExport}
+use Rattle.cm_index_spaces.specs.IndexSpaces.{IsAt, funcs_in}
 use Rattle.cm_index_spaces.specs.Made.{Tells, is_made_there, made_def}
+use Rattle.cm_index_spaces.specs.declared.spaces.IndexSpaces.{IndexSpaces}
 use Rattle.cm_index_spaces.specs.declared.made.MadeFunc.{MadeFunc}
 use Rattle.cm_index_spaces.specs.declared.made.MadeFunc.TheVariants as made
 
 some_is : {A : Type 0} (x y : A) → Some x ≡ Some y → x ≡ y
 some_is x y e = cc
 
+left : (a b : Bool) → (a && b) ≡ true → a ≡ true
+left true b e = refl
+left false b e = e
+
+right : (a b : Bool) → (a && b) ≡ true → b ≡ true
+right true b e = e
+right false b e = absurd cc
+
 -- ---- one that tells them
 
-pub told_by : List FuncTy → List MadeFunc → ℕ → CoreFuncDef
-told_by funcs [] n = making 0
-told_by funcs (m ∷ ms) zero = made_def funcs m
-told_by funcs (m ∷ ms) (suc n) = told_by funcs ms n
+-- behind the list it tells what makes handles of the resource of this number
+pub told_or : ℕ → List FuncTy → List MadeFunc → ℕ → CoreFuncDef
+told_or k funcs [] n = making k
+told_or k funcs (m ∷ ms) zero = made_def funcs m
+told_or k funcs (m ∷ ms) (suc n) = told_or k funcs ms n
 
 no_guest : (funcs : List FuncTy) (m : MadeFunc) → is_guest (made_def funcs m) ≡ false
 no_guest funcs (made.Lowered import number ty options) = refl
@@ -29,20 +47,75 @@ no_guest funcs (made.Making n) = refl
 no_guest funcs (made.Dropping n) = refl
 no_guest funcs (made.Reading n) = refl
 
-none_guests : (funcs : List FuncTy) (ms : List MadeFunc) (n : ℕ) → is_guest (told_by funcs ms n) ≡ false
-unfolding told_by
-none_guests funcs [] n = refl
-none_guests funcs (m ∷ ms) zero = no_guest funcs m
-none_guests funcs (m ∷ ms) (suc n) = none_guests funcs ms n
+none_guests : (k : ℕ) (funcs : List FuncTy) (ms : List MadeFunc) (n : ℕ) → is_guest (told_or k funcs ms n) ≡ false
+unfolding told_or
+none_guests k funcs [] n = refl
+none_guests k funcs (m ∷ ms) zero = no_guest funcs m
+none_guests k funcs (m ∷ ms) (suc n) = none_guests k funcs ms n
 
-all_told : (funcs : List FuncTy) (ms : List MadeFunc) (n : ℕ) (d : CoreFuncDef) → slice_get (map (made_def funcs) ms) n ≡ Some d → told_by funcs ms n ≡ d
-unfolding told_by
-all_told funcs [] n d e = absurd cc
-all_told funcs (m ∷ ms) zero d e = some_is (made_def funcs m) d e
-all_told funcs (m ∷ ms) (suc n) d e = all_told funcs ms n d e
+all_told : (k : ℕ) (funcs : List FuncTy) (ms : List MadeFunc) (n : ℕ) (d : CoreFuncDef) → slice_get (map (made_def funcs) ms) n ≡ Some d → told_or k funcs ms n ≡ d
+unfolding told_or
+all_told k funcs [] n d e = absurd cc
+all_told k funcs (m ∷ ms) zero d e = some_is (made_def funcs m) d e
+all_told k funcs (m ∷ ms) (suc n) d e = all_told k funcs ms n d e
+
+tells_or : (k : ℕ) (funcs : List FuncTy) (ms : List MadeFunc) → Tells (told_or k funcs ms) (map (made_def funcs) ms)
+tells_or k funcs ms = record { told = all_told k funcs ms; no_guests = none_guests k funcs ms }
+
+abbrev pub told_by : List FuncTy → List MadeFunc → ℕ → CoreFuncDef
+told_by = told_or 0
 
 pub tells : (funcs : List FuncTy) (ms : List MadeFunc) → Tells (told_by funcs ms) (map (made_def funcs) ms)
-tells funcs ms = record { told = all_told funcs ms; no_guests = none_guests funcs ms }
+tells = tells_or 0
+
+-- ---- the core function of an index
+
+told_there : (k : ℕ) (funcs : List FuncTy) (ms : List MadeFunc) (n : ℕ) (m : MadeFunc) → slice_get ms n ≡ Some m → told_or k funcs ms n ≡ made_def funcs m
+unfolding told_or
+told_there k funcs [] n m e = absurd cc
+told_there k funcs (x ∷ ms) zero m e = ap (made_def funcs) (some_is x m e)
+told_there k funcs (x ∷ ms) (suc n) m e = told_there k funcs ms n m e
+
+told_behind : (k : ℕ) (funcs : List FuncTy) (ms : List MadeFunc) (n : ℕ) → slice_get ms n ≡ None → told_or k funcs ms n ≡ making k
+unfolding told_or
+told_behind k funcs [] n e = refl
+told_behind k funcs (x ∷ ms) zero e = absurd cc
+told_behind k funcs (x ∷ ms) (suc n) e = told_behind k funcs ms n e
+
+making_is : (j k : ℕ) → making j ≡ making k → j ≡ k
+making_is j k e = cc
+
+apart : making 0 ≡ making 1 → ⊥
+apart e = omega (arith, making_is 0 1 e)
+
+module _ (w : IndexSpaces) (s : Spaces) (at : IsAt w s) (index : ℕ) (f : Option CoreFunc) (is : (tell : ℕ → CoreFuncDef) (t : Spaces) → IsCoreOf tell w.core t → option_map (func_of tell) f ≡ slice_get t.core_funcs index) where
+  told : (k : ℕ) → option_map (func_of (told_or k (funcs_in w) w.made.items)) f ≡ slice_get s.core_funcs index
+  told k = is (told_or k (funcs_in w) w.made.items) s (at.core_is (told_or k (funcs_in w) w.made.items) (tells_or k (funcs_in w) w.made.items))
+
+  abbrev shown : ℕ → Option CoreFunc → Option CoreFuncDef
+  shown k o = option_map (func_of (told_or k (funcs_in w) w.made.items)) o
+
+  pub no_func : f ≡ None → None ≡ slice_get s.core_funcs index
+  no_func e = sym (ap (shown 0) e) ∙ told 0
+
+  pub guest_func : (e : GuestExport) → f ≡ Some (func.Guest e) → Some (guest (export_of e)) ≡ slice_get s.core_funcs index
+  guest_func e h = sym (ap (shown 0) h) ∙ told 0
+
+  pub made_func : (n : ℕ) (m : MadeFunc) → f ≡ Some (func.Made n) → slice_get w.made.items n ≡ Some m → Some (made_def (funcs_in w) m) ≡ slice_get s.core_funcs index
+  made_func n m h e = sym (ap Some (told_there 0 (funcs_in w) w.made.items n m e)) ∙ sym (ap (shown 0) h) ∙ told 0
+
+  -- so what is behind the list is no core function
+  behind : (n k : ℕ) → f ≡ Some (func.Made n) → slice_get w.made.items n ≡ None → Some (making k) ≡ slice_get s.core_funcs index
+  behind n k h e = sym (ap Some (told_behind k (funcs_in w) w.made.items n e)) ∙ sym (ap (shown k) h) ∙ told k
+
+  pub none_behind : (n : ℕ) → f ≡ Some (func.Made n) → slice_get w.made.items n ≡ None → ⊥
+  none_behind n h e = apart (some_is (making 0) (making 1) (behind n 0 h e ∙ sym (behind n 1 h e)))
+
+-- the type of one that is in the list is there
+pub one_there : (n : ℕ) (ms : List MadeFunc) (i : ℕ) (m : MadeFunc) → list_all (is_made_there n) ms ≡ true → slice_get ms i ≡ Some m → is_made_there n m ≡ true
+one_there n [] i m h e = absurd cc
+one_there n (x ∷ ms) zero m h e = ap (is_made_there n) (sym (some_is x m e)) ∙ left (is_made_there n x) (list_all (is_made_there n) ms) h
+one_there n (x ∷ ms) (suc i) m h e = one_there n ms i m (right (is_made_there n x) (list_all (is_made_there n) ms) h) e
 
 -- ---- one more
 
@@ -73,14 +146,6 @@ module _ (funcs : List FuncTy) (ms : List MadeFunc) (m : MadeFunc) (tell : ℕ �
   tells_last = ap tell (sym (length_mapped (made_def funcs) ms)) ∙ both.told (length (map (made_def funcs) ms)) (made_def funcs m) (get_last (map (made_def funcs) ms) (made_def funcs m))
 
 -- ---- the arena grows
-
-left : (a b : Bool) → (a && b) ≡ true → a ≡ true
-left true b e = refl
-left false b e = e
-
-right : (a b : Bool) → (a && b) ≡ true → b ≡ true
-right true b e = e
-right false b e = absurd cc
 
 kept : (funcs more : List FuncTy) (m : MadeFunc) → is_made_there (length funcs) m ≡ true → made_def (funcs ++ more) m ≡ made_def funcs m
 kept funcs more (made.Lowered import number ty options) h =

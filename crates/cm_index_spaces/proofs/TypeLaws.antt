@@ -5,8 +5,8 @@ use Rattle.std.specs.Prelude.{◌==◌}
 use Rattle.cm_types.specs.Types.{Ty, FuncTy}
 use Rattle.cm_types.specs.declared.def_types.OuterType.{OuterType}
 use Rattle.cm_component.specs.Trees.{AliasTree, outer_type}
-use Rattle.cm_validate.specs.declared.fault.ValidReason.{ValidReason}
-use Rattle.cm_validate.specs.declared.fault.ValidReason.TheVariants as reason
+use Rattle.cm_reasons.specs.declared.fault.ValidReason.{ValidReason}
+use Rattle.cm_reasons.specs.declared.fault.ValidReason.TheVariants as reason
 use Rattle.cm_validity.specs.Definitions.{TypeDef}
 use Rattle.cm_validity.specs.Items.{Item, alias_item}
 use Rattle.cm_validity.specs.Reasons.{found, least, lesser, unless}

@@ -4,9 +4,11 @@
 mod canons;
 mod core_items;
 mod items;
+mod lists;
 mod made;
 mod spaces;
 mod types;
 
-pub use made::MadeFunc;
+pub use lists::ComponentExterns;
+pub use made::{CoreFuncEntry, MadeFunc};
 pub use spaces::IndexSpaces;

@@ -1,6 +1,7 @@
 //! The core functions that canonical definitions make.
 
 use cm_component::CanonOption;
+use cm_core_spaces::GuestExport;
 use cm_placed::Placed;
 
 /// A core function that a canonical definition made (Explainer.md, "Canonical Definitions").
@@ -20,4 +21,11 @@ pub enum MadeFunc<'a> {
     Dropping(u64),
     /// Tells what a handle of it represents.
     Reading(u64),
+}
+
+/// A core function of a component: a guest's, or one that a canonical definition made.
+#[derive(Clone, Copy)]
+pub enum CoreFuncEntry<'a> {
+    Guest(GuestExport<'a>),
+    Made(MadeFunc<'a>),
 }

@@ -7,8 +7,8 @@ use Rattle.std.specs.Option.{option_map}
 use Rattle.cm_types.specs.Types.{Ty, FuncTy}
 use Rattle.cm_component.specs.declared.instances.InlineExport.{InlineExport}
 use Rattle.cm_component.specs.declared.instances.InstanceExportSort.TheVariants as member_sort
-use Rattle.cm_validate.specs.declared.fault.ValidReason.{ValidReason}
-use Rattle.cm_validate.specs.declared.fault.ValidReason.TheVariants as reason
+use Rattle.cm_reasons.specs.declared.fault.ValidReason.{ValidReason}
+use Rattle.cm_reasons.specs.declared.fault.ValidReason.TheVariants as reason
 use Rattle.cm_validity.specs.Definitions.{FuncDef, MemberDef, TypeDef, func_member, sort_of, type_member}
 use Rattle.cm_validity.specs.Reasons.{found, least, unless}
 use Rattle.cm_validity.specs.Rules.{member_broken, member_of_sort_broken}

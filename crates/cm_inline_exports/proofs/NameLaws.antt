@@ -13,9 +13,9 @@ use Rattle.cm_types.specs.Signatures.{NamedItem}
 use Rattle.cm_component.specs.declared.instances.InlineExport.{InlineExport}
 use Rattle.cm_component.specs.declared.instances.InstanceExportSort.{InstanceExportSort}
 use Rattle.cm_component.specs.declared.instances.InstanceExportSort.TheVariants as member_sort
-use Rattle.cm_validate.specs.declared.fault.ValidReason.{ValidReason}
-use Rattle.cm_validate.specs.declared.fault.ValidReason.TheVariants as reason
-use Rattle.cm_validate.specs.Reasons.{reason_number}
+use Rattle.cm_reasons.specs.declared.fault.ValidReason.{ValidReason}
+use Rattle.cm_reasons.specs.declared.fault.ValidReason.TheVariants as reason
+use Rattle.cm_reasons.specs.Reasons.{reason_number}
 use Rattle.cm_validity.specs.Declarations.{with_item}
 use Rattle.cm_validity.specs.Definitions.{FuncDef, NamedMember, TypeDef, faulty, func_member, func_type, instance_type, resource, sort_of, type_member, value}
 use Rattle.cm_validity.specs.ItemNames.{is_well_named, item_names_broken}

@@ -6,8 +6,8 @@ use Rattle.std.specs.declared.result.Result.{Result}
 use Rattle.std.specs.declared.result.Result.TheVariants.{Ok, Err}
 use Rattle.cm_types.specs.Types.{Ty, FuncTy}
 use Rattle.cm_component.specs.declared.instances.InlineExport.{InlineExport}
-use Rattle.cm_validate.specs.declared.fault.ValidReason.{ValidReason}
-use Rattle.cm_validate.specs.declared.fault.ValidReason.TheVariants as reason
+use Rattle.cm_reasons.specs.declared.fault.ValidReason.{ValidReason}
+use Rattle.cm_reasons.specs.declared.fault.ValidReason.TheVariants as reason
 use Rattle.cm_validity.specs.Definitions.{func_type_of}
 use Rattle.cm_validity.specs.Reasons.{least}
 use Rattle.cm_validity.specs.Rules.{member_broken}

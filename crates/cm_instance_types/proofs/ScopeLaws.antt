@@ -10,8 +10,8 @@ use Rattle.cm_types.specs.declared.def_types.ExportDesc.{ExportDesc}
 use Rattle.cm_types.specs.declared.def_types.ExportDesc.TheVariants as desc
 use Rattle.cm_types.specs.declared.def_types.TypeBound.TheVariants as bound
 use Rattle.cm_types.specs.Signatures.{ItemTy, NamedItem, fresh_resource}
-use Rattle.cm_validate.specs.declared.fault.ValidReason.{ValidReason}
-use Rattle.cm_validate.specs.declared.fault.ValidReason.TheVariants as reason
+use Rattle.cm_reasons.specs.declared.fault.ValidReason.{ValidReason}
+use Rattle.cm_reasons.specs.declared.fault.ValidReason.TheVariants as reason
 use Rattle.cm_validity.specs.Declarations.{Scope, after_declaration, after_declarations, declaration_broken, declarations_broken, export_desc_broken, func_in, outer_type_of, type_in, with_export, with_item, with_type}
 use Rattle.cm_validity.specs.Definitions.{TypeDef, faulty, func_type, instance_type, resource, sorts_of, value}
 use Rattle.cm_validity.specs.Reasons.{found, unless}

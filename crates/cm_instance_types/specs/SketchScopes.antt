@@ -7,7 +7,7 @@ use Rattle.cm_types.specs.DefTypes.{DeclaredTypeTree, declared_value, declared_f
 use Rattle.cm_types.specs.declared.def_types.ExportDesc.{ExportDesc}
 use Rattle.cm_types.specs.declared.def_types.ExportDesc.TheVariants as desc
 use Rattle.cm_types.specs.declared.def_types.TypeBound.TheVariants as bound
-use Rattle.cm_validate.specs.declared.fault.ValidReason.{ValidReason}
+use Rattle.cm_reasons.specs.declared.fault.ValidReason.{ValidReason}
 use Rattle.cm_validity.specs.Declarations.{Scope, export_desc_broken}
 use Rattle.cm_validity.specs.Definitions.{TypeDef}
 use Rattle.cm_validity.specs.Reasons.{found}

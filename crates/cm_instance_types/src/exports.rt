@@ -7,11 +7,11 @@ ghost use Rattle.cm_instance_types.specs.SketchScopes.{func_item_in, type_item_i
 
 use crate::sketching::Sketching;
 use cm_item_names::{ItemSketch, NamedSketch};
+use cm_reasons::ValidReason;
 use cm_type_rules::{broken_unless, index_fault};
 use cm_type_scope::TypeScope;
 use cm_type_sketches::{Sketch, resource_id};
 use cm_types::{ExportDecl, ExportDesc, ExternName, TypeBound};
-use cm_validate::ValidReason;
 use cm_validity::TypeSort;
 use std::alloc::AllocError;
 

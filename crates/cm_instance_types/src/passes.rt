@@ -12,10 +12,10 @@ ghost use Rattle.cm_instance_types.specs.Sketchings.{scope_sketched};
 use crate::laws::instances_are_sketched;
 use crate::sketching::Sketching;
 use cm_item_names::item_names_fault;
+use cm_reasons::ValidReason;
 use cm_type_rules::lesser;
 use cm_type_scope::TypeScope;
 use cm_types::Declaration;
-use cm_validate::ValidReason;
 use cm_validity::laws::least_of_both;
 use std::alloc::{AllocError, Global};
 

@@ -8,8 +8,8 @@ use Rattle.cm_types.specs.ExternNames.{NameTree, plain, method, static, construc
 use Rattle.cm_types.specs.Signatures.{ItemTy, NamedItem, func_item, equal_type, equal_resource, fresh_resource}
 use Rattle.cm_types.specs.Types.{Ty, Fields, FuncTy, bool, signed, unsigned, char, string, list, fixed_list, fields, cases, flags, own, borrow, no_fields, field}
 use Rattle.cm_types.specs.declared.resource.ResourceId.{ResourceId}
-use Rattle.cm_validate.specs.declared.fault.ValidReason.{ValidReason}
-use Rattle.cm_validate.specs.declared.fault.ValidReason.TheVariants as reason
+use Rattle.cm_reasons.specs.declared.fault.ValidReason.{ValidReason}
+use Rattle.cm_reasons.specs.declared.fault.ValidReason.TheVariants as reason
 use Rattle.cm_validity.specs.ItemNames.{answers_own, is_owned, is_plain, is_self, is_well_named, item_names_broken, resource_named, resource_of_item, takes_self}
 use Rattle.cm_validity.specs.ItemNames as names
 use Rattle.cm_validity.specs.Reasons.{least, lesser, unless}

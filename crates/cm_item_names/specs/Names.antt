@@ -11,8 +11,8 @@ use Rattle.cm_types.specs.ExternNames.{NameTree, plain, method, static, construc
 use Rattle.cm_types.specs.ExternNames.{form_of}
 use Rattle.cm_types.specs.Resources.{same_resource}
 use Rattle.cm_types.specs.declared.resource.ResourceId.{ResourceId}
-use Rattle.cm_validate.specs.declared.fault.ValidReason.{ValidReason}
-use Rattle.cm_validate.specs.declared.fault.ValidReason.TheVariants as reason
+use Rattle.cm_reasons.specs.declared.fault.ValidReason.{ValidReason}
+use Rattle.cm_reasons.specs.declared.fault.ValidReason.TheVariants as reason
 use Rattle.cm_validity.specs.ItemNames.{is_plain}
 use Rattle.cm_validity.specs.Reasons.{unless}
 use Rattle.cm_validity.specs.TypeRules.{are_distinct_names}

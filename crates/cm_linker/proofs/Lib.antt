@@ -1,2 +1,3 @@
-mod Numbered
-mod Planning
+mod Rows
+mod Links
+mod Found

@@ -1,8 +1,10 @@
-//! Linking of components of every form.
+//! What each import of a set of components may be linked to, by its name, and what follows for the
+//! resources of the set.
 #![tactic(auto)]
 
-mod lines;
-mod names;
+mod by_name;
+mod linking;
+mod resources;
 
-pub use lines::{Line, plan};
-pub use names::Named;
+pub use by_name::choices;
+pub use linking::Linking;

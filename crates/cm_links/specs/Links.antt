@@ -6,10 +6,10 @@ use Rattle.std.specs.Option.{option_map}
 use Rattle.cm_validity.specs.Definitions.{ExportDef}
 use Rattle.cm_validity.specs.Spaces.{Spaces}
 use Rattle.cm_origins.specs.declared.component.Link.{Link}
-use Rattle.cm_match.specs.declared.fault.LinkReason.{LinkReason}
-use Rattle.cm_match.specs.declared.fault.LinkReason.TheVariants as reason
-use Rattle.cm_match.specs.declared.linked.TheConstants.{MAX_COMPONENTS}
-use Rattle.cm_match.specs.declared.plan.PlanLine.{PlanLine}
+use Rattle.cm_plan.specs.declared.fault.LinkReason.{LinkReason}
+use Rattle.cm_plan.specs.declared.fault.LinkReason.TheVariants as reason
+use Rattle.cm_plan.specs.declared.plan.TheConstants.{MAX_COMPONENTS}
+use Rattle.cm_plan.specs.declared.plan.PlanLine.{PlanLine}
 use Rattle.cm_links.specs.Imports.{ImportAt, candidates, export_in, imports_of, link_of}
 use Rattle.cm_links.specs.Serving.{IsExternUnserved, IsFirst, ServesExtern}
 

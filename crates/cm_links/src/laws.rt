@@ -4,13 +4,14 @@
 ghost use Rattle.std.specs.Prelude.{◌≡◌, ◌<◌, ℕ, List, Option, Some, map, slice_get};
 ghost use Rattle.cm_component.specs.Trees.{SectionTree};
 ghost use Rattle.cm_types.specs.Types.{FuncTy};
-ghost use Rattle.cm_validity.specs.Definitions.{func_type_of, lifted};
+ghost use Rattle.cm_validity.specs.Definitions.{ExportDef, func_type_of, lifted};
 ghost use Rattle.cm_validity.specs.Valid.{IsValid};
 ghost use Rattle.std.specs.List.{AllByRecursion};
 ghost use Rattle.cm_validity.specs.Spaces.{Spaces, spaces_of};
-ghost use Rattle.cm_match.specs.declared.fault.LinkReason.{LinkReason};
+ghost use Rattle.cm_plan.specs.declared.fault.LinkReason.{LinkReason};
 ghost use Rattle.cm_origins.specs.Origins.{LeadEarlier, Links};
-ghost use Rattle.cm_links.specs.Imports.{links_of};
+ghost use Rattle.cm_origins.specs.declared.component.Link.{Link};
+ghost use Rattle.cm_links.specs.Imports.{export_in, links_of};
 ghost use Rattle.cm_links.specs.Links.{CanBeLinked, IsLinkFault};
 ghost use Rattle.cm_links.specs.Serving.{IsSameFunc};
 ghost use Rattle.cm_functions.specs.Imported.{wanted_func};
@@ -23,6 +24,12 @@ use cm_functions::laws::{functions_are_as_imported, what_functions_name_is_there
 /// What an import is linked to is an export of an earlier component.
 pub fn links_lead_earlier()
     ensures { (set : List Spaces) → LeadEarlier (links_of set) }
+{}
+
+/// What an import is linked to is there.
+pub fn links_name_exports()
+    ensures { (set : List Spaces) (c n : ℕ) (l : Link) → links_of set c n ≡ Some l
+        → (e : ExportDef) × (export_in set l.component l.export ≡ Some e) }
 {}
 
 /// A set that can be linked has no fault, and one that can't has one fault alone.

@@ -155,7 +155,7 @@ impl fmt::Display for Trap {
 #[derive(Clone, Copy, Debug, PartialEq, Eq)]
 pub enum Misuse {
     /// No frame stands on the stack, so no instance acts.
-    Idle = 1,
+    Idle,
     /// A frame stands on the stack already.
     Busy,
     /// The instance is closed.
@@ -166,16 +166,27 @@ pub enum Misuse {
     BadPages,
     /// No memory for the set or for the list of events.
     Memory,
+    /// The first core function, components in order and core functions of each in order, that the
+    /// machine does not carry so far: its component and its index there, both from 0.
+    NotYet { component: u32, core_func: u32 },
 }
 
 impl Misuse {
     ghost use Rattle.cm_machine_model.specs.Numbers.{misuse_number};
 
-    /// The number by which the misuse is known, from 1 for `Idle` to 6 for `Memory`.
+    /// The number by which the misuse is known, from 1 for `Idle` to 7 for `NotYet`.
     pub fn number(self) -> u8
         ensures { result ≡ misuse_number self }
     {
-        self as u8
+        match self {
+            Misuse::Idle => 1,
+            Misuse::Busy => 2,
+            Misuse::Closed => 3,
+            Misuse::NoInstance => 4,
+            Misuse::BadPages => 5,
+            Misuse::Memory => 6,
+            Misuse::NotYet { .. } => 7,
+        }
     }
 
     /// What was wrong, in a few words.
@@ -187,6 +198,7 @@ impl Misuse {
             Misuse::NoInstance => "there is no such instance",
             Misuse::BadPages => "wrong numbers of pages",
             Misuse::Memory => "out of memory",
+            Misuse::NotYet { .. } => "a core function that is not carried so far",
         }
     }
 }

@@ -1,10 +1,2 @@
-pub mod Below
-pub mod Candidates
-pub mod ChooseLemmas
-pub mod Faults
-pub mod OfferLemmas
-pub mod Places
-pub mod ReachLemmas
-pub mod SameLemmas
-pub mod Steps
-pub mod TableSteps
+pub mod Follow
+pub mod Walking

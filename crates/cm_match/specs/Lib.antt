@@ -1,8 +1,4 @@
-pub mod Linked
-pub mod Links
-pub mod Offers
-pub mod Progress
-pub mod Reaches
-pub mod Reasons
-pub mod TargetTables
+pub mod Before
+pub mod Walks
 pub mod Targets
+pub mod Linked

@@ -1,15 +1,16 @@
--- What holds of a linked set.
-use Rattle.std.specs.Prelude.{List, length}
-use Rattle.std.specs.List.{AllByRecursion}
+-- The components of a linked set, and their index spaces.
+use Rattle.std.specs.Prelude.{List}
 use Rattle.cm_component.specs.Trees.{SectionTree}
-use Rattle.cm_match.specs.declared.links.Links.{Links}
-use Rattle.cm_match.specs.Links as links
-use Rattle.cm_match.specs.Reaches.{IsValidAndConsistent}
-use Rattle.cm_match.specs.TargetTables.{IsTargetTable}
+use Rattle.cm_validity.specs.Spaces.{Spaces}
+use Rattle.cm_validate.specs.declared.checked.Checked.{Checked}
+use Rattle.cm_linker.specs.Sets.{sections_of, set_of}
+use Rattle.cm_match.specs.declared.linked.Linked.{Linked}
 
--- the components are valid, the plan serves each import, and the table has the target of each
--- import
-pub record IsLinked (set : List (List SectionTree)) (made : Links) : Type 0 where
-  pub fine : AllByRecursion IsValidAndConsistent set
-  pub plan : links.Matches (links.signatures_of set) made.plan.items
-  pub targets : IsTargetTable made.targets.items set (length set)
+abbrev pub components_in : Linked → List Checked
+components_in l = l.components.items
+
+abbrev pub sections_in : Linked → List (List SectionTree)
+sections_in l = sections_of (components_in l)
+
+abbrev pub set_in : Linked → List Spaces
+set_in l = set_of (components_in l)

@@ -1,15 +1,14 @@
 //! Linking: the imports of each component and the exports of those before it.
 #![tactic(auto)]
 
-mod choose;
-mod fault;
+mod following;
 mod linked;
-mod links;
-mod offers;
-mod plan;
+mod linking;
 mod target;
+mod told;
+mod walk;
 
-pub use fault::{LinkFault, LinkReason};
-pub use linked::{Linked, MAX_COMPONENTS, link};
-pub use plan::PlanLine;
+pub use cm_plan::{LinkFault, LinkReason, MAX_COMPONENTS, PlanLine};
+pub use linked::Linked;
+pub use linking::link;
 pub use target::Target;

@@ -1,5 +1,5 @@
 -- What serves a resource, and what it is then.
-use Rattle.std.proofs.Common.{◌≡◌, ◌∙◌, ℕ, zero, suc, ◌<◌, true, false, List, [], ◌∷◌, length, Option, Some, None, refl, ap, arith, option_and_then, slice_get, is_some}
+use Rattle.std.proofs.Common.{◌≡◌, ◌∙◌, ℕ, ◌<◌, true, false, List, Option, Some, None, refl, ap, arith, option_and_then, slice_get, is_some}
 use Rattle.std.specs.Prelude.{unwrap_or}
 use Rattle.std.specs.Option.{option_map}
 use Rattle.cm_types.specs.declared.resource.ResourceId.{ResourceId}
@@ -7,7 +7,7 @@ use Rattle.cm_validity.specs.Definitions.{ResourceDef, brought, defined}
 use Rattle.cm_validity.specs.Spaces.{Spaces}
 use Rattle.cm_origins.specs.Components.{Told}
 use Rattle.cm_origins.specs.Origins.{AreOrigins, LeadEarlier, Links, Table, definition_of, exported_resource, item_name, origin_by, resource_at, resource_of, served}
-use Rattle.cm_origins.specs.Sets.{Describes, linked_at, member_at, served_at, source_at, source_by}
+use Rattle.cm_origins.specs.Sets.{Describes, linked_at, served_at, source_by}
 use Rattle.cm_origins.proofs.OriginLaws.{served_earlier}
 
 -- what serves a resource, by what it is
@@ -26,34 +26,34 @@ map_then : {A B C : Type 0} (f : B → C) (g : A → Option B) (o : Option A) �
 map_then f g None = refl
 map_then f g (Some x) = refl
 
-linked_told : (components : List Told) (set : List Spaces) (links : Links) → Describes components set links → (c i : ℕ) (name : List ℕ)
-    → linked_at components c (i, name) ≡ option_and_then (λ l. resource_at set l name) (links c i)
-linked_told components set links d c i name =
-    ap (option_and_then (λ l. option_map (resource_of l.component) (member_at components l.component l.export name))) (d.linked c i)
-    ∙ same_then (λ l. option_map (resource_of l.component) (member_at components l.component l.export name)) (λ l. resource_at set l name) (links c i)
-    (λ l. ap (option_map (resource_of l.component)) (d.members l.component l.export name) ∙ map_then (resource_of l.component) (λ s. exported_resource s l.export name) (slice_get set l.component))
+linked_told : (told : Told) (set : List Spaces) (links : Links) → Describes told set links → (c i : ℕ) (name : List ℕ)
+    → linked_at told c (i, name) ≡ option_and_then (λ l. resource_at set l name) (links c i)
+linked_told told set links d c i name =
+    ap (option_and_then (λ l. option_map (resource_of l.component) (told.member l name))) (d.linked c i)
+    ∙ same_then (λ l. option_map (resource_of l.component) (told.member l name)) (λ l. resource_at set l name) (links c i)
+    (λ l. ap (option_map (resource_of l.component)) (d.members l name) ∙ map_then (resource_of l.component) (λ s. exported_resource s l.export name) (slice_get set l.component))
 
-named_told : (components : List Told) (set : List Spaces) (links : Links) → Describes components set links → (c i : ℕ) (name : Option (List ℕ))
-    → option_and_then (linked_at components c) (option_map (λ n. (i, n)) name) ≡ option_and_then (λ n. option_and_then (λ l. resource_at set l n) (links c i)) name
-named_told components set links d c i None = refl
-named_told components set links d c i (Some name) = linked_told components set links d c i name
+named_told : (told : Told) (set : List Spaces) (links : Links) → Describes told set links → (c i : ℕ) (name : Option (List ℕ))
+    → option_and_then (linked_at told c) (option_map (λ n. (i, n)) name) ≡ option_and_then (λ n. option_and_then (λ l. resource_at set l n) (links c i)) name
+named_told told set links d c i None = refl
+named_told told set links d c i (Some name) = linked_told told set links d c i name
 
-defined_told : (components : List Told) (set : List Spaces) (links : Links) → Describes components set links → (r : ResourceId) (o : Option ResourceDef)
-    → option_and_then (λ source. option_and_then (linked_at components r.component) source) (option_map (source_by set r.component) o) ≡ option_and_then (serving set links r) o
-defined_told components set links d r None = refl
-defined_told components set links d r (Some (defined x)) = refl
-defined_told components set links d r (Some (brought i k)) = named_told components set links d r.component i (option_and_then (λ s. item_name s i k) (slice_get set r.component))
+defined_told : (told : Told) (set : List Spaces) (links : Links) → Describes told set links → (r : ResourceId) (o : Option ResourceDef)
+    → option_and_then (λ source. option_and_then (linked_at told r.component) source) (option_map (source_by set r.component) o) ≡ option_and_then (serving set links r) o
+defined_told told set links d r None = refl
+defined_told told set links d r (Some (defined x)) = refl
+defined_told told set links d r (Some (brought i k)) = named_told told set links d r.component i (option_and_then (λ s. item_name s i k) (slice_get set r.component))
 
-pub served_told : (components : List Told) (set : List Spaces) (links : Links) → Describes components set links → (r : ResourceId) → served_at components r ≡ served_by set links r
-served_told components set links d r =
-    ap (option_and_then (λ source. option_and_then (linked_at components r.component) source)) (d.sources r) ∙ defined_told components set links d r (definition_of set r)
+pub served_told : (told : Told) (set : List Spaces) (links : Links) → Describes told set links → (r : ResourceId) → served_at told r ≡ served_by set links r
+served_told told set links d r =
+    ap (option_and_then (λ source. option_and_then (linked_at told r.component) source)) (d.sources r) ∙ defined_told told set links d r (definition_of set r)
 
 some_mapped : {A B : Type 0} (f : A → B) (o : Option A) → is_some (option_map f o) ≡ is_some o
 some_mapped f None = refl
 some_mapped f (Some x) = refl
 
-pub exists_told : (components : List Told) (set : List Spaces) (links : Links) → Describes components set links → (r : ResourceId) → is_some (source_at components r) ≡ is_some (definition_of set r)
-exists_told components set links d r = ap is_some (d.sources r) ∙ some_mapped (source_by set r.component) (definition_of set r)
+pub exists_told : (told : Told) (set : List Spaces) (links : Links) → Describes told set links → (r : ResourceId) → is_some (told.source r) ≡ is_some (definition_of set r)
+exists_told told set links d r = ap is_some (d.sources r) ∙ some_mapped (source_by set r.component) (definition_of set r)
 
 -- ---- steps
 
@@ -99,16 +99,10 @@ none_is (Some x) h = cc h
 pub absent : (set : List Spaces) (links : Links) (table : Table) → AreOrigins set links table → (r : ResourceId) → is_some (definition_of set r) ≡ false → table r ≡ None
 absent set links table a r h = none_is (table r) (some_table set links table a r ∙ h)
 
-inside : (components : List Told) (k : ℕ) (x : Told) → slice_get components k ≡ Some x → k < length components
-inside [] k x h = cc h
-inside (y ∷ ys) zero x h = omega arith
-inside (y ∷ ys) (suc k) x h = omega (arith, inside ys k x h)
+none_there : {A : Type 0} (o : Option A) → ((x : A) → o ≡ Some x → ⊥) → o ≡ None
+none_there None h = refl
+none_there (Some x) h = absurd (h x refl)
 
-reached : {A B : Type 0} (g : A → Option B) (o : Option A) → is_some (option_and_then g o) ≡ true → (x : A) × (o ≡ Some x)
-reached g None h = cc h
-reached g (Some x) h = (x, refl)
-
-pub there_is : (components : List Told) (r : ResourceId) → is_some (source_at components r) ≡ true → r.component < length components
-there_is components r h =
-    let x = reached (λ k. k.source r.number) (slice_get components r.component) h in
-    inside components r.component x.0 x.1
+-- what is of the first component is served by nothing
+pub first : (set : List Spaces) (links : Links) → LeadEarlier links → (r : ResourceId) → r.component ≡ 0 → served_by set links r ≡ None
+first set links early r h = none_there (served_by set links r) (λ q e. omega (arith, h, earlier set links early r q e))

@@ -11,28 +11,16 @@ use Rattle.cm_origins.specs.Origins.{resource_of}
 
 -- ---- by what components tell
 
-abbrev pub source_at : List Told → ResourceId → Option (Option (ℕ × List ℕ))
-source_at told r = option_and_then (λ k. k.source r.number) (slice_get told r.component)
-
-abbrev pub link_at : List Told → ℕ → ℕ → Option Link
-link_at told component import =
-    option_and_then (λ k. k.link import) (slice_get told component)
-
-abbrev pub member_at : List Told → ℕ → ℕ → List ℕ → Option ℕ
-member_at told component export name =
-    option_and_then (λ k. k.member export name) (slice_get told component)
-
 -- the resource that the linked export has under a name
-abbrev pub linked_at : List Told → ℕ → ℕ × List ℕ → Option ResourceId
+abbrev pub linked_at : Told → ℕ → ℕ × List ℕ → Option ResourceId
 linked_at told component source =
-    option_and_then (λ l.
-    option_map (resource_of l.component) (member_at told l.component l.export source.1))
-    (link_at told component source.0)
+    option_and_then (λ l. option_map (resource_of l.component) (told.member l source.1))
+    (told.link component source.0)
 
-abbrev pub served_at : List Told → ResourceId → Option ResourceId
+abbrev pub served_at : Told → ResourceId → Option ResourceId
 served_at told r =
     option_and_then (λ source. option_and_then (linked_at told r.component) source)
-    (source_at told r)
+    (told.source r)
 
 -- ---- by the spaces
 
@@ -46,17 +34,15 @@ source_by set component (brought import item) =
 abbrev pub source_of : List Spaces → ResourceId → Option (Option (ℕ × List ℕ))
 source_of set r = option_map (source_by set r.component) (definition_of set r)
 
-abbrev pub member_of : List Spaces → ℕ → ℕ → List ℕ → Option ℕ
-member_of set component export name =
-    option_and_then (λ s. exported_resource s export name) (slice_get set component)
+abbrev pub member_of : List Spaces → Link → List ℕ → Option ℕ
+member_of set l name =
+    option_and_then (λ s. exported_resource s l.export name) (slice_get set l.component)
 
 -- ---- that they tell the same
 
 -- Components tell of the spaces of a set with these links: which resources there are, which of them
 -- an import brings under which name, what it is linked to, and which resources exports have.
-pub record Describes (told : List Told) (set : List Spaces) (links : Links) : Type 0 where
-  pub sources : (r : ResourceId) → source_at told r ≡ source_of set r
-  pub linked : (component import : ℕ)
-      → link_at told component import ≡ links component import
-  pub members : (component export : ℕ) (name : List ℕ)
-      → member_at told component export name ≡ member_of set component export name
+pub record Describes (told : Told) (set : List Spaces) (links : Links) : Type 0 where
+  pub sources : (r : ResourceId) → told.source r ≡ source_of set r
+  pub linked : (component import : ℕ) → told.link component import ≡ links component import
+  pub members : (l : Link) (name : List ℕ) → told.member l name ≡ member_of set l name

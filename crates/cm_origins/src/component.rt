@@ -1,7 +1,7 @@
-//! What is asked of a component of a linked set.
+//! What is asked of the components of a linked set.
 
-ghost use Rattle.std.specs.Prelude.{◌≡◌, is_some, map};
-ghost use Rattle.cm_origins.specs.Sets.{served_at, source_at};
+ghost use Rattle.std.specs.Prelude.{◌≡◌, is_some};
+ghost use Rattle.cm_origins.specs.Sets.{served_at};
 
 use cm_types::ResourceId;
 
@@ -21,51 +21,46 @@ pub enum Source<'a> {
     Brought { import: usize, name: &'a str },
 }
 
-/// A component of a set, as far as its resources go: where each comes from, what its imports are
-/// linked to, and which resources its exports have. It is asked, so that nothing is written out
-/// that an import or an export has by its type.
-pub trait Component {
+/// The components of a set, as far as their resources go: where each comes from, what imports are
+/// linked to, and which resources exports have. They are asked, so that nothing is written out that
+/// an import or an export has by its type.
+pub trait Components {
     ghost use Rattle.std.specs.Prelude.{◌≡◌};
     ghost use Rattle.std.specs.Option.{option_map};
     ghost use Rattle.cm_origins.specs.Components.{Told, source_view};
 
     ghost told: { Self → Told };
 
-    /// Where the resource of this number comes from, if there is one.
-    fn source(&self, number: u64) -> Option<Source<'_>>
-        ensures { option_map source_view result ≡ (told self.now).source number };
+    /// Where a resource comes from, if there is one.
+    fn source(&self, resource: ResourceId) -> Option<Source<'_>>
+        ensures { option_map source_view result ≡ (told self.now).source resource };
 
-    /// What an import is linked to, by its number.
-    fn link(&self, import: usize) -> Option<Link>
-        ensures { result ≡ (told self.now).link import };
+    /// What an import of a component is linked to, by its number.
+    fn link(&self, component: u32, import: usize) -> Option<Link>
+        ensures { result ≡ (told self.now).link component import };
 
-    /// The number of the resource that an export has under a name.
-    fn member(&self, export: usize, name: &str) -> Option<u64>
+    /// The number of the resource that an export has under a name, in the export's component.
+    fn member(&self, export: Link, name: &str) -> Option<u64>
         ensures { result ≡ (told self.now).member export name.now };
 }
 
 /// Whether there is such a resource.
-pub(crate) fn exists<C: Component>(components: &[C], resource: ResourceId) -> bool
-    ensures { result ≡ is_some (source_at (map C.told components.now) resource) }
+pub(crate) fn exists<C: Components>(components: &C, resource: ResourceId) -> bool
+    ensures { result ≡ is_some ((C.told components.now).source resource) }
 {
-    match components.get(resource.component as usize) {
-        Some(component) => component.source(resource.number).is_some(),
-        None => false,
-    }
+    components.source(resource).is_some()
 }
 
 /// The resource that serves another, if an import brings that one and is linked to an export that
 /// has a resource under its name.
-pub(crate) fn served<C: Component>(components: &[C], resource: ResourceId) -> Option<ResourceId>
-    ensures { result ≡ served_at (map C.told components.now) resource }
+pub(crate) fn served<C: Components>(components: &C, resource: ResourceId) -> Option<ResourceId>
+    ensures { result ≡ served_at (C.told components.now) resource }
 {
-    let component = components.get(resource.component as usize)?;
-    let Source::Brought { import, name } = component.source(resource.number)? else {
+    let Source::Brought { import, name } = components.source(resource)? else {
         return None;
     };
-    let link = component.link(import)?;
-    let provider = components.get(link.component as usize)?;
-    let number = provider.member(link.export, name)?;
+    let link = components.link(resource.component, import)?;
+    let number = components.member(link, name)?;
     Some(ResourceId {
         component: link.component,
         number,

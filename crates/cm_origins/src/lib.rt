@@ -5,5 +5,5 @@ mod component;
 pub mod laws;
 mod links;
 
-pub use component::{Component, Link, Source};
+pub use component::{Components, Link, Source};
 pub use links::origin;

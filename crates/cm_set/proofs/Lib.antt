@@ -1,2 +1,4 @@
 pub mod Runs
+pub mod U32s
+pub mod Counts
 pub mod CoreFuncs

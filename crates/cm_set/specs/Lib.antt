@@ -1,1 +1,2 @@
 pub mod CoreFuncs
+pub mod Carried

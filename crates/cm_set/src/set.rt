@@ -3,7 +3,7 @@
 ghost use Rattle.std.specs.Prelude.{◌≡◌, ◌+◌, ◌*◌, ◌<◌, ◌≤◌, ◌&&◌, ◌↔◌, ◌⊎◌, List, [], ◌∷◌, length};
 ghost use Rattle.std.specs.Prelude.{slice_set, map, true, false, IsOk, MatchResult, slice_get};
 ghost use Rattle.std.specs.Prelude.{IfOk, IfErr, OnErr, OnOk, IsErrOf, Option, Some, None, IfSome};
-ghost use Rattle.std.specs.Prelude.{vec_len, vec_capacity};
+ghost use Rattle.std.specs.Prelude.{vec_len, vec_capacity, ℕ};
 ghost use Rattle.std.specs.Option.{option_map, option_copied};
 ghost use Rattle.std.specs.Result.{result_err};
 ghost use Rattle.cm_machine_model.specs.declared.frame.CoreFunction.TheVariants as core_function;
@@ -18,15 +18,19 @@ ghost use Rattle.cm_machine_model.specs.Step.{after_pop, may_grow, with_memory, 
 ghost use Rattle.cm_machine_model.specs.Step.{Returns, Passes, may_want_memory, StepAt, Step};
 ghost use Rattle.cm_machine_model.specs.Run.{is_last, after_begin, misuse_of_begin, Run};
 ghost use Rattle.cm_machine_model.specs.History.{begins, moves, IsHistoryOf, GoesOn, RunsAlways};
+ghost use Rattle.cm_match.specs.Linked.{set_in};
+ghost use Rattle.cm_set.specs.Carried.{first_not_carried, IsFirstNotCarried};
 ghost use Rattle.cm_set.specs.CoreFuncs.{core_funcs_of, LoweredStand};
 
 use crate::checks::{has_core_shape, may_leave, return_count};
-use crate::core_funcs::{CoreFunctions, core_funcs_of};
+use crate::core_funcs::{CoreFunctions, core_funcs_of, first_not_carried};
 use crate::memory::Memories;
 use crate::setup::{are_page_counts, memories_of, tables_of};
 use crate::stack::Stack;
 use arrayvec::ArrayVec;
+use cm_functions::laws::functions_are_as_imported;
 use cm_handles::Table;
+use cm_links::laws::imported_functions_reach_lifts;
 use cm_machine_model::state::{
     Call, CoreFunction, Frame, Lend, LoweredFunc, Phase, Place, Purpose,
 };
@@ -105,41 +109,67 @@ fn close_all(stack: &mut Stack, closed: &mut Vec<bool>)
 }
 
 /// The set of these components.
-fn set_of(alloc: Global, linked: &Linked, pages: &[u32]) -> Result<Set, AllocError>
-    requires { are_page_counts (length linked.now) pages.now ≡ true }
-    ensures fresh { IfOk result (λ s. s ≡ fresh_state (core_funcs_of linked.now) pages.now) }
-    ensures linked { OnOk result (AreLinkedBelow 0 (core_funcs_of linked.now)) }
-    ensures few { OnOk result (length (core_funcs_of linked.now) ≤ MAX_INSTANCES) }
+fn set_of(alloc: Global, linked: &Linked<'_>, pages: &[u32]) -> Result<Set, AllocError>
+    requires pages { are_page_counts (length (set_in linked.now)) pages.now ≡ true }
+    requires carried { first_not_carried (set_in linked.now) ≡ None }
+    ensures fresh { IfOk result (λ s.
+        s ≡ fresh_state (core_funcs_of (set_in linked.now)) pages.now) }
+    ensures linked { OnOk result (AreLinkedBelow 0 (core_funcs_of (set_in linked.now))) }
+    ensures few { OnOk result (length (core_funcs_of (set_in linked.now)) ≤ MAX_INSTANCES) }
 {
+    functions_are_as_imported();
+    imported_functions_reach_lifts();
+    let _ = linked.components();
     let core_funcs = core_funcs_of(alloc, linked)?;
     Set::with_pages(alloc, core_funcs, pages)
 }
 
 impl Set {
     /// A linked set that can run: each instance has so many pages of zeros, in the order of the
-    /// components, and an empty handle table; no frame stands.
+    /// components, and an empty handle table; no frame stands. The set keeps nothing of what it was
+    /// linked from.
     ///
     /// Misuse: `BadPages` where there is not one number for each component, or one is above
-    /// `MAX_PAGES`, else `Memory` where there is no room for the set. The linked set is dropped
-    /// then.
-    pub fn new(alloc: Global, linked: Linked, pages: &[u32]) -> Result<Set, Misuse>
-        ensures fresh { IfOk result (λ s. s ≡ fresh_state (core_funcs_of linked) pages.now) }
+    /// `MAX_PAGES`; else `NotYet` with the first core function that the machine does not carry so
+    /// far, components in order and core functions of each in order; else `Memory` where there is
+    /// no room for the set. Carried are guests' own core functions, and lowered ones that take at
+    /// most `MAX_FLAT_PARAMS` parameters, each a `u32`, answer nothing or a `u32`, and come to a
+    /// lift without a post-return function.
+    pub fn new(alloc: Global, linked: &Linked<'_>, pages: &[u32]) -> Result<Set, Misuse>
+        ensures fresh { IfOk result (λ s.
+            s ≡ fresh_state (core_funcs_of (set_in linked.now)) pages.now) }
         // What happens to the set from here on is a history of what was linked: so far nothing.
-        ensures history { IfOk result (λ s. IsHistoryOf (core_funcs_of linked) pages.now [] s) }
+        ensures history { IfOk result (λ s.
+            IsHistoryOf (core_funcs_of (set_in linked.now)) pages.now [] s) }
         // Each lowered function stands for the one that it reaches.
-        ensures lowered { LoweredStand linked (core_funcs_of linked) }
+        ensures lowered { LoweredStand (set_in linked.now) (core_funcs_of (set_in linked.now)) }
         ensures accepted { OnOk result (
-            AreLinkedBelow 0 (core_funcs_of linked)
-            × (length (core_funcs_of linked) ≤ MAX_INSTANCES)
-            × (are_page_counts (length linked) pages.now ≡ true)) }
+            AreLinkedBelow 0 (core_funcs_of (set_in linked.now))
+            × (length (core_funcs_of (set_in linked.now)) ≤ MAX_INSTANCES)
+            × (are_page_counts (length (set_in linked.now)) pages.now ≡ true)
+            × (first_not_carried (set_in linked.now) ≡ None)) }
         ensures bad_pages { IsErrOf result Misuse.BadPages
-            ↔ (are_page_counts (length linked) pages.now ≡ false) }
-        ensures only { IfErr result (λ m. (m ≡ Misuse.BadPages) ⊎ (m ≡ Misuse.Memory)) }
+            ↔ (are_page_counts (length (set_in linked.now)) pages.now ≡ false) }
+        ensures not_yet { (component core_func : ℕ)
+            → IsErrOf result (Misuse.NotYet component core_func)
+            ↔ ((are_page_counts (length (set_in linked.now)) pages.now ≡ true)
+            × IsFirstNotCarried (set_in linked.now) component core_func) }
+        ensures only { IfErr result (λ m. (m ≡ Misuse.BadPages)
+            ⊎ ((component core_func : ℕ) × (m ≡ Misuse.NotYet component core_func))
+            ⊎ (m ≡ Misuse.Memory)) }
     {
+        functions_are_as_imported();
+        imported_functions_reach_lifts();
         if !are_page_counts(linked.components().len(), pages) {
             return Err(Misuse::BadPages);
         }
-        match set_of(alloc, &linked, pages) {
+        if let Some(at) = first_not_carried(linked) {
+            return Err(Misuse::NotYet {
+                component: at.component,
+                core_func: at.core_func,
+            });
+        }
+        match set_of(alloc, linked, pages) {
             Ok(set) => Ok(set),
             Err(AllocError) => Err(Misuse::Memory),
         }

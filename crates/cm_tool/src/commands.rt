@@ -2,9 +2,9 @@
 
 use cm_machine::Set;
 use cm_match::Linked;
-use cm_tool_files::{Files, load, read_file, text_of};
+use cm_tool_files::{Files, checked_of, load, read_file, text_of};
 use cm_tool_lines::{SetSize, write_plan};
-use cm_tool_sets::{Fault, Outcome, load_script, load_set, play, report};
+use cm_tool_sets::{Fault, Outcome, load_files, load_script, play, report};
 use cm_tool_signatures::{conform_component, show_component};
 use cm_tool_worlds::Unfit;
 use cm_validate::Checked;
@@ -20,9 +20,10 @@ pub const LIMIT: u64 = 1_000_000;
 /// where something was refused, 2 where the words are no command or ask for help, 3 where a drive
 /// trapped, 4 where a file cannot be read or standard output not be written.
 ///
-/// The words are those after the program's name. Files are read, decoded and validated in their
-/// order, `link` and `play` then link them, and `play` reads its script after that, as `conform`
-/// does its text. The first fault ends the command, with one line on standard error that begins
+/// The words are those after the program's name. Files are read and decoded in their order, up to
+/// the first that cannot be, and those before it are validated in their order; `link` and `play`
+/// then link them, and `play` reads its script after that, as `conform` does its text. The first
+/// fault, in the order of the files, ends the command, with one line on standard error that begins
 /// with `error: `; of `play`, also each drive that is refused or reaches its limit has such a line,
 /// and the later ones run.
 pub fn tool<F: Files, O: Write, E: Write>(
@@ -74,7 +75,8 @@ fn run_check<'a, F: Files, O: Write>(
     files: &mut F,
     out: &mut O,
 ) -> Result<Outcome, Fault<'a>> {
-    let checked = load(alloc, files, name)?;
+    let component = load(alloc, files, name)?;
+    let checked = checked_of(alloc, name, &component)?;
     write_counts(out, &checked)?;
     Ok(Outcome::Done)
 }
@@ -86,7 +88,8 @@ fn run_show<'a, F: Files, O: Write>(
     out: &mut O,
 ) -> Result<Outcome, Fault<'a>> {
     let component = load(alloc, files, name)?;
-    match show_component(alloc, &component) {
+    let checked = checked_of(alloc, name, &component)?;
+    match show_component(alloc, checked) {
         Ok(text) => {
             write_text(out, text.as_str())?;
             Ok(Outcome::Done)
@@ -104,9 +107,10 @@ fn run_conform<'a, F: Files, O: Write>(
     out: &mut O,
 ) -> Result<Outcome, Fault<'a>> {
     let component = load(alloc, files, file)?;
+    let checked = checked_of(alloc, file, &component)?;
     let bytes = read_file(alloc, files, wit)?;
     let text = text_of(wit, bytes.as_slice())?;
-    match conform_component(alloc, text, world, &component) {
+    match conform_component(alloc, text, world, checked) {
         Ok(()) => {
             write_text(out, "ok\n")?;
             Ok(Outcome::Done)
@@ -126,10 +130,9 @@ fn write_text<O: Write>(out: &mut O, text: &str) -> io::Result<()> {
 }
 
 /// Writes how many imports and exports a component has.
-fn write_counts<O: Write>(out: &mut O, component: &Checked) -> io::Result<()> {
-    let signature = component.signature();
-    let imports = signature.imports.len();
-    let exports = signature.exports.len();
+fn write_counts<O: Write>(out: &mut O, checked: &Checked<'_>) -> io::Result<()> {
+    let imports = checked.imports().len();
+    let exports = checked.exports().len();
     writeln!(out, "ok: {imports} imports, {exports} exports")?;
     out.flush()
 }
@@ -140,7 +143,8 @@ fn run_link<'a, F: Files, O: Write>(
     files: &mut F,
     out: &mut O,
 ) -> Result<Outcome, Fault<'a>> {
-    let linked = load_set(alloc, files, names)?;
+    let loaded = load_files(alloc, files, names)?;
+    let linked = loaded.link(alloc)?;
     write_plan(out, &linked)?;
     Ok(Outcome::Done)
 }
@@ -153,13 +157,14 @@ fn run_play<'a, F: Files, O: Write, E: Write>(
     out: &mut O,
     err: &mut E,
 ) -> Result<Outcome, Fault<'a>> {
-    let linked = load_set(alloc, files, names)?;
+    let loaded = load_files(alloc, files, names)?;
+    let linked = loaded.link(alloc)?;
     let script = load_script(alloc, files, script, names.len())?;
-    let mut set = make_set(alloc, linked, script.pages.as_slice())?;
+    let mut set = make_set(alloc, &linked, script.pages.as_slice())?;
     play(alloc, &mut set, script, LIMIT, out, err)
 }
 
-fn make_set(alloc: Global, linked: Linked, pages: &[u32]) -> Result<Set, Fault<'static>> {
+fn make_set(alloc: Global, linked: &Linked<'_>, pages: &[u32]) -> Result<Set, Fault<'static>> {
     let size = SetSize::new(linked.components().len(), pages);
     Set::new(alloc, linked, pages).map_err(|misuse| Fault::Set { misuse, size })
 }

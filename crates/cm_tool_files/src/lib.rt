@@ -9,4 +9,4 @@ mod words;
 
 pub use bad_file::{BadFile, FileReason};
 pub use files::{FileFault, Files};
-pub use loading::{component_of, load, read_file, text_of};
+pub use loading::{checked_of, component_of, load, read_file, text_of};

@@ -5,12 +5,14 @@ ghost use Rattle.std.specs.Str.{IsUtf8};
 ghost use Rattle.std.specs.Str.Lossy.{utf8_valid_len};
 ghost use Rattle.cm_component.specs.Trees.{SectionTree};
 ghost use Rattle.cm_reading.specs.File.{Spells};
-ghost use Rattle.cm_validate.specs.Valid.{IsValid};
-ghost use Rattle.cm_tool_files.specs.Refusals.{IsNoText, IsRefused, IsWantOfMemory};
+ghost use Rattle.cm_validity.specs.Valid.{IsValid};
+ghost use Rattle.cm_validate.specs.Checked.{sections_in};
+ghost use Rattle.cm_tool_files.specs.Refusals.{IsNoComponent, IsNoText, IsNotValid};
+ghost use Rattle.cm_tool_files.specs.Refusals.{IsWantOfMemory};
 
 use crate::bad_file::{BadFile, FileReason};
 use crate::files::Files;
-use cm_binary::decode;
+use cm_binary::{Component, decode};
 use cm_validate::{Checked, validate};
 use std::alloc::Global;
 
@@ -29,27 +31,43 @@ pub fn read_file<'a, F: Files>(
     }
 }
 
-/// The component whose file has these bytes, which is decoded and validated (Binary.md;
-/// Explainer.md, "Component Definitions"). The first fault is that of `decode`, or else that of
-/// `validate`.
-pub fn component_of<'a>(alloc: Global, name: &'a str, bytes: &[u8]) -> Result<Checked, BadFile<'a>>
+/// The component whose file has these bytes (Binary.md), which is decoded, and not validated.
+pub fn component_of<'a>(
+    alloc: Global,
+    name: &'a str,
+    bytes: &[u8],
+) -> Result<Component, BadFile<'a>>
     ensures found { IfOk result (λ c. Spells c bytes.now) }
-    ensures valid { IfOk result (λ c. IsValid c) }
-    ensures only { (c : List SectionTree) → Spells c bytes.now → IsValid c
+    ensures only { (c : List SectionTree) → Spells c bytes.now
         → IfErr result (λ e. IsWantOfMemory e.reason) }
-    ensures refused { IfErr result (λ e. IsRefused bytes.now e.reason) }
+    ensures refused { IfErr result (λ e. IsNoComponent bytes.now e.reason) }
     ensures name { IfErr result (λ e. e.name ≡ name.entry) }
 {
-    let component = match decode(alloc, bytes) {
-        Ok(component) => component,
+    match decode(alloc, bytes) {
+        Ok(component) => Ok(component),
         Err(fault) => {
             let found = bytes.get(fault.at).copied();
-            return Err(BadFile {
+            Err(BadFile {
                 name,
                 reason: FileReason::NoComponent { fault, found },
-            });
+            })
         }
-    };
+    }
+}
+
+/// The component of the file of this name as a valid one (Explainer.md, "Component Definitions").
+/// It borrows the component.
+pub fn checked_of<'a, 'b>(
+    alloc: Global,
+    name: &'a str,
+    component: &'b Component,
+) -> Result<Checked<'b>, BadFile<'a>>
+    ensures held { IfOk result (λ c. sections_in c ≡ component.now) }
+    ensures valid { IfOk result (λ c. IsValid component.now) }
+    ensures only { IsValid component.now → IfErr result (λ e. IsWantOfMemory e.reason) }
+    ensures refused { IfErr result (λ e. IsNotValid component.now e.reason) }
+    ensures name { IfErr result (λ e. e.name ≡ name.entry) }
+{
     match validate(alloc, component) {
         Ok(checked) => Ok(checked),
         Err(fault) => Err(BadFile {
@@ -59,12 +77,12 @@ pub fn component_of<'a>(alloc: Global, name: &'a str, bytes: &[u8]) -> Result<Ch
     }
 }
 
-/// The component of a file: its bytes are read, decoded and validated.
+/// The component of a file: its bytes are read and decoded.
 pub fn load<'a, F: Files>(
     alloc: Global,
     files: &mut F,
     name: &'a str,
-) -> Result<Checked, BadFile<'a>> {
+) -> Result<Component, BadFile<'a>> {
     let bytes = read_file(alloc, files, name)?;
     component_of(alloc, name, bytes.as_slice())
 }

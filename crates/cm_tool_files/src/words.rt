@@ -101,76 +101,39 @@ pub(crate) fn write_valid_fault<W: fmt::Write>(
         item,
         reason,
     } = fault;
-    let (reason_name, meaning) = valid_reason_words(reason);
+    let (reason_name, meaning) = (reason.name(), meaning_of(reason));
     write!(
         f,
         "{name}: {reason_name} in section {section}, item {item}: {meaning}"
     )
 }
 
-/// The name of a reason, and its meaning.
-fn valid_reason_words(reason: ValidReason) -> (&'static str, &'static str) {
+/// What a reason means.
+fn meaning_of(reason: ValidReason) -> &'static str {
     match reason {
-        ValidReason::NoSuchIndex => (
-            "NoSuchIndex",
-            "nothing before the item has this index, or exports this name",
-        ),
-        ValidReason::WrongSort => (
-            "WrongSort",
+        ValidReason::NoSuchIndex => "nothing before the item has this index, or exports this name",
+        ValidReason::WrongSort =>
             "what stands under the index is of another sort or type than is wanted there",
-        ),
-        ValidReason::EmptyType => (
-            "EmptyType",
-            "a record, variant, tuple, enum or flags type has nothing in it",
-        ),
-        ValidReason::TooManyFlags => ("TooManyFlags", "a flags type has more than 32 labels"),
-        ValidReason::BorrowInResult => (
-            "BorrowInResult",
-            "the result of a function holds a borrow",
-        ),
-        ValidReason::DuplicateName => (
-            "DuplicateName",
+        ValidReason::EmptyType => "a record, variant, tuple, enum or flags type has nothing in it",
+        ValidReason::TooManyFlags => "a flags type has more than 32 labels",
+        ValidReason::BorrowInResult => "the result of a function holds a borrow",
+        ValidReason::DuplicateName =>
             "two names that must differ are the same, whatever the case of their letters",
-        ),
-        ValidReason::NeedsMemory => (
-            "NeedsMemory",
+        ValidReason::NeedsMemory =>
             "the lift or lower has no memory option, and its type needs one",
-        ),
-        ValidReason::NeedsRealloc => (
-            "NeedsRealloc",
+        ValidReason::NeedsRealloc =>
             "the lift or lower has no realloc option, and its type needs one",
-        ),
-        ValidReason::OptionTwice => ("OptionTwice", "a canonical option is given twice"),
-        ValidReason::OptionNotAllowed => (
-            "OptionNotAllowed",
-            "a canonical option stands where it may not",
-        ),
-        ValidReason::NotGuestFunction => (
-            "NotGuestFunction",
-            "the core function is none of a core instance's exports",
-        ),
-        ValidReason::SecondMemory => (
-            "SecondMemory",
+        ValidReason::OptionTwice => "a canonical option is given twice",
+        ValidReason::OptionNotAllowed => "a canonical option stands where it may not",
+        ValidReason::NotGuestFunction => "the core function is none of a core instance's exports",
+        ValidReason::SecondMemory =>
             "the memory is another one than that of the component's first memory option",
-        ),
-        ValidReason::NotOwnResource => (
-            "NotOwnResource",
-            "the component itself does not define the resource",
-        ),
-        ValidReason::BadAnnotatedName => (
-            "BadAnnotatedName",
+        ValidReason::NotOwnResource => "the component itself does not define the resource",
+        ValidReason::BadAnnotatedName =>
             "a name of this form may not stand here, or does not fit its type",
-        ),
-        ValidReason::Memory => ("Memory", "there was no memory"),
-        ValidReason::NotImported => (
-            "NotImported",
-            "the function that is lowered does not come from an import",
-        ),
-        ValidReason::TooLarge => (
-            "TooLarge",
-            "the type has more than 10,000 nodes or 64 levels",
-        ),
-        ValidReason::NotYet => ("NotYet", "items of this form are not validated so far"),
-        ValidReason::StoresLatin1 => ("StoresLatin1", "strings are not stored in this encoding"),
+        ValidReason::Memory => "there was no memory",
+        ValidReason::NotImported => "the function that is lowered does not come from an import",
+        ValidReason::TooLarge => "the type has more than 10,000 nodes or 64 levels",
+        ValidReason::StoresLatin1 => "strings are not stored in this encoding",
     }
 }

@@ -1,8 +1,8 @@
 //! The line of components that do not link.
 
 use cm_match::{LinkFault, LinkReason};
-use cm_types::SignatureItem;
-use cm_validate::Checked;
+use cm_signatures::Extern;
+use cm_validate::{Checked, ExportEntry};
 use std::alloc::{AllocError, Global};
 use std::fmt;
 
@@ -19,13 +19,12 @@ impl<'a> SignatureNames<'a> {
     pub fn new(
         alloc: Global,
         file: &'a str,
-        component: &Checked,
+        component: &Checked<'_>,
     ) -> Result<SignatureNames<'a>, AllocError> {
-        let signature = component.signature();
         Ok(SignatureNames {
             file,
-            imports: names_of(alloc, signature.imports.as_slice())?,
-            exports: names_of(alloc, signature.exports.as_slice())?,
+            imports: import_names(alloc, component.imports())?,
+            exports: export_names(alloc, component.exports())?,
         })
     }
 
@@ -34,10 +33,18 @@ impl<'a> SignatureNames<'a> {
     }
 }
 
-fn names_of(alloc: Global, items: &[SignatureItem]) -> Result<Vec<String>, AllocError> {
-    let mut names = Vec::with_capacity(alloc, items.len())?;
-    for item in items {
-        names.push(String::from_str(alloc, item.name.as_str())?)?;
+fn import_names(alloc: Global, imports: &[Extern]) -> Result<Vec<String>, AllocError> {
+    let mut names = Vec::with_capacity(alloc, imports.len())?;
+    for import in imports {
+        names.push(String::from_str(alloc, import.name.as_str())?)?;
+    }
+    Ok(names)
+}
+
+fn export_names(alloc: Global, exports: &[ExportEntry<'_>]) -> Result<Vec<String>, AllocError> {
+    let mut names = Vec::with_capacity(alloc, exports.len())?;
+    for export in exports {
+        names.push(String::from_str(alloc, export.name.as_str())?)?;
     }
     Ok(names)
 }

@@ -5,7 +5,7 @@ use std::io;
 use std::io::Write;
 
 /// Writes a line for each import of a linked set, in the order of the plan.
-pub fn write_plan<O: Write>(out: &mut O, linked: &Linked) -> io::Result<()> {
+pub fn write_plan<O: Write>(out: &mut O, linked: &Linked<'_>) -> io::Result<()> {
     for line in linked.plan() {
         let import = import_name(linked, line);
         let export = export_name(linked, line);
@@ -20,25 +20,23 @@ pub fn write_plan<O: Write>(out: &mut O, linked: &Linked) -> io::Result<()> {
 }
 
 /// The name of the import of a plan's line. A plan names imports that are there.
-fn import_name<'a>(linked: &'a Linked, line: &PlanLine) -> &'a str {
-    let name = linked
-        .components()
-        .get(line.importer as usize)
-        .and_then(|c| c.signature().imports.get(line.import as usize));
-    match name {
-        Some(item) => item.name.as_str(),
+fn import_name<'a>(linked: &'a Linked<'_>, line: &PlanLine) -> &'a str {
+    let Some(component) = linked.components().get(line.importer) else {
+        return "";
+    };
+    match component.imports().get(line.import) {
+        Some(import) => import.name.as_str(),
         None => "",
     }
 }
 
 /// The name of the export of a plan's line. A plan names exports that are there.
-fn export_name<'a>(linked: &'a Linked, line: &PlanLine) -> &'a str {
-    let name = linked
-        .components()
-        .get(line.provider as usize)
-        .and_then(|c| c.signature().exports.get(line.export as usize));
-    match name {
-        Some(item) => item.name.as_str(),
+fn export_name<'a>(linked: &'a Linked<'_>, line: &PlanLine) -> &'a str {
+    let Some(component) = linked.components().get(line.provider) else {
+        return "";
+    };
+    match component.exports().get(line.export) {
+        Some(export) => export.name.as_str(),
         None => "",
     }
 }

@@ -7,6 +7,6 @@ mod outcome;
 mod playing;
 
 pub use fault::{Fault, report};
-pub use loading::{load_script, load_set};
+pub use loading::{LoadedFiles, load_files, load_script};
 pub use outcome::Outcome;
 pub use playing::play;

@@ -1,56 +1,68 @@
 //! Reading the files of a command.
 
 use crate::fault::Fault;
+use cm_binary::Component;
 use cm_match::{Linked, link};
 use cm_script::Script;
-use cm_tool_files::{Files, load, read_file, text_of};
+use cm_tool_files::{BadFile, Files, checked_of, load, read_file, text_of};
 use cm_tool_lines::{BadLine, SignatureNames};
-use cm_validate::Checked;
 use std::alloc::{AllocError, Global};
 
-/// The components of some files, with their names.
+/// The components of some files, in order: those before the first file that cannot be read or is
+/// no component file, with its fault, where there is one.
 #[derive(Drop)]
-struct LoadedFiles<'a> {
-    components: Vec<Checked>,
-    names: Vec<SignatureNames<'a>>,
+pub struct LoadedFiles<'a> {
+    loaded: Vec<LoadedFile<'a>>,
+    fault: Option<BadFile<'a>>,
+}
+
+/// A file with its component.
+#[derive(Drop)]
+struct LoadedFile<'a> {
+    name: &'a str,
+    component: Component,
+}
+
+/// The components of these files, which are read and decoded in order, up to the first that cannot
+/// be.
+pub fn load_files<'a, F: Files>(
+    alloc: Global,
+    files: &mut F,
+    names: &[&'a str],
+) -> Result<LoadedFiles<'a>, AllocError> {
+    let mut loaded = Vec::with_capacity(alloc, names.len())?;
+    for name in names {
+        match load(alloc, files, name) {
+            Ok(component) => loaded.push(LoadedFile { name, component })?,
+            Err(bad) => {
+                let fault = Some(bad);
+                return Ok(LoadedFiles { loaded, fault });
+            }
+        }
+    }
+    let fault = None;
+    Ok(LoadedFiles { loaded, fault })
 }
 
 impl<'a> LoadedFiles<'a> {
-    fn with_capacity(alloc: Global, count: usize) -> Result<LoadedFiles<'a>, AllocError> {
-        Ok(LoadedFiles {
-            components: Vec::with_capacity(alloc, count)?,
-            names: Vec::with_capacity(alloc, count)?,
-        })
-    }
-
-    fn add(&mut self, alloc: Global, file: &'a str, component: Checked) -> Result<(), AllocError> {
-        self.names
-            .push(SignatureNames::new(alloc, file, &component)?)?;
-        self.components.push(component)?;
-        Ok(())
-    }
-
-    fn link(self, alloc: Global) -> Result<Linked, Fault<'a>> {
-        let LoadedFiles { components, names } = self;
+    /// The linked set of the components, which borrows them. They are validated in order, and then
+    /// linked; the first fault in the order of the files is told, and else that of the links.
+    pub fn link<'b>(&'b self, alloc: Global) -> Result<Linked<'b>, Fault<'a>> {
+        let mut components = Vec::with_capacity(alloc, self.loaded.len())?;
+        let mut names = Vec::with_capacity(alloc, self.loaded.len())?;
+        for file in &self.loaded {
+            let checked = checked_of(alloc, file.name, &file.component)?;
+            names.push(SignatureNames::new(alloc, file.name, &checked)?)?;
+            components.push(checked)?;
+        }
+        if let Some(bad) = self.fault {
+            return Err(Fault::File(bad));
+        }
         match link(alloc, components) {
             Ok(linked) => Ok(linked),
             Err(fault) => Err(Fault::Link { fault, names }),
         }
     }
-}
-
-/// The linked set of some files, which are loaded in order.
-pub fn load_set<'a, F: Files>(
-    alloc: Global,
-    files: &mut F,
-    names: &[&'a str],
-) -> Result<Linked, Fault<'a>> {
-    let mut loaded = LoadedFiles::with_capacity(alloc, names.len())?;
-    for name in names {
-        let component = load(alloc, files, name)?;
-        loaded.add(alloc, name, component)?;
-    }
-    loaded.link(alloc)
 }
 
 /// The script of a file, for so many components.

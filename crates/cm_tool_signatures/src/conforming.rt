@@ -1,7 +1,8 @@
 //! Whether a component fits a world.
 
 ghost use Rattle.std.specs.Prelude.{IfErr, OnOk};
-ghost use Rattle.cm_validate.specs.Spaces.{signature, spaces_of};
+ghost use Rattle.cm_validate.specs.Checked.{spaces_in};
+ghost use Rattle.cm_checked_signature.specs.Exports.{signature_in};
 ghost use Rattle.cm_tool_worlds.specs.Conforming.{ConformsTo, IsUnfit};
 
 use cm_checked_signature::signature;
@@ -20,12 +21,12 @@ pub fn conform_component(
     alloc: Global,
     text: &str,
     world: &str,
-    component: &Checked,
+    component: Checked<'_>,
 ) -> Result<(), UnfitReason>
     ensures ok { OnOk result
-        (ConformsTo text.now world.now (signature (spaces_of component.now))) }
+        (ConformsTo text.now world.now (signature_in (spaces_in component.entry))) }
     ensures unfit { IfErr result
-        (IsUnfit text.now world.now (signature (spaces_of component.now))) }
+        (IsUnfit text.now world.now (signature_in (spaces_in component.entry))) }
 {
     let world = world_of(alloc, text, world)?;
     let have = signature(alloc, component)?;

@@ -2,7 +2,8 @@
 
 ghost use Rattle.std.specs.Prelude.{◌≡◌, ◌≤◌, ◌<◌, IfOk, IsErrOf, length};
 ghost use Rattle.std.specs.String.{string_bytes};
-ghost use Rattle.cm_validate.specs.Spaces.{signature, spaces_of};
+ghost use Rattle.cm_validate.specs.Checked.{spaces_in};
+ghost use Rattle.cm_checked_signature.specs.Exports.{signature_in};
 ghost use Rattle.cm_show.specs.Shown.{shown};
 ghost use Rattle.cm_pages.specs.declared.fault.ShowFault.TheVariants as fault;
 ghost use Rattle.cm_pages.specs.declared.page.TheConstants.{MAX_SHOWN};
@@ -14,15 +15,15 @@ use std::alloc::Global;
 use std::fmt;
 
 /// The text that shows what a component imports and exports, a line for each, in the order of its
-/// file (`cm_show::show`).
+/// file (`cm_show::show`). The component is taken over.
 ///
 /// `TooLong` comes where it has more than `MAX_SHOWN` bytes, and `Memory` where there is no memory.
-pub fn show_component(alloc: Global, component: &Checked) -> Result<String, ShowFault>
+pub fn show_component(alloc: Global, component: Checked<'_>) -> Result<String, ShowFault>
     ensures text { IfOk result
-        (λ text. string_bytes text ≡ shown (signature (spaces_of component.now))) }
+        (λ text. string_bytes text ≡ shown (signature_in (spaces_in component.entry))) }
     ensures short { IfOk result (λ text. length (string_bytes text) ≤ MAX_SHOWN) }
     ensures too_long { IsErrOf result fault.TooLong
-        → MAX_SHOWN < length (shown (signature (spaces_of component.now))) }
+        → MAX_SHOWN < length (shown (signature_in (spaces_in component.entry))) }
 {
     let signature = signature(alloc, component)?;
     show(alloc, &signature)

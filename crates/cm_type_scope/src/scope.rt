@@ -81,6 +81,15 @@ impl TypeScope {
         }
     }
 
+    /// The arena in which the types stood; what their indices stood for is dropped.
+    pub fn into_types(self) -> Types
+        ensures types { types_of result ≡ arena_types self }
+        ensures funcs { funcs_of result ≡ arena_funcs self }
+    {
+        let TypeScope { types, .. } = self;
+        types
+    }
+
     /// The arena in which the types stand.
     pub fn types(&self) -> &Types
         ensures types { types_of result.now ≡ arena_types self.now }

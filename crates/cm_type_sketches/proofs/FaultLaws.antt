@@ -11,9 +11,9 @@ use Rattle.cm_types.specs.declared.spellable.TheConstants.{MAX_FLAGS}
 use Rattle.cm_types.specs.DefTypes.{DefValTypeTree, FuncTypeTree, primitive, record_of, variant_of, list_of, fixed_list_of, tuple_of, flags_of, enum_of, option_of, result_of, own_of, borrow_of}
 use Rattle.cm_types.specs.Holds.{holds, fields_hold, is_borrow}
 use Rattle.cm_types.specs.Types.{Ty, Fields, FuncTy, fields, tuple_type}
-use Rattle.cm_validate.specs.declared.fault.ValidReason.{ValidReason}
-use Rattle.cm_validate.specs.declared.fault.ValidReason.TheVariants as reason
-use Rattle.cm_validate.specs.Reasons.{reason_number}
+use Rattle.cm_reasons.specs.declared.fault.ValidReason.{ValidReason}
+use Rattle.cm_reasons.specs.declared.fault.ValidReason.TheVariants as reason
+use Rattle.cm_reasons.specs.Reasons.{reason_number}
 use Rattle.cm_validity.specs.declared.sorts.TypeSort.{TypeSort}
 use Rattle.cm_validity.specs.declared.sorts.TypeSort.TheVariants as sort
 use Rattle.cm_validity.specs.Definitions.{TypeDef, sorts_of}
@@ -120,7 +120,6 @@ other reason.BadAnnotatedName h = refl
 other reason.Memory h = refl
 other reason.NotImported h = refl
 other reason.TooLarge h = absurd cc
-other reason.NotYet h = refl
 other reason.StoresLatin1 h = refl
 
 left_true : (a b : Bool) → (a && b) ≡ true → a ≡ true
@@ -282,7 +281,6 @@ limits_only reason.NotOwnResource e = absurd cc
 limits_only reason.BadAnnotatedName e = absurd cc
 limits_only reason.Memory e = absurd cc
 limits_only reason.NotImported e = absurd cc
-limits_only reason.NotYet e = absurd cc
 limits_only reason.StoresLatin1 e = absurd cc
 
 pub limits_last : (rs : List ValidReason) → are_before (besides_limits rs) ≡ true → least rs ≡ or_too_large rs (least (besides_limits rs))

@@ -1,12 +1,2 @@
-pub mod Args
-pub mod Distinct
-pub mod Lifts
-pub mod MemoryPlaces
-pub mod Order
-pub mod OrderOfSpaces
-pub mod Params
-pub mod Sections
-pub mod ConsistencyLemmas
-pub mod TableLemmas
-pub mod FlatParams
-pub mod RoomLemmas
+pub mod TySets
+pub mod SetLaws

@@ -1,13 +1,2 @@
-pub mod Definitions
-pub mod Items
-pub mod Names
-pub mod Orders
-pub mod PassedFlat
-pub mod Reasons
-pub mod Rules
-pub mod Consistency
-pub mod Spaces
-pub mod SpacesBuilder
-pub mod Tables
-pub mod Valid
-pub mod Room
+pub mod Checked
+pub mod Exported

@@ -1,19 +1,15 @@
-//! Validation of components: index spaces, and the rules that each definition keeps.
+//! Valid components: what each index of one stands for, and why a component is not valid.
 #![tactic(auto)]
 
-mod carried;
 mod checked;
-mod definitions;
-mod expand;
-mod fault;
-mod items;
-pub mod laws;
-mod named;
-mod rules;
-mod spaces_builder;
-mod tables;
-mod walk;
+mod checking;
+mod exported;
+mod parts;
 
-pub use checked::{Checked, validate};
-pub use definitions::{CoreFuncDef, FuncDef};
-pub use fault::{ValidFault, ValidReason};
+pub use checked::Checked;
+pub use checking::validate;
+pub use cm_core_spaces::GuestExport;
+pub use cm_entries::{ExportEntry, ExportedEntry, FuncEntry, InstanceEntry, MemberEntry};
+pub use cm_index_spaces::{ComponentExterns, CoreFuncEntry, MadeFunc};
+pub use cm_instance_items::Resource;
+pub use cm_reasons::{ValidFault, ValidReason};

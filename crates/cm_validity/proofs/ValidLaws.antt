@@ -4,9 +4,9 @@ use Rattle.std.specs.Prelude.{Contains}
 use Rattle.std.proofs.lemmas.Bool.{cases_Bool, leb-true, leb-false}
 use Rattle.std.proofs.lemmas.List.{append_assoc, length-append}
 use Rattle.cm_component.specs.Trees.{SectionTree}
-use Rattle.cm_validate.specs.declared.fault.ValidReason.{ValidReason}
-use Rattle.cm_validate.specs.declared.fault.ValidReason.TheVariants as reason
-use Rattle.cm_validate.specs.Reasons.{reason_number}
+use Rattle.cm_reasons.specs.declared.fault.ValidReason.{ValidReason}
+use Rattle.cm_reasons.specs.declared.fault.ValidReason.TheVariants as reason
+use Rattle.cm_reasons.specs.Reasons.{reason_number}
 use Rattle.cm_validity.specs.Items.{Item, items_of, all_items}
 use Rattle.cm_validity.specs.Spaces.{Spaces, empty_spaces, after_item, after_items}
 use Rattle.cm_validity.specs.Rules.{broken}
@@ -75,11 +75,12 @@ least_some : (q : ValidReason) (rs : List ValidReason) → (r : ValidReason) × 
 least_some q [] = (q, least_of_more q [] q (0, omega arith, refl) (omega arith) (λ y c. absurd (nothing_there y c)))
 least_some q (p ∷ rs) = lesser_of q (p ∷ rs) (least_some p rs)
 
+-- (no reason has the number 18)
 in_order : List ValidReason
 in_order =
     reason.NoSuchIndex ∷ reason.WrongSort ∷ reason.EmptyType ∷ reason.TooManyFlags ∷ reason.BorrowInResult ∷ reason.DuplicateName ∷ reason.NeedsMemory
     ∷ reason.NeedsRealloc ∷ reason.OptionTwice ∷ reason.OptionNotAllowed ∷ reason.NotGuestFunction ∷ reason.SecondMemory ∷ reason.NotOwnResource
-    ∷ reason.BadAnnotatedName ∷ reason.Memory ∷ reason.NotImported ∷ reason.TooLarge ∷ reason.NotYet ∷ reason.StoresLatin1 ∷ []
+    ∷ reason.BadAnnotatedName ∷ reason.Memory ∷ reason.NotImported ∷ reason.TooLarge ∷ reason.TooLarge ∷ reason.StoresLatin1 ∷ []
 
 numbered : ℕ → ValidReason
 unfolding in_order
@@ -104,7 +105,6 @@ told reason.BadAnnotatedName = refl
 told reason.Memory = refl
 told reason.NotImported = refl
 told reason.TooLarge = refl
-told reason.NotYet = refl
 told reason.StoresLatin1 = refl
 
 one_least : (rs : List ValidReason) (q r : ValidReason) → IsLeast rs q → IsLeast rs r → q ≡ r

@@ -2,9 +2,10 @@
 #![tactic(auto)]
 
 use anyhow::Result;
+use cm_binary::Component;
 use cm_machine::{Event, Guest, Move, Player, Set};
 use cm_types::CoreValue;
-use cm_validate::Checked;
+use cm_validate::validate;
 use std::alloc::Global;
 use std::{fs, rt};
 
@@ -40,17 +41,18 @@ impl Guest for AddOne {
     }
 }
 
-fn load<R: rt::Files + AllocGlobal>(rt: &R, name: &str) -> Result<Checked> {
+fn load<R: rt::Files + AllocGlobal>(rt: &R, name: &str) -> Result<Component> {
     let bytes = fs::read(rt, name)?;
-    let component = cm_binary::decode(rt.alloc(), bytes.as_slice())?;
-    Ok(cm_validate::validate(rt.alloc(), component)?)
+    Ok(cm_binary::decode(rt.alloc(), bytes.as_slice())?)
 }
 
 fn main(rt: HostRuntime) -> Result<()> {
     let alloc = rt.alloc();
-    let components = [load(&rt, "provider.wasm")?, load(&rt, "user.wasm")?];
+    let provider = load(&rt, "provider.wasm")?;
+    let user = load(&rt, "user.wasm")?;
+    let components = [validate(alloc, &provider)?, validate(alloc, &user)?];
     let linked = cm_match::link(alloc, Vec::from_array(alloc, components)?)?;
-    let mut set = Set::new(alloc, linked, &[0, 0])?;
+    let mut set = Set::new(alloc, &linked, &[0, 0])?;
     let provider: Box<dyn Guest> = Box::new(alloc, AddOne(alloc))?;
     let user: Box<dyn Guest> = Box::new(alloc, AddOne(alloc))?;
     let mut seats = Vec::from_array(alloc, [Some(provider), Some(user)])?;

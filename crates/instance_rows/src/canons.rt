@@ -15,11 +15,11 @@ use cm_component::{CanonOption, CoreInstance, CoreSort, ExternDesc, Import};
 use cm_core_spaces::CoreSpaces;
 use cm_entries::ComponentSpaces;
 use cm_placed::Placed;
+use cm_reasons::ValidReason;
 use cm_rows::{RowFault, read_number, split_repeat, split_words};
 use cm_type_arena::{DefFault, FieldDef, FuncDef, Primitive, TypeDef, Types};
 use cm_type_scope::TypeEntry;
 use cm_types::{ExternName, Label, NameFault};
-use cm_validate::ValidReason;
 use std::alloc::Global;
 
 /// An item of a component.

@@ -10,8 +10,8 @@ use cm_component::{
     Canon, CanonOption, CoreInlineExport, CoreInstance, CoreInstantiationArg, CoreSort,
 };
 use cm_core_spaces::CoreSpaces;
+use cm_reasons::ValidReason;
 use cm_rows::{RowFault, read_number};
-use cm_validate::ValidReason;
 use std::alloc::Global;
 
 /// An item of a component, or a question.

@@ -1,53 +1,54 @@
 //! Rows on validation, and on what the indices of a valid component stand for.
 
 use crate::files::Files;
+use cm_placed::Placed;
 use cm_rows::{RowFault, read_number};
-use cm_types::{ExternType, Func, SignatureItem};
-use cm_validate::{Checked, CoreFuncDef, FuncDef, ValidFault, ValidReason, validate};
+use cm_signatures::{Extern, ExternDesc};
+use cm_type_arena::Types;
+use cm_validate::{
+    Checked, CoreFuncEntry, ExportEntry, ExportedEntry, FuncEntry, GuestExport, InstanceEntry,
+    MadeFunc, ValidFault, ValidReason, validate,
+};
 use std::alloc::{AllocError, Global};
 
 /// The answer to `validate SOURCE`, `core_funcs SOURCE`, `core SOURCE INDEX` or `func SOURCE EXPORT
 /// ITEM`.
 pub fn answer(alloc: Global, files: &Files, words: &[&str]) -> Result<String, RowFault> {
-    match words {
-        ["validate", source] => {
-            let component = files.component(alloc, source)?;
-            match validate(alloc, component) {
-                Ok(checked) => show_signature(alloc, &checked),
-                Err(fault) => show_fault(alloc, &fault),
-            }
-        }
-        ["core_funcs", source] => {
-            let checked = read_checked(alloc, files, source)?;
-            show_core_funcs(alloc, &checked)
-        }
-        ["core", source, index] => {
-            let checked = read_checked(alloc, files, source)?;
-            show_core(alloc, checked.core(read_number(index)?))
-        }
-        ["func", source, export, item] => {
-            let checked = read_checked(alloc, files, source)?;
-            show_func(alloc, checked.func(read_number(export)?, read_item(item)?))
+    let [question, source, rest @ ..] = words else {
+        return Err(RowFault::NotARow);
+    };
+    let component = files.component(alloc, source)?;
+    match validate(alloc, &component) {
+        Ok(checked) => answer_of(alloc, &checked, question, rest),
+        Err(fault) if *question == "validate" => show_fault(alloc, &fault),
+        Err(fault) => Err(not_a_row(&fault)),
+    }
+}
+
+fn answer_of(
+    alloc: Global,
+    checked: &Checked<'_>,
+    question: &str,
+    words: &[&str],
+) -> Result<String, RowFault> {
+    match (question, words) {
+        ("validate", []) => Ok(show_signature(alloc, checked)?),
+        ("core_funcs", []) => show_core_funcs(alloc, checked),
+        ("core", [index]) => show_core(alloc, checked, read_number(index)?),
+        ("func", [export, item]) => {
+            let export = read_number(export)?;
+            show_func(alloc, checked, export, item)
         }
         _ => Err(RowFault::NotARow),
     }
 }
 
-/// The place of an item in an instance, or `-` for none.
-pub fn read_item(word: &str) -> Result<Option<u32>, RowFault> {
-    match word {
-        "-" => Ok(None),
-        word => Ok(Some(read_number(word)?)),
-    }
-}
-
-/// The component of a source, which is to be valid.
-pub fn read_checked(alloc: Global, files: &Files, source: &str) -> Result<Checked, RowFault> {
-    let component = files.component(alloc, source)?;
-    validate(alloc, component).map_err(|fault| match fault.reason {
+/// What is said of a component that is to be valid and is not.
+pub fn not_a_row(fault: &ValidFault) -> RowFault {
+    match fault.reason {
         ValidReason::Memory => RowFault::Memory,
         _ => RowFault::NotARow,
-    })
+    }
 }
 
 fn show_fault(alloc: Global, fault: &ValidFault) -> Result<String, RowFault> {
@@ -58,85 +59,151 @@ fn show_fault(alloc: Global, fault: &ValidFault) -> Result<String, RowFault> {
     Ok(format!(in alloc; "fault {number} in section {section}, item {item}")?)
 }
 
-fn show_signature(alloc: Global, checked: &Checked) -> Result<String, RowFault> {
-    let signature = checked.signature();
+fn show_signature(alloc: Global, checked: &Checked<'_>) -> Result<String, AllocError> {
     let mut out = String::from_str(alloc, "imports")?;
-    write_items(&mut out, &signature.imports)?;
+    for import in checked.imports() {
+        write_import(&mut out, checked.types(), import)?;
+    }
     out.push_str(", exports")?;
-    write_items(&mut out, &signature.exports)?;
+    for export in checked.exports() {
+        write_export(&mut out, checked.types(), export)?;
+    }
     Ok(out)
 }
 
-fn write_items(out: &mut String, items: &[SignatureItem]) -> Result<(), AllocError> {
-    for item in items {
-        let name = item.name.as_str();
-        match &item.desc {
-            ExternType::Func(func) => {
-                write!(out, " {name}")?;
-                write_shape(out, func)?;
-            }
-            ExternType::Instance(items) => {
-                let count = items.len();
-                write!(out, " {name} of {count}")?;
-            }
+fn write_import(out: &mut String, types: &Types, import: &Extern) -> Result<(), AllocError> {
+    let name = import.name.as_str();
+    write!(out, " {name}")?;
+    match &import.desc {
+        ExternDesc::Func(ty) => write_shape(out, types, *ty),
+        ExternDesc::Instance { ty, .. } => {
+            let count = ty.items.len();
+            write!(out, " of {count}")
         }
     }
-    Ok(())
 }
 
-/// Writes how many parameters a function has and how many results.
-pub fn write_shape(out: &mut String, func: &Func) -> Result<(), AllocError> {
+fn write_export(
+    out: &mut String,
+    types: &Types,
+    export: &ExportEntry<'_>,
+) -> Result<(), AllocError> {
+    let name = export.name.as_str();
+    write!(out, " {name}")?;
+    match &export.def {
+        ExportedEntry::Func(func) => write_shape(out, types, type_of(*func)),
+        ExportedEntry::Instance(InstanceEntry::Imported { import, .. }) => {
+            write!(out, " of import {import}")
+        }
+        ExportedEntry::Instance(InstanceEntry::Exporting(members)) => {
+            let count = members.len();
+            write!(out, " of {count}")
+        }
+    }
+}
+
+/// The type of a function.
+fn type_of(func: FuncEntry<'_>) -> Placed {
+    match func {
+        FuncEntry::Lifted { ty, .. } | FuncEntry::Imported { ty, .. } => ty,
+    }
+}
+
+/// Writes how many parameters a function of this type has and how many results.
+pub fn write_shape(out: &mut String, types: &Types, ty: Placed) -> Result<(), AllocError> {
+    if !ty.is_there(types.func_count()) {
+        return out.push_str("(no type)");
+    }
+    let func = types.func(ty.place);
     let params = func.params.len();
     let results = if func.result.is_some() { 1 } else { 0 };
     write!(out, "({params}, {results})")
 }
 
-fn show_core_funcs(alloc: Global, checked: &Checked) -> Result<String, RowFault> {
+fn show_core_funcs(alloc: Global, checked: &Checked<'_>) -> Result<String, RowFault> {
     let mut out = String::from_str(alloc, "each")?;
-    for core_func in checked.core_funcs() {
-        out.push_str(if core_func.is_guest_function() {
-            " guest"
-        } else {
-            " lowered"
-        })?;
+    for index in 0..=u32::MAX {
+        match checked.core(index) {
+            None => break,
+            Some(CoreFuncEntry::Guest(_)) => out.push_str(" guest")?,
+            Some(CoreFuncEntry::Made(made)) => {
+                let sort = sort_of(made);
+                write!(out, " {sort}")?;
+            }
+        }
     }
     Ok(out)
 }
 
-fn show_core(alloc: Global, core_func: Option<&CoreFuncDef>) -> Result<String, RowFault> {
-    match core_func {
-        Some(CoreFuncDef::Guest { instance, name }) => {
-            Ok(format!(in alloc; "{name} of core instance {instance}")?)
-        }
-        Some(CoreFuncDef::Lowered { import, item, ty }) => {
-            let mut out = format!(in alloc; "lowered import {import}")?;
-            write_item(&mut out, *item)?;
-            write_shape(&mut out, ty)?;
-            Ok(out)
-        }
-        None => Ok(String::from_str(alloc, "none")?),
+fn sort_of(made: MadeFunc<'_>) -> &'static str {
+    match made {
+        MadeFunc::Lowered { .. } => "lowered",
+        MadeFunc::Making(_) => "making",
+        MadeFunc::Dropping(_) => "dropping",
+        MadeFunc::Reading(_) => "reading",
     }
 }
 
-fn show_func(alloc: Global, func: Option<&FuncDef>) -> Result<String, RowFault> {
-    let Some(func) = func else {
+fn show_core(alloc: Global, checked: &Checked<'_>, index: u32) -> Result<String, RowFault> {
+    let mut out = String::new(alloc);
+    match checked.core(index) {
+        None => out.push_str("none")?,
+        Some(CoreFuncEntry::Guest(GuestExport { instance, name })) => {
+            write!(out, "{name} of core instance {instance}")?;
+        }
+        Some(
+            CoreFuncEntry::Made(
+                MadeFunc::Lowered {
+                    import,
+                    item,
+                    ty,
+                    ..
+                },
+            ),
+        ) => {
+            write!(out, "lowered import {import}")?;
+            write_item(&mut out, item)?;
+            write_shape(&mut out, checked.types(), ty)?;
+        }
+        Some(
+            CoreFuncEntry::Made(
+                made @ (MadeFunc::Making(number)
+                | MadeFunc::Dropping(number)
+                | MadeFunc::Reading(number)),
+            ),
+        ) => {
+            let sort = sort_of(made);
+            write!(out, "{sort} resource {number}")?;
+        }
+    }
+    Ok(out)
+}
+
+/// What the function is that an export is, or that has this name in an exported instance, where the
+/// name is not `-`.
+fn show_func(
+    alloc: Global,
+    checked: &Checked<'_>,
+    export: usize,
+    item: &str,
+) -> Result<String, RowFault> {
+    let item = if item == "-" { None } else { Some(item) };
+    let Some(func) = checked.func(export, item) else {
         return Ok(String::from_str(alloc, "none")?);
     };
-    let mut out = match func {
-        FuncDef::Lifted { core_func, .. } => {
-            format!(in alloc; "lifted core function {core_func}")?
+    let mut out = String::new(alloc);
+    match func {
+        FuncEntry::Lifted { core_func, .. } => write!(out, "lifted core function {core_func}")?,
+        FuncEntry::Imported { import, item, .. } => {
+            write!(out, "import {import}")?;
+            write_item(&mut out, item)?;
         }
-        FuncDef::Imported { import, item, .. } => {
-            let mut out = format!(in alloc; "import {import}")?;
-            write_item(&mut out, *item)?;
-            out
-        }
-    };
-    write_shape(&mut out, func.ty())?;
+    }
+    write_shape(&mut out, checked.types(), type_of(func))?;
     Ok(out)
 }
 
-fn write_item(out: &mut String, item: Option<u32>) -> Result<(), AllocError> {
+fn write_item(out: &mut String, item: Option<usize>) -> Result<(), AllocError> {
     match item {
         Some(item) => write!(out, " item {item}"),
         None => Ok(()),

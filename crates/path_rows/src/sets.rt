@@ -1,21 +1,47 @@
 //! Rows on links and runs, each of which acts on what the earlier ones left.
 
-use crate::checks::{read_checked, read_item, write_shape};
+use crate::checks::{not_a_row, write_shape};
 use crate::events::{write_event, write_events, write_values};
 use crate::files::Files;
+use cm_binary::Component;
 use cm_machine::{Event, Flat, Guest, Misuse, Move, Player, Set};
 use cm_match::{LinkFault, LinkReason, Linked, link};
 use cm_rows::{RowFault, read_number, write_units};
 use cm_script::{LineFault, ScriptGuest, Statement};
 use cm_types::CoreValue;
+use cm_validate::validate;
 use std::alloc::{AllocError, Global};
 use std::collections::VecDeque;
 
-/// The set that was linked last, until a machine is made of it, and the machine that was made last.
+/// The components that were linked last, until a machine is made of them, and the machine that was
+/// made last.
 #[derive(Drop)]
 pub struct Sets {
-    linked: Option<Linked>,
+    linked: Option<Vec<Component>>,
     set: Option<Set>,
+}
+
+/// The set of these components, which are to be valid, or why they can't be linked.
+fn link_components<'a>(
+    alloc: Global,
+    components: &'a [Component],
+) -> Result<Result<Linked<'a>, LinkFault>, RowFault> {
+    let mut checked = Vec::with_capacity(alloc, components.len())?;
+    for component in components {
+        match validate(alloc, component) {
+            Ok(component) => checked.push(component)?,
+            Err(fault) => return Err(not_a_row(&fault)),
+        }
+    }
+    Ok(link(alloc, checked))
+}
+
+/// The number of an item of an instance, or `-` for none.
+fn read_item(word: &str) -> Result<Option<usize>, RowFault> {
+    match word {
+        "-" => Ok(None),
+        word => Ok(Some(read_number(word)?)),
+    }
 }
 
 impl Sets {
@@ -35,16 +61,14 @@ impl Sets {
     ) -> Result<String, RowFault> {
         let mut components = Vec::new(alloc);
         for source in sources {
-            components.push(read_checked(alloc, files, source)?)?;
+            components.push(files.component(alloc, source)?)?;
         }
-        match link(alloc, components) {
-            Ok(linked) => {
-                let answer = show_plan(alloc, &linked)?;
-                self.linked = Some(linked);
-                Ok(answer)
-            }
-            Err(fault) => show_link_fault(alloc, &fault),
-        }
+        let plan = match link_components(alloc, &components)? {
+            Ok(linked) => show_plan(alloc, &linked)?,
+            Err(fault) => return show_link_fault(alloc, &fault),
+        };
+        self.linked = Some(components);
+        Ok(plan)
     }
 
     /// The answer to `target COMPONENT IMPORT ITEM`, `new PAGES..` (which takes the linked set),
@@ -71,28 +95,34 @@ impl Sets {
         &self,
         alloc: Global,
         component: u32,
-        import: u32,
-        item: Option<u32>,
+        import: usize,
+        item: Option<usize>,
     ) -> Result<String, RowFault> {
-        let linked = self.linked.as_ref().ok_or(RowFault::NotARow)?;
-        match linked.target(component, import, item) {
-            Some(target) => {
-                let (component, core_func) = (target.component, target.core_func);
-                let mut out = format!(in alloc; "core function {core_func} of {component}")?;
-                write_shape(&mut out, target.ty)?;
-                Ok(out)
-            }
-            None => Ok(String::from_str(alloc, "none")?),
+        let components = self.linked.as_ref().ok_or(RowFault::NotARow)?;
+        let Ok(linked) = link_components(alloc, components)? else {
+            return Err(RowFault::NotARow);
+        };
+        let Some(target) = linked.target(component, import, item) else {
+            return Ok(String::from_str(alloc, "none")?);
+        };
+        let (component, core_func) = (target.component, target.core_func);
+        let mut out = format!(in alloc; "core function {core_func} of {component}")?;
+        if let Some(checked) = linked.components().get(component as usize) {
+            write_shape(&mut out, checked.types(), target.ty)?;
         }
+        Ok(out)
     }
 
     fn make(&mut self, alloc: Global, pages: &[&str]) -> Result<String, RowFault> {
-        let linked = self.linked.take().ok_or(RowFault::NotARow)?;
+        let components = self.linked.take().ok_or(RowFault::NotARow)?;
         let mut numbers = Vec::new(alloc);
         for number in pages {
             numbers.push(read_number(number)?)?;
         }
-        match Set::new(alloc, linked, &numbers) {
+        let Ok(linked) = link_components(alloc, &components)? else {
+            return Err(RowFault::NotARow);
+        };
+        match Set::new(alloc, &linked, &numbers) {
             Ok(set) => {
                 self.set = Some(set);
                 Ok(String::from_str(alloc, "made")?)
@@ -103,7 +133,7 @@ impl Sets {
 }
 
 /// `IMPORTER.IMPORT=PROVIDER.EXPORT` for each line of the plan, and the number of components.
-fn show_plan(alloc: Global, linked: &Linked) -> Result<String, RowFault> {
+fn show_plan(alloc: Global, linked: &Linked<'_>) -> Result<String, RowFault> {
     let count = linked.components().len();
     let mut out = format!(in alloc; "{count} components:")?;
     for line in linked.plan() {
@@ -122,12 +152,17 @@ fn show_link_fault(alloc: Global, fault: &LinkFault) -> Result<String, RowFault>
     Ok(format!(in alloc; "fault {number} in component {component}, import {import}")?)
 }
 
+/// The number of a misuse, and the core function that is not carried.
 fn show_misuse(alloc: Global, misuse: Misuse) -> Result<String, RowFault> {
     let number = misuse.number();
-    if number == Misuse::Memory.number() {
-        return Err(RowFault::Memory);
+    match misuse {
+        Misuse::Memory => Err(RowFault::Memory),
+        Misuse::NotYet {
+            component,
+            core_func,
+        } => Ok(format!(in alloc; "misuse {number} at core function {core_func} of {component}")?),
+        _ => Ok(format!(in alloc; "misuse {number}")?),
     }
-    Ok(format!(in alloc; "misuse {number}")?)
 }
 
 fn answer_of_set(alloc: Global, set: &mut Set, words: &[&str]) -> Result<String, RowFault> {

@@ -6,7 +6,7 @@ use crate::streams::Pipe;
 use cm_machine::Set;
 use cm_rows::{RowFault, read_number};
 use cm_tool::{LIMIT, tool};
-use cm_tool_sets::{Fault, Outcome, load_script, load_set, play, report};
+use cm_tool_sets::{Fault, Outcome, load_files, load_script, play, report};
 use cm_words::{Request, USAGE, WordsFault};
 use std::alloc::{AllocError, Global};
 
@@ -157,9 +157,10 @@ fn play_files<'a>(
     out: &mut Vec<u8>,
     err: &mut Vec<u8>,
 ) -> Result<Outcome, Fault<'a>> {
-    let linked = load_set(alloc, files, names)?;
+    let loaded = load_files(alloc, files, names)?;
+    let linked = loaded.link(alloc)?;
     let script = load_script(alloc, files, script, names.len())?;
-    match Set::new(alloc, linked, script.pages.as_slice()) {
+    match Set::new(alloc, &linked, script.pages.as_slice()) {
         Ok(mut set) => play(alloc, &mut set, script, limit, out, err),
         Err(_) => Err(Fault::Memory),
     }

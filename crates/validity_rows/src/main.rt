@@ -2,9 +2,8 @@
 #![tactic(auto)]
 
 use cm_binary::{Component, DecodeReason, decode};
-use cm_component_spaces::index_spaces;
 use cm_rows::{Driver, RowFault, answer_rows, read_bytes};
-use cm_validate::ValidFault;
+use cm_validate::{ValidFault, ValidReason, validate};
 use std::alloc::Global;
 use std::io;
 
@@ -20,7 +19,7 @@ impl Driver for ValidityRows {
             return Err(RowFault::NotARow);
         };
         let component = read_component(alloc, bytes)?;
-        match index_spaces(alloc, &component)? {
+        match validate(alloc, &component) {
             Ok(_) => Ok(String::from_str(alloc, "valid")?),
             Err(fault) => show_fault(alloc, fault),
         }
@@ -37,6 +36,9 @@ fn read_component(alloc: Global, digits: &str) -> Result<Component, RowFault> {
 }
 
 fn show_fault(alloc: Global, fault: ValidFault) -> Result<String, RowFault> {
+    if fault.reason == ValidReason::Memory {
+        return Err(RowFault::Memory);
+    }
     let (number, section, item) = (fault.reason.number(), fault.section, fault.item);
     Ok(format!(in alloc; "fault {number} in section {section}, item {item}")?)
 }

@@ -1,13 +1,16 @@
-//! Answers rows on worlds, on the tables of what packages declare, and on packages as texts, by the
-//! public calls of the libraries that read them.
+//! Answers rows on WIT texts, on worlds, on the tables of what packages declare, and on packages as
+//! texts, by the public calls of the libraries that read them.
 #![tactic(auto)]
 
 mod files;
 mod instances;
 mod packages;
+mod parsing;
 mod printing;
+mod reading;
 mod showing;
 mod signatures;
+mod spelled;
 mod tables;
 mod texts;
 mod worlds;
@@ -28,6 +31,9 @@ impl Driver for WorldRows {
         match words {
             ["text", name] => self.texts.begin(alloc, name),
             ["line", line @ ..] => self.texts.add_line(alloc, line),
+            ["read", rest @ ..] => reading::answer(alloc, rest),
+            ["parse", rest @ ..] => parsing::answer_parse(alloc, rest),
+            ["printed", rest @ ..] => parsing::answer_print(alloc, rest),
             ["print", written, printed] => printing::answer(alloc, &self.texts, written, printed),
             ["world", name, rest @ ..] => self.ask(alloc, Question::WorldOfName(*name), rest),
             ["number", number, rest @ ..] => {

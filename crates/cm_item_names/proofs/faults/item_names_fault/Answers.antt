@@ -1,5 +1,5 @@
 use Rattle.std.proofs.Common.{◌≡◌, ◌∙◌, ap, sym, map}
-use Rattle.cm_validate.specs.declared.fault.ValidReason.TheVariants as reason
+use Rattle.cm_reasons.specs.declared.fault.ValidReason.TheVariants as reason
 use Rattle.cm_validity.specs.Reasons.{least, lesser, unless}
 use Rattle.cm_validity.specs.TypeRules.{are_distinct_names}
 use Rattle.cm_item_names.specs.Names.{are_all_well_named}

@@ -1,12 +1,12 @@
-use Rattle.std.proofs.Common.{◌≡◌, take, map}
-use Rattle.std.specs.List.{AllByRecursion}
-use Rattle.cm_validate.specs.Definitions.{core_func_tree}
-use Rattle.cm_machine_model.specs.State.{IsLinkedBelow}
+use Rattle.std.proofs.Common.{◌≡◌, None, map, take}
+use Rattle.cm_validate.specs.Checked.{spaces_in}
+use Rattle.cm_match.specs.Linked.{set_in}
 use Rattle.cm_set.specs.CoreFuncs.{core_func_of}
+use Rattle.cm_set.proofs.CoreFuncs.{rest_from}
 use Rattle.cm_set.proofs.core_funcs.core_funcs_in.Given as goal
 
-abbrev pub invariant-loop-function : goal.invariant-loop-function
-invariant-loop-function l = record {
-  are : l.functions.items ≡ map (λ f. core_func_of l.linked l.component (core_func_tree f)) (take l.function-index l.function-items);
-  below : AllByRecursion (IsLinkedBelow l.component) l.functions.items;
+abbrev pub invariant-loop-index : goal.invariant-loop-index
+invariant-loop-index l = record {
+  carried : rest_from (set_in l.linked) l.component (spaces_in l.checked).core_funcs l.index ≡ None;
+  are : l.functions.items ≡ map (core_func_of (set_in l.linked) l.component) (take l.index (spaces_in l.checked).core_funcs);
 }

@@ -1,8 +1,9 @@
 use Rattle.std.proofs.Common.{rules}
-use Rattle.cm_validate.specs.Spaces.{signature, spaces_of}
+use Rattle.cm_validate.specs.Checked.{spaces_in}
+use Rattle.cm_checked_signature.specs.Exports.{signature_in}
 use Rattle.cm_tool_signatures.proofs.conforming.conform_component.Goals as goal
 
 pub returns-in_err-world-clause-unfit : goal.returns-in_err-world-clause-unfit
 returns-in_err-world-clause-unfit c =
-    let h = c.in_err-world.ensures.fault (signature (spaces_of c.args.component.now)) in
+    let h = c.in_err-world.ensures.fault (signature_in (spaces_in c.args.component)) in
     search (rules, h)

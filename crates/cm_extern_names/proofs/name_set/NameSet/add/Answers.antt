@@ -1,7 +1,7 @@
 use Rattle.std.proofs.Common.{map, ap, ◌∙◌}
 use Rattle.std.specs.List.{list_any}
 use Rattle.cm_types.specs.Names.{is_same_name}
-use Rattle.cm_validate.specs.declared.fault.ValidReason.TheVariants as reason
+use Rattle.cm_reasons.specs.declared.fault.ValidReason.TheVariants as reason
 use Rattle.cm_extern_names.specs.NameSets.{names_of}
 use Rattle.cm_extern_names.proofs.NameLaws.{Entries, folded_after, goes_last, none_broken, put}
 use Rattle.cm_extern_names.proofs.name_set.NameSet.add.Goals as goal

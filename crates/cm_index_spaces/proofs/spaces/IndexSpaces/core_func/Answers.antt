@@ -1,0 +1,27 @@
+use Rattle.std.proofs.Common.{◌≡◌, Some, None, ap, sym, ◌∙◌, length, slice_get}
+use Rattle.std.specs.Option.{option_map}
+use Rattle.cm_index_spaces.specs.IndexSpaces.{funcs_in}
+use Rattle.cm_index_spaces.specs.Made.{core_func_def}
+use Rattle.cm_index_spaces.proofs.MadeLaws.{guest_func, made_func, no_func, none_behind, one_there}
+use Rattle.cm_index_spaces.proofs.spaces.IndexSpaces.core_func.Goals as goal
+
+pub returns-in_err-export-clause-is : goal.returns-in_err-export-clause-is
+returns-in_err-export-clause-is c = λ s at.
+    ap (option_map (core_func_def (funcs_in c.args.self.now))) c.from_residual.ensures
+    ∙ no_func c.args.self.now s at c.args.index c.func.result c.func.ensures c.in_err-export.was
+
+pub returns-in_err-made_func-in-Made-clause-is : goal.returns-in_err-made_func-in-Made-clause-is
+returns-in_err-made_func-in-Made-clause-is c = λ s at.
+    absurd (none_behind c.args.self.now s at c.args.index c.func.result c.func.ensures c.in-Made.number (c.in_ok-export.was ∙ ap Some c.in-Made.is) (sym c.made_func.ensures ∙ c.in_err-made_func-in-Made.was))
+
+pub returns-in-Guest-clause-is : goal.returns-in-Guest-clause-is
+returns-in-Guest-clause-is c = λ s at.
+    guest_func c.args.self.now s at c.args.index c.func.result c.func.ensures c.in-Guest.export (c.in_ok-export.was ∙ ap Some c.in-Guest.is)
+
+pub returns-in_ok-made_func-in-Made-clause-is : goal.returns-in_ok-made_func-in-Made-clause-is
+returns-in_ok-made_func-in-Made-clause-is c = λ s at.
+    made_func c.args.self.now s at c.args.index c.func.result c.func.ensures c.in-Made.number c.in_ok-made_func-in-Made.field-0 (c.in_ok-export.was ∙ ap Some c.in-Made.is) (sym c.made_func.ensures ∙ c.in_ok-made_func-in-Made.was)
+
+pub returns-in_ok-made_func-in-Made-clause-there : goal.returns-in_ok-made_func-in-Made-clause-there
+returns-in_ok-made_func-in-Made-clause-there c = λ s at.
+    one_there (length (funcs_in c.args.self.now)) c.args.self.now.made.items c.in-Made.number c.in_ok-made_func-in-Made.field-0 at.made_there (sym c.made_func.ensures ∙ c.in_ok-made_func-in-Made.was)

@@ -1,0 +1,98 @@
+//! Whether components can be linked.
+
+ghost use Rattle.std.specs.Prelude.{◌≡◌, ◌⊎◌, ◌<◌, ◌≤◌, [], length, IfErr, IfOk, IsErrOf};
+ghost use Rattle.cm_plan.specs.declared.fault.LinkReason.TheVariants as reason;
+ghost use Rattle.cm_plan.specs.declared.plan.TheConstants.{MAX_COMPONENTS};
+ghost use Rattle.cm_links.specs.Links.{CanBeLinked, IsLinkFault};
+ghost use Rattle.cm_linker.specs.Choices.{AreChoices};
+ghost use Rattle.cm_linker.specs.Sets.{set_of};
+ghost use Rattle.cm_match.specs.Before.{AreServedBefore};
+ghost use Rattle.cm_match.specs.Linked.{components_in};
+ghost use Rattle.cm_match.specs.Walks.{HasServed, IsWalkFault};
+
+use crate::linked::Linked;
+use crate::walk::walk;
+use cm_candidates::Candidate;
+use cm_linker::{Linking, choices};
+use cm_links::laws::sets_have_one_answer;
+use cm_plan::{LinkFault, LinkReason, MAX_COMPONENTS, PlanLine};
+use cm_validate::Checked;
+use std::alloc::{AllocError, Global};
+
+fn set_fault(reason: LinkReason) -> LinkFault
+    ensures { result ≡ record { component = 0; import = 0; reason = reason } }
+{
+    LinkFault {
+        component: 0,
+        import: 0,
+        reason,
+    }
+}
+
+/// The plan of these components with the candidates of their imports, or the first import that is
+/// not served.
+fn plan_of(
+    alloc: Global,
+    components: &[Checked<'_>],
+    choices: &[Vec<Candidate>],
+) -> Result<Vec<PlanLine>, LinkFault>
+    requires chosen { AreChoices (set_of components.now) choices.now }
+    requires few { length components.now ≤ MAX_COMPONENTS }
+    ensures served { IfOk result (λ plan. HasServed (set_of components.now)
+        (length components.now) 0 plan.items) }
+    ensures fault { IfErr result (λ f. IsWalkFault (set_of components.now) f) }
+{
+    walk(alloc, &Linking::new(components, choices))
+}
+
+/// The components as a linked set.
+///
+/// Components are taken in order, and the imports of each in order. An import is linked to the only
+/// export of a component before that has its name, or its interface in a compatible version; a
+/// function is served by one of the same type, and an instance by one that has each wanted item: a
+/// function and a value type of the same type, a resource that the import brings by any resource,
+/// and one that is said to be another by that one (how components are linked is this project's own
+/// choice). A component may export more than others import.
+///
+/// A set that can't be linked is refused with its first fault, and the components are dropped:
+///
+/// - `Empty` where there is no component, `TooMany` where there are more than `MAX_COMPONENTS`,
+///   both at component 0 and import 0; no memory is wanted before;
+/// - at the first import that is not served: `NoProvider` where no export before may serve it,
+///   `TwoProviders` where several may, and else, by the first item that is not served,
+///   `MissingExport` where nothing has its name, `DifferentResource` where a resource is another
+///   one than the import says, and `DifferentType` where what is there is of another type or sort;
+/// - `Memory` where there is no memory: the imports before its place are served. It may come in the
+///   place of any fault at or behind that place.
+pub fn link<'a>(alloc: Global, components: Vec<Checked<'a>>) -> Result<Linked<'a>, LinkFault>
+    ensures components { IfOk result (λ l. components_in l ≡ components.entry.items) }
+    ensures accepted { IfOk result (λ _. CanBeLinked (set_of components.entry.items)) }
+    ensures complete { CanBeLinked (set_of components.entry.items)
+        → IfErr result (λ f. f.reason ≡ reason.Memory) }
+    ensures refused { IfErr result (λ f. ((f.reason ≡ reason.Memory)
+        × AreServedBefore (set_of components.entry.items) f.component f.import)
+        ⊎ IsLinkFault (set_of components.entry.items) f.component f.import f.reason) }
+    ensures empty { components.entry.items ≡ []
+        → IsErrOf result (record { component = 0; import = 0; reason = reason.Empty }) }
+    ensures too_many { MAX_COMPONENTS < length components.entry.items
+        → IsErrOf result (record { component = 0; import = 0; reason = reason.TooMany }) }
+{
+    sets_have_one_answer();
+    if components.is_empty() {
+        return Err(set_fault(LinkReason::Empty));
+    }
+    if components.len() > MAX_COMPONENTS {
+        return Err(set_fault(LinkReason::TooMany));
+    }
+    let Ok(choices) = choices(alloc, &components) else {
+        return Err(set_fault(LinkReason::Memory));
+    };
+    match plan_of(alloc, &components, &choices) {
+        Ok(plan) => Ok(Linked {
+            components,
+            choices,
+            plan,
+        }),
+        Err(fault) => Err(fault),
+    }
+}

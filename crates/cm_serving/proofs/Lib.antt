@@ -1,0 +1,4 @@
+mod Known
+mod Same
+mod Judging
+mod Walks

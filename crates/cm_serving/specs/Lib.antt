@@ -1,0 +1,4 @@
+pub mod Sides
+pub mod Knowing
+pub mod Tables
+pub mod Answers

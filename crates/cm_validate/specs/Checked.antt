@@ -1,0 +1,21 @@
+-- What a valid component is, and where its types stand (Explainer.md, "Index Spaces").
+use Rattle.std.specs.Prelude.{List}
+use Rattle.cm_types.specs.Types.{Ty, FuncTy}
+use Rattle.cm_component.specs.Trees.{SectionTree}
+use Rattle.cm_validity.specs.Spaces.{Spaces, spaces_of}
+use Rattle.cm_index_spaces.specs.IndexSpaces as index
+use Rattle.cm_validate.specs.declared.checked.Checked.{Checked}
+
+-- its sections, and its index spaces
+abbrev pub sections_in : Checked → List SectionTree
+sections_in c = c.component.now
+
+abbrev pub spaces_in : Checked → Spaces
+spaces_in c = spaces_of (sections_in c)
+
+-- the types of its arena, and those of functions
+abbrev pub types_in : Checked → List Ty
+types_in c = index.types_in c.spaces
+
+abbrev pub funcs_in : Checked → List FuncTy
+funcs_in c = index.funcs_in c.spaces
