@@ -86,8 +86,7 @@ impl Error for LinkReason {}
 pub struct LinkFault {
     /// The place of the component in the set, from 0; 0 where the fault is the set's.
     pub component: usize,
-    /// The number of the import, from 0; 0 where the fault is the set's. With `Memory` it may be
-    /// the count of the component's imports, where the component's exports were looked at.
+    /// The number of the import, from 0; 0 where the fault is the set's.
     pub import: usize,
     pub reason: LinkReason,
 }

@@ -124,8 +124,7 @@ impl Error for ValidReason {}
 #[derive(Clone, Copy, Debug, PartialEq, Eq, thiserror::Error)]
 #[error("{reason} in section {section}, item {item}")]
 pub struct ValidFault {
-    /// The section, from 0, custom sections counted. With `Memory` it may be the count of sections,
-    /// where the tables of a valid component were made.
+    /// The section, from 0, custom sections counted.
     pub section: usize,
     /// The item in the section, from 0; a section that is one item has item 0.
     pub item: usize,
