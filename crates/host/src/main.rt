@@ -4,6 +4,7 @@
 use anyhow::Result;
 use cm_binary::Component;
 use cm_machine::{Event, Guest, Move, Player, Set};
+use cm_match::link;
 use cm_types::CoreValue;
 use cm_validate::validate;
 use std::alloc::Global;
@@ -46,17 +47,21 @@ fn load<R: rt::Files + AllocGlobal>(rt: &R, name: &str) -> Result<Component> {
     Ok(cm_binary::decode(rt.alloc(), bytes.as_slice())?)
 }
 
+/// What happens where the user is the root and calls the provider, both with such a guest.
+fn play(alloc: Global, provider: &Component, user: &Component) -> Result<Vec<Event>> {
+    let components = [validate(alloc, provider)?, validate(alloc, user)?];
+    let linked = link(alloc, Vec::from_array(alloc, components)?)?;
+    let mut set = Set::new(alloc, &linked, &[0, 0])?;
+    let adds: Box<dyn Guest> = Box::new(alloc, AddOne(alloc))?;
+    let calls: Box<dyn Guest> = Box::new(alloc, AddOne(alloc))?;
+    let mut seats = Vec::from_array(alloc, [Some(adds), Some(calls)])?;
+    Ok(Player::drive(alloc, &mut set, &mut seats, 1, 100)?)
+}
+
 fn main(rt: HostRuntime) -> Result<()> {
-    let alloc = rt.alloc();
     let provider = load(&rt, "provider.wasm")?;
     let user = load(&rt, "user.wasm")?;
-    let components = [validate(alloc, &provider)?, validate(alloc, &user)?];
-    let linked = cm_match::link(alloc, Vec::from_array(alloc, components)?)?;
-    let mut set = Set::new(alloc, &linked, &[0, 0])?;
-    let provider: Box<dyn Guest> = Box::new(alloc, AddOne(alloc))?;
-    let user: Box<dyn Guest> = Box::new(alloc, AddOne(alloc))?;
-    let mut seats = Vec::from_array(alloc, [Some(provider), Some(user)])?;
-    for event in &Player::drive(alloc, &mut set, &mut seats, 1, 100)? {
+    for event in &play(rt.alloc(), &provider, &user)? {
         println!(rt; "{event:?}")?;
     }
     Ok(())
