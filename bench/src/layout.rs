@@ -388,23 +388,38 @@ fn compare(words: &[u32], ours: unsafe extern "C" fn(*const u32, usize, u32) -> 
     [times[0], times[1]].map(|time| time / 1e3 / f64::from(ROUNDS))
 }
 
+/// The shapes, by their names, each a function of the number of nodes.
+const SHAPES: [(&str, fn(usize) -> Vec<u32>); 8] = [
+    ("deep chain", deep_chain),
+    ("wide record", wide_record),
+    ("options", options),
+    ("variants", variants),
+    ("nested lists", nested_lists),
+    ("tuples of tuples", tuples_of_tuples),
+    ("fixed lists", fixed_lists),
+    ("results", results),
+];
+
+/// Makes the layouts and the core values of a type of a shape so many times, for `bench/steps`.
+pub fn once(name: &str, nodes: usize, rounds: u32) {
+    let (_, shape) = SHAPES.iter().find(|(it, _)| *it == name).expect("the name of a shape");
+    let words = shape(nodes);
+    let made = unsafe {
+        [
+            cm_bench_layout(words.as_ptr(), words.len(), rounds),
+            cm_bench_flatten(words.as_ptr(), words.len(), rounds),
+        ]
+    };
+    assert!(!made.contains(&u64::MAX));
+}
+
 pub fn run() {
     println!("layout and flatten (a ratio above 1: ours is faster)");
     println!(
         "{:17} {:>6} {:>10} {:>10} {:>6} {:>10} {:>10} {:>6}",
         "shape", "nodes", "layout µs", "plain µs", "ratio", "flatten µs", "plain µs", "ratio"
     );
-    let shapes: [(&str, fn(usize) -> Vec<u32>); 8] = [
-        ("deep chain", deep_chain),
-        ("wide record", wide_record),
-        ("options", options),
-        ("variants", variants),
-        ("nested lists", nested_lists),
-        ("tuples of tuples", tuples_of_tuples),
-        ("fixed lists", fixed_lists),
-        ("results", results),
-    ];
-    for (name, shape) in shapes {
+    for (name, shape) in SHAPES {
         for nodes in [1_000, 9_900] {
             let words = shape(nodes);
             let [ours, plain] = compare(&words, cm_bench_layout, plain_layout);

@@ -15,6 +15,13 @@ mod text;
 
 fn main() {
     let wanted: Vec<String> = std::env::args().skip(1).collect();
+    if let [part, shape, nodes, rounds] = &wanted[..]
+        && part == "layout-once"
+    {
+        let nodes = nodes.parse().expect("a number of nodes");
+        layout::once(shape, nodes, rounds.parse().expect("a number of rounds"));
+        return;
+    }
     let parts: [(&str, fn()); 7] = [
         ("text", text::run),
         ("handles", handles::run),
