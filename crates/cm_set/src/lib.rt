@@ -1,10 +1,7 @@
 //! A linked set that runs.
 #![tactic(auto)]
 
-mod carried;
 mod checks;
-mod core_funcs;
-mod memory;
 mod set;
 mod setup;
 mod stack;

@@ -19,18 +19,15 @@ ghost use Rattle.cm_machine_model.specs.Step.{Returns, Passes, may_want_memory, 
 ghost use Rattle.cm_machine_model.specs.Run.{is_last, after_begin, misuse_of_begin, Run};
 ghost use Rattle.cm_machine_model.specs.History.{begins, moves, IsHistoryOf, GoesOn, RunsAlways};
 ghost use Rattle.cm_match.specs.Linked.{set_in};
-ghost use Rattle.cm_set.specs.Carried.{first_not_carried, IsFirstNotCarried};
-ghost use Rattle.cm_set.specs.CoreFuncs.{core_funcs_of, LoweredStand};
+ghost use Rattle.cm_core_funcs.specs.Carried.{first_not_carried, IsFirstNotCarried};
+ghost use Rattle.cm_core_funcs.specs.CoreFuncs.{core_funcs_of, LoweredStand};
 
 use crate::checks::{has_core_shape, may_leave, return_count};
-use crate::core_funcs::{CoreFunctions, core_funcs_of, first_not_carried};
-use crate::memory::Memories;
 use crate::setup::{are_page_counts, memories_of, tables_of};
 use crate::stack::Stack;
 use arrayvec::ArrayVec;
-use cm_functions::laws::functions_are_as_imported;
+use cm_core_funcs::{CoreFunctions, core_funcs_of, first_not_carried, lowered_functions_stand};
 use cm_handles::Table;
-use cm_links::laws::imported_functions_reach_lifts;
 use cm_machine_model::state::{
     Call, CoreFunction, Frame, Lend, LoweredFunc, Phase, Place, Purpose,
 };
@@ -39,6 +36,7 @@ use cm_machine_model::{
     PAGE_SIZE, Trap,
 };
 use cm_match::Linked;
+use cm_memories::Memories;
 use cm_types::CoreValue;
 use std::alloc::{AllocError, Global};
 use std::marker::Model;
@@ -117,9 +115,6 @@ fn set_of(alloc: Global, linked: &Linked<'_>, pages: &[u32]) -> Result<Set, Allo
     ensures linked { OnOk result (AreLinkedBelow 0 (core_funcs_of (set_in linked.now))) }
     ensures few { OnOk result (length (core_funcs_of (set_in linked.now)) ≤ MAX_INSTANCES) }
 {
-    functions_are_as_imported();
-    imported_functions_reach_lifts();
-    let _ = linked.components();
     let core_funcs = core_funcs_of(alloc, linked)?;
     Set::with_pages(alloc, core_funcs, pages)
 }
@@ -158,8 +153,7 @@ impl Set {
             ⊎ ((component core_func : ℕ) × (m ≡ Misuse.NotYet component core_func))
             ⊎ (m ≡ Misuse.Memory)) }
     {
-        functions_are_as_imported();
-        imported_functions_reach_lifts();
+        lowered_functions_stand(linked);
         if !are_page_counts(linked.components().len(), pages) {
             return Err(Misuse::BadPages);
         }

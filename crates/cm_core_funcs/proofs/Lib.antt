@@ -1,0 +1,3 @@
+pub mod U32s
+pub mod Counts
+pub mod CoreFuncs

@@ -1,0 +1,10 @@
+use Rattle.std.proofs.Common.{◌≡◌}
+use Rattle.cm_validate.specs.Checked.{spaces_in}
+use Rattle.cm_match.specs.Linked.{set_in}
+use Rattle.cm_core_funcs.specs.Carried.{first_not_carried_in}
+use Rattle.cm_core_funcs.proofs.CoreFuncs.{rest_from}
+use Rattle.cm_core_funcs.proofs.core_funcs.first_not_carried_in.Given as goal
+
+abbrev pub invariant-loop-index : goal.invariant-loop-index
+invariant-loop-index l =
+    first_not_carried_in (set_in l.linked) l.component (spaces_in l.checked) ≡ rest_from (set_in l.linked) l.component (spaces_in l.checked).core_funcs l.index
