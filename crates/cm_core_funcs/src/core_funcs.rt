@@ -13,8 +13,8 @@ ghost use Rattle.cm_index_spaces.specs.Made.{core_func_def, is_core_func_there};
 ghost use Rattle.cm_index_spaces.specs.Made.{is_made_there, made_def};
 ghost use Rattle.cm_validate.specs.Checked.{spaces_in};
 ghost use Rattle.cm_match.specs.Linked.{set_in};
-ghost use Rattle.cm_core_funcs.specs.Carried.{carried_func, first_not_carried, first_not_carried_in};
-ghost use Rattle.cm_core_funcs.specs.Carried.{is_u32_func};
+ghost use Rattle.cm_core_funcs.specs.Carried.{carried_func, first_not_carried};
+ghost use Rattle.cm_core_funcs.specs.Carried.{first_not_carried_in, is_u32_func};
 ghost use Rattle.cm_core_funcs.specs.CoreFuncs.{LoweredStand, core_funcs_in, core_funcs_of};
 ghost use Rattle.cm_machine_model.specs.State.{AreLinkedBelow};
 
