@@ -66,6 +66,12 @@ fn names(count: usize) -> impl Iterator<Item = String> {
     (0..count).map(|at| format!("f{at}"))
 }
 
+/// Names of eight letters.
+fn plain_names(count: usize) -> impl Iterator<Item = String> {
+    (0..count as u64)
+        .map(|at| (0..8).map(|digit| (b'a' + (at / 26u64.pow(digit) % 26) as u8) as char).collect())
+}
+
 /// The shortest labels of one word: a letter, then letters and digits.
 fn short_names(count: usize) -> impl Iterator<Item = String> {
     const REST: &[u8; 36] = b"abcdefghijklmnopqrstuvwxyz0123456789";
@@ -78,12 +84,39 @@ fn short_names(count: usize) -> impl Iterator<Item = String> {
     (1..).flat_map(of_length).take(count)
 }
 
+/// Names of eight letters that all begin their search in one place of a hash map of up to 147,456
+/// of them: what std's maps, whose hash has a fixed seed, make of a text.
+fn crafted_names(count: usize) -> impl Iterator<Item = String> {
+    const MULTIPLIER: u64 = 0x9e37_79b9_7f4a_7c15;
+    const PLACES: u32 = 1 << 14;
+    fn fold(a: u64, b: u64) -> u64 {
+        let product = u128::from(a) * u128::from(b);
+        product as u64 ^ (product >> 64) as u64
+    }
+    fn place(name: [u8; 8]) -> u32 {
+        let state = fold(0x243f_6a88_85a3_08d3 ^ u64::from_le_bytes(name), MULTIPLIER ^ 16);
+        let hash = fold(state ^ 0xff_ffff, MULTIPLIER ^ 2);
+        (hash ^ (hash >> 32)) as u32 % PLACES
+    }
+    let name = |at: u64| std::array::from_fn(|digit| b'a' + (at / 26u64.pow(digit as u32) % 26) as u8);
+    (0..)
+        .map(name)
+        .filter(|name| place(*name) == 0)
+        .map(|name: [u8; 8]| String::from_utf8_lossy(&name).into_owned())
+        .take(count)
+}
+
 const U8: &[u8] = &[0x7D];
 const U32: &[u8] = &[0x79];
 
 /// So many imports of one function.
 fn many_imports(count: usize) -> Vec<u8> {
     file(&[types(&[func_type("x", U32)]), imports(1, 0, short_names(count))])
+}
+
+/// So many imports of one function, whose names were chosen to be hard to find.
+fn crafted_imports(count: usize) -> Vec<u8> {
+    file(&[types(&[func_type("x", U32)]), imports(1, 0, crafted_names(count))])
 }
 
 /// So many types, each a tuple of one of 8,191 nodes.
@@ -221,6 +254,11 @@ pub fn run() {
     println!("{:48} {:>10} {:>10} {:>8} {:>8}", "", "bytes", "ms", "ns/byte", "memory/byte");
     for count in [20_000, 80_000, 1_900_000] {
         of_file(&format!("{count} imports of one function"), &many_imports(count), count);
+    }
+    for count in [25_000, 100_000] {
+        of_file(&format!("{count} imports with crafted names"), &crafted_imports(count), count);
+        let benign = file(&[types(&[func_type("x", U32)]), imports(1, 0, plain_names(count))]);
+        of_file(&format!("{count} imports with other names as long"), &benign, count);
     }
     for count in [1_024, 4_083] {
         of_file(&format!("{count} types, each with 8,191 nodes below it"), &large_types(count), 0);
