@@ -25,6 +25,18 @@ pub fn answer(alloc: Global, files: &Files, words: &[&str]) -> Result<String, Ro
     }
 }
 
+/// The answer to `valid SOURCE`, where words behind it say what the component is.
+pub fn valid_answer(alloc: Global, files: &Files, words: &[&str]) -> Result<String, RowFault> {
+    let [source, ..] = words else {
+        return Err(RowFault::NotARow);
+    };
+    let component = files.component(alloc, source)?;
+    match validate(alloc, &component) {
+        Ok(_) => Ok(String::from_str(alloc, "valid")?),
+        Err(fault) => show_fault(alloc, &fault),
+    }
+}
+
 fn answer_of(
     alloc: Global,
     checked: &Checked<'_>,

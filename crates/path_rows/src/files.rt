@@ -47,6 +47,15 @@ impl Files {
         })
     }
 
+    /// The components of the sources, each of which is to have one.
+    pub fn components(&self, alloc: Global, sources: &[&str]) -> Result<Vec<Component>, RowFault> {
+        let mut components = Vec::with_capacity(alloc, sources.len())?;
+        for source in sources {
+            components.push(self.component(alloc, source)?)?;
+        }
+        Ok(components)
+    }
+
     fn name(&mut self, alloc: Global, name: &str, bytes: Vec<u8>) -> Result<String, RowFault> {
         let length = bytes.len();
         let name = String::from_str(alloc, name)?;

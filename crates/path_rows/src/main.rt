@@ -4,6 +4,7 @@
 mod checks;
 mod events;
 mod files;
+mod links;
 mod sets;
 mod trees;
 
@@ -27,7 +28,8 @@ impl Driver for PathRows {
             ["checked", rest @ ..] => checks::answer(alloc, &self.files, rest),
             ["link", sources @ ..] => self.sets.link(alloc, &self.files, sources),
             ["set", rest @ ..] => self.sets.answer(alloc, rest),
-            _ => Err(RowFault::NotARow),
+            ["valid", rest @ ..] => checks::valid_answer(alloc, &self.files, rest),
+            words => links::answer(alloc, &self.files, words),
         }
     }
 }

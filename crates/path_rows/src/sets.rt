@@ -1,15 +1,15 @@
 //! Rows on links and runs, each of which acts on what the earlier ones left.
 
-use crate::checks::{not_a_row, write_shape};
+use crate::checks::write_shape;
 use crate::events::{write_event, write_events, write_values};
 use crate::files::Files;
+use crate::links::{link_components, read_item, show_link_fault};
 use cm_binary::Component;
 use cm_machine::{Event, Flat, Guest, Misuse, Move, Player, Set};
-use cm_match::{LinkFault, LinkReason, Linked, link};
+use cm_match::Linked;
 use cm_rows::{RowFault, read_number, write_units};
 use cm_script::{LineFault, ScriptGuest, Statement};
 use cm_types::CoreValue;
-use cm_validate::validate;
 use std::alloc::{AllocError, Global};
 use std::collections::VecDeque;
 
@@ -19,29 +19,6 @@ use std::collections::VecDeque;
 pub struct Sets {
     linked: Option<Vec<Component>>,
     set: Option<Set>,
-}
-
-/// The set of these components, which are to be valid, or why they can't be linked.
-fn link_components<'a>(
-    alloc: Global,
-    components: &'a [Component],
-) -> Result<Result<Linked<'a>, LinkFault>, RowFault> {
-    let mut checked = Vec::with_capacity(alloc, components.len())?;
-    for component in components {
-        match validate(alloc, component) {
-            Ok(component) => checked.push(component)?,
-            Err(fault) => return Err(not_a_row(&fault)),
-        }
-    }
-    Ok(link(alloc, checked))
-}
-
-/// The number of an item of an instance, or `-` for none.
-fn read_item(word: &str) -> Result<Option<usize>, RowFault> {
-    match word {
-        "-" => Ok(None),
-        word => Ok(Some(read_number(word)?)),
-    }
 }
 
 impl Sets {
@@ -59,13 +36,10 @@ impl Sets {
         files: &Files,
         sources: &[&str],
     ) -> Result<String, RowFault> {
-        let mut components = Vec::new(alloc);
-        for source in sources {
-            components.push(files.component(alloc, source)?)?;
-        }
+        let components = files.components(alloc, sources)?;
         let plan = match link_components(alloc, &components)? {
             Ok(linked) => show_plan(alloc, &linked)?,
-            Err(fault) => return show_link_fault(alloc, &fault),
+            Err(fault) => return Ok(show_link_fault(alloc, fault)?),
         };
         self.linked = Some(components);
         Ok(plan)
@@ -142,14 +116,6 @@ fn show_plan(alloc: Global, linked: &Linked<'_>) -> Result<String, RowFault> {
         write!(out, " {importer}.{import}={provider}.{export}")?;
     }
     Ok(out)
-}
-
-fn show_link_fault(alloc: Global, fault: &LinkFault) -> Result<String, RowFault> {
-    let (number, component, import) = (fault.reason.number(), fault.component, fault.import);
-    if number == LinkReason::Memory.number() {
-        return Err(RowFault::Memory);
-    }
-    Ok(format!(in alloc; "fault {number} in component {component}, import {import}")?)
 }
 
 /// The number of a misuse, and the core function that is not carried.
