@@ -1,5 +1,5 @@
 -- What serves one of two lists that are alike serves the other.
-use Rattle.std.proofs.Common.{◌≡◌, ◌∙◌, ℕ, List, [], ◌∷◌, ◌++◌, Option, Some, None, refl, ap, sym, subst}
+use Rattle.std.proofs.Common.{◌≡◌, ◌∙◌, ℕ, suc, List, [], ◌∷◌, ◌++◌, length, Option, Some, None, refl, ap, sym, subst}
 use Rattle.std.specs.List.{AllByRecursion}
 use Rattle.cm_types.specs.Signatures.{ItemTy, NamedItem, func_item, equal_type, equal_resource, fresh_resource}
 use Rattle.cm_types.specs.Signatures as extern
@@ -8,7 +8,7 @@ use Rattle.cm_validity.specs.Spaces.{Spaces}
 use Rattle.cm_plan.specs.declared.fault.LinkReason.{LinkReason}
 use Rattle.cm_plan.specs.declared.fault.LinkReason.TheVariants as reason
 use Rattle.cm_links.specs.Serving.{IsExternUnserved, IsFirst, IsItemServed, IsItemUnserved, IsUnserved, Serves, ServesExtern, are_known_resources, item_under}
-use Rattle.cm_alike.specs.Alike.{AreAllAlike, AreAlike}
+use Rattle.cm_alike.specs.Alike.{AreAllAlike, AreAlike, FailsAt}
 
 -- ---- one item
 
@@ -63,8 +63,8 @@ module _ (set : List Spaces) (c d : ℕ) (members : List NamedMember) where
   all_served (i ∷ is) [] h s = absurd h
 
   -- the first that is not served
-  abbrev Fails : List NamedItem → LinkReason → Type 0
-  Fails is r = (i : NamedItem) × IsFirst Served is i × IsItemUnserved set c d members i r
+  abbrev Fails : List NamedItem → ℕ → LinkReason → Type 0
+  Fails = FailsAt set c d members
 
   abbrev head_or : NamedItem → List NamedItem → NamedItem
   head_or i [] = i
@@ -74,23 +74,39 @@ module _ (set : List Spaces) (c d : ℕ) (members : List NamedMember) where
   tail [] = []
   tail (j ∷ js) = js
 
-  behind_one : (j : NamedItem) (js : List NamedItem) (r : LinkReason) → Served j → Fails js r → Fails (j ∷ js) r
-  behind_one j js r s f =
-      (f.0, record { front = j ∷ f.1.front; rest = f.1.rest; split = ap (λ l. j ∷ l) f.1.split; before = (s, f.1.before) }, f.2)
+  behind_one : (j : NamedItem) (js : List NamedItem) (n : ℕ) (r : LinkReason) → Served j → Fails js n r → Fails (j ∷ js) (suc n) r
+  behind_one j js n r s f =
+      record {
+        item = f.item;
+        first = record { front = j ∷ f.first.front; rest = f.first.rest; split = ap (λ l. j ∷ l) f.first.split; before = (s, f.first.before) };
+        place = ap suc f.place;
+        fails = f.fails;
+      }
 
   first_fails : (front rest is js : List NamedItem) (i : NamedItem) (r : LinkReason) → is ≡ front ++ i ∷ rest → AllByRecursion Served front → IsItemUnserved set c d members i r
-      → AreAllAlike set c d members is js → Fails js r
+      → AreAllAlike set c d members is js → Fails js (length front) r
   first_fails [] rest [] js i r e s u h = cc e
   first_fails (k ∷ front) rest [] js i r e s u h = cc e
   first_fails front rest (x ∷ is) [] i r e s u h = absurd h
   first_fails [] rest (x ∷ is) (y ∷ js) i r e s u h =
-      (y, record { front = []; rest = js; split = refl; before = tt {0} }, item_unserved x y r h.0 h.1 (subst (λ v. IsItemUnserved set c d members v r) (sym (ap (head_or i) e)) u))
+      record {
+        item = y;
+        first = record { front = []; rest = js; split = refl; before = tt {0} };
+        place = refl;
+        fails = item_unserved x y r h.0 h.1 (subst (λ v. IsItemUnserved set c d members v r) (sym (ap (head_or i) e)) u);
+      }
   first_fails (k ∷ front) rest (x ∷ is) (y ∷ js) i r e s u h =
       let x_served : Served x = subst Served (sym (ap (head_or i) e)) s.0 in
-      behind_one y js r (item_served x y h.0 h.1 x_served) (first_fails front rest is js i r (ap tail e) s.1 u (h.2 x_served))
+      behind_one y js (length front) r (item_served x y h.0 h.1 x_served) (first_fails front rest is js i r (ap tail e) s.1 u (h.2 x_served))
 
-  all_fail : (is js : List NamedItem) (r : LinkReason) → AreAllAlike set c d members is js → Fails is r → Fails js r
-  all_fail is js r h f = first_fails f.1.front f.1.rest is js f.0 r f.1.split f.1.before f.2 h
+  pub fails_too : (is js : List NamedItem) (n : ℕ) (r : LinkReason) → AreAllAlike set c d members is js → Fails is n r → Fails js n r
+  fails_too is js n r h f = subst (λ m. Fails js m r) f.place (first_fails f.first.front f.first.rest is js f.item r f.first.split f.first.before f.fails h)
+
+  all_fail : (is js : List NamedItem) (r : LinkReason) → AreAllAlike set c d members is js → (i : NamedItem) × IsFirst Served is i × IsItemUnserved set c d members i r
+      → (i : NamedItem) × IsFirst Served js i × IsItemUnserved set c d members i r
+  all_fail is js r h f =
+      let g = first_fails f.1.front f.1.rest is js f.0 r f.1.split f.1.before f.2 h in
+      (g.item, g.first, g.fails)
 
 -- ---- imports
 

@@ -17,11 +17,11 @@ use Rattle.cm_origins.specs.Origins.{AreOrigins, LeadEarlier, Links, origin_of}
 use Rattle.cm_links.specs.Imports.{candidates, export_in, import_at, import_in, link_of, links_of, only_link}
 use Rattle.cm_links.specs.Links.{IsNotServed, IsNotServedBy, IsServed}
 use Rattle.cm_links.specs.Serving.{IsExternUnserved, IsItemServed, ServesExtern, standing}
-use Rattle.cm_alike.specs.Alike.{AreAllAlike, IsLinkedTo}
+use Rattle.cm_alike.specs.Alike.{AreAllAlike, FailsAt, IsLinkedTo}
 use Rattle.cm_alike.specs.Brought.{BringsInOrder, OwnsWhatItBrings, items_from}
 use Rattle.cm_alike.proofs.ListLemmas.{some_same, stepped}
 use Rattle.cm_alike.proofs.AlikeLaws.{all_alike, same_served}
-use Rattle.cm_alike.proofs.ServingLaws.{AlikeFor, extern_served, extern_unserved}
+use Rattle.cm_alike.proofs.ServingLaws.{AlikeFor, extern_served, extern_unserved, fails_too}
 
 -- ---- the components of a set
 
@@ -66,6 +66,10 @@ module _ (counted : (sections : List SectionTree) → AreSpacesCounted (spaces_o
   items_alike c j k d t a b ms owns v w =
       let s = stepped (slice_get set c) (λ (q : Spaces). slice_get q.imports j) v.import v.there in
       all_alike set set_counted set_origins c s.0 s.1 (set_brings c s.0 s.1) j k d t a b ms v w owns
+
+  pub items_fail : (c j k d : ℕ) (t : InstanceTy) (a b : ℕ) (ms : List NamedMember) (number : ℕ) (r : LinkReason) → OwnsWhatItBrings t → IsLinkedTo set c j t a d (exported_instance ms)
+      → IsLinkedTo set c k t b d (exported_instance ms) → FailsAt set c d ms (items_from t a) number r → FailsAt set c d ms (items_from t b) number r
+  items_fail c j k d t a b ms number r owns v w = fails_too set c d ms (items_from t a) (items_from t b) number r (items_alike c j k d t a b ms owns v w)
 
 -- ---- what serves imports
 

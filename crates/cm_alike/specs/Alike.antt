@@ -1,6 +1,6 @@
 -- Imports of a component that are served alike: instances of one type, linked to the same instance
 -- (how components are linked is this project's own choice).
-use Rattle.std.specs.Prelude.{◌≡◌, ⊤, ℕ, List, [], ◌∷◌, Some}
+use Rattle.std.specs.Prelude.{◌≡◌, ⊤, ℕ, List, [], ◌∷◌, length, Some}
 use Rattle.cm_types.specs.Signatures.{ItemTy, NamedItem, func_item, equal_type, equal_resource}
 use Rattle.cm_types.specs.Signatures.{fresh_resource, NamedExtern}
 use Rattle.cm_types.specs.Signatures as extern
@@ -8,7 +8,9 @@ use Rattle.cm_validity.specs.Definitions.{InstanceTy, ExportDef, NamedMember}
 use Rattle.cm_validity.specs.Spaces.{Spaces}
 use Rattle.cm_origins.specs.declared.component.Link.{Link}
 use Rattle.cm_links.specs.Imports.{export_in, import_in, links_of}
-use Rattle.cm_links.specs.Serving.{IsItemServed, IsSameFunc, IsSameType, standing}
+use Rattle.cm_links.specs.Serving.{IsFirst, IsItemServed, IsItemUnserved, IsSameFunc, IsSameType}
+use Rattle.cm_links.specs.Serving.{standing}
+use Rattle.cm_plan.specs.declared.fault.LinkReason.{LinkReason}
 use Rattle.cm_alike.specs.Brought.{items_from}
 
 -- The import of a number of a component is an instance of a type, whose own resources the component
@@ -43,3 +45,11 @@ AreAllAlike set c d members (i ∷ is) (j ∷ js) =
     (i.name ≡ j.name) × AreAlike set c i.desc j.desc
     × (IsItemServed set c d members i → AreAllAlike set c d members is js)
 AreAllAlike set c d members _ _ = ⊥
+
+-- of these items the one of this number, from 0, is the first that is not served, for this reason
+pub record FailsAt (set : List Spaces) (c d : ℕ) (members : List NamedMember)
+    (items : List NamedItem) (number : ℕ) (r : LinkReason) : Type 0 where
+  pub item : NamedItem
+  pub first : IsFirst (IsItemServed set c d members) items item
+  pub place : length first.front ≡ number
+  pub fails : IsItemUnserved set c d members item r

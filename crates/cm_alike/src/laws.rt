@@ -15,7 +15,7 @@ ghost use Rattle.cm_plan.specs.declared.fault.LinkReason.{LinkReason};
 ghost use Rattle.cm_links.specs.Imports.{import_at, import_in};
 ghost use Rattle.cm_links.specs.Links.{IsNotServed, IsServed};
 ghost use Rattle.cm_links.specs.Serving.{IsExternUnserved, IsItemServed, ServesExtern, standing};
-ghost use Rattle.cm_alike.specs.Alike.{AreAllAlike, IsLinkedTo};
+ghost use Rattle.cm_alike.specs.Alike.{AreAllAlike, FailsAt, IsLinkedTo};
 ghost use Rattle.cm_alike.specs.Brought.{BringsInOrder, OwnsWhatItBrings, items_from};
 
 use cm_counted::laws::{moves_of_what_is_counted, resources_are_counted};
@@ -60,13 +60,20 @@ pub fn served_resources_are_the_same()
     imports_bring_in_order();
 }
 
-/// The items of two such imports are alike, one by one, as far as they are served.
+/// The items of two such imports are alike, one by one, as far as they are served. So the first
+/// that is not served is the item of the same number, and for the same reason.
 pub fn items_are_alike()
-    ensures { (components : List (List SectionTree)) (c j k d : ℕ) (t : InstanceTy) (a b : ℕ)
+    ensures alike { (components : List (List SectionTree)) (c j k d : ℕ) (t : InstanceTy) (a b : ℕ)
         (members : List NamedMember) → OwnsWhatItBrings t
         → IsLinkedTo (map spaces_of components) c j t a d (exported_instance members)
         → IsLinkedTo (map spaces_of components) c k t b d (exported_instance members)
         → AreAllAlike (map spaces_of components) c d members (items_from t a) (items_from t b) }
+    ensures fails { (components : List (List SectionTree)) (c j k d : ℕ) (t : InstanceTy)
+        (a b : ℕ) (members : List NamedMember) (number : ℕ) (r : LinkReason) → OwnsWhatItBrings t
+        → IsLinkedTo (map spaces_of components) c j t a d (exported_instance members)
+        → IsLinkedTo (map spaces_of components) c k t b d (exported_instance members)
+        → FailsAt (map spaces_of components) c d members (items_from t a) number r
+        → FailsAt (map spaces_of components) c d members (items_from t b) number r }
 {
     resources_are_counted();
     links_lead_earlier();
