@@ -1,0 +1,4 @@
+//! Imports of a component that are served alike: definitions and laws.
+#![tactic(auto)]
+
+pub mod laws;
