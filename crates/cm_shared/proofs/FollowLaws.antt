@@ -24,9 +24,10 @@ use Rattle.cm_validity.specs.TypeRules.{has_sort}
 use Rattle.cm_validity.specs.Valid.{IsValidFrom}
 use Rattle.cm_validity.specs.declared.sorts.TypeSort.{TypeSort}
 use Rattle.cm_validity.specs.declared.sorts.TypeSort.TheVariants as sort
+use Rattle.cm_counted.specs.CountedSpaces.{AreSpacesCounted, IsDefCounted}
 use Rattle.cm_shared.specs.Numbers.{Numbers, after_alias, after_export, after_import, no_numbers, numbers_after, numbers_after_all, with_own_type}
 use Rattle.cm_shared.specs.Shared.{IsImportOf, item_from}
-use Rattle.cm_shared.proofs.RootLaws.{Roots, behind, each_more, first_nothing, no_roots, root_there, roots_again, roots_kept, roots_own, seam, stays}
+use Rattle.cm_shared.proofs.RootLaws.{Roots, all_at, behind, each_more, first_nothing, no_roots, root_there, roots_again, roots_kept, roots_own, seam, stays}
 
 -- ---- what each number says
 
@@ -68,6 +69,7 @@ import_of_grows : (s : Spaces) (x : Item) (j : ℕ) (i : InstanceTy) → IsImpor
 import_of_grows s x j i k = record {
   next = k.next;
   name = k.name;
+  known = k.known;
   import_is = stays s.imports (new_imports s x) j (record { name = k.name; desc = extern.instance (map (item_from i k.next) i.items) }) k.import_is;
   brought = λ n d e. stays s.resources (new_resources s x) (k.next + n) d (k.brought n d e);
 }
@@ -215,8 +217,8 @@ import_adds : (s : Spaces) (name : List ℕ) (k : ℕ) (i : InstanceTy) → slic
 import_adds s name k i e = ap (λ (o : Option TypeDef). option_to_list (option_map (λ d. record { name = name; desc = d }) (option_map (λ t. extern.instance (map (item_from t (length s.resources)) t.items)) (option_and_then instance_ty_in o)))) e
 
 -- an import of an instance of the type with an index: its items, and the resources that they bring
-import_of : (s : Spaces) (name : List ℕ) (k : ℕ) (i : InstanceTy) → slice_get s.types k ≡ Some (instance_type i) → IsImportOf (after_item s (import_item (record { name = name; desc = desc.Instance k }))) (length s.imports) i
-import_of s name k i e =
+import_of : (s : Spaces) (name : List ℕ) (k : ℕ) (i : InstanceTy) → AreSpacesCounted s → slice_get s.types k ≡ Some (instance_type i) → IsImportOf (after_item s (import_item (record { name = name; desc = desc.Instance k }))) (length s.imports) i
+import_of s name k i c e =
     let x = import_item (record { name = name; desc = desc.Instance k }) in
     let t : NamedExtern = record { name = name; desc = extern.instance (map (item_from i (length s.resources)) i.items) } in
     let adds : new_imports s x ≡ t ∷ [] = import_adds s name k i e in
@@ -224,13 +226,14 @@ import_of s name k i e =
     record {
       next = length s.resources;
       name = name;
+      known = (all_at (IsDefCounted (length s.resources)) s.types k (instance_type i) c.types e).known;
       import_is = ap (λ (ys : List NamedExtern). slice_get (s.imports ++ ys) (length s.imports)) adds ∙ seam s.imports [] t;
       brought = λ n d h. behind s.resources (new_resources s x) n ∙ (ap (λ (ys : List ResourceDef). slice_get ys n) brings ∙ h);
     }
 
-follow_instance_import : (s : Spaces) (n : Numbers) (name : List ℕ) (k : ℕ) → Follows s n → desc_broken s name (desc.Instance k) ≡ []
+follow_instance_import : (s : Spaces) (n : Numbers) (name : List ℕ) (k : ℕ) → AreSpacesCounted s → Follows s n → desc_broken s name (desc.Instance k) ≡ []
     → Follows (after_item s (import_item (record { name = name; desc = desc.Instance k }))) (after_import n (desc.Instance k))
-follow_instance_import s n name k w e =
+follow_instance_import s n name k c w e =
     let x = import_item (record { name = name; desc = desc.Instance k }) in
     let i = instance_found (slice_get s.types k) (type_at s sort.Instance k (first_nothing (type_index_broken s (has_sort sort.Instance) k) (instance_name_broken name) e)) in
     let r = root_there s.types n.types k (instance_type i.0) w.types i.1 in
@@ -241,14 +244,14 @@ follow_instance_import s n name k w e =
       types = roots_kept s.types [] n.types w.types refl;
       instances = roots_own s.instances (new_instances s x) n.instances ms w.instances made;
       imports = imports_more s x n.imports (slice_get n.types k) t w.imports (import_adds s name k i.0 i.1)
-          (subst (λ (o : Option ℕ). IsImportNumbered (after_item s x) (length s.imports) o) (sym r.1) (i.0, stays s.types [] r.0 (instance_type i.0) r.2, import_of s name k i.0 i.1));
+          (subst (λ (o : Option ℕ). IsImportNumbered (after_item s x) (length s.imports) o) (sym r.1) (i.0, stays s.types [] r.0 (instance_type i.0) r.2, import_of s name k i.0 c i.1));
       exports = exports_kept s x n.exports w.exports refl;
     }
 
-follow_import : (s : Spaces) (n : Numbers) (name : List ℕ) (d : ExternDesc) → Follows s n → desc_broken s name d ≡ []
+follow_import : (s : Spaces) (n : Numbers) (name : List ℕ) (d : ExternDesc) → AreSpacesCounted s → Follows s n → desc_broken s name d ≡ []
     → Follows (after_item s (import_item (record { name = name; desc = d }))) (after_import n d)
-follow_import s n name (desc.Func k) w e = follow_func_import s n name k w e
-follow_import s n name (desc.Instance k) w e = follow_instance_import s n name k w e
+follow_import s n name (desc.Func k) c w e = follow_func_import s n name k w e
+follow_import s n name (desc.Instance k) c w e = follow_instance_import s n name k c w e
 
 -- ---- exports
 
@@ -296,17 +299,17 @@ follow_export s n name export_sort.Instance k w e = follow_instance_export s n n
 
 -- ---- all items
 
-follow_item : (s : Spaces) (n : Numbers) (x : Item) → Follows s n → broken s x ≡ [] → Follows (after_item s x) (numbers_after n x)
-follow_item s n core_module_item k e = nothing s core_module_item n k refl refl refl refl
-follow_item s n (core_instance_item i) k e = nothing s (core_instance_item i) n k refl refl refl refl
-follow_item s n (instance_item es) k e = follow_instance s n es k
-follow_item s n (alias_item a) k e = follow_alias s n a k e
-follow_item s n (type_item d) k e = own_type s (type_item d) n (def_of s d) k refl refl refl refl
-follow_item s n (canon_item c) k e = nothing s (canon_item c) n k refl refl refl refl
-follow_item s n (import_item i) k e = follow_import s n i.name i.desc k (first_nothing (desc_broken s i.name i.desc) (name_broken i.name (map (λ x. x.name) s.imports)) e)
-follow_item s n (export_item i) k e = follow_export s n i.name i.sort i.index k (first_nothing (exported_broken s i.name i.sort i.index) (name_broken i.name (map (λ x. x.name) s.exports)) e)
+follow_item : (s : Spaces) (n : Numbers) (x : Item) → AreSpacesCounted s → Follows s n → broken s x ≡ [] → Follows (after_item s x) (numbers_after n x)
+follow_item s n core_module_item c k e = nothing s core_module_item n k refl refl refl refl
+follow_item s n (core_instance_item i) c k e = nothing s (core_instance_item i) n k refl refl refl refl
+follow_item s n (instance_item es) c k e = follow_instance s n es k
+follow_item s n (alias_item a) c k e = follow_alias s n a k e
+follow_item s n (type_item d) c k e = own_type s (type_item d) n (def_of s d) k refl refl refl refl
+follow_item s n (canon_item d) c k e = nothing s (canon_item d) n k refl refl refl refl
+follow_item s n (import_item i) c k e = follow_import s n i.name i.desc c k (first_nothing (desc_broken s i.name i.desc) (name_broken i.name (map (λ x. x.name) s.imports)) e)
+follow_item s n (export_item i) c k e = follow_export s n i.name i.sort i.index k (first_nothing (exported_broken s i.name i.sort i.index) (name_broken i.name (map (λ x. x.name) s.exports)) e)
 
-pub follow_all : (s : Spaces) (n : Numbers) (xs : List Item) → Follows s n → IsValidFrom s xs → Follows (after_items s xs) (numbers_after_all n xs)
-follow_all s n [] k v = k
-follow_all s n (x ∷ xs) k v =
-    follow_all (after_item s x) (numbers_after n x) xs (follow_item s n x k (v [] x xs refl)) (λ front y rest e. v (x ∷ front) y rest (ap (λ (ys : List Item). x ∷ ys) e))
+pub follow_all : (s : Spaces) (n : Numbers) (xs : List Item) → ((front : List Item) → AreSpacesCounted (after_items s front)) → Follows s n → IsValidFrom s xs → Follows (after_items s xs) (numbers_after_all n xs)
+follow_all s n [] c k v = k
+follow_all s n (x ∷ xs) c k v =
+    follow_all (after_item s x) (numbers_after n x) xs (λ front. c (x ∷ front)) (follow_item s n x (c []) k (v [] x xs refl)) (λ front y rest e. v (x ∷ front) y rest (ap (λ (ys : List Item). x ∷ ys) e))

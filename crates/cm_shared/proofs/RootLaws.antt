@@ -1,6 +1,7 @@
 -- First indices of definitions.
 use Rattle.std.proofs.Common.{◌≡◌, ℕ, zero, suc, ◌+◌, ◌<◌, List, [], ◌∷◌, ◌++◌, length, Option, Some, None, slice_get, refl, sym, ap, subst, ◌∙◌, arith, length-append, append-nil}
 use Rattle.std.proofs.lemmas.Option.{slice_get_within}
+use Rattle.std.specs.List.{AllByRecursion}
 use Rattle.std.specs.Prelude.{option_to_list}
 
 -- ---- lists
@@ -31,6 +32,11 @@ pub there : {A : Type 0} (xs : List A) (i : ℕ) → i < length xs → (x : A) �
 there [] i lt = absurd (omega (arith, lt))
 there (y ∷ ys) zero lt = (y, refl)
 there (y ∷ ys) (suc i) lt = there ys i (omega (arith, lt))
+
+pub all_at : {A : Type 0} (P : A → Type 0) (xs : List A) (i : ℕ) (x : A) → AllByRecursion P xs → slice_get xs i ≡ Some x → P x
+all_at P [] i x a e = absurd cc
+all_at P (y ∷ ys) zero x a e = subst P (some_is y x e) a.0
+all_at P (y ∷ ys) (suc i) x a e = all_at P ys i x a.1 e
 
 -- what holds of each, and of one more
 pub each_more : {A : Type 0} (P : ℕ → A → Type 0) (xs : List A) (y : A) → ((i : ℕ) (x : A) → slice_get xs i ≡ Some x → P i x) → P (length xs) y

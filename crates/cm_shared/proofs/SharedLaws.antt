@@ -7,14 +7,15 @@ use Rattle.cm_component.specs.Trees.{SectionTree}
 use Rattle.cm_types.specs.Signatures.{ExternTy, NamedExtern, NamedItem}
 use Rattle.cm_types.specs.Signatures as extern
 use Rattle.cm_validity.specs.Definitions.{InstanceTy, NamedExport, NamedMember, TypeDef, exported_func, exported_instance, instance_type}
-use Rattle.cm_validity.specs.Items.{all_items}
-use Rattle.cm_validity.specs.Spaces.{Spaces, empty_spaces, spaces_of}
+use Rattle.cm_validity.specs.Items.{Item, all_items}
+use Rattle.cm_validity.specs.Spaces.{Spaces, after_items, empty_spaces, next_resource, spaces_of}
 use Rattle.cm_validity.specs.Valid.{IsValid}
+use Rattle.cm_counted.specs.CountedSpaces.{AreSpacesCounted, IsDefCounted, IsInstanceCounted}
 use Rattle.cm_shared.specs.Numbers.{Numbers, no_numbers, numbers_of}
 use Rattle.cm_shared.specs.Shared.{AreShared, IsImportOf, export_at, exported_instance_in, import_at, import_type_in, numbers_in}
 use Rattle.cm_shared.specs.declared.shared.Shared.{Shared}
 use Rattle.cm_shared.proofs.FollowLaws.{AreExports, AreImports, Follows, follow_all, none_follow}
-use Rattle.cm_shared.proofs.RootLaws.{there}
+use Rattle.cm_shared.proofs.RootLaws.{all_at, there}
 
 told : (o : Option (Option ℕ)) (r : ℕ) → option_and_then (λ q. q) o ≡ Some r → o ≡ Some (Some r)
 told None r e = absurd cc
@@ -60,8 +61,8 @@ shared_of s w k = record {
   all_exports = λ j ms e. export_told s w.exports.items j ms (slice_get w.exports.items j) k.exports e refl;
 }
 
-pub valid_shared : (sections : List SectionTree) (w : Shared) → numbers_in w ≡ numbers_of sections → IsValid sections → AreShared (spaces_of sections) w
-valid_shared sections w e v = shared_of (spaces_of sections) w (subst (λ (n : Numbers). Follows (spaces_of sections) n) (sym e) (follow_all empty_spaces no_numbers (all_items sections) none_follow v))
+pub valid_shared : (sections : List SectionTree) (w : Shared) → ((front : List Item) → AreSpacesCounted (after_items empty_spaces front)) → numbers_in w ≡ numbers_of sections → IsValid sections → AreShared (spaces_of sections) w
+valid_shared sections w c e v = shared_of (spaces_of sections) w (subst (λ (n : Numbers). Follows (spaces_of sections) n) (sym e) (follow_all empty_spaces no_numbers (all_items sections) c none_follow v))
 
 -- ---- equal numbers
 
@@ -82,3 +83,16 @@ exports_are_one s w j k r a e h =
     let x = a.exports j r e in
     let y = a.exports k r h in
     x.2 ∙ (ap (λ (ms : List NamedMember). Some (exported_instance ms)) (one_instance x.0 y.0 (slice_get s.instances r) x.1 y.1) ∙ sym y.2)
+
+pub imports_counted : ((sections : List SectionTree) → AreSpacesCounted (spaces_of sections)) → (sections : List SectionTree) (w : Shared) (j k r : ℕ) → AreShared (spaces_of sections) w
+    → import_type_in w j ≡ Some r → import_type_in w k ≡ Some r
+    → (i : InstanceTy) × IsInstanceCounted (next_resource (spaces_of sections)) i × IsImportOf (spaces_of sections) j i × IsImportOf (spaces_of sections) k i
+imports_counted c sections w j k r a e h =
+    let s = spaces_of sections in
+    let x = a.imports j r e in
+    let y = a.imports k r h in (
+      x.0,
+      all_at (IsDefCounted (next_resource s)) s.types r (instance_type x.0) (c sections).types x.1,
+      x.2,
+      subst (λ (i : InstanceTy). IsImportOf s k i) (one_type y.0 x.0 (slice_get s.types r) y.1 x.1) y.2,
+    )

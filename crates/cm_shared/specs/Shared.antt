@@ -1,6 +1,6 @@
 -- Which imports of a component are instances of one type, and which exports are one instance
 -- (Explainer.md, "Index Spaces", "Import and Export Definitions").
-use Rattle.std.specs.Prelude.{◌≡◌, ℕ, ◌+◌, List, Option, Some, IsSome, map, slice_get}
+use Rattle.std.specs.Prelude.{◌≡◌, ℕ, ◌+◌, ◌≤◌, List, Option, Some, IsSome, map, slice_get}
 use Rattle.std.specs.Prelude.{option_and_then}
 use Rattle.std.specs.Option.{option_map}
 use Rattle.cm_types.specs.Signatures.{ExternTy, NamedItem}
@@ -37,12 +37,13 @@ abbrev pub item_from : InstanceTy → ℕ → NamedItem → NamedItem
 item_from i next x = record { name = x.name; desc = moved_item i next x.desc }
 
 -- The import of a number is an instance of this type: its items are those of the type, and the
--- resources that they bring are the component's from `next` on.
+-- resources that they bring are the component's from `next` on, after those that the type knows.
 pub record IsImportOf (s : Spaces) (number : ℕ) (i : InstanceTy) : Type 0 where
   pub next : ℕ
   pub name : List ℕ
   pub import_is : slice_get s.imports number
       ≡ Some (record { name = name; desc = extern.instance (map (item_from i next) i.items) })
+  pub known : i.first ≤ next
   pub brought : (k : ℕ) (d : ResourceDef) → slice_get (brought_from number 0 i.items) k ≡ Some d
       → slice_get s.resources (next + k) ≡ Some d
 

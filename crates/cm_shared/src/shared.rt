@@ -10,6 +10,7 @@ ghost use Rattle.cm_shared.specs.Shared.{numbers_in};
 
 use crate::pass::add_sections;
 use cm_component::Component;
+use cm_counted::laws::resources_are_counted;
 use std::alloc::{AllocError, Global};
 
 /// Which imports of a component are instances of one type, and which exports are one instance
@@ -31,6 +32,7 @@ impl Shared {
         ensures shared { IfOk result (λ w. IsValid component.now
             → AreShared (spaces_of component.now) w) }
     {
+        resources_are_counted();
         let mut shared = Shared::empty(alloc);
         add_sections(&mut shared, component.sections())?;
         Ok(shared)
