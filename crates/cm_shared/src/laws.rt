@@ -1,10 +1,10 @@
 //! What holds of the definitions, as laws: each function here does nothing, and its contract is the
 //! law.
 
-ghost use Rattle.std.specs.Prelude.{◌≡◌, ℕ, List, Some};
+ghost use Rattle.std.specs.Prelude.{◌≡◌, ℕ, List, Some, length};
 ghost use Rattle.cm_component.specs.Trees.{SectionTree};
 ghost use Rattle.cm_validity.specs.Definitions.{InstanceTy};
-ghost use Rattle.cm_validity.specs.Spaces.{Spaces, next_resource, spaces_of};
+ghost use Rattle.cm_validity.specs.Spaces.{Spaces, spaces_of};
 ghost use Rattle.cm_counted.specs.CountedSpaces.{IsInstanceCounted};
 ghost use Rattle.cm_shared.specs.Shared.{AreShared, IsImportOf, export_at, exported_instance_in};
 ghost use Rattle.cm_shared.specs.Shared.{import_type_in};
@@ -28,7 +28,7 @@ pub fn types_of_imports_are_counted()
     ensures { (sections : List SectionTree) (w : Shared) (j k r : ℕ)
         → AreShared (spaces_of sections) w
         → import_type_in w j ≡ Some r → import_type_in w k ≡ Some r
-        → (i : InstanceTy) × IsInstanceCounted (next_resource (spaces_of sections)) i
+        → (i : InstanceTy) × IsInstanceCounted (length (spaces_of sections).resources) i
         × IsImportOf (spaces_of sections) j i × IsImportOf (spaces_of sections) k i }
 {
     resources_are_counted();
