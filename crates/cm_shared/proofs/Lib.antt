@@ -1,0 +1,4 @@
+pub mod NumberLaws
+pub mod RootLaws
+pub mod FollowLaws
+pub mod SharedLaws
