@@ -3,13 +3,13 @@
 ghost use Rattle.std.specs.Prelude.{◌≡◌, ◌<◌, ◌+◌, IfErr, IfOk, OnOk, Some, length, slice_get};
 ghost use Rattle.cm_validity.specs.Spaces.{Spaces};
 ghost use Rattle.cm_linker.specs.Linkings.{components_in, set_in};
-ghost use Rattle.cm_serving.specs.Tables.{AreKnown};
+ghost use Rattle.cm_pairs.specs.Pairs.{AreJudged};
 ghost use Rattle.cm_match.specs.Walks.{AddsLine, HasServed, IsWalkFault, Serves, Stops};
 
 use cm_candidates::Candidate;
 use cm_linker::Linking;
+use cm_pairs::Judged;
 use cm_plan::{LinkFault, LinkReason, PlanLine};
-use cm_serving::Tables;
 use std::alloc::{AllocError, Global};
 
 /// Adds the line of an import that is linked, to its only candidate.
@@ -38,18 +38,18 @@ fn add_line(
 fn walk_import(
     alloc: Global,
     linking: &Linking<'_, '_>,
-    tables: &mut Tables,
+    judged: &mut Judged,
     plan: &mut Vec<PlanLine>,
     component: usize,
     import: usize,
 ) -> Result<(), LinkReason>
-    requires { AreKnown (components_in linking.now) tables.old }
+    requires { AreJudged (components_in linking.now) judged.old }
     ensures served { OnOk result (Serves (set_in linking.now) component import
         plan.old.items plan.new.items) }
     ensures stops { IfErr result (λ r. Stops (set_in linking.now) component import r) }
-    ensures known { OnOk result (AreKnown (components_in linking.now) tables.new) }
+    ensures known { OnOk result (AreJudged (components_in linking.now) judged.new) }
 {
-    match tables.import_fault(alloc, linking, component, import) {
+    match judged.import_fault(alloc, linking, component, import) {
         Err(AllocError) => Err(LinkReason::Memory),
         Ok(Some(reason)) => Err(reason),
         Ok(None) => match add_line(linking, component, import, plan) {
@@ -74,20 +74,20 @@ fn import_count(linking: &Linking<'_, '_>, component: usize) -> usize
 fn walk_component(
     alloc: Global,
     linking: &Linking<'_, '_>,
-    tables: &mut Tables,
+    judged: &mut Judged,
     plan: &mut Vec<PlanLine>,
     component: usize,
 ) -> Result<(), LinkFault>
-    requires known { AreKnown (components_in linking.now) tables.old }
+    requires known { AreJudged (components_in linking.now) judged.old }
     requires there { component < length (components_in linking.now) }
     requires before { HasServed (set_in linking.now) component 0 plan.old.items }
     ensures served { OnOk result (HasServed (set_in linking.now) (component + 1) 0
         plan.new.items) }
     ensures fault { IfErr result (λ f. IsWalkFault (set_in linking.now) f) }
-    ensures known { OnOk result (AreKnown (components_in linking.now) tables.new) }
+    ensures known { OnOk result (AreJudged (components_in linking.now) judged.new) }
 {
     for import in 0..import_count(linking, component) {
-        match walk_import(alloc, linking, tables, plan, component, import) {
+        match walk_import(alloc, linking, judged, plan, component, import) {
             Ok(()) => {}
             Err(reason) => {
                 return Err(LinkFault {
@@ -108,7 +108,7 @@ pub(crate) fn walk(alloc: Global, linking: &Linking<'_, '_>) -> Result<Vec<PlanL
     ensures fault { IfErr result (λ f. IsWalkFault (set_in linking.now) f) }
 {
     let count = linking.components().len();
-    let Ok(mut tables) = Tables::new(alloc, count) else {
+    let Ok(mut judged) = Judged::new(alloc, linking.components()) else {
         return Err(LinkFault {
             component: 0,
             import: 0,
@@ -117,7 +117,7 @@ pub(crate) fn walk(alloc: Global, linking: &Linking<'_, '_>) -> Result<Vec<PlanL
     };
     let mut plan = Vec::new(alloc);
     for component in 0..count {
-        walk_component(alloc, linking, &mut tables, &mut plan, component)?;
+        walk_component(alloc, linking, &mut judged, &mut plan, component)?;
     }
     Ok(plan)
 }

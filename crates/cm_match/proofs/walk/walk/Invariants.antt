@@ -1,10 +1,10 @@
 use Rattle.cm_linker.specs.Linkings.{components_in, set_in}
-use Rattle.cm_serving.specs.Tables.{AreKnown}
+use Rattle.cm_pairs.specs.Pairs.{AreJudged}
 use Rattle.cm_match.specs.Walks.{HasServed}
 use Rattle.cm_match.proofs.walk.walk.Given as goal
 
 -- the imports of the components so far are served, and these are their lines
 abbrev pub invariant-loop-component : goal.invariant-loop-component
 invariant-loop-component l =
-    AreKnown (components_in l.linking) l.tables
+    AreJudged (components_in l.linking) l.judged
     × HasServed (set_in l.linking) l.component 0 l.plan.items

@@ -1,10 +1,10 @@
 use Rattle.cm_linker.specs.Linkings.{components_in, set_in}
-use Rattle.cm_serving.specs.Tables.{AreKnown}
+use Rattle.cm_pairs.specs.Pairs.{AreJudged}
 use Rattle.cm_match.specs.Walks.{HasServed}
 use Rattle.cm_match.proofs.walk.walk_component.Given as goal
 
 -- the imports so far are served, and these are their lines
 abbrev pub invariant-loop-import : goal.invariant-loop-import
 invariant-loop-import l =
-    AreKnown (components_in l.linking) l.tables
+    AreJudged (components_in l.linking) l.judged
     × HasServed (set_in l.linking) l.component l.import l.plan.items
