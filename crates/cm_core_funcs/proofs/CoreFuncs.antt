@@ -1,9 +1,9 @@
 -- The plan of a linked set, function by function and component by component.
-use Rattle.std.proofs.Common.{◌≡◌, ℕ, zero, suc, ◌+◌, ◌<◌, ◌≤◌, Bool, true, false, List, [], ◌∷◌, ◌++◌, length, map, take, drop, get_or, Option, Some, None, refl, sym, ap, subst, ◌∙◌, arith, add-one, length-take, length-append}
+use Rattle.std.proofs.Common.{◌≡◌, ℕ, zero, suc, ◌+◌, ◌<◌, ◌≤◌, Bool, true, false, List, [], ◌∷◌, ◌++◌, length, map, take, drop, get_or, Option, Some, None, refl, sym, ap, subst, ◌∙◌, arith, add-one, length-take}
 use Rattle.std.specs.Prelude.{slice_get, not, is_some, if◌then◌else◌}
 use Rattle.std.specs.Option.{option_map, option_and_then, option_or, unwrap_or}
-use Rattle.std.specs.List.{AllByRecursion, position_from, sum_by}
-use Rattle.std.proofs.lemmas.List.{drop_all, take_all, length-map}
+use Rattle.std.specs.List.{AllByRecursion, position_from}
+use Rattle.std.proofs.lemmas.List.{drop_all, length-map}
 use Rattle.std.proofs.Math.Logic.{∥∥₁_elim, ∥∥₁_map}
 use Rattle.std.specs.Coded.{le_prop}
 use Rattle.std.proofs.lemmas.Option.{slice_get-map, slice_get_within, slice_get_read}
@@ -21,11 +21,10 @@ use Rattle.cm_links.specs.Links.{CanBeLinked}
 use Rattle.cm_links.specs.Serving.{IsSameFunc}
 use Rattle.cm_links.specs.Targets.{Target, targets_of}
 use Rattle.cm_machine_model.specs.declared.frame.CoreFunction.{CoreFunction}
-use Rattle.cm_machine_model.specs.declared.frame.CoreFunction.TheVariants as core_function
-use Rattle.cm_machine_model.specs.State.{IsLinkedBelow, AreLinkedBelow, core_func_at}
-use Rattle.cm_core_funcs.specs.Carried.{is_carried, is_u32_func, has_no_post_return, first_not_carried_in, first_not_carried_from, first_not_carried, core_func_of_number, carried_func}
+use Rattle.cm_machine_model.specs.State.{IsLinkedBelow, AreLinkedBelow}
+use Rattle.cm_core_funcs.specs.Carried.{is_carried, is_u32_func, first_not_carried_in, first_not_carried_from, first_not_carried, core_func_of_number, carried_func}
 use Rattle.cm_core_funcs.specs.declared.carried.CoreFuncAt.{CoreFuncAt}
-use Rattle.cm_core_funcs.specs.CoreFuncs.{core_func_of, core_funcs_in, core_funcs_from, core_func_for, core_funcs_of, lowered_to, StandsFor, LoweredStand}
+use Rattle.cm_core_funcs.specs.CoreFuncs.{core_func_of, core_funcs_in, core_funcs_from, core_func_for, core_funcs_of, LoweredStand}
 use Rattle.cm_core_funcs.proofs.U32s.{few_params, left_true}
 
 -- ---- lists

@@ -1,6 +1,6 @@
 //! What the core functions of a linked set's instances stand for.
 
-ghost use Rattle.std.specs.Prelude.{◌≡◌, ◌<◌, ◌≤◌, IfOk, OnOk, List, None, is_some, length};
+ghost use Rattle.std.specs.Prelude.{◌≡◌, ◌<◌, ◌≤◌, IfOk, List, None, is_some, length};
 ghost use Rattle.std.specs.Prelude.{slice_get, true};
 ghost use Rattle.std.specs.Option.{option_and_then, option_map};
 ghost use Rattle.cm_types.specs.Funcs.{func_of};
@@ -221,28 +221,26 @@ fn core_funcs_in(
 }
 
 /// Each function that a component of the set lowers stands for the lifted one, of an earlier
-/// component, that it comes to.
+/// component, that it comes to. Each component has a list of what its core functions stand for, and
+/// where all are carried, lowered ones stand for functions of earlier instances alone.
 pub fn lowered_functions_stand(linked: &Linked<'_>)
-    ensures { LoweredStand (set_in linked.now) (core_funcs_of (set_in linked.now)) }
+    ensures stand { LoweredStand (set_in linked.now) (core_funcs_of (set_in linked.now)) }
+    ensures below { first_not_carried (set_in linked.now) ≡ None
+        → AreLinkedBelow 0 (core_funcs_of (set_in linked.now)) }
+    ensures few { length (core_funcs_of (set_in linked.now)) ≤ MAX_INSTANCES }
+    ensures count { length (core_funcs_of (set_in linked.now)) ≡ length (set_in linked.now) }
 {
     functions_are_as_imported();
     imported_functions_reach_lifts();
     let _ = linked.components();
 }
 
-/// What the core functions of each instance of a set stand for: a list an instance, of which the
-/// lowered ones stand for functions of earlier instances alone. `AllocError` comes where there is
-/// no memory.
+/// What the core functions of each instance of a set stand for: a list an instance. `AllocError`
+/// comes where there is no memory.
 pub fn core_funcs_of(alloc: Global, linked: &Linked<'_>) -> Result<Vec<CoreFunctions>, AllocError>
     requires { first_not_carried (set_in linked.now) ≡ None }
-    ensures are { IfOk result (λ core_funcs.
-        core_funcs.items ≡ core_funcs_of (set_in linked.now)) }
-    ensures linked { OnOk result (AreLinkedBelow 0 (core_funcs_of (set_in linked.now))) }
-    ensures few { OnOk result (length (core_funcs_of (set_in linked.now)) ≤ MAX_INSTANCES) }
-    ensures count { length (core_funcs_of (set_in linked.now)) ≡ length (set_in linked.now) }
+    ensures { IfOk result (λ core_funcs. core_funcs.items ≡ core_funcs_of (set_in linked.now)) }
 {
-    functions_are_as_imported();
-    imported_functions_reach_lifts();
     let components = linked.components();
     let mut core_funcs = Vec::with_capacity(alloc, components.len())?;
     for (component, checked) in components.iter().enumerate() {

@@ -115,6 +115,7 @@ fn set_of(alloc: Global, linked: &Linked<'_>, pages: &[u32]) -> Result<Set, Allo
     ensures linked { OnOk result (AreLinkedBelow 0 (core_funcs_of (set_in linked.now))) }
     ensures few { OnOk result (length (core_funcs_of (set_in linked.now)) ≤ MAX_INSTANCES) }
 {
+    lowered_functions_stand(linked);
     let core_funcs = core_funcs_of(alloc, linked)?;
     Set::with_pages(alloc, core_funcs, pages)
 }

@@ -1,9 +1,8 @@
-use Rattle.std.proofs.Common.{◌≡◌, ◌∙◌, ◌<◌, ◌≤◌, List, Some, None, length, sym, refl, arith}
+use Rattle.std.proofs.Common.{◌≡◌, ◌∙◌, ◌≤◌, Some, length, sym, arith}
 use Rattle.std.specs.Prelude.{slice_get}
 use Rattle.cm_validate.specs.Checked.{spaces_in}
 use Rattle.cm_match.specs.Linked.{set_in}
 use Rattle.cm_match.specs.Linked.{components_in}
-use Rattle.cm_core_funcs.specs.Carried.{first_not_carried_in}
 use Rattle.cm_core_funcs.proofs.CoreFuncs.{whole_set, set_at, set_count, component_is_first, component_later, no_component}
 use Rattle.cm_core_funcs.proofs.core_funcs.first_not_carried.Goals as goal
 

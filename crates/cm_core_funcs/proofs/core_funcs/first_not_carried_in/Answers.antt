@@ -1,10 +1,9 @@
-use Rattle.std.proofs.Common.{◌≡◌, ◌∙◌, ◌<◌, ◌≤◌, List, Some, None, length, sym, refl, arith}
+use Rattle.std.proofs.Common.{◌≡◌, ◌∙◌, ◌<◌, ◌≤◌, List, None, length, sym, refl, arith}
 use Rattle.std.specs.Prelude.{slice_get}
 use Rattle.std.specs.Option.{option_and_then}
 use Rattle.cm_validate.specs.Checked.{spaces_in}
 use Rattle.cm_match.specs.Linked.{set_in}
 use Rattle.cm_validity.specs.Definitions.{CoreFuncDef}
-use Rattle.cm_machine_model.specs.declared.frame.CoreFunction.{CoreFunction}
 use Rattle.cm_core_funcs.specs.Carried.{carried_func}
 use Rattle.cm_core_funcs.proofs.CoreFuncs.{first_is_rest, first_here, first_later, first_nowhere, none_from, some_from}
 use Rattle.cm_core_funcs.proofs.core_funcs.first_not_carried_in.Goals as goal
