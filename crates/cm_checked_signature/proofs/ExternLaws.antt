@@ -1,72 +1,96 @@
 -- Exports, one after another.
-use Rattle.std.proofs.Common.{◌≡◌, ℕ, ◌+◌, ◌<◌, ◌≤◌, Bool, true, false, ◌&&◌, List, [], ◌∷◌, ◌++◌, length, map, take, get_or, refl, sym, ap, ◌∙◌, subst}
+use Rattle.std.proofs.Common.{◌≡◌, ℕ, ◌+◌, ◌<◌, ◌≤◌, Bool, true, ◌&&◌, List, [], ◌∷◌, ◌++◌, length, map, take, get_or, None, sym, ap, ◌∙◌, subst}
 use Rattle.std.proofs.lemmas.List.{map-append, take_all, take_more}
+use Rattle.std.proofs.lemmas.List.Folds.{list_all-append}
 use Rattle.std.specs.List.{list_all}
-use Rattle.cm_types.specs.Signatures.{NamedExtern}
+use Rattle.std.specs.declared.alloc.Global.{Global}
+use Rattle.std.specs.declared.rc.Rc.{Rc}
+use Rattle.cm_component.specs.Trees.{SectionTree}
+use Rattle.cm_types.specs.Signatures.{NamedExtern, SignatureTy, instance}
 use Rattle.cm_types.specs.Types.{Ty, FuncTy}
+use Rattle.cm_replaced.specs.Replaced.{replaced, replaced_func}
+use Rattle.cm_placed.specs.Instances.{items_of}
+use Rattle.cm_placed.specs.Placed.{moved_by}
+use Rattle.cm_placed.specs.declared.instances.InstanceType.{InstanceType}
 use Rattle.cm_signatures.specs.Externs.{extern_of, is_extern_there}
 use Rattle.cm_signatures.specs.declared.signatures.Extern.{Extern}
+use Rattle.cm_signatures.specs.declared.signatures.ExternDesc.TheVariants as desc
+use Rattle.cm_validity.specs.Spaces.{Spaces, spaces_of}
+use Rattle.cm_validity.specs.Valid.{IsValid}
+use Rattle.cm_shared.specs.Shared.{AreShared}
+use Rattle.cm_shared.specs.declared.shared.Shared.{Shared}
 use Rattle.cm_entries.specs.ComponentSpaces.{export_def, is_exported_there}
+use Rattle.cm_entries.specs.Entries.{members_of}
+use Rattle.cm_entries.specs.declared.entries.InstanceEntry.{InstanceEntry}
 use Rattle.cm_entries.specs.declared.spaces.ExportEntry.{ExportEntry}
+use Rattle.cm_entries.specs.declared.spaces.ExportedEntry.TheVariants as export
 use Rattle.cm_checked_signature.specs.Exports.{exported_extern}
+use Rattle.cm_checked_signature.specs.Made.{AreExportsOf, AreExternsOf, IsDescOf, IsExternOf, IsTypeOf}
+use Rattle.cm_checked_signature.proofs.ItemLaws.{items_stay}
 
--- an extern is what an export is, and so are several
-pub record IsShown (e : Extern) (x : ExportEntry) : Type 0 where
-  pub is : (types : List Ty) (funcs : List FuncTy) → extern_of types funcs e ≡ exported_extern (export_def types funcs x)
-  pub there : (types funcs : ℕ) → is_exported_there types funcs x.def ≡ true → is_extern_there types funcs e.desc ≡ true
-
-pub record AreShown (es : List Extern) (xs : List ExportEntry) : Type 0 where
-  pub are : (types : List Ty) (funcs : List FuncTy) → map (extern_of types funcs) es ≡ map exported_extern (map (export_def types funcs) xs)
-  pub there : (types funcs : ℕ) → list_all (λ (x : ExportEntry). is_exported_there types funcs x.def) xs ≡ true → list_all (λ (e : Extern). is_extern_there types funcs e.desc) es ≡ true
-
-pub none_shown : (xs : List ExportEntry) → AreShown [] (take 0 xs)
-none_shown xs = record { are = λ types funcs. refl; there = λ types funcs h. refl }
-
-left : (a b : Bool) → (a && b) ≡ true → a ≡ true
-left true b e = refl
-left false b e = e
-
-right : (a b : Bool) → (a && b) ≡ true → b ≡ true
-right true b e = e
-right false b e = absurd cc
-
-one_more : (es : List Extern) (xs : List ExportEntry) (e : Extern) (x : ExportEntry) → IsShown e x → AreShown es xs → AreShown (es ++ e ∷ []) (xs ++ x ∷ [])
-one_more es xs e x one all = record {
-  are = λ types funcs.
-      map-append (extern_of types funcs) es (e ∷ [])
-      ∙ ap (λ (ys : List NamedExtern). ys ++ extern_of types funcs e ∷ []) (all.are types funcs)
-      ∙ ap (λ (y : NamedExtern). map exported_extern (map (export_def types funcs) xs) ++ y ∷ []) (one.is types funcs)
-      ∙ sym (ap (map exported_extern) (map-append (export_def types funcs) xs (x ∷ [])) ∙ map-append exported_extern (map (export_def types funcs) xs) (export_def types funcs x ∷ []));
-  there = λ types funcs h. joined types funcs es (all.there types funcs (front types funcs xs h)) (one.there types funcs (last types funcs xs h));
+-- what an instance is, by its type, which no import moves
+pub instance_shown : ((t : Ty) → replaced (moved_by None) t ≡ t) → ((f : FuncTy) → replaced_func (moved_by None) f ≡ f)
+    → (types : List Ty) (funcs : List FuncTy) (i : InstanceEntry) (t : Rc InstanceType Global) → IsTypeOf types funcs (members_of types funcs i) t.value → IsDescOf types funcs (export.Instance i) (desc.Instance t None)
+instance_shown types_stay funcs_stay types funcs i t h = record {
+  is = ap instance (items_stay types_stay funcs_stay (items_of types funcs t.value.items.items) ∙ h.are);
+  there = h.there;
 }
-  where
-    front : (t f : ℕ) (ys : List ExportEntry) → list_all (λ (y : ExportEntry). is_exported_there t f y.def) (ys ++ x ∷ []) ≡ true → list_all (λ (y : ExportEntry). is_exported_there t f y.def) ys ≡ true
-    front t f [] h = refl
-    front t f (y ∷ ys) h =
-        ap (λ (b : Bool). b && list_all (λ (z : ExportEntry). is_exported_there t f z.def) ys) (left (is_exported_there t f y.def) (list_all (λ (z : ExportEntry). is_exported_there t f z.def) (ys ++ x ∷ [])) h)
-        ∙ front t f ys (right (is_exported_there t f y.def) (list_all (λ (z : ExportEntry). is_exported_there t f z.def) (ys ++ x ∷ [])) h)
 
-    last : (t f : ℕ) (ys : List ExportEntry) → list_all (λ (y : ExportEntry). is_exported_there t f y.def) (ys ++ x ∷ []) ≡ true → is_exported_there t f x.def ≡ true
-    last t f [] h = left (is_exported_there t f x.def) true h
-    last t f (y ∷ ys) h = last t f ys (right (is_exported_there t f y.def) (list_all (λ (z : ExportEntry). is_exported_there t f z.def) (ys ++ x ∷ [])) h)
+-- ---- one export more
 
-    joined : (t f : ℕ) (ys : List Extern) → list_all (λ (y : Extern). is_extern_there t f y.desc) ys ≡ true → is_extern_there t f e.desc ≡ true → list_all (λ (y : Extern). is_extern_there t f y.desc) (ys ++ e ∷ []) ≡ true
-    joined t f [] h g = ap (λ (b : Bool). b && true) g
-    joined t f (y ∷ ys) h g =
-        ap (λ (b : Bool). b && list_all (λ (z : Extern). is_extern_there t f z.desc) (ys ++ e ∷ [])) (left (is_extern_there t f y.desc) (list_all (λ (z : Extern). is_extern_there t f z.desc) ys) h)
-        ∙ joined t f ys (right (is_extern_there t f y.desc) (list_all (λ (z : Extern). is_extern_there t f z.desc) ys) h) g
+one_more : (types : List Ty) (funcs : List FuncTy) (xs : List ExportEntry) (es : List Extern) (x : ExportEntry) (e : Extern)
+    → IsExternOf types funcs x e → AreExternsOf types funcs xs es → AreExternsOf types funcs (xs ++ x ∷ []) (es ++ e ∷ [])
+one_more types funcs xs es x e one all =
+    let test : Extern → Bool = λ y. is_extern_there (length types) (length funcs) y.desc in
+    record {
+      are =
+          map-append (extern_of types funcs) es (e ∷ [])
+          ∙ ap (λ (ys : List NamedExtern). ys ++ extern_of types funcs e ∷ []) all.are
+          ∙ ap (λ (y : NamedExtern). map exported_extern (map (export_def types funcs) xs) ++ y ∷ []) one.is
+          ∙ sym (ap (map exported_extern) (map-append (export_def types funcs) xs (x ∷ [])) ∙ map-append exported_extern (map (export_def types funcs) xs) (export_def types funcs x ∷ []));
+      there = list_all-append test es (e ∷ []) ∙ ap (λ (b : Bool). b && (test e && true)) all.there ∙ ap (λ (b : Bool). b && true) one.there;
+    }
 
-pub next_shown : (es : List Extern) (xs : List ExportEntry) (i : ℕ) (e : Extern) (x : ExportEntry) → i < length xs → x ≡ get_or xs i x → IsShown e x → AreShown es (take i xs) → AreShown (es ++ e ∷ []) (take (i + 1) xs)
-next_shown es xs i e x lt is one all =
-    subst (AreShown (es ++ e ∷ [])) (sym (take_more xs i x lt ∙ ap (λ (y : ExportEntry). take i xs ++ y ∷ []) (sym is))) (one_more es (take i xs) e x one all)
+pub next_shown : (types : List Ty) (funcs : List FuncTy) (xs : List ExportEntry) (es fs : List Extern) (i : ℕ) (x : ExportEntry) (e : Extern)
+    → i < length xs → x ≡ get_or xs i x → fs ≡ es ++ e ∷ [] → IsExternOf types funcs x e → AreExternsOf types funcs (take i xs) es → AreExternsOf types funcs (take (i + 1) xs) fs
+next_shown types funcs xs es fs i x e lt is pushed one all =
+    subst (AreExternsOf types funcs (take (i + 1) xs)) (sym pushed)
+    (subst (λ (ys : List ExportEntry). AreExternsOf types funcs ys (es ++ e ∷ [])) (sym (take_more xs i x lt ∙ ap (λ (y : ExportEntry). take i xs ++ y ∷ []) (sym is)))
+    (one_more types funcs (take i xs) es x e one all))
 
-pub all_shown : (es : List Extern) (xs : List ExportEntry) (i : ℕ) → length xs ≤ i → AreShown es (take i xs) → AreShown es xs
-all_shown es xs i le all = subst (AreShown es) (take_all i xs le) all
+pub all_shown : (types : List Ty) (funcs : List FuncTy) (xs : List ExportEntry) (es : List Extern) (i : ℕ) → length xs ≤ i → AreExternsOf types funcs (take i xs) es → AreExternsOf types funcs xs es
+all_shown types funcs xs es i le all = subst (λ (ys : List ExportEntry). AreExternsOf types funcs ys es) (take_all i xs le) all
 
 -- ---- the places of one arena
 
-pub there_in : (t u : List Ty) (f g : List FuncTy) (xs : List ExportEntry) → t ≡ u → f ≡ g
-    → list_all (λ (x : ExportEntry). is_exported_there (length u) (length g) x.def) xs ≡ true → list_all (λ (x : ExportEntry). is_exported_there (length t) (length f) x.def) xs ≡ true
-there_in t u f g xs d e h =
-    subst (λ (v : List Ty). list_all (λ (x : ExportEntry). is_exported_there (length v) (length f) x.def) xs ≡ true) (sym d)
-    (subst (λ (v : List FuncTy). list_all (λ (x : ExportEntry). is_exported_there (length u) (length v) x.def) xs ≡ true) (sym e) h)
+-- these externs are what a component with these index spaces exports
+pub record AreShown (t : List Ty) (f : List FuncTy) (s : Spaces) (es : List Extern) : Type 0 where
+  pub are : map (extern_of t f) es ≡ map exported_extern s.exports
+  pub there : list_all (λ (e : Extern). is_extern_there (length t) (length f) e.desc) es ≡ true
+
+pub shown_in : (t u : List Ty) (f g : List FuncTy) (c d : List SectionTree) (w : Shared) (xs ys : List ExportEntry) (es : List Extern) → t ≡ u → f ≡ g → c ≡ d → xs ≡ ys
+    → ((types : List Ty) (funcs : List FuncTy) (s : Spaces) → AreShared s w → AreExportsOf types funcs s xs → AreExternsOf types funcs xs es)
+    → (IsValid c → AreShared (spaces_of c) w) → IsValid d
+    → (spaces_of d).exports ≡ map (export_def u g) ys → list_all (λ (x : ExportEntry). is_exported_there (length u) (length g) x.def) ys ≡ true → AreShown t f (spaces_of d) es
+shown_in t u f g c d w xs ys es types funcs sections exports shown shared valid are there =
+    let same : (spaces_of d).exports ≡ map (export_def u g) xs = are ∙ ap (map (export_def u g)) (sym exports) in
+    let numbered : AreShared (spaces_of d) w = subst (λ (a : List SectionTree). AreShared (spaces_of a) w) sections (shared (subst IsValid (sym sections) valid)) in
+    let h = shown u g (spaces_of d) numbered (record { are = same; there = ap (list_all (λ (x : ExportEntry). is_exported_there (length u) (length g) x.def)) exports ∙ there }) in
+    subst (λ (v : List Ty). AreShown v f (spaces_of d) es) (sym types)
+    (subst (λ (v : List FuncTy). AreShown u v (spaces_of d) es) (sym funcs)
+    (record { are = h.are ∙ ap (map exported_extern) (sym same); there = h.there }))
+
+pub imports_there : (t u : List Ty) (f g : List FuncTy) (es : List Extern) → t ≡ u → f ≡ g
+    → list_all (λ (e : Extern). is_extern_there (length u) (length g) e.desc) es ≡ true → list_all (λ (e : Extern). is_extern_there (length t) (length f) e.desc) es ≡ true
+imports_there t u f g es a b h =
+    subst (λ (v : List Ty). list_all (λ (e : Extern). is_extern_there (length v) (length f) e.desc) es ≡ true) (sym a)
+    (subst (λ (v : List FuncTy). list_all (λ (e : Extern). is_extern_there (length u) (length v) e.desc) es ≡ true) (sym b) h)
+
+pub imports_are : (t u : List Ty) (f g : List FuncTy) (es : List Extern) → t ≡ u → f ≡ g → map (extern_of t f) es ≡ map (extern_of u g) es
+imports_are t u f g es a b = ap (λ (v : List Ty). map (extern_of v f) es) a ∙ ap (λ (v : List FuncTy). map (extern_of u v) es) b
+
+abbrev signature_with : List NamedExtern → List NamedExtern → SignatureTy
+signature_with imports exports = record { imports = imports; exports = exports }
+
+pub signature_is : (s u : SignatureTy) → s.imports ≡ u.imports → s.exports ≡ u.exports → s ≡ u
+signature_is s u e f = ap (λ (is : List NamedExtern). signature_with is s.exports) e ∙ ap (signature_with u.imports) f

@@ -1,86 +1,74 @@
 //! What a component exports, each by the places of its types.
 
-ghost use Rattle.std.specs.Prelude.{◌≡◌, ℕ, IfOk, List, map, true};
-ghost use Rattle.std.specs.List.{list_all};
+ghost use Rattle.std.specs.Prelude.{IfOk, List, OnOk};
 ghost use Rattle.cm_types.specs.Types.{FuncTy, Ty};
-ghost use Rattle.cm_signatures.specs.Externs.{extern_desc_of, extern_of, is_extern_there};
-ghost use Rattle.cm_entries.specs.ComponentSpaces.{export_def, exported_def, is_exported_there};
-ghost use Rattle.cm_entries.specs.Entries.{are_members_there, members_of};
-ghost use Rattle.cm_validity.specs.Definitions.{exported_instance};
-ghost use Rattle.cm_checked_signature.specs.Exports.{exported_extern, exported_type};
+ghost use Rattle.cm_validity.specs.Spaces.{Spaces};
+ghost use Rattle.cm_shared.specs.Shared.{AreShared};
+ghost use Rattle.cm_checked_signature.specs.Made.{AreExportsOf, AreExternsOf, AreMade, InEachArena};
+ghost use Rattle.cm_checked_signature.specs.Made.{IsDescOf, IsExternOf};
 
-use crate::items::{func_place, instance_items};
-use cm_entries::{ExportEntry, ExportedEntry, InstanceEntry};
-use cm_placed::InstanceType;
+use crate::items::func_place;
+use crate::made::Made;
+use cm_entries::{ExportEntry, ExportedEntry};
 use cm_placed::laws::unmoved;
+use cm_shared::Shared;
 use cm_signatures::{Extern, ExternDesc};
 use std::alloc::{AllocError, Global};
-use std::rc::Rc;
 
-/// What an instance is that is exported: it brings no resource.
-fn instance_desc(alloc: Global, instance: &InstanceEntry<'_>) -> Result<ExternDesc, AllocError>
-    ensures are { IfOk result (λ d. (types : List Ty) (funcs : List FuncTy)
-        → extern_desc_of types funcs d
-        ≡ exported_type (exported_instance (members_of types funcs instance.now))) }
-    ensures there { IfOk result (λ d. (types funcs : ℕ)
-        → are_members_there types funcs instance.now ≡ true
-        → is_extern_there types funcs d ≡ true) }
+/// What an export is, of the instance of this number, if it has one.
+fn extern_desc(
+    alloc: Global,
+    made: &mut Made,
+    number: Option<usize>,
+    def: &ExportedEntry<'_>,
+) -> Result<ExternDesc, AllocError>
+    ensures is { IfOk result (λ d. InEachArena made.old number def.now
+        (λ types funcs s. IsDescOf types funcs def.now d)) }
+    ensures made { OnOk result (InEachArena made.old number def.now
+        (λ types funcs s. AreMade types funcs s made.new)) }
 {
     unmoved();
-    let items = instance_items(alloc, instance)?;
-    let ty = InstanceType {
-        items,
-        first: 0,
-        fresh: 0,
-    };
-    Ok(ExternDesc::Instance {
-        ty: Rc::new(alloc, ty)?,
-        by: None,
-    })
-}
-
-/// What an export is.
-fn extern_desc(alloc: Global, def: &ExportedEntry<'_>) -> Result<ExternDesc, AllocError>
-    ensures are { IfOk result (λ d. (types : List Ty) (funcs : List FuncTy)
-        → extern_desc_of types funcs d ≡ exported_type (exported_def types funcs def.now)) }
-    ensures there { IfOk result (λ d. (types funcs : ℕ)
-        → is_exported_there types funcs def.now ≡ true
-        → is_extern_there types funcs d ≡ true) }
-{
     match def {
         ExportedEntry::Func(func) => Ok(ExternDesc::Func(func_place(*func))),
-        ExportedEntry::Instance(instance) => instance_desc(alloc, instance),
+        ExportedEntry::Instance(instance) => Ok(ExternDesc::Instance {
+            ty: made.instance_type(alloc, number, instance)?,
+            by: None,
+        }),
     }
 }
 
-/// An export.
-fn exported_extern(alloc: Global, export: &ExportEntry<'_>) -> Result<Extern, AllocError>
-    ensures are { IfOk result (λ e. (types : List Ty) (funcs : List FuncTy)
-        → extern_of types funcs e ≡ exported_extern (export_def types funcs export.now)) }
-    ensures there { IfOk result (λ e. (types funcs : ℕ)
-        → is_exported_there types funcs export.now.def ≡ true
-        → is_extern_there types funcs e.desc ≡ true) }
+/// An export, of the instance of this number, if it has one.
+fn exported_extern(
+    alloc: Global,
+    made: &mut Made,
+    number: Option<usize>,
+    export: &ExportEntry<'_>,
+) -> Result<Extern, AllocError>
+    ensures is { IfOk result (λ e. InEachArena made.old number export.now.def
+        (λ types funcs s. IsExternOf types funcs export.now e)) }
+    ensures made { OnOk result (InEachArena made.old number export.now.def
+        (λ types funcs s. AreMade types funcs s made.new)) }
 {
     let name = export.name.clone()?;
-    let desc = extern_desc(alloc, &export.def)?;
+    let desc = extern_desc(alloc, made, number, &export.def)?;
     Ok(Extern { name, desc })
 }
 
-/// The exports, in order.
+/// The exports, in order. Those that are one instance share its type.
 pub(crate) fn exported_externs(
     alloc: Global,
+    shared: &Shared,
     exports: &[ExportEntry<'_>],
 ) -> Result<Vec<Extern>, AllocError>
-    ensures are { IfOk result (λ es. (types : List Ty) (funcs : List FuncTy)
-        → map (extern_of types funcs) es.items
-        ≡ map exported_extern (map (export_def types funcs) exports.now)) }
-    ensures there { IfOk result (λ es. (types funcs : ℕ)
-        → list_all (λ e. is_exported_there types funcs e.def) exports.now ≡ true
-        → list_all (λ e. is_extern_there types funcs e.desc) es.items ≡ true) }
+    ensures { IfOk result (λ es. (types : List Ty) (funcs : List FuncTy) (s : Spaces)
+        → AreShared s shared.now → AreExportsOf types funcs s exports.now
+        → AreExternsOf types funcs exports.now es.items) }
 {
+    let mut made = Made::new(alloc);
     let mut externs = Vec::with_capacity(alloc, exports.len())?;
-    for export in exports {
-        externs.push(exported_extern(alloc, export)?)?;
+    for (at, export) in exports.iter().enumerate() {
+        let number = shared.exported_instance(at);
+        externs.push(exported_extern(alloc, &mut made, number, export)?)?;
     }
     Ok(externs)
 }

@@ -3,6 +3,7 @@
 
 mod externs;
 mod items;
+mod made;
 mod signatures;
 
 pub use signatures::signature;

@@ -6,24 +6,26 @@ ghost use Rattle.cm_validate.specs.Checked.{spaces_in};
 ghost use Rattle.cm_checked_signature.specs.Exports.{signature_in};
 
 use crate::externs::exported_externs;
+use cm_shared::Shared;
 use cm_signatures::Signature;
 use cm_validate::{Checked, ComponentExterns};
 use std::alloc::{AllocError, Global};
 
 /// What a valid component imports and exports, in the order of its file (Explainer.md, "Import and
 /// Export Definitions"). The component is taken over: its arena and its imports are not copied.
-/// `AllocError` comes where there is no memory for its exports.
+/// `AllocError` comes where there is no memory.
 ///
-/// The items of an instance are made anew for each export of it, so that the cost is that of all
-/// items of all exports: an instance that is exported many times costs as often.
+/// The items of an instance are made once, however many exports are that instance: these share
+/// them.
 pub fn signature(alloc: Global, checked: Checked<'_>) -> Result<Signature, AllocError>
     ensures { IfOk result (λ s. signature_of s ≡ signature_in (spaces_in checked.entry)) }
 {
+    let shared = Shared::new(alloc, checked.component())?;
     let ComponentExterns {
         types,
         imports,
         exports,
     } = checked.into_externs();
-    let exports = exported_externs(alloc, &exports)?;
+    let exports = exported_externs(alloc, &shared, &exports)?;
     Ok(Signature::new(types, imports, exports))
 }
