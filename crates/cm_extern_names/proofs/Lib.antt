@@ -1,2 +1,1 @@
 mod NameLaws
-mod FindLaws

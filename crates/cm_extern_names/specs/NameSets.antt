@@ -1,6 +1,12 @@
--- Sets of names.
-use Rattle.std.specs.Prelude.{ℕ, List, [], ◌∷◌, map, if◌then◌else◌}
+-- Sets of names, ASCII case aside.
+use Rattle.std.specs.Prelude.{◌≡◌, ◌||◌, Bool, ℕ, List, not}
+use Rattle.std.specs.BTreeSet.{contains_text}
+use Rattle.std.specs.List.{list_any}
 use Rattle.cm_types.specs.Names.{is_same_name}
+use Rattle.cm_reasons.specs.declared.fault.ValidReason.{ValidReason}
+use Rattle.cm_reasons.specs.declared.fault.ValidReason.TheVariants as reason
+use Rattle.cm_validity.specs.Reasons.{unless}
+use Rattle.cm_extern_names.specs.Names.{without_case}
 use Rattle.cm_extern_names.specs.declared.name_set.NameSet.{NameSet}
 use Rattle.cm_extern_names.specs.declared.names.FoldedName.{FoldedName}
 
@@ -8,11 +14,20 @@ use Rattle.cm_extern_names.specs.declared.names.FoldedName.{FoldedName}
 abbrev pub name_of : FoldedName → List ℕ
 name_of f = f.name
 
--- the names, in order
-abbrev pub names_of : NameSet → List (List ℕ)
-names_of s = map (λ e. e.1) s.names.entries
+-- whether a set has a name
+abbrev pub is_known : NameSet → List ℕ → Bool
+is_known s name = contains_text s.folded (without_case name)
 
--- names with one more: in the place of the one that is the same, ASCII case aside, or else last
-abbrev pub with_name : List (List ℕ) → List ℕ → List (List ℕ)
-with_name [] name = name ∷ []
-with_name (n ∷ ns) name = if is_same_name name n then name ∷ ns else n ∷ with_name ns name
+-- what a name breaks after those of a set
+abbrev pub known_broken : List ℕ → NameSet → List ValidReason
+known_broken name s = unless (not (is_known s name)) reason.DuplicateName
+
+-- a set has just these names
+abbrev pub Knows : NameSet → List (List ℕ) → Type 0
+Knows s names = (name : List ℕ) → is_known s name ≡ list_any (is_same_name name) names
+
+-- a set has the names of an earlier one, and these
+abbrev pub KnowsMore : NameSet → NameSet → List (List ℕ) → Type 0
+KnowsMore old new names =
+    (name : List ℕ)
+    → is_known new name ≡ (is_known old name || list_any (is_same_name name) names)

@@ -1,17 +1,16 @@
 use Rattle.std.proofs.Common.{not, ap, sym, ◌∙◌}
+use Rattle.std.specs.BTreeSet.{contains_text}
 use Rattle.cm_reasons.specs.declared.fault.ValidReason.TheVariants as reason
 use Rattle.cm_validity.specs.Reasons.{least, lesser, unless}
-use Rattle.cm_validity.specs.Rules.{name_broken}
 use Rattle.cm_extern_names.specs.Forms.{form_broken}
-use Rattle.cm_extern_names.specs.NameSets.{name_of, names_of}
-use Rattle.cm_extern_names.proofs.NameLaws.{is_there}
+use Rattle.cm_extern_names.specs.NameSets.{known_broken, name_of}
 use Rattle.cm_extern_names.proofs.name_set.NameSet.fault.Goals as goal
 
 pub returns : goal.returns
 returns c =
     let form = form_broken c.args.sort (name_of c.args.name.now) in
-    let there = c.contains_key-is_new.ensures ∙ is_there (name_of c.args.name.now) c.as_str.result.now c.args.self.now.names.entries (c.as_str.ensures.value ∙ c.args.name.now.is_folded) c.args.self.now.are_folded in
+    let there = c.contains-is_new.ensures ∙ ap (contains_text c.args.self.now.folded) (c.as_str.ensures.value ∙ c.args.name.now.is_folded) in
     c.lesser.ensures
     ∙ ap (λ v. lesser v c.broken_unless.result) c.form_fault-form.ensures
     ∙ ap (lesser (least form)) (c.broken_unless.ensures ∙ ap (λ b. least (unless (not b) reason.DuplicateName)) there)
-    ∙ sym (c.least_of_both.ensures form (name_broken (name_of c.args.name.now) (names_of c.args.self.now)))
+    ∙ sym (c.least_of_both.ensures form (known_broken (name_of c.args.name.now) c.args.self.now))
