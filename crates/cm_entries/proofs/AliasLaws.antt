@@ -1,5 +1,5 @@
 -- Aliases of what instances export.
-use Rattle.std.proofs.Common.{◌≡◌, ℕ, true, List, ◌++◌, length, map, Option, Some, None, refl, sym, ap, ◌∙◌, IfSome}
+use Rattle.std.proofs.Common.{[], ◌≡◌, ℕ, true, List, ◌++◌, length, map, Option, Some, None, refl, sym, ap, ◌∙◌, IfSome}
 use Rattle.std.proofs.lemmas.Option.{slice_get-map}
 use Rattle.std.specs.List.{slice_get}
 use Rattle.std.specs.Prelude.{option_to_list}
@@ -16,7 +16,6 @@ use Rattle.cm_validity.specs.Items.{alias_item}
 use Rattle.cm_validity.specs.Reasons.{found, least, unless}
 use Rattle.cm_validity.specs.Rules.{broken, is_of_member_sort}
 use Rattle.cm_validity.specs.Spaces.{Spaces, after_item, aliased_member, member_named, new_types, func_of_member, type_of_member}
-use Rattle.cm_extern_names.specs.NameSets.{names_of}
 use Rattle.cm_type_scope.specs.declared.entries.TypeEntry.TheVariants as entry
 use Rattle.cm_entries.specs.Entries.{func_def, members_of, member_def, is_func_there, are_members_there, is_member_there}
 use Rattle.cm_instance_items.specs.Resources.{resources_in}
@@ -28,7 +27,7 @@ use Rattle.cm_entries.specs.Steps.{PushesFunc}
 use Rattle.cm_entries.specs.declared.entries.FuncEntry.{FuncEntry}
 use Rattle.cm_entries.specs.declared.entries.InstanceEntry.{InstanceEntry}
 use Rattle.cm_entries.specs.declared.spaces.ComponentSpaces.{ComponentSpaces}
-use Rattle.cm_entries.proofs.StepLaws.{all_at, func_pushed, grown, mapped_same, none_more}
+use Rattle.cm_entries.proofs.StepLaws.{all_at, func_pushed, grown, known_same, mapped_same, none_more}
 
 -- ---- what an alias names
 
@@ -75,9 +74,9 @@ type_aliased types funcs c s sort i name d e no_func r = grown types funcs c c s
   instances_there = r.instances_there;
   resources_added = none_more (resources_in c.resources) (resources_in c.resources) refl;
   imports_added = mapped_same (extern_of types funcs) c.imports.items c.imports.items refl;
-  import_names_added = none_more (names_of c.import_names) (names_of c.import_names) refl;
+  import_names_added = known_same c.import_names c.import_names [] refl refl;
   exports_added = mapped_same (export_def types funcs) c.exports.items c.exports.items refl;
-  export_names_added = none_more (names_of c.export_names) (names_of c.export_names) refl;
+  export_names_added = known_same c.export_names c.export_names [] refl refl;
   imports_there = r.imports_there;
   exports_there = r.exports_there;
 })

@@ -1,5 +1,5 @@
 -- Exports: what they break, and the spaces after them.
-use Rattle.std.proofs.Common.{◌≡◌, ℕ, true, false, List, [], ◌∷◌, ◌++◌, length, map, Option, Some, None, refl, sym, ap, ◌∙◌, append_assoc}
+use Rattle.std.proofs.Common.{◌≡◌, ℕ, true, false, List, [], ◌∷◌, ◌++◌, length, map, Option, Some, None, refl, sym, ap, ◌∙◌, append_assoc, not}
 use Rattle.std.proofs.lemmas.Option.{slice_get-map}
 use Rattle.std.specs.List.{slice_get}
 use Rattle.std.specs.Prelude.{option_to_list, is_some}
@@ -13,10 +13,10 @@ use Rattle.cm_reasons.specs.declared.fault.ValidReason.{ValidReason}
 use Rattle.cm_reasons.specs.declared.fault.ValidReason.TheVariants as reason
 use Rattle.cm_validity.specs.Definitions.{FuncDef, NamedExport, NamedMember, exported_func, exported_instance}
 use Rattle.cm_validity.specs.Items.{Item, export_item}
-use Rattle.cm_validity.specs.Reasons.{bare_index_broken, found, least, lesser}
+use Rattle.cm_validity.specs.Reasons.{bare_index_broken, found, least, lesser, unless}
 use Rattle.cm_validity.specs.Rules.{broken, func_name_broken, instance_name_broken, name_broken}
 use Rattle.cm_validity.specs.Spaces.{Spaces, after_item, func_exported, instance_exported, new_exports, new_funcs, new_instances}
-use Rattle.cm_extern_names.specs.NameSets.{names_of}
+use Rattle.cm_extern_names.specs.NameSets.{known_broken}
 use Rattle.cm_entries.specs.ComponentSpaces.{AnswersAlone, IsComponentOf, export_def, is_exported_there}
 use Rattle.cm_entries.specs.Entries.{func_def, members_of, is_func_there, are_members_there}
 use Rattle.cm_instance_items.specs.Resources.{resources_in}
@@ -26,8 +26,8 @@ use Rattle.cm_entries.specs.declared.entries.InstanceEntry.{InstanceEntry}
 use Rattle.cm_entries.specs.declared.spaces.ComponentSpaces.{ComponentSpaces}
 use Rattle.cm_entries.specs.declared.spaces.ExportEntry.{ExportEntry}
 use Rattle.cm_entries.specs.declared.spaces.ExportedEntry.TheVariants as export
-use Rattle.cm_entries.proofs.ImportLaws.{LeastOfBoth, lesser_some, none_last, stays}
-use Rattle.cm_entries.proofs.StepLaws.{all_more, all_same, all_found, grown, mapped_more, mapped_same, none_more}
+use Rattle.cm_entries.proofs.ImportLaws.{LeastOfBoth, lesser_some, stays}
+use Rattle.cm_entries.proofs.StepLaws.{all_found, all_more, all_same, grown, known_after, known_same, mapped_more, mapped_same, none_more}
 
 is_none : {A : Type 0} (o : Option A) → is_some o ≡ false → o ≡ None
 is_none None e = refl
@@ -54,23 +54,23 @@ module _ (both : LeastOfBoth) (i : ℕ) (name : Bor (List ℕ)) (old : Component
     instance_at : (o : Option InstanceEntry) → slice_get old.instances.items i ≡ o → slice_get s.instances i ≡ option_map (members_of types funcs) o
     instance_at o e = ap (λ (fs : List (List NamedMember)). slice_get fs i) r.instances_are ∙ slice_get-map (members_of types funcs) old.instances.items i ∙ ap (option_map (members_of types funcs)) e
 
-    func_fault : (o : Option FuncEntry) (b : Option ValidReason) → slice_get old.funcs.items i ≡ o → b ≡ least (func_name_broken name.now ++ name_broken name.now (names_of old.export_names))
+    func_fault : (o : Option FuncEntry) (b : Option ValidReason) → slice_get old.funcs.items i ≡ o → b ≡ least (func_name_broken name.now ++ known_broken name.now old.export_names)
         → lesser (least (found (λ (d : FuncDef). []) (option_map (func_def funcs) o))) b ≡ least (broken s of_func)
     func_fault o b e f =
         ap (λ (p : Option FuncDef). lesser (least (found (λ (d : FuncDef). []) p)) b) (sym (func_at o e))
-        ∙ ap (lesser (least (bare_index_broken s.funcs i))) (f ∙ ap (λ v. least (func_name_broken name.now ++ name_broken name.now v)) (sym r.export_names))
+        ∙ ap (lesser (least (bare_index_broken s.funcs i))) (f ∙ ap (λ b. least (func_name_broken name.now ++ unless (not b) reason.DuplicateName)) (r.export_names name.now))
         ∙ three (bare_index_broken s.funcs i) (func_name_broken name.now) (name_broken name.now (map (λ (x : NamedExport). x.name) s.exports))
 
-    instance_fault : (o : Option InstanceEntry) (b : Option ValidReason) → slice_get old.instances.items i ≡ o → b ≡ least (instance_name_broken name.now ++ name_broken name.now (names_of old.export_names))
+    instance_fault : (o : Option InstanceEntry) (b : Option ValidReason) → slice_get old.instances.items i ≡ o → b ≡ least (instance_name_broken name.now ++ known_broken name.now old.export_names)
         → lesser (least (found (λ (d : List NamedMember). []) (option_map (members_of types funcs) o))) b ≡ least (broken s of_instance)
     instance_fault o b e f =
         ap (λ (p : Option (List NamedMember)). lesser (least (found (λ (d : List NamedMember). []) p)) b) (sym (instance_at o e))
-        ∙ ap (lesser (least (bare_index_broken s.instances i))) (f ∙ ap (λ v. least (instance_name_broken name.now ++ name_broken name.now v)) (sym r.export_names))
+        ∙ ap (lesser (least (bare_index_broken s.instances i))) (f ∙ ap (λ b. least (instance_name_broken name.now ++ unless (not b) reason.DuplicateName)) (r.export_names name.now))
         ∙ three (bare_index_broken s.instances i) (instance_name_broken name.now) (name_broken name.now (map (λ (x : NamedExport). x.name) s.exports))
 
     -- ---- the spaces after an export
 
-    module _ (mid new : ComponentSpaces) (fine : name_broken name.now (names_of old.export_names) ≡ []) where
+    module _ (mid new : ComponentSpaces) where
       abbrev entry_of_func : FuncEntry → ExportEntry
       entry_of_func f = record { name = name; def = export.Func f }
 
@@ -92,9 +92,9 @@ module _ (both : LeastOfBoth) (i : ℕ) (name : Bor (List ℕ)) (old : Component
             instances_there = all_same (are_members_there (length types) (length funcs)) old.instances.items new.instances.items (ap (λ v. v.items) (b.instances ∙ a.instances)) r.instances_there;
             resources_added = none_more (resources_in old.resources) (resources_in new.resources) (ap resources_in (b.resources ∙ a.resources));
             imports_added = mapped_same (extern_of types funcs) old.imports.items new.imports.items (ap (λ v. v.items) (b.imports ∙ a.imports));
-            import_names_added = none_more (names_of old.import_names) (names_of new.import_names) (ap names_of (b.import_names ∙ a.import_names));
+            import_names_added = known_same old.import_names new.import_names [] (b.import_names ∙ a.import_names) refl;
             exports_added = mapped_more (export_def types funcs) old.exports.items new.exports.items (entry_of_func f) now_exports ∙ ap (λ v. map (export_def types funcs) old.exports.items ++ v) (sym export_is);
-            export_names_added = b.named (ap (λ v. name_broken name.now (names_of v)) a.export_names ∙ fine) ∙ ap (λ v. names_of v ++ name.now ∷ []) a.export_names ∙ ap (λ (v : List NamedExport). names_of old.export_names ++ map (λ y. y.name) v) (sym export_is);
+            export_names_added = known_after old.export_names mid.export_names new.export_names name.now (map (λ (y : NamedExport). y.name) (new_exports s of_func)) a.export_names b.named (ap (map (λ (y : NamedExport). y.name)) export_is);
             imports_there = all_same (λ (e : Extern). is_extern_there (length types) (length funcs) e.desc) old.imports.items new.imports.items (ap (λ v. v.items) (b.imports ∙ a.imports)) r.imports_there;
             exports_there = all_more (λ (e : ExportEntry). is_exported_there (length types) (length funcs) e.def) old.exports.items new.exports.items (entry_of_func f) now_exports r.exports_there (all_found (is_func_there (length funcs)) old.funcs.items i f r.funcs_there is);
           })
@@ -117,16 +117,16 @@ module _ (both : LeastOfBoth) (i : ℕ) (name : Bor (List ℕ)) (old : Component
             instances_there = all_more (are_members_there (length types) (length funcs)) old.instances.items new.instances.items f now_instances r.instances_there (there ∙ all_found (are_members_there (length types) (length funcs)) old.instances.items i e r.instances_there is);
             resources_added = none_more (resources_in old.resources) (resources_in new.resources) (ap resources_in (b.resources ∙ a.resources));
             imports_added = mapped_same (extern_of types funcs) old.imports.items new.imports.items (ap (λ v. v.items) (b.imports ∙ a.imports));
-            import_names_added = none_more (names_of old.import_names) (names_of new.import_names) (ap names_of (b.import_names ∙ a.import_names));
+            import_names_added = known_same old.import_names new.import_names [] (b.import_names ∙ a.import_names) refl;
             exports_added = mapped_more (export_def types funcs) old.exports.items new.exports.items (entry_of_instance g) now_exports ∙ ap (λ v. map (export_def types funcs) old.exports.items ++ v) (sym export_is);
-            export_names_added = b.named (ap (λ v. name_broken name.now (names_of v)) a.export_names ∙ fine) ∙ ap (λ v. names_of v ++ name.now ∷ []) a.export_names ∙ ap (λ (v : List NamedExport). names_of old.export_names ++ map (λ y. y.name) v) (sym export_is);
+            export_names_added = known_after old.export_names mid.export_names new.export_names name.now (map (λ (y : NamedExport). y.name) (new_exports s of_instance)) a.export_names b.named (ap (map (λ (y : NamedExport). y.name)) export_is);
             imports_there = all_same (λ (e : Extern). is_extern_there (length types) (length funcs) e.desc) old.imports.items new.imports.items (ap (λ v. v.items) (b.imports ∙ a.imports)) r.imports_there;
             exports_there = all_more (λ (x : ExportEntry). is_exported_there (length types) (length funcs) x.def) old.exports.items new.exports.items (entry_of_instance g) now_exports r.exports_there (there_g ∙ all_found (are_members_there (length types) (length funcs)) old.instances.items i e r.instances_there is);
           })
 
   -- ---- what calls answer
 
-  module _ (b : Option ValidReason) (f : b ≡ least (func_name_broken name.now ++ name_broken name.now (names_of old.export_names))) where
+  module _ (b : Option ValidReason) (f : b ≡ least (func_name_broken name.now ++ known_broken name.now old.export_names)) where
     pub no_func_answer : slice_get old.funcs.items i ≡ None → AnswersAlone of_func old (lesser (Some reason.NoSuchIndex) b) old
     no_func_answer is = record {
       fault = λ types funcs s r. func_fault types funcs s r None b is f;
@@ -143,10 +143,10 @@ module _ (both : LeastOfBoth) (i : ℕ) (name : Bor (List ℕ)) (old : Component
         → AnswersAlone of_func old None new
     func_added_answer e mid new is none a x = record {
       fault = λ types funcs s r. sym (is_none b none) ∙ func_fault types funcs s r (Some e) b is f;
-      after = λ types funcs s r. func_exports types funcs s r mid new (none_last (func_name_broken name.now) (name_broken name.now (names_of old.export_names)) (sym f ∙ is_none b none)) e is a x;
+      after = λ types funcs s r. func_exports types funcs s r mid new e is a x;
     }
 
-  module _ (b : Option ValidReason) (f : b ≡ least (instance_name_broken name.now ++ name_broken name.now (names_of old.export_names))) where
+  module _ (b : Option ValidReason) (f : b ≡ least (instance_name_broken name.now ++ known_broken name.now old.export_names)) where
     pub no_instance_answer : slice_get old.instances.items i ≡ None → AnswersAlone of_instance old (lesser (Some reason.NoSuchIndex) b) old
     no_instance_answer is = record {
       fault = λ types funcs s r. instance_fault types funcs s r None b is f;
@@ -166,5 +166,5 @@ module _ (both : LeastOfBoth) (i : ℕ) (name : Bor (List ℕ)) (old : Component
         → AnswersAlone of_instance old None new
     instance_added_answer e g h mid new is none same_g same_h there there_h a x = record {
       fault = λ types funcs s r. sym (is_none b none) ∙ instance_fault types funcs s r (Some e) b is f;
-      after = λ types funcs s r. instance_exports types funcs s r mid new (none_last (instance_name_broken name.now) (name_broken name.now (names_of old.export_names)) (sym f ∙ is_none b none)) e g h is (same_g types funcs) (same_h types funcs) (there (length types) (length funcs)) (there_h (length types) (length funcs)) a x;
+      after = λ types funcs s r. instance_exports types funcs s r mid new e g h is (same_g types funcs) (same_h types funcs) (there (length types) (length funcs)) (there_h (length types) (length funcs)) a x;
     }

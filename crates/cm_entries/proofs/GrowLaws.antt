@@ -4,6 +4,7 @@ use Rattle.std.proofs.lemmas.Bool.{ltb-true, lt-ltb}
 use Rattle.std.proofs.lemmas.List.{get_or_append_left}
 use Rattle.std.specs.Borrow.{Bor}
 use Rattle.std.specs.List.{AllByRecursion, list_all}
+use Rattle.cm_name_maps.specs.NameMaps.{entries_of}
 use Rattle.cm_types.specs.Types.{Ty, FuncTy}
 use Rattle.cm_types.specs.Signatures.{ItemTy, NamedItem, NamedExtern, func_item, equal_type}
 use Rattle.cm_types.specs.Signatures as externs
@@ -106,7 +107,7 @@ module _ (types more : List Ty) (funcs others : List FuncTy) where
 
   pub members_kept : (i : InstanceEntry) → are_members_there (length types) (length funcs) i ≡ true → members_of U G i ≡ members_of types funcs i
   members_kept (instance.Imported import items by) h = item_members_kept import by 0 (instance_type_of items.value).items.items h
-  members_kept (instance.Exporting members) h = mapped_same (λ e. is_member_there (length types) (length funcs) e.1) (named_member U G) (named_member types funcs) named_kept members.value.entries h
+  members_kept (instance.Exporting members) h = mapped_same (λ e. is_member_there (length types) (length funcs) e.1) (named_member U G) (named_member types funcs) named_kept (entries_of members.value) h
 
   desc_kept : (d : ItemDesc) → is_desc_there (length types) (length funcs) d ≡ true → desc_of U G d ≡ desc_of types funcs d
   desc_kept (item.Func p) h = ap func_item (func_kept p h)
@@ -199,7 +200,7 @@ module _ (t u f g : ℕ) (types : t ≤ u) (funcs : f ≤ g) where
 
   pub members_there_more : (i : InstanceEntry) → are_members_there t f i ≡ true → are_members_there u g i ≡ true
   members_there_more (instance.Imported import items by) h = items_there_more (instance_type_of items.value).items.items h
-  members_there_more (instance.Exporting members) h = passes_more (λ e. is_member_there t f e.1) (λ e. is_member_there u g e.1) (λ e. member_there_more e.1) members.value.entries h
+  members_there_more (instance.Exporting members) h = passes_more (λ e. is_member_there t f e.1) (λ e. is_member_there u g e.1) (λ e. member_there_more e.1) (entries_of members.value) h
 
   pub extern_there_more : (e : ExternDesc) → is_extern_there t f e ≡ true → is_extern_there u g e ≡ true
   extern_there_more (extern.Func p) h = below_more p.place f g funcs h

@@ -1,5 +1,5 @@
 -- Imports: what they break, and the spaces after them.
-use Rattle.std.proofs.Common.{◌≡◌, ℕ, zero, suc, ◌+◌, true, false, Bool, List, [], ◌∷◌, ◌++◌, length, map, Option, Some, None, refl, sym, ap, ◌∙◌, subst, append_assoc}
+use Rattle.std.proofs.Common.{◌≡◌, ℕ, zero, suc, ◌+◌, true, false, Bool, List, [], ◌∷◌, ◌++◌, length, map, Option, Some, None, refl, sym, ap, ◌∙◌, subst, append_assoc, not}
 use Rattle.std.proofs.lemmas.Option.{slice_get-map}
 use Rattle.std.specs.List.{AllByRecursion, slice_get}
 use Rattle.std.specs.Prelude.{option_to_list, is_some, nat_le, if◌then◌else◌}
@@ -36,7 +36,7 @@ use Rattle.cm_validity.specs.TypeRules.{has_sort}
 use Rattle.cm_validity.specs.declared.sorts.TypeSort.{TypeSort}
 use Rattle.cm_validity.specs.declared.sorts.TypeSort.TheVariants as sort
 use Rattle.cm_counted.specs.CountedSpaces.{AreItemsCounted, AreSpacesCounted, IsDefCounted, IsInstanceCounted}
-use Rattle.cm_extern_names.specs.NameSets.{names_of}
+use Rattle.cm_extern_names.specs.NameSets.{known_broken}
 use Rattle.cm_entries.specs.Entries.{func_def, members_of, is_func_there, are_members_there, item_members}
 use Rattle.cm_instance_items.specs.InstanceTypes.{instance_type_of}
 use Rattle.cm_instance_items.specs.Items.{fresh_of}
@@ -50,7 +50,7 @@ use Rattle.cm_instance_items.specs.declared.items.InstanceItems.{InstanceItems}
 use Rattle.cm_instance_items.specs.declared.ranges.Resources.{Resources}
 use Rattle.cm_entries.specs.declared.spaces.ComponentSpaces.{ComponentSpaces}
 use Rattle.cm_entries.proofs.MoveLaws.{Laws, all_brought, items_told, members_told}
-use Rattle.cm_entries.proofs.StepLaws.{all_more, all_same, all_found, grown, mapped_more, mapped_same, none_more}
+use Rattle.cm_entries.proofs.StepLaws.{all_found, all_more, all_same, grown, known_after, known_same, mapped_more, mapped_same, none_more}
 
 -- ---- reasons
 
@@ -97,32 +97,20 @@ module _ (both : LeastOfBoth) (types : List Ty) (funcs : List FuncTy) (c : Compo
   three a b d = sym (ap least (append_assoc a b d) ∙ both a (b ++ d))
 
   pub func_fault : (i : ℕ) (name : List ℕ) (a b : Option ValidReason)
-      → a ≡ least (index_broken (has_sort sort.Func) (map entry_sort es) i) → b ≡ least (func_name_broken name ++ name_broken name (names_of c.import_names))
+      → a ≡ least (index_broken (has_sort sort.Func) (map entry_sort es) i) → b ≡ least (func_name_broken name ++ known_broken name c.import_names)
       → lesser a b ≡ least (broken s (import_item (record { name = name; desc = desc.Func i })))
   func_fault i name a b e f =
       ap (λ v. lesser v b) (e ∙ ap (λ v. least (index_broken (has_sort sort.Func) v i)) (sym (sorts_are types funcs es s t)))
-      ∙ ap (lesser (least (type_index_broken s (has_sort sort.Func) i))) (f ∙ ap (λ v. least (func_name_broken name ++ name_broken name v)) (sym r.import_names))
+      ∙ ap (lesser (least (type_index_broken s (has_sort sort.Func) i))) (f ∙ ap (λ b. least (func_name_broken name ++ unless (not b) reason.DuplicateName)) (r.import_names name))
       ∙ three (type_index_broken s (has_sort sort.Func) i) (func_name_broken name) (name_broken name (map (λ (x : NamedExtern). x.name) s.imports))
 
   pub instance_fault : (i : ℕ) (name : List ℕ) (a b : Option ValidReason)
-      → a ≡ least (index_broken (has_sort sort.Instance) (map entry_sort es) i) → b ≡ least (instance_name_broken name ++ name_broken name (names_of c.import_names))
+      → a ≡ least (index_broken (has_sort sort.Instance) (map entry_sort es) i) → b ≡ least (instance_name_broken name ++ known_broken name c.import_names)
       → lesser a b ≡ least (broken s (import_item (record { name = name; desc = desc.Instance i })))
   instance_fault i name a b e f =
       ap (λ v. lesser v b) (e ∙ ap (λ v. least (index_broken (has_sort sort.Instance) v i)) (sym (sorts_are types funcs es s t)))
-      ∙ ap (lesser (least (type_index_broken s (has_sort sort.Instance) i))) (f ∙ ap (λ v. least (instance_name_broken name ++ name_broken name v)) (sym r.import_names))
+      ∙ ap (lesser (least (type_index_broken s (has_sort sort.Instance) i))) (f ∙ ap (λ b. least (instance_name_broken name ++ unless (not b) reason.DuplicateName)) (r.import_names name))
       ∙ three (type_index_broken s (has_sort sort.Instance) i) (instance_name_broken name) (name_broken name (map (λ (x : NamedExtern). x.name) s.imports))
-
--- where there is no least reason of some, there is none among the last of them
-none_least : (rs : List ValidReason) → least rs ≡ None → rs ≡ []
-none_least [] e = refl
-none_least (r ∷ rs) e = let wrong : true ≡ false = sym (lesser_some r (least rs)) ∙ ap is_some e in absurd cc
-
-none_behind : (a b : List ValidReason) → a ++ b ≡ [] → b ≡ []
-none_behind [] b e = e
-none_behind (r ∷ rs) b e = absurd cc
-
-pub none_last : (a b : List ValidReason) → least (a ++ b) ≡ None → b ≡ []
-none_last a b e = none_behind a b (none_least (a ++ b) e)
 
 -- ---- types by index
 
@@ -146,7 +134,7 @@ imports_before types funcs c s r = ap length r.imports_are ∙ length_mapped (ex
 
 -- ---- the spaces after an import
 
-module _ (types : List Ty) (funcs : List FuncTy) (old mid new : ComponentSpaces) (s : Spaces) (es : List TypeEntry) (i : ℕ) (name : List ℕ) (r : IsComponentOf types funcs old s) (t : AreTypesOf types funcs es s) (fine : name_broken name (names_of old.import_names) ≡ []) where
+module _ (types : List Ty) (funcs : List FuncTy) (old mid new : ComponentSpaces) (s : Spaces) (es : List TypeEntry) (i : ℕ) (name : List ℕ) (r : IsComponentOf types funcs old s) (t : AreTypesOf types funcs es s) where
   -- of a function
   pub func_imported : (p : Placed) → slice_get es i ≡ Some (entry.Func p)
       → PushesFunc (func.Imported (length old.imports.items) None p) old mid → AddsImport (record { name = name; desc = extern.Func p }) name mid new
@@ -167,9 +155,9 @@ module _ (types : List Ty) (funcs : List FuncTy) (old mid new : ComponentSpaces)
         instances_there = all_same (are_members_there (length types) (length funcs)) old.instances.items new.instances.items (ap (λ v. v.items) (b.instances ∙ a.instances)) r.instances_there;
         resources_added = none_more (resources_in old.resources) (resources_in new.resources) (ap resources_in (b.resources ∙ a.resources));
         imports_added = mapped_more (extern_of types funcs) old.imports.items new.imports.items (record { name = name; desc = extern.Func p }) now_imports ∙ ap (λ v. map (extern_of types funcs) old.imports.items ++ v) (sym import_is);
-        import_names_added = b.named (ap (λ v. name_broken name (names_of v)) a.import_names ∙ fine) ∙ ap (λ v. names_of v ++ name ∷ []) a.import_names ∙ ap (λ (v : List NamedExtern). names_of old.import_names ++ map (λ y. y.name) v) (sym import_is);
+        import_names_added = known_after old.import_names mid.import_names new.import_names name (map (λ (y : NamedExtern). y.name) (new_imports s x)) a.import_names b.named (ap (map (λ (y : NamedExtern). y.name)) import_is);
         exports_added = mapped_same (export_def types funcs) old.exports.items new.exports.items (ap (λ v. v.items) (b.exports ∙ a.exports));
-        export_names_added = none_more (names_of old.export_names) (names_of new.export_names) (ap names_of (b.export_names ∙ a.export_names));
+        export_names_added = known_same old.export_names new.export_names [] (b.export_names ∙ a.export_names) refl;
         imports_there = all_more (λ (e : Extern). is_extern_there (length types) (length funcs) e.desc) old.imports.items new.imports.items (record { name = name; desc = extern.Func p }) now_imports r.imports_there (all_found (is_entry_there (length types) (length funcs)) es i (entry.Func p) t.types_there is);
         exports_there = all_same (λ (e : ExportEntry). is_exported_there (length types) (length funcs) e.def) old.exports.items new.exports.items (ap (λ v. v.items) (b.exports ∙ a.exports)) r.exports_there;
       })
@@ -216,7 +204,7 @@ module _ (laws : Laws) (types : List Ty) (funcs : List FuncTy) (s : Spaces) (t :
 -- ---- the spaces after an import of an instance
 
 module _ (laws : Laws) (counts : AreCounted) (types : List Ty) (funcs : List FuncTy) (old mid new : ComponentSpaces) (brings : Resources) (s : Spaces) (es : List TypeEntry) (i : ℕ) (name : List ℕ)
-    (r : IsComponentOf types funcs old s) (t : AreTypesOf types funcs es s) (fine : name_broken name (names_of old.import_names) ≡ [])
+    (r : IsComponentOf types funcs old s) (t : AreTypesOf types funcs es s)
     (items held : Rc InstanceItems Global) (same : held.value ≡ items.value) (by : Move) (is : slice_get es i ≡ Some (entry.Instance items)) where
   abbrev it : InstanceType
   it = instance_type_of items.value
@@ -267,9 +255,9 @@ module _ (laws : Laws) (counts : AreCounted) (types : List Ty) (funcs : List Fun
         instances_there = all_more (are_members_there (length types) (length funcs)) old.instances.items new.instances.items added_instance now_instances r.instances_there there;
         resources_added = ap resources_in b.resources ∙ brought_is ∙ ap (λ v. resources_in v ++ map (brought (length old.imports.items)) (fresh_of it)) a.resources ∙ ap (λ v. resources_in old.resources ++ v) (sym resources_are);
         imports_added = mapped_more (extern_of types funcs) old.imports.items new.imports.items (added_import ty) now_imports ∙ ap (λ v. map (extern_of types funcs) old.imports.items ++ v) (sym import_is);
-        import_names_added = b.named (ap (λ v. name_broken name (names_of v)) a.import_names ∙ fine) ∙ ap (λ v. names_of v ++ name ∷ []) a.import_names ∙ ap (λ (v : List NamedExtern). names_of old.import_names ++ map (λ y. y.name) v) (sym import_is);
+        import_names_added = known_after old.import_names mid.import_names new.import_names name (map (λ (y : NamedExtern). y.name) (new_imports s x)) a.import_names b.named (ap (map (λ (y : NamedExtern). y.name)) import_is);
         exports_added = mapped_same (export_def types funcs) old.exports.items new.exports.items (ap (λ v. v.items) (b.exports ∙ a.exports));
-        export_names_added = none_more (names_of old.export_names) (names_of new.export_names) (ap names_of (b.export_names ∙ a.export_names));
+        export_names_added = known_same old.export_names new.export_names [] (b.export_names ∙ a.export_names) refl;
         imports_there = all_more (λ (e : Extern). is_extern_there (length types) (length funcs) e.desc) old.imports.items new.imports.items (added_import ty) now_imports r.imports_there (ap (λ (v : InstanceType). are_items_there (length types) (length funcs) v.items.items) shared ∙ all_found (is_entry_there (length types) (length funcs)) es i (entry.Instance items) t.types_there is);
         exports_there = all_same (λ (e : ExportEntry). is_exported_there (length types) (length funcs) e.def) old.exports.items new.exports.items (ap (λ v. v.items) (b.exports ∙ a.exports)) r.exports_there;
       })

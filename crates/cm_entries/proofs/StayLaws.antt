@@ -26,7 +26,6 @@ use Rattle.std.proofs.lemmas.Option.{slice_get-map}
 use Rattle.std.specs.List.{flat_map, slice_get}
 use Rattle.std.specs.Option.{option_map, option_and_then}
 use Rattle.cm_validity.specs.Spaces.{Spaces, after_item, named_member as member_of_export, new_exports, new_funcs, new_imports, new_instances, new_resources}
-use Rattle.cm_extern_names.specs.NameSets.{names_of}
 use Rattle.cm_entries.specs.ComponentSpaces.{AreTypesOf, IsComponentOf, export_def, is_exported_there}
 use Rattle.cm_entries.specs.Entries.{are_members_there, func_def, is_func_there, members_of}
 use Rattle.cm_entries.specs.declared.entries.InstanceEntry.{InstanceEntry}
@@ -37,7 +36,7 @@ use Rattle.cm_instance_items.specs.declared.ranges.Resource.{Resource}
 use Rattle.cm_instance_items.specs.declared.ranges.Resources.{Resources}
 use Rattle.cm_entries.proofs.ImportLaws.{sorts_are}
 use Rattle.cm_entries.specs.Steps.{PushesInstance}
-use Rattle.cm_entries.proofs.StepLaws.{all_at, all_more, all_same, grown, mapped_more, mapped_same, none_more}
+use Rattle.cm_entries.proofs.StepLaws.{all_at, all_more, all_same, grown, known_same, mapped_more, mapped_same, none_more}
 
 behind : {A : Type 0} (xs ys : List A) → ys ≡ [] → xs ≡ xs ++ ys
 behind xs ys e = sym (ap (λ v. xs ++ v) e ∙ append-nil xs)
@@ -52,9 +51,9 @@ nothing_added types funcs c s x fs is rs ims exs r = grown types funcs c c s x r
   instances_there = r.instances_there;
   resources_added = behind (resources_in c.resources) (new_resources s x) rs;
   imports_added = behind (map (extern_of types funcs) c.imports.items) (new_imports s x) ims;
-  import_names_added = behind (names_of c.import_names) (map (λ (i : NamedExtern). i.name) (new_imports s x)) (ap (map (λ (i : NamedExtern). i.name)) ims);
+  import_names_added = known_same c.import_names c.import_names (map (λ (i : NamedExtern). i.name) (new_imports s x)) refl (ap (map (λ (i : NamedExtern). i.name)) ims);
   exports_added = behind (map (export_def types funcs) c.exports.items) (new_exports s x) exs;
-  export_names_added = behind (names_of c.export_names) (map (λ (e : NamedExport). e.name) (new_exports s x)) (ap (map (λ (e : NamedExport). e.name)) exs);
+  export_names_added = known_same c.export_names c.export_names (map (λ (e : NamedExport). e.name) (new_exports s x)) refl (ap (map (λ (e : NamedExport). e.name)) exs);
   imports_there = r.imports_there;
   exports_there = r.exports_there;
 })
@@ -70,9 +69,9 @@ resource_defined types funcs c more s destructor e r = grown types funcs c (reco
   instances_there = r.instances_there;
   resources_added = e;
   imports_added = behind (map (extern_of types funcs) c.imports.items) [] refl;
-  import_names_added = behind (names_of c.import_names) [] refl;
+  import_names_added = known_same c.import_names c.import_names [] refl refl;
   exports_added = behind (map (export_def types funcs) c.exports.items) [] refl;
-  export_names_added = behind (names_of c.export_names) [] refl;
+  export_names_added = known_same c.export_names c.export_names [] refl refl;
   imports_there = r.imports_there;
   exports_there = r.exports_there;
 })
@@ -165,9 +164,9 @@ members_pushed types funcs old new s es e same there a r = grown types funcs old
   instances_there = all_more (are_members_there (length types) (length funcs)) old.instances.items new.instances.items e a.pushed r.instances_there there;
   resources_added = none_more (resources_in old.resources) (resources_in new.resources) (ap resources_in a.resources);
   imports_added = mapped_same (extern_of types funcs) old.imports.items new.imports.items (ap (λ v. v.items) a.imports);
-  import_names_added = none_more (names_of old.import_names) (names_of new.import_names) (ap names_of a.import_names);
+  import_names_added = known_same old.import_names new.import_names [] a.import_names refl;
   exports_added = mapped_same (export_def types funcs) old.exports.items new.exports.items (ap (λ v. v.items) a.exports);
-  export_names_added = none_more (names_of old.export_names) (names_of new.export_names) (ap names_of a.export_names);
+  export_names_added = known_same old.export_names new.export_names [] a.export_names refl;
   imports_there = all_same (λ (e : Extern). is_extern_there (length types) (length funcs) e.desc) old.imports.items new.imports.items (ap (λ v. v.items) a.imports) r.imports_there;
   exports_there = all_same (λ (e : ExportEntry). is_exported_there (length types) (length funcs) e.def) old.exports.items new.exports.items (ap (λ v. v.items) a.exports) r.exports_there;
 })

@@ -13,7 +13,7 @@ use Rattle.cm_validity.specs.Items.{Item, alias_item}
 use Rattle.cm_validity.specs.Reasons.{least}
 use Rattle.cm_validity.specs.Rules.{broken}
 use Rattle.cm_validity.specs.Spaces.{Spaces, empty_spaces, after_item, after_items, new_types}
-use Rattle.cm_extern_names.specs.NameSets.{names_of}
+use Rattle.cm_extern_names.specs.NameSets.{Knows}
 use Rattle.cm_type_scope.specs.Entries.{def_of, is_entry_there}
 use Rattle.cm_type_scope.specs.Settled.{IsEntrySettled}
 use Rattle.cm_type_scope.specs.declared.entries.TypeEntry.{TypeEntry}
@@ -55,9 +55,9 @@ pub record IsComponentOf (types : List Ty) (funcs : List FuncTy) (c : ComponentS
   pub instances_are : s.instances ≡ map (members_of types funcs) c.instances.items
   pub resources_are : s.resources ≡ resources_in c.resources
   pub imports_are : s.imports ≡ map (extern_of types funcs) c.imports.items
-  pub import_names : map (λ i. i.name) s.imports ≡ names_of c.import_names
+  pub import_names : Knows c.import_names (map (λ i. i.name) s.imports)
   pub exports_are : s.exports ≡ map (export_def types funcs) c.exports.items
-  pub export_names : map (λ e. e.name) s.exports ≡ names_of c.export_names
+  pub export_names : Knows c.export_names (map (λ e. e.name) s.exports)
   pub funcs_there : list_all (is_func_there (length funcs)) c.funcs.items ≡ true
   pub instances_there :
       list_all (are_members_there (length types) (length funcs)) c.instances.items ≡ true

@@ -9,6 +9,7 @@ use Rattle.std.specs.declared.rc.Rc.{Rc}
 use Rattle.cm_types.specs.Types.{Ty, FuncTy}
 use Rattle.cm_replaced.specs.Moves.{moved}
 use Rattle.cm_replaced.specs.declared.moves.Move.{Move}
+use Rattle.cm_name_maps.specs.NameMaps.{entries_of}
 use Rattle.cm_placed.specs.Placed.{placed_type, placed_func, is_there}
 use Rattle.cm_placed.specs.Instances.{numbered, are_items_there}
 use Rattle.cm_placed.specs.declared.placed.Placed.{Placed}
@@ -90,7 +91,7 @@ abbrev pub members_of : List Ty → List FuncTy → InstanceEntry → List Named
 members_of types funcs (instance.Imported import items by) =
     item_members types funcs import by 0 (instance_type_of items.value).items.items
 members_of types funcs (instance.Exporting members) =
-    map (named_member types funcs) members.value.entries
+    map (named_member types funcs) (entries_of members.value)
 
 -- ---- their places are among so many types, and so many types of functions
 
@@ -107,4 +108,4 @@ abbrev pub are_members_there : ℕ → ℕ → InstanceEntry → Bool
 are_members_there types funcs (instance.Imported import items by) =
     are_items_there types funcs (instance_type_of items.value).items.items
 are_members_there types funcs (instance.Exporting members) =
-    list_all (λ e. is_member_there types funcs e.1) members.value.entries
+    list_all (λ e. is_member_there types funcs e.1) (entries_of members.value)

@@ -1,8 +1,7 @@
 -- What calls add to the entries, and what they leave as it is.
 use Rattle.std.specs.Prelude.{◌≡◌, ℕ, List, [], ◌∷◌, ◌++◌}
 use Rattle.cm_signatures.specs.declared.signatures.Extern.{Extern}
-use Rattle.cm_validity.specs.Rules.{name_broken}
-use Rattle.cm_extern_names.specs.NameSets.{names_of}
+use Rattle.cm_extern_names.specs.NameSets.{KnowsMore}
 use Rattle.cm_entries.specs.declared.entries.FuncEntry.{FuncEntry}
 use Rattle.cm_entries.specs.declared.entries.InstanceEntry.{InstanceEntry}
 use Rattle.cm_entries.specs.declared.spaces.ComponentSpaces.{ComponentSpaces}
@@ -28,22 +27,20 @@ pub record PushesInstance (i : InstanceEntry) (old new : ComponentSpaces) : Type
   pub exports : new.exports ≡ old.exports
   pub export_names : new.export_names ≡ old.export_names
 
--- an import under a name that is new
+-- an import under a name
 pub record AddsImport (e : Extern) (name : List ℕ) (old new : ComponentSpaces) : Type 0 where
   pub added : new.imports.items ≡ old.imports.items ++ e ∷ []
-  pub named : name_broken name (names_of old.import_names) ≡ []
-      → names_of new.import_names ≡ names_of old.import_names ++ name ∷ []
+  pub named : KnowsMore old.import_names new.import_names (name ∷ [])
   pub funcs : new.funcs ≡ old.funcs
   pub instances : new.instances ≡ old.instances
   pub resources : new.resources ≡ old.resources
   pub exports : new.exports ≡ old.exports
   pub export_names : new.export_names ≡ old.export_names
 
--- an export under a name that is new
+-- an export under a name
 pub record AddsExport (e : ExportEntry) (name : List ℕ) (old new : ComponentSpaces) : Type 0 where
   pub added : new.exports.items ≡ old.exports.items ++ e ∷ []
-  pub named : name_broken name (names_of old.export_names) ≡ []
-      → names_of new.export_names ≡ names_of old.export_names ++ name ∷ []
+  pub named : KnowsMore old.export_names new.export_names (name ∷ [])
   pub funcs : new.funcs ≡ old.funcs
   pub instances : new.instances ≡ old.instances
   pub resources : new.resources ≡ old.resources

@@ -81,7 +81,7 @@ impl<'a> InstanceEntry<'a> {
                 let (number, item) = items.find(name)?;
                 Some(item_member(*import, *by, number, item))
             }
-            InstanceEntry::Exporting(members) => members.get(&name).copied(),
+            InstanceEntry::Exporting(members) => members.get(name).copied(),
         }
     }
 }

@@ -2,9 +2,9 @@
 
 use cm_component::CanonOption;
 use cm_instance_items::InstanceItems;
+use cm_name_maps::NameMap;
 use cm_placed::Placed;
 use cm_replaced::Move;
-use indexmap::IndexMap;
 use std::rc::Rc;
 
 /// A function of a component.
@@ -46,5 +46,5 @@ pub enum InstanceEntry<'a> {
         by: Move,
     },
     /// Definitions under names, shared by all who name the instance.
-    Exporting(Rc<IndexMap<&'a str, MemberEntry<'a>>>),
+    Exporting(Rc<NameMap<'a, MemberEntry<'a>>>),
 }

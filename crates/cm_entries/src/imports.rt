@@ -38,13 +38,12 @@ fn move_to(ty: &InstanceType, next: u64) -> Option<Move>
 }
 
 impl<'a> ComponentSpaces<'a> {
-    ghost use Rattle.std.specs.Prelude.{ℕ, [], List, OnOk, Some, length, slice_get};
+    ghost use Rattle.std.specs.Prelude.{ℕ, List, OnOk, Some, length, slice_get};
     ghost use Rattle.cm_types.specs.Types.{FuncTy, Ty};
     ghost use Rattle.cm_component.specs.declared.externs.ExternDesc.TheVariants as desc;
     ghost use Rattle.cm_validity.specs.Items.{import_item};
-    ghost use Rattle.cm_validity.specs.Rules.{name_broken};
     ghost use Rattle.cm_validity.specs.Spaces.{Spaces, after_item};
-    ghost use Rattle.cm_extern_names.specs.NameSets.{name_of, names_of};
+    ghost use Rattle.cm_extern_names.specs.NameSets.{name_of};
     ghost use Rattle.cm_type_scope.specs.declared.entries.TypeEntry.{TypeEntry};
     ghost use Rattle.cm_type_scope.specs.declared.entries.TypeEntry.TheVariants as entry;
     ghost use Rattle.cm_entries.specs.ComponentSpaces.{Answers, AreTypesOf, IsComponentOf};
@@ -100,7 +99,6 @@ impl<'a> ComponentSpaces<'a> {
         ensures { OnOk result ((types : List Ty) (funcs : List FuncTy) (s : Spaces)
             (es : List TypeEntry) (i : ℕ)
             → IsComponentOf types funcs self.old s → AreTypesOf types funcs es s
-            → name_broken name (names_of self.old.import_names) ≡ []
             → slice_get es i ≡ Some (entry.Instance items.now)
             → IsComponentOf types funcs self.new (after_item s
             (import_item (record { name = name; desc = desc.Instance i })))) }

@@ -2,7 +2,7 @@
 
 use crate::entries::{FuncEntry, InstanceEntry, MemberEntry};
 use crate::spaces::ComponentSpaces;
-use indexmap::IndexMap;
+use cm_name_maps::NameMap;
 use std::alloc::{AllocError, Global};
 use std::rc::Rc;
 
@@ -19,6 +19,7 @@ impl<'a> ComponentSpaces<'a> {
     ghost use Rattle.cm_entries.specs.ComponentSpaces.{IsComponentOf, Stays};
     ghost use Rattle.cm_entries.specs.Entries.{func_def, is_func_there, is_member_there};
     ghost use Rattle.cm_entries.specs.Entries.{named_member};
+    ghost use Rattle.cm_name_maps.specs.NameMaps.{entries_of};
 
     /// The function of an index, if there is one.
     pub fn func(&self, index: u32) -> Option<FuncEntry<'a>>
@@ -38,14 +39,14 @@ impl<'a> ComponentSpaces<'a> {
     pub fn push_members(
         &mut self,
         alloc: Global,
-        members: IndexMap<&'a str, MemberEntry<'a>>,
+        members: NameMap<'a, MemberEntry<'a>>,
     ) -> Result<(), AllocError>
         ensures added { OnOk result ((types : List Ty) (funcs : List FuncTy) (s : Spaces)
             (es : List InlineExport)
-            → map (named_member types funcs) members.entry.entries
+            → map (named_member types funcs) (entries_of members.entry)
             ≡ flat_map (member_of_export s) es
             → list_all (λ e. is_member_there (length types) (length funcs) e.1)
-            members.entry.entries ≡ true
+            (entries_of members.entry) ≡ true
             → IsComponentOf types funcs self.old s
             → IsComponentOf types funcs self.new (after_item s (instance_item es))) }
         ensures kept { OnErr result (Stays self.old self.new) }

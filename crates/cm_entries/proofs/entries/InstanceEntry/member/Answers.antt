@@ -1,6 +1,7 @@
 use Rattle.std.proofs.Common.{◌≡◌, Some, None, true, sym, ap, ◌∙◌, IfSome, map, subst}
 use Rattle.std.specs.List.{list_all}
 use Rattle.std.specs.Option.{option_map}
+use Rattle.cm_name_maps.specs.NameMaps.{entries_of}
 use Rattle.cm_placed.specs.Instances.{are_items_there}
 use Rattle.cm_validity.specs.Spaces.{member_named}
 use Rattle.cm_instance_items.specs.InstanceTypes.{instance_type_of}
@@ -49,13 +50,13 @@ returns-in_ok-number-in-Imported-clause-there c = λ types funcs there.
 pub returns-in-Exporting-clause-def : goal.returns-in-Exporting-clause-def
 returns-in-Exporting-clause-def c = λ types funcs.
     let name = c.args.name.now in
-    ap (option_map (member_def types funcs)) (c.copied.ensures ∙ c.get.ensures.value)
-    ∙ looked_up types funcs name c.deref-in-Exporting.result.now.entries
-    ∙ sym (ap (λ e. member_named (members_of types funcs e) name) c.in-Exporting.is ∙ ap (λ m. member_named (map (named_member types funcs) m.entries) name) (sym c.deref-in-Exporting.ensures))
+    ap (option_map (member_def types funcs)) (c.copied.ensures ∙ c.get.ensures)
+    ∙ looked_up types funcs name (entries_of c.deref-in-Exporting.result.now)
+    ∙ sym (ap (λ e. member_named (members_of types funcs e) name) c.in-Exporting.is ∙ ap (λ m. member_named (map (named_member types funcs) (entries_of m)) name) (sym c.deref-in-Exporting.ensures))
 
 pub returns-in-Exporting-clause-there : goal.returns-in-Exporting-clause-there
 returns-in-Exporting-clause-there c = λ types funcs there.
-    let entries = c.deref-in-Exporting.result.now.entries in
+    let entries = (entries_of c.deref-in-Exporting.result.now) in
     let all : list_all (λ e. is_member_there types funcs e.1) entries ≡ true =
-    ap (λ m. list_all (λ e. is_member_there types funcs e.1) m.entries) c.deref-in-Exporting.ensures ∙ sym (ap (are_members_there types funcs) c.in-Exporting.is) ∙ there in
-    subst (λ o. IfSome o (λ m. is_member_there types funcs m ≡ true)) (sym (c.copied.ensures ∙ c.get.ensures.value)) (looked_there types funcs c.args.name.now entries all)
+    ap (λ m. list_all (λ e. is_member_there types funcs e.1) (entries_of m)) c.deref-in-Exporting.ensures ∙ sym (ap (are_members_there types funcs) c.in-Exporting.is) ∙ there in
+    subst (λ o. IfSome o (λ m. is_member_there types funcs m ≡ true)) (sym (c.copied.ensures ∙ c.get.ensures)) (looked_there types funcs c.args.name.now entries all)

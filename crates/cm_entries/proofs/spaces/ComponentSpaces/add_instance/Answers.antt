@@ -37,7 +37,7 @@ returns c =
     ∙ ap (λ n. resources_in c.push_instance.new.self.resources ++ map (brought n) (fresh_of (instance_type_of c.in_ok-brought.brought.value))) number
     ∙ ap (λ v. resources_in c.push_instance.new.self.resources ++ map (brought (length old.imports.items)) (fresh_of (instance_type_of v))) c.in_ok-brought.ensures in
     on_ok c.add_import.result
-    (λ added types funcs s es i r t fine is.
-    instance_imported laws c.resources_are_counted.ensures.before types funcs old c.push_instance.new.self c.add_import.new.self c.bring.new.self s es i c.args.name r t fine items held c.in_ok-held.ensures by is
+    (λ added types funcs s es i r t is.
+    instance_imported laws c.resources_are_counted.ensures.before types funcs old c.push_instance.new.self c.add_import.new.self c.bring.new.self s es i c.args.name r t items held c.in_ok-held.ensures by is
     c.in_ok-ty.ty shared first count next pushes brings (rw c.requires at added))
     c.add_import.ensures
