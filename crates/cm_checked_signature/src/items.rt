@@ -3,6 +3,7 @@
 ghost use Rattle.std.specs.Prelude.{◌≡◌, ℕ, IfOk, List, map, true};
 ghost use Rattle.cm_types.specs.Types.{FuncTy, Ty};
 ghost use Rattle.cm_placed.specs.Instances.{are_items_there, items_of};
+ghost use Rattle.cm_name_maps.specs.NameMaps.{entries_of};
 ghost use Rattle.cm_validity.specs.Spaces.{items_of_members};
 ghost use Rattle.cm_entries.specs.Entries.{are_members_there, members_of};
 ghost use Rattle.cm_entries.specs.Entries.{moved_number, moved_place};
@@ -10,10 +11,10 @@ ghost use Rattle.cm_checked_signature.specs.Items.{func_place, member_desc, memb
 ghost use Rattle.cm_checked_signature.specs.Items.{moved_desc, moved_item};
 
 use cm_entries::{FuncEntry, InstanceEntry, MemberEntry};
+use cm_name_maps::NameMap;
 use cm_placed::{Item, ItemDesc, Placed};
 use cm_replaced::{Move, Replacement};
 use cm_types::{ExternName, ResourceId};
-use indexmap::IndexMap;
 use std::alloc::{AllocError, Global};
 
 /// The place of the type of a function.
@@ -49,13 +50,13 @@ fn named_item(alloc: Global, name: &str, member: MemberEntry<'_>) -> Result<Item
 /// The items that definitions under names are.
 fn member_items<'a>(
     alloc: Global,
-    members: &IndexMap<&'a str, MemberEntry<'a>>,
+    members: &NameMap<'a, MemberEntry<'a>>,
 ) -> Result<Vec<Item>, AllocError>
-    ensures { IfOk result (λ items. items.items ≡ map member_item members.now.entries) }
+    ensures { IfOk result (λ items. items.items ≡ map member_item (entries_of members.now)) }
 {
     let mut items = Vec::with_capacity(alloc, members.len())?;
     for number in 0..members.len() {
-        if let Some((name, member)) = members.get_index(number) {
+        if let Some((name, member)) = members.at(number) {
             items.push(named_item(alloc, name, *member)?)?;
         }
     }

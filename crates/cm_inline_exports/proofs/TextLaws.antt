@@ -3,11 +3,12 @@ use Rattle.std.proofs.Common.{◌≡◌, ℕ, ◌+◌, ◌<◌, ◌≤◌, Bool,
 use Rattle.std.proofs.lemmas.Grind.{flat_map-append}
 use Rattle.std.proofs.lemmas.List.{append-nil, drop_all, map-append, take_more}
 use Rattle.std.specs.Borrow.{Bor}
-use Rattle.std.specs.List.{AllByRecursion, flat_map, list_all, list_any}
-use Rattle.std.specs.Map.{lookup}
+use Rattle.std.proofs.lemmas.Slice.Eq.{bytes_eq-Decides}
+use Rattle.std.specs.List.{AllByRecursion, flat_map, list_all, list_any, position_from}
 use Rattle.std.specs.Prelude.{is_some}
 use Rattle.std.specs.Str.{bytes_eq}
 use Rattle.cm_validity.specs.Rules.{are_distinct_texts}
+use Rattle.cm_name_maps.specs.Names.{names_in, place_of}
 
 -- none of the texts to come is among those that were seen, and no two of them are equal
 abbrev pub rest_is_distinct : (List ℕ → Bool) → List (List ℕ) → Bool
@@ -79,26 +80,38 @@ was_new false new e f = refl
 
 -- ---- entries under texts
 
-pub is_there : {A : Type 0} (o : Option A) → is_some o ≡ true → o ≢ None
-is_there None e = absurd cc
-is_there (Some x) e = λ f. absurd cc
-
-pub is_none_not : {A : Type 0} (o : Option A) → is_some o ≡ false → o ≡ None
-is_none_not None e = refl
-is_none_not (Some x) e = absurd cc
-
-some_of_cond : {A : Type 0} (b : Bool) (v : A) (o : Option A) → is_some (cond b (Some v) o) ≡ cond b true (is_some o)
-some_of_cond true v o = refl
-some_of_cond false v o = refl
-
--- whether a key is there
+-- whether a name is there
 abbrev pub has_key : {A : Type 0} → List (Bor (List ℕ) × A) → List ℕ → Bool
-has_key es q = is_some (lookup (λ k. bytes_eq q k.now) es)
+has_key es q = is_some (place_of q (names_in es))
 
-pub key_more : {A : Type 0} (es fs : List (Bor (List ℕ) × A)) (t : List ℕ) (v : A)
-    → ((q : List ℕ) → lookup (λ k. bytes_eq q k.now) fs ≡ cond (bytes_eq t q) (Some v) (lookup (λ k. bytes_eq q k.now) es))
-    → (q : List ℕ) → has_key fs q ≡ cond (bytes_eq t q) true (has_key es q)
-key_more es fs t v h q = ap is_some (h q) ∙ some_of_cond (bytes_eq t q) v (lookup (λ k. bytes_eq q k.now) es)
+-- the test is the same from both sides
+turned : (a b : List ℕ) → bytes_eq a b ≡ bytes_eq b a
+turned a b = here (bytes_eq a b) (bytes_eq b a) refl refl
+  where
+    here : (x y : Bool) → bytes_eq a b ≡ x → bytes_eq b a ≡ y → x ≡ y
+    here true true e f = refl
+    here false false e f = refl
+    here true false e f = sym (sym f ∙ (bytes_eq-Decides b a).1 (sym ((bytes_eq-Decides a b).0 e)))
+    here false true e f = sym e ∙ (bytes_eq-Decides a b).1 (sym ((bytes_eq-Decides b a).0 f))
+
+-- one more name
+pub key_more : {A : Type 0} (es : List (Bor (List ℕ) × A)) (e : Bor (List ℕ) × A) (q : List ℕ) → has_key (es ++ e ∷ []) q ≡ cond (bytes_eq e.0.now q) true (has_key es q)
+key_more es e q = from es 0 ∙ ap (λ b. cond b true (has_key es q)) (turned q e.0.now)
+  where
+    last : (b : Bool) (i : ℕ) → is_some (cond b (Some i) None) ≡ cond b true false
+    last true i = refl
+    last false i = refl
+
+    next : (a b : Bool) (i : ℕ) (o p : Option ℕ) → is_some o ≡ cond b true (is_some p) → is_some (cond a (Some i) o) ≡ cond b true (is_some (cond a (Some i) p))
+    next true true i o p f = refl
+    next true false i o p f = refl
+    next false b i o p f = f
+
+    from : (xs : List (Bor (List ℕ) × A)) (i : ℕ)
+        → is_some (position_from (bytes_eq q) i (names_in (xs ++ e ∷ []))) ≡ cond (bytes_eq q e.0.now) true (is_some (position_from (bytes_eq q) i (names_in xs)))
+    from [] i = last (bytes_eq q e.0.now) i
+    from (x ∷ xs) i =
+        next (bytes_eq q x.0.now) (bytes_eq q e.0.now) i (position_from (bytes_eq q) (i + 1) (names_in (xs ++ e ∷ []))) (position_from (bytes_eq q) (i + 1) (names_in xs)) (from xs (i + 1))
 
 -- one more definition, under its name
 pub one_more_def : {E A C : Type 0} (view : E → C) (defs : A → List C) (es : List E) (e : E) (xs : List A) (i : ℕ) (x : A) → i < length xs → x ≡ get_or xs i x → defs x ≡ view e ∷ []

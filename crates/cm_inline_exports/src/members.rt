@@ -9,6 +9,7 @@ ghost use Rattle.cm_validity.specs.Reasons.{least, lesser};
 ghost use Rattle.cm_validity.specs.Rules.{are_distinct_texts, member_broken};
 ghost use Rattle.cm_validity.specs.Spaces.{Spaces};
 ghost use Rattle.cm_item_names.specs.Sketches.{sketch_named};
+ghost use Rattle.cm_name_maps.specs.NameMaps.{entries_of};
 ghost use Rattle.cm_inline_exports.specs.Members.{AreMembers, IsAnswered, Stand, entry_answer};
 ghost use Rattle.cm_inline_exports.specs.Members.{export_sketches, sketch_member, type_answer};
 
@@ -16,12 +17,12 @@ use crate::sketches::item_sketch;
 use cm_component::{InlineExport, InstanceExportSort};
 use cm_entries::{ComponentSpaces, MemberEntry};
 use cm_item_names::NamedSketch;
+use cm_name_maps::NameMap;
 use cm_reasons::ValidReason;
 use cm_type_arena::Types;
 use cm_type_rules::lesser;
 use cm_type_scope::TypeEntry;
 use cm_validity::laws::least_of_both;
-use indexmap::IndexMap;
 use std::alloc::{AllocError, Global};
 
 /// The member that a type is: a value type or a resource.
@@ -132,25 +133,26 @@ pub(crate) fn examine(
     Ok(fault)
 }
 
-/// The members of exports that break nothing, under their names; each name is looked up once.
+/// The members of exports that break nothing, under their names; each name is looked up once, in
+/// a tree.
 pub(crate) fn gather<'a>(
     alloc: Global,
     spaces: &ComponentSpaces<'a>,
     types: &[TypeEntry],
     exports: &'a [InlineExport],
-) -> Result<Option<IndexMap<&'a str, MemberEntry<'a>>>, AllocError>
+) -> Result<Option<NameMap<'a, MemberEntry<'a>>>, AllocError>
     ensures { IfOk result (λ members. (tys : List Ty) (funcs : List FuncTy) (s : Spaces)
         → Stand tys funcs spaces.now types.now s
         → flat_map (member_broken s) exports.now ≡ []
         → are_distinct_texts (map (λ e. e.name) exports.now) ≡ true
-        → MatchOption members ⊥ (λ m. AreMembers tys funcs s exports.now m.entries)) }
+        → MatchOption members ⊥ (λ m. AreMembers tys funcs s exports.now (entries_of m))) }
 {
-    let mut members = IndexMap::new(alloc);
+    let mut members = NameMap::new(alloc);
     for export in exports {
         let Ok(member) = member_at(spaces, types, export) else {
             return Ok(None);
         };
-        if members.insert(export.name.as_str(), member)?.is_some() {
+        if !members.insert(export.name.as_str(), member)? {
             return Ok(None);
         }
     }

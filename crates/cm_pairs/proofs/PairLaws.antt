@@ -1,9 +1,14 @@
 -- An import of a pair that serves is served.
 use Rattle.std.proofs.Common.{◌≡◌, ◌∙◌, ℕ, zero, suc, ◌+◌, ◌<◌, Bool, true, false, ◌||◌, List, [], ◌∷◌, ◌++◌, length, map, Option, Some, None, refl, sym, ap, subst, arith, option_and_then, slice_get, nat_eq, if◌then◌else◌}
+use Rattle.std.specs.BTreeSet.{insert_key}
+use Rattle.std.specs.Cmp.{tied_then}
 use Rattle.std.specs.List.{AllByRecursion, list_any}
 use Rattle.std.specs.Option.{option_map}
+use Rattle.std.specs.Ordering.{is_eq, match_ordering, nat_cmp, ordering_then}
+use Rattle.std.specs.declared.cmp.Ordering.{Ordering}
+use Rattle.std.specs.declared.cmp.Ordering.TheVariants.{Less, Equal, Greater}
 use Rattle.std.proofs.lemmas.Bool.{and_parts}
-use Rattle.std.proofs.lemmas.Bool.Decides.{nat_tests}
+use Rattle.std.proofs.lemmas.Grind.{common_steps}
 use Rattle.std.proofs.lemmas.Option.{slice_get_within, slice_get-map}
 use Rattle.cm_component.specs.Trees.{SectionTree}
 use Rattle.cm_types.specs.Signatures.{NamedExtern, NamedItem}
@@ -30,14 +35,17 @@ use Rattle.cm_pairs.proofs.MoveLaws.{FuncsMove, TypesMove, items_told}
 
 -- ---- pairs in a set
 
-same_number : (m n : ℕ) → nat_eq m n ≡ true → m ≡ n
-same_number m n e = grind (arith, nat_tests)
+same_number : (m n : ℕ) → is_eq (nat_cmp m n) ≡ true → m ≡ n
+same_number m n e = grind (arith, common_steps)
+
+both_tied : (a b : Ordering) → is_eq (ordering_then a b) ≡ true → (is_eq a ≡ true) × (is_eq b ≡ true)
+both_tied a b e = and_parts _ _ (tied_then a b ∙ e)
 
 pub same_pair : (p q : Pair) → pair_eq p q ≡ true → p ≡ q
 same_pair p q e =
-    let both = and_parts _ _ e in
-    let left = and_parts _ _ both.0 in
-    let right = and_parts _ _ both.1 in
+    let both = both_tied (ordering_then (nat_cmp p.0.0 q.0.0) (nat_cmp p.0.1 q.0.1)) (ordering_then (nat_cmp p.1.0 q.1.0) (nat_cmp p.1.1 q.1.1)) e in
+    let left = both_tied (nat_cmp p.0.0 q.0.0) (nat_cmp p.0.1 q.0.1) both.0 in
+    let right = both_tied (nat_cmp p.1.0 q.1.0) (nat_cmp p.1.1 q.1.1) both.1 in
     ap (λ (a : ℕ). ((a, p.0.1), p.1)) (same_number p.0.0 q.0.0 left.0)
     ∙ ap (λ (b : ℕ). ((q.0.0, b), p.1)) (same_number p.0.1 q.0.1 left.1)
     ∙ ap (λ (c : ℕ). (q.0, (c, p.1.1))) (same_number p.1.0 q.1.0 right.0)
@@ -52,16 +60,14 @@ module _ (P : Pair → Type 0) (p : Pair) where
       by true is h rest = subst P (sym (same_pair p q is)) all.0
       by false is h rest = rest h
 
-  last : (ps : List Pair) → AllByRecursion P ps → P p → AllByRecursion P (ps ++ p ∷ [])
-  last [] all one = (one, tt)
-  last (q ∷ qs) all one = (all.0, last qs all.1 one)
-
-  pub put : (ps : List Pair) → AllByRecursion P ps → P p → AllByRecursion P (if list_any (pair_eq p) ps then ps else ps ++ p ∷ [])
-  put ps all one = by (list_any (pair_eq p) ps)
+  pub put : (ps : List Pair) → AllByRecursion P ps → P p → AllByRecursion P (insert_key pair_cmp ps p)
+  put [] all one = (one, tt)
+  put (q ∷ qs) all one = by (pair_cmp p q)
     where
-      by : (b : Bool) → AllByRecursion P (if b then ps else ps ++ p ∷ [])
-      by true = all
-      by false = last ps all one
+      by : (o : Ordering) → AllByRecursion P (match_ordering o (p ∷ q ∷ qs) (q ∷ qs) (q ∷ insert_key pair_cmp qs p))
+      by Less = (one, all)
+      by Equal = all
+      by Greater = (all.0, put qs all.1 one)
 
 -- ---- options
 

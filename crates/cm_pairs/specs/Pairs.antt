@@ -1,10 +1,12 @@
 -- Which imports of a set are instances of one type, and which exports are one instance, by the
 -- tables of its components; and pairs of such that serve (how components are linked is this
 -- project's own choice).
-use Rattle.std.specs.Prelude.{◌≡◌, ◌&&◌, ℕ, Bool, true, List, Option, Some, None, length}
-use Rattle.std.specs.Prelude.{nat_eq, slice_get}
+use Rattle.std.specs.Prelude.{◌≡◌, ℕ, Bool, true, List, Option, Some, None, length}
+use Rattle.std.specs.Prelude.{slice_get}
 use Rattle.std.specs.List.{AllByRecursion, list_any}
 use Rattle.std.specs.Option.{option_and_then}
+use Rattle.std.specs.Ordering.{is_eq, nat_cmp, ordering_then}
+use Rattle.std.specs.declared.cmp.Ordering.{Ordering}
 use Rattle.cm_types.specs.Signatures.{NamedExtern}
 use Rattle.cm_validity.specs.Spaces.{Spaces}
 use Rattle.cm_shared.specs.Shared.{AreShared, exported_instance_in, import_type_in}
@@ -42,10 +44,15 @@ instance_of_export tables l =
 abbrev pub Pair : Type 0
 Pair = (ℕ × ℕ) × (ℕ × ℕ)
 
+-- one before another: by the first number that differs
+abbrev pub pair_cmp : Pair → Pair → Ordering
+pair_cmp p q =
+    ordering_then (ordering_then (nat_cmp p.0.0 q.0.0) (nat_cmp p.0.1 q.0.1))
+    (ordering_then (nat_cmp p.1.0 q.1.0) (nat_cmp p.1.1 q.1.1))
+
 -- whether two are one
 abbrev pub pair_eq : Pair → Pair → Bool
-pair_eq p q =
-    (nat_eq p.0.0 q.0.0 && nat_eq p.0.1 q.0.1) && (nat_eq p.1.0 q.1.0 && nat_eq p.1.1 q.1.1)
+pair_eq p q = is_eq (pair_cmp p q)
 
 -- it is that of this import and of the export that it is linked to
 pub record IsPairOf (set : List Spaces) (tables : List Shared) (component import : ℕ) (p : Pair)

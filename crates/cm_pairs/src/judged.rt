@@ -10,8 +10,8 @@ use cm_plan::LinkReason;
 use cm_serving::Tables;
 use cm_shared::Shared;
 use cm_validate::Checked;
-use indexmap::IndexSet;
 use std::alloc::{AllocError, Global};
+use std::collections::BTreeSet;
 
 /// A component and a type of an instance there; and a component and an instance there.
 type Pair = ((usize, usize), (usize, usize));
@@ -22,7 +22,7 @@ type Pair = ((usize, usize), (usize, usize));
 pub struct Judged {
     tables: Tables,
     shared: Vec<Shared>,
-    served: IndexSet<Pair>,
+    served: BTreeSet<Pair>,
 }
 
 /// Which imports of each component are instances of one type, and which exports one instance.
@@ -51,7 +51,7 @@ impl Judged {
         Ok(Judged {
             tables: Tables::new(alloc, components.len())?,
             shared: shared_in(alloc, components)?,
-            served: IndexSet::new(alloc),
+            served: BTreeSet::new(alloc),
         })
     }
 

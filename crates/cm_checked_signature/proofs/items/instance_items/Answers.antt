@@ -1,5 +1,6 @@
 use Rattle.std.proofs.Common.{◌≡◌, ℕ, List, true, map, sym, ap, ◌∙◌}
 use Rattle.std.specs.List.{list_all}
+use Rattle.cm_name_maps.specs.NameMaps.{entries_of}
 use Rattle.cm_types.specs.Types.{Ty, FuncTy}
 use Rattle.cm_placed.specs.Instances.{are_items_there, items_of}
 use Rattle.cm_placed.specs.declared.instances.Item.{Item}
@@ -35,22 +36,22 @@ returns-in-Imported-clause-there c =
 
 pub returns-in-Exporting-clause-are : goal.returns-in-Exporting-clause-are
 returns-in-Exporting-clause-are c =
-    let es = c.deref-in-Exporting.result.now.entries in
+    let es = entries_of c.deref-in-Exporting.result.now in
     if_items c.member_items.result (λ v. v.items) (map member_item es)
     (λ (is : List Item). (types : List Ty) (funcs : List FuncTy) → items_of types funcs is ≡ items_of_members (members_of types funcs c.args.instance.now))
     (λ types funcs.
     members_are types funcs es
-    ∙ ap (λ m. items_of_members (map (named_member types funcs) m.entries)) c.deref-in-Exporting.ensures
+    ∙ ap (λ m. items_of_members (map (named_member types funcs) (entries_of m))) c.deref-in-Exporting.ensures
     ∙ sym (ap (λ i. items_of_members (members_of types funcs i)) c.in-Exporting.is))
     c.member_items.ensures
 
 pub returns-in-Exporting-clause-there : goal.returns-in-Exporting-clause-there
 returns-in-Exporting-clause-there c =
-    let es = c.deref-in-Exporting.result.now.entries in
+    let es = entries_of c.deref-in-Exporting.result.now in
     if_items c.member_items.result (λ v. v.items) (map member_item es)
     (λ (is : List Item). (types funcs : ℕ) → are_members_there types funcs c.args.instance.now ≡ true → are_items_there types funcs is ≡ true)
     (λ types funcs h.
     members_there types funcs es
-    ∙ ap (λ m. list_all (λ e. is_member_there types funcs e.1) m.entries) c.deref-in-Exporting.ensures
+    ∙ ap (λ m. list_all (λ e. is_member_there types funcs e.1) (entries_of m)) c.deref-in-Exporting.ensures
     ∙ sym (ap (are_members_there types funcs) c.in-Exporting.is) ∙ h)
     c.member_items.ensures

@@ -1,5 +1,6 @@
 use Rattle.std.proofs.Common.{rules, ◌≡◌, ◌∙◌, ◌++◌, ◌∷◌, [], ◌<◌, length, Some, None, slice_get, ap}
 use Rattle.cm_placed.specs.declared.instances.Item.{Item}
+use Rattle.cm_name_maps.specs.NameMaps.{entries_of}
 use Rattle.cm_checked_signature.specs.Items.{member_item}
 use Rattle.cm_checked_signature.proofs.ItemLaws.{before_end, map_at}
 use Rattle.cm_checked_signature.proofs.items.member_items.Goals as goal
@@ -8,13 +9,13 @@ use Rattle.cm_checked_signature.proofs.items.member_items.Goals.{in-Some+in_ok-n
 pub loop-number-preserved : goal.loop-number-preserved
 loop-number-preserved c = elim c.match-get_index.branch [
   | in-Some+in_ok-named_item+in_ok-push w ↦
-      let at : slice_get c.args.members.now.entries c.loop-number.number ≡ Some (w.in-Some.name.now, w.in-Some.member.now) = search rules in
+      let at : slice_get (entries_of c.args.members.now) c.loop-number.number ≡ Some (w.in-Some.name.now, w.in-Some.member.now) = search rules in
       let made : w.in_ok-named_item.field-0 ≡ member_item (w.in-Some.name.now, w.in-Some.member.now) = w.in_ok-named_item.ensures in
       let n : w.push.new.self.items ≡ c.loop-number.items.items ++ w.in_ok-named_item.field-0 ∷ [] = search rules in
       ap (λ v. v.items) w.items-is ∙ n ∙ ap (λ (y : Item). c.loop-number.items.items ++ y ∷ []) made
-      ∙ map_at member_item c.args.members.now.entries c.loop-number.number (w.in-Some.name.now, w.in-Some.member.now) c.loop-number.items.items at c.loop-number.invariant
+      ∙ map_at member_item (entries_of c.args.members.now) c.loop-number.number (w.in-Some.name.now, w.in-Some.member.now) c.loop-number.items.items at c.loop-number.invariant
   | in_default w ↦
-      let lt : c.loop-number.number < length c.args.members.now.entries = search rules in
-      let none : None ≡ slice_get c.args.members.now.entries c.loop-number.number = search rules in
-      absurd (before_end c.args.members.now.entries c.loop-number.number lt none)
+      let lt : c.loop-number.number < length (entries_of c.args.members.now) = search rules in
+      let none : None ≡ slice_get (entries_of c.args.members.now) c.loop-number.number = search rules in
+      absurd (before_end (entries_of c.args.members.now) c.loop-number.number lt none)
 ]

@@ -1,5 +1,6 @@
 use Rattle.std.proofs.Common.{◌≡◌, ◌++◌, None, map, sym, ap, ◌∙◌, MatchOption, subst}
 use Rattle.std.specs.List.{flat_map}
+use Rattle.cm_name_maps.specs.NameMaps.{entries_of}
 use Rattle.cm_type_arena.specs.Places.{funcs_of, types_of}
 use Rattle.cm_validity.specs.Items.{instance_item}
 use Rattle.cm_validity.specs.Reasons.{least}
@@ -41,7 +42,7 @@ returns-in-None-clause-answer c =
     ∙ instance_fault c.least_of_both.ensures c.names_are_sketched.ensures.least s es c.in_ok-broken.broken c.in_ok-item_names_fault.field-0 (map sketch_named c.deref.result.now)
     (c.in_ok-broken.ensures.broken s both) c.in_ok-item_names_fault.ensures (ap (map sketch_named) c.deref.ensures.value ∙ joined) in
     let none : least (broken s (instance_item es)) ≡ None = sym whole ∙ is_none c.lesser-fault.result (sym c.is_some.ensures ∙ c.if-is_some.false) in
-    subst (λ o. MatchOption o ⊥ (λ m. AreMembers types funcs s es m.entries)) c.in-None.is (c.in_ok-gather.ensures types funcs s both (all_fine s es none) (names_differ s es none)) in
+    subst (λ o. MatchOption o ⊥ (λ m. AreMembers types funcs s es (entries_of m))) c.in-None.is (c.in_ok-gather.ensures types funcs s both (all_fine s es none) (names_differ s es none)) in
     record { fault = λ s r t. absurd (wrong s r t); after = λ s r t. absurd (wrong s r t) }
 
 pub returns-clause-answer : goal.returns-clause-answer
@@ -61,7 +62,7 @@ returns-clause-answer c =
       fault = λ s r t. sym (none s r t);
       after = λ s r t.
           let both : Stand types funcs old c.args.types.now s = record { component = r; types_of = t } in
-          let members : AreMembers types funcs s es c.in-Some.members.entries =
-          subst (λ o. MatchOption o ⊥ (λ m. AreMembers types funcs s es m.entries)) c.in-Some.is (c.in_ok-gather.ensures types funcs s both (all_fine s es (none s r t)) (names_differ s es (none s r t))) in
+          let members : AreMembers types funcs s es (entries_of c.in-Some.members) =
+          subst (λ o. MatchOption o ⊥ (λ m. AreMembers types funcs s es (entries_of m))) c.in-Some.is (c.in_ok-gather.ensures types funcs s both (all_fine s es (none s r t)) (names_differ s es (none s r t))) in
           c.in_ok-push_members-in-Some.ensures.added types funcs s es members.same members.there r;
     }
