@@ -10,7 +10,7 @@ use Rattle.cm_validity.specs.Items.{canon_item}
 use Rattle.cm_validity.specs.Spaces.{Spaces, after_item, first_memory, memory_after, new_core_funcs, option_memory}
 use Rattle.cm_core_spaces.specs.declared.entries.GuestMemory.{GuestMemory}
 use Rattle.cm_core_spaces.specs.declared.spaces.CoreSpaces.{CoreSpaces}
-use Rattle.cm_core_spaces.specs.CoreSpaces.{IsCoreOf, IsFirstNumbered}
+use Rattle.cm_core_spaces.specs.CoreSpaces.{IsCoreOf, IsFirstNumbered, memory_names_of}
 use Rattle.cm_core_spaces.specs.Entries.{memory_of}
 
 memory_next : (s : Spaces) (os : List CanonOption) (i : ℕ) (o : CanonOption) → i < length os → o ≡ get_or os i o → first_memory s (drop i os) ≡ option_or (option_memory s o) (first_memory s (drop (i + 1) os))
@@ -48,7 +48,7 @@ no_more_funcs made c s r = rw (append-nil s.core_funcs) r
 
 pub canon_done : (made : ℕ → CoreFuncDef) (c : CoreSpaces) (m : Option GuestMemory) (s : Spaces) (t : CanonTree) (new : List CoreFuncDef)
     → IsCoreOf made c (record s { core_funcs = s.core_funcs ++ new }) → new ≡ new_core_funcs s (canon_item t)
-    → option_map memory_of m ≡ memory_after s (canon_item t) → IsFirstNumbered c.memory_names.keys m
+    → option_map memory_of m ≡ memory_after s (canon_item t) → IsFirstNumbered (memory_names_of c) m
     → IsCoreOf made (record c { memory = m }) (after_item s (canon_item t))
 canon_done made c m s t new r e f n = record {
   modules = omega arith ∙ r.modules;

@@ -1,4 +1,5 @@
 mod NameLaws
+mod PlaceLaws
 mod SpaceLaws
 mod ReasonLaws
 mod OptionLaws

@@ -1,17 +1,15 @@
 -- Options of one kind, counted; memories told by their numbers.
-use Rattle.std.proofs.Common.{◌≡◌, ℕ, subst, ◌+◌, ◌<◌, ◌==◌, ◌&&◌, Bool, true, false, cond, nat_le, nat_lt, List, ◌∷◌, length, get_or, drop, Some, None, refl, sym, ap, ◌∙◌, arith, add-one, drop-cons}
-use Rattle.std.specs.Prelude.{filter, not, position}
-use Rattle.std.specs.Borrow.{Bor}
-use Rattle.std.specs.List.{position_or_len}
+use Rattle.std.proofs.Common.{◌≡◌, ◌≢◌, ℕ, ◌+◌, ◌<◌, ◌==◌, ◌&&◌, Bool, true, false, cond, nat_le, List, ◌∷◌, length, get_or, drop, Some, refl, sym, ap, ◌∙◌, arith, add-one, drop-cons}
+use Rattle.std.specs.Prelude.{filter}
 use Rattle.std.specs.Str.{bytes_eq}
 use Rattle.std.proofs.lemmas.Bool.Decides.{nat_tests}
 use Rattle.std.proofs.lemmas.Slice.Eq.{bytes_eq-Decides}
-use Rattle.std.proofs.lemmas.List.Sums.{prefix_len_stops}
 use Rattle.cm_validity.specs.Options.{is_same_export}
-use Rattle.cm_core_spaces.specs.declared.entries.GuestExport.{GuestExport}
+use Rattle.cm_name_maps.specs.Names.{place_of}
 use Rattle.cm_core_spaces.specs.declared.entries.GuestMemory.{GuestMemory}
 use Rattle.cm_core_spaces.specs.Entries.{memory_of}
-use Rattle.cm_core_spaces.specs.CoreSpaces.{IsNumbered, MemoryNames, is_named}
+use Rattle.cm_core_spaces.specs.CoreSpaces.{IsNumbered, MemoryNames}
+use Rattle.cm_core_spaces.proofs.PlaceLaws.{one_at}
 
 -- ---- options of one kind
 
@@ -52,10 +50,6 @@ second_of_kind p xs i x all lt is e before =
 
 -- ---- memories
 
-both_true : (a b : Bool) → (a && b) ≡ true → (a ≡ true) × (b ≡ true)
-both_true true b e = (refl, e)
-both_true false b e = absurd cc
-
 bools : (a b : Bool) → (a ≡ true → b ≡ true) → (b ≡ true → a ≡ true) → a ≡ b
 bools true b f g = sym (f refl)
 bools false true f g = g refl
@@ -70,43 +64,28 @@ eq_self x = grind (arith, nat_tests)
 some_is : (x y : ℕ) → Some x ≡ Some y → x ≡ y
 some_is x y e = cc
 
-passes : {A : Type 0} (p : A → Bool) (xs : List A) (d : A) → position_or_len p xs < length xs → p (get_or xs (position_or_len p xs) d) ≡ true
-passes p xs d lt = is_true (p (get_or xs (position_or_len p xs) d)) (prefix_len_stops (λ x. not (p x)) xs d lt)
+pub same_number : (names : MemoryNames) (a b : GuestMemory) → IsNumbered names a → IsNumbered names b → (a.number == b.number) ≡ bytes_eq a.export.name.now b.export.name.now
+same_number names a b m n = bools (a.number == b.number) (bytes_eq a.export.name.now b.export.name.now) there back
   where
-    is_true : (t : Bool) → not t ≡ false → t ≡ true
-    is_true true e = refl
-    is_true false e = sym e
+    there : (a.number == b.number) ≡ true → bytes_eq a.export.name.now b.export.name.now ≡ true
+    there e = (bytes_eq-Decides a.export.name.now b.export.name.now).1 (one_at names a.export.name.now b.export.name.now b.number (m ∙ ap Some (same_of a.number b.number e)) n)
 
--- a name stands where it is found
-hits : {A : Type 0} (p : A → Bool) (xs : List A) (d : A) (n : ℕ) → position p xs ≡ Some n → p (get_or xs n d) ≡ true
-hits p xs d n e = here (nat_lt (position_or_len p xs) (length xs)) refl e
-  where
-    here : (t : Bool) → nat_lt (position_or_len p xs) (length xs) ≡ t → cond t (Some (position_or_len p xs)) None ≡ Some n → p (get_or xs n d) ≡ true
-    here true lt f = subst (λ k. p (get_or xs k d) ≡ true) (some_is (position_or_len p xs) n f) (passes p xs d (grind (arith, nat_tests)))
-    here false lt f = absurd cc
-
-both_named : (a b : GuestExport) (k : ℕ × Bor (List ℕ)) → is_named a k ≡ true → is_named b k ≡ true → (a.instance ≡ b.instance) × (a.name.now ≡ b.name.now)
-both_named a b k e f =
-    let p = both_true (a.instance == k.0) (bytes_eq a.name.now k.1.now) e in
-    let q = both_true (b.instance == k.0) (bytes_eq b.name.now k.1.now) f in
-    (same_of a.instance k.0 p.0 ∙ sym (same_of b.instance k.0 q.0), (bytes_eq-Decides a.name.now k.1.now).0 p.1 ∙ sym ((bytes_eq-Decides b.name.now k.1.now).0 q.1))
-
-pub same_number : (names : MemoryNames) (a b : GuestMemory) → IsNumbered names a → IsNumbered names b → (a.number == b.number) ≡ is_same_export (memory_of a) (memory_of b)
-same_number names a b m n = bools (a.number == b.number) (is_same_export (memory_of a) (memory_of b)) there back
-  where
-    there : (a.number == b.number) ≡ true → is_same_export (memory_of a) (memory_of b) ≡ true
-    there e =
-        let d : ℕ × Bor (List ℕ) = (0, a.export.name) in
-        let k = get_or names a.number d in
-        let p = both_named a.export b.export k (hits (is_named a.export) names d a.number m) (subst (λ i. is_named b.export (get_or names i d) ≡ true) (sym (same_of a.number b.number e)) (hits (is_named b.export) names d b.number n)) in
-        rw (p.0, p.1, eq_self b.export.instance) ((bytes_eq-Decides b.export.name.now b.export.name.now).1 refl)
-
-    back : is_same_export (memory_of a) (memory_of b) ≡ true → (a.number == b.number) ≡ true
+    back : bytes_eq a.export.name.now b.export.name.now ≡ true → (a.number == b.number) ≡ true
     back e =
-        let p = both_true (a.export.instance == b.export.instance) (bytes_eq a.export.name.now b.export.name.now) e in
-        let i = same_of a.export.instance b.export.instance p.0 in
-        let t = (bytes_eq-Decides a.export.name.now b.export.name.now).0 p.1 in
-        let same : position (is_named a.export) names ≡ position (is_named b.export) names =
-        ap (λ (x : ℕ). position (λ (k : ℕ × Bor (List ℕ)). (x == k.0) && bytes_eq a.export.name.now k.1.now) names) i
-        ∙ ap (λ (x : List ℕ). position (λ (k : ℕ × Bor (List ℕ)). (b.export.instance == k.0) && bytes_eq x k.1.now) names) t in
-        rw (some_is a.number b.number (sym m ∙ same ∙ n)) (eq_self b.number)
+        let t : a.export.name.now ≡ b.export.name.now = (bytes_eq-Decides a.export.name.now b.export.name.now).0 e in
+        rw (some_is a.number b.number (sym m ∙ ap (λ x. place_of x names) t ∙ n)) (eq_self b.number)
+
+-- of one core instance
+pub same_there : (names : MemoryNames) (a b : GuestMemory) → a.export.instance ≡ b.export.instance → IsNumbered names a → IsNumbered names b → (a.number == b.number) ≡ is_same_export (memory_of a) (memory_of b)
+same_there names a b e m n =
+    same_number names a b m n
+    ∙ sym (ap (λ t. t && bytes_eq a.export.name.now b.export.name.now) (ap (λ x. x == b.export.instance) e ∙ eq_self b.export.instance))
+
+-- of two
+other_of : (x y : ℕ) → x ≢ y → (x == y) ≡ false
+other_of x y e = grind (arith, nat_tests)
+
+pub other_there : (a b : GuestMemory) → a.export.instance ≢ b.export.instance → (a.export.instance == b.export.instance) ≡ is_same_export (memory_of a) (memory_of b)
+other_there a b e =
+    let f = other_of a.export.instance b.export.instance e in
+    f ∙ sym (ap (λ t. t && bytes_eq a.export.name.now b.export.name.now) f)

@@ -17,8 +17,9 @@ use Rattle.cm_core_spaces.specs.declared.entries.GuestMemory.{GuestMemory}
 use Rattle.cm_core_spaces.specs.declared.entries.CoreInstanceEntry.{CoreInstanceEntry}
 use Rattle.cm_core_spaces.specs.declared.entries.CoreInstanceEntry.TheVariants as entry
 use Rattle.cm_core_spaces.specs.declared.spaces.CoreSpaces.{CoreSpaces}
+use Rattle.cm_name_maps.specs.NameMaps.{entries_of}
 use Rattle.cm_core_spaces.specs.Entries.{instance_of}
-use Rattle.cm_core_spaces.specs.CoreSpaces.{IsCoreOf, IsFirstNumbered, IsInstanceNumbered, IsItemNumbered, IsNumbered, KeepsNumbers, MemoryNames}
+use Rattle.cm_core_spaces.specs.CoreSpaces.{IsCoreOf, IsFirstNumbered, IsInstanceNumbered, IsItemNumbered, IsNumbered, KeepsNumbers, MemoryNames, memory_names_of}
 
 -- ---- at an index
 
@@ -40,8 +41,8 @@ aliased_at made c s sort i name o r e =
     through None = refl
     through (Some x) = refl
 
-pub instance_numbered : (made : ℕ → CoreFuncDef) (c : CoreSpaces) (s : Spaces) (i : ℕ) (e : CoreInstanceEntry) → IsCoreOf made c s → slice_get c.instances.items i ≡ Some e → IsInstanceNumbered c.memory_names.keys e
-instance_numbered made c s i e r is = all_at (IsInstanceNumbered c.memory_names.keys) c.instances.items i e r.instances_numbered is
+pub instance_numbered : (made : ℕ → CoreFuncDef) (c : CoreSpaces) (s : Spaces) (i : ℕ) (e : CoreInstanceEntry) → IsCoreOf made c s → slice_get c.instances.items i ≡ Some e → IsInstanceNumbered (memory_names_of c) e
+instance_numbered made c s i e r is = all_at (IsInstanceNumbered (memory_names_of c)) c.instances.items i e r.instances_numbered is
 
 -- ---- with more names
 
@@ -52,19 +53,19 @@ all_keep P Q (x ∷ xs) f a = (f x a.0, all_keep P Q xs f a.1)
 item_keeps : (old new : MemoryNames) → KeepsNumbers old new → (i : CoreItem) → IsItemNumbered old i → IsItemNumbered new i
 item_keeps old new k (item.Func f) a = tt
 item_keeps old new k (item.Table e) a = tt
-item_keeps old new k (item.Memory m) a = k m.export m.number a
+item_keeps old new k (item.Memory m) a = k m.export.name.now m.number a
 item_keeps old new k (item.Global e) a = tt
 
 instance_keeps : (old new : MemoryNames) → KeepsNumbers old new → (e : CoreInstanceEntry) → IsInstanceNumbered old e → IsInstanceNumbered new e
 instance_keeps old new k (entry.Instantiated m) a = tt
-instance_keeps old new k (entry.Exporting items) a = all_keep (λ e. IsItemNumbered old e.1) (λ e. IsItemNumbered new e.1) items.entries (λ e. item_keeps old new k e.1) a
+instance_keeps old new k (entry.Exporting items) a = all_keep (λ e. IsItemNumbered old e.1) (λ e. IsItemNumbered new e.1) (entries_of items) (λ e. item_keeps old new k e.1) a
 
 first_keeps : (old new : MemoryNames) → KeepsNumbers old new → (o : Option GuestMemory) → IsFirstNumbered old o → IsFirstNumbered new o
 first_keeps old new k None a = tt
-first_keeps old new k (Some m) a = k m.export m.number a
+first_keeps old new k (Some m) a = k m.export.name.now m.number a
 
 -- the spaces c with the names of d
-pub names_keep : (made : ℕ → CoreFuncDef) (c d : CoreSpaces) (s : Spaces) → KeepsNumbers c.memory_names.keys d.memory_names.keys → IsCoreOf made c s → IsCoreOf made (record c { memory_names = d.memory_names }) s
+pub names_keep : (made : ℕ → CoreFuncDef) (c d : CoreSpaces) (s : Spaces) → KeepsNumbers (memory_names_of c) (memory_names_of d) → IsCoreOf made c s → IsCoreOf made (record c { memory_names = d.memory_names }) s
 names_keep made c d s k r = record {
   modules = r.modules;
   instances = r.instances;
@@ -74,9 +75,9 @@ names_keep made c d s k r = record {
   globals = r.globals;
   memory = r.memory;
   no_guests = r.no_guests;
-  memories_numbered = all_keep (IsNumbered c.memory_names.keys) (IsNumbered d.memory_names.keys) c.memories.items (λ m. k m.export m.number) r.memories_numbered;
-  instances_numbered = all_keep (IsInstanceNumbered c.memory_names.keys) (IsInstanceNumbered d.memory_names.keys) c.instances.items (instance_keeps c.memory_names.keys d.memory_names.keys k) r.instances_numbered;
-  memory_numbered = first_keeps c.memory_names.keys d.memory_names.keys k c.memory r.memory_numbered;
+  memories_numbered = all_keep (IsNumbered (memory_names_of c)) (IsNumbered (memory_names_of d)) c.memories.items (λ m. k m.export.name.now m.number) r.memories_numbered;
+  instances_numbered = all_keep (IsInstanceNumbered (memory_names_of c)) (IsInstanceNumbered (memory_names_of d)) c.instances.items (instance_keeps (memory_names_of c) (memory_names_of d) k) r.instances_numbered;
+  memory_numbered = first_keeps (memory_names_of c) (memory_names_of d) k c.memory r.memory_numbered;
 }
 
 -- ---- what an alias breaks

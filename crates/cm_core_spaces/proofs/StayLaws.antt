@@ -1,5 +1,5 @@
 -- Items that add nothing to the core spaces.
-use Rattle.std.proofs.Common.{◌≡◌, ◌+◌, ℕ, List, [], ◌++◌, arith, ap, ◌∙◌, append-nil}
+use Rattle.std.proofs.Common.{◌≡◌, ℕ, List, [], ◌++◌, arith, ap, ◌∙◌, append-nil}
 use Rattle.cm_validity.specs.Definitions.{CoreFuncDef}
 use Rattle.cm_validity.specs.Items.{Item}
 use Rattle.cm_validity.specs.Spaces.{Spaces, after_item, aliased, global_in, memory_after, memory_in, new_core_funcs, new_core_instances, new_core_modules, table_in}

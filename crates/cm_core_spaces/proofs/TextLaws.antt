@@ -1,10 +1,8 @@
 -- Texts are read from the front of a list, and each is looked for among those before it.
-use Rattle.std.proofs.Common.{◌≡◌, ℕ, ◌+◌, ◌<◌, ◌≤◌, Bool, true, false, Option, Some, None, ◌≢◌, ◌&&◌, ◌||◌, not, cond, List, [], ◌∷◌, ◌++◌, length, get_or, take, drop, map, refl, sym, ◌∙◌, ap, add-one, drop-cons}
+use Rattle.std.proofs.Common.{◌≡◌, ℕ, ◌+◌, ◌<◌, ◌≤◌, Bool, true, false, Option, Some, None, ◌&&◌, ◌||◌, not, cond, List, [], ◌∷◌, ◌++◌, length, get_or, take, drop, map, refl, sym, ◌∙◌, ap, add-one, drop-cons}
 use Rattle.std.proofs.lemmas.Grind.{flat_map-append}
 use Rattle.std.proofs.lemmas.List.{append-nil, drop_all, map-append, take_more}
-use Rattle.std.specs.Borrow.{Bor}
 use Rattle.std.specs.List.{AllByRecursion, flat_map, list_all, list_any}
-use Rattle.std.specs.Map.{lookup}
 use Rattle.std.specs.Prelude.{is_some}
 use Rattle.std.specs.Str.{bytes_eq}
 use Rattle.cm_validity.specs.Rules.{are_distinct_texts}
@@ -79,26 +77,9 @@ was_new false new e f = refl
 
 -- ---- entries under texts
 
-pub is_there : {A : Type 0} (o : Option A) → is_some o ≡ true → o ≢ None
-is_there None e = absurd cc
-is_there (Some x) e = λ f. absurd cc
-
 pub is_none_not : {A : Type 0} (o : Option A) → is_some o ≡ false → o ≡ None
 is_none_not None e = refl
 is_none_not (Some x) e = absurd cc
-
-some_of_cond : {A : Type 0} (b : Bool) (v : A) (o : Option A) → is_some (cond b (Some v) o) ≡ cond b true (is_some o)
-some_of_cond true v o = refl
-some_of_cond false v o = refl
-
--- whether a key is there
-abbrev pub has_key : {A : Type 0} → List (Bor (List ℕ) × A) → List ℕ → Bool
-has_key es q = is_some (lookup (λ k. bytes_eq q k.now) es)
-
-pub key_more : {A : Type 0} (es fs : List (Bor (List ℕ) × A)) (t : List ℕ) (v : A)
-    → ((q : List ℕ) → lookup (λ k. bytes_eq q k.now) fs ≡ cond (bytes_eq t q) (Some v) (lookup (λ k. bytes_eq q k.now) es))
-    → (q : List ℕ) → has_key fs q ≡ cond (bytes_eq t q) true (has_key es q)
-key_more es fs t v h q = ap is_some (h q) ∙ some_of_cond (bytes_eq t q) v (lookup (λ k. bytes_eq q k.now) es)
 
 -- one more definition, under its name
 pub one_more_def : {E A C : Type 0} (view : E → C) (defs : A → List C) (es : List E) (e : E) (xs : List A) (i : ℕ) (x : A) → i < length xs → x ≡ get_or xs i x → defs x ≡ view e ∷ []

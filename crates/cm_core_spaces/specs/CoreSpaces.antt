@@ -1,10 +1,8 @@
 -- The core index spaces, as those of a whole component.
-use Rattle.std.specs.Prelude.{◌≡◌, ◌==◌, ◌&&◌, ⊤, ℕ, Bool, false, List, Option, Some, None, map}
-use Rattle.std.specs.Prelude.{position}
+use Rattle.std.specs.Prelude.{◌≡◌, ⊤, ℕ, false, List, Option, Some, None, map}
 use Rattle.std.specs.Borrow.{Bor}
 use Rattle.std.specs.List.{AllByRecursion}
 use Rattle.std.specs.Option.{option_map}
-use Rattle.std.specs.Str.{bytes_eq}
 use Rattle.cm_component.specs.Trees.{CanonTree, lift}
 use Rattle.cm_validity.specs.Definitions.{CoreFuncDef}
 use Rattle.cm_validity.specs.Items.{Item}
@@ -13,7 +11,8 @@ use Rattle.cm_validity.specs.Options.{is_guest}
 use Rattle.cm_validity.specs.Reasons.{least}
 use Rattle.cm_validity.specs.Rules.{broken}
 use Rattle.cm_validity.specs.Spaces.{Spaces, after_item}
-use Rattle.cm_core_spaces.specs.declared.entries.GuestExport.{GuestExport}
+use Rattle.cm_name_maps.specs.NameMaps.{entries_of}
+use Rattle.cm_name_maps.specs.Names.{names_in, place_of}
 use Rattle.cm_core_spaces.specs.declared.entries.GuestMemory.{GuestMemory}
 use Rattle.cm_core_spaces.specs.declared.entries.CoreItem.{CoreItem}
 use Rattle.cm_core_spaces.specs.declared.entries.CoreItem.TheVariants as item
@@ -24,16 +23,17 @@ use Rattle.cm_core_spaces.specs.Entries.{export_of, memory_of, func_of, instance
 
 -- ---- the numbers of memories
 
--- the names of memories, each once: of which instance, and which name there
+-- the names that memories of instances of modules were aliased by, each once
 abbrev pub MemoryNames : Type 0
-MemoryNames = List (ℕ × Bor (List ℕ))
+MemoryNames = List (List ℕ)
 
-abbrev pub is_named : GuestExport → ℕ × Bor (List ℕ) → Bool
-is_named e k = (e.instance == k.0) && bytes_eq e.name.now k.1.now
+-- those of the core spaces
+abbrev pub memory_names_of : CoreSpaces → MemoryNames
+memory_names_of c = names_in (entries_of c.memory_names)
 
 -- the number of a memory is the place of its name
 abbrev pub IsNumbered : MemoryNames → GuestMemory → Type 0
-IsNumbered names m = position (is_named m.export) names ≡ Some m.number
+IsNumbered names m = place_of m.export.name.now names ≡ Some m.number
 
 abbrev pub IsItemNumbered : MemoryNames → CoreItem → Type 0
 IsItemNumbered names (item.Memory m) = IsNumbered names m
@@ -44,7 +44,7 @@ AreItemsNumbered names items = AllByRecursion (λ e. IsItemNumbered names e.1) i
 
 abbrev pub IsInstanceNumbered : MemoryNames → CoreInstanceEntry → Type 0
 IsInstanceNumbered names (entry.Instantiated m) = ⊤
-IsInstanceNumbered names (entry.Exporting items) = AreItemsNumbered names items.entries
+IsInstanceNumbered names (entry.Exporting items) = AreItemsNumbered names (entries_of items)
 
 abbrev pub IsFirstNumbered : MemoryNames → Option GuestMemory → Type 0
 IsFirstNumbered names None = ⊤
@@ -52,8 +52,8 @@ IsFirstNumbered names (Some m) = IsNumbered names m
 
 -- names keep their numbers where others are added
 abbrev pub KeepsNumbers : MemoryNames → MemoryNames → Type 0
-KeepsNumbers old new = (e : GuestExport) (n : ℕ)
-    → position (is_named e) old ≡ Some n → position (is_named e) new ≡ Some n
+KeepsNumbers old new = (name : List ℕ) (n : ℕ)
+    → place_of name old ≡ Some n → place_of name new ≡ Some n
 
 -- ---- what they are
 
@@ -68,10 +68,9 @@ pub record IsCoreOf (made : ℕ → CoreFuncDef) (c : CoreSpaces) (s : Spaces) :
   pub globals : s.globals ≡ map export_of c.globals.items
   pub memory : s.memory ≡ option_map memory_of c.memory
   pub no_guests : (n : ℕ) → is_guest (made n) ≡ false
-  pub memories_numbered : AllByRecursion (IsNumbered c.memory_names.keys) c.memories.items
-  pub instances_numbered :
-      AllByRecursion (IsInstanceNumbered c.memory_names.keys) c.instances.items
-  pub memory_numbered : IsFirstNumbered c.memory_names.keys c.memory
+  pub memories_numbered : AllByRecursion (IsNumbered (memory_names_of c)) c.memories.items
+  pub instances_numbered : AllByRecursion (IsInstanceNumbered (memory_names_of c)) c.instances.items
+  pub memory_numbered : IsFirstNumbered (memory_names_of c) c.memory
 
 -- after an item, whatever the spaces before it were
 abbrev pub Becomes : Item → CoreSpaces → CoreSpaces → Type 0

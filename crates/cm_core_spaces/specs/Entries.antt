@@ -5,6 +5,7 @@ use Rattle.std.specs.Borrow.{Bor}
 use Rattle.cm_validity.specs.Definitions.{CoreExport, CoreFuncDef, guest, CoreDef, core_func, table}
 use Rattle.cm_validity.specs.Definitions.{memory, global, NamedCoreDef, CoreInstanceDef}
 use Rattle.cm_validity.specs.Definitions.{instantiated, exporting}
+use Rattle.cm_name_maps.specs.NameMaps.{entries_of}
 use Rattle.cm_core_spaces.specs.declared.entries.GuestExport.{GuestExport}
 use Rattle.cm_core_spaces.specs.declared.entries.GuestMemory.{GuestMemory}
 use Rattle.cm_core_spaces.specs.declared.entries.CoreFunc.{CoreFunc}
@@ -40,4 +41,4 @@ named_def made e = record { name = e.0.now; def = def_of made e.1 }
 -- a core instance
 abbrev pub instance_of : (ℕ → CoreFuncDef) → CoreInstanceEntry → CoreInstanceDef
 instance_of made (entry.Instantiated m) = instantiated m
-instance_of made (entry.Exporting items) = exporting (map (named_def made) items.entries)
+instance_of made (entry.Exporting items) = exporting (map (named_def made) (entries_of items))

@@ -1,17 +1,19 @@
 //! Aliases of what core instances export.
 
-ghost use Rattle.std.specs.Prelude.{◌≡◌, ℕ, IfOk, Some, position, slice_get};
+ghost use Rattle.std.specs.Prelude.{◌≡◌, ℕ, IfOk, Some, slice_get};
 ghost use Rattle.std.specs.Option.{option_map};
 ghost use Rattle.cm_validity.specs.Definitions.{CoreFuncDef};
 ghost use Rattle.cm_validity.specs.Spaces.{core_def_of_sort};
-ghost use Rattle.cm_core_spaces.specs.CoreSpaces.{IsItemNumbered, KeepsNumbers, is_named};
+ghost use Rattle.cm_name_maps.specs.NameMaps.{entries_of};
+ghost use Rattle.cm_name_maps.specs.Names.{names_in, place_of};
+ghost use Rattle.cm_core_spaces.specs.CoreSpaces.{IsItemNumbered, KeepsNumbers};
 ghost use Rattle.cm_core_spaces.specs.Entries.{def_of, export_of};
 
 use crate::entries::{CoreFunc, CoreInstanceEntry, CoreItem, GuestExport, GuestMemory};
 use crate::spaces::CoreSpaces;
 use cm_component::CoreSort;
+use cm_name_maps::NameMap;
 use cm_reasons::ValidReason;
-use indexmap::{IndexMap, IndexSet};
 use std::alloc::AllocError;
 
 impl<'a> CoreItem<'a> {
@@ -35,26 +37,27 @@ impl<'a> CoreItem<'a> {
     }
 
     /// The one under a name, if there is one.
-    fn named(items: &IndexMap<&'a str, CoreItem<'a>>, name: &'a str) -> Option<CoreItem<'a>>
+    fn named(items: &NameMap<'a, CoreItem<'a>>, name: &'a str) -> Option<CoreItem<'a>>
         ensures def { (made : ℕ → CoreFuncDef) → option_map (def_of made) result
-            ≡ core_def_named (map (named_def made) items.now.entries) name.now }
-        ensures numbered { (names : MemoryNames) → AreItemsNumbered names items.now.entries
+            ≡ core_def_named (map (named_def made) (entries_of items.now)) name.now }
+        ensures numbered { (names : MemoryNames) → AreItemsNumbered names (entries_of items.now)
             → IfSome result (IsItemNumbered names) }
     {
-        items.get(&name).copied()
+        items.get(name).copied()
     }
 
     /// What a core instance that is made of a module exports, of the sort that is wanted of it. The
     /// name of a memory gets a number, once.
     fn exported(
-        names: &mut IndexSet<(u32, &'a str)>,
+        names: &mut NameMap<'a, ()>,
         sort: CoreSort,
         export: GuestExport<'a>,
     ) -> Result<CoreItem<'a>, AllocError>
         ensures def { IfOk result (λ i. (made : ℕ → CoreFuncDef)
             → def_of made i ≡ core_def_of_sort sort (export_of export.entry)) }
-        ensures numbered { IfOk result (IsItemNumbered names.new.keys) }
-        ensures others { KeepsNumbers names.old.keys names.new.keys }
+        ensures numbered { IfOk result (IsItemNumbered (names_in (entries_of names.new))) }
+        ensures others { KeepsNumbers
+            (names_in (entries_of names.old)) (names_in (entries_of names.new)) }
     {
         Ok(match sort {
             CoreSort::Func => CoreItem::Func(CoreFunc::Guest(export)),
@@ -70,13 +73,19 @@ impl<'a> CoreItem<'a> {
 
 /// The number of a memory's name, which it gets where it has none.
 fn memory_number<'a>(
-    names: &mut IndexSet<(u32, &'a str)>,
+    names: &mut NameMap<'a, ()>,
     export: GuestExport<'a>,
 ) -> Result<usize, AllocError>
-    ensures named { IfOk result (λ n. position (is_named export.entry) names.new.keys ≡ Some n) }
-    ensures others { KeepsNumbers names.old.keys names.new.keys }
+    ensures named { IfOk result (λ n.
+        place_of export.entry.name.now (names_in (entries_of names.new)) ≡ Some n) }
+    ensures others { KeepsNumbers
+        (names_in (entries_of names.old)) (names_in (entries_of names.new)) }
 {
-    let (number, _) = names.insert_full((export.instance, export.name))?;
+    if let Some(number) = names.place(export.name) {
+        return Ok(number);
+    }
+    let number = names.len();
+    names.insert(export.name, ())?;
     Ok(number)
 }
 
@@ -96,6 +105,7 @@ impl<'a> CoreSpaces<'a> {
     ghost use Rattle.cm_validity.specs.Items.{alias_item};
     ghost use Rattle.cm_validity.specs.Spaces.{Spaces, after_item, aliased_core, core_alias};
     ghost use Rattle.cm_core_spaces.specs.CoreSpaces.{Answers, IsCoreOf, Stays, made_count};
+    ghost use Rattle.cm_core_spaces.specs.CoreSpaces.{memory_names_of};
 
     /// What an alias names, if anything.
     fn aliased(
@@ -109,7 +119,7 @@ impl<'a> CoreSpaces<'a> {
             → option_map (def_of made) i ≡ aliased_core s sort instance name.now) }
         ensures numbered { IfOk result (λ i. (made : ℕ → CoreFuncDef) (s : Spaces)
             → IsCoreOf made self.old s
-            → IfSome i (IsItemNumbered self.new.memory_names.keys)) }
+            → IfSome i (IsItemNumbered (memory_names_of self.new))) }
         ensures counted { made_count self.new ≡ made_count self.old }
         ensures kept { Stays self.old self.new }
     {
@@ -127,7 +137,7 @@ impl<'a> CoreSpaces<'a> {
     /// Adds what an alias names.
     fn push(&mut self, item: CoreItem<'a>) -> Result<(), AllocError>
         ensures added { OnOk result ((made : ℕ → CoreFuncDef) (s : Spaces) (a : AliasTree)
-            → IsItemNumbered self.old.memory_names.keys item.entry
+            → IsItemNumbered (memory_names_of self.old) item.entry
             → core_alias s a ≡ Some (def_of made item.entry)
             → IsCoreOf made self.old s → IsCoreOf made self.new (after_item s (alias_item a))) }
         ensures counted { made_count self.new ≡ made_count self.old }
@@ -142,10 +152,12 @@ impl<'a> CoreSpaces<'a> {
         Ok(())
     }
 
-    /// Adds an alias of what a core instance exports under a name, in time that grows with the
-    /// name's bytes alone. Answers what it breaks: `NoSuchIndex` where there is no such instance or
-    /// no such name in it, `WrongSort` where what is there is of another sort; the spaces then stay
-    /// as they are. So they do with `AllocError`, which comes where there is no memory.
+    /// Adds an alias of what a core instance exports under a name. The name is looked up in a tree,
+    /// and not copied: a look-up costs the logarithm of the number of names there, with the time
+    /// that it takes to compare two, whatever the names are. Answers what it breaks: `NoSuchIndex`
+    /// where there is no such instance or no such name in it, `WrongSort` where what is there is of
+    /// another sort; the spaces then stay as they are. So they do with `AllocError`, which comes
+    /// where there is no memory.
     pub fn alias(
         &mut self,
         sort: CoreSort,

@@ -8,7 +8,7 @@ ghost use Rattle.cm_validity.specs.Items.{canon_item};
 ghost use Rattle.cm_validity.specs.Spaces.{Spaces, after_item, canon_core_func, first_memory};
 ghost use Rattle.cm_validity.specs.Spaces.{option_memory};
 ghost use Rattle.cm_core_spaces.specs.CoreSpaces.{IsCoreOf, IsFirstNumbered, Stays, count_made};
-ghost use Rattle.cm_core_spaces.specs.CoreSpaces.{made_count, number_made};
+ghost use Rattle.cm_core_spaces.specs.CoreSpaces.{made_count, memory_names_of, number_made};
 ghost use Rattle.cm_core_spaces.specs.Entries.{memory_of};
 
 use crate::entries::{CoreFunc, GuestMemory};
@@ -22,7 +22,7 @@ impl<'a> CoreSpaces<'a> {
         ensures memory { (made : ℕ → CoreFuncDef) (s : Spaces) → IsCoreOf made self.now s
             → option_map memory_of result ≡ option_memory s option }
         ensures numbered { (made : ℕ → CoreFuncDef) (s : Spaces) → IsCoreOf made self.now s
-            → IsFirstNumbered self.now.memory_names.keys result }
+            → IsFirstNumbered (memory_names_of self.now) result }
     {
         match option {
             CanonOption::Memory(index) => self.memories.get(index as usize).copied(),
@@ -35,7 +35,7 @@ impl<'a> CoreSpaces<'a> {
         ensures memory { (made : ℕ → CoreFuncDef) (s : Spaces) → IsCoreOf made self.now s
             → option_map memory_of result ≡ first_memory s options.now }
         ensures numbered { (made : ℕ → CoreFuncDef) (s : Spaces) → IsCoreOf made self.now s
-            → IsFirstNumbered self.now.memory_names.keys result }
+            → IsFirstNumbered (memory_names_of self.now) result }
     {
         for option in options {
             let memory = self.option_memory(*option);
@@ -51,7 +51,7 @@ impl<'a> CoreSpaces<'a> {
         ensures memory { (made : ℕ → CoreFuncDef) (s : Spaces) → IsCoreOf made self.now s
             → option_map memory_of result ≡ option_or s.memory (first_memory s options.now) }
         ensures numbered { (made : ℕ → CoreFuncDef) (s : Spaces) → IsCoreOf made self.now s
-            → IsFirstNumbered self.now.memory_names.keys result }
+            → IsFirstNumbered (memory_names_of self.now) result }
     {
         match self.memory {
             Some(memory) => Some(memory),

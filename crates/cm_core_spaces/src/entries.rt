@@ -1,6 +1,6 @@
 //! What stands in the core index spaces.
 
-use indexmap::IndexMap;
+use cm_name_maps::NameMap;
 
 /// What a core instance that is made of a module exports under a name.
 #[derive(Clone, Copy)]
@@ -9,10 +9,13 @@ pub struct GuestExport<'a> {
     pub name: &'a str,
 }
 
-/// A memory that such an instance exports. Memories are the same where their numbers are.
+/// A memory that such an instance exports. Memories are the same where their core instances and
+/// their numbers are.
 #[derive(Clone, Copy)]
 pub struct GuestMemory<'a> {
     pub export: GuestExport<'a>,
+    /// The place of its name, from 0, among the names that memories of instances of modules were
+    /// aliased by, each of which stands there once, whatever its instances are.
     pub number: usize,
 }
 
@@ -39,5 +42,5 @@ pub enum CoreInstanceEntry<'a> {
     /// Made of the core module of this index.
     Instantiated(u32),
     /// Core definitions under names.
-    Exporting(IndexMap<&'a str, CoreItem<'a>>),
+    Exporting(NameMap<'a, CoreItem<'a>>),
 }

@@ -8,26 +8,28 @@ ghost use Rattle.cm_component.specs.Trees.{arg_tree, core_export_tree};
 ghost use Rattle.cm_validity.specs.Definitions.{CoreFuncDef};
 ghost use Rattle.cm_validity.specs.Rules.{are_distinct_texts};
 ghost use Rattle.cm_validity.specs.Spaces.{Spaces};
+ghost use Rattle.cm_name_maps.specs.NameMaps.{entries_of};
 ghost use Rattle.cm_core_spaces.specs.CoreSpaces.{IsCoreOf};
 
 use crate::aliases::instance_at;
 use crate::entries::{CoreFunc, CoreInstanceEntry, CoreItem, GuestExport, GuestMemory};
 use crate::spaces::CoreSpaces;
 use cm_component::{CoreInlineExport, CoreInstance, CoreInstantiationArg, CoreSort};
+use cm_name_maps::NameMap;
 use cm_reasons::ValidReason;
 use cm_type_rules::broken_unless;
-use indexmap::{IndexMap, IndexSet};
 use std::alloc::{AllocError, Global};
 
-/// Whether the names of arguments differ as texts. Each is looked up once, by a map. `AllocError`
-/// comes where there is no memory for it.
+/// Whether the names of arguments differ as texts. Each is looked up in a tree, which costs the
+/// logarithm of their number, whatever the names are. `AllocError` comes where there is no memory
+/// for it.
 fn args_are_distinct(alloc: Global, args: &[CoreInstantiationArg]) -> Result<bool, AllocError>
     ensures { IfOk result (λ b.
         b ≡ are_distinct_texts (map (λ a. a.name) (map arg_tree args.now))) }
 {
-    let mut seen = IndexSet::new(alloc);
+    let mut seen: NameMap<'_, ()> = NameMap::new(alloc);
     for arg in args {
-        if !seen.insert(arg.name.as_str())? {
+        if !seen.insert(arg.name.as_str(), ())? {
             return Ok(false);
         }
     }
@@ -46,6 +48,7 @@ impl<'a> CoreSpaces<'a> {
     ghost use Rattle.std.specs.List.{flat_map};
     ghost use Rattle.cm_core_spaces.specs.CoreSpaces.{Answers, AreItemsNumbered, IsItemNumbered};
     ghost use Rattle.cm_core_spaces.specs.CoreSpaces.{IsInstanceNumbered, Stays, made_count};
+    ghost use Rattle.cm_core_spaces.specs.CoreSpaces.{memory_names_of};
     ghost use Rattle.cm_core_spaces.specs.Entries.{def_of, instance_of, named_def};
     ghost use Rattle.cm_core_spaces.specs.Instances.{is_arg_there, is_export_there};
 
@@ -54,7 +57,7 @@ impl<'a> CoreSpaces<'a> {
         ensures def { (made : ℕ → CoreFuncDef) (s : Spaces) → IsCoreOf made self.now s
             → option_map (def_of made) result ≡ core_def_at s sort index }
         ensures numbered { (made : ℕ → CoreFuncDef) (s : Spaces) → IsCoreOf made self.now s
-            → IfSome result (IsItemNumbered self.now.memory_names.keys) }
+            → IfSome result (IsItemNumbered (memory_names_of self.now)) }
     {
         let index = index as usize;
         Some(match sort {
@@ -92,12 +95,12 @@ impl<'a> CoreSpaces<'a> {
     }
 
     /// What exports name, under their names, where all of it is there; none where two names are the
-    /// same. Each name is looked up once.
+    /// same. Each name is looked up in a tree.
     fn named_items(
         &self,
         alloc: Global,
         exports: &'a [CoreInlineExport],
-    ) -> Result<Option<IndexMap<&'a str, CoreItem<'a>>>, AllocError>
+    ) -> Result<Option<NameMap<'a, CoreItem<'a>>>, AllocError>
         ensures distinct { IfOk result (λ items. (made : ℕ → CoreFuncDef) (s : Spaces)
             → IsCoreOf made self.now s
             → list_all (is_export_there s) (map core_export_tree exports.now) ≡ true
@@ -105,18 +108,18 @@ impl<'a> CoreSpaces<'a> {
             ≡ are_distinct_texts (map (λ e. e.name) (map core_export_tree exports.now))) }
         ensures defs { IfOk result (λ items. (made : ℕ → CoreFuncDef) (s : Spaces)
             → IsCoreOf made self.now s
-            → IfSome items (λ m. map (named_def made) m.entries
+            → IfSome items (λ m. map (named_def made) (entries_of m)
             ≡ flat_map (named_core_def s) (map core_export_tree exports.now))) }
         ensures numbered { IfOk result (λ items. (made : ℕ → CoreFuncDef) (s : Spaces)
             → IsCoreOf made self.now s
-            → IfSome items (λ m. AreItemsNumbered self.now.memory_names.keys m.entries)) }
+            → IfSome items (λ m. AreItemsNumbered (memory_names_of self.now) (entries_of m))) }
     {
-        let mut items = IndexMap::new(alloc);
+        let mut items = NameMap::new(alloc);
         for export in exports {
             let Some(item) = self.item_at(export.sort, export.index) else {
                 return Ok(None);
             };
-            if items.insert(export.name.as_str(), item)?.is_some() {
+            if !items.insert(export.name.as_str(), item)? {
                 return Ok(None);
             }
         }
@@ -127,7 +130,7 @@ impl<'a> CoreSpaces<'a> {
     fn push_instance(&mut self, entry: CoreInstanceEntry<'a>) -> Result<(), AllocError>
         ensures added { OnOk result
             ((made : ℕ → CoreFuncDef) (s : Spaces) (t : CoreInstanceTree)
-            → IsInstanceNumbered self.old.memory_names.keys entry.entry
+            → IsInstanceNumbered (memory_names_of self.old) entry.entry
             → core_instance_of s t ≡ instance_of made entry.entry
             → IsCoreOf made self.old s
             → IsCoreOf made self.new (after_item s (core_instance_item t))) }
@@ -203,7 +206,8 @@ impl<'a> CoreSpaces<'a> {
     /// instance of an argument or the definition of an export is not there, else `DuplicateName`
     /// where two arguments, or two exports, have the same name, as texts; the spaces then stay as
     /// they are (Explainer.md, "Instance Definitions"). So they do with `AllocError`, which comes
-    /// where there is no memory. Each name is looked up once, by a map, and none is copied.
+    /// where there is no memory. Each name is looked up in a tree, and none is copied: a look-up
+    /// costs the logarithm of the number of names, whatever the names are.
     pub fn add_instance(
         &mut self,
         alloc: Global,

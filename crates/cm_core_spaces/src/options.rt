@@ -71,7 +71,7 @@ impl<'a> GuestMemory<'a> {
         ensures { (names : MemoryNames) → IsNumbered names self.entry → IsNumbered names other.entry
             → result ≡ is_same_export (memory_of self.entry) (memory_of other.entry) }
     {
-        self.number == other.number
+        self.export.instance == other.export.instance && self.number == other.number
     }
 }
 

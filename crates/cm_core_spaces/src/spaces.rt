@@ -3,8 +3,8 @@
 ghost use Rattle.cm_core_spaces.specs.CoreSpaces.{IsCoreOf};
 
 use crate::entries::{CoreFunc, CoreInstanceEntry, GuestExport, GuestMemory};
+use cm_name_maps::NameMap;
 use cm_reasons::ValidReason;
-use indexmap::IndexSet;
 use std::alloc::{AllocError, Global};
 
 /// The core index spaces of a component, after some of its items (Explainer.md, "Index Spaces").
@@ -19,7 +19,8 @@ pub struct CoreSpaces<'a> {
     pub(crate) globals: Vec<GuestExport<'a>>,
     pub(crate) memory: Option<GuestMemory<'a>>,
     pub(crate) made: u32,
-    pub(crate) memory_names: IndexSet<(u32, &'a str)>,
+    /// The names that memories of instances of modules were aliased by, each once.
+    pub(crate) memory_names: NameMap<'a, ()>,
 }
 
 impl<'a> CoreSpaces<'a> {
@@ -48,7 +49,7 @@ impl<'a> CoreSpaces<'a> {
             globals: Vec::new(alloc),
             memory: None,
             made: 0,
-            memory_names: IndexSet::new(alloc),
+            memory_names: NameMap::new(alloc),
         }
     }
 

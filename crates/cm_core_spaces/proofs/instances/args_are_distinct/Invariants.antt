@@ -1,14 +1,14 @@
 use Rattle.std.proofs.Common.{◌≡◌, map, drop}
-use Rattle.std.specs.List.{list_any}
-use Rattle.std.specs.Str.{bytes_eq}
 use Rattle.std.specs.String.{string_bytes}
 use Rattle.cm_component.specs.Trees.{arg_tree}
 use Rattle.cm_validity.specs.Rules.{are_distinct_texts}
+use Rattle.cm_name_maps.specs.NameMaps.{entries_of}
+use Rattle.cm_core_spaces.proofs.PlaceLaws.{has_name}
 use Rattle.cm_core_spaces.proofs.TextLaws.{rest_is_distinct}
 use Rattle.cm_core_spaces.proofs.instances.args_are_distinct.Given as goal
 
 -- those to come differ from those that were seen, and from one another, where all differ
 abbrev pub invariant-loop-arg : goal.invariant-loop-arg
 invariant-loop-arg l =
-    rest_is_distinct (λ q. list_any (λ k. bytes_eq q k.now) l.seen.keys) (map (λ a. string_bytes a.name) (drop l.arg-index l.args))
+    rest_is_distinct (has_name (entries_of l.seen)) (map (λ a. string_bytes a.name) (drop l.arg-index l.args))
     ≡ are_distinct_texts (map (λ a. a.name) (map arg_tree l.args))

@@ -6,7 +6,8 @@ use Rattle.cm_reasons.specs.declared.fault.ValidReason.TheVariants as reason
 use Rattle.cm_validity.specs.Definitions.{exporting}
 use Rattle.cm_validity.specs.Reasons.{least, unless}
 use Rattle.cm_validity.specs.Spaces.{named_core_def}
-use Rattle.cm_core_spaces.specs.CoreSpaces.{AreItemsNumbered}
+use Rattle.cm_name_maps.specs.NameMaps.{entries_of}
+use Rattle.cm_core_spaces.specs.CoreSpaces.{AreItemsNumbered, memory_names_of}
 use Rattle.cm_core_spaces.specs.Entries.{named_def}
 use Rattle.cm_core_spaces.proofs.InstanceLaws.{export_missing, exports_there, some_has}
 use Rattle.cm_core_spaces.proofs.spaces.CoreSpaces.add_exporting.Goals as goal
@@ -33,7 +34,7 @@ returns-clause-answer c = record {
       let once = sym (ap is_some c.in-Some.is) ∙ c.in_ok-items.ensures.distinct made s r there in
       ap (λ b. least (unless b reason.DuplicateName)) once ∙ exports_there s (map core_export_tree c.args.exports.now) there;
   after = λ made s r.
-      let defs = some_has (λ m. map (named_def made) m.entries ≡ flat_map (named_core_def s) (map core_export_tree c.args.exports.now)) c.in_ok-items.field-0 c.in-Some.items c.in-Some.is (c.in_ok-items.ensures.defs made s r) in
-      let numbered = some_has (λ m. AreItemsNumbered c.args.self.now.memory_names.keys m.entries) c.in_ok-items.field-0 c.in-Some.items c.in-Some.is (c.in_ok-items.ensures.numbered made s r) in
+      let defs = some_has (λ m. map (named_def made) (entries_of m) ≡ flat_map (named_core_def s) (map core_export_tree c.args.exports.now)) c.in_ok-items.field-0 c.in-Some.items c.in-Some.is (c.in_ok-items.ensures.defs made s r) in
+      let numbered = some_has (λ m. AreItemsNumbered (memory_names_of c.args.self.now) (entries_of m)) c.in_ok-items.field-0 c.in-Some.items c.in-Some.is (c.in_ok-items.ensures.numbered made s r) in
       c.in_ok-push_instance.ensures.added made s (core_exports (map core_export_tree c.args.exports.now)) numbered (ap exporting (sym defs)) r;
 }

@@ -3,6 +3,7 @@ use Rattle.std.specs.Option.{option_map}
 use Rattle.cm_reasons.specs.declared.fault.ValidReason.TheVariants as reason
 use Rattle.cm_validity.specs.Reasons.{least, unless}
 use Rattle.cm_validity.specs.Spaces.{aliased_core}
+use Rattle.cm_core_spaces.specs.CoreSpaces.{memory_names_of}
 use Rattle.cm_core_spaces.specs.Entries.{def_of}
 use Rattle.cm_core_spaces.proofs.SpaceLaws.{broken_at, numbered_there, on_any_err}
 use Rattle.cm_component.specs.Trees.{core_instance_export}
@@ -34,6 +35,6 @@ returns-clause-answer c = record {
       sym (broken_at s c.args.sort c.args.instance c.args.name.now (Some (def_of made c.in-Some.item)) e ∙ ap (λ b. least (unless b reason.WrongSort)) (sym (c.is.ensures made) ∙ c.if-not-is.false));
   after = λ made s r.
       let e : aliased_core s c.args.sort c.args.instance c.args.name.now ≡ Some (def_of made c.in-Some.item) = sym (c.in_ok-item.ensures.def made s r) ∙ ap (option_map (def_of made)) c.in-Some.is in
-      let n = numbered_there c.aliased.new.self.memory_names.keys c.in_ok-item.field-0 c.in-Some.item c.in-Some.is (c.in_ok-item.ensures.numbered made s r) in
+      let n = numbered_there (memory_names_of c.aliased.new.self) c.in_ok-item.field-0 c.in-Some.item c.in-Some.is (c.in_ok-item.ensures.numbered made s r) in
       c.in_ok-push.ensures.added made s (core_instance_export c.args.sort c.args.instance c.args.name.now) n e (c.aliased.ensures.kept made s r);
 }

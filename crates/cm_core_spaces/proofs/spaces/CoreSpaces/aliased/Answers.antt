@@ -4,6 +4,7 @@ use Rattle.std.specs.Option.{option_map}
 use Rattle.std.specs.List.{slice_get}
 use Rattle.cm_core_spaces.specs.declared.entries.CoreInstanceEntry.{CoreInstanceEntry}
 use Rattle.cm_core_spaces.specs.declared.entries.CoreInstanceEntry.TheVariants as entry
+use Rattle.cm_core_spaces.specs.CoreSpaces.{memory_names_of}
 use Rattle.cm_core_spaces.proofs.SpaceLaws.{aliased_at, instance_numbered, names_keep}
 use Rattle.cm_core_spaces.proofs.spaces.CoreSpaces.aliased.Goals as goal
 
@@ -24,7 +25,7 @@ returns-in-Some-Exporting-clause-def c = λ made s r.
 pub returns-in-Some-Exporting-clause-numbered : goal.returns-in-Some-Exporting-clause-numbered
 returns-in-Some-Exporting-clause-numbered c = λ made s r.
     let p : slice_get c.args.self.now.instances.items c.args.instance ≡ Some (entry.Exporting c.in-Some-Exporting.items) = ap (λ (xs : List CoreInstanceEntry). slice_get xs c.args.instance) (sym c.deref.ensures.value) ∙ sym c.instance_at.ensures ∙ ap (option_map (λ (e : Bor CoreInstanceEntry). e.now)) c.in-Some-Exporting.is ∙ ap Some c.in-Some-Exporting.field-0-is in
-    c.named.ensures.numbered c.args.self.now.memory_names.keys (instance_numbered made c.args.self.now s c.args.instance (entry.Exporting c.in-Some-Exporting.items) r p)
+    c.named.ensures.numbered (memory_names_of c.args.self.now) (instance_numbered made c.args.self.now s c.args.instance (entry.Exporting c.in-Some-Exporting.items) r p)
 
 pub returns-in_ok-item-in-Some-Instantiated-clause-def : goal.returns-in_ok-item-in-Some-Instantiated-clause-def
 returns-in_ok-item-in-Some-Instantiated-clause-def c = λ made s r.

@@ -5,23 +5,24 @@ use Rattle.std.specs.String.{string_bytes}
 use Rattle.cm_component.specs.Trees.{CoreExportTree, core_export_tree}
 use Rattle.cm_validity.specs.Rules.{are_distinct_texts}
 use Rattle.cm_validity.specs.Spaces.{core_def_at, named_core_def}
-use Rattle.cm_core_spaces.specs.CoreSpaces.{IsItemNumbered}
+use Rattle.cm_core_spaces.specs.CoreSpaces.{IsItemNumbered, memory_names_of}
+use Rattle.cm_name_maps.specs.NameMaps.{entries_of}
 use Rattle.cm_core_spaces.specs.Entries.{def_of, named_def}
 use Rattle.cm_core_spaces.specs.Instances.{is_export_there}
 use Rattle.cm_core_spaces.proofs.InstanceLaws.{export_there, no_more, one_def, passes_here}
+use Rattle.cm_core_spaces.proofs.PlaceLaws.{has_name, name_more}
 use Rattle.cm_core_spaces.proofs.SpaceLaws.{numbered_there}
-use Rattle.cm_core_spaces.proofs.TextLaws.{all_push, at_first, has_key, is_none_not, key_more, mapped_twice, one_more_def, seen_again, seen_first}
-use Rattle.indexmap.proofs.CallerLemmas.{insert_entry-new}
+use Rattle.cm_core_spaces.proofs.TextLaws.{all_push, at_first, mapped_twice, one_more_def, seen_again, seen_first, was_new, was_seen}
 use Rattle.cm_core_spaces.proofs.spaces.CoreSpaces.named_items.Goals as goal
 
 pub loop-export-init : goal.loop-export-init
 loop-export-init c = record {
   there = λ made s r e. e;
   distinct =
-      at_first (has_key c.new-items.result.entries) (map (λ e. string_bytes e.name) c.args.exports.now) (λ q. rw c.new-items.ensures.empty refl)
+      at_first (has_name (entries_of c.new-items.result)) (map (λ e. string_bytes e.name) c.args.exports.now) (λ q. rw c.new-items.ensures refl)
       ∙ ap are_distinct_texts (mapped_twice (λ (e : CoreExportTree). e.name) core_export_tree c.args.exports.now);
-  defs = λ made s r. rw c.new-items.ensures.empty refl;
-  numbered = λ made s r. rw c.new-items.ensures.empty tt;
+  defs = λ made s r. rw c.new-items.ensures refl;
+  numbered = λ made s r. rw c.new-items.ensures tt;
 }
 
 pub returns-in_default-clause-distinct : goal.returns-in_default-clause-distinct
@@ -30,35 +31,34 @@ returns-in_default-clause-distinct c = λ made s r e.
     let gone = export_there made s (core_export_tree c.export-item.result) c.item_at.result (c.item_at.ensures.def made s r) ∙ ap is_some c.in_default.is in
     absurd (cc (here.0, gone))
 
-pub returns-then-is_some-clause-distinct : goal.returns-then-is_some-clause-distinct
-returns-then-is_some-clause-distinct c = λ made s r e.
+pub returns-then-not-branch-clause-distinct : goal.returns-then-not-branch-clause-distinct
+returns-then-not-branch-clause-distinct c = λ made s r e.
     seen_again (λ x. string_bytes x.name) c.args.exports.now c.loop-export.export-index c.export-item.result c.as_str.result.now c.loop-export-test.true c.export-item.is c.as_str.ensures.value
-    (has_key c.loop-export.items.entries) _
-    (ap is_some (sym c.in_ok-insert.ensures.old) ∙ sym c.is_some.ensures ∙ c.if-is_some.true)
+    (has_name (entries_of c.loop-export.items)) _
+    (was_seen (has_name (entries_of c.loop-export.items) c.as_str.result.now) _ c.in_ok-insert.ensures.told c.if-not-branch.true)
     c.loop-export.invariant.distinct
 
 pub loop-export-preserved : goal.loop-export-preserved
 loop-export-preserved c =
-    let none = is_none_not c.in_ok-insert.field-0 (sym c.is_some.ensures ∙ c.if-is_some.false) in
-    let gone = sym c.in_ok-insert.ensures.old ∙ none in
-    let new = c.in_ok-insert.ensures.entries ∙ insert_entry-new _ c.loop-export.items c.as_str.result c.in-Some.item gone in
+    let old = entries_of c.loop-export.items in
+    let gone = was_new (has_name old c.as_str.result.now) _ c.in_ok-insert.ensures.told c.if-not-branch.false in
+    let new = c.in_ok-insert.ensures.added gone in
     record {
       there = λ made s r e. (passes_here (is_export_there s) core_export_tree c.args.exports.now c.loop-export.export-index c.export-item.result c.loop-export-test.true c.export-item.is (c.loop-export.invariant.there made s r e)).1;
       distinct = seen_first (λ x. string_bytes x.name) c.args.exports.now c.loop-export.export-index c.export-item.result c.as_str.result.now c.loop-export-test.true c.export-item.is c.as_str.ensures.value
-          (has_key c.loop-export.items.entries) _ (has_key c.insert.new.self.entries)
-          (ap is_some gone)
-          (key_more c.loop-export.items.entries c.insert.new.self.entries c.as_str.result.now c.in-Some.item (λ q. c.in_ok-insert.ensures.updates.0 (record c.as_str.result { now = q })))
+          (has_name old) _ (has_name (entries_of c.insert.new.self)) gone
+          (name_more old (entries_of c.insert.new.self) (c.as_str.result, c.in-Some.item) new)
           c.loop-export.invariant.distinct;
       defs = λ made s r.
           let at : core_def_at s c.export-item.result.sort c.export-item.result.index ≡ Some (def_of made c.in-Some.item) = sym (c.item_at.ensures.def made s r) ∙ ap (option_map (def_of made)) c.in-Some.is in
           ap (map (named_def made)) new
-          ∙ one_more_def (named_def made) (λ x. named_core_def s (core_export_tree x)) c.loop-export.items.entries (c.as_str.result, c.in-Some.item) c.args.exports.now c.loop-export.export-index c.export-item.result c.loop-export-test.true c.export-item.is
+          ∙ one_more_def (named_def made) (λ x. named_core_def s (core_export_tree x)) old (c.as_str.result, c.in-Some.item) c.args.exports.now c.loop-export.export-index c.export-item.result c.loop-export-test.true c.export-item.is
           (one_def s (core_export_tree c.export-item.result) (def_of made c.in-Some.item) at ∙ ap (λ (t : List ℕ). record { name = t; def = def_of made c.in-Some.item } ∷ []) (sym c.as_str.ensures.value))
           (c.loop-export.invariant.defs made s r);
       numbered = λ made s r.
           rw new
-          (all_push (λ e. IsItemNumbered c.args.self.now.memory_names.keys e.1) c.loop-export.items.entries (c.as_str.result, c.in-Some.item) (c.loop-export.invariant.numbered made s r)
-          (numbered_there c.args.self.now.memory_names.keys c.item_at.result c.in-Some.item c.in-Some.is (c.item_at.ensures.numbered made s r)));
+          (all_push (λ e. IsItemNumbered (memory_names_of c.args.self.now) e.1) old (c.as_str.result, c.in-Some.item) (c.loop-export.invariant.numbered made s r)
+          (numbered_there (memory_names_of c.args.self.now) c.item_at.result c.in-Some.item c.in-Some.is (c.item_at.ensures.numbered made s r)));
     }
 
 pub returns-clause-defs : goal.returns-clause-defs

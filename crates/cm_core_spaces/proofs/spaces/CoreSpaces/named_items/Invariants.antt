@@ -5,10 +5,12 @@ use Rattle.cm_component.specs.Trees.{core_export_tree}
 use Rattle.cm_validity.specs.Definitions.{CoreFuncDef}
 use Rattle.cm_validity.specs.Rules.{are_distinct_texts}
 use Rattle.cm_validity.specs.Spaces.{Spaces, named_core_def}
-use Rattle.cm_core_spaces.specs.CoreSpaces.{AreItemsNumbered, IsCoreOf}
+use Rattle.cm_core_spaces.specs.CoreSpaces.{AreItemsNumbered, IsCoreOf, memory_names_of}
 use Rattle.cm_core_spaces.specs.Entries.{named_def}
 use Rattle.cm_core_spaces.specs.Instances.{is_export_there}
-use Rattle.cm_core_spaces.proofs.TextLaws.{has_key, rest_is_distinct}
+use Rattle.cm_name_maps.specs.NameMaps.{entries_of}
+use Rattle.cm_core_spaces.proofs.PlaceLaws.{has_name}
+use Rattle.cm_core_spaces.proofs.TextLaws.{rest_is_distinct}
 use Rattle.cm_core_spaces.proofs.spaces.CoreSpaces.named_items.Given as goal
 
 -- the names to come differ from those of the items, and from one another, where all differ; the
@@ -18,10 +20,10 @@ invariant-loop-export l = record {
   there : (made : ℕ → CoreFuncDef) (s : Spaces) → IsCoreOf made l.self s
       → list_all (is_export_there s) (map core_export_tree l.exports) ≡ true
       → list_all (is_export_there s) (map core_export_tree (drop l.export-index l.exports)) ≡ true;
-  distinct : rest_is_distinct (has_key l.items.entries) (map (λ e. string_bytes e.name) (drop l.export-index l.exports))
+  distinct : rest_is_distinct (has_name (entries_of l.items)) (map (λ e. string_bytes e.name) (drop l.export-index l.exports))
       ≡ are_distinct_texts (map (λ e. e.name) (map core_export_tree l.exports));
   defs : (made : ℕ → CoreFuncDef) (s : Spaces) → IsCoreOf made l.self s
-      → map (named_def made) l.items.entries ≡ flat_map (λ e. named_core_def s (core_export_tree e)) (take l.export-index l.exports);
+      → map (named_def made) (entries_of l.items) ≡ flat_map (λ e. named_core_def s (core_export_tree e)) (take l.export-index l.exports);
   numbered : (made : ℕ → CoreFuncDef) (s : Spaces) → IsCoreOf made l.self s
-      → AreItemsNumbered l.self.memory_names.keys l.items.entries;
+      → AreItemsNumbered (memory_names_of l.self) (entries_of l.items);
 }
