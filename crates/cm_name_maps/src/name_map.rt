@@ -18,7 +18,7 @@ pub struct NameMap<'a, V> {
 
 impl<'a, V> NameMap<'a, V> {
     ghost use Rattle.std.specs.Prelude.{◌≡◌, ◌++◌, ◌∷◌, [], IfOk, OnErr, OnOk, length, not};
-    ghost use Rattle.std.specs.Prelude.{false, is_some, slice_get};
+    ghost use Rattle.std.specs.Prelude.{false, is_some, slice_get, true};
     ghost use Rattle.std.specs.Option.{option_map};
     ghost use Rattle.cm_name_maps.specs.Names.{place_of, value_of};
     ghost use Rattle.cm_name_maps.specs.NameMaps.{entries_of};
@@ -72,6 +72,9 @@ impl<'a, V> NameMap<'a, V> {
         ensures added { OnOk result
             (is_some (place_of name.now (names_in (entries_of self.old))) ≡ false
             → entries_of self.new ≡ entries_of self.old ++ (name.entry, value) ∷ []) }
+        ensures same { OnOk result
+            (is_some (place_of name.now (names_in (entries_of self.old))) ≡ true
+            → entries_of self.new ≡ entries_of self.old) }
         ensures kept { OnErr result (entries_of self.new ≡ entries_of self.old) }
     {
         if self.places.contains_key(name) {
