@@ -1,5 +1,5 @@
 -- Texts are read from the front of a list, and each is looked for among those before it.
-use Rattle.std.proofs.Common.{◌≡◌, ℕ, ◌+◌, ◌<◌, ◌≤◌, Bool, true, false, Option, Some, None, ◌≢◌, ◌&&◌, ◌||◌, not, cond, List, [], ◌∷◌, ◌++◌, length, get_or, take, drop, map, refl, sym, ◌∙◌, ap, add-one, drop-cons}
+use Rattle.std.proofs.Common.{◌≡◌, ℕ, ◌+◌, ◌<◌, ◌≤◌, Bool, true, false, Option, Some, None, ◌&&◌, ◌||◌, not, cond, List, [], ◌∷◌, ◌++◌, length, get_or, take, drop, map, refl, sym, ◌∙◌, ap, add-one, drop-cons}
 use Rattle.std.proofs.lemmas.Grind.{flat_map-append}
 use Rattle.std.proofs.lemmas.List.{append-nil, drop_all, map-append, take_more}
 use Rattle.std.specs.Borrow.{Bor}
@@ -96,7 +96,7 @@ turned a b = here (bytes_eq a b) (bytes_eq b a) refl refl
 
 -- one more name
 pub key_more : {A : Type 0} (es : List (Bor (List ℕ) × A)) (e : Bor (List ℕ) × A) (q : List ℕ) → has_key (es ++ e ∷ []) q ≡ cond (bytes_eq e.0.now q) true (has_key es q)
-key_more es e q = from es 0 ∙ ap (λ b. cond b true (has_key es q)) (turned q e.0.now)
+key_more {A = A} es e q = from es 0 ∙ ap (λ b. cond b true (has_key es q)) (turned q e.0.now)
   where
     last : (b : Bool) (i : ℕ) → is_some (cond b (Some i) None) ≡ cond b true false
     last true i = refl

@@ -1,5 +1,4 @@
 use Rattle.std.proofs.Common.{◌≡◌, ℕ, List, [], ◌∷◌, map, length, refl, sym, ap, ◌∙◌, true, false}
-use Rattle.std.specs.Prelude.{is_some}
 use Rattle.cm_validity.specs.Rules.{member_broken}
 use Rattle.cm_validity.specs.Spaces.{named_member as member_of_export}
 use Rattle.cm_entries.specs.Entries.{is_member_there, member_def, named_member}
