@@ -1,4 +1,4 @@
-use Rattle.std.proofs.Common.{◌≡◌, Some, None, ap, sym, ◌∙◌, length, slice_get}
+use Rattle.std.proofs.Common.{Some, ap, sym, ◌∙◌, length}
 use Rattle.std.specs.Option.{option_map}
 use Rattle.cm_index_spaces.specs.IndexSpaces.{funcs_in}
 use Rattle.cm_index_spaces.specs.Made.{core_func_def}
