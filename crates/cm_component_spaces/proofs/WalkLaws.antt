@@ -5,7 +5,7 @@ use Rattle.std.proofs.lemmas.List.{length-map, take_all}
 use Rattle.std.proofs.lemmas.Option.{slice_get-get_or, slice_get-map}
 use Rattle.std.specs.Bool.{⊤}
 use Rattle.std.specs.Option.{option_map, option_map_or}
-use Rattle.std.specs.Prelude.{Contains, if◌then◌else◌, nat_le, MatchOption}
+use Rattle.std.specs.Prelude.{Contains, if◌then◌else◌, nat_le}
 use Rattle.cm_component.specs.Trees.{SectionTree, section_tree}
 use Rattle.cm_component.specs.declared.section.Section.{Section}
 use Rattle.cm_reasons.specs.declared.fault.ValidReason.{ValidReason}
@@ -15,8 +15,8 @@ use Rattle.cm_validity.specs.Items.{Item, all_items, items_of}
 use Rattle.cm_validity.specs.Reasons.{least, lesser}
 use Rattle.cm_validity.specs.Rules.{broken}
 use Rattle.cm_validity.specs.Spaces.{Spaces, after_item, after_items, empty_spaces, spaces_of}
-use Rattle.cm_validity.specs.Valid.{IsFaultOf, IsFirstFault, IsLeast, IsValid, IsValidFrom}
-use Rattle.cm_index_spaces.specs.IndexSpaces.{Answers, IsAt, Stands}
+use Rattle.cm_validity.specs.Valid.{IsFirstFault, IsLeast, IsValid, IsValidFrom}
+use Rattle.cm_index_spaces.specs.IndexSpaces.{Answers, IsAt}
 use Rattle.cm_index_spaces.specs.declared.spaces.IndexSpaces.{IndexSpaces}
 use Rattle.cm_component_spaces.specs.Walks.{IsFaultMet, IsFineBefore, IsMet, Walks, items_at}
 
