@@ -1,5 +1,5 @@
 -- An import of a pair that serves is served.
-use Rattle.std.proofs.Common.{◌≡◌, ◌∙◌, ℕ, zero, suc, ◌+◌, ◌<◌, Bool, true, false, ◌||◌, List, [], ◌∷◌, ◌++◌, length, map, Option, Some, None, refl, sym, ap, subst, arith, option_and_then, slice_get, nat_eq, if◌then◌else◌}
+use Rattle.std.proofs.Common.{◌≡◌, ◌∙◌, ℕ, zero, suc, ◌+◌, ◌<◌, Bool, true, false, ◌||◌, List, [], ◌∷◌, ◌++◌, length, map, Option, Some, None, refl, sym, ap, subst, arith, option_and_then, slice_get}
 use Rattle.std.specs.BTreeSet.{insert_key}
 use Rattle.std.specs.Cmp.{tied_then}
 use Rattle.std.specs.List.{AllByRecursion, list_any}
@@ -26,9 +26,9 @@ use Rattle.cm_links.specs.Links.{IsServed}
 use Rattle.cm_linker.specs.Sets.{sections_of, set_of}
 use Rattle.cm_alike.specs.Alike.{IsLinkedTo}
 use Rattle.cm_alike.specs.Brought.{OwnsWhatItBrings}
-use Rattle.cm_pairs.specs.Pairs.{AreTables, IsNoted, IsPairOf, IsServedPair, Pair, pair_eq}
+use Rattle.cm_pairs.specs.Pairs.{AreTables, IsNoted, IsPairOf, IsServedPair, Pair, pair_cmp, pair_eq}
 use Rattle.cm_pairs.specs.declared.judged.Judged.{Judged}
-use Rattle.std.specs.Prelude.{IfSome}
+use Rattle.std.specs.Prelude.{IfSome, is_some, not}
 use Rattle.std.proofs.Common.{◌⊎◌, inl, inr, ◌≤◌, take, get_or}
 use Rattle.std.proofs.lemmas.List.{take_more, take_all, length-append}
 use Rattle.cm_pairs.proofs.MoveLaws.{FuncsMove, TypesMove, items_told}
@@ -62,12 +62,12 @@ module _ (P : Pair → Type 0) (p : Pair) where
 
   pub put : (ps : List Pair) → AllByRecursion P ps → P p → AllByRecursion P (insert_key pair_cmp ps p)
   put [] all one = (one, tt)
-  put (q ∷ qs) all one = by (pair_cmp p q)
+  put (q ∷ qs) all one = by (pair_cmp p q) (put qs all.1 one)
     where
-      by : (o : Ordering) → AllByRecursion P (match_ordering o (p ∷ q ∷ qs) (q ∷ qs) (q ∷ insert_key pair_cmp qs p))
-      by Less = (one, all)
-      by Equal = all
-      by Greater = (all.0, put qs all.1 one)
+      by : (o : Ordering) → AllByRecursion P (insert_key pair_cmp qs p) → AllByRecursion P (match_ordering o (p ∷ q ∷ qs) (q ∷ qs) (q ∷ insert_key pair_cmp qs p))
+      by Less rest = (one, all)
+      by Equal rest = all
+      by Greater rest = (all.0, rest)
 
 -- ---- options
 
@@ -272,3 +272,9 @@ now_served set tables component import p q all =
 pub noted : (w : Judged) (o : Option Pair) (Q : Pair → Type 0) → IsNoted w o → IfSome o Q → (p : Pair) × (list_any (pair_eq p) w.served.keys ≡ true) × Q p
 noted w None Q h q = absurd h
 noted w (Some p) Q h q = (p, h, q)
+
+-- where it is told that there is nothing, there is nothing
+pub is_none : {A : Type 0} (o : Option A) (told : Bool) → is_some o ≡ not told → told ≡ true → o ≡ None
+is_none None told e t = refl
+is_none (Some x) true e t = absurd cc
+is_none (Some x) false e t = absurd cc
