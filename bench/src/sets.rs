@@ -67,7 +67,7 @@ fn names(count: usize) -> impl Iterator<Item = String> {
 }
 
 /// Names of eight letters.
-fn plain_names(count: usize) -> impl Iterator<Item = String> {
+fn plain_names(count: usize) -> impl Iterator<Item = String> + Clone {
     (0..count as u64)
         .map(|at| (0..8).map(|digit| (b'a' + (at / 26u64.pow(digit) % 26) as u8) as char).collect())
 }
@@ -85,8 +85,8 @@ fn short_names(count: usize) -> impl Iterator<Item = String> {
 }
 
 /// Names of eight letters that all begin their search in one place of a hash map of up to 147,456
-/// of them: what std's maps, whose hash has a fixed seed, make of a text.
-fn crafted_names(count: usize) -> impl Iterator<Item = String> {
+/// of them: what std's hash maps, whose hash has a fixed seed, make of a text.
+fn crafted_names(count: usize) -> impl Iterator<Item = String> + Clone {
     const MULTIPLIER: u64 = 0x9e37_79b9_7f4a_7c15;
     const PLACES: u32 = 1 << 14;
     fn fold(a: u64, b: u64) -> u64 {
@@ -117,6 +117,26 @@ fn many_imports(count: usize) -> Vec<u8> {
 /// So many imports of one function, whose names were chosen to be hard to find.
 fn crafted_imports(count: usize) -> Vec<u8> {
     file(&[types(&[func_type("x", U32)]), imports(1, 0, crafted_names(count))])
+}
+
+/// An instance of so many exports, each a function that is imported, under these names.
+fn inline_exports(names: impl Iterator<Item = String>) -> Vec<u8> {
+    let items: Vec<Vec<u8>> =
+        names.map(|name| [extern_name(&name), vec![0x01], number(0)].concat()).collect();
+    let instance = [vec![0x01], list(&items)].concat();
+    let import = imports(1, 0, std::iter::once("f".to_string()));
+    file(&[types(&[func_type("x", U32)]), import, section(5, &list(&[instance]))])
+}
+
+/// A core instance of so many exports, each a function of a module's instance, under these names,
+/// each of which is aliased as a memory of a module's instance too.
+fn core_exports(names: impl Iterator<Item = String> + Clone) -> Vec<u8> {
+    let items: Vec<Vec<u8>> =
+        names.clone().map(|name| [text(&name), vec![0x00], number(0)].concat()).collect();
+    let instance = [vec![0x01], list(&items)].concat();
+    let aliases: Vec<Vec<u8>> =
+        names.map(|name| [vec![0x00, 0x02, 0x01, 0x00], text(&name)].concat()).collect();
+    file(&[guest(), section(2, &list(&[instance])), section(6, &list(&aliases))])
 }
 
 /// So many types, each a tuple of one of 8,191 nodes.
@@ -259,6 +279,12 @@ pub fn run() {
         of_file(&format!("{count} imports with crafted names"), &crafted_imports(count), count);
         let benign = file(&[types(&[func_type("x", U32)]), imports(1, 0, plain_names(count))]);
         of_file(&format!("{count} imports with other names as long"), &benign, count);
+        let (crafted, plain) = (inline_exports(crafted_names(count)), inline_exports(plain_names(count)));
+        of_file(&format!("{count} inline exports with crafted names"), &crafted, 1);
+        of_file(&format!("{count} inline exports with other names"), &plain, 1);
+        let (crafted, plain) = (core_exports(crafted_names(count)), core_exports(plain_names(count)));
+        of_file(&format!("{count} core exports with crafted names"), &crafted, 0);
+        of_file(&format!("{count} core exports with other names"), &plain, 0);
     }
     for count in [1_024, 4_083] {
         of_file(&format!("{count} types, each with 8,191 nodes below it"), &large_types(count), 0);
