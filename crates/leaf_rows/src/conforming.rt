@@ -1,9 +1,8 @@
 //! Rows on signatures that are to fit those of worlds.
 
 use crate::signatures::read_signature;
-use crate::words::split_words;
 use cm_conforms::{ConformFault, ConformList, ConformReason, conforms};
-use cm_rows::RowFault;
+use cm_rows::{RowFault, split_words};
 use std::alloc::{AllocError, Global};
 
 /// The answer to `SIGNATURE // SIGNATURE`, the second that of a world: `fits`, or the first fault
