@@ -20,13 +20,16 @@ use std::rc::Rc;
 /// `same LEFT RIGHT TYPE = TYPE`, `has TYPE = VALUE` or `same_func FUNC = FUNC`. LEFT and RIGHT are
 /// resources joined by commas, or `-`.
 pub fn answer(alloc: Global, words: &[&str]) -> Result<String, RowFault> {
-    match words {
-        ["within", ty @ ..] => show_within(alloc, ty),
-        ["within_func", params @ ..] => show_within_func(alloc, params),
-        ["equal", types @ ..] => show_equals(alloc, types),
-        ["same", left, right, types @ ..] => show_same(alloc, left, right, types),
-        ["has", words @ ..] => show_has(alloc, words),
-        ["same_func", funcs @ ..] => show_same_func(alloc, funcs),
+    let [call, rest @ ..] = words else {
+        return Err(RowFault::NotARow);
+    };
+    match *call {
+        "within" => show_within(alloc, rest),
+        "within_func" => show_within_func(alloc, rest),
+        "equal" => show_equals(alloc, rest),
+        "same" => show_same(alloc, rest),
+        "has" => show_has(alloc, rest),
+        "same_func" => show_same_func(alloc, rest),
         _ => Err(RowFault::NotARow),
     }
 }
@@ -44,7 +47,10 @@ fn show_within_func(alloc: Global, params: &[&str]) -> Result<String, RowFault> 
     show_limit(alloc, Func::new(params, None).err())
 }
 
-fn show_same(alloc: Global, left: &str, right: &str, types: &[&str]) -> Result<String, RowFault> {
+fn show_same(alloc: Global, words: &[&str]) -> Result<String, RowFault> {
+    let [left, right, types @ ..] = words else {
+        return Err(RowFault::NotARow);
+    };
     let left = read_resources(alloc, left)?;
     let right = read_resources(alloc, right)?;
     show_same_by(alloc, &left, &right, types)
