@@ -9,20 +9,19 @@
 //! `last`, that of the type that was added last. `N*` before an item stands for N of them, before
 //! a place for N of that place.
 
-use crate::words::{read_labels, read_primitive, read_resource, split_words};
+use crate::words::{read_labels, read_primitive, read_resource};
 use cm_layout::{layout_of_params, size};
-use cm_rows::{RowFault, read_number, split_repeat};
+use cm_rows::{RowFault, read_number, split_repeat, split_words};
 use cm_type_arena::{CaseDef, DefFault, FieldDef, FuncDef, Primitive, Summary, TypeDef, Types};
+use cm_types::{Func, Label, TypeTree};
 use std::alloc::{AllocError, Global};
+use std::rc::Rc;
 
 /// The answer to `ITEM ; ITEM ..`: of each item, and of several alike of the last, the place with
 /// those of its parts, what is known of it and its size in bytes; or its fault; or `unordered`
 /// where a part has no place.
 pub fn answer(alloc: Global, words: &[&str]) -> Result<String, RowFault> {
-    let mut arena = Arena::new(alloc)?;
-    for words in words.split(|word| *word == ";") {
-        arena.read_item(words)?;
-    }
+    let arena = Arena::read(alloc, words)?;
     Ok(arena.out)
 }
 
@@ -31,6 +30,8 @@ pub fn answer(alloc: Global, words: &[&str]) -> Result<String, RowFault> {
 pub struct Arena {
     alloc: Global,
     pub types: Types,
+    /// Where the items begin: the primitive types stand before them.
+    pub first: usize,
     out: String,
 }
 
@@ -48,15 +49,26 @@ enum Outcome {
 
 impl Arena {
     pub fn new(alloc: Global) -> Result<Arena, AllocError> {
+        let types = Types::new(alloc)?;
         Ok(Arena {
             alloc,
-            types: Types::new(alloc)?,
+            first: types.len(),
+            types,
             out: String::new(alloc),
         })
     }
 
+    /// The types of `ITEM ; ITEM ..`.
+    pub fn read(alloc: Global, words: &[&str]) -> Result<Arena, RowFault> {
+        let mut arena = Arena::new(alloc)?;
+        for words in words.split(|word| *word == ";") {
+            arena.read_item(words)?;
+        }
+        Ok(arena)
+    }
+
     /// Adds an item, or several alike, and answers it.
-    pub fn read_item(&mut self, words: &[&str]) -> Result<(), RowFault> {
+    fn read_item(&mut self, words: &[&str]) -> Result<(), RowFault> {
         let [word, words @ ..] = words else {
             return Err(RowFault::NotARow);
         };
@@ -118,35 +130,33 @@ impl Arena {
 
     /// `PLACE of PARTS: SUMMARY, SIZE`.
     fn show_type(&self, place: usize) -> Result<String, RowFault> {
-        let mut out = String::new(self.alloc);
-        write!(out, "{place} of")?;
         if place >= self.types.len() {
             return Err(RowFault::NotARow);
         }
+        let size = size_of(self.types.tree(place)?);
+        let mut out = String::new(self.alloc);
+        write!(out, "{place} of")?;
         write_places(&mut out, self.types.parts(place))?;
         out.push_str(":")?;
         write_summary(&mut out, self.types.summary(place))?;
-        let tree = self.types.tree(place)?;
-        let size = size(&tree);
         write!(out, ", size {size}")?;
         Ok(out)
     }
 
     /// `func PLACE of PARAMETERS to RESULT: SUMMARY, SIZE` of the parameters as a tuple.
     fn show_func(&self, place: usize) -> Result<String, RowFault> {
-        let mut out = String::new(self.alloc);
-        write!(out, "func {place} of")?;
         if place >= self.types.func_count() {
             return Err(RowFault::NotARow);
         }
+        let size = size_of_params(self.alloc, self.types.share_func(place)?)?;
+        let mut out = String::new(self.alloc);
+        write!(out, "func {place} of")?;
         write_places(&mut out, self.types.func_params(place))?;
         match self.types.func_result(place) {
             Some(answer) => write!(out, " to {answer}:")?,
             None => out.push_str(" to -:")?,
         }
         write_summary(&mut out, self.types.params_summary(place))?;
-        let shared = self.types.share_func(place)?;
-        let size = layout_of_params(self.alloc, &shared)?.head.size;
         let labels = self.types.func(place).params.len();
         write!(out, ", {labels} of size {size}")?;
         Ok(out)
@@ -164,27 +174,37 @@ impl Arena {
     }
 
     fn read_def(&self, name: &str, operand: &str, words: &[&str]) -> Result<TypeDef, RowFault> {
-        Ok(match (name, words) {
-            ("list", [part]) => TypeDef::List(self.read_place(part)?),
-            ("option", [part]) => TypeDef::Option(self.read_place(part)?),
-            ("fixed", [part]) => TypeDef::FixedList {
-                element: self.read_place(part)?,
+        match name {
+            "list" => Ok(TypeDef::List(self.read_part(words)?)),
+            "option" => Ok(TypeDef::Option(self.read_part(words)?)),
+            "fixed" => Ok(TypeDef::FixedList {
+                element: self.read_part(words)?,
                 length: read_number(operand)?,
-            },
-            ("tuple", parts) => TypeDef::Tuple(self.read_places(parts)?),
-            ("record", parts) => TypeDef::Record(self.read_fields(operand, parts)?),
-            ("variant", payloads) => TypeDef::Variant(self.read_cases(operand, payloads)?),
-            ("result", [ok, error]) => TypeDef::Result {
+            }),
+            "tuple" => Ok(TypeDef::Tuple(self.read_places(words)?)),
+            "record" => Ok(TypeDef::Record(self.read_fields(operand, words)?)),
+            "variant" => Ok(TypeDef::Variant(self.read_cases(operand, words)?)),
+            "result" => self.read_result(words),
+            name if words.is_empty() => read_leaf(self.alloc, name, operand),
+            _ => Err(RowFault::NotARow),
+        }
+    }
+
+    fn read_part(&self, words: &[&str]) -> Result<usize, RowFault> {
+        match words {
+            [part] => self.read_place(part),
+            _ => Err(RowFault::NotARow),
+        }
+    }
+
+    fn read_result(&self, words: &[&str]) -> Result<TypeDef, RowFault> {
+        match words {
+            [ok, error] => Ok(TypeDef::Result {
                 ok: self.read_payload(ok)?,
                 error: self.read_payload(error)?,
-            },
-            ("enum", []) => TypeDef::Enum(read_labels(self.alloc, operand)?),
-            ("flags", []) => TypeDef::Flags(read_labels(self.alloc, operand)?),
-            ("own", []) => TypeDef::Own(read_resource(operand)?),
-            ("borrow", []) => TypeDef::Borrow(read_resource(operand)?),
-            (name, []) => TypeDef::Primitive(read_primitive(name)?),
-            _ => return Err(RowFault::NotARow),
-        })
+            }),
+            _ => Err(RowFault::NotARow),
+        }
     }
 
     /// A place by its number, by the name of a primitive type, or as `last`.
@@ -219,37 +239,69 @@ impl Arena {
 
     /// As many fields as places, with these labels.
     fn read_fields(&self, labels: &str, words: &[&str]) -> Result<Vec<FieldDef>, RowFault> {
-        let mut fields = Vec::new(self.alloc);
         let places = self.read_places(words)?;
-        let mut places = places.iter();
-        if !labels.is_empty() {
-            for label in read_labels(self.alloc, labels)? {
-                let place = places.next().ok_or(RowFault::NotARow)?;
-                fields.push(FieldDef { label, ty: *place })?;
-            }
-        }
-        match places.next() {
-            None => Ok(fields),
-            Some(_) => Err(RowFault::NotARow),
-        }
+        fields_of(self.alloc, labels_of(self.alloc, labels)?, &places)
     }
 
     /// As many cases as payloads, with these labels.
     fn read_cases(&self, labels: &str, words: &[&str]) -> Result<Vec<CaseDef>, RowFault> {
         let mut cases = Vec::new(self.alloc);
         let mut words = words.iter();
-        if !labels.is_empty() {
-            for label in read_labels(self.alloc, labels)? {
-                let word = words.next().ok_or(RowFault::NotARow)?;
-                let payload = self.read_payload(word)?;
-                cases.push(CaseDef { label, payload })?;
-            }
+        for label in labels_of(self.alloc, labels)? {
+            let word = words.next().ok_or(RowFault::NotARow)?;
+            let payload = self.read_payload(word)?;
+            cases.push(CaseDef { label, payload })?;
         }
         match words.next() {
             None => Ok(cases),
             Some(_) => Err(RowFault::NotARow),
         }
     }
+}
+
+/// A definition of one word.
+fn read_leaf(alloc: Global, name: &str, operand: &str) -> Result<TypeDef, RowFault> {
+    match name {
+        "enum" => Ok(TypeDef::Enum(read_labels(alloc, operand)?)),
+        "flags" => Ok(TypeDef::Flags(read_labels(alloc, operand)?)),
+        "own" => Ok(TypeDef::Own(read_resource(operand)?)),
+        "borrow" => Ok(TypeDef::Borrow(read_resource(operand)?)),
+        name => Ok(TypeDef::Primitive(read_primitive(name)?)),
+    }
+}
+
+/// The labels that a text spells; none where it is empty.
+fn labels_of(alloc: Global, text: &str) -> Result<Vec<Label>, RowFault> {
+    if text.is_empty() {
+        Ok(Vec::new(alloc))
+    } else {
+        read_labels(alloc, text)
+    }
+}
+
+fn fields_of(
+    alloc: Global,
+    labels: Vec<Label>,
+    places: &[usize],
+) -> Result<Vec<FieldDef>, RowFault> {
+    let mut fields = Vec::new(alloc);
+    let mut places = places.iter();
+    for label in labels {
+        let place = places.next().ok_or(RowFault::NotARow)?;
+        fields.push(FieldDef { label, ty: *place })?;
+    }
+    match places.next() {
+        None => Ok(fields),
+        Some(_) => Err(RowFault::NotARow),
+    }
+}
+
+fn size_of(tree: TypeTree) -> u32 {
+    size(&tree)
+}
+
+fn size_of_params(alloc: Global, func: Rc<Func>) -> Result<u32, AllocError> {
+    Ok(layout_of_params(alloc, &func)?.head.size)
 }
 
 /// Each place after a space; `-` for none.

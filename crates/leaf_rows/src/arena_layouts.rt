@@ -12,20 +12,21 @@ use std::alloc::{AllocError, Global};
 /// The answer to `ITEM ; ITEM ..`: the layout of each item that is a type, and so, behind `/`, of
 /// the parameters of each function as a tuple. Many alike are written once, behind how many.
 pub fn answer(alloc: Global, words: &[&str]) -> Result<String, RowFault> {
-    let mut arena = Arena::new(alloc)?;
-    // The primitive types stand at the first places.
-    let first = arena.types.len();
-    for words in words.split(|word| *word == ";") {
-        arena.read_item(words)?;
-    }
+    let arena = Arena::read(alloc, words)?;
     let mut runs = Runs::new(alloc, " ; ");
-    write_all(alloc, &arena.types, first, &mut runs)?;
+    write_all(alloc, &arena.types, arena.first, &mut runs)?;
     Ok(runs.finish()?)
 }
 
 fn text_of(alloc: Global, layout: &Layout) -> Result<String, AllocError> {
     let mut out = String::new(alloc);
     write_layout(&mut out, layout)?;
+    Ok(out)
+}
+
+fn text_of_params(alloc: Global, params: Layout) -> Result<String, AllocError> {
+    let mut out = String::from_str(alloc, "/ ")?;
+    write_layout(&mut out, &params)?;
     Ok(out)
 }
 
@@ -41,8 +42,7 @@ fn write_all(
     }
     for func in 0..types.func_count() {
         let params = layouts.params(alloc, types, func)?;
-        let text = text_of(alloc, &params)?;
-        runs.add(format!(in alloc; "/ {text}")?)?;
+        runs.add(text_of_params(alloc, params)?)?;
     }
     Ok(())
 }

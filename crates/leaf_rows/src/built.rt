@@ -1,24 +1,31 @@
 //! Rows on layouts that are made of those of their parts, one after another.
 
-use crate::words::read_label;
+use crate::types::labelled;
 use cm_layout::{CasesBuilder, FieldsBuilder, Form, Head, Layout, Leaf, Payload, layout_of_fields};
 use cm_rows::RowFault;
-use cm_types::{Field, Func, TypeNode};
+use cm_types::{Func, TypeNode};
 use std::alloc::{AllocError, Global};
 
 /// The answer to `record`, of a byte and a string; `fixed`, of three numbers of 16 bits; `option`,
 /// of a string; or `fields`, of a byte and a number of 64 bits as the parameters of a function.
 pub fn answer(alloc: Global, words: &[&str]) -> Result<String, RowFault> {
-    let layout = match words {
-        ["record"] => record(alloc)?,
-        ["fixed"] => fixed(alloc)?,
-        ["option"] => option(alloc)?,
-        ["fields"] => fields(alloc)?,
-        _ => return Err(RowFault::NotARow),
+    let [form] = words else {
+        return Err(RowFault::NotARow);
     };
+    let layout = layout_of(alloc, form)?;
     let mut out = String::new(alloc);
     write_layout(&mut out, &layout)?;
     Ok(out)
+}
+
+fn layout_of(alloc: Global, form: &str) -> Result<Layout, RowFault> {
+    match form {
+        "record" => Ok(record(alloc)?),
+        "fixed" => Ok(fixed(alloc)?),
+        "option" => Ok(option(alloc)?),
+        "fields" => fields(alloc),
+        _ => Err(RowFault::NotARow),
+    }
 }
 
 fn record(alloc: Global) -> Result<Layout, AllocError> {
@@ -40,12 +47,8 @@ fn option(alloc: Global) -> Result<Layout, AllocError> {
 }
 
 fn fields(alloc: Global) -> Result<Layout, RowFault> {
-    let mut params = Vec::new(alloc);
-    for ty in [TypeNode::U8, TypeNode::U64] {
-        let label = read_label(alloc, "a")?;
-        params.push(Field { label, ty })?;
-    }
-    match Func::new(params, None) {
+    let types = Vec::from_array(alloc, [TypeNode::U8, TypeNode::U64])?;
+    match Func::new(labelled(alloc, types)?, None) {
         Ok(func) => Ok(layout_of_fields(alloc, &func.params)?),
         Err(_) => Err(RowFault::NotARow),
     }

@@ -3,7 +3,7 @@
 use cm_candidates::{Candidate, Exports};
 use cm_rows::RowFault;
 use cm_types::ExternName;
-use std::alloc::Global;
+use std::alloc::{AllocError, Global};
 
 /// The answer to `WANTED NAME..`, a name and those of the exports of components, with a `|` between
 /// those of two components: `none` may serve an import of the name, `one COMPONENT NUMBER`, or
@@ -12,13 +12,17 @@ pub fn answer(alloc: Global, words: &[&str]) -> Result<String, RowFault> {
     let [wanted, names @ ..] = words else {
         return Err(RowFault::NotARow);
     };
-    let wanted = read_name(alloc, wanted)?;
     let exports = read_exports(alloc, names)?;
-    Ok(match exports.candidate(alloc, &wanted)? {
-        Candidate::None => String::from_str(alloc, "none")?,
-        Candidate::One { component, export } => format!(in alloc; "one {component} {export}")?,
-        Candidate::Several => String::from_str(alloc, "several")?,
-    })
+    let wanted = read_name(alloc, wanted)?;
+    Ok(show(alloc, exports.candidate(alloc, &wanted)?)?)
+}
+
+fn show(alloc: Global, candidate: Candidate) -> Result<String, AllocError> {
+    match candidate {
+        Candidate::None => String::from_str(alloc, "none"),
+        Candidate::One { component, export } => format!(in alloc; "one {component} {export}"),
+        Candidate::Several => String::from_str(alloc, "several"),
+    }
 }
 
 fn read_name(alloc: Global, word: &str) -> Result<ExternName, RowFault> {

@@ -1,9 +1,9 @@
 //! Rows on signatures that are to fit those of worlds.
 
 use crate::signatures::read_signature;
-use crate::words::split_words;
 use cm_conforms::{ConformFault, ConformList, ConformReason, conforms};
-use cm_rows::RowFault;
+use cm_rows::{RowFault, split_words};
+use cm_signatures::Signature;
 use std::alloc::{AllocError, Global};
 
 /// The answer to `SIGNATURE // SIGNATURE`, the second that of a world: `fits`, or the first fault
@@ -11,9 +11,12 @@ use std::alloc::{AllocError, Global};
 /// there of the item at fault, if it is one.
 pub fn answer(alloc: Global, words: &[&str]) -> Result<String, RowFault> {
     let (have, world) = split_words(words, "//")?;
-    let have = read_signature(alloc, have)?;
+    show_fit(alloc, &read_signature(alloc, have)?, world)
+}
+
+fn show_fit(alloc: Global, have: &Signature, world: &[&str]) -> Result<String, RowFault> {
     let world = read_signature(alloc, world)?;
-    match conforms(alloc, &have, &world) {
+    match conforms(alloc, have, &world) {
         Ok(()) => Ok(String::from_str(alloc, "fits")?),
         Err(fault) if fault.reason == ConformReason::Memory => Err(RowFault::Memory),
         Err(fault) => Ok(write_fault(alloc, fault)?),

@@ -16,10 +16,7 @@ pub fn answer(alloc: Global, words: &[&str]) -> Result<String, RowFault> {
     let [resources, words @ ..] = words else {
         return Err(RowFault::NotARow);
     };
-    let mut arena = Arena::new(alloc)?;
-    for words in words.split(|word| *word == ";") {
-        arena.read_item(words)?;
-    }
+    let mut arena = Arena::read(alloc, words)?;
     match resources.strip_prefix("move:") {
         Some(numbers) => copy_last(alloc, &mut arena.types, &read_move(numbers)?),
         None => {
@@ -36,12 +33,18 @@ fn copy_last<R: Replacement>(alloc: Global, types: &mut Types, by: &R) -> Result
     let mut out = String::new(alloc);
     write!(out, "{copy} of")?;
     write_places(&mut out, types.parts(copy))?;
+    write_more(&mut out, types, count)?;
+    Ok(out)
+}
+
+/// How many more types than so many there are, and the handles among them.
+fn write_more(out: &mut String, types: &Types, count: usize) -> Result<(), AllocError> {
     let more = types.len().saturating_sub(count);
     write!(out, ", {more} more")?;
     for place in count..types.len() {
-        write_handle(&mut out, types.node(place))?;
+        write_handle(out, types.node(place))?;
     }
-    Ok(out)
+    Ok(())
 }
 
 /// A handle behind a comma; nothing where it is none.

@@ -3,6 +3,7 @@
 use cm_grammar::{Cursor, End, ReadError, write_blob};
 use cm_rows::{RowFault, read_bytes, read_number, write_bytes};
 use std::alloc::{AllocError, Global};
+use std::fmt::Display;
 
 /// Why the bytes of a row are refused.
 #[derive(Clone, Copy)]
@@ -20,26 +21,33 @@ enum Reason {
 /// `fault` or `want`.
 pub fn answer(alloc: Global, words: &[&str]) -> Result<String, RowFault> {
     match words {
-        ["steps", bytes, steps @ ..] => {
-            let bytes = read_bytes(alloc, bytes)?;
-            let mut out = String::new(alloc);
-            let mut cursor = Cursor::new(&bytes, End::Cut(Reason::Ended));
-            take_steps(alloc, &mut cursor, steps, &mut out)?;
-            Ok(out)
-        }
+        ["steps", bytes, steps @ ..] => take_all(alloc, &read_bytes(alloc, bytes)?, steps),
         ["part", bytes, size, steps @ ..] => {
-            let bytes = read_bytes(alloc, bytes)?;
-            take_part(alloc, &bytes, read_number(size)?, steps)
+            take_part(alloc, &read_bytes(alloc, bytes)?, read_number(size)?, steps)
         }
         ["write_blob", before, bytes] => {
-            let mut written = read_bytes(alloc, before)?;
-            write_blob(&mut written, &read_bytes(alloc, bytes)?)?;
-            let mut out = String::new(alloc);
-            write_bytes(&mut out, &written)?;
-            Ok(out)
+            show_blob(
+                alloc,
+                read_bytes(alloc, before)?,
+                &read_bytes(alloc, bytes)?,
+            )
         }
         _ => Err(RowFault::NotARow),
     }
+}
+
+fn take_all(alloc: Global, bytes: &[u8], steps: &[&str]) -> Result<String, RowFault> {
+    let mut out = String::new(alloc);
+    let mut cursor = Cursor::new(bytes, End::Cut(Reason::Ended));
+    take_steps(alloc, &mut cursor, steps, &mut out)?;
+    Ok(out)
+}
+
+fn show_blob(alloc: Global, mut written: Vec<u8>, bytes: &[u8]) -> Result<String, RowFault> {
+    write_blob(&mut written, bytes)?;
+    let mut out = String::new(alloc);
+    write_bytes(&mut out, &written)?;
+    Ok(out)
 }
 
 /// Takes the steps in turn, and writes the answer of each and then what is left.
@@ -66,35 +74,56 @@ fn take_step(
 ) -> Result<(), RowFault> {
     let (name, operand) = step.split_once(':').unwrap_or((step, "-"));
     match name {
-        "number" => match cursor.number(Reason::Bad) {
-            Ok(number) => write!(out, "{number}")?,
-            Err(error) => write_error(out, error)?,
-        },
-        "signed" => match cursor.signed(Reason::Bad) {
-            Ok(number) => write!(out, "{number}")?,
-            Err(error) => write_error(out, error)?,
-        },
+        "number" => Ok(write_number(out, cursor.number(Reason::Bad))?),
+        "signed" => Ok(write_number(out, cursor.signed(Reason::Bad))?),
         "raw" => {
             let bytes = cursor.raw(read_number(operand)?);
-            write_outcome(out, bytes)?;
+            Ok(write_outcome(out, bytes)?)
         }
-        "fixed" => match cursor.fixed(&read_bytes(alloc, operand)?, Reason::Bad) {
-            Ok(()) => out.push_str("read")?,
-            Err(error) => write_error(out, error)?,
-        },
+        "fixed" => {
+            let read = cursor.fixed(&read_bytes(alloc, operand)?, Reason::Bad);
+            Ok(write_done(out, read, "read")?)
+        }
         "begins_with" => {
             let bytes = cursor.begins_with(&read_bytes(alloc, operand)?, Reason::Bad);
-            write_outcome(out, bytes)?;
+            Ok(write_outcome(out, bytes)?)
         }
-        "fault" => write_error(out, cursor.fault(Reason::Bad))?,
-        "want" => write_error(out, cursor.want())?,
-        "finish" => match cursor.finish(Reason::Mismatch) {
-            Ok(()) => out.push_str("finished")?,
-            Err(error) => write_error(out, error)?,
-        },
-        _ => return Err(RowFault::NotARow),
+        name => take_plain_step(cursor, name, out),
     }
-    Ok(())
+}
+
+fn take_plain_step(
+    cursor: &mut Cursor<'_, Reason>,
+    name: &str,
+    out: &mut String,
+) -> Result<(), RowFault> {
+    match name {
+        "fault" => Ok(write_error(out, cursor.fault(Reason::Bad))?),
+        "want" => Ok(write_error(out, cursor.want())?),
+        "finish" => Ok(write_done(out, cursor.finish(Reason::Mismatch), "finished")?),
+        _ => Err(RowFault::NotARow),
+    }
+}
+
+fn write_number<T: Display + Drop>(
+    out: &mut String,
+    number: Result<T, ReadError<Reason>>,
+) -> Result<(), AllocError> {
+    match number {
+        Ok(number) => write!(out, "{number}"),
+        Err(error) => write_error(out, error),
+    }
+}
+
+fn write_done(
+    out: &mut String,
+    outcome: Result<(), ReadError<Reason>>,
+    done: &str,
+) -> Result<(), AllocError> {
+    match outcome {
+        Ok(()) => out.push_str(done),
+        Err(error) => write_error(out, error),
+    }
 }
 
 /// Takes the steps in a part of so many bytes at the front, reads a number there after them, and
@@ -106,10 +135,7 @@ fn take_part(alloc: Global, bytes: &[u8], size: u32, steps: &[&str]) -> Result<S
     take_steps(alloc, &mut part, steps, &mut out)?;
     let inside = part.number(Reason::Bad);
     out.push_str("; behind ")?;
-    match leave(&mut whole, size, inside)? {
-        Ok(number) => write!(out, "{number}")?,
-        Err(error) => write_error(&mut out, error)?,
-    }
+    write_number(&mut out, leave(&mut whole, size, inside)?)?;
     out.push_str("; left ")?;
     write_bytes(&mut out, whole.rest)?;
     Ok(out)

@@ -4,7 +4,7 @@ ghost use Rattle.std.specs.Prelude.{◌^◌, ◌<◌, IsTrue};
 ghost use Rattle.std.specs.Option.{ForSome};
 ghost use Rattle.cm_handles.specs.Handles.{handle_at};
 
-use crate::types::read_resource;
+use crate::words::read_resource;
 use cm_handles::{Handle, HandleFault, HandleKind, Table};
 use cm_rows::{RowFault, read_number};
 use cm_types::ResourceId;
@@ -40,38 +40,43 @@ impl Handles {
     /// RESOURCE SERIAL`, `add HANDLE..`, or a call by its name, whose words are those of its
     /// arguments.
     pub fn answer(&mut self, alloc: Global, words: &[&str]) -> Result<String, RowFault> {
-        match words {
-            ["new"] => {
+        let [call, rest @ ..] = words else {
+            return Err(RowFault::NotARow);
+        };
+        match *call {
+            "add" => show_index(alloc, self.table.add(read_handle(rest)?)),
+            "fill" => self.fill(alloc, rest),
+            "restore" => self.restore(alloc, rest),
+            call => match rest {
+                [] => self.answer_word(alloc, call),
+                [additional] if call == "reserve" => {
+                    show_unit(alloc, self.table.reserve(read_number(additional)?))
+                }
+                [index, resource] => self.call(
+                    alloc,
+                    call,
+                    read_number(index)?,
+                    read_resource(resource)?,
+                ),
+                _ => Err(RowFault::NotARow),
+            },
+        }
+    }
+
+    fn answer_word(&mut self, alloc: Global, word: &str) -> Result<String, RowFault> {
+        match word {
+            "new" => {
                 self.table = Table::new(alloc);
                 Ok(String::from_str(alloc, "empty")?)
             }
-            ["memory_fault"] => {
+            "memory_fault" => {
                 let number = HandleFault::Memory.number();
                 Ok(format!(in alloc; "fault {number}")?)
             }
-            ["close"] => {
+            "close" => {
                 self.table.close();
                 Ok(String::from_str(alloc, "closed")?)
             }
-            ["reserve", additional] => {
-                show_unit(alloc, self.table.reserve(read_number(additional)?))
-            }
-            ["add", handle @ ..] => show_index(alloc, self.table.add(read_handle(handle)?)),
-            ["fill", count, handle @ ..] => {
-                self.fill(alloc, read_number(count)?, read_handle(handle)?)
-            }
-            ["restore", first, second, resource] => self.take_and_restore(
-                alloc,
-                read_number(first)?,
-                read_number(second)?,
-                read_resource(resource)?,
-            ),
-            [call, index, resource] => self.call(
-                alloc,
-                call,
-                read_number(index)?,
-                read_resource(resource)?,
-            ),
             _ => Err(RowFault::NotARow),
         }
     }
@@ -105,9 +110,25 @@ impl Handles {
         }
     }
 
+    fn fill(&mut self, alloc: Global, words: &[&str]) -> Result<String, RowFault> {
+        match words {
+            [count, handle @ ..] => self.add_several(
+                alloc,
+                read_number(count)?,
+                read_handle(handle)?,
+            ),
+            [] => Err(RowFault::NotARow),
+        }
+    }
+
     /// Adds so many handles, of which each is to stand at the index after that of the one before
     /// it.
-    fn fill(&mut self, alloc: Global, count: u32, handle: Handle) -> Result<String, RowFault> {
+    fn add_several(
+        &mut self,
+        alloc: Global,
+        count: u32,
+        handle: Handle,
+    ) -> Result<String, RowFault> {
         let mut last = 0u32;
         for _ in 0..count {
             let rep = last.saturating_add(1);
@@ -117,6 +138,18 @@ impl Handles {
             }
         }
         Ok(format!(in alloc; "up to {last}")?)
+    }
+
+    fn restore(&mut self, alloc: Global, words: &[&str]) -> Result<String, RowFault> {
+        match words {
+            [first, second, resource] => self.take_and_restore(
+                alloc,
+                read_number(first)?,
+                read_number(second)?,
+                read_resource(resource)?,
+            ),
+            _ => Err(RowFault::NotARow),
+        }
     }
 
     /// Takes two handles, says what stands at their indices then, and puts them back, the last one

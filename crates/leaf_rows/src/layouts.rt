@@ -13,16 +13,15 @@ use std::alloc::{AllocError, Global};
 /// The answer to `whole TYPE`, `fields TYPE`, `payload TYPE`, `head TYPE`, `tree TYPE`,
 /// `made TYPE`, `leaves COUNT`, `params FUNC`, `lift FUNC` or `lower FUNC`.
 pub fn answer(alloc: Global, words: &[&str]) -> Result<String, RowFault> {
-    match words {
-        ["params", func @ ..] => show_params(alloc, func),
-        ["lift", func @ ..] => show_flat_func(alloc, func, Side::Lift),
-        ["lower", func @ ..] => show_flat_func(alloc, func, Side::Lower),
-        ["leaves", count] => show_leaves(alloc, count),
-        [kind, ty @ ..] => {
-            let ty = read_tree(alloc, ty)?;
-            answer_on_type(alloc, kind, &ty)
-        }
-        _ => Err(RowFault::NotARow),
+    let [kind, rest @ ..] = words else {
+        return Err(RowFault::NotARow);
+    };
+    match *kind {
+        "params" => show_params(alloc, rest),
+        "lift" => show_flat_func(alloc, rest, Side::Lift),
+        "lower" => show_flat_func(alloc, rest, Side::Lower),
+        "leaves" => show_leaves(alloc, rest),
+        kind => answer_on_type(alloc, kind, &read_tree(alloc, rest)?),
     }
 }
 
@@ -39,15 +38,18 @@ fn answer_on_type(alloc: Global, kind: &str, ty: &TypeTree) -> Result<String, Ro
 }
 
 fn show_tree(alloc: Global, ty: &TypeTree) -> Result<String, RowFault> {
-    let mut out = String::new(alloc);
-    write_layout(&mut out, &layout(alloc, ty)?)?;
-    Ok(out)
+    Ok(text_of(alloc, layout(alloc, ty)?)?)
 }
 
 fn show_params(alloc: Global, func: &[&str]) -> Result<String, RowFault> {
     let func = read_func(alloc, func)?;
+    Ok(text_of(alloc, layout_of_params(alloc, &func)?)?)
+}
+
+/// The text of a layout.
+fn text_of(alloc: Global, layout: Layout) -> Result<String, AllocError> {
     let mut out = String::new(alloc);
-    write_layout(&mut out, &layout_of_params(alloc, &func)?)?;
+    write_layout(&mut out, &layout)?;
     Ok(out)
 }
 
@@ -93,26 +95,34 @@ fn show_head(alloc: Global, ty: &TypeTree) -> Result<String, RowFault> {
 fn show_made(alloc: Global, ty: &TypeTree) -> Result<String, RowFault> {
     let element = layout(alloc, ty)?;
     let list = Layout::list(alloc, element.share()?)?;
-    let mut out = String::new(alloc);
-    write_layout(&mut out, &list)?;
-    Ok(out)
+    Ok(text_of(alloc, list)?)
 }
 
 /// What is made of numbers and handles alone: a leaf, a string, flags, an enum and a handle.
-fn show_leaves(alloc: Global, labels: &str) -> Result<String, RowFault> {
-    let labels = read_number::<u32>(labels)? as usize;
+fn show_leaves(alloc: Global, words: &[&str]) -> Result<String, RowFault> {
+    match words {
+        [labels] => Ok(leaves_of(alloc, read_number::<u32>(labels)? as usize)?),
+        _ => Err(RowFault::NotARow),
+    }
+}
+
+fn leaves_of(alloc: Global, labels: usize) -> Result<String, AllocError> {
     let resource = ResourceId {
         component: 0,
         number: 7,
     };
     let mut out = String::new(alloc);
-    write_layout(&mut out, &Layout::leaf(Leaf::Signed(2)))?;
+    write_made(&mut out, Layout::leaf(Leaf::Signed(2)))?;
     write_head(&mut out, Leaf::Char.head())?;
-    write_layout(&mut out, &Layout::string())?;
-    write_layout(&mut out, &Layout::flags(labels))?;
-    write_layout(&mut out, &Layout::enumeration(labels))?;
-    write_layout(&mut out, &Layout::handle(HandleType::Own(resource)))?;
+    write_made(&mut out, Layout::string())?;
+    write_made(&mut out, Layout::flags(labels))?;
+    write_made(&mut out, Layout::enumeration(labels))?;
+    write_made(&mut out, Layout::handle(HandleType::Own(resource)))?;
     Ok(out)
+}
+
+fn write_made(out: &mut String, layout: Layout) -> Result<(), AllocError> {
+    write_layout(out, &layout)
 }
 
 /// `SIZE/ALIGN/WIDTH`, with `plain` behind it for plain bytes.
@@ -130,33 +140,38 @@ fn write_head(out: &mut String, head: Head) -> Result<(), AllocError> {
 fn write_layout(out: &mut String, layout: &Layout) -> Result<(), AllocError> {
     out.push_str("(")?;
     write_head(out, layout.head)?;
-    match &layout.form {
-        Form::Leaf(leaf) => write_leaf(out, *leaf)?,
-        Form::String => out.push_str(" string")?,
+    write_form(out, &layout.form)?;
+    out.push_str(")")
+}
+
+#[cycle(layouts)]
+fn write_form(out: &mut String, form: &Form) -> Result<(), AllocError> {
+    match form {
+        Form::Leaf(leaf) => write_leaf(out, *leaf),
+        Form::String => out.push_str(" string"),
         Form::List(element) => {
             out.push_str(" list ")?;
-            write_layout(out, element)?;
+            write_layout(out, element)
         }
         Form::FixedList { element, length } => {
             write!(out, " fixed {length} ")?;
-            write_layout(out, element)?;
+            write_layout(out, element)
         }
-        Form::Fields(parts) => write_parts(out, parts)?,
+        Form::Fields(parts) => write_parts(out, parts),
         Form::Cases {
             discriminant,
             offset,
             payloads,
         } => {
             write!(out, " cases {discriminant} at {offset}")?;
-            write_payloads(out, payloads)?;
+            write_payloads(out, payloads)
         }
         Form::Enum {
             discriminant,
             count,
-        } => write!(out, " enum {discriminant} of {count}")?,
-        Form::Handle(handle) => write_handle(out, *handle)?,
+        } => write!(out, " enum {discriminant} of {count}"),
+        Form::Handle(handle) => write_handle(out, *handle),
     }
-    out.push_str(")")
 }
 
 fn write_leaf(out: &mut String, leaf: Leaf) -> Result<(), AllocError> {
@@ -225,8 +240,12 @@ fn write_kinds(out: &mut String, kinds: &[CoreKind]) -> Result<(), AllocError> {
 
 fn show_flat_func(alloc: Global, func: &[&str], side: Side) -> Result<String, RowFault> {
     let func = read_func(alloc, func)?;
+    Ok(text_of_flat(alloc, flatten_func(alloc, &func, side)?)?)
+}
+
+fn text_of_flat(alloc: Global, flat: FlatFunc) -> Result<String, AllocError> {
     let mut out = String::new(alloc);
-    write_flat_func(&mut out, &flatten_func(alloc, &func, side)?)?;
+    write_flat_func(&mut out, &flat)?;
     Ok(out)
 }
 

@@ -35,22 +35,25 @@ struct LeafRows {
 
 impl Driver for LeafRows {
     fn answer(&mut self, alloc: Global, words: &[&str]) -> Result<String, RowFault> {
-        match words {
-            ["number", rest @ ..] => numbers::answer(alloc, rest),
-            ["cursor", rest @ ..] => cursors::answer(alloc, rest),
-            ["name", rest @ ..] => names::answer(alloc, rest),
-            ["type", rest @ ..] => types::answer(alloc, rest),
-            ["layout", rest @ ..] => layouts::answer(alloc, rest),
-            ["text", rest @ ..] => texts::answer(alloc, rest),
-            ["table", rest @ ..] => self.handles.answer(alloc, rest),
-            ["types", rest @ ..] => arena::answer(alloc, rest),
-            ["built", rest @ ..] => built::answer(alloc, rest),
-            ["conforms", rest @ ..] => conforming::answer(alloc, rest),
-            ["copies", rest @ ..] => copies::answer(alloc, rest),
-            ["layouts", rest @ ..] => arena_layouts::answer(alloc, rest),
-            ["numbers", rest @ ..] => type_numbers::answer(alloc, rest),
-            ["shows", rest @ ..] => shown::answer(alloc, rest),
-            ["fit", rest @ ..] => candidates::answer(alloc, rest),
+        let [kind, rest @ ..] = words else {
+            return Err(RowFault::NotARow);
+        };
+        match *kind {
+            "number" => numbers::answer(alloc, rest),
+            "cursor" => cursors::answer(alloc, rest),
+            "name" => names::answer(alloc, rest),
+            "type" => types::answer(alloc, rest),
+            "layout" => layouts::answer(alloc, rest),
+            "text" => texts::answer(alloc, rest),
+            "table" => self.handles.answer(alloc, rest),
+            "types" => arena::answer(alloc, rest),
+            "built" => built::answer(alloc, rest),
+            "conforms" => conforming::answer(alloc, rest),
+            "copies" => copies::answer(alloc, rest),
+            "layouts" => arena_layouts::answer(alloc, rest),
+            "numbers" => type_numbers::answer(alloc, rest),
+            "shows" => shown::answer(alloc, rest),
+            "fit" => candidates::answer(alloc, rest),
             _ => Err(RowFault::NotARow),
         }
     }

@@ -9,21 +9,36 @@ use std::alloc::Global;
 /// `kind VALUE`. A TEXT of no bytes is a word of no bytes.
 pub fn answer(alloc: Global, words: &[&str]) -> Result<String, RowFault> {
     match words {
-        ["label", text] => match Label::parse(alloc, text) {
-            Ok(label) => show_text(alloc, label.as_str(), label.as_bytes()),
-            Err(fault) => show_fault(alloc, fault),
-        },
-        ["extern", text] => match ExternName::parse(alloc, text) {
-            Ok(name) => {
-                let text = show_text(alloc, name.as_str(), name.as_bytes())?;
-                show_form(alloc, text.as_str(), &name.form())
-            }
-            Err(fault) => show_fault(alloc, fault),
-        },
+        [call, word] => answer_one(alloc, call, word),
         ["same", a, b] => show_bool(alloc, same_name(a, b)),
-        ["is_scalar", number] => show_bool(alloc, is_scalar(read_number(number)?)),
-        ["kind", value] => show_kind(alloc, value),
         _ => Err(RowFault::NotARow),
+    }
+}
+
+fn answer_one(alloc: Global, call: &str, word: &str) -> Result<String, RowFault> {
+    match call {
+        "label" => show_label(alloc, Label::parse(alloc, word)),
+        "extern" => show_extern(alloc, ExternName::parse(alloc, word)),
+        "is_scalar" => show_bool(alloc, is_scalar(read_number(word)?)),
+        "kind" => show_kind(alloc, word),
+        _ => Err(RowFault::NotARow),
+    }
+}
+
+fn show_label(alloc: Global, label: Result<Label, NameFault>) -> Result<String, RowFault> {
+    match label {
+        Ok(label) => show_text(alloc, label.as_str(), label.as_bytes()),
+        Err(fault) => show_fault(alloc, fault),
+    }
+}
+
+fn show_extern(alloc: Global, name: Result<ExternName, NameFault>) -> Result<String, RowFault> {
+    match name {
+        Ok(name) => {
+            let text = show_text(alloc, name.as_str(), name.as_bytes())?;
+            show_form(alloc, text.as_str(), &name.form())
+        }
+        Err(fault) => show_fault(alloc, fault),
     }
 }
 

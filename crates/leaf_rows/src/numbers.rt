@@ -13,27 +13,37 @@ use std::fmt::Display;
 /// `spelled_length NUMBER`.
 pub fn answer(alloc: Global, words: &[&str]) -> Result<String, RowFault> {
     match words {
-        ["front_u32", bytes] => show_front(alloc, front_u32(&read_bytes(alloc, bytes)?)),
-        ["front_s33", bytes] => show_front(alloc, front_s33(&read_bytes(alloc, bytes)?)),
-        ["read_u32", bytes, at] => {
-            let bytes = read_bytes(alloc, bytes)?;
-            show_read(alloc, read_u32(&bytes, read_number(at)?))
-        }
-        ["read_s33", bytes, at] => {
-            let bytes = read_bytes(alloc, bytes)?;
-            show_read(alloc, read_s33(&bytes, read_number(at)?))
-        }
-        ["write_u32", before, number] => show_written_u32(alloc, before, read_number(number)?),
-        ["write_count", before, count] => {
-            let mut out = read_bytes(alloc, before)?;
-            write_count(&mut out, read_number(count)?)?;
-            show_bytes(alloc, &out)
-        }
-        ["write_s33", before, number] => show_written_s33(alloc, before, read_number(number)?),
-        ["spelled_length", number] => {
-            let length = spelled_length(read_number(number)?);
+        [call, word] => answer_one(alloc, call, word),
+        [call, first, second] => answer_two(alloc, call, first, second),
+        _ => Err(RowFault::NotARow),
+    }
+}
+
+fn answer_one(alloc: Global, call: &str, word: &str) -> Result<String, RowFault> {
+    match call {
+        "front_u32" => show_front(alloc, front_u32(&read_bytes(alloc, word)?)),
+        "front_s33" => show_front(alloc, front_s33(&read_bytes(alloc, word)?)),
+        "spelled_length" => {
+            let length = spelled_length(read_number(word)?);
             Ok(length.to_string(alloc)?)
         }
+        _ => Err(RowFault::NotARow),
+    }
+}
+
+fn answer_two(alloc: Global, call: &str, first: &str, second: &str) -> Result<String, RowFault> {
+    match call {
+        "read_u32" => {
+            let bytes = read_bytes(alloc, first)?;
+            show_read(alloc, read_u32(&bytes, read_number(second)?))
+        }
+        "read_s33" => {
+            let bytes = read_bytes(alloc, first)?;
+            show_read(alloc, read_s33(&bytes, read_number(second)?))
+        }
+        "write_u32" => show_written_u32(alloc, first, read_number(second)?),
+        "write_count" => show_written_count(alloc, first, read_number(second)?),
+        "write_s33" => show_written_s33(alloc, first, read_number(second)?),
         _ => Err(RowFault::NotARow),
     }
 }
@@ -71,6 +81,12 @@ fn show_fault(alloc: Global, fault: LebFault) -> Result<String, RowFault> {
 fn show_written_u32(alloc: Global, before: &str, number: u32) -> Result<String, RowFault> {
     let mut out = read_bytes(alloc, before)?;
     write_u32(&mut out, number)?;
+    show_bytes(alloc, &out)
+}
+
+fn show_written_count(alloc: Global, before: &str, count: usize) -> Result<String, RowFault> {
+    let mut out = read_bytes(alloc, before)?;
+    write_count(&mut out, count)?;
     show_bytes(alloc, &out)
 }
 

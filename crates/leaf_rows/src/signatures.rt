@@ -13,10 +13,10 @@ ghost use Rattle.cm_placed.specs.Instances.{are_items_there, is_desc_there};
 ghost use Rattle.cm_signatures.specs.Externs.{are_externs_in, is_extern_there};
 
 use crate::arena::Arena;
-use crate::words::{read_move, split_words};
+use crate::words::read_move;
 use cm_placed::{InstanceType, Item, ItemDesc, Placed};
 use cm_replaced::Move;
-use cm_rows::{RowFault, read_number, split_repeat};
+use cm_rows::{RowFault, read_number, split_repeat, split_words};
 use cm_signatures::{Extern, ExternDesc, Signature};
 use cm_type_arena::Types;
 use cm_types::{ExternName, NameFault};
@@ -26,12 +26,7 @@ use std::rc::Rc;
 pub fn read_signature(alloc: Global, words: &[&str]) -> Result<Signature, RowFault> {
     let (types, externs) = split_words(words, "|")?;
     let (imports, exports) = split_words(externs, "|")?;
-    let mut arena = Arena::new(alloc)?;
-    if !is_empty(types) {
-        for words in types.split(|word| *word == ";") {
-            arena.read_item(words)?;
-        }
-    }
+    let arena = read_arena(alloc, types)?;
     let imports = read_externs(alloc, &arena, imports)?;
     let exports = read_externs(alloc, &arena, exports)?;
     let Arena { types, .. } = arena;
@@ -39,6 +34,14 @@ pub fn read_signature(alloc: Global, words: &[&str]) -> Result<Signature, RowFau
         return Err(RowFault::NotARow);
     }
     Ok(Signature::new(types, imports, exports))
+}
+
+fn read_arena(alloc: Global, words: &[&str]) -> Result<Arena, RowFault> {
+    if is_empty(words) {
+        Ok(Arena::new(alloc)?)
+    } else {
+        Arena::read(alloc, words)
+    }
 }
 
 fn is_empty(words: &[&str]) -> bool {
@@ -95,15 +98,26 @@ fn read_externs(alloc: Global, arena: &Arena, words: &[&str]) -> Result<Vec<Exte
         if let ["instance", _, items @ ..] = desc {
             last = Rc::new(alloc, read_instance(alloc, arena, items)?)?;
         }
-        let (times, name) = split_repeat(name);
-        for _ in 0..times {
-            externs.push(Extern {
-                name: read_name(alloc, name)?,
-                desc: read_desc(&last, desc)?,
-            })?;
-        }
+        push_externs(alloc, &mut externs, &last, name, desc)?;
     }
     Ok(externs)
+}
+
+fn push_externs(
+    alloc: Global,
+    externs: &mut Vec<Extern>,
+    ty: &Rc<InstanceType>,
+    name: &str,
+    desc: &[&str],
+) -> Result<(), RowFault> {
+    let (times, name) = split_repeat(name);
+    for _ in 0..times {
+        externs.push(Extern {
+            name: read_name(alloc, name)?,
+            desc: read_desc(ty, desc)?,
+        })?;
+    }
+    Ok(())
 }
 
 /// What an import or an export is; of an instance, one of this type.

@@ -11,28 +11,44 @@ use std::alloc::{AllocError, Global};
 /// `append TO NUMBER..`, `constants ENCODING`, `ascii_run BYTES..`, `ascii_units BYTES..`, `widen
 /// BYTES` or `narrow BYTES`.
 pub fn answer(alloc: Global, words: &[&str]) -> Result<String, RowFault> {
-    match words {
-        ["transcode", from, to, texts @ ..] => transcode_row(alloc, from, to, texts),
-        ["scalars", from, text] => {
-            let text = read_bytes(alloc, text)?;
-            scalars_row(alloc, from, &text)
-        }
-        ["split_first", from, text] => {
-            let text = read_bytes(alloc, text)?;
-            split_first_row(alloc, from, &text)
-        }
-        ["append", to, numbers @ ..] => append_row(alloc, to, numbers),
-        ["constants", encoding] => constants_row(alloc, encoding),
-        ["ascii_run", texts @ ..] => ascii_runs(alloc, texts),
-        ["ascii_units", texts @ ..] => ascii_unit_counts(alloc, texts),
-        ["widen", bytes] => show_wide(alloc, &read_bytes(alloc, bytes)?),
-        ["narrow", units] => show_narrow(alloc, &read_bytes(alloc, units)?),
+    let [call, rest @ ..] = words else {
+        return Err(RowFault::NotARow);
+    };
+    match *call {
+        "transcode" => transcode_row(alloc, rest),
+        "append" => append_row(alloc, rest),
+        "ascii_run" => ascii_runs(alloc, rest),
+        "ascii_units" => ascii_unit_counts(alloc, rest),
+        call => match rest {
+            [word] => answer_one(alloc, call, word),
+            [from, text] => answer_text(alloc, call, from, &read_bytes(alloc, text)?),
+            _ => Err(RowFault::NotARow),
+        },
+    }
+}
+
+fn answer_one(alloc: Global, call: &str, word: &str) -> Result<String, RowFault> {
+    match call {
+        "constants" => constants_row(alloc, word),
+        "widen" => show_wide(alloc, &read_bytes(alloc, word)?),
+        "narrow" => show_narrow(alloc, &read_bytes(alloc, word)?),
         _ => Err(RowFault::NotARow),
     }
 }
 
-fn transcode_row(alloc: Global, from: &str, to: &str, texts: &[&str]) -> Result<String, RowFault> {
-    match (from, to) {
+fn answer_text(alloc: Global, call: &str, from: &str, text: &[u8]) -> Result<String, RowFault> {
+    match call {
+        "scalars" => scalars_row(alloc, from, text),
+        "split_first" => split_first_row(alloc, from, text),
+        _ => Err(RowFault::NotARow),
+    }
+}
+
+fn transcode_row(alloc: Global, words: &[&str]) -> Result<String, RowFault> {
+    let [from, to, texts @ ..] = words else {
+        return Err(RowFault::NotARow);
+    };
+    match (*from, *to) {
         ("utf8", "utf8") => show_texts::<Utf8, Utf8>(alloc, texts),
         ("utf8", "utf16") => show_texts::<Utf8, Utf16>(alloc, texts),
         ("utf16", "utf8") => show_texts::<Utf16, Utf8>(alloc, texts),
@@ -157,8 +173,11 @@ fn show_first(alloc: Global, first: Option<(char, &[u8])>) -> Result<String, Row
     }
 }
 
-fn append_row(alloc: Global, to: &str, numbers: &[&str]) -> Result<String, RowFault> {
-    match to {
+fn append_row(alloc: Global, words: &[&str]) -> Result<String, RowFault> {
+    let [to, numbers @ ..] = words else {
+        return Err(RowFault::NotARow);
+    };
+    match *to {
         "utf8" => append_all::<Utf8>(alloc, numbers),
         "utf16" => append_all::<Utf16>(alloc, numbers),
         _ => Err(RowFault::NotARow),

@@ -43,20 +43,15 @@ impl Table {
         let [resources, words @ ..] = words else {
             return Err(RowFault::NotARow);
         };
-        let mut arena = Arena::new(self.alloc)?;
-        // The primitive types stand at the first places.
-        let first = arena.types.len();
-        for words in words.split(|word| *word == ";") {
-            arena.read_item(words)?;
-        }
+        let arena = Arena::read(self.alloc, words)?;
         if !self.out.is_empty() {
             self.out.push_str(" | ")?;
         }
         match resources.strip_prefix("move:") {
-            Some(numbers) => self.number(&read_move(numbers)?, &arena.types, first)?,
+            Some(numbers) => self.number(&read_move(numbers)?, &arena.types, arena.first)?,
             None => {
                 let row = read_resources(self.alloc, resources)?;
-                self.number(&Row(&row), &arena.types, first)?;
+                self.number(&Row(&row), &arena.types, arena.first)?;
             }
         }
         Ok(())
@@ -73,12 +68,16 @@ impl Table {
         let numbers = numbers.get(first..).unwrap_or(&[]);
         let types = self.types.text(self.alloc, numbers)?;
         self.out.push_str(&types)?;
-        if !funcs.is_empty() {
-            self.out.push_str(" / ")?;
-            let funcs = self.funcs.text(self.alloc, &funcs)?;
-            self.out.push_str(&funcs)?;
+        self.write_funcs(&funcs)
+    }
+
+    fn write_funcs(&mut self, funcs: &[usize]) -> Result<(), AllocError> {
+        if funcs.is_empty() {
+            return Ok(());
         }
-        Ok(())
+        let funcs = self.funcs.text(self.alloc, funcs)?;
+        self.out.push_str(" / ")?;
+        self.out.push_str(&funcs)
     }
 }
 

@@ -8,9 +8,10 @@
 //! `N*` before a word or a label stands for N of them.
 
 use crate::values::read_value;
-use cm_rows::{RowFault, read_number, split_repeat};
+use crate::words::{read_label, read_labels, read_resource, read_resources};
+use cm_rows::{RowFault, read_number, split_repeat, split_words};
 use cm_same_types::{same_func, same_type};
-use cm_types::{Case, Field, Func, Label, NameFault, ResourceId, TypeFault, TypeNode, TypeTree};
+use cm_types::{Case, Field, Func, ResourceId, TypeFault, TypeNode, TypeTree};
 use cm_values::has_type;
 use std::alloc::{AllocError, Global};
 use std::rc::Rc;
@@ -19,13 +20,16 @@ use std::rc::Rc;
 /// `same LEFT RIGHT TYPE = TYPE`, `has TYPE = VALUE` or `same_func FUNC = FUNC`. LEFT and RIGHT are
 /// resources joined by commas, or `-`.
 pub fn answer(alloc: Global, words: &[&str]) -> Result<String, RowFault> {
-    match words {
-        ["within", ty @ ..] => show_within(alloc, ty),
-        ["within_func", params @ ..] => show_within_func(alloc, params),
-        ["equal", types @ ..] => show_equals(alloc, types),
-        ["same", left, right, types @ ..] => show_same(alloc, left, right, types),
-        ["has", words @ ..] => show_has(alloc, words),
-        ["same_func", funcs @ ..] => show_same_func(alloc, funcs),
+    let [call, rest @ ..] = words else {
+        return Err(RowFault::NotARow);
+    };
+    match *call {
+        "within" => show_within(alloc, rest),
+        "within_func" => show_within_func(alloc, rest),
+        "equal" => show_equals(alloc, rest),
+        "same" => show_same(alloc, rest),
+        "has" => show_has(alloc, rest),
+        "same_func" => show_same_func(alloc, rest),
         _ => Err(RowFault::NotARow),
     }
 }
@@ -39,29 +43,48 @@ fn show_within(alloc: Global, ty: &[&str]) -> Result<String, RowFault> {
 }
 
 fn show_within_func(alloc: Global, params: &[&str]) -> Result<String, RowFault> {
-    let params = fields(alloc, read_types(alloc, params)?)?;
+    let params = labelled(alloc, read_types(alloc, params)?)?;
     show_limit(alloc, Func::new(params, None).err())
 }
 
-fn show_same(alloc: Global, left: &str, right: &str, types: &[&str]) -> Result<String, RowFault> {
+fn show_same(alloc: Global, words: &[&str]) -> Result<String, RowFault> {
+    let [left, right, types @ ..] = words else {
+        return Err(RowFault::NotARow);
+    };
     let left = read_resources(alloc, left)?;
     let right = read_resources(alloc, right)?;
+    show_same_by(alloc, &left, &right, types)
+}
+
+fn show_same_by(
+    alloc: Global,
+    left: &[ResourceId],
+    right: &[ResourceId],
+    types: &[&str],
+) -> Result<String, RowFault> {
     let (a, b) = split_words(types, "=")?;
     let (a, b) = (read_type(alloc, a)?, read_type(alloc, b)?);
-    show_bool(alloc, same_type(&a, &b, &left, &right))
+    show_bool(alloc, same_type(&a, &b, left, right))
 }
 
 fn show_has(alloc: Global, words: &[&str]) -> Result<String, RowFault> {
     let (ty, value) = split_words(words, "=")?;
-    let ty = read_tree(alloc, ty)?;
+    show_has_type(alloc, &read_tree(alloc, ty)?, value)
+}
+
+fn show_has_type(alloc: Global, ty: &TypeTree, value: &[&str]) -> Result<String, RowFault> {
     let value = read_value(alloc, value)?;
-    show_bool(alloc, has_type(&value, &ty))
+    show_bool(alloc, has_type(&value, ty))
 }
 
 fn show_same_func(alloc: Global, funcs: &[&str]) -> Result<String, RowFault> {
     let (a, b) = split_words(funcs, "=")?;
-    let (a, b) = (read_func(alloc, a)?, read_func(alloc, b)?);
-    show_bool(alloc, same_func(&a, &b, &[], &[]))
+    show_same_as(alloc, &read_func(alloc, a)?, b)
+}
+
+fn show_same_as(alloc: Global, a: &Func, b: &[&str]) -> Result<String, RowFault> {
+    let b = read_func(alloc, b)?;
+    show_bool(alloc, same_func(a, &b, &[], &[]))
 }
 
 /// `within`, or the fault.
@@ -107,27 +130,11 @@ fn read_several(alloc: Global, words: &[&str]) -> Result<Vec<TypeNode>, RowFault
     Ok(types)
 }
 
-/// The words before and after the first that is `mark`.
-pub fn split_words<'a, 'b>(
-    words: &'a [&'b str],
-    mark: &str,
-) -> Result<(&'a [&'b str], &'a [&'b str]), RowFault> {
-    let place = words
-        .iter()
-        .position(|word| *word == mark)
-        .ok_or(RowFault::NotARow)?;
-    let (before, after) = words.split_at(place);
-    match after {
-        [_, after @ ..] => Ok((before, after)),
-        [] => Err(RowFault::NotARow),
-    }
-}
-
 /// The function whose parameters' types stand before `->` and whose result's type, or `-`, after
 /// it. Each parameter is called `a`.
 pub fn read_func(alloc: Global, words: &[&str]) -> Result<Func, RowFault> {
     let (params, answer) = split_words(words, "->")?;
-    let params = fields(alloc, read_types(alloc, params)?)?;
+    let params = labelled(alloc, read_types(alloc, params)?)?;
     let answer = match answer {
         ["-"] => None,
         words => Some(read_tree(alloc, words)?),
@@ -135,7 +142,8 @@ pub fn read_func(alloc: Global, words: &[&str]) -> Result<Func, RowFault> {
     Func::new(params, answer).map_err(|_| RowFault::NotARow)
 }
 
-fn fields(alloc: Global, types: Vec<TypeNode>) -> Result<Vec<Field>, RowFault> {
+/// Fields of these types, each of which is called `a`.
+pub fn labelled(alloc: Global, types: Vec<TypeNode>) -> Result<Vec<Field>, RowFault> {
     let mut fields = Vec::new(alloc);
     for ty in types {
         let label = read_label(alloc, "a")?;
@@ -190,20 +198,25 @@ impl TypeStack {
     }
 
     fn plain(&mut self, alloc: Global, word: &str) -> Result<TypeNode, RowFault> {
-        Ok(match word {
-            "list" => TypeNode::List(Rc::new(alloc, self.pop()?)?),
-            "option" => TypeNode::Option(Rc::new(alloc, self.pop()?)?),
-            "twice" => {
-                let part = self.pop()?;
-                TypeNode::Tuple(Rc::new(alloc, vec![in alloc; part.share()?, part]?)?)
-            }
-            "result" => {
-                let ok = self.pop_shared(alloc)?;
-                let error = self.pop_shared(alloc)?;
-                TypeNode::Result { ok, error }
-            }
-            word => read_leaf(word)?,
-        })
+        match word {
+            "list" => Ok(TypeNode::List(self.pop_part(alloc)?)),
+            "option" => Ok(TypeNode::Option(self.pop_part(alloc)?)),
+            "twice" => self.twice(alloc),
+            "result" => self.result(alloc),
+            word => read_leaf(word),
+        }
+    }
+
+    fn twice(&mut self, alloc: Global) -> Result<TypeNode, RowFault> {
+        let part = self.pop()?;
+        let parts = vec![in alloc; part.share()?, part]?;
+        Ok(TypeNode::Tuple(Rc::new(alloc, parts)?))
+    }
+
+    fn result(&mut self, alloc: Global) -> Result<TypeNode, RowFault> {
+        let ok = self.pop_shared(alloc)?;
+        let error = self.pop_shared(alloc)?;
+        Ok(TypeNode::Result { ok, error })
     }
 
     fn with_operand(
@@ -212,23 +225,35 @@ impl TypeStack {
         name: &str,
         operand: &str,
     ) -> Result<TypeNode, RowFault> {
-        Ok(match name {
-            "fixed" => TypeNode::FixedList {
-                element: Rc::new(alloc, self.pop()?)?,
-                length: read_number(operand)?,
-            },
-            "tuple" => TypeNode::Tuple(Rc::new(
-                alloc,
-                self.pop_several(alloc, read_number(operand)?)?,
-            )?),
-            "record" => TypeNode::Record(Rc::new(alloc, self.pop_fields(alloc, operand)?)?),
-            "variant" => TypeNode::Variant(Rc::new(alloc, self.pop_cases(alloc, operand)?)?),
-            "enum" => TypeNode::Enum(Rc::new(alloc, read_labels(alloc, operand)?)?),
-            "flags" => TypeNode::Flags(Rc::new(alloc, read_labels(alloc, operand)?)?),
-            "own" => TypeNode::Own(read_resource(operand)?),
-            "borrow" => TypeNode::Borrow(read_resource(operand)?),
-            _ => return Err(RowFault::NotARow),
-        })
+        match name {
+            "fixed" => self.fixed_list(alloc, read_number(operand)?),
+            "tuple" => self.tuple(alloc, read_number(operand)?),
+            "record" => self.record(alloc, operand),
+            "variant" => self.variant(alloc, operand),
+            "own" => Ok(TypeNode::Own(read_resource(operand)?)),
+            "borrow" => Ok(TypeNode::Borrow(read_resource(operand)?)),
+            name => of_labels(alloc, name, operand),
+        }
+    }
+
+    fn fixed_list(&mut self, alloc: Global, length: u32) -> Result<TypeNode, RowFault> {
+        let element = self.pop_part(alloc)?;
+        Ok(TypeNode::FixedList { element, length })
+    }
+
+    fn tuple(&mut self, alloc: Global, count: usize) -> Result<TypeNode, RowFault> {
+        let parts = self.pop_several(alloc, count)?;
+        Ok(TypeNode::Tuple(Rc::new(alloc, parts)?))
+    }
+
+    fn record(&mut self, alloc: Global, labels: &str) -> Result<TypeNode, RowFault> {
+        let fields = self.pop_fields(alloc, labels)?;
+        Ok(TypeNode::Record(Rc::new(alloc, fields)?))
+    }
+
+    fn variant(&mut self, alloc: Global, labels: &str) -> Result<TypeNode, RowFault> {
+        let cases = self.pop_cases(alloc, labels)?;
+        Ok(TypeNode::Variant(Rc::new(alloc, cases)?))
     }
 
     fn pop_payload(&mut self) -> Result<Option<TypeNode>, RowFault> {
@@ -237,6 +262,10 @@ impl TypeStack {
 
     fn pop(&mut self) -> Result<TypeNode, RowFault> {
         self.pop_payload()?.ok_or(RowFault::NotARow)
+    }
+
+    fn pop_part(&mut self, alloc: Global) -> Result<Rc<TypeNode>, RowFault> {
+        Ok(Rc::new(alloc, self.pop()?)?)
     }
 
     fn pop_shared(&mut self, alloc: Global) -> Result<Option<Rc<TypeNode>>, RowFault> {
@@ -273,6 +302,16 @@ impl TypeStack {
     }
 }
 
+/// An enum or flags.
+fn of_labels(alloc: Global, name: &str, labels: &str) -> Result<TypeNode, RowFault> {
+    let labels = Rc::new(alloc, read_labels(alloc, labels)?)?;
+    match name {
+        "enum" => Ok(TypeNode::Enum(labels)),
+        "flags" => Ok(TypeNode::Flags(labels)),
+        _ => Err(RowFault::NotARow),
+    }
+}
+
 fn read_leaf(word: &str) -> Result<TypeNode, RowFault> {
     Ok(match word {
         "bool" => TypeNode::Bool,
@@ -288,42 +327,4 @@ fn read_leaf(word: &str) -> Result<TypeNode, RowFault> {
         "string" => TypeNode::String,
         _ => return Err(RowFault::NotARow),
     })
-}
-
-pub fn read_labels(alloc: Global, text: &str) -> Result<Vec<Label>, RowFault> {
-    let mut labels = Vec::new(alloc);
-    for part in text.split(',') {
-        let (times, label) = split_repeat(part);
-        for _ in 0..times {
-            labels.push(read_label(alloc, label)?)?;
-        }
-    }
-    Ok(labels)
-}
-
-fn read_label(alloc: Global, text: &str) -> Result<Label, RowFault> {
-    match Label::parse(alloc, text) {
-        Ok(label) => Ok(label),
-        Err(NameFault::Memory) => Err(RowFault::Memory),
-        Err(_) => Err(RowFault::NotARow),
-    }
-}
-
-/// The resource `COMPONENT.NUMBER`.
-pub fn read_resource(text: &str) -> Result<ResourceId, RowFault> {
-    let (component, number) = text.split_once('.').ok_or(RowFault::NotARow)?;
-    Ok(ResourceId {
-        component: read_number(component)?,
-        number: read_number(number)?,
-    })
-}
-
-pub fn read_resources(alloc: Global, text: &str) -> Result<Vec<ResourceId>, RowFault> {
-    let mut resources = Vec::new(alloc);
-    if text != "-" {
-        for part in text.split(',') {
-            resources.push(read_resource(part)?)?;
-        }
-    }
-    Ok(resources)
 }

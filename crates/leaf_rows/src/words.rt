@@ -6,32 +6,21 @@ use cm_type_arena::Primitive;
 use cm_types::{Label, NameFault, ResourceId};
 use std::alloc::Global;
 
-/// The words before and after the first that is `mark`.
-pub fn split_words<'a, 'b>(
-    words: &'a [&'b str],
-    mark: &str,
-) -> Result<(&'a [&'b str], &'a [&'b str]), RowFault> {
-    let place = words
-        .iter()
-        .position(|word| *word == mark)
-        .ok_or(RowFault::NotARow)?;
-    let (before, after) = words.split_at(place);
-    match after {
-        [_, after @ ..] => Ok((before, after)),
-        [] => Err(RowFault::NotARow),
-    }
-}
-
 /// Labels joined by commas, where `N*` before one stands for N of them.
 pub fn read_labels(alloc: Global, text: &str) -> Result<Vec<Label>, RowFault> {
     let mut labels = Vec::new(alloc);
     for part in text.split(',') {
-        let (times, label) = split_repeat(part);
-        for _ in 0..times {
-            labels.push(read_label(alloc, label)?)?;
-        }
+        add_label(alloc, &mut labels, part)?;
     }
     Ok(labels)
+}
+
+fn add_label(alloc: Global, labels: &mut Vec<Label>, word: &str) -> Result<(), RowFault> {
+    let (times, label) = split_repeat(word);
+    for _ in 0..times {
+        labels.push(read_label(alloc, label)?)?;
+    }
+    Ok(())
 }
 
 pub fn read_label(alloc: Global, text: &str) -> Result<Label, RowFault> {

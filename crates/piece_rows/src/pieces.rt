@@ -3,30 +3,36 @@
 use crate::answers::{show_fault, show_outcome, write_answers};
 use cm_pieces::{Decoder, decode_pieces};
 use cm_rows::{RowFault, read_bytes, read_number};
-use std::alloc::Global;
+use std::alloc::{AllocError, Global};
 
 /// The answer to `feed PIECE..`, `feed_cuts FILE`, `feed_parts SIZE FILE` or, of `decode_pieces`,
 /// `join PIECE..`, `join_cuts FILE` or `join_parts SIZE FILE`.
 pub fn answer(alloc: Global, words: &[&str]) -> Result<String, RowFault> {
+    let [form, rest @ ..] = words else {
+        return Err(RowFault::NotARow);
+    };
+    match *form {
+        "feed" => show_fed_pieces(alloc, rest),
+        "feed_cuts" => show_fed_cuts(alloc, &read_file(alloc, rest)?),
+        "feed_parts" => show_fed_parts(alloc, rest),
+        "join" => show_joined_pieces(alloc, rest),
+        "join_cuts" => show_joined_cuts(alloc, &read_file(alloc, rest)?),
+        "join_parts" => show_joined_parts(alloc, rest),
+        _ => Err(RowFault::NotARow),
+    }
+}
+
+fn read_file(alloc: Global, words: &[&str]) -> Result<Vec<u8>, RowFault> {
     match words {
-        ["feed", pieces @ ..] => {
-            let pieces = read_pieces(alloc, pieces)?;
-            show_fed(alloc, &slices(alloc, &pieces)?)
-        }
-        ["feed_cuts", file] => show_fed_cuts(alloc, &read_bytes(alloc, file)?),
-        ["feed_parts", size, file] => {
-            let file = read_bytes(alloc, file)?;
-            show_fed(alloc, &parts(alloc, &file, read_number(size)?)?)
-        }
-        ["join", pieces @ ..] => {
-            let pieces = read_pieces(alloc, pieces)?;
-            show_joined(alloc, &slices(alloc, &pieces)?)
-        }
-        ["join_cuts", file] => show_joined_cuts(alloc, &read_bytes(alloc, file)?),
-        ["join_parts", size, file] => {
-            let file = read_bytes(alloc, file)?;
-            show_joined(alloc, &parts(alloc, &file, read_number(size)?)?)
-        }
+        [file] => read_bytes(alloc, file),
+        _ => Err(RowFault::NotARow),
+    }
+}
+
+/// The size of parts, and a file.
+fn read_parts(alloc: Global, words: &[&str]) -> Result<(usize, Vec<u8>), RowFault> {
+    match words {
+        [size, file] => Ok((read_number(size)?, read_bytes(alloc, file)?)),
         _ => Err(RowFault::NotARow),
     }
 }
@@ -71,39 +77,89 @@ fn feed(alloc: Global, decoder: &mut Decoder, piece: &[u8]) -> Result<String, Ro
     }
 }
 
+fn show_fed_pieces(alloc: Global, words: &[&str]) -> Result<String, RowFault> {
+    let pieces = read_pieces(alloc, words)?;
+    show_fed(alloc, &slices(alloc, &pieces)?)
+}
+
+fn show_fed_parts(alloc: Global, words: &[&str]) -> Result<String, RowFault> {
+    let (size, file) = read_parts(alloc, words)?;
+    show_fed(alloc, &parts(alloc, &file, size)?)
+}
+
 /// What each piece is answered, and then `finish`.
 fn show_fed(alloc: Global, pieces: &[&[u8]]) -> Result<String, RowFault> {
-    let mut decoder = Decoder::new(alloc);
-    let mut answers = Vec::new(alloc);
-    for piece in pieces {
-        answers.push(feed(alloc, &mut decoder, piece)?)?;
-    }
-    answers.push(show_outcome(alloc, decoder.finish())?)?;
+    let answers = feed_all(alloc, Decoder::new(alloc), pieces)?;
     let mut out = String::new(alloc);
     write_answers(&mut out, &answers)?;
     Ok(out)
 }
 
+fn feed_all(
+    alloc: Global,
+    mut decoder: Decoder,
+    pieces: &[&[u8]],
+) -> Result<Vec<String>, RowFault> {
+    let mut answers = Vec::new(alloc);
+    for piece in pieces {
+        answers.push(feed(alloc, &mut decoder, piece)?)?;
+    }
+    answers.push(show_outcome(alloc, decoder.finish())?)?;
+    Ok(answers)
+}
+
+/// What is answered at each cut of a file: the piece before it, the piece behind it, and `finish`.
+#[derive(Drop)]
+struct Cuts {
+    before: Vec<String>,
+    behind: Vec<String>,
+    ends: Vec<String>,
+}
+
+impl Cuts {
+    fn feed(&mut self, alloc: Global, first: &[u8], second: &[u8]) -> Result<(), RowFault> {
+        let mut decoder = Decoder::new(alloc);
+        self.before.push(feed(alloc, &mut decoder, first)?)?;
+        self.behind.push(feed(alloc, &mut decoder, second)?)?;
+        self.ends.push(show_outcome(alloc, decoder.finish())?)?;
+        Ok(())
+    }
+
+    fn write(&self, out: &mut String) -> Result<(), AllocError> {
+        out.push_str("before: ")?;
+        write_answers(out, &self.before)?;
+        out.push_str(" | behind: ")?;
+        write_answers(out, &self.behind)?;
+        out.push_str(" | finish: ")?;
+        write_answers(out, &self.ends)
+    }
+}
+
 /// For each cut of the file what the piece before it is answered; then, again for each, the piece
 /// behind it; then `finish`.
 fn show_fed_cuts(alloc: Global, file: &[u8]) -> Result<String, RowFault> {
-    let mut before = Vec::new(alloc);
-    let mut behind = Vec::new(alloc);
-    let mut ends = Vec::new(alloc);
+    let mut cuts = Cuts {
+        before: Vec::new(alloc),
+        behind: Vec::new(alloc),
+        ends: Vec::new(alloc),
+    };
     for cut in 0..=file.len() {
         let (first, second) = file.split_at(cut);
-        let mut decoder = Decoder::new(alloc);
-        before.push(feed(alloc, &mut decoder, first)?)?;
-        behind.push(feed(alloc, &mut decoder, second)?)?;
-        ends.push(show_outcome(alloc, decoder.finish())?)?;
+        cuts.feed(alloc, first, second)?;
     }
-    let mut out = String::from_str(alloc, "before: ")?;
-    write_answers(&mut out, &before)?;
-    out.push_str(" | behind: ")?;
-    write_answers(&mut out, &behind)?;
-    out.push_str(" | finish: ")?;
-    write_answers(&mut out, &ends)?;
+    let mut out = String::new(alloc);
+    cuts.write(&mut out)?;
     Ok(out)
+}
+
+fn show_joined_pieces(alloc: Global, words: &[&str]) -> Result<String, RowFault> {
+    let pieces = read_pieces(alloc, words)?;
+    show_joined(alloc, &slices(alloc, &pieces)?)
+}
+
+fn show_joined_parts(alloc: Global, words: &[&str]) -> Result<String, RowFault> {
+    let (size, file) = read_parts(alloc, words)?;
+    show_joined(alloc, &parts(alloc, &file, size)?)
 }
 
 fn show_joined(alloc: Global, pieces: &[&[u8]]) -> Result<String, RowFault> {

@@ -65,23 +65,23 @@ impl<'a> Read for Tap<'a> {
 /// FILE`, `interrupted SIZE FILE` or `failing SIZE FILE`.
 pub fn answer(alloc: Global, words: &[&str]) -> Result<String, RowFault> {
     match words {
-        ["slice", file] => {
-            let file = read_bytes(alloc, file)?;
-            show_outcome(alloc, decode_from(alloc, &mut file.as_slice()))
+        ["slice", file] => show_slice(alloc, &read_bytes(alloc, file)?),
+        [form, size, file] => {
+            show_read_file(alloc, form, read_number(size)?, &read_bytes(alloc, file)?)
         }
-        ["parts", size, file] => {
-            let file = read_bytes(alloc, file)?;
-            let size = read_number(size)?;
-            show_read(alloc, &mut Tap::new(&file, size, Ending::End, false))
-        }
-        ["interrupted", size, file] => {
-            let file = read_bytes(alloc, file)?;
-            let size = read_number(size)?;
-            show_read(alloc, &mut Tap::new(&file, size, Ending::End, true))
-        }
-        ["failing", size, file] => {
-            show_failing(alloc, &read_bytes(alloc, file)?, read_number(size)?)
-        }
+        _ => Err(RowFault::NotARow),
+    }
+}
+
+fn show_slice(alloc: Global, mut file: &[u8]) -> Result<String, RowFault> {
+    show_outcome(alloc, decode_from(alloc, &mut file))
+}
+
+fn show_read_file(alloc: Global, form: &str, size: usize, file: &[u8]) -> Result<String, RowFault> {
+    match form {
+        "parts" => show_read(alloc, &mut Tap::new(file, size, Ending::End, false)),
+        "interrupted" => show_read(alloc, &mut Tap::new(file, size, Ending::End, true)),
+        "failing" => show_failing(alloc, file, size),
         _ => Err(RowFault::NotARow),
     }
 }
@@ -98,10 +98,14 @@ fn show_read(alloc: Global, tap: &mut Tap<'_>) -> Result<String, RowFault> {
 fn show_failing(alloc: Global, file: &[u8], size: usize) -> Result<String, RowFault> {
     let mut answers = Vec::new(alloc);
     for length in 0..=file.len() {
-        let mut tap = Tap::new(&file[..length], size, Ending::Failure, false);
-        answers.push(show_outcome(alloc, decode_from(alloc, &mut tap))?)?;
+        answers.push(show_failure(alloc, &file[..length], size)?)?;
     }
     let mut out = String::new(alloc);
     write_answers(&mut out, &answers)?;
     Ok(out)
+}
+
+fn show_failure(alloc: Global, beginning: &[u8], size: usize) -> Result<String, RowFault> {
+    let mut tap = Tap::new(beginning, size, Ending::Failure, false);
+    show_outcome(alloc, decode_from(alloc, &mut tap))
 }

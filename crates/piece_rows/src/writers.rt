@@ -79,29 +79,47 @@ pub fn answer(alloc: Global, words: &[&str]) -> Result<String, RowFault> {
         return Err(RowFault::NotARow);
     };
     let (size, file) = (read_number(size)?, read_bytes(alloc, file)?);
-    let component = decode(alloc, &file).map_err(|fault| match fault.reason {
-        DecodeReason::Memory => RowFault::Memory,
-        _ => RowFault::NotARow,
-    })?;
-    match *form {
+    let component = read_component(alloc, &file)?;
+    show_form(alloc, form, size, &file, &component)
+}
+
+fn read_component(alloc: Global, file: &[u8]) -> Result<Component, RowFault> {
+    match decode(alloc, file) {
+        Ok(component) => Ok(component),
+        Err(fault) => match fault.reason {
+            DecodeReason::Memory => Err(RowFault::Memory),
+            _ => Err(RowFault::NotARow),
+        },
+    }
+}
+
+fn show_form(
+    alloc: Global,
+    form: &str,
+    size: usize,
+    file: &[u8],
+    component: &Component,
+) -> Result<String, RowFault> {
+    match form {
         "parts" => {
-            let mut pipe = Pipe::new(alloc, file.len(), size, usize::MAX, Full::Fails)?;
-            show_written(alloc, &component, &mut pipe)
+            let pipe = Pipe::new(alloc, file.len(), size, usize::MAX, Full::Fails)?;
+            show_written(alloc, component, pipe)
         }
         "interrupted" => {
             let mut pipe = Pipe::new(alloc, file.len(), size, usize::MAX, Full::Fails)?;
             pipe.interrupts = true;
-            show_written(alloc, &component, &mut pipe)
+            show_written(alloc, component, pipe)
         }
-        "failing" => show_full(alloc, &component, &file, size, Full::Fails),
-        "stalling" => show_full(alloc, &component, &file, size, Full::TakesNone),
+        "failing" => show_full(alloc, component, file, size, Full::Fails),
+        "stalling" => show_full(alloc, component, file, size, Full::TakesNone),
         _ => Err(RowFault::NotARow),
     }
 }
 
 /// Whether all was written, and what the writer holds.
-fn show_written(alloc: Global, component: &Component, pipe: &mut Pipe) -> Result<String, RowFault> {
-    let mut out = show_end(alloc, component, pipe)?;
+fn show_written(alloc: Global, component: &Component, pipe: Pipe) -> Result<String, RowFault> {
+    let mut pipe = pipe;
+    let mut out = show_end(alloc, component, &mut pipe)?;
     out.push_str(", ")?;
     write_units(&mut out, &pipe.taken, 1)?;
     Ok(out)
@@ -131,16 +149,26 @@ fn show_full(
 ) -> Result<String, RowFault> {
     let mut answers = Vec::new(alloc);
     for room in 0..=file.len() {
-        let mut pipe = Pipe::new(alloc, file.len(), size, room, full)?;
-        let mut answer = show_end(alloc, component, &mut pipe)?;
-        answer.push_str(if pipe.taken.as_slice() == &file[..room] {
-            ", its beginning"
-        } else {
-            ", other bytes"
-        })?;
-        answers.push(answer)?;
+        let pipe = Pipe::new(alloc, file.len(), size, room, full)?;
+        answers.push(show_beginning(alloc, component, pipe, &file[..room])?)?;
     }
     let mut out = String::new(alloc);
     write_answers(&mut out, &answers)?;
     Ok(out)
+}
+
+fn show_beginning(
+    alloc: Global,
+    component: &Component,
+    pipe: Pipe,
+    beginning: &[u8],
+) -> Result<String, RowFault> {
+    let mut pipe = pipe;
+    let mut answer = show_end(alloc, component, &mut pipe)?;
+    answer.push_str(if pipe.taken.as_slice() == beginning {
+        ", its beginning"
+    } else {
+        ", other bytes"
+    })?;
+    Ok(answer)
 }

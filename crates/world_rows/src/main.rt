@@ -28,28 +28,34 @@ struct WorldRows {
 
 impl Driver for WorldRows {
     fn answer(&mut self, alloc: Global, words: &[&str]) -> Result<String, RowFault> {
-        match words {
-            ["text", name] => self.texts.begin(alloc, name),
-            ["line", line @ ..] => self.texts.add_line(alloc, line),
-            ["read", rest @ ..] => reading::answer(alloc, rest),
-            ["parse", rest @ ..] => parsing::answer_parse(alloc, rest),
-            ["printed", rest @ ..] => parsing::answer_print(alloc, rest),
-            ["print", written, printed] => printing::answer(alloc, &self.texts, written, printed),
-            ["world", name, rest @ ..] => self.ask(alloc, Question::WorldOfName(*name), rest),
-            ["number", number, rest @ ..] => {
-                let number = read_number(number)?;
-                self.ask(alloc, Question::WorldOfNumber(number), rest)
-            }
-            ["table", instances, rest @ ..] => self.ask(alloc, Question::Table(*instances), rest),
-            ["signature", name, rest @ ..] => self.ask(alloc, Question::Signature(*name), rest),
-            _ => Err(RowFault::NotARow),
+        let [kind, rest @ ..] = words else {
+            return Err(RowFault::NotARow);
+        };
+        match *kind {
+            "text" => self.texts.answer_begin(alloc, rest),
+            "line" => self.texts.add_line(alloc, rest),
+            "read" => reading::answer(alloc, rest),
+            "parse" => parsing::answer_parse(alloc, rest),
+            "printed" => parsing::answer_print(alloc, rest),
+            "print" => printing::answer(alloc, &self.texts, rest),
+            kind => self.ask(alloc, kind, rest),
         }
     }
 }
 
 impl WorldRows {
-    fn ask(&self, alloc: Global, question: Question, words: &[&str]) -> Result<String, RowFault> {
-        packages::answer(alloc, &self.texts, question, words)
+    fn ask(&self, alloc: Global, kind: &str, words: &[&str]) -> Result<String, RowFault> {
+        let [word, rest @ ..] = words else {
+            return Err(RowFault::NotARow);
+        };
+        let question = match kind {
+            "world" => Question::WorldOfName(*word),
+            "number" => Question::WorldOfNumber(read_number(word)?),
+            "table" => Question::Table(*word),
+            "signature" => Question::Signature(*word),
+            _ => return Err(RowFault::NotARow),
+        };
+        packages::answer(alloc, &self.texts, question, rest)
     }
 }
 

@@ -8,11 +8,12 @@ ghost use Rattle.cm_wit_interfaces.specs.Interfaces.{package_name};
 ghost use Rattle.cm_wit_interfaces.specs.InterfaceViews.{files_of, placed_interface};
 
 use crate::files::package_files;
+use crate::reading::show_fault;
 use crate::texts::Texts;
 use crate::worlds::{show_externs, world_fault};
 use crate::{signatures, tables};
 use cm_rows::RowFault;
-use cm_wit::{Package, WitFault, WitReason, parse};
+use cm_wit::{Package, parse};
 use cm_wit_interfaces::{
     Directory, PlacedInterface, PlacedWorld, interfaces, package_names, worlds,
 };
@@ -30,17 +31,6 @@ pub enum Question<'a> {
     Table(&'a str),
     /// The signature of the world of a full name.
     Signature(&'a str),
-}
-
-/// The number and the name of a text's fault, and its place.
-pub fn show_fault(alloc: Global, fault: WitFault) -> Result<String, RowFault> {
-    let WitFault { at, reason } = fault;
-    if reason == WitReason::Memory {
-        return Err(RowFault::Memory);
-    }
-    let number = reason.number();
-    let name = reason.name();
-    Ok(format!(in alloc; "{number} {name} at {at}")?)
 }
 
 /// The answer to a question of the packages of texts, or the first fault.

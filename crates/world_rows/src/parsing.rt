@@ -1,9 +1,10 @@
 //! Rows on packages.
 
+use crate::printing::printed_twice;
 use crate::reading::show_fault;
 use crate::spelled::{read_text, show_text};
 use cm_rows::RowFault;
-use cm_wit::{parse, print};
+use cm_wit::parse;
 use std::alloc::Global;
 
 /// The answer to a text: `ok` where it is a package, else its first fault.
@@ -18,17 +19,15 @@ pub fn answer_parse(alloc: Global, words: &[&str]) -> Result<String, RowFault> {
 /// The text that prints a package, where reading and printing it gives the same bytes again.
 pub fn answer_print(alloc: Global, words: &[&str]) -> Result<String, RowFault> {
     let text = read_text(alloc, words)?;
-    let package = match parse(alloc, text.as_str()) {
-        Ok(package) => package,
-        Err(fault) => return show_fault(alloc, fault),
-    };
-    let printed = print(alloc, &package)?;
-    let again = match parse(alloc, printed.as_str()) {
-        Ok(again) => print(alloc, &again)?,
-        Err(fault) => return show_fault(alloc, fault),
-    };
-    if again.as_str() != printed.as_str() {
+    match printed_twice(alloc, text.as_str()) {
+        Ok((once, again)) => show_printed(alloc, once.as_str(), again.as_str()),
+        Err(fault) => show_fault(alloc, fault),
+    }
+}
+
+fn show_printed(alloc: Global, once: &str, again: &str) -> Result<String, RowFault> {
+    if again != once {
         return Ok(String::from_str(alloc, "printed again in another way")?);
     }
-    Ok(show_text(alloc, printed.as_str())?)
+    Ok(show_text(alloc, once)?)
 }

@@ -1,6 +1,6 @@
 //! Rows on printing.
 
-use crate::packages::show_fault;
+use crate::reading::show_fault;
 use crate::texts::Texts;
 use cm_rows::RowFault;
 use cm_wit::{WitFault, parse, print};
@@ -17,7 +17,14 @@ fn printed(alloc: Global, text: &str) -> Result<String, WitFault> {
 
 /// Whether the package of one text is printed as another text stands, and so is what was printed:
 /// then how many bytes that is.
-pub fn answer(
+pub fn answer(alloc: Global, texts: &Texts, words: &[&str]) -> Result<String, RowFault> {
+    match words {
+        [written, wanted] => answer_named(alloc, texts, written, wanted),
+        _ => Err(RowFault::NotARow),
+    }
+}
+
+fn answer_named(
     alloc: Global,
     texts: &Texts,
     written: &str,
@@ -33,7 +40,7 @@ pub fn answer(
 }
 
 /// The text that prints the package of a text, and the one that prints the package of that.
-fn printed_twice(alloc: Global, text: &str) -> Result<(String, String), WitFault> {
+pub fn printed_twice(alloc: Global, text: &str) -> Result<(String, String), WitFault> {
     let once = printed(alloc, text)?;
     let again = printed(alloc, once.as_str())?;
     Ok((once, again))

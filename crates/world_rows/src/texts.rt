@@ -26,8 +26,15 @@ impl Texts {
         }
     }
 
-    /// Begins a text.
-    pub fn begin(&mut self, alloc: Global, name: &str) -> Result<String, RowFault> {
+    /// Begins a text, of the name that words are.
+    pub fn answer_begin(&mut self, alloc: Global, words: &[&str]) -> Result<String, RowFault> {
+        match words {
+            [name] => self.begin(alloc, name),
+            _ => Err(RowFault::NotARow),
+        }
+    }
+
+    fn begin(&mut self, alloc: Global, name: &str) -> Result<String, RowFault> {
         let name = String::from_str(alloc, name)?;
         let text = String::new(alloc);
         self.named.push(NamedText { name, text })?;
