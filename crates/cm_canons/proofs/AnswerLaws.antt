@@ -13,7 +13,7 @@ use Rattle.cm_validity.specs.Rules.{broken, lowered_broken}
 use Rattle.cm_validity.specs.Spaces.{Spaces, after_item, new_types}
 use Rattle.cm_core_spaces.specs.CoreSpaces.{IsCoreOf, made_count}
 use Rattle.cm_core_spaces.specs.declared.spaces.CoreSpaces.{CoreSpaces}
-use Rattle.cm_type_scope.specs.declared.entries.TypeEntry.{TypeEntry}
+use Rattle.cm_entries.specs.cm_type_scope.declared.entries.TypeEntry.{TypeEntry}
 use Rattle.cm_entries.specs.ComponentSpaces.{AreTypesOf, IsComponentOf, after_answer}
 use Rattle.cm_entries.specs.Entries.{func_def}
 use Rattle.cm_entries.specs.declared.entries.FuncEntry.{FuncEntry}

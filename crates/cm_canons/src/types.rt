@@ -1,8 +1,8 @@
 //! The types of a component, laid out.
 
 use cm_arena_layouts::Layouts;
+use cm_entries::TypeEntry;
 use cm_type_arena::Types;
-use cm_type_scope::TypeEntry;
 
 /// The types of a component by index, the arena in which their places are, and the layouts of all
 /// types of the arena.

@@ -6,4 +6,5 @@ mod items;
 mod made;
 mod signatures;
 
+pub use cm_validate::Checked;
 pub use signatures::signature;

@@ -4,4 +4,8 @@
 mod items;
 mod walk;
 
+pub use cm_index_spaces::{
+    ComponentExterns, CoreFuncEntry, ExportEntry, ExportedEntry, FuncEntry, GuestExport,
+    IndexSpaces, InstanceEntry, MadeFunc, MemberEntry,
+};
 pub use walk::index_spaces;

@@ -12,8 +12,8 @@ use Rattle.cm_component.specs.declared.canons.CanonOption.{CanonOption}
 use Rattle.cm_types.specs.Types.{FuncTy}
 use Rattle.cm_validity.specs.Definitions.{CoreFuncDef, guest, lowered, making, dropping, reading}
 use Rattle.cm_validity.specs.Spaces.{Spaces, spaces_of}
-use Rattle.cm_validate.specs.Checked.{sections_in, spaces_in}
-use Rattle.cm_validate.specs.declared.checked.Checked.{Checked}
+use Rattle.cm_match.specs.cm_validate.Checked.{sections_in, spaces_in}
+use Rattle.cm_match.specs.cm_validate.declared.checked.Checked.{Checked}
 use Rattle.cm_functions.specs.Imported.{IsAsImported, IsLoweredAsImported, wanted_func}
 use Rattle.cm_functions.specs.Sources.{OfFunctions}
 use Rattle.cm_links.specs.Imports.{links_of}

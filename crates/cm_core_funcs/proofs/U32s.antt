@@ -21,9 +21,9 @@ use Rattle.std.specs.Borrow.{Bor}
 use Rattle.cm_type_arena.specs.TypeDefs.{func_at}
 use Rattle.cm_placed.specs.Placed.{moved_by}
 use Rattle.cm_placed.specs.declared.placed.Placed.{Placed}
-use Rattle.cm_index_spaces.specs.Made.{made_def}
-use Rattle.cm_index_spaces.specs.declared.made.MadeFunc.{MadeFunc}
-use Rattle.cm_index_spaces.specs.declared.made.MadeFunc.TheVariants as made
+use Rattle.cm_match.specs.cm_index_spaces.Made.{made_def}
+use Rattle.cm_match.specs.cm_index_spaces.declared.made.MadeFunc.{MadeFunc}
+use Rattle.cm_match.specs.cm_index_spaces.declared.made.MadeFunc.TheVariants as made
 use Rattle.cm_links.specs.Imports.{links_of}
 use Rattle.cm_links.specs.Targets.{Target, targets_of}
 use Rattle.cm_machine_model.specs.declared.frame.CoreFunction.{CoreFunction}

@@ -5,4 +5,5 @@ mod carried;
 mod core_funcs;
 
 pub use carried::CoreFuncAt;
+pub use cm_match::{Checked, ExportEntry, LinkFault, LinkReason, Linked, PlanLine, link};
 pub use core_funcs::{CoreFunctions, core_funcs_of, first_not_carried, lowered_functions_stand};

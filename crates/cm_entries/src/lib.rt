@@ -15,6 +15,7 @@ mod spaces;
 mod types;
 
 pub use aliases::Aliased;
+pub use cm_type_scope::TypeEntry;
 pub use entries::{FuncEntry, InstanceEntry, MemberEntry};
 pub use lifts::func_type_at;
 pub use resources::resource_fault;

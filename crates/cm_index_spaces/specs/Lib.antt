@@ -1,3 +1,4 @@
+pub use Rattle.cm_entries.specs as cm_entries
 pub mod Made
 pub mod IndexSpaces
 pub mod Making

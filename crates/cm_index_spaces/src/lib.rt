@@ -9,6 +9,8 @@ mod made;
 mod spaces;
 mod types;
 
+pub use cm_core_spaces::GuestExport;
+pub use cm_entries::{ExportEntry, ExportedEntry, FuncEntry, InstanceEntry, MemberEntry};
 pub use lists::ComponentExterns;
 pub use made::{CoreFuncEntry, MadeFunc};
 pub use spaces::IndexSpaces;

@@ -14,7 +14,7 @@ use Rattle.cm_validity.specs.Rules.{member_broken}
 use Rattle.cm_validity.specs.Scopes.{resource_id}
 use Rattle.cm_validity.specs.Spaces.{Spaces, items_of_members, member_at}
 use Rattle.cm_validity.specs.Spaces.{named_member as member_of_export}
-use Rattle.cm_type_sketches.specs.Sketches.{sketch_func}
+use Rattle.cm_item_names.specs.cm_type_sketches.Sketches.{sketch_func}
 use Rattle.cm_item_names.specs.Sketches.{SketchedItem, named_sketch}
 use Rattle.cm_item_names.specs.declared.sketches.ItemSketch.{ItemSketch}
 use Rattle.cm_item_names.specs.declared.sketches.ItemSketch.TheVariants as item_sketch

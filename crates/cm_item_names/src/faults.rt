@@ -8,7 +8,7 @@ ghost use Rattle.cm_item_names.specs.Sketches.{sketch_named};
 use crate::names::are_all_well_named;
 use crate::sketches::NamedSketch;
 use cm_reasons::ValidReason;
-use cm_type_rules::{broken_unless, lesser, names_are_distinct};
+use cm_type_sketches::{broken_unless, lesser, names_are_distinct};
 use cm_validity::laws::least_of_both;
 use std::alloc::{AllocError, Global};
 

@@ -7,5 +7,6 @@ mod names;
 mod resources;
 mod sketches;
 
+pub use cm_type_sketches::{FuncSketch, resource_id};
 pub use faults::item_names_fault;
 pub use sketches::{ItemSketch, NamedSketch};

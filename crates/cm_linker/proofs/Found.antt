@@ -20,8 +20,8 @@ use Rattle.cm_validity.specs.Definitions.{NamedExport}
 use Rattle.cm_validity.specs.Spaces.{Spaces, member_named}
 use Rattle.cm_instance_items.specs.Ranges.{resource_def}
 use Rattle.cm_instance_items.specs.declared.ranges.Resource.{Resource}
-use Rattle.cm_entries.specs.ComponentSpaces.{export_def}
-use Rattle.cm_entries.specs.declared.spaces.ExportEntry.{ExportEntry}
+use Rattle.cm_validate.specs.cm_entries.ComponentSpaces.{export_def}
+use Rattle.cm_validate.specs.cm_entries.declared.spaces.ExportEntry.{ExportEntry}
 use Rattle.cm_validate.specs.Checked.{funcs_in, spaces_in, types_in}
 use Rattle.cm_validate.specs.declared.checked.Checked.{Checked}
 use Rattle.cm_origins.specs.Origins.{exported_resource, item_name, items_of, members_of, resource_member, resource_of}

@@ -4,7 +4,7 @@ ghost use Rattle.std.specs.Prelude.{◌≡◌, ◌++◌, IfOk, List, OnOk, map};
 ghost use Rattle.cm_types.specs.Types.{FuncTy, Ty};
 ghost use Rattle.cm_candidates.specs.Fitting.{NamedExport, candidates, only};
 ghost use Rattle.cm_candidates.specs.Tables.{HasExports};
-ghost use Rattle.cm_entries.specs.ComponentSpaces.{export_def};
+ghost use Rattle.cm_validate.specs.cm_entries.ComponentSpaces.{export_def};
 ghost use Rattle.cm_links.specs.Imports.{exports_from};
 ghost use Rattle.cm_linker.specs.Choices.{AreChoices};
 ghost use Rattle.cm_linker.specs.Sets.{set_of};

@@ -7,4 +7,8 @@ mod linking;
 mod resources;
 
 pub use by_name::choices;
+pub use cm_validate::{
+    Checked, CoreFuncEntry, ExportEntry, ExportedEntry, FuncEntry, InstanceEntry, MadeFunc,
+    MemberEntry,
+};
 pub use linking::Linking;

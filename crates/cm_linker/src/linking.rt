@@ -26,8 +26,8 @@ impl<'s, 'a> Linking<'s, 'a> {
     ghost use Rattle.cm_candidates.specs.Fitting.{only};
     ghost use Rattle.cm_signatures.specs.Externs.{extern_of};
     ghost use Rattle.cm_validity.specs.Spaces.{member_named};
-    ghost use Rattle.cm_entries.specs.ComponentSpaces.{export_def};
-    ghost use Rattle.cm_entries.specs.Entries.{member_def};
+    ghost use Rattle.cm_validate.specs.cm_entries.ComponentSpaces.{export_def};
+    ghost use Rattle.cm_validate.specs.cm_entries.Entries.{member_def};
     ghost use Rattle.cm_links.specs.Imports.{candidates, export_in, import_in, links_of};
     ghost use Rattle.cm_origins.specs.Origins.{item_name, members_of};
     ghost use Rattle.cm_linker.specs.Linkings.{components_in, set_in};

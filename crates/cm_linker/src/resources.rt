@@ -3,7 +3,7 @@
 ghost use Rattle.std.specs.Prelude.{◌≡◌, List};
 ghost use Rattle.cm_types.specs.Types.{FuncTy, Ty};
 ghost use Rattle.cm_origins.specs.Origins.{resource_member};
-ghost use Rattle.cm_entries.specs.Entries.{member_def};
+ghost use Rattle.cm_validate.specs.cm_entries.Entries.{member_def};
 
 use crate::linking::Linking;
 use cm_links::laws::links_lead_earlier;

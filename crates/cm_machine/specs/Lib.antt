@@ -13,6 +13,6 @@ pub use Rattle.cm_history.specs.Acting
 pub use Rattle.cm_history.specs.Doing
 pub use Rattle.cm_history.specs.Causes
 pub use Rattle.cm_history.specs.Headline
-pub use Rattle.cm_core_funcs.specs.CoreFuncs
+pub use Rattle.cm_set.specs.cm_core_funcs.CoreFuncs
 pub mod Exchange
 pub mod Player

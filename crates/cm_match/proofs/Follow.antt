@@ -6,9 +6,9 @@ use Rattle.std.specs.Option.{option_map, option_and_then}
 use Rattle.cm_validity.specs.Definitions.{ExportDef, exported_func, exported_instance, FuncDef}
 use Rattle.cm_validity.specs.Definitions as definitions
 use Rattle.cm_validity.specs.Spaces.{Spaces, spaces_of}
-use Rattle.cm_validate.specs.Checked as checked
-use Rattle.cm_validate.specs.Exported.{exported_func_of, func_under}
-use Rattle.cm_validate.specs.declared.checked.Checked.{Checked}
+use Rattle.cm_linker.specs.cm_validate.Checked as checked
+use Rattle.cm_linker.specs.cm_validate.Exported.{exported_func_of, func_under}
+use Rattle.cm_linker.specs.cm_validate.declared.checked.Checked.{Checked}
 use Rattle.cm_origins.specs.Origins.{Links, item_name}
 use Rattle.cm_origins.specs.declared.component.Link.{Link}
 use Rattle.cm_links.specs.Imports.{export_in, links_of}

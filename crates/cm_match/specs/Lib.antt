@@ -1,3 +1,5 @@
+pub use Rattle.cm_linker.specs.cm_validate
+pub use Rattle.cm_linker.specs.cm_index_spaces
 pub mod Before
 pub mod Walks
 pub mod Targets

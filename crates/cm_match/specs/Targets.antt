@@ -1,8 +1,8 @@
 -- What imported functions come to (how components are linked is this project's own choice).
 use Rattle.std.specs.Prelude.{List}
 use Rattle.cm_placed.specs.Placed.{placed_func}
-use Rattle.cm_validate.specs.declared.checked.Checked.{Checked}
-use Rattle.cm_entries.specs.Entries.{func_def}
+use Rattle.cm_linker.specs.cm_validate.declared.checked.Checked.{Checked}
+use Rattle.cm_linker.specs.cm_entries.Entries.{func_def}
 use Rattle.cm_links.specs.Targets as targets
 use Rattle.cm_linker.specs.Sets.{funcs_at}
 use Rattle.cm_match.specs.declared.following.ServingFunc.{ServingFunc}

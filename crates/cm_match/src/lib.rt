@@ -8,6 +8,7 @@ mod target;
 mod told;
 mod walk;
 
+pub use cm_linker::{Checked, CoreFuncEntry, ExportEntry, MadeFunc};
 pub use cm_plan::{LinkFault, LinkReason, MAX_COMPONENTS, PlanLine};
 pub use linked::Linked;
 pub use linking::link;

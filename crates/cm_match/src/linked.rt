@@ -7,8 +7,8 @@ ghost use Rattle.cm_linker.specs.Choices.{AreChoices};
 ghost use Rattle.cm_linker.specs.Sets.{set_of};
 
 use cm_candidates::Candidate;
+use cm_linker::Checked;
 use cm_plan::PlanLine;
-use cm_validate::Checked;
 
 /// A set of components whose imports are all served by components before.
 #[derive(Drop)]

@@ -13,10 +13,9 @@ ghost use Rattle.cm_match.specs.Walks.{HasServed, IsWalkFault};
 use crate::linked::Linked;
 use crate::walk::walk;
 use cm_candidates::Candidate;
-use cm_linker::{Linking, choices};
+use cm_linker::{Checked, Linking, choices};
 use cm_links::laws::sets_have_one_answer;
 use cm_plan::{LinkFault, LinkReason, MAX_COMPONENTS, PlanLine};
-use cm_validate::Checked;
 use std::alloc::{AllocError, Global};
 
 fn set_fault(reason: LinkReason) -> LinkFault

@@ -3,10 +3,9 @@
 use crate::following::target_within;
 use crate::linked::Linked;
 use crate::target::Target;
-use cm_linker::Linking;
+use cm_linker::{Checked, Linking};
 use cm_plan::PlanLine;
 use cm_types::ResourceId;
-use cm_validate::Checked;
 
 impl<'a> Linked<'a> {
     ghost use Rattle.std.specs.Prelude.{◌≡◌, IfSome, length, true};

@@ -18,12 +18,12 @@ use Rattle.cm_validity.specs.Spaces.{Spaces, next_resource, spaces_of}
 use Rattle.cm_counted.specs.CountedSpaces.{AreSpacesCounted, IsDefCounted, IsInstanceCounted}
 use Rattle.cm_shared.specs.Shared.{AreShared, IsImportOf, exported_instance_in, export_at, import_type_in, item_from}
 use Rattle.cm_shared.specs.declared.shared.Shared.{Shared}
-use Rattle.cm_validate.specs.Checked.{sections_in, spaces_in}
-use Rattle.cm_validate.specs.declared.checked.Checked.{Checked}
+use Rattle.cm_serving.specs.cm_validate.Checked.{sections_in, spaces_in}
+use Rattle.cm_serving.specs.cm_validate.declared.checked.Checked.{Checked}
 use Rattle.cm_origins.specs.declared.component.Link.{Link}
 use Rattle.cm_links.specs.Imports.{import_at, import_in, link_of, links_of}
 use Rattle.cm_links.specs.Links.{IsServed}
-use Rattle.cm_linker.specs.Sets.{sections_of, set_of}
+use Rattle.cm_serving.specs.cm_linker.Sets.{sections_of, set_of}
 use Rattle.cm_alike.specs.Alike.{IsLinkedTo}
 use Rattle.cm_alike.specs.Brought.{OwnsWhatItBrings}
 use Rattle.cm_pairs.specs.Pairs.{AreTables, IsNoted, IsPairOf, IsServedPair, Pair, pair_cmp, pair_eq}

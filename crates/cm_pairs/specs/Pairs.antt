@@ -11,12 +11,12 @@ use Rattle.cm_types.specs.Signatures.{NamedExtern}
 use Rattle.cm_validity.specs.Spaces.{Spaces}
 use Rattle.cm_shared.specs.Shared.{AreShared, exported_instance_in, import_type_in}
 use Rattle.cm_shared.specs.declared.shared.Shared.{Shared}
-use Rattle.cm_validate.specs.Checked.{spaces_in}
-use Rattle.cm_validate.specs.declared.checked.Checked.{Checked}
+use Rattle.cm_serving.specs.cm_validate.Checked.{spaces_in}
+use Rattle.cm_serving.specs.cm_validate.declared.checked.Checked.{Checked}
 use Rattle.cm_origins.specs.declared.component.Link.{Link}
 use Rattle.cm_links.specs.Imports.{import_at, import_in, links_of}
 use Rattle.cm_links.specs.Links.{IsServed}
-use Rattle.cm_linker.specs.Sets.{set_of}
+use Rattle.cm_serving.specs.cm_linker.Sets.{set_of}
 use Rattle.cm_serving.specs.Tables.{AreKnown}
 use Rattle.cm_pairs.specs.declared.judged.Judged.{Judged}
 

@@ -5,11 +5,9 @@ ghost use Rattle.cm_pairs.specs.Pairs.{AreTables};
 
 use cm_alike::laws::imports_are_served_alike;
 use cm_counted::laws::{moves_of_what_is_counted, resources_are_counted};
-use cm_linker::Linking;
 use cm_plan::LinkReason;
-use cm_serving::Tables;
+use cm_serving::{Checked, Linking, Tables};
 use cm_shared::Shared;
-use cm_validate::Checked;
 use std::alloc::{AllocError, Global};
 use std::collections::BTreeSet;
 
@@ -40,7 +38,7 @@ impl Judged {
     ghost use Rattle.std.specs.Prelude.{IfSome, IsTrue, Some};
     ghost use Rattle.cm_types.specs.Signatures.{NamedExtern};
     ghost use Rattle.cm_links.specs.Imports.{import_at, import_in};
-    ghost use Rattle.cm_linker.specs.Linkings.{components_in, set_in};
+    ghost use Rattle.cm_serving.specs.cm_linker.Linkings.{components_in, set_in};
     ghost use Rattle.cm_pairs.specs.Pairs.{AreJudged, IsNoted, IsPairOf};
     ghost use Rattle.cm_serving.specs.Answers.{JudgesImport};
 

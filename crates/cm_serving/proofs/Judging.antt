@@ -12,7 +12,7 @@ use Rattle.cm_candidates.specs.declared.candidates.Candidate.{Candidate}
 use Rattle.cm_candidates.specs.declared.candidates.Candidate.TheVariants as candidate
 use Rattle.cm_validity.specs.Definitions.{ExportDef, FuncDef, exported_func, exported_instance, func_type_of}
 use Rattle.cm_validity.specs.Spaces.{Spaces}
-use Rattle.cm_validate.specs.declared.checked.Checked.{Checked}
+use Rattle.cm_linker.specs.cm_validate.declared.checked.Checked.{Checked}
 use Rattle.cm_plan.specs.declared.fault.LinkReason.{LinkReason}
 use Rattle.cm_plan.specs.declared.fault.LinkReason.TheVariants as reason
 use Rattle.cm_origins.specs.declared.component.Link.{Link}

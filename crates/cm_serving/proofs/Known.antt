@@ -13,8 +13,8 @@ use Rattle.cm_type_numbers.specs.Numbering.{Extends, Numbering, numbering}
 use Rattle.cm_type_numbers.specs.declared.numbers.Numbers.{Numbers}
 use Rattle.cm_placed_numbers.specs.Tables.{KnowsFuncs, KnowsPlaced, KnowsTypes}
 use Rattle.cm_placed_numbers.specs.declared.known.KnownPlaced.{KnownPlaced}
-use Rattle.cm_validate.specs.Checked.{funcs_in, types_in}
-use Rattle.cm_validate.specs.declared.checked.Checked.{Checked}
+use Rattle.cm_linker.specs.cm_validate.Checked.{funcs_in, types_in}
+use Rattle.cm_linker.specs.cm_validate.declared.checked.Checked.{Checked}
 use Rattle.cm_links.specs.Serving.{standing}
 use Rattle.cm_linker.specs.Sets.{funcs_at, set_of, types_at}
 use Rattle.cm_serving.specs.Knowing.{AreUnknown, KnowsAll}

@@ -1,3 +1,5 @@
+pub use Rattle.cm_linker.specs.cm_validate
+pub use Rattle.cm_linker.specs as cm_linker
 pub mod Sides
 pub mod Knowing
 pub mod Tables

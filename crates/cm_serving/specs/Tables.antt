@@ -7,7 +7,7 @@ use Rattle.cm_type_numbers.specs.Numbering.{numbering}
 use Rattle.cm_placed_numbers.specs.Moved.{brought_by}
 use Rattle.cm_placed_numbers.specs.declared.known.KnownPlaced.{KnownPlaced}
 use Rattle.cm_placed_numbers.specs.declared.moves.Brought.{Brought}
-use Rattle.cm_validate.specs.declared.checked.Checked.{Checked}
+use Rattle.cm_linker.specs.cm_validate.declared.checked.Checked.{Checked}
 use Rattle.cm_links.specs.Serving.{standing}
 use Rattle.cm_linker.specs.Sets.{set_of, types_at, funcs_at}
 use Rattle.cm_serving.specs.Knowing.{KnowsAll}

@@ -2,12 +2,12 @@
 
 use crate::sides::Pair;
 use crate::tables::Tables;
+use cm_linker::{ExportedEntry, InstanceEntry};
 use cm_placed::Item;
 use cm_placed_numbers::Brought;
 use cm_plan::LinkReason;
 use cm_replaced::Move;
 use cm_signatures::ExternDesc;
-use cm_validate::{ExportedEntry, InstanceEntry};
 use std::alloc::{AllocError, Global};
 
 impl Tables {

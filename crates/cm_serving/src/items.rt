@@ -16,13 +16,13 @@ ghost use Rattle.cm_serving.specs.Sides.{set_of_pair};
 
 use crate::sides::Pair;
 use crate::tables::Tables;
+use cm_linker::{FuncEntry, MemberEntry};
 use cm_placed::{ItemDesc, Placed, moved_resource};
 use cm_placed_numbers::Brought;
 use cm_plan::LinkReason;
 use cm_replaced::laws::replacing;
 use cm_replaced::{Move, Replacement};
 use cm_types::{ResourceId, same_resource};
-use cm_validate::{FuncEntry, MemberEntry};
 use std::alloc::{AllocError, Global};
 
 /// The type of a function.

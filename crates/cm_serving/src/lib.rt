@@ -8,4 +8,5 @@ mod items;
 mod sides;
 mod tables;
 
+pub use cm_linker::{Checked, Linking};
 pub use tables::Tables;

@@ -36,7 +36,7 @@ fn unknown(alloc: Global, count: usize) -> Result<Vec<KnownPlaced>, AllocError>
 }
 
 impl Tables {
-    ghost use Rattle.cm_validate.specs.declared.checked.Checked.{Checked};
+    ghost use Rattle.cm_linker.specs.cm_validate.declared.checked.Checked.{Checked};
     ghost use Rattle.cm_serving.specs.Sides.{funcs_in, had_funcs, had_types, set_of_pair};
     ghost use Rattle.cm_serving.specs.Sides.{standing_of, types_in, wanted_funcs, wanted_types};
     ghost use Rattle.cm_serving.specs.Tables.{AreKnown, func_brought, type_brought};

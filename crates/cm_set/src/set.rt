@@ -18,7 +18,7 @@ ghost use Rattle.cm_machine_model.specs.Step.{after_pop, may_grow, with_memory, 
 ghost use Rattle.cm_machine_model.specs.Step.{Returns, Passes, may_want_memory, StepAt, Step};
 ghost use Rattle.cm_machine_model.specs.Run.{is_last, after_begin, misuse_of_begin, Run};
 ghost use Rattle.cm_machine_model.specs.History.{begins, moves, IsHistoryOf, GoesOn, RunsAlways};
-ghost use Rattle.cm_match.specs.Linked.{set_in};
+ghost use Rattle.cm_core_funcs.specs.cm_match.Linked.{set_in};
 ghost use Rattle.cm_core_funcs.specs.Carried.{first_not_carried, IsFirstNotCarried};
 ghost use Rattle.cm_core_funcs.specs.CoreFuncs.{core_funcs_of, LoweredStand};
 
@@ -26,7 +26,9 @@ use crate::checks::{has_core_shape, may_leave, return_count};
 use crate::setup::{are_page_counts, memories_of, tables_of};
 use crate::stack::Stack;
 use arrayvec::ArrayVec;
-use cm_core_funcs::{CoreFunctions, core_funcs_of, first_not_carried, lowered_functions_stand};
+use cm_core_funcs::{
+    CoreFunctions, Linked, core_funcs_of, first_not_carried, lowered_functions_stand,
+};
 use cm_handles::Table;
 use cm_machine_model::state::{
     Call, CoreFunction, Frame, Lend, LoweredFunc, Phase, Place, Purpose,
@@ -35,7 +37,6 @@ use cm_machine_model::{
     Event, Flat, MAX_FLAT_PARAMS, MAX_FRAMES, MAX_INSTANCES, MAX_MEMORY_SIZE, Misuse, Move,
     PAGE_SIZE, Trap,
 };
-use cm_match::Linked;
 use cm_memories::Memories;
 use cm_types::CoreValue;
 use std::alloc::{AllocError, Global};

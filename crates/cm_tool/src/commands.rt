@@ -1,13 +1,9 @@
 //! The commands.
 
-use cm_machine::Set;
-use cm_match::Linked;
-use cm_tool_files::{Files, checked_of, load, read_file, text_of};
-use cm_tool_lines::{SetSize, write_plan};
-use cm_tool_sets::{Fault, Outcome, load_files, load_script, play, report};
-use cm_tool_signatures::{conform_component, show_component};
-use cm_tool_worlds::Unfit;
-use cm_validate::Checked;
+use cm_tool_sets::{
+    Checked, Fault, Files, Linked, Outcome, Set, SetSize, Unfit, checked_of, conform_component,
+    load, load_files, load_script, play, read_file, report, show_component, text_of, write_plan,
+};
 use cm_words::{Request, WordsFault};
 use std::alloc::Global;
 use std::io;

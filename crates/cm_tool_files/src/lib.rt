@@ -8,5 +8,6 @@ mod loading;
 mod words;
 
 pub use bad_file::{BadFile, FileReason};
+pub use cm_validate::Checked;
 pub use files::{FileFault, Files};
 pub use loading::{checked_of, component_of, load, read_file, text_of};

@@ -1,8 +1,7 @@
 //! The line of components that do not link.
 
-use cm_match::{LinkFault, LinkReason};
+use cm_script::{Checked, ExportEntry, LinkFault, LinkReason};
 use cm_signatures::Extern;
-use cm_validate::{Checked, ExportEntry};
 use std::alloc::{AllocError, Global};
 use std::fmt;
 

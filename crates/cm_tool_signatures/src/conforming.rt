@@ -1,14 +1,13 @@
 //! Whether a component fits a world.
 
 ghost use Rattle.std.specs.Prelude.{IfErr, OnOk};
-ghost use Rattle.cm_validate.specs.Checked.{spaces_in};
+ghost use Rattle.cm_checked_signature.specs.cm_validate.Checked.{spaces_in};
 ghost use Rattle.cm_checked_signature.specs.Exports.{signature_in};
 ghost use Rattle.cm_tool_worlds.specs.Conforming.{ConformsTo, IsUnfit};
 
-use cm_checked_signature::signature;
+use cm_checked_signature::{Checked, signature};
 use cm_conforms::conforms;
 use cm_tool_worlds::{UnfitReason, world_of};
-use cm_validate::Checked;
 use std::alloc::Global;
 
 /// Whether what a component imports and exports fits the world of a full name of the package that a

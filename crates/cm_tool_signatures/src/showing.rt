@@ -2,15 +2,14 @@
 
 ghost use Rattle.std.specs.Prelude.{◌≡◌, ◌≤◌, ◌<◌, IfOk, IsErrOf, length};
 ghost use Rattle.std.specs.String.{string_bytes};
-ghost use Rattle.cm_validate.specs.Checked.{spaces_in};
+ghost use Rattle.cm_checked_signature.specs.cm_validate.Checked.{spaces_in};
 ghost use Rattle.cm_checked_signature.specs.Exports.{signature_in};
 ghost use Rattle.cm_show.specs.Shown.{shown};
 ghost use Rattle.cm_pages.specs.declared.fault.ShowFault.TheVariants as fault;
 ghost use Rattle.cm_pages.specs.declared.page.TheConstants.{MAX_SHOWN};
 
-use cm_checked_signature::signature;
+use cm_checked_signature::{Checked, signature};
 use cm_show::{ShowFault, show};
-use cm_validate::Checked;
 use std::alloc::Global;
 use std::fmt;
 

@@ -12,5 +12,8 @@ mod settling;
 mod uses;
 mod values;
 
+pub use cm_type_rules::{
+    broken_unless, lesser, names_are_distinct, params_fault, parts_fault, uses_fault,
+};
 pub use entries::TypeEntry;
 pub use scope::TypeScope;

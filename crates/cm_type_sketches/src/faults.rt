@@ -2,7 +2,7 @@
 
 use crate::level::SketchLevel;
 use cm_reasons::ValidReason;
-use cm_type_rules::{broken_unless, lesser, params_fault, parts_fault, uses_fault};
+use cm_type_scope::{broken_unless, lesser, params_fault, parts_fault, uses_fault};
 use cm_types::{DefValType, FuncType};
 use cm_validity::laws::least_of_both;
 use std::alloc::{AllocError, Global};

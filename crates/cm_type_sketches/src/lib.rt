@@ -10,6 +10,7 @@ pub mod laws;
 mod level;
 mod sketches;
 
+pub use cm_type_scope::{broken_unless, lesser, names_are_distinct};
 pub use entries::sketch_entry;
 pub use level::SketchLevel;
 pub use sketches::{FuncSketch, Sketch, ValueSketch, resource_id};

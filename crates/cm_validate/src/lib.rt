@@ -8,8 +8,9 @@ mod parts;
 
 pub use checked::Checked;
 pub use checking::validate;
-pub use cm_core_spaces::GuestExport;
-pub use cm_entries::{ExportEntry, ExportedEntry, FuncEntry, InstanceEntry, MemberEntry};
-pub use cm_index_spaces::{ComponentExterns, CoreFuncEntry, MadeFunc};
+pub use cm_component_spaces::{
+    ComponentExterns, CoreFuncEntry, ExportEntry, ExportedEntry, FuncEntry, GuestExport,
+    InstanceEntry, MadeFunc, MemberEntry,
+};
 pub use cm_instance_items::Resource;
 pub use cm_reasons::{ValidFault, ValidReason};

@@ -6,8 +6,7 @@ ghost use Rattle.cm_validity.specs.Valid.{IsValid};
 use crate::checked::Checked;
 use crate::exported::func_under;
 use cm_component::Component;
-use cm_entries::{ExportEntry, FuncEntry};
-use cm_index_spaces::{ComponentExterns, CoreFuncEntry};
+use cm_component_spaces::{ComponentExterns, CoreFuncEntry, ExportEntry, FuncEntry};
 use cm_instance_items::Resource;
 use cm_signatures::Extern;
 use cm_type_arena::Types;
@@ -19,9 +18,9 @@ impl<'a> Checked<'a> {
     ghost use Rattle.cm_type_arena.specs.Places.{funcs_of, types_of};
     ghost use Rattle.cm_signatures.specs.Externs.{extern_of, is_extern_there};
     ghost use Rattle.cm_instance_items.specs.Ranges.{resource_def};
-    ghost use Rattle.cm_entries.specs.ComponentSpaces.{export_def, is_exported_there};
-    ghost use Rattle.cm_entries.specs.Entries.{func_def, is_func_there};
-    ghost use Rattle.cm_index_spaces.specs.Made.{core_func_def, is_core_func_there};
+    ghost use Rattle.cm_component_spaces.specs.cm_entries.ComponentSpaces.{export_def, is_exported_there};
+    ghost use Rattle.cm_component_spaces.specs.cm_entries.Entries.{func_def, is_func_there};
+    ghost use Rattle.cm_component_spaces.specs.cm_index_spaces.Made.{core_func_def, is_core_func_there};
     ghost use Rattle.cm_validate.specs.Checked.{funcs_in, sections_in, spaces_in, types_in};
     ghost use Rattle.cm_validate.specs.Exported.{exported_func_of};
 

@@ -1,2 +1,3 @@
+pub use Rattle.cm_wit_items.specs as cm_wit_items
 pub mod PartViews
 pub mod Adding

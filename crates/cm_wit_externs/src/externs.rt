@@ -27,9 +27,8 @@ use cm_type_arena::Types;
 use cm_wit_functions::push_func;
 use cm_wit_interfaces::{PlacedInterface, full_name};
 use cm_wit_items::laws::{items_stay, tables_stay};
-use cm_wit_items::push_items;
+use cm_wit_items::{extern_name, push_items};
 use cm_wit_meanings::MeaningFault;
-use cm_wit_members::extern_name;
 use std::alloc::{AllocError, Global};
 use std::rc::Rc;
 

@@ -9,8 +9,7 @@ ghost use Rattle.cm_wit_grammar.specs.Parts.{no_file_item, no_item, other_fault,
 ghost use Rattle.cm_wit_grammar.specs.Parts.{unexpected_file_item, unexpected_item};
 
 use crate::fault::{ReadError, WitReason};
-use cm_types::Label;
-use cm_wit_tokens::{Form, Keyword, Operator, Token, Version};
+use cm_wit_tokens::{Form, Keyword, Label, Operator, Token, Version};
 use std::collections::VecDeque;
 use std::marker::Model;
 

@@ -11,8 +11,7 @@ ghost use Rattle.cm_wit_grammar.specs.Lists.{next_item, next_member};
 
 use crate::cursor::Cursor;
 use crate::fault::ReadError;
-use cm_types::Label;
-use cm_wit_tokens::Operator;
+use cm_wit_tokens::{Label, Operator};
 use std::alloc::Global;
 
 /// A form of WIT texts: how it is read.

@@ -9,8 +9,7 @@ use crate::keying::{interface_keys, package_keys};
 use crate::placed::{PlacedInterface, PlacedWorld};
 use crate::texts::{full_name, package_name, package_text};
 use cm_keys::Keys;
-use cm_wit_text::WitFile;
-use cm_wit_types::Path;
+use cm_wit_text::{Path, WitFile};
 use std::alloc::{AllocError, Global};
 
 /// Packages, with what finds them and their interfaces by name in constant time.
@@ -29,7 +28,7 @@ impl<'a> Directory<'a> {
     ghost use Rattle.std.specs.List.{position_from};
     ghost use Rattle.cm_wit_interfaces.specs.InterfaceViews.{placed_world};
     ghost use Rattle.std.specs.String.{string_bytes};
-    ghost use Rattle.cm_wit_types.specs.SignatureViews.{path_tree};
+    ghost use Rattle.cm_wit_text.specs.cm_wit_types.SignatureViews.{path_tree};
     ghost use Rattle.cm_wit_interfaces.specs.Interfaces.{interface_at, is_world, package_at};
     ghost use Rattle.cm_wit_interfaces.specs.Interfaces.{package_name, target};
 

@@ -8,8 +8,7 @@ ghost use Rattle.cm_wit_text.specs.Views.{file_tree};
 ghost use Rattle.cm_wit_interfaces.specs.Interfaces.{full_name, package_name, package_text};
 
 use cm_types::Label;
-use cm_wit_text::WitFile;
-use cm_wit_tokens::Version;
+use cm_wit_text::{Version, WitFile};
 use std::alloc::{AllocError, Global};
 
 fn add_version(out: &mut String, version: &Option<Version>) -> Result<(), AllocError>

@@ -4,4 +4,5 @@
 mod items;
 pub mod laws;
 
+pub use cm_wit_members::extern_name;
 pub use items::push_items;

@@ -4,7 +4,7 @@ ghost use Rattle.std.specs.Prelude.{◌≡◌, ◌++◌, ◌∷◌, IfOk, OnOk, 
 ghost use Rattle.std.specs.List.{flat_map};
 ghost use Rattle.cm_wit_text.specs.Views.{interface_item_tree, interface_tree};
 ghost use Rattle.cm_wit_text.specs.Views.{resource_func_tree, type_def_tree, used_name_tree};
-ghost use Rattle.cm_wit_scopes.specs.Worlds.{used_as};
+ghost use Rattle.cm_wit_signature_model.specs.cm_wit_scopes.Worlds.{used_as};
 ghost use Rattle.cm_wit_signature_model.specs.Members as spec;
 ghost use Rattle.cm_wit_signature_model.specs.Members.{members, members_of, resource_funcs};
 ghost use Rattle.cm_wit_members.specs.MemberViews.{member_view};

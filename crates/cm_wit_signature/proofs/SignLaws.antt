@@ -7,7 +7,7 @@ use Rattle.cm_types.specs.Signatures.{SignatureTy}
 use Rattle.cm_keys.specs.Keys.{Key}
 use Rattle.cm_wit_text.specs.Trees.{File}
 use Rattle.cm_wit_interfaces.specs.Interfaces.{PlacedInterface, PlacedWorld, interfaces}
-use Rattle.cm_wit_items.specs.ItemFaults.{AreWithin, IsFaultWith}
+use Rattle.cm_wit_externs.specs.cm_wit_items.ItemFaults.{AreWithin, IsFaultWith}
 use Rattle.cm_wit_meanings.specs.Faults.{IsFuncWithin, is_func_spellable}
 use Rattle.cm_wit_meanings.specs.Scopes.{Meaning, as_type}
 use Rattle.cm_wit_meanings.specs.declared.fault.MeaningFault.{MeaningFault}

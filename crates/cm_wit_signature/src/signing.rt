@@ -7,7 +7,7 @@ ghost use Rattle.cm_type_arena.specs.Places.{types_of};
 ghost use Rattle.cm_wit_declared.specs.DeclaredViews.{declaration_view, instance_view};
 ghost use Rattle.cm_wit_interfaces.specs.Interfaces as spec;
 ghost use Rattle.cm_wit_interfaces.specs.InterfaceViews.{files_of, placed_interface, placed_world};
-ghost use Rattle.cm_wit_items.specs.ItemFaults.{AreWithin, IsFaultWith};
+ghost use Rattle.cm_wit_externs.specs.cm_wit_items.ItemFaults.{AreWithin, IsFaultWith};
 ghost use Rattle.cm_wit_meanings.specs.Places.{ArePlaced, table_in};
 ghost use Rattle.cm_wit_meanings.specs.Scopes.{scope_at};
 ghost use Rattle.cm_wit_signature_model.specs.Faults.{IsFaultIn, IsWorldSignature, world_of};

@@ -1,3 +1,4 @@
+pub use Rattle.cm_wit_scopes.specs as cm_wit_scopes
 pub mod Members
 pub mod Functions
 pub mod Signatures

@@ -1,3 +1,4 @@
+pub use Rattle.cm_wit_types.specs as cm_wit_types
 pub mod Trees
 pub mod Views
 pub mod Heads

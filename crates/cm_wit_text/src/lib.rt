@@ -10,6 +10,7 @@ mod world_reader;
 mod worlds;
 
 pub use cm_wit_grammar::{ReadError, WitFault, WitReason};
+pub use cm_wit_tokens::Version;
 pub use cm_wit_types::{Func, Path, Primitive, Typed, WitType};
 pub use file::{FileItem, WitFile};
 pub use file_reader::read_file;

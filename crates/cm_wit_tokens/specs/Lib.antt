@@ -1,3 +1,4 @@
+pub use Rattle.cm_types.specs as cm_types
 pub mod Keywords
 pub mod Operators
 pub mod Comments

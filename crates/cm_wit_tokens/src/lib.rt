@@ -10,6 +10,7 @@ mod run;
 mod token;
 mod version;
 
+pub use cm_types::{Label, MAX_DEPTH};
 pub use keyword::Keyword;
 pub use lexed::Lexed;
 pub use operator::Operator;

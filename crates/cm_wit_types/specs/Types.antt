@@ -1,5 +1,5 @@
 -- Types (WIT.md, "Item: `ty`").
-use Rattle.cm_types.specs.declared.limits.TheConstants.{MAX_DEPTH}
+use Rattle.cm_wit_tokens.specs.cm_types.declared.limits.TheConstants.{MAX_DEPTH}
 use Rattle.std.specs.Prelude.{ℕ, zero, suc, Bool, List, [], ◌∷◌, Option, Some, None, Result, Ok}
 use Rattle.std.specs.Prelude.{Err}
 use Rattle.std.specs.Prelude.{is_ok, if◌then◌else◌}

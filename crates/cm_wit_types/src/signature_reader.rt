@@ -7,9 +7,8 @@ ghost use Rattle.cm_wit_types.specs.SignatureViews.{func_tree, path_tree, typed_
 
 use crate::signatures::{Func, Path, Typed};
 use crate::type_reader::read_type;
-use cm_types::{Label, MAX_DEPTH};
 use cm_wit_grammar::{Cursor, Item, ReadError, read_items};
-use cm_wit_tokens::{Operator, Version};
+use cm_wit_tokens::{Label, MAX_DEPTH, Operator, Version};
 use std::alloc::Global;
 
 /// A name, `:` and a type.

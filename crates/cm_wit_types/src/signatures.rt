@@ -1,8 +1,7 @@
 //! Functions and the paths of interfaces as WIT texts write them.
 
 use crate::types::WitType;
-use cm_types::Label;
-use cm_wit_tokens::Version;
+use cm_wit_tokens::{Label, Version};
 
 /// A parameter or a field: its name and its type.
 #[derive(Drop)]

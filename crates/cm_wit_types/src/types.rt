@@ -5,8 +5,7 @@ ghost use Rattle.std.specs.Option.{option_map};
 ghost use Rattle.cm_wit_types.specs.Types.{keyword_head, begins_type_in};
 ghost use Rattle.cm_wit_types.specs.TypeViews.{head_tree};
 
-use cm_types::Label;
-use cm_wit_tokens::{Form, Keyword};
+use cm_wit_tokens::{Form, Keyword, Label};
 
 /// A type that holds no other (WIT.md, "Item: `ty`").
 #[derive(Clone, Copy)]

@@ -10,8 +10,7 @@ ghost use Rattle.cm_wit_typing.specs.Typing.{IsTypingFault};
 
 use cm_wit_declared::{Declaration, Instance, declarations_of};
 use cm_wit_interfaces::{Directory, PlacedInterface, PlacedWorld};
-use cm_wit_listed::all_have_types;
-use cm_wit_typed::members_have_types;
+use cm_wit_typed::{all_have_types, members_have_types};
 use cm_wit_worlds::WorldFault;
 use std::alloc::Global;
 

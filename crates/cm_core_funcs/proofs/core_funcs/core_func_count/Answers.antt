@@ -1,7 +1,7 @@
 use Rattle.std.proofs.Common.{◌≡◌, ap, arith}
 use Rattle.std.specs.List.{sum_by}
 use Rattle.cm_component.specs.Limits.{items_in}
-use Rattle.cm_validate.specs.Checked.{sections_in}
+use Rattle.cm_match.specs.cm_validate.Checked.{sections_in}
 use Rattle.cm_core_funcs.proofs.Counts.{core_funcs_few}
 use Rattle.cm_core_funcs.proofs.core_funcs.core_func_count.Goals as goal
 

@@ -1,7 +1,7 @@
 use Rattle.std.proofs.Common.{◌≡◌, ◌∙◌, ◌<◌, ◌++◌, ◌∷◌, [], List, Some, length, sym, ap, refl, arith}
 use Rattle.std.specs.Prelude.{slice_get}
 use Rattle.std.specs.Option.{option_and_then}
-use Rattle.cm_validate.specs.Checked.{spaces_in}
+use Rattle.cm_match.specs.cm_validate.Checked.{spaces_in}
 use Rattle.cm_match.specs.Linked.{set_in}
 use Rattle.cm_validity.specs.Definitions.{CoreFuncDef}
 use Rattle.cm_machine_model.specs.declared.frame.CoreFunction.{CoreFunction}

@@ -1,6 +1,6 @@
 use Rattle.std.proofs.Common.{◌≡◌, ◌∙◌, ◌++◌, ◌∷◌, [], List, Some, take, sym, ap}
 use Rattle.std.specs.Prelude.{slice_get}
-use Rattle.cm_validate.specs.Checked.{spaces_in}
+use Rattle.cm_match.specs.cm_validate.Checked.{spaces_in}
 use Rattle.cm_match.specs.Linked.{set_in}
 use Rattle.cm_match.specs.Linked.{components_in}
 use Rattle.cm_machine_model.specs.declared.frame.CoreFunction.{CoreFunction}

@@ -1,6 +1,6 @@
 use Rattle.std.proofs.Common.{◌≡◌, ◌∙◌, ◌≤◌, Some, length, sym, arith}
 use Rattle.std.specs.Prelude.{slice_get}
-use Rattle.cm_validate.specs.Checked.{spaces_in}
+use Rattle.cm_match.specs.cm_validate.Checked.{spaces_in}
 use Rattle.cm_match.specs.Linked.{set_in}
 use Rattle.cm_match.specs.Linked.{components_in}
 use Rattle.cm_core_funcs.proofs.CoreFuncs.{whole_set, set_at, set_count, component_is_first, component_later, no_component}

@@ -1,5 +1,5 @@
 use Rattle.std.proofs.Common.{◌≡◌}
-use Rattle.cm_validate.specs.Checked.{spaces_in}
+use Rattle.cm_match.specs.cm_validate.Checked.{spaces_in}
 use Rattle.cm_match.specs.Linked.{set_in}
 use Rattle.cm_core_funcs.specs.Carried.{first_not_carried_in}
 use Rattle.cm_core_funcs.proofs.CoreFuncs.{rest_from}

@@ -1,6 +1,6 @@
 use Rattle.std.proofs.Common.{◌++◌, map, take, subst}
 use Rattle.cm_candidates.specs.Tables.{HasExports}
-use Rattle.cm_entries.specs.ComponentSpaces.{export_def}
+use Rattle.cm_validate.specs.cm_entries.ComponentSpaces.{export_def}
 use Rattle.cm_links.specs.Imports.{exports_from}
 use Rattle.cm_linker.proofs.Rows.{exports_next, read_at}
 use Rattle.cm_linker.proofs.by_name.add_exports.Goals as goal

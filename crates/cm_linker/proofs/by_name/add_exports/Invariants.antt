@@ -2,7 +2,7 @@ use Rattle.std.proofs.Common.{List, ◌++◌, map, take}
 use Rattle.cm_types.specs.Types.{FuncTy, Ty}
 use Rattle.cm_candidates.specs.Fitting.{NamedExport}
 use Rattle.cm_candidates.specs.Tables.{HasExports}
-use Rattle.cm_entries.specs.ComponentSpaces.{export_def}
+use Rattle.cm_validate.specs.cm_entries.ComponentSpaces.{export_def}
 use Rattle.cm_links.specs.Imports.{exports_from}
 use Rattle.cm_linker.proofs.by_name.add_exports.Given as goal
 

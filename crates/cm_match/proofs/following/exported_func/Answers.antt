@@ -1,6 +1,6 @@
 use Rattle.std.proofs.Common.{◌≡◌, ◌∙◌, Some, sym, ap, subst, IfSome, length, true}
 use Rattle.std.specs.Option.{option_map}
-use Rattle.cm_entries.specs.Entries.{func_def, is_func_there}
+use Rattle.cm_linker.specs.cm_entries.Entries.{func_def, is_func_there}
 use Rattle.cm_linker.specs.Linkings.{components_in}
 use Rattle.cm_match.proofs.Follow.{exported_by, funcs_of_it, got, provider_at}
 use Rattle.cm_match.proofs.following.exported_func.Goals as goal

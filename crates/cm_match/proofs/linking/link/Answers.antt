@@ -1,6 +1,6 @@
 use Rattle.std.proofs.Common.{rules, ◌<◌, ◌≤◌, arith, length, subst, List}
 use Rattle.cm_plan.specs.declared.plan.TheConstants.{MAX_COMPONENTS}
-use Rattle.cm_validate.specs.declared.checked.Checked.{Checked}
+use Rattle.cm_linker.specs.cm_validate.declared.checked.Checked.{Checked}
 use Rattle.cm_linker.specs.Choices.{AreChoices}
 use Rattle.cm_linker.specs.Sets.{set_of}
 use Rattle.cm_match.proofs.Walking.{fault_set, linked_set, memory_set, plan_set}

@@ -1,5 +1,5 @@
 use Rattle.std.proofs.Common.{rules}
-use Rattle.cm_validate.specs.Checked.{spaces_in}
+use Rattle.cm_checked_signature.specs.cm_validate.Checked.{spaces_in}
 use Rattle.cm_checked_signature.specs.Exports.{signature_in}
 use Rattle.cm_tool_signatures.proofs.conforming.conform_component.Goals as goal
 

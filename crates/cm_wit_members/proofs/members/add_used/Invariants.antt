@@ -1,6 +1,6 @@
 use Rattle.std.proofs.Common.{map}
 use Rattle.cm_wit_text.specs.Views.{used_name_tree}
-use Rattle.cm_wit_scopes.specs.Worlds.{used_as}
+use Rattle.cm_wit_signature_model.specs.cm_wit_scopes.Worlds.{used_as}
 use Rattle.cm_wit_signature_model.specs.Members as spec
 use Rattle.cm_wit_members.specs.MemberViews.{member_view}
 use Rattle.cm_wit_members.proofs.ListLaws.{Makes}

@@ -1,0 +1,1 @@
+pub use Rattle.cm_core_funcs.specs as cm_core_funcs
