@@ -18,9 +18,11 @@ impl<'a> Checked<'a> {
     ghost use Rattle.cm_type_arena.specs.Places.{funcs_of, types_of};
     ghost use Rattle.cm_signatures.specs.Externs.{extern_of, is_extern_there};
     ghost use Rattle.cm_instance_items.specs.Ranges.{resource_def};
-    ghost use Rattle.cm_component_spaces.specs.cm_entries.ComponentSpaces.{export_def, is_exported_there};
+    ghost use Rattle.cm_component_spaces.specs.cm_entries.ComponentSpaces.{export_def};
+    ghost use Rattle.cm_component_spaces.specs.cm_entries.ComponentSpaces.{is_exported_there};
     ghost use Rattle.cm_component_spaces.specs.cm_entries.Entries.{func_def, is_func_there};
-    ghost use Rattle.cm_component_spaces.specs.cm_index_spaces.Made.{core_func_def, is_core_func_there};
+    ghost use Rattle.cm_component_spaces.specs.cm_index_spaces.Made.{core_func_def};
+    ghost use Rattle.cm_component_spaces.specs.cm_index_spaces.Made.{is_core_func_there};
     ghost use Rattle.cm_validate.specs.Checked.{funcs_in, sections_in, spaces_in, types_in};
     ghost use Rattle.cm_validate.specs.Exported.{exported_func_of};
 
