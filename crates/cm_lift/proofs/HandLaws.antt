@@ -17,7 +17,7 @@ use Rattle.cm_layout.specs.declared.layouts.HandleType.{HandleType}
 use Rattle.cm_layout.specs.declared.layouts.HandleType.TheVariants as handle_type
 use Rattle.cm_abi_model.specs.Taken.{AllThere, CanGo, GoesInTurn, IsThere, Met, after_met, text_content, content, content_of, lent, lent_of, taken, taken_of}
 use Rattle.cm_abi_model.specs.declared.fault.AbiFault.{AbiFault}
-use Rattle.cm_lifting.specs.declared.progress.MetHandle.{MetHandle}
+use Rattle.cm_lifting.specs.cm_leaf_reading.declared.progress.MetHandle.{MetHandle}
 use Rattle.cm_lifting.specs.Meeting.{AreAsWanted, IsOfKind, handles_in, met_as, met_index}
 use Rattle.cm_lifting.specs.Reading.{resource_of}
 use Rattle.cm_lift.specs.HandingOver.{Hands, LendsBelow, hand_next, hand_one, hand_over, lent_out, taken_out, untouched}

@@ -10,7 +10,7 @@ use Rattle.cm_layout.specs.declared.layouts.HandleType.{HandleType}
 use Rattle.cm_layout.specs.declared.layouts.HandleType.TheVariants as handle_type
 use Rattle.cm_abi_model.specs.declared.fault.AbiFault.{AbiFault}
 use Rattle.cm_abi_model.specs.declared.fault.AbiFault.TheVariants as fault
-use Rattle.cm_lifting.specs.declared.progress.MetHandle.{MetHandle}
+use Rattle.cm_lifting.specs.cm_leaf_reading.declared.progress.MetHandle.{MetHandle}
 use Rattle.cm_lifting.specs.Outcomes.{Outcome, State}
 use Rattle.cm_lift.specs.declared.handing.Handed.{Handed}
 

@@ -1,4 +1,3 @@
-pub mod LeafLemmas
 pub mod LoadLemmas
 pub mod TextLemmas
 pub mod Seen

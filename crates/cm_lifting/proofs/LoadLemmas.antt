@@ -9,9 +9,9 @@ use Rattle.cm_layout.specs.declared.layouts.Part.{Part}
 use Rattle.cm_values.specs.ValueTrees.{value_of, values_of, vals_from}
 use Rattle.cm_values.specs.declared.values.Value.{Value}
 use Rattle.cm_abi_model.specs.declared.fault.AbiFault.TheVariants as fault
-use Rattle.cm_lifting.specs.declared.stop.Stop.{Stop}
-use Rattle.cm_lifting.specs.declared.stop.Stop.TheVariants as stop
-use Rattle.cm_lifting.specs.Outcomes.{Outcome, State, Stops, mapped}
+use Rattle.cm_leaf_reading.specs.declared.stop.Stop.{Stop}
+use Rattle.cm_leaf_reading.specs.declared.stop.Stop.TheVariants as stop
+use Rattle.cm_leaf_reading.specs.Outcomes.{Outcome, State, Stops, mapped}
 use Rattle.cm_lifting.specs.Reading.{Source, read_at, read_case, read_each, read_parts, read_payload}
 use Rattle.cm_lifting.specs.Sized.{ArePartsReadable, ArePartsSized, ArePayloadsReadable, ArePayloadsSized, IsReadable}
 

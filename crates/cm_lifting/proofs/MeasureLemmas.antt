@@ -5,11 +5,10 @@ use Rattle.cm_text.specs.Fault.{IsIllFormed}
 use Rattle.cm_text.specs.declared.fault.TextFault.{TextFault}
 use Rattle.cm_text.specs.declared.fault.TextFault.TheVariants as text_fault
 use Rattle.cm_text.specs.Text.{IsText, IsTextOfSize, IsTextUpTo}
-use Rattle.cm_types.specs.Values.{Val}
 use Rattle.cm_abi_model.specs.Texts.{Charset, spell}
-use Rattle.cm_lifting.specs.declared.stop.Stop.{Stop}
-use Rattle.cm_lifting.specs.declared.stop.Stop.TheVariants as stop
-use Rattle.cm_lifting.specs.Outcomes.{Outcome, State, Stops, mapped}
+use Rattle.cm_leaf_reading.specs.declared.stop.Stop.{Stop}
+use Rattle.cm_leaf_reading.specs.declared.stop.Stop.TheVariants as stop
+use Rattle.cm_leaf_reading.specs.Outcomes.{Outcome, State, Stops, mapped}
 use Rattle.cm_lifting.specs.Reading.{text_value}
 use Rattle.cm_lifting.specs.TextReads.{StopsAtText}
 use Rattle.cm_lifting.specs.TextSizes.{text_length}

@@ -7,9 +7,9 @@ use Rattle.cm_handles.specs.declared.handle.HandleKind.TheVariants.{Owned}
 use Rattle.cm_types.specs.declared.resource.ResourceId.{ResourceId}
 use Rattle.cm_layout.specs.declared.layouts.HandleType.TheVariants as handle_type
 use Rattle.cm_abi_model.specs.Taken.{Met, text_content, content, taken, lent, content_of, tags_of, met_text}
-use Rattle.cm_lifting.specs.declared.progress.MetHandle.{MetHandle}
+use Rattle.cm_leaf_reading.specs.declared.progress.MetHandle.{MetHandle}
 use Rattle.cm_lifting.specs.Meeting.{AreAsWanted, Meets, handles_in, met_as}
-use Rattle.cm_lifting.specs.Outcomes.{State}
+use Rattle.cm_leaf_reading.specs.Outcomes.{State}
 use Rattle.cm_lifting.specs.Reading.{after_meeting, after_text}
 use Rattle.cm_abi_model.specs.declared.encoding.StringEncoding.{StringEncoding}
 use Rattle.cm_abi_model.specs.Texts.{tag_of, text_size}

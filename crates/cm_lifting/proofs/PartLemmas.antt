@@ -1,12 +1,11 @@
 -- Parts of values, which are read where they are shown.
 use Rattle.std.proofs.Common.{◌≡◌, ℕ, List, [], ◌∷◌, refl}
-use Rattle.cm_types.specs.Values.{HandleValue, Val, text, handle}
+use Rattle.cm_types.specs.Values.{HandleValue, text, handle}
 use Rattle.cm_layout.specs.Shapes.{head_of, shape_of_type}
 use Rattle.cm_abi_model.specs.Shows.{Shows, ShowsHandle, ShowsOwned}
 use Rattle.cm_abi_model.specs.Taken.{lent, met_at, met_text, taken}
 use Rattle.cm_abi_model.specs.Texts.{ShowsText}
 use Rattle.cm_lifting.specs.Meeting.{Meets}
-use Rattle.cm_lifting.specs.Outcomes.{State}
 use Rattle.cm_lifting.specs.PartLaws.{BorrowIsRead, BorrowIsShown, ElementsAreRead, ElementsAreShown, OwnIsRead, OwnIsShown, TextIsRead, TextIsShown}
 use Rattle.cm_lifting.specs.Reading.{read_at, seen_by}
 use Rattle.cm_lifting.proofs.FoundLaws.{borrow_found, elements_found, own_found, shown_found, text_found_at}

@@ -24,7 +24,7 @@ use Rattle.cm_abi_model.specs.declared.encoding.StringEncoding.{StringEncoding}
 use Rattle.cm_lifting.specs.Decoded.{decoded}
 use Rattle.cm_abi_model.specs.Taken.{lent, met_at, met_in_fields, met_in_payload, taken}
 use Rattle.cm_lifting.specs.Meeting.{Meets}
-use Rattle.cm_lifting.specs.Outcomes.{State, mapped}
+use Rattle.cm_leaf_reading.specs.Outcomes.{State, mapped}
 use Rattle.cm_lifting.specs.Reading.{after_meeting, after_text, handle_value, read_at, read_case, read_each, read_elements, read_handle, read_parts, read_text, region, seen_by, text_value, value_of_handle}
 use Rattle.cm_lifting.proofs.MeetLaws.{meets_both, meets_borrow, meets_none, meets_own, meets_text}
 use Rattle.cm_lifting.proofs.ShownLaws.{bind_ok, char_ok, each_shown, elements_shown, mapped_ok, moved, read_ok, region_ok}

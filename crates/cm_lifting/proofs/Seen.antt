@@ -8,7 +8,7 @@ use Rattle.cm_values.specs.ValueTrees.{value_of}
 use Rattle.cm_values.specs.declared.values.Value.{Value, the_lemmas}
 use Rattle.cm_values.specs.declared.values.Value.TheViews as value
 use Rattle.cm_values.specs.declared.values.Value.TheVariants as leaf
-use Rattle.cm_lifting.specs.Outcomes.{Outcome, State}
+use Rattle.cm_leaf_reading.specs.Outcomes.{Outcome, State}
 
 abbrev shown : Val → State → Outcome Val
 shown v s = Ok (v, s)

@@ -13,7 +13,7 @@ use Rattle.cm_handles.specs.Handles.{Handles}
 use Rattle.cm_abi_model.specs.Taken.{Met, content, met_each}
 use Rattle.cm_abi_model.specs.Texts.{IsAligned}
 use Rattle.cm_lifting.specs.Meeting.{Meets}
-use Rattle.cm_lifting.specs.Outcomes.{Outcome, State, mapped, ◌>>=◌}
+use Rattle.cm_leaf_reading.specs.Outcomes.{Outcome, State, mapped, ◌>>=◌}
 use Rattle.cm_lifting.specs.Reading.{read_each, read_elements, region}
 use Rattle.cm_lifting.proofs.MeetLaws.{meets_both, meets_content, meets_none}
 

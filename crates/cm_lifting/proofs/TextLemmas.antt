@@ -17,10 +17,10 @@ use Rattle.cm_text.specs.Latin1.{HasLatin1, spell_latin1}
 use Rattle.cm_types.specs.Values.{Val, text}
 use Rattle.cm_abi_model.specs.Texts.{Charset, Has, spell, utf8, utf16, latin1}
 use Rattle.cm_abi_model.specs.Requests.{text_bytes}
-use Rattle.cm_lifting.specs.declared.stop.Stop.{Stop}
-use Rattle.cm_lifting.specs.declared.stop.Stop.TheVariants as stop
+use Rattle.cm_leaf_reading.specs.declared.stop.Stop.{Stop}
+use Rattle.cm_leaf_reading.specs.declared.stop.Stop.TheVariants as stop
 use Rattle.cm_lifting.specs.Decoded.{decoded, if_text, unpaired}
-use Rattle.cm_lifting.specs.Outcomes.{State, Stops}
+use Rattle.cm_leaf_reading.specs.Outcomes.{State, Stops}
 use Rattle.cm_lifting.specs.Reading.{text_value}
 use Rattle.cm_lifting.specs.TextReads.{StopsAtText}
 use Rattle.cm_lifting.proofs.ShownLaws.{moved}

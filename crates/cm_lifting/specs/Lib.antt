@@ -1,6 +1,7 @@
+pub use Rattle.cm_leaf_reading.specs as cm_leaf_reading
+pub use Rattle.cm_leaf_reading.specs.Outcomes
 pub mod Decoded
 pub mod Meeting
-pub mod Outcomes
 pub mod PartLaws
 pub mod Reading
 pub mod Sized

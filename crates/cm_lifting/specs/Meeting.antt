@@ -7,8 +7,8 @@ use Rattle.cm_handles.specs.declared.handle.HandleKind.TheVariants.{Owned}
 use Rattle.cm_layout.specs.declared.layouts.HandleType.{HandleType}
 use Rattle.cm_layout.specs.declared.layouts.HandleType.TheVariants as handle_type
 use Rattle.cm_abi_model.specs.Taken.{Met, text_content, content, taken, lent, content_of, tags_of}
-use Rattle.cm_lifting.specs.declared.progress.MetHandle.{MetHandle}
-use Rattle.cm_lifting.specs.Outcomes.{State}
+use Rattle.cm_leaf_reading.specs.declared.progress.MetHandle.{MetHandle}
+use Rattle.cm_leaf_reading.specs.Outcomes.{State}
 use Rattle.cm_lifting.specs.Reading.{resource_of}
 
 -- an index as which a handle is met: to be owned, or to be borrowed

@@ -14,7 +14,7 @@ use Rattle.cm_abi_model.specs.Taken.{met_text}
 use Rattle.cm_abi_model.specs.Texts.{ShowsText, text_size}
 use Rattle.cm_abi_model.specs.Views.{View}
 use Rattle.cm_lifting.specs.Meeting.{Meets}
-use Rattle.cm_lifting.specs.Outcomes.{State}
+use Rattle.cm_leaf_reading.specs.Outcomes.{State}
 use Rattle.cm_lifting.specs.Reading.{read_at, read_elements, read_handle, read_text, seen_by}
 
 -- a string that is read is shown, and its bytes and its tag are met

@@ -1,31 +1,11 @@
 -- Layouts whose numbers have the sizes that numbers have (CanonicalABI.md, "Element Size").
-use Rattle.std.specs.Prelude.{◌≡◌, ℕ, ◌+◌, ◌<◌, ◌≤◌, ◌⊎◌, ⊤}
+use Rattle.std.specs.Prelude.{ℕ, ◌+◌, ◌<◌, ◌≤◌, ⊤}
 use Rattle.cm_layout.specs.Laid.{Laid}
-use Rattle.cm_layout.specs.declared.layouts.Leaf.{Leaf}
-use Rattle.cm_layout.specs.declared.layouts.Leaf.TheVariants as leaf
 use Rattle.cm_layout.specs.Shapes.{LayoutTy, Shape, Parts, Payloads, leaf_shape, string_shape}
 use Rattle.cm_layout.specs.Shapes.{list_shape}
 use Rattle.cm_layout.specs.Shapes.{fixed_list_shape, fields_shape, cases_shape, handle_shape}
 use Rattle.cm_layout.specs.Shapes.{no_parts, part, no_payloads, nothing, carried}
-
--- a number has so many bytes
-abbrev pub IsNumberSize : ℕ → Type 0
-IsNumberSize n = (n ≡ 1) ⊎ (n ≡ 2) ⊎ (n ≡ 4) ⊎ (n ≡ 8)
-
-abbrev pub IsSizedLeaf : Leaf → Type 0
-IsSizedLeaf leaf.Bool = ⊤
-IsSizedLeaf (leaf.Signed w) = IsNumberSize w
-IsSizedLeaf (leaf.Unsigned w) = IsNumberSize w
-IsSizedLeaf leaf.Char = ⊤
-IsSizedLeaf (leaf.Flags labels w) = IsNumberSize w × (w ≤ 4)
-
--- how many bytes of a core value a leaf is read from; what is above them is left out
-abbrev pub core_size : Leaf → ℕ
-core_size leaf.Bool = 4
-core_size (leaf.Signed w) = w
-core_size (leaf.Unsigned w) = w
-core_size leaf.Char = 4
-core_size (leaf.Flags labels w) = 4
+pub use Rattle.cm_leaf_reading.specs.Sizes.{IsNumberSize, IsSizedLeaf, core_size}
 
 abbrev mutual
   -- each number in a shape has one of these sizes, and each element of a list an alignment

@@ -2,8 +2,8 @@
 use Rattle.std.specs.Prelude.{◌≡◌, ℕ, List, ⊤}
 use Rattle.cm_text.specs.Text.{IsText}
 use Rattle.cm_abi_model.specs.declared.fault.AbiFault.TheVariants as fault
-use Rattle.cm_lifting.specs.declared.stop.Stop.{Stop}
-use Rattle.cm_lifting.specs.declared.stop.Stop.TheVariants as stop
+use Rattle.cm_leaf_reading.specs.declared.stop.Stop.{Stop}
+use Rattle.cm_leaf_reading.specs.declared.stop.Stop.TheVariants as stop
 
 -- it stops for want of memory, or since bytes are no text
 abbrev pub StopsAtText : (ℕ → Type 0) → (ℕ → List ℕ) → List ℕ → Stop → Type 0

@@ -9,7 +9,7 @@ ghost use Rattle.cm_abi_model.specs.Shows.{Shows};
 ghost use Rattle.cm_abi_model.specs.Taken.{content_of, met_at};
 ghost use Rattle.cm_abi_model.specs.Views.{View};
 ghost use Rattle.cm_lifting.specs.Meeting.{Meets};
-ghost use Rattle.cm_lifting.specs.Outcomes.{State};
+ghost use Rattle.cm_leaf_reading.specs.Outcomes.{State};
 ghost use Rattle.cm_lifting.specs.PartLaws.{BorrowIsRead, BorrowIsShown, ElementsAreRead};
 ghost use Rattle.cm_lifting.specs.PartLaws.{ElementsAreShown, MeetingsJoin, NothingIsMet};
 ghost use Rattle.cm_lifting.specs.PartLaws.{OwnIsRead, OwnIsShown, TextIsRead, TextIsShown};

@@ -11,16 +11,14 @@ ghost use Rattle.cm_abi_model.specs.Shows.{Shows};
 ghost use Rattle.cm_abi_model.specs.Taken.{content_of, met_at};
 ghost use Rattle.cm_abi_model.specs.Views.{View};
 ghost use Rattle.cm_lifting.specs.Meeting.{Meets};
-ghost use Rattle.cm_lifting.specs.Outcomes.{state_of};
+ghost use Rattle.cm_leaf_reading.specs.Outcomes.{state_of};
 ghost use Rattle.cm_lifting.specs.Reading.{read_at, seen_by, source_of};
 
-use crate::giver::Giver;
 use crate::loading::load;
-use crate::progress::Progress;
-use crate::stop::Stop;
 use cm_abi_model::AbiFault;
 use cm_layout::Layout;
 use cm_layout::laws::layouts;
+use cm_leaf_reading::{Giver, Progress, Stop};
 use cm_values::Value;
 
 /// The value that the bytes at an address are, by the layout of its type; `at` is in bytes from 0,

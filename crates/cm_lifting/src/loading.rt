@@ -7,23 +7,19 @@ ghost use Rattle.cm_layout.specs.Layouts.{layout_of, nothings, part_of, payload_
 ghost use Rattle.cm_layout.specs.Shapes.{parts_from, payloads_from};
 ghost use Rattle.cm_values.specs.ValueTrees.{value_of, values_of};
 ghost use Rattle.cm_types.specs.Values.{elements, parts};
-ghost use Rattle.cm_lifting.specs.Outcomes.{Reads, State, mapped, state_of};
+ghost use Rattle.cm_leaf_reading.specs.Outcomes.{Reads, State, mapped, state_of};
 ghost use Rattle.cm_lifting.specs.Reading.{Source, leaf_value as value_of_leaf, read_at, read_case};
 ghost use Rattle.cm_lifting.specs.Reading.{read_each, read_elements, read_parts, read_payload};
 ghost use Rattle.cm_lifting.specs.Reading.{source_of};
 ghost use Rattle.cm_lifting.specs.Sized.{ArePartsSized, ArePayloadsSized, IsReadable, IsSized};
 ghost use Rattle.cm_lifting.specs.Sized.{IsSizedLeaf};
 
-use crate::giver::Giver;
-use crate::handles::load_handle;
-use crate::leaves::{leaf_size, leaf_value};
-use crate::numbers::{number_32, number_at};
-use crate::progress::Progress;
-use crate::regions::check_region;
-use crate::stop::Stop;
 use crate::texts::load_text;
 use cm_abi_model::AbiFault;
 use cm_layout::{Form, Layout, Leaf, Part, Payload};
+use cm_leaf_reading::{
+    Giver, Progress, Stop, check_region, leaf_size, leaf_value, load_handle, number_32, number_at,
+};
 use cm_values::Value;
 
 /// The value that a layout has at an address.

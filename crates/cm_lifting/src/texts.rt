@@ -7,15 +7,12 @@ ghost use Rattle.cm_text.specs.Text.{IsText};
 ghost use Rattle.cm_values.specs.ValueTrees.{value_of};
 ghost use Rattle.cm_abi_model.specs.Texts.{charset_of, latin1, text_align, text_size, utf16, utf8};
 ghost use Rattle.cm_lifting.specs.Decoded.{decoded};
-ghost use Rattle.cm_lifting.specs.Outcomes.{Reads, State, state_of};
+ghost use Rattle.cm_leaf_reading.specs.Outcomes.{Reads, State, state_of};
 ghost use Rattle.cm_lifting.specs.Reading.{after_text, read_text, text_value};
 ghost use Rattle.cm_lifting.specs.TextReads.{StopsAtText};
 
-use crate::giver::Giver;
-use crate::progress::Progress;
-use crate::regions::check_region;
-use crate::stop::Stop;
 use cm_abi_model::{AbiFault, StringEncoding};
+use cm_leaf_reading::{Giver, Progress, Stop, check_region};
 use cm_text::{Latin1, Source, TextFault, Utf8, Utf16, transcode};
 use cm_values::Value;
 use std::alloc::Global;

@@ -5,7 +5,7 @@ use Rattle.cm_handles.specs.Handles.{Handles, handle_at}
 use Rattle.cm_handles.specs.declared.handle.Handle.{Handle}
 use Rattle.cm_abi_model.specs.Receives.{HandleLeaf, owned_leaf, borrowed_leaf}
 use Rattle.cm_abi_model.specs.Taken.{Met, text_content, content, taken, lent}
-use Rattle.cm_lifting.specs.declared.progress.MetHandle.{MetHandle}
+use Rattle.cm_lifting.specs.cm_leaf_reading.declared.progress.MetHandle.{MetHandle}
 use Rattle.cm_lifting.specs.Meeting.{met_as}
 
 -- what a handle stands for

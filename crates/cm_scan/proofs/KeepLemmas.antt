@@ -19,8 +19,8 @@ use Rattle.cm_abi_model.specs.declared.encoding.StringEncoding.{StringEncoding}
 use Rattle.cm_abi_model.specs.Numbers.{number_at}
 use Rattle.cm_abi_model.specs.Texts.{bytes_from, charset_of, text_align, text_size}
 use Rattle.cm_lifting.specs.Decoded.{decoded}
-use Rattle.cm_lifting.specs.declared.stop.Stop.{Stop}
-use Rattle.cm_lifting.specs.declared.stop.Stop.TheVariants as stop
+use Rattle.cm_lifting.specs.cm_leaf_reading.declared.stop.Stop.{Stop}
+use Rattle.cm_lifting.specs.cm_leaf_reading.declared.stop.Stop.TheVariants as stop
 use Rattle.cm_lifting.specs.Outcomes.{Outcome, State, mapped, ◌>>=◌}
 use Rattle.cm_lifting.specs.Reading.{Source, after_meeting, after_text, handle_value, leaf_value, read_at, read_case, read_each, read_elements, read_handle, read_parts, read_text, region, resource_of, text_value}
 use Rattle.cm_scan.specs.Keeping.{KeepsHandles, KeepsMore, StopsToKeep, WantsToKeep, count_kept}

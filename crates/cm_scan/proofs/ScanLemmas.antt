@@ -6,8 +6,8 @@ use Rattle.cm_layout.specs.Shapes.{LayoutTy, Payloads, part, parts_from, payload
 use Rattle.cm_layout.specs.declared.layouts.Part.{Part}
 use Rattle.cm_abi_model.specs.declared.encoding.StringEncoding.{StringEncoding}
 use Rattle.cm_abi_model.specs.declared.fault.AbiFault.TheVariants as fault
-use Rattle.cm_lifting.specs.declared.stop.Stop.{Stop}
-use Rattle.cm_lifting.specs.declared.stop.Stop.TheVariants as stop
+use Rattle.cm_lifting.specs.cm_leaf_reading.declared.stop.Stop.{Stop}
+use Rattle.cm_lifting.specs.cm_leaf_reading.declared.stop.Stop.TheVariants as stop
 use Rattle.cm_lifting.specs.Outcomes.{Outcome, State, Stops, mapped, ◌>>=◌}
 use Rattle.cm_lifting.specs.Reading.{Source, read_at, read_case, read_each, read_parts, read_payload}
 use Rattle.cm_scan.specs.declared.record.PartRecord.{PartRecord}

@@ -1,8 +1,8 @@
 -- What a scan keeps of what it reads: a record of each part, and each handle that it meets. Memory
 -- is wanted for these alone (what is kept is this project's own choice).
 use Rattle.std.specs.Prelude.{ℕ, ◌+◌, ◌<◌, ◌≤◌, List, length, Result, Ok, Err, ⊤}
-use Rattle.cm_lifting.specs.declared.stop.Stop.{Stop}
-use Rattle.cm_lifting.specs.declared.stop.Stop.TheVariants as stop
+use Rattle.cm_lifting.specs.cm_leaf_reading.declared.stop.Stop.{Stop}
+use Rattle.cm_lifting.specs.cm_leaf_reading.declared.stop.Stop.TheVariants as stop
 use Rattle.cm_lifting.specs.Outcomes.{Outcome, State}
 use Rattle.cm_scan.specs.declared.record.PartRecord.{PartRecord}
 

@@ -13,7 +13,7 @@ use Rattle.cm_abi_model.specs.declared.encoding.StringEncoding.TheVariants as en
 use Rattle.cm_abi_model.specs.Numbers.{number_at}
 use Rattle.cm_abi_model.specs.Requests.{stored_charset}
 use Rattle.cm_abi_model.specs.Texts.{UTF16_TAG, text_align, units_of}
-use Rattle.cm_lifting.specs.declared.stop.Stop.{Stop}
+use Rattle.cm_lifting.specs.cm_leaf_reading.declared.stop.Stop.{Stop}
 use Rattle.cm_lifting.specs.Outcomes.{Outcome, Reads, State, mapped, state_of}
 use Rattle.cm_lifting.specs.Reading.{Source}
 use Rattle.cm_lifting.specs.TextSizes.{text_length}

@@ -14,9 +14,9 @@ use Rattle.cm_abi_model.specs.Parts.{Part, element_part, parts_in}
 use Rattle.cm_abi_model.specs.Requests.{call_parts, is_spilled, tuple_of}
 use Rattle.cm_abi_model.specs.Taken.{MAX_CONTENT, Transferable, content_of, met, tags_of}
 use Rattle.cm_abi_model.specs.Views.{View, Way, flat_limit}
-use Rattle.cm_lifting.specs.declared.progress.MetHandle.{MetHandle}
-use Rattle.cm_lifting.specs.declared.stop.Stop.{Stop}
-use Rattle.cm_lifting.specs.declared.stop.Stop.TheVariants as stop
+use Rattle.cm_lifting.specs.cm_leaf_reading.declared.progress.MetHandle.{MetHandle}
+use Rattle.cm_lifting.specs.cm_leaf_reading.declared.stop.Stop.{Stop}
+use Rattle.cm_lifting.specs.cm_leaf_reading.declared.stop.Stop.TheVariants as stop
 use Rattle.cm_lifting.specs.Outcomes.{Outcome, State, Stops, mapped}
 use Rattle.cm_lifting.specs.Reading.{Source, seen_by}
 use Rattle.cm_lift.specs.FlatReading.{read_passed}

@@ -8,8 +8,8 @@ use Rattle.cm_layout.specs.Shapes.{LayoutTy, Shape, Parts, Payloads, leaf_shape,
 use Rattle.cm_layout.specs.declared.layouts.Part.{Part}
 use Rattle.cm_abi_model.specs.declared.encoding.StringEncoding.{StringEncoding}
 use Rattle.cm_abi_model.specs.declared.fault.AbiFault.TheVariants as fault
-use Rattle.cm_lifting.specs.declared.stop.Stop.{Stop}
-use Rattle.cm_lifting.specs.declared.stop.Stop.TheVariants as stop
+use Rattle.cm_lifting.specs.cm_leaf_reading.declared.stop.Stop.{Stop}
+use Rattle.cm_lifting.specs.cm_leaf_reading.declared.stop.Stop.TheVariants as stop
 use Rattle.cm_lifting.specs.Outcomes.{Outcome, State, Stops, mapped, ◌>>=◌}
 use Rattle.cm_lifting.specs.Reading.{Source}
 use Rattle.cm_lifting.specs.Sized.{ArePartsSized, ArePayloadsSized, IsSized}

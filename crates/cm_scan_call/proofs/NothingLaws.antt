@@ -7,8 +7,8 @@ use Rattle.cm_layout.specs.Shapes.{LayoutTy}
 use Rattle.cm_abi_model.specs.declared.encoding.StringEncoding.{StringEncoding}
 use Rattle.cm_abi_model.specs.declared.fault.AbiFault.{AbiFault}
 use Rattle.cm_abi_model.specs.Views.{Way, flat_limit}
-use Rattle.cm_lifting.specs.declared.stop.Stop.{Stop}
-use Rattle.cm_lifting.specs.declared.stop.Stop.TheVariants as stop
+use Rattle.cm_lifting.specs.cm_leaf_reading.declared.stop.Stop.{Stop}
+use Rattle.cm_lifting.specs.cm_leaf_reading.declared.stop.Stop.TheVariants as stop
 use Rattle.cm_lifting.specs.Outcomes.{Outcome, State, Stops, mapped}
 use Rattle.cm_lifting.specs.Reading.{Source}
 use Rattle.cm_lift.specs.FlatReading.{read_passed}
@@ -29,7 +29,7 @@ use Rattle.cm_abi_model.specs.Receives.{leaves_in, owned_leaf, borrowed_leaf}
 use Rattle.cm_abi_model.specs.Requests.{call_parts, tuple_of}
 use Rattle.cm_abi_model.specs.Taken.{Met, Transferable}
 use Rattle.cm_abi_model.specs.Views.{View}
-use Rattle.cm_lifting.specs.declared.progress.MetHandle.{MetHandle}
+use Rattle.cm_lifting.specs.cm_leaf_reading.declared.progress.MetHandle.{MetHandle}
 use Rattle.cm_lifting.specs.Meeting.{AreAsWanted, met_as, met_index}
 use Rattle.cm_lifting.specs.Reading.{seen_by}
 use Rattle.cm_lift.specs.HandingOver.{Hands, handed}

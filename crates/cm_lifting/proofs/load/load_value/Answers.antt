@@ -1,6 +1,6 @@
 use Rattle.std.proofs.Common.{subst}
 use Rattle.cm_layout.specs.Layouts.{layout_of}
-use Rattle.cm_lifting.specs.Outcomes.{Stops, state_of}
+use Rattle.cm_leaf_reading.specs.Outcomes.{Stops, state_of}
 use Rattle.cm_lifting.specs.Reading.{read_at, source_of}
 use Rattle.cm_lifting.proofs.FoundLaws.{loaded, not_failed}
 use Rattle.cm_lifting.proofs.SizedLaws.{sized}

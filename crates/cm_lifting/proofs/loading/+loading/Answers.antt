@@ -4,7 +4,7 @@ use Rattle.cm_layout.specs.Layouts.{layout_of, part_of, payload_of, shape_of}
 use Rattle.cm_layout.specs.Shapes.{fixed_list_shape, list_shape, parts_from, payloads_from}
 use Rattle.cm_layout.specs.declared.layouts.Layout.{Layout}
 use Rattle.cm_layout.specs.declared.layouts.Form.{the_lemmas}
-use Rattle.cm_lifting.specs.Outcomes.{state_of}
+use Rattle.cm_leaf_reading.specs.Outcomes.{state_of}
 use Rattle.cm_lifting.specs.Reading.{read_at, source_of}
 use Rattle.cm_lifting.proofs.LoadLemmas.{case_past, case_readable, case_there, each_ends, each_stops, each_turn, front_none, parts_done, parts_readable, parts_turn, payloads_readable, readable_next, step_on}
 use Rattle.cm_lifting.proofs.SeenLayouts.{seen_Carried, seen_FixedList, seen_List, seen_shape, seen_size}

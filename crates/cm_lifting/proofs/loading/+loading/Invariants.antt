@@ -2,7 +2,7 @@ use Rattle.std.proofs.Common.{◌≡◌, ◌+◌, ◌*◌, ◌-◌, length, map,
 use Rattle.cm_layout.specs.Layouts.{layout_of, part_of}
 use Rattle.cm_layout.specs.Shapes.{parts_from}
 use Rattle.cm_values.specs.ValueTrees.{value_of}
-use Rattle.cm_lifting.specs.Outcomes.{state_of}
+use Rattle.cm_leaf_reading.specs.Outcomes.{state_of}
 use Rattle.cm_lifting.specs.Reading.{read_at, read_each, read_parts, source_of}
 use Rattle.cm_lifting.specs.Sized.{ArePartsReadable}
 use Rattle.cm_lifting.proofs.LoadLemmas.{with_front}

@@ -1,6 +1,6 @@
 use Rattle.cm_text.specs.Latin1.{HasLatin1, spell_latin1}
 use Rattle.cm_abi_model.specs.Requests.{stored_charset}
-use Rattle.cm_abi_model.specs.Texts.{latin1, spell}
+use Rattle.cm_abi_model.specs.Texts.{latin1}
 use Rattle.cm_lifting.specs.Decoded.{decoded}
 use Rattle.cm_lifting.proofs.MeasureLemmas.{measured, unmeasured}
 use Rattle.cm_lifting.proofs.TextLemmas.{found_1, none_1}

@@ -1,7 +1,7 @@
 use Rattle.std.specs.Char.{IsScalar}
 use Rattle.cm_text.specs.Utf16.{spell_utf16}
 use Rattle.cm_abi_model.specs.Requests.{stored_charset}
-use Rattle.cm_abi_model.specs.Texts.{utf16, spell}
+use Rattle.cm_abi_model.specs.Texts.{utf16}
 use Rattle.cm_lifting.specs.Decoded.{decoded}
 use Rattle.cm_lifting.proofs.MeasureLemmas.{measured, unmeasured}
 use Rattle.cm_lifting.proofs.TextLemmas.{found_16, none_16}

@@ -1,7 +1,7 @@
 use Rattle.std.specs.Char.{IsScalar}
 use Rattle.cm_text.specs.Utf8.{spell_utf8}
 use Rattle.cm_abi_model.specs.Requests.{stored_charset}
-use Rattle.cm_abi_model.specs.Texts.{utf8, spell}
+use Rattle.cm_abi_model.specs.Texts.{utf8}
 use Rattle.cm_lifting.specs.Decoded.{decoded}
 use Rattle.cm_lifting.proofs.MeasureLemmas.{measured, unmeasured}
 use Rattle.cm_lifting.proofs.TextLemmas.{found_8, none_8}

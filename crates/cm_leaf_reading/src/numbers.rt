@@ -3,7 +3,7 @@
 ghost use Rattle.std.specs.Prelude.{◌≡◌, ◌+◌, ◌*◌, ◌-◌, ◌^◌, ◌<◌, ◌≤◌, length, nat_lt, neg_ℤ, pos};
 ghost use Rattle.std.specs.Prelude.{if◌then◌else◌};
 ghost use Rattle.cm_abi_model.specs.Numbers.{as_signed, number_at};
-ghost use Rattle.cm_lifting.specs.Sized.{IsNumberSize};
+ghost use Rattle.cm_leaf_reading.specs.Sizes.{IsNumberSize};
 
 /// The number of 8 bits at an address.
 #[tactic(auto, unfolding(cm_abi_model::specs::Numbers::number_at))]

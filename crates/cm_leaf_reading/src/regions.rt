@@ -1,8 +1,8 @@
 //! What a pointer leads to.
 
 ghost use Rattle.std.specs.Prelude.{◌≡◌, ◌+◌, ◌<◌, ◌≤◌, length, OnOk};
-ghost use Rattle.cm_lifting.specs.Outcomes.{Reads, state_of};
-ghost use Rattle.cm_lifting.specs.Reading.{region};
+ghost use Rattle.cm_leaf_reading.specs.Outcomes.{Reads, state_of};
+ghost use Rattle.cm_leaf_reading.specs.Leaves.{region};
 
 use crate::progress::Progress;
 use crate::stop::Stop;
@@ -13,7 +13,7 @@ use cm_abi_model::AbiFault;
 ///
 /// It stops with `Misaligned` where they are not aligned, else with `PointerBounds` where they pass
 /// the end of the memory, else with `TooLarge` where fewer bytes may still come.
-#[tactic(auto, unfolding(crate::specs::Reading::region))]
+#[tactic(auto, unfolding(crate::specs::Leaves::region))]
 pub fn check_region(
     memory: &[u8],
     align: u32,

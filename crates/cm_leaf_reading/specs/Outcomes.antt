@@ -1,10 +1,10 @@
 -- How far a reader of a value has come, and what reading a part of it comes to.
 use Rattle.std.specs.Prelude.{◌≡◌, ℕ, Bool, List, Result, Ok, Err, ⊤}
 use Rattle.cm_abi_model.specs.declared.fault.AbiFault.{AbiFault}
-use Rattle.cm_lifting.specs.declared.progress.MetHandle.{MetHandle}
-use Rattle.cm_lifting.specs.declared.progress.Progress.{Progress}
-use Rattle.cm_lifting.specs.declared.stop.Stop.{Stop}
-use Rattle.cm_lifting.specs.declared.stop.Stop.TheVariants as stop
+use Rattle.cm_leaf_reading.specs.declared.progress.MetHandle.{MetHandle}
+use Rattle.cm_leaf_reading.specs.declared.progress.Progress.{Progress}
+use Rattle.cm_leaf_reading.specs.declared.stop.Stop.{Stop}
+use Rattle.cm_leaf_reading.specs.declared.stop.Stop.TheVariants as stop
 
 -- how many bytes of strings and lists may still come; and the handles met so far, and the tags of
 -- strings, in order

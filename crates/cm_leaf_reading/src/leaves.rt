@@ -3,9 +3,9 @@
 ghost use Rattle.std.specs.Prelude.{◌≡◌, ◌*◌, ◌%◌, ◌^◌, ◌<◌};
 ghost use Rattle.cm_layout.specs.Laid.{leaf_size};
 ghost use Rattle.cm_values.specs.ValueTrees.{value_of};
-ghost use Rattle.cm_lifting.specs.Outcomes.{Reads, State};
-ghost use Rattle.cm_lifting.specs.Reading.{leaf_value};
-ghost use Rattle.cm_lifting.specs.Sized.{IsNumberSize, IsSizedLeaf, core_size};
+ghost use Rattle.cm_leaf_reading.specs.Outcomes.{Reads, State};
+ghost use Rattle.cm_leaf_reading.specs.Leaves.{leaf_value};
+ghost use Rattle.cm_leaf_reading.specs.Sizes.{IsNumberSize, IsSizedLeaf, core_size};
 
 use crate::numbers::signed;
 use crate::stop::Stop;
@@ -14,7 +14,7 @@ use cm_layout::Leaf;
 use cm_values::Value;
 
 /// How many bytes a leaf takes.
-pub(crate) fn leaf_size(leaf: Leaf) -> u32
+pub fn leaf_size(leaf: Leaf) -> u32
     requires { IsSizedLeaf leaf }
     ensures size { result ≡ leaf_size leaf }
     ensures is { IsNumberSize result }

@@ -2,8 +2,8 @@
 
 ghost use Rattle.std.specs.Prelude.{◌≡◌};
 ghost use Rattle.cm_values.specs.ValueTrees.{value_of};
-ghost use Rattle.cm_lifting.specs.Outcomes.{Reads, state_of};
-ghost use Rattle.cm_lifting.specs.Reading.{read_handle, resource_of};
+ghost use Rattle.cm_leaf_reading.specs.Outcomes.{Reads, state_of};
+ghost use Rattle.cm_leaf_reading.specs.Leaves.{read_handle, resource_of};
 
 use crate::progress::{MetHandle, Progress};
 use crate::stop::Stop;
@@ -26,7 +26,7 @@ fn resource_of(wanted: HandleType) -> ResourceId
 ///
 /// It stops with `NoHandle` where none stands there, else with `WrongResource` where it is of
 /// another resource, else with `NotOwned` where it is a borrow and an owned one is wanted.
-#[tactic(auto, unfolding(crate::specs::Reading::read_handle))]
+#[tactic(auto, unfolding(crate::specs::Leaves::read_handle))]
 pub fn load_handle(
     table: &Table,
     wanted: HandleType,

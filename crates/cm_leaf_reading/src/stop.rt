@@ -1,7 +1,7 @@
 //! Why a reader stops.
 
 ghost use Rattle.std.specs.Prelude.{◌≡◌};
-ghost use Rattle.cm_lifting.specs.declared.stop.Stop.TheVariants.{Memory};
+ghost use Rattle.cm_leaf_reading.specs.declared.stop.Stop.TheVariants.{Memory};
 
 use cm_abi_model::AbiFault;
 use std::alloc::{AllocError, AllocFailed};
