@@ -305,7 +305,7 @@ fn size_of_params(alloc: Global, func: Rc<Func>) -> Result<u32, AllocError> {
 }
 
 /// Each place after a space; `-` for none.
-pub fn write_places(out: &mut String, places: &[usize]) -> Result<(), AllocError> {
+fn write_places(out: &mut String, places: &[usize]) -> Result<(), AllocError> {
     if places.is_empty() {
         return out.push_str(" -");
     }

@@ -1,14 +1,10 @@
 //! Answers rows by the public calls of the libraries at the bottom, and on types by places, their
-//! copies and their numbers, on layouts that are made part by part, and on signatures.
+//! numbers, and signatures.
 #![tactic(auto)]
 
 mod arena;
-mod arena_layouts;
-mod built;
 mod candidates;
 mod conforming;
-mod copies;
-mod cursors;
 mod handles;
 mod layouts;
 mod names;
@@ -40,17 +36,13 @@ impl Driver for LeafRows {
         };
         match *kind {
             "number" => numbers::answer(alloc, rest),
-            "cursor" => cursors::answer(alloc, rest),
             "name" => names::answer(alloc, rest),
             "type" => types::answer(alloc, rest),
             "layout" => layouts::answer(alloc, rest),
             "text" => texts::answer(alloc, rest),
             "table" => self.handles.answer(alloc, rest),
             "types" => arena::answer(alloc, rest),
-            "built" => built::answer(alloc, rest),
             "conforms" => conforming::answer(alloc, rest),
-            "copies" => copies::answer(alloc, rest),
-            "layouts" => arena_layouts::answer(alloc, rest),
             "numbers" => type_numbers::answer(alloc, rest),
             "shows" => shown::answer(alloc, rest),
             "fit" => candidates::answer(alloc, rest),

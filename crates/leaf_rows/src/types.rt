@@ -143,7 +143,7 @@ pub fn read_func(alloc: Global, words: &[&str]) -> Result<Func, RowFault> {
 }
 
 /// Fields of these types, each of which is called `a`.
-pub fn labelled(alloc: Global, types: Vec<TypeNode>) -> Result<Vec<Field>, RowFault> {
+fn labelled(alloc: Global, types: Vec<TypeNode>) -> Result<Vec<Field>, RowFault> {
     let mut fields = Vec::new(alloc);
     for ty in types {
         let label = read_label(alloc, "a")?;

@@ -140,7 +140,7 @@ fn show_outcome(
 }
 
 /// `fault NUMBER at PLACE`, and of a form that is not carried which one it is.
-fn write_fault(out: &mut String, fault: &DecodeFault) -> Result<(), AllocError> {
+pub fn write_fault(out: &mut String, fault: &DecodeFault) -> Result<(), AllocError> {
     let (number, at) = (fault.reason.number(), fault.at);
     write!(out, "fault {number} at {at}")?;
     match fault.reason {

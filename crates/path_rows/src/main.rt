@@ -1,23 +1,31 @@
-//! Answers rows by the public calls of the path from the bytes of files to the events of runs.
+//! Answers rows by the public calls of the path from the bytes of files, whole or in pieces, to the
+//! events of runs, and by the command on files in memory and the calls of which it is made.
 #![tactic(auto)]
 
 mod checks;
 mod events;
 mod files;
 mod links;
+mod pieces;
 mod sets;
+mod tool;
 mod trees;
 
 use cm_rows::{Driver, RowFault, answer_rows};
 use files::Files;
+use pieces::{readers, writers};
 use sets::Sets;
 use std::alloc::Global;
 use std::io;
+use tool::memory_files::MemoryFiles;
+use tool::{commands, event_lines, scripts};
 
-/// The state between rows: files by their names, and the set that is linked or runs.
+/// The state between rows: files by their names, those of the command, and the set that is linked
+/// or runs.
 #[derive(Drop)]
 struct PathRows {
     files: Files,
+    tool_files: MemoryFiles,
     sets: Sets,
 }
 
@@ -29,6 +37,22 @@ impl Driver for PathRows {
             ["link", sources @ ..] => self.sets.link(alloc, &self.files, sources),
             ["set", rest @ ..] => self.sets.answer(alloc, rest),
             ["valid", rest @ ..] => checks::valid_answer(alloc, &self.files, rest),
+            ["pieces", rest @ ..] => pieces::answer(alloc, rest),
+            ["read", rest @ ..] => readers::answer(alloc, rest),
+            ["write", rest @ ..] => writers::answer(alloc, rest),
+            words => self.answer_on_tool(alloc, words),
+        }
+    }
+}
+
+impl PathRows {
+    /// The answer to a row on the command or its parts, or on sets of which nothing is kept.
+    fn answer_on_tool(&mut self, alloc: Global, words: &[&str]) -> Result<String, RowFault> {
+        match words {
+            ["file", rest @ ..] => self.tool_files.answer(alloc, rest),
+            ["tool", rest @ ..] => commands::answer(alloc, &mut self.tool_files, rest),
+            ["script", rest @ ..] => scripts::answer(alloc, rest),
+            ["event", rest @ ..] => event_lines::answer(alloc, rest),
             words => links::answer(alloc, &self.files, words),
         }
     }
@@ -37,6 +61,7 @@ impl Driver for PathRows {
 fn main(rt: HostRuntime) -> io::Result<()> {
     let mut rows = PathRows {
         files: Files::new(rt.alloc()),
+        tool_files: MemoryFiles::new(rt.alloc()),
         sets: Sets::new(),
     };
     answer_rows(&rt, &mut rows)

@@ -267,7 +267,7 @@ fn write_closed(out: &mut String, set: &Set) -> Result<(), AllocError> {
     Ok(())
 }
 
-fn read_values(alloc: Global, words: &[&str]) -> Result<Vec<CoreValue>, RowFault> {
+pub fn read_values(alloc: Global, words: &[&str]) -> Result<Vec<CoreValue>, RowFault> {
     let mut values = Vec::new(alloc);
     for word in words {
         let value = match word.split_once(':') {

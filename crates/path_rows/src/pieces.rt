@@ -1,6 +1,10 @@
 //! Rows on files that come in pieces.
 
-use crate::answers::{show_fault, show_outcome, write_answers};
+mod answers;
+pub mod readers;
+pub mod writers;
+
+use crate::pieces::answers::{show_fault, show_outcome, write_answers};
 use cm_pieces::{Decoder, decode_pieces};
 use cm_rows::{RowFault, read_bytes, read_number};
 use std::alloc::{AllocError, Global};

@@ -1,12 +1,12 @@
 //! Rows on scripts, their numbers and their bytes.
 
-use crate::escapes::read_text;
+use crate::events::write_values;
+use crate::tool::escapes::read_text;
 use cm_machine::Move;
 use cm_rows::{RowFault, read_number, write_bytes};
 use cm_script::{
     LineFault, Script, ScriptFault, ScriptRefusal, form_of, read_u32, read_u64, script_bytes,
 };
-use cm_types::CoreValue;
 use std::alloc::{AllocError, Global};
 use std::fmt::Display;
 
@@ -109,14 +109,4 @@ fn write_move(out: &mut String, made: &Move) -> Result<(), AllocError> {
         }
         Move::Unreachable => out.push_str(" unreachable"),
     }
-}
-
-fn write_values(out: &mut String, values: &[CoreValue]) -> Result<(), AllocError> {
-    for value in values {
-        match value {
-            CoreValue::I32(number) => write!(out, " i32:{number}")?,
-            CoreValue::I64(number) => write!(out, " i64:{number}")?,
-        }
-    }
-    Ok(())
 }

@@ -1,8 +1,8 @@
 //! Rows on the command and its parts.
 
-use crate::escapes::write_text;
-use crate::files::MemoryFiles;
-use crate::streams::Pipe;
+use crate::tool::escapes::write_text;
+use crate::tool::memory_files::MemoryFiles;
+use crate::tool::streams::Pipe;
 use cm_machine::Set;
 use cm_rows::{RowFault, read_number};
 use cm_tool::{LIMIT, tool};

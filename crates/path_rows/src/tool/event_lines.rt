@@ -1,10 +1,10 @@
-//! Rows on the lines that events print.
+//! The lines that events print.
 
-use crate::escapes::write_text;
+use crate::sets::read_values;
+use crate::tool::escapes::write_text;
 use cm_machine::{Event, Flat, Trap};
 use cm_rows::{RowFault, read_number};
 use cm_tool_lines::write_event;
-use cm_types::CoreValue;
 use std::alloc::Global;
 
 /// The line of an event, whose words are its parts.
@@ -77,20 +77,9 @@ fn read_trap(name: &str) -> Result<Trap, RowFault> {
 
 /// At most 16 values.
 fn read_flat(alloc: Global, words: &[&str]) -> Result<Flat, RowFault> {
-    let mut values = Vec::new(alloc);
-    for word in words {
-        values.push(read_value(word)?)?;
-    }
+    let values = read_values(alloc, words)?;
     if values.len() > 16 {
         return Err(RowFault::NotARow);
     }
     Ok(Flat::from_slice(&values))
-}
-
-fn read_value(word: &str) -> Result<CoreValue, RowFault> {
-    match word.split_once(':') {
-        Some(("i32", number)) => Ok(CoreValue::I32(read_number(number)?)),
-        Some(("i64", number)) => Ok(CoreValue::I64(read_number(number)?)),
-        _ => Err(RowFault::NotARow),
-    }
 }

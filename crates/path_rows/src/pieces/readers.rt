@@ -1,6 +1,6 @@
 //! Rows on files that are read from a reader.
 
-use crate::answers::{show_outcome, write_answers};
+use crate::pieces::answers::{show_outcome, write_answers};
 use cm_pieces::decode_from;
 use cm_rows::{RowFault, read_bytes, read_number};
 use std::alloc::Global;

@@ -1,5 +1,6 @@
 //! Answers as rows show them.
 
+use crate::files::write_fault;
 use cm_binary::{Component, DecodeFault, DecodeReason, encode};
 use cm_rows::{RowFault, write_units};
 use std::alloc::{AllocError, Global};
@@ -21,14 +22,11 @@ pub fn show_outcome(
 
 /// `fault NUMBER at PLACE`, and of a form that is not carried which one it is.
 pub fn show_fault(alloc: Global, fault: &DecodeFault) -> Result<String, RowFault> {
-    let (number, at) = (fault.reason.number(), fault.at);
-    if number == DecodeReason::Memory.number() {
+    if fault.reason.number() == DecodeReason::Memory.number() {
         return Err(RowFault::Memory);
     }
-    let mut out = format!(in alloc; "fault {number} at {at}")?;
-    if let DecodeReason::Unsupported(feature) = fault.reason {
-        write!(out, ", {feature}")?;
-    }
+    let mut out = String::new(alloc);
+    write_fault(&mut out, fault)?;
     Ok(out)
 }
 

@@ -1,6 +1,6 @@
 //! Files in memory.
 
-use crate::escapes::read_text;
+use crate::tool::escapes::read_text;
 use cm_rows::{RowFault, read_bytes};
 use cm_tool_files::{FileFault, Files};
 use std::alloc::Global;

@@ -1,6 +1,6 @@
 //! Rows on files that are written to a writer.
 
-use crate::answers::write_answers;
+use crate::pieces::answers::write_answers;
 use cm_binary::{Component, DecodeReason, decode};
 use cm_pieces::{WriteReason, write_to};
 use cm_rows::{RowFault, read_bytes, read_number, write_units};
