@@ -1,2 +1,4 @@
+mod TellingLaws
+mod InsideLaws
 mod OwnedLaws
 mod CopiedLaws

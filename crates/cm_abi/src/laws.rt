@@ -15,7 +15,7 @@ ghost use Rattle.cm_lower.specs.Lowers.{CanBeLowered, tuple_in};
 ghost use Rattle.cm_lower.specs.declared.passing.Passing.{Passing};
 ghost use Rattle.cm_handles.specs.Handles.{Handles};
 ghost use Rattle.cm_abi_model.specs.declared.encoding.StringEncoding.{StringEncoding};
-ghost use Rattle.cm_met_handles.specs.MetLeaves.{stands_for};
+ghost use Rattle.cm_scan_call.specs.MetLeaves.{stands_for};
 ghost use Rattle.cm_requesting.specs.Asking.{all_requests};
 ghost use Rattle.cm_requesting.specs.RecordRequests.{tags_of};
 ghost use Rattle.cm_requesting.specs.declared.part_requests.PartRequests.{PartRequests};
@@ -27,8 +27,8 @@ ghost use Rattle.cm_abi.specs.Calls.{AreBytes, GoOn, GoesOnAsFound, owned_in};
 
 use cm_abi_model::laws::denotations_are_unique;
 use cm_lowering::laws::{content_of_what_is_denoted, what_is_denoted_can_be_lowered};
-use cm_met_handles::laws::handles_that_are_met_are_the_values;
 use cm_requesting::laws::records_ask_for_parts;
+use cm_scan_call::met_laws::handles_that_are_met_are_the_values;
 
 /// One call, end to end: parameters or results, of all types, from UTF-8, UTF-16 or Latin-1 and
 /// UTF-16 to UTF-8 or UTF-16.

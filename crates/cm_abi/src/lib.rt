@@ -28,9 +28,12 @@
 //!    copies the values from the giver's memory into the receiver's, and into the core values that
 //!    pass them.
 //!
-//! The law `laws::one_copied_call` says the same of these.
+//! The law `laws::one_copied_call` says the same of these. The laws `fitting_laws` say what fits a
+//! memory: records of strings and lists tell what it reads, and a value that can be stored has room
+//! in it.
 #![tactic(auto)]
 
+pub mod fitting_laws;
 pub mod laws;
 
 pub use cm_abi_model::{AbiFault, Request, StringEncoding, Way};

@@ -5,3 +5,15 @@ pub mod SizesAskedFor
 pub mod StoredOnce
 pub mod StoredRegions
 pub mod StoredShows
+mod NumberLaws
+mod BitLaws
+mod FrameLaws
+mod TruthLaws
+mod FlagLaws
+mod PlaceLaws
+mod FieldLaws
+mod StringLaws
+mod AskingLaws
+mod PassedLaws
+mod StoredLaws
+mod LoweredLaws

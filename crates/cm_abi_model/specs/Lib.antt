@@ -12,3 +12,9 @@ pub mod Stores
 pub mod Regions
 pub mod Receives
 pub mod Taken
+pub mod Asking
+pub mod Bytes
+pub mod Leaves
+pub mod PartPlaces
+pub mod Passed
+pub mod Strings

@@ -1,5 +1,5 @@
 //! What core values and bytes in memory say about values of components, and what a lowering stores:
-//! the Canonical ABI in definitions, with laws.
+//! the Canonical ABI in definitions, with laws that say the same in the standard's words.
 //!
 //! Nothing runs here but plain data: `cm_lifting` reads values by these definitions, `cm_lowering`
 //! writes them.
@@ -9,6 +9,7 @@ mod encoding;
 mod fault;
 pub mod laws;
 mod request;
+pub mod standard_laws;
 mod way;
 
 pub use encoding::StringEncoding;

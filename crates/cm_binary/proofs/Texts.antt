@@ -2,7 +2,7 @@
 use Rattle.std.proofs.Common.{◌≡◌, ℕ, ◌<◌, ◌^◌, List, ◌∷◌, [], length, Bool, true, refl, arith}
 use Rattle.std.specs.Str.{is_utf8}
 use Rattle.std.proofs.lemmas.Bool.{and_parts, ltb-true}
-use Rattle.cm_leb.specs.Writing.{shortest_unsigned}
+use Rattle.cm_grammar.specs.LebWriting.{shortest_unsigned}
 use Rattle.cm_grammar.specs.Grammar.{raw, check}
 use Rattle.cm_grammar.specs.Spelling.{blob_spelling}
 use Rattle.cm_grammar.proofs.LeastLaws.{Least, bind_least, number_least, check_least, fixed_least, counted_least}

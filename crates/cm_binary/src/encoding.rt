@@ -6,9 +6,9 @@ ghost use Rattle.cm_reading.specs.File.{Spells};
 ghost use Rattle.cm_binary.specs.Answers.{Accepts};
 
 use crate::decoding::decode;
+use crate::write_file;
 use cm_component::Component;
 use cm_reading_codes::{DecodeFault, DecodeReason};
-use cm_writing::write_file;
 use std::alloc::{AllocError, Global};
 
 /// Writes a component as a file (Binary.md), with the shortest spelling of each number. Of all the

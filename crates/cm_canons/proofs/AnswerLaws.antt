@@ -5,7 +5,7 @@ use Rattle.std.specs.Prelude.{is_some, slice_get}
 use Rattle.cm_types.specs.Types.{Ty, FuncTy}
 use Rattle.cm_component.specs.Trees.{CanonTree}
 use Rattle.cm_component.specs.declared.canons.CanonOption.{CanonOption}
-use Rattle.cm_reasons.specs.declared.fault.ValidReason.{ValidReason}
+use Rattle.cm_validity.specs.declared.fault.ValidReason.{ValidReason}
 use Rattle.cm_validity.specs.Definitions.{CoreFuncDef, FuncDef}
 use Rattle.cm_validity.specs.Items.{Item, canon_item}
 use Rattle.cm_validity.specs.Reasons.{found, least}

@@ -1,2 +1,3 @@
+mod PassingLaws
 mod ReasonLaws
 mod AnswerLaws

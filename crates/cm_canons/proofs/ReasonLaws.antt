@@ -6,9 +6,9 @@ use Rattle.std.specs.Option.{option_map, option_and_then}
 use Rattle.cm_types.specs.Types.{FuncTy}
 use Rattle.cm_component.specs.Trees.{lift, lower}
 use Rattle.cm_component.specs.declared.canons.CanonOption.{CanonOption}
-use Rattle.cm_reasons.specs.declared.fault.ValidReason.{ValidReason}
-use Rattle.cm_reasons.specs.declared.fault.ValidReason.TheVariants as reason
-use Rattle.cm_reasons.specs.Reasons.{reason_number}
+use Rattle.cm_validity.specs.declared.fault.ValidReason.{ValidReason}
+use Rattle.cm_validity.specs.declared.fault.ValidReason.TheVariants as reason
+use Rattle.cm_validity.specs.ReasonWords.{reason_number}
 use Rattle.cm_validity.specs.Definitions.{TypeDef, value, func_type, resource, instance_type, faulty, sort_of}
 use Rattle.cm_validity.specs.Options.{guest_broken, lift_type_broken, no_post_return_broken, options_broken}
 use Rattle.cm_validity.specs.Reasons.{found, if_found, least, lesser, unless}

@@ -2,7 +2,7 @@
 use Rattle.std.specs.Prelude.{◌≡◌, ◌+◌, ℕ, Option, Some, None}
 use Rattle.std.specs.Option.{option_map}
 use Rattle.cm_component.specs.Trees.{CanonTree}
-use Rattle.cm_reasons.specs.declared.fault.ValidReason.{ValidReason}
+use Rattle.cm_validity.specs.declared.fault.ValidReason.{ValidReason}
 use Rattle.cm_validity.specs.Definitions.{CoreFuncDef}
 use Rattle.cm_validity.specs.Items.{canon_item}
 use Rattle.cm_validity.specs.Reasons.{least}

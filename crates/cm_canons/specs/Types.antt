@@ -4,8 +4,8 @@ use Rattle.cm_types.specs.Types.{Ty, FuncTy}
 use Rattle.cm_layout.specs.Shapes.{layout_at}
 use Rattle.cm_type_arena.specs.Places.{types_of, funcs_of}
 use Rattle.cm_arena_layouts.specs.Placed.{layouts_in}
-use Rattle.cm_passing.specs.Passing.{params_passed, result_passed}
-use Rattle.cm_passing.specs.declared.passing.FuncPassing.{FuncPassing}
+use Rattle.cm_canons.specs.Passing.{params_passed, result_passed}
+use Rattle.cm_canons.specs.declared.passing.FuncPassing.{FuncPassing}
 use Rattle.cm_canons.specs.declared.types.LaidTypes.{LaidTypes}
 
 -- the types of the arena, and those of functions

@@ -12,15 +12,15 @@ ghost use Rattle.cm_entries.specs.ComponentSpaces.{AreTypesOf, Stays};
 ghost use Rattle.cm_canons.specs.Spaces.{Answers};
 ghost use Rattle.cm_canons.specs.Types.{AreLaid, funcs_in, types_in};
 
+use crate::FuncPassing;
 use crate::needs::lift_type_fault;
 use crate::types::LaidTypes;
 use cm_component::CanonOption;
 use cm_core_spaces::CoreSpaces;
 use cm_entries::laws::types_after;
 use cm_entries::{ComponentSpaces, func_type_at};
-use cm_passing::FuncPassing;
-use cm_reasons::ValidReason;
 use cm_type_rules::lesser;
+use cm_validity::ValidReason;
 use cm_validity::laws::least_of_both;
 use std::alloc::AllocError;
 

@@ -15,6 +15,7 @@ ghost use Rattle.cm_entries.specs.Entries.{func_def};
 ghost use Rattle.cm_canons.specs.Spaces.{Answers};
 ghost use Rattle.cm_canons.specs.Types.{AreLaid, funcs_in, types_in};
 
+use crate::FuncPassing;
 use crate::needs::lower_type_fault;
 use crate::options::have_post_return;
 use crate::types::LaidTypes;
@@ -22,10 +23,9 @@ use cm_component::CanonOption;
 use cm_core_spaces::CoreSpaces;
 use cm_entries::laws::{others_add_nothing, types_after};
 use cm_entries::{ComponentSpaces, FuncEntry};
-use cm_passing::FuncPassing;
 use cm_placed::Placed;
-use cm_reasons::ValidReason;
 use cm_type_rules::{broken_unless, lesser};
+use cm_validity::ValidReason;
 use cm_validity::laws::least_of_both;
 use std::alloc::AllocError;
 

@@ -8,10 +8,10 @@ ghost use Rattle.cm_validity.specs.Reasons.{least};
 ghost use Rattle.cm_canons.specs.Types.{Passes};
 
 use crate::options::{have_latin1, have_memory, have_realloc};
+use crate::{FuncPassing, Passed};
 use cm_component::CanonOption;
-use cm_passing::{FuncPassing, Passed};
-use cm_reasons::ValidReason;
 use cm_type_rules::{broken_unless, lesser};
+use cm_validity::ValidReason;
 use cm_validity::laws::least_of_both;
 
 /// Whether what is passed stands in memory, or its contents do.

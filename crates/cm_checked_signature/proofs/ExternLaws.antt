@@ -12,9 +12,9 @@ use Rattle.cm_replaced.specs.Replaced.{replaced, replaced_func}
 use Rattle.cm_placed.specs.Instances.{items_of}
 use Rattle.cm_placed.specs.Placed.{moved_by}
 use Rattle.cm_placed.specs.declared.instances.InstanceType.{InstanceType}
-use Rattle.cm_signatures.specs.Externs.{extern_of, is_extern_there}
-use Rattle.cm_signatures.specs.declared.signatures.Extern.{Extern}
-use Rattle.cm_signatures.specs.declared.signatures.ExternDesc.TheVariants as desc
+use Rattle.cm_placed.specs.Externs.{extern_of, is_extern_there}
+use Rattle.cm_placed.specs.declared.signatures.Extern.{Extern}
+use Rattle.cm_placed.specs.declared.signatures.ExternDesc.TheVariants as desc
 use Rattle.cm_validity.specs.Spaces.{Spaces, spaces_of}
 use Rattle.cm_validity.specs.Valid.{IsValid}
 use Rattle.cm_shared.specs.Shared.{AreShared}

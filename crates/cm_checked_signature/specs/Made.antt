@@ -10,9 +10,9 @@ use Rattle.std.specs.declared.rc.Rc.{Rc}
 use Rattle.cm_types.specs.Types.{FuncTy, Ty}
 use Rattle.cm_placed.specs.Instances.{are_items_there, items_of}
 use Rattle.cm_placed.specs.declared.instances.InstanceType.{InstanceType}
-use Rattle.cm_signatures.specs.Externs.{extern_desc_of, extern_of, is_extern_there}
-use Rattle.cm_signatures.specs.declared.signatures.Extern.{Extern}
-use Rattle.cm_signatures.specs.declared.signatures.ExternDesc.{ExternDesc}
+use Rattle.cm_placed.specs.Externs.{extern_desc_of, extern_of, is_extern_there}
+use Rattle.cm_placed.specs.declared.signatures.Extern.{Extern}
+use Rattle.cm_placed.specs.declared.signatures.ExternDesc.{ExternDesc}
 use Rattle.cm_validity.specs.Definitions.{NamedMember, exported_instance}
 use Rattle.cm_validity.specs.Spaces.{Spaces, items_of_members}
 use Rattle.cm_entries.specs.ComponentSpaces.{export_def, exported_def, is_exported_there}

@@ -11,8 +11,8 @@ use crate::items::func_place;
 use crate::made::Made;
 use cm_entries::{ExportEntry, ExportedEntry};
 use cm_placed::laws::unmoved;
+use cm_placed::{Extern, ExternDesc};
 use cm_shared::Shared;
-use cm_signatures::{Extern, ExternDesc};
 use std::alloc::{AllocError, Global};
 
 /// What an export is, of the instance of this number, if it has one.

@@ -3,7 +3,7 @@
 ghost use Rattle.std.specs.Prelude.{◌≡◌, ℕ, IfOk, List, map, true};
 ghost use Rattle.cm_types.specs.Types.{FuncTy, Ty};
 ghost use Rattle.cm_placed.specs.Instances.{are_items_there, items_of};
-ghost use Rattle.cm_name_maps.specs.NameMaps.{entries_of};
+ghost use Rattle.cm_extern_names.specs.NameMaps.{entries_of};
 ghost use Rattle.cm_validity.specs.Spaces.{items_of_members};
 ghost use Rattle.cm_entries.specs.Entries.{are_members_there, members_of};
 ghost use Rattle.cm_entries.specs.Entries.{moved_number, moved_place};
@@ -11,7 +11,7 @@ ghost use Rattle.cm_checked_signature.specs.Items.{func_place, member_desc, memb
 ghost use Rattle.cm_checked_signature.specs.Items.{moved_desc, moved_item};
 
 use cm_entries::{FuncEntry, InstanceEntry, MemberEntry};
-use cm_name_maps::NameMap;
+use cm_extern_names::NameMap;
 use cm_placed::{Item, ItemDesc, Placed};
 use cm_replaced::{Move, Replacement};
 use cm_types::{ExternName, ResourceId};

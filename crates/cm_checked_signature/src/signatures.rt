@@ -1,13 +1,13 @@
 //! Signatures of valid components.
 
 ghost use Rattle.std.specs.Prelude.{◌≡◌, IfOk};
-ghost use Rattle.cm_signatures.specs.Signatures.{signature_of};
+ghost use Rattle.cm_placed.specs.Signatures.{signature_of};
 ghost use Rattle.cm_validate.specs.Checked.{spaces_in};
 ghost use Rattle.cm_checked_signature.specs.Exports.{signature_in};
 
 use crate::externs::exported_externs;
+use cm_placed::Signature;
 use cm_shared::Shared;
-use cm_signatures::Signature;
 use cm_validate::{Checked, ComponentExterns};
 use std::alloc::{AllocError, Global};
 

@@ -14,8 +14,8 @@ use Rattle.cm_placed.specs.Instances.{items_of, replaced_item}
 use Rattle.cm_placed.specs.Placed.{moved_by}
 use Rattle.cm_placed.specs.declared.instances.InstanceType.{InstanceType}
 use Rattle.cm_placed.specs.declared.instances.Item.{Item}
-use Rattle.cm_signatures.specs.declared.signatures.ExternDesc.{ExternDesc}
-use Rattle.cm_signatures.specs.declared.signatures.ExternDesc.TheVariants as extern
+use Rattle.cm_placed.specs.declared.signatures.ExternDesc.{ExternDesc}
+use Rattle.cm_placed.specs.declared.signatures.ExternDesc.TheVariants as extern
 use Rattle.cm_conformance.specs.Comparisons.{extern_entries, item_entries, named}
 use Rattle.cm_conformance.specs.declared.fault.ConformList.{ConformList}
 use Rattle.cm_conforms.specs.Views.{brought_item, desc_in}

@@ -9,8 +9,8 @@ use Rattle.cm_placed.specs.Instances.{desc_of, item_of, replaced_desc, replaced_
 use Rattle.cm_placed.specs.declared.instances.Item.{Item}
 use Rattle.cm_placed.specs.declared.instances.ItemDesc.{ItemDesc}
 use Rattle.cm_placed_numbers.specs.Moved.{brought_func, brought_type}
-use Rattle.cm_signatures.specs.Externs.{extern_desc_of}
-use Rattle.cm_signatures.specs.declared.signatures.ExternDesc.{ExternDesc}
+use Rattle.cm_placed.specs.Externs.{extern_desc_of}
+use Rattle.cm_placed.specs.declared.signatures.ExternDesc.{ExternDesc}
 use Rattle.cm_conformance.specs.Comparisons as all
 use Rattle.cm_conformance.specs.Comparisons.{Entry, nothing, two_sorts, two_funcs, two_types}
 use Rattle.cm_conformance.specs.Comparisons.{two_resources}

@@ -1,7 +1,7 @@
 //! Whether a signature fits a world.
 
 ghost use Rattle.std.specs.Prelude.{◌≡◌, ◌⊎◌, IfErr, List, OnOk, map};
-ghost use Rattle.cm_signatures.specs.Signatures.{signature_of};
+ghost use Rattle.cm_placed.specs.Signatures.{signature_of};
 ghost use Rattle.cm_conformance.specs.Comparisons.{Entry};
 ghost use Rattle.cm_conformance.specs.Conformance.{AllFit, Conforms, IsFirstFault, IsFirstIn};
 ghost use Rattle.cm_conforms.specs.Judging.{AreSides};
@@ -12,7 +12,7 @@ use crate::judge::{Side, Tables};
 use crate::pairs::Pairs;
 use crate::walk::entries;
 use cm_conformance::{ConformFault, ConformReason};
-use cm_signatures::Signature;
+use cm_placed::Signature;
 use std::alloc::Global;
 
 /// Whether all that is compared fits, or the first fault.

@@ -9,8 +9,7 @@ ghost use Rattle.cm_keys.specs.Listed.{listed};
 ghost use Rattle.cm_conforms.specs.Keys.{extern_key, item_key};
 
 use cm_keys::Keys;
-use cm_placed::{Item, ItemDesc};
-use cm_signatures::{Extern, ExternDesc};
+use cm_placed::{Extern, ExternDesc, Item, ItemDesc};
 use std::alloc::{AllocError, Global};
 
 /// The names of an instance's items, to be found. Refused only where there is no memory.

@@ -3,8 +3,8 @@
 ghost use Rattle.std.specs.Prelude.{◌≡◌, ◌++◌, IfOk, OnOk, map};
 ghost use Rattle.cm_type_arena.specs.declared.types.Types.{Types};
 ghost use Rattle.cm_keys.specs.Listed.{listed};
-ghost use Rattle.cm_signatures.specs.Externs.{externs_in};
-ghost use Rattle.cm_signatures.specs.Signatures.{signature_of};
+ghost use Rattle.cm_placed.specs.Externs.{externs_in};
+ghost use Rattle.cm_placed.specs.Signatures.{signature_of};
 ghost use Rattle.cm_conformance.specs.Comparisons as all;
 ghost use Rattle.cm_conformance.specs.Comparisons.{entries_from, extern_entries};
 ghost use Rattle.cm_conformance.specs.Comparisons.{item_comparison, item_entries};
@@ -16,9 +16,8 @@ use crate::comparisons::{Comparison, PlacedComparison, facing_funcs, facing_item
 use crate::keys::{extern_keys, extern_named, item_keys, item_named};
 use cm_conformance::{ConformItem, ConformList};
 use cm_keys::Keys;
-use cm_placed::Item;
+use cm_placed::{Extern, ExternDesc, Item, Signature};
 use cm_replaced::Move;
-use cm_signatures::{Extern, ExternDesc, Signature};
 use std::alloc::{AllocError, Global};
 
 /// The items of an instance, as an import or export counts its resources.

@@ -14,8 +14,8 @@ use Rattle.cm_validity.specs.Definitions.{CoreFuncDef, guest, lowered, making, d
 use Rattle.cm_validity.specs.Spaces.{Spaces, spaces_of}
 use Rattle.cm_match.specs.cm_validate.Checked.{sections_in, spaces_in}
 use Rattle.cm_match.specs.cm_validate.declared.checked.Checked.{Checked}
-use Rattle.cm_functions.specs.Imported.{IsAsImported, IsLoweredAsImported, wanted_func}
-use Rattle.cm_functions.specs.Sources.{OfFunctions}
+use Rattle.cm_validity.specs.Imported.{IsAsImported, IsLoweredAsImported, wanted_func}
+use Rattle.cm_validity.specs.Sources.{OfFunctions}
 use Rattle.cm_links.specs.Imports.{links_of}
 use Rattle.cm_links.specs.Links.{CanBeLinked}
 use Rattle.cm_links.specs.Serving.{IsSameFunc}

@@ -19,13 +19,13 @@ ghost use Rattle.cm_core_funcs.specs.CoreFuncs.{LoweredStand, core_funcs_in, cor
 ghost use Rattle.cm_machine_model.specs.State.{AreLinkedBelow};
 
 use crate::carried::{CoreFuncAt, has_post_return, is_u32_func};
-use cm_functions::laws::functions_are_as_imported;
 use cm_links::laws::imported_functions_reach_lifts;
 use cm_machine_model::MAX_INSTANCES;
 use cm_machine_model::state::{CoreFunction, LoweredFunc};
 use cm_match::{Checked, CoreFuncEntry, Linked, MadeFunc};
 use cm_type_arena::Types;
 use cm_types::Func;
+use cm_validity::function_laws::functions_are_as_imported;
 use std::alloc::{AllocError, Global};
 use std::marker::Model;
 

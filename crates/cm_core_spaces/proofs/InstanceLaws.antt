@@ -9,8 +9,8 @@ use Rattle.std.proofs.lemmas.List.{drop_all, take_all}
 use Rattle.std.proofs.lemmas.List.Folds.{flat_map-map}
 use Rattle.std.proofs.lemmas.Option.{slice_get-map}
 use Rattle.cm_component.specs.Trees.{ArgTree, CoreExportTree, instantiate, core_exports}
-use Rattle.cm_reasons.specs.declared.fault.ValidReason.{ValidReason}
-use Rattle.cm_reasons.specs.declared.fault.ValidReason.TheVariants as reason
+use Rattle.cm_validity.specs.declared.fault.ValidReason.{ValidReason}
+use Rattle.cm_validity.specs.declared.fault.ValidReason.TheVariants as reason
 use Rattle.cm_validity.specs.Definitions.{CoreDef, CoreFuncDef, CoreInstanceDef}
 use Rattle.cm_validity.specs.Reasons.{found, least, lesser, unless}
 use Rattle.cm_validity.specs.Rules.{arg_broken, core_export_broken, core_instance_broken, texts_broken}

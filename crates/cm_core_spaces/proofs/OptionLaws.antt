@@ -5,7 +5,7 @@ use Rattle.std.specs.Str.{bytes_eq}
 use Rattle.std.proofs.lemmas.Bool.Decides.{nat_tests}
 use Rattle.std.proofs.lemmas.Slice.Eq.{bytes_eq-Decides}
 use Rattle.cm_validity.specs.Options.{is_same_export}
-use Rattle.cm_name_maps.specs.Names.{place_of}
+use Rattle.cm_extern_names.specs.NamedValues.{place_of}
 use Rattle.cm_core_spaces.specs.declared.entries.GuestMemory.{GuestMemory}
 use Rattle.cm_core_spaces.specs.Entries.{memory_of}
 use Rattle.cm_core_spaces.specs.CoreSpaces.{IsNumbered, MemoryNames}

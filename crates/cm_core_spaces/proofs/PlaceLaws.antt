@@ -5,7 +5,7 @@ use Rattle.std.proofs.lemmas.Slice.Eq.{bytes_eq-Decides}
 use Rattle.std.specs.Borrow.{Bor}
 use Rattle.std.specs.List.{position_from}
 use Rattle.std.specs.Str.{bytes_eq}
-use Rattle.cm_name_maps.specs.Names.{names_in, place_of}
+use Rattle.cm_extern_names.specs.NamedValues.{names_in, place_of}
 use Rattle.cm_core_spaces.specs.CoreSpaces.{KeepsNumbers, MemoryNames}
 use Rattle.cm_core_spaces.proofs.NameLaws.{texts_either_way}
 

@@ -2,7 +2,7 @@
 use Rattle.std.proofs.Common.{◌≡◌, ℕ, ◌+◌, ◌<◌, ◌≤◌, List, [], ◌∷◌, ◌++◌, length, get_or, drop, zero, suc, arith, Option, Some, None, refl, sym, ap, ◌∙◌, add-one, drop-cons, append_assoc}
 use Rattle.std.proofs.lemmas.List.{drop_all}
 use Rattle.std.specs.List.{flat_map}
-use Rattle.cm_reasons.specs.declared.fault.ValidReason.{ValidReason}
+use Rattle.cm_validity.specs.declared.fault.ValidReason.{ValidReason}
 use Rattle.cm_validity.specs.Reasons.{least, lesser}
 
 -- the least of both lists is the lesser of what is least in each

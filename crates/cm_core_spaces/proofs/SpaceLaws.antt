@@ -7,7 +7,7 @@ use Rattle.cm_component.specs.declared.instances.CoreSort.{CoreSort}
 use Rattle.cm_validity.specs.Definitions.{CoreDef, CoreFuncDef, CoreInstanceDef}
 use Rattle.cm_validity.specs.Spaces.{Spaces, aliased_core, core_export_in}
 use Rattle.cm_component.specs.Trees.{core_instance_export}
-use Rattle.cm_reasons.specs.declared.fault.ValidReason.TheVariants as reason
+use Rattle.cm_validity.specs.declared.fault.ValidReason.TheVariants as reason
 use Rattle.cm_validity.specs.Items.{alias_item}
 use Rattle.cm_validity.specs.Reasons.{found, least, unless}
 use Rattle.cm_validity.specs.Rules.{broken, is_of_core_sort}
@@ -17,7 +17,7 @@ use Rattle.cm_core_spaces.specs.declared.entries.GuestMemory.{GuestMemory}
 use Rattle.cm_core_spaces.specs.declared.entries.CoreInstanceEntry.{CoreInstanceEntry}
 use Rattle.cm_core_spaces.specs.declared.entries.CoreInstanceEntry.TheVariants as entry
 use Rattle.cm_core_spaces.specs.declared.spaces.CoreSpaces.{CoreSpaces}
-use Rattle.cm_name_maps.specs.NameMaps.{entries_of}
+use Rattle.cm_extern_names.specs.NameMaps.{entries_of}
 use Rattle.cm_core_spaces.specs.Entries.{instance_of}
 use Rattle.cm_core_spaces.specs.CoreSpaces.{IsCoreOf, IsFirstNumbered, IsInstanceNumbered, IsItemNumbered, IsNumbered, KeepsNumbers, MemoryNames, memory_names_of}
 

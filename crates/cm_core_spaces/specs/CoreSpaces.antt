@@ -6,13 +6,13 @@ use Rattle.std.specs.Option.{option_map}
 use Rattle.cm_component.specs.Trees.{CanonTree, lift}
 use Rattle.cm_validity.specs.Definitions.{CoreFuncDef}
 use Rattle.cm_validity.specs.Items.{Item}
-use Rattle.cm_reasons.specs.declared.fault.ValidReason.{ValidReason}
+use Rattle.cm_validity.specs.declared.fault.ValidReason.{ValidReason}
 use Rattle.cm_validity.specs.Options.{is_guest}
 use Rattle.cm_validity.specs.Reasons.{least}
 use Rattle.cm_validity.specs.Rules.{broken}
 use Rattle.cm_validity.specs.Spaces.{Spaces, after_item}
-use Rattle.cm_name_maps.specs.NameMaps.{entries_of}
-use Rattle.cm_name_maps.specs.Names.{names_in, place_of}
+use Rattle.cm_extern_names.specs.NameMaps.{entries_of}
+use Rattle.cm_extern_names.specs.NamedValues.{names_in, place_of}
 use Rattle.cm_core_spaces.specs.declared.entries.GuestMemory.{GuestMemory}
 use Rattle.cm_core_spaces.specs.declared.entries.CoreItem.{CoreItem}
 use Rattle.cm_core_spaces.specs.declared.entries.CoreItem.TheVariants as item

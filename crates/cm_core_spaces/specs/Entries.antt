@@ -5,7 +5,7 @@ use Rattle.std.specs.Borrow.{Bor}
 use Rattle.cm_validity.specs.Definitions.{CoreExport, CoreFuncDef, guest, CoreDef, core_func, table}
 use Rattle.cm_validity.specs.Definitions.{memory, global, NamedCoreDef, CoreInstanceDef}
 use Rattle.cm_validity.specs.Definitions.{instantiated, exporting}
-use Rattle.cm_name_maps.specs.NameMaps.{entries_of}
+use Rattle.cm_extern_names.specs.NameMaps.{entries_of}
 use Rattle.cm_core_spaces.specs.declared.entries.GuestExport.{GuestExport}
 use Rattle.cm_core_spaces.specs.declared.entries.GuestMemory.{GuestMemory}
 use Rattle.cm_core_spaces.specs.declared.entries.CoreFunc.{CoreFunc}

@@ -4,16 +4,16 @@ ghost use Rattle.std.specs.Prelude.{◌≡◌, ℕ, IfOk, Some, slice_get};
 ghost use Rattle.std.specs.Option.{option_map};
 ghost use Rattle.cm_validity.specs.Definitions.{CoreFuncDef};
 ghost use Rattle.cm_validity.specs.Spaces.{core_def_of_sort};
-ghost use Rattle.cm_name_maps.specs.NameMaps.{entries_of};
-ghost use Rattle.cm_name_maps.specs.Names.{names_in, place_of};
+ghost use Rattle.cm_extern_names.specs.NameMaps.{entries_of};
+ghost use Rattle.cm_extern_names.specs.NamedValues.{names_in, place_of};
 ghost use Rattle.cm_core_spaces.specs.CoreSpaces.{IsItemNumbered, KeepsNumbers};
 ghost use Rattle.cm_core_spaces.specs.Entries.{def_of, export_of};
 
 use crate::entries::{CoreFunc, CoreInstanceEntry, CoreItem, GuestExport, GuestMemory};
 use crate::spaces::CoreSpaces;
 use cm_component::CoreSort;
-use cm_name_maps::NameMap;
-use cm_reasons::ValidReason;
+use cm_extern_names::NameMap;
+use cm_validity::ValidReason;
 use std::alloc::AllocError;
 
 impl<'a> CoreItem<'a> {

@@ -8,16 +8,16 @@ ghost use Rattle.cm_component.specs.Trees.{arg_tree, core_export_tree};
 ghost use Rattle.cm_validity.specs.Definitions.{CoreFuncDef};
 ghost use Rattle.cm_validity.specs.Rules.{are_distinct_texts};
 ghost use Rattle.cm_validity.specs.Spaces.{Spaces};
-ghost use Rattle.cm_name_maps.specs.NameMaps.{entries_of};
+ghost use Rattle.cm_extern_names.specs.NameMaps.{entries_of};
 ghost use Rattle.cm_core_spaces.specs.CoreSpaces.{IsCoreOf};
 
 use crate::aliases::instance_at;
 use crate::entries::{CoreFunc, CoreInstanceEntry, CoreItem, GuestExport, GuestMemory};
 use crate::spaces::CoreSpaces;
 use cm_component::{CoreInlineExport, CoreInstance, CoreInstantiationArg, CoreSort};
-use cm_name_maps::NameMap;
-use cm_reasons::ValidReason;
+use cm_extern_names::NameMap;
 use cm_type_rules::broken_unless;
+use cm_validity::ValidReason;
 use std::alloc::{AllocError, Global};
 
 /// Whether the names of arguments differ as texts. Each is looked up in a tree, which costs the

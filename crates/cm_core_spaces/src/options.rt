@@ -9,8 +9,8 @@ ghost use Rattle.cm_core_spaces.specs.Kinds.{is_of_kind};
 use crate::entries::GuestMemory;
 use crate::spaces::CoreSpaces;
 use cm_component::CanonOption;
-use cm_reasons::ValidReason;
 use cm_type_rules::{broken_unless, lesser};
+use cm_validity::ValidReason;
 use cm_validity::laws::least_of_both;
 
 /// A kind of canonical options; all encodings are one.

@@ -3,8 +3,8 @@
 ghost use Rattle.cm_core_spaces.specs.CoreSpaces.{IsCoreOf};
 
 use crate::entries::{CoreFunc, CoreInstanceEntry, GuestExport, GuestMemory};
-use cm_name_maps::NameMap;
-use cm_reasons::ValidReason;
+use cm_extern_names::NameMap;
+use cm_validity::ValidReason;
 use std::alloc::{AllocError, Global};
 
 /// The core index spaces of a component, after some of its items (Explainer.md, "Index Spaces").

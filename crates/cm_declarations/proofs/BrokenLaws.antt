@@ -3,8 +3,8 @@ use Rattle.std.proofs.Common.{◌≡◌, inl, inr, List, [], ◌∷◌, ◌++◌
 use Rattle.std.specs.Option.{option_or}
 use Rattle.std.proofs.lemmas.Bool.{cases_Bool}
 use Rattle.cm_types.specs.DefTypes.{DeclarationTree}
-use Rattle.cm_reasons.specs.declared.fault.ValidReason.{ValidReason}
-use Rattle.cm_reasons.specs.Reasons.{reason_number}
+use Rattle.cm_validity.specs.declared.fault.ValidReason.{ValidReason}
+use Rattle.cm_validity.specs.ReasonWords.{reason_number}
 use Rattle.cm_validity.specs.Declarations.{Scope, after_declaration, declaration_broken, declarations_broken}
 use Rattle.cm_validity.specs.Reasons.{least, lesser}
 use Rattle.cm_declarations.specs.FirstFaults.{first_reason}

@@ -2,7 +2,7 @@
 use Rattle.std.proofs.Common.{◌≡◌, ℕ, ◌+◌, ◌<◌, List, ◌∷◌, length, get_or, map, drop, Option, Some, None, refl, sym, ap, ◌∙◌, add-one, drop-cons}
 use Rattle.std.specs.Option.{option_or}
 use Rattle.cm_types.specs.DefTypes.{DeclarationTree}
-use Rattle.cm_reasons.specs.declared.fault.ValidReason.{ValidReason}
+use Rattle.cm_validity.specs.declared.fault.ValidReason.{ValidReason}
 use Rattle.cm_validity.specs.Declarations.{Scope, after_declaration, after_declarations, declaration_broken}
 use Rattle.cm_validity.specs.Reasons.{least}
 use Rattle.cm_declarations.specs.FirstFaults.{first_reason}

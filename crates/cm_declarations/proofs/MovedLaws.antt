@@ -5,7 +5,7 @@ use Rattle.std.specs.Borrow.{Bor}
 use Rattle.std.specs.List.{AllByRecursion, list_all}
 use Rattle.std.specs.Option.{option_map}
 use Rattle.cm_types.specs.Types.{Ty, FuncTy}
-use Rattle.cm_counted.specs.CountedSpaces.{IsDefCounted}
+use Rattle.cm_validity.specs.CountedSpaces.{IsDefCounted}
 use Rattle.cm_placed.specs.Instances.{is_desc_there}
 use Rattle.cm_placed.specs.declared.instances.Item.{Item}
 use Rattle.cm_type_scope.specs.declared.entries.TypeEntry.{TypeEntry}

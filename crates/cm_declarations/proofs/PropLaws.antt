@@ -11,7 +11,7 @@ use Rattle.cm_placed.specs.Placed.{placed_func, placed_type}
 use Rattle.cm_placed.specs.declared.instances.Item.{Item}
 use Rattle.cm_placed.specs.declared.instances.ItemDesc.{ItemDesc}
 use Rattle.cm_placed.specs.declared.instances.ItemDesc.TheVariants as item
-use Rattle.cm_counted.specs.Counted.{AreCasesCounted, AreCounted, IsCounted, IsFuncCounted, IsNumbered}
+use Rattle.cm_validity.specs.Counted.{AreCasesCounted, AreCounted, IsCounted, IsFuncCounted, IsNumbered}
 use Rattle.cm_type_scope.specs.declared.entries.TypeEntry.{TypeEntry}
 use Rattle.cm_type_scope.specs.declared.entries.TypeEntry.TheVariants as entry
 use Rattle.cm_type_scope.specs.declared.scope.TypeScope.{TypeScope}

@@ -1,7 +1,7 @@
 -- The types of the component around the type of an instance (Explainer.md, "Alias Definitions").
 use Rattle.std.specs.Prelude.{ℕ}
 use Rattle.std.specs.List.{AllByRecursion}
-use Rattle.cm_counted.specs.CountedSpaces.{IsDefCounted}
+use Rattle.cm_validity.specs.CountedSpaces.{IsDefCounted}
 use Rattle.cm_type_scope.specs.declared.scope.TypeScope.{TypeScope}
 use Rattle.cm_type_scope.specs.TypeScopes.{types_around}
 

@@ -8,10 +8,10 @@ ghost use Rattle.cm_declarations.specs.CountedAround.{AreCountedAround};
 ghost use Rattle.cm_declarations.specs.DeclaredItems.{items_in};
 
 use cm_placed::{InstanceType, Item};
-use cm_reasons::ValidReason;
 use cm_type_scope::laws::{items_stay, moves_stay};
 use cm_type_scope::{TypeEntry, TypeScope};
 use cm_types::{Declaration, DeclaredType, DefValType, FuncType, OuterType};
+use cm_validity::ValidReason;
 use std::alloc::{AllocError, Global};
 
 /// The type of an instance while its declarations are read (Explainer.md, "Instance Types"): types

@@ -2,9 +2,9 @@
 
 use crate::declarations::Declarations;
 use cm_placed::{Item, ItemDesc};
-use cm_reasons::ValidReason;
 use cm_type_scope::TypeEntry;
 use cm_types::{ExportDesc, ExternName, TypeBound};
+use cm_validity::ValidReason;
 use std::alloc::AllocError;
 
 impl Declarations {

@@ -3,7 +3,7 @@
 
 ghost use Rattle.std.specs.Prelude.{◌≡◌, List, [], Some, None};
 ghost use Rattle.cm_types.specs.DefTypes.{DeclarationTree};
-ghost use Rattle.cm_reasons.specs.declared.fault.ValidReason.{ValidReason};
+ghost use Rattle.cm_validity.specs.declared.fault.ValidReason.{ValidReason};
 ghost use Rattle.cm_validity.specs.Declarations.{Scope, declarations_broken};
 ghost use Rattle.cm_declarations.specs.FirstFaults.{first_reason};
 

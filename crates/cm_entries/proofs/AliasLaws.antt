@@ -9,8 +9,8 @@ use Rattle.cm_component.specs.declared.instances.InstanceExportSort.{InstanceExp
 use Rattle.cm_component.specs.declared.instances.InstanceExportSort.TheVariants as member_sort
 use Rattle.cm_placed.specs.declared.placed.Placed.{Placed}
 use Rattle.cm_component.specs.Trees.{instance_export}
-use Rattle.cm_signatures.specs.Externs.{extern_of}
-use Rattle.cm_reasons.specs.declared.fault.ValidReason.TheVariants as reason
+use Rattle.cm_placed.specs.Externs.{extern_of}
+use Rattle.cm_validity.specs.declared.fault.ValidReason.TheVariants as reason
 use Rattle.cm_validity.specs.Definitions.{MemberDef, NamedMember, func_member}
 use Rattle.cm_validity.specs.Items.{alias_item}
 use Rattle.cm_validity.specs.Reasons.{found, least, unless}

@@ -5,8 +5,8 @@ use Rattle.std.specs.Prelude.{is_some}
 use Rattle.cm_types.specs.Types.{Ty, FuncTy}
 use Rattle.cm_component.specs.declared.externs.ExternDesc.TheVariants as desc
 use Rattle.cm_placed.specs.declared.placed.Placed.{Placed}
-use Rattle.cm_signatures.specs.declared.signatures.ExternDesc.TheVariants as extern
-use Rattle.cm_reasons.specs.declared.fault.ValidReason.{ValidReason}
+use Rattle.cm_placed.specs.declared.signatures.ExternDesc.TheVariants as extern
+use Rattle.cm_validity.specs.declared.fault.ValidReason.{ValidReason}
 use Rattle.cm_validity.specs.Items.{Item, import_item}
 use Rattle.cm_validity.specs.Reasons.{index_broken, least, lesser}
 use Rattle.cm_validity.specs.Rules.{func_name_broken, instance_name_broken}

@@ -7,10 +7,10 @@ use Rattle.std.specs.Option.{option_map, option_and_then}
 use Rattle.std.specs.Borrow.{Bor}
 use Rattle.cm_types.specs.Types.{Ty, FuncTy}
 use Rattle.cm_component.specs.declared.externs.ExportSort.TheVariants as export_sort
-use Rattle.cm_signatures.specs.Externs.{extern_of, is_extern_there}
-use Rattle.cm_signatures.specs.declared.signatures.Extern.{Extern}
-use Rattle.cm_reasons.specs.declared.fault.ValidReason.{ValidReason}
-use Rattle.cm_reasons.specs.declared.fault.ValidReason.TheVariants as reason
+use Rattle.cm_placed.specs.Externs.{extern_of, is_extern_there}
+use Rattle.cm_placed.specs.declared.signatures.Extern.{Extern}
+use Rattle.cm_validity.specs.declared.fault.ValidReason.{ValidReason}
+use Rattle.cm_validity.specs.declared.fault.ValidReason.TheVariants as reason
 use Rattle.cm_validity.specs.Definitions.{FuncDef, NamedExport, NamedMember, exported_func, exported_instance}
 use Rattle.cm_validity.specs.Items.{Item, export_item}
 use Rattle.cm_validity.specs.Reasons.{bare_index_broken, found, least, lesser, unless}

@@ -4,7 +4,7 @@ use Rattle.std.proofs.lemmas.Bool.{ltb-true, lt-ltb}
 use Rattle.std.proofs.lemmas.List.{get_or_append_left}
 use Rattle.std.specs.Borrow.{Bor}
 use Rattle.std.specs.List.{AllByRecursion, list_all}
-use Rattle.cm_name_maps.specs.NameMaps.{entries_of}
+use Rattle.cm_extern_names.specs.NameMaps.{entries_of}
 use Rattle.cm_types.specs.Types.{Ty, FuncTy}
 use Rattle.cm_types.specs.Signatures.{ItemTy, NamedItem, NamedExtern, func_item, equal_type}
 use Rattle.cm_types.specs.Signatures as externs
@@ -16,12 +16,12 @@ use Rattle.cm_placed.specs.declared.placed.Placed.{Placed}
 use Rattle.cm_placed.specs.declared.instances.Item.{Item}
 use Rattle.cm_placed.specs.declared.instances.ItemDesc.{ItemDesc}
 use Rattle.cm_placed.specs.declared.instances.ItemDesc.TheVariants as item
-use Rattle.cm_signatures.specs.Externs.{extern_of, extern_desc_of, is_extern_there}
-use Rattle.cm_signatures.specs.declared.signatures.Extern.{Extern}
-use Rattle.cm_signatures.specs.declared.signatures.ExternDesc.{ExternDesc}
-use Rattle.cm_signatures.specs.declared.signatures.ExternDesc.TheVariants as extern
+use Rattle.cm_placed.specs.Externs.{extern_of, extern_desc_of, is_extern_there}
+use Rattle.cm_placed.specs.declared.signatures.Extern.{Extern}
+use Rattle.cm_placed.specs.declared.signatures.ExternDesc.{ExternDesc}
+use Rattle.cm_placed.specs.declared.signatures.ExternDesc.TheVariants as extern
 use Rattle.cm_validity.specs.Definitions.{ExportDef, MemberDef, NamedMember, exported_func, exported_instance, func_member, func_type, imported, instance_type, lifted, type_member, value}
-use Rattle.cm_counted.specs.Counted.{IsCounted, IsFuncCounted}
+use Rattle.cm_validity.specs.Counted.{IsCounted, IsFuncCounted}
 use Rattle.cm_instance_items.specs.InstanceTypes.{instance_type_of}
 use Rattle.cm_type_scope.specs.Entries.{def_of, is_entry_there}
 use Rattle.cm_type_scope.specs.Settled.{AreItemsSettled, IsDescSettled, IsEntrySettled, WhereMoved}

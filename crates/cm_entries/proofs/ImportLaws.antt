@@ -15,19 +15,19 @@ use Rattle.cm_placed.specs.Placed.{moved_by, placed_func}
 use Rattle.cm_placed.specs.Instances.{are_items_there, items_of, replaced_item}
 use Rattle.cm_placed.specs.declared.instances.InstanceType.{InstanceType}
 use Rattle.cm_placed.specs.declared.placed.Placed.{Placed}
-use Rattle.cm_signatures.specs.Externs.{extern_of, is_extern_there}
+use Rattle.cm_placed.specs.Externs.{extern_of, is_extern_there}
 use Rattle.cm_type_scope.specs.Entries.{def_of, entry_sort, instance_of, is_entry_there}
 use Rattle.cm_type_scope.specs.Settled.{AreItemsSettled, IsEntrySettled}
 use Rattle.cm_type_scope.specs.declared.entries.TypeEntry.{TypeEntry}
 use Rattle.cm_type_scope.specs.declared.entries.TypeEntry.TheVariants as entry
 use Rattle.cm_entries.specs.declared.spaces.ExportEntry.{ExportEntry}
-use Rattle.cm_signatures.specs.declared.signatures.Extern.{Extern}
-use Rattle.cm_signatures.specs.declared.signatures.ExternDesc.TheVariants as extern
-use Rattle.cm_reasons.specs.declared.fault.ValidReason.{ValidReason}
+use Rattle.cm_placed.specs.declared.signatures.Extern.{Extern}
+use Rattle.cm_placed.specs.declared.signatures.ExternDesc.TheVariants as extern
+use Rattle.cm_validity.specs.declared.fault.ValidReason.{ValidReason}
 use Rattle.cm_validity.specs.Definitions.{InstanceTy, TypeDef, NamedMember, brought, imported, sort_of, sorts_of}
 use Rattle.cm_validity.specs.Items.{Item, import_item}
-use Rattle.cm_reasons.specs.declared.fault.ValidReason.TheVariants as reason
-use Rattle.cm_reasons.specs.Reasons.{reason_number}
+use Rattle.cm_validity.specs.declared.fault.ValidReason.TheVariants as reason
+use Rattle.cm_validity.specs.ReasonWords.{reason_number}
 use Rattle.cm_validity.specs.Reasons.{found, index_broken, least, lesser, unless}
 use Rattle.cm_validity.specs.Rules.{broken, func_name_broken, instance_name_broken, name_broken, type_index_broken}
 use Rattle.cm_validity.specs.Spaces.{Spaces, after_item, after_items, brought_from, empty_spaces, func_ty_in, instance_ty_in, imported_func, imported_instance, members_from, members_imported, moved_named, new_funcs, new_imports, new_instances, new_resources, next_import, next_resource}
@@ -35,7 +35,7 @@ use Rattle.cm_validity.specs.Moves.{moved_item}
 use Rattle.cm_validity.specs.TypeRules.{has_sort}
 use Rattle.cm_validity.specs.declared.sorts.TypeSort.{TypeSort}
 use Rattle.cm_validity.specs.declared.sorts.TypeSort.TheVariants as sort
-use Rattle.cm_counted.specs.CountedSpaces.{AreItemsCounted, AreSpacesCounted, IsDefCounted, IsInstanceCounted}
+use Rattle.cm_validity.specs.CountedSpaces.{AreItemsCounted, AreSpacesCounted, IsDefCounted, IsInstanceCounted}
 use Rattle.cm_extern_names.specs.NameSets.{known_broken}
 use Rattle.cm_entries.specs.Entries.{func_def, members_of, is_func_there, are_members_there, item_members}
 use Rattle.cm_instance_items.specs.InstanceTypes.{instance_type_of}

@@ -9,7 +9,7 @@ use Rattle.cm_component.specs.Trees.{lift}
 use Rattle.cm_component.specs.declared.canons.CanonOption.{CanonOption}
 use Rattle.cm_placed.specs.Placed.{placed_func}
 use Rattle.cm_placed.specs.declared.placed.Placed.{Placed}
-use Rattle.cm_reasons.specs.declared.fault.ValidReason.{ValidReason}
+use Rattle.cm_validity.specs.declared.fault.ValidReason.{ValidReason}
 use Rattle.cm_validity.specs.Definitions.{TypeDef}
 use Rattle.cm_validity.specs.Items.{canon_item}
 use Rattle.cm_validity.specs.Reasons.{index_broken, least}

@@ -18,8 +18,8 @@ use Rattle.cm_type_arena.specs.TypeDefs.{type_at, func_at}
 use Rattle.cm_validity.specs.Definitions.{InstanceTy, MemberDef, NamedMember, ResourceDef, brought, func_member, imported, type_member, value, resource}
 use Rattle.cm_validity.specs.Moves.{moved, moved_id, moved_type, moved_fields, moved_func, moved_item}
 use Rattle.cm_validity.specs.Spaces.{member_of_item, members_from, brought_by, brought_from}
-use Rattle.cm_counted.specs.Counted.{IsCounted, IsFuncCounted, IsItemCounted}
-use Rattle.cm_counted.specs.CountedSpaces.{AreItemsCounted}
+use Rattle.cm_validity.specs.Counted.{IsCounted, IsFuncCounted, IsItemCounted}
+use Rattle.cm_validity.specs.CountedSpaces.{AreItemsCounted}
 use Rattle.cm_instance_items.specs.Items.{fresh_at, fresh_from}
 use Rattle.cm_type_scope.specs.Settled.{AreItemsSettled, IsDescSettled, WhereMoved}
 use Rattle.cm_entries.specs.Entries.{item_member, item_members, member_def, moved_place}

@@ -2,8 +2,8 @@
 -- more types.
 use Rattle.std.proofs.Common.{◌≡◌, ℕ, true, List, [], ◌∷◌, ◌++◌, length, map, Option, Some, None, refl, sym, ap, ◌∙◌, IfSome, append-nil}
 use Rattle.cm_types.specs.Types.{Ty, FuncTy}
-use Rattle.cm_signatures.specs.Externs.{extern_of, is_extern_there}
-use Rattle.cm_signatures.specs.declared.signatures.Extern.{Extern}
+use Rattle.cm_placed.specs.Externs.{extern_of, is_extern_there}
+use Rattle.cm_placed.specs.declared.signatures.Extern.{Extern}
 use Rattle.cm_type_scope.specs.Entries.{def_of, entry_sort}
 use Rattle.cm_type_scope.specs.declared.entries.TypeEntry.{TypeEntry}
 use Rattle.cm_type_scope.specs.declared.entries.TypeEntry.TheVariants as entry
@@ -13,8 +13,8 @@ use Rattle.cm_types.specs.Signatures.{NamedExtern}
 use Rattle.cm_component.specs.declared.instances.InlineExport.{InlineExport}
 use Rattle.cm_component.specs.Trees.{resource_drop, resource_new}
 use Rattle.cm_types.specs.DefTypes.{resource_def}
-use Rattle.cm_reasons.specs.declared.fault.ValidReason.{ValidReason}
-use Rattle.cm_reasons.specs.declared.fault.ValidReason.TheVariants as reason
+use Rattle.cm_validity.specs.declared.fault.ValidReason.{ValidReason}
+use Rattle.cm_validity.specs.declared.fault.ValidReason.TheVariants as reason
 use Rattle.cm_validity.specs.Items.{Item, instance_item, type_item}
 use Rattle.cm_validity.specs.Reasons.{found, if_found, index_broken, least, unless}
 use Rattle.cm_validity.specs.Rules.{canon_broken, is_defined, own_resource_broken}

@@ -5,8 +5,8 @@ use Rattle.std.specs.List.{list_all, list_any, slice_get}
 use Rattle.cm_types.specs.Names.{is_same_name}
 use Rattle.cm_types.specs.Types.{Ty, FuncTy}
 use Rattle.cm_types.specs.Signatures.{NamedExtern}
-use Rattle.cm_signatures.specs.Externs.{extern_of, is_extern_there}
-use Rattle.cm_signatures.specs.declared.signatures.Extern.{Extern}
+use Rattle.cm_placed.specs.Externs.{extern_of, is_extern_there}
+use Rattle.cm_placed.specs.declared.signatures.Extern.{Extern}
 use Rattle.cm_entries.specs.declared.spaces.ExportEntry.{ExportEntry}
 use Rattle.cm_validity.specs.Definitions.{NamedExport}
 use Rattle.cm_validity.specs.Items.{Item}

@@ -6,8 +6,8 @@ use Rattle.std.specs.List.{AllByRecursion, list_all}
 use Rattle.std.specs.Option.{option_map}
 use Rattle.cm_types.specs.Types.{Ty, FuncTy}
 use Rattle.cm_component.specs.Trees.{AliasTree}
-use Rattle.cm_signatures.specs.Externs.{extern_of, is_extern_there}
-use Rattle.cm_reasons.specs.declared.fault.ValidReason.{ValidReason}
+use Rattle.cm_placed.specs.Externs.{extern_of, is_extern_there}
+use Rattle.cm_validity.specs.declared.fault.ValidReason.{ValidReason}
 use Rattle.cm_validity.specs.Definitions.{ExportDef, exported_func, exported_instance, NamedExport}
 use Rattle.cm_validity.specs.Items.{Item, alias_item}
 use Rattle.cm_validity.specs.Reasons.{least}

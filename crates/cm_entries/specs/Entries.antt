@@ -9,7 +9,7 @@ use Rattle.std.specs.declared.rc.Rc.{Rc}
 use Rattle.cm_types.specs.Types.{Ty, FuncTy}
 use Rattle.cm_replaced.specs.Moves.{moved}
 use Rattle.cm_replaced.specs.declared.moves.Move.{Move}
-use Rattle.cm_name_maps.specs.NameMaps.{entries_of}
+use Rattle.cm_extern_names.specs.NameMaps.{entries_of}
 use Rattle.cm_placed.specs.Placed.{placed_type, placed_func, is_there}
 use Rattle.cm_placed.specs.Instances.{numbered, are_items_there}
 use Rattle.cm_placed.specs.declared.placed.Placed.{Placed}

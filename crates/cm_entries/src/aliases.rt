@@ -10,10 +10,10 @@ use crate::entries::{FuncEntry, InstanceEntry, MemberEntry};
 use crate::spaces::ComponentSpaces;
 use cm_component::InstanceExportSort;
 use cm_placed::{ItemDesc, Placed};
-use cm_reasons::ValidReason;
 use cm_replaced::{Move, Replacement};
 use cm_type_scope::TypeEntry;
 use cm_types::ResourceId;
+use cm_validity::ValidReason;
 use std::alloc::AllocError;
 
 /// What an alias of an instance's export comes to.

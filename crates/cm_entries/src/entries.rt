@@ -1,8 +1,8 @@
 //! What stands in the index spaces of functions and instances.
 
 use cm_component::CanonOption;
+use cm_extern_names::NameMap;
 use cm_instance_items::InstanceItems;
-use cm_name_maps::NameMap;
 use cm_placed::Placed;
 use cm_replaced::Move;
 use std::rc::Rc;

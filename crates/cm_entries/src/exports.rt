@@ -7,9 +7,9 @@ use crate::entries::{FuncEntry, InstanceEntry};
 use crate::spaces::{ComponentSpaces, ExportEntry, ExportedEntry};
 use cm_component::{Export, ExportSort};
 use cm_extern_names::{ExternSort, FoldedName};
-use cm_reasons::ValidReason;
 use cm_type_scope::lesser;
 use cm_types::ExternName;
+use cm_validity::ValidReason;
 use cm_validity::laws::least_of_both;
 use std::alloc::{AllocError, Global};
 

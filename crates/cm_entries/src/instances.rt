@@ -2,7 +2,7 @@
 
 use crate::entries::{FuncEntry, InstanceEntry, MemberEntry};
 use crate::spaces::ComponentSpaces;
-use cm_name_maps::NameMap;
+use cm_extern_names::NameMap;
 use std::alloc::{AllocError, Global};
 use std::rc::Rc;
 
@@ -19,7 +19,7 @@ impl<'a> ComponentSpaces<'a> {
     ghost use Rattle.cm_entries.specs.ComponentSpaces.{IsComponentOf, Stays};
     ghost use Rattle.cm_entries.specs.Entries.{func_def, is_func_there, is_member_there};
     ghost use Rattle.cm_entries.specs.Entries.{named_member};
-    ghost use Rattle.cm_name_maps.specs.NameMaps.{entries_of};
+    ghost use Rattle.cm_extern_names.specs.NameMaps.{entries_of};
 
     /// The function of an index, if there is one.
     pub fn func(&self, index: u32) -> Option<FuncEntry<'a>>

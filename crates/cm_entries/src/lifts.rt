@@ -17,8 +17,8 @@ use crate::spaces::ComponentSpaces;
 use crate::types::func_at;
 use cm_component::CanonOption;
 use cm_placed::Placed;
-use cm_reasons::ValidReason;
 use cm_type_scope::TypeEntry;
+use cm_validity::ValidReason;
 use std::alloc::AllocError;
 
 /// The type of a function under an index of a type, as a lift names it; or what the index breaks:

@@ -2,14 +2,14 @@
 
 use crate::spaces::{ComponentSpaces, ExportEntry};
 use cm_instance_items::Resource;
-use cm_signatures::Extern;
+use cm_placed::Extern;
 
 impl<'a> ComponentSpaces<'a> {
     ghost use Rattle.std.specs.Prelude.{◌≡◌, List, length, map, slice_get, true};
     ghost use Rattle.std.specs.List.{list_all};
     ghost use Rattle.std.specs.Option.{option_map};
     ghost use Rattle.cm_types.specs.Types.{FuncTy, Ty};
-    ghost use Rattle.cm_signatures.specs.Externs.{extern_of, is_extern_there};
+    ghost use Rattle.cm_placed.specs.Externs.{extern_of, is_extern_there};
     ghost use Rattle.cm_validity.specs.Spaces.{Spaces};
     ghost use Rattle.cm_instance_items.specs.Ranges.{resource_def};
     ghost use Rattle.cm_entries.specs.ComponentSpaces.{IsComponentOf, export_def};

@@ -3,7 +3,7 @@
 ghost use Rattle.std.specs.Prelude.{◌≡◌, ◌∷◌, [], IfErr, IfOk, List, Some, map, slice_get};
 ghost use Rattle.cm_types.specs.Types.{FuncTy, Ty};
 ghost use Rattle.cm_component.specs.Trees.{resource_drop, resource_new, resource_rep};
-ghost use Rattle.cm_reasons.specs.declared.fault.ValidReason.TheVariants as reason;
+ghost use Rattle.cm_validity.specs.declared.fault.ValidReason.TheVariants as reason;
 ghost use Rattle.cm_validity.specs.Reasons.{index_broken, least, unless};
 ghost use Rattle.cm_validity.specs.Rules.{canon_broken, is_defined};
 ghost use Rattle.cm_validity.specs.Spaces.{Spaces};
@@ -17,8 +17,8 @@ ghost use Rattle.cm_instance_items.specs.Ranges.{resource_def};
 
 use crate::spaces::ComponentSpaces;
 use cm_instance_items::Resource;
-use cm_reasons::ValidReason;
 use cm_type_scope::TypeEntry;
+use cm_validity::ValidReason;
 use std::alloc::AllocError;
 
 /// The number of the resource that it is, if it is one.

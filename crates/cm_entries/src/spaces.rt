@@ -3,7 +3,7 @@
 use crate::entries::{FuncEntry, InstanceEntry};
 use cm_extern_names::{FoldedName, NameSet};
 use cm_instance_items::Resources;
-use cm_signatures::Extern;
+use cm_placed::Extern;
 use cm_types::ExternName;
 use std::alloc::{AllocError, Global};
 

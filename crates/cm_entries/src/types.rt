@@ -11,8 +11,8 @@ ghost use Rattle.cm_entries.specs.Entries.{entry_func, entry_instance};
 
 use cm_instance_items::InstanceItems;
 use cm_placed::Placed;
-use cm_reasons::ValidReason;
 use cm_type_scope::TypeEntry;
+use cm_validity::ValidReason;
 use std::rc::Rc;
 
 /// The type of a function that it is, if it is one.

@@ -1,7 +1,7 @@
 -- What the names of imports and exports have to be by their forms (Explainer.md, "Import and Export
 -- Definitions").
 use Rattle.std.specs.Prelude.{ℕ, List}
-use Rattle.cm_reasons.specs.declared.fault.ValidReason.{ValidReason}
+use Rattle.cm_validity.specs.declared.fault.ValidReason.{ValidReason}
 use Rattle.cm_validity.specs.Rules.{func_name_broken, instance_name_broken}
 use Rattle.cm_extern_names.specs.declared.forms.ExternSort.{ExternSort}
 use Rattle.cm_extern_names.specs.declared.forms.ExternSort.TheVariants as sort

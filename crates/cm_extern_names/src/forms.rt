@@ -6,9 +6,9 @@ ghost use Rattle.cm_validity.specs.ItemNames.{is_plain, is_plain_or_interface};
 ghost use Rattle.cm_validity.specs.Reasons.{least};
 ghost use Rattle.cm_extern_names.specs.Forms.{form_broken};
 
-use cm_reasons::ValidReason;
 use cm_type_rules::broken_unless;
 use cm_types::{ExternName, ExternNameForm};
+use cm_validity::ValidReason;
 
 /// What an import or an export is (Binary.md, "Import and Export Definitions").
 #[derive(Clone, Copy)]

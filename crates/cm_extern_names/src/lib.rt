@@ -1,10 +1,13 @@
-//! The names of a component's imports, and those of its exports: which names they may have.
+//! Names of a component, found by trees: which names its imports and exports may have, and values
+//! under names, in the order in which they came.
 #![tactic(auto)]
 
 mod forms;
+mod name_map;
 mod name_set;
 mod names;
 
 pub use forms::ExternSort;
+pub use name_map::NameMap;
 pub use name_set::NameSet;
 pub use names::FoldedName;

@@ -2,8 +2,8 @@
 
 use crate::forms::{ExternSort, form_fault};
 use crate::names::FoldedName;
-use cm_reasons::ValidReason;
 use cm_type_rules::{broken_unless, lesser};
+use cm_validity::ValidReason;
 use cm_validity::laws::least_of_both;
 use std::alloc::{AllocError, Global};
 use std::collections::BTreeSet;

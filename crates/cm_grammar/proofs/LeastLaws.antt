@@ -4,8 +4,8 @@ use Rattle.std.specs.List.{flat_map, sum_by}
 use Rattle.std.specs.Prelude.{ℤ}
 use Rattle.std.proofs.lemmas.Bool.Decides.{nat_tests}
 use Rattle.std.proofs.lemmas.List.{length-append}
-use Rattle.cm_leb.specs.Writing.{shortest_unsigned, shortest_signed}
-use Rattle.cm_leb.proofs.WritingLaws.{shortest_unsigned-least, shortest_unsigned-length, shortest_signed-least}
+use Rattle.cm_grammar.specs.LebWriting.{shortest_unsigned, shortest_signed}
+use Rattle.cm_grammar.proofs.LebWritingLaws.{shortest_unsigned-least, shortest_unsigned-length, shortest_signed-least}
 use Rattle.cm_grammar.specs.Grammar.{Grammar, done, ◌>>=◌, fail, code, refuse, ahead, number, signed, raw, check, fixed, chain, from_stock, vec, stocked, blob}
 use Rattle.cm_grammar.specs.Whole.{Whole, build, remainder, exactly, join, begins_with, SpellsEach, to_end, of_size, at_most}
 use Rattle.cm_grammar.specs.Spelling.{vec_spelling, blob_spelling}

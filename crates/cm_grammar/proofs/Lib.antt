@@ -1,3 +1,8 @@
+pub mod Powers
+pub mod LebLaws
+pub mod UnsignedLaws
+pub mod SignedLaws
+pub mod LebWritingLaws
 pub mod Tools
 pub mod Laws
 pub mod WholeLaws

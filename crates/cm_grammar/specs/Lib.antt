@@ -1,3 +1,6 @@
+pub mod Numbers
+pub mod LebReading
+pub mod LebWriting
 pub mod Faults
 pub mod Grammar
 pub mod Whole

@@ -1,3 +1,5 @@
 pub mod MarkLaws
 pub mod GraphLaws
 pub mod CycleLaws
+mod EdgeLaws
+mod ReachLaws

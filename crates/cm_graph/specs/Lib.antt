@@ -1,3 +1,5 @@
 pub mod Graphs
 pub mod Rows
 pub mod Marking
+pub mod Marked
+pub mod Reach

@@ -5,7 +5,7 @@ use Rattle.std.proofs.Common.{◌≡◌, ℕ, true, false, List, [], ◌++◌, m
 use Rattle.cm_types.specs.Types.{Ty, FuncTy}
 use Rattle.cm_arena_layouts.specs.Placed.{AreOfFirst, layouts_in}
 use Rattle.cm_layout.specs.Shapes.{LayoutTy}
-use Rattle.cm_reasons.specs.declared.fault.ValidReason.{ValidReason}
+use Rattle.cm_validity.specs.declared.fault.ValidReason.{ValidReason}
 use Rattle.cm_validity.specs.Definitions.{CoreFuncDef, TypeDef}
 use Rattle.cm_validity.specs.Items.{Item}
 use Rattle.cm_validity.specs.Reasons.{least}

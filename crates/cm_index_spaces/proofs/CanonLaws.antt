@@ -3,15 +3,15 @@ use Rattle.std.proofs.Common.{◌≡◌, ℕ, ◌+◌, Bool, true, false, List, 
 use Rattle.std.proofs.lemmas.Option.{slice_get-map}
 use Rattle.std.specs.List.{list_all, slice_get}
 use Rattle.std.specs.Prelude.{if◌then◌else◌, nat_le}
-use Rattle.cm_reasons.specs.Reasons.{reason_number}
+use Rattle.cm_validity.specs.ReasonWords.{reason_number}
 use Rattle.std.specs.Option.{option_and_then, option_map}
 use Rattle.cm_types.specs.Types.{Ty, FuncTy}
 use Rattle.cm_component.specs.Trees.{CanonTree, lift, lower, resource_drop, resource_new, resource_rep}
 use Rattle.cm_component.specs.declared.canons.CanonOption.{CanonOption}
 use Rattle.cm_arena_layouts.specs.Placed.{AreOfFirst, layouts_in}
 use Rattle.cm_arena_layouts.specs.declared.layouts.Layouts.{Layouts}
-use Rattle.cm_reasons.specs.declared.fault.ValidReason.{ValidReason}
-use Rattle.cm_reasons.specs.declared.fault.ValidReason.TheVariants as reason
+use Rattle.cm_validity.specs.declared.fault.ValidReason.{ValidReason}
+use Rattle.cm_validity.specs.declared.fault.ValidReason.TheVariants as reason
 use Rattle.cm_validity.specs.Definitions.{CoreFuncDef, FuncDef, TypeDef, dropping, faulty, func_type, imported, instance_type, lifted, making, reading, resource, sort_of, value}
 use Rattle.cm_validity.specs.Items.{Item, canon_item}
 use Rattle.cm_validity.specs.Options.{no_post_return_broken, options_broken}

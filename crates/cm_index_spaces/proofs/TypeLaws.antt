@@ -5,14 +5,14 @@ use Rattle.std.specs.Prelude.{◌==◌}
 use Rattle.cm_types.specs.Types.{Ty, FuncTy}
 use Rattle.cm_types.specs.declared.def_types.OuterType.{OuterType}
 use Rattle.cm_component.specs.Trees.{AliasTree, outer_type}
-use Rattle.cm_reasons.specs.declared.fault.ValidReason.{ValidReason}
-use Rattle.cm_reasons.specs.declared.fault.ValidReason.TheVariants as reason
+use Rattle.cm_validity.specs.declared.fault.ValidReason.{ValidReason}
+use Rattle.cm_validity.specs.declared.fault.ValidReason.TheVariants as reason
 use Rattle.cm_validity.specs.Definitions.{TypeDef}
 use Rattle.cm_validity.specs.Items.{Item, alias_item}
 use Rattle.cm_validity.specs.Reasons.{found, least, lesser, unless}
 use Rattle.cm_validity.specs.Rules.{broken}
 use Rattle.cm_validity.specs.Spaces.{Spaces, after_item, new_types, next_resource}
-use Rattle.cm_counted.specs.CountedSpaces.{AreSpacesCounted, IsDefCounted}
+use Rattle.cm_validity.specs.CountedSpaces.{AreSpacesCounted, IsDefCounted}
 use Rattle.cm_core_spaces.specs.CoreSpaces.{StaysAfter as CoreStaysAfter}
 use Rattle.cm_type_scope.specs.Entries.{def_of}
 use Rattle.cm_type_scope.specs.Settled.{IsEntrySettled}

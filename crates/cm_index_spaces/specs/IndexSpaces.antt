@@ -4,7 +4,7 @@ use Rattle.std.specs.Prelude.{◌≡◌, ℕ, true, List, length, map, Option}
 use Rattle.std.specs.List.{list_all}
 use Rattle.cm_types.specs.Types.{Ty, FuncTy}
 use Rattle.cm_arena_layouts.specs.Placed.{AreOfFirst, layouts_in}
-use Rattle.cm_reasons.specs.declared.fault.ValidReason.{ValidReason}
+use Rattle.cm_validity.specs.declared.fault.ValidReason.{ValidReason}
 use Rattle.cm_validity.specs.Definitions.{CoreFuncDef}
 use Rattle.cm_validity.specs.Items.{Item}
 use Rattle.cm_validity.specs.Reasons.{least}

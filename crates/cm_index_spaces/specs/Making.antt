@@ -2,7 +2,7 @@
 use Rattle.std.specs.Prelude.{◌≡◌, true, Option, length, IfSome}
 use Rattle.std.specs.Option.{option_map}
 use Rattle.cm_component.specs.Trees.{CanonTree}
-use Rattle.cm_reasons.specs.declared.fault.ValidReason.{ValidReason}
+use Rattle.cm_validity.specs.declared.fault.ValidReason.{ValidReason}
 use Rattle.cm_validity.specs.Items.{canon_item}
 use Rattle.cm_validity.specs.Reasons.{least}
 use Rattle.cm_validity.specs.Rules.{broken}

@@ -23,8 +23,8 @@ use cm_canons::{LaidTypes, add_lift, lower_fault};
 use cm_component::{Canon, CanonOption};
 use cm_entries::laws::others_add_nothing as component_stays;
 use cm_entries::{ComponentSpaces, FuncEntry, resource_fault};
-use cm_reasons::ValidReason;
 use cm_type_scope::{TypeEntry, TypeScope};
+use cm_validity::ValidReason;
 use std::alloc::{AllocError, Global};
 
 /// Types with the layouts of their arena.

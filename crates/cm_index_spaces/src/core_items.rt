@@ -3,7 +3,7 @@
 use crate::spaces::IndexSpaces;
 use cm_component::{CoreInstance, CoreSort};
 use cm_entries::laws::others_add_nothing as component_stays;
-use cm_reasons::ValidReason;
+use cm_validity::ValidReason;
 use std::alloc::{AllocError, Global};
 
 impl<'a> IndexSpaces<'a> {

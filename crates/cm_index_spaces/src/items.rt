@@ -7,9 +7,9 @@ use cm_core_spaces::laws::others_add_nothing as core_stays;
 use cm_entries::Aliased;
 use cm_entries::laws::{entries_stay, others_add_nothing as component_stays};
 use cm_inline_exports::add_instance;
-use cm_reasons::ValidReason;
 use cm_type_scope::TypeEntry;
 use cm_types::OuterType;
+use cm_validity::ValidReason;
 use std::alloc::{AllocError, Global};
 
 impl<'a> IndexSpaces<'a> {

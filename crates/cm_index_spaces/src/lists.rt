@@ -5,7 +5,7 @@ use crate::spaces::IndexSpaces;
 use cm_core_spaces::CoreFunc;
 use cm_entries::ExportEntry;
 use cm_instance_items::Resource;
-use cm_signatures::Extern;
+use cm_placed::Extern;
 use cm_type_arena::Types;
 
 /// What a component imports and exports, with the arena in which its types stand.
@@ -21,7 +21,7 @@ impl<'a> IndexSpaces<'a> {
     ghost use Rattle.std.specs.List.{list_all};
     ghost use Rattle.std.specs.Option.{option_map};
     ghost use Rattle.cm_type_arena.specs.Places.{funcs_of, types_of};
-    ghost use Rattle.cm_signatures.specs.Externs.{extern_of, is_extern_there};
+    ghost use Rattle.cm_placed.specs.Externs.{extern_of, is_extern_there};
     ghost use Rattle.cm_validity.specs.Spaces.{Spaces};
     ghost use Rattle.cm_instance_items.specs.Ranges.{resource_def};
     ghost use Rattle.cm_entries.specs.ComponentSpaces.{export_def, is_exported_there};

@@ -3,11 +3,11 @@
 use crate::spaces::IndexSpaces;
 use cm_arena_layouts::laws::first_layouts_stay;
 use cm_core_spaces::laws::others_add_nothing as core_stays;
-use cm_counted::laws::resources_are_counted;
 use cm_entries::laws::{entries_stay, others_add_nothing as component_stays};
 use cm_instance_types::define_instance;
-use cm_reasons::ValidReason;
 use cm_types::{Declaration, DefType, DefValType, FuncType};
+use cm_validity::ValidReason;
+use cm_validity::counted_laws::resources_are_counted;
 use std::alloc::{AllocError, Global};
 
 impl<'a> IndexSpaces<'a> {

@@ -7,8 +7,8 @@ use Rattle.std.specs.Option.{option_map}
 use Rattle.cm_types.specs.Types.{Ty, FuncTy}
 use Rattle.cm_component.specs.declared.instances.InlineExport.{InlineExport}
 use Rattle.cm_component.specs.declared.instances.InstanceExportSort.TheVariants as member_sort
-use Rattle.cm_reasons.specs.declared.fault.ValidReason.{ValidReason}
-use Rattle.cm_reasons.specs.declared.fault.ValidReason.TheVariants as reason
+use Rattle.cm_validity.specs.declared.fault.ValidReason.{ValidReason}
+use Rattle.cm_validity.specs.declared.fault.ValidReason.TheVariants as reason
 use Rattle.cm_validity.specs.Definitions.{FuncDef, MemberDef, TypeDef, func_member, sort_of, type_member}
 use Rattle.cm_validity.specs.Reasons.{found, least, unless}
 use Rattle.cm_validity.specs.Rules.{member_broken, member_of_sort_broken}
@@ -16,7 +16,7 @@ use Rattle.cm_validity.specs.Spaces.{Spaces, items_of_members, member_at}
 use Rattle.cm_validity.specs.Spaces.{named_member as member_of_export}
 use Rattle.cm_validity.specs.TypeRules.{is_value_or_resource}
 use Rattle.cm_validity.specs.declared.sorts.TypeSort.{TypeSort}
-use Rattle.cm_item_names.specs.Sketches.{SketchedItem, named_sketch}
+use Rattle.cm_instance_types.specs.Sketches.{SketchedItem, named_sketch}
 use Rattle.cm_type_scope.specs.Entries.{def_of, is_entry_there}
 use Rattle.cm_type_scope.specs.declared.entries.TypeEntry.{TypeEntry}
 use Rattle.cm_type_scope.specs.declared.entries.TypeEntry.TheVariants as entry

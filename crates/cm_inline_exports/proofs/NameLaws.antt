@@ -13,9 +13,9 @@ use Rattle.cm_types.specs.Signatures.{NamedItem}
 use Rattle.cm_component.specs.declared.instances.InlineExport.{InlineExport}
 use Rattle.cm_component.specs.declared.instances.InstanceExportSort.{InstanceExportSort}
 use Rattle.cm_component.specs.declared.instances.InstanceExportSort.TheVariants as member_sort
-use Rattle.cm_reasons.specs.declared.fault.ValidReason.{ValidReason}
-use Rattle.cm_reasons.specs.declared.fault.ValidReason.TheVariants as reason
-use Rattle.cm_reasons.specs.Reasons.{reason_number}
+use Rattle.cm_validity.specs.declared.fault.ValidReason.{ValidReason}
+use Rattle.cm_validity.specs.declared.fault.ValidReason.TheVariants as reason
+use Rattle.cm_validity.specs.ReasonWords.{reason_number}
 use Rattle.cm_validity.specs.Declarations.{with_item}
 use Rattle.cm_validity.specs.Definitions.{FuncDef, NamedMember, TypeDef, faulty, func_member, func_type, instance_type, resource, sort_of, type_member, value}
 use Rattle.cm_validity.specs.ItemNames.{is_well_named, item_names_broken}
@@ -26,8 +26,8 @@ use Rattle.cm_validity.specs.Spaces.{Spaces, item_of_member, items_of_members}
 use Rattle.cm_validity.specs.Spaces.{named_member as member_of_export}
 use Rattle.cm_validity.specs.TypeRules.{are_distinct_names, is_value_or_resource}
 use Rattle.cm_validity.specs.declared.sorts.TypeSort.{TypeSort}
-use Rattle.cm_item_names.specs.Names.{item_name_faults}
-use Rattle.cm_item_names.specs.Sketches.{SketchedItem, named_sketch}
+use Rattle.cm_instance_types.specs.Names.{item_name_faults}
+use Rattle.cm_instance_types.specs.Sketches.{SketchedItem, named_sketch}
 use Rattle.cm_inline_exports.specs.Members.{export_sketches}
 use Rattle.cm_inline_exports.proofs.ReasonLaws.{LeastOfBoth}
 

@@ -6,8 +6,8 @@ use Rattle.std.specs.Str.{bytes_eq}
 use Rattle.cm_types.specs.Types.{Ty, Fields, FuncTy, bool, signed, unsigned, char, string, list, fixed_list, fields, cases, flags, own, borrow, no_fields, field}
 use Rattle.cm_types.specs.declared.resource.ResourceId.{ResourceId}
 use Rattle.cm_replaced.specs.Replaced.{Standing, replaced, replaced_fields, replaced_func}
-use Rattle.cm_item_names.specs.cm_type_sketches.Sketches.{own_result, resource_borrowed, resource_owned, self_borrow, sketch_func}
-use Rattle.cm_item_names.specs.cm_type_sketches.declared.sketches.FuncSketch.{FuncSketch}
+use Rattle.cm_instance_types.specs.cm_type_sketches.Sketches.{own_result, resource_borrowed, resource_owned, self_borrow, sketch_func}
+use Rattle.cm_instance_types.specs.cm_type_sketches.declared.sketches.FuncSketch.{FuncSketch}
 
 module _ (s : Standing) where
   borrowed : (t : Ty) → resource_borrowed (replaced s t) ≡ option_map s (resource_borrowed t)

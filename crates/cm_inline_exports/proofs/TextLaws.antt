@@ -8,7 +8,7 @@ use Rattle.std.specs.List.{AllByRecursion, flat_map, list_all, list_any, positio
 use Rattle.std.specs.Prelude.{is_some}
 use Rattle.std.specs.Str.{bytes_eq}
 use Rattle.cm_validity.specs.Rules.{are_distinct_texts}
-use Rattle.cm_name_maps.specs.Names.{names_in, place_of}
+use Rattle.cm_extern_names.specs.NamedValues.{names_in, place_of}
 
 -- none of the texts to come is among those that were seen, and no two of them are equal
 abbrev pub rest_is_distinct : (List ℕ → Bool) → List (List ℕ) → Bool

@@ -1,7 +1,7 @@
 -- What calls answer for an item, among the types of one arena.
 use Rattle.std.specs.Prelude.{◌≡◌, List, Option}
 use Rattle.cm_types.specs.Types.{Ty, FuncTy}
-use Rattle.cm_reasons.specs.declared.fault.ValidReason.{ValidReason}
+use Rattle.cm_validity.specs.declared.fault.ValidReason.{ValidReason}
 use Rattle.cm_validity.specs.Items.{Item}
 use Rattle.cm_validity.specs.Reasons.{least}
 use Rattle.cm_validity.specs.Rules.{broken}

@@ -6,18 +6,18 @@ use Rattle.std.specs.declared.result.Result.{Result}
 use Rattle.std.specs.declared.result.Result.TheVariants.{Ok, Err}
 use Rattle.cm_types.specs.Types.{Ty, FuncTy}
 use Rattle.cm_component.specs.declared.instances.InlineExport.{InlineExport}
-use Rattle.cm_reasons.specs.declared.fault.ValidReason.{ValidReason}
-use Rattle.cm_reasons.specs.declared.fault.ValidReason.TheVariants as reason
+use Rattle.cm_validity.specs.declared.fault.ValidReason.{ValidReason}
+use Rattle.cm_validity.specs.declared.fault.ValidReason.TheVariants as reason
 use Rattle.cm_validity.specs.Definitions.{func_type_of}
 use Rattle.cm_validity.specs.Reasons.{least}
 use Rattle.cm_validity.specs.Rules.{member_broken}
 use Rattle.cm_validity.specs.Scopes.{resource_id}
 use Rattle.cm_validity.specs.Spaces.{Spaces, items_of_members, member_at}
 use Rattle.cm_validity.specs.Spaces.{named_member as member_of_export}
-use Rattle.cm_item_names.specs.cm_type_sketches.Sketches.{sketch_func}
-use Rattle.cm_item_names.specs.Sketches.{SketchedItem, named_sketch}
-use Rattle.cm_item_names.specs.declared.sketches.ItemSketch.{ItemSketch}
-use Rattle.cm_item_names.specs.declared.sketches.ItemSketch.TheVariants as item_sketch
+use Rattle.cm_instance_types.specs.cm_type_sketches.Sketches.{sketch_func}
+use Rattle.cm_instance_types.specs.Sketches.{SketchedItem, named_sketch}
+use Rattle.cm_instance_types.specs.declared.sketches.ItemSketch.{ItemSketch}
+use Rattle.cm_instance_types.specs.declared.sketches.ItemSketch.TheVariants as item_sketch
 use Rattle.cm_type_scope.specs.declared.entries.TypeEntry.{TypeEntry}
 use Rattle.cm_type_scope.specs.declared.entries.TypeEntry.TheVariants as entry
 use Rattle.cm_entries.specs.ComponentSpaces.{AreTypesOf, IsComponentOf}

@@ -10,12 +10,12 @@ ghost use Rattle.cm_inline_exports.specs.Answers.{AnswersAmong};
 use crate::members::{examine, gather};
 use cm_component::InlineExport;
 use cm_entries::ComponentSpaces;
-use cm_item_names::item_names_fault;
-use cm_item_names::laws::names_are_sketched;
-use cm_reasons::ValidReason;
+use cm_instance_types::item_names_fault;
+use cm_instance_types::name_laws::names_are_sketched;
 use cm_type_arena::Types;
 use cm_type_rules::lesser;
 use cm_type_scope::TypeEntry;
+use cm_validity::ValidReason;
 use cm_validity::laws::least_of_both;
 use std::alloc::{AllocError, Global};
 

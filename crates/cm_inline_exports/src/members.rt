@@ -8,20 +8,20 @@ ghost use Rattle.cm_type_arena.specs.Places.{funcs_of, types_of};
 ghost use Rattle.cm_validity.specs.Reasons.{least, lesser};
 ghost use Rattle.cm_validity.specs.Rules.{are_distinct_texts, member_broken};
 ghost use Rattle.cm_validity.specs.Spaces.{Spaces};
-ghost use Rattle.cm_item_names.specs.Sketches.{sketch_named};
-ghost use Rattle.cm_name_maps.specs.NameMaps.{entries_of};
+ghost use Rattle.cm_instance_types.specs.Sketches.{sketch_named};
+ghost use Rattle.cm_extern_names.specs.NameMaps.{entries_of};
 ghost use Rattle.cm_inline_exports.specs.Members.{AreMembers, IsAnswered, Stand, entry_answer};
 ghost use Rattle.cm_inline_exports.specs.Members.{export_sketches, sketch_member, type_answer};
 
 use crate::sketches::item_sketch;
 use cm_component::{InlineExport, InstanceExportSort};
 use cm_entries::{ComponentSpaces, MemberEntry};
-use cm_item_names::NamedSketch;
-use cm_name_maps::NameMap;
-use cm_reasons::ValidReason;
+use cm_extern_names::NameMap;
+use cm_instance_types::NamedSketch;
 use cm_type_arena::Types;
 use cm_type_rules::lesser;
 use cm_type_scope::TypeEntry;
+use cm_validity::ValidReason;
 use cm_validity::laws::least_of_both;
 use std::alloc::{AllocError, Global};
 

@@ -7,14 +7,14 @@ ghost use Rattle.cm_types.specs.TypeTrees.{type_of};
 ghost use Rattle.cm_type_arena.specs.Places.{funcs_of};
 ghost use Rattle.cm_type_arena.specs.TypeDefs.{func_at};
 ghost use Rattle.cm_placed.specs.Placed.{moved_by, placed_func};
-ghost use Rattle.cm_item_names.specs.cm_type_sketches.Sketches.{own_result, resource_borrowed};
-ghost use Rattle.cm_item_names.specs.cm_type_sketches.Sketches.{resource_owned};
-ghost use Rattle.cm_item_names.specs.cm_type_sketches.Sketches.{self_borrow, sketch_func};
+ghost use Rattle.cm_instance_types.specs.cm_type_sketches.Sketches.{own_result, resource_borrowed};
+ghost use Rattle.cm_instance_types.specs.cm_type_sketches.Sketches.{resource_owned};
+ghost use Rattle.cm_instance_types.specs.cm_type_sketches.Sketches.{self_borrow, sketch_func};
 ghost use Rattle.cm_entries.specs.Entries.{func_def};
 ghost use Rattle.cm_inline_exports.specs.Members.{sketch_member};
 
 use cm_entries::{FuncEntry, MemberEntry};
-use cm_item_names::{FuncSketch, ItemSketch, resource_id};
+use cm_instance_types::{FuncSketch, ItemSketch, resource_id};
 use cm_placed::{Placed, moved_resource};
 use cm_replaced::Move;
 use cm_type_arena::Types;

@@ -2,14 +2,14 @@
 use Rattle.std.proofs.Common.{◌≡◌, ℕ, true, List, [], ◌∷◌, ◌++◌, map, Some, None, refl, sym, ap, ◌∙◌}
 use Rattle.cm_types.specs.DefTypes.{DeclarationTree}
 use Rattle.cm_types.specs.Signatures.{NamedItem}
-use Rattle.cm_reasons.specs.declared.fault.ValidReason.{ValidReason}
-use Rattle.cm_reasons.specs.declared.fault.ValidReason.TheVariants as reason
+use Rattle.cm_validity.specs.declared.fault.ValidReason.{ValidReason}
+use Rattle.cm_validity.specs.declared.fault.ValidReason.TheVariants as reason
 use Rattle.cm_validity.specs.Declarations.{Scope, after_declarations, declarations_broken, instance_def_broken, instance_defined, scope_in}
 use Rattle.cm_validity.specs.Definitions.{TypeDef}
 use Rattle.cm_validity.specs.ItemNames.{item_names_broken}
 use Rattle.cm_validity.specs.Reasons.{least, lesser}
-use Rattle.cm_item_names.specs.Names.{item_name_faults}
-use Rattle.cm_item_names.specs.Sketches.{named_sketch}
+use Rattle.cm_instance_types.specs.Names.{item_name_faults}
+use Rattle.cm_instance_types.specs.Sketches.{named_sketch}
 use Rattle.cm_type_sketches.specs.Faults.{besides_limits, or_too_large}
 use Rattle.cm_instance_types.specs.SketchScopes.{SketchScope, after_all_sketched, declarations_faults, sketch_scope, sketches_before}
 use Rattle.cm_instance_types.proofs.ScopeLaws.{are_before, before_both, besides_both, Others}

@@ -1,3 +1,5 @@
+pub mod FaultLaws
+pub mod NameLaws
 pub mod ScopeLaws
 pub mod InstanceLaws
 pub mod PassLaws

@@ -1,7 +1,7 @@
 -- Declarations are read one after another, by sketches.
 use Rattle.std.proofs.Common.{◌≡◌, ℕ, ◌+◌, ◌<◌, List, [], ◌∷◌, ◌++◌, length, get_or, map, drop, Option, Some, None, Result, Ok, IfOk, refl, sym, ap, subst, ◌∙◌, add-one, drop-cons, append_assoc}
 use Rattle.cm_types.specs.DefTypes.{DeclarationTree}
-use Rattle.cm_reasons.specs.declared.fault.ValidReason.{ValidReason}
+use Rattle.cm_validity.specs.declared.fault.ValidReason.{ValidReason}
 use Rattle.cm_validity.specs.Definitions.{TypeDef}
 use Rattle.cm_validity.specs.Reasons.{least, lesser}
 use Rattle.cm_instance_types.specs.SketchScopes.{SketchScope, after_all_sketched, after_sketched, declaration_faults, declarations_faults}

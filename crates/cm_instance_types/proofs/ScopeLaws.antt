@@ -10,8 +10,8 @@ use Rattle.cm_types.specs.declared.def_types.ExportDesc.{ExportDesc}
 use Rattle.cm_types.specs.declared.def_types.ExportDesc.TheVariants as desc
 use Rattle.cm_types.specs.declared.def_types.TypeBound.TheVariants as bound
 use Rattle.cm_types.specs.Signatures.{ItemTy, NamedItem, fresh_resource}
-use Rattle.cm_reasons.specs.declared.fault.ValidReason.{ValidReason}
-use Rattle.cm_reasons.specs.declared.fault.ValidReason.TheVariants as reason
+use Rattle.cm_validity.specs.declared.fault.ValidReason.{ValidReason}
+use Rattle.cm_validity.specs.declared.fault.ValidReason.TheVariants as reason
 use Rattle.cm_validity.specs.Declarations.{Scope, after_declaration, after_declarations, declaration_broken, declarations_broken, export_desc_broken, func_in, outer_type_of, type_in, with_export, with_item, with_type}
 use Rattle.cm_validity.specs.Definitions.{TypeDef, faulty, func_type, instance_type, resource, sorts_of, value}
 use Rattle.cm_validity.specs.Reasons.{found, unless}
@@ -19,8 +19,8 @@ use Rattle.cm_validity.specs.Scopes.{func_def_of, resource_id, value_def_of}
 use Rattle.cm_validity.specs.TypeRules.{func_def_broken, has_sort, is_value_or_resource, value_def_broken}
 use Rattle.cm_validity.specs.declared.sorts.TypeSort.{TypeSort}
 use Rattle.cm_validity.specs.declared.sorts.TypeSort.TheVariants as sort
-use Rattle.cm_item_names.specs.Sketches.{named_sketch, sketch_item}
-use Rattle.cm_item_names.specs.declared.sketches.ItemSketch.{ItemSketch}
+use Rattle.cm_instance_types.specs.Sketches.{named_sketch, sketch_item}
+use Rattle.cm_instance_types.specs.declared.sketches.ItemSketch.{ItemSketch}
 use Rattle.cm_type_sketches.specs.Definitions.{func_def_sketch, value_def_sketch}
 use Rattle.cm_type_sketches.specs.Faults.{besides_limits, func_def_faults, is_before_limits, is_too_large, value_def_faults}
 use Rattle.cm_type_sketches.specs.Sketches.{sketch_of, sketch_sort}

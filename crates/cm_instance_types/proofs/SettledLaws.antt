@@ -1,7 +1,7 @@
 -- What moves brought into the type of an instance, once its declarations are read.
 use Rattle.std.proofs.Common.{◌≡◌, ℕ, List, sym, subst, ◌∙◌}
 use Rattle.std.specs.List.{AllByRecursion}
-use Rattle.cm_counted.specs.CountedSpaces.{IsDefCounted}
+use Rattle.cm_validity.specs.CountedSpaces.{IsDefCounted}
 use Rattle.cm_validity.specs.Definitions.{TypeDef}
 use Rattle.cm_type_scope.specs.declared.scope.TypeScope.{TypeScope}
 use Rattle.cm_type_scope.specs.SettledScopes.{AreSettled}

@@ -7,15 +7,15 @@ use Rattle.cm_types.specs.DefTypes.{DeclaredTypeTree, declared_value, declared_f
 use Rattle.cm_types.specs.declared.def_types.ExportDesc.{ExportDesc}
 use Rattle.cm_types.specs.declared.def_types.ExportDesc.TheVariants as desc
 use Rattle.cm_types.specs.declared.def_types.TypeBound.TheVariants as bound
-use Rattle.cm_reasons.specs.declared.fault.ValidReason.{ValidReason}
+use Rattle.cm_validity.specs.declared.fault.ValidReason.{ValidReason}
 use Rattle.cm_validity.specs.Declarations.{Scope, export_desc_broken}
 use Rattle.cm_validity.specs.Definitions.{TypeDef}
 use Rattle.cm_validity.specs.Reasons.{found}
 use Rattle.cm_validity.specs.Scopes.{resource_id}
 use Rattle.cm_validity.specs.declared.sorts.TypeSort.{TypeSort}
-use Rattle.cm_item_names.specs.declared.sketches.ItemSketch.{ItemSketch}
-use Rattle.cm_item_names.specs.declared.sketches.ItemSketch.TheVariants as item_sketch
-use Rattle.cm_item_names.specs.Sketches.{SketchedItem, named_sketch}
+use Rattle.cm_instance_types.specs.declared.sketches.ItemSketch.{ItemSketch}
+use Rattle.cm_instance_types.specs.declared.sketches.ItemSketch.TheVariants as item_sketch
+use Rattle.cm_instance_types.specs.Sketches.{SketchedItem, named_sketch}
 use Rattle.cm_type_sketches.specs.declared.sketches.Sketch.{Sketch}
 use Rattle.cm_type_sketches.specs.declared.sketches.Sketch.TheVariants as sketch
 use Rattle.cm_type_sketches.specs.Definitions.{func_def_sketch, value_def_sketch}

@@ -1,6 +1,6 @@
 -- What the code has read of declarations.
 use Rattle.std.specs.Prelude.{map}
-use Rattle.cm_item_names.specs.Sketches.{sketch_named}
+use Rattle.cm_instance_types.specs.Sketches.{sketch_named}
 use Rattle.cm_type_sketches.specs.Levels.{sketches_of}
 use Rattle.cm_instance_types.specs.SketchScopes.{SketchScope}
 use Rattle.cm_instance_types.specs.declared.sketching.Sketching.{Sketching}

@@ -6,13 +6,12 @@ ghost use Rattle.cm_validity.specs.TypeRules.{is_value_or_resource};
 ghost use Rattle.cm_instance_types.specs.SketchScopes.{func_item_in, type_item_in};
 
 use crate::sketching::Sketching;
-use cm_item_names::{ItemSketch, NamedSketch};
-use cm_reasons::ValidReason;
+use crate::{ItemSketch, NamedSketch};
 use cm_type_rules::{broken_unless, index_fault};
 use cm_type_scope::TypeScope;
 use cm_type_sketches::{Sketch, resource_id};
 use cm_types::{ExportDecl, ExportDesc, ExternName, TypeBound};
-use cm_validity::TypeSort;
+use cm_validity::{TypeSort, ValidReason};
 use std::alloc::AllocError;
 
 /// The item that a function of this type is.

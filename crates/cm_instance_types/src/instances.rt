@@ -8,7 +8,7 @@ ghost use Rattle.cm_validity.specs.Declarations.{instance_def_broken, instance_d
 ghost use Rattle.cm_validity.specs.Definitions.{instance_type};
 ghost use Rattle.cm_validity.specs.Reasons.{least};
 ghost use Rattle.cm_placed.specs.Instances.{are_items_there};
-ghost use Rattle.cm_counted.specs.CountedSpaces.{IsDefCounted};
+ghost use Rattle.cm_validity.specs.CountedSpaces.{IsDefCounted};
 ghost use Rattle.cm_type_scope.specs.Entries.{instance_of};
 ghost use Rattle.cm_type_scope.specs.Settled.{AreItemsSettled};
 ghost use Rattle.cm_type_scope.specs.SettledScopes.{AreSettled};
@@ -17,17 +17,17 @@ ghost use Rattle.cm_type_scope.specs.TypeScopes.{HasGrown, types_around};
 ghost use Rattle.cm_type_sketches.specs.Faults.{besides_limits};
 
 use crate::laws::instances_are_sketched;
+use crate::name_laws::names_are_sketched;
 use crate::passes::sketched_fault;
 use cm_declarations::Declarations;
 use cm_declarations::laws::first_reasons;
 use cm_instance_items::InstanceItems;
-use cm_item_names::laws::names_are_sketched;
 use cm_placed::InstanceType;
-use cm_reasons::ValidReason;
 use cm_type_scope::laws::moves_stay;
 use cm_type_scope::{TypeEntry, TypeScope};
 use cm_type_sketches::laws::limits_come_last;
 use cm_types::Declaration;
+use cm_validity::ValidReason;
 use std::alloc::{AllocError, Global};
 use std::mem;
 use std::rc::Rc;

@@ -8,12 +8,12 @@ ghost use Rattle.cm_validity.specs.Declarations.{Scope, after_declarations, decl
 ghost use Rattle.cm_validity.specs.Declarations.{instance_def_broken};
 ghost use Rattle.cm_validity.specs.Definitions.{TypeDef};
 ghost use Rattle.cm_validity.specs.Reasons.{least};
-ghost use Rattle.cm_item_names.specs.Names.{item_name_faults};
+ghost use Rattle.cm_instance_types.specs.Names.{item_name_faults};
 ghost use Rattle.cm_type_sketches.specs.Faults.{besides_limits, is_before_limits, or_too_large};
 ghost use Rattle.cm_instance_types.specs.SketchScopes.{after_all_sketched, declarations_faults};
 ghost use Rattle.cm_instance_types.specs.SketchScopes.{sketch_scope, sketches_before};
 
-use cm_item_names::laws::names_are_sketched;
+use crate::name_laws::names_are_sketched;
 use cm_type_sketches::laws::{definitions_are_sketched, faults_are_sketched, limits_come_last};
 use cm_validity::laws::least_of_both;
 

@@ -9,13 +9,13 @@ ghost use Rattle.cm_type_sketches.specs.Faults.{besides_limits};
 ghost use Rattle.cm_instance_types.specs.SketchScopes.{after_all_sketched, declarations_faults};
 ghost use Rattle.cm_instance_types.specs.Sketchings.{scope_sketched};
 
+use crate::item_names_fault;
 use crate::laws::instances_are_sketched;
 use crate::sketching::Sketching;
-use cm_item_names::item_names_fault;
-use cm_reasons::ValidReason;
 use cm_type_rules::lesser;
 use cm_type_scope::TypeScope;
 use cm_types::Declaration;
+use cm_validity::ValidReason;
 use cm_validity::laws::least_of_both;
 use std::alloc::{AllocError, Global};
 

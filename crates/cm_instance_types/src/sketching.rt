@@ -3,11 +3,11 @@
 
 ghost use Rattle.std.specs.Prelude.{◌≡◌};
 
-use cm_item_names::NamedSketch;
-use cm_reasons::ValidReason;
+use crate::NamedSketch;
 use cm_type_scope::TypeScope;
 use cm_type_sketches::{Sketch, SketchLevel, sketch_entry};
 use cm_types::{Declaration, DeclaredType, DefValType, FuncType, OuterType};
+use cm_validity::ValidReason;
 use std::alloc::{AllocError, Global};
 
 /// What declarations have declared so far, in sketches: types, the items with their names, and the

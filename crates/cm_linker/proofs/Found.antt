@@ -13,9 +13,9 @@ use Rattle.cm_placed.specs.Placed.{moved_by}
 use Rattle.cm_placed.specs.Instances as instances
 use Rattle.cm_placed.specs.declared.instances.Item.{Item}
 use Rattle.cm_placed.specs.declared.instances.InstanceType.{InstanceType}
-use Rattle.cm_signatures.specs.Externs.{extern_desc_of, extern_of}
-use Rattle.cm_signatures.specs.declared.signatures.ExternDesc.TheVariants as extern
-use Rattle.cm_signatures.specs.declared.signatures.Extern.{Extern}
+use Rattle.cm_placed.specs.Externs.{extern_desc_of, extern_of}
+use Rattle.cm_placed.specs.declared.signatures.ExternDesc.TheVariants as extern
+use Rattle.cm_placed.specs.declared.signatures.Extern.{Extern}
 use Rattle.cm_validity.specs.Definitions.{NamedExport}
 use Rattle.cm_validity.specs.Spaces.{Spaces, member_named}
 use Rattle.cm_instance_items.specs.Ranges.{resource_def}
@@ -24,9 +24,9 @@ use Rattle.cm_validate.specs.cm_entries.ComponentSpaces.{export_def}
 use Rattle.cm_validate.specs.cm_entries.declared.spaces.ExportEntry.{ExportEntry}
 use Rattle.cm_validate.specs.Checked.{funcs_in, spaces_in, types_in}
 use Rattle.cm_validate.specs.declared.checked.Checked.{Checked}
-use Rattle.cm_origins.specs.Origins.{exported_resource, item_name, items_of, members_of, resource_member, resource_of}
-use Rattle.cm_origins.specs.Sets.{member_of, source_by, source_of}
-use Rattle.cm_origins.specs.declared.component.Link.{Link}
+use Rattle.cm_links.specs.Origins.{exported_resource, item_name, items_of, members_of, resource_member, resource_of}
+use Rattle.cm_links.specs.Sets.{member_of, source_by, source_of}
+use Rattle.cm_links.specs.declared.component.Link.{Link}
 use Rattle.cm_links.specs.Imports.{export_in, import_in}
 use Rattle.cm_linker.specs.Sets.{funcs_at, set_of, types_at}
 use Rattle.cm_linker.proofs.Rows.{set_at}

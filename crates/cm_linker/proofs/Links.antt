@@ -6,8 +6,8 @@ use Rattle.cm_candidates.specs.Fitting.{NamedExport, only}
 use Rattle.cm_candidates.specs.declared.candidates.Candidate.{Candidate}
 use Rattle.cm_candidates.specs.declared.candidates.Candidate.TheVariants as candidate
 use Rattle.cm_validity.specs.Spaces.{Spaces}
-use Rattle.cm_origins.specs.Origins.{LeadEarlier}
-use Rattle.cm_origins.specs.declared.component.Link.{Link}
+use Rattle.cm_links.specs.Origins.{LeadEarlier}
+use Rattle.cm_links.specs.declared.component.Link.{Link}
 use Rattle.cm_links.specs.Imports.{candidates, import_at, import_in, link_of, links_of, only_link}
 
 only_one : (es : List NamedExport) (a b : ℕ) → only es ≡ candidate.One a b → only_link es ≡ Some (record { component = a; export = b })

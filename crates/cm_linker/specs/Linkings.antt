@@ -3,8 +3,8 @@
 use Rattle.std.specs.Prelude.{List}
 use Rattle.cm_validity.specs.Spaces.{Spaces}
 use Rattle.cm_validate.specs.declared.checked.Checked.{Checked}
-use Rattle.cm_origins.specs.Components.{Told}
-use Rattle.cm_origins.specs.Sets.{member_of, source_of}
+use Rattle.cm_links.specs.Components.{Told}
+use Rattle.cm_links.specs.Sets.{member_of, source_of}
 use Rattle.cm_links.specs.Imports.{links_of}
 use Rattle.cm_linker.specs.Sets.{set_of}
 use Rattle.cm_linker.specs.declared.linking.Linking.{Linking}

@@ -10,7 +10,7 @@ ghost use Rattle.cm_linker.specs.Choices.{AreChoices};
 ghost use Rattle.cm_linker.specs.Sets.{set_of};
 
 use cm_candidates::{Candidate, Exports};
-use cm_signatures::Extern;
+use cm_placed::Extern;
 use cm_validate::{Checked, ExportEntry};
 use std::alloc::{AllocError, Global};
 

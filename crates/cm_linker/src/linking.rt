@@ -1,14 +1,14 @@
 //! Components with the candidates of each of their imports.
 
 ghost use Rattle.std.specs.Prelude.{◌≡◌, ◌≤◌, length};
-ghost use Rattle.cm_plan.specs.declared.plan.TheConstants.{MAX_COMPONENTS};
+ghost use Rattle.cm_links.specs.declared.plan.TheConstants.{MAX_COMPONENTS};
 ghost use Rattle.cm_linker.specs.Choices.{AreChoices};
 ghost use Rattle.cm_linker.specs.Sets.{set_of};
 
 use cm_candidates::Candidate;
+use cm_links::Link;
 use cm_links::laws::links_lead_earlier;
-use cm_origins::Link;
-use cm_signatures::{Extern, ExternDesc};
+use cm_placed::{Extern, ExternDesc};
 use cm_validate::{Checked, ExportEntry, ExportedEntry, MemberEntry};
 
 /// The components of a set, at most `MAX_COMPONENTS`, with the candidates of each import.
@@ -24,12 +24,12 @@ impl<'s, 'a> Linking<'s, 'a> {
     ghost use Rattle.std.specs.Option.{option_and_then, option_map};
     ghost use Rattle.std.specs.Prelude.{slice_get};
     ghost use Rattle.cm_candidates.specs.Fitting.{only};
-    ghost use Rattle.cm_signatures.specs.Externs.{extern_of};
+    ghost use Rattle.cm_placed.specs.Externs.{extern_of};
     ghost use Rattle.cm_validity.specs.Spaces.{member_named};
     ghost use Rattle.cm_validate.specs.cm_entries.ComponentSpaces.{export_def};
     ghost use Rattle.cm_validate.specs.cm_entries.Entries.{member_def};
     ghost use Rattle.cm_links.specs.Imports.{candidates, export_in, import_in, links_of};
-    ghost use Rattle.cm_origins.specs.Origins.{item_name, members_of};
+    ghost use Rattle.cm_links.specs.Origins.{item_name, members_of};
     ghost use Rattle.cm_linker.specs.Linkings.{components_in, set_in};
     ghost use Rattle.cm_linker.specs.Sets.{funcs_at, types_at};
 

@@ -2,13 +2,13 @@
 
 ghost use Rattle.std.specs.Prelude.{◌≡◌, List};
 ghost use Rattle.cm_types.specs.Types.{FuncTy, Ty};
-ghost use Rattle.cm_origins.specs.Origins.{resource_member};
+ghost use Rattle.cm_links.specs.Origins.{resource_member};
 ghost use Rattle.cm_validate.specs.cm_entries.Entries.{member_def};
 
 use crate::linking::Linking;
 use cm_links::laws::links_lead_earlier;
-use cm_origins::laws::origins_are_unique;
-use cm_origins::{Components, Link, Source, origin};
+use cm_links::origin_laws::origins_are_unique;
+use cm_links::{Components, Link, Source, origin};
 use cm_types::ResourceId;
 use cm_validate::{MemberEntry, Resource};
 
@@ -50,7 +50,7 @@ impl<'s, 'a> Components for Linking<'s, 'a> {
 }
 
 impl<'s, 'a> Linking<'s, 'a> {
-    ghost use Rattle.cm_origins.specs.Origins.{origin_of};
+    ghost use Rattle.cm_links.specs.Origins.{origin_of};
     ghost use Rattle.cm_links.specs.Imports.{links_of};
     ghost use Rattle.cm_linker.specs.Linkings.{set_in};
 

@@ -6,10 +6,10 @@ use Rattle.cm_types.specs.Signatures as extern
 use Rattle.cm_candidates.specs.Fitting.{NamedExport}
 use Rattle.cm_validity.specs.Definitions.{ExportDef, exported_func, exported_instance, NamedMember}
 use Rattle.cm_validity.specs.Spaces.{Spaces}
-use Rattle.cm_origins.specs.declared.component.Link.{Link}
-use Rattle.cm_plan.specs.declared.fault.LinkReason.{LinkReason}
-use Rattle.cm_plan.specs.declared.fault.LinkReason.TheVariants as reason
-use Rattle.cm_plan.specs.declared.plan.TheConstants.{MAX_COMPONENTS}
+use Rattle.cm_links.specs.declared.component.Link.{Link}
+use Rattle.cm_links.specs.declared.fault.LinkReason.{LinkReason}
+use Rattle.cm_links.specs.declared.fault.LinkReason.TheVariants as reason
+use Rattle.cm_links.specs.declared.plan.TheConstants.{MAX_COMPONENTS}
 use Rattle.cm_links.specs.Imports.{ImportAt, candidates, export_in, imports_of, link_of, only_link}
 use Rattle.cm_links.specs.Serving.{IsExternUnserved, IsFirst, IsItemServed, IsItemUnserved, IsUnserved, Serves, ServesExtern, are_known_resources, item_under}
 use Rattle.cm_links.specs.Links.{CanBeLinked, IsFirstNotServed, IsLinkFault, IsNotServed, IsNotServedBy, IsServed}

@@ -1,6 +1,15 @@
+mod OriginLaws
+mod Following
 mod ListLemmas
 mod LinkLaws
 mod AnswerLaws
 mod TargetLaws
 mod ServedLaws
 mod ReachLaws
+mod AlikeLists
+mod OrderLaws
+mod BroughtLaws
+mod ServingLaws
+mod SameLaws
+mod AlikeLaws
+mod SetLaws

@@ -7,8 +7,8 @@ use Rattle.cm_types.specs.Signatures.{NamedExtern}
 use Rattle.cm_candidates.specs.Fitting.{NamedExport, fits}
 use Rattle.cm_validity.specs.Definitions as definitions
 use Rattle.cm_validity.specs.Spaces.{Spaces}
-use Rattle.cm_origins.specs.Origins.{LeadEarlier}
-use Rattle.cm_origins.specs.declared.component.Link.{Link}
+use Rattle.cm_links.specs.Origins.{LeadEarlier}
+use Rattle.cm_links.specs.declared.component.Link.{Link}
 use Rattle.cm_links.specs.Imports.{all_exports_from, export_in, exports_before, exports_from, import_at, import_in, link_of, links_of, only_link}
 use Rattle.cm_links.proofs.ListLemmas.{all_joined, all_kept, stepped}
 

@@ -8,10 +8,10 @@ use Rattle.cm_types.specs.Types.{FuncTy}
 use Rattle.cm_component.specs.Trees.{SectionTree}
 use Rattle.cm_validity.specs.Definitions.{CoreFuncDef, ExportDef, exported_func, exported_instance, FuncDef, lifted, imported, MemberDef, func_member, type_member, NamedMember, func_type_of}
 use Rattle.cm_validity.specs.Spaces.{Spaces, func_of_member, member_named, spaces_of}
-use Rattle.cm_functions.specs.Imported.{IsAsImported, wanted_func}
-use Rattle.cm_functions.specs.Named.{IsLiftWhole}
-use Rattle.cm_functions.specs.Sources.{OfExport, OfFunctions, OfMember, OfMembers}
-use Rattle.cm_origins.specs.Origins.{item_name}
+use Rattle.cm_validity.specs.Imported.{IsAsImported, wanted_func}
+use Rattle.cm_validity.specs.Named.{IsLiftWhole}
+use Rattle.cm_validity.specs.Sources.{OfExport, OfFunctions, OfMember, OfMembers}
+use Rattle.cm_links.specs.Origins.{item_name}
 use Rattle.cm_links.specs.Imports.{export_in, links_of}
 use Rattle.cm_links.specs.Serving.{IsSameFunc}
 use Rattle.cm_links.specs.Targets.{FuncAt, Target, exported_under, func_for, linked_func, serving_func, target_by, target_of, targets_of}

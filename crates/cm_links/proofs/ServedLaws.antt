@@ -8,12 +8,12 @@ use Rattle.cm_types.specs.Signatures as extern
 use Rattle.cm_validity.specs.Definitions.{ExportDef, exported_func, exported_instance, FuncDef, MemberDef, NamedMember, TypeDef, func_member, type_member, func_type_of, value, func_type, resource, instance_type, faulty}
 use Rattle.cm_validity.specs.Declarations.{type_in}
 use Rattle.cm_validity.specs.Spaces.{Spaces, func_of_member, item_of_member, member_named}
-use Rattle.cm_origins.specs.Origins.{item_name}
-use Rattle.cm_origins.specs.declared.component.Link.{Link}
+use Rattle.cm_links.specs.Origins.{item_name}
+use Rattle.cm_links.specs.declared.component.Link.{Link}
 use Rattle.cm_links.specs.Imports.{ImportAt, all_imports_from, export_in, import_at, import_in, imports_from, imports_of, link_of, links_of}
 use Rattle.cm_links.specs.Links.{CanBeLinked, IsServed}
 use Rattle.cm_links.specs.Serving.{IsItemServed, IsSameFunc, Serves, ServesExtern, item_under}
-use Rattle.cm_functions.specs.Imported.{func_item_of, wanted_func, wanted_of}
+use Rattle.cm_validity.specs.Imported.{func_item_of, wanted_func, wanted_of}
 use Rattle.cm_links.specs.Targets.{FuncAt, exported_under, func_for, linked_func, serving_func}
 use Rattle.cm_links.proofs.LinkLaws.{linked_earlier}
 use Rattle.cm_links.proofs.ListLemmas.{all_at, all_front, all_rest, some_same, stepped}

@@ -3,7 +3,7 @@ use Rattle.std.proofs.Common.{◌≡◌, ◌∙◌, ℕ, zero, suc, ◌<◌, Lis
 use Rattle.std.specs.Option.{option_map}
 use Rattle.cm_validity.specs.Definitions.{FuncDef, lifted, imported}
 use Rattle.cm_validity.specs.Spaces.{Spaces}
-use Rattle.cm_origins.specs.Origins.{LeadEarlier, Links}
+use Rattle.cm_links.specs.Origins.{LeadEarlier, Links}
 use Rattle.cm_links.specs.Imports.{export_in}
 use Rattle.cm_links.specs.Targets.{AreTargets, FuncAt, Targets, func_for, linked_func, serving_func, target_by, target_of, target_within, targets_of}
 use Rattle.cm_links.proofs.ListLemmas.{mapped, stepped}

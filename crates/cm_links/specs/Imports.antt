@@ -8,8 +8,8 @@ use Rattle.cm_candidates.specs.Fitting as fitting
 use Rattle.cm_validity.specs.Definitions.{ExportDef}
 use Rattle.cm_validity.specs.Definitions as definitions
 use Rattle.cm_validity.specs.Spaces.{Spaces}
-use Rattle.cm_origins.specs.Origins.{Links}
-use Rattle.cm_origins.specs.declared.component.Link.{Link}
+use Rattle.cm_links.specs.Origins.{Links}
+use Rattle.cm_links.specs.declared.component.Link.{Link}
 
 -- an import at its place in a set: its component, its number there, and itself
 pub record ImportAt : Type 0 where

@@ -1,4 +1,10 @@
+pub mod Origins
+pub mod Components
+pub mod Sets
+pub mod Reasons
 pub mod Imports
 pub mod Serving
 pub mod Links
 pub mod Targets
+pub mod Brought
+pub mod Alike

@@ -5,11 +5,11 @@ use Rattle.std.specs.List.{AllByRecursion, flat_map}
 use Rattle.std.specs.Option.{option_map}
 use Rattle.cm_validity.specs.Definitions.{ExportDef}
 use Rattle.cm_validity.specs.Spaces.{Spaces}
-use Rattle.cm_origins.specs.declared.component.Link.{Link}
-use Rattle.cm_plan.specs.declared.fault.LinkReason.{LinkReason}
-use Rattle.cm_plan.specs.declared.fault.LinkReason.TheVariants as reason
-use Rattle.cm_plan.specs.declared.plan.TheConstants.{MAX_COMPONENTS}
-use Rattle.cm_plan.specs.declared.plan.PlanLine.{PlanLine}
+use Rattle.cm_links.specs.declared.component.Link.{Link}
+use Rattle.cm_links.specs.declared.fault.LinkReason.{LinkReason}
+use Rattle.cm_links.specs.declared.fault.LinkReason.TheVariants as reason
+use Rattle.cm_links.specs.declared.plan.TheConstants.{MAX_COMPONENTS}
+use Rattle.cm_links.specs.declared.plan.PlanLine.{PlanLine}
 use Rattle.cm_links.specs.Imports.{ImportAt, candidates, export_in, imports_of, link_of}
 use Rattle.cm_links.specs.Serving.{IsExternUnserved, IsFirst, ServesExtern}
 

@@ -12,9 +12,9 @@ use Rattle.cm_replaced.specs.Replaced.{Standing, replaced, replaced_func}
 use Rattle.cm_validity.specs.Definitions.{ExportDef, exported_func, exported_instance}
 use Rattle.cm_validity.specs.Definitions.{NamedMember, func_type_of}
 use Rattle.cm_validity.specs.Spaces.{Spaces, item_of_member, member_named}
-use Rattle.cm_origins.specs.Origins.{origin_of, resource_of}
-use Rattle.cm_plan.specs.declared.fault.LinkReason.{LinkReason}
-use Rattle.cm_plan.specs.declared.fault.LinkReason.TheVariants as reason
+use Rattle.cm_links.specs.Origins.{origin_of, resource_of}
+use Rattle.cm_links.specs.declared.fault.LinkReason.{LinkReason}
+use Rattle.cm_links.specs.declared.fault.LinkReason.TheVariants as reason
 use Rattle.cm_links.specs.Imports.{links_of}
 
 -- what a resource of a component is in the end

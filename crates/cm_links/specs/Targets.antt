@@ -7,8 +7,8 @@ use Rattle.cm_component.specs.declared.canons.CanonOption.{CanonOption}
 use Rattle.cm_validity.specs.Definitions.{ExportDef, exported_func, exported_instance, FuncDef}
 use Rattle.cm_validity.specs.Definitions.{lifted, imported}
 use Rattle.cm_validity.specs.Spaces.{Spaces, func_of_member, member_named}
-use Rattle.cm_origins.specs.Origins.{Links, item_name}
-use Rattle.cm_origins.specs.declared.component.Link.{Link}
+use Rattle.cm_links.specs.Origins.{Links, item_name}
+use Rattle.cm_links.specs.declared.component.Link.{Link}
 use Rattle.cm_links.specs.Imports.{export_in}
 
 -- a lifted function: its component, the core function that is lifted, the type and the options

@@ -8,18 +8,18 @@ ghost use Rattle.cm_validity.specs.Definitions.{ExportDef, func_type_of, lifted}
 ghost use Rattle.cm_validity.specs.Valid.{IsValid};
 ghost use Rattle.std.specs.List.{AllByRecursion};
 ghost use Rattle.cm_validity.specs.Spaces.{Spaces, spaces_of};
-ghost use Rattle.cm_plan.specs.declared.fault.LinkReason.{LinkReason};
-ghost use Rattle.cm_origins.specs.Origins.{LeadEarlier, Links};
-ghost use Rattle.cm_origins.specs.declared.component.Link.{Link};
+ghost use Rattle.cm_links.specs.declared.fault.LinkReason.{LinkReason};
+ghost use Rattle.cm_links.specs.Origins.{LeadEarlier, Links};
+ghost use Rattle.cm_links.specs.declared.component.Link.{Link};
 ghost use Rattle.cm_links.specs.Imports.{export_in, links_of};
 ghost use Rattle.cm_links.specs.Links.{CanBeLinked, IsLinkFault};
 ghost use Rattle.cm_links.specs.Serving.{IsSameFunc};
-ghost use Rattle.cm_functions.specs.Imported.{wanted_func};
-ghost use Rattle.cm_functions.specs.Named.{IsLiftWhole};
+ghost use Rattle.cm_validity.specs.Imported.{wanted_func};
+ghost use Rattle.cm_validity.specs.Named.{IsLiftWhole};
 ghost use Rattle.cm_links.specs.Targets.{AreTargets, FuncAt, Target, Targets, serving_func};
 ghost use Rattle.cm_links.specs.Targets.{targets_of};
 
-use cm_functions::laws::{functions_are_as_imported, what_functions_name_is_there};
+use cm_validity::function_laws::{functions_are_as_imported, what_functions_name_is_there};
 
 /// What an import is linked to is an export of an earlier component.
 pub fn links_lead_earlier()

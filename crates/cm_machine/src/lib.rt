@@ -4,6 +4,7 @@
 //! holds of every history of a set says `laws::headline`.
 #![tactic(auto)]
 
+mod headline;
 mod player;
 
 pub use cm_machine_model::{
@@ -15,7 +16,7 @@ pub use player::{Guest, Player};
 
 /// What holds of every history of a set, and of every step.
 pub mod laws {
-    pub use cm_history::headline;
+    pub use crate::headline::headline;
     pub use cm_machine_model::laws::{denotations_are_unique, entries_are_guarded};
 }
 

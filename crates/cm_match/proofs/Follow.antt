@@ -9,8 +9,8 @@ use Rattle.cm_validity.specs.Spaces.{Spaces, spaces_of}
 use Rattle.cm_linker.specs.cm_validate.Checked as checked
 use Rattle.cm_linker.specs.cm_validate.Exported.{exported_func_of, func_under}
 use Rattle.cm_linker.specs.cm_validate.declared.checked.Checked.{Checked}
-use Rattle.cm_origins.specs.Origins.{Links, item_name}
-use Rattle.cm_origins.specs.declared.component.Link.{Link}
+use Rattle.cm_links.specs.Origins.{Links, item_name}
+use Rattle.cm_links.specs.declared.component.Link.{Link}
 use Rattle.cm_links.specs.Imports.{export_in, links_of}
 use Rattle.cm_links.specs.Targets.{func_for, linked_func, serving_func}
 use Rattle.cm_linker.specs.Sets.{funcs_at, sections_of, set_of}

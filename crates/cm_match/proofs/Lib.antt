@@ -1,2 +1,4 @@
+pub mod MoveLaws
+pub mod PairLaws
 pub mod Follow
 pub mod Walking

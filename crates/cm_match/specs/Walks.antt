@@ -3,10 +3,10 @@
 use Rattle.std.specs.Prelude.{◌≡◌, ◌⊎◌, ℕ, List, [], ◌∷◌, ◌++◌, Some}
 use Rattle.cm_types.specs.Signatures.{NamedExtern}
 use Rattle.cm_validity.specs.Spaces.{Spaces}
-use Rattle.cm_plan.specs.declared.fault.LinkFault.{LinkFault}
-use Rattle.cm_plan.specs.declared.fault.LinkReason.{LinkReason}
-use Rattle.cm_plan.specs.declared.fault.LinkReason.TheVariants as reason
-use Rattle.cm_plan.specs.declared.plan.PlanLine.{PlanLine}
+use Rattle.cm_links.specs.declared.fault.LinkFault.{LinkFault}
+use Rattle.cm_links.specs.declared.fault.LinkReason.{LinkReason}
+use Rattle.cm_links.specs.declared.fault.LinkReason.TheVariants as reason
+use Rattle.cm_links.specs.declared.plan.PlanLine.{PlanLine}
 use Rattle.cm_links.specs.Imports.{ImportAt, import_at, import_in, imports_of}
 use Rattle.cm_links.specs.Links.{IsNotServed, IsServed, lines_of}
 use Rattle.cm_links.specs.Serving.{IsFirst}

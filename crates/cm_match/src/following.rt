@@ -14,7 +14,7 @@ ghost use Rattle.cm_match.specs.Targets.{func_at, target_def};
 
 use crate::target::Target;
 use cm_linker::{FuncEntry, Linking};
-use cm_origins::Link;
+use cm_links::Link;
 
 /// A function of a component, by its place in the set.
 #[derive(Clone, Copy)]

@@ -1,7 +1,10 @@
-//! Linking: the imports of each component and the exports of those before it.
+//! Linking: the imports of each component and the exports of those before it. Each pair of an
+//! instance's type and an exported instance is compared once, however many imports and exports
+//! have them.
 #![tactic(auto)]
 
 mod following;
+mod judged;
 mod linked;
 mod linking;
 mod target;
@@ -9,7 +12,7 @@ mod told;
 mod walk;
 
 pub use cm_linker::{Checked, CoreFuncEntry, ExportEntry, MadeFunc};
-pub use cm_plan::{LinkFault, LinkReason, MAX_COMPONENTS, PlanLine};
+pub use cm_links::{LinkFault, LinkReason, MAX_COMPONENTS, PlanLine};
 pub use linked::Linked;
 pub use linking::link;
 pub use target::Target;

@@ -1,14 +1,14 @@
 //! A linked set of components.
 
 ghost use Rattle.std.specs.Prelude.{◌≡◌, ◌≤◌, length};
-ghost use Rattle.cm_plan.specs.declared.plan.TheConstants.{MAX_COMPONENTS};
+ghost use Rattle.cm_links.specs.declared.plan.TheConstants.{MAX_COMPONENTS};
 ghost use Rattle.cm_links.specs.Links.{CanBeLinked, plan_of};
 ghost use Rattle.cm_linker.specs.Choices.{AreChoices};
 ghost use Rattle.cm_linker.specs.Sets.{set_of};
 
 use cm_candidates::Candidate;
 use cm_linker::Checked;
-use cm_plan::PlanLine;
+use cm_links::PlanLine;
 
 /// A set of components whose imports are all served by components before.
 #[derive(Drop)]

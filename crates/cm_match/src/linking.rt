@@ -1,8 +1,8 @@
 //! Whether components can be linked.
 
 ghost use Rattle.std.specs.Prelude.{◌≡◌, ◌⊎◌, ◌<◌, ◌≤◌, [], length, IfErr, IfOk, IsErrOf};
-ghost use Rattle.cm_plan.specs.declared.fault.LinkReason.TheVariants as reason;
-ghost use Rattle.cm_plan.specs.declared.plan.TheConstants.{MAX_COMPONENTS};
+ghost use Rattle.cm_links.specs.declared.fault.LinkReason.TheVariants as reason;
+ghost use Rattle.cm_links.specs.declared.plan.TheConstants.{MAX_COMPONENTS};
 ghost use Rattle.cm_links.specs.Links.{CanBeLinked, IsLinkFault};
 ghost use Rattle.cm_linker.specs.Choices.{AreChoices};
 ghost use Rattle.cm_linker.specs.Sets.{set_of};
@@ -15,7 +15,7 @@ use crate::walk::walk;
 use cm_candidates::Candidate;
 use cm_linker::{Checked, Linking, choices};
 use cm_links::laws::sets_have_one_answer;
-use cm_plan::{LinkFault, LinkReason, MAX_COMPONENTS, PlanLine};
+use cm_links::{LinkFault, LinkReason, MAX_COMPONENTS, PlanLine};
 use std::alloc::{AllocError, Global};
 
 fn set_fault(reason: LinkReason) -> LinkFault

@@ -4,14 +4,14 @@ use crate::following::target_within;
 use crate::linked::Linked;
 use crate::target::Target;
 use cm_linker::{Checked, Linking};
-use cm_plan::PlanLine;
+use cm_links::PlanLine;
 use cm_types::ResourceId;
 
 impl<'a> Linked<'a> {
     ghost use Rattle.std.specs.Prelude.{◌≡◌, IfSome, length, true};
     ghost use Rattle.std.specs.Option.{option_map};
     ghost use Rattle.cm_placed.specs.Placed.{is_there};
-    ghost use Rattle.cm_origins.specs.Origins.{origin_of, resource_of};
+    ghost use Rattle.cm_links.specs.Origins.{origin_of, resource_of};
     ghost use Rattle.cm_links.specs.Imports.{links_of};
     ghost use Rattle.cm_links.specs.Links.{CanBeLinked, plan_of};
     ghost use Rattle.cm_links.specs.Targets.{targets_of};

@@ -3,13 +3,13 @@
 ghost use Rattle.std.specs.Prelude.{◌≡◌, ◌<◌, ◌+◌, IfErr, IfOk, OnOk, Some, length, slice_get};
 ghost use Rattle.cm_validity.specs.Spaces.{Spaces};
 ghost use Rattle.cm_linker.specs.Linkings.{components_in, set_in};
-ghost use Rattle.cm_pairs.specs.Pairs.{AreJudged};
+ghost use Rattle.cm_match.specs.Pairs.{AreJudged};
 ghost use Rattle.cm_match.specs.Walks.{AddsLine, HasServed, IsWalkFault, Serves, Stops};
 
+use crate::Judged;
 use cm_candidates::Candidate;
 use cm_linker::Linking;
-use cm_pairs::Judged;
-use cm_plan::{LinkFault, LinkReason, PlanLine};
+use cm_links::{LinkFault, LinkReason, PlanLine};
 use std::alloc::{AllocError, Global};
 
 /// Adds the line of an import that is linked, to its only candidate.

@@ -1,3 +1,4 @@
+mod WalkLaws
 mod RankLaws
 mod WaitLaws
 mod StandLaws

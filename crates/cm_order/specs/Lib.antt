@@ -1,2 +1,4 @@
+pub mod DepthFirst
+pub mod Paths
 pub mod Orders
 pub mod Walks

@@ -1,2 +1,4 @@
 pub mod Placed
 pub mod Instances
+pub mod Externs
+pub mod Signatures

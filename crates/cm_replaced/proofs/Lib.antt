@@ -1,1 +1,5 @@
 pub mod ReplacedLaws
+pub mod ResourceLaws
+pub mod Seen
+pub mod SameTypeLemmas
+pub mod SameTypeLaws

@@ -1,2 +1,3 @@
 pub mod Replaced
 pub mod Moves
+pub mod SameTypes

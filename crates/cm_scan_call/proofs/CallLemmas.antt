@@ -33,7 +33,7 @@ use Rattle.cm_scan_call.specs.FlatRecords.{passed_records}
 use Rattle.cm_scan_call.specs.Scans.{IsKept, ScansCall, giver_of, scanned_with}
 use Rattle.cm_lifting.specs.Meeting.{AreAsWanted, Meets}
 use Rattle.cm_abi_model.specs.Receives.{HandleLeaf, leaves_in}
-use Rattle.cm_met_handles.specs.MetLeaves.{leaves_found}
+use Rattle.cm_scan_call.specs.MetLeaves.{leaves_found}
 use Rattle.cm_scan_call.specs.declared.scanned.Scanned.{Scanned}
 
 same_lift : (w : View) (memory : List ℕ) (table : Handles) (encoding : StringEncoding) (way : Way) (l k : LayoutTy) (slots : List CoreValue) → IsGivenBy w memory table encoding → l ≡ k

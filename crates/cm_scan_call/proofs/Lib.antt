@@ -1,3 +1,5 @@
+pub mod LeafLaws
+pub mod FoundLaws
 pub mod FlatLemmas
 pub mod FlatKeepLemmas
 pub mod FlatTells

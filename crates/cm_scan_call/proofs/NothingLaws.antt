@@ -34,7 +34,7 @@ use Rattle.cm_lifting.specs.Meeting.{AreAsWanted, met_as, met_index}
 use Rattle.cm_lifting.specs.Reading.{seen_by}
 use Rattle.cm_lift.specs.HandingOver.{Hands, handed}
 use Rattle.cm_lift.specs.Lifts.{lift_of}
-use Rattle.cm_met_handles.specs.MetLeaves.{leaf_at, leaves_found, leaves_met}
+use Rattle.cm_scan_call.specs.MetLeaves.{leaf_at, leaves_found, leaves_met}
 use Rattle.cm_scan.specs.Telling.{TellAll}
 use Rattle.cm_scan_call.proofs.CallLemmas.{FoundLaw, MetLaw, TellsLaw, WantedLaw, WasRead}
 

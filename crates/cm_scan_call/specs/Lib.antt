@@ -1,3 +1,4 @@
+pub mod MetLeaves
 pub mod FlatRecords
 pub mod CallPlaces
 pub mod Scans

@@ -18,9 +18,9 @@ ghost use Rattle.cm_scan_call.specs.CallPlaces.{call_places};
 ghost use Rattle.cm_scan_call.specs.FlatRecords.{passed_records};
 ghost use Rattle.cm_scan_call.specs.Scans.{KeepsNothing};
 
+use crate::met_laws::handles_that_are_met_are_the_values;
 use cm_lift::laws::{lifting_is_exact, what_is_passed_is_met};
 use cm_lifting::laws::numbers_are_sized;
-use cm_met_handles::laws::handles_that_are_met_are_the_values;
 use cm_scan::laws::{parts_that_are_shown_are_told, records_tell_parts};
 
 /// The records of what core values denote tell its parts, one for one and in order, each at its

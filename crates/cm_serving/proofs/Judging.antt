@@ -13,9 +13,9 @@ use Rattle.cm_candidates.specs.declared.candidates.Candidate.TheVariants as cand
 use Rattle.cm_validity.specs.Definitions.{ExportDef, FuncDef, exported_func, exported_instance, func_type_of}
 use Rattle.cm_validity.specs.Spaces.{Spaces}
 use Rattle.cm_linker.specs.cm_validate.declared.checked.Checked.{Checked}
-use Rattle.cm_plan.specs.declared.fault.LinkReason.{LinkReason}
-use Rattle.cm_plan.specs.declared.fault.LinkReason.TheVariants as reason
-use Rattle.cm_origins.specs.declared.component.Link.{Link}
+use Rattle.cm_links.specs.declared.fault.LinkReason.{LinkReason}
+use Rattle.cm_links.specs.declared.fault.LinkReason.TheVariants as reason
+use Rattle.cm_links.specs.declared.component.Link.{Link}
 use Rattle.cm_links.specs.Imports.{ImportAt, candidates, export_in, import_at, import_in, link_of, links_of, only_link}
 use Rattle.cm_links.specs.Links.{IsNotServed, IsNotServedBy}
 use Rattle.cm_links.specs.Serving.{IsExternUnserved, IsSameFunc, IsSameType, IsUnserved, standing}

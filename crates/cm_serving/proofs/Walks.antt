@@ -9,7 +9,7 @@ use Rattle.cm_placed.specs.Instances.{item_of, items_of, replaced_item}
 use Rattle.cm_placed.specs.declared.instances.Item.{Item}
 use Rattle.cm_validity.specs.Definitions.{NamedMember, exported_instance}
 use Rattle.cm_validity.specs.Spaces.{Spaces}
-use Rattle.cm_plan.specs.declared.fault.LinkReason.{LinkReason}
+use Rattle.cm_links.specs.declared.fault.LinkReason.{LinkReason}
 use Rattle.cm_links.specs.Serving.{IsItemServed, item_under}
 use Rattle.cm_serving.specs.Answers.{JudgesExtern, JudgesItem}
 

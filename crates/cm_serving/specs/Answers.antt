@@ -8,7 +8,7 @@ use Rattle.cm_placed.specs.Instances.{desc_of, replaced_desc}
 use Rattle.cm_placed.specs.declared.instances.ItemDesc.{ItemDesc}
 use Rattle.cm_validity.specs.Definitions.{ExportDef}
 use Rattle.cm_validity.specs.Spaces.{Spaces}
-use Rattle.cm_plan.specs.declared.fault.LinkReason.{LinkReason}
+use Rattle.cm_links.specs.declared.fault.LinkReason.{LinkReason}
 use Rattle.cm_links.specs.Imports.{ImportAt}
 use Rattle.cm_links.specs.Links.{IsNotServed, IsServed}
 use Rattle.cm_links.specs.Serving.{IsExternUnserved, IsUnserved, Serves, ServesExtern}

@@ -4,8 +4,8 @@ use crate::sides::Pair;
 use crate::tables::Tables;
 use cm_candidates::Candidate;
 use cm_linker::Linking;
+use cm_links::LinkReason;
 use cm_links::laws::links_name_exports;
-use cm_plan::LinkReason;
 use std::alloc::{AllocError, Global};
 
 impl Tables {

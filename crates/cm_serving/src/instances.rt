@@ -3,18 +3,17 @@
 use crate::sides::Pair;
 use crate::tables::Tables;
 use cm_linker::{ExportedEntry, InstanceEntry};
-use cm_placed::Item;
+use cm_links::LinkReason;
+use cm_placed::{ExternDesc, Item};
 use cm_placed_numbers::Brought;
-use cm_plan::LinkReason;
 use cm_replaced::Move;
-use cm_signatures::ExternDesc;
 use std::alloc::{AllocError, Global};
 
 impl Tables {
     ghost use Rattle.std.specs.Prelude.{◌≡◌, IfOk, OnOk, map};
     ghost use Rattle.cm_placed.specs.Instances.{items_of, replaced_item};
     ghost use Rattle.cm_placed.specs.Placed.{moved_by};
-    ghost use Rattle.cm_signatures.specs.Externs.{extern_desc_of};
+    ghost use Rattle.cm_placed.specs.Externs.{extern_desc_of};
     ghost use Rattle.cm_types.specs.Signatures.{instance};
     ghost use Rattle.cm_validity.specs.Definitions.{exported_instance};
     ghost use Rattle.cm_entries.specs.ComponentSpaces.{exported_def};

@@ -34,10 +34,9 @@ use cm_machine_model::state::{
     Call, CoreFunction, Frame, Lend, LoweredFunc, Phase, Place, Purpose,
 };
 use cm_machine_model::{
-    Event, Flat, MAX_FLAT_PARAMS, MAX_FRAMES, MAX_INSTANCES, MAX_MEMORY_SIZE, Misuse, Move,
-    PAGE_SIZE, Trap,
+    Event, Flat, MAX_FLAT_PARAMS, MAX_FRAMES, MAX_INSTANCES, MAX_MEMORY_SIZE, Memories, Misuse,
+    Move, PAGE_SIZE, Trap,
 };
-use cm_memories::Memories;
 use cm_types::CoreValue;
 use std::alloc::{AllocError, Global};
 use std::marker::Model;

@@ -6,8 +6,7 @@ ghost use Rattle.cm_handles.specs.Handles.{no_handles};
 ghost use Rattle.cm_machine_model.specs.Fresh.{are_page_counts, zeros};
 
 use cm_handles::Table;
-use cm_machine_model::MAX_PAGES;
-use cm_memories::{Memories, Memory};
+use cm_machine_model::{MAX_PAGES, Memories, Memory};
 use std::alloc::{AllocError, Global};
 
 /// Whether no number of pages is above the most.

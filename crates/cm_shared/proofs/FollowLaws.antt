@@ -14,7 +14,7 @@ use Rattle.cm_component.specs.declared.externs.ExternDesc.{ExternDesc}
 use Rattle.cm_component.specs.declared.externs.ExternDesc.TheVariants as desc
 use Rattle.cm_component.specs.declared.instances.InlineExport.{InlineExport}
 use Rattle.cm_component.specs.declared.instances.InstanceExportSort.TheVariants as member_sort
-use Rattle.cm_reasons.specs.declared.fault.ValidReason.TheVariants as reason
+use Rattle.cm_validity.specs.declared.fault.ValidReason.TheVariants as reason
 use Rattle.cm_validity.specs.Definitions.{FuncDef, InstanceTy, MemberDef, NamedExport, NamedMember, ResourceDef, TypeDef, exported_func, exported_instance, faulty, func_member, func_type, instance_type, resource, sort_of, type_member, value}
 use Rattle.cm_validity.specs.Items.{Item, alias_item, canon_item, core_instance_item, core_module_item, export_item, import_item, instance_item, type_item}
 use Rattle.cm_validity.specs.Reasons.{bare_index_broken, found, unless}
@@ -24,7 +24,7 @@ use Rattle.cm_validity.specs.TypeRules.{has_sort}
 use Rattle.cm_validity.specs.Valid.{IsValidFrom}
 use Rattle.cm_validity.specs.declared.sorts.TypeSort.{TypeSort}
 use Rattle.cm_validity.specs.declared.sorts.TypeSort.TheVariants as sort
-use Rattle.cm_counted.specs.CountedSpaces.{AreSpacesCounted, IsDefCounted}
+use Rattle.cm_validity.specs.CountedSpaces.{AreSpacesCounted, IsDefCounted}
 use Rattle.cm_shared.specs.Numbers.{Numbers, after_alias, after_export, after_import, no_numbers, numbers_after, numbers_after_all, with_own_type}
 use Rattle.cm_shared.specs.Shared.{IsImportOf, item_from}
 use Rattle.cm_shared.proofs.RootLaws.{Roots, all_at, behind, each_more, first_nothing, no_roots, root_there, roots_again, roots_kept, roots_own, seam, stays}

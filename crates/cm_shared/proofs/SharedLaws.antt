@@ -10,7 +10,7 @@ use Rattle.cm_validity.specs.Definitions.{InstanceTy, NamedExport, NamedMember, 
 use Rattle.cm_validity.specs.Items.{Item, all_items}
 use Rattle.cm_validity.specs.Spaces.{Spaces, after_items, empty_spaces, next_resource, spaces_of}
 use Rattle.cm_validity.specs.Valid.{IsValid}
-use Rattle.cm_counted.specs.CountedSpaces.{AreSpacesCounted, IsDefCounted, IsInstanceCounted}
+use Rattle.cm_validity.specs.CountedSpaces.{AreSpacesCounted, IsDefCounted, IsInstanceCounted}
 use Rattle.cm_shared.specs.Numbers.{Numbers, no_numbers, numbers_of}
 use Rattle.cm_shared.specs.Shared.{AreShared, IsImportOf, export_at, exported_instance_in, import_at, import_type_in, numbers_in}
 use Rattle.cm_shared.specs.declared.shared.Shared.{Shared}

@@ -5,12 +5,12 @@ ghost use Rattle.std.specs.Prelude.{◌≡◌, ℕ, List, Some, length};
 ghost use Rattle.cm_component.specs.Trees.{SectionTree};
 ghost use Rattle.cm_validity.specs.Definitions.{InstanceTy};
 ghost use Rattle.cm_validity.specs.Spaces.{Spaces, spaces_of};
-ghost use Rattle.cm_counted.specs.CountedSpaces.{IsInstanceCounted};
+ghost use Rattle.cm_validity.specs.CountedSpaces.{IsInstanceCounted};
 ghost use Rattle.cm_shared.specs.Shared.{AreShared, IsImportOf, export_at, exported_instance_in};
 ghost use Rattle.cm_shared.specs.Shared.{import_type_in};
 ghost use Rattle.cm_shared.specs.declared.shared.Shared.{Shared};
 
-use cm_counted::laws::resources_are_counted;
+use cm_validity::counted_laws::resources_are_counted;
 
 /// Imports with one number are instances of one type, and exports with one number are one instance.
 pub fn equal_numbers_are_one()

@@ -10,7 +10,7 @@ ghost use Rattle.cm_shared.specs.Shared.{numbers_in};
 
 use crate::pass::add_sections;
 use cm_component::Component;
-use cm_counted::laws::resources_are_counted;
+use cm_validity::counted_laws::resources_are_counted;
 use std::alloc::{AllocError, Global};
 
 /// Which imports of a component are instances of one type, and which exports are one instance

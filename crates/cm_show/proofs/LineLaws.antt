@@ -18,17 +18,17 @@ use Rattle.cm_placed.specs.declared.placed.Placed.{Placed}
 use Rattle.cm_placed.specs.declared.instances.Item.{Item}
 use Rattle.cm_placed.specs.declared.instances.ItemDesc.{ItemDesc}
 use Rattle.cm_placed.specs.declared.instances.ItemDesc.TheVariants as item
-use Rattle.cm_signatures.specs.Externs.{are_externs_in, extern_desc_of, externs_in, is_extern_there}
-use Rattle.cm_signatures.specs.declared.signatures.Extern.{Extern}
-use Rattle.cm_signatures.specs.declared.signatures.ExternDesc.{ExternDesc}
-use Rattle.cm_signatures.specs.declared.signatures.ExternDesc.TheVariants as extern
+use Rattle.cm_placed.specs.Externs.{are_externs_in, extern_desc_of, externs_in, is_extern_there}
+use Rattle.cm_placed.specs.declared.signatures.Extern.{Extern}
+use Rattle.cm_placed.specs.declared.signatures.ExternDesc.{ExternDesc}
+use Rattle.cm_placed.specs.declared.signatures.ExternDesc.TheVariants as extern
 use Rattle.cm_pages.specs.Pages.{IsOver, seen_on, text_on}
 use Rattle.cm_pages.specs.Pieces.{Piece, chars, seen_behind, text_behind}
 use Rattle.cm_pages.specs.declared.page.Page.{Page}
-use Rattle.cm_show_types.specs.Counted.{counted}
-use Rattle.cm_show_types.specs.ShownTypes.{type_pieces}
-use Rattle.cm_show_types.specs.Written.{Wrote}
-use Rattle.cm_show_types.specs.declared.counting.Counting.{Counting}
+use Rattle.cm_show.specs.Counted.{counted}
+use Rattle.cm_show.specs.ShownTypes.{type_pieces}
+use Rattle.cm_show.specs.Written.{Wrote}
+use Rattle.cm_show.specs.declared.counting.Counting.{Counting}
 use Rattle.cm_show.specs.Shown.{extern_lines, externs_lines, func_pieces, item_line, line}
 
 pub ruleset page_laws = (append_assoc, append-nil, length-append)

@@ -1,1 +1,5 @@
+pub mod Lists
+pub mod ShownTypes
+pub mod Counted
+pub mod Written
 pub mod Shown

@@ -8,8 +8,8 @@ use Rattle.cm_types.specs.Signatures.{ItemTy, func_item, equal_type, equal_resou
 use Rattle.cm_types.specs.Signatures.{fresh_resource, ExternTy, NamedExtern, SignatureTy, func}
 use Rattle.cm_types.specs.Signatures.{instance}
 use Rattle.cm_pages.specs.Pieces.{Piece, chars, number_of, text_of}
-use Rattle.cm_show_types.specs.Lists.{with_commas}
-use Rattle.cm_show_types.specs.ShownTypes.{between, field_pieces, type_pieces}
+use Rattle.cm_show.specs.Lists.{with_commas}
+use Rattle.cm_show.specs.ShownTypes.{between, field_pieces, type_pieces}
 
 -- ---- functions
 

@@ -2,15 +2,15 @@
 
 ghost use Rattle.std.specs.Prelude.{◌≡◌, ◌≤◌, ◌<◌, IfOk, IsErrOf, length};
 ghost use Rattle.std.specs.String.{string_bytes};
-ghost use Rattle.cm_signatures.specs.Signatures.{signature_of};
+ghost use Rattle.cm_placed.specs.Signatures.{signature_of};
 ghost use Rattle.cm_show.specs.Shown.{shown};
 ghost use Rattle.cm_pages.specs.declared.fault.ShowFault.TheVariants as fault;
 ghost use Rattle.cm_pages.specs.declared.page.TheConstants.{MAX_SHOWN};
 
 use crate::items::show_externs;
+use crate::laws::pieces_join;
 use cm_pages::{Page, ShowFault};
-use cm_show_types::laws::pieces_join;
-use cm_signatures::Signature;
+use cm_placed::Signature;
 use std::alloc::Global;
 
 /// The text that shows a signature: a line for each import and then for each export, in order, and

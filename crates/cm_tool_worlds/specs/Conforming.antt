@@ -6,7 +6,7 @@ use Rattle.cm_conformance.specs.Conformance.{Conforms, IsFirstFault}
 use Rattle.cm_conformance.specs.declared.fault.ConformReason.TheVariants as conform
 use Rattle.cm_wit.specs.Packages.{IsRefused}
 use Rattle.cm_wit.specs.Texts.{IsPackage}
-use Rattle.cm_wit_signature.specs.cm_wit_signature_model.Faults.{IsFaultOfWorld, IsWorldSignature}
+use Rattle.cm_wit_signature.specs.cm_wit_items.Faults.{IsFaultOfWorld, IsWorldSignature}
 use Rattle.cm_wit_text.specs.Trees.{File}
 use Rattle.cm_tool_worlds.specs.declared.unfit.UnfitReason.{UnfitReason}
 use Rattle.cm_tool_worlds.specs.declared.unfit.UnfitReason.TheVariants as reason

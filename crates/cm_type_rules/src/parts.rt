@@ -3,17 +3,16 @@
 ghost use Rattle.std.specs.Prelude.{◌≡◌, ◌++◌, IfOk, map, nat_le, nat_lt, length};
 ghost use Rattle.std.specs.List.{flat_map};
 ghost use Rattle.cm_types.specs.DefTypes.{def_val_type_tree};
-ghost use Rattle.cm_reasons.specs.declared.fault.ValidReason.TheVariants as reason;
+ghost use Rattle.cm_validity.specs.declared.fault.ValidReason.TheVariants as reason;
 ghost use Rattle.cm_validity.specs.Reasons.{least, unless};
 ghost use Rattle.cm_validity.specs.TypeRules.{emptiness_broken, labels_broken, parts_broken};
 ghost use Rattle.cm_validity.specs.TypeRules.{payload_broken, value_broken};
 
 use crate::labels::{are_distinct, cases_are_distinct, fields_are_distinct};
 use crate::reasons::{broken_unless, index_fault, lesser};
-use cm_reasons::ValidReason;
 use cm_types::{CaseType, DefValType, Label, LabeledValType, MAX_FLAGS, ValType};
-use cm_validity::TypeSort;
 use cm_validity::laws::least_of_both;
+use cm_validity::{TypeSort, ValidReason};
 use std::alloc::{AllocError, Global};
 
 /// What a value type breaks where it is used: an index has to name a value type.

@@ -4,8 +4,7 @@ ghost use Rattle.std.specs.Prelude.{◌≡◌, slice_get};
 ghost use Rattle.cm_validity.specs.Reasons.{index_broken, least, lesser, unless};
 ghost use Rattle.cm_validity.specs.TypeRules.{has_sort};
 
-use cm_reasons::ValidReason;
-use cm_validity::TypeSort;
+use cm_validity::{TypeSort, ValidReason};
 
 /// Of two reasons the one with the smaller number, if there is any.
 pub fn lesser(first: Option<ValidReason>, second: Option<ValidReason>) -> Option<ValidReason>

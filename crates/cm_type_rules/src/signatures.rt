@@ -8,10 +8,9 @@ ghost use Rattle.cm_validity.specs.TypeRules.{params_broken, uses_broken};
 use crate::labels::fields_are_distinct;
 use crate::parts::{fields_fault, payload_fault};
 use crate::reasons::{broken_unless, lesser};
-use cm_reasons::ValidReason;
 use cm_types::FuncType;
-use cm_validity::TypeSort;
 use cm_validity::laws::least_of_both;
+use cm_validity::{TypeSort, ValidReason};
 use std::alloc::{AllocError, Global};
 
 /// What the types break that a function uses, after types of these sorts: `NoSuchIndex` where one

@@ -11,8 +11,8 @@ use Rattle.cm_types.specs.DefTypes.{DefValTypeTree, FuncTypeTree, primitive, rec
 use Rattle.cm_types.specs.TypeTrees.{fields_from, parts_from, cases_from}
 use Rattle.cm_types.specs.Types.{Ty, bool, own, borrow, fields, cases, record_type, tuple_type, variant_type, option_type, list, fixed_list}
 use Rattle.cm_types.specs.declared.resource.ResourceId.{ResourceId}
-use Rattle.cm_reasons.specs.declared.fault.ValidReason.{ValidReason}
-use Rattle.cm_reasons.specs.declared.fault.ValidReason.TheVariants as reason
+use Rattle.cm_validity.specs.declared.fault.ValidReason.{ValidReason}
+use Rattle.cm_validity.specs.declared.fault.ValidReason.TheVariants as reason
 use Rattle.cm_validity.specs.declared.sorts.TypeSort.TheVariants as sort
 use Rattle.cm_validity.specs.Definitions.{TypeDef, value, func_type, resource, instance_type, faulty, sort_of, sorts_of}
 use Rattle.cm_validity.specs.Reasons.{unless, found, index_broken}

@@ -12,9 +12,9 @@ use Rattle.cm_types.specs.Holds.{holds, is_borrow}
 use Rattle.cm_types.specs.Limits.{nodes_of, depth_of, IsWithinLimits}
 use Rattle.cm_types.specs.Types.{Ty, FuncTy, fields, tuple_type}
 use Rattle.cm_type_arena.specs.TypeDefs.{params_type}
-use Rattle.cm_reasons.specs.declared.fault.ValidReason.{ValidReason}
-use Rattle.cm_reasons.specs.declared.fault.ValidReason.TheVariants as reason
-use Rattle.cm_reasons.specs.Reasons.{reason_number}
+use Rattle.cm_validity.specs.declared.fault.ValidReason.{ValidReason}
+use Rattle.cm_validity.specs.declared.fault.ValidReason.TheVariants as reason
+use Rattle.cm_validity.specs.ReasonWords.{reason_number}
 use Rattle.cm_validity.specs.declared.sorts.TypeSort.{TypeSort}
 use Rattle.cm_validity.specs.declared.sorts.TypeSort.TheVariants as sort
 use Rattle.cm_validity.specs.Definitions.{TypeDef, sorts_of, value, func_type, faulty}

@@ -16,8 +16,8 @@ use Rattle.cm_placed.specs.Placed.{moved_by}
 use Rattle.cm_placed.specs.declared.placed.Placed.{Placed}
 use Rattle.cm_replaced.specs.Replaced.{Standing, replaced}
 use Rattle.cm_types.specs.declared.def_types.ValType.{ValType}
-use Rattle.cm_reasons.specs.declared.fault.ValidReason.{ValidReason}
-use Rattle.cm_reasons.specs.declared.fault.ValidReason.TheVariants as reason
+use Rattle.cm_validity.specs.declared.fault.ValidReason.{ValidReason}
+use Rattle.cm_validity.specs.declared.fault.ValidReason.TheVariants as reason
 use Rattle.cm_validity.specs.Definitions.{TypeDef, value, sorts_of}
 use Rattle.cm_validity.specs.Reasons.{least, unless}
 use Rattle.cm_validity.specs.TypeRules.{is_within_limits, limits_broken, parts_broken, value_def_broken}

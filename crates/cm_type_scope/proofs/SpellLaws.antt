@@ -12,8 +12,8 @@ use Rattle.cm_types.specs.DefTypes.{DefValTypeTree, primitive, record_of, varian
 use Rattle.cm_types.specs.Spellable.{is_spellable, are_spellable, are_spellable_payloads, has_no_cases}
 use Rattle.cm_types.specs.TypeTrees.{fields_from, parts_from, cases_from, case_before, plain_from}
 use Rattle.cm_types.specs.Types.{Ty, Cases, no_cases}
-use Rattle.cm_reasons.specs.declared.fault.ValidReason.{ValidReason}
-use Rattle.cm_reasons.specs.declared.fault.ValidReason.TheVariants as reason
+use Rattle.cm_validity.specs.declared.fault.ValidReason.{ValidReason}
+use Rattle.cm_validity.specs.declared.fault.ValidReason.TheVariants as reason
 use Rattle.cm_validity.specs.Definitions.{TypeDef, sorts_of}
 use Rattle.cm_validity.specs.Reasons.{unless}
 use Rattle.cm_validity.specs.Scopes.{primitive_type}

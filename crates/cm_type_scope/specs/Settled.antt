@@ -8,7 +8,7 @@ use Rattle.cm_placed.specs.Placed.{placed_type, placed_func}
 use Rattle.cm_placed.specs.declared.instances.Item.{Item}
 use Rattle.cm_placed.specs.declared.instances.ItemDesc.{ItemDesc}
 use Rattle.cm_placed.specs.declared.instances.ItemDesc.TheVariants as item
-use Rattle.cm_counted.specs.Counted.{IsCounted, IsFuncCounted}
+use Rattle.cm_validity.specs.Counted.{IsCounted, IsFuncCounted}
 use Rattle.cm_instance_items.specs.InstanceTypes.{instance_type_of}
 use Rattle.cm_type_scope.specs.declared.entries.TypeEntry.{TypeEntry}
 use Rattle.cm_type_scope.specs.declared.entries.TypeEntry.TheVariants as entry

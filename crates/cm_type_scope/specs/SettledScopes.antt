@@ -4,7 +4,7 @@ use Rattle.std.specs.Prelude.{◌≡◌, ⊤, ℕ, List}
 use Rattle.std.specs.List.{AllByRecursion}
 use Rattle.cm_types.specs.Types.{Ty, FuncTy}
 use Rattle.cm_placed.specs.Placed.{placed_type, placed_func}
-use Rattle.cm_counted.specs.Counted.{IsCounted, IsFuncCounted}
+use Rattle.cm_validity.specs.Counted.{IsCounted, IsFuncCounted}
 use Rattle.cm_type_scope.specs.declared.entries.TypeEntry.{TypeEntry}
 use Rattle.cm_type_scope.specs.declared.entries.TypeEntry.TheVariants as entry
 use Rattle.cm_type_scope.specs.declared.scope.TypeScope.{TypeScope}

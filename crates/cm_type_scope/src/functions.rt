@@ -5,11 +5,11 @@ use crate::scope::TypeScope;
 use crate::uses::{param_uses, with_result};
 use cm_placed::Placed;
 use cm_placed::laws::unmoved;
-use cm_reasons::ValidReason;
 use cm_replaced::laws::what_stays;
 use cm_type_arena::{DefFault, FuncDef};
 use cm_type_rules::{broken_unless, lesser, params_fault, uses_fault};
 use cm_types::{FuncType, ValType};
+use cm_validity::ValidReason;
 use cm_validity::laws::least_of_both;
 use std::alloc::{AllocError, Global};
 

@@ -5,7 +5,7 @@ ghost use Rattle.std.specs.List.{AllByRecursion};
 ghost use Rattle.cm_types.specs.Types.{FuncTy, Ty};
 ghost use Rattle.cm_placed.specs.Instances.{are_items_there, items_of};
 ghost use Rattle.cm_placed.specs.declared.instances.Item.{Item};
-ghost use Rattle.cm_counted.specs.CountedSpaces.{IsDefCounted};
+ghost use Rattle.cm_validity.specs.CountedSpaces.{IsDefCounted};
 ghost use Rattle.cm_type_scope.specs.declared.entries.TypeEntry.{TypeEntry};
 ghost use Rattle.cm_type_scope.specs.declared.scope.TypeScope.{TypeScope};
 ghost use Rattle.cm_type_scope.specs.Entries.{def_of, in_arena};

@@ -5,11 +5,11 @@ use crate::scope::TypeScope;
 use crate::uses::uses;
 use cm_placed::Placed;
 use cm_placed::laws::unmoved;
-use cm_reasons::ValidReason;
 use cm_replaced::laws::what_stays;
 use cm_type_arena::{DefFault, TypeDef};
 use cm_type_rules::parts_fault;
 use cm_types::DefValType;
+use cm_validity::ValidReason;
 use cm_validity::laws::least_of_both;
 use std::alloc::{AllocError, Global};
 

@@ -4,9 +4,9 @@ use Rattle.std.specs.Prelude.{Bool, true, false, not, ◌&&◌, nat_lt, List, []
 use Rattle.std.specs.Prelude.{Option, Some, None}
 use Rattle.std.specs.List.{filter}
 use Rattle.cm_types.specs.DefTypes.{DefValTypeTree, FuncTypeTree}
-use Rattle.cm_reasons.specs.declared.fault.ValidReason.{ValidReason}
-use Rattle.cm_reasons.specs.declared.fault.ValidReason.TheVariants as reason
-use Rattle.cm_reasons.specs.Reasons.{reason_number}
+use Rattle.cm_validity.specs.declared.fault.ValidReason.{ValidReason}
+use Rattle.cm_validity.specs.declared.fault.ValidReason.TheVariants as reason
+use Rattle.cm_validity.specs.ReasonWords.{reason_number}
 use Rattle.cm_validity.specs.Reasons.{unless}
 use Rattle.cm_validity.specs.TypeRules.{params_broken, parts_broken, uses_broken}
 use Rattle.cm_type_sketches.specs.declared.sketches.Sketch.{Sketch}

@@ -1,9 +1,9 @@
 //! What definitions break besides the limits on expanded types.
 
 use crate::level::SketchLevel;
-use cm_reasons::ValidReason;
 use cm_type_scope::{broken_unless, lesser, params_fault, parts_fault, uses_fault};
 use cm_types::{DefValType, FuncType};
+use cm_validity::ValidReason;
 use cm_validity::laws::least_of_both;
 use std::alloc::{AllocError, Global};
 

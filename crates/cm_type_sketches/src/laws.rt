@@ -5,7 +5,7 @@ ghost use Rattle.std.specs.List.{list_all};
 ghost use Rattle.cm_types.specs.DefTypes.{DefValTypeTree, FuncTypeTree};
 ghost use Rattle.cm_types.specs.Holds.{holds, is_borrow};
 ghost use Rattle.cm_types.specs.Types.{Ty};
-ghost use Rattle.cm_reasons.specs.declared.fault.ValidReason.{ValidReason};
+ghost use Rattle.cm_validity.specs.declared.fault.ValidReason.{ValidReason};
 ghost use Rattle.cm_validity.specs.Definitions.{TypeDef, sorts_of};
 ghost use Rattle.cm_validity.specs.Reasons.{least};
 ghost use Rattle.cm_validity.specs.Scopes.{func_def_of, value_def_of};

@@ -1,2 +1,3 @@
+mod WalkLaws
 pub mod TySets
 pub mod SetLaws

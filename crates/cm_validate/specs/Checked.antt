@@ -3,7 +3,7 @@ use Rattle.std.specs.Prelude.{List}
 use Rattle.cm_types.specs.Types.{Ty, FuncTy}
 use Rattle.cm_component.specs.Trees.{SectionTree}
 use Rattle.cm_validity.specs.Spaces.{Spaces, spaces_of}
-use Rattle.cm_component_spaces.specs.cm_index_spaces.IndexSpaces as index
+use Rattle.cm_index_spaces.specs.IndexSpaces as index
 use Rattle.cm_validate.specs.declared.checked.Checked.{Checked}
 
 -- its sections, and its index spaces

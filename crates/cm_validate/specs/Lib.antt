@@ -1,5 +1,6 @@
-pub use Rattle.cm_component_spaces.specs.cm_index_spaces
-pub use Rattle.cm_component_spaces.specs.cm_entries
-pub use Rattle.cm_component_spaces.specs as cm_component_spaces
+pub use Rattle.cm_index_spaces.specs as cm_index_spaces
+pub use Rattle.cm_index_spaces.specs.cm_entries
+pub mod Items
+pub mod Walks
 pub mod Checked
 pub mod Exported

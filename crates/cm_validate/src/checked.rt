@@ -2,10 +2,10 @@
 
 ghost use Rattle.cm_validity.specs.Spaces.{spaces_of};
 ghost use Rattle.cm_validity.specs.Valid.{IsValid};
-ghost use Rattle.cm_component_spaces.specs.cm_index_spaces.IndexSpaces.{IsAt};
+ghost use Rattle.cm_index_spaces.specs.IndexSpaces.{IsAt};
 
 use cm_component::Component;
-use cm_component_spaces::IndexSpaces;
+use cm_index_spaces::IndexSpaces;
 
 /// A component that is valid, with what each index of it stands for (Explainer.md, "Index Spaces").
 /// It borrows the component: names and options are not copied. Types are places of one arena.

@@ -2,14 +2,14 @@
 
 ghost use Rattle.std.specs.Prelude.{◌≡◌, ◌⊎◌, IfErr, IfOk};
 ghost use Rattle.cm_validity.specs.Valid.{IsFaultOf, IsValid};
-ghost use Rattle.cm_component_spaces.specs.Walks.{IsFineBefore};
-ghost use Rattle.cm_reasons.specs.declared.fault.ValidReason.TheVariants as reason;
+ghost use Rattle.cm_validate.specs.Walks.{IsFineBefore};
+ghost use Rattle.cm_validity.specs.declared.fault.ValidReason.TheVariants as reason;
 ghost use Rattle.cm_validate.specs.Checked.{sections_in};
 
 use crate::checked::Checked;
+use crate::walk::index_spaces;
 use cm_component::Component;
-use cm_component_spaces::index_spaces;
-use cm_reasons::ValidFault;
+use cm_validity::ValidFault;
 use cm_validity::laws::components_have_one_answer;
 use std::alloc::Global;
 

@@ -4,15 +4,15 @@ ghost use Rattle.std.specs.Prelude.{◌≡◌, ℕ, IfSome, List, None, Some, tr
 ghost use Rattle.std.specs.Option.{option_and_then, option_map};
 ghost use Rattle.cm_types.specs.Types.{FuncTy, Ty};
 ghost use Rattle.cm_validity.specs.Spaces.{func_of_member, member_named};
-ghost use Rattle.cm_component_spaces.specs.cm_entries.ComponentSpaces.{exported_def};
-ghost use Rattle.cm_component_spaces.specs.cm_entries.ComponentSpaces.{is_exported_there};
-ghost use Rattle.cm_component_spaces.specs.cm_entries.Entries.{are_members_there, func_def};
-ghost use Rattle.cm_component_spaces.specs.cm_entries.Entries.{is_func_there};
-ghost use Rattle.cm_component_spaces.specs.cm_entries.Entries.{is_member_there, member_def};
-ghost use Rattle.cm_component_spaces.specs.cm_entries.Entries.{members_of};
+ghost use Rattle.cm_index_spaces.specs.cm_entries.ComponentSpaces.{exported_def};
+ghost use Rattle.cm_index_spaces.specs.cm_entries.ComponentSpaces.{is_exported_there};
+ghost use Rattle.cm_index_spaces.specs.cm_entries.Entries.{are_members_there, func_def};
+ghost use Rattle.cm_index_spaces.specs.cm_entries.Entries.{is_func_there};
+ghost use Rattle.cm_index_spaces.specs.cm_entries.Entries.{is_member_there, member_def};
+ghost use Rattle.cm_index_spaces.specs.cm_entries.Entries.{members_of};
 ghost use Rattle.cm_validate.specs.Exported.{func_under};
 
-use cm_component_spaces::{ExportedEntry, FuncEntry, InstanceEntry, MemberEntry};
+use crate::{ExportedEntry, FuncEntry, InstanceEntry, MemberEntry};
 
 /// The function that a member is, if it is one.
 fn member_func<'a>(member: MemberEntry<'a>) -> Option<FuncEntry<'a>>

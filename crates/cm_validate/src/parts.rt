@@ -5,10 +5,10 @@ ghost use Rattle.cm_validity.specs.Valid.{IsValid};
 
 use crate::checked::Checked;
 use crate::exported::func_under;
+use crate::{ComponentExterns, CoreFuncEntry, ExportEntry, FuncEntry};
 use cm_component::Component;
-use cm_component_spaces::{ComponentExterns, CoreFuncEntry, ExportEntry, FuncEntry};
 use cm_instance_items::Resource;
-use cm_signatures::Extern;
+use cm_placed::Extern;
 use cm_type_arena::Types;
 
 impl<'a> Checked<'a> {
@@ -16,13 +16,13 @@ impl<'a> Checked<'a> {
     ghost use Rattle.std.specs.List.{list_all};
     ghost use Rattle.std.specs.Option.{option_map};
     ghost use Rattle.cm_type_arena.specs.Places.{funcs_of, types_of};
-    ghost use Rattle.cm_signatures.specs.Externs.{extern_of, is_extern_there};
+    ghost use Rattle.cm_placed.specs.Externs.{extern_of, is_extern_there};
     ghost use Rattle.cm_instance_items.specs.Ranges.{resource_def};
-    ghost use Rattle.cm_component_spaces.specs.cm_entries.ComponentSpaces.{export_def};
-    ghost use Rattle.cm_component_spaces.specs.cm_entries.ComponentSpaces.{is_exported_there};
-    ghost use Rattle.cm_component_spaces.specs.cm_entries.Entries.{func_def, is_func_there};
-    ghost use Rattle.cm_component_spaces.specs.cm_index_spaces.Made.{core_func_def};
-    ghost use Rattle.cm_component_spaces.specs.cm_index_spaces.Made.{is_core_func_there};
+    ghost use Rattle.cm_index_spaces.specs.cm_entries.ComponentSpaces.{export_def};
+    ghost use Rattle.cm_index_spaces.specs.cm_entries.ComponentSpaces.{is_exported_there};
+    ghost use Rattle.cm_index_spaces.specs.cm_entries.Entries.{func_def, is_func_there};
+    ghost use Rattle.cm_index_spaces.specs.Made.{core_func_def};
+    ghost use Rattle.cm_index_spaces.specs.Made.{is_core_func_there};
     ghost use Rattle.cm_validate.specs.Checked.{funcs_in, sections_in, spaces_in, types_in};
     ghost use Rattle.cm_validate.specs.Exported.{exported_func_of};
 

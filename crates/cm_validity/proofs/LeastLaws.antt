@@ -1,8 +1,8 @@
 -- The least of several reasons.
 use Rattle.std.proofs.Common.{◌≡◌, List, [], ◌∷◌, ◌++◌, true, false, Option, Some, None, nat_le, refl, ap, sym, ◌∙◌, arith, inl, inr}
 use Rattle.std.proofs.lemmas.Bool.{cases_Bool, leb-true, leb-false, le-leb, lt-leb}
-use Rattle.cm_reasons.specs.declared.fault.ValidReason.{ValidReason}
-use Rattle.cm_reasons.specs.Reasons.{reason_number}
+use Rattle.cm_validity.specs.declared.fault.ValidReason.{ValidReason}
+use Rattle.cm_validity.specs.ReasonWords.{reason_number}
 use Rattle.cm_validity.specs.Reasons.{least, lesser}
 
 first : (a b : ValidReason) → nat_le (reason_number a) (reason_number b) ≡ true → lesser (Some a) (Some b) ≡ Some a

@@ -1,2 +1,9 @@
 pub mod LeastLaws
 pub mod ValidLaws
+pub mod TypeLaws
+pub mod ScopeLaws
+pub mod SpaceLaws
+mod ListLemmas
+mod ItemLaws
+mod ImportedLaws
+mod NamedLaws

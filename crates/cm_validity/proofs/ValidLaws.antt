@@ -4,9 +4,9 @@ use Rattle.std.specs.Prelude.{Contains}
 use Rattle.std.proofs.lemmas.Bool.{cases_Bool, leb-true, leb-false}
 use Rattle.std.proofs.lemmas.List.{append_assoc, length-append}
 use Rattle.cm_component.specs.Trees.{SectionTree}
-use Rattle.cm_reasons.specs.declared.fault.ValidReason.{ValidReason}
-use Rattle.cm_reasons.specs.declared.fault.ValidReason.TheVariants as reason
-use Rattle.cm_reasons.specs.Reasons.{reason_number}
+use Rattle.cm_validity.specs.declared.fault.ValidReason.{ValidReason}
+use Rattle.cm_validity.specs.declared.fault.ValidReason.TheVariants as reason
+use Rattle.cm_validity.specs.ReasonWords.{reason_number}
 use Rattle.cm_validity.specs.Items.{Item, items_of, all_items}
 use Rattle.cm_validity.specs.Spaces.{Spaces, empty_spaces, after_item, after_items}
 use Rattle.cm_validity.specs.Rules.{broken}

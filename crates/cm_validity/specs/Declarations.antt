@@ -10,7 +10,7 @@ use Rattle.cm_types.specs.declared.def_types.ExportDesc.TheVariants as desc
 use Rattle.cm_types.specs.declared.def_types.TypeBound.TheVariants as bound
 use Rattle.cm_types.specs.Signatures.{ItemTy, NamedItem, func_item, equal_type, equal_resource}
 use Rattle.cm_types.specs.Signatures.{fresh_resource}
-use Rattle.cm_reasons.specs.declared.fault.ValidReason.{ValidReason}
+use Rattle.cm_validity.specs.declared.fault.ValidReason.{ValidReason}
 use Rattle.cm_validity.specs.Definitions.{TypeDef, value, func_type, resource, faulty, InstanceTy}
 use Rattle.cm_validity.specs.Definitions.{sorts_of}
 use Rattle.cm_validity.specs.declared.sorts.TypeSort.{TypeSort}

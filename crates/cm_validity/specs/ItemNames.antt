@@ -11,8 +11,8 @@ use Rattle.cm_types.specs.Signatures.{ItemTy, NamedItem, func_item, equal_type, 
 use Rattle.cm_types.specs.Signatures.{fresh_resource}
 use Rattle.cm_types.specs.Types.{Ty, Fields, FuncTy, own, borrow, no_fields, field}
 use Rattle.cm_types.specs.declared.resource.ResourceId.{ResourceId}
-use Rattle.cm_reasons.specs.declared.fault.ValidReason.{ValidReason}
-use Rattle.cm_reasons.specs.declared.fault.ValidReason.TheVariants as reason
+use Rattle.cm_validity.specs.declared.fault.ValidReason.{ValidReason}
+use Rattle.cm_validity.specs.declared.fault.ValidReason.TheVariants as reason
 use Rattle.cm_validity.specs.Reasons.{unless}
 use Rattle.cm_validity.specs.TypeRules.{are_distinct_names}
 

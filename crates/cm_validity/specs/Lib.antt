@@ -1,3 +1,4 @@
+pub mod ReasonWords
 pub mod Items
 pub mod Definitions
 pub mod Reasons
@@ -10,3 +11,8 @@ pub mod Spaces
 pub mod Options
 pub mod Rules
 pub mod Valid
+pub mod Counted
+pub mod CountedSpaces
+pub mod Sources
+pub mod Imported
+pub mod Named

@@ -11,8 +11,8 @@ use Rattle.cm_flat.specs.FlatFuncs.{flat_func}
 use Rattle.cm_flat.specs.declared.flat_funcs.Side.TheVariants as side
 use Rattle.cm_component.specs.declared.canons.CanonOption.{CanonOption}
 use Rattle.cm_component.specs.declared.canons.CanonOption.TheVariants as option
-use Rattle.cm_reasons.specs.declared.fault.ValidReason.{ValidReason}
-use Rattle.cm_reasons.specs.declared.fault.ValidReason.TheVariants as reason
+use Rattle.cm_validity.specs.declared.fault.ValidReason.{ValidReason}
+use Rattle.cm_validity.specs.declared.fault.ValidReason.TheVariants as reason
 use Rattle.cm_validity.specs.Definitions.{CoreExport, CoreFuncDef, guest}
 use Rattle.cm_validity.specs.Reasons.{unless, found}
 use Rattle.cm_validity.specs.Spaces.{Spaces}

@@ -26,8 +26,8 @@ use Rattle.cm_component.specs.declared.externs.ExportSort.{ExportSort}
 use Rattle.cm_component.specs.declared.externs.ExportSort.TheVariants as export_sort
 use Rattle.cm_component.specs.declared.externs.Import.{Import}
 use Rattle.cm_component.specs.declared.externs.Export.{Export}
-use Rattle.cm_reasons.specs.declared.fault.ValidReason.{ValidReason}
-use Rattle.cm_reasons.specs.declared.fault.ValidReason.TheVariants as reason
+use Rattle.cm_validity.specs.declared.fault.ValidReason.{ValidReason}
+use Rattle.cm_validity.specs.declared.fault.ValidReason.TheVariants as reason
 use Rattle.cm_validity.specs.Items.{Item, core_module_item, core_instance_item, instance_item}
 use Rattle.cm_validity.specs.Items.{alias_item, type_item, canon_item, import_item, export_item}
 use Rattle.cm_validity.specs.Definitions.{ResourceDef, defined, brought, core_func, table, memory}

@@ -14,8 +14,8 @@ use Rattle.cm_types.specs.Holds.{holds, is_borrow}
 use Rattle.cm_types.specs.Limits.{nodes_of, depth_of}
 use Rattle.cm_types.specs.Names.{is_same_name}
 use Rattle.cm_types.specs.Types.{Ty, FuncTy, fields, tuple_type}
-use Rattle.cm_reasons.specs.declared.fault.ValidReason.{ValidReason}
-use Rattle.cm_reasons.specs.declared.fault.ValidReason.TheVariants as reason
+use Rattle.cm_validity.specs.declared.fault.ValidReason.{ValidReason}
+use Rattle.cm_validity.specs.declared.fault.ValidReason.TheVariants as reason
 use Rattle.cm_validity.specs.Definitions.{TypeDef, sorts_of}
 use Rattle.cm_validity.specs.declared.sorts.TypeSort.{TypeSort}
 use Rattle.cm_validity.specs.declared.sorts.TypeSort.TheVariants as sort

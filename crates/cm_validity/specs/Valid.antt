@@ -3,8 +3,8 @@
 -- is this project's own choice).
 use Rattle.std.specs.Prelude.{◌≡◌, ◌≤◌, ℕ, List, [], ◌∷◌, ◌++◌, length, Contains}
 use Rattle.cm_component.specs.Trees.{SectionTree}
-use Rattle.cm_reasons.specs.declared.fault.ValidReason.{ValidReason}
-use Rattle.cm_reasons.specs.Reasons.{reason_number}
+use Rattle.cm_validity.specs.declared.fault.ValidReason.{ValidReason}
+use Rattle.cm_validity.specs.ReasonWords.{reason_number}
 use Rattle.cm_validity.specs.Items.{Item, items_of, all_items}
 use Rattle.cm_validity.specs.Spaces.{Spaces, empty_spaces, after_items}
 use Rattle.cm_validity.specs.Rules.{broken}

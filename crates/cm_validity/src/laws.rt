@@ -3,7 +3,7 @@
 
 ghost use Rattle.std.specs.Prelude.{◌≡◌, ◌++◌, ◌⊎◌, ℕ, List};
 ghost use Rattle.cm_component.specs.Trees.{SectionTree};
-ghost use Rattle.cm_reasons.specs.declared.fault.ValidReason.{ValidReason};
+ghost use Rattle.cm_validity.specs.declared.fault.ValidReason.{ValidReason};
 ghost use Rattle.cm_validity.specs.Reasons.{least, lesser};
 ghost use Rattle.cm_validity.specs.Valid.{IsFaultOf, IsValid};
 

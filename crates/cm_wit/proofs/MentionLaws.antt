@@ -15,8 +15,8 @@ use Rattle.cm_wit_mentions.specs.declared.mention.Place.{Place}
 use Rattle.cm_wit_mentions.specs.Mentions.{Mention, list_of, exports_of}
 use Rattle.cm_wit_mentions.specs.Marks.{Marks, one, ◌then◌, each, optional}
 use Rattle.cm_wit_mentions.specs.FileMentions as marks
-use Rattle.cm_wit_round.specs.TreeTokens as tokens
-use Rattle.cm_wit_round.specs.Words.{words}
+use Rattle.cm_wit.specs.TreeTokens as tokens
+use Rattle.cm_wit.specs.Words.{words}
 use Rattle.cm_wit.specs.Places.{is_name, names_in}
 use Rattle.cm_wit.specs.Mentioned.{name_text, name_texts, IsReferredAt, AreOf}
 

@@ -6,7 +6,7 @@ use Rattle.cm_wit_grammar.specs.declared.fault.WitFault.{WitFault}
 use Rattle.cm_wit_grammar.specs.Whole.{IsMemory, text_reads}
 use Rattle.cm_wit_mentions.specs.FileMentions.{mentions}
 use Rattle.cm_wit_names.specs.Rules.{IsFirstFault}
-use Rattle.cm_wit_print.specs.Printed.{file_text}
+use Rattle.cm_wit.specs.Printed.{file_text}
 use Rattle.cm_wit_text.specs.Files.{file}
 use Rattle.cm_wit_text.specs.Trees.{File}
 use Rattle.cm_wit.specs.declared.package.Package.{Package}

@@ -1,3 +1,7 @@
+pub mod Appends
+pub mod Printed
+pub mod TreeTokens
+pub mod Words
 pub mod Places
 pub mod Texts
 pub mod PackageViews

@@ -3,7 +3,7 @@
 ghost use Rattle.std.specs.Prelude.{◌≡◌, ℕ, List, Ok, Result, MatchResult};
 ghost use Rattle.cm_wit_grammar.specs.declared.fault.WitFault.{WitFault};
 ghost use Rattle.cm_wit_grammar.specs.Whole.{IsMemory, text_reads};
-ghost use Rattle.cm_wit_print.specs.Printed.{file_text};
+ghost use Rattle.cm_wit.specs.Printed.{file_text};
 ghost use Rattle.cm_wit_mentions.specs.FileMentions.{mentions};
 ghost use Rattle.cm_wit_text.specs.Files.{file};
 ghost use Rattle.cm_wit_text.specs.Trees.{File};
@@ -13,7 +13,7 @@ ghost use Rattle.cm_wit.specs.PackageViews.{package_tree};
 ghost use Rattle.cm_wit.specs.Packages.{IsParsed};
 ghost use Rattle.cm_wit.specs.Texts.{IsPackage};
 
-use cm_wit_round::laws::{printed_file_is_read, words_are_kept};
+use crate::round_laws::{printed_file_is_read, words_are_kept};
 
 /// The text that prints a package is that package. So whatever a function answers to it that reads
 /// as `parse` does is that package, and no fault but want of memory.

@@ -2,13 +2,13 @@
 
 ghost use Rattle.std.specs.Prelude.{◌≡◌, IfOk};
 ghost use Rattle.std.specs.String.{string_bytes};
-ghost use Rattle.cm_wit_print.specs.Printed.{file_text};
+ghost use Rattle.cm_wit.specs.Printed.{file_text};
 ghost use Rattle.cm_wit.specs.PackageViews.{package_tree};
 ghost use Rattle.cm_wit.specs.Texts.{IsPackage};
 
 use crate::laws::printed_and_parsed;
 use crate::package::Package;
-use cm_wit_print::print_file;
+use crate::print_file;
 use std::alloc::{AllocError, Global};
 
 /// The text that prints a package: a declaration a line, two blanks a level, no comments, and `%`

@@ -1,2 +1,14 @@
+mod AgreeLaws
+mod TableLaws
+mod ScopeResourceLaws
+mod RankLaws
+mod ThereLaws
 mod ListLaws
 mod PlaceLaws
+mod MapLaws
+mod AddLaws
+mod RowLaws
+mod EdgeLaws
+mod ResourceLaws
+mod LeadLaws
+mod IdLaws

@@ -4,9 +4,9 @@ use Rattle.std.specs.List.{position_from}
 use Rattle.std.specs.Str.{bytes_eq}
 use Rattle.cm_keys.specs.Keys.{Key, is_key, first_key}
 use Rattle.cm_wit_text.specs.Trees.{File}
-use Rattle.cm_wit_interfaces.specs.Interfaces as all
-use Rattle.cm_wit_scopes.specs.Declarations.{Declaration}
-use Rattle.cm_wit_scopes.specs.Worlds.{Instance, same_side, is_instance, place_of, instance_declarations}
+use Rattle.cm_wit_worlds.specs.Interfaces as all
+use Rattle.cm_wit_declared.specs.Declarations.{Declaration}
+use Rattle.cm_wit_declared.specs.Worlds.{Instance, same_side, is_instance, place_of, instance_declarations}
 use Rattle.cm_wit_declared.specs.InstanceKeys.{side_word, instance_key}
 
 test_same : (e b t : Bool) → (t && bytes_eq (side_word e) (side_word b)) ≡ (same_side e b && t)

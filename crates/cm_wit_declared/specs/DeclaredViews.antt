@@ -3,8 +3,8 @@ use Rattle.std.specs.Prelude.{List, map}
 use Rattle.std.specs.Option.{option_map}
 use Rattle.cm_keys.specs.Keys.{key_view}
 use Rattle.cm_wit_text.specs.Views.{type_def_tree}
-use Rattle.cm_wit_scopes.specs.Declarations.{Declared, Declaration, brought, defined}
-use Rattle.cm_wit_scopes.specs.Worlds.{Instance}
+use Rattle.cm_wit_declared.specs.Declarations.{Declared, Declaration, brought, defined}
+use Rattle.cm_wit_declared.specs.Worlds.{Instance}
 use Rattle.cm_wit_declared.specs.declared.declarations.Declared as code_declared
 use Rattle.cm_wit_declared.specs.declared.declarations.Declared.TheVariants as is
 use Rattle.cm_wit_declared.specs.declared.declarations.Declaration as code_declaration

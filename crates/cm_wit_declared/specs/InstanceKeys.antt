@@ -3,8 +3,8 @@ use Rattle.std.specs.Prelude.{ℕ, Bool, true, false, List, Option, map, codes}
 use Rattle.std.specs.Option.{option_map}
 use Rattle.cm_keys.specs.Keys.{Key}
 use Rattle.cm_wit_text.specs.Trees.{UsedName}
-use Rattle.cm_wit_scopes.specs.Declarations.{Declaration, brought}
-use Rattle.cm_wit_scopes.specs.Worlds.{Instance, used_as}
+use Rattle.cm_wit_declared.specs.Declarations.{Declaration, brought}
+use Rattle.cm_wit_declared.specs.Worlds.{Instance, used_as}
 
 -- the word for a side
 abbrev pub side_word : Bool → List ℕ

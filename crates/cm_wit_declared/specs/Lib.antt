@@ -1,3 +1,10 @@
+pub mod Declarations
+pub mod Tables
+pub mod Worlds
+pub mod TypeFaults
 pub mod DeclaredViews
 pub mod InstanceKeys
 pub mod Placings
+pub mod Names
+pub mod Leading
+pub mod Resources

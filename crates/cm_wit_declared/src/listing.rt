@@ -5,20 +5,20 @@ ghost use Rattle.std.specs.List.{flat_map};
 ghost use Rattle.std.specs.Option.{option_and_then};
 ghost use Rattle.cm_wit_types.specs.SignatureViews.{path_tree};
 ghost use Rattle.cm_wit_text.specs.Views.{interface_item_tree, used_name_tree};
-ghost use Rattle.cm_wit_interfaces.specs.Interfaces as spec;
-ghost use Rattle.cm_wit_interfaces.specs.InterfaceViews.{files_of, placed_interface};
-ghost use Rattle.cm_wit_scopes.specs.Worlds.{declarations, instance_declarations};
-ghost use Rattle.cm_wit_scopes.specs.Worlds.{item_declarations, used_as};
-ghost use Rattle.cm_wit_scopes.specs.Worlds.{used_place};
+ghost use Rattle.cm_wit_worlds.specs.Interfaces as spec;
+ghost use Rattle.cm_wit_worlds.specs.InterfaceViews.{files_of, placed_interface};
+ghost use Rattle.cm_wit_declared.specs.Worlds.{declarations, instance_declarations};
+ghost use Rattle.cm_wit_declared.specs.Worlds.{item_declarations, used_as};
+ghost use Rattle.cm_wit_declared.specs.Worlds.{used_place};
 ghost use Rattle.cm_wit_declared.specs.DeclaredViews.{declaration_view, instance_view};
 ghost use Rattle.cm_wit_declared.specs.InstanceKeys.{brought_from};
 ghost use Rattle.cm_wit_declared.specs.Placings.{instances_in};
 
 use crate::declarations::{Declaration, Declared, Instance};
 use crate::placing::Placing;
-use cm_wit_interfaces::{Directory, PlacedInterface};
 use cm_wit_text::{InterfaceItem, UsedName};
 use cm_wit_types::Path;
+use cm_wit_worlds::{Directory, PlacedInterface};
 use std::alloc::{AllocError, Global};
 
 /// Where an instance stands: on which side, at which place among the instances, and in the package

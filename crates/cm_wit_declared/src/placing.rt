@@ -40,7 +40,7 @@ pub struct Placing<'a> {
 }
 
 impl<'a> Placing<'a> {
-    ghost use Rattle.cm_wit_scopes.specs.Worlds.{place_of, used_place};
+    ghost use Rattle.cm_wit_declared.specs.Worlds.{place_of, used_place};
     ghost use Rattle.cm_wit_declared.specs.Placings.{instances_in};
 
     /// These instances. Refused only where there is no memory.

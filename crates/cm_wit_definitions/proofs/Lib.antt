@@ -5,3 +5,7 @@ mod EachLaws
 mod PushLaws
 mod MemberLaws
 mod DefinitionLaws
+mod FuncGrowthLaws
+mod FuncScopeLaws
+mod FuncFaultLaws
+mod FuncLaws

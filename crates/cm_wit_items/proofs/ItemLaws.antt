@@ -22,13 +22,13 @@ use Rattle.cm_wit_meanings.specs.Scopes.{Scope, Meaning, resource, as_resource}
 use Rattle.cm_wit_meanings.specs.Meanings.{each_meaning, resource_func_meaning}
 use Rattle.cm_wit_meanings.specs.Places.{Extends, ArePlaced, scope_in}
 use Rattle.cm_wit_meanings.specs.Faults.{IsFaultOf, IsFuncWithin, is_func_spellable}
-use Rattle.cm_wit_signature_model.specs.Functions.{item_funcs}
-use Rattle.cm_wit_signature_model.specs.Members.{Member, member_item, member_func, item_with, items_in}
+use Rattle.cm_wit_items.specs.Functions.{item_funcs}
+use Rattle.cm_wit_items.specs.Members.{Member, member_item, member_func, item_with, items_in}
 use Rattle.cm_wit_text.specs.Trees.{ResourceFunc}
-use Rattle.cm_wit_members.specs.declared.members.Member as code
-use Rattle.cm_wit_members.specs.MemberViews.{member_view}
+use Rattle.cm_wit_items.specs.declared.members.Member as code
+use Rattle.cm_wit_items.specs.MemberViews.{member_view}
 use Rattle.cm_wit_items.specs.ItemFaults.{AreWithin, are_spelled, IsFaultWith, IsItemFault, AreItemsFault}
-use Rattle.cm_wit_signature_model.specs.Own.{AreOwn}
+use Rattle.cm_wit_items.specs.Own.{AreOwn}
 use Rattle.cm_wit_items.proofs.GrowthLaws.{place_kept, func_kept, less_of, test_of, extends_length, below_more}
 use Rattle.cm_wit_items.proofs.ScopeLaws.{scope_kept, scope_placed}
 use Rattle.cm_wit_items.proofs.EachLaws.{makes_fault}

@@ -1,3 +1,7 @@
+mod ThereLaws
+mod OwnLaws
+mod WorldLaws
+mod ListLaws
 mod GrowthLaws
 mod ScopeLaws
 mod EachLaws

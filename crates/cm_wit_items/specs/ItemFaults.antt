@@ -5,7 +5,7 @@ use Rattle.cm_types.specs.Types.{FuncTy}
 use Rattle.cm_types.specs.Signatures.{NamedItem}
 use Rattle.cm_wit_meanings.specs.declared.fault.MeaningFault.{MeaningFault}
 use Rattle.cm_wit_meanings.specs.Faults.{IsFaultOf, IsFuncWithin, is_func_spellable}
-use Rattle.cm_wit_signature_model.specs.Functions.{item_funcs}
+use Rattle.cm_wit_items.specs.Functions.{item_funcs}
 
 -- each of these functions is within the limits, and a file can spell the types in each
 abbrev pub AreWithin : List FuncTy → Type 0

@@ -1,3 +1,7 @@
+mod GrowthLaws
+mod ExternLaws
+mod OneLaws
+mod LoopLaws
 mod MadeLaws
 mod SignLaws
 mod OrderLaws

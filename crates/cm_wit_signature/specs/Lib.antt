@@ -1,4 +1,6 @@
-pub use Rattle.cm_wit_signature_model.specs as cm_wit_signature_model
+pub use Rattle.cm_wit_items.specs as cm_wit_items
+pub mod PartViews
+pub mod Adding
 pub mod Faults
 pub mod Typed
 pub mod Made

@@ -1,12 +1,12 @@
 -- What is known of a world where the names in what it reaches lead to types.
 use Rattle.std.specs.Prelude.{◌≡◌, ℕ, List, length}
 use Rattle.cm_wit_text.specs.Trees.{File}
-use Rattle.cm_wit_interfaces.specs.Interfaces.{PlacedInterface, PlacedWorld, interfaces}
-use Rattle.cm_wit_scopes.specs.Declarations.{Declaration}
-use Rattle.cm_wit_scopes.specs.Worlds.{Instance, instances, declarations}
+use Rattle.cm_wit_worlds.specs.Interfaces.{PlacedInterface, PlacedWorld, interfaces}
+use Rattle.cm_wit_declared.specs.Declarations.{Declaration}
+use Rattle.cm_wit_declared.specs.Worlds.{Instance, instances, declarations}
 use Rattle.cm_wit_worlds.specs.Worlds.{AreWorldExterns}
-use Rattle.cm_wit_signature_model.specs.Named.{HaveTypes}
-use Rattle.cm_wit_signature_model.specs.Signatures.{interfaces_among}
+use Rattle.cm_wit_items.specs.Named.{HaveTypes}
+use Rattle.cm_wit_items.specs.Signatures.{interfaces_among}
 
 -- These are the interfaces of packages, and what the world imports and exports, in order; its
 -- instances, the number of those that it imports, and what they declare; and each name leads to a

@@ -2,34 +2,33 @@
 
 ghost use Rattle.std.specs.Prelude.{◌≡◌, ◌<◌, ◌^◌, ℕ, List, Some, IfOk, IfErr, length, map};
 ghost use Rattle.cm_keys.specs.Listed.{listed};
-ghost use Rattle.cm_signatures.specs.Signatures.{signature_of};
+ghost use Rattle.cm_placed.specs.Signatures.{signature_of};
 ghost use Rattle.cm_type_arena.specs.Places.{types_of};
 ghost use Rattle.cm_wit_declared.specs.DeclaredViews.{declaration_view, instance_view};
-ghost use Rattle.cm_wit_interfaces.specs.Interfaces as spec;
-ghost use Rattle.cm_wit_interfaces.specs.InterfaceViews.{files_of, placed_interface, placed_world};
-ghost use Rattle.cm_wit_externs.specs.cm_wit_items.ItemFaults.{AreWithin, IsFaultWith};
+ghost use Rattle.cm_wit_worlds.specs.Interfaces as spec;
+ghost use Rattle.cm_wit_worlds.specs.InterfaceViews.{files_of, placed_interface, placed_world};
+ghost use Rattle.cm_wit_items.specs.ItemFaults.{AreWithin, IsFaultWith};
 ghost use Rattle.cm_wit_meanings.specs.Places.{ArePlaced, table_in};
 ghost use Rattle.cm_wit_meanings.specs.Scopes.{scope_at};
-ghost use Rattle.cm_wit_signature_model.specs.Faults.{IsFaultIn, IsWorldSignature, world_of};
-ghost use Rattle.cm_wit_signature_model.specs.Functions.{funcs_in};
-ghost use Rattle.cm_wit_signature_model.specs.Own.{AreOwn};
+ghost use Rattle.cm_wit_items.specs.Faults.{IsFaultIn, IsWorldSignature, world_of};
+ghost use Rattle.cm_wit_items.specs.Functions.{funcs_in};
+ghost use Rattle.cm_wit_items.specs.Own.{AreOwn};
 ghost use Rattle.cm_wit_text.specs.Trees.{File};
 ghost use Rattle.cm_wit_worlds.specs.Worlds.{AreWorldExterns};
 ghost use Rattle.cm_wit_signature.specs.Made.{signature_made};
 ghost use Rattle.cm_wit_signature.specs.Typed.{IsTyped};
 
 use crate::faults::{fault_of_meaning, fault_of_table};
-use cm_signatures::Signature;
+use crate::{Parts, signature_with};
+use cm_placed::Signature;
 use cm_type_arena::Types;
 use cm_wit_declared::Declaration;
-use cm_wit_externs::{Parts, signature_with};
-use cm_wit_interfaces::{Directory, PlacedInterface, PlacedWorld};
+use cm_wit_items::signature_laws::{resources_are_own, typed_ones_have_signatures};
 use cm_wit_meanings::MeaningFault;
-use cm_wit_signature_model::laws::{resources_are_own, typed_ones_have_signatures};
 use cm_wit_tables::{Table, table_of};
 use cm_wit_typing::laws::typing_faults_are_of_worlds;
 use cm_wit_typing::{WorldInstances, instances_of, typed_declarations};
-use cm_wit_worlds::{WorldExterns, WorldFault};
+use cm_wit_worlds::{Directory, PlacedInterface, PlacedWorld, WorldExterns, WorldFault};
 use std::alloc::Global;
 
 /// The signature of a world with these instances, where names stand for what a table has.

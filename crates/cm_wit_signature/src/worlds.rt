@@ -2,22 +2,22 @@
 
 ghost use Rattle.std.specs.Prelude.{◌≡◌, ℕ, List, Some, IfOk, IfErr, map};
 ghost use Rattle.std.specs.String.{string_bytes};
-ghost use Rattle.cm_signatures.specs.Signatures.{signature_of};
+ghost use Rattle.cm_placed.specs.Signatures.{signature_of};
 ghost use Rattle.cm_wit.specs.PackageViews.{package_tree};
-ghost use Rattle.cm_wit_interfaces.specs.Interfaces as spec;
-ghost use Rattle.cm_wit_interfaces.specs.Interfaces.{package_name};
-ghost use Rattle.cm_wit_interfaces.specs.InterfaceViews.{files_of, placed_interface, placed_world};
-ghost use Rattle.cm_wit_signature_model.specs.Faults.{IsFaultIn, IsFaultOfWorld};
-ghost use Rattle.cm_wit_signature_model.specs.Faults.{IsWorldSignature, world_of};
+ghost use Rattle.cm_wit_worlds.specs.Interfaces as spec;
+ghost use Rattle.cm_wit_worlds.specs.Interfaces.{package_name};
+ghost use Rattle.cm_wit_worlds.specs.InterfaceViews.{files_of, placed_interface, placed_world};
+ghost use Rattle.cm_wit_items.specs.Faults.{IsFaultIn, IsFaultOfWorld};
+ghost use Rattle.cm_wit_items.specs.Faults.{IsWorldSignature, world_of};
 
 use crate::signing::signature_in_order;
-use cm_signatures::Signature;
+use cm_placed::Signature;
 use cm_wit::Package;
-use cm_wit_interfaces::{
-    Directory, PlacedInterface, PlacedWorld, interfaces, package_names, worlds,
-};
 use cm_wit_typing::{cycle_fault, package_files};
-use cm_wit_worlds::{WorldFault, externs_of};
+use cm_wit_worlds::{
+    Directory, PlacedInterface, PlacedWorld, WorldFault, externs_of, interfaces, package_names,
+    worlds,
+};
 use std::alloc::Global;
 
 /// The signature of a world of the packages of a directory, whose interfaces are these.

@@ -1,2 +1,6 @@
+mod FillOrderLaws
+mod GrowthLaws
+mod EntryLaws
+mod FillLaws
 mod FaultLaws
 mod OrderLaws

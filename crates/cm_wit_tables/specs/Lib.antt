@@ -1,1 +1,4 @@
+pub mod Listings
+pub mod Filled
+pub mod FillFaults
 pub mod TableFaults

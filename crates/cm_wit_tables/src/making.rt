@@ -9,25 +9,24 @@ ghost use Rattle.cm_type_arena.specs.Places.{funcs_of, types_of};
 ghost use Rattle.cm_wit_meanings.specs.Places.{ArePlaced, Extends, table_in};
 ghost use Rattle.cm_wit_meanings.specs.Scopes as meant;
 ghost use Rattle.cm_wit_meanings.specs.Scopes.{as_type};
-ghost use Rattle.cm_wit_scopes.specs.Declarations.{HasTypeCycle, keys_of, uses};
-ghost use Rattle.cm_wit_scopes.specs.Tables.{IsWhole, Solves};
-ghost use Rattle.cm_wit_scopes.specs.TypeFaults.{AllHaveTypes};
+ghost use Rattle.cm_wit_declared.specs.Declarations.{HasTypeCycle, keys_of, uses};
+ghost use Rattle.cm_wit_declared.specs.Tables.{IsWhole, Solves};
+ghost use Rattle.cm_wit_declared.specs.TypeFaults.{AllHaveTypes};
 ghost use Rattle.cm_wit_declared.specs.DeclaredViews.{declaration_view};
-ghost use Rattle.cm_wit_filling.specs.Filled.{AreWithin};
-ghost use Rattle.cm_wit_filling.specs.FillFaults.{IsFillFault};
+ghost use Rattle.cm_wit_tables.specs.Filled.{AreWithin};
+ghost use Rattle.cm_wit_tables.specs.FillFaults.{IsFillFault};
 ghost use Rattle.cm_wit_tables.specs.TableFaults.{IsTableFault};
 
 use crate::fault::{TableFault, table_fault};
+use crate::laws::{ordered_ones_can_be_ranked, ranked_ones_are_acyclic};
 use crate::table::Table;
+use crate::{Listing, fill};
 use cm_keys::Keys;
 use cm_order::order_of;
 use cm_type_arena::Types;
-use cm_wit_declared::Declaration;
-use cm_wit_filling::laws::{ordered_ones_can_be_ranked, ranked_ones_are_acyclic};
-use cm_wit_filling::{Listing, fill};
-use cm_wit_listed::{all_lead, declaration_keys, resource_ids, use_rows};
+use cm_wit_declared::laws::{each_stands_where_names_lead, what_is_used_is_declared};
+use cm_wit_declared::{Declaration, all_lead, declaration_keys, resource_ids, use_rows};
 use cm_wit_meanings::{Meaning, MeaningFault};
-use cm_wit_scopes::laws::{each_stands_where_names_lead, what_is_used_is_declared};
 use std::alloc::{AllocError, Global};
 
 /// The declarations in an order in which each stands behind those that it uses: there is none where

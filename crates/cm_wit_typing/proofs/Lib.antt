@@ -1,3 +1,5 @@
+mod RestLaws
+mod LedLaws
 mod ListLaws
 mod MarkLaws
 mod TypedLaws

@@ -2,7 +2,7 @@
 use Rattle.std.proofs.Common.{◌≡◌, ℕ, ◌+◌, ◌<◌, ◌≤◌, nat_lt, Bool, true, false, List, [], ◌∷◌, ◌++◌, length, map, drop, get_or, refl, sym, ap, ◌∙◌, arith, append_assoc, append-nil}
 use Rattle.std.proofs.lemmas.List.{drop_all, drop_more, map-append, length-map}
 use Rattle.std.proofs.lemmas.Bool.Decides.{nat_tests}
-use Rattle.cm_wit_scopes.specs.Worlds.{Instance}
+use Rattle.cm_wit_declared.specs.Worlds.{Instance}
 use Rattle.cm_wit_declared.specs.DeclaredViews.{instance_view}
 use Rattle.cm_wit_declared.specs.declared.declarations.Instance as code_instance
 use Rattle.cm_wit_typing.specs.Sides.{interfaces_below, side_instances}

@@ -3,14 +3,14 @@ use Rattle.std.proofs.Common.{◌≡◌, ◌↔◌, ℕ, Bool, List, map, sym, s
 use Rattle.std.specs.List.{Contains}
 use Rattle.cm_graph.specs.Graphs.{IsMarked}
 use Rattle.cm_wit_text.specs.Trees.{File}
-use Rattle.cm_wit_interfaces.specs.Interfaces.{PlacedWorld}
-use Rattle.cm_wit_reach.specs.Reach.{IsReached}
-use Rattle.cm_wit_scopes.specs.Worlds.{Instance}
+use Rattle.cm_wit_worlds.specs.Interfaces.{PlacedWorld}
+use Rattle.cm_graph.specs.Reach.{IsReached}
+use Rattle.cm_wit_declared.specs.Worlds.{Instance}
 use Rattle.cm_wit_worlds.specs.Worlds.{rows_of, named, HasNoInterface, HasInterfaceCycle}
 use Rattle.cm_wit_worlds.specs.declared.fault.WorldFault.{WorldFault}
 use Rattle.cm_wit_worlds.specs.declared.fault.WorldFault.TheVariants as fault
-use Rattle.cm_wit_signature_model.specs.Faults.{IsFaultIn}
-use Rattle.cm_wit_signature_model.specs.Named.{AreInstances, AreReached, in_cycle, imported}
+use Rattle.cm_wit_items.specs.Faults.{IsFaultIn}
+use Rattle.cm_wit_items.specs.Named.{AreInstances, AreReached, in_cycle, imported}
 use Rattle.cm_wit_typing.specs.Typing.{IsTypingFault}
 
 pub reached_instances : (fs : List File) (w : PlacedWorld) (marks seen : List Bool) (ks : List ℕ) (xs : List Instance) → HasInterfaceCycle fs w → seen ≡ marks → xs ≡ map imported ks → ((k : ℕ) → IsMarked marks k ↔ IsReached (rows_of fs) (named fs w) k) → ((k : ℕ) → Contains ks k ↔ IsMarked seen k) → AreInstances fs w xs

@@ -2,13 +2,13 @@
 use Rattle.std.proofs.Common.{◌≡◌, ℕ, true, false, List, map, length, sym, subst}
 use Rattle.std.proofs.lemmas.List.{length-map}
 use Rattle.cm_wit_text.specs.Trees.{File}
-use Rattle.cm_wit_interfaces.specs.Interfaces.{PlacedWorld}
-use Rattle.cm_wit_scopes.specs.Declarations.{Declaration}
-use Rattle.cm_wit_scopes.specs.TypeFaults.{AllHaveTypes}
-use Rattle.cm_wit_scopes.specs.Worlds.{declarations}
+use Rattle.cm_wit_worlds.specs.Interfaces.{PlacedWorld}
+use Rattle.cm_wit_declared.specs.Declarations.{Declaration}
+use Rattle.cm_wit_declared.specs.TypeFaults.{AllHaveTypes}
+use Rattle.cm_wit_declared.specs.Worlds.{declarations}
 use Rattle.cm_wit_declared.specs.DeclaredViews.{instance_view}
 use Rattle.cm_wit_declared.specs.declared.declarations.Instance as code_instance
-use Rattle.cm_wit_signature_model.specs.Named.{HaveTypes, InstancesHaveTypes, OwnFuncsHaveTypes}
+use Rattle.cm_wit_items.specs.Named.{HaveTypes, InstancesHaveTypes, OwnFuncsHaveTypes}
 
 module _ (fs : List File) (w : PlacedWorld) (instances : List code_instance.Instance) (ds : List Declaration) (e : ds ≡ declarations fs (map instance_view instances)) where
   pub have_types : AllHaveTypes ds → InstancesHaveTypes fs ds (map instance_view instances) → OwnFuncsHaveTypes w ds (length instances) → HaveTypes fs w (map instance_view instances)

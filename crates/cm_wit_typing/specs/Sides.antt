@@ -1,6 +1,6 @@
 -- The instances of one side of a world.
 use Rattle.std.specs.Prelude.{ℕ, nat_lt, Bool, List, map, filter}
-use Rattle.cm_wit_scopes.specs.Worlds.{Instance}
+use Rattle.cm_wit_declared.specs.Worlds.{Instance}
 
 -- the interfaces among what is imported or exported, where there are so many interfaces
 abbrev pub interfaces_below : ℕ → List ℕ → List ℕ

@@ -1,11 +1,11 @@
 -- Why the names in what a world reaches do not all lead to types.
 use Rattle.std.specs.Prelude.{List}
 use Rattle.cm_wit_text.specs.Trees.{File}
-use Rattle.cm_wit_interfaces.specs.Interfaces.{PlacedWorld}
-use Rattle.cm_wit_scopes.specs.Worlds.{Instance}
+use Rattle.cm_wit_worlds.specs.Interfaces.{PlacedWorld}
+use Rattle.cm_wit_declared.specs.Worlds.{Instance}
 use Rattle.cm_wit_worlds.specs.declared.fault.WorldFault.{WorldFault}
 use Rattle.cm_wit_worlds.specs.declared.fault.WorldFault.TheVariants as fault
-use Rattle.cm_wit_signature_model.specs.Named.{HaveTypes}
+use Rattle.cm_wit_items.specs.Named.{HaveTypes}
 
 -- A name in these instances of a world leads to no type. Where memory ran out nothing is said.
 abbrev pub IsTypingFault : List File → PlacedWorld → List Instance → WorldFault → Type 0

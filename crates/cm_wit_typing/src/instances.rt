@@ -2,7 +2,7 @@
 
 ghost use Rattle.std.specs.Prelude.{◌≡◌, ◌<◌, ◌^◌, ◌++◌, IfOk, OnOk, length, map};
 ghost use Rattle.cm_wit_declared.specs.DeclaredViews.{instance_view};
-ghost use Rattle.cm_wit_scopes.specs.Worlds.{instances};
+ghost use Rattle.cm_wit_declared.specs.Worlds.{instances};
 ghost use Rattle.cm_wit_typing.specs.Sides.{interfaces_below, side_instances};
 
 use cm_wit_declared::Instance;

@@ -3,12 +3,12 @@
 
 ghost use Rattle.std.specs.Prelude.{List};
 ghost use Rattle.cm_wit_text.specs.Trees.{File};
-ghost use Rattle.cm_wit_interfaces.specs.Interfaces.{PlacedWorld};
-ghost use Rattle.cm_wit_scopes.specs.Worlds.{Instance};
+ghost use Rattle.cm_wit_worlds.specs.Interfaces.{PlacedWorld};
+ghost use Rattle.cm_wit_declared.specs.Worlds.{Instance};
 ghost use Rattle.cm_wit_worlds.specs.Worlds.{HasNoInterface};
 ghost use Rattle.cm_wit_worlds.specs.declared.fault.WorldFault.{WorldFault};
-ghost use Rattle.cm_wit_signature_model.specs.Faults.{IsFaultIn};
-ghost use Rattle.cm_wit_signature_model.specs.Named.{AreInstances};
+ghost use Rattle.cm_wit_items.specs.Faults.{IsFaultIn};
+ghost use Rattle.cm_wit_items.specs.Named.{AreInstances};
 ghost use Rattle.cm_wit_typing.specs.Typing.{IsTypingFault};
 
 /// Where each path leads to an interface, and a name in the instances of a world leads to no type,

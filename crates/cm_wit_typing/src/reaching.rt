@@ -4,16 +4,15 @@ ghost use Rattle.std.specs.Prelude.{◌≡◌, ◌↔◌, ℕ, IfOk, IfErr, map}
 ghost use Rattle.std.specs.List.{Contains};
 ghost use Rattle.cm_graph.specs.Graphs.{IsMarked};
 ghost use Rattle.cm_wit_declared.specs.DeclaredViews.{instance_view};
-ghost use Rattle.cm_wit_interfaces.specs.Interfaces as spec;
-ghost use Rattle.cm_wit_interfaces.specs.InterfaceViews.{files_of, placed_interface, placed_world};
-ghost use Rattle.cm_wit_signature_model.specs.Faults.{HasCycle, IsFaultIn};
-ghost use Rattle.cm_wit_signature_model.specs.Named.{imported};
+ghost use Rattle.cm_wit_worlds.specs.Interfaces as spec;
+ghost use Rattle.cm_wit_worlds.specs.InterfaceViews.{files_of, placed_interface, placed_world};
+ghost use Rattle.cm_wit_items.specs.Faults.{HasCycle, IsFaultIn};
+ghost use Rattle.cm_wit_items.specs.Named.{imported};
 ghost use Rattle.cm_wit_worlds.specs.Worlds.{HasInterfaceCycle, HasNoInterface};
 
 use crate::typing::typed_declarations;
 use cm_wit_declared::Instance;
-use cm_wit_interfaces::{Directory, PlacedInterface, PlacedWorld};
-use cm_wit_worlds::{WorldFault, reached_by};
+use cm_wit_worlds::{Directory, PlacedInterface, PlacedWorld, WorldFault, reached_by};
 use std::alloc::{AllocError, Global};
 
 /// The numbers of what is marked, in order. Refused only where there is no memory.

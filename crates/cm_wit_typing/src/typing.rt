@@ -2,16 +2,15 @@
 
 ghost use Rattle.std.specs.Prelude.{◌≡◌, IfOk, IfErr, map};
 ghost use Rattle.cm_wit_declared.specs.DeclaredViews.{declaration_view, instance_view};
-ghost use Rattle.cm_wit_interfaces.specs.Interfaces as spec;
-ghost use Rattle.cm_wit_interfaces.specs.InterfaceViews.{files_of, placed_interface, placed_world};
-ghost use Rattle.cm_wit_scopes.specs.Worlds.{declarations};
-ghost use Rattle.cm_wit_signature_model.specs.Named.{HaveTypes};
+ghost use Rattle.cm_wit_worlds.specs.Interfaces as spec;
+ghost use Rattle.cm_wit_worlds.specs.InterfaceViews.{files_of, placed_interface, placed_world};
+ghost use Rattle.cm_wit_declared.specs.Worlds.{declarations};
+ghost use Rattle.cm_wit_items.specs.Named.{HaveTypes};
 ghost use Rattle.cm_wit_typing.specs.Typing.{IsTypingFault};
 
+use crate::{all_have_types, members_have_types};
 use cm_wit_declared::{Declaration, Instance, declarations_of};
-use cm_wit_interfaces::{Directory, PlacedInterface, PlacedWorld};
-use cm_wit_typed::{all_have_types, members_have_types};
-use cm_wit_worlds::WorldFault;
+use cm_wit_worlds::{Directory, PlacedInterface, PlacedWorld, WorldFault};
 use std::alloc::Global;
 
 /// What the interfaces of a world declare, where names are looked up in these instances and each

@@ -1,3 +1,5 @@
+mod KeyingLaws
+mod ListingLaws
 mod ListLaws
 mod NamedLaws
 mod OrderLaws

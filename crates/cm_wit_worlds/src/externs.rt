@@ -2,10 +2,10 @@
 
 ghost use Rattle.std.specs.Prelude.{◌≡◌, ◌+◌, ◌<◌, ◌^◌, ◌++◌, ℕ, [], IfOk, OnOk, map};
 ghost use Rattle.cm_wit_text.specs.Views.{extern_tree, world_item_tree};
-ghost use Rattle.cm_wit_interfaces.specs.InterfaceViews.{files_of};
+ghost use Rattle.cm_wit_worlds.specs.InterfaceViews.{files_of};
 ghost use Rattle.cm_wit_worlds.specs.Externs.{exports_from, extern_number, imports_from};
 
-use cm_wit_interfaces::Directory;
+use crate::Directory;
 use cm_wit_text::{WorldExtern, WorldItem};
 use std::alloc::{AllocError, Global};
 

@@ -2,8 +2,8 @@
 
 ghost use Rattle.std.specs.Prelude.{◌≡◌, ℕ, IfOk, map, MatchOption, MatchResult};
 ghost use Rattle.cm_wit_text.specs.Views.{world_tree};
-ghost use Rattle.cm_wit_interfaces.specs.Interfaces as spec;
-ghost use Rattle.cm_wit_interfaces.specs.InterfaceViews.{files_of, placed_interface, placed_world};
+ghost use Rattle.cm_wit_worlds.specs.Interfaces as spec;
+ghost use Rattle.cm_wit_worlds.specs.InterfaceViews.{files_of, placed_interface, placed_world};
 ghost use Rattle.cm_wit_worlds.specs.Externs.{AreImports, found};
 ghost use Rattle.cm_wit_worlds.specs.Worlds.{AreWorldExterns, IsExternFault};
 
@@ -11,9 +11,9 @@ use crate::externs::{joined, written_exports, written_imports};
 use crate::fault::WorldFault;
 use crate::lists::{found, found_rows, other_needs};
 use crate::world::WorldExterns;
-use cm_depth_first::place_all;
-use cm_wit_interfaces::{Directory, PlacedInterface, PlacedWorld};
-use cm_wit_reach::reach_from;
+use crate::{Directory, PlacedInterface, PlacedWorld};
+use cm_graph::reach_from;
+use cm_order::place_all;
 use indexmap::IndexSet;
 use std::alloc::{AllocError, Global};
 

@@ -2,8 +2,8 @@
 
 use crate::signatures::read_signature;
 use cm_conforms::{ConformFault, ConformList, ConformReason, conforms};
+use cm_placed::Signature;
 use cm_rows::{RowFault, split_words};
-use cm_signatures::Signature;
 use std::alloc::{AllocError, Global};
 
 /// The answer to `SIGNATURE // SIGNATURE`, the second that of a world: `fits`, or the first fault

@@ -1,6 +1,6 @@
 //! Rows on numbers in LEB128.
 
-use cm_leb::{
+use cm_grammar::{
     LebFault, front_s33, front_u32, read_s33, read_u32, spelled_length, write_count, write_s33,
     write_u32,
 };

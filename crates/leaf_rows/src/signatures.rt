@@ -10,14 +10,13 @@
 
 ghost use Rattle.std.specs.Prelude.{◌≡◌, length};
 ghost use Rattle.cm_placed.specs.Instances.{are_items_there, is_desc_there};
-ghost use Rattle.cm_signatures.specs.Externs.{are_externs_in, is_extern_there};
+ghost use Rattle.cm_placed.specs.Externs.{are_externs_in, is_extern_there};
 
 use crate::arena::Arena;
 use crate::words::read_move;
-use cm_placed::{InstanceType, Item, ItemDesc, Placed};
+use cm_placed::{Extern, ExternDesc, InstanceType, Item, ItemDesc, Placed, Signature};
 use cm_replaced::Move;
 use cm_rows::{RowFault, read_number, split_repeat, split_words};
-use cm_signatures::{Extern, ExternDesc, Signature};
 use cm_type_arena::Types;
 use cm_types::{ExternName, NameFault};
 use std::alloc::Global;

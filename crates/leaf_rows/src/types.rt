@@ -9,8 +9,8 @@
 
 use crate::values::read_value;
 use crate::words::{read_label, read_labels, read_resource, read_resources};
+use cm_replaced::{same_func, same_type};
 use cm_rows::{RowFault, read_number, split_repeat, split_words};
-use cm_same_types::{same_func, same_type};
 use cm_types::{Case, Field, Func, ResourceId, TypeFault, TypeNode, TypeTree};
 use cm_values::has_type;
 use std::alloc::{AllocError, Global};

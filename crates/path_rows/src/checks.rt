@@ -1,9 +1,8 @@
 //! Rows on validation, and on what the indices of a valid component stand for.
 
 use crate::files::Files;
-use cm_placed::Placed;
+use cm_placed::{Extern, ExternDesc, Placed};
 use cm_rows::{RowFault, read_number};
-use cm_signatures::{Extern, ExternDesc};
 use cm_type_arena::Types;
 use cm_validate::{
     Checked, CoreFuncEntry, ExportEntry, ExportedEntry, FuncEntry, GuestExport, InstanceEntry,

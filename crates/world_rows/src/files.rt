@@ -2,7 +2,7 @@
 
 ghost use Rattle.std.specs.Prelude.{◌≡◌, IfOk, map};
 ghost use Rattle.cm_wit.specs.PackageViews.{package_tree};
-ghost use Rattle.cm_wit_interfaces.specs.InterfaceViews.{files_of};
+ghost use Rattle.cm_wit_worlds.specs.InterfaceViews.{files_of};
 
 use cm_wit::Package;
 use cm_wit_text::WitFile;

@@ -3,9 +3,9 @@
 ghost use Rattle.std.specs.Prelude.{◌≡◌, map};
 ghost use Rattle.std.specs.String.{string_bytes};
 ghost use Rattle.cm_wit.specs.PackageViews.{package_tree};
-ghost use Rattle.cm_wit_interfaces.specs.Interfaces as spec;
-ghost use Rattle.cm_wit_interfaces.specs.Interfaces.{package_name};
-ghost use Rattle.cm_wit_interfaces.specs.InterfaceViews.{files_of, placed_interface};
+ghost use Rattle.cm_wit_worlds.specs.Interfaces as spec;
+ghost use Rattle.cm_wit_worlds.specs.Interfaces.{package_name};
+ghost use Rattle.cm_wit_worlds.specs.InterfaceViews.{files_of, placed_interface};
 
 use crate::files::package_files;
 use crate::reading::show_fault;
@@ -14,10 +14,10 @@ use crate::worlds::{show_externs, world_fault};
 use crate::{signatures, tables};
 use cm_rows::RowFault;
 use cm_wit::{Package, parse};
-use cm_wit_interfaces::{
-    Directory, PlacedInterface, PlacedWorld, interfaces, package_names, worlds,
+use cm_wit_worlds::{
+    Directory, PlacedInterface, PlacedWorld, WorldFault, externs_of, interfaces, package_names,
+    worlds,
 };
-use cm_wit_worlds::{WorldFault, externs_of};
 use std::alloc::Global;
 
 /// What a row asks of packages.

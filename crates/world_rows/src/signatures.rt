@@ -1,9 +1,9 @@
 //! Rows on the signatures of worlds.
 
 use crate::worlds::world_fault;
+use cm_placed::Signature;
 use cm_rows::RowFault;
 use cm_show::{ShowFault, show};
-use cm_signatures::Signature;
 use cm_wit::Package;
 use cm_wit_signature::world_signature;
 use std::alloc::{AllocError, Global};

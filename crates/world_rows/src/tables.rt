@@ -1,16 +1,16 @@
 //! Rows on tables.
 
 ghost use Rattle.std.specs.Prelude.{◌≡◌, map};
-ghost use Rattle.cm_wit_interfaces.specs.Interfaces as spec;
-ghost use Rattle.cm_wit_interfaces.specs.InterfaceViews.{files_of, placed_interface};
+ghost use Rattle.cm_wit_worlds.specs.Interfaces as spec;
+ghost use Rattle.cm_wit_worlds.specs.InterfaceViews.{files_of, placed_interface};
 
 use crate::instances::read_instances;
 use crate::showing::{show_table, table_fault};
 use cm_rows::RowFault;
 use cm_type_arena::Types;
 use cm_wit_declared::declarations_of;
-use cm_wit_interfaces::{Directory, PlacedInterface};
 use cm_wit_tables::table_of;
+use cm_wit_worlds::{Directory, PlacedInterface};
 use std::alloc::Global;
 
 /// What the declarations of these instances stand for, or the first fault, of packages in a

@@ -1,9 +1,8 @@
 //! What worlds import and export, as rows show it.
 
 use cm_rows::RowFault;
-use cm_wit_interfaces::{PlacedInterface, PlacedWorld, full_name};
 use cm_wit_text::{WorldExtern, WorldItem};
-use cm_wit_worlds::{WorldExterns, WorldFault};
+use cm_wit_worlds::{PlacedInterface, PlacedWorld, WorldExterns, WorldFault, full_name};
 use std::alloc::{AllocError, Global};
 
 /// The number and the name of a world's fault.

@@ -1,5 +1,5 @@
 use Rattle.std.proofs.Common.{sym, subst, None}
-use Rattle.cm_signatures.specs.declared.signatures.ExternDesc.TheVariants as desc
+use Rattle.cm_placed.specs.declared.signatures.ExternDesc.TheVariants as desc
 use Rattle.cm_entries.specs.declared.spaces.ExportedEntry.{ExportedEntry}
 use Rattle.cm_checked_signature.specs.Made.{IsDescOf, IsNumbered}
 use Rattle.cm_checked_signature.proofs.ExternLaws.{instance_shown}

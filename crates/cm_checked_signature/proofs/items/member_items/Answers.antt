@@ -1,6 +1,6 @@
 use Rattle.std.proofs.Common.{rules, ◌≡◌, ◌∙◌, ◌++◌, ◌∷◌, [], ◌<◌, length, Some, None, slice_get, ap}
 use Rattle.cm_placed.specs.declared.instances.Item.{Item}
-use Rattle.cm_name_maps.specs.NameMaps.{entries_of}
+use Rattle.cm_extern_names.specs.NameMaps.{entries_of}
 use Rattle.cm_checked_signature.specs.Items.{member_item}
 use Rattle.cm_checked_signature.proofs.ItemLaws.{before_end, map_at}
 use Rattle.cm_checked_signature.proofs.items.member_items.Goals as goal

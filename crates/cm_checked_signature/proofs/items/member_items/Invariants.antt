@@ -1,5 +1,5 @@
 use Rattle.std.proofs.Common.{◌≡◌, map, take}
-use Rattle.cm_name_maps.specs.NameMaps.{entries_of}
+use Rattle.cm_extern_names.specs.NameMaps.{entries_of}
 use Rattle.cm_checked_signature.specs.Items.{member_item}
 use Rattle.cm_checked_signature.proofs.items.member_items.Given as goal
 

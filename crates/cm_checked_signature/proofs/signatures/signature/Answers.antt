@@ -1,6 +1,6 @@
 use Rattle.std.proofs.Common.{sym, ◌∙◌}
 use Rattle.cm_type_arena.specs.Places.{funcs_of, types_of}
-use Rattle.cm_signatures.specs.Signatures.{signature_of}
+use Rattle.cm_placed.specs.Signatures.{signature_of}
 use Rattle.cm_validate.specs.Checked.{funcs_in, sections_in, spaces_in, types_in}
 use Rattle.cm_checked_signature.specs.Exports.{signature_in}
 use Rattle.cm_checked_signature.proofs.ExternLaws.{imports_are, imports_there, shown_in, signature_is}

@@ -1,7 +1,7 @@
 use Rattle.std.proofs.Common.{◌≡◌, None, sym, ap, ◌∙◌}
 use Rattle.std.specs.Prelude.{is_some}
-use Rattle.cm_name_maps.specs.NameMaps.{entries_of}
-use Rattle.cm_name_maps.specs.Names.{names_in, place_of}
+use Rattle.cm_extern_names.specs.NameMaps.{entries_of}
+use Rattle.cm_extern_names.specs.NamedValues.{names_in, place_of}
 use Rattle.cm_core_spaces.proofs.PlaceLaws.{place_last, places_kept}
 use Rattle.cm_core_spaces.proofs.aliases.memory_number.Goals as goal
 

@@ -1,7 +1,7 @@
 use Rattle.std.proofs.Common.{map, refl, ap, ◌∙◌}
 use Rattle.std.specs.String.{string_bytes}
 use Rattle.cm_component.specs.Trees.{ArgTree, arg_tree}
-use Rattle.cm_name_maps.specs.NameMaps.{entries_of}
+use Rattle.cm_extern_names.specs.NameMaps.{entries_of}
 use Rattle.cm_validity.specs.Rules.{are_distinct_texts}
 use Rattle.cm_core_spaces.proofs.PlaceLaws.{has_name, name_more}
 use Rattle.cm_core_spaces.proofs.TextLaws.{at_first, seen_first, was_new, mapped_twice}

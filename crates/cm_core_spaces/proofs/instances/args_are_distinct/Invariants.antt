@@ -2,7 +2,7 @@ use Rattle.std.proofs.Common.{◌≡◌, map, drop}
 use Rattle.std.specs.String.{string_bytes}
 use Rattle.cm_component.specs.Trees.{arg_tree}
 use Rattle.cm_validity.specs.Rules.{are_distinct_texts}
-use Rattle.cm_name_maps.specs.NameMaps.{entries_of}
+use Rattle.cm_extern_names.specs.NameMaps.{entries_of}
 use Rattle.cm_core_spaces.proofs.PlaceLaws.{has_name}
 use Rattle.cm_core_spaces.proofs.TextLaws.{rest_is_distinct}
 use Rattle.cm_core_spaces.proofs.instances.args_are_distinct.Given as goal

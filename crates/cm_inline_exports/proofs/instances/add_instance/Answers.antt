@@ -1,12 +1,12 @@
 use Rattle.std.proofs.Common.{◌≡◌, ◌++◌, None, map, sym, ap, ◌∙◌, MatchOption, subst}
 use Rattle.std.specs.List.{flat_map}
-use Rattle.cm_name_maps.specs.NameMaps.{entries_of}
+use Rattle.cm_extern_names.specs.NameMaps.{entries_of}
 use Rattle.cm_type_arena.specs.Places.{funcs_of, types_of}
 use Rattle.cm_validity.specs.Items.{instance_item}
 use Rattle.cm_validity.specs.Reasons.{least}
 use Rattle.cm_validity.specs.Rules.{broken}
 use Rattle.cm_validity.specs.Spaces.{Spaces}
-use Rattle.cm_item_names.specs.Sketches.{sketch_named}
+use Rattle.cm_instance_types.specs.Sketches.{sketch_named}
 use Rattle.cm_entries.specs.ComponentSpaces.{AreTypesOf, IsComponentOf}
 use Rattle.cm_inline_exports.specs.Members.{AreMembers, Stand, export_sketches}
 use Rattle.cm_inline_exports.proofs.GatherLaws.{stays}

@@ -1,6 +1,6 @@
 use Rattle.std.proofs.Common.{map, refl}
 use Rattle.cm_validity.specs.Rules.{member_broken}
-use Rattle.cm_item_names.specs.Sketches.{sketch_named}
+use Rattle.cm_instance_types.specs.Sketches.{sketch_named}
 use Rattle.cm_inline_exports.specs.Members.{export_sketches}
 use Rattle.cm_inline_exports.proofs.NameLaws.{read_all, read_more}
 use Rattle.cm_inline_exports.proofs.ReasonLaws.{read_end, read_on}

@@ -4,7 +4,7 @@ use Rattle.cm_type_arena.specs.Places.{funcs_of, types_of}
 use Rattle.cm_validity.specs.Reasons.{least, lesser}
 use Rattle.cm_validity.specs.Rules.{member_broken}
 use Rattle.cm_validity.specs.Spaces.{Spaces}
-use Rattle.cm_item_names.specs.Sketches.{sketch_named}
+use Rattle.cm_instance_types.specs.Sketches.{sketch_named}
 use Rattle.cm_inline_exports.specs.Members.{Stand, export_sketches}
 use Rattle.cm_inline_exports.proofs.ReasonLaws.{rest_fault}
 use Rattle.cm_inline_exports.proofs.members.examine.Given as goal

@@ -1,7 +1,7 @@
 use Rattle.std.proofs.Common.{◌++◌, sym, ap, ◌∙◌, map}
 use Rattle.std.proofs.lemmas.List.{append-nil}
 use Rattle.cm_type_arena.specs.Places.{funcs_of, types_of}
-use Rattle.cm_item_names.specs.Sketches.{sketch_named}
+use Rattle.cm_instance_types.specs.Sketches.{sketch_named}
 use Rattle.cm_inline_exports.proofs.MemberLaws.{broken_sketch, fine_sketch}
 use Rattle.cm_inline_exports.proofs.members.examine_one.Goals as goal
 

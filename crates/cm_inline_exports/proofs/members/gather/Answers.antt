@@ -6,7 +6,7 @@ use Rattle.cm_inline_exports.proofs.GatherLaws.{all_pushed, broken_at, broken_no
 use Rattle.cm_inline_exports.proofs.MemberLaws.{one_named}
 use Rattle.cm_inline_exports.proofs.NameLaws.{here_empty, later_empty, taken_all}
 use Rattle.cm_inline_exports.proofs.TextLaws.{at_first, has_key, key_more, one_more_def, seen_again, seen_first, was_new, was_seen}
-use Rattle.cm_name_maps.specs.NameMaps.{entries_of}
+use Rattle.cm_extern_names.specs.NameMaps.{entries_of}
 use Rattle.cm_inline_exports.proofs.members.gather.Goals as goal
 
 pub loop-export-init : goal.loop-export-init

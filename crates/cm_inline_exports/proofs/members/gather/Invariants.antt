@@ -5,7 +5,7 @@ use Rattle.cm_validity.specs.Rules.{are_distinct_texts, member_broken}
 use Rattle.cm_validity.specs.Spaces.{Spaces}
 use Rattle.cm_validity.specs.Spaces.{named_member as member_of_export}
 use Rattle.cm_entries.specs.Entries.{is_member_there, named_member}
-use Rattle.cm_name_maps.specs.NameMaps.{entries_of}
+use Rattle.cm_extern_names.specs.NameMaps.{entries_of}
 use Rattle.cm_inline_exports.specs.Members.{Stand}
 use Rattle.cm_inline_exports.proofs.TextLaws.{has_key, rest_is_distinct}
 use Rattle.cm_inline_exports.proofs.members.gather.Given as goal

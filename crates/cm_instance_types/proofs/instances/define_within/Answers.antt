@@ -1,6 +1,6 @@
 use Rattle.std.proofs.Common.{◌≡◌, ◌++◌, ◌∷◌, [], subst, map, IfOk, MatchOption}
 use Rattle.std.specs.List.{AllByRecursion}
-use Rattle.cm_counted.specs.CountedSpaces.{IsDefCounted}
+use Rattle.cm_validity.specs.CountedSpaces.{IsDefCounted}
 use Rattle.cm_types.specs.DefTypes.{declaration_tree}
 use Rattle.cm_validity.specs.Declarations.{instance_def_broken, instance_defined}
 use Rattle.cm_validity.specs.Definitions.{instance_type}

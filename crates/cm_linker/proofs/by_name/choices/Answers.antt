@@ -3,7 +3,7 @@ use Rattle.std.specs.Option.{option_map}
 use Rattle.cm_types.specs.Signatures.{NamedExtern}
 use Rattle.cm_candidates.specs.Fitting.{only}
 use Rattle.cm_candidates.specs.Tables.{HasExports}
-use Rattle.cm_signatures.specs.Externs.{extern_of}
+use Rattle.cm_placed.specs.Externs.{extern_of}
 use Rattle.cm_validate.specs.Checked.{funcs_in, spaces_in, types_in}
 use Rattle.cm_links.specs.Imports.{candidates, exports_before, exports_from}
 use Rattle.cm_linker.specs.Choices.{choices_in}

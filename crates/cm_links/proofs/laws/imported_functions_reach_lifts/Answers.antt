@@ -1,4 +1,4 @@
-use Rattle.cm_functions.specs.Imported.{IsAsImported, IsLoweredAsImported}
+use Rattle.cm_validity.specs.Imported.{IsAsImported, IsLoweredAsImported}
 use Rattle.cm_links.proofs.ReachLaws.{all_any, reach, told_of}
 use Rattle.cm_links.proofs.laws.imported_functions_reach_lifts.Goals as goal
 

@@ -1,4 +1,4 @@
-use Rattle.cm_functions.specs.Named.{IsLiftWhole, IsLowerWhole}
+use Rattle.cm_validity.specs.Named.{IsLiftWhole, IsLowerWhole}
 use Rattle.cm_validity.specs.Valid.{IsValid}
 use Rattle.cm_links.proofs.ReachLaws.{told_of, whole}
 use Rattle.cm_links.proofs.laws.targets_are_lifts.Goals as goal

@@ -1,5 +1,5 @@
 use Rattle.std.proofs.Common.{rules, ◌<◌, ◌≤◌, arith, length, subst, List}
-use Rattle.cm_plan.specs.declared.plan.TheConstants.{MAX_COMPONENTS}
+use Rattle.cm_links.specs.declared.plan.TheConstants.{MAX_COMPONENTS}
 use Rattle.cm_linker.specs.cm_validate.declared.checked.Checked.{Checked}
 use Rattle.cm_linker.specs.Choices.{AreChoices}
 use Rattle.cm_linker.specs.Sets.{set_of}

@@ -3,7 +3,7 @@ use Rattle.cm_types.specs.Signatures.{ItemTy, equal_resource}
 use Rattle.cm_types.specs.declared.resource.ResourceId.{ResourceId}
 use Rattle.cm_placed.specs.Instances.{numbered}
 use Rattle.cm_validity.specs.Spaces.{item_of_member}
-use Rattle.cm_plan.specs.declared.fault.LinkReason.TheVariants as reason
+use Rattle.cm_links.specs.declared.fault.LinkReason.TheVariants as reason
 use Rattle.cm_links.specs.Serving.{standing}
 use Rattle.cm_entries.specs.Entries.{member_def}
 use Rattle.cm_entries.specs.declared.entries.MemberEntry.{MemberEntry}

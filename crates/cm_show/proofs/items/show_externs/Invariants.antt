@@ -1,4 +1,4 @@
-use Rattle.cm_show_types.specs.Written.{Wrote}
+use Rattle.cm_show.specs.Written.{Wrote}
 use Rattle.cm_show.proofs.LineLaws.{first_lines, placed_lines}
 use Rattle.cm_show.proofs.items.show_externs.Given as goal
 

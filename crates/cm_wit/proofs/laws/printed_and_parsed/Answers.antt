@@ -1,4 +1,4 @@
-use Rattle.cm_wit_print.specs.Printed.{file_text}
+use Rattle.cm_wit.specs.Printed.{file_text}
 use Rattle.cm_wit.proofs.PrintedLaws.{parsed_is}
 use Rattle.cm_wit.proofs.laws.printed_and_parsed.Goals as goal
 

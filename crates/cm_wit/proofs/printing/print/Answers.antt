@@ -1,7 +1,7 @@
 use Rattle.std.proofs.Common.{ap, ◌∙◌}
 use Rattle.std.specs.String.{string_bytes}
 use Rattle.std.proofs.lemmas.Result.{IfOk-weaker}
-use Rattle.cm_wit_print.specs.Printed.{file_text}
+use Rattle.cm_wit.specs.Printed.{file_text}
 use Rattle.cm_wit.specs.PackageViews.{package_tree}
 use Rattle.cm_wit.proofs.PrintedLaws.{printed_is}
 use Rattle.cm_wit.proofs.printing.print.Goals as goal

@@ -1,8 +1,8 @@
 use Rattle.std.proofs.Common.{◌≡◌, ◌≤◌, ◌∙◌, inl, inr, map, length, ap, arith}
 use Rattle.std.proofs.lemmas.Bool.{cases_lt}
 use Rattle.std.proofs.lemmas.List.{length-map}
-use Rattle.cm_wit_interfaces.specs.Interfaces as spec
-use Rattle.cm_wit_interfaces.specs.InterfaceViews.{files_of, placed_interface}
+use Rattle.cm_wit_worlds.specs.Interfaces as spec
+use Rattle.cm_wit_worlds.specs.InterfaceViews.{files_of, placed_interface}
 use Rattle.cm_wit_declared.specs.DeclaredViews.{declaration_view, instance_view}
 use Rattle.cm_wit_declared.specs.Placings.{instances_in}
 use Rattle.cm_wit_declared.proofs.PlaceLaws.{nothing_declared}

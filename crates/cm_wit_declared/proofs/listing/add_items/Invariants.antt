@@ -1,7 +1,7 @@
 use Rattle.std.specs.List.{flat_map}
 use Rattle.cm_wit_text.specs.Views.{interface_item_tree}
-use Rattle.cm_wit_interfaces.specs.InterfaceViews.{files_of}
-use Rattle.cm_wit_scopes.specs.Worlds.{item_declarations}
+use Rattle.cm_wit_worlds.specs.InterfaceViews.{files_of}
+use Rattle.cm_wit_declared.specs.Worlds.{item_declarations}
 use Rattle.cm_wit_declared.specs.DeclaredViews.{declaration_view}
 use Rattle.cm_wit_declared.specs.Placings.{instances_in}
 use Rattle.cm_wit_declared.proofs.ListLaws.{Makes}

@@ -1,6 +1,6 @@
 use Rattle.std.proofs.Common.{[], map}
-use Rattle.cm_wit_interfaces.specs.InterfaceViews.{files_of}
-use Rattle.cm_wit_scopes.specs.Worlds.{declarations_from}
+use Rattle.cm_wit_worlds.specs.InterfaceViews.{files_of}
+use Rattle.cm_wit_declared.specs.Worlds.{declarations_from}
 use Rattle.cm_wit_declared.specs.DeclaredViews.{declaration_view, instance_view}
 use Rattle.cm_wit_declared.proofs.ListLaws.{Makes}
 use Rattle.cm_wit_declared.proofs.listing.declarations_of.Given as goal

@@ -1,7 +1,7 @@
 use Rattle.std.proofs.Common.{rules}
 use Rattle.cm_wit_meanings.specs.Places.{scope_in}
 use Rattle.cm_wit_meanings.specs.Scopes.{Meaning}
-use Rattle.cm_wit_signature_model.specs.Members.{item_with, own_type, member_item, declared}
+use Rattle.cm_wit_items.specs.Members.{item_with, own_type, member_item, declared}
 use Rattle.cm_wit_items.specs.ItemFaults.{IsItemFault}
 use Rattle.cm_wit_items.proofs.ItemLaws.{refused}
 use Rattle.cm_wit_items.proofs.items.own_item.Goals as goal

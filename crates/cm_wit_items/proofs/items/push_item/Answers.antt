@@ -1,9 +1,9 @@
 use Rattle.std.proofs.Common.{IfErr, sym, subst}
 use Rattle.cm_type_arena.specs.Places.{types_of}
 use Rattle.cm_wit_meanings.specs.Places.{scope_in}
-use Rattle.cm_wit_signature_model.specs.Members.{member_item}
-use Rattle.cm_wit_members.specs.declared.members.Member as code
-use Rattle.cm_wit_members.specs.MemberViews.{member_view}
+use Rattle.cm_wit_items.specs.Members.{member_item}
+use Rattle.cm_wit_items.specs.declared.members.Member as code
+use Rattle.cm_wit_items.specs.MemberViews.{member_view}
 use Rattle.cm_wit_items.specs.ItemFaults.{IsItemFault}
 use Rattle.cm_wit_items.proofs.items.push_item.Goals as goal
 

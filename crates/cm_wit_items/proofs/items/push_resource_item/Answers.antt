@@ -5,7 +5,7 @@ use Rattle.cm_types.specs.Types.{FuncTy}
 use Rattle.cm_types.specs.Signatures.{func_item}
 use Rattle.cm_wit_text.specs.Views.{resource_func_tree}
 use Rattle.cm_wit_meanings.specs.Places.{scope_in}
-use Rattle.cm_wit_signature_model.specs.Members.{item_with, func_name, member_func}
+use Rattle.cm_wit_items.specs.Members.{item_with, func_name, member_func}
 use Rattle.cm_wit_items.specs.ItemFaults.{IsItemFault}
 use Rattle.cm_wit_items.proofs.ItemLaws.{func_refused, no_resource, of_resource_made, item_made}
 use Rattle.cm_wit_items.proofs.items.push_resource_item.Goals as goal

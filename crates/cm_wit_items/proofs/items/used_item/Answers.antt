@@ -1,7 +1,7 @@
 use Rattle.std.proofs.Common.{rules}
 use Rattle.cm_wit_meanings.specs.Places.{scope_in}
 use Rattle.cm_wit_meanings.specs.Scopes.{Meaning}
-use Rattle.cm_wit_signature_model.specs.Members.{item_with, used_type, member_item, used}
+use Rattle.cm_wit_items.specs.Members.{item_with, used_type, member_item, used}
 use Rattle.cm_wit_items.specs.ItemFaults.{IsItemFault}
 use Rattle.cm_wit_items.proofs.ItemLaws.{refused}
 use Rattle.cm_wit_items.proofs.items.used_item.Goals as goal

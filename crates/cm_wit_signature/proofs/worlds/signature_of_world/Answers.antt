@@ -1,7 +1,7 @@
 use Rattle.std.proofs.Common.{rules, ◌≡◌, ◌≤◌, ◌∙◌, Some, length, map, ap, sym}
 use Rattle.std.specs.List.{position_from}
-use Rattle.cm_wit_interfaces.specs.Interfaces.{is_world, worlds}
-use Rattle.cm_wit_interfaces.specs.InterfaceViews.{files_of, placed_world}
+use Rattle.cm_wit_worlds.specs.Interfaces.{is_world, worlds}
+use Rattle.cm_wit_worlds.specs.InterfaceViews.{files_of, placed_world}
 use Rattle.cm_wit_signature.proofs.FoundLaws.{world_found, none_found, fault_of_found}
 use Rattle.cm_wit_signature.proofs.worlds.signature_of_world.Goals as goal
 

@@ -1,4 +1,4 @@
-use Rattle.cm_wit_signature_model.specs.Named.{imported}
+use Rattle.cm_wit_items.specs.Named.{imported}
 use Rattle.cm_wit_declared.specs.DeclaredViews.{instance_view}
 use Rattle.cm_wit_typing.proofs.ListLaws.{Shows}
 use Rattle.cm_wit_typing.proofs.reaching.imports_of.Given as goal

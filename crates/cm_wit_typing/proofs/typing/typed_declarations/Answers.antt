@@ -1,6 +1,6 @@
 use Rattle.std.proofs.Common.{map, ap, sym, subst, ◌∙◌}
-use Rattle.cm_wit_interfaces.specs.InterfaceViews.{files_of, placed_world}
-use Rattle.cm_wit_scopes.specs.TypeFaults.{AllHaveTypes}
+use Rattle.cm_wit_worlds.specs.InterfaceViews.{files_of, placed_world}
+use Rattle.cm_wit_declared.specs.TypeFaults.{AllHaveTypes}
 use Rattle.cm_wit_declared.specs.DeclaredViews.{declaration_view}
 use Rattle.cm_wit_typing.proofs.TypedLaws.{have_types, each_has, own_has, true_not}
 use Rattle.cm_wit_typing.proofs.typing.typed_declarations.Goals as goal

@@ -1,6 +1,6 @@
 use Rattle.std.proofs.Common.{[]}
 use Rattle.cm_wit_text.specs.Views.{world_item_tree}
-use Rattle.cm_wit_interfaces.specs.InterfaceViews.{files_of}
+use Rattle.cm_wit_worlds.specs.InterfaceViews.{files_of}
 use Rattle.cm_wit_worlds.specs.Externs.{imports_from}
 use Rattle.cm_wit_worlds.proofs.ListLaws.{Ends}
 use Rattle.cm_wit_worlds.proofs.externs.written_imports.Given as goal

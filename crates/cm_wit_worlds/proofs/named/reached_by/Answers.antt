@@ -1,6 +1,6 @@
 use Rattle.std.proofs.Common.{rules, ◌≡◌, ◌∙◌, map, ap}
-use Rattle.cm_wit_interfaces.specs.Interfaces.{use_targets}
-use Rattle.cm_wit_interfaces.specs.InterfaceViews.{files_of, placed_world}
+use Rattle.cm_wit_worlds.specs.Interfaces.{use_targets}
+use Rattle.cm_wit_worlds.specs.InterfaceViews.{files_of, placed_world}
 use Rattle.cm_wit_worlds.specs.Worlds.{named, rows_of}
 use Rattle.cm_wit_worlds.proofs.NamedLaws.{marks_same}
 use Rattle.cm_wit_worlds.proofs.named.reached_by.Goals as goal

@@ -1,9 +1,9 @@
 use Rattle.std.proofs.Common.{rules, ◌≡◌, ◌++◌, List, Option, ℕ, map, length, sym, ap, subst, ◌∙◌}
 use Rattle.std.proofs.lemmas.List.{length-map}
 use Rattle.cm_wit_text.specs.Views.{world_item_tree}
-use Rattle.cm_wit_interfaces.specs.Interfaces as spec
-use Rattle.cm_wit_interfaces.specs.Interfaces.{use_targets}
-use Rattle.cm_wit_interfaces.specs.InterfaceViews.{files_of, placed_interface, placed_world}
+use Rattle.cm_wit_worlds.specs.Interfaces as spec
+use Rattle.cm_wit_worlds.specs.Interfaces.{use_targets}
+use Rattle.cm_wit_worlds.specs.InterfaceViews.{files_of, placed_interface, placed_world}
 use Rattle.cm_wit_worlds.specs.Externs.{imports_from, exports_from, found}
 use Rattle.cm_wit_worlds.specs.Worlds.{rows_of, written_imports, written_exports, named}
 use Rattle.cm_wit_worlds.proofs.OrderLaws.{imports_same, missing_same, cycle_same, true_not}

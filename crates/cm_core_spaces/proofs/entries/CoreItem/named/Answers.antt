@@ -1,6 +1,6 @@
 use Rattle.std.proofs.Common.{◌∙◌, ap}
 use Rattle.std.specs.Option.{option_map}
-use Rattle.cm_name_maps.specs.NameMaps.{entries_of}
+use Rattle.cm_extern_names.specs.NameMaps.{entries_of}
 use Rattle.cm_core_spaces.specs.Entries.{def_of}
 use Rattle.cm_core_spaces.proofs.NameLaws.{named_law, numbered_law}
 use Rattle.cm_core_spaces.proofs.entries.CoreItem.named.Goals as goal

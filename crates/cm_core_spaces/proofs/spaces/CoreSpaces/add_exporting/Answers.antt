@@ -2,11 +2,11 @@ use Rattle.std.proofs.Common.{◌≡◌, map, sym, ap, ◌∙◌}
 use Rattle.std.specs.List.{flat_map}
 use Rattle.std.specs.Prelude.{is_some}
 use Rattle.cm_component.specs.Trees.{core_export_tree, core_exports}
-use Rattle.cm_reasons.specs.declared.fault.ValidReason.TheVariants as reason
+use Rattle.cm_validity.specs.declared.fault.ValidReason.TheVariants as reason
 use Rattle.cm_validity.specs.Definitions.{exporting}
 use Rattle.cm_validity.specs.Reasons.{least, unless}
 use Rattle.cm_validity.specs.Spaces.{named_core_def}
-use Rattle.cm_name_maps.specs.NameMaps.{entries_of}
+use Rattle.cm_extern_names.specs.NameMaps.{entries_of}
 use Rattle.cm_core_spaces.specs.CoreSpaces.{AreItemsNumbered, memory_names_of}
 use Rattle.cm_core_spaces.specs.Entries.{named_def}
 use Rattle.cm_core_spaces.proofs.InstanceLaws.{export_missing, exports_there, some_has}

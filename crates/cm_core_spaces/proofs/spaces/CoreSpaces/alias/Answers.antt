@@ -1,6 +1,6 @@
 use Rattle.std.proofs.Common.{◌≡◌, Some, None, sym, ap, ◌∙◌}
 use Rattle.std.specs.Option.{option_map}
-use Rattle.cm_reasons.specs.declared.fault.ValidReason.TheVariants as reason
+use Rattle.cm_validity.specs.declared.fault.ValidReason.TheVariants as reason
 use Rattle.cm_validity.specs.Reasons.{least, unless}
 use Rattle.cm_validity.specs.Spaces.{aliased_core}
 use Rattle.cm_core_spaces.specs.CoreSpaces.{memory_names_of}

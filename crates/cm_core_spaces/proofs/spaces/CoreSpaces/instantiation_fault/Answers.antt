@@ -1,7 +1,7 @@
 use Rattle.std.proofs.Common.{◌≡◌, nat_lt, true, false, arith, sym, ap, ◌∙◌, map}
 use Rattle.std.proofs.lemmas.Bool.Decides.{nat_tests}
 use Rattle.cm_component.specs.Trees.{arg_tree}
-use Rattle.cm_reasons.specs.declared.fault.ValidReason.TheVariants as reason
+use Rattle.cm_validity.specs.declared.fault.ValidReason.TheVariants as reason
 use Rattle.cm_validity.specs.Reasons.{least, unless}
 use Rattle.cm_core_spaces.proofs.InstanceLaws.{arg_missing, args_there, module_missing}
 use Rattle.cm_core_spaces.proofs.spaces.CoreSpaces.instantiation_fault.Goals.{then-module_index-self-via-then-module_index-self, then-module_index-self-via-else-module_index-self+then-not-args_are_there}

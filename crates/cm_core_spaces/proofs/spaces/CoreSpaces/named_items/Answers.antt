@@ -6,7 +6,7 @@ use Rattle.cm_component.specs.Trees.{CoreExportTree, core_export_tree}
 use Rattle.cm_validity.specs.Rules.{are_distinct_texts}
 use Rattle.cm_validity.specs.Spaces.{core_def_at, named_core_def}
 use Rattle.cm_core_spaces.specs.CoreSpaces.{IsItemNumbered, memory_names_of}
-use Rattle.cm_name_maps.specs.NameMaps.{entries_of}
+use Rattle.cm_extern_names.specs.NameMaps.{entries_of}
 use Rattle.cm_core_spaces.specs.Entries.{def_of, named_def}
 use Rattle.cm_core_spaces.specs.Instances.{is_export_there}
 use Rattle.cm_core_spaces.proofs.InstanceLaws.{export_there, no_more, one_def, passes_here}

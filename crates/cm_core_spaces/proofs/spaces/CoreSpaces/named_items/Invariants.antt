@@ -8,7 +8,7 @@ use Rattle.cm_validity.specs.Spaces.{Spaces, named_core_def}
 use Rattle.cm_core_spaces.specs.CoreSpaces.{AreItemsNumbered, IsCoreOf, memory_names_of}
 use Rattle.cm_core_spaces.specs.Entries.{named_def}
 use Rattle.cm_core_spaces.specs.Instances.{is_export_there}
-use Rattle.cm_name_maps.specs.NameMaps.{entries_of}
+use Rattle.cm_extern_names.specs.NameMaps.{entries_of}
 use Rattle.cm_core_spaces.proofs.PlaceLaws.{has_name}
 use Rattle.cm_core_spaces.proofs.TextLaws.{rest_is_distinct}
 use Rattle.cm_core_spaces.proofs.spaces.CoreSpaces.named_items.Given as goal

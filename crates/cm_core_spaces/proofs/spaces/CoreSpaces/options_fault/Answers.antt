@@ -1,6 +1,6 @@
 use Rattle.std.proofs.Common.{◌∙◌, ap, sym}
 use Rattle.std.specs.List.{flat_map}
-use Rattle.cm_reasons.specs.declared.fault.ValidReason.TheVariants as reason
+use Rattle.cm_validity.specs.declared.fault.ValidReason.TheVariants as reason
 use Rattle.cm_validity.specs.Options.{are_once, option_broken}
 use Rattle.cm_validity.specs.Reasons.{least, lesser, unless}
 use Rattle.cm_core_spaces.proofs.spaces.CoreSpaces.options_fault.Goals as goal

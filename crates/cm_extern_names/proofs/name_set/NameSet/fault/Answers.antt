@@ -1,6 +1,6 @@
 use Rattle.std.proofs.Common.{not, ap, sym, ◌∙◌}
 use Rattle.std.specs.BTreeSet.{contains_text}
-use Rattle.cm_reasons.specs.declared.fault.ValidReason.TheVariants as reason
+use Rattle.cm_validity.specs.declared.fault.ValidReason.TheVariants as reason
 use Rattle.cm_validity.specs.Reasons.{least, lesser, unless}
 use Rattle.cm_extern_names.specs.Forms.{form_broken}
 use Rattle.cm_extern_names.specs.NameSets.{known_broken, name_of}

@@ -5,7 +5,7 @@ use Rattle.cm_validity.specs.Definitions.{instance_type}
 use Rattle.cm_validity.specs.Items.{type_item}
 use Rattle.cm_validity.specs.Reasons.{least}
 use Rattle.cm_validity.specs.Spaces.{next_resource}
-use Rattle.cm_counted.specs.CountedSpaces.{AreSpacesCounted}
+use Rattle.cm_validity.specs.CountedSpaces.{AreSpacesCounted}
 use Rattle.cm_type_scope.specs.TypeScopes.{own_types}
 use Rattle.cm_index_spaces.specs.IndexSpaces.{funcs_in, types_in}
 use Rattle.cm_index_spaces.proofs.AnswerLaws.{component_stays, types_answer}

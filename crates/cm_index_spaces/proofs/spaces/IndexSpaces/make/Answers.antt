@@ -1,6 +1,6 @@
 use Rattle.std.proofs.Common.{None, sym, subst, ◌∙◌, Option}
 use Rattle.cm_component.specs.Trees.{canon_tree}
-use Rattle.cm_reasons.specs.declared.fault.ValidReason.{ValidReason}
+use Rattle.cm_validity.specs.declared.fault.ValidReason.{ValidReason}
 use Rattle.cm_index_spaces.specs.Making.{Makes}
 use Rattle.cm_index_spaces.specs.declared.made.MadeFunc.{MadeFunc}
 use Rattle.cm_index_spaces.proofs.AnswerLaws.{is_none}

@@ -1,5 +1,5 @@
 use Rattle.std.proofs.Common.{refl}
-use Rattle.cm_origins.specs.Origins.{origin_of}
+use Rattle.cm_links.specs.Origins.{origin_of}
 use Rattle.cm_links.specs.Imports.{links_of}
 use Rattle.cm_linker.specs.Linkings.{set_in}
 use Rattle.cm_linker.proofs.linking.Linking.origin.Goals as goal

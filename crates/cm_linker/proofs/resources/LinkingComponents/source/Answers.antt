@@ -2,8 +2,8 @@ use Rattle.std.proofs.Common.{◌≡◌, ◌∙◌, Some, None, List, ℕ, Optio
 use Rattle.std.specs.Option.{option_map}
 use Rattle.cm_instance_items.specs.Ranges.{resource_def}
 use Rattle.cm_instance_items.specs.declared.ranges.Resource.{Resource}
-use Rattle.cm_origins.specs.Components.{source_view}
-use Rattle.cm_origins.specs.Sets.{source_by}
+use Rattle.cm_links.specs.Components.{source_view}
+use Rattle.cm_links.specs.Sets.{source_by}
 use Rattle.cm_linker.specs.Linkings.{components_in, set_in}
 use Rattle.cm_linker.proofs.Found.{got, source_told}
 use Rattle.cm_linker.proofs.resources.LinkingComponents.source.Goals as goal

@@ -6,7 +6,7 @@ use Rattle.cm_placed.specs.Instances.{items_of, replaced_item}
 use Rattle.cm_placed.specs.Placed.{moved_by, placed_func}
 use Rattle.cm_placed.specs.declared.instances.InstanceType.{InstanceType}
 use Rattle.cm_placed.specs.declared.instances.Item.{Item}
-use Rattle.cm_signatures.specs.Externs.{extern_desc_of}
+use Rattle.cm_placed.specs.Externs.{extern_desc_of}
 use Rattle.cm_validity.specs.Definitions.{ExportDef}
 use Rattle.cm_entries.specs.ComponentSpaces.{exported_def}
 use Rattle.cm_entries.specs.Entries.{func_def}

@@ -1,5 +1,5 @@
 use Rattle.std.proofs.Common.{◌∙◌, sym}
-use Rattle.cm_origins.specs.declared.component.Link.{Link}
+use Rattle.cm_links.specs.declared.component.Link.{Link}
 use Rattle.cm_links.specs.Imports.{candidates}
 use Rattle.cm_linker.specs.Linkings.{set_in}
 use Rattle.cm_serving.proofs.Judging.{chosen, if_ok_more, import_answer, linked, one_link}

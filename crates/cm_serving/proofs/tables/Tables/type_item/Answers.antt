@@ -2,7 +2,7 @@ use Rattle.std.proofs.Common.{Option, sym, ap, subst}
 use Rattle.cm_types.specs.Signatures.{ItemTy, equal_type}
 use Rattle.cm_placed.specs.Placed.{placed_type}
 use Rattle.cm_validity.specs.Spaces.{item_of_member}
-use Rattle.cm_plan.specs.declared.fault.LinkReason.TheVariants as reason
+use Rattle.cm_links.specs.declared.fault.LinkReason.TheVariants as reason
 use Rattle.cm_links.specs.Serving.{IsSameType}
 use Rattle.cm_entries.specs.Entries.{member_def}
 use Rattle.cm_entries.specs.declared.entries.MemberEntry.{MemberEntry}

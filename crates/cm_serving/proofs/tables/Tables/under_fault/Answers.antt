@@ -2,7 +2,7 @@ use Rattle.std.proofs.Common.{◌∙◌, Option, ap, subst, option_and_then}
 use Rattle.std.specs.Prelude.{IfOk}
 use Rattle.cm_types.specs.Signatures.{ItemTy}
 use Rattle.cm_validity.specs.Spaces.{item_of_member}
-use Rattle.cm_plan.specs.declared.fault.LinkReason.TheVariants as reason
+use Rattle.cm_links.specs.declared.fault.LinkReason.TheVariants as reason
 use Rattle.cm_links.specs.Serving.{IsUnserved, item_under}
 use Rattle.cm_entries.specs.Entries.{members_of}
 use Rattle.cm_serving.specs.Answers.{JudgesItem, wanted_desc}

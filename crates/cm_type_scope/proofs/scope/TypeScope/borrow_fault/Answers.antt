@@ -3,7 +3,7 @@ use Rattle.std.specs.Option.{option_map}
 use Rattle.cm_types.specs.declared.def_types.ValType.{ValType}
 use Rattle.cm_types.specs.Holds.{holds, is_borrow}
 use Rattle.cm_type_arena.specs.declared.summaries.Summary.{Summary}
-use Rattle.cm_reasons.specs.declared.fault.ValidReason.TheVariants as reason
+use Rattle.cm_validity.specs.declared.fault.ValidReason.TheVariants as reason
 use Rattle.cm_validity.specs.Reasons.{if_found, least, unless}
 use Rattle.cm_validity.specs.TypeRules.{no_borrow_broken}
 use Rattle.cm_type_scope.specs.Expansion.{value_or_bool}

@@ -1,5 +1,5 @@
 use Rattle.std.proofs.Common.{length}
-use Rattle.cm_component_spaces.specs.cm_index_spaces.Made.{is_core_func_there}
+use Rattle.cm_index_spaces.specs.Made.{is_core_func_there}
 use Rattle.cm_validate.specs.Checked.{funcs_in, spaces_in}
 use Rattle.cm_validate.proofs.SetLaws.{core_func_set, held, held_of}
 use Rattle.cm_validate.proofs.checked.Checked.core.Goals as goal

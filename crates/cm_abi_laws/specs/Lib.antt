@@ -1,6 +1,0 @@
-pub mod Asking
-pub mod Bytes
-pub mod Leaves
-pub mod Parts
-pub mod Passed
-pub mod Strings

@@ -1,0 +1,38 @@
+use Rattle.cm_abi_model.proofs.PassedLaws.{params_behind, params_flat, params_kinds, params_lowered, params_pass, params_spilled, results_behind, results_flat, results_kinds, results_lowered, results_pass, results_spilled}
+use Rattle.cm_abi_model.proofs.standard_laws.many_values_are_behind_a_pointer.Goals as goal
+
+pub returns-clause-params_flat : goal.returns-clause-params_flat
+returns-clause-params_flat c = params_flat
+
+pub returns-clause-params_flat_only : goal.returns-clause-params_flat_only
+returns-clause-params_flat_only c = params_pass
+
+pub returns-clause-params_behind : goal.returns-clause-params_behind
+returns-clause-params_behind c = params_spilled
+
+pub returns-clause-params_behind_only : goal.returns-clause-params_behind_only
+returns-clause-params_behind_only c = params_behind
+
+pub returns-clause-result_flat : goal.returns-clause-result_flat
+returns-clause-result_flat c = results_flat
+
+pub returns-clause-result_flat_only : goal.returns-clause-result_flat_only
+returns-clause-result_flat_only c = results_pass
+
+pub returns-clause-result_behind : goal.returns-clause-result_behind
+returns-clause-result_behind c = results_spilled
+
+pub returns-clause-result_behind_only : goal.returns-clause-result_behind_only
+returns-clause-result_behind_only c = results_behind
+
+pub returns-clause-params_kinds : goal.returns-clause-params_kinds
+returns-clause-params_kinds c = params_kinds
+
+pub returns-clause-result_kinds : goal.returns-clause-result_kinds
+returns-clause-result_kinds c = results_kinds
+
+pub returns-clause-params_lowered : goal.returns-clause-params_lowered
+returns-clause-params_lowered c = params_lowered
+
+pub returns-clause-result_lowered : goal.returns-clause-result_lowered
+returns-clause-result_lowered c = results_lowered

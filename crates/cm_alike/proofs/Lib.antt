@@ -1,7 +1,0 @@
-mod ListLemmas
-mod OrderLaws
-mod BroughtLaws
-mod ServingLaws
-mod SameLaws
-mod AlikeLaws
-mod SetLaws

@@ -1,5 +1,0 @@
-pub mod SeenLayouts
-pub mod FlatLemmas
-pub mod HandleLemmas
-pub mod FlatLaws
-pub mod CallLemmas

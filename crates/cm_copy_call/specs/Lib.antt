@@ -1,4 +1,0 @@
-pub mod FlatShown
-pub mod FlatReady
-pub mod PassingOn
-pub mod CallCopies

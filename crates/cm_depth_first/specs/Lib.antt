@@ -1,2 +1,0 @@
-pub mod DepthFirst
-pub mod Paths

@@ -1,2 +1,0 @@
-mod TellingLaws
-mod InsideLaws

@@ -1,4 +1,0 @@
-mod ListLemmas
-mod ItemLaws
-mod ImportedLaws
-mod NamedLaws

@@ -1,5 +1,0 @@
-use Rattle.cm_functions.proofs.ImportedLaws.{all_as_imported}
-use Rattle.cm_functions.proofs.laws.functions_are_as_imported.Goals as goal
-
-pub returns : goal.returns
-returns c = λ sections. all_as_imported sections (c.functions_come_from_items.ensures sections)

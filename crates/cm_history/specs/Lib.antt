@@ -1,4 +1,0 @@
-pub mod Acting
-pub mod Doing
-pub mod Causes
-pub mod Headline

@@ -1,0 +1,111 @@
+//! Imports that were judged already.
+
+ghost use Rattle.std.specs.Prelude.{◌≡◌, IfOk, OnOk};
+ghost use Rattle.cm_match.specs.Pairs.{AreTables};
+
+use cm_links::LinkReason;
+use cm_links::alike_laws::imports_are_served_alike;
+use cm_serving::{Checked, Linking, Tables};
+use cm_shared::Shared;
+use cm_validity::counted_laws::{moves_of_what_is_counted, resources_are_counted};
+use std::alloc::{AllocError, Global};
+use std::collections::BTreeSet;
+
+/// A component and a type of an instance there; and a component and an instance there.
+type Pair = ((usize, usize), (usize, usize));
+
+/// What is known of a set: the numbers of its types; which imports are instances of one type, and
+/// which exports are one instance; and the pairs of such that were compared and serve.
+#[derive(Drop)]
+pub struct Judged {
+    tables: Tables,
+    shared: Vec<Shared>,
+    served: BTreeSet<Pair>,
+}
+
+/// Which imports of each component are instances of one type, and which exports one instance.
+fn shared_in(alloc: Global, components: &[Checked<'_>]) -> Result<Vec<Shared>, AllocError>
+    ensures { IfOk result (λ tables. AreTables components.now tables.items) }
+{
+    let mut tables = Vec::with_capacity(alloc, components.len())?;
+    for checked in components {
+        tables.push(Shared::new(alloc, checked.component())?)?;
+    }
+    Ok(tables)
+}
+
+impl Judged {
+    ghost use Rattle.std.specs.Prelude.{IfSome, IsTrue, Some};
+    ghost use Rattle.cm_types.specs.Signatures.{NamedExtern};
+    ghost use Rattle.cm_links.specs.Imports.{import_at, import_in};
+    ghost use Rattle.cm_serving.specs.cm_linker.Linkings.{components_in, set_in};
+    ghost use Rattle.cm_match.specs.Pairs.{AreJudged, IsNoted, IsPairOf};
+    ghost use Rattle.cm_serving.specs.Answers.{JudgesImport};
+
+    /// Nothing is judged yet of these components. `AllocError` comes where there is no memory.
+    pub fn new(alloc: Global, components: &[Checked<'_>]) -> Result<Judged, AllocError>
+        ensures { IfOk result (AreJudged components.now) }
+    {
+        Ok(Judged {
+            tables: Tables::new(alloc, components.len())?,
+            shared: shared_in(alloc, components)?,
+            served: BTreeSet::new(alloc),
+        })
+    }
+
+    /// The pair of an import and the export that it is linked to, where both are instances.
+    fn pair(&self, linking: &Linking<'_, '_>, component: usize, import: usize) -> Option<Pair>
+        ensures { IfSome result
+            (IsPairOf (set_in linking.now) self.now.shared.items component import) }
+    {
+        let ty = self.shared.get(component)?.import_type(import)?;
+        let link = linking.link(u32::try_from(component).ok()?, import)?;
+        let provider = link.component as usize;
+        let instance = self.shared.get(provider)?.exported_instance(link.export)?;
+        Some(((component, ty), (provider, instance)))
+    }
+
+    /// Whether an import of this pair was compared, and is served.
+    fn is_served(&self, pair: Option<Pair>) -> bool
+        ensures { IsTrue result → IsNoted self.now pair }
+    {
+        match pair {
+            Some(pair) => self.served.contains(&pair),
+            None => false,
+        }
+    }
+
+    /// Why the import of a number of a component is not served, if it is not, as
+    /// [`Tables::import_fault`] tells it. `AllocError` comes where there is no memory.
+    ///
+    /// An instance is compared, item by item, once for each pair of its type and the instance that
+    /// is exported, however many imports and exports have them.
+    pub fn import_fault(
+        &mut self,
+        alloc: Global,
+        linking: &Linking<'_, '_>,
+        component: usize,
+        import: usize,
+    ) -> Result<Option<LinkReason>, AllocError>
+        requires { AreJudged (components_in linking.now) self.old }
+        ensures fault { IfOk result (λ r. (x : NamedExtern)
+            → import_in (set_in linking.now) component import ≡ Some x
+            → JudgesImport (set_in linking.now) (import_at component import x) r) }
+        ensures known { OnOk result (AreJudged (components_in linking.now) self.new) }
+    {
+        resources_are_counted();
+        moves_of_what_is_counted();
+        imports_are_served_alike();
+        let pair = self.pair(linking, component, import);
+        if self.is_served(pair) {
+            return Ok(None);
+        }
+        let fault = self.tables.import_fault(alloc, linking, component, import)?;
+        if fault.is_none()
+            && let Some(pair) = pair
+        {
+            self.served.insert(pair)?;
+        }
+        Ok(fault)
+    }
+}

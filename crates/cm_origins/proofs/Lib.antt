@@ -1,2 +1,0 @@
-mod OriginLaws
-mod Following

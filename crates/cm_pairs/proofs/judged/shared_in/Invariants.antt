@@ -1,6 +1,0 @@
-use Rattle.std.proofs.Common.{take}
-use Rattle.cm_pairs.specs.Pairs.{AreTables}
-use Rattle.cm_pairs.proofs.judged.shared_in.Given as goal
-
-abbrev pub invariant-loop-checked : goal.invariant-loop-checked
-invariant-loop-checked l = AreTables (take l.checked-index l.components) l.tables.items

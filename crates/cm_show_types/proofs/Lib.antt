@@ -1,4 +1,0 @@
-pub mod Seen
-pub mod PageLaws
-pub mod ListLaws
-pub mod JoinLaws

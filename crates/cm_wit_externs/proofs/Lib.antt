@@ -1,4 +1,0 @@
-mod GrowthLaws
-mod ExternLaws
-mod OneLaws
-mod LoopLaws

@@ -1,4 +1,0 @@
-mod OrderLaws
-mod GrowthLaws
-mod EntryLaws
-mod FillLaws

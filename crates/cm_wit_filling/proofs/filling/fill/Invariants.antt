@@ -1,6 +1,0 @@
-use Rattle.cm_wit_filling.specs.Listings.{declared}
-use Rattle.cm_wit_filling.proofs.FillLaws.{Fills}
-use Rattle.cm_wit_filling.proofs.filling.fill.Given as goal
-
-abbrev pub invariant-loop-node : goal.invariant-loop-node
-invariant-loop-node l = Fills (declared l.listing) l.order l.fn.types l.node-index l.types l.table.items

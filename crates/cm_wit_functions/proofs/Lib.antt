@@ -1,4 +1,0 @@
-mod GrowthLaws
-mod ScopeLaws
-mod FaultLaws
-mod FuncLaws

@@ -1,2 +1,0 @@
-mod KeyingLaws
-mod ListingLaws

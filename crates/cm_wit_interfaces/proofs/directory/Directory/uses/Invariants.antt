@@ -1,8 +1,0 @@
-use Rattle.std.proofs.Common.{map}
-use Rattle.cm_wit_interfaces.specs.Interfaces.{use_targets}
-use Rattle.cm_wit_interfaces.specs.InterfaceViews.{placed_interface, files_of}
-use Rattle.cm_wit_interfaces.proofs.KeyingLaws.{Rests}
-use Rattle.cm_wit_interfaces.proofs.directory.Directory.uses.Given as goal
-
-abbrev pub invariant-loop-placed : goal.invariant-loop-placed
-invariant-loop-placed l = Rests placed_interface (map (use_targets (files_of l.self.files.items))) (λ r. r.items) l.interfaces l.placed-index l.uses.items

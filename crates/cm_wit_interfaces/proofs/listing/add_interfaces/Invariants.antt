@@ -1,8 +1,0 @@
-use Rattle.cm_wit_text.specs.Views.{file_tree, file_item_tree}
-use Rattle.cm_wit_interfaces.specs.Interfaces.{interface_in}
-use Rattle.cm_wit_interfaces.specs.InterfaceViews.{placed_interface}
-use Rattle.cm_wit_interfaces.proofs.ListingLaws.{Finds}
-use Rattle.cm_wit_interfaces.proofs.listing.add_interfaces.Given as goal
-
-abbrev pub invariant-loop-item : goal.invariant-loop-item
-invariant-loop-item l = Finds file_item_tree (interface_in l.place (file_tree l.file)) placed_interface l.file.items.items l.item-index l.fn.out.items l.out.items

@@ -1,8 +1,0 @@
-use Rattle.cm_wit_text.specs.Views.{file_tree}
-use Rattle.cm_wit_interfaces.specs.Interfaces.{interfaces_from}
-use Rattle.cm_wit_interfaces.specs.InterfaceViews.{placed_interface}
-use Rattle.cm_wit_interfaces.proofs.ListingLaws.{Joins}
-use Rattle.cm_wit_interfaces.proofs.listing.interfaces.Given as goal
-
-abbrev pub invariant-loop-place : goal.invariant-loop-place
-invariant-loop-place l = Joins (λ f. file_tree f.now) interfaces_from placed_interface l.files l.place l.out.items

@@ -1,7 +1,0 @@
-mod MapLaws
-mod AddLaws
-mod RowLaws
-mod EdgeLaws
-mod ResourceLaws
-mod LeadLaws
-mod IdLaws

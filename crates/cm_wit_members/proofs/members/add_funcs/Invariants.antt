@@ -1,9 +1,0 @@
-use Rattle.std.proofs.Common.{map}
-use Rattle.cm_wit_text.specs.Views.{resource_func_tree}
-use Rattle.cm_wit_signature_model.specs.Members as spec
-use Rattle.cm_wit_members.specs.MemberViews.{member_view}
-use Rattle.cm_wit_members.proofs.ListLaws.{Makes}
-use Rattle.cm_wit_members.proofs.members.add_funcs.Given as goal
-
-abbrev pub invariant-loop-func : goal.invariant-loop-func
-invariant-loop-func l = Makes resource_func_tree (λ i. map (spec.of_resource l.name)) member_view l.funcs l.func-index l.initial.out.items l.out.items

@@ -1,2 +1,0 @@
-mod EdgeLaws
-mod ReachLaws

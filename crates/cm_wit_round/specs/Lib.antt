@@ -1,2 +1,0 @@
-pub mod TreeTokens
-pub mod Words

@@ -1,5 +1,0 @@
-mod AgreeLaws
-mod TableLaws
-mod ResourceLaws
-mod RankLaws
-mod ThereLaws

@@ -1,4 +1,0 @@
-pub mod Declarations
-pub mod Tables
-pub mod Worlds
-pub mod TypeFaults

@@ -1,3 +1,0 @@
-mod ThereLaws
-mod OwnLaws
-mod WorldLaws

@@ -1,4 +1,0 @@
-//! Which types and definitions of WIT stand for what a component file can spell.
-#![tactic(auto)]
-
-pub mod laws;

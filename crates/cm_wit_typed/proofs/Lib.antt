@@ -1,2 +1,0 @@
-mod RestLaws
-mod LedLaws

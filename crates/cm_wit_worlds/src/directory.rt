@@ -1,0 +1,139 @@
+//! Finding interfaces and worlds by their names.
+
+ghost use Rattle.std.specs.Prelude.{◌≡◌, map};
+ghost use Rattle.cm_keys.specs.Listed.{listed};
+ghost use Rattle.cm_wit_worlds.specs.Interfaces as spec;
+ghost use Rattle.cm_wit_worlds.specs.InterfaceViews.{files_of, placed_interface};
+
+use crate::keying::{interface_keys, package_keys};
+use crate::placed::{PlacedInterface, PlacedWorld};
+use crate::texts::{full_name, package_name, package_text};
+use cm_keys::Keys;
+use cm_wit_text::{Path, WitFile};
+use std::alloc::{AllocError, Global};
+
+/// Packages, with what finds them and their interfaces by name in constant time.
+#[derive(Drop)]
+pub struct Directory<'a> {
+    pub files: Vec<&'a WitFile>,
+    packages: Keys<'a>,
+    names: Keys<'a>,
+    ghost are_packages: { listed packages ≡ map spec.package_key (files_of files.items) },
+    ghost are_names: { listed names
+        ≡ map spec.interface_key (spec.interfaces (files_of files.items)) },
+}
+
+impl<'a> Directory<'a> {
+    ghost use Rattle.std.specs.Prelude.{IfOk};
+    ghost use Rattle.std.specs.List.{position_from};
+    ghost use Rattle.cm_wit_worlds.specs.InterfaceViews.{placed_world};
+    ghost use Rattle.std.specs.String.{string_bytes};
+    ghost use Rattle.cm_wit_text.specs.cm_wit_types.SignatureViews.{path_tree};
+    ghost use Rattle.cm_wit_worlds.specs.Interfaces.{interface_at, is_world, package_at};
+    ghost use Rattle.cm_wit_worlds.specs.Interfaces.{package_name, target};
+
+    /// These packages, whose names with their versions are these, and whose interfaces are these.
+    /// Refused only where there is no memory.
+    #[tactic(auto, using(crate::proofs::KeyingLaws::directory_laws))]
+    pub fn new(
+        alloc: Global,
+        files: Vec<&'a WitFile>,
+        names: &'a [String],
+        interfaces: &[PlacedInterface<'a>],
+    ) -> Result<Directory<'a>, AllocError>
+        requires interfaces { map placed_interface interfaces.now
+            ≡ spec.interfaces (files_of files.items) }
+        requires names { map string_bytes names.now ≡ map package_name (files_of files.items) }
+        ensures { IfOk result (λ d. files_of d.files.items ≡ files_of files.entry.items) }
+    {
+        let packages = Keys::new(alloc, package_keys(alloc, names)?)?;
+        let names = Keys::new(alloc, interface_keys(alloc, interfaces)?)?;
+        Ok(Directory {
+            files,
+            packages,
+            names,
+        })
+    }
+
+    /// The package of this name and version, of several the first.
+    fn package_at(&self, name: &str) -> Option<usize>
+        ensures { result ≡ package_at (files_of self.now.files.items) name.now }
+    {
+        self.packages.find(0, name)
+    }
+
+    /// The interface of this name in the package at a place.
+    fn interface_at(&self, place: usize, name: &str) -> Option<usize>
+        ensures { result ≡ interface_at (files_of self.now.files.items) place name.now }
+    {
+        self.names.find(place, name)
+    }
+
+    /// The interface to which a path leads that stands in the package at a place, if it leads to
+    /// one. Refused only where there is no memory.
+    pub fn target(
+        &self,
+        alloc: Global,
+        place: usize,
+        path: &Path,
+    ) -> Result<Option<usize>, AllocError>
+        ensures { IfOk result (λ t.
+            t ≡ target (files_of self.now.files.items) place (path_tree path.now)) }
+    {
+        match path {
+            Path::Local(name) => Ok(self.interface_at(place, name.as_str())),
+            Path::Foreign {
+                namespace,
+                package,
+                interface,
+                version,
+            } => {
+                let text = package_text(alloc, namespace, package, version)?;
+                match self.package_at(text.as_str()) {
+                    Some(found) => Ok(self.interface_at(found, interface.as_str())),
+                    None => Ok(None),
+                }
+            }
+        }
+    }
+
+    fn is_world(
+        &self,
+        alloc: Global,
+        name: &str,
+        world: &PlacedWorld<'a>,
+    ) -> Result<bool, AllocError>
+        ensures { IfOk result (λ b.
+            b ≡ is_world (files_of self.now.files.items) name.now (placed_world world.now)) }
+    {
+        let full = full_name(alloc, world.file, &world.world.name)?;
+        if full.as_bytes() != name.as_bytes() {
+            return Ok(false);
+        }
+        let package = package_name(alloc, world.file)?;
+        match self.package_at(package.as_str()) {
+            Some(place) => Ok(place == world.place),
+            None => Ok(false),
+        }
+    }
+
+    /// The number among these worlds of the one of a full name, if there is one. Refused only where
+    /// there is no memory.
+    #[tactic(auto, using(crate::proofs::KeyingLaws::search_laws))]
+    pub fn world_at(
+        &self,
+        alloc: Global,
+        worlds: &[PlacedWorld<'a>],
+        name: &str,
+    ) -> Result<Option<usize>, AllocError>
+        ensures { IfOk result (λ w. w ≡ position_from
+            (is_world (files_of self.now.files.items) name.now) 0 (map placed_world worlds.now)) }
+    {
+        for (number, world) in worlds.iter().enumerate() {
+            if self.is_world(alloc, name, world)? {
+                return Ok(Some(number));
+            }
+        }
+        Ok(None)
+    }
+}
