@@ -17,11 +17,11 @@ use Rattle.cm_types.specs.Signatures.{ExternTy, ItemTy}
 use Rattle.cm_types.specs.Signatures as extern
 use Rattle.cm_links.specs.declared.plan.TheConstants.{MAX_COMPONENTS}
 use Rattle.cm_validity.specs.Definitions.{ExportDef, exported_func, exported_instance}
-use Rattle.cm_linker.specs.cm_validate.Checked as checked
-use Rattle.cm_linker.specs.cm_validate.declared.checked.Checked.{Checked}
+use Rattle.cm_serving.specs.cm_validate.Checked as checked
+use Rattle.cm_serving.specs.cm_validate.declared.checked.Checked.{Checked}
 use Rattle.cm_links.specs.Links.{CanBeLinked, IsLinkFault, plan_of}
 use Rattle.cm_links.specs.Serving.{IsExternUnserved, IsUnserved, item_under}
-use Rattle.cm_linker.specs.Sets.{sections_of, set_of}
+use Rattle.cm_serving.specs.cm_linker.Sets.{sections_of, set_of}
 use Rattle.cm_validity.specs.Spaces.{spaces_of}
 use Rattle.cm_match.specs.Walks.{HasServed, IsFirstOf, IsWalkFault, Serves, Stops}
 use Rattle.cm_match.proofs.Follow.{space_at}

@@ -1,5 +1,5 @@
-pub use Rattle.cm_linker.specs.cm_validate
-pub use Rattle.cm_linker.specs.cm_index_spaces
+pub use Rattle.cm_serving.specs.cm_validate
+pub use Rattle.cm_serving.specs.cm_index_spaces
 pub mod Pairs
 pub mod Before
 pub mod Walks

@@ -2,8 +2,8 @@
 use Rattle.std.specs.Prelude.{List}
 use Rattle.cm_component.specs.Trees.{SectionTree}
 use Rattle.cm_validity.specs.Spaces.{Spaces}
-use Rattle.cm_linker.specs.cm_validate.declared.checked.Checked.{Checked}
-use Rattle.cm_linker.specs.Sets.{sections_of, set_of}
+use Rattle.cm_serving.specs.cm_validate.declared.checked.Checked.{Checked}
+use Rattle.cm_serving.specs.cm_linker.Sets.{sections_of, set_of}
 use Rattle.cm_match.specs.declared.linked.Linked.{Linked}
 
 abbrev pub components_in : Linked → List Checked

@@ -3,8 +3,8 @@
 use crate::following::target_within;
 use crate::linked::Linked;
 use crate::target::Target;
-use cm_linker::{Checked, Linking};
 use cm_links::PlanLine;
+use cm_serving::{Checked, Linking};
 use cm_types::ResourceId;
 
 impl<'a> Linked<'a> {
@@ -15,8 +15,8 @@ impl<'a> Linked<'a> {
     ghost use Rattle.cm_links.specs.Imports.{links_of};
     ghost use Rattle.cm_links.specs.Links.{CanBeLinked, plan_of};
     ghost use Rattle.cm_links.specs.Targets.{targets_of};
-    ghost use Rattle.cm_linker.specs.Linkings as linking;
-    ghost use Rattle.cm_linker.specs.Sets.{funcs_at};
+    ghost use Rattle.cm_serving.specs.cm_linker.Linkings as linking;
+    ghost use Rattle.cm_serving.specs.cm_linker.Sets.{funcs_at};
     ghost use Rattle.cm_match.specs.Linked.{components_in, set_in};
     ghost use Rattle.cm_match.specs.Targets.{target_def};
 

@@ -2,14 +2,14 @@
 
 ghost use Rattle.std.specs.Prelude.{◌≡◌, ◌<◌, ◌+◌, IfErr, IfOk, OnOk, Some, length, slice_get};
 ghost use Rattle.cm_validity.specs.Spaces.{Spaces};
-ghost use Rattle.cm_linker.specs.Linkings.{components_in, set_in};
+ghost use Rattle.cm_serving.specs.cm_linker.Linkings.{components_in, set_in};
 ghost use Rattle.cm_match.specs.Pairs.{AreJudged};
 ghost use Rattle.cm_match.specs.Walks.{AddsLine, HasServed, IsWalkFault, Serves, Stops};
 
-use crate::Judged;
+use crate::judged::Judged;
 use cm_candidates::Candidate;
-use cm_linker::Linking;
 use cm_links::{LinkFault, LinkReason, PlanLine};
+use cm_serving::Linking;
 use std::alloc::{AllocError, Global};
 
 /// Adds the line of an import that is linked, to its only candidate.

@@ -8,5 +8,5 @@ mod items;
 mod sides;
 mod tables;
 
-pub use cm_linker::{Checked, Linking};
+pub use cm_linker::{Checked, CoreFuncEntry, ExportEntry, FuncEntry, Linking, MadeFunc, choices};
 pub use tables::Tables;
