@@ -15,16 +15,16 @@ use measure::{Rival, nanoseconds};
 use std::hint::black_box;
 
 unsafe extern "C" {
-    fn cm_wit_bench_parse(bytes: *const u8, size: usize) -> usize;
-    fn cm_wit_bench_print(bytes: *const u8, size: usize) -> usize;
+    fn cm_bench_wit_parse(bytes: *const u8, size: usize) -> usize;
+    fn cm_bench_wit_print(bytes: *const u8, size: usize) -> usize;
 }
 
 fn parse(text: &str) -> usize {
-    unsafe { cm_wit_bench_parse(text.as_ptr(), text.len()) }
+    unsafe { cm_bench_wit_parse(text.as_ptr(), text.len()) }
 }
 
 fn print(text: &str) -> usize {
-    unsafe { cm_wit_bench_print(text.as_ptr(), text.len()) }
+    unsafe { cm_bench_wit_print(text.as_ptr(), text.len()) }
 }
 
 fn plain_parse(text: &str) -> usize {

@@ -7,3 +7,4 @@ mod layouts;
 mod many;
 mod sets;
 mod text;
+mod wit;
