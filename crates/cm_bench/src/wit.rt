@@ -1,5 +1,5 @@
-//! What the benchmark of WIT texts in `bench/wit` calls: functions on a text's bytes. Each answers a
-//! number that depends on what was read.
+//! What the benchmark of WIT texts in `bench/wit` calls: functions on a text's bytes. Each answers
+//! a number that depends on what was read.
 
 use cm_wit::{Package, parse, print};
 use std::alloc::Global;

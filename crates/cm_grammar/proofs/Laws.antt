@@ -2,8 +2,8 @@
 use Rattle.std.proofs.Common.{◌≡◌, ℕ, zero, suc, ◌-◌, ◌<◌, ◌≤◌, Bool, true, false, cond, ltb, List, [], ◌∷◌, ◌++◌, length, take, drop, Result, Ok, Err, refl, sym, ap, subst, ◌∙◌, append_assoc, arith, inl, inr, ◌⊎◌}
 use Rattle.std.proofs.lemmas.Bool.{cases_Bool, cases_eq, ltb-true, ltb-false, lt-ltb, le-ltb, eq-eqb, ne_eqb}
 use Rattle.std.proofs.lemmas.List.{length-append, length-take, take_at, take-append-le, drop_at, take-append-drop}
-use Rattle.cm_grammar.specs.declared.fault.LebFault.{LebFault}
-use Rattle.cm_grammar.specs.declared.fault.LebFault.TheVariants.{Truncated, TooLong, BadLastBits}
+use Rattle.cm_grammar.specs.declared.leb_fault.LebFault.{LebFault}
+use Rattle.cm_grammar.specs.declared.leb_fault.LebFault.TheVariants.{Truncated, TooLong, BadLastBits}
 use Rattle.cm_grammar.specs.Numbers.{greatest_length, IsTooLong, IsUnsignedFault, IsSignedFault}
 use Rattle.cm_grammar.specs.LebReading.{unsigned_at, signed_at}
 use Rattle.cm_grammar.proofs.UnsignedLaws.{unsigned_takes, unsigned_again, unsigned_faulty, unsigned_faulty_again}

@@ -2,8 +2,8 @@
 use Rattle.std.proofs.Common.{◌≡◌, ℕ, zero, suc, ◌+◌, ◌-◌, ◌*◌, ◌%◌, ◌<◌, ◌≤◌, true, false, ltb, List, [], ◌∷◌, ◌++◌, length, get_or, take, drop, Result, Ok, Err, refl, sym, ap, subst, ◌∙◌, arith, inl, inr, ◌⊎◌}
 use Rattle.std.proofs.lemmas.Bool.{ltb-true, ltb-false, lt-ltb, le-ltb, cases_Bool}
 use Rattle.std.proofs.lemmas.List.{get_or-drop}
-use Rattle.cm_grammar.specs.declared.fault.LebFault.{LebFault}
-use Rattle.cm_grammar.specs.declared.fault.LebFault.TheVariants.{Truncated, TooLong, BadLastBits}
+use Rattle.cm_grammar.specs.declared.leb_fault.LebFault.{LebFault}
+use Rattle.cm_grammar.specs.declared.leb_fault.LebFault.TheVariants.{Truncated, TooLong, BadLastBits}
 use Rattle.cm_grammar.specs.Numbers.{IsGroup, digits_value, AllGoOn}
 use Rattle.cm_grammar.specs.LebReading.{◌>>=◌, group_at}
 

@@ -4,8 +4,8 @@ use Rattle.std.proofs.lemmas.Bool.{ltb-true, ltb-false, lt-ltb, le-ltb, cases_Bo
 use Rattle.std.specs.Prelude.{IfOk, IsOkAnd, slice_range}
 use Rattle.std.specs.Result.{IsErrOf}
 use Rattle.std.proofs.lemmas.List.{length-append, length-drop, take_at, take-append-drop, drop_all}
-use Rattle.cm_grammar.specs.declared.fault.LebFault.{LebFault}
-use Rattle.cm_grammar.specs.declared.fault.LebFault.TheVariants.{Truncated, TooLong, BadLastBits}
+use Rattle.cm_grammar.specs.declared.leb_fault.LebFault.{LebFault}
+use Rattle.cm_grammar.specs.declared.leb_fault.LebFault.TheVariants.{Truncated, TooLong, BadLastBits}
 use Rattle.cm_grammar.specs.Numbers.{IsGroup, digits_value, greatest_length, SpellsUnsigned, BeginsUnsigned, StandsUnsigned, IsUnsignedFault}
 use Rattle.cm_grammar.specs.LebReading.{group_at, in_range, unsigned_at, unsigned_from, Finds}
 use Rattle.cm_grammar.proofs.LebLaws.{IsBytes, IsBytes-drop, IsDigitsFault, ok_is, bind_ok, bind_err, group_takes, group_again, group_faulty, group_truncated, group_too_long}

@@ -4,8 +4,9 @@
 use Rattle.std.specs.Prelude.{◌≡◌, ◌≢◌, ℕ, zero, suc, ◌-◌, ◌<◌, ◌⊎◌, Bool, true, false, List}
 use Rattle.std.specs.Prelude.{[], ◌∷◌, ◌++◌, length, take, drop, Result, Ok, Err, ℤ, nat_lt, ◌==◌}
 use Rattle.std.specs.Prelude.{if◌then◌else◌}
-use Rattle.cm_grammar.specs.declared.fault.LebFault.{LebFault}
-use Rattle.cm_grammar.specs.declared.fault.LebFault.TheVariants.{Truncated, TooLong, BadLastBits}
+use Rattle.cm_grammar.specs.declared.leb_fault.LebFault.{LebFault}
+use Rattle.cm_grammar.specs.declared.leb_fault.LebFault.TheVariants.{BadLastBits, TooLong}
+use Rattle.cm_grammar.specs.declared.leb_fault.LebFault.TheVariants.{Truncated}
 use Rattle.cm_grammar.specs.Numbers.{SpellsUnsigned, SpellsSigned, IsTruncated, IsTooLong}
 use Rattle.cm_grammar.specs.Numbers.{HasBadUnsignedBits, HasBadSignedBits}
 use Rattle.cm_grammar.specs.LebReading.{unsigned_at, signed_at}

@@ -3,8 +3,9 @@
 use Rattle.std.specs.Prelude.{◌≡◌, ℕ, zero, suc, ◌+◌, ◌-◌, ◌*◌, ◌^◌, List, [], ◌∷◌, length, drop}
 use Rattle.std.specs.Prelude.{Result, Ok, Err, nat_lt, if◌then◌else◌, ℤ, pos, neg_ℤ, int_le, int_lt}
 use Rattle.std.specs.Prelude.{Bool, ◌&&◌}
-use Rattle.cm_grammar.specs.declared.fault.LebFault.{LebFault}
-use Rattle.cm_grammar.specs.declared.fault.LebFault.TheVariants.{Truncated, TooLong, BadLastBits}
+use Rattle.cm_grammar.specs.declared.leb_fault.LebFault.{LebFault}
+use Rattle.cm_grammar.specs.declared.leb_fault.LebFault.TheVariants.{BadLastBits, TooLong}
+use Rattle.cm_grammar.specs.declared.leb_fault.LebFault.TheVariants.{Truncated}
 use Rattle.cm_grammar.specs.Numbers.{two_complement, greatest_length}
 
 -- What a function returned, seen by view, is what reading gives.

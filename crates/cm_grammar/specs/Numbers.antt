@@ -1,7 +1,8 @@
 -- Numbers in LEB128: which bytes spell a number, and what is wrong with bytes that do not
 -- (Binary.md by way of the core specification, "Integers").
-use Rattle.cm_grammar.specs.declared.fault.LebFault.{LebFault}
-use Rattle.cm_grammar.specs.declared.fault.LebFault.TheVariants.{Truncated, TooLong, BadLastBits}
+use Rattle.cm_grammar.specs.declared.leb_fault.LebFault.{LebFault}
+use Rattle.cm_grammar.specs.declared.leb_fault.LebFault.TheVariants.{BadLastBits, TooLong}
+use Rattle.cm_grammar.specs.declared.leb_fault.LebFault.TheVariants.{Truncated}
 use Rattle.std.specs.Prelude.{◌≡◌, ℕ, ◌+◌, ◌-◌, ◌*◌, ◌/◌, ◌%◌, ◌^◌, ◌<◌, ◌≤◌, List, [], ◌∷◌, ◌++◌}
 use Rattle.std.specs.Prelude.{length, take, slice_range, ℤ, pos, neg_ℤ, ◌-ℤ◌, ◌≤ℤ◌, ◌<ℤ◌, nat_lt}
 use Rattle.std.specs.Prelude.{if◌then◌else◌}

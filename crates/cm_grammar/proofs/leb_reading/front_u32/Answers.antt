@@ -1,5 +1,5 @@
 use Rattle.std.proofs.Common.{arith}
-use Rattle.cm_grammar.specs.declared.fault.LebFault.TheVariants.{Truncated, TooLong, BadLastBits}
+use Rattle.cm_grammar.specs.declared.leb_fault.LebFault.TheVariants.{Truncated, TooLong, BadLastBits}
 use Rattle.cm_grammar.proofs.UnsignedLaws.{is_found, is_only, is_fault}
 use Rattle.cm_grammar.proofs.leb_reading.front_u32.Goals as goal
 
