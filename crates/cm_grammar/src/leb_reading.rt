@@ -17,7 +17,7 @@ use crate::leb_fault::LebFault;
 const GREATEST_LENGTH: usize = 5;
 
 /// The digits of the number in front, of at most `room` bytes, and what follows it.
-#[tactic(auto, unfolding(crate::specs::Reading::group_at))]
+#[tactic(auto, unfolding(crate::specs::LebReading::group_at))]
 fn group(bytes: &[u8], room: usize) -> Result<(u64, &[u8]), LebFault>
     requires { room ≤ 5 }
     ensures read { Finds (λ x. (x.0, x.1.now)) result (group_at room bytes.now) }
@@ -59,7 +59,7 @@ pub fn front_u32(bytes: &[u8]) -> Result<(u32, &[u8]), LebFault>
     unsigned_front(bytes)
 }
 
-#[tactic(auto, unfolding(crate::specs::Reading::unsigned_at))]
+#[tactic(auto, unfolding(crate::specs::LebReading::unsigned_at))]
 fn unsigned_front(bytes: &[u8]) -> Result<(u32, &[u8]), LebFault>
     ensures read { Finds (λ x. (x.0, x.1.now)) result (unsigned_at 32 bytes.now) }
     ensures shorter { IfOk result (λ x. length x.1.now ≤ length bytes.now) }
@@ -85,7 +85,7 @@ pub fn read_u32(bytes: &[u8], at: usize) -> Result<(u32, usize), LebFault>
     unsigned_from(bytes, at)
 }
 
-#[tactic(auto, unfolding(crate::specs::Reading::unsigned_from))]
+#[tactic(auto, unfolding(crate::specs::LebReading::unsigned_from))]
 fn unsigned_from(bytes: &[u8], at: usize) -> Result<(u32, usize), LebFault>
     ensures { result ≡ unsigned_from 32 bytes.now at }
 {
@@ -115,7 +115,7 @@ pub fn front_s33(bytes: &[u8]) -> Result<(i64, &[u8]), LebFault>
     signed_front(bytes)
 }
 
-#[tactic(auto, unfolding(crate::specs::Reading::signed_at))]
+#[tactic(auto, unfolding(crate::specs::LebReading::signed_at))]
 fn signed_front(bytes: &[u8]) -> Result<(i64, &[u8]), LebFault>
     ensures read { Finds (λ x. (x.0, x.1.now)) result (signed_at 33 bytes.now) }
     ensures shorter { IfOk result (λ x. length x.1.now ≤ length bytes.now) }
@@ -143,7 +143,7 @@ pub fn read_s33(bytes: &[u8], at: usize) -> Result<(i64, usize), LebFault>
     signed_from(bytes, at)
 }
 
-#[tactic(auto, unfolding(crate::specs::Reading::signed_from))]
+#[tactic(auto, unfolding(crate::specs::LebReading::signed_from))]
 fn signed_from(bytes: &[u8], at: usize) -> Result<(i64, usize), LebFault>
     ensures { result ≡ signed_from 33 bytes.now at }
 {
