@@ -1,8 +1,7 @@
 //! The program on the machine that it runs on.
 
 use crate::disk::Disk;
-use cm_tool::tool;
-use cm_tool_sets::{Fault, report};
+use cm_tool::{Fault, report, tool};
 use std::io::{BufWriter, Write};
 use std::rt::{Env, Files};
 use std::{env, io};

@@ -1,7 +1,7 @@
 //! Why a command ends early, and the line that says so.
 
 ghost use Rattle.std.specs.Prelude.{◌≡◌};
-ghost use Rattle.cm_tool_sets.specs.declared.fault.Fault.TheVariants as fault;
+ghost use Rattle.cm_tool.specs.declared.fault.Fault.TheVariants as fault;
 
 use cm_pages::ShowFault;
 use cm_tool_files::BadFile;
