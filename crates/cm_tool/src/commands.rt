@@ -4,9 +4,11 @@ use crate::fault::{Fault, report};
 use crate::loading::{load_files, load_script};
 use crate::outcome::Outcome;
 use crate::playing::play;
-use cm_tool_files::{BadFile, Checked, Files, checked_of, load, read_file, text_of};
+use cm_tool_files::{
+    BadFile, Checked, Files, Unfit, UnfitReason, checked_of, conform_component, load, read_file,
+    show_component, text_of,
+};
 use cm_tool_lines::{Linked, Set, SetSize, write_plan};
-use cm_tool_signatures::{Unfit, UnfitReason, conform_component, show_component};
 use cm_words::{Request, WordsFault};
 use std::alloc::Global;
 use std::io;
