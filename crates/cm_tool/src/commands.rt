@@ -1,9 +1,14 @@
 //! The commands.
 
-use cm_tool_sets::{
-    Checked, Fault, Files, Linked, Outcome, Set, SetSize, Unfit, checked_of, conform_component,
-    load, load_files, load_script, play, read_file, report, show_component, text_of, write_plan,
+use crate::fault::{Fault, report};
+use crate::loading::{load_files, load_script};
+use crate::outcome::Outcome;
+use crate::playing::play;
+use cm_tool_files::{
+    BadFile, Checked, Files, Unfit, UnfitReason, checked_of, conform_component, load, read_file,
+    show_component, text_of,
 };
+use cm_tool_lines::{Linked, Set, SetSize, write_plan};
 use cm_words::{Request, WordsFault};
 use std::alloc::Global;
 use std::io;
@@ -102,22 +107,44 @@ fn run_conform<'a, F: Files, O: Write>(
     files: &mut F,
     out: &mut O,
 ) -> Result<Outcome, Fault<'a>> {
-    let component = load(alloc, files, file)?;
-    let checked = checked_of(alloc, file, &component)?;
-    let bytes = read_file(alloc, files, wit)?;
-    let text = text_of(wit, bytes.as_slice())?;
-    match conform_component(alloc, text, world, checked) {
-        Ok(()) => {
+    match unfit_reason(alloc, wit, world, file, files)? {
+        None => {
             write_text(out, "ok\n")?;
             Ok(Outcome::Done)
         }
-        Err(reason) => Err(Fault::Unfit(Unfit {
+        Some(reason) => Err(Fault::Unfit(Unfit {
             wit,
             world,
             file,
             reason,
         })),
     }
+}
+
+/// Why the component of a file does not fit a world of the text of a file; `None` where it does.
+fn unfit_reason<'a, F: Files>(
+    alloc: Global,
+    wit: &'a str,
+    world: &str,
+    file: &'a str,
+    files: &mut F,
+) -> Result<Option<UnfitReason>, BadFile<'a>> {
+    let component = load(alloc, files, file)?;
+    let checked = checked_of(alloc, file, &component)?;
+    let bytes = read_file(alloc, files, wit)?;
+    unfit_to_bytes(alloc, wit, bytes.as_slice(), world, checked)
+}
+
+/// Why a component does not fit a world of the text that these bytes of a file are.
+fn unfit_to_bytes<'a>(
+    alloc: Global,
+    wit: &'a str,
+    bytes: &[u8],
+    world: &str,
+    component: Checked<'_>,
+) -> Result<Option<UnfitReason>, BadFile<'a>> {
+    let text = text_of(wit, bytes)?;
+    Ok(conform_component(alloc, text, world, component).err())
 }
 
 fn write_text<O: Write>(out: &mut O, text: &str) -> io::Result<()> {
@@ -155,8 +182,20 @@ fn run_play<'a, F: Files, O: Write, E: Write>(
 ) -> Result<Outcome, Fault<'a>> {
     let loaded = load_files(alloc, files, names)?;
     let linked = loaded.link(alloc)?;
-    let script = load_script(alloc, files, script, names.len())?;
-    let mut set = make_set(alloc, &linked, script.pages.as_slice())?;
+    play_linked(alloc, script, &linked, files, out, err)
+}
+
+/// Plays the script of a file on components that are linked.
+fn play_linked<'a, F: Files, O: Write, E: Write>(
+    alloc: Global,
+    name: &'a str,
+    linked: &Linked<'_>,
+    files: &mut F,
+    out: &mut O,
+    err: &mut E,
+) -> Result<Outcome, Fault<'a>> {
+    let script = load_script(alloc, files, name, linked.components().len())?;
+    let mut set = make_set(alloc, linked, script.pages.as_slice())?;
     play(alloc, &mut set, script, LIMIT, out, err)
 }
 

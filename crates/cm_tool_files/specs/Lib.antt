@@ -1,2 +1,3 @@
+pub mod Conforming
 pub mod Numbers
 pub mod Refusals

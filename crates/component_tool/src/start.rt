@@ -1,8 +1,7 @@
 //! The program on the machine that it runs on.
 
 use crate::disk::Disk;
-use cm_tool::tool;
-use cm_tool_sets::{Fault, report};
+use cm_tool::{Fault, report, tool};
 use std::io::{BufWriter, Write};
 use std::rt::{Env, Files};
 use std::{env, io};
@@ -29,10 +28,27 @@ fn run<R: Env + Files + AllocGlobal, O: Write + Drop, E: Write>(
     out: O,
     err: &mut E,
 ) -> io::Result<u8> {
-    let alloc = rt.alloc();
-    let words: Vec<String> = env::args(rt)?.skip(1).collect(alloc)?;
-    let mut out = BufWriter::new(alloc, out)?;
-    Ok(tool(alloc, words.as_slice(), &mut Disk::new(rt), &mut out, err))
+    let words: Vec<String> = env::args(rt)?.collect(rt.alloc())?;
+    run_words(rt, after_name(words.as_slice()), out, err)
+}
+
+/// The words after the program's name.
+fn after_name(words: &[String]) -> &[String] {
+    match words.split_first() {
+        Some((_name, after)) => after,
+        None => words,
+    }
+}
+
+/// Runs the command of these words.
+fn run_words<R: Files + AllocGlobal, O: Write + Drop, E: Write>(
+    rt: &R,
+    words: &[String],
+    out: O,
+    err: &mut E,
+) -> io::Result<u8> {
+    let mut out = BufWriter::new(rt.alloc(), out)?;
+    Ok(tool(rt.alloc(), words, &mut Disk::new(rt), &mut out, err))
 }
 
 /// Words that are no text are no command.

@@ -6,8 +6,8 @@ use cm_binary::Component;
 use cm_machine::{Event, Guest, Move, Player, Set};
 use cm_match::link;
 use cm_types::CoreValue;
-use cm_validate::validate;
-use std::alloc::Global;
+use cm_validate::{Checked, validate};
+use std::alloc::{AllocError, Global};
 use std::{fs, rt};
 
 /// A guest that adds one: where it is entered with a number, it answers the next one. As the root
@@ -47,10 +47,22 @@ fn load<R: rt::Files + AllocGlobal>(rt: &R, name: &str) -> Result<Component> {
     Ok(cm_binary::decode(rt.alloc(), bytes.as_slice())?)
 }
 
+/// The list of two components.
+fn pair<'a>(
+    alloc: Global,
+    first: Checked<'a>,
+    second: Checked<'a>,
+) -> Result<Vec<Checked<'a>>, AllocError> {
+    let mut components = Vec::with_capacity(alloc, 2)?;
+    components.push(first)?;
+    components.push(second)?;
+    Ok(components)
+}
+
 /// What happens where the user is the root and calls the provider, both with such a guest.
 fn play(alloc: Global, provider: &Component, user: &Component) -> Result<Vec<Event>> {
-    let components = [validate(alloc, provider)?, validate(alloc, user)?];
-    let linked = link(alloc, Vec::from_array(alloc, components)?)?;
+    let components = pair(alloc, validate(alloc, provider)?, validate(alloc, user)?)?;
+    let linked = link(alloc, components)?;
     let mut set = Set::new(alloc, &linked, &[0, 0])?;
     let adds: Box<dyn Guest> = Box::new(alloc, AddOne(alloc))?;
     let calls: Box<dyn Guest> = Box::new(alloc, AddOne(alloc))?;

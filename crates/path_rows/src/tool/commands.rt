@@ -5,8 +5,7 @@ use crate::tool::memory_files::MemoryFiles;
 use crate::tool::streams::Pipe;
 use cm_machine::Set;
 use cm_rows::{RowFault, read_number};
-use cm_tool::{LIMIT, tool};
-use cm_tool_sets::{Fault, Outcome, load_files, load_script, play, report};
+use cm_tool::{Fault, LIMIT, Outcome, load_files, load_script, play, report, tool};
 use cm_words::{Request, USAGE, WordsFault};
 use std::alloc::{AllocError, Global};
 

@@ -1,7 +1,7 @@
 use Rattle.std.proofs.Common.{rules}
 use Rattle.cm_checked_signature.specs.cm_validate.Checked.{spaces_in}
 use Rattle.cm_checked_signature.specs.Exports.{signature_in}
-use Rattle.cm_tool_signatures.proofs.conforming.conform_component.Goals as goal
+use Rattle.cm_tool_files.proofs.conforming.conform_component.Goals as goal
 
 pub returns-in_err-world-clause-unfit : goal.returns-in_err-world-clause-unfit
 returns-in_err-world-clause-unfit c =

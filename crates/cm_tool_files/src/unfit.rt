@@ -1,7 +1,7 @@
 //! Why a component does not fit a world, and the line that says so.
 
 ghost use Rattle.std.specs.Prelude.{◌≡◌};
-ghost use Rattle.cm_tool_worlds.specs.declared.unfit.UnfitReason.TheVariants as reason;
+ghost use Rattle.cm_tool_files.specs.declared.unfit.UnfitReason.TheVariants as reason;
 
 use cm_conformance::{ConformFault, ConformItem, ConformList, ConformReason};
 use cm_wit::WitFault;

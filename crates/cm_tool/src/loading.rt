@@ -2,7 +2,7 @@
 
 use crate::fault::Fault;
 use cm_binary::Component;
-use cm_tool_files::{BadFile, Files, checked_of, load, read_file, text_of};
+use cm_tool_files::{BadFile, Checked, Files, checked_of, load, read_file, text_of};
 use cm_tool_lines::{BadLine, Linked, Script, SignatureNames, link};
 use std::alloc::{AllocError, Global};
 
@@ -46,20 +46,51 @@ impl<'a> LoadedFiles<'a> {
     /// The linked set of the components, which borrows them. They are validated in order, and then
     /// linked; the first fault in the order of the files is told, and else that of the links.
     pub fn link<'b>(&'b self, alloc: Global) -> Result<Linked<'b>, Fault<'a>> {
-        let mut components = Vec::with_capacity(alloc, self.loaded.len())?;
         let mut names = Vec::with_capacity(alloc, self.loaded.len())?;
-        for file in &self.loaded {
-            let checked = checked_of(alloc, file.name, &file.component)?;
-            names.push(SignatureNames::new(alloc, file.name, &checked)?)?;
-            components.push(checked)?;
-        }
-        if let Some(bad) = self.fault {
-            return Err(Fault::File(bad));
-        }
+        let components = self.check(alloc, &mut names)?;
         match link(alloc, components) {
             Ok(linked) => Ok(linked),
             Err(fault) => Err(Fault::Link { fault, names }),
         }
+    }
+
+    /// The components as valid ones, in order, where all files have been read; their names are
+    /// added to the list.
+    fn check<'b>(
+        &'b self,
+        alloc: Global,
+        names: &mut Vec<SignatureNames<'a>>,
+    ) -> Result<Vec<Checked<'b>>, Fault<'a>> {
+        let mut components = Vec::with_capacity(alloc, self.loaded.len())?;
+        for file in &self.loaded {
+            components.push(file.check(alloc, names)?)?;
+        }
+        match self.fault {
+            Some(bad) => Err(Fault::File(bad)),
+            None => Ok(components),
+        }
+    }
+}
+
+impl<'a> LoadedFile<'a> {
+    /// The component as a valid one; its names are added to the list.
+    fn check<'b>(
+        &'b self,
+        alloc: Global,
+        names: &mut Vec<SignatureNames<'a>>,
+    ) -> Result<Checked<'b>, Fault<'a>> {
+        let checked = checked_of(alloc, self.name, &self.component)?;
+        self.add_names(alloc, &checked, names)?;
+        Ok(checked)
+    }
+
+    fn add_names(
+        &self,
+        alloc: Global,
+        checked: &Checked<'_>,
+        names: &mut Vec<SignatureNames<'a>>,
+    ) -> Result<(), AllocError> {
+        Ok(names.push(SignatureNames::new(alloc, self.name, checked)?)?)
     }
 }
 

@@ -8,8 +8,8 @@ use Rattle.cm_wit.specs.Packages.{IsRefused}
 use Rattle.cm_wit.specs.Texts.{IsPackage}
 use Rattle.cm_wit_signature.specs.cm_wit_items.Faults.{IsFaultOfWorld, IsWorldSignature}
 use Rattle.cm_wit_text.specs.Trees.{File}
-use Rattle.cm_tool_worlds.specs.declared.unfit.UnfitReason.{UnfitReason}
-use Rattle.cm_tool_worlds.specs.declared.unfit.UnfitReason.TheVariants as reason
+use Rattle.cm_tool_files.specs.declared.unfit.UnfitReason.{UnfitReason}
+use Rattle.cm_tool_files.specs.declared.unfit.UnfitReason.TheVariants as reason
 
 -- A text is a package, whose world of this full name has this signature.
 abbrev pub HasWorld : List ℕ → List ℕ → SignatureTy → Type 0

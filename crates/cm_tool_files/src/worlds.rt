@@ -3,7 +3,7 @@
 ghost use Rattle.std.specs.Prelude.{IfErr, IfOk};
 ghost use Rattle.cm_types.specs.Signatures.{SignatureTy};
 ghost use Rattle.cm_placed.specs.Signatures.{signature_of};
-ghost use Rattle.cm_tool_worlds.specs.Conforming.{HasWorld, IsUnfit};
+ghost use Rattle.cm_tool_files.specs.Conforming.{HasWorld, IsUnfit};
 
 use crate::unfit::UnfitReason;
 use cm_placed::Signature;

@@ -1,9 +1,0 @@
-//! What commands say of the signature of a component.
-#![tactic(auto)]
-
-mod conforming;
-mod showing;
-
-pub use cm_tool_worlds::Unfit;
-pub use conforming::conform_component;
-pub use showing::{show_component, write_show_fault};
