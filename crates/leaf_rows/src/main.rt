@@ -1,8 +1,9 @@
-//! Answers rows by the public calls of the libraries at the bottom, and on types by places, their
-//! numbers, and signatures.
+//! Answers rows by the public calls of the libraries at the bottom, on types by places, their
+//! numbers, and signatures, and on calls.
 #![tactic(auto)]
 
 mod arena;
+mod calls;
 mod candidates;
 mod conforming;
 mod handles;
@@ -46,7 +47,7 @@ impl Driver for LeafRows {
             "numbers" => type_numbers::answer(alloc, rest),
             "shows" => shown::answer(alloc, rest),
             "fit" => candidates::answer(alloc, rest),
-            _ => Err(RowFault::NotARow),
+            _ => calls::answer(alloc, words),
         }
     }
 }
