@@ -1,8 +1,8 @@
-//! Rows on calls: what their giver passes is lifted, asked for and lowered as a tree, and
-//! is looked at, asked for by the records of its parts, and copied.
+//! Rows on calls: what their giver passes is lifted, asked for and lowered as a tree, and is looked
+//! at, asked for by the records of its parts, and copied.
 //!
 //! A row is `call WAY SOURCE TARGET MEMORY TABLE LENGTH RECEIVED INSTANCE TYPE.. = SLOT.. at
-//! ANSWER..`. MEMORY in hexadecimal digits and TABLE are the giver's, whose strings are encoded as
+//! ANSWER..`. Each TYPE is spelled as in rows on types. MEMORY in hexadecimal digits and TABLE are the giver's, whose strings are encoded as
 //! SOURCE says. The receiver has a memory of LENGTH bytes, each of them `aa`, the table RECEIVED
 //! and strings as TARGET says, and implements the resources of the component of the place
 //! INSTANCE; the call has number 9. Its `realloc` gives the answers, of which the first is the
@@ -31,7 +31,6 @@ mod lowered;
 mod passing;
 mod scanned;
 mod tables;
-mod types;
 mod values;
 
 use cm_rows::{RowFault, split_words};

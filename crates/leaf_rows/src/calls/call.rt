@@ -9,7 +9,7 @@ ghost use Rattle.cm_types.specs.Types.{Fields};
 ghost use Rattle.leaf_rows.specs.Calls.{IsOf};
 
 use crate::calls::passing::{read_encoding, read_slots, read_way};
-use crate::calls::types::read_func;
+use crate::types::make_func;
 use cm_abi_model::{Request, StringEncoding, Way};
 use cm_flat::{FlatFunc, Side, flatten_func};
 use cm_giving::Receiver;
@@ -99,7 +99,7 @@ pub fn read_call(
     ensures { IfOk result (λ c. (types : Fields) × IsOf c types) }
 {
     let (types, slots) = split_words(words, "=")?;
-    let func = read_func(alloc, types)?;
+    let func = make_func(alloc, types, None)?;
     let way = read_way(way)?;
     let layout = layout_of_params(alloc, &func)?;
     let kinds = kinds_passed(alloc, &func, way)?;
