@@ -2,11 +2,11 @@
 //! at, asked for by the records of its parts, and copied.
 //!
 //! A row is `call WAY SOURCE TARGET MEMORY TABLE LENGTH RECEIVED INSTANCE TYPE.. = SLOT.. at
-//! ANSWER..`. Each TYPE is spelled as in rows on types. MEMORY in hexadecimal digits and TABLE are the giver's, whose strings are encoded as
-//! SOURCE says. The receiver has a memory of LENGTH bytes, each of them `aa`, the table RECEIVED
-//! and strings as TARGET says, and implements the resources of the component of the place
-//! INSTANCE; the call has number 9. Its `realloc` gives the answers, of which the first is the
-//! pointer to the tuple where the values are not passed flat.
+//! ANSWER..`, its types spelled as in rows on types. MEMORY in hexadecimal digits and TABLE are the
+//! giver's, whose strings are encoded as SOURCE says. The receiver has a memory of LENGTH bytes,
+//! each of them `aa`, the table RECEIVED and strings as TARGET says, and implements the resources
+//! of the component of the place INSTANCE; the call has number 9. Its `realloc` gives the answers,
+//! of which the first is the pointer to the tuple where the values are not passed flat.
 //!
 //! The answer has two halves. The first has the values, or the fault, and the giver's table then;
 //! what lowering them asks for, the core values that pass them, or the fault, and the receiver's

@@ -1,5 +1,5 @@
-//! Answers rows by the public calls of the libraries at the bottom, on types by places, their
-//! numbers, and signatures, and on calls.
+//! Answers rows by the public calls of the libraries but those on whole components: at the bottom,
+//! on types by places, their numbers, and signatures, on calls, and on WIT texts and worlds.
 #![tactic(auto)]
 
 mod arena;
@@ -17,17 +17,21 @@ mod texts;
 mod type_numbers;
 mod types;
 mod values;
+mod wit;
 mod words;
 
 use cm_rows::{Driver, RowFault, answer_rows};
 use handles::Handles;
 use std::alloc::Global;
 use std::io;
+use wit::texts::Texts;
 
-/// The state between rows: the handle table that the rows on handles speak of.
+/// The state between rows: the handle table that the rows on handles speak of, and the texts that
+/// those on packages do.
 #[derive(Drop)]
 struct LeafRows {
     handles: Handles,
+    texts: Texts,
 }
 
 impl Driver for LeafRows {
@@ -47,6 +51,7 @@ impl Driver for LeafRows {
             "numbers" => type_numbers::answer(alloc, rest),
             "shows" => shown::answer(alloc, rest),
             "fit" => candidates::answer(alloc, rest),
+            "wit" => wit::answer(alloc, &mut self.texts, rest),
             _ => calls::answer(alloc, words),
         }
     }
@@ -54,5 +59,6 @@ impl Driver for LeafRows {
 
 fn main(rt: HostRuntime) -> io::Result<()> {
     let handles = Handles::new(rt.alloc());
-    answer_rows(&rt, &mut LeafRows { handles })
+    let texts = Texts::new(rt.alloc());
+    answer_rows(&rt, &mut LeafRows { handles, texts })
 }

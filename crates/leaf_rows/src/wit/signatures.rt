@@ -1,6 +1,6 @@
 //! Rows on the signatures of worlds.
 
-use crate::worlds::world_fault;
+use crate::wit::worlds::world_fault;
 use cm_rows::RowFault;
 use cm_show::{ShowFault, show};
 use cm_signatures::Signature;

@@ -4,8 +4,8 @@ ghost use Rattle.std.specs.Prelude.{◌≡◌, map};
 ghost use Rattle.cm_wit_interfaces.specs.Interfaces as spec;
 ghost use Rattle.cm_wit_interfaces.specs.InterfaceViews.{files_of, placed_interface};
 
-use crate::instances::read_instances;
-use crate::showing::{show_table, table_fault};
+use crate::wit::instances::read_instances;
+use crate::wit::showing::{show_table, table_fault};
 use cm_rows::RowFault;
 use cm_type_arena::Types;
 use cm_wit_declared::declarations_of;

@@ -1,6 +1,6 @@
 //! Rows on reading.
 
-use crate::spelled::read_text;
+use crate::wit::spelled::read_text;
 use cm_rows::RowFault;
 use cm_wit_text::{WitFault, WitReason, read_file};
 use std::alloc::Global;

@@ -7,11 +7,11 @@ ghost use Rattle.cm_wit_interfaces.specs.Interfaces as spec;
 ghost use Rattle.cm_wit_interfaces.specs.Interfaces.{package_name};
 ghost use Rattle.cm_wit_interfaces.specs.InterfaceViews.{files_of, placed_interface};
 
-use crate::files::package_files;
-use crate::reading::show_fault;
-use crate::texts::Texts;
-use crate::worlds::{show_externs, world_fault};
-use crate::{signatures, tables};
+use crate::wit::files::package_files;
+use crate::wit::reading::show_fault;
+use crate::wit::texts::Texts;
+use crate::wit::worlds::{show_externs, world_fault};
+use crate::wit::{signatures, tables};
 use cm_rows::RowFault;
 use cm_wit::{Package, parse};
 use cm_wit_interfaces::{

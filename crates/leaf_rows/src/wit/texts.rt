@@ -1,7 +1,7 @@
 //! The texts of packages, in rows.
 //!
-//! `text NAME` begins a text, and `line WORD ..` adds a line to the one that was begun last. Rows
-//! after them name the text.
+//! `wit text NAME` begins a text, and `wit line WORD ..` adds a line to the one that was begun
+//! last. Rows after them name the text.
 
 use cm_rows::RowFault;
 use std::alloc::{AllocError, Global};

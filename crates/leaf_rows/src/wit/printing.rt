@@ -1,7 +1,7 @@
 //! Rows on printing.
 
-use crate::reading::show_fault;
-use crate::texts::Texts;
+use crate::wit::reading::show_fault;
+use crate::wit::texts::Texts;
 use cm_rows::RowFault;
 use cm_wit::{WitFault, parse, print};
 use std::alloc::Global;

@@ -1,8 +1,8 @@
 //! Rows on packages.
 
-use crate::printing::printed_twice;
-use crate::reading::show_fault;
-use crate::spelled::{read_text, show_text};
+use crate::wit::printing::printed_twice;
+use crate::wit::reading::show_fault;
+use crate::wit::spelled::{read_text, show_text};
 use cm_rows::RowFault;
 use cm_wit::parse;
 use std::alloc::Global;
