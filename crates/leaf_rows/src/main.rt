@@ -1,8 +1,9 @@
-//! Answers rows by the public calls of the libraries at the bottom, and on types by places, their
-//! numbers, and signatures.
+//! Answers rows by the public calls of the libraries but those on whole components: at the bottom,
+//! on types by places, their numbers, and signatures, on calls, and on WIT texts and worlds.
 #![tactic(auto)]
 
 mod arena;
+mod calls;
 mod candidates;
 mod conforming;
 mod handles;
@@ -16,17 +17,21 @@ mod texts;
 mod type_numbers;
 mod types;
 mod values;
+mod wit;
 mod words;
 
 use cm_rows::{Driver, RowFault, answer_rows};
 use handles::Handles;
 use std::alloc::Global;
 use std::io;
+use wit::texts::Texts;
 
-/// The state between rows: the handle table that the rows on handles speak of.
+/// The state between rows: the handle table that the rows on handles speak of, and the texts that
+/// those on packages do.
 #[derive(Drop)]
 struct LeafRows {
     handles: Handles,
+    texts: Texts,
 }
 
 impl Driver for LeafRows {
@@ -46,12 +51,14 @@ impl Driver for LeafRows {
             "numbers" => type_numbers::answer(alloc, rest),
             "shows" => shown::answer(alloc, rest),
             "fit" => candidates::answer(alloc, rest),
-            _ => Err(RowFault::NotARow),
+            "wit" => wit::answer(alloc, &mut self.texts, rest),
+            _ => calls::answer(alloc, words),
         }
     }
 }
 
 fn main(rt: HostRuntime) -> io::Result<()> {
     let handles = Handles::new(rt.alloc());
-    answer_rows(&rt, &mut LeafRows { handles })
+    let texts = Texts::new(rt.alloc());
+    answer_rows(&rt, &mut LeafRows { handles, texts })
 }

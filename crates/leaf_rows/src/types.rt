@@ -134,11 +134,19 @@ fn read_several(alloc: Global, words: &[&str]) -> Result<Vec<TypeNode>, RowFault
 /// it. Each parameter is called `a`.
 pub fn read_func(alloc: Global, words: &[&str]) -> Result<Func, RowFault> {
     let (params, answer) = split_words(words, "->")?;
+    match answer {
+        ["-"] => make_func(alloc, params, None),
+        words => make_func(alloc, params, Some(read_tree(alloc, words)?)),
+    }
+}
+
+/// The function with parameters of the types that words spell, each called `a`, and this result.
+pub fn make_func(
+    alloc: Global,
+    params: &[&str],
+    answer: Option<TypeTree>,
+) -> Result<Func, RowFault> {
     let params = labelled(alloc, read_types(alloc, params)?)?;
-    let answer = match answer {
-        ["-"] => None,
-        words => Some(read_tree(alloc, words)?),
-    };
     Func::new(params, answer).map_err(|_| RowFault::NotARow)
 }
 

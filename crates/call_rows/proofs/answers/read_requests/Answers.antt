@@ -1,7 +1,0 @@
-use Rattle.std.proofs.Common.{subst, sym}
-use Rattle.cm_lowering.specs.Answering.{AreAligned}
-use Rattle.call_rows.proofs.RequestLemmas.{aligned_more}
-use Rattle.call_rows.proofs.answers.read_requests.Goals as goal
-
-pub loop-word-preserved : goal.loop-word-preserved
-loop-word-preserved c = subst AreAligned (sym c.in_ok-push.ensures.items) (aligned_more c.loop-word.requests.items _ c.loop-word.invariant c.in_ok-read_request.ensures)

@@ -1,5 +1,0 @@
-use Rattle.cm_lowering.specs.Answering.{AreAligned}
-use Rattle.call_rows.proofs.answers.read_requests.Given as goal
-
-abbrev pub invariant-loop-word : goal.invariant-loop-word
-invariant-loop-word l = AreAligned l.requests.items

@@ -1,5 +1,0 @@
-use Rattle.cm_lift.specs.HandingOver.{LendsBelow}
-use Rattle.cm_row_values.proofs.tables.add.Given as goal
-
-abbrev pub invariant-loop : goal.invariant-loop
-invariant-loop l = LendsBelow 256 l.table.handles

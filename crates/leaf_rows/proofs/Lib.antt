@@ -1,0 +1,3 @@
+mod FileLaws
+pub mod RequestLemmas
+mod TableLemmas

@@ -1,0 +1,5 @@
+use Rattle.cm_lift.specs.HandingOver.{LendsBelow}
+use Rattle.leaf_rows.proofs.calls.tables.add.Given as goal
+
+abbrev pub invariant-loop : goal.invariant-loop
+invariant-loop l = LendsBelow 256 l.table.handles

@@ -1,0 +1,134 @@
+//! The calls of rows.
+
+ghost use Rattle.std.specs.Prelude.{◌≡◌, IfOk};
+ghost use Rattle.cm_abi_model.specs.Receives.{call_kinds};
+ghost use Rattle.cm_abi_model.specs.Requests.{IsStored};
+ghost use Rattle.cm_abi_model.specs.Ways.{way_of};
+ghost use Rattle.cm_types.specs.Funcs.{func_of};
+ghost use Rattle.cm_types.specs.Types.{Fields};
+ghost use Rattle.leaf_rows.specs.Calls.{IsOf};
+
+use crate::calls::passing::{read_encoding, read_slots, read_way};
+use crate::types::make_func;
+use cm_abi_model::{Request, StringEncoding, Way};
+use cm_flat::{FlatFunc, Side, flatten_func};
+use cm_giving::Receiver;
+use cm_layout::{Layout, layout_of_params};
+use cm_rows::{RowFault, read_bytes, read_number, split_words};
+use cm_types::{CoreKind, CoreValue, Func};
+use std::alloc::{AllocError, Global};
+
+/// How strings are encoded on both sides of a call, how many bytes the receiver's memory has, and
+/// who it is.
+#[derive(Clone, Copy)]
+pub struct Sides {
+    pub source: StringEncoding,
+    pub target: StringEncoding,
+    pub length: u32,
+    pub to: Receiver,
+}
+
+/// A call: what its giver passes, and what its receiver answers.
+#[derive(Drop)]
+pub struct Call {
+    pub sides: Sides,
+    pub way: Way,
+    pub layout: Layout,
+    pub kinds: Vec<CoreKind>,
+    pub slots: Vec<CoreValue>,
+    pub memory: Vec<u8>,
+    pub answers: Vec<u32>,
+}
+
+/// An encoding in which strings are stored.
+pub fn read_stored(word: &str) -> Result<StringEncoding, RowFault>
+    ensures { IfOk result IsStored }
+{
+    match read_encoding(word)? {
+        StringEncoding::Latin1OrUtf16 => Err(RowFault::NotARow),
+        StringEncoding::Utf8 => Ok(StringEncoding::Utf8),
+        StringEncoding::Utf16 => Ok(StringEncoding::Utf16),
+    }
+}
+
+/// What words say of both sides.
+pub fn read_sides(
+    source: &str,
+    target: &str,
+    length: &str,
+    instance: &str,
+) -> Result<Sides, RowFault>
+    ensures { IfOk result (λ s. IsStored s.target) }
+{
+    let target = read_stored(target)?;
+    let to = Receiver {
+        instance: read_number(instance)?,
+        call: 9,
+    };
+    Ok(Sides {
+        source: read_encoding(source)?,
+        target,
+        length: read_number(length)?,
+        to,
+    })
+}
+
+/// The kinds of the core values that pass the parameters of a function one way or the other.
+fn kinds_passed(alloc: Global, func: &Func, way: Way) -> Result<Vec<CoreKind>, AllocError>
+    ensures { IfOk result (λ ks. ks.items ≡ call_kinds (way_of way) (func_of func.now).params) }
+{
+    let FlatFunc { params, .. } = flatten_func(alloc, func, Side::Lift)?;
+    if params.len() <= way.flat_limit() {
+        return Ok(params);
+    }
+    let mut pointer = Vec::new(alloc);
+    pointer.push(CoreKind::I32)?;
+    Ok(pointer)
+}
+
+/// The call that words say: `TYPE.. = SLOT..`, the giver's memory, and the answers.
+pub fn read_call(
+    alloc: Global,
+    sides: Sides,
+    way: &str,
+    memory: &str,
+    words: &[&str],
+    answers: &[&str],
+) -> Result<Call, RowFault>
+    requires { IsStored sides.target }
+    ensures { IfOk result (λ c. (types : Fields) × IsOf c types) }
+{
+    let (types, slots) = split_words(words, "=")?;
+    let func = make_func(alloc, types, None)?;
+    let way = read_way(way)?;
+    let layout = layout_of_params(alloc, &func)?;
+    let kinds = kinds_passed(alloc, &func, way)?;
+    let memory = read_bytes(alloc, memory)?;
+    if memory.len() > 1 << 30 {
+        return Err(RowFault::NotARow);
+    }
+    Ok(Call {
+        sides,
+        way,
+        layout,
+        kinds,
+        slots: read_slots(alloc, slots)?,
+        memory,
+        answers: read_answers(alloc, answers)?,
+    })
+}
+
+/// The numbers that words say.
+pub fn read_answers(alloc: Global, words: &[&str]) -> Result<Vec<u32>, RowFault> {
+    let mut answers = Vec::new(alloc);
+    for word in words {
+        answers.push(read_number(word)?)?;
+    }
+    Ok(answers)
+}
+
+/// Writes a request behind a space, with its old pointer.
+pub fn write_request(out: &mut String, request: Request, old: u32) -> Result<(), AllocError> {
+    let (old_size, align, size) = (request.old_size, request.align, request.size);
+    write!(out, " ({old},{old_size},{align},{size})")
+}

@@ -1,0 +1,119 @@
+//! Values of calls as trees: lifted, asked for and lowered.
+
+ghost use Rattle.cm_lower.specs.Lowers.{CanBeLowered};
+ghost use Rattle.cm_types.specs.Types.{Fields};
+ghost use Rattle.leaf_rows.specs.Calls.{IsOf};
+
+use crate::calls::call::{Call, write_request};
+use crate::calls::lifted::{lift_call, passed_on, write_lifted};
+use crate::calls::passing::{write_fault, write_slots};
+use crate::calls::tables::{read_table, write_table};
+use cm_abi::laws::one_call;
+use cm_abi::{AbiFault, Passing, Request, lower, requests};
+use cm_handles::Table;
+use cm_rows::{RowFault, write_units};
+use cm_types::CoreValue;
+use std::alloc::{AllocError, Global};
+
+/// What the receiver's memory holds before the call.
+pub const FILL: u8 = 0xaa;
+
+/// Writes the values of a call, the giver's table then, and what lowering them comes to.
+pub fn answer(
+    alloc: Global,
+    call: &Call,
+    table: &str,
+    received: &str,
+    out: &mut String,
+) -> Result<(), RowFault>
+    requires { (types : Fields) × IsOf call.now types }
+{
+    one_call();
+    let mut table = read_table(alloc, table)?;
+    match lift_call(alloc, call, &mut table) {
+        Ok(lifted) => {
+            write_lifted(out, &lifted, &table)?;
+            let passing = passed_on(call, &lifted);
+            lower_values(alloc, call, &passing, read_table(alloc, received)?, out)
+        }
+        Err(fault) => {
+            write_fault(out, fault)?;
+            Ok(write_table(out, &table)?)
+        }
+    }
+}
+
+/// Writes what lowering values asks for and, with the answers of the call, the core values that
+/// pass them, or the fault, and the receiver's memory and table then.
+fn lower_values(
+    alloc: Global,
+    call: &Call,
+    passing: &Passing<'_>,
+    received: Table,
+    out: &mut String,
+) -> Result<(), RowFault>
+    requires { (types : Fields) × CanBeLowered passing.now types }
+{
+    let Passing {
+        way,
+        layout,
+        values,
+        encodings,
+        ..
+    } = *passing;
+    let asked = requests(alloc, layout, way, values, &encodings)?;
+    if asked.len() != call.answers.len() {
+        return Err(RowFault::NotARow);
+    }
+    write_requests(out, &asked, &call.answers)?;
+    let mut received = received;
+    let mut memory = Vec::from_elem(alloc, FILL, call.sides.length as usize)?;
+    let to = call.sides.to;
+    let lowered = lower(
+        alloc,
+        &mut memory,
+        &mut received,
+        to,
+        passing,
+        &call.answers,
+    );
+    write_received(out, lowered, &memory, &received)
+}
+
+/// Writes the core values that pass what the receiver got, or the fault, and its memory and table.
+pub fn write_received(
+    out: &mut String,
+    slots: Result<Vec<CoreValue>, AbiFault>,
+    memory: &[u8],
+    received: &Table,
+) -> Result<(), RowFault> {
+    match slots {
+        Ok(slots) => {
+            out.push_str(" gives")?;
+            write_slots(out, &slots)?;
+        }
+        Err(fault) => {
+            out.push_str(" ")?;
+            write_fault(out, fault)?;
+        }
+    }
+    out.push_str(" memory ")?;
+    write_units(out, memory, 1)?;
+    Ok(write_table(out, received)?)
+}
+
+/// Writes requests, each with its old pointer: where it is chained the answer to the one before.
+fn write_requests(
+    out: &mut String,
+    requests: &[Request],
+    answers: &[u32],
+) -> Result<(), AllocError> {
+    out.push_str(" asks")?;
+    let mut last = 0;
+    for (request, answer) in requests.iter().zip(answers) {
+        let old = if request.chained { last } else { 0 };
+        write_request(out, *request, old)?;
+        last = *answer;
+    }
+    Ok(())
+}

@@ -1,0 +1,211 @@
+//! Values of calls by the records of their parts: looked at, asked for and copied, with no tree.
+
+ghost use Rattle.std.specs.Prelude.{◌≡◌, [], IfOk, IsSome, List, None, map, true, ℕ};
+ghost use Rattle.cm_lowering.specs.Answering.{first_fault};
+ghost use Rattle.cm_requesting.specs.Asking.{IsAllAnswered, IsAnswered, all_requests, next_of};
+ghost use Rattle.cm_types.specs.CoreValues.{kind_of};
+ghost use Rattle.cm_types.specs.Types.{Fields};
+ghost use Rattle.leaf_rows.specs.Calls.{IsOf, IsScanned};
+
+use crate::calls::call::{Call, write_request};
+use crate::calls::lowered::{FILL, write_received};
+use crate::calls::passing::{write_fault, write_hands};
+use crate::calls::tables::{read_table, write_table};
+use cm_abi::laws::one_copied_call;
+use cm_abi::{
+    Found, HandleLeaf, PartKind, PartRecord, PartRequests, Passed, ScanEncodings, Scanned, copy,
+    scan,
+};
+use cm_handles::Table;
+use cm_requesting::laws::answers_stay_fine;
+use cm_rows::RowFault;
+use cm_types::{CoreKind, CoreValue};
+use std::alloc::{AllocError, Global};
+
+/// Writes the records of the parts of a call, the giver's table then, what they ask for, and what
+/// copying the values comes to.
+pub fn answer(
+    alloc: Global,
+    call: &Call,
+    table: &str,
+    received: &str,
+    out: &mut String,
+) -> Result<(), RowFault>
+    requires { (types : Fields) × IsOf call.now types }
+{
+    let mut table = read_table(alloc, table)?;
+    let passed = Passed {
+        way: call.way,
+        layout: &call.layout,
+        slots: &call.slots,
+    };
+    let encodings = ScanEncodings {
+        source: call.sides.source,
+        target: call.sides.target,
+    };
+    match scan(alloc, &call.memory, &mut table, encodings, &passed) {
+        Ok(scanned) => {
+            write_scanned(out, &scanned, &table)?;
+            let Scanned {
+                requests,
+                handles,
+                ..
+            } = scanned;
+            copy_values(
+                alloc,
+                call,
+                requests,
+                &handles,
+                read_table(alloc, received)?,
+                out,
+            )
+        }
+        Err(fault) => {
+            write_fault(out, fault)?;
+            Ok(write_table(out, &table)?)
+        }
+    }
+}
+
+fn write_scanned(out: &mut String, scanned: &Scanned, table: &Table) -> Result<(), AllocError> {
+    write_records(out, &scanned.requests.records)?;
+    write_hands(out, &scanned.owns, &scanned.lends)?;
+    write_table(out, table)
+}
+
+/// A core value of each kind, with 0 in it.
+fn zeros(alloc: Global, kinds: &[CoreKind]) -> Result<Vec<CoreValue>, AllocError>
+    ensures { IfOk result (λ vs. map kind_of vs.items ≡ kinds.now) }
+{
+    let mut slots = Vec::new(alloc);
+    for kind in kinds {
+        slots.push(match kind {
+            CoreKind::I32 => CoreValue::I32(0),
+            CoreKind::I64 => CoreValue::I64(0),
+        })?;
+    }
+    Ok(slots)
+}
+
+/// Writes what parts ask for and, where all answers will do, what copying the values comes to.
+fn copy_values(
+    alloc: Global,
+    call: &Call,
+    requests: PartRequests,
+    handles: &[HandleLeaf],
+    received: Table,
+    out: &mut String,
+) -> Result<(), RowFault>
+    requires { (types : Fields) × IsOf call.now types
+        × IsScanned call.now types requests handles.now }
+{
+    one_copied_call();
+    let mut requests = requests;
+    if !ask(
+        &mut requests,
+        &call.answers,
+        call.sides.length as usize,
+        out,
+    )? {
+        return Ok(());
+    }
+    let passed = Passed {
+        way: call.way,
+        layout: &call.layout,
+        slots: &call.slots,
+    };
+    let found = Found {
+        memory: &call.memory,
+        passed,
+        handles,
+    };
+    let mut received = received;
+    let mut memory = Vec::from_elem(alloc, FILL, call.sides.length as usize)?;
+    let mut slots = zeros(alloc, &call.kinds)?;
+    let to = call.sides.to;
+    let copied = copy(
+        alloc,
+        &mut memory,
+        &mut received,
+        &mut slots,
+        to,
+        &found,
+        &mut requests,
+    );
+    match copied {
+        Ok(()) => write_received(out, Ok(slots), &memory, &received),
+        Err(fault) => write_received(out, Err(fault), &memory, &received),
+    }
+}
+
+/// Writes `parts`, and of each part its kind and `(PLACE,COUNT,SIZE,ALIGNMENT)`.
+fn write_records(out: &mut String, records: &[PartRecord]) -> Result<(), AllocError> {
+    out.push_str("parts")?;
+    for record in records {
+        let kind = match record.kind {
+            PartKind::Elements => "elements",
+            PartKind::Text { is_tagged: false } => "text",
+            PartKind::Text { is_tagged: true } => "tagged",
+        };
+        let (at, count, size, align) = (record.at, record.count, record.size, record.align);
+        write!(out, " {kind}({at},{count},{size},{align})")?;
+    }
+    Ok(())
+}
+
+/// Writes the next request that is not answered; whether there was one.
+fn write_next(parts: &PartRequests, out: &mut String) -> Result<bool, AllocError>
+    requires { (answers : List ℕ) × IsAnswered parts.now answers }
+    ensures { (answers : List ℕ) → IsAnswered parts.now answers
+        → IfOk result (λ is_there. is_there ≡ true
+        → IsSome (next_of (all_requests parts.now) answers)) }
+{
+    match parts.next_request() {
+        Some((request, old)) => {
+            write_request(out, request, old)?;
+            Ok(true)
+        }
+        None => Ok(false),
+    }
+}
+
+/// Writes what parts ask for, each request answered before the next one, and where the parts then
+/// stand; or, at the first answer that will not do, its fault and what is asked for again. Whether
+/// all answers will do.
+fn ask(
+    parts: &mut PartRequests,
+    answers: &[u32],
+    length: usize,
+    out: &mut String,
+) -> Result<bool, RowFault>
+    requires { IsAnswered parts.old [] }
+    ensures answered { IfOk result (λ b. b ≡ true → (given : List ℕ)
+        × IsAllAnswered parts.new given
+        × (first_fault length (all_requests parts.new) given ≡ None)) }
+    ensures records { parts.new.records ≡ parts.old.records }
+    ensures source { parts.new.source ≡ parts.old.source }
+    ensures target { parts.new.target ≡ parts.old.target }
+{
+    answers_stay_fine();
+    out.push_str(" asks")?;
+    for answer in answers {
+        if !write_next(parts, out)? {
+            return Err(RowFault::NotARow);
+        }
+        if let Err(fault) = parts.answer(*answer, length) {
+            out.push_str(" ")?;
+            write_fault(out, fault)?;
+            out.push_str(" again")?;
+            write_next(parts, out)?;
+            return Ok(false);
+        }
+    }
+    if parts.next_request().is_some() {
+        return Err(RowFault::NotARow);
+    }
+    out.push_str(" places")?;
+    for place in parts.places() {
+        write!(out, " {place}")?;
+    }
+    Ok(true)
+}

@@ -1,0 +1,137 @@
+//! Rows on packages.
+
+ghost use Rattle.std.specs.Prelude.{◌≡◌, map};
+ghost use Rattle.std.specs.String.{string_bytes};
+ghost use Rattle.cm_wit.specs.PackageViews.{package_tree};
+ghost use Rattle.cm_wit_worlds.specs.Interfaces as spec;
+ghost use Rattle.cm_wit_worlds.specs.Interfaces.{package_name};
+ghost use Rattle.cm_wit_worlds.specs.InterfaceViews.{files_of, placed_interface};
+
+use crate::wit::files::package_files;
+use crate::wit::reading::show_fault;
+use crate::wit::texts::Texts;
+use crate::wit::worlds::{show_externs, world_fault};
+use crate::wit::{signatures, tables};
+use cm_rows::RowFault;
+use cm_wit::{Package, parse};
+use cm_wit_worlds::{
+    Directory, PlacedInterface, PlacedWorld, WorldFault, externs_of, interfaces, package_names,
+    worlds,
+};
+use std::alloc::Global;
+
+/// What a row asks of packages.
+#[derive(Clone, Copy)]
+pub enum Question<'a> {
+    /// What the world of a full name imports and exports.
+    WorldOfName(&'a str),
+    /// The same of the world of a number, among those of all packages.
+    WorldOfNumber(usize),
+    /// What the declarations of instances stand for.
+    Table(&'a str),
+    /// The signature of the world of a full name.
+    Signature(&'a str),
+}
+
+/// The answer to a question of the packages of texts, or the first fault.
+pub fn answer(
+    alloc: Global,
+    texts: &Texts,
+    question: Question,
+    words: &[&str],
+) -> Result<String, RowFault> {
+    let texts = texts.texts(alloc, words)?;
+    let mut packages = Vec::new(alloc);
+    for text in &texts {
+        match parse(alloc, text.as_str()) {
+            Ok(package) => packages.push(package)?,
+            Err(fault) => return show_fault(alloc, fault),
+        }
+    }
+    answer_of(alloc, &packages, question)
+}
+
+fn answer_of(alloc: Global, packages: &[Package], question: Question) -> Result<String, RowFault> {
+    match question {
+        Question::Signature(name) => signatures::answer(alloc, packages, name),
+        _ => answer_named(alloc, packages, question),
+    }
+}
+
+fn answer_named(
+    alloc: Global,
+    packages: &[Package],
+    question: Question,
+) -> Result<String, RowFault> {
+    let names = package_names(alloc, &package_files(alloc, packages)?)?;
+    answer_in(alloc, packages, &names, question)
+}
+
+/// The same, where the names of the packages are these.
+fn answer_in<'a>(
+    alloc: Global,
+    packages: &'a [Package],
+    names: &'a [String],
+    question: Question,
+) -> Result<String, RowFault>
+    requires { map string_bytes names.now ≡ map package_name (map package_tree packages.now) }
+{
+    let files = package_files(alloc, packages)?;
+    let interfaces = interfaces(alloc, &files)?;
+    let directory = Directory::new(alloc, files, names, &interfaces)?;
+    if let Question::Table(instances) = question {
+        return tables::answer(alloc, &directory, &interfaces, instances);
+    }
+    answer_worlds(alloc, &directory, &interfaces, question)
+}
+
+/// What the world that is asked for imports and exports, in order, or the first fault, of packages
+/// in a directory, whose interfaces are these.
+fn answer_worlds<'a>(
+    alloc: Global,
+    directory: &Directory<'a>,
+    interfaces: &[PlacedInterface<'a>],
+    question: Question,
+) -> Result<String, RowFault>
+    requires { map placed_interface interfaces.now
+        ≡ spec.interfaces (files_of directory.now.files.items) }
+{
+    let worlds = worlds(alloc, &directory.files)?;
+    match find_world(alloc, directory, &worlds, question)? {
+        Some(world) => answer_world(alloc, directory, interfaces, &world),
+        None => world_fault(alloc, WorldFault::NoSuchWorld),
+    }
+}
+
+/// The same of a world.
+fn answer_world<'a>(
+    alloc: Global,
+    directory: &Directory<'a>,
+    interfaces: &[PlacedInterface<'a>],
+    world: &PlacedWorld<'a>,
+) -> Result<String, RowFault>
+    requires { map placed_interface interfaces.now
+        ≡ spec.interfaces (files_of directory.now.files.items) }
+{
+    match externs_of(alloc, directory, interfaces, world) {
+        Ok(externs) => show_externs(alloc, interfaces, world, &externs),
+        Err(fault) => world_fault(alloc, fault),
+    }
+}
+
+fn find_world<'a>(
+    alloc: Global,
+    directory: &Directory<'a>,
+    worlds: &[PlacedWorld<'a>],
+    question: Question,
+) -> Result<Option<PlacedWorld<'a>>, RowFault> {
+    let number = match question {
+        Question::WorldOfName(name) => directory.world_at(alloc, worlds, name)?,
+        Question::WorldOfNumber(number) => Some(number),
+        Question::Table(_) | Question::Signature(_) => None,
+    };
+    match number {
+        Some(number) => Ok(worlds.get(number).copied()),
+        None => Ok(None),
+    }
+}

@@ -1,0 +1,95 @@
+//! The texts of packages, in rows.
+//!
+//! `wit text NAME` begins a text, and `wit line WORD ..` adds a line to the one that was begun
+//! last. Rows after them name the text.
+
+use cm_rows::RowFault;
+use std::alloc::{AllocError, Global};
+
+/// A text and its name.
+#[derive(Drop)]
+struct NamedText {
+    name: String,
+    text: String,
+}
+
+/// The texts that rows have named.
+#[derive(Drop)]
+pub struct Texts {
+    named: Vec<NamedText>,
+}
+
+impl Texts {
+    pub fn new(alloc: Global) -> Texts {
+        Texts {
+            named: Vec::new(alloc),
+        }
+    }
+
+    /// Begins a text, of the name that words are.
+    pub fn answer_begin(&mut self, alloc: Global, words: &[&str]) -> Result<String, RowFault> {
+        match words {
+            [name] => self.begin(alloc, name),
+            _ => Err(RowFault::NotARow),
+        }
+    }
+
+    fn begin(&mut self, alloc: Global, name: &str) -> Result<String, RowFault> {
+        let name = String::from_str(alloc, name)?;
+        let text = String::new(alloc);
+        self.named.push(NamedText { name, text })?;
+        Ok(String::from_str(alloc, "begun")?)
+    }
+
+    /// Adds a line to the last text: how many bytes that then has.
+    pub fn add_line(&mut self, alloc: Global, words: &[&str]) -> Result<String, RowFault> {
+        let last = self.named.last_mut().ok_or(RowFault::NotARow)?;
+        add_words(&mut last.text, words)?;
+        last.text.push_str("\n")?;
+        let length = last.text.len();
+        Ok(format!(in alloc; "{length} bytes")?)
+    }
+
+    /// The text of a name.
+    pub fn named(&self, name: &str) -> Option<&str> {
+        for named in &self.named {
+            if named.name.as_str() == name {
+                return Some(named.text.as_str());
+            }
+        }
+        None
+    }
+
+    /// The text that words of a row stand for: that of the name that they are, or else the words
+    /// themselves, one blank apart.
+    fn text(&self, alloc: Global, words: &[&str]) -> Result<String, AllocError> {
+        if let [name] = words {
+            if let Some(text) = self.named(name) {
+                return String::from_str(alloc, text);
+            }
+        }
+        let mut text = String::new(alloc);
+        add_words(&mut text, words)?;
+        Ok(text)
+    }
+
+    /// The texts that words of a row stand for, which `|` parts.
+    pub fn texts(&self, alloc: Global, words: &[&str]) -> Result<Vec<String>, RowFault> {
+        let mut texts = Vec::new(alloc);
+        for part in words.split(|word| *word == "|") {
+            texts.push(self.text(alloc, part)?)?;
+        }
+        Ok(texts)
+    }
+}
+
+/// Adds words, one blank apart.
+fn add_words(text: &mut String, words: &[&str]) -> Result<(), AllocError> {
+    for (index, word) in words.iter().enumerate() {
+        if index > 0 {
+            text.push_str(" ")?;
+        }
+        text.push_str(word)?;
+    }
+    Ok(())
+}
