@@ -2,13 +2,13 @@
 //! again as the same.
 #![tactic(auto)]
 
+mod file_text;
 mod interfaces;
 pub mod laws;
 mod names;
 mod package;
 mod parsing;
 mod places;
-mod print;
 mod printing;
 pub mod round_laws;
 mod signatures;
@@ -16,7 +16,7 @@ mod types;
 mod worlds;
 
 pub use cm_wit_grammar::{WitFault, WitReason};
+pub use file_text::print_file;
 pub use package::Package;
 pub use parsing::parse;
-pub use print::print_file;
 pub use printing::print;
