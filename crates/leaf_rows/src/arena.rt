@@ -9,6 +9,7 @@
 //! `last`, that of the type that was added last. `N*` before an item stands for N of them, before
 //! a place for N of that place.
 
+use crate::plain::show_fault;
 use crate::words::{read_labels, read_primitive, read_resource};
 use cm_layout::{layout_of_params, size};
 use cm_rows::{RowFault, read_number, split_repeat, split_words};
@@ -120,10 +121,7 @@ impl Arena {
         match outcome {
             Outcome::Type(place) => self.show_type(place),
             Outcome::Func(place) => self.show_func(place),
-            Outcome::Refused(fault) => {
-                let number = fault as u8;
-                Ok(format!(in self.alloc; "fault {number}")?)
-            }
+            Outcome::Refused(fault) => show_fault(self.alloc, fault as u8),
             Outcome::Unordered => Ok(String::from_str(self.alloc, "unordered")?),
         }
     }

@@ -28,7 +28,7 @@ mod call;
 mod giving;
 mod lifted;
 mod lowered;
-mod passing;
+pub mod passing;
 mod scanned;
 mod tables;
 mod values;

@@ -1,8 +1,8 @@
 //! Rows on what may serve an import.
 
+use crate::words::read_name;
 use cm_candidates::{Candidate, Exports};
 use cm_rows::RowFault;
-use cm_types::ExternName;
 use std::alloc::{AllocError, Global};
 
 /// The answer to `WANTED NAME..`, a name and those of the exports of components, with a `|` between
@@ -23,10 +23,6 @@ fn show(alloc: Global, candidate: Candidate) -> Result<String, AllocError> {
         Candidate::One { component, export } => format!(in alloc; "one {component} {export}"),
         Candidate::Several => String::from_str(alloc, "several"),
     }
-}
-
-fn read_name(alloc: Global, word: &str) -> Result<ExternName, RowFault> {
-    ExternName::parse(alloc, word).map_err(|_| RowFault::NotARow)
 }
 
 fn read_exports(alloc: Global, words: &[&str]) -> Result<Exports, RowFault> {

@@ -4,6 +4,7 @@ ghost use Rattle.std.specs.Prelude.{◌^◌, ◌<◌, IsTrue};
 ghost use Rattle.std.specs.Option.{ForSome};
 ghost use Rattle.cm_handles.specs.Handles.{handle_at};
 
+use crate::plain;
 use crate::words::read_resource;
 use cm_handles::{Handle, HandleFault, HandleKind, Table};
 use cm_rows::{RowFault, read_number};
@@ -69,10 +70,7 @@ impl Handles {
                 self.table = Table::new(alloc);
                 Ok(String::from_str(alloc, "empty")?)
             }
-            "memory_fault" => {
-                let number = HandleFault::Memory.number();
-                Ok(format!(in alloc; "fault {number}")?)
-            }
+            "memory_fault" => plain::show_fault(alloc, HandleFault::Memory.number()),
             "close" => {
                 self.table.close();
                 Ok(String::from_str(alloc, "closed")?)
@@ -233,10 +231,7 @@ fn show_index(alloc: Global, outcome: Result<u32, HandleFault>) -> Result<String
 fn show_fault(alloc: Global, fault: HandleFault) -> Result<String, RowFault> {
     match fault {
         HandleFault::Memory => Err(RowFault::Memory),
-        fault => {
-            let number = fault.number();
-            Ok(format!(in alloc; "fault {number}")?)
-        }
+        fault => plain::show_fault(alloc, fault.number()),
     }
 }
 

@@ -10,6 +10,7 @@ mod handles;
 mod layouts;
 mod names;
 mod numbers;
+mod plain;
 mod runs;
 mod shown;
 mod signatures;

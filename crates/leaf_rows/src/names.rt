@@ -1,16 +1,18 @@
 //! Rows on names.
 
+use crate::calls::passing::read_slot;
+use crate::plain;
 use cm_rows::{RowFault, read_number};
 use cm_types::{CoreKind, CoreValue, ExternName, ExternNameForm, Label, NameFault, same_name};
 use cm_values::is_scalar;
-use std::alloc::Global;
+use std::alloc::{AllocError, Global};
 
 /// The answer to `label TEXT`, `extern TEXT`, `same TEXT TEXT`, `is_scalar NUMBER` or
 /// `kind VALUE`. A TEXT of no bytes is a word of no bytes.
 pub fn answer(alloc: Global, words: &[&str]) -> Result<String, RowFault> {
     match words {
         [call, word] => answer_one(alloc, call, word),
-        ["same", a, b] => show_bool(alloc, same_name(a, b)),
+        ["same", a, b] => plain::show_bool(alloc, same_name(a, b)),
         _ => Err(RowFault::NotARow),
     }
 }
@@ -19,7 +21,7 @@ fn answer_one(alloc: Global, call: &str, word: &str) -> Result<String, RowFault>
     match call {
         "label" => show_label(alloc, Label::parse(alloc, word)),
         "extern" => show_extern(alloc, ExternName::parse(alloc, word)),
-        "is_scalar" => show_bool(alloc, is_scalar(read_number(word)?)),
+        "is_scalar" => plain::show_bool(alloc, is_scalar(read_number(word)?)),
         "kind" => show_kind(alloc, word),
         _ => Err(RowFault::NotARow),
     }
@@ -35,15 +37,12 @@ fn show_label(alloc: Global, label: Result<Label, NameFault>) -> Result<String, 
 fn show_extern(alloc: Global, name: Result<ExternName, NameFault>) -> Result<String, RowFault> {
     match name {
         Ok(name) => {
-            let text = show_text(alloc, name.as_str(), name.as_bytes())?;
-            show_form(alloc, text.as_str(), &name.form())
+            let mut out = show_text(alloc, name.as_str(), name.as_bytes())?;
+            write_form(&mut out, &name.form())?;
+            Ok(out)
         }
         Err(fault) => show_fault(alloc, fault),
     }
-}
-
-fn show_bool(alloc: Global, answer: bool) -> Result<String, RowFault> {
-    Ok(answer.to_string(alloc)?)
 }
 
 fn show_fault(alloc: Global, fault: NameFault) -> Result<String, RowFault> {
@@ -51,7 +50,7 @@ fn show_fault(alloc: Global, fault: NameFault) -> Result<String, RowFault> {
     if number == NameFault::Memory.number() {
         return Err(RowFault::Memory);
     }
-    Ok(format!(in alloc; "fault {number}")?)
+    plain::show_fault(alloc, number)
 }
 
 /// The text that a name holds, with its bytes where they are others.
@@ -63,18 +62,17 @@ fn show_text(alloc: Global, text: &str, bytes: &[u8]) -> Result<String, RowFault
     }
 }
 
-fn show_form(alloc: Global, text: &str, form: &ExternNameForm<'_>) -> Result<String, RowFault> {
-    Ok(match form {
-        ExternNameForm::Label(label) => format!(in alloc; "{text}: label {label}")?,
+/// Writes what form a name has, and its parts.
+fn write_form(out: &mut String, form: &ExternNameForm<'_>) -> Result<(), AllocError> {
+    match form {
+        ExternNameForm::Label(label) => write!(out, ": label {label}"),
         ExternNameForm::Method { resource, method } => {
-            format!(in alloc; "{text}: method {method} of {resource}")?
+            write!(out, ": method {method} of {resource}")
         }
         ExternNameForm::Static { resource, function } => {
-            format!(in alloc; "{text}: static {function} of {resource}")?
+            write!(out, ": static {function} of {resource}")
         }
-        ExternNameForm::Constructor { resource } => {
-            format!(in alloc; "{text}: constructor of {resource}")?
-        }
+        ExternNameForm::Constructor { resource } => write!(out, ": constructor of {resource}"),
         ExternNameForm::Interface {
             namespace,
             package,
@@ -82,20 +80,19 @@ fn show_form(alloc: Global, text: &str, form: &ExternNameForm<'_>) -> Result<Str
             version,
         } => {
             let version = version.unwrap_or("none");
-            format!(in alloc;
-                "{text}: interface {interface} of {namespace} {package}, version {version}"
-            )?
+            write!(
+                out,
+                ": interface {interface} of {namespace} {package}, version {version}"
+            )
         }
-    })
+    }
 }
 
 /// The kind of a value, which is `i32:NUMBER`, `i64:NUMBER` or `default`.
 fn show_kind(alloc: Global, value: &str) -> Result<String, RowFault> {
-    let value = match value.split_once(':') {
-        Some(("i32", number)) => CoreValue::I32(read_number(number)?),
-        Some(("i64", number)) => CoreValue::I64(read_number(number)?),
-        None if value == "default" => CoreValue::default(),
-        _ => return Err(RowFault::NotARow),
+    let value = match value {
+        "default" => CoreValue::default(),
+        value => read_slot(value)?,
     };
     let kind = match value.kind() {
         CoreKind::I32 => "i32",

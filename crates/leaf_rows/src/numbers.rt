@@ -1,10 +1,11 @@
 //! Rows on numbers in LEB128.
 
+use crate::plain::{show_bytes, show_fault};
 use cm_grammar::{
     LebFault, front_s33, front_u32, read_s33, read_u32, spelled_length, write_count, write_s33,
     write_u32,
 };
-use cm_rows::{RowFault, read_bytes, read_number, write_bytes};
+use cm_rows::{RowFault, read_bytes, read_number};
 use std::alloc::Global;
 use std::fmt::Display;
 
@@ -58,7 +59,7 @@ fn show_front<T: Display + Drop>(
             let left = rest.len();
             Ok(format!(in alloc; "{number}, {left} left")?)
         }
-        Err(fault) => show_fault(alloc, fault),
+        Err(fault) => show_fault(alloc, fault as u8),
     }
 }
 
@@ -69,13 +70,8 @@ fn show_read<T: Display + Drop>(
 ) -> Result<String, RowFault> {
     match read {
         Ok((number, end)) => Ok(format!(in alloc; "{number}, then {end}")?),
-        Err(fault) => show_fault(alloc, fault),
+        Err(fault) => show_fault(alloc, fault as u8),
     }
-}
-
-fn show_fault(alloc: Global, fault: LebFault) -> Result<String, RowFault> {
-    let number = fault as u8;
-    Ok(format!(in alloc; "fault {number}")?)
 }
 
 fn show_written_u32(alloc: Global, before: &str, number: u32) -> Result<String, RowFault> {
@@ -98,10 +94,4 @@ fn show_written_s33(alloc: Global, before: &str, number: i64) -> Result<String, 
     let mut out = read_bytes(alloc, before)?;
     write_s33(&mut out, number)?;
     show_bytes(alloc, &out)
-}
-
-fn show_bytes(alloc: Global, bytes: &[u8]) -> Result<String, RowFault> {
-    let mut text = String::new(alloc);
-    write_bytes(&mut text, bytes)?;
-    Ok(text)
 }

@@ -13,12 +13,11 @@ ghost use Rattle.cm_placed.specs.Instances.{are_items_there, is_desc_there};
 ghost use Rattle.cm_placed.specs.Externs.{are_externs_in, is_extern_there};
 
 use crate::arena::Arena;
-use crate::words::read_move;
+use crate::words::{read_move, read_name};
 use cm_placed::{Extern, ExternDesc, InstanceType, Item, ItemDesc, Placed, Signature};
 use cm_replaced::Move;
 use cm_rows::{RowFault, read_number, split_repeat, split_words};
 use cm_type_arena::Types;
-use cm_types::{ExternName, NameFault};
 use std::alloc::Global;
 use std::rc::Rc;
 
@@ -185,13 +184,5 @@ fn read_func(words: &[&str]) -> Result<Placed, RowFault> {
             by: read_by(by)?,
         }),
         _ => Err(RowFault::NotARow),
-    }
-}
-
-fn read_name(alloc: Global, text: &str) -> Result<ExternName, RowFault> {
-    match ExternName::parse(alloc, text) {
-        Ok(name) => Ok(name),
-        Err(NameFault::Memory) => Err(RowFault::Memory),
-        Err(_) => Err(RowFault::NotARow),
     }
 }

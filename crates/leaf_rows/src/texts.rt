@@ -1,5 +1,6 @@
 //! Rows on texts in the encodings.
 
+use crate::plain::show_bytes;
 use cm_rows::{RowFault, read_bytes, read_number, write_bytes, write_units};
 use cm_text::{
     Encoding, Latin1, Source, TextFault, Utf8, Utf16, ascii_run, ascii_units, narrow, transcode,
@@ -243,10 +244,4 @@ fn show_narrow(alloc: Global, units: &[u8]) -> Result<String, RowFault> {
     let mut bytes = Vec::from_elem(alloc, 0xAAu8, count)?;
     narrow(units, bytes.as_mut_slice());
     show_bytes(alloc, &bytes)
-}
-
-fn show_bytes(alloc: Global, bytes: &[u8]) -> Result<String, RowFault> {
-    let mut out = String::new(alloc);
-    write_bytes(&mut out, bytes)?;
-    Ok(out)
 }

@@ -7,6 +7,7 @@
 //! `own:COMPONENT.NUMBER` and `borrow:COMPONENT.NUMBER` among them. LABELS are joined by commas.
 //! `N*` before a word or a label stands for N of them.
 
+use crate::plain::{show_bool, show_fault};
 use crate::values::read_value;
 use crate::words::{read_label, read_labels, read_resource, read_resources};
 use cm_replaced::{same_func, same_type};
@@ -32,10 +33,6 @@ pub fn answer(alloc: Global, words: &[&str]) -> Result<String, RowFault> {
         "same_func" => show_same_func(alloc, rest),
         _ => Err(RowFault::NotARow),
     }
-}
-
-fn show_bool(alloc: Global, answer: bool) -> Result<String, RowFault> {
-    Ok(answer.to_string(alloc)?)
 }
 
 fn show_within(alloc: Global, ty: &[&str]) -> Result<String, RowFault> {
@@ -91,10 +88,7 @@ fn show_same_as(alloc: Global, a: &Func, b: &[&str]) -> Result<String, RowFault>
 fn show_limit(alloc: Global, fault: Option<TypeFault>) -> Result<String, RowFault> {
     match fault {
         None => Ok(String::from_str(alloc, "within")?),
-        Some(fault) => {
-            let number = fault.number();
-            Ok(format!(in alloc; "fault {number}")?)
-        }
+        Some(fault) => show_fault(alloc, fault.number()),
     }
 }
 
@@ -265,11 +259,17 @@ impl TypeStack {
     }
 
     fn pop_payload(&mut self) -> Result<Option<TypeNode>, RowFault> {
-        self.payloads.pop().ok_or(RowFault::NotARow)
+        match self.payloads.pop() {
+            Some(payload) => Ok(payload),
+            None => Err(RowFault::NotARow),
+        }
     }
 
     fn pop(&mut self) -> Result<TypeNode, RowFault> {
-        self.pop_payload()?.ok_or(RowFault::NotARow)
+        match self.payloads.pop() {
+            Some(Some(ty)) => Ok(ty),
+            _ => Err(RowFault::NotARow),
+        }
     }
 
     fn pop_part(&mut self, alloc: Global) -> Result<Rc<TypeNode>, RowFault> {

@@ -49,11 +49,17 @@ impl ValueStack {
     }
 
     fn pop_payload(&mut self) -> Result<Option<Value>, RowFault> {
-        self.payloads.pop().ok_or(RowFault::NotARow)
+        match self.payloads.pop() {
+            Some(payload) => Ok(payload),
+            None => Err(RowFault::NotARow),
+        }
     }
 
     fn pop(&mut self) -> Result<Value, RowFault> {
-        self.pop_payload()?.ok_or(RowFault::NotARow)
+        match self.payloads.pop() {
+            Some(Some(value)) => Ok(value),
+            _ => Err(RowFault::NotARow),
+        }
     }
 
     fn pop_boxed(&mut self, alloc: Global) -> Result<Option<Box<Value>>, RowFault> {

@@ -3,7 +3,7 @@
 use cm_replaced::Move;
 use cm_rows::{RowFault, read_number, split_repeat};
 use cm_type_arena::Primitive;
-use cm_types::{Label, NameFault, ResourceId};
+use cm_types::{ExternName, Label, NameFault, ResourceId};
 use std::alloc::Global;
 
 /// Labels joined by commas, where `N*` before one stands for N of them.
@@ -24,10 +24,18 @@ fn add_label(alloc: Global, labels: &mut Vec<Label>, word: &str) -> Result<(), R
 }
 
 pub fn read_label(alloc: Global, text: &str) -> Result<Label, RowFault> {
-    match Label::parse(alloc, text) {
-        Ok(label) => Ok(label),
-        Err(NameFault::Memory) => Err(RowFault::Memory),
-        Err(_) => Err(RowFault::NotARow),
+    Label::parse(alloc, text).map_err(row_fault)
+}
+
+/// The name of an import or an export.
+pub fn read_name(alloc: Global, text: &str) -> Result<ExternName, RowFault> {
+    ExternName::parse(alloc, text).map_err(row_fault)
+}
+
+fn row_fault(fault: NameFault) -> RowFault {
+    match fault {
+        NameFault::Memory => RowFault::Memory,
+        _ => RowFault::NotARow,
     }
 }
 

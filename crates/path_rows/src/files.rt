@@ -40,11 +40,7 @@ impl Files {
 
     /// The component of a source, which is to have one.
     pub fn component(&self, alloc: Global, source: &str) -> Result<Component, RowFault> {
-        let bytes = self.read(alloc, source)?;
-        decode(alloc, &bytes).map_err(|fault| match fault.reason {
-            DecodeReason::Memory => RowFault::Memory,
-            _ => RowFault::NotARow,
-        })
+        read_component(alloc, &self.read(alloc, source)?)
     }
 
     /// The components of the sources, each of which is to have one.
@@ -109,6 +105,14 @@ impl Files {
     }
 }
 
+/// The component of a file, which is to have one.
+pub fn read_component(alloc: Global, file: &[u8]) -> Result<Component, RowFault> {
+    decode(alloc, file).map_err(|fault| match fault.reason {
+        DecodeReason::Memory => RowFault::Memory,
+        _ => RowFault::NotARow,
+    })
+}
+
 /// Writes bytes over those of a file from `at` on.
 fn change(file: &mut Vec<u8>, at: usize, bytes: &[u8]) {
     for (place, byte) in file.iter_mut().skip(at).zip(bytes) {
@@ -125,22 +129,27 @@ fn show_outcome(
     alloc: Global,
     outcome: Result<Component, DecodeFault>,
 ) -> Result<String, RowFault> {
-    let mut out = String::new(alloc);
     match outcome {
         Ok(component) => {
-            out.push_str("component: ")?;
+            let mut out = String::from_str(alloc, "component: ")?;
             write_sections(&mut out, component.sections())?;
+            Ok(out)
         }
-        Err(fault) if fault.reason.number() == DecodeReason::Memory.number() => {
-            return Err(RowFault::Memory);
-        }
-        Err(fault) => write_fault(&mut out, &fault)?,
+        Err(fault) => show_fault(alloc, &fault),
     }
-    Ok(out)
 }
 
 /// `fault NUMBER at PLACE`, and of a form that is not carried which one it is.
-pub fn write_fault(out: &mut String, fault: &DecodeFault) -> Result<(), AllocError> {
+pub fn show_fault(alloc: Global, fault: &DecodeFault) -> Result<String, RowFault> {
+    if fault.reason.number() == DecodeReason::Memory.number() {
+        return Err(RowFault::Memory);
+    }
+    let mut out = String::new(alloc);
+    write_fault(&mut out, fault)?;
+    Ok(out)
+}
+
+fn write_fault(out: &mut String, fault: &DecodeFault) -> Result<(), AllocError> {
     let (number, at) = (fault.reason.number(), fault.at);
     write!(out, "fault {number} at {at}")?;
     match fault.reason {

@@ -7,6 +7,7 @@ mod events;
 mod files;
 mod links;
 mod pieces;
+mod pipes;
 mod sets;
 mod tool;
 mod trees;

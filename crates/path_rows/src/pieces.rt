@@ -4,7 +4,8 @@ mod answers;
 pub mod readers;
 pub mod writers;
 
-use crate::pieces::answers::{show_fault, show_outcome, write_answers};
+use crate::files::show_fault;
+use crate::pieces::answers::{show_answers, show_outcome, write_answers};
 use cm_pieces::{Decoder, decode_pieces};
 use cm_rows::{RowFault, read_bytes, read_number};
 use std::alloc::{AllocError, Global};
@@ -93,10 +94,7 @@ fn show_fed_parts(alloc: Global, words: &[&str]) -> Result<String, RowFault> {
 
 /// What each piece is answered, and then `finish`.
 fn show_fed(alloc: Global, pieces: &[&[u8]]) -> Result<String, RowFault> {
-    let answers = feed_all(alloc, Decoder::new(alloc), pieces)?;
-    let mut out = String::new(alloc);
-    write_answers(&mut out, &answers)?;
-    Ok(out)
+    show_answers(alloc, &feed_all(alloc, Decoder::new(alloc), pieces)?)
 }
 
 fn feed_all(
@@ -177,7 +175,5 @@ fn show_joined_cuts(alloc: Global, file: &[u8]) -> Result<String, RowFault> {
         let (first, second) = file.split_at(cut);
         answers.push(show_joined(alloc, &[&[], first, &[], second, &[]])?)?;
     }
-    let mut out = String::new(alloc);
-    write_answers(&mut out, &answers)?;
-    Ok(out)
+    show_answers(alloc, &answers)
 }

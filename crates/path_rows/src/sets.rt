@@ -4,6 +4,7 @@ use crate::checks::write_shape;
 use crate::events::{write_event, write_events, write_values};
 use crate::files::Files;
 use crate::links::{link_components, read_item, show_link_fault};
+use crate::tool::escapes::read_text;
 use cm_binary::Component;
 use cm_machine::{Event, Flat, Guest, Misuse, Move, Player, Set};
 use cm_match::Linked;
@@ -190,13 +191,7 @@ fn show_events(alloc: Global, events: Result<Vec<Event>, Misuse>) -> Result<Stri
 
 /// A move, as a line of a script spells it.
 fn read_move(alloc: Global, words: &[&str]) -> Result<Move, RowFault> {
-    let mut line = String::new(alloc);
-    for (i, word) in words.iter().enumerate() {
-        if i > 0 {
-            line.push_str(" ")?;
-        }
-        line.push_str(word)?;
-    }
+    let line = read_text(alloc, words)?;
     match Statement::parse(alloc, line.as_str()) {
         Ok(Statement::Move(made)) => Ok(made),
         Ok(_) => Err(RowFault::NotARow),

@@ -8,6 +8,7 @@ ghost use Rattle.cm_types.specs.Funcs.{func_of};
 ghost use Rattle.cm_types.specs.Types.{Fields};
 ghost use Rattle.leaf_rows.specs.Calls.{IsOf};
 
+use crate::calls::giving::read_receiver;
 use crate::calls::passing::{read_encoding, read_slots, read_way};
 use crate::types::make_func;
 use cm_abi_model::{Request, StringEncoding, Way};
@@ -61,15 +62,11 @@ pub fn read_sides(
     ensures { IfOk result (λ s. IsStored s.target) }
 {
     let target = read_stored(target)?;
-    let to = Receiver {
-        instance: read_number(instance)?,
-        call: 9,
-    };
     Ok(Sides {
         source: read_encoding(source)?,
         target,
         length: read_number(length)?,
-        to,
+        to: read_receiver(instance)?,
     })
 }
 

@@ -33,16 +33,21 @@ pub fn read_slots(alloc: Global, words: &[&str]) -> Result<Vec<CoreValue>, RowFa
     let mut slots = Vec::new(alloc);
     for word in words {
         let (times, word) = split_repeat(word);
-        let slot = match word.split_once(':') {
-            Some(("i32", number)) => CoreValue::I32(read_number(number)?),
-            Some(("i64", number)) => CoreValue::I64(read_number(number)?),
-            _ => return Err(RowFault::NotARow),
-        };
+        let slot = read_slot(word)?;
         for _ in 0..times {
             slots.push(slot)?;
         }
     }
     Ok(slots)
+}
+
+/// The core value that a word spells.
+pub fn read_slot(word: &str) -> Result<CoreValue, RowFault> {
+    match word.split_once(':') {
+        Some(("i32", number)) => Ok(CoreValue::I32(read_number(number)?)),
+        Some(("i64", number)) => Ok(CoreValue::I64(read_number(number)?)),
+        _ => Err(RowFault::NotARow),
+    }
 }
 
 /// Writes each core value behind a space.

@@ -1,7 +1,7 @@
 //! Rows on packages.
 
 use crate::wit::printing::printed_twice;
-use crate::wit::reading::show_fault;
+use crate::wit::reading::{show_fault, show_read};
 use crate::wit::spelled::{read_text, show_text};
 use cm_rows::RowFault;
 use cm_wit::parse;
@@ -10,10 +10,7 @@ use std::alloc::Global;
 /// The answer to a text: `ok` where it is a package, else its first fault.
 pub fn answer_parse(alloc: Global, words: &[&str]) -> Result<String, RowFault> {
     let text = read_text(alloc, words)?;
-    match parse(alloc, text.as_str()) {
-        Ok(_) => Ok(String::from_str(alloc, "ok")?),
-        Err(fault) => show_fault(alloc, fault),
-    }
+    show_read(alloc, parse(alloc, text.as_str()))
 }
 
 /// The text that prints a package, where reading and printing it gives the same bytes again.

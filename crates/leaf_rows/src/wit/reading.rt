@@ -8,7 +8,12 @@ use std::alloc::Global;
 /// The answer to a text: `ok` where it is a file, else its fault.
 pub fn answer(alloc: Global, words: &[&str]) -> Result<String, RowFault> {
     let text = read_text(alloc, words)?;
-    match read_file(alloc, text.as_str()) {
+    show_read(alloc, read_file(alloc, text.as_str()))
+}
+
+/// `ok`, or the fault.
+pub fn show_read<T: Drop>(alloc: Global, read: Result<T, WitFault>) -> Result<String, RowFault> {
+    match read {
         Ok(_) => Ok(String::from_str(alloc, "ok")?),
         Err(fault) => show_fault(alloc, fault),
     }

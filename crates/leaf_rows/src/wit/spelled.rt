@@ -1,6 +1,6 @@
 //! Texts of several lines, as rows write them.
 
-use cm_rows::RowFault;
+use cm_rows::{RowFault, read_number};
 use std::alloc::{AllocError, Global};
 
 /// The text that words stand for, one blank apart: `~n` is a line feed, `~r` a carriage return,
@@ -18,9 +18,7 @@ pub fn read_text(alloc: Global, words: &[&str]) -> Result<String, RowFault> {
 
 fn add_word(text: &mut String, word: &str) -> Result<(), RowFault> {
     let mut parts = word.split('~');
-    if let Some(plain) = parts.next() {
-        text.push_str(plain)?;
-    }
+    text.push_str(parts.next().unwrap_or(""))?;
     for part in parts {
         add_part(text, part)?;
     }
@@ -29,22 +27,20 @@ fn add_word(text: &mut String, word: &str) -> Result<(), RowFault> {
 
 /// Adds what stands behind a `~`.
 fn add_part(text: &mut String, part: &str) -> Result<(), RowFault> {
-    if let Some(rest) = part.strip_prefix('n') {
-        return add_both(text, "\n", rest);
+    let (first, rest) = part.split_at_checked(1).ok_or(RowFault::NotARow)?;
+    match first {
+        "n" => add_both(text, "\n", rest),
+        "r" => add_both(text, "\r", rest),
+        "t" => add_both(text, "\t", rest),
+        _ => add_repeated(text, part),
     }
-    if let Some(rest) = part.strip_prefix('r') {
-        return add_both(text, "\r", rest);
-    }
-    if let Some(rest) = part.strip_prefix('t') {
-        return add_both(text, "\t", rest);
-    }
-    let Some((times, rest)) = part.split_once('(') else {
-        return Err(RowFault::NotARow);
-    };
-    let Some((repeated, rest)) = rest.split_once(')') else {
-        return Err(RowFault::NotARow);
-    };
-    for _ in 0..cm_rows::read_number::<u32>(times)? {
+}
+
+/// Adds what `N(PART)` and the words behind it stand for.
+fn add_repeated(text: &mut String, part: &str) -> Result<(), RowFault> {
+    let (times, rest) = part.split_once('(').ok_or(RowFault::NotARow)?;
+    let (repeated, rest) = rest.split_once(')').ok_or(RowFault::NotARow)?;
+    for _ in 0..read_number::<u32>(times)? {
         text.push_str(repeated)?;
     }
     Ok(text.push_str(rest)?)

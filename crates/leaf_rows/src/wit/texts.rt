@@ -3,8 +3,9 @@
 //! `wit text NAME` begins a text, and `wit line WORD ..` adds a line to the one that was begun
 //! last. Rows after them name the text.
 
+use crate::wit::spelled::read_text;
 use cm_rows::RowFault;
-use std::alloc::{AllocError, Global};
+use std::alloc::Global;
 
 /// A text and its name.
 #[derive(Drop)]
@@ -44,7 +45,7 @@ impl Texts {
     /// Adds a line to the last text: how many bytes that then has.
     pub fn add_line(&mut self, alloc: Global, words: &[&str]) -> Result<String, RowFault> {
         let last = self.named.last_mut().ok_or(RowFault::NotARow)?;
-        add_words(&mut last.text, words)?;
+        last.text.push_str(&read_text(alloc, words)?)?;
         last.text.push_str("\n")?;
         let length = last.text.len();
         Ok(format!(in alloc; "{length} bytes")?)
@@ -60,17 +61,15 @@ impl Texts {
         None
     }
 
-    /// The text that words of a row stand for: that of the name that they are, or else the words
-    /// themselves, one blank apart.
-    fn text(&self, alloc: Global, words: &[&str]) -> Result<String, AllocError> {
+    /// The text that words of a row stand for: that of the name that they are, or else the one that
+    /// they spell.
+    fn text(&self, alloc: Global, words: &[&str]) -> Result<String, RowFault> {
         if let [name] = words {
             if let Some(text) = self.named(name) {
-                return String::from_str(alloc, text);
+                return Ok(String::from_str(alloc, text)?);
             }
         }
-        let mut text = String::new(alloc);
-        add_words(&mut text, words)?;
-        Ok(text)
+        read_text(alloc, words)
     }
 
     /// The texts that words of a row stand for, which `|` parts.
@@ -81,15 +80,4 @@ impl Texts {
         }
         Ok(texts)
     }
-}
-
-/// Adds words, one blank apart.
-fn add_words(text: &mut String, words: &[&str]) -> Result<(), AllocError> {
-    for (index, word) in words.iter().enumerate() {
-        if index > 0 {
-            text.push_str(" ")?;
-        }
-        text.push_str(word)?;
-    }
-    Ok(())
 }

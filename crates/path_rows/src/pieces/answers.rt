@@ -1,7 +1,7 @@
 //! Answers as rows show them.
 
-use crate::files::write_fault;
-use cm_binary::{Component, DecodeFault, DecodeReason, encode};
+use crate::files::show_fault;
+use cm_binary::{Component, DecodeFault, encode};
 use cm_rows::{RowFault, write_units};
 use std::alloc::{AllocError, Global};
 
@@ -20,13 +20,10 @@ pub fn show_outcome(
     }
 }
 
-/// `fault NUMBER at PLACE`, and of a form that is not carried which one it is.
-pub fn show_fault(alloc: Global, fault: &DecodeFault) -> Result<String, RowFault> {
-    if fault.reason.number() == DecodeReason::Memory.number() {
-        return Err(RowFault::Memory);
-    }
+/// Answers, one after another.
+pub fn show_answers(alloc: Global, answers: &[String]) -> Result<String, RowFault> {
     let mut out = String::new(alloc);
-    write_fault(&mut out, fault)?;
+    write_answers(&mut out, answers)?;
     Ok(out)
 }
 

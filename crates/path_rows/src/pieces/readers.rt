@@ -1,6 +1,6 @@
 //! Rows on files that are read from a reader.
 
-use crate::pieces::answers::{show_outcome, write_answers};
+use crate::pieces::answers::{show_answers, show_outcome};
 use cm_pieces::decode_from;
 use cm_rows::{RowFault, read_bytes, read_number};
 use std::alloc::Global;
@@ -100,9 +100,7 @@ fn show_failing(alloc: Global, file: &[u8], size: usize) -> Result<String, RowFa
     for length in 0..=file.len() {
         answers.push(show_failure(alloc, &file[..length], size)?)?;
     }
-    let mut out = String::new(alloc);
-    write_answers(&mut out, &answers)?;
-    Ok(out)
+    show_answers(alloc, &answers)
 }
 
 fn show_failure(alloc: Global, beginning: &[u8], size: usize) -> Result<String, RowFault> {

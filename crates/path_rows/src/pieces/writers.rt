@@ -1,76 +1,12 @@
 //! Rows on files that are written to a writer.
 
-use crate::pieces::answers::write_answers;
-use cm_binary::{Component, DecodeReason, decode};
+use crate::files::read_component;
+use crate::pieces::answers::show_answers;
+use crate::pipes::{Full, Pipe};
+use cm_binary::Component;
 use cm_pieces::{WriteReason, write_to};
 use cm_rows::{RowFault, read_bytes, read_number, write_units};
-use std::alloc::Global;
-use std::io;
-use std::io::{ErrorKind, Write};
-
-/// What a writer does once it is full.
-#[derive(Clone, Copy)]
-enum Full {
-    /// It fails.
-    Fails,
-    /// It takes no bytes.
-    TakesNone,
-}
-
-/// A writer into memory.
-#[derive(Drop)]
-struct Pipe {
-    taken: Vec<u8>,
-    /// How many more bytes it takes.
-    room: usize,
-    full: Full,
-    /// The most bytes of one write.
-    size: usize,
-    /// Whether each second write is interrupted, from the first one on.
-    interrupts: bool,
-    was_interrupted: bool,
-}
-
-impl Pipe {
-    /// A writer with memory for a file of so many bytes, so that it asks for none as it is written
-    /// to.
-    fn new(
-        alloc: Global,
-        most: usize,
-        size: usize,
-        room: usize,
-        full: Full,
-    ) -> Result<Pipe, RowFault> {
-        Ok(Pipe {
-            taken: Vec::with_capacity(alloc, most)?,
-            room,
-            full,
-            size,
-            interrupts: false,
-            was_interrupted: false,
-        })
-    }
-}
-
-impl Write for Pipe {
-    fn write(&mut self, buf: &[u8]) -> io::Result<usize> {
-        self.was_interrupted = self.interrupts && !self.was_interrupted;
-        if self.was_interrupted {
-            return Err(io::Error::from(ErrorKind::Interrupted));
-        }
-        if self.room == 0 && matches!(self.full, Full::Fails) {
-            return Err(io::Error::from(ErrorKind::BrokenPipe));
-        }
-        let count = buf.len().min(self.size).min(self.room);
-        self.taken.extend_from_slice(&buf[..count])?;
-        self.room -= count;
-        Ok(count)
-    }
-
-    fn flush(&mut self) -> io::Result<()> {
-        Ok(())
-    }
-}
+use std::alloc::{AllocError, Global};
 
 /// The answer of a writer that takes at most SIZE bytes a write to `parts SIZE FILE`, `interrupted
 /// SIZE FILE`, `failing SIZE FILE` or `stalling SIZE FILE`, of a file that has a component.
@@ -83,14 +19,15 @@ pub fn answer(alloc: Global, words: &[&str]) -> Result<String, RowFault> {
     show_form(alloc, form, size, &file, &component)
 }
 
-fn read_component(alloc: Global, file: &[u8]) -> Result<Component, RowFault> {
-    match decode(alloc, file) {
-        Ok(component) => Ok(component),
-        Err(fault) => match fault.reason {
-            DecodeReason::Memory => Err(RowFault::Memory),
-            _ => Err(RowFault::NotARow),
-        },
-    }
+/// A writer with memory for all of a file, so that it asks for none as it is written to.
+fn pipe_for(
+    alloc: Global,
+    file: &[u8],
+    size: usize,
+    room: usize,
+    full: Full,
+) -> Result<Pipe, AllocError> {
+    Ok(Pipe::new(Vec::with_capacity(alloc, file.len())?, size, room, full))
 }
 
 fn show_form(
@@ -102,11 +39,11 @@ fn show_form(
 ) -> Result<String, RowFault> {
     match form {
         "parts" => {
-            let pipe = Pipe::new(alloc, file.len(), size, usize::MAX, Full::Fails)?;
+            let pipe = pipe_for(alloc, file, size, usize::MAX, Full::Fails)?;
             show_written(alloc, component, pipe)
         }
         "interrupted" => {
-            let mut pipe = Pipe::new(alloc, file.len(), size, usize::MAX, Full::Fails)?;
+            let mut pipe = pipe_for(alloc, file, size, usize::MAX, Full::Fails)?;
             pipe.interrupts = true;
             show_written(alloc, component, pipe)
         }
@@ -149,12 +86,10 @@ fn show_full(
 ) -> Result<String, RowFault> {
     let mut answers = Vec::new(alloc);
     for room in 0..=file.len() {
-        let pipe = Pipe::new(alloc, file.len(), size, room, full)?;
+        let pipe = pipe_for(alloc, file, size, room, full)?;
         answers.push(show_beginning(alloc, component, pipe, &file[..room])?)?;
     }
-    let mut out = String::new(alloc);
-    write_answers(&mut out, &answers)?;
-    Ok(out)
+    show_answers(alloc, &answers)
 }
 
 fn show_beginning(

@@ -1,8 +1,8 @@
 //! Rows on the command and its parts.
 
+use crate::pipes::{Full, Pipe};
 use crate::tool::escapes::write_text;
 use crate::tool::memory_files::MemoryFiles;
-use crate::tool::streams::Pipe;
 use cm_machine::Set;
 use cm_rows::{RowFault, read_number};
 use cm_tool::{Fault, LIMIT, Outcome, load_files, load_script, play, report, tool};
@@ -52,7 +52,7 @@ struct Ran {
 
 /// Runs the command of these words, with a standard output that takes so many bytes.
 fn run(alloc: Global, words: &[String], files: &mut MemoryFiles, room: usize) -> Ran {
-    let mut out = Pipe::new(alloc, room);
+    let mut out = Pipe::new(Vec::new(alloc), usize::MAX, room, Full::Fails);
     let mut err = Vec::new(alloc);
     let status = tool(alloc, words, files, &mut out, &mut err);
     Ran {

@@ -17,23 +17,25 @@ pub fn read_text(alloc: Global, words: &[&str]) -> Result<String, RowFault> {
 }
 
 fn read_word(text: &mut String, word: &str) -> Result<(), RowFault> {
-    for (i, part) in word.split('\\').enumerate() {
-        if i == 0 {
-            text.push_str(part)?;
-        } else if let Some(rest) = part.strip_prefix('n') {
-            text.push_str("\n")?;
-            text.push_str(rest)?;
-        } else if let Some(rest) = part.strip_prefix('r') {
-            text.push_str("\r")?;
-            text.push_str(rest)?;
-        } else if let Some(rest) = part.strip_prefix('t') {
-            text.push_str("\t")?;
-            text.push_str(rest)?;
-        } else {
-            return Err(RowFault::NotARow);
-        }
+    let mut parts = word.split('\\');
+    text.push_str(parts.next().unwrap_or(""))?;
+    for part in parts {
+        read_escape(text, part)?;
     }
     Ok(())
+}
+
+/// Adds what stands behind a backslash.
+fn read_escape(text: &mut String, part: &str) -> Result<(), RowFault> {
+    let (escape, rest) = part.split_at_checked(1).ok_or(RowFault::NotARow)?;
+    let character = match escape {
+        "n" => "\n",
+        "r" => "\r",
+        "t" => "\t",
+        _ => return Err(RowFault::NotARow),
+    };
+    text.push_str(character)?;
+    Ok(text.push_str(rest)?)
 }
 
 /// Writes bytes as the text that `read_text` reads, or `-` for none; a byte that is no ASCII as
