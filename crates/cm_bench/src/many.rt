@@ -2,7 +2,7 @@
 
 use crate::files::component;
 use cm_binary::Component;
-use cm_match::link;
+use cm_match::{Linked, link};
 use cm_validate::validate;
 use std::alloc::Global;
 
@@ -30,11 +30,17 @@ fn decode_all(alloc: Global, bytes: &[u8], sizes: &[usize]) -> Option<Vec<Compon
     Some(components)
 }
 
-/// How many imports of a set of these components are linked.
-fn links_of(alloc: Global, components: &[Component]) -> Option<usize> {
+/// The linked set of these components, none where one is refused.
+pub(crate) fn linked_all(alloc: Global, components: &[Component]) -> Option<Linked<'_>> {
     let mut checked = Vec::new(alloc);
     for component in components {
         checked.push(validate(alloc, component).ok()?).ok()?;
     }
-    Some(link(alloc, checked).ok()?.plan().len())
+    link(alloc, checked).ok()
+}
+
+/// How many imports of a set of these components are linked.
+pub(crate) fn links_of(alloc: Global, components: &[Component]) -> Option<usize> {
+    let linked = linked_all(alloc, components)?;
+    Some(linked.plan().len())
 }

@@ -13,7 +13,7 @@ use Rattle.cm_component.specs.declared.limits.TheConstants.{MAX_TYPES, MAX_FILE_
 use Rattle.cm_component.specs.declared.limits.LimitFault.{LimitFault}
 use Rattle.cm_component.specs.declared.limits.LimitFault.TheVariants.{TooMany, TooLong, NotAModule}
 use Rattle.cm_reading.specs.File.{component, file, Spells}
-use Rattle.cm_binary.proofs.Sections.{sections_least, sections_write, sections_keep}
+use Rattle.cm_binary.proofs.SectionBytes.{sections_least, sections_write, sections_keep}
 
 -- ---- nothing shorter
 

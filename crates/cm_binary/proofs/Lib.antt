@@ -1,11 +1,11 @@
 pub mod DecodeLaws
 pub mod Texts
-pub mod Instances
-pub mod Aliases
-pub mod Types
-pub mod Canons
-pub mod Externs
-pub mod Sections
+pub mod InstanceBytes
+pub mod AliasBytes
+pub mod TypeBytes
+pub mod CanonBytes
+pub mod ExternBytes
+pub mod SectionBytes
 pub mod File
 pub mod EncodeLaws
 pub mod CodeWants

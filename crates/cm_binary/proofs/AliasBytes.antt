@@ -22,7 +22,7 @@ use Rattle.cm_reading_codes.specs.declared.codes.TypeAliasTarget.{TypeAliasTarge
 use Rattle.cm_reading_codes.specs.declared.codes.TypeAliasTarget.TheVariants as type_targets
 use Rattle.cm_reading_types.specs.Aliases.{outer_type, instance_export, type_alias_of, alias_of, alias}
 use Rattle.cm_binary.proofs.Texts.{index_least, text_least, plain_name_least, index_written, text_writes, plain_name_writes}
-use Rattle.cm_binary.proofs.Instances.{core_sort_read}
+use Rattle.cm_binary.proofs.InstanceBytes.{core_sort_read}
 
 -- ---- nothing shorter
 

@@ -58,7 +58,7 @@ use Rattle.cm_reading_codes.specs.Codes.{is_from, prim_val_type, declared_type_f
 use Rattle.cm_reading_codes.specs.Texts.{Production, index, label}
 use Rattle.cm_reading_types.specs.Types.{optional_of, optional, is_type_index, as_index, type_index, val_type_of, val_type, param, case_type, def_val_type_of, func_result_of, func_result, func_type, declared_type_of, declared_type, declared_type_from, declared_alias_of, declared_alias, type_bound_of, type_bound, export_desc_of, export_desc, export_decl, declaration_of, declaration, declarations, def_type_of, def_type, def_type_from, type_defs}
 use Rattle.cm_binary.proofs.Texts.{label_least, label_written, extern_name_least, extern_name_writes}
-use Rattle.cm_binary.proofs.Aliases.{outer_type_least, outer_type_written}
+use Rattle.cm_binary.proofs.AliasBytes.{outer_type_least, outer_type_written}
 
 -- ---- nothing shorter
 

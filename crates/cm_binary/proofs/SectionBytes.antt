@@ -27,11 +27,11 @@ use Rattle.cm_reading.specs.Canons.{canon}
 use Rattle.cm_reading.specs.Externs.{import_item, export_item}
 use Rattle.cm_reading.specs.Sections.{contents, section, sections, room_after}
 use Rattle.cm_binary.proofs.Texts.{index_least, text_least, text_writes}
-use Rattle.cm_binary.proofs.Instances.{core_instance_least, core_instance_writes, instance_least, instance_writes}
-use Rattle.cm_binary.proofs.Aliases.{alias_least, alias_writes}
-use Rattle.cm_binary.proofs.Types.{type_defs_least, type_defs_write, type_defs_cost}
-use Rattle.cm_binary.proofs.Canons.{canon_least, canon_writes}
-use Rattle.cm_binary.proofs.Externs.{import_least, import_writes, export_least, export_writes}
+use Rattle.cm_binary.proofs.InstanceBytes.{core_instance_least, core_instance_writes, instance_least, instance_writes}
+use Rattle.cm_binary.proofs.AliasBytes.{alias_least, alias_writes}
+use Rattle.cm_binary.proofs.TypeBytes.{type_defs_least, type_defs_write, type_defs_cost}
+use Rattle.cm_binary.proofs.CanonBytes.{canon_least, canon_writes}
+use Rattle.cm_binary.proofs.ExternBytes.{import_least, import_writes, export_least, export_writes}
 
 -- ---- nothing shorter
 
