@@ -1,6 +1,7 @@
 //! Rows on files: reading and writing them.
 
-use crate::trees::{read_sections, write_sections};
+use crate::pieces::answers::show_outcome;
+use crate::sections::read_sections;
 use cm_binary::{Component, DecodeFault, DecodeReason, decode, encode, written_and_read};
 use cm_rows::{RowFault, read_bytes, read_number, write_bytes};
 use std::alloc::{AllocError, Global};
@@ -59,15 +60,15 @@ impl Files {
         Ok(format!(in alloc; "{length} bytes")?)
     }
 
-    /// The answer to `name NAME BYTES`, `component NAME SECTIONS`, `decode SOURCE`, `changed SOURCE
-    /// AT BYTES`, `beginnings SOURCE`, `encode SOURCE` or `written_and_read SOURCE`.
+    /// The answer to `name NAME BYTES`, `limits SECTIONS`, `decode SOURCE`, `changed SOURCE AT BYTES`,
+    /// `beginnings SOURCE`, `encode SOURCE` or `written_and_read SOURCE`.
     pub fn answer(&mut self, alloc: Global, words: &[&str]) -> Result<String, RowFault> {
         match words {
             ["name", name, bytes] => {
                 let bytes = read_bytes(alloc, bytes)?;
                 self.name(alloc, name, bytes)
             }
-            ["component", name, sections @ ..] => self.build(alloc, name, sections),
+            ["limits", sections @ ..] => show_limits(alloc, sections),
             ["decode", source] => show_decoded(alloc, &self.read(alloc, source)?),
             ["changed", source, at, bytes] => {
                 let mut file = self.read(alloc, source)?;
@@ -89,18 +90,18 @@ impl Files {
             _ => Err(RowFault::NotARow),
         }
     }
+}
 
-    /// Makes a component of sections, and names its file.
-    fn build(&mut self, alloc: Global, name: &str, sections: &[&str]) -> Result<String, RowFault> {
-        match Component::new(read_sections(alloc, sections)?) {
-            Ok(component) => {
-                let bytes = encode(alloc, &component)?;
-                self.name(alloc, name, bytes)
-            }
-            Err(fault) => {
-                let number = fault.number();
-                Ok(format!(in alloc; "fault {number}")?)
-            }
+/// How many bytes the file of a component of these sections has, or the limit that they pass.
+fn show_limits(alloc: Global, words: &[&str]) -> Result<String, RowFault> {
+    match Component::new(read_sections(alloc, words)?) {
+        Ok(component) => {
+            let length = encode(alloc, &component)?.len();
+            Ok(format!(in alloc; "{length} bytes")?)
+        }
+        Err(fault) => {
+            let number = fault.number();
+            Ok(format!(in alloc; "fault {number}")?)
         }
     }
 }
@@ -122,21 +123,6 @@ fn change(file: &mut Vec<u8>, at: usize, bytes: &[u8]) {
 
 fn show_decoded(alloc: Global, bytes: &[u8]) -> Result<String, RowFault> {
     show_outcome(alloc, decode(alloc, bytes))
-}
-
-/// `component:` and its sections, or the fault.
-fn show_outcome(
-    alloc: Global,
-    outcome: Result<Component, DecodeFault>,
-) -> Result<String, RowFault> {
-    match outcome {
-        Ok(component) => {
-            let mut out = String::from_str(alloc, "component: ")?;
-            write_sections(&mut out, component.sections())?;
-            Ok(out)
-        }
-        Err(fault) => show_fault(alloc, &fault),
-    }
 }
 
 /// `fault NUMBER at PLACE`, and of a form that is not carried which one it is.

@@ -8,9 +8,9 @@ mod files;
 mod links;
 mod pieces;
 mod pipes;
+mod sections;
 mod sets;
 mod tool;
-mod trees;
 
 use cm_rows::{Driver, RowFault, answer_rows};
 use files::Files;

@@ -1,6 +1,6 @@
 //! Rows on files that come in pieces.
 
-mod answers;
+pub mod answers;
 pub mod readers;
 pub mod writers;
 
