@@ -60,8 +60,8 @@ impl Files {
         Ok(format!(in alloc; "{length} bytes")?)
     }
 
-    /// The answer to `name NAME BYTES`, `limits SECTIONS`, `decode SOURCE`, `changed SOURCE AT BYTES`,
-    /// `beginnings SOURCE`, `encode SOURCE` or `written_and_read SOURCE`.
+    /// The answer to `name NAME BYTES`, `limits SECTIONS`, `decode SOURCE`, `changed SOURCE AT
+    /// BYTES`, `beginnings SOURCE`, `encode SOURCE` or `written_and_read SOURCE`.
     pub fn answer(&mut self, alloc: Global, words: &[&str]) -> Result<String, RowFault> {
         match words {
             ["name", name, bytes] => {
