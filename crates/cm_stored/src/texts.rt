@@ -118,7 +118,7 @@ pub fn write_text_of(
 }
 
 /// How many bytes a text takes where it is stored.
-fn stored_size(encoding: StringEncoding, text: &str) -> usize
+pub fn stored_size(encoding: StringEncoding, text: &str) -> usize
     ensures { result ≡ length (text_bytes (stored_charset encoding) (chars text.now)) }
 {
     match encoding {

@@ -1,13 +1,14 @@
 -- What layouts and values the code's are.
 use Rattle.std.proofs.Common.{◌≡◌, ℕ, Option, None, Some, Vec, Global, Box, map, rules}
 use Rattle.std.specs.declared.rc.Rc.{Rc}
-use Rattle.cm_types.specs.Values.{bearing, parts}
-use Rattle.cm_layout.specs.Layouts.{layout_of, nothings, payload_of, shape_of}
-use Rattle.cm_layout.specs.Shapes.{cases_shape, fixed_list_shape, payloads_from}
+use Rattle.cm_types.specs.Values.{bearing, elements, parts}
+use Rattle.cm_layout.specs.Layouts.{layout_of, nothings, part_of, payload_of, shape_of}
+use Rattle.cm_layout.specs.Shapes.{cases_shape, fields_shape, fixed_list_shape, parts_from, payloads_from}
 use Rattle.cm_layout.specs.declared.layouts.Form.{the_lemmas}
 use Rattle.cm_layout.specs.declared.layouts.Form.TheVariants as leaf
 use Rattle.cm_layout.specs.declared.layouts.Form.TheViews as form
 use Rattle.cm_layout.specs.declared.layouts.Layout.{Layout, out-Layout}
+use Rattle.cm_layout.specs.declared.layouts.Part.{Part}
 use Rattle.cm_layout.specs.declared.layouts.Payload.{Payload}
 use Rattle.cm_values.specs.ValueTrees.{boxed_value, payload_value, value_of, values_of}
 use Rattle.cm_values.specs.declared.values.Value.{Value, the_lemmas as value_lemmas}
@@ -30,6 +31,12 @@ seen_bearing i b = search (rules, value_lemmas)
 
 pub seen_Fields : (vs : Vec Value Global) → value_of (value.Fields vs) ≡ parts (values_of vs.items)
 seen_Fields vs = search (rules, value_lemmas)
+
+pub seen_List : (vs : Vec Value Global) → value_of (value.List vs) ≡ elements (values_of vs.items)
+seen_List vs = search (rules, value_lemmas)
+
+pub seen_Record : (ps : Rc (Vec Part Global) Global) → shape_of (form.Fields ps) ≡ fields_shape (parts_from (map part_of ps.value.items))
+seen_Record ps = search (rules, the_lemmas)
 
 pub seen_Enum : (d n : ℕ) → shape_of (leaf.Enum d n) ≡ cases_shape d d (nothings n)
 seen_Enum d n = search (rules, the_lemmas)

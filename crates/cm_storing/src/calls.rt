@@ -18,6 +18,7 @@ ghost use Rattle.cm_stored.specs.Storing.{given_of, stored_by};
 
 use crate::flat::lower_fields;
 use crate::storing::store_fields;
+use crate::tree::{Tree, Trees};
 use cm_layout::{Form, Layout, Part};
 use cm_stored::laws::{flat_tuples_are_passed, spilled_tuples_are_stored};
 use cm_stored::{Next, Target};
@@ -60,13 +61,14 @@ fn store_tuple(
         (parts (values_of values.now)) at next.old.part next.old.handle) memory.old }
     ensures stays { length memory.new ≡ length memory.old }
 {
-    store_fields(
+    let size = layout.head.size;
+    store_fields::<Tree<'_>>(
         to,
         memory,
         fields_of(layout),
-        values,
+        Trees { values },
         at,
-        layout.head.size,
+        size,
         next,
     );
 }

@@ -22,7 +22,8 @@ ghost use Rattle.cm_stored.specs.FlatLowering.{ArePassedIn, slots_by_payload};
 ghost use Rattle.cm_stored.specs.Storing.{given_of};
 
 use crate::numbers::flat_number;
-use crate::storing::store_each;
+use crate::storing::store_row;
+use crate::tree::{Tree, Trees};
 use cm_layout::{Form, Layout, Part, Payload};
 use cm_stored::{Next, Target, field_width, pass_handle, pass_pointer, stored_units, write_text};
 use cm_values::Value;
@@ -84,7 +85,15 @@ fn lower_list(
         ≡ next.old.handle + handle_count (elements (values_of values.now)) }
 {
     let place = pass_pointer(to, slots, at, values.len(), next);
-    store_each(to, memory, element, values, place, next);
+    store_row::<Tree<'_>>(
+        to,
+        memory,
+        element,
+        Trees { values },
+        values.len(),
+        place,
+        next,
+    );
 }
 
 /// Passes a value by its layout in slots from this one on.

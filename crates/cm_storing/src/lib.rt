@@ -5,6 +5,10 @@
 mod calls;
 mod flat;
 mod numbers;
+mod source;
 mod storing;
+mod tree;
 
 pub use calls::store_call;
+pub use source::{StoredSource, ValueSource};
+pub use storing::{store_row, store_value};

@@ -7,8 +7,8 @@ use Rattle.cm_stored.specs.Storing.{given_of}
 use Rattle.cm_storing.proofs.StoringLemmas.{count_values}
 use Rattle.cm_storing.proofs.flat.lower_list.Goals as goal
 
-pub store_each-requires-clause-inside : goal.store_each-requires-clause-inside
-store_each-requires-clause-inside c =
+pub store_row-requires-clause-inside : goal.store_row-requires-clause-inside
+store_row-requires-clause-inside c =
     let room : place_of (given_of c.args.to.now) c.args.next.now.part + count_of (values_of c.args.values.now) * (layout_of c.args.element.now).head.size ≤ length c.args.memory.now = c.requires.fits.0.1 in
     rw (c.pass_pointer-place.ensures.place, sym (count_values c.args.values.now)) room
 
