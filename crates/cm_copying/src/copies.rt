@@ -1,13 +1,10 @@
 //! A value, copied from one memory to another.
 
-ghost use Rattle.std.specs.Prelude.{◌≡◌, ◌+◌, ◌*◌, ◌≤◌, length};
-ghost use Rattle.cm_abi_model.specs.Parts.{handle_count, handle_count_each, part_count};
-ghost use Rattle.cm_abi_model.specs.Parts.{part_count_each};
-ghost use Rattle.cm_abi_model.specs.Stores.{poke, store_each};
-ghost use Rattle.cm_copying.specs.Copying.{copying_of, shown_to};
+ghost use Rattle.std.specs.Prelude.{◌≡◌, ◌+◌, ◌≤◌, length};
+ghost use Rattle.cm_abi_model.specs.Parts.{handle_count, part_count};
+ghost use Rattle.cm_abi_model.specs.Stores.{poke};
+ghost use Rattle.cm_copying.specs.Copying.{copying_of};
 ghost use Rattle.cm_copying.specs.Known.{CanBeCopied};
-ghost use Rattle.cm_copying.specs.Ready.{AreReady, IsReady, IsSound};
-ghost use Rattle.cm_copying.specs.Shown.{values_each};
 ghost use Rattle.cm_layout.specs.Layouts.{layout_of};
 ghost use Rattle.cm_layout.specs.Shapes.{layout_at};
 ghost use Rattle.cm_stored.specs.Storing.{given_of, stored_by};
@@ -21,7 +18,7 @@ use cm_layout::Layout;
 use cm_layout::laws::layouts;
 use cm_lifting::laws::numbers_are_sized;
 use cm_stored::Next;
-use cm_storing::{store_row, store_value};
+use cm_storing::store_value;
 
 /// Copies the value that stands at an address of the source to an address of the memory, by the
 /// layout of its type, with no tree made of it; both are in bytes from 0, and all bytes of the
@@ -67,55 +64,4 @@ pub fn copy_value(
     handles_are_stored_as_numbers();
     let place = Place { from, at: source };
     store_value(&from.target, memory, layout, place, at, next);
-}
-
-/// Copies so many values of one layout, one behind the other, from an address of the source to one
-/// of the memory, both in bytes from 0; plain bytes as they stand (CanonicalABI.md, "Storing" of
-/// lists). The next part and handle are then those behind the values'; it takes no memory.
-pub fn copy_each(
-    from: &Copier<'_>,
-    memory: &mut [u8],
-    element: &Layout,
-    count: u32,
-    source: usize,
-    at: usize,
-    next: &mut Next,
-)
-    requires sound { IsSound (layout_of element.now) }
-    requires within { source + count * (layout_of element.now).head.size
-        ≤ length from.now.memory.now }
-    requires inside { at + count * (layout_of element.now).head.size ≤ length memory.old }
-    requires ready { AreReady
-        (IsReady (length memory.old) (copying_of from.now) (layout_of element.now).shape)
-        (shown_to (copying_of from.now) (layout_of element.now).shape)
-        (layout_of element.now).head.size count source next.old.part next.old.handle }
-    ensures stored { memory.new
-        ≡ poke (store_each
-        (stored_by (given_of from.now.target) (layout_of element.now).shape)
-        (layout_of element.now).head.size
-        (values_each (shown_to (copying_of from.now) (layout_of element.now).shape)
-        (layout_of element.now).head.size count source) at next.old.part next.old.handle)
-        memory.old }
-    ensures stays { length memory.new ≡ length memory.old }
-    ensures part { next.new.part
-        ≡ next.old.part
-        + part_count_each
-        (values_each (shown_to (copying_of from.now) (layout_of element.now).shape)
-        (layout_of element.now).head.size count source) }
-    ensures handle { next.new.handle
-        ≡ next.old.handle
-        + handle_count_each
-        (values_each (shown_to (copying_of from.now) (layout_of element.now).shape)
-        (layout_of element.now).head.size count source) }
-{
-    let items = Place { from, at: source };
-    store_row::<Place<'_>>(
-        &from.target,
-        memory,
-        element,
-        items,
-        count as usize,
-        at,
-        next,
-    );
 }

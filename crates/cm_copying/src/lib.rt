@@ -10,7 +10,7 @@ mod place;
 mod texts;
 
 pub use copier::Copier;
-pub use copies::{copy_each, copy_value};
+pub use copies::copy_value;
 pub use leaves::number_stored;
 pub use place::Place;
-pub use texts::{copy_text_bytes, size_of_part};
+pub use texts::{size_of_part, write_text_at};

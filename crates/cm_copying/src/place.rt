@@ -12,6 +12,7 @@ use crate::leaves::number_stored;
 use crate::texts::{size_of_part, write_text_at};
 use cm_abi_model::StringEncoding;
 use cm_layout::{Layout, Leaf, Part};
+use cm_leaf_reading::leaf_size;
 use cm_lifting::{number_32, number_at};
 use cm_storing::{StoredSource, ValueSource};
 
@@ -67,8 +68,8 @@ impl<'a> ValueSource for Place<'a> {
 
     ghost is_handle = { λ s n g e t k h ready. (ready.1, some_handle, refl) };
 
-    fn leaf(self, leaf: Leaf, size: u32) -> u64 {
-        number_stored(leaf, number_at(self.from.memory, size, self.at))
+    fn leaf(self, leaf: Leaf) -> u64 {
+        number_stored(leaf, number_at(self.from.memory, leaf_size(leaf), self.at))
     }
 
     fn text_size(self, target: StringEncoding, part: usize) -> usize {

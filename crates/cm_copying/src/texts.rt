@@ -2,12 +2,11 @@
 
 ghost use Rattle.std.specs.Prelude.{◌≡◌, ℕ, ◌+◌, ◌<◌, ◌≤◌, length, slice_index};
 ghost use Rattle.cm_abi_model.specs.Requests.{stored_charset, text_bytes};
-ghost use Rattle.cm_abi_model.specs.Stores.{Given, place_of, placed, poke};
+ghost use Rattle.cm_abi_model.specs.Stores.{Given, placed, poke};
 ghost use Rattle.cm_abi_model.specs.Texts.{bytes_from, text_size};
 ghost use Rattle.cm_copying.specs.Copying.{copying_of, given_for};
 ghost use Rattle.cm_copying.specs.Ready.{IsTextReady};
 ghost use Rattle.cm_copying.specs.Shown.{scalars_at};
-ghost use Rattle.cm_stored.specs.Storing.{given_of};
 
 use crate::copier::Copier;
 use cm_abi_model::StringEncoding;
@@ -39,8 +38,8 @@ pub fn size_of_part(from: &Copier<'_>, part: usize) -> usize
 }
 
 /// Writes the bytes of the string at a pointer, of a tagged length, in the target's encoding, where
-/// they are so many, to an address of a memory; both addresses are in bytes from 0 (CanonicalABI.md,
-/// "Storing" of strings). The string can be copied as the part of this number.
+/// they are so many, to an address of a memory; both addresses are in bytes from 0
+/// (CanonicalABI.md, "Storing" of strings). The string can be copied as the part of this number.
 pub fn write_text_at(
     from: &Copier<'_>,
     pointer: u32,
@@ -64,20 +63,4 @@ pub fn write_text_at(
 {
     let bytes = text_of(from.encoding, from.memory, pointer, tagged);
     write_text_of(from.encoding, tagged, target, memory, at, size, bytes);
-}
-
-/// Copies the bytes of the string at a pointer, of a tagged length, to the place of the part of
-/// this number, from 0, in the target's encoding (CanonicalABI.md, "Storing" of strings).
-pub fn copy_text_bytes(from: &Copier<'_>, memory: &mut [u8], pointer: u32, tagged: u32, part: usize)
-    requires ready { IsTextReady (length memory.old) (copying_of from.now) pointer tagged part }
-    ensures stored { memory.new
-        ≡ poke (placed (place_of (given_of from.now.target) part)
-        (text_bytes (stored_charset from.now.target.encoding)
-        (scalars_at from.now.memory.now from.now.encoding pointer tagged))) memory.old }
-    ensures stays { length memory.new ≡ length memory.old }
-{
-    let place = from.target.places[part] as usize;
-    let size = size_of_part(from, part);
-    let target = from.target.encoding;
-    write_text_at(from, pointer, tagged, target, memory, place, size, part);
 }

@@ -6,6 +6,7 @@ use Rattle.cm_layout.specs.Shapes.{LayoutTy, Shape, Parts, Payloads, part, no_pa
 use Rattle.cm_layout.specs.Shapes.{carried}
 use Rattle.cm_abi_model.specs.Parts.{handle_count_each, part_count_each}
 use Rattle.cm_abi_model.specs.Stores.{Given, Placed, placed, store_each}
+use Rattle.cm_stored.specs.FlatLowering.{behind_by_payload, slots_by_payload}
 use Rattle.cm_stored.specs.Storing.{stored_by, stored_by_payload}
 
 -- the scalars of a text
@@ -39,6 +40,15 @@ IsCarriedReady R (Some l) (Some s) = R s l.head l.shape
 abbrev pub carried_bytes : Given → Option LayoutTy → Val → ℕ → ℕ → ℕ → List Placed
 carried_bytes g o (bearing i v) p k h = stored_by_payload g o v p k h
 carried_bytes g o v p k h = []
+
+-- the numbers in the slots of what a case carries, and the bytes behind them
+abbrev pub carried_slots : Given → Option LayoutTy → Val → ℕ → ℕ → ℕ → List Placed
+carried_slots g o (bearing i v) s k h = slots_by_payload g o v s k h
+carried_slots g o v s k h = []
+
+abbrev pub carried_behind : Given → Option LayoutTy → Val → ℕ → ℕ → List Placed
+carried_behind g o (bearing i v) k h = behind_by_payload g o v k h
+carried_behind g o v k h = []
 
 -- a field with where it stands, before others
 abbrev pub field_before : ℕ × LayoutTy → Parts → Parts

@@ -1,5 +1,5 @@
 -- What trees of values tell as a source.
-use Rattle.std.proofs.Common.{◌≡◌, ℕ, zero, suc, ◌<◌, List, [], ◌∷◌, length, map, refl, arith, Some, None, Option}
+use Rattle.std.proofs.Common.{◌≡◌, ℕ, zero, suc, ◌<◌, List, [], ◌∷◌, length, refl, arith, Some}
 use Rattle.cm_types.specs.Values.{HandleValue, Val, Vals, no_vals, val, truth, signed_number, number, scalar, text, elements, parts, bare, bearing, flag_set, handle, count_of}
 use Rattle.cm_layout.specs.declared.layouts.HandleType.{HandleType}
 use Rattle.cm_layout.specs.Shapes.{LayoutTy, Payloads, no_parts, no_payloads, nothing, carried, handle_shape}

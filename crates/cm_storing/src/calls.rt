@@ -16,7 +16,7 @@ ghost use Rattle.cm_stored.specs.Fitting.{Fits};
 ghost use Rattle.cm_stored.specs.FlatLowering.{IsPassedIn, behind_by, slots_by};
 ghost use Rattle.cm_stored.specs.Storing.{given_of, stored_by};
 
-use crate::flat::lower_fields;
+use crate::passing::pass_fields;
 use crate::storing::store_fields;
 use crate::tree::{Tree, Trees};
 use cm_layout::{Form, Layout, Part};
@@ -97,7 +97,8 @@ fn lower_tuple(
     ensures slots_stay { length slots.new ≡ length slots.old }
 {
     let width = layout.head.width;
-    lower_fields(to, slots, memory, fields_of(layout), values, 0, width, next);
+    let fields = Trees { values };
+    pass_fields::<Tree<'_>>(to, slots, memory, fields_of(layout), width, fields, 0, next);
 }
 
 /// Stores the values of a call in the receiver's memory, and puts the numbers that pass them into

@@ -4,7 +4,6 @@ ghost use Rattle.std.specs.Prelude.{◌≡◌, ℕ, suc, ◌+◌, ◌*◌, ◌<�
 ghost use Rattle.cm_types.specs.Values.{HandleValue, Val, Vals, count_of, no_vals, val};
 ghost use Rattle.cm_types.specs.Values.{elements as elements_value, handle as handle_value};
 ghost use Rattle.cm_types.specs.Values.{parts as parts_value, text as text_value};
-ghost use Rattle.cm_layout.specs.Laid.{leaf_size};
 ghost use Rattle.cm_layout.specs.Layouts.{layout_of, part_of};
 ghost use Rattle.cm_layout.specs.Shapes.{Parts, Payloads, Shape, cases_shape, fields_shape};
 ghost use Rattle.cm_layout.specs.Shapes.{fixed_list_shape, handle_shape, leaf_shape, list_shape};
@@ -35,7 +34,7 @@ pub trait ValueSource: Copy {
     /// The value of a shape that stands here.
     ghost value: { Self → Shape → Val };
 
-    /// That it can be stored: it is one of the shape, its parts have places and its handles numbers.
+    /// That it can be stored: it is one of the shape, its parts have places, its handles numbers.
     ghost ready: { Self → ℕ → Given → HeadTy → Shape → ℕ → ℕ → Type 0 };
 
     /// The scalars of the string that stands here.
@@ -51,10 +50,9 @@ pub trait ValueSource: Copy {
 
     ghost fields_ready: { Self.Rest → ℕ → Given → Parts → ℕ → ℕ → Type 0 };
 
-    /// The number that a leaf is stored as, of so many bytes.
-    fn leaf(self, leaf: Leaf, size: u32) -> u64
-        requires size { size ≡ leaf_size leaf }
-        requires ready { (n : ℕ) × (g : Given) × (e : HeadTy) × (k : ℕ) × (h : ℕ)
+    /// The number that a leaf is stored as.
+    fn leaf(self, leaf: Leaf) -> u64
+        requires { (n : ℕ) × (g : Given) × (e : HeadTy) × (k : ℕ) × (h : ℕ)
             × ready self n g e (leaf_shape leaf) k h }
         ensures number { result ≡ number_in (value self (leaf_shape leaf)) }
         ensures counts { (n : ℕ) (g : Given) (e : HeadTy) (k h : ℕ)
@@ -192,4 +190,22 @@ pub trait StoredSource: ValueSource {
             × (count_of (Self.values_left result.1 element sh result.0) ≡ result.0)
             × HasRoom n g k (result.0 * element.size)
             × Self.values_ready result.1 n g element sh result.0 (k + 1) h };
+}
+
+/// A source of values that are passed in core values, whose lists hold values that are stored.
+pub trait PassedSource: ValueSource {
+    /// Where the elements of its lists come from.
+    type Stored: StoredSource;
+
+    /// The elements of a list, with how many they are.
+    fn stored_elements(self) -> (usize, <Self::Stored as ValueSource>::Rest)
+        requires { (n : ℕ) × (g : Given) × (e : HeadTy) × (element : HeadTy) × (sh : Shape)
+            × (k : ℕ) × (h : ℕ) × Self.ready self n g e (list_shape element sh) k h }
+        ensures { (n : ℕ) (g : Given) (e element : HeadTy) (sh : Shape) (k h : ℕ)
+            → Self.ready self n g e (list_shape element sh) k h
+            → (Self.value self (list_shape element sh)
+            ≡ elements_value (Self.Stored.values_left result.1 element sh result.0))
+            × (count_of (Self.Stored.values_left result.1 element sh result.0) ≡ result.0)
+            × HasRoom n g k (result.0 * element.size)
+            × Self.Stored.values_ready result.1 n g element sh result.0 (k + 1) h };
 }

@@ -33,7 +33,7 @@ fn store_leaf<S: ValueSource>(memory: &mut [u8], leaf: Leaf, size: u32, source: 
     ensures parts { part_count (S.value source (leaf_shape leaf)) ≡ 0 }
     ensures handles { handle_count (S.value source (leaf_shape leaf)) ≡ 0 }
 {
-    let number = source.leaf(leaf, size);
+    let number = source.leaf(leaf);
     write_number(memory, at, size, number);
 }
 

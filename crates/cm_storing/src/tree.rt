@@ -7,7 +7,7 @@ ghost use Rattle.cm_storing.specs.Sources.{scalars_of};
 ghost use Rattle.cm_storing.specs.TreeLaws.{handle_is, no_fields_left, none_are_left};
 
 use crate::numbers::number_in;
-use crate::source::{StoredSource, ValueSource};
+use crate::source::{PassedSource, StoredSource, ValueSource};
 use cm_abi_model::StringEncoding;
 use cm_layout::{Layout, Leaf, Part};
 use cm_stored::{stored_size, write_text};
@@ -49,7 +49,7 @@ impl<'a> ValueSource for Tree<'a> {
 
     ghost is_handle = { λ s n g e t k h ready. handle_is n g t (value_of s.value.now) k h ready };
 
-    fn leaf(self, leaf: Leaf, size: u32) -> u64 {
+    fn leaf(self, leaf: Leaf) -> u64 {
         number_in(self.value)
     }
 
@@ -69,7 +69,7 @@ impl<'a> ValueSource for Tree<'a> {
         part: usize,
     ) {
         if let Value::String(text) = self.value {
-            write_text(target, memory, at, text.as_str());
+            write_text(target, memory, at, size, text.as_str());
         }
     }
 
@@ -120,5 +120,13 @@ impl<'a> StoredSource for Tree<'a> {
             Value::List(values) => (values.len(), Trees { values }),
             _ => (0, Trees { values: &[] }),
         }
+    }
+}
+
+impl<'a> PassedSource for Tree<'a> {
+    type Stored = Tree<'a>;
+
+    fn stored_elements(self) -> (usize, Trees<'a>) {
+        self.elements()
     }
 }

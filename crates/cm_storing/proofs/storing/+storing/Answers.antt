@@ -1,4 +1,4 @@
-use Rattle.std.proofs.Common.{rules, refl, ap, sym, ◌∙◌, ◌≡◌, ◌+◌, ◌*◌, ◌-◌, ◌<◌, ◌≤◌, suc, arith, length, map, drop, List}
+use Rattle.std.proofs.Common.{rules, refl, ap, sym, ◌∙◌, ◌≡◌, ◌+◌, ◌-◌, ◌<◌, ◌≤◌, suc, arith, length, map, drop, List}
 use Rattle.cm_types.specs.Values.{val}
 use Rattle.cm_layout.specs.Layouts.{layout_of, part_of, payload_of, shape_of}
 use Rattle.cm_layout.specs.Laid.{Laid}

@@ -1,4 +1,4 @@
-use Rattle.std.proofs.Common.{ap, sym, ◌∙◌, refl}
+use Rattle.std.proofs.Common.{sym, refl}
 use Rattle.cm_abi_model.specs.Requests.{stored_charset, text_bytes, text_units}
 use Rattle.cm_abi_model.specs.Stores.{place_of, placed, pointer_bytes}
 use Rattle.cm_stored.specs.Storing.{given_of}

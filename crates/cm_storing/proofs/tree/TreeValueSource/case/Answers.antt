@@ -1,4 +1,4 @@
-use Rattle.std.proofs.Common.{◌≡◌, ap, sym, ◌∙◌, refl}
+use Rattle.std.proofs.Common.{◌≡◌, ap, sym, ◌∙◌}
 use Rattle.cm_types.specs.Values.{bearing}
 use Rattle.cm_values.specs.ValueTrees.{value_of}
 use Rattle.cm_values.specs.declared.values.Value.{Value}

@@ -1,4 +1,4 @@
-use Rattle.std.proofs.Common.{◌≡◌, length, ap, sym, ◌∙◌, refl}
+use Rattle.std.proofs.Common.{◌≡◌, ap, sym, ◌∙◌}
 use Rattle.cm_types.specs.Values.{parts}
 use Rattle.cm_values.specs.ValueTrees.{value_of, values_of}
 use Rattle.cm_storing.specs.TreeLaws.{count_values}
