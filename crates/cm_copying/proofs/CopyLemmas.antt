@@ -1,9 +1,9 @@
 -- What stands in a source, and the cases that it shows.
-use Rattle.std.proofs.Common.{◌≡◌, ℕ, zero, suc, ◌+◌, ◌*◌, ◌≤◌, List, refl, sym, ap, arith, Some}
+use Rattle.std.proofs.Common.{◌≡◌, ℕ, zero, suc, ◌+◌, ◌≤◌, List, refl, sym, ap, arith, Some}
 use Rattle.cm_types.specs.Values.{Val, bare, bearing, count_of}
 use Rattle.cm_layout.specs.declared.heads.Head.{Head}
 use Rattle.cm_layout.specs.Laid.{PartsLaid, PayloadsLaid, ArePartsMarked, ArePayloadsMarked}
-use Rattle.cm_layout.specs.Shapes.{Parts, Payloads, Shape, cases_shape, fields_shape, fixed_list_shape, list_shape, no_parts, part, no_payloads, nothing, carried}
+use Rattle.cm_layout.specs.Shapes.{Parts, Payloads, Shape, cases_shape, fields_shape, list_shape, no_parts, part, no_payloads, nothing, carried}
 use Rattle.cm_lifting.specs.Sized.{ArePartsSized, ArePayloadsSized}
 use Rattle.cm_abi_model.specs.declared.encoding.StringEncoding.{StringEncoding}
 use Rattle.cm_storing.specs.Sources.{IsCarriedReady, case_told, payload_in}
@@ -31,9 +31,6 @@ payloads_lie n at size o (carried e s ps) within laid sized marked = (
 -- a list's elements, those of a list in place, fields, and what cases carry
 pub elements_sound : (n at : ℕ) (h e : Head) (sh : Shape) → LiesIn n at (record { head = h; shape = list_shape e sh }) → IsSound (record { head = e; shape = sh })
 elements_sound n at h e sh lies = record { laid = lies.sound.laid.1; sized = lies.sound.sized.1; marked = lies.sound.marked.1 }
-
-pub items_lie : (n at count : ℕ) (h e : Head) (sh : Shape) → LiesIn n at (record { head = h; shape = fixed_list_shape e sh count }) → IsSound (record { head = e; shape = sh }) × (at + count * e.size ≤ n)
-items_lie n at count h e sh lies = (record { laid = lies.sound.laid.1; sized = lies.sound.sized; marked = lies.sound.marked.1 }, rw (sym lies.sound.laid.0) lies.within)
 
 pub tuple_lies : (n at : ℕ) (h : Head) (ps : Parts) → LiesIn n at (record { head = h; shape = fields_shape ps }) → FieldsLieIn n at ps
 tuple_lies n at h ps lies = fields_lie n at h.size 0 ps lies.within lies.sound.laid lies.sound.sized lies.sound.marked.1

@@ -1,6 +1,6 @@
 -- Whether a value can be copied from an address of its source into a memory of so many bytes
 -- (CanonicalABI.md, "Loading" and "Storing").
-use Rattle.std.specs.Prelude.{◌≡◌, ℕ, zero, suc, ◌+◌, ◌*◌, ◌<◌, ◌≤◌, ⊤, length, Option, Some, None}
+use Rattle.std.specs.Prelude.{◌≡◌, ℕ, zero, suc, ◌+◌, ◌*◌, ◌<◌, ◌≤◌, ⊤, length}
 use Rattle.std.specs.Prelude.{slice_index}
 use Rattle.cm_types.specs.Values.{Val}
 use Rattle.cm_layout.specs.Laid.{IsMarked, Laid}
@@ -76,11 +76,6 @@ abbrev mutual
   IsCaseReady n c (nothing ps) (suc i) p k h = IsCaseReady n c ps i p k h
   IsCaseReady n c (carried e sh ps) zero p k h = IsReady n c sh p k h
   IsCaseReady n c (carried e sh ps) (suc i) p k h = IsCaseReady n c ps i p k h
-
--- what one case carries can be copied
-abbrev pub IsPayloadReady : ℕ → Copying → Option LayoutTy → ℕ → ℕ → ℕ → Type 0
-IsPayloadReady n c None p k h = ⊤
-IsPayloadReady n c (Some l) p k h = IsReady n c l.shape p k h
 
 -- What a layout is made of is laid out: what it holds lies within it, its numbers have sizes that
 -- numbers have, and what is marked as plain bytes is numbers.

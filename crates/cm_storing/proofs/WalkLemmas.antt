@@ -86,15 +86,6 @@ parts_next ps i p lt is =
     let split : drop i ps ≡ p ∷ drop (i + 1) ps = rw (add-one, drop-cons ps i p lt, ← is) refl in
     rw split refl
 
-pub parts_done : (ps : List CodedPart) (i : ℕ) → length ps ≤ i → parts_from (map part_of (drop i ps)) ≡ no_parts
-parts_done ps i past = rw (past_end ps i past) refl
-  where
-    past_end : {X : Type 0} (xs : List X) (i : ℕ) → length xs ≤ i → drop i xs ≡ []
-    past_end [] zero past = refl
-    past_end [] (suc i) past = refl
-    past_end (x ∷ xs) zero past = absurd (omega arith)
-    past_end (x ∷ xs) (suc i) past = past_end xs i (omega arith)
-
 -- another field was stored
 pub field_stored : (g : Given) (p : ℕ × LayoutTy) (ps : Parts) (v : Val) (all vs : Vals) (at k h l j : ℕ) (m after total : List ℕ) → all ≡ val v vs
     → l ≡ k + part_count v → j ≡ h + handle_count v → after ≡ poke (stored_by g p.1.shape v (at + p.0) k h) m
@@ -153,7 +144,7 @@ none_carried zero i = refl
 none_carried (suc c) zero = refl
 none_carried (suc c) (suc i) = none_carried c i
 
-pub case_stored : (g : Given) (ps : Payloads) (i : ℕ) (v : Val) (p k h : ℕ) → stored_by_case g ps i v p k h ≡ stored_by_payload g (payload_in ps i) v p k h
+case_stored : (g : Given) (ps : Payloads) (i : ℕ) (v : Val) (p k h : ℕ) → stored_by_case g ps i v p k h ≡ stored_by_payload g (payload_in ps i) v p k h
 case_stored g no_payloads i v p k h = refl
 case_stored g (nothing ps) zero v p k h = refl
 case_stored g (nothing ps) (suc i) v p k h = case_stored g ps i v p k h

@@ -1,5 +1,5 @@
-//! Values in core values: one walk down a layout, wherever the values come from, with what is behind
-//! pointers in memory.
+//! Values in core values: one walk down a layout, wherever the values come from, with what is
+//! behind pointers in memory.
 
 ghost use Rattle.std.specs.Prelude.{◌≡◌, ℕ, ◌+◌, ◌*◌, ◌≤◌, [], length, map};
 ghost use Rattle.cm_layout.specs.Laid.{Laid};
@@ -29,8 +29,10 @@ use cm_stored::{
 /// Passes a leaf.
 fn pass_leaf<S: ValueSource>(slots: &mut [u64], leaf: Leaf, source: S, at: usize)
     requires inside { at + 1 ≤ length slots.old }
-    requires ready { (n : ℕ) × (g : Given) × (e : HeadTy) × (k : ℕ) × (h : ℕ) × S.ready source n g e (leaf_shape leaf) k h }
-    ensures slots { (g : Given) (k h : ℕ) → slots.new ≡ poke (slots_by g (leaf_shape leaf) (S.value source (leaf_shape leaf)) at k h) slots.old }
+    requires ready { (n : ℕ) × (g : Given) × (e : HeadTy) × (k : ℕ) × (h : ℕ) × S.ready source n g e
+        (leaf_shape leaf) k h }
+    ensures slots { (g : Given) (k h : ℕ) → slots.new
+        ≡ poke (slots_by g (leaf_shape leaf) (S.value source (leaf_shape leaf)) at k h) slots.old }
     ensures slots_stay { length slots.new ≡ length slots.old }
     ensures parts { part_count (S.value source (leaf_shape leaf)) ≡ 0 }
     ensures handles { handle_count (S.value source (leaf_shape leaf)) ≡ 0 }
@@ -48,12 +50,20 @@ fn pass_enum<S: ValueSource>(
     at: usize,
 )
     requires inside { at + 1 ≤ length slots.old }
-    requires ready { (n : ℕ) × (g : Given) × (e : HeadTy) × (k : ℕ) × (h : ℕ) × S.ready source n g e (cases_shape discriminant discriminant (nothings count)) k h }
-    ensures slots { (g : Given) (k h : ℕ) → slots.new ≡ poke (slots_by g (cases_shape discriminant discriminant (nothings count)) (S.value source (cases_shape discriminant discriminant (nothings count))) at k h) slots.old }
-    ensures behind { (g : Given) (k h : ℕ) → behind_by g (cases_shape discriminant discriminant (nothings count)) (S.value source (cases_shape discriminant discriminant (nothings count))) k h ≡ [] }
+    requires ready { (n : ℕ) × (g : Given) × (e : HeadTy) × (k : ℕ) × (h : ℕ) × S.ready source n g e
+        (cases_shape discriminant discriminant (nothings count)) k h }
+    ensures slots { (g : Given) (k h : ℕ) → slots.new
+        ≡ poke (slots_by g (cases_shape discriminant discriminant (nothings count))
+        (S.value source (cases_shape discriminant discriminant (nothings count))) at k h)
+        slots.old }
+    ensures behind { (g : Given) (k h : ℕ) → behind_by g
+        (cases_shape discriminant discriminant (nothings count))
+        (S.value source (cases_shape discriminant discriminant (nothings count))) k h ≡ [] }
     ensures slots_stay { length slots.new ≡ length slots.old }
-    ensures parts { part_count (S.value source (cases_shape discriminant discriminant (nothings count))) ≡ 0 }
-    ensures handles { handle_count (S.value source (cases_shape discriminant discriminant (nothings count))) ≡ 0 }
+    ensures parts { part_count (S.value source
+        (cases_shape discriminant discriminant (nothings count))) ≡ 0 }
+    ensures handles { handle_count (S.value source
+        (cases_shape discriminant discriminant (nothings count))) ≡ 0 }
 {
     let case = source.case(discriminant, discriminant);
     slots[at] = u64::from(case.0);
@@ -69,13 +79,19 @@ fn pass_text<S: ValueSource>(
     next: &mut Next,
 )
     requires inside { at + 2 ≤ length slots.old }
-    requires ready { (e : HeadTy) × S.ready source (length memory.old) (given_of to.now) e string_shape next.old.part next.old.handle }
-    ensures slots { slots.new ≡ poke (slots_by (given_of to.now) string_shape (S.value source string_shape) at next.old.part next.old.handle) slots.old }
-    ensures stored { memory.new ≡ poke (behind_by (given_of to.now) string_shape (S.value source string_shape) next.old.part next.old.handle) memory.old }
+    requires ready { (e : HeadTy) × S.ready source (length memory.old) (given_of to.now) e
+        string_shape next.old.part next.old.handle }
+    ensures slots { slots.new
+        ≡ poke (slots_by (given_of to.now) string_shape (S.value source string_shape) at
+        next.old.part next.old.handle) slots.old }
+    ensures stored { memory.new
+        ≡ poke (behind_by (given_of to.now) string_shape (S.value source string_shape) next.old.part
+        next.old.handle) memory.old }
     ensures stays { length memory.new ≡ length memory.old }
     ensures slots_stay { length slots.new ≡ length slots.old }
     ensures part { next.new.part ≡ next.old.part + part_count (S.value source string_shape) }
-    ensures handle { next.new.handle ≡ next.old.handle + handle_count (S.value source string_shape) }
+    ensures handle { next.new.handle
+        ≡ next.old.handle + handle_count (S.value source string_shape) }
 {
     let part = next.part;
     let size = source.text_size(to.encoding, part);
@@ -95,13 +111,20 @@ fn pass_handle_of<S: ValueSource>(
     next: &mut Next,
 )
     requires inside { at + 1 ≤ length slots.old }
-    requires ready { (e : HeadTy) × S.ready source (length memory.old) (given_of to.now) e (handle_shape handle) next.old.part next.old.handle }
-    ensures slots { slots.new ≡ poke (slots_by (given_of to.now) (handle_shape handle) (S.value source (handle_shape handle)) at next.old.part next.old.handle) slots.old }
-    ensures stored { memory.new ≡ poke (behind_by (given_of to.now) (handle_shape handle) (S.value source (handle_shape handle)) next.old.part next.old.handle) memory.old }
+    requires ready { (e : HeadTy) × S.ready source (length memory.old) (given_of to.now) e
+        (handle_shape handle) next.old.part next.old.handle }
+    ensures slots { slots.new
+        ≡ poke (slots_by (given_of to.now) (handle_shape handle)
+        (S.value source (handle_shape handle)) at next.old.part next.old.handle) slots.old }
+    ensures stored { memory.new
+        ≡ poke (behind_by (given_of to.now) (handle_shape handle)
+        (S.value source (handle_shape handle)) next.old.part next.old.handle) memory.old }
     ensures stays { length memory.new ≡ length memory.old }
     ensures slots_stay { length slots.new ≡ length slots.old }
-    ensures part { next.new.part ≡ next.old.part + part_count (S.value source (handle_shape handle)) }
-    ensures handle { next.new.handle ≡ next.old.handle + handle_count (S.value source (handle_shape handle)) }
+    ensures part { next.new.part
+        ≡ next.old.part + part_count (S.value source (handle_shape handle)) }
+    ensures handle { next.new.handle
+        ≡ next.old.handle + handle_count (S.value source (handle_shape handle)) }
 {
     pass_handle(to, slots, at, next);
 }
@@ -118,21 +141,35 @@ fn pass_list<S: PassedSource>(
 )
     requires laid { Laid (layout_of element.now).head.size (layout_of element.now).shape }
     requires inside { at + 2 ≤ length slots.old }
-    requires ready { (e : HeadTy) × S.ready source (length memory.old) (given_of to.now) e (list_shape (layout_of element.now).head (layout_of element.now).shape) next.old.part next.old.handle }
-    ensures slots { slots.new ≡ poke (slots_by (given_of to.now) (list_shape (layout_of element.now).head (layout_of element.now).shape) (S.value source (list_shape (layout_of element.now).head (layout_of element.now).shape)) at next.old.part next.old.handle) slots.old }
-    ensures stored { memory.new ≡ poke (behind_by (given_of to.now) (list_shape (layout_of element.now).head (layout_of element.now).shape) (S.value source (list_shape (layout_of element.now).head (layout_of element.now).shape)) next.old.part next.old.handle) memory.old }
+    requires ready { (e : HeadTy) × S.ready source (length memory.old) (given_of to.now) e
+        (list_shape (layout_of element.now).head (layout_of element.now).shape) next.old.part
+        next.old.handle }
+    ensures slots { slots.new
+        ≡ poke (slots_by (given_of to.now)
+        (list_shape (layout_of element.now).head (layout_of element.now).shape)
+        (S.value source (list_shape (layout_of element.now).head (layout_of element.now).shape)) at
+        next.old.part next.old.handle) slots.old }
+    ensures stored { memory.new
+        ≡ poke (behind_by (given_of to.now)
+        (list_shape (layout_of element.now).head (layout_of element.now).shape)
+        (S.value source (list_shape (layout_of element.now).head (layout_of element.now).shape))
+        next.old.part next.old.handle) memory.old }
     ensures stays { length memory.new ≡ length memory.old }
     ensures slots_stay { length slots.new ≡ length slots.old }
-    ensures part { next.new.part ≡ next.old.part + part_count (S.value source (list_shape (layout_of element.now).head (layout_of element.now).shape)) }
-    ensures handle { next.new.handle ≡ next.old.handle + handle_count (S.value source (list_shape (layout_of element.now).head (layout_of element.now).shape)) }
+    ensures part { next.new.part
+        ≡ next.old.part + part_count (S.value source
+        (list_shape (layout_of element.now).head (layout_of element.now).shape)) }
+    ensures handle { next.new.handle
+        ≡ next.old.handle + handle_count (S.value source
+        (list_shape (layout_of element.now).head (layout_of element.now).shape)) }
 {
     let elements = source.stored_elements();
     let place = pass_pointer(to, slots, at, elements.0, next);
     store_row::<S::Stored>(to, memory, element, elements.1, elements.0, place, next);
 }
 
-/// Passes a value by its layout in slots from this one on (CanonicalABI.md, "Flat Lowering"). The next
-/// part and the next handle are then those behind the value's; it takes no memory.
+/// Passes a value by its layout in slots from this one on (CanonicalABI.md, "Flat Lowering"). The
+/// next part and the next handle are then those behind the value's; it takes no memory.
 #[cycle(passing)]
 pub fn pass_value<S: PassedSource>(
     to: &Target<'_>,
@@ -145,13 +182,20 @@ pub fn pass_value<S: PassedSource>(
 )
     requires passed { IsPassedIn (layout_of layout.now).head.width (layout_of layout.now).shape }
     requires inside { at + (layout_of layout.now).head.width ≤ length slots.old }
-    requires ready { S.ready source (length memory.old) (given_of to.now) (layout_of layout.now).head (layout_of layout.now).shape next.old.part next.old.handle }
-    ensures slots { slots.new ≡ poke (slots_by (given_of to.now) (layout_of layout.now).shape (S.value source (layout_of layout.now).shape) at next.old.part next.old.handle) slots.old }
-    ensures stored { memory.new ≡ poke (behind_by (given_of to.now) (layout_of layout.now).shape (S.value source (layout_of layout.now).shape) next.old.part next.old.handle) memory.old }
+    requires ready { S.ready source (length memory.old) (given_of to.now)
+        (layout_of layout.now).head (layout_of layout.now).shape next.old.part next.old.handle }
+    ensures slots { slots.new
+        ≡ poke (slots_by (given_of to.now) (layout_of layout.now).shape
+        (S.value source (layout_of layout.now).shape) at next.old.part next.old.handle) slots.old }
+    ensures stored { memory.new
+        ≡ poke (behind_by (given_of to.now) (layout_of layout.now).shape
+        (S.value source (layout_of layout.now).shape) next.old.part next.old.handle) memory.old }
     ensures stays { length memory.new ≡ length memory.old }
     ensures slots_stay { length slots.new ≡ length slots.old }
-    ensures part { next.new.part ≡ next.old.part + part_count (S.value source (layout_of layout.now).shape) }
-    ensures handle { next.new.handle ≡ next.old.handle + handle_count (S.value source (layout_of layout.now).shape) }
+    ensures part { next.new.part
+        ≡ next.old.part + part_count (S.value source (layout_of layout.now).shape) }
+    ensures handle { next.new.handle
+        ≡ next.old.handle + handle_count (S.value source (layout_of layout.now).shape) }
 {
     match &layout.form {
         Form::Leaf(leaf) => pass_leaf(slots, *leaf, source, at),
@@ -210,13 +254,27 @@ fn pass_fixed_list<S: PassedSource>(
 )
     requires passed { IsPassedIn (layout_of element.now).head.width (layout_of element.now).shape }
     requires inside { at + count * (layout_of element.now).head.width ≤ length slots.old }
-    requires ready { (e : HeadTy) × S.ready source (length memory.old) (given_of to.now) e (fixed_list_shape (layout_of element.now).head (layout_of element.now).shape count) next.old.part next.old.handle }
-    ensures slots { slots.new ≡ poke (slots_by (given_of to.now) (fixed_list_shape (layout_of element.now).head (layout_of element.now).shape count) (S.value source (fixed_list_shape (layout_of element.now).head (layout_of element.now).shape count)) at next.old.part next.old.handle) slots.old }
-    ensures stored { memory.new ≡ poke (behind_by (given_of to.now) (fixed_list_shape (layout_of element.now).head (layout_of element.now).shape count) (S.value source (fixed_list_shape (layout_of element.now).head (layout_of element.now).shape count)) next.old.part next.old.handle) memory.old }
+    requires ready { (e : HeadTy) × S.ready source (length memory.old) (given_of to.now) e
+        (fixed_list_shape (layout_of element.now).head (layout_of element.now).shape count)
+        next.old.part next.old.handle }
+    ensures slots { slots.new
+        ≡ poke (slots_by (given_of to.now)
+        (fixed_list_shape (layout_of element.now).head (layout_of element.now).shape count)
+        (S.value source (fixed_list_shape (layout_of element.now).head (layout_of element.now).shape
+        count)) at next.old.part next.old.handle) slots.old }
+    ensures stored { memory.new
+        ≡ poke (behind_by (given_of to.now)
+        (fixed_list_shape (layout_of element.now).head (layout_of element.now).shape count)
+        (S.value source (fixed_list_shape (layout_of element.now).head (layout_of element.now).shape
+        count)) next.old.part next.old.handle) memory.old }
     ensures stays { length memory.new ≡ length memory.old }
     ensures slots_stay { length slots.new ≡ length slots.old }
-    ensures part { next.new.part ≡ next.old.part + part_count (S.value source (fixed_list_shape (layout_of element.now).head (layout_of element.now).shape count)) }
-    ensures handle { next.new.handle ≡ next.old.handle + handle_count (S.value source (fixed_list_shape (layout_of element.now).head (layout_of element.now).shape count)) }
+    ensures part { next.new.part
+        ≡ next.old.part + part_count (S.value source
+        (fixed_list_shape (layout_of element.now).head (layout_of element.now).shape count)) }
+    ensures handle { next.new.handle
+        ≡ next.old.handle + handle_count (S.value source
+        (fixed_list_shape (layout_of element.now).head (layout_of element.now).shape count)) }
 {
     let items = source.items(count as usize);
     pass_row::<S>(to, slots, memory, element, items, count as usize, at, next);
@@ -236,13 +294,26 @@ fn pass_row<S: PassedSource>(
 )
     requires passed { IsPassedIn (layout_of element.now).head.width (layout_of element.now).shape }
     requires inside { at + count * (layout_of element.now).head.width ≤ length slots.old }
-    requires ready { S.values_ready items (length memory.old) (given_of to.now) (layout_of element.now).head (layout_of element.now).shape count next.old.part next.old.handle }
-    ensures slots { slots.new ≡ poke (store_each (slots_by (given_of to.now) (layout_of element.now).shape) (layout_of element.now).head.width (S.values_left items (layout_of element.now).head (layout_of element.now).shape count) at next.old.part next.old.handle) slots.old }
-    ensures stored { memory.new ≡ poke (behind_each (behind_by (given_of to.now) (layout_of element.now).shape) (S.values_left items (layout_of element.now).head (layout_of element.now).shape count) next.old.part next.old.handle) memory.old }
+    requires ready { S.values_ready items (length memory.old) (given_of to.now)
+        (layout_of element.now).head (layout_of element.now).shape count next.old.part
+        next.old.handle }
+    ensures slots { slots.new
+        ≡ poke (store_each (slots_by (given_of to.now) (layout_of element.now).shape)
+        (layout_of element.now).head.width
+        (S.values_left items (layout_of element.now).head (layout_of element.now).shape count) at
+        next.old.part next.old.handle) slots.old }
+    ensures stored { memory.new
+        ≡ poke (behind_each (behind_by (given_of to.now) (layout_of element.now).shape)
+        (S.values_left items (layout_of element.now).head (layout_of element.now).shape count)
+        next.old.part next.old.handle) memory.old }
     ensures stays { length memory.new ≡ length memory.old }
     ensures slots_stay { length slots.new ≡ length slots.old }
-    ensures part { next.new.part ≡ next.old.part + part_count_each (S.values_left items (layout_of element.now).head (layout_of element.now).shape count) }
-    ensures handle { next.new.handle ≡ next.old.handle + handle_count_each (S.values_left items (layout_of element.now).head (layout_of element.now).shape count) }
+    ensures part { next.new.part
+        ≡ next.old.part + part_count_each
+        (S.values_left items (layout_of element.now).head (layout_of element.now).shape count) }
+    ensures handle { next.new.handle
+        ≡ next.old.handle + handle_count_each
+        (S.values_left items (layout_of element.now).head (layout_of element.now).shape count) }
 {
     let mut rest = items;
     let mut slot = at;
@@ -267,13 +338,24 @@ fn pass_record<S: PassedSource>(
 )
     requires passed { ArePassedIn width 0 (parts_from (map part_of parts.now)) }
     requires inside { at + width ≤ length slots.old }
-    requires ready { (e : HeadTy) × S.ready source (length memory.old) (given_of to.now) e (fields_shape (parts_from (map part_of parts.now))) next.old.part next.old.handle }
-    ensures slots { slots.new ≡ poke (slots_by (given_of to.now) (fields_shape (parts_from (map part_of parts.now))) (S.value source (fields_shape (parts_from (map part_of parts.now)))) at next.old.part next.old.handle) slots.old }
-    ensures stored { memory.new ≡ poke (behind_by (given_of to.now) (fields_shape (parts_from (map part_of parts.now))) (S.value source (fields_shape (parts_from (map part_of parts.now)))) next.old.part next.old.handle) memory.old }
+    requires ready { (e : HeadTy) × S.ready source (length memory.old) (given_of to.now) e
+        (fields_shape (parts_from (map part_of parts.now))) next.old.part next.old.handle }
+    ensures slots { slots.new
+        ≡ poke (slots_by (given_of to.now) (fields_shape (parts_from (map part_of parts.now)))
+        (S.value source (fields_shape (parts_from (map part_of parts.now)))) at next.old.part
+        next.old.handle) slots.old }
+    ensures stored { memory.new
+        ≡ poke (behind_by (given_of to.now) (fields_shape (parts_from (map part_of parts.now)))
+        (S.value source (fields_shape (parts_from (map part_of parts.now)))) next.old.part
+        next.old.handle) memory.old }
     ensures stays { length memory.new ≡ length memory.old }
     ensures slots_stay { length slots.new ≡ length slots.old }
-    ensures part { next.new.part ≡ next.old.part + part_count (S.value source (fields_shape (parts_from (map part_of parts.now)))) }
-    ensures handle { next.new.handle ≡ next.old.handle + handle_count (S.value source (fields_shape (parts_from (map part_of parts.now)))) }
+    ensures part { next.new.part
+        ≡ next.old.part + part_count (S.value source
+        (fields_shape (parts_from (map part_of parts.now)))) }
+    ensures handle { next.new.handle
+        ≡ next.old.handle + handle_count (S.value source
+        (fields_shape (parts_from (map part_of parts.now)))) }
 {
     let fields = source.fields();
     pass_fields::<S>(to, slots, memory, parts, width, fields, at, next);
@@ -293,13 +375,24 @@ pub(crate) fn pass_fields<S: PassedSource>(
 )
     requires passed { ArePassedIn width 0 (parts_from (map part_of parts.now)) }
     requires inside { at + width ≤ length slots.old }
-    requires ready { S.fields_ready fields (length memory.old) (given_of to.now) (parts_from (map part_of parts.now)) next.old.part next.old.handle }
-    ensures slots { slots.new ≡ poke (slots_by_fields (given_of to.now) (parts_from (map part_of parts.now)) (S.fields_left fields (parts_from (map part_of parts.now))) at next.old.part next.old.handle) slots.old }
-    ensures stored { memory.new ≡ poke (behind_by_fields (given_of to.now) (parts_from (map part_of parts.now)) (S.fields_left fields (parts_from (map part_of parts.now))) next.old.part next.old.handle) memory.old }
+    requires ready { S.fields_ready fields (length memory.old) (given_of to.now)
+        (parts_from (map part_of parts.now)) next.old.part next.old.handle }
+    ensures slots { slots.new
+        ≡ poke (slots_by_fields (given_of to.now) (parts_from (map part_of parts.now))
+        (S.fields_left fields (parts_from (map part_of parts.now))) at next.old.part
+        next.old.handle) slots.old }
+    ensures stored { memory.new
+        ≡ poke (behind_by_fields (given_of to.now) (parts_from (map part_of parts.now))
+        (S.fields_left fields (parts_from (map part_of parts.now))) next.old.part next.old.handle)
+        memory.old }
     ensures stays { length memory.new ≡ length memory.old }
     ensures slots_stay { length slots.new ≡ length slots.old }
-    ensures part { next.new.part ≡ next.old.part + part_count_each (S.fields_left fields (parts_from (map part_of parts.now))) }
-    ensures handle { next.new.handle ≡ next.old.handle + handle_count_each (S.fields_left fields (parts_from (map part_of parts.now))) }
+    ensures part { next.new.part
+        ≡ next.old.part + part_count_each
+        (S.fields_left fields (parts_from (map part_of parts.now))) }
+    ensures handle { next.new.handle
+        ≡ next.old.handle + handle_count_each
+        (S.fields_left fields (parts_from (map part_of parts.now))) }
 {
     let mut rest = fields;
     let mut slot = at;
@@ -323,13 +416,20 @@ fn pass_field<S: PassedSource>(
 )
     requires passed { IsPassedIn (part_of part.now).1.head.width (part_of part.now).1.shape }
     requires inside { at + (part_of part.now).1.head.width ≤ length slots.old }
-    requires ready { S.ready source (length memory.old) (given_of to.now) (part_of part.now).1.head (part_of part.now).1.shape next.old.part next.old.handle }
-    ensures slots { slots.new ≡ poke (slots_by (given_of to.now) (part_of part.now).1.shape (S.value source (part_of part.now).1.shape) at next.old.part next.old.handle) slots.old }
-    ensures stored { memory.new ≡ poke (behind_by (given_of to.now) (part_of part.now).1.shape (S.value source (part_of part.now).1.shape) next.old.part next.old.handle) memory.old }
+    requires ready { S.ready source (length memory.old) (given_of to.now) (part_of part.now).1.head
+        (part_of part.now).1.shape next.old.part next.old.handle }
+    ensures slots { slots.new
+        ≡ poke (slots_by (given_of to.now) (part_of part.now).1.shape
+        (S.value source (part_of part.now).1.shape) at next.old.part next.old.handle) slots.old }
+    ensures stored { memory.new
+        ≡ poke (behind_by (given_of to.now) (part_of part.now).1.shape
+        (S.value source (part_of part.now).1.shape) next.old.part next.old.handle) memory.old }
     ensures stays { length memory.new ≡ length memory.old }
     ensures slots_stay { length slots.new ≡ length slots.old }
-    ensures part { next.new.part ≡ next.old.part + part_count (S.value source (part_of part.now).1.shape) }
-    ensures handle { next.new.handle ≡ next.old.handle + handle_count (S.value source (part_of part.now).1.shape) }
+    ensures part { next.new.part
+        ≡ next.old.part + part_count (S.value source (part_of part.now).1.shape) }
+    ensures handle { next.new.handle
+        ≡ next.old.handle + handle_count (S.value source (part_of part.now).1.shape) }
 {
     pass_value(to, slots, memory, &part.layout, source, at, next);
 }
@@ -348,15 +448,31 @@ fn pass_case<S: PassedSource>(
     at: usize,
     next: &mut Next,
 )
-    requires passed { IsPassedIn width (cases_shape discriminant offset (payloads_from (map payload_of payloads.now))) }
+    requires passed { IsPassedIn width (cases_shape discriminant offset
+        (payloads_from (map payload_of payloads.now))) }
     requires inside { at + width ≤ length slots.old }
-    requires ready { (e : HeadTy) × S.ready source (length memory.old) (given_of to.now) e (cases_shape discriminant offset (payloads_from (map payload_of payloads.now))) next.old.part next.old.handle }
-    ensures slots { slots.new ≡ poke (slots_by (given_of to.now) (cases_shape discriminant offset (payloads_from (map payload_of payloads.now))) (S.value source (cases_shape discriminant offset (payloads_from (map payload_of payloads.now)))) at next.old.part next.old.handle) slots.old }
-    ensures stored { memory.new ≡ poke (behind_by (given_of to.now) (cases_shape discriminant offset (payloads_from (map payload_of payloads.now))) (S.value source (cases_shape discriminant offset (payloads_from (map payload_of payloads.now)))) next.old.part next.old.handle) memory.old }
+    requires ready { (e : HeadTy) × S.ready source (length memory.old) (given_of to.now) e
+        (cases_shape discriminant offset (payloads_from (map payload_of payloads.now)))
+        next.old.part next.old.handle }
+    ensures slots { slots.new
+        ≡ poke (slots_by (given_of to.now)
+        (cases_shape discriminant offset (payloads_from (map payload_of payloads.now)))
+        (S.value source (cases_shape discriminant offset
+        (payloads_from (map payload_of payloads.now)))) at next.old.part next.old.handle)
+        slots.old }
+    ensures stored { memory.new
+        ≡ poke (behind_by (given_of to.now)
+        (cases_shape discriminant offset (payloads_from (map payload_of payloads.now)))
+        (S.value source (cases_shape discriminant offset
+        (payloads_from (map payload_of payloads.now)))) next.old.part next.old.handle) memory.old }
     ensures stays { length memory.new ≡ length memory.old }
     ensures slots_stay { length slots.new ≡ length slots.old }
-    ensures part { next.new.part ≡ next.old.part + part_count (S.value source (cases_shape discriminant offset (payloads_from (map payload_of payloads.now)))) }
-    ensures handle { next.new.handle ≡ next.old.handle + handle_count (S.value source (cases_shape discriminant offset (payloads_from (map payload_of payloads.now)))) }
+    ensures part { next.new.part
+        ≡ next.old.part + part_count (S.value source
+        (cases_shape discriminant offset (payloads_from (map payload_of payloads.now)))) }
+    ensures handle { next.new.handle
+        ≡ next.old.handle + handle_count (S.value source
+        (cases_shape discriminant offset (payloads_from (map payload_of payloads.now)))) }
 {
     let case = source.case(discriminant, offset);
     slots[at] = u64::from(case.0);
@@ -378,13 +494,22 @@ fn pass_payload<S: PassedSource>(
     next: &mut Next,
 )
     requires passed { PayloadIsPassed (length slots.old) at (payload_of payload.now) }
-    requires ready { IsCarriedReady (λ s e sh. S.ready s (length memory.old) (given_of to.now) e sh next.old.part next.old.handle) (payload_of payload.now) source }
-    ensures slots { slots.new ≡ poke (carried_slots (given_of to.now) (payload_of payload.now) (case_told S.value 0 (payload_of payload.now) source) at next.old.part next.old.handle) slots.old }
-    ensures stored { memory.new ≡ poke (carried_behind (given_of to.now) (payload_of payload.now) (case_told S.value 0 (payload_of payload.now) source) next.old.part next.old.handle) memory.old }
+    requires ready { IsCarriedReady (λ s e sh. S.ready s (length memory.old) (given_of to.now) e sh
+        next.old.part next.old.handle) (payload_of payload.now) source }
+    ensures slots { slots.new
+        ≡ poke (carried_slots (given_of to.now) (payload_of payload.now)
+        (case_told S.value 0 (payload_of payload.now) source) at next.old.part next.old.handle)
+        slots.old }
+    ensures stored { memory.new
+        ≡ poke (carried_behind (given_of to.now) (payload_of payload.now)
+        (case_told S.value 0 (payload_of payload.now) source) next.old.part next.old.handle)
+        memory.old }
     ensures stays { length memory.new ≡ length memory.old }
     ensures slots_stay { length slots.new ≡ length slots.old }
-    ensures part { next.new.part ≡ next.old.part + part_count (case_told S.value 0 (payload_of payload.now) source) }
-    ensures handle { next.new.handle ≡ next.old.handle + handle_count (case_told S.value 0 (payload_of payload.now) source) }
+    ensures part { next.new.part
+        ≡ next.old.part + part_count (case_told S.value 0 (payload_of payload.now) source) }
+    ensures handle { next.new.handle
+        ≡ next.old.handle + handle_count (case_told S.value 0 (payload_of payload.now) source) }
 {
     if let Payload::Carried(layout) = payload {
         if let Some(source) = source {
