@@ -1,5 +1,5 @@
 -- Whether a value can be copied from core values to others (CanonicalABI.md, "Flattening").
-use Rattle.std.specs.Prelude.{ℕ, zero, suc, ◌+◌, ◌<◌, ◌≤◌, ⊤, List, length, Option, Some, None}
+use Rattle.std.specs.Prelude.{ℕ, zero, suc, ◌+◌, ◌<◌, ◌≤◌, ⊤, List, length}
 use Rattle.cm_types.specs.declared.core_value.CoreValue.{CoreValue}
 use Rattle.cm_layout.specs.Shapes.{LayoutTy, Shape, Parts, Payloads, leaf_shape, string_shape}
 use Rattle.cm_layout.specs.Shapes.{list_shape, fixed_list_shape, fields_shape, cases_shape}
@@ -42,12 +42,6 @@ abbrev mutual
   IsFlatCaseReady n c slots (nothing ps) (suc i) s k h = IsFlatCaseReady n c slots ps i s k h
   IsFlatCaseReady n c slots (carried e sh ps) zero s k h = IsFlatReady n c slots sh s k h
   IsFlatCaseReady n c slots (carried e sh ps) (suc i) s k h = IsFlatCaseReady n c slots ps i s k h
-
--- what one case carries can be copied
-abbrev pub IsFlatPayloadReady : ℕ → Copying → List CoreValue → Option LayoutTy → ℕ → ℕ → ℕ
-    → Type 0
-IsFlatPayloadReady n c slots None s k h = ⊤
-IsFlatPayloadReady n c slots (Some l) s k h = IsFlatReady n c slots l.shape s k h
 
 -- The core values of a layout lie in so many slots from one on, and so does what it holds; what
 -- its lists hold is laid out.

@@ -1,19 +1,17 @@
 -- The value that core values show, as a function (CanonicalABI.md, "Flattening" and "Lifting"): the
 -- one that is lifted where lifting comes to no fault, and else some value. Of a handle it tells
 -- nothing, as of one in memory. A slot is known by its place, from 0.
-use Rattle.std.specs.Prelude.{ℕ, zero, suc, ◌+◌, List, [], Option, Some, None}
+use Rattle.std.specs.Prelude.{ℕ, zero, suc, ◌+◌, List}
 use Rattle.cm_types.specs.declared.core_value.CoreValue.{CoreValue}
 use Rattle.cm_types.specs.Values.{Val, Vals, no_vals, val, text, elements, parts, bare, bearing}
 use Rattle.cm_types.specs.Values.{handle}
-use Rattle.cm_layout.specs.Shapes.{LayoutTy, Shape, Parts, Payloads, leaf_shape, string_shape}
+use Rattle.cm_layout.specs.Shapes.{Shape, Parts, Payloads, leaf_shape, string_shape}
 use Rattle.cm_layout.specs.Shapes.{list_shape, fixed_list_shape, fields_shape, cases_shape}
 use Rattle.cm_layout.specs.Shapes.{handle_shape, no_parts, part, no_payloads, nothing, carried}
 use Rattle.cm_abi_model.specs.Numbers.{wrapped_at}
-use Rattle.cm_abi_model.specs.Stores.{Given, Placed}
 use Rattle.cm_lifting.specs.Sized.{core_size}
 use Rattle.cm_copying.specs.Copying.{Copying, shown_to}
 use Rattle.cm_copying.specs.Shown.{leaf_shown, scalars_at, some_handle, values_each}
-use Rattle.cm_stored.specs.FlatLowering.{behind_by, behind_by_case, slots_by, slots_by_case}
 
 abbrev mutual
   -- the value of this shape in the slots from this one on; strings and elements are behind pointers
@@ -45,28 +43,3 @@ abbrev mutual
   flat_shown_case c slots (nothing ps) i (suc n) s = flat_shown_case c slots ps i n s
   flat_shown_case c slots (carried e sh ps) i zero s = bearing i (flat_shown c slots sh s)
   flat_shown_case c slots (carried e sh ps) i (suc n) s = flat_shown_case c slots ps i n s
-
--- one case with what it carries
-abbrev pub flat_shown_payload : Copying → List CoreValue → Option LayoutTy → ℕ → ℕ → Val
-flat_shown_payload c slots None i s = bare i
-flat_shown_payload c slots (Some l) i s = bearing i (flat_shown c slots l.shape s)
-
--- the numbers in the slots of what a case carries, and the bytes behind them
-abbrev pub slots_in_case : Given → Payloads → Val → ℕ → ℕ → ℕ → List Placed
-slots_in_case g ps (bearing i v) s k h = slots_by_case g ps i v s k h
-slots_in_case g ps v s k h = []
-
-abbrev pub behind_case : Given → Payloads → Val → ℕ → ℕ → List Placed
-behind_case g ps (bearing i v) k h = behind_by_case g ps i v k h
-behind_case g ps v k h = []
-
--- those of what one case carries, which core values show
-abbrev pub payload_slots : Copying → List CoreValue → Option LayoutTy → ℕ → ℕ → ℕ → List Placed
-payload_slots c slots None s k h = []
-payload_slots c slots (Some l) s k h =
-    slots_by c.given l.shape (flat_shown c slots l.shape s) s k h
-
-abbrev pub payload_behind : Copying → List CoreValue → Option LayoutTy → ℕ → ℕ → ℕ → List Placed
-payload_behind c slots None s k h = []
-payload_behind c slots (Some l) s k h =
-    behind_by c.given l.shape (flat_shown c slots l.shape s) k h

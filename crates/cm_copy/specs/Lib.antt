@@ -4,3 +4,4 @@ pub mod PassingOn
 pub mod CallCopies
 pub mod Copies
 pub mod Settled
+pub mod SlotLaws

@@ -10,10 +10,11 @@ ghost use Rattle.cm_copy.specs.PassingOn.{CanBePassedOn};
 ghost use Rattle.cm_stored.specs.Storing.{given_of};
 
 use crate::call_laws::what_is_denoted_is_copied;
-use crate::flat::copy_flat;
+use crate::slots::Slots;
 use cm_copying::{Copier, copy_value};
 use cm_lift::{Passed, number_32};
 use cm_stored::Next;
+use cm_storing::pass_value;
 
 /// Copies the values that core values pass, by the layout of the tuple of their types, from the
 /// memory of their giver into that of a receiver, and puts the numbers that pass them on into
@@ -57,13 +58,18 @@ pub fn copy_call(from: &Copier<'_>, passed: &Passed<'_>, memory: &mut [u8], slot
         );
         slots[0] = u64::from(place);
     } else {
-        copy_flat(
+        let source = Slots {
             from,
-            passed.layout,
-            passed.slots,
-            0,
+            given: passed.slots,
+            at: 0,
+        };
+        pass_value(
+            &from.target,
             slots,
             memory,
+            passed.layout,
+            source,
+            0,
             &mut next,
         );
     }

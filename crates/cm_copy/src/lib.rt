@@ -6,10 +6,9 @@
 mod call_laws;
 mod calls;
 mod copying;
-mod flat;
 mod found;
 mod laws;
-mod numbers;
+mod slots;
 
 pub use calls::copy_call;
 pub use copying::copy;

@@ -34,3 +34,7 @@ copying_of c =
 -- the value that the source shows at an address
 abbrev pub shown_to : Copying → Shape → ℕ → Val
 shown_to c sh p = value_at c.memory c.encoding sh p
+
+-- what is copied from there, where this is given
+abbrev pub given_for : Copying → Given → Copying
+given_for c g = record c { given = g }

@@ -1,6 +1,6 @@
 -- Whether a value can be copied from an address of its source into a memory of so many bytes
 -- (CanonicalABI.md, "Loading" and "Storing").
-use Rattle.std.specs.Prelude.{◌≡◌, ℕ, zero, suc, ◌+◌, ◌*◌, ◌<◌, ◌≤◌, ⊤, length, Option, Some, None}
+use Rattle.std.specs.Prelude.{◌≡◌, ℕ, zero, suc, ◌+◌, ◌*◌, ◌<◌, ◌≤◌, ⊤, length}
 use Rattle.std.specs.Prelude.{slice_index}
 use Rattle.cm_types.specs.Values.{Val}
 use Rattle.cm_layout.specs.Laid.{IsMarked, Laid}
@@ -77,11 +77,6 @@ abbrev mutual
   IsCaseReady n c (carried e sh ps) zero p k h = IsReady n c sh p k h
   IsCaseReady n c (carried e sh ps) (suc i) p k h = IsCaseReady n c ps i p k h
 
--- what one case carries can be copied
-abbrev pub IsPayloadReady : ℕ → Copying → Option LayoutTy → ℕ → ℕ → ℕ → Type 0
-IsPayloadReady n c None p k h = ⊤
-IsPayloadReady n c (Some l) p k h = IsReady n c l.shape p k h
-
 -- What a layout is made of is laid out: what it holds lies within it, its numbers have sizes that
 -- numbers have, and what is marked as plain bytes is numbers.
 pub record IsSound (l : LayoutTy) : Type 0 where
@@ -89,24 +84,19 @@ pub record IsSound (l : LayoutTy) : Type 0 where
   pub sized : IsSized l.shape
   pub marked : IsMarked l.head l.shape
 
--- The bytes of a layout lie in a source of so many bytes from one address on, and in a memory of so
--- many bytes from another one.
-pub record LiesInBoth (source_length memory_length from at : ℕ) (l : LayoutTy) : Type 0 where
-  pub within : from + l.head.size ≤ source_length
-  pub inside : at + l.head.size ≤ memory_length
+-- The bytes of a layout lie in a source of so many bytes from an address on.
+pub record LiesIn (length at : ℕ) (l : LayoutTy) : Type 0 where
+  pub within : at + l.head.size ≤ length
   pub sound : IsSound l
 
 -- the same of fields, and of what cases carry
-abbrev pub FieldsLieInBoth : ℕ → ℕ → ℕ → ℕ → Parts → Type 0
-FieldsLieInBoth source_length memory_length from at no_parts = ⊤
-FieldsLieInBoth source_length memory_length from at (part o e sh ps) =
-    LiesInBoth source_length memory_length (from + o) (at + o) (record { head = e; shape = sh })
-    × FieldsLieInBoth source_length memory_length from at ps
+abbrev pub FieldsLieIn : ℕ → ℕ → Parts → Type 0
+FieldsLieIn length at no_parts = ⊤
+FieldsLieIn length at (part o e sh ps) =
+    LiesIn length (at + o) (record { head = e; shape = sh }) × FieldsLieIn length at ps
 
-abbrev pub PayloadsLieInBoth : ℕ → ℕ → ℕ → ℕ → Payloads → Type 0
-PayloadsLieInBoth source_length memory_length from at no_payloads = ⊤
-PayloadsLieInBoth source_length memory_length from at (nothing ps) =
-    PayloadsLieInBoth source_length memory_length from at ps
-PayloadsLieInBoth source_length memory_length from at (carried e sh ps) =
-    LiesInBoth source_length memory_length from at (record { head = e; shape = sh })
-    × PayloadsLieInBoth source_length memory_length from at ps
+abbrev pub PayloadsLieIn : ℕ → ℕ → Payloads → Type 0
+PayloadsLieIn length at no_payloads = ⊤
+PayloadsLieIn length at (nothing ps) = PayloadsLieIn length at ps
+PayloadsLieIn length at (carried e sh ps) =
+    LiesIn length at (record { head = e; shape = sh }) × PayloadsLieIn length at ps

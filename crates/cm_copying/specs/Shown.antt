@@ -8,7 +8,7 @@ use Rattle.cm_types.specs.Values.{handle}
 use Rattle.cm_layout.specs.declared.layouts.Leaf.{Leaf}
 use Rattle.cm_layout.specs.declared.layouts.Leaf.TheVariants as leaf
 use Rattle.cm_layout.specs.Laid.{leaf_size}
-use Rattle.cm_layout.specs.Shapes.{LayoutTy, Shape, Parts, Payloads, leaf_shape, string_shape}
+use Rattle.cm_layout.specs.Shapes.{Shape, Parts, Payloads, leaf_shape, string_shape}
 use Rattle.cm_layout.specs.Shapes.{list_shape, fixed_list_shape, fields_shape, cases_shape}
 use Rattle.cm_layout.specs.Shapes.{handle_shape, no_parts, part, no_payloads, nothing, carried}
 use Rattle.cm_abi_model.specs.declared.encoding.StringEncoding.{StringEncoding}
@@ -82,8 +82,3 @@ abbrev mutual
   case_at m e (nothing ps) i (suc n) p = case_at m e ps i n p
   case_at m e (carried h sh ps) i zero p = bearing i (value_at m e sh p)
   case_at m e (carried h sh ps) i (suc n) p = case_at m e ps i n p
-
--- one case with what it carries
-abbrev pub payload_at : List ℕ → StringEncoding → Option LayoutTy → ℕ → ℕ → Val
-payload_at m e None i p = bare i
-payload_at m e (Some l) i p = bearing i (value_at m e l.shape p)

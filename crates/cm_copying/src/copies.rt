@@ -12,12 +12,13 @@ ghost use Rattle.cm_types.specs.Types.{Ty};
 ghost use Rattle.cm_types.specs.Values.{Val};
 
 use crate::copier::Copier;
-use crate::copying::copy_at;
 use crate::laws::{handles_are_stored_as_numbers, what_is_read_is_copied};
+use crate::place::Place;
 use cm_layout::Layout;
 use cm_layout::laws::layouts;
 use cm_lifting::laws::numbers_are_sized;
 use cm_stored::Next;
+use cm_storing::store_value;
 
 /// Copies the value that stands at an address of the source to an address of the memory, by the
 /// layout of its type, with no tree made of it; both are in bytes from 0, and all bytes of the
@@ -61,5 +62,6 @@ pub fn copy_value(
     numbers_are_sized();
     what_is_read_is_copied();
     handles_are_stored_as_numbers();
-    copy_at(from, memory, layout, source, at, next);
+    let place = Place { from, at: source };
+    store_value(&from.target, memory, layout, place, at, next);
 }

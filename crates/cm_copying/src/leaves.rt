@@ -1,17 +1,14 @@
 //! Numbers that stand for leaves, from those in memory to those that are stored.
 
-ghost use Rattle.std.specs.Prelude.{◌≡◌, ◌+◌, ◌*◌, ◌-◌, ◌%◌, ◌^◌, ◌<◌, ◌≤◌, length, nat_lt, neg_ℤ};
+ghost use Rattle.std.specs.Prelude.{◌≡◌, ◌*◌, ◌-◌, ◌%◌, ◌^◌, ◌<◌, ◌≤◌, nat_lt, neg_ℤ};
 ghost use Rattle.std.specs.Prelude.{if◌then◌else◌, pos};
-ghost use Rattle.cm_layout.specs.Laid.{leaf_size};
-ghost use Rattle.cm_abi_model.specs.Numbers.{as_signed, number_at as bytes_at};
-ghost use Rattle.cm_abi_model.specs.Stores.{bytes_of, from_signed, placed, poke};
+ghost use Rattle.cm_abi_model.specs.Numbers.{as_signed};
+ghost use Rattle.cm_abi_model.specs.Stores.{from_signed};
 ghost use Rattle.cm_copying.specs.Shown.{leaf_shown};
 ghost use Rattle.cm_lifting.specs.Sized.{IsNumberSize, IsSizedLeaf, core_size};
 ghost use Rattle.cm_stored.specs.Storing.{number_in};
 
 use cm_layout::Leaf;
-use cm_lifting::number_at;
-use cm_stored::write_number;
 
 /// A number in two's complement of fewer bits in that of 64, where the least number with a sign is
 /// at `half`.
@@ -68,26 +65,4 @@ pub fn number_stored(leaf: Leaf, number: u64) -> u64
         Leaf::Unsigned(_) | Leaf::Char => number,
         Leaf::Flags { labels, .. } => u64::from(labels_set(labels, number as u32)),
     }
-}
-
-/// Copies a leaf, of so many bytes.
-pub(crate) fn copy_leaf(
-    source: &[u8],
-    from: usize,
-    leaf: Leaf,
-    size: u32,
-    memory: &mut [u8],
-    at: usize,
-)
-    requires sized { IsSizedLeaf leaf }
-    requires size { size ≡ leaf_size leaf }
-    requires within { from + size ≤ length source.now }
-    requires inside { at + size ≤ length memory.old }
-    ensures stored { memory.new
-        ≡ poke (placed at (bytes_of (leaf_size leaf)
-        (number_in (leaf_shown leaf (bytes_at (leaf_size leaf) source.now from))))) memory.old }
-    ensures stays { length memory.new ≡ length memory.old }
-{
-    let number = number_at(source, size, from);
-    write_number(memory, at, size, number_stored(leaf, number));
 }

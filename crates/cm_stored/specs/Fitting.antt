@@ -49,11 +49,6 @@ abbrev mutual
   FitsCase n g (carried e s ps) zero v k h = Fits n g s v k h
   FitsCase n g (carried e s ps) (suc i) v k h = FitsCase n g ps i v k h
 
--- what one case carries fits, where there is such a case
-abbrev pub FitsPayload : ℕ → Given → Option LayoutTy → Val → ℕ → ℕ → Type 0
-FitsPayload n g None v k h = ⊥
-FitsPayload n g (Some l) v k h = Fits n g l.shape v k h
-
 -- what one case carries lies within a memory of so many bytes at an address
 abbrev pub PayloadLies : ℕ → ℕ → Option LayoutTy → Type 0
 PayloadLies n at None = ⊤

@@ -15,4 +15,4 @@ pub use given::{
     field_width, number_passed, pass_handle, pass_pointer, store_handle, store_pointer,
 };
 pub use target::{Next, Target};
-pub use texts::{stored_units, units_stored, write_text, write_text_of};
+pub use texts::{stored_size, units_stored, write_text, write_text_of};

@@ -118,7 +118,7 @@ pub fn write_text_of(
 }
 
 /// How many bytes a text takes where it is stored.
-fn stored_size(encoding: StringEncoding, text: &str) -> usize
+pub fn stored_size(encoding: StringEncoding, text: &str) -> usize
     ensures { result ≡ length (text_bytes (stored_charset encoding) (chars text.now)) }
 {
     match encoding {
@@ -127,15 +127,14 @@ fn stored_size(encoding: StringEncoding, text: &str) -> usize
     }
 }
 
-/// Writes a text as it is stored.
-pub fn write_text(encoding: StringEncoding, memory: &mut [u8], at: usize, text: &str)
-    requires inside { at + length (text_bytes (stored_charset encoding) (chars text.now))
-        ≤ length memory.old }
+/// Writes a text as it is stored, in so many bytes.
+pub fn write_text(encoding: StringEncoding, memory: &mut [u8], at: usize, size: usize, text: &str)
+    requires size { size ≡ length (text_bytes (stored_charset encoding) (chars text.now)) }
+    requires inside { at + size ≤ length memory.old }
     ensures stored { memory.new
         ≡ poke (placed at (text_bytes (stored_charset encoding) (chars text.now))) memory.old }
     ensures stays { length memory.new ≡ length memory.old }
 {
-    let size = stored_size(encoding, text);
     write_utf8(encoding, memory, at, size, text.as_bytes());
 }
 
@@ -150,11 +149,4 @@ pub fn units_stored(target: StringEncoding, size: usize) -> usize
         StringEncoding::Utf8 => size,
         StringEncoding::Utf16 | StringEncoding::Latin1OrUtf16 => size / 2,
     }
-}
-
-/// How many units a text has where it is stored.
-pub fn stored_units(encoding: StringEncoding, text: &str) -> usize
-    ensures { result ≡ text_units (stored_charset encoding) (chars text.now) }
-{
-    units_stored(encoding, stored_size(encoding, text))
 }

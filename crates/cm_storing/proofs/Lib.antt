@@ -1,3 +1,2 @@
-pub mod StoringLemmas
 pub mod SeenLayouts
-pub mod FlatLemmas
+pub mod WalkLemmas

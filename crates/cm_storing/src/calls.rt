@@ -16,8 +16,9 @@ ghost use Rattle.cm_stored.specs.Fitting.{Fits};
 ghost use Rattle.cm_stored.specs.FlatLowering.{IsPassedIn, behind_by, slots_by};
 ghost use Rattle.cm_stored.specs.Storing.{given_of, stored_by};
 
-use crate::flat::lower_fields;
+use crate::passing::pass_fields;
 use crate::storing::store_fields;
+use crate::tree::{Tree, Trees};
 use cm_layout::{Form, Layout, Part};
 use cm_stored::laws::{flat_tuples_are_passed, spilled_tuples_are_stored};
 use cm_stored::{Next, Target};
@@ -60,13 +61,14 @@ fn store_tuple(
         (parts (values_of values.now)) at next.old.part next.old.handle) memory.old }
     ensures stays { length memory.new ≡ length memory.old }
 {
-    store_fields(
+    let size = layout.head.size;
+    store_fields::<Tree<'_>>(
         to,
         memory,
         fields_of(layout),
-        values,
+        Trees { values },
         at,
-        layout.head.size,
+        size,
         next,
     );
 }
@@ -95,7 +97,8 @@ fn lower_tuple(
     ensures slots_stay { length slots.new ≡ length slots.old }
 {
     let width = layout.head.width;
-    lower_fields(to, slots, memory, fields_of(layout), values, 0, width, next);
+    let fields = Trees { values };
+    pass_fields::<Tree<'_>>(to, slots, memory, fields_of(layout), width, fields, 0, next);
 }
 
 /// Stores the values of a call in the receiver's memory, and puts the numbers that pass them into

@@ -3,8 +3,13 @@
 #![tactic(auto)]
 
 mod calls;
-mod flat;
 mod numbers;
+mod passing;
+mod source;
 mod storing;
+mod tree;
 
 pub use calls::store_call;
+pub use passing::pass_value;
+pub use source::{PassedSource, StoredSource, ValueSource};
+pub use storing::{store_row, store_value};

@@ -2,11 +2,8 @@
 
 ghost use Rattle.std.specs.Prelude.{◌≡◌};
 ghost use Rattle.cm_values.specs.ValueTrees.{value_of};
-ghost use Rattle.cm_stored.specs.FlatLowering.{flat_number};
 ghost use Rattle.cm_stored.specs.Storing.{number_in};
 
-use cm_layout::Leaf;
-use cm_stored::number_passed;
 use cm_values::Value;
 
 /// The number that a value of one number is stored as, a signed one in two's complement of 64 bits,
@@ -22,11 +19,4 @@ pub(crate) fn number_in(value: &Value) -> u64
         Value::Flags(bits) => u64::from(*bits),
         _ => 0,
     }
-}
-
-/// The number that a value of one number is passed as, by its leaf.
-pub(crate) fn flat_number(leaf: Leaf, value: &Value) -> u64
-    ensures { result ≡ flat_number leaf (value_of value.now) }
-{
-    number_passed(leaf, number_in(value))
 }

@@ -1,271 +1,449 @@
-//! Values in memory: one walk down a layout.
+//! Values in memory: one walk down a layout, wherever the values come from.
 
-ghost use Rattle.std.specs.Prelude.{◌≡◌, ◌+◌, ◌*◌, ◌≤◌, length, map};
-ghost use Rattle.std.specs.Str.{chars};
-ghost use Rattle.cm_layout.specs.Laid.{Laid, PartsLaid, PayloadsLaid};
-ghost use Rattle.cm_layout.specs.Layouts.{layout_of, part_of, payload_of};
-ghost use Rattle.cm_layout.specs.Shapes.{list_shape, parts_from, payloads_from, string_shape};
-ghost use Rattle.cm_types.specs.Values.{elements, parts, text};
-ghost use Rattle.cm_values.specs.ValueTrees.{value_of, values_of};
+ghost use Rattle.std.specs.Prelude.{◌≡◌, ℕ, ◌+◌, ◌*◌, ◌≤◌, length, map};
+ghost use Rattle.cm_layout.specs.Laid.{Laid, PartsLaid};
+ghost use Rattle.cm_layout.specs.Layouts.{layout_of, nothings, part_of, payload_of};
+ghost use Rattle.cm_layout.specs.Shapes.{cases_shape, fields_shape, fixed_list_shape};
+ghost use Rattle.cm_layout.specs.Shapes.{handle_shape, leaf_shape, list_shape, parts_from};
+ghost use Rattle.cm_layout.specs.Shapes.{payloads_from, string_shape};
+ghost use Rattle.cm_layout.specs.declared.heads.Head.{Head as HeadTy};
 ghost use Rattle.cm_abi_model.specs.Parts.{handle_count, handle_count_each, part_count};
 ghost use Rattle.cm_abi_model.specs.Parts.{part_count_each};
-ghost use Rattle.cm_abi_model.specs.Requests.{stored_charset, text_bytes};
-ghost use Rattle.cm_abi_model.specs.Stores.{poke, store_each};
-ghost use Rattle.cm_stored.specs.Fitting.{FitEach, FitFields, Fits, FitsCase, FitsPayload};
-ghost use Rattle.cm_stored.specs.Fitting.{HasRoom, PayloadLies};
-ghost use Rattle.cm_stored.specs.Storing.{given_of, stored_by, stored_by_case, stored_by_fields};
-ghost use Rattle.cm_stored.specs.Storing.{stored_by_payload};
+ghost use Rattle.cm_abi_model.specs.Stores.{Given, poke, store_each};
+ghost use Rattle.cm_stored.specs.Fitting.{PayloadLies};
+ghost use Rattle.cm_stored.specs.Storing.{given_of, stored_by, stored_by_fields};
+ghost use Rattle.cm_storing.specs.Sources.{IsCarriedReady, carried_bytes, case_told};
 
-use crate::numbers::number_in;
-use cm_layout::{Form, Layout, Part, Payload};
+use crate::source::{StoredSource, ValueSource};
+use cm_layout::{Form, HandleType, Layout, Leaf, Part, Payload};
 use cm_stored::{
-    Next, Target, store_handle, store_pointer, stored_units, write_number, write_text,
+    Next, Target, store_handle, store_pointer, units_stored, write_bytes, write_number,
 };
-use cm_values::Value;
 
-/// Stores a string: a pointer to its place and how many units it has, and its bytes at its place.
-fn store_text(to: &Target<'_>, memory: &mut [u8], string: &str, at: usize, next: &mut Next)
-    requires inside { at + 8 ≤ length memory.old }
-    requires fits { HasRoom (length memory.old) (given_of to.now) next.old.part
-        (length (text_bytes (stored_charset to.now.encoding) (chars string.now))) }
-    ensures stored { memory.new
-        ≡ poke (stored_by (given_of to.now) string_shape (text (chars string.now)) at next.old.part
-        next.old.handle) memory.old }
+/// Stores a leaf.
+fn store_leaf<S: ValueSource>(memory: &mut [u8], leaf: Leaf, size: u32, source: S, at: usize)
+    requires laid { Laid size (leaf_shape leaf) }
+    requires inside { at + size ≤ length memory.old }
+    requires ready { (n : ℕ) × (g : Given) × (e : HeadTy) × (k : ℕ) × (h : ℕ)
+        × S.ready source n g e (leaf_shape leaf) k h }
+    ensures stored { (g : Given) (k h : ℕ) → memory.new
+        ≡ poke (stored_by g (leaf_shape leaf) (S.value source (leaf_shape leaf)) at k h)
+        memory.old }
     ensures stays { length memory.new ≡ length memory.old }
-    ensures part { next.new.part ≡ next.old.part + 1 }
-    ensures handle { next.new.handle ≡ next.old.handle }
+    ensures parts { part_count (S.value source (leaf_shape leaf)) ≡ 0 }
+    ensures handles { handle_count (S.value source (leaf_shape leaf)) ≡ 0 }
 {
-    let place = store_pointer(to, memory, at, stored_units(to.encoding, string), next);
-    write_text(to.encoding, memory, place, string);
+    let number = source.leaf(leaf);
+    write_number(memory, at, size, number);
 }
 
-/// Stores a value by its layout at an address.
+/// Stores a string: a pointer to its place and how many units it has, and its bytes at its place.
+fn store_text<S: ValueSource>(
+    to: &Target<'_>,
+    memory: &mut [u8],
+    source: S,
+    at: usize,
+    next: &mut Next,
+)
+    requires inside { at + 8 ≤ length memory.old }
+    requires ready { (e : HeadTy) × S.ready source (length memory.old) (given_of to.now) e
+        string_shape next.old.part next.old.handle }
+    ensures stored { memory.new
+        ≡ poke (stored_by (given_of to.now) string_shape (S.value source string_shape) at
+        next.old.part next.old.handle) memory.old }
+    ensures stays { length memory.new ≡ length memory.old }
+    ensures part { next.new.part ≡ next.old.part + part_count (S.value source string_shape) }
+    ensures handle { next.new.handle
+        ≡ next.old.handle + handle_count (S.value source string_shape) }
+{
+    let part = next.part;
+    let size = source.text_size(to.encoding, part);
+    let units = units_stored(to.encoding, size);
+    let place = store_pointer(to, memory, at, units, next);
+    source.write_text(to.encoding, memory, place, size, part);
+}
+
+/// Stores a handle: its number.
+fn store_handle_of<S: ValueSource>(
+    to: &Target<'_>,
+    memory: &mut [u8],
+    handle: HandleType,
+    source: S,
+    at: usize,
+    next: &mut Next,
+)
+    requires inside { at + 4 ≤ length memory.old }
+    requires ready { (e : HeadTy) × S.ready source (length memory.old) (given_of to.now) e
+        (handle_shape handle) next.old.part next.old.handle }
+    ensures stored { memory.new
+        ≡ poke (stored_by (given_of to.now) (handle_shape handle)
+        (S.value source (handle_shape handle)) at next.old.part next.old.handle) memory.old }
+    ensures stays { length memory.new ≡ length memory.old }
+    ensures part { next.new.part
+        ≡ next.old.part + part_count (S.value source (handle_shape handle)) }
+    ensures handle { next.new.handle
+        ≡ next.old.handle + handle_count (S.value source (handle_shape handle)) }
+{
+    store_handle(to, memory, at, next);
+}
+
+/// Stores the number of a case that carries nothing, of so many cases.
+fn store_enum<S: ValueSource>(
+    memory: &mut [u8],
+    discriminant: u32,
+    count: usize,
+    source: S,
+    at: usize,
+)
+    requires inside { at + discriminant ≤ length memory.old }
+    requires ready { (n : ℕ) × (g : Given) × (e : HeadTy) × (k : ℕ) × (h : ℕ)
+        × S.ready source n g e (cases_shape discriminant discriminant (nothings count)) k h }
+    ensures stored { (g : Given) (k h : ℕ) → memory.new
+        ≡ poke (stored_by g (cases_shape discriminant discriminant (nothings count))
+        (S.value source (cases_shape discriminant discriminant (nothings count))) at k h)
+        memory.old }
+    ensures stays { length memory.new ≡ length memory.old }
+    ensures parts { part_count
+        (S.value source (cases_shape discriminant discriminant (nothings count))) ≡ 0 }
+    ensures handles { handle_count
+        (S.value source (cases_shape discriminant discriminant (nothings count))) ≡ 0 }
+{
+    let case = source.case(discriminant, discriminant);
+    write_number(memory, at, discriminant, u64::from(case.0));
+}
+
+/// Stores a value by its layout at an address (CanonicalABI.md, "Storing"). The next part and the
+/// next handle are then those behind the value's; it takes no memory.
 #[cycle(storing)]
-fn store(
+pub fn store_value<S: StoredSource>(
     to: &Target<'_>,
     memory: &mut [u8],
     layout: &Layout,
-    value: &Value,
+    source: S,
     at: usize,
     next: &mut Next,
 )
     requires laid { Laid (layout_of layout.now).head.size (layout_of layout.now).shape }
     requires inside { at + (layout_of layout.now).head.size ≤ length memory.old }
-    requires fits { Fits (length memory.old) (given_of to.now) (layout_of layout.now).shape
-        (value_of value.now) next.old.part next.old.handle }
+    requires ready { S.ready source (length memory.old) (given_of to.now)
+        (layout_of layout.now).head (layout_of layout.now).shape next.old.part next.old.handle }
     ensures stored { memory.new
-        ≡ poke (stored_by (given_of to.now) (layout_of layout.now).shape (value_of value.now) at
-        next.old.part next.old.handle) memory.old }
+        ≡ poke (stored_by (given_of to.now) (layout_of layout.now).shape
+        (S.value source (layout_of layout.now).shape) at next.old.part next.old.handle)
+        memory.old }
     ensures stays { length memory.new ≡ length memory.old }
-    ensures part { next.new.part ≡ next.old.part + part_count (value_of value.now) }
-    ensures handle { next.new.handle ≡ next.old.handle + handle_count (value_of value.now) }
+    ensures part { next.new.part
+        ≡ next.old.part + part_count (S.value source (layout_of layout.now).shape) }
+    ensures handle { next.new.handle
+        ≡ next.old.handle + handle_count (S.value source (layout_of layout.now).shape) }
 {
-    match (&layout.form, value) {
-        (Form::Leaf(_), _) => write_number(memory, at, layout.head.size, number_in(value)),
-        (Form::String, Value::String(text)) => store_text(to, memory, text.as_str(), at, next),
-        (Form::List(element), Value::List(values)) => {
-            store_list(to, memory, element, values, at, next)
+    let size = layout.head.size;
+    match &layout.form {
+        Form::Leaf(leaf) => store_leaf(memory, *leaf, size, source, at),
+        Form::String => store_text(to, memory, source, at, next),
+        Form::List(element) => store_list(to, memory, element, source, at, next),
+        Form::FixedList { element, length } => {
+            store_fixed_list(to, memory, element, *length, source, at, next)
         }
-        (Form::FixedList { element, .. }, Value::Fields(values)) => {
-            store_each(to, memory, element, values, at, next)
-        }
-        (Form::Fields(parts), Value::Fields(values)) => {
-            store_fields(to, memory, parts, values, at, layout.head.size, next)
-        }
-        (
-            Form::Cases {
-                discriminant,
-                offset,
-                payloads,
-            },
-            Value::Case { index, payload },
-        ) => {
-            write_number(memory, at, *discriminant, u64::from(*index));
-            if let Some(value) = payload {
-                let size = layout.head.size;
-                store_case(to, memory, payloads, *index, value, at, *offset, size, next);
-            }
-        }
-        (Form::Enum { discriminant, .. }, Value::Case { index, .. }) => {
-            write_number(memory, at, *discriminant, u64::from(*index))
-        }
-        (Form::Handle(_), _) => store_handle(to, memory, at, next),
-        _ => {}
+        Form::Fields(parts) => store_record(to, memory, parts, source, at, size, next),
+        Form::Cases {
+            discriminant,
+            offset,
+            payloads,
+        } => store_case(
+            to,
+            memory,
+            payloads,
+            *discriminant,
+            *offset,
+            source,
+            at,
+            size,
+            next,
+        ),
+        Form::Enum {
+            discriminant,
+            count,
+        } => store_enum(memory, *discriminant, *count, source, at),
+        Form::Handle(handle) => store_handle_of(to, memory, *handle, source, at, next),
     }
 }
 
 /// Stores a list: a pointer to its place and how many elements it has, and these at its place.
 #[cycle(storing)]
-fn store_list(
+fn store_list<S: StoredSource>(
     to: &Target<'_>,
     memory: &mut [u8],
     element: &Layout,
-    values: &[Value],
+    source: S,
     at: usize,
     next: &mut Next,
 )
     requires laid { Laid (layout_of element.now).head.size (layout_of element.now).shape }
     requires inside { at + 8 ≤ length memory.old }
-    requires fits { Fits (length memory.old) (given_of to.now)
-        (list_shape (layout_of element.now).head (layout_of element.now).shape)
-        (elements (values_of values.now)) next.old.part next.old.handle }
+    requires ready { (e : HeadTy) × S.ready source (length memory.old) (given_of to.now) e
+        (list_shape (layout_of element.now).head (layout_of element.now).shape) next.old.part
+        next.old.handle }
     ensures stored { memory.new
         ≡ poke (stored_by (given_of to.now)
         (list_shape (layout_of element.now).head (layout_of element.now).shape)
-        (elements (values_of values.now)) at next.old.part next.old.handle) memory.old }
+        (S.value source (list_shape (layout_of element.now).head (layout_of element.now).shape))
+        at next.old.part next.old.handle) memory.old }
     ensures stays { length memory.new ≡ length memory.old }
-    ensures part { next.new.part ≡ next.old.part + part_count (elements (values_of values.now)) }
+    ensures part { next.new.part
+        ≡ next.old.part + part_count (S.value source
+        (list_shape (layout_of element.now).head (layout_of element.now).shape)) }
     ensures handle { next.new.handle
-        ≡ next.old.handle + handle_count (elements (values_of values.now)) }
+        ≡ next.old.handle + handle_count (S.value source
+        (list_shape (layout_of element.now).head (layout_of element.now).shape)) }
 {
-    let place = store_pointer(to, memory, at, values.len(), next);
-    store_each(to, memory, element, values, place, next);
+    let elements = source.elements();
+    let place = store_pointer(to, memory, at, elements.0, next);
+    store_row::<S>(to, memory, element, elements.1, elements.0, place, next);
 }
 
-/// Stores values of one layout, one behind the other.
+/// Stores a list of so many elements in place.
 #[cycle(storing)]
-pub(crate) fn store_each(
+fn store_fixed_list<S: StoredSource>(
     to: &Target<'_>,
     memory: &mut [u8],
     element: &Layout,
-    values: &[Value],
+    count: u32,
+    source: S,
     at: usize,
     next: &mut Next,
 )
     requires laid { Laid (layout_of element.now).head.size (layout_of element.now).shape }
-    requires inside { at + length values.now * (layout_of element.now).head.size
-        ≤ length memory.old }
-    requires fits { FitEach
-        (Fits (length memory.old) (given_of to.now) (layout_of element.now).shape)
-        (values_of values.now) next.old.part next.old.handle }
+    requires inside { at + count * (layout_of element.now).head.size ≤ length memory.old }
+    requires ready { (e : HeadTy) × S.ready source (length memory.old) (given_of to.now) e
+        (fixed_list_shape (layout_of element.now).head (layout_of element.now).shape count)
+        next.old.part next.old.handle }
+    ensures stored { memory.new
+        ≡ poke (stored_by (given_of to.now)
+        (fixed_list_shape (layout_of element.now).head (layout_of element.now).shape count)
+        (S.value source
+        (fixed_list_shape (layout_of element.now).head (layout_of element.now).shape count))
+        at next.old.part next.old.handle) memory.old }
+    ensures stays { length memory.new ≡ length memory.old }
+    ensures part { next.new.part
+        ≡ next.old.part + part_count (S.value source
+        (fixed_list_shape (layout_of element.now).head (layout_of element.now).shape count)) }
+    ensures handle { next.new.handle
+        ≡ next.old.handle + handle_count (S.value source
+        (fixed_list_shape (layout_of element.now).head (layout_of element.now).shape count)) }
+{
+    let items = source.items(count as usize);
+    store_row::<S>(to, memory, element, items, count as usize, at, next);
+}
+
+/// Stores so many values of one layout, one behind the other; plain bytes as they stand, where they
+/// do (CanonicalABI.md, "Storing" of lists).
+#[cycle(storing)]
+pub fn store_row<S: StoredSource>(
+    to: &Target<'_>,
+    memory: &mut [u8],
+    element: &Layout,
+    items: S::Rest,
+    count: usize,
+    at: usize,
+    next: &mut Next,
+)
+    requires laid { Laid (layout_of element.now).head.size (layout_of element.now).shape }
+    requires inside { at + count * (layout_of element.now).head.size ≤ length memory.old }
+    requires ready { S.values_ready items (length memory.old) (given_of to.now)
+        (layout_of element.now).head (layout_of element.now).shape count next.old.part
+        next.old.handle }
     ensures stored { memory.new
         ≡ poke (store_each (stored_by (given_of to.now) (layout_of element.now).shape)
-        (layout_of element.now).head.size (values_of values.now) at next.old.part
-        next.old.handle) memory.old }
+        (layout_of element.now).head.size
+        (S.values_left items (layout_of element.now).head (layout_of element.now).shape count) at
+        next.old.part next.old.handle) memory.old }
     ensures stays { length memory.new ≡ length memory.old }
-    ensures part { next.new.part ≡ next.old.part + part_count_each (values_of values.now) }
+    ensures part { next.new.part
+        ≡ next.old.part + part_count_each
+        (S.values_left items (layout_of element.now).head (layout_of element.now).shape count) }
     ensures handle { next.new.handle
-        ≡ next.old.handle + handle_count_each (values_of values.now) }
+        ≡ next.old.handle + handle_count_each
+        (S.values_left items (layout_of element.now).head (layout_of element.now).shape count) }
 {
+    if element.head.is_bulk {
+        if let Some(bytes) = S::plain_bytes(&items, element, count) {
+            write_bytes(memory, at, bytes);
+            return;
+        }
+    }
+    let mut rest = items;
     let mut place = at;
-    for value in values {
-        store(to, memory, element, value, place, next);
+    for _ in 0..count {
+        let source = S::next_element(&mut rest, element);
+        store_value(to, memory, element, source, place, next);
         place += element.head.size as usize;
     }
 }
 
-/// Stores the fields of a record or a tuple.
+/// Stores a record or a tuple of so many bytes.
 #[cycle(storing)]
-pub(crate) fn store_fields(
+fn store_record<S: StoredSource>(
     to: &Target<'_>,
     memory: &mut [u8],
     parts: &[Part],
-    values: &[Value],
+    source: S,
     at: usize,
     size: u32,
     next: &mut Next,
 )
     requires laid { PartsLaid size 0 (parts_from (map part_of parts.now)) }
     requires inside { at + size ≤ length memory.old }
-    requires fits { FitFields (length memory.old) (given_of to.now)
-        (parts_from (map part_of parts.now)) (values_of values.now) next.old.part
-        next.old.handle }
+    requires ready { (e : HeadTy) × S.ready source (length memory.old) (given_of to.now) e
+        (fields_shape (parts_from (map part_of parts.now))) next.old.part next.old.handle }
+    ensures stored { memory.new
+        ≡ poke (stored_by (given_of to.now) (fields_shape (parts_from (map part_of parts.now)))
+        (S.value source (fields_shape (parts_from (map part_of parts.now)))) at next.old.part
+        next.old.handle) memory.old }
+    ensures stays { length memory.new ≡ length memory.old }
+    ensures part { next.new.part
+        ≡ next.old.part
+        + part_count (S.value source (fields_shape (parts_from (map part_of parts.now)))) }
+    ensures handle { next.new.handle
+        ≡ next.old.handle
+        + handle_count (S.value source (fields_shape (parts_from (map part_of parts.now)))) }
+{
+    let fields = source.fields();
+    store_fields::<S>(to, memory, parts, fields, at, size, next);
+}
+
+/// Stores the fields of a record or a tuple of so many bytes.
+#[cycle(storing)]
+pub(crate) fn store_fields<S: StoredSource>(
+    to: &Target<'_>,
+    memory: &mut [u8],
+    parts: &[Part],
+    fields: S::Rest,
+    at: usize,
+    size: u32,
+    next: &mut Next,
+)
+    requires laid { PartsLaid size 0 (parts_from (map part_of parts.now)) }
+    requires inside { at + size ≤ length memory.old }
+    requires ready { S.fields_ready fields (length memory.old) (given_of to.now)
+        (parts_from (map part_of parts.now)) next.old.part next.old.handle }
     ensures stored { memory.new
         ≡ poke (stored_by_fields (given_of to.now) (parts_from (map part_of parts.now))
-        (values_of values.now) at next.old.part next.old.handle) memory.old }
+        (S.fields_left fields (parts_from (map part_of parts.now))) at next.old.part
+        next.old.handle) memory.old }
     ensures stays { length memory.new ≡ length memory.old }
-    ensures part { next.new.part ≡ next.old.part + part_count_each (values_of values.now) }
+    ensures part { next.new.part
+        ≡ next.old.part
+        + part_count_each (S.fields_left fields (parts_from (map part_of parts.now))) }
     ensures handle { next.new.handle
-        ≡ next.old.handle + handle_count_each (values_of values.now) }
+        ≡ next.old.handle
+        + handle_count_each (S.fields_left fields (parts_from (map part_of parts.now))) }
 {
-    for (i, part) in parts.iter().enumerate() {
-        store_field(to, memory, part, &values[i], at, next);
+    let mut rest = fields;
+    for part in parts {
+        let source = S::next_field(&mut rest, part);
+        store_field(to, memory, part, source, at, next);
     }
 }
 
 /// Stores a field of what stands at an address.
 #[cycle(storing)]
-fn store_field(
+fn store_field<S: StoredSource>(
     to: &Target<'_>,
     memory: &mut [u8],
     part: &Part,
-    value: &Value,
+    source: S,
     at: usize,
     next: &mut Next,
 )
     requires laid { Laid (part_of part.now).1.head.size (part_of part.now).1.shape }
     requires inside { at + (part_of part.now).0 + (part_of part.now).1.head.size
         ≤ length memory.old }
-    requires fits { Fits (length memory.old) (given_of to.now) (part_of part.now).1.shape
-        (value_of value.now) next.old.part next.old.handle }
+    requires ready { S.ready source (length memory.old) (given_of to.now)
+        (part_of part.now).1.head (part_of part.now).1.shape next.old.part next.old.handle }
     ensures stored { memory.new
-        ≡ poke (stored_by (given_of to.now) (part_of part.now).1.shape (value_of value.now)
-        (at + (part_of part.now).0) next.old.part next.old.handle) memory.old }
+        ≡ poke (stored_by (given_of to.now) (part_of part.now).1.shape
+        (S.value source (part_of part.now).1.shape) (at + (part_of part.now).0) next.old.part
+        next.old.handle) memory.old }
     ensures stays { length memory.new ≡ length memory.old }
-    ensures part { next.new.part ≡ next.old.part + part_count (value_of value.now) }
-    ensures handle { next.new.handle ≡ next.old.handle + handle_count (value_of value.now) }
+    ensures part { next.new.part
+        ≡ next.old.part + part_count (S.value source (part_of part.now).1.shape) }
+    ensures handle { next.new.handle
+        ≡ next.old.handle + handle_count (S.value source (part_of part.now).1.shape) }
 {
-    store(
-        to,
-        memory,
-        &part.layout,
-        value,
-        at + part.offset as usize,
-        next,
-    );
+    let place = at + part.offset as usize;
+    store_value(to, memory, &part.layout, source, place, next);
 }
 
-/// Stores what the case of this number carries, so far behind an address.
+/// Stores one of some cases: its number, in so many bytes, and what it carries, so far behind an
+/// address.
 #[cycle(storing)]
-fn store_case(
+fn store_case<S: StoredSource>(
     to: &Target<'_>,
     memory: &mut [u8],
     payloads: &[Payload],
-    index: u32,
-    value: &Value,
-    at: usize,
+    discriminant: u32,
     offset: u32,
+    source: S,
+    at: usize,
     size: u32,
     next: &mut Next,
 )
-    requires laid { PayloadsLaid size offset (payloads_from (map payload_of payloads.now)) }
-    requires offset { offset ≤ size }
+    requires laid { Laid size
+        (cases_shape discriminant offset (payloads_from (map payload_of payloads.now))) }
     requires inside { at + size ≤ length memory.old }
-    requires fits { FitsCase (length memory.old) (given_of to.now)
-        (payloads_from (map payload_of payloads.now)) index (value_of value.now) next.old.part
-        next.old.handle }
+    requires ready { (e : HeadTy) × S.ready source (length memory.old) (given_of to.now) e
+        (cases_shape discriminant offset (payloads_from (map payload_of payloads.now)))
+        next.old.part next.old.handle }
     ensures stored { memory.new
-        ≡ poke (stored_by_case (given_of to.now) (payloads_from (map payload_of payloads.now))
-        index (value_of value.now) (at + offset) next.old.part next.old.handle) memory.old }
+        ≡ poke (stored_by (given_of to.now)
+        (cases_shape discriminant offset (payloads_from (map payload_of payloads.now)))
+        (S.value source
+        (cases_shape discriminant offset (payloads_from (map payload_of payloads.now)))) at
+        next.old.part next.old.handle) memory.old }
     ensures stays { length memory.new ≡ length memory.old }
-    ensures part { next.new.part ≡ next.old.part + part_count (value_of value.now) }
-    ensures handle { next.new.handle ≡ next.old.handle + handle_count (value_of value.now) }
+    ensures part { next.new.part
+        ≡ next.old.part + part_count (S.value source
+        (cases_shape discriminant offset (payloads_from (map payload_of payloads.now)))) }
+    ensures handle { next.new.handle
+        ≡ next.old.handle + handle_count (S.value source
+        (cases_shape discriminant offset (payloads_from (map payload_of payloads.now)))) }
 {
-    let payload = &payloads[index as usize];
-    store_payload(to, memory, payload, value, at + offset as usize, next);
+    let case = source.case(discriminant, offset);
+    write_number(memory, at, discriminant, u64::from(case.0));
+    match payloads.get(case.0 as usize) {
+        Some(payload) => { store_payload(to, memory, payload, case.1, at + offset as usize, next) }
+        None => {}
+    }
 }
 
-/// Stores what a case carries, at an address.
+/// Stores what a case carries, if anything, at an address.
 #[cycle(storing)]
-fn store_payload(
+fn store_payload<S: StoredSource>(
     to: &Target<'_>,
     memory: &mut [u8],
     payload: &Payload,
-    value: &Value,
+    source: Option<S>,
     at: usize,
     next: &mut Next,
 )
     requires lies { PayloadLies (length memory.old) at (payload_of payload.now) }
-    requires fits { FitsPayload (length memory.old) (given_of to.now) (payload_of payload.now)
-        (value_of value.now) next.old.part next.old.handle }
+    requires ready { IsCarriedReady
+        (λ s e sh. S.ready s (length memory.old) (given_of to.now) e sh next.old.part
+        next.old.handle) (payload_of payload.now) source }
     ensures stored { memory.new
-        ≡ poke (stored_by_payload (given_of to.now) (payload_of payload.now) (value_of value.now)
-        at next.old.part next.old.handle) memory.old }
+        ≡ poke (carried_bytes (given_of to.now) (payload_of payload.now)
+        (case_told S.value 0 (payload_of payload.now) source) at next.old.part
+        next.old.handle) memory.old }
     ensures stays { length memory.new ≡ length memory.old }
-    ensures part { next.new.part ≡ next.old.part + part_count (value_of value.now) }
-    ensures handle { next.new.handle ≡ next.old.handle + handle_count (value_of value.now) }
+    ensures part { next.new.part
+        ≡ next.old.part + part_count (case_told S.value 0 (payload_of payload.now) source) }
+    ensures handle { next.new.handle
+        ≡ next.old.handle + handle_count (case_told S.value 0 (payload_of payload.now) source) }
 {
     if let Payload::Carried(layout) = payload {
-        store(to, memory, layout, value, at, next);
+        if let Some(source) = source {
+            store_value(to, memory, layout, source, at, next);
+        }
     }
 }

@@ -9,8 +9,8 @@ pub write_utf8-requires : goal.write_utf8-requires
 write_utf8-requires c =
     let is = ap (λ bs. length (text_bytes (stored_charset c.args.encoding) (chars bs))) c.as_bytes.ensures.value in
     record {
-      text = record { scalars = chars c.as_bytes.result.now; text = text_of c.as_bytes.result.now c.as_bytes.ensures.utf8; size_is = is ∙ sym c.stored_size-size.ensures };
-      inside = rw c.stored_size-size.ensures c.requires.inside;
+      text = record { scalars = chars c.as_bytes.result.now; text = text_of c.as_bytes.result.now c.as_bytes.ensures.utf8; size_is = is ∙ sym c.requires.size };
+      inside = c.requires.inside;
     }
 
 pub returns-clause-stored : goal.returns-clause-stored

@@ -5,7 +5,7 @@ use Rattle.cm_layout.specs.declared.heads.Head.{Head}
 use Rattle.cm_values.specs.ValueTrees.{values_of}
 use Rattle.cm_abi_model.specs.Stores.{poke}
 use Rattle.cm_stored.specs.Storing.{given_of}
-use Rattle.cm_storing.proofs.StoringLemmas.{tuple_shape}
+use Rattle.cm_storing.proofs.WalkLemmas.{tuple_shape}
 use Rattle.cm_storing.proofs.SeenLayouts.{seen_head}
 use Rattle.cm_storing.proofs.calls.store_call.Goals as goal
 
