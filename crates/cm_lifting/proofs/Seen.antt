@@ -21,12 +21,3 @@ seen_text t s = ap (λ v. shown v s) (sym (seen_String t))
 
 pub seen_bare : (i : ℕ) → value_of (value.Case i None) ≡ bare i
 seen_bare i = search (rules, the_lemmas)
-
-pub seen_case : (i : ℕ) (s : State) → shown (bare i) s ≡ shown (value_of (value.Case i None)) s
-seen_case i s = ap (λ v. shown v s) (sym (seen_bare i))
-
-pub seen_bearing : (i : ℕ) (b : Box Value Global) → value_of (value.Case i (Some b)) ≡ bearing i (value_of b.value)
-seen_bearing i b = search (rules, the_lemmas)
-
-pub seen_carried : (i : ℕ) (b : Box Value Global) (v : Value) (s : State) → b.value ≡ v → shown (bearing i (value_of v)) s ≡ shown (value_of (value.Case i (Some b))) s
-seen_carried i b v s is = ap (λ w. shown w s) (ap (λ u. bearing i (value_of u)) (sym is) ∙ sym (seen_bearing i b))

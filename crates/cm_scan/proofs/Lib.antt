@@ -1,6 +1,2 @@
-pub mod SeenLayouts
-pub mod Readable
-pub mod ScanLemmas
 pub mod KeepLemmas
 pub mod TellLaws
-pub mod PlainLemmas

@@ -15,7 +15,7 @@ ghost use Rattle.cm_scan.specs.Keeping.{KeepsMore, count_kept};
 ghost use Rattle.cm_scan.specs.Places.{places_at};
 ghost use Rattle.cm_scan.specs.Records.{records_at};
 ghost use Rattle.cm_scan.specs.Telling.{TellAll};
-ghost use Rattle.cm_scan.specs.declared.record.PartRecord.{PartRecord as Told};
+ghost use Rattle.cm_lifting.specs.declared.record.PartRecord.{PartRecord as Told};
 
 use crate::laws::records_tell_parts;
 use crate::scanner::{Scan, Scanner};

@@ -21,7 +21,7 @@ use Rattle.cm_lifting.specs.Sized.{core_size}
 use Rattle.cm_lift.specs.FlatReading.{read_flat, read_flat_case, read_flat_each, read_flat_parts, read_spilled}
 use Rattle.cm_scan.specs.Keeping.{KeepsHandles, KeepsMore, StopsToKeep, WantsToKeep, count_kept}
 use Rattle.cm_scan.specs.Records.{element_record, records_at}
-use Rattle.cm_scan.specs.declared.record.PartRecord.{PartRecord}
+use Rattle.cm_scan.specs.cm_lifting.declared.record.PartRecord.{PartRecord}
 use Rattle.cm_scan_call.specs.FlatRecords.{flat_records, flat_records_each, flat_records_of_fields, spilled_records}
 use Rattle.cm_scan_call.proofs.FlatLemmas.{parts_next}
 

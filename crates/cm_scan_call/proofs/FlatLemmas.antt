@@ -15,7 +15,7 @@ use Rattle.cm_lifting.specs.Reading.{Source}
 use Rattle.cm_lifting.specs.Sized.{ArePartsSized, ArePayloadsSized, IsSized}
 use Rattle.cm_lift.specs.FlatReading.{ArePartsReady, ArePayloadsReady, IsReady, IsReadyLayout, read_flat, read_flat_case, read_flat_each, read_flat_parts, read_flat_payload}
 use Rattle.cm_scan.specs.Records.{payload}
-use Rattle.cm_scan.specs.declared.record.PartRecord.{PartRecord}
+use Rattle.cm_scan.specs.cm_lifting.declared.record.PartRecord.{PartRecord}
 use Rattle.cm_scan_call.specs.FlatRecords.{flat_records, flat_records_each, flat_records_of_case, flat_records_of_cases, flat_records_of_fields, flat_records_of_payload}
 
 abbrev pub kept : List PartRecord → State → Outcome (List PartRecord)

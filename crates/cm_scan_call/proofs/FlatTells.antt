@@ -21,7 +21,7 @@ use Rattle.cm_abi_model.specs.Requests.{call_parts, is_spilled, tuple_of}
 use Rattle.cm_abi_model.specs.Shows.{ShowEach, Shows}
 use Rattle.cm_abi_model.specs.Views.{View, Way, flat_limit}
 use Rattle.cm_lifting.specs.Reading.{seen_by}
-use Rattle.cm_scan.specs.declared.record.PartRecord.{PartRecord}
+use Rattle.cm_scan.specs.cm_lifting.declared.record.PartRecord.{PartRecord}
 use Rattle.cm_scan.specs.Places.{places_at, places_each}
 use Rattle.cm_scan.specs.Records.{records_at, records_of_list, text_record}
 use Rattle.cm_scan.specs.Telling.{ElementsAreTold, TellAll, TextIsTold}

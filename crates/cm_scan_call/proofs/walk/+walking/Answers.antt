@@ -6,7 +6,7 @@ use Rattle.cm_layout.specs.declared.layouts.Form.{the_lemmas}
 use Rattle.cm_lifting.specs.Outcomes.{Outcome, Reads, state_of}
 use Rattle.cm_lifting.specs.Reading.{source_of}
 use Rattle.cm_lift.specs.FlatReading.{IsReadyLayout, read_flat, read_flat_case, read_flat_parts}
-use Rattle.cm_scan.specs.declared.record.PartRecord.{PartRecord}
+use Rattle.cm_scan.specs.cm_lifting.declared.record.PartRecord.{PartRecord}
 use Rattle.cm_scan.specs.Keeping.{StopsToKeep, count_kept}
 use Rattle.cm_scan.specs.Records.{Scans, ScansToKeep, held}
 use Rattle.cm_types.specs.Values.{parts}

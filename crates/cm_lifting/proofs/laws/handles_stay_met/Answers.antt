@@ -1,6 +1,6 @@
 use Rattle.cm_lifting.specs.Reading.{read_at}
-use Rattle.cm_scan.proofs.KeepLemmas.{keeps_at, keeps_elements, keeps_handle, keeps_leaf, keeps_text}
-use Rattle.cm_scan.proofs.laws.handles_stay_met.Goals as goal
+use Rattle.cm_lifting.proofs.HandleLemmas.{keeps_at, keeps_elements, keeps_handle, keeps_leaf, keeps_text}
+use Rattle.cm_lifting.proofs.laws.handles_stay_met.Goals as goal
 
 pub returns-clause-value : goal.returns-clause-value
 returns-clause-value c = keeps_at
