@@ -1,5 +1,5 @@
 -- What is made of leaves, handles, cases and lists.
-use Rattle.std.proofs.Common.{◌≡◌, ℕ, zero, suc, ◌+◌, ◌*◌, ◌<◌, inl, inr, List, [], ◌∷◌, ◌++◌, length, map, get_or, Option, Some, None, Ok, Err, Result, IfOk, IfErr, refl, sym, ap, subst, arith}
+use Rattle.std.proofs.Common.{◌≡◌, ℕ, zero, suc, ◌+◌, ◌*◌, ◌<◌, inl, inr, List, [], ◌∷◌, ◌++◌, length, map, get_or, Option, Some, None, Ok, Err, Result, refl, sym, ap, subst, arith}
 use Rattle.std.specs.Bool.{⊤}
 use Rattle.cm_types.specs.Values.{Val, Vals, val, bare, bearing, elements, parts}
 use Rattle.cm_handles.specs.Handles.{Handles, look_up}
@@ -12,7 +12,6 @@ use Rattle.cm_layout.specs.Layouts.{nothings}
 use Rattle.cm_layout.specs.Shapes.{LayoutTy, Payloads, Shape, payloads_from, leaf_shape, string_shape, list_shape, fixed_list_shape, fields_shape, cases_shape, handle_shape}
 use Rattle.cm_abi_model.specs.Numbers.{number_at}
 use Rattle.cm_abi_model.specs.declared.encoding.StringEncoding.{StringEncoding}
-use Rattle.cm_abi_model.specs.declared.fault.AbiFault.{AbiFault}
 use Rattle.cm_leaf_reading.specs.declared.stop.Stop.{Stop}
 use Rattle.cm_leaf_reading.specs.declared.stop.Stop.TheVariants as stop
 use Rattle.cm_leaf_reading.specs.Outcomes.{Outcome, State, Stops, mapped, ◌>>=◌}
@@ -23,7 +22,7 @@ use Rattle.cm_lifting.specs.Reading.{Source, after_meeting, leaf_value, read_at,
 use Rattle.cm_lifting.specs.Records.{element_record, held, payload, records_at, records_each, records_of_case, records_of_cases, records_of_list, records_of_payload}
 use Rattle.cm_lifting.proofs.HandleLemmas.{keeps_at, keeps_elements, keeps_handle_value, keeps_mapped, met_more}
 use Rattle.cm_lifting.proofs.LoadLemmas.{case_kept, case_there, enum_there, none_kept}
-use Rattle.cm_lifting.proofs.MakingLemmas.{no_room, read_is, read_of, read_so}
+use Rattle.cm_lifting.proofs.MakingLemmas.{read_is, read_of, read_so}
 
 -- ---- leaves of which any number is a value
 

@@ -1,11 +1,11 @@
 -- What values the code's are.
-use Rattle.std.proofs.Common.{◌≡◌, ℕ, Some, None, Ok, Global, Box, rules, sym, ap, ◌∙◌}
+use Rattle.std.proofs.Common.{◌≡◌, ℕ, None, Ok, Global, rules, sym, ap}
 use Rattle.std.specs.Str.{chars}
 use Rattle.std.specs.String.{string_bytes}
 use Rattle.std.specs.declared.string.String.{String}
-use Rattle.cm_types.specs.Values.{Val, bare, bearing, text}
+use Rattle.cm_types.specs.Values.{Val, bare, text}
 use Rattle.cm_values.specs.ValueTrees.{value_of}
-use Rattle.cm_values.specs.declared.values.Value.{Value, the_lemmas}
+use Rattle.cm_values.specs.declared.values.Value.{the_lemmas}
 use Rattle.cm_values.specs.declared.values.Value.TheViews as value
 use Rattle.cm_values.specs.declared.values.Value.TheVariants as leaf
 use Rattle.cm_leaf_reading.specs.Outcomes.{Outcome, State}

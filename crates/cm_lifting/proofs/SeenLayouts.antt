@@ -1,5 +1,5 @@
 -- What layouts the code's are.
-use Rattle.std.proofs.Common.{◌≡◌, ℕ, Global, Some, map, rules}
+use Rattle.std.proofs.Common.{◌≡◌, ℕ, Global, map, rules}
 use Rattle.std.specs.declared.rc.Rc.{Rc}
 use Rattle.std.specs.declared.vec.Vec.{Vec}
 use Rattle.cm_layout.specs.Layouts.{layout_of, nothings, payload_of, shape_of}

@@ -14,10 +14,9 @@ pub use cm_leaf_reading::{
     Giver, MetHandle, Progress, Stop, check_region, core_size, leaf_value, load_handle, number_32,
     number_at,
 };
-pub use load::{load_list, load_value};
+pub use load::load_value;
 pub use loading::{is_plain_leaf, make_handle, make_list, make_value};
 pub use maker::{Maker, Reader};
 pub use measures::measure_text;
 pub use record::{PartKind, PartRecord};
-pub use texts::load_text;
 pub use trees::Trees;

@@ -4,6 +4,7 @@ ghost use Rattle.std.specs.Prelude.{◌≡◌, ◌+◌, ◌^◌, ◌<◌, ◌≤
 ghost use Rattle.std.specs.Prelude.{Ok, length};
 ghost use Rattle.cm_types.specs.Types.{Ty};
 ghost use Rattle.cm_types.specs.Values.{Val};
+ghost use Rattle.cm_layout.specs.Laid.{Laid};
 ghost use Rattle.cm_layout.specs.Layouts.{layout_of};
 ghost use Rattle.cm_layout.specs.Shapes.{layout_at};
 ghost use Rattle.cm_values.specs.ValueTrees.{value_of};
@@ -11,13 +12,11 @@ ghost use Rattle.cm_abi_model.specs.Shows.{Shows};
 ghost use Rattle.cm_abi_model.specs.Taken.{content_of, met_at};
 ghost use Rattle.cm_abi_model.specs.Views.{View};
 ghost use Rattle.cm_lifting.specs.Meeting.{Meets};
-ghost use Rattle.cm_leaf_reading.specs.Outcomes.{Reads, mapped, state_of};
-ghost use Rattle.cm_lifting.specs.Reading.{read_at, read_elements, seen_by, source_of};
+ghost use Rattle.cm_leaf_reading.specs.Outcomes.{Reads, state_of};
+ghost use Rattle.cm_lifting.specs.Reading.{read_at, seen_by, source_of};
 ghost use Rattle.cm_lifting.specs.Sized.{IsSized};
-ghost use Rattle.cm_layout.specs.Laid.{Laid};
-ghost use Rattle.cm_types.specs.Values.{elements};
 
-use crate::loading::{make_list, make_value};
+use crate::loading::make_value;
 use crate::maker::Reader;
 use crate::trees::Trees;
 use cm_abi_model::AbiFault;
@@ -88,34 +87,4 @@ fn load(
         maker: Trees,
     };
     make_value(&reader, layout, at, progress, &mut ())
-}
-
-/// The list of so many elements at a pointer, by the layout of an element; their bytes are taken
-/// from those that may still come.
-///
-/// It stops with `Misaligned` where the pointer is not aligned, else with `PointerBounds` where the
-/// elements pass the end of the memory, else with `TooLarge` where fewer bytes may still come, else
-/// at the first fault of an element.
-pub fn load_list(
-    giver: &Giver<'_>,
-    element: &Layout,
-    pointer: u32,
-    count: u32,
-    progress: &mut Progress,
-) -> Result<Value, Stop>
-    requires laid { Laid (layout_of element.now).head.size (layout_of element.now).shape }
-    requires aligned { 0 < (layout_of element.now).head.align }
-    requires sized { IsSized (layout_of element.now).shape }
-    requires few { length giver.now.memory.now < 2 ^ 62 }
-    ensures { Reads value_of result (state_of progress.new)
-        (mapped elements
-        (read_elements
-        (read_at (source_of giver.now) (layout_of element.now).shape)
-        giver.now.memory.now (layout_of element.now).head pointer count (state_of progress.old))) }
-{
-    let reader = Reader {
-        giver: *giver,
-        maker: Trees,
-    };
-    make_list(&reader, element, pointer, count, progress, &mut ())
 }

@@ -1,2 +1,1 @@
-pub mod KeepLemmas
 pub mod TellLaws

@@ -13,7 +13,6 @@ ghost use Rattle.cm_scan.specs.Places.{places_at};
 ghost use Rattle.cm_scan.specs.Records.{records_at};
 ghost use Rattle.cm_scan.specs.Telling.{ElementsAreTold, TellAll, TextIsTold};
 
-pub use cm_lifting::laws::handles_stay_met;
 use cm_lifting::laws::numbers_are_sized;
 
 /// The records of a value that bytes at an address show tell its parts, one for one and in order:

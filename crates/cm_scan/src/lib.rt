@@ -4,15 +4,11 @@
 #![tactic(auto)]
 
 pub mod laws;
-mod leaves;
 mod recorder;
 mod scan;
 mod scanner;
-mod scanning;
 
 pub use cm_lifting::{PartKind, PartRecord};
-pub use leaves::scan_char;
 pub use recorder::Recorder;
 pub use scan::scan_value;
 pub use scanner::{Scan, Scanner};
-pub use scanning::{scan_handle, scan_list, scan_text};
