@@ -1,5 +1,5 @@
-//! Values in core values: one walk down a layout, whatever is made of them. What is behind a pointer
-//! is read from memory.
+//! Values in core values: one walk down a layout, whatever is made of them. What is behind a
+//! pointer is read from memory.
 
 ghost use Rattle.std.specs.Prelude.{◌≡◌, ◌^◌, ◌<◌, [], IfSome, List, length, map};
 ghost use Rattle.cm_types.specs.declared.core_value.CoreValue.{CoreValue as Slot};
@@ -30,7 +30,13 @@ use cm_lifting::{
 use cm_types::CoreValue;
 use cm_values::Value;
 
-/// What is made of the value that a layout has in the first of these core values.
+/// What is made of the value that a layout has in the first of these core values, part after part
+/// in reading order; those that are not there are 0. What is behind a pointer is read from memory.
+///
+/// Each handle and each tag of a string that is met is added to `progress`, the bytes of each
+/// string and list are taken from those that may still come, and the record of each is kept. It
+/// stops at the first fault, as [`cm_lifting::make_value`] does, and with `Memory` where there is
+/// no memory for what is made or kept.
 #[cycle(walking)]
 pub fn make_flat<M: Maker>(
     reader: &Reader<'_, M>,

@@ -30,7 +30,14 @@ use cm_leaf_reading::{
 };
 use cm_values::Value;
 
-/// What is made of the value that a layout has at an address.
+/// What is made of the value that a layout has at an address, in bytes from 0, part after part in
+/// reading order.
+///
+/// Each handle and each tag of a string that is met is added to `progress`, the bytes of each
+/// string and list are taken from those that may still come, and the record of each is kept. It
+/// stops at the first fault: `Misaligned`, `PointerBounds`, `TooLarge` or `BadText` at a string or
+/// a list, `BadChar` at a char, `BadCase` past the last case, `NoHandle`, `WrongResource` or
+/// `NotOwned` at a handle; and with `Memory` where there is no memory for what is made or kept.
 #[cycle(making)]
 pub fn make_value<M: Maker>(
     reader: &Reader<'_, M>,

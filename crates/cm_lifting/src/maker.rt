@@ -62,7 +62,8 @@ pub trait Maker: Copy {
     ///
     /// It stops with `Misaligned` where the pointer is not aligned, else with `PointerBounds` where
     /// the string passes the end of the memory, else with `TooLarge` where fewer bytes may still
-    /// come, else with `BadText` where it is no text of its encoding.
+    /// come, else with `BadText` where it is no text of its encoding; and with `Memory` where there
+    /// is none for what is made, for the record or for the tag.
     fn text(
         self,
         giver: &Giver<'_>,
@@ -76,7 +77,7 @@ pub trait Maker: Copy {
             (read_text giver.now.memory.now giver.now.encoding at tagged (state_of progress.old))
             kept.old kept.new (state_of progress.old) (state_of progress.new) result };
 
-    /// Keeps the record of a list.
+    /// Keeps the record of a list; it stops with `Memory` where there is none for it.
     fn keep(kept: &mut Self::Kept, list: PartRecord) -> Result<(), Stop>
         ensures ok { OnOk result (keeps kept.old (list ∷ []) kept.new) }
         ensures err { IfErr result (λ e. e ≡ Memory) };
@@ -85,7 +86,7 @@ pub trait Maker: Copy {
     fn row(alloc: Global) -> Self::Row
         ensures { stand result no_vals };
 
-    /// Adds one more value to a row.
+    /// Adds one more value to a row; it stops with `Memory` where there is none for it.
     fn push(row: &mut Self::Row, made: Self::Made) -> Result<(), Stop>
         ensures ok { OnOk result ((vs : Vals) (v : Val) → stand row.old vs → stands made v
             → stand row.new (with_last vs v)) }
@@ -99,7 +100,8 @@ pub trait Maker: Copy {
     fn fields(row: Self::Row) -> Self::Made
         ensures { (vs : Vals) → stand row vs → stands result (parts vs) };
 
-    /// What is made of the case of this number with what it carries.
+    /// What is made of the case of this number with what it carries; it stops with `Memory` where
+    /// there is none for it.
     fn case(alloc: Global, index: u32, payload: Self::Made) -> Result<Self::Made, Stop>
         ensures ok { IfOk result (λ made. (v : Val) → stands payload v
             → stands made (bearing index v)) }
@@ -115,6 +117,8 @@ pub trait Maker: Copy {
 /// What values are read from, and what is made of them.
 #[derive(Drop)]
 pub struct Reader<'a, M> {
+    /// What the values stand in.
     pub giver: Giver<'a>,
+    /// What is made of them.
     pub maker: M,
 }

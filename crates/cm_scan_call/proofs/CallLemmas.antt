@@ -29,7 +29,7 @@ use Rattle.cm_scan.specs.cm_lifting.declared.record.PartKind.{PartKind}
 use Rattle.cm_scan.specs.cm_lifting.declared.record.PartKind.TheVariants as kind
 use Rattle.cm_scan.specs.Telling.{TellAll, Tells, TellsSource}
 use Rattle.cm_scan_call.specs.CallPlaces.{call_places}
-use Rattle.cm_scan_call.specs.FlatRecords.{passed_records}
+use Rattle.cm_lift.specs.FlatRecords.{passed_records}
 use Rattle.cm_scan_call.specs.Scans.{IsKept, ScansCall, giver_of, scanned_with}
 use Rattle.cm_lifting.specs.Meeting.{AreAsWanted, Meets}
 use Rattle.cm_abi_model.specs.Receives.{HandleLeaf, leaves_in}

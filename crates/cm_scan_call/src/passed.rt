@@ -9,7 +9,7 @@ ghost use Rattle.cm_abi_model.specs.Ways.{way_of};
 ghost use Rattle.cm_lifting.specs.Reading.{source_of};
 ghost use Rattle.cm_lift.specs.FlatReading.{IsReady, read_flat, read_passed, read_spilled};
 ghost use Rattle.cm_scan.specs.Records.{Scans, ScansToKeep};
-ghost use Rattle.cm_scan_call.specs.FlatRecords.{flat_records, passed_records, spilled_records};
+ghost use Rattle.cm_lift.specs.FlatRecords.{flat_records, passed_records, spilled_records};
 
 use cm_abi_model::AbiFault;
 use cm_layout::Layout;
