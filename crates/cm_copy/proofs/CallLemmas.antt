@@ -24,7 +24,7 @@ use Rattle.cm_lift.specs.declared.passed.Passed.{Passed}
 use Rattle.cm_lifting.specs.Outcomes.{State}
 use Rattle.cm_lifting.specs.Reading.{read_at, seen_by}
 use Rattle.cm_lifting.specs.Sized.{IsSized}
-use Rattle.cm_scan.specs.declared.record.PartRecord.{PartRecord}
+use Rattle.cm_scan.specs.cm_lifting.declared.record.PartRecord.{PartRecord}
 use Rattle.cm_scan.specs.Telling.{TellAll}
 use Rattle.cm_stored.specs.Calls.{IsFlatTuple, IsProvided, IsSpilledTuple}
 use Rattle.cm_stored.specs.Fitting.{Fits}

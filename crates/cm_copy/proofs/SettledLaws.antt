@@ -24,9 +24,9 @@ use Rattle.cm_requesting.specs.Asking.{IsAllAnswered, all_requests}
 use Rattle.cm_requesting.specs.Placing.{regions_at}
 use Rattle.cm_requesting.specs.RecordRequests.{requests_for, tag_before, tags_of}
 use Rattle.cm_requesting.specs.declared.part_requests.PartRequests.{PartRequests}
-use Rattle.cm_scan.specs.declared.record.PartRecord.{PartRecord}
-use Rattle.cm_scan.specs.declared.record.PartKind.{PartKind}
-use Rattle.cm_scan.specs.declared.record.PartKind.TheVariants as record_kind
+use Rattle.cm_scan.specs.cm_lifting.declared.record.PartRecord.{PartRecord}
+use Rattle.cm_scan.specs.cm_lifting.declared.record.PartKind.{PartKind}
+use Rattle.cm_scan.specs.cm_lifting.declared.record.PartKind.TheVariants as record_kind
 use Rattle.cm_scan.specs.Telling.{TellAll, TellsSource}
 use Rattle.cm_copy.specs.Copies.{FoundCanBeCopied, given_by}
 use Rattle.cm_copy.specs.Settled.{IsSettled}

@@ -15,7 +15,7 @@ use Rattle.cm_abi_model.specs.Parts.{Part, element_part, part_count, part_count_
 use Rattle.cm_abi_model.specs.Regions.{part_size}
 use Rattle.cm_abi_model.specs.Requests.{call_parts, is_spilled, stored_charset, tuple_of}
 use Rattle.cm_abi_model.specs.Views.{View, Way}
-use Rattle.cm_scan.specs.declared.record.PartRecord.{PartRecord}
+use Rattle.cm_scan.specs.cm_lifting.declared.record.PartRecord.{PartRecord}
 use Rattle.cm_scan.specs.Telling.{TellAll}
 use Rattle.cm_copying.specs.Copying.{size_kept}
 use Rattle.cm_copying.specs.Known.{HasSizes, HaveSizes, first_part}

@@ -17,7 +17,7 @@ ghost use Rattle.cm_copying.specs.Known.{CanBeCopied, HasSizes, first_part};
 ghost use Rattle.cm_copying.specs.PartLaws.{ElementsAreCopied, TextIsCopied};
 ghost use Rattle.cm_copying.specs.Ready.{IsReady};
 ghost use Rattle.cm_copying.specs.Shown.{without_handles};
-ghost use Rattle.cm_scan.specs.declared.record.PartRecord.{PartRecord};
+ghost use Rattle.cm_scan.specs.cm_lifting.declared.record.PartRecord.{PartRecord};
 ghost use Rattle.cm_scan.specs.Telling.{TellAll};
 ghost use Rattle.cm_stored.specs.Storing.{stored_by};
 

@@ -1,10 +1,11 @@
 //! Values that are one number.
 
-ghost use Rattle.std.specs.Prelude.{◌≡◌, ◌*◌, ◌%◌, ◌^◌, ◌<◌};
+ghost use Rattle.std.specs.Prelude.{◌≡◌, ◌*◌, ◌%◌, ◌^◌, ◌<◌, IfErr};
 ghost use Rattle.cm_layout.specs.Laid.{leaf_size};
 ghost use Rattle.cm_values.specs.ValueTrees.{value_of};
 ghost use Rattle.cm_leaf_reading.specs.Outcomes.{Reads, State};
 ghost use Rattle.cm_leaf_reading.specs.Leaves.{leaf_value};
+ghost use Rattle.cm_leaf_reading.specs.declared.stop.Stop.TheVariants.{Fault};
 ghost use Rattle.cm_leaf_reading.specs.Sizes.{IsNumberSize, IsSizedLeaf, core_size};
 
 use crate::numbers::signed;
@@ -53,7 +54,8 @@ fn labels_set(labels: usize, number: u32) -> u32
 
 /// The char of a number, where it is one.
 fn char_value(number: u32) -> Result<Value, Stop>
-    ensures { (s : State) → Reads value_of result s (leaf_value Leaf.Char number s) }
+    ensures reads { (s : State) → Reads value_of result s (leaf_value Leaf.Char number s) }
+    ensures fault { IfErr result (λ e. e ≡ Fault AbiFault.BadChar) }
 {
     match char::from_u32(number) {
         Some(scalar) => Ok(Value::Char(scalar)),
@@ -63,11 +65,12 @@ fn char_value(number: u32) -> Result<Value, Stop>
 
 /// The value of a leaf from its number, which may have as many bytes as are read of a core value.
 ///
-/// It stops with `BadChar` at a number that is no Unicode scalar, for a char.
+/// It stops with `BadChar` at a number that is no Unicode scalar, for a char; it takes no memory.
 pub fn leaf_value(leaf: Leaf, number: u64) -> Result<Value, Stop>
     requires sized { IsSizedLeaf leaf }
     requires fits { number < 2 ^ (8 * core_size leaf) }
-    ensures { (s : State) → Reads value_of result s (leaf_value leaf number s) }
+    ensures reads { (s : State) → Reads value_of result s (leaf_value leaf number s) }
+    ensures fault { IfErr result (λ e. e ≡ Fault AbiFault.BadChar) }
 {
     match leaf {
         Leaf::Bool => Ok(Value::Bool(number != 0)),

@@ -1,5 +1,6 @@
 pub mod SlotLemmas
 pub mod Seen
+pub mod MakingLemmas
 pub mod WalkLemmas
 pub mod FlatLaws
 pub mod HandLaws

@@ -1,33 +1,23 @@
 -- What values and layouts the code's are.
-use Rattle.std.proofs.Common.{◌≡◌, ℕ, Some, None, Ok, Global, Box, rules, sym, ap, ◌∙◌}
+use Rattle.std.proofs.Common.{◌≡◌, ℕ, None, Global, rules, ap, ◌∙◌}
 use Rattle.std.specs.declared.rc.Rc.{Rc}
-use Rattle.cm_types.specs.Values.{Val, bare, bearing}
+use Rattle.cm_types.specs.Values.{bare}
 use Rattle.cm_values.specs.ValueTrees.{value_of}
-use Rattle.cm_values.specs.declared.values.Value.{Value, the_lemmas}
+use Rattle.cm_values.specs.declared.values.Value.{the_lemmas}
 use Rattle.cm_values.specs.declared.values.Value.TheViews as value
-use Rattle.cm_lifting.specs.Outcomes.{Outcome, State}
 use Rattle.cm_layout.specs.declared.heads.Head.{Head}
 use Rattle.cm_layout.specs.declared.layouts.Part.{Part, out-Part}
-use Rattle.cm_layout.specs.Layouts.{layout_of, part_of, payload_of, shape_of}
-use Rattle.cm_layout.specs.Shapes.{LayoutTy, list_shape, fixed_list_shape}
+use Rattle.cm_layout.specs.Layouts.{layout_of, nothings, part_of, shape_of}
+use Rattle.cm_layout.specs.Shapes.{LayoutTy, leaf_shape, list_shape, fixed_list_shape, cases_shape, handle_shape}
 use Rattle.cm_layout.specs.declared.layouts.Form.{the_lemmas as layout_lemmas}
 use Rattle.cm_layout.specs.declared.layouts.Form.TheViews as form
+use Rattle.cm_layout.specs.declared.layouts.Form.TheVariants as variant
+use Rattle.cm_layout.specs.declared.layouts.HandleType.{HandleType}
+use Rattle.cm_layout.specs.declared.layouts.Leaf.{Leaf}
 use Rattle.cm_layout.specs.declared.layouts.Layout.{Layout, out-Layout}
 
-abbrev shown : Val → State → Outcome Val
-shown v s = Ok (v, s)
-
-seen_bare : (i : ℕ) → value_of (value.Case i None) ≡ bare i
+pub seen_bare : (i : ℕ) → value_of (value.Case i None) ≡ bare i
 seen_bare i = search (rules, the_lemmas)
-
-pub seen_case : (i : ℕ) (s : State) → shown (bare i) s ≡ shown (value_of (value.Case i None)) s
-seen_case i s = ap (λ v. shown v s) (sym (seen_bare i))
-
-seen_bearing : (i : ℕ) (b : Box Value Global) → value_of (value.Case i (Some b)) ≡ bearing i (value_of b.value)
-seen_bearing i b = search (rules, the_lemmas)
-
-pub seen_carried : (i : ℕ) (b : Box Value Global) (v : Value) (s : State) → b.value ≡ v → shown (bearing i (value_of v)) s ≡ shown (value_of (value.Case i (Some b))) s
-seen_carried i b v s is = ap (λ w. shown w s) (ap (λ u. bearing i (value_of u)) (sym is) ∙ sym (seen_bearing i b))
 
 pub seen_shape : (l : Layout) → (layout_of l).shape ≡ shape_of (out-Layout l).form
 seen_shape l = search (rules, layout_lemmas)
@@ -50,5 +40,11 @@ seen_List b = search (rules, layout_lemmas)
 pub seen_FixedList : (b : Rc Layout Global) (n : ℕ) → shape_of (form.FixedList b n) ≡ fixed_list_shape (layout_of b.value).head (layout_of b.value).shape n
 seen_FixedList b n = search (rules, layout_lemmas)
 
-pub seen_Carried : (l : Layout) → payload_of (form.Carried l) ≡ Some (layout_of l)
-seen_Carried l = search (rules, layout_lemmas)
+pub seen_Leaf : (k : Leaf) → shape_of (variant.Leaf k) ≡ leaf_shape k
+seen_Leaf k = search (rules, layout_lemmas)
+
+pub seen_Handle : (h : HandleType) → shape_of (variant.Handle h) ≡ handle_shape h
+seen_Handle h = search (rules, layout_lemmas)
+
+pub seen_Enum : (d n : ℕ) → shape_of (variant.Enum d n) ≡ cases_shape d d (nothings n)
+seen_Enum d n = search (rules, layout_lemmas)

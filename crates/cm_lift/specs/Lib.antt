@@ -1,3 +1,4 @@
 pub mod FlatReading
+pub mod FlatRecords
 pub mod HandingOver
 pub mod Lifts

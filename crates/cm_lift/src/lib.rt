@@ -13,3 +13,4 @@ pub use handing::{Handed, hand_over};
 pub use lifted::{Lifted, first_fault, lift};
 pub use passed::Passed;
 pub use slots::{behind, number_32, wrapped_at};
+pub use walk::make_flat;

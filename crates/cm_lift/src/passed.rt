@@ -9,15 +9,15 @@ ghost use Rattle.cm_abi_model.specs.Views.{flat_limit};
 ghost use Rattle.cm_abi_model.specs.Ways.{way_of};
 ghost use Rattle.cm_lifting.specs.Outcomes.{Reads, state_of};
 ghost use Rattle.cm_lifting.specs.Reading.{source_of};
-ghost use Rattle.cm_lift.specs.FlatReading.{read_passed, read_spilled};
+ghost use Rattle.cm_lift.specs.FlatReading.{IsReady, read_flat, read_passed, read_spilled};
 
 use crate::slots::number_32;
-use crate::walk::lift_flat;
+use crate::walk::make_flat;
 use cm_abi_model::{AbiFault, Way};
 use cm_layout::Layout;
 use cm_layout::laws::layouts;
 use cm_lifting::laws::numbers_are_sized;
-use cm_lifting::{Giver, Progress, Stop, load_value};
+use cm_lifting::{Giver, Progress, Reader, Stop, Trees, load_value};
 use cm_types::CoreValue;
 use cm_values::Value;
 
@@ -80,4 +80,24 @@ fn read_spilled(
         Err(AbiFault::EngineMemory) => Err(Stop::Memory),
         Err(fault) => Err(Stop::Fault(fault)),
     }
+}
+
+/// The value that a layout has in the first of these core values.
+fn lift_flat(
+    giver: &Giver<'_>,
+    layout: &Layout,
+    slots: &[CoreValue],
+    progress: &mut Progress,
+) -> Result<Value, Stop>
+    requires ready { IsReady (layout_of layout.now).shape }
+    requires few { length giver.now.memory.now < 2 ^ 62 }
+    ensures { Reads value_of result (state_of progress.new)
+        (read_flat (source_of giver.now) (layout_of layout.now).shape slots.now
+        (state_of progress.old)) }
+{
+    let reader = Reader {
+        giver: *giver,
+        maker: Trees,
+    };
+    make_flat(&reader, layout, slots, progress, &mut ())
 }

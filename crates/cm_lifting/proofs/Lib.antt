@@ -1,4 +1,8 @@
 pub mod LoadLemmas
+pub mod HandleLemmas
+pub mod MakingLemmas
+pub mod CaseLemmas
+pub mod TreeLemmas
 pub mod TextLemmas
 pub mod Seen
 pub mod SeenLayouts

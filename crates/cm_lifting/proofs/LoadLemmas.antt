@@ -1,107 +1,22 @@
--- Loops of the walk: what was read so far, before what is still to be read.
-use Rattle.std.proofs.Common.{◌≡◌, ℕ, zero, suc, ◌+◌, ◌*◌, ◌-◌, ◌<◌, ◌≤◌, List, [], ◌∷◌, ◌++◌, length, map, drop, get_or, add-one, drop-cons, Option, Some, None, Ok, Err, refl, sym, ap, ◌∙◌, arith, IfSome, subst}
-use Rattle.std.proofs.lemmas.List.{map_push}
-use Rattle.cm_types.specs.Values.{Val, Vals, no_vals, val, bare}
-use Rattle.cm_layout.specs.Laid.{PartsLaid, PayloadsLaid}
+-- Parts that are laid out are read: fields and cases.
+use Rattle.std.proofs.Common.{◌≡◌, ℕ, zero, suc, ◌+◌, ◌*◌, ◌<◌, ◌≤◌, List, [], ◌∷◌, length, map, drop, get_or, add-one, drop-cons, Option, Some, None, Ok, Err, refl, sym, ap, ◌∙◌, arith, IfSome, subst}
+use Rattle.cm_types.specs.Values.{Val, bare}
+use Rattle.cm_layout.specs.Laid.{Laid, PartsLaid, PayloadsLaid}
 use Rattle.cm_layout.specs.Layouts.{part_of, nothings}
-use Rattle.cm_layout.specs.Shapes.{LayoutTy, Parts, Payloads, no_parts, part, no_payloads, nothing, carried, parts_from, payloads_from, payload_before}
+use Rattle.cm_layout.specs.Shapes.{LayoutTy, Parts, Payloads, no_parts, part, cases_shape, no_payloads, nothing, carried, parts_from, payloads_from, payload_before}
 use Rattle.cm_layout.specs.declared.layouts.Part.{Part}
-use Rattle.cm_values.specs.ValueTrees.{value_of, values_of, vals_from}
-use Rattle.cm_values.specs.declared.values.Value.{Value}
+use Rattle.cm_abi_model.specs.declared.encoding.StringEncoding.{StringEncoding}
 use Rattle.cm_abi_model.specs.declared.fault.AbiFault.TheVariants as fault
-use Rattle.cm_leaf_reading.specs.declared.stop.Stop.{Stop}
-use Rattle.cm_leaf_reading.specs.declared.stop.Stop.TheVariants as stop
-use Rattle.cm_leaf_reading.specs.Outcomes.{Outcome, State, Stops, mapped}
-use Rattle.cm_lifting.specs.Reading.{Source, read_at, read_case, read_each, read_parts, read_payload}
-use Rattle.cm_lifting.specs.Sized.{ArePartsReadable, ArePartsSized, ArePayloadsReadable, ArePayloadsSized, IsReadable}
+use Rattle.cm_leaf_reading.specs.Outcomes.{State}
+use Rattle.cm_lifting.specs.Reading.{Source, read_case, read_payload}
+use Rattle.cm_lifting.specs.Records.{records_of_case, records_of_payload}
+use Rattle.cm_lifting.specs.Sized.{ArePartsReadable, ArePartsSized, ArePayloadsReadable, ArePayloadsSized, IsReadable, IsSized}
 
-abbrev pub before : List Val → Vals → Vals
-before [] vs = vs
-before (x ∷ xs) vs = val x (before xs vs)
-
-abbrev pub with_front : List Val → Outcome Vals → Outcome Vals
-with_front xs r = mapped (before xs) r
-
-before_push : (xs : List Val) (x : Val) (vs : Vals) → before (xs ++ x ∷ []) vs ≡ before xs (val x vs)
-before_push [] x vs = refl
-before_push (y ∷ xs) x vs = ap (val y) (before_push xs x vs)
-
-before_none : (xs : List Val) → before xs no_vals ≡ vals_from xs
-before_none [] = refl
-before_none (x ∷ xs) = ap (val x) (before_none xs)
-
-abbrev read_ok : {A : Type 0} → A → State → Outcome A
-read_ok a s = Ok (a, s)
-
-regroup : (xs : List Val) (x : Val) (r : Outcome Vals) → with_front xs (mapped (λ vs. val x vs) r) ≡ with_front (xs ++ x ∷ []) r
-regroup xs x (Ok y) = ap (λ (vs : Vals). read_ok vs y.1) (sym (before_push xs x y.0))
-regroup xs x (Err e) = refl
-
--- ---- so many values in a row
-
--- another one was read
-pub each_turn : (R : ℕ → State → Outcome Val) (size count i p q : ℕ) (items pushed : List Value) (x : Value) (s behind : State) (total : Outcome Vals)
-    → i < count → q ≡ p + size → pushed ≡ items ++ x ∷ []
-    → R p s ≡ Ok (value_of x, behind)
-    → with_front (map value_of items) (read_each R size (count - i) p s) ≡ total
-    → with_front (map value_of pushed) (read_each R size (count - (i + 1)) q behind) ≡ total
-each_turn R size count i p q items pushed x s behind total lt there push is so_far =
-    let more : count - i ≡ suc (count - (i + 1)) = omega arith in
-    let one : with_front (map value_of items) (read_each R size (count - i) p s) ≡ with_front (map value_of items ++ value_of x ∷ []) (read_each R size (count - (i + 1)) (p + size) behind) =
-    rw (more, is) (regroup (map value_of items) (value_of x) (read_each R size (count - (i + 1)) (p + size) behind)) in
-    rw (push, map_push value_of items x, there) (sym one ∙ so_far)
-
--- the next one has a fault
-pub each_stops : (R : ℕ → State → Outcome Val) (size count i p : ℕ) (items : List Value) (s behind : State) (e : Stop) (total : Outcome Vals)
-    → i < count → Stops e behind (R p s)
-    → with_front (map value_of items) (read_each R size (count - i) p s) ≡ total
-    → Stops e behind total
-each_stops R size count i p items s behind stop.Memory total lt is so_far = tt
-each_stops R size count i p items s behind (stop.Fault f) total lt is so_far =
-    let more : count - i ≡ suc (count - (i + 1)) = omega arith in
-    let one : with_front (map value_of items) (read_each R size (count - i) p s) ≡ Err (f, behind) = rw (more, is) refl in
-    sym so_far ∙ one
-
--- none is left
-pub each_ends : (R : ℕ → State → Outcome Val) (size count i p : ℕ) (items : List Value) (s : State) (total : Outcome Vals)
-    → count ≤ i → with_front (map value_of items) (read_each R size (count - i) p s) ≡ total → total ≡ Ok (values_of items, s)
-each_ends R size count i p items s total past so_far =
-    let none : count - i ≡ 0 = omega arith in
-    let one : with_front (map value_of items) (read_each R size (count - i) p s) ≡ Ok (values_of items, s) =
-    rw none (ap (λ (vs : Vals). read_ok vs s) (before_none (map value_of items))) in
-    sym so_far ∙ one
-
--- ---- fields
-
-parts_next : (ps : List Part) (i : ℕ) (p : Part) → i < length ps → p ≡ get_or ps i p
+pub parts_next : (ps : List Part) (i : ℕ) (p : Part) → i < length ps → p ≡ get_or ps i p
     → parts_from (map part_of (drop i ps)) ≡ part (part_of p).0 (part_of p).1.head (part_of p).1.shape (parts_from (map part_of (drop (i + 1) ps)))
 parts_next ps i p lt is =
     let split : drop i ps ≡ p ∷ drop (i + 1) ps = rw (add-one, drop-cons ps i p lt, ← is) refl in
     rw split refl
-
-pub parts_turn : (w : Source) (ps : List Part) (i at : ℕ) (p : Part) (items pushed : List Value) (x : Value) (s behind : State) (total : Outcome Vals)
-    → i < length ps → p ≡ get_or ps i p → pushed ≡ items ++ x ∷ []
-    → read_at w (part_of p).1.shape (at + (part_of p).0) s ≡ Ok (value_of x, behind)
-    → with_front (map value_of items) (read_parts w (parts_from (map part_of (drop i ps))) at s) ≡ total
-    → with_front (map value_of pushed) (read_parts w (parts_from (map part_of (drop (i + 1) ps))) at behind) ≡ total
-parts_turn w ps i at p items pushed x s behind total lt there push is so_far =
-    let one : with_front (map value_of items) (read_parts w (parts_from (map part_of (drop i ps))) at s) ≡ with_front (map value_of items ++ value_of x ∷ []) (read_parts w (parts_from (map part_of (drop (i + 1) ps))) at behind) =
-    rw (parts_next ps i p lt there, is) (regroup (map value_of items) (value_of x) (read_parts w (parts_from (map part_of (drop (i + 1) ps))) at behind)) in
-    rw (push, map_push value_of items x) (sym one ∙ so_far)
-
-pub parts_stop : (w : Source) (ps : List Part) (i at : ℕ) (p : Part) (items : List Value) (s behind : State) (e : Stop) (total : Outcome Vals)
-    → i < length ps → p ≡ get_or ps i p
-    → Stops e behind (read_at w (part_of p).1.shape (at + (part_of p).0) s)
-    → with_front (map value_of items) (read_parts w (parts_from (map part_of (drop i ps))) at s) ≡ total
-    → Stops e behind total
-parts_stop w ps i at p items s behind stop.Memory total lt there is so_far = tt
-parts_stop w ps i at p items s behind (stop.Fault f) total lt there is so_far =
-    let one : with_front (map value_of items) (read_parts w (parts_from (map part_of (drop i ps))) at s) ≡ Err (f, behind) = rw (parts_next ps i p lt there, is) refl in
-    sym so_far ∙ one
-
-pub parts_end : (w : Source) (at : ℕ) (items : List Value) (s : State) (total : Outcome Vals)
-    → with_front (map value_of items) (Ok (no_vals, s)) ≡ total → total ≡ Ok (values_of items, s)
-parts_end w at items s total so_far = sym so_far ∙ ap (λ (vs : Vals). read_ok vs s) (before_none (map value_of items))
 
 pub readable_next : (limit at : ℕ) (ps : List Part) (i : ℕ) (p : Part) → i < length ps → p ≡ get_or ps i p
     → ArePartsReadable limit at (parts_from (map part_of (drop i ps)))
@@ -119,6 +34,12 @@ payloads_readable limit start n o no_payloads inside laid sized = tt
 payloads_readable limit start n o (nothing ps) inside laid sized = payloads_readable limit start n o ps inside laid sized
 payloads_readable limit start n o (carried e sh ps) inside laid sized =
     (record { inside = omega arith; laid = laid.1; sized = sized.0 }, payloads_readable limit start n o ps inside laid.2 sized.1)
+
+pub cases_readable : (limit at d o : ℕ) (l : LayoutTy) (ps : Payloads) → l.shape ≡ cases_shape d o ps → at + l.head.size ≤ limit → Laid l.head.size l.shape → IsSized l.shape → ArePayloadsReadable limit (at + o) ps
+cases_readable limit at d o l ps is inside laid sized =
+    let placed : Laid l.head.size (cases_shape d o ps) = subst (λ sh. Laid l.head.size sh) is laid in
+    let numbers : IsSized (cases_shape d o ps) = subst (λ sh. IsSized sh) is sized in
+    payloads_readable limit at l.head.size o ps inside placed.2 numbers.2
 
 -- ---- cases
 
@@ -174,14 +95,24 @@ drop_past [] (suc i) past = refl
 drop_past (x ∷ xs) zero past = absurd (omega arith)
 drop_past (x ∷ xs) (suc i) past = drop_past xs i (omega arith)
 
-pub parts_done : (w : Source) (ps : List Part) (i at : ℕ) (items : List Value) (s : State) (total : Outcome Vals)
-    → length ps ≤ i → with_front (map value_of items) (read_parts w (parts_from (map part_of (drop i ps))) at s) ≡ total → total ≡ Ok (values_of items, s)
-parts_done w ps i at items s total past so_far = parts_end w at items s total (rw (drop_past ps i past) at so_far)
+-- ---- their records
 
-pub stops_mapped : {A B : Type 0} (f : A → B) (r : Outcome A) (e : Stop) (s : State) → Stops e s r → Stops e s (mapped f r)
-stops_mapped f r stop.Memory s is = tt
-stops_mapped f r (stop.Fault x) s is = rw is refl
+kept_zero : (w : Source) (t : StringEncoding) (o : Option LayoutTy) (ps : Payloads) (p : ℕ) (v : Option Val) → records_of_case w t (payload_before o ps) zero p v ≡ records_of_payload w t o p v
+kept_zero w t None ps p v = refl
+kept_zero w t (Some l) ps p None = refl
+kept_zero w t (Some l) ps p (Some v) = refl
 
-pub front_none : (r : Outcome Vals) → with_front [] r ≡ r
-front_none (Ok x) = refl
-front_none (Err e) = refl
+kept_suc : (w : Source) (t : StringEncoding) (o : Option LayoutTy) (ps : Payloads) (n p : ℕ) (v : Option Val) → records_of_case w t (payload_before o ps) (suc n) p v ≡ records_of_case w t ps n p v
+kept_suc w t None ps n p v = refl
+kept_suc w t (Some l) ps n p v = refl
+
+pub case_kept : {X : Type 0} (f : X → Option LayoutTy) (w : Source) (t : StringEncoding) (xs : List X) (n p : ℕ) (v : Option Val) (x : X) → n < length xs → x ≡ get_or xs n x
+    → records_of_case w t (payloads_from (map f xs)) n p v ≡ records_of_payload w t (f x) p v
+case_kept f w t [] n p v x lt is = absurd (omega arith)
+case_kept f w t (y ∷ xs) zero p v x lt is = kept_zero w t (f y) (payloads_from (map f xs)) p v ∙ ap (λ z. records_of_payload w t (f z) p v) (sym is)
+case_kept f w t (y ∷ xs) (suc n) p v x lt is = kept_suc w t (f y) (payloads_from (map f xs)) n p v ∙ case_kept f w t xs n p v x (omega arith) is
+
+pub none_kept : (w : Source) (t : StringEncoding) (count i p : ℕ) (v : Option Val) → records_of_case w t (nothings count) i p v ≡ []
+none_kept w t zero i p v = refl
+none_kept w t (suc count) zero p v = refl
+none_kept w t (suc count) (suc i) p v = none_kept w t count i p v

@@ -1,9 +1,12 @@
 pub use Rattle.cm_leaf_reading.specs as cm_leaf_reading
 pub use Rattle.cm_leaf_reading.specs.Outcomes
 pub mod Decoded
+pub mod Making
 pub mod Meeting
 pub mod PartLaws
+pub mod Plain
 pub mod Reading
+pub mod Records
 pub mod Sized
 pub mod TextReads
 pub mod TextSizes

@@ -1,10 +1,15 @@
 //! What reading means, as laws: each function here does nothing, and its contract is the law.
 
-ghost use Rattle.std.specs.Prelude.{◌≡◌, ◌<◌, ◌≤◌, Ok, ℕ};
+ghost use Rattle.std.specs.Prelude.{◌≡◌, ◌<◌, ◌≤◌, List, Ok, ℕ};
 ghost use Rattle.cm_types.specs.Types.{Ty};
 ghost use Rattle.cm_types.specs.Values.{Val};
-ghost use Rattle.cm_layout.specs.Shapes.{shape_of_type};
+ghost use Rattle.cm_handles.specs.Handles.{Handles};
+ghost use Rattle.cm_layout.specs.declared.heads.Head.{Head};
+ghost use Rattle.cm_layout.specs.declared.layouts.HandleType.{HandleType};
+ghost use Rattle.cm_layout.specs.declared.layouts.Leaf.{Leaf};
+ghost use Rattle.cm_layout.specs.Shapes.{Shape, shape_of_type};
 ghost use Rattle.cm_layout.specs.Sizes.{align_of};
+ghost use Rattle.cm_abi_model.specs.declared.encoding.StringEncoding.{StringEncoding};
 ghost use Rattle.cm_abi_model.specs.Shows.{Shows};
 ghost use Rattle.cm_abi_model.specs.Taken.{content_of, met_at};
 ghost use Rattle.cm_abi_model.specs.Views.{View};
@@ -13,7 +18,9 @@ ghost use Rattle.cm_leaf_reading.specs.Outcomes.{State};
 ghost use Rattle.cm_lifting.specs.PartLaws.{BorrowIsRead, BorrowIsShown, ElementsAreRead};
 ghost use Rattle.cm_lifting.specs.PartLaws.{ElementsAreShown, MeetingsJoin, NothingIsMet};
 ghost use Rattle.cm_lifting.specs.PartLaws.{OwnIsRead, OwnIsShown, TextIsRead, TextIsShown};
-ghost use Rattle.cm_lifting.specs.Reading.{read_at, seen_by};
+ghost use Rattle.cm_lifting.specs.Making.{KeepsHandles};
+ghost use Rattle.cm_lifting.specs.Reading.{Source, leaf_value, read_at, read_elements, read_handle};
+ghost use Rattle.cm_lifting.specs.Reading.{read_text, seen_by};
 ghost use Rattle.cm_lifting.specs.Sized.{IsSized};
 
 /// In the layout of a type each number has a size that numbers have, and each alignment is some.
@@ -57,4 +64,18 @@ pub fn parts_that_are_shown_are_read()
     ensures elements { ElementsAreRead }
     ensures own { OwnIsRead }
     ensures borrow { BorrowIsRead }
+{}
+
+/// Handles that a reader has met stay met, whatever it reads next: a value of any shape in memory,
+/// or what core values pass of one, a number, a string, the elements of a list, a handle.
+pub fn handles_stay_met()
+    ensures value { (w : Source) (shape : Shape) (p : ℕ) (s : State)
+        → KeepsHandles s (read_at w shape p s) }
+    ensures leaf { (k : Leaf) (n : ℕ) (s : State) → KeepsHandles s (leaf_value k n s) }
+    ensures text { (memory : List ℕ) (e : StringEncoding) (at n : ℕ) (s : State)
+        → KeepsHandles s (read_text memory e at n s) }
+    ensures elements { (w : Source) (shape : Shape) (memory : List ℕ) (e : Head) (at n : ℕ)
+        (s : State) → KeepsHandles s (read_elements (read_at w shape) memory e at n s) }
+    ensures handle { (table : Handles) (t : HandleType) (index : ℕ) (s : State)
+        → KeepsHandles s (read_handle table t index s) }
 {}

@@ -4,14 +4,19 @@
 pub mod laws;
 mod load;
 mod loading;
+mod maker;
 mod measures;
+mod record;
 mod texts;
+mod trees;
 
 pub use cm_leaf_reading::{
     Giver, MetHandle, Progress, Stop, check_region, core_size, leaf_value, load_handle, number_32,
     number_at,
 };
 pub use load::load_value;
-pub use loading::{load_leaf, load_list};
+pub use loading::{is_plain_leaf, make_handle, make_list, make_value};
+pub use maker::{Maker, Reader};
 pub use measures::measure_text;
-pub use texts::load_text;
+pub use record::{PartKind, PartRecord};
+pub use trees::Trees;

@@ -4,6 +4,7 @@ ghost use Rattle.std.specs.Prelude.{◌≡◌, ◌+◌, ◌^◌, ◌<◌, ◌≤
 ghost use Rattle.std.specs.Prelude.{Ok, length};
 ghost use Rattle.cm_types.specs.Types.{Ty};
 ghost use Rattle.cm_types.specs.Values.{Val};
+ghost use Rattle.cm_layout.specs.Laid.{Laid};
 ghost use Rattle.cm_layout.specs.Layouts.{layout_of};
 ghost use Rattle.cm_layout.specs.Shapes.{layout_at};
 ghost use Rattle.cm_values.specs.ValueTrees.{value_of};
@@ -11,10 +12,13 @@ ghost use Rattle.cm_abi_model.specs.Shows.{Shows};
 ghost use Rattle.cm_abi_model.specs.Taken.{content_of, met_at};
 ghost use Rattle.cm_abi_model.specs.Views.{View};
 ghost use Rattle.cm_lifting.specs.Meeting.{Meets};
-ghost use Rattle.cm_leaf_reading.specs.Outcomes.{state_of};
+ghost use Rattle.cm_leaf_reading.specs.Outcomes.{Reads, state_of};
 ghost use Rattle.cm_lifting.specs.Reading.{read_at, seen_by, source_of};
+ghost use Rattle.cm_lifting.specs.Sized.{IsSized};
 
-use crate::loading::load;
+use crate::loading::make_value;
+use crate::maker::Reader;
+use crate::trees::Trees;
 use cm_abi_model::AbiFault;
 use cm_layout::Layout;
 use cm_layout::laws::layouts;
@@ -61,4 +65,26 @@ pub fn load_value(
         Err(Stop::Memory) => Err(AbiFault::EngineMemory),
         Err(Stop::Fault(fault)) => Err(fault),
     }
+}
+
+/// The value that a layout has at an address.
+fn load(
+    giver: &Giver<'_>,
+    layout: &Layout,
+    at: usize,
+    progress: &mut Progress,
+) -> Result<Value, Stop>
+    requires laid { Laid (layout_of layout.now).head.size (layout_of layout.now).shape }
+    requires sized { IsSized (layout_of layout.now).shape }
+    requires within { at + (layout_of layout.now).head.size ≤ length giver.now.memory.now }
+    requires few { length giver.now.memory.now < 2 ^ 62 }
+    ensures { Reads value_of result (state_of progress.new)
+        (read_at (source_of giver.now) (layout_of layout.now).shape at
+        (state_of progress.old)) }
+{
+    let reader = Reader {
+        giver: *giver,
+        maker: Trees,
+    };
+    make_value(&reader, layout, at, progress, &mut ())
 }

@@ -131,7 +131,7 @@ pub(crate) fn keep_tag(
 /// string passes the end of the memory, else with `TooLarge` where fewer bytes may still come, else
 /// with `BadText` where it is no text of its encoding.
 #[tactic(auto, unfolding(crate::specs::Reading::read_text))]
-pub fn load_text(
+pub(crate) fn load_text(
     giver: &Giver<'_>,
     at: u32,
     tagged: u32,

@@ -8,9 +8,9 @@ use Rattle.cm_abi_model.specs.Requests.{IsStored, chain, charset, first_tag, par
 use Rattle.cm_abi_model.specs.Taken.{MAX_CONTENT}
 use Rattle.cm_abi_model.specs.Views.{View}
 use Rattle.cm_lowering.specs.Asking.{content_of_parts, part_content}
-use Rattle.cm_scan.specs.declared.record.PartKind.{PartKind}
-use Rattle.cm_scan.specs.declared.record.PartKind.TheVariants as kind
-use Rattle.cm_scan.specs.declared.record.PartRecord.{PartRecord}
+use Rattle.cm_scan.specs.cm_lifting.declared.record.PartKind.{PartKind}
+use Rattle.cm_scan.specs.cm_lifting.declared.record.PartKind.TheVariants as kind
+use Rattle.cm_scan.specs.cm_lifting.declared.record.PartRecord.{PartRecord}
 use Rattle.cm_scan.specs.Telling.{TellAll, TellsSource}
 use Rattle.cm_requesting.specs.RecordRequests.{AreAskable, IsCounted, kind_sizes, requests_for, tag_before, tags_of}
 use Rattle.cm_requesting.proofs.TextUnits.{bytes_within, units_within}

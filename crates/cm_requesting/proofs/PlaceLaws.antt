@@ -8,7 +8,7 @@ use Rattle.cm_abi_model.specs.Stores.{Given, place_of}
 use Rattle.cm_abi_model.specs.Views.{View}
 use Rattle.cm_lowering.specs.declared.regions.Region.{Region}
 use Rattle.cm_lowering.specs.Overlap.{AreDisjoint, IsInOne}
-use Rattle.cm_scan.specs.declared.record.PartRecord.{PartRecord}
+use Rattle.cm_scan.specs.cm_lifting.declared.record.PartRecord.{PartRecord}
 use Rattle.cm_scan.specs.Telling.{TellAll}
 use Rattle.cm_requesting.specs.Placing.{regions_at}
 use Rattle.cm_requesting.specs.RecordRequests.{AreAskable, IsAskable}

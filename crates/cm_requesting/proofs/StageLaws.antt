@@ -11,9 +11,9 @@ use Rattle.cm_abi_model.specs.Requests.{chain, charset, growths, stored_charset,
 use Rattle.cm_abi_model.specs.Texts.{Charset, utf8, utf16, latin1}
 use Rattle.cm_lowering.specs.Answering.{begins_part, places_of, regions_of}
 use Rattle.cm_lowering.specs.declared.regions.Region.{Region}
-use Rattle.cm_scan.specs.declared.record.PartKind.{PartKind}
-use Rattle.cm_scan.specs.declared.record.PartKind.TheVariants as kind
-use Rattle.cm_scan.specs.declared.record.PartRecord.{PartRecord}
+use Rattle.cm_scan.specs.cm_lifting.declared.record.PartKind.{PartKind}
+use Rattle.cm_scan.specs.cm_lifting.declared.record.PartKind.TheVariants as kind
+use Rattle.cm_scan.specs.cm_lifting.declared.record.PartRecord.{PartRecord}
 use Rattle.cm_requesting.specs.Asking.{IsAnswered, IsPlacedLast, IsStage, all_requests, last_answer, next_of, with_last, with_old}
 use Rattle.cm_requesting.specs.RecordRequests.{AreAskable, IsAskable, kind_sizes, record_requests, requests_for}
 use Rattle.cm_requesting.specs.declared.part_requests.PartRequests.{PartRequests}

@@ -7,7 +7,7 @@ use Rattle.std.specs.declared.alloc.Global.{Global}
 use Rattle.cm_abi_model.specs.declared.encoding.StringEncoding.{StringEncoding}
 use Rattle.cm_abi_model.specs.declared.request.Request.{Request}
 use Rattle.cm_lowering.specs.Answering.{places_of}
-use Rattle.cm_scan.specs.declared.record.PartRecord.{PartRecord}
+use Rattle.cm_scan.specs.cm_lifting.declared.record.PartRecord.{PartRecord}
 use Rattle.cm_requesting.specs.declared.part_requests.PartRequests.{PartRequests}
 use Rattle.cm_requesting.specs.RecordRequests.{AreAskable, record_requests, requests_for}
 

@@ -4,9 +4,9 @@ use Rattle.std.specs.Prelude.{ℕ, ◌*◌, ◌^◌, ◌<◌, ⊤, Bool, true, f
 use Rattle.cm_abi_model.specs.declared.encoding.StringEncoding.{StringEncoding}
 use Rattle.cm_abi_model.specs.declared.request.Request.{Request}
 use Rattle.cm_abi_model.specs.Requests.{chain, charset, stored_charset, text_sizes}
-use Rattle.cm_scan.specs.declared.record.PartKind.{PartKind}
-use Rattle.cm_scan.specs.declared.record.PartKind.TheVariants as kind
-use Rattle.cm_scan.specs.declared.record.PartRecord.{PartRecord}
+use Rattle.cm_scan.specs.cm_lifting.declared.record.PartKind.{PartKind}
+use Rattle.cm_scan.specs.cm_lifting.declared.record.PartKind.TheVariants as kind
+use Rattle.cm_scan.specs.cm_lifting.declared.record.PartRecord.{PartRecord}
 use Rattle.cm_requesting.specs.declared.sizes.Sizes.{Sizes}
 use Rattle.cm_requesting.specs.declared.sizes.Sizes.TheVariants as sizes
 

@@ -17,7 +17,7 @@ ghost use Rattle.cm_abi_model.specs.Views.{View, Way};
 ghost use Rattle.cm_lowering.specs.Answering.{answer_fault, first_fault, places_of};
 ghost use Rattle.cm_lowering.specs.Asking.{content_of_parts};
 ghost use Rattle.cm_lowering.specs.Overlap.{AreDisjoint};
-ghost use Rattle.cm_scan.specs.declared.record.PartRecord.{PartRecord};
+ghost use Rattle.cm_scan.specs.cm_lifting.declared.record.PartRecord.{PartRecord};
 ghost use Rattle.cm_scan.specs.Telling.{TellAll};
 ghost use Rattle.cm_requesting.specs.declared.part_requests.PartRequests.{PartRequests};
 ghost use Rattle.cm_requesting.specs.Asking.{IsAllAnswered, all_requests, next_of};

@@ -1,6 +1,1 @@
-pub mod SeenLayouts
-pub mod Readable
-pub mod ScanLemmas
-pub mod KeepLemmas
 pub mod TellLaws
-pub mod PlainLemmas

@@ -18,7 +18,7 @@ use Rattle.cm_abi_model.specs.Views.{View}
 use Rattle.cm_text.specs.Text.{IsText}
 use Rattle.cm_lifting.specs.Outcomes.{Outcome, State, mapped}
 use Rattle.cm_lifting.specs.Reading.{Source, read_at, seen_by}
-use Rattle.cm_scan.specs.declared.record.PartRecord.{PartRecord}
+use Rattle.cm_lifting.specs.declared.record.PartRecord.{PartRecord}
 use Rattle.cm_scan.specs.Places.{places_at, places_each, places_in_fields, places_in_payload}
 use Rattle.cm_scan.specs.Records.{element_record, is_tagged, records_at, records_each, records_of_case, records_of_fields, records_of_list, text_record}
 use Rattle.cm_scan.specs.Telling.{TellAll, Tells, TellsText}

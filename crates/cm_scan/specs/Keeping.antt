@@ -1,19 +1,15 @@
 -- What a scan keeps of what it reads: a record of each part, and each handle that it meets. Memory
 -- is wanted for these alone (what is kept is this project's own choice).
-use Rattle.std.specs.Prelude.{ℕ, ◌+◌, ◌<◌, ◌≤◌, List, length, Result, Ok, Err, ⊤}
+use Rattle.std.specs.Prelude.{ℕ, ◌+◌, ◌<◌, List, length, Result, Ok, Err, ⊤}
 use Rattle.cm_lifting.specs.cm_leaf_reading.declared.stop.Stop.{Stop}
 use Rattle.cm_lifting.specs.cm_leaf_reading.declared.stop.Stop.TheVariants as stop
 use Rattle.cm_lifting.specs.Outcomes.{Outcome, State}
-use Rattle.cm_scan.specs.declared.record.PartRecord.{PartRecord}
+use Rattle.cm_lifting.specs.declared.record.PartRecord.{PartRecord}
+pub use Rattle.cm_lifting.specs.Making.{KeepsHandles}
 
 -- how many records and handles are kept
 abbrev pub count_kept : List PartRecord → State → ℕ
 count_kept rs s = length rs + length s.handles
-
--- handles that were met stay met
-abbrev pub KeepsHandles : {A : Type 0} → State → Outcome A → Type 0
-KeepsHandles s (Ok x) = length s.handles ≤ length x.1.handles
-KeepsHandles s (Err e) = ⊤
 
 -- where something is read, more is kept than so many records and handles
 abbrev pub KeepsMore : ℕ → Outcome (List PartRecord) → Type 0

@@ -16,9 +16,9 @@ use Rattle.cm_text.specs.Text.{IsText}
 use Rattle.cm_lifting.specs.Reading.{seen_by}
 use Rattle.cm_scan.specs.Places.{places_at, places_each}
 use Rattle.cm_scan.specs.Records.{records_at, records_of_list, text_record}
-use Rattle.cm_scan.specs.declared.record.PartRecord.{PartRecord}
-use Rattle.cm_scan.specs.declared.record.PartKind.{PartKind}
-use Rattle.cm_scan.specs.declared.record.PartKind.TheVariants as kind
+use Rattle.cm_lifting.specs.declared.record.PartRecord.{PartRecord}
+use Rattle.cm_lifting.specs.declared.record.PartKind.{PartKind}
+use Rattle.cm_lifting.specs.declared.record.PartKind.TheVariants as kind
 
 -- a record tells a string of these scalars: it has so many units in this charset, and the bytes at
 -- its place are their text

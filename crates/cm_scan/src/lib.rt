@@ -4,16 +4,11 @@
 #![tactic(auto)]
 
 pub mod laws;
-mod leaves;
-mod record;
+mod recorder;
 mod scan;
 mod scanner;
-mod scanning;
-mod texts;
 
-pub use leaves::scan_char;
-pub use record::{PartKind, PartRecord};
+pub use cm_lifting::{PartKind, PartRecord};
+pub use recorder::Recorder;
 pub use scan::scan_value;
 pub use scanner::{Scan, Scanner};
-pub use scanning::{scan_handle, scan_list};
-pub use texts::scan_text;

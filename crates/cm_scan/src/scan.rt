@@ -4,6 +4,7 @@ ghost use Rattle.std.specs.Prelude.{◌≡◌, ◌+◌, ◌++◌, ◌^◌, ◌<�
 ghost use Rattle.std.specs.Prelude.{List, length};
 ghost use Rattle.cm_types.specs.Types.{Ty};
 ghost use Rattle.cm_types.specs.Values.{Val};
+ghost use Rattle.cm_layout.specs.Laid.{Laid};
 ghost use Rattle.cm_layout.specs.Layouts.{layout_of};
 ghost use Rattle.cm_layout.specs.Shapes.{layout_at};
 ghost use Rattle.cm_abi_model.specs.Parts.{parts_in};
@@ -11,20 +12,21 @@ ghost use Rattle.cm_abi_model.specs.Shows.{Shows};
 ghost use Rattle.cm_abi_model.specs.Views.{View};
 ghost use Rattle.cm_lifting.specs.Outcomes.{mapped, state_of};
 ghost use Rattle.cm_lifting.specs.Reading.{read_at, seen_by, source_of};
+ghost use Rattle.cm_lifting.specs.Sized.{IsSized};
 ghost use Rattle.cm_scan.specs.Keeping.{KeepsMore, count_kept};
 ghost use Rattle.cm_scan.specs.Places.{places_at};
-ghost use Rattle.cm_scan.specs.Records.{records_at};
+ghost use Rattle.cm_scan.specs.Records.{Scans, ScansToKeep, records_at};
 ghost use Rattle.cm_scan.specs.Telling.{TellAll};
-ghost use Rattle.cm_scan.specs.declared.record.PartRecord.{PartRecord as Told};
+ghost use Rattle.cm_lifting.specs.declared.record.PartRecord.{PartRecord as Told};
 
 use crate::laws::records_tell_parts;
+use crate::recorder::Recorder;
 use crate::scanner::{Scan, Scanner};
-use crate::scanning::scan_at;
 use cm_abi_model::AbiFault;
 use cm_layout::Layout;
 use cm_layout::laws::layouts;
-use cm_lifting::Stop;
 use cm_lifting::laws::{numbers_are_sized, what_is_read_is_shown};
+use cm_lifting::{Reader, Stop, make_value};
 
 /// Looks at the value that stands at an address, by the layout of its type, with no tree made of
 /// it; `at` is in bytes from 0, and all bytes of the layout lie in the memory.
@@ -77,4 +79,31 @@ pub fn scan_value(
         Err(Stop::Memory) => Err(AbiFault::EngineMemory),
         Err(Stop::Fault(fault)) => Err(fault),
     }
+}
+
+/// Scans what a layout has at an address.
+fn scan_at(scanner: &Scanner<'_>, layout: &Layout, at: usize, scan: &mut Scan) -> Result<(), Stop>
+    requires laid { Laid (layout_of layout.now).head.size (layout_of layout.now).shape }
+    requires sized { IsSized (layout_of layout.now).shape }
+    requires within { at + (layout_of layout.now).head.size
+        ≤ length scanner.now.giver.memory.now }
+    requires few { length scanner.now.giver.memory.now < 2 ^ 62 }
+    ensures reads { Scans
+        (records_at (source_of scanner.now.giver) scanner.now.target (layout_of layout.now).shape
+        at)
+        (read_at (source_of scanner.now.giver) (layout_of layout.now).shape at)
+        scan.old scan.new result }
+    ensures keeps { ScansToKeep
+        (records_at (source_of scanner.now.giver) scanner.now.target (layout_of layout.now).shape
+        at)
+        (read_at (source_of scanner.now.giver) (layout_of layout.now).shape at)
+        scan.old result }
+{
+    let reader = Reader {
+        giver: scanner.giver,
+        maker: Recorder {
+            target: scanner.target,
+        },
+    };
+    make_value(&reader, layout, at, &mut scan.progress, &mut scan.records)
 }

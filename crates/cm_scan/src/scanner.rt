@@ -1,8 +1,7 @@
 //! What is scanned, and how far it was.
 
-use crate::record::PartRecord;
 use cm_abi_model::StringEncoding;
-use cm_lifting::{Giver, Progress};
+use cm_lifting::{Giver, PartRecord, Progress};
 
 /// What values are scanned in, and for whom.
 #[derive(Clone, Copy)]

@@ -22,14 +22,14 @@ use Rattle.cm_lifting.specs.Reading.{Source, seen_by}
 use Rattle.cm_lift.specs.FlatReading.{read_passed}
 use Rattle.cm_lift.specs.HandingOver.{Hands, hand_over, handed, lifted, untouched}
 use Rattle.cm_lift.specs.Lifts.{IsGivenBy, Lifts, fresh, lift_of}
-use Rattle.cm_scan.specs.declared.record.PartRecord.{PartRecord}
+use Rattle.cm_scan.specs.cm_lifting.declared.record.PartRecord.{PartRecord}
 use Rattle.cm_lowering.specs.Asking.{content_of_parts}
 use Rattle.cm_requesting.specs.RecordRequests.{AreAskable, IsAskable, IsCounted, requests_for}
-use Rattle.cm_scan.specs.declared.record.PartKind.{PartKind}
-use Rattle.cm_scan.specs.declared.record.PartKind.TheVariants as kind
+use Rattle.cm_scan.specs.cm_lifting.declared.record.PartKind.{PartKind}
+use Rattle.cm_scan.specs.cm_lifting.declared.record.PartKind.TheVariants as kind
 use Rattle.cm_scan.specs.Telling.{TellAll, Tells, TellsSource}
 use Rattle.cm_scan_call.specs.CallPlaces.{call_places}
-use Rattle.cm_scan_call.specs.FlatRecords.{passed_records}
+use Rattle.cm_lift.specs.FlatRecords.{passed_records}
 use Rattle.cm_scan_call.specs.Scans.{IsKept, ScansCall, giver_of, scanned_with}
 use Rattle.cm_lifting.specs.Meeting.{AreAsWanted, Meets}
 use Rattle.cm_abi_model.specs.Receives.{HandleLeaf, leaves_in}

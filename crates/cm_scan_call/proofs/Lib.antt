@@ -1,7 +1,7 @@
 pub mod LeafLaws
 pub mod FoundLaws
-pub mod FlatLemmas
-pub mod FlatKeepLemmas
+pub mod ReadyLemmas
+pub mod SpilledLemmas
 pub mod FlatTells
 pub mod SeenLayouts
 pub mod CallLemmas

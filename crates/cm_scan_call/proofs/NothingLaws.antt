@@ -14,8 +14,8 @@ use Rattle.cm_lifting.specs.Reading.{Source}
 use Rattle.cm_lift.specs.FlatReading.{read_passed}
 use Rattle.cm_lift.specs.Lifts.{fresh}
 use Rattle.cm_scan.specs.Keeping.{KeepsMore, WantsToKeep, count_kept}
-use Rattle.cm_scan.specs.declared.record.PartRecord.{PartRecord}
-use Rattle.cm_scan_call.specs.FlatRecords.{passed_records}
+use Rattle.cm_scan.specs.cm_lifting.declared.record.PartRecord.{PartRecord}
+use Rattle.cm_lift.specs.FlatRecords.{passed_records}
 use Rattle.cm_scan_call.specs.Scans.{KeepsNothing, giver_of}
 use Rattle.cm_scan_call.specs.CallPlaces.{call_places}
 use Rattle.cm_types.specs.Types.{Fields}

@@ -1,4 +1,3 @@
 pub mod MetLeaves
-pub mod FlatRecords
 pub mod CallPlaces
 pub mod Scans

@@ -18,7 +18,7 @@ use Rattle.cm_giving.specs.Leaves.{leaves_of}
 use Rattle.cm_scan.specs.Telling.{TellAll}
 use Rattle.cm_requesting.specs.Asking.{IsAnswered, all_requests}
 use Rattle.cm_requesting.specs.RecordRequests.{requests_for}
-use Rattle.cm_scan_call.specs.FlatRecords.{passed_records}
+use Rattle.cm_lift.specs.FlatRecords.{passed_records}
 use Rattle.cm_scan_call.specs.CallPlaces.{call_places}
 use Rattle.cm_scan_call.specs.declared.scanned.Scanned.{Scanned}
 

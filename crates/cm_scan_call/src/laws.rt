@@ -15,7 +15,7 @@ ghost use Rattle.cm_abi_model.specs.Views.{View, Way, flat_limit};
 ghost use Rattle.cm_lifting.specs.Reading.{seen_by};
 ghost use Rattle.cm_scan.specs.Telling.{TellAll};
 ghost use Rattle.cm_scan_call.specs.CallPlaces.{call_places};
-ghost use Rattle.cm_scan_call.specs.FlatRecords.{passed_records};
+ghost use Rattle.cm_lift.specs.FlatRecords.{passed_records};
 ghost use Rattle.cm_scan_call.specs.Scans.{KeepsNothing};
 
 use crate::met_laws::handles_that_are_met_are_the_values;

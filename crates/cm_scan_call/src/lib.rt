@@ -8,7 +8,6 @@ mod leaves;
 pub mod met_laws;
 mod passed;
 mod scanned;
-mod walk;
 
 pub use leaves::handles_met;
 pub use scanned::{Encodings, Scanned, scan};

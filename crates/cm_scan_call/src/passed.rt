@@ -7,19 +7,18 @@ ghost use Rattle.cm_layout.specs.Shapes.{layout_at};
 ghost use Rattle.cm_abi_model.specs.Views.{flat_limit};
 ghost use Rattle.cm_abi_model.specs.Ways.{way_of};
 ghost use Rattle.cm_lifting.specs.Reading.{source_of};
-ghost use Rattle.cm_lift.specs.FlatReading.{read_passed, read_spilled};
+ghost use Rattle.cm_lift.specs.FlatReading.{IsReady, read_flat, read_passed, read_spilled};
 ghost use Rattle.cm_scan.specs.Records.{Scans, ScansToKeep};
-ghost use Rattle.cm_scan_call.specs.FlatRecords.{passed_records, spilled_records};
+ghost use Rattle.cm_lift.specs.FlatRecords.{flat_records, passed_records, spilled_records};
 
-use crate::walk::scan_flat;
 use cm_abi_model::AbiFault;
 use cm_layout::Layout;
 use cm_layout::laws::layouts;
-use cm_lift::{Passed, number_32};
-use cm_lifting::Stop;
-use cm_lifting::laws::numbers_are_sized;
-use cm_scan::laws::handles_stay_met;
-use cm_scan::{PartKind, PartRecord, Scan, Scanner, scan_value};
+use cm_lift::{Passed, make_flat, number_32};
+use cm_lifting::laws::{handles_stay_met, numbers_are_sized};
+use cm_lifting::{Reader, Stop};
+use cm_scan::{PartKind, PartRecord, Recorder, Scan, Scanner, scan_value};
+use cm_types::CoreValue;
 
 /// Scans the tuple of the values that are passed.
 pub(crate) fn scan_passed(
@@ -92,4 +91,39 @@ fn scan_spilled(
         Err(AbiFault::EngineMemory) => Err(Stop::Memory),
         Err(fault) => Err(Stop::Fault(fault)),
     }
+}
+
+/// Scans what a layout has in the first of these core values.
+fn scan_flat(
+    scanner: &Scanner<'_>,
+    layout: &Layout,
+    slots: &[CoreValue],
+    scan: &mut Scan,
+) -> Result<(), Stop>
+    requires ready { IsReady (layout_of layout.now).shape }
+    requires few { length scanner.now.giver.memory.now < 2 ^ 62 }
+    ensures reads { Scans
+        (flat_records (source_of scanner.now.giver) scanner.now.target (layout_of layout.now).shape
+        slots.now)
+        (read_flat (source_of scanner.now.giver) (layout_of layout.now).shape slots.now)
+        scan.old scan.new result }
+    ensures keeps { ScansToKeep
+        (flat_records (source_of scanner.now.giver) scanner.now.target (layout_of layout.now).shape
+        slots.now)
+        (read_flat (source_of scanner.now.giver) (layout_of layout.now).shape slots.now)
+        scan.old result }
+{
+    let reader = Reader {
+        giver: scanner.giver,
+        maker: Recorder {
+            target: scanner.target,
+        },
+    };
+    make_flat(
+        &reader,
+        layout,
+        slots,
+        &mut scan.progress,
+        &mut scan.records,
+    )
 }

@@ -1,21 +1,27 @@
-use Rattle.std.proofs.Common.{◌≡◌, ◌-◌, map, drop}
+use Rattle.std.proofs.Common.{◌-◌, map, drop}
 use Rattle.cm_layout.specs.Layouts.{layout_of, part_of}
 use Rattle.cm_layout.specs.Shapes.{parts_from}
-use Rattle.cm_values.specs.ValueTrees.{value_of}
 use Rattle.cm_lifting.specs.Outcomes.{state_of}
 use Rattle.cm_lifting.specs.Reading.{source_of}
 use Rattle.cm_lift.specs.FlatReading.{ArePartsReady, read_flat, read_flat_each, read_flat_parts}
-use Rattle.cm_lift.proofs.WalkLemmas.{with_front}
+use Rattle.cm_lift.specs.FlatRecords.{flat_records, flat_records_each, flat_records_of_fields}
+use Rattle.cm_lift.proofs.MakingLemmas.{Going}
 use Rattle.cm_lift.proofs.walk.+walking.Given as goal
 
--- the values so far, and those still to be read, are all of them
-abbrev pub invariant-lift_each-loop : goal.invariant-lift_each-loop
-invariant-lift_each-loop l =
-    with_front (map value_of l.values.items) (read_flat_each (read_flat (source_of l.giver) (layout_of l.element).shape) (layout_of l.element).head.width (l.count - l.counter) l.rest (state_of l.progress))
-    ≡ read_flat_each (read_flat (source_of l.giver) (layout_of l.element).shape) (layout_of l.element).head.width l.count l.slots (state_of l.initial.progress)
+-- what was made so far, and what is still to be read, are all of it
+abbrev pub invariant-make_each-loop : goal.invariant-make_each-loop
+invariant-make_each-loop g l =
+    Going g.M.Maker.stand g.M.Maker.keeps l.row l.initial.kept l.kept (state_of l.initial.progress) (state_of l.progress)
+    (read_flat_each (read_flat (source_of l.reader.giver) (layout_of l.element).shape) (layout_of l.element).head.width l.count l.slots (state_of l.initial.progress))
+    (read_flat_each (read_flat (source_of l.reader.giver) (layout_of l.element).shape) (layout_of l.element).head.width (l.count - l.counter) l.rest (state_of l.progress))
+    (flat_records_each (flat_records (source_of l.reader.giver) (g.M.Maker.target l.reader.maker) (layout_of l.element).shape) (layout_of l.element).head.width l.slots)
+    (flat_records_each (flat_records (source_of l.reader.giver) (g.M.Maker.target l.reader.maker) (layout_of l.element).shape) (layout_of l.element).head.width l.rest)
 
-abbrev pub invariant-lift_parts-loop-part : goal.invariant-lift_parts-loop-part
-invariant-lift_parts-loop-part l =
+abbrev pub invariant-make_fields-loop-part : goal.invariant-make_fields-loop-part
+invariant-make_fields-loop-part g l =
     ArePartsReady (parts_from (map part_of (drop l.part-index l.parts)))
-    × (with_front (map value_of l.values.items) (read_flat_parts (source_of l.giver) (parts_from (map part_of (drop l.part-index l.parts))) l.rest (state_of l.progress))
-    ≡ read_flat_parts (source_of l.giver) (parts_from (map part_of l.parts)) l.slots (state_of l.initial.progress))
+    × Going g.M.Maker.stand g.M.Maker.keeps l.row l.initial.kept l.kept (state_of l.initial.progress) (state_of l.progress)
+    (read_flat_parts (source_of l.reader.giver) (parts_from (map part_of l.parts)) l.slots (state_of l.initial.progress))
+    (read_flat_parts (source_of l.reader.giver) (parts_from (map part_of (drop l.part-index l.parts))) l.rest (state_of l.progress))
+    (flat_records_of_fields (source_of l.reader.giver) (g.M.Maker.target l.reader.maker) (parts_from (map part_of l.parts)) l.slots)
+    (flat_records_of_fields (source_of l.reader.giver) (g.M.Maker.target l.reader.maker) (parts_from (map part_of (drop l.part-index l.parts))) l.rest)

@@ -2,7 +2,7 @@ use Rattle.std.proofs.Common.{ap, sym, subst}
 use Rattle.cm_layout.specs.Shapes.{LayoutTy, shape_of_type}
 use Rattle.cm_layout.specs.Sizes.{size_of}
 use Rattle.cm_lift.specs.FlatReading.{IsReady}
-use Rattle.cm_scan_call.proofs.FlatLemmas.{laid_ready}
+use Rattle.cm_scan_call.proofs.ReadyLemmas.{laid_ready}
 use Rattle.cm_scan_call.proofs.passed.scan_passed.Goals as goal
 
 pub scan_flat-requires-clause-ready : goal.scan_flat-requires-clause-ready

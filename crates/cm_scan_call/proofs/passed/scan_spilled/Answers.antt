@@ -6,7 +6,7 @@ use Rattle.cm_lifting.specs.Outcomes.{state_of}
 use Rattle.cm_lifting.specs.Reading.{source_of}
 use Rattle.cm_lift.specs.FlatReading.{read_spilled}
 use Rattle.cm_layout.specs.declared.layouts.Layout.{the_lemmas}
-use Rattle.cm_scan_call.proofs.FlatKeepLemmas.{any_stop, spilled_ok, spilled_wanted}
+use Rattle.cm_scan_call.proofs.SpilledLemmas.{any_stop, spilled_ok, spilled_wanted}
 use Rattle.cm_scan_call.proofs.SeenLayouts.{seen_size}
 use Rattle.cm_scan_call.proofs.passed.scan_spilled.Goals as goal
 
