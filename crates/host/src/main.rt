@@ -7,7 +7,7 @@ use cm_machine::{Event, Guest, Move, Player, Set};
 use cm_match::link;
 use cm_types::CoreValue;
 use cm_validate::{Checked, validate};
-use std::alloc::{AllocError, Global};
+use std::alloc::Global;
 use std::{fs, rt};
 
 /// A guest that adds one: where it is entered with a number, it answers the next one. As the root
@@ -47,27 +47,31 @@ fn load<R: rt::Files + AllocGlobal>(rt: &R, name: &str) -> Result<Component> {
     Ok(cm_binary::decode(rt.alloc(), bytes.as_slice())?)
 }
 
-/// The list of two components.
-fn pair<'a>(
+/// Two components, each of which is to be valid.
+fn validated<'a>(
     alloc: Global,
-    first: Checked<'a>,
-    second: Checked<'a>,
-) -> Result<Vec<Checked<'a>>, AllocError> {
-    let mut components = Vec::with_capacity(alloc, 2)?;
-    components.push(first)?;
-    components.push(second)?;
+    provider: &'a Component,
+    user: &'a Component,
+) -> Result<Vec<Checked<'a>>> {
+    let mut components = Vec::new(alloc);
+    components.push(validate(alloc, provider)?)?;
+    components.push(validate(alloc, user)?)?;
     Ok(components)
 }
 
 /// What happens where the user is the root and calls the provider, both with such a guest.
 fn play(alloc: Global, provider: &Component, user: &Component) -> Result<Vec<Event>> {
-    let components = pair(alloc, validate(alloc, provider)?, validate(alloc, user)?)?;
-    let linked = link(alloc, components)?;
+    let linked = link(alloc, validated(alloc, provider, user)?)?;
     let mut set = Set::new(alloc, &linked, &[0, 0])?;
+    drive(alloc, &mut set)
+}
+
+/// Drives instance 1 as the root, for a hundred moves at most.
+fn drive(alloc: Global, set: &mut Set) -> Result<Vec<Event>> {
     let adds: Box<dyn Guest> = Box::new(alloc, AddOne(alloc))?;
     let calls: Box<dyn Guest> = Box::new(alloc, AddOne(alloc))?;
     let mut seats = Vec::from_array(alloc, [Some(adds), Some(calls)])?;
-    Ok(Player::drive(alloc, &mut set, &mut seats, 1, 100)?)
+    Ok(Player::drive(alloc, set, &mut seats, 1, 100)?)
 }
 
 fn main(rt: HostRuntime) -> Result<()> {
