@@ -13,8 +13,8 @@ use crate::call_laws::what_is_denoted_is_copied;
 use crate::slots::Slots;
 use cm_copying::{Copier, copy_value};
 use cm_lift::{Passed, number_32};
+use cm_passing::pass_value;
 use cm_stored::Next;
-use cm_storing::pass_value;
 
 /// Copies the values that core values pass, by the layout of the tuple of their types, from the
 /// memory of their giver into that of a receiver, and puts the numbers that pass them on into

@@ -21,8 +21,8 @@ use cm_giving::{Receiver, give_values};
 use cm_handles::Table;
 use cm_lowering::laws::{answers_place_parts, what_is_typed_can_be_lowered};
 use cm_lowering::{check_answers, requests};
+use cm_passing::store_call;
 use cm_stored::Target;
-use cm_storing::store_call;
 use cm_types::CoreValue;
 use std::alloc::Global;
 

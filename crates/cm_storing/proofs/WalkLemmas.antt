@@ -1,27 +1,20 @@
 -- Bytes of values from any source, one value after another.
 use Rattle.std.proofs.Common.{◌≡◌, ℕ, zero, suc, ◌+◌, ◌*◌, ◌-◌, ◌<◌, ◌≤◌, List, [], ◌∷◌, ◌++◌, length, map, drop, refl, sym, ap, ◌∙◌, arith, get_or, drop-cons, add-one, Some, None, Option}
 use Rattle.std.specs.Prelude.{⊤, slice_set}
-use Rattle.cm_types.specs.Types.{Fields}
 use Rattle.cm_types.specs.Values.{Val, Vals, val}
 use Rattle.cm_layout.specs.Laid.{Laid, PartsLaid, PayloadsLaid}
 use Rattle.cm_layout.specs.Layouts.{nothings, part_of}
-use Rattle.cm_layout.specs.Shapes.{LayoutTy, Parts, Payloads, Shape, cases_shape, fields_shape, layout_of_fields_at, no_parts, part, no_payloads, nothing, carried, parts_at, parts_from, payload_before, payloads_from}
+use Rattle.cm_layout.specs.Shapes.{LayoutTy, Parts, Payloads, Shape, cases_shape, no_parts, part, no_payloads, nothing, carried, parts_from, payload_before, payloads_from}
 use Rattle.cm_layout.specs.declared.layouts.Part.{Part as CodedPart}
 use Rattle.cm_abi_model.specs.Parts.{handle_count, handle_count_each, part_count, part_count_each}
-use Rattle.cm_abi_model.specs.Receives.{behind_each, put}
 use Rattle.cm_abi_model.specs.Stores.{Given, Placed, Storing, bytes_of, placed, poke, store_each}
 use Rattle.cm_stored.specs.Fitting.{PayloadLies}
-use Rattle.cm_stored.specs.FlatLowering.{ArePassedIn, IsPassedIn, PayloadIsPassed, PayloadsPassedIn, behind_by, behind_by_case, behind_by_fields, behind_by_payload, slots_by, slots_by_case, slots_by_fields, slots_by_payload}
 use Rattle.cm_stored.specs.Storing.{stored_by, stored_by_case, stored_by_fields, stored_by_payload}
-use Rattle.cm_storing.specs.Sources.{carried_behind, carried_bytes, carried_slots, case_told, payload_in}
+use Rattle.cm_storing.specs.Sources.{carried_bytes, case_told, payload_in}
 
 pub poke_both : (xs ys : List Placed) (m : List ℕ) → poke (xs ++ ys) m ≡ poke ys (poke xs m)
 poke_both [] ys m = refl
 poke_both (x ∷ xs) ys m = poke_both xs ys (slice_set m x.0 x.1)
-
--- a tuple has fields
-pub tuple_shape : (l : LayoutTy) (types : Fields) → l ≡ layout_of_fields_at types → (ps : Parts) × (l.shape ≡ fields_shape ps)
-tuple_shape l types is = (parts_from (parts_at types 0), ap (λ (x : LayoutTy). x.shape) is)
 
 -- ---- values in a row
 
@@ -46,14 +39,6 @@ pub next_stored : (S : Storing) (size : ℕ) (v : Val) (vs rest : Vals) (p q k h
 next_stored S size v vs rest p q k h l j m after total is q_is l_is j_is stored so_far =
     let next : poke (S v p k h ++ store_each S size rest (p + size) (k + part_count v) (h + handle_count v)) m ≡ total = rw is at so_far in
     rw (q_is, l_is, j_is, stored) (sym (poke_both (S v p k h) _ m) ∙ next)
-
--- and what is behind another value that is passed
-pub next_behind : (B : Val → ℕ → ℕ → List Placed) (v : Val) (vs rest : Vals) (k h l j : ℕ) (m after total : List ℕ) → vs ≡ val v rest
-    → l ≡ k + part_count v → j ≡ h + handle_count v → after ≡ poke (B v k h) m
-    → poke (behind_each B vs k h) m ≡ total → poke (behind_each B rest l j) after ≡ total
-next_behind B v vs rest k h l j m after total is l_is j_is stored so_far =
-    let next : poke (B v k h ++ behind_each B rest (k + part_count v) (h + handle_count v)) m ≡ total = rw is at so_far in
-    rw (l_is, j_is, stored) (sym (poke_both (B v k h) _ m) ∙ next)
 
 pub next_parts : (v : Val) (vs rest : Vals) (k l total : ℕ) → vs ≡ val v rest → l ≡ k + part_count v → k + part_count_each vs ≡ total → l + part_count_each rest ≡ total
 next_parts v vs rest k l total is l_is so_far =
@@ -93,31 +78,6 @@ pub field_stored : (g : Given) (p : ℕ × LayoutTy) (ps : Parts) (v : Val) (all
 field_stored g p ps v all vs at k h l j m after total is l_is j_is stored so_far =
     let next : poke (stored_by g p.1.shape v (at + p.0) k h ++ stored_by_fields g ps vs at (k + part_count v) (h + handle_count v)) m ≡ total = rw is at so_far in
     rw (l_is, j_is, stored) (sym (poke_both (stored_by g p.1.shape v (at + p.0) k h) _ m) ∙ next)
-
--- fields are passed in slots from this one on, of so many
-abbrev pub PartsPass : ℕ → ℕ → Parts → Type 0
-PartsPass n s no_parts = ⊤
-PartsPass n s (part o e x ps) = (s + e.width ≤ n) × IsPassedIn e.width x × PartsPass n (s + e.width) ps
-
-pub parts_pass : (n at width s j : ℕ) (ps : Parts) → at + width ≤ n → j ≡ at + s → ArePassedIn width s ps → PartsPass n j ps
-parts_pass n at width s j no_parts inside is passed = tt
-parts_pass n at width s j (part o e x ps) inside is passed =
-    (omega (arith, inside, is, passed.0), passed.1, parts_pass n at width (s + e.width) (j + e.width) ps inside (omega (arith, is)) passed.2)
-
--- another field was passed
-pub field_passed : (g : Given) (p : ℕ × LayoutTy) (ps : Parts) (v : Val) (all vs : Vals) (s q k h l j : ℕ) (m after total : List ℕ) → all ≡ val v vs → q ≡ s + p.1.head.width
-    → l ≡ k + part_count v → j ≡ h + handle_count v → after ≡ poke (slots_by g p.1.shape v s k h) m
-    → poke (slots_by_fields g (part p.0 p.1.head p.1.shape ps) all s k h) m ≡ total → poke (slots_by_fields g ps vs q l j) after ≡ total
-field_passed g p ps v all vs s q k h l j m after total is q_is l_is j_is stored so_far =
-    let next : poke (slots_by g p.1.shape v s k h ++ slots_by_fields g ps vs (s + p.1.head.width) (k + part_count v) (h + handle_count v)) m ≡ total = rw is at so_far in
-    rw (q_is, l_is, j_is, stored) (sym (poke_both (slots_by g p.1.shape v s k h) _ m) ∙ next)
-
-pub field_behind : (g : Given) (p : ℕ × LayoutTy) (ps : Parts) (v : Val) (all vs : Vals) (k h l j : ℕ) (m after total : List ℕ) → all ≡ val v vs
-    → l ≡ k + part_count v → j ≡ h + handle_count v → after ≡ poke (behind_by g p.1.shape v k h) m
-    → poke (behind_by_fields g (part p.0 p.1.head p.1.shape ps) all k h) m ≡ total → poke (behind_by_fields g ps vs l j) after ≡ total
-field_behind g p ps v all vs k h l j m after total is l_is j_is stored so_far =
-    let next : poke (behind_by g p.1.shape v k h ++ behind_by_fields g ps vs (k + part_count v) (h + handle_count v)) m ≡ total = rw is at so_far in
-    rw (l_is, j_is, stored) (sym (poke_both (behind_by g p.1.shape v k h) _ m) ∙ next)
 
 -- ---- cases
 
@@ -170,51 +130,6 @@ case_both V g d o ps i s p k h m = go (payload_in ps i) s (case_stored g ps i)
     go None s same = refl
     go (Some l) None same = refl
     go (Some l) (Some s) same = rw (same (V s l.shape) (p + o) k h) (sym (poke_both (placed p (bytes_of d i)) _ m))
-
--- the same in slots
-case_slots : (g : Given) (ps : Payloads) (i : ℕ) (v : Val) (s k h : ℕ) → slots_by_case g ps i v s k h ≡ slots_by_payload g (payload_in ps i) v s k h
-case_slots g no_payloads i v s k h = refl
-case_slots g (nothing ps) zero v s k h = refl
-case_slots g (nothing ps) (suc i) v s k h = case_slots g ps i v s k h
-case_slots g (carried e sh ps) zero v s k h = refl
-case_slots g (carried e sh ps) (suc i) v s k h = case_slots g ps i v s k h
-
-case_behind : (g : Given) (ps : Payloads) (i : ℕ) (v : Val) (k h : ℕ) → behind_by_case g ps i v k h ≡ behind_by_payload g (payload_in ps i) v k h
-case_behind g no_payloads i v k h = refl
-case_behind g (nothing ps) zero v k h = refl
-case_behind g (nothing ps) (suc i) v k h = case_behind g ps i v k h
-case_behind g (carried e sh ps) zero v k h = refl
-case_behind g (carried e sh ps) (suc i) v k h = case_behind g ps i v k h
-
-pub payload_passes : (n at width : ℕ) (ps : Payloads) (i : ℕ) → at + width ≤ n → PayloadsPassedIn width ps → PayloadIsPassed n (at + 1) (payload_in ps i)
-payload_passes n at width no_payloads i inside passed = tt
-payload_passes n at width (nothing ps) zero inside passed = tt
-payload_passes n at width (nothing ps) (suc i) inside passed = payload_passes n at width ps i inside passed
-payload_passes n at width (carried e sh ps) zero inside passed = (omega (arith, inside, passed.0), passed.1)
-payload_passes n at width (carried e sh ps) (suc i) inside passed = payload_passes n at width ps i inside passed.2
-
-number_passed : {S : Type 0} (V : S → Shape → Val) (g : Given) (d o : ℕ) (ps : Payloads) (i : ℕ) (l : Option LayoutTy) (x : Option S) (s k h : ℕ) (m : List ℕ)
-    → ((v : Val) (s k h : ℕ) → slots_by_case g ps i v s k h ≡ slots_by_payload g l v s k h)
-    → poke (carried_slots g l (case_told V 0 l x) (s + 1) k h) (poke (put s i) m) ≡ poke (slots_by g (cases_shape d o ps) (case_told V i l x) s k h) m
-number_passed V g d o ps i None x s k h m same = refl
-number_passed V g d o ps i (Some l) None s k h m same = refl
-number_passed V g d o ps i (Some l) (Some y) s k h m same = rw (same (V y l.shape) (s + 1) k h) (sym (poke_both (put s i) (slots_by_payload g (Some l) (V y l.shape) (s + 1) k h) m))
-
-pub case_passed : {S : Type 0} (V : S → Shape → Val) (g : Given) (d o : ℕ) (ps : Payloads) (i : ℕ) (x : Option S) (s k h : ℕ) (m : List ℕ)
-    → poke (carried_slots g (payload_in ps i) (case_told V 0 (payload_in ps i) x) (s + 1) k h) (poke (put s i) m)
-    ≡ poke (slots_by g (cases_shape d o ps) (case_told V i (payload_in ps i) x) s k h) m
-case_passed V g d o ps i x s k h m = number_passed V g d o ps i (payload_in ps i) x s k h m (case_slots g ps i)
-
-carried_passed : {S : Type 0} (V : S → Shape → Val) (g : Given) (d o : ℕ) (ps : Payloads) (i : ℕ) (l : Option LayoutTy) (x : Option S) (k h : ℕ)
-    → ((v : Val) (k h : ℕ) → behind_by_case g ps i v k h ≡ behind_by_payload g l v k h)
-    → carried_behind g l (case_told V 0 l x) k h ≡ behind_by g (cases_shape d o ps) (case_told V i l x) k h
-carried_passed V g d o ps i None x k h same = refl
-carried_passed V g d o ps i (Some l) None k h same = refl
-carried_passed V g d o ps i (Some l) (Some y) k h same = sym (same (V y l.shape) k h)
-
-pub behind_passed : {S : Type 0} (V : S → Shape → Val) (g : Given) (d o : ℕ) (ps : Payloads) (i : ℕ) (x : Option S) (k h : ℕ)
-    → carried_behind g (payload_in ps i) (case_told V 0 (payload_in ps i) x) k h ≡ behind_by g (cases_shape d o ps) (case_told V i (payload_in ps i) x) k h
-behind_passed V g d o ps i x k h = carried_passed V g d o ps i (payload_in ps i) x k h (case_behind g ps i)
 
 pub case_parts : {S : Type 0} (V : S → Shape → Val) (i : ℕ) (l : Option LayoutTy) (s : Option S) → part_count (case_told V i l s) ≡ part_count (case_told V 0 l s)
 case_parts V i None s = refl

@@ -312,9 +312,11 @@ fn store_record<S: StoredSource>(
     store_fields::<S>(to, memory, parts, fields, at, size, next);
 }
 
-/// Stores the fields of a record or a tuple of so many bytes.
+/// Stores the fields of a record or a tuple of so many bytes, each at its offset behind an address
+/// (CanonicalABI.md, "Storing" of records). The next part and the next handle are then those behind
+/// the fields'; it takes no memory.
 #[cycle(storing)]
-pub(crate) fn store_fields<S: StoredSource>(
+pub fn store_fields<S: StoredSource>(
     to: &Target<'_>,
     memory: &mut [u8],
     parts: &[Part],

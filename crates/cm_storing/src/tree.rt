@@ -13,16 +13,18 @@ use cm_layout::{Layout, Leaf, Part};
 use cm_stored::{stored_size, write_text};
 use cm_values::Value;
 
-/// A value, as a tree.
+/// A value, as a tree: a source of what is stored in a memory and of what is passed in slots.
 #[derive(Clone, Copy)]
-pub(crate) struct Tree<'a> {
-    pub(crate) value: &'a Value,
+pub struct Tree<'a> {
+    /// The value.
+    pub value: &'a Value,
 }
 
-/// The elements or the fields of a value that are still to come.
+/// The elements or the fields of a value, each a tree, that are still to come.
 #[derive(Clone, Copy)]
-pub(crate) struct Trees<'a> {
-    pub(crate) values: &'a [Value],
+pub struct Trees<'a> {
+    /// The values, in order.
+    pub values: &'a [Value],
 }
 
 impl<'a> ValueSource for Tree<'a> {

@@ -11,9 +11,9 @@ use Rattle.cm_abi_model.specs.Stores.{poke}
 use Rattle.cm_stored.specs.FlatLowering.{IsPassedIn, PayloadIsPassed, behind_by, slots_by}
 use Rattle.cm_stored.specs.Storing.{given_of}
 use Rattle.cm_storing.specs.Sources.{IsCarriedReady, field_before}
-use Rattle.cm_storing.proofs.SeenLayouts.{seen_Cases, seen_Record, seen_head, seen_shape}
-use Rattle.cm_storing.proofs.WalkLemmas.{PartsPass, behind_passed, case_handles, case_parts, case_passed, field_behind, field_passed, next_behind, next_handles, next_parts, next_stored, parts_next, parts_pass, payload_is, payload_passes, payload_past, row_inside, step_on}
-use Rattle.cm_storing.proofs.passing.+passing.Goals as goal
+use Rattle.cm_passing.proofs.SeenLayouts.{seen_Cases, seen_Record, seen_head, seen_shape}
+use Rattle.cm_passing.proofs.WalkLemmas.{PartsPass, behind_passed, case_handles, case_parts, case_passed, field_behind, field_passed, next_behind, next_handles, next_parts, next_stored, parts_next, parts_pass, payload_is, payload_passes, payload_past, row_inside, step_on}
+use Rattle.cm_passing.proofs.passing.+passing.Goals as goal
 
 pub pass_value-pass_record-requires : goal.pass_value-pass_record-requires
 pass_value-pass_record-requires g t c κs within =

@@ -19,12 +19,11 @@ ghost use Rattle.cm_stored.specs.Storing.{given_of};
 ghost use Rattle.cm_storing.specs.Sources.{IsCarriedReady, carried_behind, carried_slots};
 ghost use Rattle.cm_storing.specs.Sources.{case_told};
 
-use crate::source::{PassedSource, ValueSource};
-use crate::storing::store_row;
 use cm_layout::{Form, HandleType, Layout, Leaf, Part, Payload};
 use cm_stored::{
     Next, Target, field_width, number_passed, pass_handle, pass_pointer, units_stored,
 };
+use cm_storing::{PassedSource, ValueSource, store_row};
 
 /// Passes a leaf.
 fn pass_leaf<S: ValueSource>(slots: &mut [u64], leaf: Leaf, source: S, at: usize)

@@ -6,8 +6,8 @@ use Rattle.cm_abi_model.specs.Receives.{behind_each}
 use Rattle.cm_abi_model.specs.Stores.{poke, store_each}
 use Rattle.cm_stored.specs.FlatLowering.{behind_by, behind_by_fields, slots_by, slots_by_fields}
 use Rattle.cm_stored.specs.Storing.{given_of}
-use Rattle.cm_storing.proofs.WalkLemmas.{PartsPass}
-use Rattle.cm_storing.proofs.passing.+passing.Given as goal
+use Rattle.cm_passing.proofs.WalkLemmas.{PartsPass}
+use Rattle.cm_passing.proofs.passing.+passing.Given as goal
 
 -- what was passed, and what is still to be passed, is all of it
 abbrev pub invariant-pass_row-loop : goal.invariant-pass_row-loop

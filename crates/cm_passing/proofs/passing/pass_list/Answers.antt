@@ -1,6 +1,6 @@
 use Rattle.std.proofs.Common.{refl}
 use Rattle.cm_stored.specs.Storing.{given_of}
-use Rattle.cm_storing.proofs.passing.pass_list.Goals as goal
+use Rattle.cm_passing.proofs.passing.pass_list.Goals as goal
 
 pub store_row-requires-clause-inside : goal.store_row-requires-clause-inside
 store_row-requires-clause-inside g c =

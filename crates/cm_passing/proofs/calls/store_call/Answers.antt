@@ -5,9 +5,9 @@ use Rattle.cm_layout.specs.declared.heads.Head.{Head}
 use Rattle.cm_values.specs.ValueTrees.{values_of}
 use Rattle.cm_abi_model.specs.Stores.{poke}
 use Rattle.cm_stored.specs.Storing.{given_of}
-use Rattle.cm_storing.proofs.WalkLemmas.{tuple_shape}
-use Rattle.cm_storing.proofs.SeenLayouts.{seen_head}
-use Rattle.cm_storing.proofs.calls.store_call.Goals as goal
+use Rattle.cm_passing.proofs.WalkLemmas.{tuple_shape}
+use Rattle.cm_passing.proofs.SeenLayouts.{seen_head}
+use Rattle.cm_passing.proofs.calls.store_call.Goals as goal
 
 pub store_tuple-requires-clause-tuple : goal.store_tuple-requires-clause-tuple
 store_tuple-requires-clause-tuple c = tuple_shape (layout_of c.args.layout.now) c.requires.1 c.requires.3

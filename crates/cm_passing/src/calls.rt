@@ -17,11 +17,10 @@ ghost use Rattle.cm_stored.specs.FlatLowering.{IsPassedIn, behind_by, slots_by};
 ghost use Rattle.cm_stored.specs.Storing.{given_of, stored_by};
 
 use crate::passing::pass_fields;
-use crate::storing::store_fields;
-use crate::tree::{Tree, Trees};
 use cm_layout::{Form, Layout, Part};
 use cm_stored::laws::{flat_tuples_are_passed, spilled_tuples_are_stored};
 use cm_stored::{Next, Target};
+use cm_storing::{Tree, Trees, store_fields};
 use cm_values::Value;
 
 /// The fields of the layout of a tuple.

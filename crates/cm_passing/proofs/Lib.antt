@@ -1,0 +1,2 @@
+pub mod SeenLayouts
+pub mod WalkLemmas
