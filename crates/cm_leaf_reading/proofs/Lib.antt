@@ -1,1 +1,5 @@
 mod LeafLemmas
+mod Seen
+mod SlotLemmas
+pub mod TextLemmas
+mod MeasureLemmas

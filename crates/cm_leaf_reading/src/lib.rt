@@ -1,19 +1,25 @@
-//! The leaves of values, their handles and what their pointers lead to, read from memory
-//! (CanonicalABI.md, "Loading"); and how far a reader of values has come.
+//! The leaves, the strings and the handles of values, and what their pointers lead to, read from
+//! memory (CanonicalABI.md, "Loading"); the numbers in core values; and how far a reader of values
+//! has come.
 #![tactic(auto)]
 
 mod giver;
 mod handles;
 mod leaves;
+mod measures;
 mod numbers;
 mod progress;
 mod regions;
+pub mod slots;
 mod stop;
+mod texts;
 
 pub use giver::Giver;
 pub use handles::load_handle;
 pub use leaves::{core_size, leaf_size, leaf_value};
+pub use measures::measure_text;
 pub use numbers::{number_32, number_at};
 pub use progress::{MetHandle, Progress};
 pub use regions::check_region;
 pub use stop::Stop;
+pub use texts::load_text;

@@ -1,4 +1,3 @@
-pub mod SlotLemmas
 pub mod Seen
 pub mod MakingLemmas
 pub mod WalkLemmas

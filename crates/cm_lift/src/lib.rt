@@ -6,11 +6,10 @@ mod handing;
 pub mod laws;
 mod lifted;
 mod passed;
-mod slots;
 mod walk;
 
+pub use cm_leaf_reading::slots::{behind, number_32, wrapped_at};
 pub use handing::{Handed, hand_over};
 pub use lifted::{Lifted, first_fault, lift};
 pub use passed::Passed;
-pub use slots::{behind, number_32, wrapped_at};
 pub use walk::make_flat;

@@ -11,11 +11,11 @@ ghost use Rattle.cm_lifting.specs.Outcomes.{Reads, state_of};
 ghost use Rattle.cm_lifting.specs.Reading.{source_of};
 ghost use Rattle.cm_lift.specs.FlatReading.{IsReady, read_flat, read_passed, read_spilled};
 
-use crate::slots::number_32;
 use crate::walk::make_flat;
 use cm_abi_model::{AbiFault, Way};
 use cm_layout::Layout;
 use cm_layout::laws::layouts;
+use cm_leaf_reading::slots::number_32;
 use cm_lifting::laws::numbers_are_sized;
 use cm_lifting::{Giver, Progress, Reader, Stop, Trees, load_value};
 use cm_types::CoreValue;

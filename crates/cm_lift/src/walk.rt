@@ -20,9 +20,9 @@ ghost use Rattle.cm_lift.specs.FlatRecords.{flat_records, flat_records_each};
 ghost use Rattle.cm_lift.specs.FlatRecords.{flat_records_of_cases, flat_records_of_fields};
 ghost use Rattle.cm_lift.specs.FlatRecords.{flat_records_of_payload};
 
-use crate::slots::{behind, number_32, wrapped_at};
 use cm_abi_model::AbiFault;
 use cm_layout::{Form, Layout, Leaf, Part, Payload};
+use cm_leaf_reading::slots::{behind, number_32, wrapped_at};
 use cm_lifting::laws::handles_stay_met;
 use cm_lifting::{
     Maker, Progress, Reader, Stop, core_size, is_plain_leaf, leaf_value, make_handle, make_list,

@@ -23,13 +23,13 @@ use Rattle.cm_abi_model.specs.Views.{View}
 use Rattle.cm_abi_model.specs.declared.encoding.StringEncoding.{StringEncoding}
 use Rattle.cm_abi_model.specs.declared.fault.AbiFault.{AbiFault}
 use Rattle.cm_abi_model.specs.declared.fault.AbiFault.TheVariants as fault
-use Rattle.cm_lifting.specs.Decoded.{decoded}
+use Rattle.cm_leaf_reading.specs.Decoded.{decoded}
 use Rattle.cm_leaf_reading.specs.Outcomes.{Outcome, State, mapped, ◌>>=◌}
 use Rattle.cm_lifting.specs.Reading.{Source, after_meeting, after_text, read_at, read_case, read_each, read_elements, read_handle, read_parts, read_text, region, seen_by, text_value, value_of_handle}
 use Rattle.cm_lifting.proofs.MeetLaws.{content_both}
 use Rattle.cm_lifting.proofs.ReadLaws.{Told, as_handle, read_shows}
 use Rattle.cm_lifting.proofs.ShownLaws.{IsTold, read_err, read_ok}
-use Rattle.cm_lifting.proofs.TextLemmas.{found_1, found_16, found_8}
+use Rattle.cm_leaf_reading.proofs.TextLemmas.{found_1, found_16, found_8}
 
 -- reading comes to a value
 pub record Found {A : Type 0} (r : Outcome A) (v : A) : Type 0 where

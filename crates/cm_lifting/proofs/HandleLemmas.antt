@@ -19,7 +19,7 @@ use Rattle.cm_abi_model.specs.declared.encoding.StringEncoding.{StringEncoding}
 use Rattle.cm_abi_model.specs.Numbers.{number_at}
 use Rattle.cm_abi_model.specs.Texts.{bytes_from, charset_of, text_align, text_size}
 use Rattle.cm_leaf_reading.specs.Outcomes.{Outcome, State, mapped, ◌>>=◌}
-use Rattle.cm_lifting.specs.Decoded.{decoded}
+use Rattle.cm_leaf_reading.specs.Decoded.{decoded}
 use Rattle.cm_lifting.specs.Making.{KeepsHandles}
 use Rattle.cm_lifting.specs.Reading.{Source, after_meeting, after_text, handle_value, leaf_value, read_at, read_case, read_each, read_elements, read_handle, read_parts, read_text, region, resource_of, text_value}
 

@@ -3,7 +3,6 @@ pub mod HandleLemmas
 pub mod MakingLemmas
 pub mod CaseLemmas
 pub mod TreeLemmas
-pub mod TextLemmas
 pub mod Seen
 pub mod SeenLayouts
 pub mod SizedLaws
@@ -12,4 +11,3 @@ pub mod ShownLaws
 pub mod ReadLaws
 pub mod FoundLaws
 pub mod PartLemmas
-pub mod MeasureLemmas

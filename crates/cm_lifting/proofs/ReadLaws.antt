@@ -21,20 +21,24 @@ use Rattle.cm_abi_model.specs.Texts.{ShowsText, bytes_from, charset_of, text_ali
 use Rattle.cm_abi_model.specs.Views.{View}
 use Rattle.cm_abi_model.specs.declared.fault.AbiFault.{AbiFault}
 use Rattle.cm_abi_model.specs.declared.encoding.StringEncoding.{StringEncoding}
-use Rattle.cm_lifting.specs.Decoded.{decoded}
+use Rattle.cm_leaf_reading.specs.Decoded.{decoded}
 use Rattle.cm_abi_model.specs.Taken.{lent, met_at, met_in_fields, met_in_payload, taken}
 use Rattle.cm_lifting.specs.Meeting.{Meets}
 use Rattle.cm_leaf_reading.specs.Outcomes.{State, mapped}
 use Rattle.cm_lifting.specs.Reading.{after_meeting, after_text, handle_value, read_at, read_case, read_each, read_elements, read_handle, read_parts, read_text, region, seen_by, text_value, value_of_handle}
+use Rattle.cm_leaf_reading.proofs.TextLemmas.{text_is}
 use Rattle.cm_lifting.proofs.MeetLaws.{meets_both, meets_borrow, meets_none, meets_own, meets_text}
 use Rattle.cm_lifting.proofs.ShownLaws.{bind_ok, char_ok, each_shown, elements_shown, mapped_ok, moved, read_ok, region_ok}
-use Rattle.cm_lifting.proofs.TextLemmas.{text_found, text_is}
 
 -- what is read at an address is shown there, and what is met in it is told
 abbrev pub Told : View → Ty → ℕ → State → Val → State → Type 0
 Told w t p s v after = Shows w t p v × Meets w.table s after (met_at w t p v)
 
 -- strings
+text_found : (P : Val → State → Type 0) (d : Option (List ℕ)) (s t : State) (v : Val) → text_value d s ≡ Ok (v, t) → ((cs : List ℕ) → d ≡ Some cs → P (text cs) s) → P v t
+text_found P None s t v e h = absurd (cc)
+text_found P (Some cs) s t v e h = moved P (text cs) v s t e (h cs refl)
+
 pub text_shown : (P : Val → State → Type 0) (memory : List ℕ) (e : StringEncoding) (at n : ℕ) (s t : State) (v : Val) → read_text memory e at n s ≡ Ok (v, t)
     → ((cs : List ℕ) → ShowsText e memory at n cs → text_size e n ≤ s.left → P (text cs) (after_text e n (record s { left = s.left - text_size e n }))) → P v t
 unfolding read_text

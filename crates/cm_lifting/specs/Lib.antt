@@ -1,6 +1,8 @@
 pub use Rattle.cm_leaf_reading.specs as cm_leaf_reading
+pub use Rattle.cm_leaf_reading.specs.Decoded
 pub use Rattle.cm_leaf_reading.specs.Outcomes
-pub mod Decoded
+pub use Rattle.cm_leaf_reading.specs.TextReads
+pub use Rattle.cm_leaf_reading.specs.TextSizes
 pub mod Making
 pub mod Meeting
 pub mod PartLaws
@@ -8,5 +10,3 @@ pub mod Plain
 pub mod Reading
 pub mod Records
 pub mod Sized
-pub mod TextReads
-pub mod TextSizes

@@ -11,13 +11,13 @@ use Rattle.cm_abi_model.specs.declared.encoding.StringEncoding.{StringEncoding}
 use Rattle.cm_abi_model.specs.declared.fault.AbiFault.TheVariants as fault
 use Rattle.cm_abi_model.specs.Numbers.{number_at}
 use Rattle.cm_abi_model.specs.Views.{View}
-use Rattle.cm_abi_model.specs.Texts.{bytes_from, charset_of, tag_of, text_align, text_size}
 use Rattle.cm_leaf_reading.specs.declared.giver.Giver.{Giver}
-use Rattle.cm_lifting.specs.Decoded.{decoded}
 use Rattle.cm_leaf_reading.specs.Outcomes.{Outcome, State, mapped, ◌>>=◌}
 pub use Rattle.cm_leaf_reading.specs.Leaves.{after_meeting, handle_value, leaf_value, resource_of}
 pub use Rattle.cm_leaf_reading.specs.Leaves.{value_of_handle}
 unfoldable pub use Rattle.cm_leaf_reading.specs.Leaves.{read_handle, region}
+pub use Rattle.cm_leaf_reading.specs.Texts.{after_text, text_value}
+unfoldable pub use Rattle.cm_leaf_reading.specs.Texts.{read_text}
 
 -- what is read from: a memory, a handle table, and how strings are encoded
 pub record Source : Type 0 where
@@ -33,22 +33,6 @@ source_of g =
 -- what is read from in a view
 abbrev pub seen_by : View → Source
 seen_by w = record { memory = w.memory; table = w.table; encoding = w.encoding }
-
--- a text, where its bytes are one
-abbrev pub text_value : Option (List ℕ) → State → Outcome Val
-text_value None s = Err (fault.BadText, s)
-text_value (Some cs) s = Ok (text cs, s)
-
--- the reader has met one more string, of a tagged length
-abbrev pub after_text : StringEncoding → ℕ → State → State
-after_text e n s = record s { tags = s.tags ++ tag_of e n }
-
--- the string at a pointer, of a tagged length
-unfoldable pub read_text : List ℕ → StringEncoding → ℕ → ℕ → State → Outcome Val
-read_text memory e at n s =
-    region memory (text_align e) at (text_size e n) s >>= λ r.
-    text_value (decoded (charset_of e n) (bytes_from memory at (text_size e n)))
-    (after_text e n r.1)
 
 -- so many values, one behind the other
 abbrev pub read_each : (ℕ → State → Outcome Val) → ℕ → ℕ → ℕ → State → Outcome Vals

@@ -14,7 +14,7 @@ use Rattle.cm_abi_model.specs.Numbers.{number_at}
 use Rattle.cm_abi_model.specs.Requests.{stored_charset}
 use Rattle.cm_abi_model.specs.Texts.{UTF16_TAG, text_align, units_of}
 use Rattle.cm_lifting.specs.Reading.{Source}
-use Rattle.cm_lifting.specs.TextSizes.{text_length}
+use Rattle.cm_leaf_reading.specs.TextSizes.{text_length}
 use Rattle.cm_lifting.specs.declared.record.PartRecord.{PartRecord}
 use Rattle.cm_lifting.specs.declared.record.PartKind.TheVariants as kind
 

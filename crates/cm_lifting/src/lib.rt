@@ -5,18 +5,15 @@ pub mod laws;
 mod load;
 mod loading;
 mod maker;
-mod measures;
 mod record;
-mod texts;
 mod trees;
 
 pub use cm_leaf_reading::{
-    Giver, MetHandle, Progress, Stop, check_region, core_size, leaf_value, load_handle, number_32,
-    number_at,
+    Giver, MetHandle, Progress, Stop, check_region, core_size, leaf_value, load_handle,
+    measure_text, number_32, number_at,
 };
 pub use load::load_value;
 pub use loading::{is_plain_leaf, make_handle, make_list, make_value};
 pub use maker::{Maker, Reader};
-pub use measures::measure_text;
 pub use record::{PartKind, PartRecord};
 pub use trees::Trees;

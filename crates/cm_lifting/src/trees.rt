@@ -6,8 +6,7 @@ ghost use Rattle.cm_abi_model.specs.declared.encoding.StringEncoding.TheVariants
 
 use crate::maker::Maker;
 use crate::record::PartRecord;
-use crate::texts::load_text;
-use cm_leaf_reading::{Giver, Progress, Stop};
+use cm_leaf_reading::{Giver, Progress, Stop, load_text};
 use cm_values::Value;
 use std::alloc::Global;
 

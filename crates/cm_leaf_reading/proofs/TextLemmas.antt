@@ -19,11 +19,10 @@ use Rattle.cm_abi_model.specs.Texts.{Charset, Has, spell, utf8, utf16, latin1}
 use Rattle.cm_abi_model.specs.Requests.{text_bytes}
 use Rattle.cm_leaf_reading.specs.declared.stop.Stop.{Stop}
 use Rattle.cm_leaf_reading.specs.declared.stop.Stop.TheVariants as stop
-use Rattle.cm_lifting.specs.Decoded.{decoded, if_text, unpaired}
+use Rattle.cm_leaf_reading.specs.Decoded.{decoded, if_text, unpaired}
 use Rattle.cm_leaf_reading.specs.Outcomes.{State, Stops}
-use Rattle.cm_lifting.specs.Reading.{text_value}
-use Rattle.cm_lifting.specs.TextReads.{StopsAtText}
-use Rattle.cm_lifting.proofs.ShownLaws.{moved}
+use Rattle.cm_leaf_reading.specs.Texts.{text_value}
+use Rattle.cm_leaf_reading.specs.TextReads.{StopsAtText}
 
 to_all : (cs : List ℕ) → all_scalars cs ≡ true → AllByRecursion IsScalar cs
 to_all [] is = tt
@@ -179,7 +178,3 @@ text_is utf16 bytes cs e = let t = if_text_is utf16 bytes (unpaired (units bytes
 text_is latin1 bytes cs e =
     let picked = chosen (list_all (λ b. nat_lt b 0x100) bytes) bytes cs e in
     subst (λ ds. IsText HasLatin1 spell_latin1 ds bytes) picked.1 (record { all = bytes_all bytes picked.0; is = same_bytes bytes })
-
-pub text_found : (P : Val → State → Type 0) (d : Option (List ℕ)) (s t : State) (v : Val) → text_value d s ≡ Ok (v, t) → ((cs : List ℕ) → d ≡ Some cs → P (text cs) s) → P v t
-text_found P None s t v e h = absurd (cc)
-text_found P (Some cs) s t v e h = moved P (text cs) v s t e (h cs refl)

@@ -9,9 +9,9 @@ use Rattle.cm_abi_model.specs.Texts.{Charset, spell}
 use Rattle.cm_leaf_reading.specs.declared.stop.Stop.{Stop}
 use Rattle.cm_leaf_reading.specs.declared.stop.Stop.TheVariants as stop
 use Rattle.cm_leaf_reading.specs.Outcomes.{Outcome, State, Stops, mapped}
-use Rattle.cm_lifting.specs.Reading.{text_value}
-use Rattle.cm_lifting.specs.TextReads.{StopsAtText}
-use Rattle.cm_lifting.specs.TextSizes.{text_length}
+use Rattle.cm_leaf_reading.specs.Texts.{text_value}
+use Rattle.cm_leaf_reading.specs.TextReads.{StopsAtText}
+use Rattle.cm_leaf_reading.specs.TextSizes.{text_length}
 
 abbrev counted : ℕ → State → Outcome ℕ
 counted n s = Ok (n, s)

@@ -4,10 +4,10 @@ use Rattle.std.specs.String.{string_bytes}
 use Rattle.std.specs.Char.{IsScalar}
 use Rattle.cm_text.specs.Utf8.{spell_utf8}
 use Rattle.cm_abi_model.specs.Texts.{utf8}
-use Rattle.cm_lifting.specs.Decoded.{decoded}
-use Rattle.cm_lifting.proofs.Seen.{seen_text}
-use Rattle.cm_lifting.proofs.TextLemmas.{found_8, none_8, reads_text, stops_at}
-use Rattle.cm_lifting.proofs.texts.utf8_text.Goals as goal
+use Rattle.cm_leaf_reading.specs.Decoded.{decoded}
+use Rattle.cm_leaf_reading.proofs.Seen.{seen_text}
+use Rattle.cm_leaf_reading.proofs.TextLemmas.{found_8, none_8, reads_text, stops_at}
+use Rattle.cm_leaf_reading.proofs.texts.utf8_text.Goals as goal
 
 pub returns-in-Ok : goal.returns-in-Ok
 returns-in-Ok c = λ s.

@@ -4,15 +4,18 @@ ghost use Rattle.std.specs.Prelude.{◌≡◌, IfErr, IfOk};
 ghost use Rattle.cm_text.specs.Text.{IsTextOfSize};
 ghost use Rattle.cm_abi_model.specs.Requests.{stored_charset};
 ghost use Rattle.cm_abi_model.specs.Texts.{charset_of, latin1, spell, utf16, utf8};
-ghost use Rattle.cm_lifting.specs.Decoded.{decoded};
+ghost use Rattle.cm_leaf_reading.specs.Decoded.{decoded};
 ghost use Rattle.cm_leaf_reading.specs.Outcomes.{Reads, State, mapped, state_of};
-ghost use Rattle.cm_lifting.specs.Reading.{read_text, text_value};
-ghost use Rattle.cm_lifting.specs.TextReads.{StopsAtText};
-ghost use Rattle.cm_lifting.specs.TextSizes.{text_length};
+ghost use Rattle.cm_leaf_reading.specs.Texts.{read_text, text_value};
+ghost use Rattle.cm_leaf_reading.specs.TextReads.{StopsAtText};
+ghost use Rattle.cm_leaf_reading.specs.TextSizes.{text_length};
 
+use crate::giver::Giver;
+use crate::progress::Progress;
+use crate::regions::check_region;
+use crate::stop::Stop;
 use crate::texts::{UTF16_TAG, keep_tag, text_align, text_size};
 use cm_abi_model::{AbiFault, StringEncoding};
-use cm_leaf_reading::{Giver, Progress, Stop, check_region};
 use cm_text::{Encoding, Latin1, Source, Utf8, Utf16, transcoded_size};
 
 /// How many bytes the text of an encoding takes in another.
@@ -95,7 +98,7 @@ fn measure_of(
 /// those that may still come, and its tag is kept.
 ///
 /// It stops as `load_text` does.
-#[tactic(auto, unfolding(crate::specs::Reading::read_text))]
+#[tactic(auto, unfolding(crate::specs::Texts::read_text))]
 pub fn measure_text(
     giver: &Giver<'_>,
     target: StringEncoding,

@@ -2,7 +2,7 @@
 
 ghost use Rattle.std.specs.Prelude.{◌≡◌, ◌*◌, ◌^◌, ◌<◌, drop};
 ghost use Rattle.cm_abi_model.specs.Numbers.{slot_at, wrapped_at};
-ghost use Rattle.cm_lifting.specs.Sized.{IsNumberSize};
+ghost use Rattle.cm_leaf_reading.specs.Sizes.{IsNumberSize};
 
 use cm_types::CoreValue;
 

@@ -6,13 +6,16 @@ ghost use Rattle.std.specs.String.{string_bytes};
 ghost use Rattle.cm_text.specs.Text.{IsText};
 ghost use Rattle.cm_values.specs.ValueTrees.{value_of};
 ghost use Rattle.cm_abi_model.specs.Texts.{charset_of, latin1, text_align, text_size, utf16, utf8};
-ghost use Rattle.cm_lifting.specs.Decoded.{decoded};
+ghost use Rattle.cm_leaf_reading.specs.Decoded.{decoded};
 ghost use Rattle.cm_leaf_reading.specs.Outcomes.{Reads, State, state_of};
-ghost use Rattle.cm_lifting.specs.Reading.{after_text, read_text, text_value};
-ghost use Rattle.cm_lifting.specs.TextReads.{StopsAtText};
+ghost use Rattle.cm_leaf_reading.specs.Texts.{after_text, read_text, text_value};
+ghost use Rattle.cm_leaf_reading.specs.TextReads.{StopsAtText};
 
+use crate::giver::Giver;
+use crate::progress::Progress;
+use crate::regions::check_region;
+use crate::stop::Stop;
 use cm_abi_model::{AbiFault, StringEncoding};
-use cm_leaf_reading::{Giver, Progress, Stop, check_region};
 use cm_text::{Latin1, Source, TextFault, Utf8, Utf16, transcode};
 use cm_values::Value;
 use std::alloc::Global;
@@ -129,9 +132,10 @@ pub(crate) fn keep_tag(
 ///
 /// It stops with `Misaligned` where the pointer is not aligned, else with `PointerBounds` where the
 /// string passes the end of the memory, else with `TooLarge` where fewer bytes may still come, else
-/// with `BadText` where it is no text of its encoding.
-#[tactic(auto, unfolding(crate::specs::Reading::read_text))]
-pub(crate) fn load_text(
+/// with `BadText` where it is no text of its encoding; and with `Memory` where memory for it or for
+/// its tag is refused (CanonicalABI.md, "Loading").
+#[tactic(auto, unfolding(crate::specs::Texts::read_text))]
+pub fn load_text(
     giver: &Giver<'_>,
     at: u32,
     tagged: u32,

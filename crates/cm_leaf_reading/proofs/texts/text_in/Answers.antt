@@ -3,8 +3,8 @@ use Rattle.std.proofs.lemmas.Bool.{false≢true}
 use Rattle.std.specs.Str.{chars}
 use Rattle.std.specs.String.{string_bytes}
 use Rattle.cm_text.specs.Text.{IsText}
-use Rattle.cm_lifting.proofs.TextLemmas.{same_chars, utf8_of}
-use Rattle.cm_lifting.proofs.texts.text_in.Goals as goal
+use Rattle.cm_leaf_reading.proofs.TextLemmas.{same_chars, utf8_of}
+use Rattle.cm_leaf_reading.proofs.texts.text_in.Goals as goal
 
 pub unreachable-requires : goal.unreachable-requires
 unreachable-requires g c = false≢true (c.in-Err.ensures.succeeds (utf8_of c.in-Ok.ensures.ok.0 c.in-Ok.text.items c.in-Ok.ensures.ok.2))

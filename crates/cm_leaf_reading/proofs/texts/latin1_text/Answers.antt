@@ -3,10 +3,10 @@ use Rattle.std.specs.Str.{chars}
 use Rattle.std.specs.String.{string_bytes}
 use Rattle.cm_text.specs.Latin1.{HasLatin1, spell_latin1}
 use Rattle.cm_abi_model.specs.Texts.{latin1}
-use Rattle.cm_lifting.specs.Decoded.{decoded}
-use Rattle.cm_lifting.proofs.Seen.{seen_text}
-use Rattle.cm_lifting.proofs.TextLemmas.{found_1, none_1, reads_text, stops_at}
-use Rattle.cm_lifting.proofs.texts.latin1_text.Goals as goal
+use Rattle.cm_leaf_reading.specs.Decoded.{decoded}
+use Rattle.cm_leaf_reading.proofs.Seen.{seen_text}
+use Rattle.cm_leaf_reading.proofs.TextLemmas.{found_1, none_1, reads_text, stops_at}
+use Rattle.cm_leaf_reading.proofs.texts.latin1_text.Goals as goal
 
 pub returns-in-Ok : goal.returns-in-Ok
 returns-in-Ok c = λ s.

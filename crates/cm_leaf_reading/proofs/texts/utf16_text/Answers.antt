@@ -4,10 +4,10 @@ use Rattle.std.specs.String.{string_bytes}
 use Rattle.std.specs.Char.{IsScalar}
 use Rattle.cm_text.specs.Utf16.{spell_utf16}
 use Rattle.cm_abi_model.specs.Texts.{utf16}
-use Rattle.cm_lifting.specs.Decoded.{decoded}
-use Rattle.cm_lifting.proofs.Seen.{seen_text}
-use Rattle.cm_lifting.proofs.TextLemmas.{found_16, none_16, reads_text, stops_at}
-use Rattle.cm_lifting.proofs.texts.utf16_text.Goals as goal
+use Rattle.cm_leaf_reading.specs.Decoded.{decoded}
+use Rattle.cm_leaf_reading.proofs.Seen.{seen_text}
+use Rattle.cm_leaf_reading.proofs.TextLemmas.{found_16, none_16, reads_text, stops_at}
+use Rattle.cm_leaf_reading.proofs.texts.utf16_text.Goals as goal
 
 pub returns-in-Ok : goal.returns-in-Ok
 returns-in-Ok c = λ s.
