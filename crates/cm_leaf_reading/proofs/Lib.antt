@@ -1,4 +1,5 @@
 mod LeafLemmas
+mod NumberLemmas
 mod Seen
 mod SlotLemmas
 pub mod TextLemmas

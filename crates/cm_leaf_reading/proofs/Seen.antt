@@ -1,5 +1,5 @@
 -- What values the code's strings are.
-use Rattle.std.proofs.Common.{◌≡◌, ℕ, Ok, Global, rules, sym, ap}
+use Rattle.std.proofs.Common.{◌≡◌, Ok, Global, rules, sym, ap}
 use Rattle.std.specs.Str.{chars}
 use Rattle.std.specs.String.{string_bytes}
 use Rattle.std.specs.declared.string.String.{String}

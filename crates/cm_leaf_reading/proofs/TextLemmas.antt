@@ -1,40 +1,28 @@
--- What the scalars of a text are, as the function says.
-use Rattle.std.proofs.Common.{◌≡◌, ℕ, ◌+◌, ◌*◌, ◌-◌, ◌/◌, ◌%◌, ◌<◌, ◌≤◌, Bool, true, false, ◌&&◌, List, [], ◌∷◌, ◌++◌, Option, Some, None, refl, sym, ap, subst, ◌∙◌, ◌⊎◌, inl, inr, arith, nat_lt, nat_le}
+-- What a reader of a text answers.
+use Rattle.std.proofs.Common.{◌≡◌, ℕ, Bool, true, false, ◌&&◌, List, Option, Some, None, refl, sym, ap, ◌∙◌, nat_lt}
 use Rattle.std.specs.Prelude.{if◌then◌else◌, Ok}
-use Rattle.std.proofs.lemmas.Bool.{and_parts, and_from, lt-ltb, ltb-true, ltb-false}
-use Rattle.std.proofs.lemmas.Bool.Decides.{nat_tests}
+use Rattle.std.proofs.lemmas.Bool.{and_parts}
 use Rattle.std.proofs.lemmas.Slice.Eq.{bytes_eq-Decides}
 use Rattle.std.proofs.lemmas.Str.{chars-encodes}
-use Rattle.std.proofs.Math.Utf8.{scalar_cases}
-use Rattle.std.specs.Char.{IsScalar, encode_utf8}
-use Rattle.std.specs.Char.Escape.{encode_utf16}
-use Rattle.std.specs.List.{AllByRecursion, flat_map, list_all}
-use Rattle.std.specs.Str.{IsUtf8, all_scalars, bytes_eq, chars, encode_utf8_all}
+use Rattle.std.specs.Char.{IsScalar}
+use Rattle.std.specs.List.{AllByRecursion, list_all}
+use Rattle.std.specs.Str.{IsUtf8, all_scalars, bytes_eq, chars}
 use Rattle.cm_text.specs.Text.{IsText}
 use Rattle.cm_text.specs.Utf8.{spell_utf8}
-use Rattle.cm_text.specs.Utf16.{bytes_of_unit, spell_utf16, unit, units}
+use Rattle.cm_text.specs.Utf16.{spell_utf16, units}
 use Rattle.cm_text.specs.Latin1.{HasLatin1, spell_latin1}
-use Rattle.cm_types.specs.Values.{Val, text}
-use Rattle.cm_abi_model.specs.Texts.{Charset, Has, spell, utf8, utf16, latin1}
+use Rattle.cm_types.specs.Values.{text}
+use Rattle.cm_abi_model.specs.Texts.{Charset, utf8, utf16, latin1}
 use Rattle.cm_abi_model.specs.Requests.{text_bytes}
 use Rattle.cm_leaf_reading.specs.declared.stop.Stop.{Stop}
 use Rattle.cm_leaf_reading.specs.declared.stop.Stop.TheVariants as stop
 use Rattle.cm_leaf_reading.specs.Decoded.{decoded, if_text, unpaired}
+use Rattle.cm_leaf_reading.specs.Decoding.{all_of, bytes_all, from_all, same_bytes, spelled}
 use Rattle.cm_leaf_reading.specs.Outcomes.{State, Stops}
 use Rattle.cm_leaf_reading.specs.Texts.{text_value}
 use Rattle.cm_leaf_reading.specs.TextReads.{StopsAtText}
 
-to_all : (cs : List ℕ) → all_scalars cs ≡ true → AllByRecursion IsScalar cs
-to_all [] is = tt
-to_all (c ∷ cs) is = let parts = and_parts _ _ is in (parts.0, to_all cs parts.1)
-
-from_all : (cs : List ℕ) → AllByRecursion IsScalar cs → all_scalars cs ≡ true
-from_all [] all = refl
-from_all (c ∷ cs) all = ap (λ b. b && all_scalars cs) all.0 ∙ from_all cs all.1
-
--- the scalars are those of the bytes
-is_text : (s : Charset) (bytes found cs : List ℕ) → found ≡ cs → all_scalars cs ≡ true → text_bytes s cs ≡ bytes → if_text s bytes found ≡ Some cs
-is_text s bytes found cs e all same = rw (e, all, (bytes_eq-Decides (text_bytes s cs) bytes).1 same) refl
+-- ---- bytes that are no text
 
 no_choice : (b : Bool) (cs : List ℕ) → (b ≡ true → ⊥) → (if b then Some cs else None) ≡ None
 no_choice true cs never = absurd (never refl)
@@ -43,23 +31,7 @@ no_choice false cs never = refl
 -- the bytes are no text
 is_none : (s : Charset) (bytes found : List ℕ) → ((cs : List ℕ) → AllByRecursion IsScalar cs → text_bytes s cs ≡ bytes → ⊥) → if_text s bytes found ≡ None
 is_none s bytes found never = no_choice (all_scalars found && bytes_eq (text_bytes s found) bytes) found (λ e.
-    let both = and_parts _ _ e in never found (to_all found both.0) ((bytes_eq-Decides (text_bytes s found) bytes).0 both.1))
-
--- ---- UTF-8
-
-spelled_8 : (c : ℕ) → spell_utf8 c ≡ encode_utf8 c
-unfolding encode_utf8
-spelled_8 c = refl
-
-spelled : (cs : List ℕ) → encode_utf8_all cs ≡ flat_map spell_utf8 cs
-spelled [] = refl
-spelled (c ∷ cs) = ap (λ ys. ys ++ encode_utf8_all cs) (sym (spelled_8 c)) ∙ ap (λ ys. spell_utf8 c ++ ys) (spelled cs)
-
-pub found_8 : (cs bytes : List ℕ) → IsText IsScalar spell_utf8 cs bytes → decoded utf8 bytes ≡ Some cs
-unfolding decoded
-found_8 cs bytes t =
-    let e : chars bytes ≡ cs = ap chars (sym (spelled cs ∙ t.is)) ∙ chars-encodes cs (from_all cs t.all) in
-    is_text utf8 bytes (chars bytes) cs e (from_all cs t.all) t.is
+    let both = and_parts _ _ e in never found (all_of found both.0) ((bytes_eq-Decides (text_bytes s found) bytes).0 both.1))
 
 pub none_8 : (bytes : List ℕ) → ((cs : List ℕ) → IsText IsScalar spell_utf8 cs bytes → ⊥) → decoded utf8 bytes ≡ None
 unfolding decoded
@@ -72,77 +44,9 @@ utf8_of cs bytes t = (cs, (from_all cs t.all, spelled cs ∙ t.is))
 pub same_chars : (cs bytes : List ℕ) → IsText IsScalar spell_utf8 cs bytes → cs ≡ chars bytes
 same_chars cs bytes t = sym (ap chars (sym (spelled cs ∙ t.is)) ∙ chars-encodes cs (from_all cs t.all))
 
--- ---- UTF-16
-
-unit_back : (u : ℕ) → unit (u % 256) (u / 256) ≡ u
-unit_back u = omega arith
-
-units_back : (us xs : List ℕ) → units (flat_map bytes_of_unit us ++ xs) ≡ us ++ units xs
-units_back [] xs = refl
-units_back (u ∷ us) xs = ap (λ v. v ∷ units (flat_map bytes_of_unit us ++ xs)) (unit_back u) ∙ ap (λ vs. u ∷ vs) (units_back us xs)
-
-units_of_text : (cs : List ℕ) → units (flat_map spell_utf16 cs) ≡ flat_map encode_utf16 cs
-units_of_text [] = refl
-units_of_text (c ∷ cs) = units_back (encode_utf16 c) (flat_map spell_utf16 cs) ∙ ap (λ us. encode_utf16 c ++ us) (units_of_text cs)
-
-not_high : (c : ℕ) → (c < 55296) ⊎ ((57344 ≤ c) × (c < 1114112)) → (nat_le 0xD800 c && nat_lt c 0xDC00) ≡ false
-not_high c (inl low) = grind (arith, nat_tests)
-not_high c (inr high) = grind (arith, nat_tests)
-
-one_unit : (c : ℕ) (us : List ℕ) → (c < 55296) ⊎ ((57344 ≤ c) × (c < 1114112)) → unpaired (c ∷ us) ≡ c ∷ unpaired us
-one_unit c [] apart = refl
-one_unit c (v ∷ us) apart = rw (not_high c apart) refl
-
-is_high : (d : ℕ) → d < 0x100000 → (nat_le 0xD800 (0xD800 + d / 0x400) && nat_lt (0xD800 + d / 0x400) 0xDC00) ≡ true
-is_high d small = let below : d / 0x400 < 0x400 = omega arith in grind (arith, nat_tests)
-
-two_units : (c : ℕ) (us : List ℕ) → 0x10000 ≤ c → c < 0x110000
-    → unpaired ((0xD800 + (c - 0x10000) / 0x400) ∷ (0xDC00 + (c - 0x10000) % 0x400) ∷ us) ≡ c ∷ unpaired us
-two_units c us big small =
-    let same : 0x10000 + (0xD800 + (c - 0x10000) / 0x400 - 0xD800) * 0x400 + (0xDC00 + (c - 0x10000) % 0x400 - 0xDC00) ≡ c = omega arith in
-    rw (is_high (c - 0x10000) (omega arith)) (ap (λ d. d ∷ unpaired us) same)
-
-below_end : (c : ℕ) → (c < 55296) ⊎ ((57344 ≤ c) × (c < 1114112)) → c < 0x110000
-below_end c (inl low) = omega arith
-below_end c (inr high) = high.1
-
-one_scalar : (c : ℕ) (us : List ℕ) (b : Bool) → nat_lt c 0x10000 ≡ b → (c < 55296) ⊎ ((57344 ≤ c) × (c < 1114112)) → unpaired (encode_utf16 c ++ us) ≡ c ∷ unpaired us
-one_scalar c us true e apart = rw e (one_unit c us apart)
-one_scalar c us false e apart = rw e (two_units c us (ltb-false c 0x10000 e) (below_end c apart))
-
-all_back : (cs : List ℕ) → AllByRecursion IsScalar cs → unpaired (flat_map encode_utf16 cs) ≡ cs
-all_back [] all = refl
-all_back (c ∷ cs) all = one_scalar c (flat_map encode_utf16 cs) (nat_lt c 0x10000) refl (scalar_cases c all.0) ∙ ap (λ ds. c ∷ ds) (all_back cs all.1)
-
-pub found_16 : (cs bytes : List ℕ) → IsText IsScalar spell_utf16 cs bytes → decoded utf16 bytes ≡ Some cs
-unfolding decoded
-found_16 cs bytes t =
-    let e : unpaired (units bytes) ≡ cs = ap (λ bs. unpaired (units bs)) (sym t.is) ∙ (ap unpaired (units_of_text cs) ∙ all_back cs t.all) in
-    is_text utf16 bytes (unpaired (units bytes)) cs e (from_all cs t.all) t.is
-
 pub none_16 : (bytes : List ℕ) → ((cs : List ℕ) → IsText IsScalar spell_utf16 cs bytes → ⊥) → decoded utf16 bytes ≡ None
 unfolding decoded
 none_16 bytes never = is_none utf16 bytes (unpaired (units bytes)) (λ cs all is. never cs (record { all = all; is = is }))
-
--- ---- Latin-1
-
-same_bytes : (cs : List ℕ) → flat_map spell_latin1 cs ≡ cs
-same_bytes [] = refl
-same_bytes (c ∷ cs) = ap (λ ds. c ∷ ds) (same_bytes cs)
-
-all_bytes : (cs : List ℕ) → AllByRecursion HasLatin1 cs → list_all (λ b. nat_lt b 0x100) cs ≡ true
-all_bytes [] all = refl
-all_bytes (c ∷ cs) all = and_from _ _ (lt-ltb c 0x100 all.0) (all_bytes cs all.1)
-
-bytes_all : (cs : List ℕ) → list_all (λ b. nat_lt b 0x100) cs ≡ true → AllByRecursion HasLatin1 cs
-bytes_all [] all = tt
-bytes_all (c ∷ cs) all = let both = and_parts _ _ all in (ltb-true c 0x100 both.0, bytes_all cs both.1)
-
-pub found_1 : (cs bytes : List ℕ) → IsText HasLatin1 spell_latin1 cs bytes → decoded latin1 bytes ≡ Some cs
-unfolding decoded
-found_1 cs bytes t =
-    let e : bytes ≡ cs = sym t.is ∙ same_bytes cs in
-    rw (e, all_bytes cs t.all) refl
 
 pub none_1 : (bytes : List ℕ) → ((cs : List ℕ) → IsText HasLatin1 spell_latin1 cs bytes → ⊥) → decoded latin1 bytes ≡ None
 unfolding decoded
@@ -157,24 +61,3 @@ stops_at has spell bytes t (stop.Fault f) s none is = rw (none is.1, is.0) refl
 
 pub reads_text : (t : Option (List ℕ)) (cs : List ℕ) (s : State) → t ≡ Some cs → text_value t s ≡ Ok (text cs, s)
 reads_text t cs s e = rw e refl
-
--- ---- what is found is a text
-
-chosen : (b : Bool) (x cs : List ℕ) → (if b then Some x else None) ≡ Some cs → (b ≡ true) × (x ≡ cs)
-chosen true x cs e = (refl, cc)
-chosen false x cs e = absurd (cc)
-
-if_text_is : (s : Charset) (bytes found cs : List ℕ) → if_text s bytes found ≡ Some cs → AllByRecursion IsScalar cs × (text_bytes s cs ≡ bytes)
-if_text_is s bytes found cs e =
-    let picked = chosen (all_scalars found && bytes_eq (text_bytes s found) bytes) found cs e in
-    let both = and_parts (all_scalars found) (bytes_eq (text_bytes s found) bytes) picked.0 in
-    subst (λ ds. AllByRecursion IsScalar ds × (text_bytes s ds ≡ bytes)) picked.1
-    (to_all found both.0, (bytes_eq-Decides (text_bytes s found) bytes).0 both.1)
-
-pub text_is : (s : Charset) (bytes cs : List ℕ) → decoded s bytes ≡ Some cs → IsText (Has s) (spell s) cs bytes
-unfolding decoded
-text_is utf8 bytes cs e = let t = if_text_is utf8 bytes (chars bytes) cs e in record { all = t.0; is = t.1 }
-text_is utf16 bytes cs e = let t = if_text_is utf16 bytes (unpaired (units bytes)) cs e in record { all = t.0; is = t.1 }
-text_is latin1 bytes cs e =
-    let picked = chosen (list_all (λ b. nat_lt b 0x100) bytes) bytes cs e in
-    subst (λ ds. IsText HasLatin1 spell_latin1 ds bytes) picked.1 (record { all = bytes_all bytes picked.0; is = same_bytes bytes })

@@ -5,3 +5,4 @@ pub mod Sizes
 pub mod TextReads
 pub mod TextSizes
 pub mod Texts
+pub mod Decoding

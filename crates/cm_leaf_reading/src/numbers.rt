@@ -5,6 +5,8 @@ ghost use Rattle.std.specs.Prelude.{if◌then◌else◌};
 ghost use Rattle.cm_abi_model.specs.Numbers.{as_signed, number_at};
 ghost use Rattle.cm_leaf_reading.specs.Sizes.{IsNumberSize};
 
+use byteorder::{ByteOrder, LittleEndian};
+
 /// The number of 8 bits at an address.
 #[tactic(auto, unfolding(cm_abi_model::specs::Numbers::number_at))]
 fn number_8(memory: &[u8], at: usize) -> u8
@@ -15,39 +17,27 @@ fn number_8(memory: &[u8], at: usize) -> u8
 }
 
 /// The number of 16 bits at an address.
-#[tactic(auto, unfolding(cm_abi_model::specs::Numbers::number_at))]
 fn number_16(memory: &[u8], at: usize) -> u16
     requires { at + 2 ≤ length memory.now }
     ensures { result ≡ number_at 2 memory.now at }
 {
-    u16::from_le_bytes([memory[at], memory[at + 1]])
+    LittleEndian::read_u16(&memory[at..])
 }
 
 /// The number of 32 bits at an address.
-#[tactic(auto, unfolding(cm_abi_model::specs::Numbers::number_at))]
 pub fn number_32(memory: &[u8], at: usize) -> u32
     requires { at + 4 ≤ length memory.now }
     ensures { result ≡ number_at 4 memory.now at }
 {
-    u32::from_le_bytes([memory[at], memory[at + 1], memory[at + 2], memory[at + 3]])
+    LittleEndian::read_u32(&memory[at..])
 }
 
 /// The number of 64 bits at an address.
-#[tactic(auto, unfolding(cm_abi_model::specs::Numbers::number_at))]
 fn number_64(memory: &[u8], at: usize) -> u64
     requires { at + 8 ≤ length memory.now }
     ensures { result ≡ number_at 8 memory.now at }
 {
-    u64::from_le_bytes([
-        memory[at],
-        memory[at + 1],
-        memory[at + 2],
-        memory[at + 3],
-        memory[at + 4],
-        memory[at + 5],
-        memory[at + 6],
-        memory[at + 7],
-    ])
+    LittleEndian::read_u64(&memory[at..])
 }
 
 /// The number of so many bytes at an address.

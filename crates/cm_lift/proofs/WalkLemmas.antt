@@ -22,7 +22,8 @@ use Rattle.cm_lifting.specs.Records.{payload, records_at, records_of_list}
 use Rattle.cm_lifting.specs.Sized.{ArePartsSized, ArePayloadsSized, IsSized, core_size}
 use Rattle.cm_lift.specs.FlatReading.{ArePartsReady, ArePayloadsReady, IsReady, IsReadyLayout, read_flat, read_flat_case, read_flat_each, read_flat_parts, read_flat_payload}
 use Rattle.cm_lift.specs.FlatRecords.{flat_records, flat_records_each, flat_records_of_case, flat_records_of_cases, flat_records_of_fields, flat_records_of_payload}
-use Rattle.cm_lift.proofs.MakingLemmas.{Agree, Going, agreed, begins, ends, one_stops, read_is, turns}
+use Rattle.cm_lifting.specs.MakingLaws.{Going, begins, ends, one_stops, read_is, turns}
+use Rattle.cm_lift.proofs.MakingLemmas.{Agree, agreed}
 
 -- ---- handles that were met stay met
 

@@ -22,7 +22,8 @@ use Rattle.cm_lifting.specs.Reading.{Source, after_meeting, leaf_value, read_at,
 use Rattle.cm_lifting.specs.Records.{element_record, held, payload, records_at, records_each, records_of_case, records_of_cases, records_of_list, records_of_payload}
 use Rattle.cm_lifting.proofs.HandleLemmas.{keeps_at, keeps_elements, keeps_handle_value, keeps_mapped, met_more}
 use Rattle.cm_lifting.proofs.LoadLemmas.{case_kept, case_there, enum_there, none_kept}
-use Rattle.cm_lifting.proofs.MakingLemmas.{read_is, read_of, read_so}
+use Rattle.cm_lifting.specs.MakingLaws.{read_is, read_of}
+use Rattle.cm_lifting.proofs.MakingLemmas.{read_so}
 
 -- ---- leaves of which any number is a value
 

@@ -3,7 +3,6 @@ use Rattle.std.proofs.Common.{◌≡◌, ℕ, zero, suc, ◌+◌, ◌-◌, ◌*�
 use Rattle.std.specs.Prelude.{if◌then◌else◌}
 use Rattle.std.proofs.Math.Nat.{mul-mod_left}
 use Rattle.std.proofs.lemmas.Bool.{and_from, le-ltb}
-use Rattle.cm_text.specs.Text.{IsText}
 use Rattle.cm_types.specs.declared.resource.ResourceId.{ResourceId}
 use Rattle.cm_types.specs.Types.{Ty, Fields, Cases, bool, signed, unsigned, char, string, list, fixed_list, fields, cases, flags, own, borrow, no_fields, field, no_cases, plain, carrying}
 use Rattle.cm_types.specs.Values.{HandleValue, Val, Vals, IsScalarValue, no_vals, val, truth, signed_number, number, scalar, text, elements, parts, bare, bearing, flag_set, handle, count_of, IsPlainCase}
@@ -18,18 +17,18 @@ use Rattle.cm_layout.specs.Shapes.{LayoutTy, layout_at, shape_of_type, parts_at,
 use Rattle.cm_abi_model.specs.Numbers.{number_at}
 use Rattle.cm_abi_model.specs.Shows.{Shows, ShowEach, ShowFields, ShowsElements, ShowsHandle, ShowsOwned, ShowsPayload}
 use Rattle.cm_abi_model.specs.Taken.{Met, content_of, met_at, met_each, met_in_fields, met_in_payload}
-use Rattle.cm_abi_model.specs.Texts.{Charset, Has, IsAligned, ShowsText, bytes_from, charset_of, latin1, spell, text_align, text_size, utf16, utf8}
+use Rattle.cm_abi_model.specs.Texts.{IsAligned, ShowsText, bytes_from, charset_of, text_align, text_size}
 use Rattle.cm_abi_model.specs.Views.{View}
 use Rattle.cm_abi_model.specs.declared.encoding.StringEncoding.{StringEncoding}
 use Rattle.cm_abi_model.specs.declared.fault.AbiFault.{AbiFault}
 use Rattle.cm_abi_model.specs.declared.fault.AbiFault.TheVariants as fault
 use Rattle.cm_leaf_reading.specs.Decoded.{decoded}
+use Rattle.cm_leaf_reading.specs.Decoding.{text_decoded}
 use Rattle.cm_leaf_reading.specs.Outcomes.{Outcome, State, mapped, ◌>>=◌}
 use Rattle.cm_lifting.specs.Reading.{Source, after_meeting, after_text, read_at, read_case, read_each, read_elements, read_handle, read_parts, read_text, region, seen_by, text_value, value_of_handle}
 use Rattle.cm_lifting.proofs.MeetLaws.{content_both}
 use Rattle.cm_lifting.proofs.ReadLaws.{Told, as_handle, read_shows}
 use Rattle.cm_lifting.proofs.ShownLaws.{IsTold, read_err, read_ok}
-use Rattle.cm_leaf_reading.proofs.TextLemmas.{found_1, found_16, found_8}
 
 -- reading comes to a value
 pub record Found {A : Type 0} (r : Outcome A) (v : A) : Type 0 where
@@ -55,11 +54,6 @@ region_there memory align at size s aligned inside room =
 
 -- ---- texts
 
-pub found_text : (c : Charset) (cs bytes : List ℕ) → IsText (Has c) (spell c) cs bytes → decoded c bytes ≡ Some cs
-found_text utf8 cs bytes t = found_8 cs bytes t
-found_text utf16 cs bytes t = found_16 cs bytes t
-found_text latin1 cs bytes t = found_1 cs bytes t
-
 pub text_found_at : (memory : List ℕ) (e : StringEncoding) (at n : ℕ) (cs : List ℕ) (s : State) → ShowsText e memory at n cs → text_size e n ≤ s.left
     → Found (read_text memory e at n s) (text cs)
 unfolding read_text
@@ -70,7 +64,7 @@ text_found_at memory e at n cs s shown room =
       after = after_text e n behind;
       is = bind_found (region memory (text_align e) at (text_size e n) s) (λ r. text_value d (after_text e n r.1)) (tt, behind) (read_ok (text cs) (after_text e n behind))
           (region_there memory (text_align e) at (text_size e n) s shown.aligned shown.inside room)
-          (ap (λ o. text_value o (after_text e n behind)) (found_text (charset_of e n) cs (bytes_from memory at (text_size e n)) shown.text));
+          (ap (λ o. text_value o (after_text e n behind)) (text_decoded (charset_of e n) cs (bytes_from memory at (text_size e n)) shown.text));
     }
 
 -- ---- values in a row

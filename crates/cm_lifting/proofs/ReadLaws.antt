@@ -26,7 +26,7 @@ use Rattle.cm_abi_model.specs.Taken.{lent, met_at, met_in_fields, met_in_payload
 use Rattle.cm_lifting.specs.Meeting.{Meets}
 use Rattle.cm_leaf_reading.specs.Outcomes.{State, mapped}
 use Rattle.cm_lifting.specs.Reading.{after_meeting, after_text, handle_value, read_at, read_case, read_each, read_elements, read_handle, read_parts, read_text, region, seen_by, text_value, value_of_handle}
-use Rattle.cm_leaf_reading.proofs.TextLemmas.{text_is}
+use Rattle.cm_leaf_reading.specs.Decoding.{decoded_text}
 use Rattle.cm_lifting.proofs.MeetLaws.{meets_both, meets_borrow, meets_none, meets_own, meets_text}
 use Rattle.cm_lifting.proofs.ShownLaws.{bind_ok, char_ok, each_shown, elements_shown, mapped_ok, moved, read_ok, region_ok}
 
@@ -46,7 +46,7 @@ text_shown P memory e at n s t v is h =
     let first = bind_ok (region memory (text_align e) at (text_size e n) s) (λ r. text_value (decoded (charset_of e n) (bytes_from memory at (text_size e n))) (after_text e n r.1)) (v, t) is in
     let there = region_ok memory (text_align e) at (text_size e n) s first.0 first.1 in
     text_found P (decoded (charset_of e n) (bytes_from memory at (text_size e n))) (after_text e n first.0.1) t v first.2 (λ cs found. subst (λ x. P (text cs) (after_text e n x)) there.counted
-    (h cs (record { aligned = there.aligned; inside = there.inside; text = text_is (charset_of e n) (bytes_from memory at (text_size e n)) cs found }) there.room))
+    (h cs (record { aligned = there.aligned; inside = there.inside; text = decoded_text (charset_of e n) cs (bytes_from memory at (text_size e n)) found }) there.room))
 
 -- handles
 same_is : (a b : ResourceId) → is_same_resource a b ≡ true → a ≡ b

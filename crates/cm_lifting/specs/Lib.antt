@@ -10,3 +10,4 @@ pub mod Plain
 pub mod Reading
 pub mod Records
 pub mod Sized
+pub mod MakingLaws

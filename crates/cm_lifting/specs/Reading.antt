@@ -1,6 +1,6 @@
 -- Reading a value, part after part, up to the first fault (CanonicalABI.md, "Loading").
-use Rattle.std.specs.Prelude.{ℕ, zero, suc, ◌+◌, ◌*◌, List, ◌++◌, Option, Some, None, Ok, Err}
-use Rattle.cm_types.specs.Values.{Val, Vals, no_vals, val, text, elements, parts, bare, bearing}
+use Rattle.std.specs.Prelude.{ℕ, zero, suc, ◌+◌, ◌*◌, List, Option, Some, None, Ok, Err}
+use Rattle.cm_types.specs.Values.{Val, Vals, no_vals, val, elements, parts, bare, bearing}
 use Rattle.cm_handles.specs.Handles.{Handles}
 use Rattle.cm_layout.specs.declared.heads.Head.{Head}
 use Rattle.cm_layout.specs.Laid.{leaf_size}

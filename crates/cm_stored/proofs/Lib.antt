@@ -1,4 +1,5 @@
 pub mod BytesLemmas
+pub mod NumberLemmas
 pub mod TextLemmas
 pub mod LayoutLaws
 pub mod FittingLaws

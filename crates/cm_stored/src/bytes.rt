@@ -3,6 +3,8 @@
 ghost use Rattle.std.specs.Prelude.{◌≡◌, ◌+◌, ◌≤◌, length};
 ghost use Rattle.cm_abi_model.specs.Stores.{bytes_of, placed, pointer_bytes, poke};
 
+use byteorder::{ByteOrder, LittleEndian};
+
 /// Writes bytes that lie inside.
 pub fn write_bytes(memory: &mut [u8], at: usize, bytes: &[u8])
     requires inside { at + length bytes.now ≤ length memory.old }
@@ -14,6 +16,20 @@ pub fn write_bytes(memory: &mut [u8], at: usize, bytes: &[u8])
 
 /// Writes the lowest bytes of a number, so many, little end first.
 pub fn write_number(memory: &mut [u8], at: usize, size: u32, number: u64)
+    requires inside { at + size ≤ length memory.old }
+    ensures stored { memory.new ≡ poke (placed at (bytes_of size number)) memory.old }
+    ensures stays { length memory.new ≡ length memory.old }
+{
+    match size {
+        2 => LittleEndian::write_u16(&mut memory[at..at + 2], (number % 0x1_0000) as u16),
+        4 => LittleEndian::write_u32(&mut memory[at..at + 4], (number % 0x1_0000_0000) as u32),
+        8 => LittleEndian::write_u64(&mut memory[at..at + 8], number),
+        _ => write_each_byte(memory, at, size, number),
+    }
+}
+
+/// Writes the lowest bytes of a number, so many, one after another.
+fn write_each_byte(memory: &mut [u8], at: usize, size: u32, number: u64)
     requires inside { at + size ≤ length memory.old }
     ensures stored { memory.new ≡ poke (placed at (bytes_of size number)) memory.old }
     ensures stays { length memory.new ≡ length memory.old }

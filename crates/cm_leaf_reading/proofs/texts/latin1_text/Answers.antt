@@ -5,12 +5,13 @@ use Rattle.cm_text.specs.Latin1.{HasLatin1, spell_latin1}
 use Rattle.cm_abi_model.specs.Texts.{latin1}
 use Rattle.cm_leaf_reading.specs.Decoded.{decoded}
 use Rattle.cm_leaf_reading.proofs.Seen.{seen_text}
-use Rattle.cm_leaf_reading.proofs.TextLemmas.{found_1, none_1, reads_text, stops_at}
+use Rattle.cm_leaf_reading.specs.Decoding.{text_decoded}
+use Rattle.cm_leaf_reading.proofs.TextLemmas.{none_1, reads_text, stops_at}
 use Rattle.cm_leaf_reading.proofs.texts.latin1_text.Goals as goal
 
 pub returns-in-Ok : goal.returns-in-Ok
 returns-in-Ok c = λ s.
-    reads_text (decoded latin1 c.args.bytes.now) (chars (string_bytes c.in-Ok.text)) s (found_1 (chars (string_bytes c.in-Ok.text)) c.args.bytes.now c.in-Ok.ensures.ok)
+    reads_text (decoded latin1 c.args.bytes.now) (chars (string_bytes c.in-Ok.text)) s (text_decoded latin1 (chars (string_bytes c.in-Ok.text)) c.args.bytes.now c.in-Ok.ensures.ok)
     ∙ seen_text c.in-Ok.text s
 
 pub returns-in-Err : goal.returns-in-Err

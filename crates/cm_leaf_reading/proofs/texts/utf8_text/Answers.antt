@@ -6,12 +6,13 @@ use Rattle.cm_text.specs.Utf8.{spell_utf8}
 use Rattle.cm_abi_model.specs.Texts.{utf8}
 use Rattle.cm_leaf_reading.specs.Decoded.{decoded}
 use Rattle.cm_leaf_reading.proofs.Seen.{seen_text}
-use Rattle.cm_leaf_reading.proofs.TextLemmas.{found_8, none_8, reads_text, stops_at}
+use Rattle.cm_leaf_reading.specs.Decoding.{text_decoded}
+use Rattle.cm_leaf_reading.proofs.TextLemmas.{none_8, reads_text, stops_at}
 use Rattle.cm_leaf_reading.proofs.texts.utf8_text.Goals as goal
 
 pub returns-in-Ok : goal.returns-in-Ok
 returns-in-Ok c = λ s.
-    reads_text (decoded utf8 c.args.bytes.now) (chars (string_bytes c.in-Ok.text)) s (found_8 (chars (string_bytes c.in-Ok.text)) c.args.bytes.now c.in-Ok.ensures.ok)
+    reads_text (decoded utf8 c.args.bytes.now) (chars (string_bytes c.in-Ok.text)) s (text_decoded utf8 (chars (string_bytes c.in-Ok.text)) c.args.bytes.now c.in-Ok.ensures.ok)
     ∙ seen_text c.in-Ok.text s
 
 pub returns-in-Err : goal.returns-in-Err

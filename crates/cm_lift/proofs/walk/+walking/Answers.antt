@@ -10,7 +10,8 @@ use Rattle.cm_lifting.specs.Reading.{source_of}
 use Rattle.cm_lifting.specs.Records.{held}
 use Rattle.cm_lift.specs.FlatReading.{IsReadyLayout, read_flat}
 use Rattle.cm_lift.specs.FlatRecords.{flat_records, flat_records_of_fields}
-use Rattle.cm_lift.proofs.MakingLemmas.{begins, fields_made, stops_of}
+use Rattle.cm_lifting.specs.MakingLaws.{begins, stops_of}
+use Rattle.cm_lift.proofs.MakingLemmas.{fields_made}
 use Rattle.cm_lift.proofs.WalkLemmas.{KeepLaws, case_made, case_past, case_ready, each_begins, each_ends, each_stops, each_turns, enum_placed, fields_end, fields_stop, fields_turn, keeps_flat, list_placed, ready_next}
 use Rattle.cm_lift.proofs.Seen.{seen_Enum, seen_FixedList, seen_Handle, seen_Leaf, seen_List, seen_part_width, seen_shape, seen_width}
 use Rattle.cm_lift.proofs.walk.+walking.Goals as goal

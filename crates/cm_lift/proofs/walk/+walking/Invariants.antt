@@ -5,7 +5,7 @@ use Rattle.cm_lifting.specs.Outcomes.{state_of}
 use Rattle.cm_lifting.specs.Reading.{source_of}
 use Rattle.cm_lift.specs.FlatReading.{ArePartsReady, read_flat, read_flat_each, read_flat_parts}
 use Rattle.cm_lift.specs.FlatRecords.{flat_records, flat_records_each, flat_records_of_fields}
-use Rattle.cm_lift.proofs.MakingLemmas.{Going}
+use Rattle.cm_lifting.specs.MakingLaws.{Going}
 use Rattle.cm_lift.proofs.walk.+walking.Given as goal
 
 -- what was made so far, and what is still to be read, are all of it

@@ -12,7 +12,8 @@ use Rattle.cm_lifting.specs.Sized.{ArePayloadsReadable, IsReadable}
 use Rattle.cm_lifting.proofs.CaseLemmas.{case_made, elements_stop, enum_placed, fields_made, list_made, list_more, list_placed, list_stops, plain_row}
 use Rattle.cm_lifting.proofs.HandleLemmas.{keeps_at}
 use Rattle.cm_lifting.proofs.LoadLemmas.{case_past, case_readable, cases_readable, parts_readable, readable_next, step_on}
-use Rattle.cm_lifting.proofs.MakingLemmas.{begins, each_begins, each_ends, each_stops, each_turns, fields_end, fields_stop, fields_turn, memory_wanted, stops_of, stops_wanted}
+use Rattle.cm_lifting.specs.MakingLaws.{begins, stops_of}
+use Rattle.cm_lifting.proofs.MakingLemmas.{each_begins, each_ends, each_stops, each_turns, fields_end, fields_stop, fields_turn, memory_wanted, stops_wanted}
 use Rattle.cm_lifting.proofs.SeenLayouts.{seen_Cases, seen_Enum, seen_FixedList, seen_Handle, seen_Leaf, seen_List, seen_shape, seen_size}
 use Rattle.cm_lifting.proofs.loading.+making.Goals as goal
 

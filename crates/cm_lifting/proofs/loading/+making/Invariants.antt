@@ -5,7 +5,7 @@ use Rattle.cm_leaf_reading.specs.Outcomes.{state_of}
 use Rattle.cm_lifting.specs.Reading.{read_at, read_each, read_parts, source_of}
 use Rattle.cm_lifting.specs.Records.{records_at, records_each, records_of_fields}
 use Rattle.cm_lifting.specs.Sized.{ArePartsReadable}
-use Rattle.cm_lifting.proofs.MakingLemmas.{Going}
+use Rattle.cm_lifting.specs.MakingLaws.{Going}
 use Rattle.cm_lifting.proofs.loading.+making.Given as goal
 
 -- what was made so far, and what is still to be read, are all of it

@@ -12,7 +12,8 @@ use Rattle.cm_stored.specs.FlatLowering.{IsPassedIn, PayloadIsPassed, behind_by,
 use Rattle.cm_stored.specs.Storing.{given_of}
 use Rattle.cm_storing.specs.Sources.{IsCarriedReady, field_before}
 use Rattle.cm_passing.proofs.SeenLayouts.{seen_Cases, seen_Record, seen_head, seen_shape}
-use Rattle.cm_passing.proofs.WalkLemmas.{PartsPass, behind_passed, case_handles, case_parts, case_passed, field_behind, field_passed, next_behind, next_handles, next_parts, next_stored, parts_next, parts_pass, payload_is, payload_passes, payload_past, row_inside, step_on}
+use Rattle.cm_storing.specs.WalkLaws.{case_handles, case_parts, next_handles, next_parts, next_stored, parts_next, payload_is, payload_past, row_inside, step_on}
+use Rattle.cm_passing.proofs.WalkLemmas.{PartsPass, behind_passed, case_passed, field_behind, field_passed, next_behind, parts_pass, payload_passes}
 use Rattle.cm_passing.proofs.passing.+passing.Goals as goal
 
 pub pass_value-pass_record-requires : goal.pass_value-pass_record-requires

@@ -2,7 +2,7 @@ use Rattle.std.proofs.Common.{◌≡◌, refl}
 use Rattle.cm_types.specs.Values.{bare}
 use Rattle.cm_layout.specs.Layouts.{nothings}
 use Rattle.cm_layout.specs.Shapes.{cases_shape}
-use Rattle.cm_passing.proofs.WalkLemmas.{none_carried}
+use Rattle.cm_storing.specs.WalkLaws.{none_carried}
 use Rattle.cm_passing.proofs.passing.pass_enum.Goals as goal
 
 pub returns-clause-slots : goal.returns-clause-slots

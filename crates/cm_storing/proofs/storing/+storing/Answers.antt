@@ -13,7 +13,8 @@ use Rattle.cm_stored.specs.Fitting.{PayloadLies}
 use Rattle.cm_stored.specs.Storing.{given_of, stored_by}
 use Rattle.cm_storing.specs.Sources.{IsCarriedReady, field_before}
 use Rattle.cm_storing.proofs.SeenLayouts.{seen_Cases, seen_Record, seen_head, seen_shape}
-use Rattle.cm_storing.proofs.WalkLemmas.{PartsLie, case_both, case_handles, case_parts, field_stored, next_handles, next_parts, next_stored, parts_lie, parts_next, payload_is, payload_lies, payload_past, poke_both, row_inside, step_on}
+use Rattle.cm_storing.specs.WalkLaws.{case_handles, case_parts, next_handles, next_parts, next_stored, parts_next, payload_is, payload_past, poke_both, row_inside, step_on}
+use Rattle.cm_storing.proofs.WalkLemmas.{PartsLie, case_both, field_stored, parts_lie, payload_lies}
 use Rattle.cm_storing.proofs.storing.+storing.Goals as goal
 
 pub store_value-store_record-requires : goal.store_value-store_record-requires

@@ -2,7 +2,7 @@ use Rattle.std.proofs.Common.{sym, refl}
 use Rattle.cm_abi_model.specs.Requests.{stored_charset, text_bytes, text_units}
 use Rattle.cm_abi_model.specs.Stores.{place_of, placed, pointer_bytes}
 use Rattle.cm_stored.specs.Storing.{given_of}
-use Rattle.cm_storing.proofs.WalkLemmas.{poke_both}
+use Rattle.cm_storing.specs.WalkLaws.{poke_both}
 use Rattle.cm_storing.proofs.storing.store_text.Goals as goal
 
 pub returns-clause-stored : goal.returns-clause-stored

@@ -1,6 +1,6 @@
 use Rattle.std.proofs.Common.{◌≡◌, ◌+◌, ◌-◌, length}
 use Rattle.cm_abi_model.specs.Stores.{bytes_of, placed, poke}
-use Rattle.cm_stored.proofs.bytes.write_number.Given as goal
+use Rattle.cm_stored.proofs.bytes.write_each_byte.Given as goal
 
 -- what was written, and what is still to be written, are all bytes
 abbrev pub invariant-loop-i : goal.invariant-loop-i
