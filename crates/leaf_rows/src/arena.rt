@@ -49,7 +49,7 @@ enum Outcome {
 }
 
 impl Arena {
-    pub fn new(alloc: Global) -> Result<Arena, AllocError> {
+    fn new(alloc: Global) -> Result<Arena, AllocError> {
         let types = Types::new(alloc)?;
         Ok(Arena {
             alloc,
@@ -88,12 +88,11 @@ impl Arena {
 
     fn push(&mut self, word: &str, words: &[&str]) -> Result<Outcome, RowFault> {
         let (name, operand) = word.split_once(':').unwrap_or((word, ""));
+        let places = Places::of(self.alloc, &self.types);
         if name == "func" {
-            let def = self.read_func(operand, words)?;
-            Ok(self.push_func(def))
+            Ok(self.push_func(places.read_func(operand, words)?))
         } else {
-            let def = self.read_def(name, operand, words)?;
-            Ok(self.push_type(def))
+            Ok(self.push_type(places.read_def(name, operand, words)?))
         }
     }
 
@@ -159,19 +158,34 @@ impl Arena {
         write!(out, ", {labels} of size {size}")?;
         Ok(out)
     }
+}
 
-    fn read_func(&self, labels: &str, words: &[&str]) -> Result<FuncDef, RowFault> {
+/// The places of so many types, by which definitions name their parts.
+#[derive(Clone, Copy)]
+pub struct Places {
+    alloc: Global,
+    count: usize,
+}
+
+impl Places {
+    pub fn of(alloc: Global, types: &Types) -> Places {
+        Places {
+            alloc,
+            count: types.len(),
+        }
+    }
+
+    fn read_func(self, labels: &str, words: &[&str]) -> Result<FuncDef, RowFault> {
         let (params, answer) = split_words(words, "->")?;
         let [answer] = answer else {
             return Err(RowFault::NotARow);
         };
-        Ok(FuncDef {
-            params: self.read_fields(labels, params)?,
-            result: self.read_payload(answer)?,
-        })
+        let result = self.read_payload(answer)?;
+        let params = self.read_fields(labels, params)?;
+        Ok(FuncDef { params, result })
     }
 
-    fn read_def(&self, name: &str, operand: &str, words: &[&str]) -> Result<TypeDef, RowFault> {
+    fn read_def(self, name: &str, operand: &str, words: &[&str]) -> Result<TypeDef, RowFault> {
         match name {
             "list" => Ok(TypeDef::List(self.read_part(words)?)),
             "option" => Ok(TypeDef::Option(self.read_part(words)?)),
@@ -188,14 +202,14 @@ impl Arena {
         }
     }
 
-    fn read_part(&self, words: &[&str]) -> Result<usize, RowFault> {
+    fn read_part(self, words: &[&str]) -> Result<usize, RowFault> {
         match words {
-            [part] => self.read_place(part),
+            [part] => self.read(part),
             _ => Err(RowFault::NotARow),
         }
     }
 
-    fn read_result(&self, words: &[&str]) -> Result<TypeDef, RowFault> {
+    fn read_result(self, words: &[&str]) -> Result<TypeDef, RowFault> {
         match words {
             [ok, error] => Ok(TypeDef::Result {
                 ok: self.read_payload(ok)?,
@@ -206,21 +220,21 @@ impl Arena {
     }
 
     /// A place by its number, by the name of a primitive type, or as `last`.
-    pub fn read_place(&self, word: &str) -> Result<usize, RowFault> {
+    pub fn read(self, word: &str) -> Result<usize, RowFault> {
         if word == "last" {
-            return self.types.len().checked_sub(1).ok_or(RowFault::NotARow);
+            return self.count.checked_sub(1).ok_or(RowFault::NotARow);
         }
         match read_primitive(word) {
-            Ok(primitive) => Ok(self.types.primitive(primitive)),
+            Ok(primitive) => Ok(primitive as usize),
             Err(_) => read_number(word),
         }
     }
 
-    fn read_places(&self, words: &[&str]) -> Result<Vec<usize>, RowFault> {
+    fn read_places(self, words: &[&str]) -> Result<Vec<usize>, RowFault> {
         let mut places = Vec::new(self.alloc);
         for word in words {
             let (times, word) = split_repeat(word);
-            let place = self.read_place(word)?;
+            let place = self.read(word)?;
             for _ in 0..times {
                 places.push(place)?;
             }
@@ -228,32 +242,31 @@ impl Arena {
         Ok(places)
     }
 
-    fn read_payload(&self, word: &str) -> Result<Option<usize>, RowFault> {
+    fn read_payload(self, word: &str) -> Result<Option<usize>, RowFault> {
         match word {
             "-" => Ok(None),
-            word => Ok(Some(self.read_place(word)?)),
+            word => Ok(Some(self.read(word)?)),
         }
     }
 
+    fn read_payloads(self, words: &[&str]) -> Result<Vec<Option<usize>>, RowFault> {
+        let mut payloads = Vec::new(self.alloc);
+        for word in words {
+            payloads.push(self.read_payload(word)?)?;
+        }
+        Ok(payloads)
+    }
+
     /// As many fields as places, with these labels.
-    fn read_fields(&self, labels: &str, words: &[&str]) -> Result<Vec<FieldDef>, RowFault> {
+    fn read_fields(self, labels: &str, words: &[&str]) -> Result<Vec<FieldDef>, RowFault> {
         let places = self.read_places(words)?;
         fields_of(self.alloc, labels_of(self.alloc, labels)?, &places)
     }
 
     /// As many cases as payloads, with these labels.
-    fn read_cases(&self, labels: &str, words: &[&str]) -> Result<Vec<CaseDef>, RowFault> {
-        let mut cases = Vec::new(self.alloc);
-        let mut words = words.iter();
-        for label in labels_of(self.alloc, labels)? {
-            let word = words.next().ok_or(RowFault::NotARow)?;
-            let payload = self.read_payload(word)?;
-            cases.push(CaseDef { label, payload })?;
-        }
-        match words.next() {
-            None => Ok(cases),
-            Some(_) => Err(RowFault::NotARow),
-        }
+    fn read_cases(self, labels: &str, words: &[&str]) -> Result<Vec<CaseDef>, RowFault> {
+        let payloads = self.read_payloads(words)?;
+        cases_of(self.alloc, labels_of(self.alloc, labels)?, &payloads)
     }
 }
 
@@ -282,16 +295,32 @@ fn fields_of(
     labels: Vec<Label>,
     places: &[usize],
 ) -> Result<Vec<FieldDef>, RowFault> {
+    if labels.len() != places.len() {
+        return Err(RowFault::NotARow);
+    }
     let mut fields = Vec::new(alloc);
-    let mut places = places.iter();
-    for label in labels {
-        let place = places.next().ok_or(RowFault::NotARow)?;
+    for (label, place) in labels.into_iter().zip(places) {
         fields.push(FieldDef { label, ty: *place })?;
     }
-    match places.next() {
-        None => Ok(fields),
-        Some(_) => Err(RowFault::NotARow),
+    Ok(fields)
+}
+
+fn cases_of(
+    alloc: Global,
+    labels: Vec<Label>,
+    payloads: &[Option<usize>],
+) -> Result<Vec<CaseDef>, RowFault> {
+    if labels.len() != payloads.len() {
+        return Err(RowFault::NotARow);
     }
+    let mut cases = Vec::new(alloc);
+    for (label, payload) in labels.into_iter().zip(payloads) {
+        cases.push(CaseDef {
+            label,
+            payload: *payload,
+        })?;
+    }
+    Ok(cases)
 }
 
 fn size_of(tree: TypeTree) -> u32 {

@@ -12,7 +12,7 @@ ghost use Rattle.std.specs.Prelude.{◌≡◌, length};
 ghost use Rattle.cm_placed.specs.Instances.{are_items_there, is_desc_there};
 ghost use Rattle.cm_placed.specs.Externs.{are_externs_in, is_extern_there};
 
-use crate::arena::Arena;
+use crate::arena::{Arena, Places};
 use crate::words::{read_move, read_name};
 use cm_placed::{Extern, ExternDesc, InstanceType, Item, ItemDesc, Placed, Signature};
 use cm_replaced::Move;
@@ -24,22 +24,22 @@ use std::rc::Rc;
 pub fn read_signature(alloc: Global, words: &[&str]) -> Result<Signature, RowFault> {
     let (types, externs) = split_words(words, "|")?;
     let (imports, exports) = split_words(externs, "|")?;
-    let arena = read_arena(alloc, types)?;
-    let imports = read_externs(alloc, &arena, imports)?;
-    let exports = read_externs(alloc, &arena, exports)?;
-    let Arena { types, .. } = arena;
+    let types = read_types(alloc, types)?;
+    let places = Places::of(alloc, &types);
+    let imports = read_externs(alloc, places, imports)?;
+    let exports = read_externs(alloc, places, exports)?;
     if !are_there(&types, &imports) || !are_there(&types, &exports) {
         return Err(RowFault::NotARow);
     }
     Ok(Signature::new(types, imports, exports))
 }
 
-fn read_arena(alloc: Global, words: &[&str]) -> Result<Arena, RowFault> {
+fn read_types(alloc: Global, words: &[&str]) -> Result<Types, RowFault> {
     if is_empty(words) {
-        Ok(Arena::new(alloc)?)
-    } else {
-        Arena::read(alloc, words)
+        return Ok(Types::new(alloc)?);
     }
+    let Arena { types, .. } = Arena::read(alloc, words)?;
+    Ok(types)
 }
 
 fn is_empty(words: &[&str]) -> bool {
@@ -83,9 +83,9 @@ fn is_item_there(types: usize, funcs: usize, desc: ItemDesc) -> bool
     }
 }
 
-fn read_externs(alloc: Global, arena: &Arena, words: &[&str]) -> Result<Vec<Extern>, RowFault> {
+fn read_externs(alloc: Global, places: Places, words: &[&str]) -> Result<Vec<Extern>, RowFault> {
     let mut externs = Vec::new(alloc);
-    let mut last = Rc::new(alloc, read_instance(alloc, arena, &["-"])?)?;
+    let mut last = Rc::new(alloc, read_instance(alloc, places, &["-"])?)?;
     if is_empty(words) {
         return Ok(externs);
     }
@@ -94,7 +94,7 @@ fn read_externs(alloc: Global, arena: &Arena, words: &[&str]) -> Result<Vec<Exte
             return Err(RowFault::NotARow);
         };
         if let ["instance", _, items @ ..] = desc {
-            last = Rc::new(alloc, read_instance(alloc, arena, items)?)?;
+            last = Rc::new(alloc, read_instance(alloc, places, items)?)?;
         }
         push_externs(alloc, &mut externs, &last, name, desc)?;
     }
@@ -141,11 +141,11 @@ fn read_by(word: &str) -> Result<Option<Move>, RowFault> {
     }
 }
 
-fn read_instance(alloc: Global, arena: &Arena, words: &[&str]) -> Result<InstanceType, RowFault> {
+fn read_instance(alloc: Global, places: Places, words: &[&str]) -> Result<InstanceType, RowFault> {
     let mut items = Vec::new(alloc);
     if !is_empty(words) {
         for words in words.split(|word| *word == ",") {
-            items.push(read_item(alloc, arena, words)?)?;
+            items.push(read_item(alloc, places, words)?)?;
         }
     }
     Ok(InstanceType {
@@ -155,15 +155,15 @@ fn read_instance(alloc: Global, arena: &Arena, words: &[&str]) -> Result<Instanc
     })
 }
 
-fn read_item(alloc: Global, arena: &Arena, words: &[&str]) -> Result<Item, RowFault> {
+fn read_item(alloc: Global, places: Places, words: &[&str]) -> Result<Item, RowFault> {
     let [name, desc @ ..] = words else {
         return Err(RowFault::NotARow);
     };
     let desc = match desc {
         ["func", place @ ..] => ItemDesc::Func(read_func(place)?),
-        ["type", place] => ItemDesc::EqualType(Placed::at(arena.read_place(place)?)),
+        ["type", place] => ItemDesc::EqualType(Placed::at(places.read(place)?)),
         ["type", place, by] => ItemDesc::EqualType(Placed {
-            place: arena.read_place(place)?,
+            place: places.read(place)?,
             by: read_by(by)?,
         }),
         ["equal", number] => ItemDesc::EqualResource(read_number(number)?),
