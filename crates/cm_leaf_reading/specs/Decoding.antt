@@ -48,7 +48,7 @@ from_utf8 : (cs bytes : List ℕ) → IsText IsScalar spell_utf8 cs bytes
 unfolding decoded
 from_utf8 cs bytes t =
     let same : chars bytes ≡ cs =
-        ap chars (sym (spelled cs ∙ t.is)) ∙ chars-encodes cs (from_all cs t.all) in
+    ap chars (sym (spelled cs ∙ t.is)) ∙ chars-encodes cs (from_all cs t.all) in
     is_text utf8 bytes (chars bytes) cs same (from_all cs t.all) t.is
 
 -- ---- UTF-16
@@ -88,7 +88,7 @@ two_units : (c : ℕ) (us : List ℕ) → 0x10000 ≤ c → c < 0x110000
     ≡ c ∷ unpaired us
 two_units c us big small =
     let same : 0x10000 + (0xD800 + (c - 0x10000) / 0x400 - 0xD800) * 0x400
-        + (0xDC00 + (c - 0x10000) % 0x400 - 0xDC00) ≡ c = omega arith in
+    + (0xDC00 + (c - 0x10000) % 0x400 - 0xDC00) ≡ c = omega arith in
     rw (is_high (c - 0x10000) (omega arith)) (ap (λ d. d ∷ unpaired us) same)
 
 below_end : (c : ℕ) → (c < 55296) ⊎ ((57344 ≤ c) × (c < 1114112)) → c < 0x110000
@@ -113,8 +113,8 @@ from_utf16 : (cs bytes : List ℕ) → IsText IsScalar spell_utf16 cs bytes
 unfolding decoded
 from_utf16 cs bytes t =
     let same : unpaired (units bytes) ≡ cs =
-        ap (λ bs. unpaired (units bs)) (sym t.is)
-        ∙ (ap unpaired (units_of_text cs) ∙ all_back cs t.all) in
+    ap (λ bs. unpaired (units bs)) (sym t.is)
+    ∙ (ap unpaired (units_of_text cs) ∙ all_back cs t.all) in
     is_text utf16 bytes (unpaired (units bytes)) cs same (from_all cs t.all) t.is
 
 -- ---- Latin-1

@@ -92,9 +92,14 @@ pub begins : {B K : Type 0} (stand : B → Vals → Type 0) (keeps : K → List 
     → stand row no_vals → keeps old [] old
     → Going stand keeps row old old s s all all F F
 begins stand keeps row old s all F stands none = record {
-    front = no_vals; stands = stands; told = []; kept = none;
-    read = mapped_none all; records = λ vs. refl; met = omega arith
-  }
+  front = no_vals;
+  stands = stands;
+  told = [];
+  kept = none;
+  read = mapped_none all;
+  records = λ vs. refl;
+  met = omega arith;
+}
 
 abbrev pub then_others : Outcome Val → (State → Outcome Vals) → Outcome Vals
 then_others one others = one >>= λ x. mapped (λ vs. val x.0 vs) (others x.1)
@@ -103,7 +108,7 @@ then_others one others = one >>= λ x. mapped (λ vs. val x.0 vs) (others x.1)
 pub turns : {A B K : Type 0} (stands : A → Val → Type 0) (stand : B → Vals → Type 0)
     (keeps : K → List PartRecord → K → Type 0)
     (both : (a b c : K) (rs ss : List PartRecord) → keeps a rs b → keeps b ss c
-        → keeps a (rs ++ ss) c)
+    → keeps a (rs ++ ss) c)
     (R : Val → List PartRecord) (F G H : Vals → List PartRecord) (one : Outcome Val)
     (others : State → Outcome Vals) (all : Outcome Vals)
     (row pushed : B) (made : A) (old now new : K) (s t u : State)
@@ -116,11 +121,11 @@ pub turns : {A B K : Type 0} (stands : A → Val → Type 0) (stand : B → Vals
 turns stands stand keeps both R F G H (Ok x) others all row pushed made old now new s t u
     split far is met push =
     let there : mapped (joined (with_last far.front x.0)) (others u) ≡ all =
-        regroup far.front x.0 (others u)
-        ∙ (ap (λ z. mapped (joined far.front) (mapped (λ vs. val x.0 vs) (others z))) (sym is.0)
-        ∙ far.read) in
+    regroup far.front x.0 (others u)
+    ∙ (ap (λ z. mapped (joined far.front) (mapped (λ vs. val x.0 vs) (others z))) (sym is.0)
+    ∙ far.read) in
     let handles : length x.1.handles ≡ length u.handles =
-        ap (λ (z : State). length z.handles) is.0 in
+    ap (λ (z : State). length z.handles) is.0 in
     record {
       front = with_last far.front x.0;
       stands = push far.front x.0 far.stands is.1.0;
@@ -144,11 +149,11 @@ more_behind : (R : Val → List PartRecord) (F G H : Vals → List PartRecord) (
     → HasMore F s (mapped (joined front) (mapped (λ vs. val x.0 vs) r))
 more_behind R F G H front told x (Ok y) s t split records met more keeps =
     let behind : length (G (val x.0 y.0)) ≡ length (R x.0) + length (H y.0) =
-        ap length (split x.0 y.0) ∙ length-append (R x.0) (H y.0) in
+    ap length (split x.0 y.0) ∙ length-append (R x.0) (H y.0) in
     let whole : length (F (joined front (val x.0 y.0)))
-        ≡ length told + (length (R x.0) + length (H y.0)) =
-        ap length (records (val x.0 y.0))
-        ∙ (length-append told (G (val x.0 y.0)) ∙ ap (λ z. length told + z) behind) in
+    ≡ length told + (length (R x.0) + length (H y.0)) =
+    ap length (records (val x.0 y.0))
+    ∙ (length-append told (G (val x.0 y.0)) ∙ ap (λ z. length told + z) behind) in
     omega (arith, whole, met, more, keeps)
 more_behind R F G H front told x (Err e) s t split records met more keeps = tt
 
@@ -192,10 +197,10 @@ pub ends : {B K : Type 0} (stand : B → Vals → Type 0) (keeps : K → List Pa
     → IsRead all t (λ vs. stand row vs × keeps old (F vs) now)
 ends stand keeps F G all rest row old now s t far none empty =
     let total : all ≡ Ok (far.front, t) =
-        sym far.read ∙ (ap (λ z. mapped (joined far.front) z) none
-        ∙ ap (λ (vs : Vals). read_ok vs t) (joined_none far.front)) in
+    sym far.read ∙ (ap (λ z. mapped (joined far.front) z) none
+    ∙ ap (λ (vs : Vals). read_ok vs t) (joined_none far.front)) in
     let told : F far.front ≡ far.told =
-        ap F (sym (joined_none far.front))
-        ∙ (far.records no_vals ∙ (ap (λ z. far.told ++ z) empty ∙ append-nil far.told)) in
+    ap F (sym (joined_none far.front))
+    ∙ (far.records no_vals ∙ (ap (λ z. far.told ++ z) empty ∙ append-nil far.told)) in
     read_is all far.front t (λ vs. stand row vs × keeps old (F vs) now) total
     (far.stands, subst (λ z. keeps old z now) (sym told) far.kept)

@@ -64,7 +64,7 @@ next_handles v vs rest k l total is l_is so_far =
 pub parts_next : (ps : List CodedPart) (i : ℕ) (p : CodedPart) → i < length ps → p ≡ get_or ps i p
     → parts_from (map part_of (drop i ps))
     ≡ part (part_of p).0 (part_of p).1.head (part_of p).1.shape
-        (parts_from (map part_of (drop (i + 1) ps)))
+    (parts_from (map part_of (drop (i + 1) ps)))
 parts_next ps i p lt is =
     let split : drop i ps ≡ p ∷ drop (i + 1) ps = rw (add-one, drop-cons ps i p lt, ← is) refl in
     rw split refl
