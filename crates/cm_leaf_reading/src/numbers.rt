@@ -24,7 +24,8 @@ fn number_16(memory: &[u8], at: usize) -> u16
     LittleEndian::read_u16(&memory[at..])
 }
 
-/// The number of 32 bits at an address.
+/// The number of 32 bits at an address, in bytes from 0: the standard's `load_int` of four bytes,
+/// little end first (CanonicalABI.md, "Loading"). The memory holds these four bytes.
 pub fn number_32(memory: &[u8], at: usize) -> u32
     requires { at + 4 ≤ length memory.now }
     ensures { result ≡ number_at 4 memory.now at }
@@ -40,7 +41,9 @@ fn number_64(memory: &[u8], at: usize) -> u64
     LittleEndian::read_u64(&memory[at..])
 }
 
-/// The number of so many bytes at an address.
+/// The number of so many bytes (1, 2, 4 or 8) at an address, in bytes from 0: the standard's
+/// `load_int` without sign, little end first (CanonicalABI.md, "Loading"). The memory holds these
+/// bytes.
 pub fn number_at(memory: &[u8], bytes: u32, at: usize) -> u64
     requires size { IsNumberSize bytes }
     requires within { at + bytes ≤ length memory.now }

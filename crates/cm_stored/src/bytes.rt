@@ -5,7 +5,8 @@ ghost use Rattle.cm_abi_model.specs.Stores.{bytes_of, placed, pointer_bytes, pok
 
 use byteorder::{ByteOrder, LittleEndian};
 
-/// Writes bytes that lie inside.
+/// Writes bytes at an address, in bytes from 0, where they lie inside the memory; no other byte
+/// of it changes (CanonicalABI.md, "Storing").
 pub fn write_bytes(memory: &mut [u8], at: usize, bytes: &[u8])
     requires inside { at + length bytes.now ≤ length memory.old }
     ensures stored { memory.new ≡ poke (placed at bytes.now) memory.old }
@@ -14,7 +15,9 @@ pub fn write_bytes(memory: &mut [u8], at: usize, bytes: &[u8])
     memory[at..at + bytes.len()].copy_from_slice(bytes);
 }
 
-/// Writes the lowest bytes of a number, so many, little end first.
+/// Writes the lowest bytes of a number, so many, at an address, in bytes from 0: the standard's
+/// `store_int`, little end first (CanonicalABI.md, "Storing"). They lie inside the memory, and no
+/// other byte of it changes.
 pub fn write_number(memory: &mut [u8], at: usize, size: u32, number: u64)
     requires inside { at + size ≤ length memory.old }
     ensures stored { memory.new ≡ poke (placed at (bytes_of size number)) memory.old }
