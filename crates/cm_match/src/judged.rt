@@ -1,10 +1,10 @@
 //! Imports that were judged already.
 
 ghost use Rattle.std.specs.Prelude.{◌≡◌, IfOk, OnOk};
-ghost use Rattle.cm_match.specs.Pairs.{AreTables};
+ghost use Rattle.cm_match.specs.Pairs.{AreTables, instance_of_export, type_of_import};
 
-use cm_links::LinkReason;
 use cm_links::alike_laws::imports_are_served_alike;
+use cm_links::{Link, LinkReason};
 use cm_serving::{Checked, Linking, Tables};
 use cm_shared::Shared;
 use cm_validity::counted_laws::{moves_of_what_is_counted, resources_are_counted};
@@ -34,6 +34,22 @@ fn shared_in(alloc: Global, components: &[Checked<'_>]) -> Result<Vec<Shared>, A
     Ok(tables)
 }
 
+/// The number of the type of an import of a component, where it is an instance.
+fn type_of(tables: &[Shared], component: usize, import: usize) -> Option<usize>
+    ensures { result ≡ type_of_import tables.now component import }
+{
+    tables.get(component)?.import_type(import)
+}
+
+/// The number of the instance that an export is, where it is one.
+fn instance_of(tables: &[Shared], link: Link) -> Option<usize>
+    ensures { result ≡ instance_of_export tables.now link }
+{
+    tables
+        .get(link.component as usize)?
+        .exported_instance(link.export)
+}
+
 impl Judged {
     ghost use Rattle.std.specs.Prelude.{IfSome, IsTrue, Some};
     ghost use Rattle.cm_types.specs.Signatures.{NamedExtern};
@@ -58,11 +74,10 @@ impl Judged {
         ensures { IfSome result
             (IsPairOf (set_in linking.now) self.now.shared.items component import) }
     {
-        let ty = self.shared.get(component)?.import_type(import)?;
+        let ty = type_of(&self.shared, component, import)?;
         let link = linking.link(u32::try_from(component).ok()?, import)?;
-        let provider = link.component as usize;
-        let instance = self.shared.get(provider)?.exported_instance(link.export)?;
-        Some(((component, ty), (provider, instance)))
+        let instance = instance_of(&self.shared, link)?;
+        Some(((component, ty), (link.component as usize, instance)))
     }
 
     /// Whether an import of this pair was compared, and is served.

@@ -9,8 +9,8 @@ mod script;
 mod statement;
 
 pub use cm_machine::{
-    Checked, Event, ExportEntry, Guest, LinkFault, LinkReason, Linked, Misuse, PlanLine, Player,
-    Set, Trap, link,
+    Checked, Event, ExportEntry, Guest, LinkFault, LinkReason, Linked, Misuse, Move, PlanLine,
+    Player, Set, Trap, link,
 };
 pub use forms::form_of;
 pub use guest::ScriptGuest;

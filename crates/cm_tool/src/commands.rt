@@ -76,10 +76,21 @@ fn run_check<'a, F: Files, O: Write>(
     files: &mut F,
     out: &mut O,
 ) -> Result<Outcome, Fault<'a>> {
+    let (imports, exports) = counts_of(alloc, name, files)?;
+    writeln!(out, "ok: {imports} imports, {exports} exports")?;
+    out.flush()?;
+    Ok(Outcome::Done)
+}
+
+/// How many imports and how many exports the component of a file has.
+fn counts_of<'a, F: Files>(
+    alloc: Global,
+    name: &'a str,
+    files: &mut F,
+) -> Result<(usize, usize), BadFile<'a>> {
     let component = load(alloc, files, name)?;
     let checked = checked_of(alloc, name, &component)?;
-    write_counts(out, &checked)?;
-    Ok(Outcome::Done)
+    Ok((checked.imports().len(), checked.exports().len()))
 }
 
 fn run_show<'a, F: Files, O: Write>(
@@ -88,15 +99,20 @@ fn run_show<'a, F: Files, O: Write>(
     files: &mut F,
     out: &mut O,
 ) -> Result<Outcome, Fault<'a>> {
+    let text = shown_text(alloc, name, files)?;
+    write_text(out, text.as_str())?;
+    Ok(Outcome::Done)
+}
+
+/// The text that shows the component of a file.
+fn shown_text<'a, F: Files>(
+    alloc: Global,
+    name: &'a str,
+    files: &mut F,
+) -> Result<String, Fault<'a>> {
     let component = load(alloc, files, name)?;
     let checked = checked_of(alloc, name, &component)?;
-    match show_component(alloc, checked) {
-        Ok(text) => {
-            write_text(out, text.as_str())?;
-            Ok(Outcome::Done)
-        }
-        Err(fault) => Err(Fault::Show { name, fault }),
-    }
+    show_component(alloc, checked).map_err(|fault| Fault::Show { name, fault })
 }
 
 fn run_conform<'a, F: Files, O: Write>(
@@ -131,32 +147,24 @@ fn unfit_reason<'a, F: Files>(
 ) -> Result<Option<UnfitReason>, BadFile<'a>> {
     let component = load(alloc, files, file)?;
     let checked = checked_of(alloc, file, &component)?;
-    let bytes = read_file(alloc, files, wit)?;
-    unfit_to_bytes(alloc, wit, bytes.as_slice(), world, checked)
+    unfit_checked(alloc, wit, world, checked, files)
 }
 
-/// Why a component does not fit a world of the text that these bytes of a file are.
-fn unfit_to_bytes<'a>(
+/// Why a component does not fit a world of the text of a file; `None` where it does.
+fn unfit_checked<'a, F: Files>(
     alloc: Global,
     wit: &'a str,
-    bytes: &[u8],
     world: &str,
     component: Checked<'_>,
+    files: &mut F,
 ) -> Result<Option<UnfitReason>, BadFile<'a>> {
-    let text = text_of(wit, bytes)?;
+    let bytes = read_file(alloc, files, wit)?;
+    let text = text_of(wit, bytes.as_slice())?;
     Ok(conform_component(alloc, text, world, component).err())
 }
 
 fn write_text<O: Write>(out: &mut O, text: &str) -> io::Result<()> {
     out.write_all(text.as_bytes())?;
-    out.flush()
-}
-
-/// Writes how many imports and exports a component has.
-fn write_counts<O: Write>(out: &mut O, checked: &Checked<'_>) -> io::Result<()> {
-    let imports = checked.imports().len();
-    let exports = checked.exports().len();
-    writeln!(out, "ok: {imports} imports, {exports} exports")?;
     out.flush()
 }
 

@@ -46,51 +46,37 @@ impl<'a> LoadedFiles<'a> {
     /// The linked set of the components, which borrows them. They are validated in order, and then
     /// linked; the first fault in the order of the files is told, and else that of the links.
     pub fn link<'b>(&'b self, alloc: Global) -> Result<Linked<'b>, Fault<'a>> {
-        let mut names = Vec::with_capacity(alloc, self.loaded.len())?;
-        let components = self.check(alloc, &mut names)?;
+        let components = self.check(alloc)?;
+        let names = self.names(alloc, &components)?;
         match link(alloc, components) {
             Ok(linked) => Ok(linked),
             Err(fault) => Err(Fault::Link { fault, names }),
         }
     }
 
-    /// The components as valid ones, in order, where all files have been read; their names are
-    /// added to the list.
-    fn check<'b>(
-        &'b self,
-        alloc: Global,
-        names: &mut Vec<SignatureNames<'a>>,
-    ) -> Result<Vec<Checked<'b>>, Fault<'a>> {
+    /// The components as valid ones, in order, where all files have been read.
+    fn check<'b>(&'b self, alloc: Global) -> Result<Vec<Checked<'b>>, Fault<'a>> {
         let mut components = Vec::with_capacity(alloc, self.loaded.len())?;
         for file in &self.loaded {
-            components.push(file.check(alloc, names)?)?;
+            components.push(checked_of(alloc, file.name, &file.component)?)?;
         }
         match self.fault {
             Some(bad) => Err(Fault::File(bad)),
             None => Ok(components),
         }
     }
-}
 
-impl<'a> LoadedFile<'a> {
-    /// The component as a valid one; its names are added to the list.
-    fn check<'b>(
-        &'b self,
-        alloc: Global,
-        names: &mut Vec<SignatureNames<'a>>,
-    ) -> Result<Checked<'b>, Fault<'a>> {
-        let checked = checked_of(alloc, self.name, &self.component)?;
-        self.add_names(alloc, &checked, names)?;
-        Ok(checked)
-    }
-
-    fn add_names(
+    /// The names of what the components import and export, in order.
+    fn names(
         &self,
         alloc: Global,
-        checked: &Checked<'_>,
-        names: &mut Vec<SignatureNames<'a>>,
-    ) -> Result<(), AllocError> {
-        Ok(names.push(SignatureNames::new(alloc, self.name, checked)?)?)
+        components: &[Checked<'_>],
+    ) -> Result<Vec<SignatureNames<'a>>, AllocError> {
+        let mut names = Vec::with_capacity(alloc, components.len())?;
+        for (file, checked) in self.loaded.iter().zip(components) {
+            names.push(SignatureNames::new(alloc, file.name, checked)?)?;
+        }
+        Ok(names)
     }
 }
 

@@ -8,7 +8,7 @@ mod play_help;
 mod script_help;
 
 pub use cm_script::{
-    Event, Guest, LinkFault, Linked, Misuse, Player, Script, ScriptGuest, Set, link,
+    Event, Guest, LinkFault, Linked, Misuse, Move, Player, Script, ScriptGuest, Set, link,
 };
 pub use events::write_event;
 pub use link_help::{SignatureNames, write_link_fault};
