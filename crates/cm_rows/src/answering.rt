@@ -2,13 +2,15 @@
 //! answer.
 
 use crate::fault::RowFault;
+use crate::line::Line;
 use std::alloc::Global;
 use std::io;
 
 /// What answers rows, in their order.
 pub trait Driver {
-    /// The answer to a row, whose words stand one space apart.
-    fn answer(&mut self, alloc: Global, words: &[&str]) -> Result<String, RowFault>;
+    /// Writes the answer to a row, whose words stand one space apart. Where there is none, what was
+    /// written is let go.
+    fn answer(&mut self, alloc: Global, words: &[&str], line: &mut Line) -> Result<(), RowFault>;
 }
 
 /// Reads lines to the end of standard input, and prints each as `LINE -> ANSWER`. Empty lines and
@@ -35,5 +37,7 @@ pub fn answer_rows<D: Driver>(
 
 fn answer_line<D: Driver>(driver: &mut D, alloc: Global, line: &str) -> Result<String, RowFault> {
     let words: Vec<&str> = line.split(' ').collect(alloc)?;
-    driver.answer(alloc, words.as_slice())
+    let mut answer = Line::new(alloc);
+    driver.answer(alloc, words.as_slice(), &mut answer)?;
+    answer.done()
 }

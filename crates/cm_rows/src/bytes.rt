@@ -1,6 +1,7 @@
 //! Bytes in hexadecimal digits.
 
 use crate::fault::RowFault;
+use crate::line::Line;
 use crate::words::split_repeat;
 use hex::FromHexError;
 use std::alloc::{AllocError, Global};
@@ -43,11 +44,11 @@ fn decode(alloc: Global, digits: &str) -> Result<Vec<u8>, RowFault> {
 }
 
 /// Writes bytes as pairs of digits, or `-` for none.
-pub fn write_bytes(out: &mut String, bytes: &[u8]) -> Result<(), AllocError> {
+pub fn write_bytes(line: &mut Line, bytes: &[u8]) {
     if bytes.is_empty() {
-        return out.push_str("-");
+        line.put("-");
     }
-    write_digits(out, bytes)
+    write_digits(line, bytes);
 }
 
 /// Units that are equal and follow one another are written once from this many on.
@@ -55,9 +56,10 @@ const LEAST_REPEAT: usize = 4;
 
 /// Writes bytes as [`read_bytes`] reads them. A run of at least four equal units of `unit` bytes is
 /// a part of its own, written once with its number.
-pub fn write_units(out: &mut String, bytes: &[u8], unit: usize) -> Result<(), AllocError> {
+pub fn write_units(line: &mut Line, bytes: &[u8], unit: usize) {
     if bytes.is_empty() {
-        return out.push_str("-");
+        line.put("-");
+        return;
     }
     let mut rest = bytes;
     let mut is_open = false;
@@ -68,12 +70,13 @@ pub fn write_units(out: &mut String, bytes: &[u8], unit: usize) -> Result<(), Al
         let times = repeats(rest, first);
         let count = if times < LEAST_REPEAT { 1 } else { times };
         if !is_first && (times >= LEAST_REPEAT || !is_open) {
-            out.push_str(".")?;
+            line.put(".");
         }
         if times >= LEAST_REPEAT {
-            write!(out, "{times}*")?;
+            line.show(times);
+            line.put("*");
         }
-        write_digits(out, first)?;
+        write_digits(line, first);
         is_open = times < LEAST_REPEAT;
         is_first = false;
         rest = rest.get(count.saturating_mul(size)..).unwrap_or(&[]);
@@ -81,7 +84,6 @@ pub fn write_units(out: &mut String, bytes: &[u8], unit: usize) -> Result<(), Al
             break;
         }
     }
-    Ok(())
 }
 
 /// How often a unit stands at the front of bytes, one after another.
@@ -95,9 +97,8 @@ fn repeats(bytes: &[u8], unit: &[u8]) -> usize {
         .count()
 }
 
-fn write_digits(out: &mut String, bytes: &[u8]) -> Result<(), AllocError> {
+fn write_digits(line: &mut Line, bytes: &[u8]) {
     for byte in bytes {
-        write!(out, "{byte:02x}")?;
+        line.pair(*byte);
     }
-    Ok(())
 }

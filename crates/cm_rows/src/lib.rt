@@ -4,9 +4,11 @@
 mod answering;
 mod bytes;
 mod fault;
+mod line;
 mod words;
 
 pub use answering::{Driver, answer_rows};
 pub use bytes::{read_bytes, write_bytes, write_units};
 pub use fault::RowFault;
+pub use line::Line;
 pub use words::{read_number, split_repeat, split_words};

@@ -9,10 +9,10 @@
 //! `last`, that of the type that was added last. `N*` before an item stands for N of them, before
 //! a place for N of that place.
 
-use crate::plain::show_fault;
+use crate::plain::write_fault;
 use crate::words::{read_labels, read_primitive, read_resource};
 use cm_layout::{layout_of_params, size};
-use cm_rows::{RowFault, read_number, split_repeat, split_words};
+use cm_rows::{Line, RowFault, read_number, split_repeat, split_words};
 use cm_type_arena::{CaseDef, DefFault, FieldDef, FuncDef, Primitive, Summary, TypeDef, Types};
 use cm_types::{Func, Label, TypeTree};
 use std::alloc::{AllocError, Global};
@@ -21,19 +21,25 @@ use std::rc::Rc;
 /// The answer to `ITEM ; ITEM ..`: of each item, and of several alike of the last, the place with
 /// those of its parts, what is known of it and its size in bytes; or its fault; or `unordered`
 /// where a part has no place.
-pub fn answer(alloc: Global, words: &[&str]) -> Result<String, RowFault> {
-    let arena = Arena::read(alloc, words)?;
-    Ok(arena.out)
+pub fn answer(alloc: Global, words: &[&str], line: &mut Line) -> Result<(), RowFault> {
+    let mut arena = Arena::new(alloc)?;
+    for (place, words) in words.split(|word| *word == ";").enumerate() {
+        let outcome = arena.read_item(words)?;
+        if place > 0 {
+            line.put(" ; ");
+        }
+        arena.write_outcome(outcome, line)?;
+    }
+    Ok(())
 }
 
-/// The types so far, and what is answered.
+/// The types so far.
 #[derive(Drop)]
 pub struct Arena {
     alloc: Global,
     pub types: Types,
     /// Where the items begin: the primitive types stand before them.
     pub first: usize,
-    out: String,
 }
 
 /// What became of an item.
@@ -55,7 +61,6 @@ impl Arena {
             alloc,
             first: types.len(),
             types,
-            out: String::new(alloc),
         })
     }
 
@@ -68,8 +73,8 @@ impl Arena {
         Ok(arena)
     }
 
-    /// Adds an item, or several alike, and answers it.
-    fn read_item(&mut self, words: &[&str]) -> Result<(), RowFault> {
+    /// Adds an item, or several alike: what became of the last.
+    fn read_item(&mut self, words: &[&str]) -> Result<Outcome, RowFault> {
         let [word, words @ ..] = words else {
             return Err(RowFault::NotARow);
         };
@@ -78,12 +83,7 @@ impl Arena {
         for _ in 0..times {
             outcome = self.push(word, words)?;
         }
-        let answer = self.show(outcome)?;
-        if !self.out.is_empty() {
-            self.out.push_str(" ; ")?;
-        }
-        self.out.push_str(&answer)?;
-        Ok(())
+        Ok(outcome)
     }
 
     fn push(&mut self, word: &str, words: &[&str]) -> Result<Outcome, RowFault> {
@@ -116,47 +116,54 @@ impl Arena {
         }
     }
 
-    fn show(&self, outcome: Outcome) -> Result<String, RowFault> {
+    fn write_outcome(&self, outcome: Outcome, line: &mut Line) -> Result<(), RowFault> {
         match outcome {
-            Outcome::Type(place) => self.show_type(place),
-            Outcome::Func(place) => self.show_func(place),
-            Outcome::Refused(fault) => show_fault(self.alloc, fault as u8),
-            Outcome::Unordered => Ok(String::from_str(self.alloc, "unordered")?),
+            Outcome::Type(place) => return self.write_type(place, line),
+            Outcome::Func(place) => return self.write_func(place, line),
+            Outcome::Refused(fault) => write_fault(line, fault as u8),
+            Outcome::Unordered => line.put("unordered"),
         }
+        Ok(())
     }
 
-    /// `PLACE of PARTS: SUMMARY, SIZE`.
-    fn show_type(&self, place: usize) -> Result<String, RowFault> {
+    /// Writes `PLACE of PARTS: SUMMARY, SIZE`.
+    fn write_type(&self, place: usize, line: &mut Line) -> Result<(), RowFault> {
         if place >= self.types.len() {
             return Err(RowFault::NotARow);
         }
         let size = size_of(self.types.tree(place)?);
-        let mut out = String::new(self.alloc);
-        write!(out, "{place} of")?;
-        write_places(&mut out, self.types.parts(place))?;
-        out.push_str(":")?;
-        write_summary(&mut out, self.types.summary(place))?;
-        write!(out, ", size {size}")?;
-        Ok(out)
+        line.show(place);
+        line.put(" of");
+        write_places(line, self.types.parts(place));
+        line.put(":");
+        write_summary(line, self.types.summary(place));
+        line.put(", size ");
+        line.show(size);
+        Ok(())
     }
 
-    /// `func PLACE of PARAMETERS to RESULT: SUMMARY, SIZE` of the parameters as a tuple.
-    fn show_func(&self, place: usize) -> Result<String, RowFault> {
+    /// Writes `func PLACE of PARAMETERS to RESULT: SUMMARY, SIZE` of the parameters as a tuple.
+    fn write_func(&self, place: usize, line: &mut Line) -> Result<(), RowFault> {
         if place >= self.types.func_count() {
             return Err(RowFault::NotARow);
         }
         let size = size_of_params(self.alloc, self.types.share_func(place)?)?;
-        let mut out = String::new(self.alloc);
-        write!(out, "func {place} of")?;
-        write_places(&mut out, self.types.func_params(place))?;
+        line.put("func ");
+        line.show(place);
+        line.put(" of");
+        write_places(line, self.types.func_params(place));
+        line.put(" to ");
         match self.types.func_result(place) {
-            Some(answer) => write!(out, " to {answer}:")?,
-            None => out.push_str(" to -:")?,
+            Some(answer) => line.show(answer),
+            None => line.put("-"),
         }
-        write_summary(&mut out, self.types.params_summary(place))?;
-        let labels = self.types.func(place).params.len();
-        write!(out, ", {labels} of size {size}")?;
-        Ok(out)
+        line.put(":");
+        write_summary(line, self.types.params_summary(place));
+        line.put(", ");
+        line.show(self.types.func(place).params.len());
+        line.put(" of size ");
+        line.show(size);
+        Ok(())
     }
 }
 
@@ -331,37 +338,40 @@ fn size_of_params(alloc: Global, func: Rc<Func>) -> Result<u32, AllocError> {
     Ok(layout_of_params(alloc, &func)?.head.size)
 }
 
-/// Each place after a space; `-` for none.
-fn write_places(out: &mut String, places: &[usize]) -> Result<(), AllocError> {
+/// Writes each place after a space, of the first eight, and how many others there are; `-` for
+/// none.
+fn write_places(line: &mut Line, places: &[usize]) {
     if places.is_empty() {
-        return out.push_str(" -");
+        line.put(" -");
+        return;
     }
     let shown = places.len().min(8);
     for place in &places[..shown] {
-        write!(out, " {place}")?;
+        line.put(" ");
+        line.show(*place);
     }
     if places.len() > shown {
-        let others = places.len() - shown;
-        write!(out, " and {others}")?;
+        line.put(" and ");
+        line.show(places.len() - shown);
     }
-    Ok(())
 }
 
-/// ` NODES/DEPTH`, and what the type holds.
-fn write_summary(out: &mut String, summary: Summary) -> Result<(), AllocError> {
-    let (nodes, depth) = (summary.nodes, summary.depth);
-    write!(out, " {nodes}/{depth}")?;
+/// Writes ` NODES/DEPTH`, and what the type holds.
+fn write_summary(line: &mut Line, summary: Summary) {
+    line.put(" ");
+    line.show(summary.nodes);
+    line.put("/");
+    line.show(summary.depth);
     if summary.holds_string {
-        out.push_str(" string")?;
+        line.put(" string");
     }
     if summary.holds_list {
-        out.push_str(" list")?;
+        line.put(" list");
     }
     if summary.holds_borrow {
-        out.push_str(" borrow")?;
+        line.put(" borrow");
     }
     if summary.holds_handle {
-        out.push_str(" handle")?;
+        line.put(" handle");
     }
-    Ok(())
 }

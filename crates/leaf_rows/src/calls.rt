@@ -33,53 +33,58 @@ mod scanned;
 mod tables;
 mod values;
 
-use cm_rows::{RowFault, split_words};
+use cm_rows::{Line, RowFault, split_words};
 use std::alloc::Global;
 
-/// The answer to a row on a call, or on one step of it.
-pub fn answer(alloc: Global, words: &[&str]) -> Result<String, RowFault> {
+/// Writes the answer to a row on a call, or on one step of it.
+pub fn answer(alloc: Global, words: &[&str], line: &mut Line) -> Result<(), RowFault> {
     let [verb, rest @ ..] = words else {
         return Err(RowFault::NotARow);
     };
     match *verb {
-        "lift" => lift(alloc, rest),
-        "pass" => pass(alloc, rest),
-        "requests" => ask(alloc, rest),
-        "give" => giving::answer(alloc, rest),
-        "answers" => answers::answer(alloc, rest),
-        verb => call_or_scan(alloc, verb, rest),
+        "lift" => lift(alloc, rest, line),
+        "pass" => pass(alloc, rest, line),
+        "requests" => ask(alloc, rest, line),
+        "give" => giving::answer(alloc, rest, line),
+        "answers" => answers::answer(alloc, rest, line),
+        verb => call_or_scan(alloc, verb, rest, line),
     }
 }
 
-fn lift(alloc: Global, words: &[&str]) -> Result<String, RowFault> {
+fn lift(alloc: Global, words: &[&str], line: &mut Line) -> Result<(), RowFault> {
     let [way, source, memory, table, rest @ ..] = words else {
         return Err(RowFault::NotARow);
     };
     let sides = call::read_sides(source, "utf8", "0", "0")?;
     let given = call::read_call(alloc, sides, way, memory, rest, &[])?;
-    lifted::answer(alloc, &given, table)
+    lifted::answer(alloc, &given, table, line)
 }
 
-fn pass(alloc: Global, words: &[&str]) -> Result<String, RowFault> {
+fn pass(alloc: Global, words: &[&str], line: &mut Line) -> Result<(), RowFault> {
     let [way, source, memory, table, instance, rest @ ..] = words else {
         return Err(RowFault::NotARow);
     };
     let sides = call::read_sides(source, "utf8", "0", instance)?;
     let given = call::read_call(alloc, sides, way, memory, rest, &[])?;
-    lifted::pass(alloc, &given, table)
+    lifted::pass(alloc, &given, table, line)
 }
 
-fn ask(alloc: Global, words: &[&str]) -> Result<String, RowFault> {
+fn ask(alloc: Global, words: &[&str], line: &mut Line) -> Result<(), RowFault> {
     let [way, source, memory, table, target, rest @ ..] = words else {
         return Err(RowFault::NotARow);
     };
     call::read_stored(source)?;
     let sides = call::read_sides(source, target, "0", "0")?;
     let given = call::read_call(alloc, sides, way, memory, rest, &[])?;
-    lifted::ask(alloc, &given, table)
+    lifted::ask(alloc, &given, table, line)
 }
 
-fn call_or_scan(alloc: Global, verb: &str, words: &[&str]) -> Result<String, RowFault> {
+fn call_or_scan(
+    alloc: Global,
+    verb: &str,
+    words: &[&str],
+    line: &mut Line,
+) -> Result<(), RowFault> {
     let [
         way,
         source,
@@ -97,15 +102,13 @@ fn call_or_scan(alloc: Global, verb: &str, words: &[&str]) -> Result<String, Row
     let sides = call::read_sides(source, target, length, instance)?;
     let (rest, answers) = split_words(rest, "at")?;
     let given = call::read_call(alloc, sides, way, memory, rest, answers)?;
-    let mut out = String::new(alloc);
     match verb {
         "call" => {
-            lowered::answer(alloc, &given, table, received, &mut out)?;
-            out.push_str(" | ")?;
+            lowered::answer(alloc, &given, table, received, line)?;
+            line.put(" | ");
         }
         "scan" => {}
         _ => return Err(RowFault::NotARow),
     }
-    scanned::answer(alloc, &given, table, received, &mut out)?;
-    Ok(out)
+    scanned::answer(alloc, &given, table, received, line)
 }

@@ -2,26 +2,32 @@
 
 use crate::words::read_name;
 use cm_candidates::{Candidate, Exports};
-use cm_rows::RowFault;
-use std::alloc::{AllocError, Global};
+use cm_rows::{Line, RowFault};
+use std::alloc::Global;
 
 /// The answer to `WANTED NAME..`, a name and those of the exports of components, with a `|` between
 /// those of two components: `none` may serve an import of the name, `one COMPONENT NUMBER`, or
 /// `several`.
-pub fn answer(alloc: Global, words: &[&str]) -> Result<String, RowFault> {
+pub fn answer(alloc: Global, words: &[&str], line: &mut Line) -> Result<(), RowFault> {
     let [wanted, names @ ..] = words else {
         return Err(RowFault::NotARow);
     };
     let exports = read_exports(alloc, names)?;
     let wanted = read_name(alloc, wanted)?;
-    Ok(show(alloc, exports.candidate(alloc, &wanted)?)?)
+    write_candidate(line, exports.candidate(alloc, &wanted)?);
+    Ok(())
 }
 
-fn show(alloc: Global, candidate: Candidate) -> Result<String, AllocError> {
+fn write_candidate(line: &mut Line, candidate: Candidate) {
     match candidate {
-        Candidate::None => String::from_str(alloc, "none"),
-        Candidate::One { component, export } => format!(in alloc; "one {component} {export}"),
-        Candidate::Several => String::from_str(alloc, "several"),
+        Candidate::None => line.put("none"),
+        Candidate::One { component, export } => {
+            line.put("one ");
+            line.show(component);
+            line.put(" ");
+            line.show(export);
+        }
+        Candidate::Several => line.put("several"),
     }
 }
 

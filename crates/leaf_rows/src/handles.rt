@@ -4,12 +4,12 @@ ghost use Rattle.std.specs.Prelude.{◌^◌, ◌<◌, IsTrue};
 ghost use Rattle.std.specs.Option.{ForSome};
 ghost use Rattle.cm_handles.specs.Handles.{handle_at};
 
-use crate::plain;
+use crate::plain::write_fault;
 use crate::words::read_resource;
 use cm_handles::{Handle, HandleFault, HandleKind, Table};
-use cm_rows::{RowFault, read_number};
+use cm_rows::{Line, RowFault, read_number};
 use cm_types::ResourceId;
-use std::alloc::{AllocError, Global};
+use std::alloc::Global;
 
 /// The two resources that a table of rows holds handles of.
 const RESOURCES: [ResourceId; 2] = [
@@ -40,80 +40,87 @@ impl Handles {
     /// The answer to `new`, `memory_fault` (the number of the one that no row meets), `fill COUNT
     /// RESOURCE SERIAL`, `add HANDLE..`, or a call by its name, whose words are those of its
     /// arguments.
-    pub fn answer(&mut self, alloc: Global, words: &[&str]) -> Result<String, RowFault> {
+    pub fn answer(
+        &mut self,
+        alloc: Global,
+        words: &[&str],
+        line: &mut Line,
+    ) -> Result<(), RowFault> {
         let [call, rest @ ..] = words else {
             return Err(RowFault::NotARow);
         };
         match *call {
-            "add" => show_index(alloc, self.table.add(read_handle(rest)?)),
-            "fill" => self.fill(alloc, rest),
-            "restore" => self.restore(alloc, rest),
+            "add" => write_index(line, self.table.add(read_handle(rest)?)),
+            "fill" => self.fill(rest, line),
+            "restore" => self.restore(rest, line),
             call => match rest {
-                [] => self.answer_word(alloc, call),
+                [] => self.answer_word(alloc, call, line),
                 [additional] if call == "reserve" => {
-                    show_unit(alloc, self.table.reserve(read_number(additional)?))
+                    write_unit(line, self.table.reserve(read_number(additional)?))
                 }
                 [index, resource] => self.call(
-                    alloc,
                     call,
                     read_number(index)?,
                     read_resource(resource)?,
+                    line,
                 ),
                 _ => Err(RowFault::NotARow),
             },
         }
     }
 
-    fn answer_word(&mut self, alloc: Global, word: &str) -> Result<String, RowFault> {
+    fn answer_word(&mut self, alloc: Global, word: &str, line: &mut Line) -> Result<(), RowFault> {
         match word {
             "new" => {
                 self.table = Table::new(alloc);
-                Ok(String::from_str(alloc, "empty")?)
+                line.put("empty");
             }
-            "memory_fault" => plain::show_fault(alloc, HandleFault::Memory.number()),
+            "memory_fault" => write_fault(line, HandleFault::Memory.number()),
             "close" => {
                 self.table.close();
-                Ok(String::from_str(alloc, "closed")?)
+                line.put("closed");
             }
-            _ => Err(RowFault::NotARow),
+            _ => return Err(RowFault::NotARow),
         }
+        Ok(())
     }
 
     /// A call that takes the index of a handle and its resource.
     fn call(
         &mut self,
-        alloc: Global,
         call: &str,
         index: u32,
         resource: ResourceId,
-    ) -> Result<String, RowFault> {
+        line: &mut Line,
+    ) -> Result<(), RowFault> {
         match call {
-            "get" => show_handle(alloc, self.table.get(index, resource)),
-            "drop_handle" => show_handle(alloc, self.table.drop_handle(index, resource)),
-            "take_own" => show_handle(alloc, self.table.take_own(index, resource)),
+            "get" => write_handle(line, self.table.get(index, resource)),
+            "drop_handle" => write_handle(line, self.table.drop_handle(index, resource)),
+            "take_own" => write_handle(line, self.table.take_own(index, resource)),
             "lend" => {
                 if !may_lend(&self.table, index) {
                     return Err(RowFault::NotARow);
                 }
-                show_handle(alloc, self.table.lend(index, resource))
+                write_handle(line, self.table.lend(index, resource));
             }
             "unlend" => {
                 match self.table.get(index, resource) {
                     Ok(handle) if handle.lends > 0 => self.table.unlend(index),
                     _ => return Err(RowFault::NotARow),
                 }
-                show_handle(alloc, self.table.get(index, resource))
+                write_handle(line, self.table.get(index, resource));
             }
-            _ => Err(RowFault::NotARow),
+            _ => return Err(RowFault::NotARow),
         }
+        Ok(())
     }
 
-    fn fill(&mut self, alloc: Global, words: &[&str]) -> Result<String, RowFault> {
+    fn fill(&mut self, words: &[&str], line: &mut Line) -> Result<(), RowFault> {
         match words {
             [count, handle @ ..] => self.add_several(
-                alloc,
                 read_number(count)?,
                 read_handle(handle)?,
+                line,
             ),
             [] => Err(RowFault::NotARow),
         }
@@ -121,30 +128,27 @@ impl Handles {
 
     /// Adds so many handles, of which each is to stand at the index after that of the one before
     /// it.
-    fn add_several(
-        &mut self,
-        alloc: Global,
-        count: u32,
-        handle: Handle,
-    ) -> Result<String, RowFault> {
+    fn add_several(&mut self, count: u32, handle: Handle, line: &mut Line) -> Result<(), RowFault> {
         let mut last = 0u32;
         for _ in 0..count {
             let rep = last.saturating_add(1);
             match self.table.add(Handle { rep, ..handle }) {
                 Ok(index) if index == rep => last = rep,
-                other => return show_index(alloc, other),
+                other => return write_index(line, other),
             }
         }
-        Ok(format!(in alloc; "up to {last}")?)
+        line.put("up to ");
+        line.show(last);
+        Ok(())
     }
 
-    fn restore(&mut self, alloc: Global, words: &[&str]) -> Result<String, RowFault> {
+    fn restore(&mut self, words: &[&str], line: &mut Line) -> Result<(), RowFault> {
         match words {
             [first, second, resource] => self.take_and_restore(
-                alloc,
                 read_number(first)?,
                 read_number(second)?,
                 read_resource(resource)?,
+                line,
             ),
             _ => Err(RowFault::NotARow),
         }
@@ -154,28 +158,27 @@ impl Handles {
     /// first.
     fn take_and_restore(
         &mut self,
-        alloc: Global,
         first: u32,
         second: u32,
         resource: ResourceId,
-    ) -> Result<String, RowFault> {
+        line: &mut Line,
+    ) -> Result<(), RowFault> {
         let Ok(first_handle) = self.table.take_own(first, resource) else {
             return Err(RowFault::NotARow);
         };
         let Ok(second_handle) = self.table.take_own(second, resource) else {
             return Err(RowFault::NotARow);
         };
-        let mut out = String::new(alloc);
-        write_handle(&mut out, self.table.get(first, resource))?;
-        out.push_str(", ")?;
-        write_handle(&mut out, self.table.get(second, resource))?;
+        write_handle(line, self.table.get(first, resource));
+        line.put(", ");
+        write_handle(line, self.table.get(second, resource));
         self.table.restore(second, second_handle);
         self.table.restore(first, first_handle);
-        out.push_str(", then ")?;
-        write_handle(&mut out, self.table.get(first, resource))?;
-        out.push_str(", ")?;
-        write_handle(&mut out, self.table.get(second, resource))?;
-        Ok(out)
+        line.put(", then ");
+        write_handle(line, self.table.get(first, resource));
+        line.put(", ");
+        write_handle(line, self.table.get(second, resource));
+        Ok(())
     }
 }
 
@@ -214,49 +217,59 @@ fn read_handle(words: &[&str]) -> Result<Handle, RowFault> {
     })
 }
 
-fn show_unit(alloc: Global, outcome: Result<(), HandleFault>) -> Result<String, RowFault> {
+fn write_unit(line: &mut Line, outcome: Result<(), HandleFault>) -> Result<(), RowFault> {
     match outcome {
-        Ok(()) => Ok(String::from_str(alloc, "done")?),
-        Err(fault) => show_fault(alloc, fault),
+        Ok(()) => line.put("done"),
+        Err(HandleFault::Memory) => return Err(RowFault::Memory),
+        Err(fault) => write_fault(line, fault.number()),
     }
+    Ok(())
 }
 
-fn show_index(alloc: Global, outcome: Result<u32, HandleFault>) -> Result<String, RowFault> {
+fn write_index(line: &mut Line, outcome: Result<u32, HandleFault>) -> Result<(), RowFault> {
     match outcome {
-        Ok(index) => Ok(format!(in alloc; "at {index}")?),
-        Err(fault) => show_fault(alloc, fault),
+        Ok(index) => {
+            line.put("at ");
+            line.show(index);
+        }
+        Err(HandleFault::Memory) => return Err(RowFault::Memory),
+        Err(fault) => write_fault(line, fault.number()),
     }
-}
-
-fn show_fault(alloc: Global, fault: HandleFault) -> Result<String, RowFault> {
-    match fault {
-        HandleFault::Memory => Err(RowFault::Memory),
-        fault => plain::show_fault(alloc, fault.number()),
-    }
-}
-
-fn show_handle(alloc: Global, outcome: Result<Handle, HandleFault>) -> Result<String, RowFault> {
-    let mut out = String::new(alloc);
-    write_handle(&mut out, outcome)?;
-    Ok(out)
+    Ok(())
 }
 
 /// Writes a handle as `read_handle` reads it, and how often it is lent; or the fault.
-fn write_handle(out: &mut String, outcome: Result<Handle, HandleFault>) -> Result<(), AllocError> {
-    let handle = match outcome {
-        Ok(handle) => handle,
-        Err(fault) => {
-            let number = fault.number();
-            return write!(out, "fault {number}");
-        }
-    };
-    let ResourceId { component, number } = handle.resource;
-    let (serial, rep, lends) = (handle.serial, handle.rep, handle.lends);
+fn write_handle(line: &mut Line, outcome: Result<Handle, HandleFault>) {
+    match outcome {
+        Ok(handle) => write_held(line, handle),
+        Err(fault) => write_fault(line, fault.number()),
+    }
+}
+
+fn write_held(line: &mut Line, handle: Handle) {
     match handle.kind {
-        HandleKind::Owned => write!(out, "owned {component}.{number} {serial} {rep}")?,
+        HandleKind::Owned => {
+            line.put("owned ");
+            write_owner(line, handle);
+        }
         HandleKind::Borrowed { call } => {
-            write!(out, "borrowed {component}.{number} {serial} {rep} {call}")?;
+            line.put("borrowed ");
+            write_owner(line, handle);
+            line.put(" ");
+            line.show(call);
         }
     }
-    write!(out, " lent {lends}")
+    line.put(" lent ");
+    line.show(handle.lends);
+}
+
+/// Writes `RESOURCE SERIAL REP`.
+fn write_owner(line: &mut Line, handle: Handle) {
+    line.show(handle.resource.component);
+    line.put(".");
+    line.show(handle.resource.number);
+    line.put(" ");
+    line.show(handle.serial);
+    line.put(" ");
+    line.show(handle.rep);
 }

@@ -6,259 +6,269 @@ use cm_layout::{
     Form, HandleType, Head, Layout, Leaf, Part, Payload, align, case_offset, discriminant_size,
     field_offset, has_cases, has_field, head, layout, layout_of_params, size,
 };
-use cm_rows::{RowFault, read_number};
+use cm_rows::{Line, RowFault, read_number};
 use cm_types::{CoreKind, ResourceId, TypeTree};
 use std::alloc::{AllocError, Global};
+use std::fmt::Display;
 
 /// The answer to `whole TYPE`, `fields TYPE`, `payload TYPE`, `head TYPE`, `tree TYPE`,
 /// `made TYPE`, `leaves COUNT`, `params FUNC`, `lift FUNC` or `lower FUNC`.
-pub fn answer(alloc: Global, words: &[&str]) -> Result<String, RowFault> {
+pub fn answer(alloc: Global, words: &[&str], line: &mut Line) -> Result<(), RowFault> {
     let [kind, rest @ ..] = words else {
         return Err(RowFault::NotARow);
     };
     match *kind {
-        "params" => show_params(alloc, rest),
-        "lift" => show_flat_func(alloc, rest, Side::Lift),
-        "lower" => show_flat_func(alloc, rest, Side::Lower),
-        "leaves" => show_leaves(alloc, rest),
-        kind => answer_on_type(alloc, kind, &read_tree(alloc, rest)?),
+        "params" => write_params(alloc, rest, line),
+        "lift" => write_flat_func(alloc, rest, Side::Lift, line),
+        "lower" => write_flat_func(alloc, rest, Side::Lower, line),
+        "leaves" => write_leaves(rest, line),
+        kind => answer_on_type(alloc, kind, &read_tree(alloc, rest)?, line),
     }
 }
 
-fn answer_on_type(alloc: Global, kind: &str, ty: &TypeTree) -> Result<String, RowFault> {
+fn answer_on_type(
+    alloc: Global,
+    kind: &str,
+    ty: &TypeTree,
+    line: &mut Line,
+) -> Result<(), RowFault> {
     match kind {
-        "whole" => show_whole(alloc, ty),
-        "fields" => show_fields(alloc, ty),
-        "payload" => show_payload(alloc, ty),
-        "head" => show_head(alloc, ty),
-        "tree" => show_tree(alloc, ty),
-        "made" => show_made(alloc, ty),
-        _ => Err(RowFault::NotARow),
-    }
-}
-
-fn show_tree(alloc: Global, ty: &TypeTree) -> Result<String, RowFault> {
-    Ok(text_of(alloc, layout(alloc, ty)?)?)
-}
-
-fn show_params(alloc: Global, func: &[&str]) -> Result<String, RowFault> {
-    let func = read_func(alloc, func)?;
-    Ok(text_of(alloc, layout_of_params(alloc, &func)?)?)
-}
-
-/// The text of a layout.
-fn text_of(alloc: Global, layout: Layout) -> Result<String, AllocError> {
-    let mut out = String::new(alloc);
-    write_layout(&mut out, &layout)?;
-    Ok(out)
-}
-
-/// Size, alignment and flat kinds.
-fn show_whole(alloc: Global, ty: &TypeTree) -> Result<String, RowFault> {
-    let (size, align) = (size(ty), align(ty));
-    let mut out = format!(in alloc; "size {size}, align {align}, flat")?;
-    write_kinds(&mut out, &flatten(alloc, ty)?)?;
-    Ok(out)
-}
-
-/// The offsets of the fields in order.
-fn show_fields(alloc: Global, ty: &TypeTree) -> Result<String, RowFault> {
-    let mut out = String::from_str(alloc, "at")?;
-    for n in 0..100 {
-        if !has_field(ty, n) {
-            break;
-        }
-        let offset = field_offset(ty, n);
-        write!(out, " {offset}")?;
-    }
-    Ok(out)
-}
-
-/// Where the payload stands, and how many bytes the number of the case takes.
-fn show_payload(alloc: Global, ty: &TypeTree) -> Result<String, RowFault> {
-    if has_cases(ty) {
-        let (size, offset) = (discriminant_size(ty), case_offset(ty));
-        Ok(format!(in alloc; "at {offset} behind {size}")?)
-    } else {
-        Ok(String::from_str(alloc, "no cases")?)
-    }
-}
-
-/// What the type takes.
-fn show_head(alloc: Global, ty: &TypeTree) -> Result<String, RowFault> {
-    let mut out = String::new(alloc);
-    write_head(&mut out, head(ty))?;
-    Ok(out)
-}
-
-/// A list that is made of the type's layout, shared once more.
-fn show_made(alloc: Global, ty: &TypeTree) -> Result<String, RowFault> {
-    let element = layout(alloc, ty)?;
-    let list = Layout::list(alloc, element.share()?)?;
-    Ok(text_of(alloc, list)?)
-}
-
-/// What is made of numbers and handles alone: a leaf, a string, flags, an enum and a handle.
-fn show_leaves(alloc: Global, words: &[&str]) -> Result<String, RowFault> {
-    match words {
-        [labels] => Ok(leaves_of(alloc, read_number::<u32>(labels)? as usize)?),
-        _ => Err(RowFault::NotARow),
-    }
-}
-
-fn leaves_of(alloc: Global, labels: usize) -> Result<String, AllocError> {
-    let resource = ResourceId {
-        component: 0,
-        number: 7,
-    };
-    let mut out = String::new(alloc);
-    write_made(&mut out, Layout::leaf(Leaf::Signed(2)))?;
-    write_head(&mut out, Leaf::Char.head())?;
-    write_made(&mut out, Layout::string())?;
-    write_made(&mut out, Layout::flags(labels))?;
-    write_made(&mut out, Layout::enumeration(labels))?;
-    write_made(&mut out, Layout::handle(HandleType::Own(resource)))?;
-    Ok(out)
-}
-
-fn write_made(out: &mut String, layout: Layout) -> Result<(), AllocError> {
-    write_layout(out, &layout)
-}
-
-/// `SIZE/ALIGN/WIDTH`, with `plain` behind it for plain bytes.
-fn write_head(out: &mut String, head: Head) -> Result<(), AllocError> {
-    let (size, align, width) = (head.size, head.align, head.width);
-    write!(out, "{size}/{align}/{width}")?;
-    if head.is_bulk {
-        out.push_str(" plain")?;
+        "whole" => write_whole(alloc, ty, line)?,
+        "fields" => write_fields(line, ty),
+        "payload" => write_payload(line, ty),
+        "head" => write_head(line, head(ty)),
+        "tree" => write_made(line, layout(alloc, ty)?),
+        "made" => write_list(alloc, ty, line)?,
+        _ => return Err(RowFault::NotARow),
     }
     Ok(())
 }
 
-/// `(SIZE/ALIGN/WIDTH FORM)`.
+fn write_params(alloc: Global, func: &[&str], line: &mut Line) -> Result<(), RowFault> {
+    let func = read_func(alloc, func)?;
+    write_made(line, layout_of_params(alloc, &func)?);
+    Ok(())
+}
+
+/// Writes size, alignment and flat kinds.
+fn write_whole(alloc: Global, ty: &TypeTree, line: &mut Line) -> Result<(), AllocError> {
+    line.put("size ");
+    line.show(size(ty));
+    line.put(", align ");
+    line.show(align(ty));
+    line.put(", flat");
+    write_kinds(line, &flatten(alloc, ty)?);
+    Ok(())
+}
+
+/// Writes the offsets of the fields in order.
+fn write_fields(line: &mut Line, ty: &TypeTree) {
+    line.put("at");
+    for n in 0..100 {
+        if !has_field(ty, n) {
+            break;
+        }
+        line.put(" ");
+        line.show(field_offset(ty, n));
+    }
+}
+
+/// Writes where the payload stands, and how many bytes the number of the case takes.
+fn write_payload(line: &mut Line, ty: &TypeTree) {
+    if has_cases(ty) {
+        line.put("at ");
+        line.show(case_offset(ty));
+        line.put(" behind ");
+        line.show(discriminant_size(ty));
+    } else {
+        line.put("no cases");
+    }
+}
+
+/// Writes a list that is made of the type's layout, shared once more.
+fn write_list(alloc: Global, ty: &TypeTree, line: &mut Line) -> Result<(), AllocError> {
+    let element = layout(alloc, ty)?;
+    write_made(line, Layout::list(alloc, element.share()?)?);
+    Ok(())
+}
+
+/// Writes what is made of numbers and handles alone: a leaf, a string, flags, an enum and a handle.
+fn write_leaves(words: &[&str], line: &mut Line) -> Result<(), RowFault> {
+    match words {
+        [labels] => write_leaves_of(line, read_number::<u32>(labels)? as usize),
+        _ => return Err(RowFault::NotARow),
+    }
+    Ok(())
+}
+
+fn write_leaves_of(line: &mut Line, labels: usize) {
+    let resource = ResourceId {
+        component: 0,
+        number: 7,
+    };
+    write_made(line, Layout::leaf(Leaf::Signed(2)));
+    write_head(line, Leaf::Char.head());
+    write_made(line, Layout::string());
+    write_made(line, Layout::flags(labels));
+    write_made(line, Layout::enumeration(labels));
+    write_made(line, Layout::handle(HandleType::Own(resource)));
+}
+
+fn write_made(line: &mut Line, layout: Layout) {
+    write_layout(line, &layout);
+}
+
+/// Writes `SIZE/ALIGN/WIDTH`, with `plain` behind it for plain bytes.
+fn write_head(line: &mut Line, head: Head) {
+    line.show(head.size);
+    line.put("/");
+    line.show(head.align);
+    line.put("/");
+    line.show(head.width);
+    if head.is_bulk {
+        line.put(" plain");
+    }
+}
+
+/// Writes `(SIZE/ALIGN/WIDTH FORM)`.
 #[cycle(layouts)]
-fn write_layout(out: &mut String, layout: &Layout) -> Result<(), AllocError> {
-    out.push_str("(")?;
-    write_head(out, layout.head)?;
-    write_form(out, &layout.form)?;
-    out.push_str(")")
+fn write_layout(line: &mut Line, layout: &Layout) {
+    line.put("(");
+    write_head(line, layout.head);
+    write_form(line, &layout.form);
+    line.put(")");
 }
 
 #[cycle(layouts)]
-fn write_form(out: &mut String, form: &Form) -> Result<(), AllocError> {
+fn write_form(line: &mut Line, form: &Form) {
     match form {
-        Form::Leaf(leaf) => write_leaf(out, *leaf),
-        Form::String => out.push_str(" string"),
+        Form::Leaf(leaf) => write_leaf(line, *leaf),
+        Form::String => line.put(" string"),
         Form::List(element) => {
-            out.push_str(" list ")?;
-            write_layout(out, element)
+            line.put(" list ");
+            write_layout(line, element);
         }
         Form::FixedList { element, length } => {
-            write!(out, " fixed {length} ")?;
-            write_layout(out, element)
+            line.put(" fixed ");
+            line.show(*length);
+            line.put(" ");
+            write_layout(line, element);
         }
-        Form::Fields(parts) => write_parts(out, parts),
+        Form::Fields(parts) => write_parts(line, parts),
         Form::Cases {
             discriminant,
             offset,
             payloads,
         } => {
-            write!(out, " cases {discriminant} at {offset}")?;
-            write_payloads(out, payloads)
+            write_pair(line, " cases ", *discriminant, " at ", *offset);
+            write_payloads(line, payloads);
         }
         Form::Enum {
             discriminant,
             count,
-        } => write!(out, " enum {discriminant} of {count}"),
-        Form::Handle(handle) => write_handle(out, *handle),
+        } => write_pair(line, " enum ", *discriminant, " of ", *count),
+        Form::Handle(handle) => write_handle(line, *handle),
     }
 }
 
-fn write_leaf(out: &mut String, leaf: Leaf) -> Result<(), AllocError> {
+fn write_leaf(line: &mut Line, leaf: Leaf) {
     match leaf {
-        Leaf::Bool => out.push_str(" bool"),
-        Leaf::Signed(bytes) => write!(out, " signed {bytes}"),
-        Leaf::Unsigned(bytes) => write!(out, " unsigned {bytes}"),
-        Leaf::Char => out.push_str(" char"),
-        Leaf::Flags { labels, bytes } => write!(out, " flags {labels} in {bytes}"),
+        Leaf::Bool => line.put(" bool"),
+        Leaf::Signed(bytes) => {
+            line.put(" signed ");
+            line.show(bytes);
+        }
+        Leaf::Unsigned(bytes) => {
+            line.put(" unsigned ");
+            line.show(bytes);
+        }
+        Leaf::Char => line.put(" char"),
+        Leaf::Flags { labels, bytes } => write_pair(line, " flags ", labels, " in ", bytes),
     }
 }
 
-fn write_handle(out: &mut String, handle: HandleType) -> Result<(), AllocError> {
+fn write_handle(line: &mut Line, handle: HandleType) {
     match handle {
         HandleType::Own(resource) => {
-            let (component, number) = (resource.component, resource.number);
-            write!(out, " own {component}.{number}")
+            write_pair(line, " own ", resource.component, ".", resource.number);
         }
         HandleType::Borrow(resource) => {
-            let (component, number) = (resource.component, resource.number);
-            write!(out, " borrow {component}.{number}")
+            write_pair(line, " borrow ", resource.component, ".", resource.number);
         }
     }
 }
 
-/// ` OFFSET:LAYOUT` for each field.
+/// Writes two values, each behind its text.
+fn write_pair<A: Display + Drop, B: Display + Drop>(
+    line: &mut Line,
+    before: &str,
+    first: A,
+    between: &str,
+    second: B,
+) {
+    line.put(before);
+    line.show(first);
+    line.put(between);
+    line.show(second);
+}
+
+/// Writes ` OFFSET:LAYOUT` for each field.
 #[cycle(layouts)]
-fn write_parts(out: &mut String, parts: &[Part]) -> Result<(), AllocError> {
-    out.push_str(" fields")?;
+fn write_parts(line: &mut Line, parts: &[Part]) {
+    line.put(" fields");
     for part in parts {
-        let offset = part.offset;
-        write!(out, " {offset}:")?;
-        write_layout(out, &part.layout)?;
+        line.put(" ");
+        line.show(part.offset);
+        line.put(":");
+        write_layout(line, &part.layout);
     }
-    Ok(())
 }
 
-/// A layout for each case that carries one, and `-` for each other one.
+/// Writes a layout for each case that carries one, and `-` for each other one.
 #[cycle(layouts)]
-fn write_payloads(out: &mut String, payloads: &[Payload]) -> Result<(), AllocError> {
+fn write_payloads(line: &mut Line, payloads: &[Payload]) {
     for payload in payloads {
+        line.put(" ");
         match payload {
-            Payload::Nothing => out.push_str(" -")?,
-            Payload::Carried(layout) => {
-                out.push_str(" ")?;
-                write_layout(out, layout)?;
-            }
+            Payload::Nothing => line.put("-"),
+            Payload::Carried(layout) => write_layout(line, layout),
         }
     }
-    Ok(())
 }
 
 /// Writes the kinds, each after a space; none is a `-`.
-fn write_kinds(out: &mut String, kinds: &[CoreKind]) -> Result<(), AllocError> {
+fn write_kinds(line: &mut Line, kinds: &[CoreKind]) {
     if kinds.is_empty() {
-        return out.push_str(" -");
+        line.put(" -");
     }
     for kind in kinds {
         match kind {
-            CoreKind::I32 => out.push_str(" i32")?,
-            CoreKind::I64 => out.push_str(" i64")?,
+            CoreKind::I32 => line.put(" i32"),
+            CoreKind::I64 => line.put(" i64"),
         }
     }
-    Ok(())
 }
 
-fn show_flat_func(alloc: Global, func: &[&str], side: Side) -> Result<String, RowFault> {
+fn write_flat_func(
+    alloc: Global,
+    func: &[&str],
+    side: Side,
+    line: &mut Line,
+) -> Result<(), RowFault> {
     let func = read_func(alloc, func)?;
-    Ok(text_of_flat(alloc, flatten_func(alloc, &func, side)?)?)
-}
-
-fn text_of_flat(alloc: Global, flat: FlatFunc) -> Result<String, AllocError> {
-    let mut out = String::new(alloc);
-    write_flat_func(&mut out, &flat)?;
-    Ok(out)
-}
-
-fn write_flat_func(out: &mut String, flat: &FlatFunc) -> Result<(), AllocError> {
-    out.push_str("params")?;
-    write_kinds(out, &flat.params)?;
-    if flat.spilled_params {
-        out.push_str(" spilled")?;
-    }
-    out.push_str(", results")?;
-    write_kinds(out, &flat.results)?;
-    if flat.spilled_result {
-        out.push_str(" spilled")?;
-    }
+    write_flat(line, &flatten_func(alloc, &func, side)?);
     Ok(())
+}
+
+fn write_flat(line: &mut Line, flat: &FlatFunc) {
+    line.put("params");
+    write_kinds(line, &flat.params);
+    if flat.spilled_params {
+        line.put(" spilled");
+    }
+    line.put(", results");
+    write_kinds(line, &flat.results);
+    if flat.spilled_result {
+        line.put(" spilled");
+    }
 }

@@ -21,7 +21,7 @@ mod values;
 mod wit;
 mod words;
 
-use cm_rows::{Driver, RowFault, answer_rows};
+use cm_rows::{Driver, Line, RowFault, answer_rows};
 use handles::Handles;
 use std::alloc::Global;
 use std::io;
@@ -36,24 +36,24 @@ struct LeafRows {
 }
 
 impl Driver for LeafRows {
-    fn answer(&mut self, alloc: Global, words: &[&str]) -> Result<String, RowFault> {
+    fn answer(&mut self, alloc: Global, words: &[&str], line: &mut Line) -> Result<(), RowFault> {
         let [kind, rest @ ..] = words else {
             return Err(RowFault::NotARow);
         };
         match *kind {
-            "number" => numbers::answer(alloc, rest),
-            "name" => names::answer(alloc, rest),
-            "type" => types::answer(alloc, rest),
-            "layout" => layouts::answer(alloc, rest),
-            "text" => texts::answer(alloc, rest),
-            "table" => self.handles.answer(alloc, rest),
-            "types" => arena::answer(alloc, rest),
-            "conforms" => conforming::answer(alloc, rest),
-            "numbers" => type_numbers::answer(alloc, rest),
-            "shows" => shown::answer(alloc, rest),
-            "fit" => candidates::answer(alloc, rest),
-            "wit" => wit::answer(alloc, &mut self.texts, rest),
-            _ => calls::answer(alloc, words),
+            "number" => numbers::answer(alloc, rest, line),
+            "name" => names::answer(alloc, rest, line),
+            "type" => types::answer(alloc, rest, line),
+            "layout" => layouts::answer(alloc, rest, line),
+            "text" => texts::answer(alloc, rest, line),
+            "table" => self.handles.answer(alloc, rest, line),
+            "types" => arena::answer(alloc, rest, line),
+            "conforms" => conforming::answer(alloc, rest, line),
+            "numbers" => type_numbers::answer(alloc, rest, line),
+            "shows" => shown::answer(alloc, rest, line),
+            "fit" => candidates::answer(alloc, rest, line),
+            "wit" => wit::answer(alloc, &mut self.texts, rest, line),
+            _ => calls::answer(alloc, words, line),
         }
     }
 }

@@ -1,102 +1,119 @@
 //! Rows on names.
 
 use crate::calls::passing::read_slot;
-use crate::plain;
-use cm_rows::{RowFault, read_number};
+use crate::plain::write_fault;
+use cm_rows::{Line, RowFault, read_number};
 use cm_types::{CoreKind, CoreValue, ExternName, ExternNameForm, Label, NameFault, same_name};
 use cm_values::is_scalar;
-use std::alloc::{AllocError, Global};
+use std::alloc::Global;
 
 /// The answer to `label TEXT`, `extern TEXT`, `same TEXT TEXT`, `is_scalar NUMBER` or
 /// `kind VALUE`. A TEXT of no bytes is a word of no bytes.
-pub fn answer(alloc: Global, words: &[&str]) -> Result<String, RowFault> {
+pub fn answer(alloc: Global, words: &[&str], line: &mut Line) -> Result<(), RowFault> {
     match words {
-        [call, word] => answer_one(alloc, call, word),
-        ["same", a, b] => plain::show_bool(alloc, same_name(a, b)),
-        _ => Err(RowFault::NotARow),
+        [call, word] => return answer_one(alloc, call, word, line),
+        ["same", a, b] => line.show(same_name(a, b)),
+        _ => return Err(RowFault::NotARow),
     }
+    Ok(())
 }
 
-fn answer_one(alloc: Global, call: &str, word: &str) -> Result<String, RowFault> {
+fn answer_one(alloc: Global, call: &str, word: &str, line: &mut Line) -> Result<(), RowFault> {
     match call {
-        "label" => show_label(alloc, Label::parse(alloc, word)),
-        "extern" => show_extern(alloc, ExternName::parse(alloc, word)),
-        "is_scalar" => plain::show_bool(alloc, is_scalar(read_number(word)?)),
-        "kind" => show_kind(alloc, word),
-        _ => Err(RowFault::NotARow),
+        "label" => return write_label(line, Label::parse(alloc, word)),
+        "extern" => return write_extern(line, ExternName::parse(alloc, word)),
+        "is_scalar" => line.show(is_scalar(read_number(word)?)),
+        "kind" => return write_kind(line, word),
+        _ => return Err(RowFault::NotARow),
     }
+    Ok(())
 }
 
-fn show_label(alloc: Global, label: Result<Label, NameFault>) -> Result<String, RowFault> {
+fn write_label(line: &mut Line, label: Result<Label, NameFault>) -> Result<(), RowFault> {
     match label {
-        Ok(label) => show_text(alloc, label.as_str(), label.as_bytes()),
-        Err(fault) => show_fault(alloc, fault),
+        Ok(label) => write_text(line, label.as_str(), label.as_bytes()),
+        Err(fault) => return write_name_fault(line, fault),
     }
+    Ok(())
 }
 
-fn show_extern(alloc: Global, name: Result<ExternName, NameFault>) -> Result<String, RowFault> {
+fn write_extern(line: &mut Line, name: Result<ExternName, NameFault>) -> Result<(), RowFault> {
     match name {
         Ok(name) => {
-            let mut out = show_text(alloc, name.as_str(), name.as_bytes())?;
-            write_form(&mut out, &name.form())?;
-            Ok(out)
+            write_text(line, name.as_str(), name.as_bytes());
+            write_form(line, &name.form());
         }
-        Err(fault) => show_fault(alloc, fault),
+        Err(fault) => return write_name_fault(line, fault),
     }
+    Ok(())
 }
 
-fn show_fault(alloc: Global, fault: NameFault) -> Result<String, RowFault> {
+fn write_name_fault(line: &mut Line, fault: NameFault) -> Result<(), RowFault> {
     let number = fault.number();
     if number == NameFault::Memory.number() {
         return Err(RowFault::Memory);
     }
-    plain::show_fault(alloc, number)
+    write_fault(line, number);
+    Ok(())
 }
 
-/// The text that a name holds, with its bytes where they are others.
-fn show_text(alloc: Global, text: &str, bytes: &[u8]) -> Result<String, RowFault> {
-    if text.as_bytes() == bytes {
-        Ok(String::from_str(alloc, text)?)
-    } else {
-        Ok(format!(in alloc; "{text} and other bytes")?)
+/// Writes the text that a name holds, and whether its bytes are others.
+fn write_text(line: &mut Line, text: &str, bytes: &[u8]) {
+    line.put(text);
+    if text.as_bytes() != bytes {
+        line.put(" and other bytes");
     }
 }
 
 /// Writes what form a name has, and its parts.
-fn write_form(out: &mut String, form: &ExternNameForm<'_>) -> Result<(), AllocError> {
+fn write_form(line: &mut Line, form: &ExternNameForm<'_>) {
     match form {
-        ExternNameForm::Label(label) => write!(out, ": label {label}"),
+        ExternNameForm::Label(label) => {
+            line.put(": label ");
+            line.put(label);
+        }
         ExternNameForm::Method { resource, method } => {
-            write!(out, ": method {method} of {resource}")
+            write_member(line, ": method ", method, resource);
         }
         ExternNameForm::Static { resource, function } => {
-            write!(out, ": static {function} of {resource}")
+            write_member(line, ": static ", function, resource);
         }
-        ExternNameForm::Constructor { resource } => write!(out, ": constructor of {resource}"),
+        ExternNameForm::Constructor { resource } => {
+            line.put(": constructor of ");
+            line.put(resource);
+        }
         ExternNameForm::Interface {
             namespace,
             package,
             interface,
             version,
         } => {
-            let version = version.unwrap_or("none");
-            write!(
-                out,
-                ": interface {interface} of {namespace} {package}, version {version}"
-            )
+            write_member(line, ": interface ", interface, namespace);
+            line.put(" ");
+            line.put(package);
+            line.put(", version ");
+            line.put(version.unwrap_or("none"));
         }
     }
 }
 
-/// The kind of a value, which is `i32:NUMBER`, `i64:NUMBER` or `default`.
-fn show_kind(alloc: Global, value: &str) -> Result<String, RowFault> {
+/// Writes what something is, its name, and what it is of.
+fn write_member(line: &mut Line, kind: &str, name: &str, owner: &str) {
+    line.put(kind);
+    line.put(name);
+    line.put(" of ");
+    line.put(owner);
+}
+
+/// Writes the kind of a value, which is `i32:NUMBER`, `i64:NUMBER` or `default`.
+fn write_kind(line: &mut Line, value: &str) -> Result<(), RowFault> {
     let value = match value {
         "default" => CoreValue::default(),
         value => read_slot(value)?,
     };
-    let kind = match value.kind() {
+    line.put(match value.kind() {
         CoreKind::I32 => "i32",
         CoreKind::I64 => "i64",
-    };
-    Ok(String::from_str(alloc, kind)?)
+    });
+    Ok(())
 }

@@ -1,62 +1,57 @@
-//! Texts one after another, of which many alike are written once.
+//! Numbers one space apart, of which many alike are written once.
 
-use std::alloc::{AllocError, Global};
+use cm_rows::Line;
 
 /// Beyond so many that are alike, they are written once, behind how many there are.
 const MAX_ALIKE: usize = 8;
 
+/// The numbers that were added last, which are alike, and wait to be written.
 #[derive(Drop)]
 pub struct Runs {
-    separator: &'static str,
-    out: String,
-    last: String,
+    is_begun: bool,
+    last: usize,
     count: usize,
 }
 
 impl Runs {
-    pub fn new(alloc: Global, separator: &'static str) -> Runs {
+    pub fn new() -> Runs {
         Runs {
-            separator,
-            out: String::new(alloc),
-            last: String::new(alloc),
+            is_begun: false,
+            last: 0,
             count: 0,
         }
     }
 
-    pub fn add(&mut self, text: String) -> Result<(), AllocError> {
-        if self.count > 0 && self.last.as_str() != text.as_str() {
-            self.end_run()?;
+    pub fn add(&mut self, number: usize, line: &mut Line) {
+        if self.last != number {
+            self.end_run(line);
         }
-        self.last = text;
+        self.last = number;
         self.count = self.count.saturating_add(1);
-        Ok(())
     }
 
-    fn write(&mut self, times: usize) -> Result<(), AllocError> {
-        if !self.out.is_empty() {
-            self.out.push_str(self.separator)?;
-        }
-        if times > 1 {
-            write!(self.out, "{times}*")?;
-        }
-        self.out.push_str(&self.last)?;
-        Ok(())
-    }
-
-    fn end_run(&mut self) -> Result<(), AllocError> {
+    /// Writes the numbers that wait.
+    pub fn end_run(&mut self, line: &mut Line) {
         let count = self.count;
         self.count = 0;
         if count > MAX_ALIKE {
-            return self.write(count);
+            self.write(count, line);
+            return;
         }
         for _ in 0..count {
-            self.write(1)?;
+            self.write(1, line);
         }
-        Ok(())
     }
 
-    pub fn finish(mut self) -> Result<String, AllocError> {
-        self.end_run()?;
-        Ok(self.out)
+    fn write(&mut self, times: usize, line: &mut Line) {
+        if self.is_begun {
+            line.put(" ");
+        }
+        self.is_begun = true;
+        if times > 1 {
+            line.show(times);
+            line.put("*");
+        }
+        line.show(self.last);
     }
 }

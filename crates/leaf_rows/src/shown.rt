@@ -1,39 +1,47 @@
 //! Rows on the text that shows a signature.
 
-use crate::plain::show_fault;
+use crate::plain::write_fault;
 use crate::signatures::read_signature;
 use cm_placed::Signature;
-use cm_rows::RowFault;
+use cm_rows::{Line, RowFault};
 use cm_show::{ShowFault, show};
-use std::alloc::{AllocError, Global};
+use std::alloc::Global;
 
 /// Texts of more bytes are told by their length.
 const MAX_WRITTEN: usize = 1000;
 
 /// The answer to a signature.
-pub fn answer(alloc: Global, words: &[&str]) -> Result<String, RowFault> {
-    show_within(alloc, &read_signature(alloc, words)?, MAX_WRITTEN)
+pub fn answer(alloc: Global, words: &[&str], line: &mut Line) -> Result<(), RowFault> {
+    write_shown(alloc, &read_signature(alloc, words)?, MAX_WRITTEN, line)
 }
 
-/// The lines that show a signature, each behind `|`, or how many bytes they have, if those are more
-/// than this number; else the number of the fault.
-pub fn show_within(alloc: Global, signature: &Signature, most: usize) -> Result<String, RowFault> {
+/// Writes the lines that show a signature, each behind `|`, or how many bytes they have, if those
+/// are more than this number; else the number of the fault.
+pub fn write_shown(
+    alloc: Global,
+    signature: &Signature,
+    most: usize,
+    line: &mut Line,
+) -> Result<(), RowFault> {
     match show(alloc, signature) {
-        Ok(text) => Ok(write_text(alloc, &text, most)?),
-        Err(ShowFault::Memory) => Err(RowFault::Memory),
-        Err(fault) => show_fault(alloc, fault.number()),
+        Ok(text) => write_text(line, &text, most),
+        Err(ShowFault::Memory) => return Err(RowFault::Memory),
+        Err(fault) => write_fault(line, fault.number()),
     }
+    Ok(())
 }
 
-fn write_text(alloc: Global, text: &str, most: usize) -> Result<String, AllocError> {
+fn write_text(line: &mut Line, text: &str, most: usize) {
     let length = text.len();
     if length > most {
-        return format!(in alloc; "{length} bytes");
+        line.show(length);
+        line.put(" bytes");
+        return;
     }
-    let mut out = String::new(alloc);
-    for line in text.lines() {
-        write!(out, "| {line} ")?;
+    for shown in text.lines() {
+        line.put("| ");
+        line.put(shown);
+        line.put(" ");
     }
-    out.push_str("|")?;
-    Ok(out)
+    line.put("|");
 }

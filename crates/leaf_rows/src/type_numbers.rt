@@ -4,7 +4,7 @@ use crate::arena::Arena;
 use crate::runs::Runs;
 use crate::words::{read_move, read_resources};
 use cm_replaced::{Replacement, Row};
-use cm_rows::RowFault;
+use cm_rows::{Line, RowFault};
 use cm_type_arena::Types;
 use cm_type_numbers::Numbers;
 use std::alloc::{AllocError, Global};
@@ -14,44 +14,45 @@ use std::alloc::{AllocError, Global};
 /// `move:FIRST,COUNT,NEXT`. For each item that is a type it is how many different numbers stood
 /// before the first with the same number, in the order of the lists, and so, behind `/`, for each
 /// function.
-pub fn answer(alloc: Global, words: &[&str]) -> Result<String, RowFault> {
+pub fn answer(alloc: Global, words: &[&str], line: &mut Line) -> Result<(), RowFault> {
     let mut table = Table {
         alloc,
         numbers: Numbers::new(alloc),
         types: Classes::new(alloc),
         funcs: Classes::new(alloc),
-        out: String::new(alloc),
+        is_begun: false,
     };
     for words in words.split(|word| *word == "|") {
-        table.read_list(words)?;
+        table.read_list(words, line)?;
     }
-    Ok(table.out)
+    Ok(())
 }
 
-/// The numbers so far, which of them were met, and what is answered.
+/// The numbers so far, and which of them were met.
 #[derive(Drop)]
 struct Table {
     alloc: Global,
     numbers: Numbers,
     types: Classes,
     funcs: Classes,
-    out: String,
+    /// Whether anything is written.
+    is_begun: bool,
 }
 
 impl Table {
-    fn read_list(&mut self, words: &[&str]) -> Result<(), RowFault> {
+    fn read_list(&mut self, words: &[&str], line: &mut Line) -> Result<(), RowFault> {
         let [resources, words @ ..] = words else {
             return Err(RowFault::NotARow);
         };
         let arena = Arena::read(self.alloc, words)?;
-        if !self.out.is_empty() {
-            self.out.push_str(" | ")?;
+        if self.is_begun {
+            line.put(" | ");
         }
         match resources.strip_prefix("move:") {
-            Some(numbers) => self.number(&read_move(numbers)?, &arena.types, arena.first)?,
+            Some(numbers) => self.number(&read_move(numbers)?, &arena.types, arena.first, line)?,
             None => {
                 let row = read_resources(self.alloc, resources)?;
-                self.number(&Row(&row), &arena.types, arena.first)?;
+                self.number(&Row(&row), &arena.types, arena.first, line)?;
             }
         }
         Ok(())
@@ -62,22 +63,17 @@ impl Table {
         resources: &R,
         types: &Types,
         first: usize,
+        line: &mut Line,
     ) -> Result<(), AllocError> {
         let numbers = self.numbers.number_types(self.alloc, resources, types)?;
         let funcs = self.numbers.number_funcs(self.alloc, types, &numbers)?;
         let numbers = numbers.get(first..).unwrap_or(&[]);
-        let types = self.types.text(self.alloc, numbers)?;
-        self.out.push_str(&types)?;
-        self.write_funcs(&funcs)
-    }
-
-    fn write_funcs(&mut self, funcs: &[usize]) -> Result<(), AllocError> {
-        if funcs.is_empty() {
-            return Ok(());
+        self.is_begun |= !numbers.is_empty() || !funcs.is_empty();
+        self.types.write(numbers, line)?;
+        if !funcs.is_empty() {
+            line.put(" / ");
         }
-        let funcs = self.funcs.text(self.alloc, funcs)?;
-        self.out.push_str(" / ")?;
-        self.out.push_str(&funcs)
+        self.funcs.write(&funcs, line)
     }
 }
 
@@ -104,13 +100,13 @@ impl Classes {
         Ok(class)
     }
 
-    /// The classes of numbers, one after another.
-    fn text(&mut self, alloc: Global, numbers: &[usize]) -> Result<String, AllocError> {
-        let mut runs = Runs::new(alloc, " ");
+    /// Writes the classes of numbers, one after another.
+    fn write(&mut self, numbers: &[usize], line: &mut Line) -> Result<(), AllocError> {
+        let mut runs = Runs::new();
         for number in numbers {
-            let class = self.class(*number)?;
-            runs.add(format!(in alloc; "{class}")?)?;
+            runs.add(self.class(*number)?, line);
         }
-        runs.finish()
+        runs.end_run(line);
+        Ok(())
     }
 }

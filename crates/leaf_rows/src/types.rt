@@ -7,113 +7,123 @@
 //! `own:COMPONENT.NUMBER` and `borrow:COMPONENT.NUMBER` among them. LABELS are joined by commas.
 //! `N*` before a word or a label stands for N of them.
 
-use crate::plain::{show_bool, show_fault};
+use crate::plain::write_fault;
 use crate::values::read_value;
 use crate::words::{read_label, read_labels, read_resource, read_resources};
 use cm_replaced::{same_func, same_type};
-use cm_rows::{RowFault, read_number, split_repeat, split_words};
+use cm_rows::{Line, RowFault, read_number, split_repeat, split_words};
 use cm_types::{Case, Field, Func, ResourceId, TypeFault, TypeNode, TypeTree};
 use cm_values::has_type;
-use std::alloc::{AllocError, Global};
+use std::alloc::Global;
 use std::rc::Rc;
 
 /// The answer to `within TYPE`, `within_func TYPE..` (of the parameters), `equal TYPE | TYPE ..`,
 /// `same LEFT RIGHT TYPE = TYPE`, `has TYPE = VALUE` or `same_func FUNC = FUNC`. LEFT and RIGHT are
 /// resources joined by commas, or `-`.
-pub fn answer(alloc: Global, words: &[&str]) -> Result<String, RowFault> {
+pub fn answer(alloc: Global, words: &[&str], line: &mut Line) -> Result<(), RowFault> {
     let [call, rest @ ..] = words else {
         return Err(RowFault::NotARow);
     };
     match *call {
-        "within" => show_within(alloc, rest),
-        "within_func" => show_within_func(alloc, rest),
-        "equal" => show_equals(alloc, rest),
-        "same" => show_same(alloc, rest),
-        "has" => show_has(alloc, rest),
-        "same_func" => show_same_func(alloc, rest),
+        "within" => write_within(alloc, rest, line),
+        "within_func" => write_within_func(alloc, rest, line),
+        "equal" => write_equals(alloc, rest, line),
+        "same" => write_same(alloc, rest, line),
+        "has" => write_has(alloc, rest, line),
+        "same_func" => write_same_func(alloc, rest, line),
         _ => Err(RowFault::NotARow),
     }
 }
 
-fn show_within(alloc: Global, ty: &[&str]) -> Result<String, RowFault> {
-    show_limit(alloc, TypeTree::new(read_type(alloc, ty)?).err())
+fn write_within(alloc: Global, ty: &[&str], line: &mut Line) -> Result<(), RowFault> {
+    write_limit(line, TypeTree::new(read_type(alloc, ty)?).err());
+    Ok(())
 }
 
-fn show_within_func(alloc: Global, params: &[&str]) -> Result<String, RowFault> {
+fn write_within_func(alloc: Global, params: &[&str], line: &mut Line) -> Result<(), RowFault> {
     let params = labelled(alloc, read_types(alloc, params)?)?;
-    show_limit(alloc, Func::new(params, None).err())
+    write_limit(line, Func::new(params, None).err());
+    Ok(())
 }
 
-fn show_same(alloc: Global, words: &[&str]) -> Result<String, RowFault> {
+fn write_same(alloc: Global, words: &[&str], line: &mut Line) -> Result<(), RowFault> {
     let [left, right, types @ ..] = words else {
         return Err(RowFault::NotARow);
     };
     let left = read_resources(alloc, left)?;
     let right = read_resources(alloc, right)?;
-    show_same_by(alloc, &left, &right, types)
+    write_same_by(alloc, &left, &right, types, line)
 }
 
-fn show_same_by(
+fn write_same_by(
     alloc: Global,
     left: &[ResourceId],
     right: &[ResourceId],
     types: &[&str],
-) -> Result<String, RowFault> {
+    line: &mut Line,
+) -> Result<(), RowFault> {
     let (a, b) = split_words(types, "=")?;
     let (a, b) = (read_type(alloc, a)?, read_type(alloc, b)?);
-    show_bool(alloc, same_type(&a, &b, left, right))
+    line.show(same_type(&a, &b, left, right));
+    Ok(())
 }
 
-fn show_has(alloc: Global, words: &[&str]) -> Result<String, RowFault> {
+fn write_has(alloc: Global, words: &[&str], line: &mut Line) -> Result<(), RowFault> {
     let (ty, value) = split_words(words, "=")?;
-    show_has_type(alloc, &read_tree(alloc, ty)?, value)
+    write_has_type(alloc, &read_tree(alloc, ty)?, value, line)
 }
 
-fn show_has_type(alloc: Global, ty: &TypeTree, value: &[&str]) -> Result<String, RowFault> {
+fn write_has_type(
+    alloc: Global,
+    ty: &TypeTree,
+    value: &[&str],
+    line: &mut Line,
+) -> Result<(), RowFault> {
     let value = read_value(alloc, value)?;
-    show_bool(alloc, has_type(&value, ty))
+    line.show(has_type(&value, ty));
+    Ok(())
 }
 
-fn show_same_func(alloc: Global, funcs: &[&str]) -> Result<String, RowFault> {
+fn write_same_func(alloc: Global, funcs: &[&str], line: &mut Line) -> Result<(), RowFault> {
     let (a, b) = split_words(funcs, "=")?;
-    show_same_as(alloc, &read_func(alloc, a)?, b)
+    write_same_as(alloc, &read_func(alloc, a)?, b, line)
 }
 
-fn show_same_as(alloc: Global, a: &Func, b: &[&str]) -> Result<String, RowFault> {
+fn write_same_as(alloc: Global, a: &Func, b: &[&str], line: &mut Line) -> Result<(), RowFault> {
     let b = read_func(alloc, b)?;
-    show_bool(alloc, same_func(a, &b, &[], &[]))
+    line.show(same_func(a, &b, &[], &[]));
+    Ok(())
 }
 
-/// `within`, or the fault.
-fn show_limit(alloc: Global, fault: Option<TypeFault>) -> Result<String, RowFault> {
+/// Writes `within`, or the fault.
+fn write_limit(line: &mut Line, fault: Option<TypeFault>) {
     match fault {
-        None => Ok(String::from_str(alloc, "within")?),
-        Some(fault) => show_fault(alloc, fault.number()),
+        None => line.put("within"),
+        Some(fault) => write_fault(line, fault.number()),
     }
 }
 
-/// For each type its place, from 0, and then the places of the types that are equal to it.
-fn show_equals(alloc: Global, words: &[&str]) -> Result<String, RowFault> {
+/// Writes for each type its place, from 0, and then the places of the types that are equal to it.
+fn write_equals(alloc: Global, words: &[&str], line: &mut Line) -> Result<(), RowFault> {
     let left = read_several(alloc, words)?;
     let right = read_several(alloc, words)?;
-    let mut out = String::new(alloc);
     for (i, a) in left.iter().enumerate() {
         if i > 0 {
-            out.push_str(" ")?;
+            line.put(" ");
         }
-        write!(out, "{i}:")?;
-        write_equals(&mut out, a, &right)?;
-    }
-    Ok(out)
-}
-
-fn write_equals(out: &mut String, ty: &TypeNode, others: &[TypeNode]) -> Result<(), AllocError> {
-    for (i, other) in others.iter().enumerate() {
-        if same_type(ty, other, &[], &[]) {
-            write!(out, "{i}")?;
-        }
+        line.show(i);
+        line.put(":");
+        write_equals_of(line, a, &right);
     }
     Ok(())
+}
+
+fn write_equals_of(line: &mut Line, ty: &TypeNode, others: &[TypeNode]) {
+    for (i, other) in others.iter().enumerate() {
+        if same_type(ty, other, &[], &[]) {
+            line.show(i);
+        }
+    }
 }
 
 fn read_several(alloc: Global, words: &[&str]) -> Result<Vec<TypeNode>, RowFault> {

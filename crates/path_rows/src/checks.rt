@@ -2,56 +2,65 @@
 
 use crate::files::Files;
 use cm_placed::{Extern, ExternDesc, Placed};
-use cm_rows::{RowFault, read_number};
+use cm_rows::{Line, RowFault, read_number};
 use cm_type_arena::Types;
 use cm_validate::{
     Checked, CoreFuncEntry, ExportEntry, ExportedEntry, FuncEntry, GuestExport, InstanceEntry,
     MadeFunc, ValidFault, ValidReason, validate,
 };
-use std::alloc::{AllocError, Global};
+use std::alloc::Global;
 
 /// The answer to `validate SOURCE`, `core_funcs SOURCE`, `core SOURCE INDEX` or `func SOURCE EXPORT
 /// ITEM`.
-pub fn answer(alloc: Global, files: &Files, words: &[&str]) -> Result<String, RowFault> {
+pub fn answer(
+    alloc: Global,
+    files: &Files,
+    words: &[&str],
+    line: &mut Line,
+) -> Result<(), RowFault> {
     let [question, source, rest @ ..] = words else {
         return Err(RowFault::NotARow);
     };
     let component = files.component(alloc, source)?;
     match validate(alloc, &component) {
-        Ok(checked) => answer_of(alloc, &checked, question, rest),
-        Err(fault) if *question == "validate" => show_fault(alloc, &fault),
+        Ok(checked) => answer_of(&checked, question, rest, line),
+        Err(fault) if *question == "validate" => write_fault(line, &fault),
         Err(fault) => Err(not_a_row(&fault)),
     }
 }
 
 /// The answer to `valid SOURCE`, where words behind it say what the component is.
-pub fn valid_answer(alloc: Global, files: &Files, words: &[&str]) -> Result<String, RowFault> {
+pub fn valid_answer(
+    alloc: Global,
+    files: &Files,
+    words: &[&str],
+    line: &mut Line,
+) -> Result<(), RowFault> {
     let [source, ..] = words else {
         return Err(RowFault::NotARow);
     };
     let component = files.component(alloc, source)?;
     match validate(alloc, &component) {
-        Ok(_) => Ok(String::from_str(alloc, "valid")?),
-        Err(fault) => show_fault(alloc, &fault),
+        Ok(_) => line.put("valid"),
+        Err(fault) => return write_fault(line, &fault),
     }
+    Ok(())
 }
 
 fn answer_of(
-    alloc: Global,
     checked: &Checked<'_>,
     question: &str,
     words: &[&str],
-) -> Result<String, RowFault> {
+    line: &mut Line,
+) -> Result<(), RowFault> {
     match (question, words) {
-        ("validate", []) => Ok(show_signature(alloc, checked)?),
-        ("core_funcs", []) => show_core_funcs(alloc, checked),
-        ("core", [index]) => show_core(alloc, checked, read_number(index)?),
-        ("func", [export, item]) => {
-            let export = read_number(export)?;
-            show_func(alloc, checked, export, item)
-        }
-        _ => Err(RowFault::NotARow),
+        ("validate", []) => write_signature(line, checked),
+        ("core_funcs", []) => write_core_funcs(line, checked),
+        ("core", [index]) => write_core(line, checked, read_number(index)?),
+        ("func", [export, item]) => write_func(line, checked, read_number(export)?, item),
+        _ => return Err(RowFault::NotARow),
     }
+    Ok(())
 }
 
 /// What is said of a component that is to be valid and is not.
@@ -62,53 +71,60 @@ pub fn not_a_row(fault: &ValidFault) -> RowFault {
     }
 }
 
-fn show_fault(alloc: Global, fault: &ValidFault) -> Result<String, RowFault> {
-    let (number, section, item) = (fault.reason.number(), fault.section, fault.item);
+/// Writes the fault of a component that is not valid; `Memory` is none of them.
+fn write_fault(line: &mut Line, fault: &ValidFault) -> Result<(), RowFault> {
+    let number = fault.reason.number();
     if number == ValidReason::Memory.number() {
         return Err(RowFault::Memory);
     }
-    Ok(format!(in alloc; "fault {number} in section {section}, item {item}")?)
+    line.put("fault ");
+    line.show(number);
+    line.put(" in section ");
+    line.show(fault.section);
+    line.put(", item ");
+    line.show(fault.item);
+    Ok(())
 }
 
-fn show_signature(alloc: Global, checked: &Checked<'_>) -> Result<String, AllocError> {
-    let mut out = String::from_str(alloc, "imports")?;
+fn write_signature(line: &mut Line, checked: &Checked<'_>) {
+    line.put("imports");
     for import in checked.imports() {
-        write_import(&mut out, checked.types(), import)?;
+        write_import(line, checked.types(), import);
     }
-    out.push_str(", exports")?;
-    for export in checked.exports() {
-        write_export(&mut out, checked.types(), export)?;
-    }
-    Ok(out)
+    write_exports(line, checked);
 }
 
-fn write_import(out: &mut String, types: &Types, import: &Extern) -> Result<(), AllocError> {
-    let name = import.name.as_str();
-    write!(out, " {name}")?;
+fn write_exports(line: &mut Line, checked: &Checked<'_>) {
+    line.put(", exports");
+    for export in checked.exports() {
+        write_export(line, checked.types(), export);
+    }
+}
+
+fn write_import(line: &mut Line, types: &Types, import: &Extern) {
+    line.put(" ");
+    line.put(import.name.as_str());
     match &import.desc {
-        ExternDesc::Func(ty) => write_shape(out, types, *ty),
+        ExternDesc::Func(ty) => write_shape(line, types, *ty),
         ExternDesc::Instance { ty, .. } => {
-            let count = ty.items.len();
-            write!(out, " of {count}")
+            line.put(" of ");
+            line.show(ty.items.len());
         }
     }
 }
 
-fn write_export(
-    out: &mut String,
-    types: &Types,
-    export: &ExportEntry<'_>,
-) -> Result<(), AllocError> {
-    let name = export.name.as_str();
-    write!(out, " {name}")?;
+fn write_export(line: &mut Line, types: &Types, export: &ExportEntry<'_>) {
+    line.put(" ");
+    line.put(export.name.as_str());
     match &export.def {
-        ExportedEntry::Func(func) => write_shape(out, types, type_of(*func)),
+        ExportedEntry::Func(func) => write_shape(line, types, type_of(*func)),
         ExportedEntry::Instance(InstanceEntry::Imported { import, .. }) => {
-            write!(out, " of import {import}")
+            line.put(" of import ");
+            line.show(*import);
         }
         ExportedEntry::Instance(InstanceEntry::Exporting(members)) => {
-            let count = members.len();
-            write!(out, " of {count}")
+            line.put(" of ");
+            line.show(members.len());
         }
     }
 }
@@ -121,29 +137,33 @@ fn type_of(func: FuncEntry<'_>) -> Placed {
 }
 
 /// Writes how many parameters a function of this type has and how many results.
-pub fn write_shape(out: &mut String, types: &Types, ty: Placed) -> Result<(), AllocError> {
+pub fn write_shape(line: &mut Line, types: &Types, ty: Placed) {
     if !ty.is_there(types.func_count()) {
-        return out.push_str("(no type)");
+        line.put("(no type)");
+        return;
     }
     let func = types.func(ty.place);
-    let params = func.params.len();
-    let results = if func.result.is_some() { 1 } else { 0 };
-    write!(out, "({params}, {results})")
+    line.put("(");
+    line.show(func.params.len());
+    line.put(if func.result.is_some() {
+        ", 1)"
+    } else {
+        ", 0)"
+    });
 }
 
-fn show_core_funcs(alloc: Global, checked: &Checked<'_>) -> Result<String, RowFault> {
-    let mut out = String::from_str(alloc, "each")?;
+fn write_core_funcs(line: &mut Line, checked: &Checked<'_>) {
+    line.put("each");
     for index in 0..=u32::MAX {
         match checked.core(index) {
             None => break,
-            Some(CoreFuncEntry::Guest(_)) => out.push_str(" guest")?,
+            Some(CoreFuncEntry::Guest(_)) => line.put(" guest"),
             Some(CoreFuncEntry::Made(made)) => {
-                let sort = sort_of(made);
-                write!(out, " {sort}")?;
+                line.put(" ");
+                line.put(sort_of(made));
             }
         }
     }
-    Ok(out)
 }
 
 fn sort_of(made: MadeFunc<'_>) -> &'static str {
@@ -155,12 +175,13 @@ fn sort_of(made: MadeFunc<'_>) -> &'static str {
     }
 }
 
-fn show_core(alloc: Global, checked: &Checked<'_>, index: u32) -> Result<String, RowFault> {
-    let mut out = String::new(alloc);
+fn write_core(line: &mut Line, checked: &Checked<'_>, index: u32) {
     match checked.core(index) {
-        None => out.push_str("none")?,
+        None => line.put("none"),
         Some(CoreFuncEntry::Guest(GuestExport { instance, name })) => {
-            write!(out, "{name} of core instance {instance}")?;
+            line.put(name);
+            line.put(" of core instance ");
+            line.show(instance);
         }
         Some(
             CoreFuncEntry::Made(
@@ -172,9 +193,10 @@ fn show_core(alloc: Global, checked: &Checked<'_>, index: u32) -> Result<String,
                 },
             ),
         ) => {
-            write!(out, "lowered import {import}")?;
-            write_item(&mut out, item)?;
-            write_shape(&mut out, checked.types(), ty)?;
+            line.put("lowered import ");
+            line.show(import);
+            write_item(line, item);
+            write_shape(line, checked.types(), ty);
         }
         Some(
             CoreFuncEntry::Made(
@@ -183,40 +205,38 @@ fn show_core(alloc: Global, checked: &Checked<'_>, index: u32) -> Result<String,
                 | MadeFunc::Reading(number)),
             ),
         ) => {
-            let sort = sort_of(made);
-            write!(out, "{sort} resource {number}")?;
+            line.put(sort_of(made));
+            line.put(" resource ");
+            line.show(number);
         }
     }
-    Ok(out)
 }
 
-/// What the function is that an export is, or that has this name in an exported instance, where the
-/// name is not `-`.
-fn show_func(
-    alloc: Global,
-    checked: &Checked<'_>,
-    export: usize,
-    item: &str,
-) -> Result<String, RowFault> {
+/// Writes what the function is that an export is, or that has this name in an exported instance,
+/// where the name is not `-`.
+fn write_func(line: &mut Line, checked: &Checked<'_>, export: usize, item: &str) {
     let item = if item == "-" { None } else { Some(item) };
     let Some(func) = checked.func(export, item) else {
-        return Ok(String::from_str(alloc, "none")?);
+        line.put("none");
+        return;
     };
-    let mut out = String::new(alloc);
     match func {
-        FuncEntry::Lifted { core_func, .. } => write!(out, "lifted core function {core_func}")?,
+        FuncEntry::Lifted { core_func, .. } => {
+            line.put("lifted core function ");
+            line.show(core_func);
+        }
         FuncEntry::Imported { import, item, .. } => {
-            write!(out, "import {import}")?;
-            write_item(&mut out, item)?;
+            line.put("import ");
+            line.show(import);
+            write_item(line, item);
         }
     }
-    write_shape(&mut out, checked.types(), type_of(func))?;
-    Ok(out)
+    write_shape(line, checked.types(), type_of(func));
 }
 
-fn write_item(out: &mut String, item: Option<usize>) -> Result<(), AllocError> {
-    match item {
-        Some(item) => write!(out, " item {item}"),
-        None => Ok(()),
+fn write_item(line: &mut Line, item: Option<usize>) {
+    if let Some(item) = item {
+        line.put(" item ");
+        line.show(item);
     }
 }

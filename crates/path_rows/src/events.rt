@@ -1,66 +1,89 @@
 //! Events as rows show them.
 
 use cm_machine::Event;
+use cm_rows::Line;
 use cm_types::CoreValue;
-use std::alloc::AllocError;
 
 /// Writes an event, and whether a run stops after it.
-pub fn write_event(out: &mut String, event: &Event) -> Result<(), AllocError> {
+pub fn write_event(line: &mut Line, event: &Event) {
+    write_what(line, event);
+    if event.is_last() {
+        line.put(" (last)");
+    }
+}
+
+fn write_what(line: &mut Line, event: &Event) {
     match event {
-        Event::Done => out.push_str("done")?,
-        Event::Grown(Some(pages)) => write!(out, "grown {pages}")?,
-        Event::Grown(None) => out.push_str("grown none")?,
+        Event::Done => line.put("done"),
+        Event::Grown(Some(pages)) => {
+            line.put("grown ");
+            line.show(*pages);
+        }
+        Event::Grown(None) => line.put("grown none"),
         Event::Enter {
             instance,
             func,
             args,
         } => {
-            write!(out, "enter {instance} {func}")?;
-            write_values(out, args.as_slice())?;
+            write_call(line, "enter ", *instance, *func);
+            write_values(line, args.as_slice());
         }
         Event::Resume { instance, values } => {
-            write!(out, "resume {instance}")?;
-            write_values(out, values.as_slice())?;
+            line.put("resume ");
+            line.show(*instance);
+            write_values(line, values.as_slice());
         }
-        Event::Realloc { instance, func, .. } => write!(out, "realloc {instance} {func}")?,
+        Event::Realloc { instance, func, .. } => write_call(line, "realloc ", *instance, *func),
         Event::PostReturn { instance, func, .. } => {
-            write!(out, "postreturn {instance} {func}")?;
+            write_call(line, "postreturn ", *instance, *func);
         }
         Event::Dtor {
             instance,
             func,
             rep,
-        } => write!(out, "dtor {instance} {func} {rep}")?,
-        Event::Trapped(trap) => {
-            let number = trap.number();
-            write!(out, "trapped {number}")?;
+        } => {
+            write_call(line, "dtor ", *instance, *func);
+            line.put(" ");
+            line.show(*rep);
         }
-        Event::Ended => out.push_str("ended")?,
+        Event::Trapped(trap) => {
+            line.put("trapped ");
+            line.show(trap.number());
+        }
+        Event::Ended => line.put("ended"),
     }
-    if event.is_last() {
-        out.push_str(" (last)")?;
-    }
-    Ok(())
+}
+
+/// Writes that a function of an instance is called.
+fn write_call(line: &mut Line, call: &str, instance: u32, func: u32) {
+    line.put(call);
+    line.show(instance);
+    line.put(" ");
+    line.show(func);
 }
 
 /// Writes events, joined by `;`.
-pub fn write_events(out: &mut String, events: &[Event]) -> Result<(), AllocError> {
+pub fn write_events(line: &mut Line, events: &[Event]) {
     for (i, event) in events.iter().enumerate() {
         if i > 0 {
-            out.push_str("; ")?;
+            line.put("; ");
         }
-        write_event(out, event)?;
+        write_event(line, event);
     }
-    Ok(())
 }
 
 /// Writes core values, each after a space.
-pub fn write_values(out: &mut String, values: &[CoreValue]) -> Result<(), AllocError> {
+pub fn write_values(line: &mut Line, values: &[CoreValue]) {
     for value in values {
         match value {
-            CoreValue::I32(number) => write!(out, " i32:{number}")?,
-            CoreValue::I64(number) => write!(out, " i64:{number}")?,
+            CoreValue::I32(number) => {
+                line.put(" i32:");
+                line.show(*number);
+            }
+            CoreValue::I64(number) => {
+                line.put(" i64:");
+                line.show(*number);
+            }
         }
     }
-    Ok(())
 }

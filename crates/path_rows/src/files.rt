@@ -1,10 +1,10 @@
 //! Rows on files: reading and writing them.
 
-use crate::pieces::answers::show_outcome;
+use crate::pieces::answers::write_outcome;
 use crate::sections::read_sections;
 use cm_binary::{Component, DecodeFault, DecodeReason, decode, encode, written_and_read};
-use cm_rows::{RowFault, read_bytes, read_number, write_bytes};
-use std::alloc::{AllocError, Global};
+use cm_rows::{Line, RowFault, read_bytes, read_number, write_bytes};
+use std::alloc::Global;
 
 /// Files that rows have named.
 #[derive(Drop)]
@@ -53,57 +53,74 @@ impl Files {
         Ok(components)
     }
 
-    fn name(&mut self, alloc: Global, name: &str, bytes: Vec<u8>) -> Result<String, RowFault> {
-        let length = bytes.len();
+    fn name(
+        &mut self,
+        alloc: Global,
+        name: &str,
+        bytes: Vec<u8>,
+        line: &mut Line,
+    ) -> Result<(), RowFault> {
+        write_length(line, bytes.len());
         let name = String::from_str(alloc, name)?;
         self.named.push(NamedFile { name, bytes })?;
-        Ok(format!(in alloc; "{length} bytes")?)
+        Ok(())
     }
 
     /// The answer to `name NAME BYTES`, `limits SECTIONS`, `decode SOURCE`, `changed SOURCE AT
     /// BYTES`, `beginnings SOURCE`, `encode SOURCE` or `written_and_read SOURCE`.
-    pub fn answer(&mut self, alloc: Global, words: &[&str]) -> Result<String, RowFault> {
+    pub fn answer(
+        &mut self,
+        alloc: Global,
+        words: &[&str],
+        line: &mut Line,
+    ) -> Result<(), RowFault> {
         match words {
             ["name", name, bytes] => {
                 let bytes = read_bytes(alloc, bytes)?;
-                self.name(alloc, name, bytes)
+                self.name(alloc, name, bytes, line)
             }
-            ["limits", sections @ ..] => show_limits(alloc, sections),
-            ["decode", source] => show_decoded(alloc, &self.read(alloc, source)?),
+            ["limits", sections @ ..] => write_limits(alloc, sections, line),
+            ["decode", source] => write_decoded(alloc, &self.read(alloc, source)?, line),
             ["changed", source, at, bytes] => {
                 let mut file = self.read(alloc, source)?;
                 let bytes = read_bytes(alloc, bytes)?;
                 change(&mut file, read_number(at)?, &bytes);
-                show_decoded(alloc, &file)
+                write_decoded(alloc, &file, line)
             }
-            ["beginnings", source] => show_beginnings(alloc, &self.read(alloc, source)?),
+            ["beginnings", source] => {
+                write_beginnings(alloc, &self.read(alloc, source)?, line);
+                Ok(())
+            }
             ["encode", source] => {
                 let component = self.component(alloc, source)?;
-                let mut out = String::new(alloc);
-                write_bytes(&mut out, &encode(alloc, &component)?)?;
-                Ok(out)
+                write_bytes(line, &encode(alloc, &component)?);
+                Ok(())
             }
             ["written_and_read", source] => {
                 let component = self.component(alloc, source)?;
-                show_outcome(alloc, written_and_read(alloc, &component))
+                write_outcome(alloc, written_and_read(alloc, &component), line)
             }
             _ => Err(RowFault::NotARow),
         }
     }
 }
 
-/// How many bytes the file of a component of these sections has, or the limit that they pass.
-fn show_limits(alloc: Global, words: &[&str]) -> Result<String, RowFault> {
+fn write_length(line: &mut Line, length: usize) {
+    line.show(length);
+    line.put(" bytes");
+}
+
+/// Writes how many bytes the file of a component of these sections has, or the limit that they
+/// pass.
+fn write_limits(alloc: Global, words: &[&str], line: &mut Line) -> Result<(), RowFault> {
     match Component::new(read_sections(alloc, words)?) {
-        Ok(component) => {
-            let length = encode(alloc, &component)?.len();
-            Ok(format!(in alloc; "{length} bytes")?)
-        }
+        Ok(component) => write_length(line, encode(alloc, &component)?.len()),
         Err(fault) => {
-            let number = fault.number();
-            Ok(format!(in alloc; "fault {number}")?)
+            line.put("fault ");
+            line.show(fault.number());
         }
     }
+    Ok(())
 }
 
 /// The component of a file, which is to have one.
@@ -121,40 +138,39 @@ fn change(file: &mut Vec<u8>, at: usize, bytes: &[u8]) {
     }
 }
 
-fn show_decoded(alloc: Global, bytes: &[u8]) -> Result<String, RowFault> {
-    show_outcome(alloc, decode(alloc, bytes))
+fn write_decoded(alloc: Global, bytes: &[u8], line: &mut Line) -> Result<(), RowFault> {
+    write_outcome(alloc, decode(alloc, bytes), line)
 }
 
-/// `fault NUMBER at PLACE`, and of a form that is not carried which one it is.
-pub fn show_fault(alloc: Global, fault: &DecodeFault) -> Result<String, RowFault> {
-    if fault.reason.number() == DecodeReason::Memory.number() {
+/// Writes `fault NUMBER at PLACE`, and of a form that is not carried which one it is.
+pub fn write_fault(line: &mut Line, fault: &DecodeFault) -> Result<(), RowFault> {
+    let number = fault.reason.number();
+    if number == DecodeReason::Memory.number() {
         return Err(RowFault::Memory);
     }
-    let mut out = String::new(alloc);
-    write_fault(&mut out, fault)?;
-    Ok(out)
-}
-
-fn write_fault(out: &mut String, fault: &DecodeFault) -> Result<(), AllocError> {
-    let (number, at) = (fault.reason.number(), fault.at);
-    write!(out, "fault {number} at {at}")?;
-    match fault.reason {
-        DecodeReason::Unsupported(feature) => write!(out, ", {feature}"),
-        _ => Ok(()),
+    line.put("fault ");
+    line.show(number);
+    line.put(" at ");
+    line.show(fault.at);
+    if let DecodeReason::Unsupported(feature) = fault.reason {
+        line.put(", ");
+        line.show(feature);
     }
+    Ok(())
 }
 
-/// For each length below that of the file, the fault of so many bytes of it, or `whole`.
-fn show_beginnings(alloc: Global, file: &[u8]) -> Result<String, RowFault> {
-    let mut out = String::from_str(alloc, "below the length:")?;
+/// Writes for each length below that of the file the fault of so many bytes of it, or `whole`.
+fn write_beginnings(alloc: Global, file: &[u8], line: &mut Line) {
+    line.put("below the length:");
     for length in 0..file.len() {
         match decode(alloc, &file[..length]) {
-            Ok(_) => out.push_str(" whole")?,
+            Ok(_) => line.put(" whole"),
             Err(fault) => {
-                let (number, at) = (fault.reason.number(), fault.at);
-                write!(out, " {number}@{at}")?;
+                line.put(" ");
+                line.show(fault.reason.number());
+                line.put("@");
+                line.show(fault.at);
             }
         }
     }
-    Ok(out)
 }

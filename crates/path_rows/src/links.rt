@@ -5,18 +5,23 @@ use crate::checks::not_a_row;
 use crate::files::Files;
 use cm_binary::Component;
 use cm_match::{LinkFault, LinkReason, Linked, PlanLine, link};
-use cm_rows::{RowFault, read_number, split_words};
+use cm_rows::{Line, RowFault, read_number, split_words};
 use cm_validate::validate;
-use std::alloc::{AllocError, Global};
+use std::alloc::Global;
 
 /// The answer to `plan SOURCE..`, `target COMPONENT IMPORT ITEM SOURCE..` or `resource COMPONENT
 /// NUMBER SOURCE..`; words behind `:` say what the row shows.
-pub fn answer(alloc: Global, files: &Files, words: &[&str]) -> Result<String, RowFault> {
+pub fn answer(
+    alloc: Global,
+    files: &Files,
+    words: &[&str],
+    line: &mut Line,
+) -> Result<(), RowFault> {
     let (row, _) = split_words(words, ":")?;
     match row {
-        ["plan", sources @ ..] => plan_answer(alloc, files, sources),
-        ["target", rest @ ..] => target_answer(alloc, files, rest),
-        ["resource", rest @ ..] => resource_answer(alloc, files, rest),
+        ["plan", sources @ ..] => plan_answer(alloc, files, sources, line),
+        ["target", rest @ ..] => target_answer(alloc, files, rest, line),
+        ["resource", rest @ ..] => resource_answer(alloc, files, rest, line),
         _ => Err(RowFault::NotARow),
     }
 }
@@ -47,37 +52,54 @@ pub fn read_item(word: &str) -> Result<Option<usize>, RowFault> {
     }
 }
 
-pub fn show_link_fault(alloc: Global, fault: LinkFault) -> Result<String, AllocError> {
-    let (number, component, import) = (fault.reason.number(), fault.component, fault.import);
-    format!(in alloc; "fault {number} in component {component}, import {import}")
+pub fn write_link_fault(line: &mut Line, fault: LinkFault) {
+    line.put("fault ");
+    line.show(fault.reason.number());
+    line.put(" in component ");
+    line.show(fault.component);
+    line.put(", import ");
+    line.show(fault.import);
 }
 
-/// The plan of the set, or its fault.
-fn plan_answer(alloc: Global, files: &Files, sources: &[&str]) -> Result<String, RowFault> {
+/// Writes the plan of the set, or its fault.
+fn plan_answer(
+    alloc: Global,
+    files: &Files,
+    sources: &[&str],
+    line: &mut Line,
+) -> Result<(), RowFault> {
     let components = files.components(alloc, sources)?;
     match link_components(alloc, &components)? {
-        Ok(linked) if linked.plan().is_empty() => Ok(String::from_str(alloc, "nothing")?),
-        Ok(linked) => Ok(show_plan(alloc, linked.plan())?),
-        Err(fault) => Ok(show_link_fault(alloc, fault)?),
+        Ok(linked) if linked.plan().is_empty() => line.put("nothing"),
+        Ok(linked) => write_plan(line, linked.plan()),
+        Err(fault) => write_link_fault(line, fault),
     }
+    Ok(())
 }
 
-/// The lines of a plan, with commas between.
-fn show_plan(alloc: Global, plan: &[PlanLine]) -> Result<String, AllocError> {
-    let mut out = String::new(alloc);
-    for (i, line) in plan.iter().enumerate() {
+/// Writes the lines of a plan, with commas between.
+fn write_plan(line: &mut Line, plan: &[PlanLine]) {
+    for (i, planned) in plan.iter().enumerate() {
         if i > 0 {
-            out.push_str(", ")?;
+            line.put(", ");
         }
-        let (importer, import) = (line.importer, line.import);
-        let (provider, export) = (line.provider, line.export);
-        write!(out, "{importer}.{import} <- {provider}.{export}")?;
+        line.show(planned.importer);
+        line.put(".");
+        line.show(planned.import);
+        line.put(" <- ");
+        line.show(planned.provider);
+        line.put(".");
+        line.show(planned.export);
     }
-    Ok(out)
 }
 
-/// The lifted function that an import, or an item of one, comes to.
-fn target_answer(alloc: Global, files: &Files, words: &[&str]) -> Result<String, RowFault> {
+/// Writes the lifted function that an import, or an item of one, comes to.
+fn target_answer(
+    alloc: Global,
+    files: &Files,
+    words: &[&str],
+    line: &mut Line,
+) -> Result<(), RowFault> {
     let [component, import, item, sources @ ..] = words else {
         return Err(RowFault::NotARow);
     };
@@ -88,51 +110,56 @@ fn target_answer(alloc: Global, files: &Files, words: &[&str]) -> Result<String,
     );
     let components = files.components(alloc, sources)?;
     match link_components(alloc, &components)? {
-        Ok(linked) => Ok(show_target(alloc, &linked, component, import, item)?),
-        Err(_) => Err(RowFault::NotARow),
+        Ok(linked) => write_target(line, &linked, component, import, item),
+        Err(_) => return Err(RowFault::NotARow),
     }
+    Ok(())
 }
 
-fn show_target(
-    alloc: Global,
+fn write_target(
+    line: &mut Line,
     linked: &Linked<'_>,
     component: u32,
     import: usize,
     item: Option<usize>,
-) -> Result<String, AllocError> {
+) {
     match linked.target(component, import, item) {
-        None => String::from_str(alloc, "none"),
+        None => line.put("none"),
         Some(target) => {
-            let (component, func) = (target.component, target.core_func);
-            format!(in alloc; "component {component}, core function {func}")
+            line.put("component ");
+            line.show(target.component);
+            line.put(", core function ");
+            line.show(target.core_func);
         }
     }
 }
 
-/// What a resource is in the end.
-fn resource_answer(alloc: Global, files: &Files, words: &[&str]) -> Result<String, RowFault> {
+/// Writes what a resource is in the end.
+fn resource_answer(
+    alloc: Global,
+    files: &Files,
+    words: &[&str],
+    line: &mut Line,
+) -> Result<(), RowFault> {
     let [component, number, sources @ ..] = words else {
         return Err(RowFault::NotARow);
     };
     let (component, number) = (read_number(component)?, read_number(number)?);
     let components = files.components(alloc, sources)?;
     match link_components(alloc, &components)? {
-        Ok(linked) => Ok(show_resource(alloc, &linked, component, number)?),
-        Err(_) => Err(RowFault::NotARow),
+        Ok(linked) => write_resource(line, &linked, component, number),
+        Err(_) => return Err(RowFault::NotARow),
     }
+    Ok(())
 }
 
-fn show_resource(
-    alloc: Global,
-    linked: &Linked<'_>,
-    component: u32,
-    number: u64,
-) -> Result<String, AllocError> {
+fn write_resource(line: &mut Line, linked: &Linked<'_>, component: u32, number: u64) {
     match linked.resource(component, number) {
-        None => String::from_str(alloc, "none"),
+        None => line.put("none"),
         Some(resource) => {
-            let (component, number) = (resource.component, resource.number);
-            format!(in alloc; "{component}.{number}")
+            line.show(resource.component);
+            line.put(".");
+            line.show(resource.number);
         }
     }
 }

@@ -12,7 +12,7 @@ mod sections;
 mod sets;
 mod tool;
 
-use cm_rows::{Driver, RowFault, answer_rows};
+use cm_rows::{Driver, Line, RowFault, answer_rows};
 use files::Files;
 use pieces::{readers, writers};
 use sets::Sets;
@@ -31,30 +31,35 @@ struct PathRows {
 }
 
 impl Driver for PathRows {
-    fn answer(&mut self, alloc: Global, words: &[&str]) -> Result<String, RowFault> {
+    fn answer(&mut self, alloc: Global, words: &[&str], line: &mut Line) -> Result<(), RowFault> {
         match words {
-            ["files", rest @ ..] => self.files.answer(alloc, rest),
-            ["checked", rest @ ..] => checks::answer(alloc, &self.files, rest),
-            ["link", sources @ ..] => self.sets.link(alloc, &self.files, sources),
-            ["set", rest @ ..] => self.sets.answer(alloc, rest),
-            ["valid", rest @ ..] => checks::valid_answer(alloc, &self.files, rest),
-            ["pieces", rest @ ..] => pieces::answer(alloc, rest),
-            ["read", rest @ ..] => readers::answer(alloc, rest),
-            ["write", rest @ ..] => writers::answer(alloc, rest),
-            words => self.answer_on_tool(alloc, words),
+            ["files", rest @ ..] => self.files.answer(alloc, rest, line),
+            ["checked", rest @ ..] => checks::answer(alloc, &self.files, rest, line),
+            ["link", sources @ ..] => self.sets.link(alloc, &self.files, sources, line),
+            ["set", rest @ ..] => self.sets.answer(alloc, rest, line),
+            ["valid", rest @ ..] => checks::valid_answer(alloc, &self.files, rest, line),
+            ["pieces", rest @ ..] => pieces::answer(alloc, rest, line),
+            ["read", rest @ ..] => readers::answer(alloc, rest, line),
+            ["write", rest @ ..] => writers::answer(alloc, rest, line),
+            words => self.answer_on_tool(alloc, words, line),
         }
     }
 }
 
 impl PathRows {
-    /// The answer to a row on the command or its parts, or on sets of which nothing is kept.
-    fn answer_on_tool(&mut self, alloc: Global, words: &[&str]) -> Result<String, RowFault> {
+    /// Answers a row on the command or its parts, or on sets of which nothing is kept.
+    fn answer_on_tool(
+        &mut self,
+        alloc: Global,
+        words: &[&str],
+        line: &mut Line,
+    ) -> Result<(), RowFault> {
         match words {
-            ["file", rest @ ..] => self.tool_files.answer(alloc, rest),
-            ["tool", rest @ ..] => commands::answer(alloc, &mut self.tool_files, rest),
-            ["script", rest @ ..] => scripts::answer(alloc, rest),
-            ["event", rest @ ..] => event_lines::answer(alloc, rest),
-            words => links::answer(alloc, &self.files, words),
+            ["file", rest @ ..] => self.tool_files.answer(alloc, rest, line),
+            ["tool", rest @ ..] => commands::answer(alloc, &mut self.tool_files, rest, line),
+            ["script", rest @ ..] => scripts::answer(alloc, rest, line),
+            ["event", rest @ ..] => event_lines::answer(alloc, rest, line),
+            words => links::answer(alloc, &self.files, words, line),
         }
     }
 }

@@ -4,25 +4,25 @@ pub mod answers;
 pub mod readers;
 pub mod writers;
 
-use crate::files::show_fault;
-use crate::pieces::answers::{show_answers, show_outcome, write_answers};
+use crate::files::write_fault;
+use crate::pieces::answers::{show_outcome, write_answers, write_outcome};
 use cm_pieces::{Decoder, decode_pieces};
-use cm_rows::{RowFault, read_bytes, read_number};
-use std::alloc::{AllocError, Global};
+use cm_rows::{Line, RowFault, read_bytes, read_number};
+use std::alloc::Global;
 
 /// The answer to `feed PIECE..`, `feed_cuts FILE`, `feed_parts SIZE FILE` or, of `decode_pieces`,
 /// `join PIECE..`, `join_cuts FILE` or `join_parts SIZE FILE`.
-pub fn answer(alloc: Global, words: &[&str]) -> Result<String, RowFault> {
+pub fn answer(alloc: Global, words: &[&str], line: &mut Line) -> Result<(), RowFault> {
     let [form, rest @ ..] = words else {
         return Err(RowFault::NotARow);
     };
     match *form {
-        "feed" => show_fed_pieces(alloc, rest),
-        "feed_cuts" => show_fed_cuts(alloc, &read_file(alloc, rest)?),
-        "feed_parts" => show_fed_parts(alloc, rest),
-        "join" => show_joined_pieces(alloc, rest),
-        "join_cuts" => show_joined_cuts(alloc, &read_file(alloc, rest)?),
-        "join_parts" => show_joined_parts(alloc, rest),
+        "feed" => write_fed_pieces(alloc, rest, line),
+        "feed_cuts" => write_fed_cuts(alloc, &read_file(alloc, rest)?, line),
+        "feed_parts" => write_fed_parts(alloc, rest, line),
+        "join" => write_joined_pieces(alloc, rest, line),
+        "join_cuts" => write_joined_cuts(alloc, &read_file(alloc, rest)?, line),
+        "join_parts" => write_joined_parts(alloc, rest, line),
         _ => Err(RowFault::NotARow),
     }
 }
@@ -73,28 +73,28 @@ fn parts(alloc: Global, file: &[u8], size: usize) -> Result<Vec<&[u8]>, RowFault
 
 /// Feeds the piece: `pending` then, or the fault.
 fn feed(alloc: Global, decoder: &mut Decoder, piece: &[u8]) -> Result<String, RowFault> {
+    let mut line = Line::new(alloc);
     match decoder.feed(piece) {
-        Ok(()) => {
-            let pending = decoder.pending();
-            Ok(format!(in alloc; "{pending}")?)
-        }
-        Err(fault) => show_fault(alloc, &fault),
+        Ok(()) => line.show(decoder.pending()),
+        Err(fault) => write_fault(&mut line, &fault)?,
     }
+    line.done()
 }
 
-fn show_fed_pieces(alloc: Global, words: &[&str]) -> Result<String, RowFault> {
+fn write_fed_pieces(alloc: Global, words: &[&str], line: &mut Line) -> Result<(), RowFault> {
     let pieces = read_pieces(alloc, words)?;
-    show_fed(alloc, &slices(alloc, &pieces)?)
+    write_fed(alloc, &slices(alloc, &pieces)?, line)
 }
 
-fn show_fed_parts(alloc: Global, words: &[&str]) -> Result<String, RowFault> {
+fn write_fed_parts(alloc: Global, words: &[&str], line: &mut Line) -> Result<(), RowFault> {
     let (size, file) = read_parts(alloc, words)?;
-    show_fed(alloc, &parts(alloc, &file, size)?)
+    write_fed(alloc, &parts(alloc, &file, size)?, line)
 }
 
-/// What each piece is answered, and then `finish`.
-fn show_fed(alloc: Global, pieces: &[&[u8]]) -> Result<String, RowFault> {
-    show_answers(alloc, &feed_all(alloc, Decoder::new(alloc), pieces)?)
+/// Writes what each piece is answered, and then `finish`.
+fn write_fed(alloc: Global, pieces: &[&[u8]], line: &mut Line) -> Result<(), RowFault> {
+    write_answers(line, &feed_all(alloc, Decoder::new(alloc), pieces)?);
+    Ok(())
 }
 
 fn feed_all(
@@ -127,19 +127,19 @@ impl Cuts {
         Ok(())
     }
 
-    fn write(&self, out: &mut String) -> Result<(), AllocError> {
-        out.push_str("before: ")?;
-        write_answers(out, &self.before)?;
-        out.push_str(" | behind: ")?;
-        write_answers(out, &self.behind)?;
-        out.push_str(" | finish: ")?;
-        write_answers(out, &self.ends)
+    fn write(&self, line: &mut Line) {
+        line.put("before: ");
+        write_answers(line, &self.before);
+        line.put(" | behind: ");
+        write_answers(line, &self.behind);
+        line.put(" | finish: ");
+        write_answers(line, &self.ends);
     }
 }
 
-/// For each cut of the file what the piece before it is answered; then, again for each, the piece
-/// behind it; then `finish`.
-fn show_fed_cuts(alloc: Global, file: &[u8]) -> Result<String, RowFault> {
+/// Writes for each cut of the file what the piece before it is answered; then, again for each, the
+/// piece behind it; then `finish`.
+fn write_fed_cuts(alloc: Global, file: &[u8], line: &mut Line) -> Result<(), RowFault> {
     let mut cuts = Cuts {
         before: Vec::new(alloc),
         behind: Vec::new(alloc),
@@ -149,31 +149,32 @@ fn show_fed_cuts(alloc: Global, file: &[u8]) -> Result<String, RowFault> {
         let (first, second) = file.split_at(cut);
         cuts.feed(alloc, first, second)?;
     }
-    let mut out = String::new(alloc);
-    cuts.write(&mut out)?;
-    Ok(out)
+    cuts.write(line);
+    Ok(())
 }
 
-fn show_joined_pieces(alloc: Global, words: &[&str]) -> Result<String, RowFault> {
+fn write_joined_pieces(alloc: Global, words: &[&str], line: &mut Line) -> Result<(), RowFault> {
     let pieces = read_pieces(alloc, words)?;
-    show_joined(alloc, &slices(alloc, &pieces)?)
+    write_joined(alloc, &slices(alloc, &pieces)?, line)
 }
 
-fn show_joined_parts(alloc: Global, words: &[&str]) -> Result<String, RowFault> {
+fn write_joined_parts(alloc: Global, words: &[&str], line: &mut Line) -> Result<(), RowFault> {
     let (size, file) = read_parts(alloc, words)?;
-    show_joined(alloc, &parts(alloc, &file, size)?)
+    write_joined(alloc, &parts(alloc, &file, size)?, line)
 }
 
-fn show_joined(alloc: Global, pieces: &[&[u8]]) -> Result<String, RowFault> {
-    show_outcome(alloc, decode_pieces(alloc, pieces))
+fn write_joined(alloc: Global, pieces: &[&[u8]], line: &mut Line) -> Result<(), RowFault> {
+    write_outcome(alloc, decode_pieces(alloc, pieces), line)
 }
 
-/// What the two pieces of each cut come to, with empty pieces around them.
-fn show_joined_cuts(alloc: Global, file: &[u8]) -> Result<String, RowFault> {
+/// Writes what the two pieces of each cut come to, with empty pieces around them.
+fn write_joined_cuts(alloc: Global, file: &[u8], line: &mut Line) -> Result<(), RowFault> {
     let mut answers = Vec::new(alloc);
     for cut in 0..=file.len() {
         let (first, second) = file.split_at(cut);
-        answers.push(show_joined(alloc, &[&[], first, &[], second, &[]])?)?;
+        let outcome = decode_pieces(alloc, &[&[], first, &[], second, &[]]);
+        answers.push(show_outcome(alloc, outcome)?)?;
     }
-    show_answers(alloc, &answers)
+    write_answers(line, &answers);
+    Ok(())
 }

@@ -3,15 +3,15 @@
 use crate::checks::write_shape;
 use crate::events::{write_event, write_events, write_values};
 use crate::files::Files;
-use crate::links::{link_components, read_item, show_link_fault};
+use crate::links::{link_components, read_item, write_link_fault};
 use crate::tool::escapes::read_text;
 use cm_binary::Component;
 use cm_machine::{Event, Flat, Guest, Misuse, Move, Player, Set};
 use cm_match::Linked;
-use cm_rows::{RowFault, read_number, write_units};
+use cm_rows::{Line, RowFault, read_number, write_units};
 use cm_script::{LineFault, ScriptGuest, Statement};
 use cm_types::CoreValue;
-use std::alloc::{AllocError, Global};
+use std::alloc::Global;
 use std::collections::VecDeque;
 
 /// The components that were linked last, until a machine is made of them, and the machine that was
@@ -36,59 +36,73 @@ impl Sets {
         alloc: Global,
         files: &Files,
         sources: &[&str],
-    ) -> Result<String, RowFault> {
+        line: &mut Line,
+    ) -> Result<(), RowFault> {
         let components = files.components(alloc, sources)?;
-        let plan = match link_components(alloc, &components)? {
-            Ok(linked) => show_plan(alloc, &linked)?,
-            Err(fault) => return Ok(show_link_fault(alloc, fault)?),
-        };
+        match link_components(alloc, &components)? {
+            Ok(linked) => write_plan(line, &linked),
+            Err(fault) => {
+                write_link_fault(line, fault);
+                return Ok(());
+            }
+        }
         self.linked = Some(components);
-        Ok(plan)
+        Ok(())
     }
 
     /// The answer to `target COMPONENT IMPORT ITEM`, `new PAGES..` (which takes the linked set),
     /// `begin INSTANCE`, `step MOVE`, `run MOVE ; ..`, `acting`, `memory INSTANCE`, `is_closed
     /// INSTANCE`, `drives ROOTS LIMIT SEAT | ..` or `flat VALUE..`.
-    pub fn answer(&mut self, alloc: Global, words: &[&str]) -> Result<String, RowFault> {
+    pub fn answer(
+        &mut self,
+        alloc: Global,
+        words: &[&str],
+        line: &mut Line,
+    ) -> Result<(), RowFault> {
         match words {
-            ["target", component, import, item] => self.show_target(
+            ["target", component, import, item] => self.write_target(
                 alloc,
                 read_number(component)?,
                 read_number(import)?,
                 read_item(item)?,
+                line,
             ),
-            ["new", pages @ ..] => self.make(alloc, pages),
-            ["flat", values @ ..] => show_flat(alloc, &read_values(alloc, values)?),
+            ["new", pages @ ..] => self.make(alloc, pages, line),
+            ["flat", values @ ..] => write_flat(line, &read_values(alloc, values)?),
             words => match &mut self.set {
-                Some(set) => answer_of_set(alloc, set, words),
+                Some(set) => answer_of_set(alloc, set, words, line),
                 None => Err(RowFault::NotARow),
             },
         }
     }
 
-    fn show_target(
+    fn write_target(
         &self,
         alloc: Global,
         component: u32,
         import: usize,
         item: Option<usize>,
-    ) -> Result<String, RowFault> {
+        line: &mut Line,
+    ) -> Result<(), RowFault> {
         let components = self.linked.as_ref().ok_or(RowFault::NotARow)?;
         let Ok(linked) = link_components(alloc, components)? else {
             return Err(RowFault::NotARow);
         };
         let Some(target) = linked.target(component, import, item) else {
-            return Ok(String::from_str(alloc, "none")?);
+            line.put("none");
+            return Ok(());
         };
-        let (component, core_func) = (target.component, target.core_func);
-        let mut out = format!(in alloc; "core function {core_func} of {component}")?;
-        if let Some(checked) = linked.components().get(component as usize) {
-            write_shape(&mut out, checked.types(), target.ty)?;
+        line.put("core function ");
+        line.show(target.core_func);
+        line.put(" of ");
+        line.show(target.component);
+        if let Some(checked) = linked.components().get(target.component as usize) {
+            write_shape(line, checked.types(), target.ty);
         }
-        Ok(out)
+        Ok(())
     }
 
-    fn make(&mut self, alloc: Global, pages: &[&str]) -> Result<String, RowFault> {
+    fn make(&mut self, alloc: Global, pages: &[&str], line: &mut Line) -> Result<(), RowFault> {
         let components = self.linked.take().ok_or(RowFault::NotARow)?;
         let mut numbers = Vec::new(alloc);
         for number in pages {
@@ -100,92 +114,110 @@ impl Sets {
         match Set::new(alloc, &linked, &numbers) {
             Ok(set) => {
                 self.set = Some(set);
-                Ok(String::from_str(alloc, "made")?)
+                line.put("made");
+                Ok(())
             }
-            Err(misuse) => show_misuse(alloc, misuse),
+            Err(misuse) => write_misuse(line, misuse),
         }
     }
 }
 
-/// `IMPORTER.IMPORT=PROVIDER.EXPORT` for each line of the plan, and the number of components.
-fn show_plan(alloc: Global, linked: &Linked<'_>) -> Result<String, RowFault> {
-    let count = linked.components().len();
-    let mut out = format!(in alloc; "{count} components:")?;
-    for line in linked.plan() {
-        let (importer, import) = (line.importer, line.import);
-        let (provider, export) = (line.provider, line.export);
-        write!(out, " {importer}.{import}={provider}.{export}")?;
-    }
-    Ok(out)
-}
-
-/// The number of a misuse, and the core function that is not carried.
-fn show_misuse(alloc: Global, misuse: Misuse) -> Result<String, RowFault> {
-    let number = misuse.number();
-    match misuse {
-        Misuse::Memory => Err(RowFault::Memory),
-        Misuse::NotYet {
-            component,
-            core_func,
-        } => Ok(format!(in alloc; "misuse {number} at core function {core_func} of {component}")?),
-        _ => Ok(format!(in alloc; "misuse {number}")?),
+/// Writes the number of components, and `IMPORTER.IMPORT=PROVIDER.EXPORT` for each line of the
+/// plan.
+fn write_plan(line: &mut Line, linked: &Linked<'_>) {
+    line.show(linked.components().len());
+    line.put(" components:");
+    for planned in linked.plan() {
+        line.put(" ");
+        line.show(planned.importer);
+        line.put(".");
+        line.show(planned.import);
+        line.put("=");
+        line.show(planned.provider);
+        line.put(".");
+        line.show(planned.export);
     }
 }
 
-fn answer_of_set(alloc: Global, set: &mut Set, words: &[&str]) -> Result<String, RowFault> {
+/// Writes the number of a misuse, and the core function that is not carried.
+fn write_misuse(line: &mut Line, misuse: Misuse) -> Result<(), RowFault> {
+    if let Misuse::Memory = misuse {
+        return Err(RowFault::Memory);
+    }
+    line.put("misuse ");
+    line.show(misuse.number());
+    if let Misuse::NotYet {
+        component,
+        core_func,
+    } = misuse
+    {
+        line.put(" at core function ");
+        line.show(core_func);
+        line.put(" of ");
+        line.show(component);
+    }
+    Ok(())
+}
+
+fn answer_of_set(
+    alloc: Global,
+    set: &mut Set,
+    words: &[&str],
+    line: &mut Line,
+) -> Result<(), RowFault> {
     match words {
-        ["begin", instance] => show_event(alloc, set.begin(read_number(instance)?)),
-        ["step", made @ ..] => show_event(alloc, set.step(&read_move(alloc, made)?)),
-        ["run", moves @ ..] => show_events(alloc, set.run(alloc, &read_moves(alloc, moves)?)),
+        ["begin", instance] => write_stepped(line, set.begin(read_number(instance)?)),
+        ["step", made @ ..] => write_stepped(line, set.step(&read_move(alloc, made)?)),
+        ["run", moves @ ..] => write_ran(line, set.run(alloc, &read_moves(alloc, moves)?)),
         ["drives", roots, limit, seats @ ..] => {
-            show_drives(alloc, set, roots, read_number(limit)?, seats)
+            drive_seats(alloc, set, roots, read_number(limit)?, seats, line)
         }
-        words => show_state(alloc, set, words),
+        words => write_state(set, words, line),
     }
 }
 
-fn show_state(alloc: Global, set: &Set, words: &[&str]) -> Result<String, RowFault> {
+fn write_state(set: &Set, words: &[&str], line: &mut Line) -> Result<(), RowFault> {
     match words {
         ["acting"] => match set.acting() {
-            Some(instance) => Ok(instance.to_string(alloc)?),
-            None => Ok(String::from_str(alloc, "none")?),
+            Some(instance) => line.show(instance),
+            None => line.put("none"),
         },
         ["memory", instance] => match set.memory(read_number(instance)?) {
             Some(memory) => {
-                let length = memory.len();
-                let mut out = format!(in alloc; "{length} bytes: ")?;
-                write_units(&mut out, memory, 1)?;
-                Ok(out)
+                line.show(memory.len());
+                line.put(" bytes: ");
+                write_units(line, memory, 1);
             }
-            None => Ok(String::from_str(alloc, "none")?),
+            None => line.put("none"),
         },
         ["is_closed", instance] => match set.is_closed(read_number(instance)?) {
-            Some(is_closed) => Ok(is_closed.to_string(alloc)?),
-            None => Ok(String::from_str(alloc, "none")?),
+            Some(is_closed) => line.show(is_closed),
+            None => line.put("none"),
         },
-        _ => Err(RowFault::NotARow),
+        _ => return Err(RowFault::NotARow),
     }
+    Ok(())
 }
 
-fn show_event(alloc: Global, event: Result<Event, Misuse>) -> Result<String, RowFault> {
+/// Writes the event of a step, or its misuse.
+fn write_stepped(line: &mut Line, event: Result<Event, Misuse>) -> Result<(), RowFault> {
     match event {
         Ok(event) => {
-            let mut out = String::new(alloc);
-            write_event(&mut out, &event)?;
-            Ok(out)
+            write_event(line, &event);
+            Ok(())
         }
-        Err(misuse) => show_misuse(alloc, misuse),
+        Err(misuse) => write_misuse(line, misuse),
     }
 }
 
-fn show_events(alloc: Global, events: Result<Vec<Event>, Misuse>) -> Result<String, RowFault> {
+/// Writes the events of a run, or its misuse.
+fn write_ran(line: &mut Line, events: Result<Vec<Event>, Misuse>) -> Result<(), RowFault> {
     match events {
         Ok(events) => {
-            let mut out = String::new(alloc);
-            write_events(&mut out, &events)?;
-            Ok(out)
+            write_events(line, &events);
+            Ok(())
         }
-        Err(misuse) => show_misuse(alloc, misuse),
+        Err(misuse) => write_misuse(line, misuse),
     }
 }
 
@@ -211,16 +243,16 @@ fn read_moves(alloc: Global, words: &[&str]) -> Result<Vec<Move>, RowFault> {
     Ok(moves)
 }
 
-/// For each root what the drive from it answers, which seats have a guest behind it, and which
-/// instances are closed then. A seat is `-` for nobody, or the moves of a guest, which stops after
-/// them; `no` seats are none.
-fn show_drives(
+/// Drives a set with the guests of these seats, as [`write_drives`] tells. A seat is `-` for
+/// nobody, or the moves of a guest, which stops after them; `no` seats are none.
+fn drive_seats(
     alloc: Global,
     set: &mut Set,
     roots: &str,
     limit: u64,
     words: &[&str],
-) -> Result<String, RowFault> {
+    line: &mut Line,
+) -> Result<(), RowFault> {
     let mut seats: Vec<Option<Box<dyn Guest>>> = Vec::new(alloc);
     if words != ["no"].as_slice() {
         for words in words.split(|word| *word == "|") {
@@ -234,32 +266,52 @@ fn show_drives(
             }
         }
     }
-    let mut out = String::new(alloc);
-    for (i, root) in roots.split(',').enumerate() {
-        if i > 0 {
-            out.push_str(", then ")?;
-        }
-        let outcome = Player::drive(alloc, set, &mut seats, read_number(root)?, limit);
-        out.push_str(show_events(alloc, outcome)?.as_str())?;
-        out.push_str(" seats ")?;
-        for seat in &seats {
-            out.push_str(if seat.is_some() { "x" } else { "-" })?;
-        }
-        write_closed(&mut out, set)?;
-    }
-    Ok(out)
+    write_drives(alloc, set, &mut seats, roots, limit, line)
 }
 
-fn write_closed(out: &mut String, set: &Set) -> Result<(), AllocError> {
-    out.push_str(" closed")?;
+/// Writes for each root what the drive from it answers, which seats have a guest behind it, and
+/// which instances are closed then.
+fn write_drives(
+    alloc: Global,
+    set: &mut Set,
+    seats: &mut Vec<Option<Box<dyn Guest>>>,
+    roots: &str,
+    limit: u64,
+    line: &mut Line,
+) -> Result<(), RowFault> {
+    for (i, root) in roots.split(',').enumerate() {
+        if i > 0 {
+            line.put(", then ");
+        }
+        write_ran(
+            line,
+            Player::drive(alloc, set, seats, read_number(root)?, limit),
+        )?;
+        write_seats(line, seats);
+        write_closed(line, set);
+    }
+    Ok(())
+}
+
+fn write_seats(line: &mut Line, seats: &Vec<Option<Box<dyn Guest>>>) {
+    line.put(" seats ");
+    for seat in seats {
+        line.put(if seat.is_some() { "x" } else { "-" });
+    }
+}
+
+fn write_closed(line: &mut Line, set: &Set) {
+    line.put(" closed");
     for instance in 0..16 {
         match set.is_closed(instance) {
-            Some(true) => write!(out, " {instance}")?,
+            Some(true) => {
+                line.put(" ");
+                line.show(instance);
+            }
             Some(false) => {}
             None => break,
         }
     }
-    Ok(())
 }
 
 pub fn read_values(alloc: Global, words: &[&str]) -> Result<Vec<CoreValue>, RowFault> {
@@ -275,15 +327,15 @@ pub fn read_values(alloc: Global, words: &[&str]) -> Result<Vec<CoreValue>, RowF
     Ok(values)
 }
 
-/// The values as they are kept in place; more than 16 are no row.
-fn show_flat(alloc: Global, values: &[CoreValue]) -> Result<String, RowFault> {
+/// Writes the values as they are kept in place; more than 16 are no row.
+fn write_flat(line: &mut Line, values: &[CoreValue]) -> Result<(), RowFault> {
     let flat = match values {
         [] => Flat::new(),
         [value] => Flat::one(*value),
         values if values.len() <= 16 => Flat::from_slice(values),
         _ => return Err(RowFault::NotARow),
     };
-    let mut out = String::from_str(alloc, "values")?;
-    write_values(&mut out, flat.as_slice())?;
-    Ok(out)
+    line.put("values");
+    write_values(line, flat.as_slice());
+    Ok(())
 }

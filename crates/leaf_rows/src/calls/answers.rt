@@ -10,11 +10,11 @@ use crate::calls::call::read_answers;
 use crate::calls::passing::write_fault;
 use cm_abi_model::Request;
 use cm_lowering::check_answers;
-use cm_rows::{RowFault, read_number, split_words};
+use cm_rows::{Line, RowFault, read_number, split_words};
 use std::alloc::Global;
 
-/// Where the parts stand, or the number of the fault.
-pub fn answer(alloc: Global, words: &[&str]) -> Result<String, RowFault> {
+/// Writes where the parts stand, or the number of the fault.
+pub fn answer(alloc: Global, words: &[&str], line: &mut Line) -> Result<(), RowFault> {
     let [length, words @ ..] = words else {
         return Err(RowFault::NotARow);
     };
@@ -25,17 +25,17 @@ pub fn answer(alloc: Global, words: &[&str]) -> Result<String, RowFault> {
         return Err(RowFault::NotARow);
     }
     let length = read_number(length)?;
-    let mut out = String::new(alloc);
     match check_answers(alloc, &requests, &answers, length) {
         Ok(places) => {
-            out.push_str("places")?;
+            line.put("places");
             for place in &places {
-                write!(out, " {place}")?;
+                line.put(" ");
+                line.show(*place);
             }
         }
-        Err(fault) => write_fault(&mut out, fault)?,
+        Err(fault) => write_fault(line, fault)?,
     }
-    Ok(out)
+    Ok(())
 }
 
 fn read_requests(alloc: Global, words: &[&str]) -> Result<Vec<Request>, RowFault>

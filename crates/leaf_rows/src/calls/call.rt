@@ -15,7 +15,7 @@ use cm_abi_model::{Request, StringEncoding, Way};
 use cm_flat::{FlatFunc, Side, flatten_func};
 use cm_giving::Receiver;
 use cm_layout::{Layout, layout_of_params};
-use cm_rows::{RowFault, read_bytes, read_number, split_words};
+use cm_rows::{Line, RowFault, read_bytes, read_number, split_words};
 use cm_types::{CoreKind, CoreValue, Func};
 use std::alloc::{AllocError, Global};
 
@@ -125,7 +125,14 @@ pub fn read_answers(alloc: Global, words: &[&str]) -> Result<Vec<u32>, RowFault>
 }
 
 /// Writes a request behind a space, with its old pointer.
-pub fn write_request(out: &mut String, request: Request, old: u32) -> Result<(), AllocError> {
-    let (old_size, align, size) = (request.old_size, request.align, request.size);
-    write!(out, " ({old},{old_size},{align},{size})")
+pub fn write_request(line: &mut Line, request: Request, old: u32) {
+    line.put(" (");
+    line.show(old);
+    line.put(",");
+    line.show(request.old_size);
+    line.put(",");
+    line.show(request.align);
+    line.put(",");
+    line.show(request.size);
+    line.put(")");
 }

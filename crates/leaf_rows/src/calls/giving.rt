@@ -9,7 +9,7 @@ use crate::calls::tables::{read_handle, read_table, write_table};
 use cm_abi_model::AbiFault;
 use cm_giving::{HandleLeaf, HandleValue, Receiver, give};
 use cm_handles::{Handle, HandleKind, Table};
-use cm_rows::{RowFault, read_number};
+use cm_rows::{Line, RowFault, read_number};
 use std::alloc::Global;
 
 /// The receiver with the instance that a word says.
@@ -20,8 +20,8 @@ pub fn read_receiver(instance: &str) -> Result<Receiver, RowFault> {
     })
 }
 
-/// The numbers that stand for the handles, and the table then.
-pub fn answer(alloc: Global, words: &[&str]) -> Result<String, RowFault> {
+/// Writes the numbers that stand for the handles, and the table then.
+pub fn answer(alloc: Global, words: &[&str], line: &mut Line) -> Result<(), RowFault> {
     let [table, instance, handles @ ..] = words else {
         return Err(RowFault::NotARow);
     };
@@ -32,7 +32,7 @@ pub fn answer(alloc: Global, words: &[&str]) -> Result<String, RowFault> {
         leaves.push(leaf_of(read_handle(word)?))?;
     }
     let given = give(alloc, &mut table, to, &leaves);
-    write_given(alloc, given, &table)
+    write_given(line, given, &table)
 }
 
 fn leaf_of(handle: Handle) -> HandleLeaf {
@@ -49,20 +49,20 @@ fn leaf_of(handle: Handle) -> HandleLeaf {
 
 /// Writes the numbers, or the number of the fault, and the table.
 pub fn write_given(
-    alloc: Global,
+    line: &mut Line,
     given: Result<Vec<u32>, AbiFault>,
     table: &Table,
-) -> Result<String, RowFault> {
-    let mut out = String::new(alloc);
+) -> Result<(), RowFault> {
     match given {
         Ok(numbers) => {
-            out.push_str("numbers")?;
+            line.put("numbers");
             for number in &numbers {
-                write!(out, " {number}")?;
+                line.put(" ");
+                line.show(*number);
             }
         }
-        Err(fault) => write_fault(&mut out, fault)?,
+        Err(fault) => write_fault(line, fault)?,
     }
-    write_table(&mut out, table)?;
-    Ok(out)
+    write_table(line, table);
+    Ok(())
 }

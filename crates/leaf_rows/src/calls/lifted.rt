@@ -16,7 +16,7 @@ use cm_abi::laws::one_call;
 use cm_abi::{AbiFault, Encodings, Lifted, Passed, Passing, Request, lift, requests};
 use cm_giving::give_values;
 use cm_handles::Table;
-use cm_rows::RowFault;
+use cm_rows::{Line, RowFault};
 use std::alloc::{AllocError, Global};
 
 /// Each number in a memory is one of 8 bits.
@@ -66,26 +66,25 @@ pub fn passed_on<'a>(call: &'a Call, lifted: &'a Lifted) -> Passing<'a>
 }
 
 /// Writes the values, what went with them, and the giver's table then.
-pub fn write_lifted(out: &mut String, lifted: &Lifted, table: &Table) -> Result<(), AllocError> {
-    write_values(out, &lifted.values)?;
-    write_hands(out, &lifted.owns, &lifted.lends)?;
-    write_table(out, table)
+pub fn write_lifted(line: &mut Line, lifted: &Lifted, table: &Table) {
+    write_values(line, &lifted.values);
+    write_hands(line, &lifted.owns, &lifted.lends);
+    write_table(line, table);
 }
 
-/// The values and what went with them, or the fault, and the giver's table then.
-pub fn answer(alloc: Global, call: &Call, table: &str) -> Result<String, RowFault>
+/// Writes the values and what went with them, or the fault, and the giver's table then.
+pub fn answer(alloc: Global, call: &Call, table: &str, line: &mut Line) -> Result<(), RowFault>
     requires { (types : Fields) × IsOf call.now types }
 {
     let mut table = read_table(alloc, table)?;
-    let mut out = String::new(alloc);
     match lift_call(alloc, call, &mut table) {
-        Ok(lifted) => write_lifted(&mut out, &lifted, &table)?,
+        Ok(lifted) => write_lifted(line, &lifted, &table),
         Err(fault) => {
-            write_fault(&mut out, fault)?;
-            write_table(&mut out, &table)?;
+            write_fault(line, fault)?;
+            write_table(line, &table);
         }
     }
-    Ok(out)
+    Ok(())
 }
 
 /// What is lifted, of a row whose values can be.
@@ -97,27 +96,28 @@ fn lift_row(alloc: Global, call: &Call, table: &str) -> Result<Lifted, RowFault>
     lift_call(alloc, call, &mut table).map_err(|_| RowFault::NotARow)
 }
 
-/// The numbers that stand for the handles of the values where they were given to the receiver of
-/// the call, and its table then.
-pub fn pass(alloc: Global, call: &Call, table: &str) -> Result<String, RowFault>
+/// Writes the numbers that stand for the handles of the values where they were given to the
+/// receiver of the call, and its table then.
+pub fn pass(alloc: Global, call: &Call, table: &str, line: &mut Line) -> Result<(), RowFault>
     requires { (types : Fields) × IsOf call.now types }
 {
     let lifted = lift_row(alloc, call, table)?;
     let mut received = Table::new(alloc);
     let to = call.sides.to;
     let given = give_values(alloc, &mut received, to, &call.layout, &lifted.values);
-    write_given(alloc, given, &received)
+    write_given(line, given, &received)
 }
 
-/// What lowering the values asks for.
-pub fn ask(alloc: Global, call: &Call, table: &str) -> Result<String, RowFault>
+/// Writes what lowering the values asks for.
+pub fn ask(alloc: Global, call: &Call, table: &str, line: &mut Line) -> Result<(), RowFault>
     requires { (types : Fields) × IsOf call.now types }
 {
     one_call();
     let lifted = lift_row(alloc, call, table)?;
     let passing = passed_on(call, &lifted);
     let asked = asked_for(alloc, &passing)?;
-    Ok(write_requests(alloc, &asked)?)
+    write_requests(line, &asked);
+    Ok(())
 }
 
 /// The requests for what a call passes on.
@@ -135,16 +135,16 @@ fn asked_for(alloc: Global, passing: &Passing<'_>) -> Result<Vec<Request>, Alloc
 }
 
 /// Writes requests, one after another.
-fn write_requests(alloc: Global, requests: &[Request]) -> Result<String, AllocError> {
-    let mut out = String::new(alloc);
-    out.push_str("requests")?;
+fn write_requests(line: &mut Line, requests: &[Request]) {
+    line.put("requests");
     for request in requests {
-        let (align, old, size) = (request.align, request.old_size, request.size);
+        line.put(if request.chained { " >" } else { " " });
+        line.show(request.align);
+        line.put(":");
         if request.chained {
-            write!(out, " >{align}:{old}:{size}")?;
-        } else {
-            write!(out, " {align}:{size}")?;
+            line.show(request.old_size);
+            line.put(":");
         }
+        line.show(request.size);
     }
-    Ok(out)
 }

@@ -11,9 +11,9 @@ use crate::calls::tables::{read_table, write_table};
 use cm_abi::laws::one_call;
 use cm_abi::{AbiFault, Passing, Request, lower, requests};
 use cm_handles::Table;
-use cm_rows::{RowFault, write_units};
+use cm_rows::{Line, RowFault, write_units};
 use cm_types::CoreValue;
-use std::alloc::{AllocError, Global};
+use std::alloc::Global;
 
 /// What the receiver's memory holds before the call.
 pub const FILL: u8 = 0xaa;
@@ -24,7 +24,7 @@ pub fn answer(
     call: &Call,
     table: &str,
     received: &str,
-    out: &mut String,
+    line: &mut Line,
 ) -> Result<(), RowFault>
     requires { (types : Fields) × IsOf call.now types }
 {
@@ -32,13 +32,14 @@ pub fn answer(
     let mut table = read_table(alloc, table)?;
     match lift_call(alloc, call, &mut table) {
         Ok(lifted) => {
-            write_lifted(out, &lifted, &table)?;
+            write_lifted(line, &lifted, &table);
             let passing = passed_on(call, &lifted);
-            lower_values(alloc, call, &passing, read_table(alloc, received)?, out)
+            lower_values(alloc, call, &passing, read_table(alloc, received)?, line)
         }
         Err(fault) => {
-            write_fault(out, fault)?;
-            Ok(write_table(out, &table)?)
+            write_fault(line, fault)?;
+            write_table(line, &table);
+            Ok(())
         }
     }
 }
@@ -50,7 +51,7 @@ fn lower_values(
     call: &Call,
     passing: &Passing<'_>,
     received: Table,
-    out: &mut String,
+    line: &mut Line,
 ) -> Result<(), RowFault>
     requires { (types : Fields) × CanBeLowered passing.now types }
 {
@@ -65,7 +66,7 @@ fn lower_values(
     if asked.len() != call.answers.len() {
         return Err(RowFault::NotARow);
     }
-    write_requests(out, &asked, &call.answers)?;
+    write_requests(line, &asked, &call.answers);
     let mut received = received;
     let mut memory = Vec::from_elem(alloc, FILL, call.sides.length as usize)?;
     let to = call.sides.to;
@@ -77,43 +78,39 @@ fn lower_values(
         passing,
         &call.answers,
     );
-    write_received(out, lowered, &memory, &received)
+    write_received(line, lowered, &memory, &received)
 }
 
 /// Writes the core values that pass what the receiver got, or the fault, and its memory and table.
 pub fn write_received(
-    out: &mut String,
+    line: &mut Line,
     slots: Result<Vec<CoreValue>, AbiFault>,
     memory: &[u8],
     received: &Table,
 ) -> Result<(), RowFault> {
     match slots {
         Ok(slots) => {
-            out.push_str(" gives")?;
-            write_slots(out, &slots)?;
+            line.put(" gives");
+            write_slots(line, &slots);
         }
         Err(fault) => {
-            out.push_str(" ")?;
-            write_fault(out, fault)?;
+            line.put(" ");
+            write_fault(line, fault)?;
         }
     }
-    out.push_str(" memory ")?;
-    write_units(out, memory, 1)?;
-    Ok(write_table(out, received)?)
+    line.put(" memory ");
+    write_units(line, memory, 1);
+    write_table(line, received);
+    Ok(())
 }
 
 /// Writes requests, each with its old pointer: where it is chained the answer to the one before.
-fn write_requests(
-    out: &mut String,
-    requests: &[Request],
-    answers: &[u32],
-) -> Result<(), AllocError> {
-    out.push_str(" asks")?;
+fn write_requests(line: &mut Line, requests: &[Request], answers: &[u32]) {
+    line.put(" asks");
     let mut last = 0;
     for (request, answer) in requests.iter().zip(answers) {
         let old = if request.chained { last } else { 0 };
-        write_request(out, *request, old)?;
+        write_request(line, *request, old);
         last = *answer;
     }
-    Ok(())
 }

@@ -3,11 +3,12 @@
 //! A way is `params` or `results`; an encoding `utf8`, `utf16` or `latin1`. A core value is
 //! `i32:NUMBER` or `i64:NUMBER`, and `N*` before it stands for N of them.
 
+use crate::plain;
 use cm_abi_model::{AbiFault, StringEncoding, Way};
 use cm_handles::Handle;
-use cm_rows::{RowFault, read_number, split_repeat};
+use cm_rows::{Line, RowFault, read_number, split_repeat};
 use cm_types::CoreValue;
-use std::alloc::{AllocError, Global};
+use std::alloc::Global;
 
 /// The way that a word names.
 pub fn read_way(word: &str) -> Result<Way, RowFault> {
@@ -51,34 +52,39 @@ pub fn read_slot(word: &str) -> Result<CoreValue, RowFault> {
 }
 
 /// Writes each core value behind a space.
-pub fn write_slots(out: &mut String, slots: &[CoreValue]) -> Result<(), AllocError> {
+pub fn write_slots(line: &mut Line, slots: &[CoreValue]) {
     for slot in slots {
         match slot {
-            CoreValue::I32(number) => write!(out, " i32:{number}")?,
-            CoreValue::I64(number) => write!(out, " i64:{number}")?,
+            CoreValue::I32(number) => {
+                line.put(" i32:");
+                line.show(*number);
+            }
+            CoreValue::I64(number) => {
+                line.put(" i64:");
+                line.show(*number);
+            }
         }
     }
-    Ok(())
 }
 
 /// Writes ` owns SERIAL..` of handles that were taken out of a table and ` lends INDEX..` of those
 /// that were lent, where there are some.
-pub fn write_hands(out: &mut String, owns: &[Handle], lends: &[u32]) -> Result<(), AllocError> {
+pub fn write_hands(line: &mut Line, owns: &[Handle], lends: &[u32]) {
     for (i, handle) in owns.iter().enumerate() {
-        let serial = handle.serial;
-        write!(out, "{} {serial}", if i > 0 { "" } else { " owns" })?;
+        line.put(if i > 0 { " " } else { " owns " });
+        line.show(handle.serial);
     }
     for (i, index) in lends.iter().enumerate() {
-        write!(out, "{} {index}", if i > 0 { "" } else { " lends" })?;
+        line.put(if i > 0 { " " } else { " lends " });
+        line.show(*index);
     }
-    Ok(())
 }
 
 /// Writes `fault NUMBER`; want of memory is that of the row.
-pub fn write_fault(out: &mut String, fault: AbiFault) -> Result<(), RowFault> {
+pub fn write_fault(line: &mut Line, fault: AbiFault) -> Result<(), RowFault> {
     if fault == AbiFault::EngineMemory {
         return Err(RowFault::Memory);
     }
-    let number = fault.number();
-    Ok(write!(out, "fault {number}")?)
+    plain::write_fault(line, fault.number());
+    Ok(())
 }

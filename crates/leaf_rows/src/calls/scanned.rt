@@ -18,7 +18,7 @@ use cm_abi::{
 };
 use cm_handles::Table;
 use cm_requesting::laws::answers_stay_fine;
-use cm_rows::RowFault;
+use cm_rows::{Line, RowFault};
 use cm_types::{CoreKind, CoreValue};
 use std::alloc::{AllocError, Global};
 
@@ -29,7 +29,7 @@ pub fn answer(
     call: &Call,
     table: &str,
     received: &str,
-    out: &mut String,
+    line: &mut Line,
 ) -> Result<(), RowFault>
     requires { (types : Fields) × IsOf call.now types }
 {
@@ -45,7 +45,7 @@ pub fn answer(
     };
     match scan(alloc, &call.memory, &mut table, encodings, &passed) {
         Ok(scanned) => {
-            write_scanned(out, &scanned, &table)?;
+            write_scanned(line, &scanned, &table);
             let Scanned {
                 requests,
                 handles,
@@ -57,20 +57,21 @@ pub fn answer(
                 requests,
                 &handles,
                 read_table(alloc, received)?,
-                out,
+                line,
             )
         }
         Err(fault) => {
-            write_fault(out, fault)?;
-            Ok(write_table(out, &table)?)
+            write_fault(line, fault)?;
+            write_table(line, &table);
+            Ok(())
         }
     }
 }
 
-fn write_scanned(out: &mut String, scanned: &Scanned, table: &Table) -> Result<(), AllocError> {
-    write_records(out, &scanned.requests.records)?;
-    write_hands(out, &scanned.owns, &scanned.lends)?;
-    write_table(out, table)
+fn write_scanned(line: &mut Line, scanned: &Scanned, table: &Table) {
+    write_records(line, &scanned.requests.records);
+    write_hands(line, &scanned.owns, &scanned.lends);
+    write_table(line, table);
 }
 
 /// A core value of each kind, with 0 in it.
@@ -94,7 +95,7 @@ fn copy_values(
     requests: PartRequests,
     handles: &[HandleLeaf],
     received: Table,
-    out: &mut String,
+    line: &mut Line,
 ) -> Result<(), RowFault>
     requires { (types : Fields) × IsOf call.now types
         × IsScanned call.now types requests handles.now }
@@ -105,7 +106,7 @@ fn copy_values(
         &mut requests,
         &call.answers,
         call.sides.length as usize,
-        out,
+        line,
     )? {
         return Ok(());
     }
@@ -133,39 +134,43 @@ fn copy_values(
         &mut requests,
     );
     match copied {
-        Ok(()) => write_received(out, Ok(slots), &memory, &received),
-        Err(fault) => write_received(out, Err(fault), &memory, &received),
+        Ok(()) => write_received(line, Ok(slots), &memory, &received),
+        Err(fault) => write_received(line, Err(fault), &memory, &received),
     }
 }
 
 /// Writes `parts`, and of each part its kind and `(PLACE,COUNT,SIZE,ALIGNMENT)`.
-fn write_records(out: &mut String, records: &[PartRecord]) -> Result<(), AllocError> {
-    out.push_str("parts")?;
+fn write_records(line: &mut Line, records: &[PartRecord]) {
+    line.put("parts");
     for record in records {
-        let kind = match record.kind {
-            PartKind::Elements => "elements",
-            PartKind::Text { is_tagged: false } => "text",
-            PartKind::Text { is_tagged: true } => "tagged",
-        };
-        let (at, count, size, align) = (record.at, record.count, record.size, record.align);
-        write!(out, " {kind}({at},{count},{size},{align})")?;
+        line.put(match record.kind {
+            PartKind::Elements => " elements(",
+            PartKind::Text { is_tagged: false } => " text(",
+            PartKind::Text { is_tagged: true } => " tagged(",
+        });
+        line.show(record.at);
+        line.put(",");
+        line.show(record.count);
+        line.put(",");
+        line.show(record.size);
+        line.put(",");
+        line.show(record.align);
+        line.put(")");
     }
-    Ok(())
 }
 
 /// Writes the next request that is not answered; whether there was one.
-fn write_next(parts: &PartRequests, out: &mut String) -> Result<bool, AllocError>
+fn write_next(parts: &PartRequests, line: &mut Line) -> bool
     requires { (answers : List ℕ) × IsAnswered parts.now answers }
     ensures { (answers : List ℕ) → IsAnswered parts.now answers
-        → IfOk result (λ is_there. is_there ≡ true
-        → IsSome (next_of (all_requests parts.now) answers)) }
+        → result ≡ true → IsSome (next_of (all_requests parts.now) answers) }
 {
     match parts.next_request() {
         Some((request, old)) => {
-            write_request(out, request, old)?;
-            Ok(true)
+            write_request(line, request, old);
+            true
         }
-        None => Ok(false),
+        None => false,
     }
 }
 
@@ -176,7 +181,7 @@ fn ask(
     parts: &mut PartRequests,
     answers: &[u32],
     length: usize,
-    out: &mut String,
+    line: &mut Line,
 ) -> Result<bool, RowFault>
     requires { IsAnswered parts.old [] }
     ensures answered { IfOk result (λ b. b ≡ true → (given : List ℕ)
@@ -187,25 +192,26 @@ fn ask(
     ensures target { parts.new.target ≡ parts.old.target }
 {
     answers_stay_fine();
-    out.push_str(" asks")?;
+    line.put(" asks");
     for answer in answers {
-        if !write_next(parts, out)? {
+        if !write_next(parts, line) {
             return Err(RowFault::NotARow);
         }
         if let Err(fault) = parts.answer(*answer, length) {
-            out.push_str(" ")?;
-            write_fault(out, fault)?;
-            out.push_str(" again")?;
-            write_next(parts, out)?;
+            line.put(" ");
+            write_fault(line, fault)?;
+            line.put(" again");
+            write_next(parts, line);
             return Ok(false);
         }
     }
     if parts.next_request().is_some() {
         return Err(RowFault::NotARow);
     }
-    out.push_str(" places")?;
+    line.put(" places");
     for place in parts.places() {
-        write!(out, " {place}")?;
+        line.put(" ");
+        line.show(*place);
     }
     Ok(true)
 }

@@ -9,9 +9,9 @@ ghost use Rattle.std.specs.Prelude.{◌<◌, ◌^◌, IfOk};
 ghost use Rattle.cm_lift.specs.HandingOver.{LendsBelow};
 
 use cm_handles::{Handle, HandleFault, HandleKind, Table};
-use cm_rows::{RowFault, read_number, split_repeat};
+use cm_rows::{Line, RowFault, read_number, split_repeat};
 use cm_types::ResourceId;
-use std::alloc::{AllocError, Global};
+use std::alloc::Global;
 
 /// The table that a word spells. Its handles are lent fewer than 256 times, so few enough for what
 /// lifts them.
@@ -93,8 +93,8 @@ fn add_handle(table: &mut Table, handle: Handle) -> Result<(), RowFault>
 }
 
 /// Writes `; INDEX:HANDLE..`, the handles of the first eight indices as a row spells them.
-pub fn write_table(out: &mut String, table: &Table) -> Result<(), AllocError> {
-    let mut mark = " ;";
+pub fn write_table(line: &mut Line, table: &Table) {
+    let mut mark = " ; ";
     for index in 1..9 {
         for number in 0..2 {
             let resource = ResourceId {
@@ -102,27 +102,27 @@ pub fn write_table(out: &mut String, table: &Table) -> Result<(), AllocError> {
                 number,
             };
             if let Ok(handle) = table.get(index, resource) {
-                write!(out, "{mark} {index}:")?;
-                write_handle(out, handle)?;
-                mark = "";
+                line.put(mark);
+                line.show(index);
+                line.put(":");
+                write_handle(line, handle);
+                mark = " ";
             }
         }
     }
-    Ok(())
 }
 
-fn write_handle(out: &mut String, handle: Handle) -> Result<(), AllocError> {
+fn write_handle(line: &mut Line, handle: Handle) {
     if handle.resource.number == 1 {
-        out.push_str("'")?;
+        line.put("'");
     }
-    out.push_str(match handle.kind {
+    line.put(match handle.kind {
         HandleKind::Owned => "o",
         HandleKind::Borrowed { .. } => "b",
-    })?;
-    let (serial, lends) = (handle.serial, handle.lends);
-    write!(out, "{serial}")?;
-    if lends > 0 {
-        write!(out, "+{lends}")?;
+    });
+    line.show(handle.serial);
+    if handle.lends > 0 {
+        line.put("+");
+        line.show(handle.lends);
     }
-    Ok(())
 }

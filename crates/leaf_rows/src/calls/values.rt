@@ -1,43 +1,65 @@
 //! Values as rows write them.
 
+use cm_rows::Line;
 use cm_values::Value;
-use std::alloc::AllocError;
+use std::fmt;
+
+/// A number that is displayed in hexadecimal digits.
+#[derive(Clone, Copy)]
+struct Hexadecimal(u32);
+
+impl fmt::Display for Hexadecimal {
+    fn fmt<W: fmt::Write>(&self, f: &mut fmt::Formatter<W>) -> fmt::Result {
+        let Hexadecimal(number) = self;
+        write!(f, "{number:X}")
+    }
+}
 
 /// Writes a value.
 #[cycle(writing)]
-fn write_value(out: &mut String, value: &Value) -> Result<(), AllocError> {
+fn write_value(line: &mut Line, value: &Value) {
     match value {
-        Value::Bool(truth) => write!(out, "{truth}"),
-        Value::Signed(number) => write!(out, "{number}"),
-        Value::Unsigned(number) => write!(out, "{number}"),
+        Value::Bool(truth) => line.show(*truth),
+        Value::Signed(number) => line.show(*number),
+        Value::Unsigned(number) => line.show(*number),
         Value::Char(scalar) => {
-            let number = u32::from(*scalar);
-            write!(out, "U+{number:X}")
+            line.put("U+");
+            line.show(Hexadecimal(u32::from(*scalar)));
         }
-        Value::String(text) => write!(out, "\"{text}\""),
+        Value::String(text) => {
+            line.put("\"");
+            line.put(text);
+            line.put("\"");
+        }
         Value::List(values) => {
-            out.push_str("[")?;
-            write_values(out, values)?;
-            out.push_str("]")
+            line.put("[");
+            write_values(line, values);
+            line.put("]");
         }
         Value::Fields(values) => {
-            out.push_str("(")?;
-            write_values(out, values)?;
-            out.push_str(")")
+            line.put("(");
+            write_values(line, values);
+            line.put(")");
         }
         Value::Case { index, payload } => {
-            write!(out, "case:{index}")?;
-            match payload {
-                None => Ok(()),
-                Some(value) => {
-                    out.push_str("(")?;
-                    write_value(out, value)?;
-                    out.push_str(")")
-                }
+            line.put("case:");
+            line.show(*index);
+            if let Some(value) = payload {
+                line.put("(");
+                write_value(line, value);
+                line.put(")");
             }
         }
-        Value::Flags(bits) => write!(out, "flags:{bits}"),
-        Value::Handle { serial, rep, .. } => write!(out, "handle:{serial}.{rep}"),
+        Value::Flags(bits) => {
+            line.put("flags:");
+            line.show(*bits);
+        }
+        Value::Handle { serial, rep, .. } => {
+            line.put("handle:");
+            line.show(*serial);
+            line.put(".");
+            line.show(*rep);
+        }
     }
 }
 
@@ -46,12 +68,11 @@ fn write_value(out: &mut String, value: &Value) -> Result<(), AllocError> {
 /// ones, a case as `case:INDEX` with what it carries in round brackets, a set of labels as
 /// `flags:BITS`, a handle as `handle:SERIAL.REP`.
 #[cycle(writing)]
-pub fn write_values(out: &mut String, values: &[Value]) -> Result<(), AllocError> {
+pub fn write_values(line: &mut Line, values: &[Value]) {
     for (i, value) in values.iter().enumerate() {
         if i > 0 {
-            out.push_str(" ")?;
+            line.put(" ");
         }
-        write_value(out, value)?;
+        write_value(line, value);
     }
-    Ok(())
 }

@@ -8,11 +8,11 @@ ghost use Rattle.cm_wit_worlds.specs.Interfaces.{package_name};
 ghost use Rattle.cm_wit_worlds.specs.InterfaceViews.{files_of, placed_interface};
 
 use crate::wit::files::package_files;
-use crate::wit::reading::show_fault;
+use crate::wit::reading::write_fault;
 use crate::wit::texts::Texts;
-use crate::wit::worlds::{show_externs, world_fault};
+use crate::wit::worlds::{write_externs, write_world_fault};
 use crate::wit::{signatures, tables};
-use cm_rows::RowFault;
+use cm_rows::{Line, RowFault};
 use cm_wit::{Package, parse};
 use cm_wit_worlds::{
     Directory, PlacedInterface, PlacedWorld, WorldFault, externs_of, interfaces, package_names,
@@ -33,28 +33,34 @@ pub enum Question<'a> {
     Signature(&'a str),
 }
 
-/// The answer to a question of the packages of texts, or the first fault.
+/// Writes the answer to a question of the packages of texts, or the first fault.
 pub fn answer(
     alloc: Global,
     texts: &Texts,
     question: Question,
     words: &[&str],
-) -> Result<String, RowFault> {
+    line: &mut Line,
+) -> Result<(), RowFault> {
     let texts = texts.texts(alloc, words)?;
     let mut packages = Vec::new(alloc);
     for text in &texts {
         match parse(alloc, text.as_str()) {
             Ok(package) => packages.push(package)?,
-            Err(fault) => return show_fault(alloc, fault),
+            Err(fault) => return write_fault(line, fault),
         }
     }
-    answer_of(alloc, &packages, question)
+    answer_of(alloc, &packages, question, line)
 }
 
-fn answer_of(alloc: Global, packages: &[Package], question: Question) -> Result<String, RowFault> {
+fn answer_of(
+    alloc: Global,
+    packages: &[Package],
+    question: Question,
+    line: &mut Line,
+) -> Result<(), RowFault> {
     match question {
-        Question::Signature(name) => signatures::answer(alloc, packages, name),
-        _ => answer_named(alloc, packages, question),
+        Question::Signature(name) => signatures::answer(alloc, packages, name, line),
+        _ => answer_named(alloc, packages, question, line),
     }
 }
 
@@ -62,9 +68,10 @@ fn answer_named(
     alloc: Global,
     packages: &[Package],
     question: Question,
-) -> Result<String, RowFault> {
+    line: &mut Line,
+) -> Result<(), RowFault> {
     let names = package_names(alloc, &package_files(alloc, packages)?)?;
-    answer_in(alloc, packages, &names, question)
+    answer_in(alloc, packages, &names, question, line)
 }
 
 /// The same, where the names of the packages are these.
@@ -73,33 +80,35 @@ fn answer_in<'a>(
     packages: &'a [Package],
     names: &'a [String],
     question: Question,
-) -> Result<String, RowFault>
+    line: &mut Line,
+) -> Result<(), RowFault>
     requires { map string_bytes names.now ≡ map package_name (map package_tree packages.now) }
 {
     let files = package_files(alloc, packages)?;
     let interfaces = interfaces(alloc, &files)?;
     let directory = Directory::new(alloc, files, names, &interfaces)?;
     if let Question::Table(instances) = question {
-        return tables::answer(alloc, &directory, &interfaces, instances);
+        return tables::answer(alloc, &directory, &interfaces, instances, line);
     }
-    answer_worlds(alloc, &directory, &interfaces, question)
+    answer_worlds(alloc, &directory, &interfaces, question, line)
 }
 
-/// What the world that is asked for imports and exports, in order, or the first fault, of packages
-/// in a directory, whose interfaces are these.
+/// Writes what the world that is asked for imports and exports, in order, or the first fault, of
+/// packages in a directory, whose interfaces are these.
 fn answer_worlds<'a>(
     alloc: Global,
     directory: &Directory<'a>,
     interfaces: &[PlacedInterface<'a>],
     question: Question,
-) -> Result<String, RowFault>
+    line: &mut Line,
+) -> Result<(), RowFault>
     requires { map placed_interface interfaces.now
         ≡ spec.interfaces (files_of directory.now.files.items) }
 {
     let worlds = worlds(alloc, &directory.files)?;
     match find_world(alloc, directory, &worlds, question)? {
-        Some(world) => answer_world(alloc, directory, interfaces, &world),
-        None => world_fault(alloc, WorldFault::NoSuchWorld),
+        Some(world) => answer_world(alloc, directory, interfaces, &world, line),
+        None => write_world_fault(alloc, WorldFault::NoSuchWorld, line),
     }
 }
 
@@ -109,13 +118,14 @@ fn answer_world<'a>(
     directory: &Directory<'a>,
     interfaces: &[PlacedInterface<'a>],
     world: &PlacedWorld<'a>,
-) -> Result<String, RowFault>
+    line: &mut Line,
+) -> Result<(), RowFault>
     requires { map placed_interface interfaces.now
         ≡ spec.interfaces (files_of directory.now.files.items) }
 {
     match externs_of(alloc, directory, interfaces, world) {
-        Ok(externs) => show_externs(alloc, interfaces, world, &externs),
-        Err(fault) => world_fault(alloc, fault),
+        Ok(externs) => write_externs(alloc, interfaces, world, &externs, line),
+        Err(fault) => write_world_fault(alloc, fault, line),
     }
 }
 

@@ -1,8 +1,8 @@
 //! Rows on printing.
 
-use crate::wit::reading::show_fault;
+use crate::wit::reading::write_fault;
 use crate::wit::texts::Texts;
-use cm_rows::RowFault;
+use cm_rows::{Line, RowFault};
 use cm_wit::{WitFault, parse, print};
 use std::alloc::Global;
 
@@ -15,28 +15,25 @@ fn printed(alloc: Global, text: &str) -> Result<String, WitFault> {
     }
 }
 
-/// Whether the package of one text is printed as another text stands, and so is what was printed:
-/// then how many bytes that is.
-pub fn answer(alloc: Global, texts: &Texts, words: &[&str]) -> Result<String, RowFault> {
-    match words {
-        [written, wanted] => answer_named(alloc, texts, written, wanted),
-        _ => Err(RowFault::NotARow),
-    }
-}
-
-fn answer_named(
+/// Writes whether the package of one text is printed as another text stands, and so is what was
+/// printed, and how many bytes were printed.
+pub fn answer(
     alloc: Global,
     texts: &Texts,
-    written: &str,
-    wanted: &str,
-) -> Result<String, RowFault> {
+    words: &[&str],
+    line: &mut Line,
+) -> Result<(), RowFault> {
+    let [written, wanted] = words else {
+        return Err(RowFault::NotARow);
+    };
     let (Some(written), Some(wanted)) = (texts.named(written), texts.named(wanted)) else {
         return Err(RowFault::NotARow);
     };
     match printed_twice(alloc, written) {
-        Ok((once, again)) => show_compared(alloc, once.as_str(), again.as_str(), wanted),
-        Err(fault) => show_fault(alloc, fault),
+        Ok((once, again)) => write_compared(line, once.as_str(), again.as_str(), wanted),
+        Err(fault) => write_fault(line, fault)?,
     }
+    Ok(())
 }
 
 /// The text that prints the package of a text, and the one that prints the package of that.
@@ -46,13 +43,13 @@ pub fn printed_twice(alloc: Global, text: &str) -> Result<(String, String), WitF
     Ok((once, again))
 }
 
-fn show_compared(alloc: Global, once: &str, again: &str, wanted: &str) -> Result<String, RowFault> {
-    let length = once.len();
-    if once != wanted {
-        return Ok(format!(in alloc; "{length} other bytes")?);
-    }
-    if again != wanted {
-        return Ok(format!(in alloc; "{length} bytes, but others again")?);
-    }
-    Ok(format!(in alloc; "{length} bytes, and again")?)
+fn write_compared(line: &mut Line, once: &str, again: &str, wanted: &str) {
+    line.show(once.len());
+    line.put(if once != wanted {
+        " other bytes"
+    } else if again != wanted {
+        " bytes, but others again"
+    } else {
+        " bytes, and again"
+    });
 }

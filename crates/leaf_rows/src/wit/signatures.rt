@@ -1,18 +1,23 @@
 //! Rows on the signatures of worlds.
 
-use crate::shown::show_within;
-use crate::wit::worlds::world_fault;
+use crate::shown::write_shown;
+use crate::wit::worlds::write_world_fault;
 use cm_placed::Signature;
-use cm_rows::RowFault;
+use cm_rows::{Line, RowFault};
 use cm_wit::Package;
 use cm_wit_signature::world_signature;
 use std::alloc::Global;
 
-/// The lines that show the signature of the world of a full name, each behind `|`; or the number
-/// and the name of the fault.
-pub fn answer(alloc: Global, packages: &[Package], name: &str) -> Result<String, RowFault> {
+/// Writes the lines that show the signature of the world of a full name, each behind `|`; or the
+/// number and the name of the fault.
+pub fn answer(
+    alloc: Global,
+    packages: &[Package],
+    name: &str,
+    line: &mut Line,
+) -> Result<(), RowFault> {
     match world_signature(alloc, packages, name) {
-        Ok(signature) => show_within(alloc, &signature, usize::MAX),
-        Err(fault) => world_fault(alloc, fault),
+        Ok(signature) => write_shown(alloc, &signature, usize::MAX, line),
+        Err(fault) => write_world_fault(alloc, fault, line),
     }
 }

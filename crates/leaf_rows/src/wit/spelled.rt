@@ -1,7 +1,7 @@
 //! Texts of several lines, as rows write them.
 
-use cm_rows::{RowFault, read_number};
-use std::alloc::{AllocError, Global};
+use cm_rows::{Line, RowFault, read_number};
+use std::alloc::Global;
 
 /// The text that words stand for, one blank apart: `~n` is a line feed, `~r` a carriage return,
 /// `~t` a tab, and `~N(PART)` stands for N times the part, which has no `)`.
@@ -51,14 +51,12 @@ fn add_both(text: &mut String, first: &str, second: &str) -> Result<(), RowFault
     Ok(text.push_str(second)?)
 }
 
-/// A text on one line, with `~n` for a line feed.
-pub fn show_text(alloc: Global, text: &str) -> Result<String, AllocError> {
-    let mut shown = String::new(alloc);
-    for (index, line) in text.split('\n').enumerate() {
+/// Writes a text on one line, with `~n` for a line feed.
+pub fn write_text(line: &mut Line, text: &str) {
+    for (index, part) in text.split('\n').enumerate() {
         if index > 0 {
-            shown.push_str("~n")?;
+            line.put("~n");
         }
-        shown.push_str(line)?;
+        line.put(part);
     }
-    Ok(shown)
 }

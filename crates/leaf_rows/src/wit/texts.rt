@@ -4,7 +4,7 @@
 //! last. Rows after them name the text.
 
 use crate::wit::spelled::read_text;
-use cm_rows::RowFault;
+use cm_rows::{Line, RowFault};
 use std::alloc::Global;
 
 /// A text and its name.
@@ -27,28 +27,36 @@ impl Texts {
         }
     }
 
-    /// Begins a text, of the name that words are.
-    pub fn answer_begin(&mut self, alloc: Global, words: &[&str]) -> Result<String, RowFault> {
-        match words {
-            [name] => self.begin(alloc, name),
-            _ => Err(RowFault::NotARow),
-        }
-    }
-
-    fn begin(&mut self, alloc: Global, name: &str) -> Result<String, RowFault> {
+    /// Begins a text, of the name that words are, and writes `begun`.
+    pub fn answer_begin(
+        &mut self,
+        alloc: Global,
+        words: &[&str],
+        line: &mut Line,
+    ) -> Result<(), RowFault> {
+        let [name] = words else {
+            return Err(RowFault::NotARow);
+        };
         let name = String::from_str(alloc, name)?;
         let text = String::new(alloc);
         self.named.push(NamedText { name, text })?;
-        Ok(String::from_str(alloc, "begun")?)
+        line.put("begun");
+        Ok(())
     }
 
-    /// Adds a line to the last text: how many bytes that then has.
-    pub fn add_line(&mut self, alloc: Global, words: &[&str]) -> Result<String, RowFault> {
+    /// Adds a line to the last text, and writes how many bytes that then has.
+    pub fn add_line(
+        &mut self,
+        alloc: Global,
+        words: &[&str],
+        line: &mut Line,
+    ) -> Result<(), RowFault> {
         let last = self.named.last_mut().ok_or(RowFault::NotARow)?;
         last.text.push_str(&read_text(alloc, words)?)?;
         last.text.push_str("\n")?;
-        let length = last.text.len();
-        Ok(format!(in alloc; "{length} bytes")?)
+        line.show(last.text.len());
+        line.put(" bytes");
+        Ok(())
     }
 
     /// The text of a name.

@@ -1,68 +1,76 @@
 //! What worlds import and export, as rows show it.
 
-use cm_rows::RowFault;
+use cm_rows::{Line, RowFault};
 use cm_wit_text::{WorldExtern, WorldItem};
 use cm_wit_worlds::{PlacedInterface, PlacedWorld, WorldExterns, WorldFault, full_name};
-use std::alloc::{AllocError, Global};
+use std::alloc::Global;
 
-/// The number and the name of a world's fault.
-pub fn world_fault(alloc: Global, fault: WorldFault) -> Result<String, RowFault> {
+/// Writes the number and the name of a world's fault.
+pub fn write_world_fault(
+    alloc: Global,
+    fault: WorldFault,
+    line: &mut Line,
+) -> Result<(), RowFault> {
     if fault == WorldFault::Memory {
         return Err(RowFault::Memory);
     }
-    let number = fault.number();
-    Ok(format!(in alloc; "{number} {fault:?}")?)
+    line.show(fault.number());
+    line.put(" ");
+    line.put(&format!(in alloc; "{fault:?}")?);
+    Ok(())
 }
 
-/// The imports and the exports of a world, in order: interfaces by their full names, functions by
-/// their own.
-pub fn show_externs<'a>(
+/// Writes the imports and the exports of a world, in order: interfaces by their full names,
+/// functions by their own.
+pub fn write_externs<'a>(
     alloc: Global,
     interfaces: &[PlacedInterface<'a>],
     world: &PlacedWorld<'a>,
     externs: &WorldExterns,
-) -> Result<String, RowFault> {
-    let mut shown = String::from_str(alloc, "imports")?;
-    add_names(&mut shown, alloc, interfaces, world, &externs.imports)?;
-    shown.push_str("; exports")?;
-    add_names(&mut shown, alloc, interfaces, world, &externs.exports)?;
-    Ok(shown)
+    line: &mut Line,
+) -> Result<(), RowFault> {
+    line.put("imports");
+    write_names(line, alloc, interfaces, world, &externs.imports)?;
+    line.put("; exports");
+    write_names(line, alloc, interfaces, world, &externs.exports)
 }
 
-fn add_names<'a>(
-    shown: &mut String,
+fn write_names<'a>(
+    line: &mut Line,
     alloc: Global,
     interfaces: &[PlacedInterface<'a>],
     world: &PlacedWorld<'a>,
     numbers: &[usize],
-) -> Result<(), AllocError> {
+) -> Result<(), RowFault> {
     if numbers.is_empty() {
-        return shown.push_str(" none");
+        line.put(" none");
     }
     for number in numbers {
-        shown.push_str(" ")?;
-        add_name(shown, alloc, interfaces, world, *number)?;
+        line.put(" ");
+        write_name(line, alloc, interfaces, world, *number)?;
     }
     Ok(())
 }
 
-/// Adds the full name of the interface of a number, or the name of the function of an item, whose
+/// Writes the full name of the interface of a number, or the name of the function of an item, whose
 /// number is counted behind those of all interfaces.
-fn add_name<'a>(
-    shown: &mut String,
+fn write_name<'a>(
+    line: &mut Line,
     alloc: Global,
     interfaces: &[PlacedInterface<'a>],
     world: &PlacedWorld<'a>,
     number: usize,
-) -> Result<(), AllocError> {
+) -> Result<(), RowFault> {
     if let Some(placed) = interfaces.get(number) {
         let name = full_name(alloc, placed.file, &placed.interface.name)?;
-        return shown.push_str(name.as_str());
+        line.put(name.as_str());
+        return Ok(());
     }
     let item = number.saturating_sub(interfaces.len());
-    match world.world.items.get(item) {
+    line.put(match world.world.items.get(item) {
         Some(WorldItem::Import(WorldExtern::Func(name, _)))
-        | Some(WorldItem::Export(WorldExtern::Func(name, _))) => shown.push_str(name.as_str()),
-        _ => shown.push_str("?"),
-    }
+        | Some(WorldItem::Export(WorldExtern::Func(name, _))) => name.as_str(),
+        _ => "?",
+    });
+    Ok(())
 }

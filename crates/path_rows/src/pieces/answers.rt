@@ -1,34 +1,38 @@
 //! Answers as rows show them.
 
-use crate::files::show_fault;
+use crate::files::write_fault;
 use cm_binary::{Component, DecodeFault, encode};
-use cm_rows::{RowFault, write_units};
-use std::alloc::{AllocError, Global};
+use cm_rows::{Line, RowFault, write_units};
+use std::alloc::Global;
 
-/// `component` and its shortest file, or the fault.
+/// Writes `component` and its shortest file, or the fault.
+pub fn write_outcome(
+    alloc: Global,
+    outcome: Result<Component, DecodeFault>,
+    line: &mut Line,
+) -> Result<(), RowFault> {
+    match outcome {
+        Ok(component) => {
+            line.put("component ");
+            write_units(line, &encode(alloc, &component)?, 1);
+            Ok(())
+        }
+        Err(fault) => write_fault(line, &fault),
+    }
+}
+
+/// What [`write_outcome`] writes, as one of several answers.
 pub fn show_outcome(
     alloc: Global,
     outcome: Result<Component, DecodeFault>,
 ) -> Result<String, RowFault> {
-    match outcome {
-        Ok(component) => {
-            let mut out = String::from_str(alloc, "component ")?;
-            write_units(&mut out, &encode(alloc, &component)?, 1)?;
-            Ok(out)
-        }
-        Err(fault) => show_fault(alloc, &fault),
-    }
-}
-
-/// Answers, one after another.
-pub fn show_answers(alloc: Global, answers: &[String]) -> Result<String, RowFault> {
-    let mut out = String::new(alloc);
-    write_answers(&mut out, answers)?;
-    Ok(out)
+    let mut line = Line::new(alloc);
+    write_outcome(alloc, outcome, &mut line)?;
+    line.done()
 }
 
 /// Writes answers, one after another. Equal neighbours are written once, with their number.
-pub fn write_answers(out: &mut String, answers: &[String]) -> Result<(), AllocError> {
+pub fn write_answers(line: &mut Line, answers: &[String]) {
     let mut count: usize = 0;
     let mut is_first = true;
     for (i, answer) in answers.iter().enumerate() {
@@ -38,14 +42,14 @@ pub fn write_answers(out: &mut String, answers: &[String]) -> Result<(), AllocEr
             continue;
         }
         if !is_first {
-            out.push_str("; ")?;
+            line.put("; ");
         }
         if count > 1 {
-            write!(out, "{count} times ")?;
+            line.show(count);
+            line.put(" times ");
         }
-        out.push_str(answer)?;
+        line.put(answer);
         is_first = false;
         count = 0;
     }
-    Ok(())
 }

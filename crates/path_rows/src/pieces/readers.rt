@@ -1,8 +1,8 @@
 //! Rows on files that are read from a reader.
 
-use crate::pieces::answers::{show_answers, show_outcome};
+use crate::pieces::answers::{show_outcome, write_answers, write_outcome};
 use cm_pieces::decode_from;
-use cm_rows::{RowFault, read_bytes, read_number};
+use cm_rows::{Line, RowFault, read_bytes, read_number};
 use std::alloc::Global;
 use std::io;
 use std::io::{ErrorKind, Read};
@@ -63,44 +63,56 @@ impl<'a> Read for Tap<'a> {
 
 /// The answer to `slice FILE`, or of a reader that gives at most SIZE bytes a read, to `parts SIZE
 /// FILE`, `interrupted SIZE FILE` or `failing SIZE FILE`.
-pub fn answer(alloc: Global, words: &[&str]) -> Result<String, RowFault> {
+pub fn answer(alloc: Global, words: &[&str], line: &mut Line) -> Result<(), RowFault> {
     match words {
-        ["slice", file] => show_slice(alloc, &read_bytes(alloc, file)?),
+        ["slice", file] => write_slice(alloc, &read_bytes(alloc, file)?, line),
         [form, size, file] => {
-            show_read_file(alloc, form, read_number(size)?, &read_bytes(alloc, file)?)
+            let size = read_number(size)?;
+            write_read_file(alloc, form, size, &read_bytes(alloc, file)?, line)
         }
         _ => Err(RowFault::NotARow),
     }
 }
 
-fn show_slice(alloc: Global, mut file: &[u8]) -> Result<String, RowFault> {
-    show_outcome(alloc, decode_from(alloc, &mut file))
+fn write_slice(alloc: Global, mut file: &[u8], line: &mut Line) -> Result<(), RowFault> {
+    write_outcome(alloc, decode_from(alloc, &mut file), line)
 }
 
-fn show_read_file(alloc: Global, form: &str, size: usize, file: &[u8]) -> Result<String, RowFault> {
+fn write_read_file(
+    alloc: Global,
+    form: &str,
+    size: usize,
+    file: &[u8],
+    line: &mut Line,
+) -> Result<(), RowFault> {
     match form {
-        "parts" => show_read(alloc, &mut Tap::new(file, size, Ending::End, false)),
-        "interrupted" => show_read(alloc, &mut Tap::new(file, size, Ending::End, true)),
-        "failing" => show_failing(alloc, file, size),
+        "parts" => write_read(alloc, &mut Tap::new(file, size, Ending::End, false), line),
+        "interrupted" => write_read(alloc, &mut Tap::new(file, size, Ending::End, true), line),
+        "failing" => write_failing(alloc, file, size, line),
         _ => Err(RowFault::NotARow),
     }
 }
 
-/// What is read, how many bytes are left in the reader, and the most that a read asked for.
-fn show_read(alloc: Global, tap: &mut Tap<'_>) -> Result<String, RowFault> {
-    let mut out = show_outcome(alloc, decode_from(alloc, tap))?;
-    let (left, asked) = (tap.rest.len(), tap.asked);
-    write!(out, "; {left} left, at most {asked} a read")?;
-    Ok(out)
+/// Writes what is read, how many bytes are left in the reader, and the most that a read asked for.
+fn write_read(alloc: Global, tap: &mut Tap<'_>, line: &mut Line) -> Result<(), RowFault> {
+    write_outcome(alloc, decode_from(alloc, tap), line)?;
+    line.put("; ");
+    line.show(tap.rest.len());
+    line.put(" left, at most ");
+    line.show(tap.asked);
+    line.put(" a read");
+    Ok(())
 }
 
-/// What is read of a reader that fails behind so many bytes, for each number up to the length.
-fn show_failing(alloc: Global, file: &[u8], size: usize) -> Result<String, RowFault> {
+/// Writes what is read of a reader that fails behind so many bytes, for each number up to the
+/// length.
+fn write_failing(alloc: Global, file: &[u8], size: usize, line: &mut Line) -> Result<(), RowFault> {
     let mut answers = Vec::new(alloc);
     for length in 0..=file.len() {
         answers.push(show_failure(alloc, &file[..length], size)?)?;
     }
-    show_answers(alloc, &answers)
+    write_answers(line, &answers);
+    Ok(())
 }
 
 fn show_failure(alloc: Global, beginning: &[u8], size: usize) -> Result<String, RowFault> {

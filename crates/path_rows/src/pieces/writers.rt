@@ -1,22 +1,22 @@
 //! Rows on files that are written to a writer.
 
 use crate::files::read_component;
-use crate::pieces::answers::show_answers;
+use crate::pieces::answers::write_answers;
 use crate::pipes::{Full, Pipe};
 use cm_binary::Component;
 use cm_pieces::{WriteReason, write_to};
-use cm_rows::{RowFault, read_bytes, read_number, write_units};
+use cm_rows::{Line, RowFault, read_bytes, read_number, write_units};
 use std::alloc::{AllocError, Global};
 
 /// The answer of a writer that takes at most SIZE bytes a write to `parts SIZE FILE`, `interrupted
 /// SIZE FILE`, `failing SIZE FILE` or `stalling SIZE FILE`, of a file that has a component.
-pub fn answer(alloc: Global, words: &[&str]) -> Result<String, RowFault> {
+pub fn answer(alloc: Global, words: &[&str], line: &mut Line) -> Result<(), RowFault> {
     let [form, size, file] = words else {
         return Err(RowFault::NotARow);
     };
     let (size, file) = (read_number(size)?, read_bytes(alloc, file)?);
     let component = read_component(alloc, &file)?;
-    show_form(alloc, form, size, &file, &component)
+    write_form(alloc, form, size, &file, &component, line)
 }
 
 /// A writer with memory for all of a file, so that it asks for none as it is written to.
@@ -30,66 +30,83 @@ fn pipe_for(
     Ok(Pipe::new(Vec::with_capacity(alloc, file.len())?, size, room, full))
 }
 
-fn show_form(
+fn write_form(
     alloc: Global,
     form: &str,
     size: usize,
     file: &[u8],
     component: &Component,
-) -> Result<String, RowFault> {
+    line: &mut Line,
+) -> Result<(), RowFault> {
     match form {
         "parts" => {
             let pipe = pipe_for(alloc, file, size, usize::MAX, Full::Fails)?;
-            show_written(alloc, component, pipe)
+            write_written(alloc, component, pipe, line)
         }
         "interrupted" => {
             let mut pipe = pipe_for(alloc, file, size, usize::MAX, Full::Fails)?;
             pipe.interrupts = true;
-            show_written(alloc, component, pipe)
+            write_written(alloc, component, pipe, line)
         }
-        "failing" => show_full(alloc, component, file, size, Full::Fails),
-        "stalling" => show_full(alloc, component, file, size, Full::TakesNone),
+        "failing" => write_full(alloc, component, file, size, Full::Fails, line),
+        "stalling" => write_full(alloc, component, file, size, Full::TakesNone, line),
         _ => Err(RowFault::NotARow),
     }
 }
 
-/// Whether all was written, and what the writer holds.
-fn show_written(alloc: Global, component: &Component, pipe: Pipe) -> Result<String, RowFault> {
+/// Writes whether all was written, and what the writer holds.
+fn write_written(
+    alloc: Global,
+    component: &Component,
+    pipe: Pipe,
+    line: &mut Line,
+) -> Result<(), RowFault> {
     let mut pipe = pipe;
-    let mut out = show_end(alloc, component, &mut pipe)?;
-    out.push_str(", ")?;
-    write_units(&mut out, &pipe.taken, 1)?;
-    Ok(out)
+    write_end(alloc, component, &mut pipe, line)?;
+    line.put(", ");
+    write_units(line, &pipe.taken, 1);
+    Ok(())
 }
 
-fn show_end(alloc: Global, component: &Component, pipe: &mut Pipe) -> Result<String, RowFault> {
+fn write_end(
+    alloc: Global,
+    component: &Component,
+    pipe: &mut Pipe,
+    line: &mut Line,
+) -> Result<(), RowFault> {
     match write_to(alloc, component, pipe) {
-        Ok(()) => Ok(String::from_str(alloc, "written")?),
+        Ok(()) => line.put("written"),
         Err(fault) => {
-            let (number, written) = (fault.reason.number(), fault.written);
+            let number = fault.reason.number();
             if number == WriteReason::Memory.number() {
                 return Err(RowFault::Memory);
             }
-            Ok(format!(in alloc; "fault {number} after {written}")?)
+            line.put("fault ");
+            line.show(number);
+            line.put(" after ");
+            line.show(fault.written);
         }
     }
+    Ok(())
 }
 
-/// What is written to a writer that is full behind so many bytes, for each number up to the length
-/// of the file, and whether it holds so many bytes of the file then, from the first one on.
-fn show_full(
+/// Writes what is written to a writer that is full behind so many bytes, for each number up to the
+/// length of the file, and whether it holds so many bytes of the file then, from the first one on.
+fn write_full(
     alloc: Global,
     component: &Component,
     file: &[u8],
     size: usize,
     full: Full,
-) -> Result<String, RowFault> {
+    line: &mut Line,
+) -> Result<(), RowFault> {
     let mut answers = Vec::new(alloc);
     for room in 0..=file.len() {
         let pipe = pipe_for(alloc, file, size, room, full)?;
         answers.push(show_beginning(alloc, component, pipe, &file[..room])?)?;
     }
-    show_answers(alloc, &answers)
+    write_answers(line, &answers);
+    Ok(())
 }
 
 fn show_beginning(
@@ -99,11 +116,12 @@ fn show_beginning(
     beginning: &[u8],
 ) -> Result<String, RowFault> {
     let mut pipe = pipe;
-    let mut answer = show_end(alloc, component, &mut pipe)?;
-    answer.push_str(if pipe.taken.as_slice() == beginning {
+    let mut line = Line::new(alloc);
+    write_end(alloc, component, &mut pipe, &mut line)?;
+    line.put(if pipe.taken.as_slice() == beginning {
         ", its beginning"
     } else {
         ", other bytes"
-    })?;
-    Ok(answer)
+    });
+    line.done()
 }

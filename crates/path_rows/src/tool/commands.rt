@@ -4,34 +4,40 @@ use crate::pipes::{Full, Pipe};
 use crate::tool::escapes::write_text;
 use crate::tool::memory_files::MemoryFiles;
 use cm_machine::Set;
-use cm_rows::{RowFault, read_number};
+use cm_rows::{Line, RowFault, read_number};
 use cm_tool::{Fault, LIMIT, Outcome, load_files, load_script, play, report, tool};
 use cm_words::{Request, USAGE, WordsFault};
 use std::alloc::{AllocError, Global};
 
 /// The answer to `run WORD..`, `cut WORD..`, `words WORD..`, `usage`, `limit`, `limited LIMIT
 /// SCRIPT FILE..`.
-pub fn answer(alloc: Global, files: &mut MemoryFiles, words: &[&str]) -> Result<String, RowFault> {
+pub fn answer(
+    alloc: Global,
+    files: &mut MemoryFiles,
+    words: &[&str],
+    line: &mut Line,
+) -> Result<(), RowFault> {
     match words {
         ["run", words @ ..] => {
             let words = read_words(alloc, words)?;
-            show_ran(alloc, &run(alloc, &words, files, usize::MAX))
+            write_ran(line, &run(alloc, &words, files, usize::MAX));
         }
         ["cut", words @ ..] => {
             let words = read_words(alloc, words)?;
-            show_cuts(alloc, &words, files)
+            write_cuts(alloc, &words, files, line);
         }
         ["words", words @ ..] => {
             let words = read_words(alloc, words)?;
-            show_request(alloc, Request::read(alloc, &words))
+            return write_request(line, Request::read(alloc, &words));
         }
-        ["usage"] => Ok(String::from_str(alloc, USAGE)?),
-        ["limit"] => Ok(LIMIT.to_string(alloc)?),
+        ["usage"] => line.put(USAGE),
+        ["limit"] => line.show(LIMIT),
         ["limited", limit, script, names @ ..] => {
-            play_limited(alloc, files, read_number(limit)?, script, names)
+            play_limited(alloc, files, read_number(limit)?, script, names, line);
         }
-        _ => Err(RowFault::NotARow),
+        _ => return Err(RowFault::NotARow),
     }
+    Ok(())
 }
 
 fn read_words(alloc: Global, words: &[&str]) -> Result<Vec<String>, AllocError> {
@@ -62,22 +68,24 @@ fn run(alloc: Global, words: &[String], files: &mut MemoryFiles, room: usize) ->
     }
 }
 
-fn show_ran(alloc: Global, ran: &Ran) -> Result<String, RowFault> {
-    let status = ran.status;
-    let mut shown = format!(in alloc; "status {status}, out ")?;
-    write_text(&mut shown, &ran.out)?;
-    shown.push_str(", err ")?;
-    write_text(&mut shown, &ran.err)?;
-    Ok(shown)
+fn write_ran(line: &mut Line, ran: &Ran) {
+    line.put("status ");
+    line.show(ran.status);
+    line.put(", out ");
+    write_text(line, &ran.out);
+    line.put(", err ");
+    write_text(line, &ran.err);
 }
 
-/// Runs a command with each room for its standard output that is less than it prints, and shows the
-/// first of the outcomes, and each other one that differs from it, where what was printed is to be
-/// as much as had room.
-fn show_cuts(alloc: Global, words: &[String], files: &mut MemoryFiles) -> Result<String, RowFault> {
+/// Runs a command with each room for its standard output that is less than it prints, and writes
+/// the first of the outcomes, and each other one that differs from the one before it, where what
+/// was printed is to be as much as had room.
+fn write_cuts(alloc: Global, words: &[String], files: &mut MemoryFiles, line: &mut Line) {
     let whole = run(alloc, words, files, usize::MAX);
     let length = whole.out.len();
-    let mut shown = format!(in alloc; "below {length} bytes:")?;
+    line.put("below ");
+    line.show(length);
+    line.put(" bytes:");
     let mut last = Ran {
         status: 0,
         out: Vec::new(alloc),
@@ -86,45 +94,60 @@ fn show_cuts(alloc: Global, words: &[String], files: &mut MemoryFiles) -> Result
     for room in 0..length {
         let ran = run(alloc, words, files, room);
         if ran.out.len() != room || !whole.out.starts_with(&ran.out) {
-            write!(shown, " other output with room for {room}")?;
+            line.put(" other output with room for ");
+            line.show(room);
         }
         if ran.status != last.status || ran.err.as_slice() != last.err.as_slice() {
-            let status = ran.status;
-            write!(shown, " from {room} status {status}, err ")?;
-            write_text(&mut shown, &ran.err)?;
+            line.put(" from ");
+            line.show(room);
+            line.put(" status ");
+            line.show(ran.status);
+            line.put(", err ");
+            write_text(line, &ran.err);
         }
         last = ran;
     }
-    Ok(shown)
 }
 
-fn show_request(alloc: Global, request: Result<Request, WordsFault>) -> Result<String, RowFault> {
-    let mut out = String::new(alloc);
+fn write_request(line: &mut Line, request: Result<Request, WordsFault>) -> Result<(), RowFault> {
     match request {
-        Ok(Request::Check { file }) => write!(out, "check of {file}")?,
-        Ok(Request::Show { file }) => write!(out, "show of {file}")?,
+        Ok(Request::Check { file }) => {
+            line.put("check of ");
+            line.put(file);
+        }
+        Ok(Request::Show { file }) => {
+            line.put("show of ");
+            line.put(file);
+        }
         Ok(Request::Conform { wit, world, file }) => {
-            write!(out, "conform of {file} to {world} of {wit}")?
+            line.put("conform of ");
+            line.put(file);
+            line.put(" to ");
+            line.put(world);
+            line.put(" of ");
+            line.put(wit);
         }
         Ok(Request::Link { files }) => {
-            out.push_str("link of")?;
-            write_names(&mut out, &files)?;
+            line.put("link of");
+            write_names(line, &files);
         }
         Ok(Request::Play { script, files }) => {
-            write!(out, "play of {script} on")?;
-            write_names(&mut out, &files)?;
+            line.put("play of ");
+            line.put(script);
+            line.put(" on");
+            write_names(line, &files);
         }
-        Err(WordsFault::NoCommand) => out.push_str("no command")?,
+        Err(WordsFault::NoCommand) => line.put("no command"),
         Err(WordsFault::Memory) => return Err(RowFault::Memory),
     }
-    Ok(out)
+    Ok(())
 }
 
-fn write_names(out: &mut String, names: &[&str]) -> Result<(), AllocError> {
+fn write_names(line: &mut Line, names: &[&str]) {
     for name in names {
-        write!(out, " {name}")?;
+        line.put(" ");
+        line.put(name);
     }
-    Ok(())
 }
 
 /// Plays a script with another limit of moves than the command has.
@@ -134,7 +157,8 @@ fn play_limited(
     limit: u64,
     script: &str,
     names: &[&str],
-) -> Result<String, RowFault> {
+    line: &mut Line,
+) {
     let mut out = Vec::new(alloc);
     let mut err = Vec::new(alloc);
     let status = match play_files(alloc, files, limit, script, names, &mut out, &mut err) {
@@ -144,7 +168,7 @@ fn play_limited(
             fault.status()
         }
     };
-    show_ran(alloc, &Ran { status, out, err })
+    write_ran(line, &Ran { status, out, err });
 }
 
 fn play_files<'a>(

@@ -1,7 +1,7 @@
 //! Text of several lines in a row of one.
 
-use cm_rows::RowFault;
-use std::alloc::{AllocError, Global};
+use cm_rows::{Line, RowFault};
+use std::alloc::Global;
 
 /// The text that words spell, one space between them, where `\n`, `\r` and `\t` are the line feed,
 /// the carriage return and the tab.
@@ -40,18 +40,17 @@ fn read_escape(text: &mut String, part: &str) -> Result<(), RowFault> {
 
 /// Writes bytes as the text that `read_text` reads, or `-` for none; a byte that is no ASCII as
 /// `?`.
-pub fn write_text(out: &mut String, bytes: &[u8]) -> Result<(), AllocError> {
+pub fn write_text(line: &mut Line, bytes: &[u8]) {
     if bytes.is_empty() {
-        return out.push_str("-");
+        line.put("-");
     }
     for byte in bytes {
         match byte {
-            b'\n' => out.push_str("\\n")?,
-            b'\r' => out.push_str("\\r")?,
-            b'\t' => out.push_str("\\t")?,
-            0x20..0x7F => out.push(char::from(*byte))?,
-            _ => out.push_str("?")?,
+            b'\n' => line.put("\\n"),
+            b'\r' => line.put("\\r"),
+            b'\t' => line.put("\\t"),
+            0x20..0x7F => line.show(char::from(*byte)),
+            _ => line.put("?"),
         }
     }
-    Ok(())
 }

@@ -3,20 +3,19 @@
 use crate::sets::read_values;
 use crate::tool::escapes::write_text;
 use cm_machine::{Event, Flat, Trap};
-use cm_rows::{RowFault, read_number};
+use cm_rows::{Line, RowFault, read_number};
 use cm_tool_lines::write_event;
 use std::alloc::Global;
 
-/// The line of an event, whose words are its parts.
-pub fn answer(alloc: Global, words: &[&str]) -> Result<String, RowFault> {
+/// Writes the line of an event, whose words are its parts.
+pub fn answer(alloc: Global, words: &[&str], line: &mut Line) -> Result<(), RowFault> {
     let event = read_event(alloc, words)?;
-    let mut line = Vec::new(alloc);
-    if write_event(&mut line, &event).is_err() {
+    let mut printed = Vec::new(alloc);
+    if write_event(&mut printed, &event).is_err() {
         return Err(RowFault::Memory);
     }
-    let mut out = String::new(alloc);
-    write_text(&mut out, &line)?;
-    Ok(out)
+    write_text(line, &printed);
+    Ok(())
 }
 
 fn read_event(alloc: Global, words: &[&str]) -> Result<Event, RowFault> {

@@ -1,7 +1,7 @@
 //! Files in memory.
 
 use crate::tool::escapes::read_text;
-use cm_rows::{RowFault, read_bytes};
+use cm_rows::{Line, RowFault, read_bytes};
 use cm_tool_files::{FileFault, Files};
 use std::alloc::Global;
 use std::io::ErrorKind;
@@ -28,21 +28,26 @@ impl MemoryFiles {
 
     /// The answer to `NAME bytes BYTES`, `NAME text TEXT`, `NAME missing`, `NAME folder`, `NAME
     /// forbidden`, `NAME broken` or `NAME memory`.
-    pub fn answer(&mut self, alloc: Global, words: &[&str]) -> Result<String, RowFault> {
+    pub fn answer(
+        &mut self,
+        alloc: Global,
+        words: &[&str],
+        line: &mut Line,
+    ) -> Result<(), RowFault> {
         let [name, kind, rest @ ..] = words else {
             return Err(RowFault::NotARow);
         };
         let outcome = read_outcome(alloc, kind, rest)?;
-        let answer = match &outcome {
+        match &outcome {
             Ok(bytes) => {
-                let length = bytes.len();
-                format!(in alloc; "{length} bytes")?
+                line.show(bytes.len());
+                line.put(" bytes");
             }
-            Err(fault) => String::from_str(alloc, fault.name())?,
-        };
+            Err(fault) => line.put(fault.name()),
+        }
         let name = String::from_str(alloc, name)?;
         self.entries.push(Entry { name, outcome })?;
-        Ok(answer)
+        Ok(())
     }
 }
 

@@ -3,36 +3,38 @@
 use crate::events::write_values;
 use crate::tool::escapes::read_text;
 use cm_machine::Move;
-use cm_rows::{RowFault, read_number, write_bytes};
+use cm_rows::{Line, RowFault, read_number, write_bytes};
 use cm_script::{
     LineFault, Script, ScriptFault, ScriptRefusal, form_of, read_u32, read_u64, script_bytes,
 };
-use std::alloc::{AllocError, Global};
+use std::alloc::Global;
+use std::collections::VecDeque;
 use std::fmt::Display;
 
 /// The answer to `parse COMPONENTS TEXT`, `bytes WORD`, `u32 WORD`, `u64 WORD` or `form LINE`.
-pub fn answer(alloc: Global, words: &[&str]) -> Result<String, RowFault> {
+pub fn answer(alloc: Global, words: &[&str], line: &mut Line) -> Result<(), RowFault> {
     match words {
         ["parse", components, text @ ..] => {
             let components = read_components(components)?;
             let text = read_text(alloc, text)?;
             match Script::parse(alloc, text.as_str(), components) {
-                Ok(script) => show_script(alloc, &script),
-                Err(refusal) => show_refusal(alloc, refusal),
+                Ok(script) => write_script(line, &script),
+                Err(refusal) => return write_refusal(line, refusal),
             }
         }
         ["bytes", text @ ..] => {
             let text = read_text(alloc, text)?;
-            show_bytes(alloc, text.as_str())
+            return write_spelled(alloc, text.as_str(), line);
         }
-        ["u32", word] => show_number(alloc, read_u32(word)),
-        ["u64", word] => show_number(alloc, read_u64(word)),
-        ["form", line @ ..] => {
-            let line = read_text(alloc, line)?;
-            Ok(String::from_str(alloc, form_of(line.as_str()))?)
+        ["u32", word] => write_number(line, read_u32(word)),
+        ["u64", word] => write_number(line, read_u64(word)),
+        ["form", text @ ..] => {
+            let text = read_text(alloc, text)?;
+            line.put(form_of(text.as_str()));
         }
-        _ => Err(RowFault::NotARow),
+        _ => return Err(RowFault::NotARow),
     }
+    Ok(())
 }
 
 /// At most 100 components.
@@ -44,69 +46,85 @@ fn read_components(word: &str) -> Result<usize, RowFault> {
     Ok(components)
 }
 
-fn show_number<T: Display + Drop>(alloc: Global, number: Option<T>) -> Result<String, RowFault> {
+fn write_number<T: Display + Drop>(line: &mut Line, number: Option<T>) {
     match number {
-        Some(number) => Ok(format!(in alloc; "{number}")?),
-        None => Ok(String::from_str(alloc, "none")?),
+        Some(number) => line.show(number),
+        None => line.put("none"),
     }
 }
 
-fn show_bytes(alloc: Global, word: &str) -> Result<String, RowFault> {
-    let mut out = String::new(alloc);
+/// Writes the bytes that a word of a script spells.
+fn write_spelled(alloc: Global, word: &str, line: &mut Line) -> Result<(), RowFault> {
     match script_bytes(alloc, word) {
-        Ok(bytes) => write_bytes(&mut out, &bytes)?,
-        Err(ScriptFault::BadHex) => out.push_str("bad hex")?,
+        Ok(bytes) => write_bytes(line, &bytes),
+        Err(ScriptFault::BadHex) => line.put("bad hex"),
         Err(ScriptFault::Memory) => return Err(RowFault::Memory),
-    }
-    Ok(out)
-}
-
-fn show_refusal(alloc: Global, refusal: ScriptRefusal) -> Result<String, RowFault> {
-    let ScriptRefusal { line, fault } = refusal;
-    match fault {
-        LineFault::Memory => Err(RowFault::Memory),
-        fault => Ok(format!(in alloc; "line {line}: {fault}")?),
-    }
-}
-
-/// The pages, then the moves of each component, then the roots of the drives.
-fn show_script(alloc: Global, script: &Script) -> Result<String, RowFault> {
-    let mut out = String::from_str(alloc, "pages")?;
-    write_numbers(&mut out, &script.pages)?;
-    for (guest, moves) in script.moves.iter().enumerate() {
-        write!(out, " | {guest}:")?;
-        for made in moves {
-            write_move(&mut out, made)?;
-            out.push_str(";")?;
-        }
-    }
-    out.push_str(" | begin")?;
-    write_numbers(&mut out, &script.begins)?;
-    Ok(out)
-}
-
-fn write_numbers(out: &mut String, numbers: &[u32]) -> Result<(), AllocError> {
-    for number in numbers {
-        write!(out, " {number}")?;
     }
     Ok(())
 }
 
-fn write_move(out: &mut String, made: &Move) -> Result<(), AllocError> {
+fn write_refusal(line: &mut Line, refusal: ScriptRefusal) -> Result<(), RowFault> {
+    match refusal.fault {
+        LineFault::Memory => Err(RowFault::Memory),
+        fault => {
+            line.put("line ");
+            line.show(refusal.line);
+            line.put(": ");
+            line.show(fault);
+            Ok(())
+        }
+    }
+}
+
+/// Writes the pages, then the moves of each component, then the roots of the drives.
+fn write_script(line: &mut Line, script: &Script) {
+    line.put("pages");
+    write_numbers(line, &script.pages);
+    for (guest, moves) in script.moves.iter().enumerate() {
+        line.put(" | ");
+        line.show(guest);
+        line.put(":");
+        write_moves(line, moves);
+    }
+    line.put(" | begin");
+    write_numbers(line, &script.begins);
+}
+
+fn write_numbers(line: &mut Line, numbers: &[u32]) {
+    for number in numbers {
+        line.put(" ");
+        line.show(*number);
+    }
+}
+
+fn write_moves(line: &mut Line, moves: &VecDeque<Move>) {
+    for made in moves {
+        write_move(line, made);
+        line.put(";");
+    }
+}
+
+fn write_move(line: &mut Line, made: &Move) {
     match made {
         Move::Write { at, bytes } => {
-            write!(out, " write {at} ")?;
-            write_bytes(out, bytes)
+            line.put(" write ");
+            line.show(*at);
+            line.put(" ");
+            write_bytes(line, bytes);
         }
-        Move::Grow { pages } => write!(out, " grow {pages}"),
+        Move::Grow { pages } => {
+            line.put(" grow ");
+            line.show(*pages);
+        }
         Move::Call { func, args } => {
-            write!(out, " call {func}")?;
-            write_values(out, args)
+            line.put(" call ");
+            line.show(*func);
+            write_values(line, args);
         }
         Move::Return { values } => {
-            out.push_str(" return")?;
-            write_values(out, values)
+            line.put(" return");
+            write_values(line, values);
         }
-        Move::Unreachable => out.push_str(" unreachable"),
+        Move::Unreachable => line.put(" unreachable"),
     }
 }
