@@ -28,44 +28,20 @@ fn set_fault(reason: LinkReason) -> LinkFault
     }
 }
 
-/// The exports that may serve the imports of a set, and its plan.
-#[derive(Drop)]
-struct Chosen {
-    choices: Vec<Vec<Candidate>>,
-    plan: Vec<PlanLine>,
-}
-
-/// What links these components, or why they can't be linked, as [`link`] tells it.
-fn choose(alloc: Global, components: &[Checked<'_>]) -> Result<Chosen, LinkFault>
-    ensures chosen { IfOk result (λ c. AreChoices (set_of components.now) c.choices.items) }
-    ensures served { IfOk result (λ c. HasServed (set_of components.now)
-        (length components.now) 0 c.plan.items) }
-    ensures some { IfOk result (λ _. 0 < length components.now) }
-    ensures few { IfOk result (λ _. length components.now ≤ MAX_COMPONENTS) }
-    ensures complete { CanBeLinked (set_of components.now)
-        → IfErr result (λ f. f.reason ≡ reason.Memory) }
-    ensures refused { IfErr result (λ f. ((f.reason ≡ reason.Memory)
-        × AreServedBefore (set_of components.now) f.component f.import)
-        ⊎ IsLinkFault (set_of components.now) f.component f.import f.reason) }
-    ensures empty { components.now ≡ []
-        → IsErrOf result (record { component = 0; import = 0; reason = reason.Empty }) }
-    ensures too_many { MAX_COMPONENTS < length components.now
-        → IsErrOf result (record { component = 0; import = 0; reason = reason.TooMany }) }
+/// The plan of these components with the candidates of their imports, or the first import that is
+/// not served.
+fn plan_of(
+    alloc: Global,
+    components: &[Checked<'_>],
+    choices: &[Vec<Candidate>],
+) -> Result<Vec<PlanLine>, LinkFault>
+    requires chosen { AreChoices (set_of components.now) choices.now }
+    requires few { length components.now ≤ MAX_COMPONENTS }
+    ensures served { IfOk result (λ plan. HasServed (set_of components.now)
+        (length components.now) 0 plan.items) }
+    ensures fault { IfErr result (λ f. IsWalkFault (set_of components.now) f) }
 {
-    sets_have_one_answer();
-    if components.is_empty() {
-        return Err(set_fault(LinkReason::Empty));
-    }
-    if components.len() > MAX_COMPONENTS {
-        return Err(set_fault(LinkReason::TooMany));
-    }
-    let Ok(choices) = choices(alloc, components) else {
-        return Err(set_fault(LinkReason::Memory));
-    };
-    match walk(alloc, &Linking::new(components, &choices)) {
-        Ok(plan) => Ok(Chosen { choices, plan }),
-        Err(fault) => Err(fault),
-    }
+    walk(alloc, &Linking::new(components, choices))
 }
 
 /// The components as a linked set.
@@ -100,10 +76,22 @@ pub fn link<'a>(alloc: Global, components: Vec<Checked<'a>>) -> Result<Linked<'a
     ensures too_many { MAX_COMPONENTS < length components.entry.items
         → IsErrOf result (record { component = 0; import = 0; reason = reason.TooMany }) }
 {
-    let Chosen { choices, plan } = choose(alloc, &components)?;
-    Ok(Linked {
-        components,
-        choices,
-        plan,
-    })
+    sets_have_one_answer();
+    if components.is_empty() {
+        return Err(set_fault(LinkReason::Empty));
+    }
+    if components.len() > MAX_COMPONENTS {
+        return Err(set_fault(LinkReason::TooMany));
+    }
+    let Ok(choices) = choices(alloc, &components) else {
+        return Err(set_fault(LinkReason::Memory));
+    };
+    match plan_of(alloc, &components, &choices) {
+        Ok(plan) => Ok(Linked {
+            components,
+            choices,
+            plan,
+        }),
+        Err(fault) => Err(fault),
+    }
 }
