@@ -4,16 +4,17 @@ ghost use Rattle.std.specs.Prelude.{map};
 ghost use Rattle.cm_keys.specs.Keys.{key_view};
 ghost use Rattle.cm_keys.specs.Table.{IsTableOf};
 
-use crate::table::{key_table, look_up};
-use indexmap::IndexMap;
+use crate::table::{Table, key_table, look_up};
 use std::alloc::{AllocError, Global};
 
-/// Keys, each a number and a name, with a table of the first of each.
+/// Keys, each a number and a name, with a table of the first of each. A key is found in trees, so
+/// that no choice of names makes it slower than the logarithm of their number, with the time that it
+/// takes to compare two names.
 #[derive(Drop)]
 pub struct Keys<'a> {
     keys: Vec<(usize, &'a str)>,
-    table: IndexMap<(usize, &'a str), usize>,
-    ghost is_table: { IsTableOf (map key_view keys.items) table.entries },
+    table: Table<'a>,
+    ghost is_table: { IsTableOf (map key_view keys.items) table },
 }
 
 impl<'a> Keys<'a> {
@@ -29,7 +30,7 @@ impl<'a> Keys<'a> {
         Ok(Keys { keys, table })
     }
 
-    /// The place of the first key that is this number and name, if there is one, in constant time.
+    /// The place of the first key that is this number and name, from 0, if there is one.
     pub fn find(&self, number: usize, name: &str) -> Option<usize>
         ensures { result ≡ first_key (listed self.now) number name.now }
     {

@@ -5,3 +5,4 @@ mod keys;
 mod table;
 
 pub use keys::Keys;
+pub use table::{Table, look_up, note};

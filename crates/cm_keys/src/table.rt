@@ -4,43 +4,48 @@ ghost use Rattle.std.specs.Prelude.{◌≡◌, IfOk, OnOk, map};
 ghost use Rattle.cm_keys.specs.Keys.{key_view};
 ghost use Rattle.cm_keys.specs.Table.{IsTableOf, Notes, look_up};
 
-use indexmap::IndexMap;
 use std::alloc::{AllocError, Global};
+use std::collections::BTreeMap;
 
-/// The place that stands for a number and a name.
-pub fn look_up(table: &IndexMap<(usize, &str), usize>, number: usize, name: &str) -> Option<usize>
-    ensures { result ≡ look_up table.now.entries number name.now }
+/// The places of names, under the numbers of their lists.
+pub type Table<'a> = BTreeMap<usize, BTreeMap<&'a str, usize>>;
+
+/// The place that stands for a number and a name, from 0, if one does.
+pub fn look_up(table: &Table<'_>, number: usize, name: &str) -> Option<usize>
+    ensures { result ≡ look_up table.now number name.now }
 {
-    table.get(&(number, name)).copied()
+    table.get(&number)?.get(name).copied()
 }
 
-/// Puts the place of a key into a table, where none stands for it yet.
+/// Puts the place of a key, a number and a name, into a table, where none stands for it yet.
+/// `AllocError` comes where there is no memory, and the table is to be dropped then.
 #[tactic(auto, using(crate::proofs::KeyLaws::note_laws))]
-fn note<'a>(
-    table: &mut IndexMap<(usize, &'a str), usize>,
+pub fn note<'a>(
+    alloc: Global,
+    table: &mut Table<'a>,
     key: (usize, &'a str),
     place: usize,
 ) -> Result<(), AllocError>
-    ensures { OnOk result
-        (Notes (key_view key.entry) place table.old.entries table.new.entries) }
+    ensures { OnOk result (Notes (key_view key.entry) place table.old table.new) }
 {
-    if table.get(&key).is_none() {
-        table.insert(key, place)?;
+    let (number, name) = key;
+    if look_up(table, number, name).is_some() {
+        return Ok(());
     }
+    let mut names = table.remove(&number).unwrap_or(BTreeMap::new(alloc));
+    names.insert(name, place)?;
+    table.insert(number, names)?;
     Ok(())
 }
 
 /// The place of the first of each key.
 #[tactic(auto, using(crate::proofs::KeyLaws::table_laws))]
-pub fn key_table<'a>(
-    alloc: Global,
-    keys: &[(usize, &'a str)],
-) -> Result<IndexMap<(usize, &'a str), usize>, AllocError>
-    ensures { IfOk result (λ table. IsTableOf (map key_view keys.now) table.entries) }
+pub fn key_table<'a>(alloc: Global, keys: &[(usize, &'a str)]) -> Result<Table<'a>, AllocError>
+    ensures { IfOk result (λ table. IsTableOf (map key_view keys.now) table) }
 {
-    let mut table = IndexMap::new(alloc);
+    let mut table = BTreeMap::new(alloc);
     for (place, key) in keys.iter().enumerate() {
-        note(&mut table, *key, place)?;
+        note(alloc, &mut table, *key, place)?;
     }
     Ok(table)
 }

@@ -3,50 +3,39 @@
 ghost use Rattle.std.specs.Prelude.{◌≡◌, IfOk, OnOk, map};
 ghost use Rattle.std.specs.Option.{option_map};
 ghost use Rattle.cm_wit_mentions.specs.MentionViews.{mention_view};
-ghost use Rattle.cm_wit_names.specs.Table.{IsTableOf, Notes, look_up};
+ghost use Rattle.cm_wit_names.specs.Table.{IsTableOf, Notes};
 
+use cm_keys::{Table, note};
 use cm_wit_mentions::Mention;
-use indexmap::IndexMap;
 use std::alloc::{AllocError, Global};
+use std::collections::BTreeMap;
 
 /// Puts the number and the name by which a mention is known into a table, where they do not stand
 /// there yet.
-#[tactic(auto, using(crate::proofs::TableLaws::note_laws))]
-fn note<'a>(
-    table: &mut IndexMap<(usize, &'a str), usize>,
+#[tactic(auto, using(crate::proofs::TableLaws::notes_nothing))]
+fn note_known<'a>(
+    alloc: Global,
+    table: &mut Table<'a>,
     known: Option<(usize, &'a str)>,
     index: usize,
 ) -> Result<(), AllocError>
     ensures { OnOk result (Notes (option_map (λ k. (k.0, k.1.now)) known.entry) index
-        table.old.entries table.new.entries) }
+        table.old table.new) }
 {
-    let Some(name) = known else {
-        return Ok(());
-    };
-    if table.get(&name).is_none() {
-        table.insert(name, index)?;
+    match known {
+        Some(key) => note(alloc, table, key, index),
+        None => Ok(()),
     }
-    Ok(())
 }
 
 /// For each number and name the mention that makes a type or an interface known by them first.
 #[tactic(auto, using(crate::proofs::TableLaws::table_laws))]
-pub fn known_names<'a>(
-    alloc: Global,
-    mentions: &[Mention<'a>],
-) -> Result<IndexMap<(usize, &'a str), usize>, AllocError>
-    ensures { IfOk result (λ table. IsTableOf (map mention_view mentions.now) table.entries) }
+pub fn known_names<'a>(alloc: Global, mentions: &[Mention<'a>]) -> Result<Table<'a>, AllocError>
+    ensures { IfOk result (λ table. IsTableOf (map mention_view mentions.now) table) }
 {
-    let mut table = IndexMap::new(alloc);
+    let mut table = BTreeMap::new(alloc);
     for (index, mention) in mentions.iter().enumerate() {
-        note(&mut table, mention.known, index)?;
+        note_known(alloc, &mut table, mention.known, index)?;
     }
     Ok(table)
-}
-
-/// The mention that makes this number and name known.
-pub fn look_up(table: &IndexMap<(usize, &str), usize>, number: usize, name: &str) -> Option<usize>
-    ensures { result ≡ look_up table.now.entries number name.now }
-{
-    table.get(&(number, name)).copied()
 }

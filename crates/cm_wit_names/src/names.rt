@@ -5,17 +5,17 @@ ghost use Rattle.cm_wit_mentions.specs.MentionViews.{mention_view, reference_vie
 ghost use Rattle.cm_wit_names.specs.Known.{known_at, target};
 ghost use Rattle.cm_wit_names.specs.Table.{IsTableOf};
 
-use crate::known::{known_names, look_up};
+use crate::known::known_names;
+use cm_keys::{Table, look_up};
 use cm_wit_mentions::{Mention, Reference};
-use indexmap::IndexMap;
 use std::alloc::{AllocError, Global};
 
 /// What each name of a file says, and what is known by which name.
 #[derive(Drop)]
 pub struct Names<'a> {
     pub mentions: Vec<Mention<'a>>,
-    known: IndexMap<(usize, &'a str), usize>,
-    ghost table: { IsTableOf (map mention_view mentions.items) known.entries },
+    known: Table<'a>,
+    ghost table: { IsTableOf (map mention_view mentions.items) known },
 }
 
 impl<'a> Names<'a> {
@@ -28,14 +28,14 @@ impl<'a> Names<'a> {
     }
 
     /// The mention that makes this number and name known first.
-    pub fn known_at(&self, number: usize, name: &'a str) -> Option<usize>
+    pub fn known_at(&self, number: usize, name: &str) -> Option<usize>
         ensures { result ≡ known_at (map mention_view self.now.mentions.items) number name.now }
     {
         look_up(&self.known, number, name)
     }
 
     /// The mention to which a reference leads, if there is one.
-    pub fn target(&self, refers: Reference<'a>) -> Option<usize>
+    pub fn target(&self, refers: Reference<'_>) -> Option<usize>
         ensures { result ≡ target (map mention_view self.now.mentions.items)
             (reference_view refers.entry) }
     {

@@ -1,9 +1,12 @@
 use Rattle.std.proofs.Common.{sym, ap, ◌∙◌}
-use Rattle.std.specs.Option.{option_copied}
-use Rattle.cm_keys.proofs.KeyLaws.{notes_new, is_none_is}
+use Rattle.std.specs.Option.{unwrap_or}
+use Rattle.cm_keys.proofs.KeyLaws.{notes_new, none_is, put_back}
 use Rattle.cm_keys.proofs.table.note.Goals as goal
 
-pub returns-in_ok-insert : goal.returns-in_ok-insert
-returns-in_ok-insert c =
-    let gone = is_none_is c.get.result c.is_none.result c.is_none.ensures c.if-is_none.true in
-    notes_new c.args.place c.args.table.now.entries c.insert.new.self.entries c.args.key (sym c.get.ensures.value ∙ ap option_copied gone) (λ n name. c.in_ok-insert.ensures.updates.0 (n, record c.args.key.1 { now = name }))
+pub returns : goal.returns
+returns c =
+    let old = c.args.table.now in
+    let none = c.new.result in
+    notes_new c.args.place old c.insert-2.new.self c.args.key (sym c.look_up.ensures ∙ none_is c.look_up.result (sym c.is_some.ensures ∙ c.if-is_some.false))
+    (put_back c.args.place old c.remove.new.self c.unwrap_or-names.result none c.insert.new.self c.insert-2.new.self c.args.key c.new.ensures.empty c.remove.ensures.updates
+    (c.unwrap_or-names.ensures ∙ ap (λ o. unwrap_or o none) c.remove.ensures.value) c.in_ok-insert.ensures.updates c.in_ok-insert-2.ensures.updates)
