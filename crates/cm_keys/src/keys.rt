@@ -8,8 +8,8 @@ use crate::table::{Table, key_table, look_up};
 use std::alloc::{AllocError, Global};
 
 /// Keys, each a number and a name, with a table of the first of each. A key is found in trees, so
-/// that no choice of names makes it slower than the logarithm of their number, with the time that it
-/// takes to compare two names.
+/// that no choice of names makes it slower than the logarithm of their number, with the time that
+/// it takes to compare two names.
 #[derive(Drop)]
 pub struct Keys<'a> {
     keys: Vec<(usize, &'a str)>,

@@ -11,8 +11,8 @@ ghost use Rattle.cm_wit_names.specs.Rules.{IsAmong, IsLeast, IsTaken, is_self, k
 use crate::full_names::folded;
 use crate::names::Names;
 use cm_wit_mentions::Mention;
-use indexmap::IndexSet;
 use std::alloc::{AllocError, Global};
+use std::collections::BTreeSet;
 
 /// The list in which a mention has to be distinct, and its name there.
 fn key_of(alloc: Global, mention: &Mention<'_>) -> Result<Option<(usize, Vec<u8>)>, AllocError>
@@ -38,21 +38,20 @@ fn is_self(alloc: Global, mention: &Mention<'_>) -> Result<bool, AllocError>
 
 /// Puts a name to the others of its list. Answers whether it was not there.
 #[tactic(auto, using(crate::proofs::DistinctLaws::any_in, crate::proofs::DistinctLaws::adds_key))]
-fn insert(seen: &mut IndexSet<(usize, Vec<u8>)>, key: (usize, Vec<u8>)) -> Result<bool, AllocError>
+fn insert(seen: &mut BTreeSet<(usize, Vec<u8>)>, key: (usize, Vec<u8>)) -> Result<bool, AllocError>
     ensures added { IfOk result (λ b. IsTrue b →
         Adds (key_view key) (map key_view seen.old.keys) (map key_view seen.new.keys)) }
     ensures present { IfOk result (λ b. IsFalse b →
         Contains (map key_view seen.old.keys) (key_view key)) }
 {
-    let (_, added) = seen.insert_full(key)?;
-    Ok(added)
+    Ok(seen.insert(key)?)
 }
 
 #[tactic(auto, using(crate::proofs::DistinctLaws::distinct_note_laws))]
 /// Puts the name of a mention to the others of its list. Answers whether it was not there.
 fn note(
     alloc: Global,
-    seen: &mut IndexSet<(usize, Vec<u8>)>,
+    seen: &mut BTreeSet<(usize, Vec<u8>)>,
     mention: &Mention<'_>,
 ) -> Result<bool, AllocError>
     ensures noted { IfOk result (λ b. IsTrue b → Notes (mention_view mention.now)
@@ -76,7 +75,7 @@ impl Names<'_> {
         ensures { IfOk result (IsLeast (λ n. IsAt (map mention_view self.now.mentions.items) n
             (IsTaken (take n (map mention_view self.now.mentions.items))))) }
     {
-        let mut seen = IndexSet::new(alloc);
+        let mut seen = BTreeSet::new(alloc);
         for (index, mention) in self.mentions.iter().enumerate() {
             if !note(alloc, &mut seen, mention)? {
                 return Ok(Some(index));

@@ -12,4 +12,4 @@ not_true true r e t = absurd (both (sym e ∙ t))
 not_true false r e t = refl
 
 pub returns-clause-added : goal.returns-clause-added
-returns-clause-added c = λ t. adds_key c.args.key c.args.seen.now.keys c.insert_full.new.self.keys (not_true (list_any (same c.args.key) c.args.seen.now.keys) c.in_ok-added.added c.in_ok-added.ensures.added t) c.in_ok-added.ensures.keys
+returns-clause-added c = λ t. adds_key c.args.key c.args.seen.now.keys c.insert.new.self.keys (not_true (list_any (same c.args.key) c.args.seen.now.keys) c.in_ok-insert.field-0 c.in_ok-insert.ensures.added t) c.in_ok-insert.ensures.keys

@@ -1,5 +1,5 @@
 use Rattle.std.proofs.Common.{arith}
-use Rattle.cm_wit_names.proofs.DistinctLaws.{seen_at, seen_all}
+use Rattle.cm_wit_names.proofs.DistinctLaws.{seen_at, seen_all, taken_at}
 use Rattle.cm_wit_names.proofs.LeastLaws.{blank}
 use Rattle.cm_wit_names.proofs.names.Names.first_duplicate.Goals as goal
 
@@ -8,3 +8,6 @@ loop-index-preserved c = seen_at c.args.self.now.mentions.items c.deref-mention-
 
 pub returns : goal.returns
 returns c = seen_all c.args.self.now.mentions.items c.loop-index.index c.loop-index.seen.keys (omega arith) c.loop-index.invariant
+
+pub returns-then-not-branch : goal.returns-then-not-branch
+returns-then-not-branch c = taken_at c.args.self.now.mentions.items c.deref-mention-items.result.now c.loop-index.index blank c.loop-index.seen.keys (omega arith) c.deref-mention-items.ensures.value (c.in_ok-note.ensures.taken c.if-not-branch.true) c.loop-index.invariant
