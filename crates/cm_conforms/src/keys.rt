@@ -52,7 +52,7 @@ fn extern_at(externs: &[Extern], place: usize) -> &ExternDesc
     &externs[place].desc
 }
 
-/// What the first of an instance's items of this name is, in constant time.
+/// What the first of an instance's items of this name is, by one look-up.
 pub(crate) fn item_named(items: &[Item], keys: &Keys<'_>, name: &str) -> Option<ItemDesc>
     requires { listed keys.now ≡ map item_key items.now }
     ensures { result ≡ named (λ i. i.name) (λ i. i.desc) name.now items.now }
@@ -63,7 +63,7 @@ pub(crate) fn item_named(items: &[Item], keys: &Keys<'_>, name: &str) -> Option<
     }
 }
 
-/// What the first of these imports or exports of this name is, in constant time.
+/// What the first of these imports or exports of this name is, by one look-up.
 pub(crate) fn extern_named<'a>(
     externs: &'a [Extern],
     keys: &Keys<'_>,

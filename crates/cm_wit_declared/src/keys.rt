@@ -26,7 +26,7 @@ fn key_list<'a>(
     Ok(keys)
 }
 
-/// What finds declarations by the number of their list and their name, each in constant time.
+/// What finds declarations by the number of their list and their name, each by one look-up.
 /// Refused only where there is no memory.
 pub fn declaration_keys<'a>(
     alloc: Global,

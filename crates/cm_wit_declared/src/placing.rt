@@ -31,7 +31,7 @@ fn instance_keys<'a>(
     Ok(keys)
 }
 
-/// The instances of a world, with what finds them in constant time.
+/// The instances of a world, with what finds each by one look-up.
 #[derive(Drop)]
 pub struct Placing<'a> {
     pub instances: &'a [Instance],

@@ -25,7 +25,7 @@ pub struct Scope<'a> {
 }
 
 impl<'a> Scope<'a> {
-    /// What a name stands for, if it stands for something, in constant time.
+    /// What a name stands for, if it stands for something, by one look-up.
     #[tactic(auto, using(crate::proofs::ScopeLaws::find_laws))]
     pub fn find(&self, name: &str) -> Option<Meaning>
         ensures meaning { (types : List Ty) → option_map (meaning_in types) result

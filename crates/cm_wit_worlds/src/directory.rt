@@ -12,7 +12,7 @@ use cm_keys::Keys;
 use cm_wit_text::{Path, WitFile};
 use std::alloc::{AllocError, Global};
 
-/// Packages, with what finds them and their interfaces by name in constant time.
+/// Packages, with what finds them and their interfaces by name, each by one look-up.
 #[derive(Drop)]
 pub struct Directory<'a> {
     pub files: Vec<&'a WitFile>,
