@@ -26,7 +26,7 @@ use std::alloc::Global;
 fn push_record(
     alloc: Global,
     types: &mut Types,
-    scope: &Scope<'_>,
+    scope: &Scope<'_, '_>,
     texts: &[Typed],
 ) -> Result<usize, MeaningFault>
     requires placed { ArePlaced (length (types_of types.old)) scope.now.table.now }
@@ -50,7 +50,7 @@ fn push_record(
 fn push_variant(
     alloc: Global,
     types: &mut Types,
-    scope: &Scope<'_>,
+    scope: &Scope<'_, '_>,
     texts: &[Case],
 ) -> Result<usize, MeaningFault>
     requires placed { ArePlaced (length (types_of types.old)) scope.now.table.now }
@@ -81,7 +81,7 @@ fn push_variant(
 pub fn push_def(
     alloc: Global,
     types: &mut Types,
-    scope: &Scope<'_>,
+    scope: &Scope<'_, '_>,
     resource: ResourceId,
     text: &TypeDef,
 ) -> Result<Meaning, MeaningFault>

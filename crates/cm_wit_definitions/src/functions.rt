@@ -46,7 +46,7 @@ fn push_func_def(alloc: Global, types: &mut Types, def: FuncDef) -> Result<usize
 fn func_def(
     alloc: Global,
     types: &mut Types,
-    scope: &Scope<'_>,
+    scope: &Scope<'_, '_>,
     text: &Func,
 ) -> Result<FuncDef, MeaningFault>
     requires placed { ArePlaced (length (types_of types.old)) scope.now.table.now }
@@ -80,7 +80,7 @@ fn func_def(
 pub fn push_func(
     alloc: Global,
     types: &mut Types,
-    scope: &Scope<'_>,
+    scope: &Scope<'_, '_>,
     text: &Func,
 ) -> Result<usize, MeaningFault>
     requires placed { ArePlaced (length (types_of types.old)) scope.now.table.now }
@@ -145,7 +145,7 @@ fn with_self(
 fn method_def(
     alloc: Global,
     types: &mut Types,
-    scope: &Scope<'_>,
+    scope: &Scope<'_, '_>,
     resource: ResourceId,
     text: &Func,
 ) -> Result<FuncDef, MeaningFault>
@@ -168,7 +168,7 @@ fn method_def(
 fn constructor_def(
     alloc: Global,
     types: &mut Types,
-    scope: &Scope<'_>,
+    scope: &Scope<'_, '_>,
     resource: ResourceId,
     texts: &[Typed],
 ) -> Result<FuncDef, MeaningFault>
@@ -200,7 +200,7 @@ fn constructor_def(
 pub fn push_resource_func(
     alloc: Global,
     types: &mut Types,
-    scope: &Scope<'_>,
+    scope: &Scope<'_, '_>,
     resource: ResourceId,
     text: &ResourceFunc,
 ) -> Result<usize, MeaningFault>

@@ -27,7 +27,7 @@ use std::alloc::Global;
 fn push_field(
     alloc: Global,
     types: &mut Types,
-    scope: &Scope<'_>,
+    scope: &Scope<'_, '_>,
     text: &Typed,
 ) -> Result<FieldDef, MeaningFault>
     requires placed { ArePlaced (length (types_of types.old)) scope.now.table.now }
@@ -55,7 +55,7 @@ fn push_field(
 pub fn push_fields(
     alloc: Global,
     types: &mut Types,
-    scope: &Scope<'_>,
+    scope: &Scope<'_, '_>,
     texts: &[Typed],
 ) -> Result<Vec<FieldDef>, MeaningFault>
     requires placed { ArePlaced (length (types_of types.old)) scope.now.table.now }
@@ -90,7 +90,7 @@ pub fn push_fields(
 pub fn push_payload(
     alloc: Global,
     types: &mut Types,
-    scope: &Scope<'_>,
+    scope: &Scope<'_, '_>,
     text: &Option<WitType>,
 ) -> Result<Option<usize>, MeaningFault>
     requires placed { ArePlaced (length (types_of types.old)) scope.now.table.now }
@@ -115,7 +115,7 @@ pub fn push_payload(
 fn push_case(
     alloc: Global,
     types: &mut Types,
-    scope: &Scope<'_>,
+    scope: &Scope<'_, '_>,
     text: &Case,
 ) -> Result<CaseDef, MeaningFault>
     requires placed { ArePlaced (length (types_of types.old)) scope.now.table.now }
@@ -138,7 +138,7 @@ fn push_case(
 pub fn push_cases(
     alloc: Global,
     types: &mut Types,
-    scope: &Scope<'_>,
+    scope: &Scope<'_, '_>,
     texts: &[Case],
 ) -> Result<Vec<CaseDef>, MeaningFault>
     requires placed { ArePlaced (length (types_of types.old)) scope.now.table.now }

@@ -33,7 +33,7 @@ use cm_wit_types::Func;
 use std::alloc::Global;
 
 /// What a name stands for.
-fn found(scope: &Scope<'_>, name: &Label) -> Result<Meaning, MeaningFault>
+fn found(scope: &Scope<'_, '_>, name: &Label) -> Result<Meaning, MeaningFault>
     ensures meaning { IfOk result (λ m. (types : List Ty) →
         scope_in types scope.now name.now ≡ Some (meaning_in types m)) }
     ensures placed { IfOk result (λ m. (count : ℕ) →
@@ -49,7 +49,7 @@ fn found(scope: &Scope<'_>, name: &Label) -> Result<Meaning, MeaningFault>
 }
 
 /// The resource that a name stands for.
-fn found_resource(scope: &Scope<'_>, name: &Label) -> Result<ResourceId, MeaningFault>
+fn found_resource(scope: &Scope<'_, '_>, name: &Label) -> Result<ResourceId, MeaningFault>
     ensures resource { IfOk result (λ r. (types : List Ty) →
         scope_in types scope.now name.now ≡ Some (meant.resource r)) }
     ensures fault { IfErr result (λ f. f ≡ fault.NoSuchType) }
@@ -99,7 +99,7 @@ fn own_desc(meaning: Meaning) -> ItemDesc
 fn push_resource_item(
     alloc: Global,
     types: &mut Types,
-    scope: &Scope<'_>,
+    scope: &Scope<'_, '_>,
     name: &Label,
     func: &ResourceFunc,
 ) -> Result<Item, MeaningFault>
@@ -130,7 +130,7 @@ fn push_resource_item(
 fn push_func_item(
     alloc: Global,
     types: &mut Types,
-    scope: &Scope<'_>,
+    scope: &Scope<'_, '_>,
     name: &Label,
     func: &Func,
 ) -> Result<Item, MeaningFault>
@@ -157,7 +157,7 @@ fn push_func_item(
 }
 
 /// The item that a used type is.
-fn used_item(alloc: Global, scope: &Scope<'_>, name: &Label) -> Result<Item, MeaningFault>
+fn used_item(alloc: Global, scope: &Scope<'_, '_>, name: &Label) -> Result<Item, MeaningFault>
     ensures item { IfOk result (λ i. (types : List Ty) (funcs : List FuncTy)
         → AreOwn (scope_in types scope.now) → member_item (scope_in types scope.now)
         (spec.used name.now) ≡ Some (item_of types funcs i)) }
@@ -176,7 +176,7 @@ fn used_item(alloc: Global, scope: &Scope<'_>, name: &Label) -> Result<Item, Mea
 }
 
 /// The item that a type is that is defined.
-fn own_item(alloc: Global, scope: &Scope<'_>, name: &Label) -> Result<Item, MeaningFault>
+fn own_item(alloc: Global, scope: &Scope<'_, '_>, name: &Label) -> Result<Item, MeaningFault>
     ensures item { IfOk result (λ i. (types : List Ty) (funcs : List FuncTy)
         → AreOwn (scope_in types scope.now) → member_item (scope_in types scope.now)
         (spec.declared name.now) ≡ Some (item_of types funcs i)) }
@@ -198,7 +198,7 @@ fn own_item(alloc: Global, scope: &Scope<'_>, name: &Label) -> Result<Item, Mean
 fn push_item(
     alloc: Global,
     types: &mut Types,
-    scope: &Scope<'_>,
+    scope: &Scope<'_, '_>,
     member: &Member<'_>,
 ) -> Result<Item, MeaningFault>
     requires placed { ArePlaced (length (types_of types.old)) scope.now.table.now }
@@ -228,7 +228,7 @@ fn push_item(
 fn push_members(
     alloc: Global,
     types: &mut Types,
-    scope: &Scope<'_>,
+    scope: &Scope<'_, '_>,
     members: &[Member<'_>],
 ) -> Result<Vec<Item>, MeaningFault>
     requires placed { ArePlaced (length (types_of types.old)) scope.now.table.now }
@@ -269,7 +269,7 @@ fn push_members(
 pub fn push_items(
     alloc: Global,
     types: &mut Types,
-    scope: &Scope<'_>,
+    scope: &Scope<'_, '_>,
     interface: &Interface,
 ) -> Result<Vec<Item>, MeaningFault>
     requires placed { ArePlaced (length (types_of types.old)) scope.now.table.now }

@@ -18,13 +18,13 @@ pub enum Meaning {
 /// What the names of types stand for where a type is written: those in the list of this number.
 /// Each of the names stands for what the table has at its place.
 #[derive(Clone, Copy)]
-pub struct Scope<'a> {
-    pub names: &'a Keys<'a>,
-    pub table: &'a [Option<Meaning>],
+pub struct Scope<'s, 'k> {
+    pub names: &'s Keys<'k>,
+    pub table: &'s [Option<Meaning>],
     pub list: usize,
 }
 
-impl<'a> Scope<'a> {
+impl<'s, 'k> Scope<'s, 'k> {
     /// What a name stands for, if it stands for something, by one look-up.
     #[tactic(auto, using(crate::proofs::ScopeLaws::find_laws))]
     pub fn find(&self, name: &str) -> Option<Meaning>

@@ -25,7 +25,7 @@ use std::alloc::Global;
 fn push_named(
     alloc: Global,
     types: &mut Types,
-    scope: &Scope<'_>,
+    scope: &Scope<'_, '_>,
     name: &str,
 ) -> Result<usize, MeaningFault>
     requires placed { ArePlaced (length (types_of types.old)) scope.now.table.now }
@@ -49,7 +49,7 @@ fn push_named(
 fn push_borrow(
     alloc: Global,
     types: &mut Types,
-    scope: &Scope<'_>,
+    scope: &Scope<'_, '_>,
     name: &str,
 ) -> Result<usize, MeaningFault>
     ensures there { IfOk result (λ p. p < length (types_of types.new)) }
@@ -104,7 +104,7 @@ fn push_result(
 pub fn push_type(
     alloc: Global,
     types: &mut Types,
-    scope: &Scope<'_>,
+    scope: &Scope<'_, '_>,
     text: &WitType,
 ) -> Result<usize, MeaningFault>
     requires placed { ArePlaced (length (types_of types.old)) scope.now.table.now }
@@ -162,7 +162,7 @@ pub fn push_type(
 fn push_types(
     alloc: Global,
     types: &mut Types,
-    scope: &Scope<'_>,
+    scope: &Scope<'_, '_>,
     texts: &[WitType],
 ) -> Result<Vec<usize>, MeaningFault>
     requires placed { ArePlaced (length (types_of types.old)) scope.now.table.now }

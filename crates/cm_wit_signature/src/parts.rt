@@ -58,7 +58,7 @@ impl<'p, 'a> Parts<'p, 'a> {
     ghost use Rattle.cm_wit_signature.specs.PartViews.{own_func_view, scopes_in};
 
     /// What the names of a list stand for.
-    pub fn scope(&self, list: usize) -> Scope<'p>
+    pub fn scope(&self, list: usize) -> Scope<'p, 'a>
         ensures names { (types : List Ty) → scope_in types result ≡ scopes_in types self.now list }
         ensures table { result.table.now ≡ self.now.table.now }
     {

@@ -20,9 +20,9 @@ use cm_wit_definitions::push_def;
 use cm_wit_meanings::{Meaning, MeaningFault, Scope};
 use std::alloc::Global;
 
-impl<'a> Listing<'a> {
+impl<'s, 'k> Listing<'s, 'k> {
     /// What the names of a list stand for, given what each declaration does.
-    fn scope<'b>(&'b self, table: &'b [Option<Meaning>], list: usize) -> Scope<'b>
+    fn scope<'b>(&'b self, table: &'b [Option<Meaning>], list: usize) -> Scope<'b, 'k>
         ensures names { result.names.now ≡ self.now.names.now }
         ensures table { result.table.now ≡ table.now }
         ensures list { result.list ≡ list }

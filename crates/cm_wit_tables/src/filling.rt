@@ -41,7 +41,7 @@ fn empty_table(alloc: Global, count: usize) -> Result<Vec<Option<Meaning>>, Allo
 pub fn fill(
     alloc: Global,
     types: &mut Types,
-    listing: &Listing<'_>,
+    listing: &Listing<'_, '_>,
     order: &[usize],
 ) -> Result<Vec<Option<Meaning>>, MeaningFault>
     requires listing { IsListing listing.now }

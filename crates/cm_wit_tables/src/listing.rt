@@ -7,8 +7,8 @@ use cm_wit_declared::Declaration;
 /// The declarations of a world, what finds them by their keys, and for each the resource that it
 /// brings if it declares one.
 #[derive(Clone, Copy)]
-pub struct Listing<'a> {
-    pub declarations: &'a [Declaration<'a>],
-    pub names: &'a Keys<'a>,
-    pub resources: &'a [ResourceId],
+pub struct Listing<'s, 'k> {
+    pub declarations: &'s [Declaration<'k>],
+    pub names: &'s Keys<'k>,
+    pub resources: &'s [ResourceId],
 }

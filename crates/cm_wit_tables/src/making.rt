@@ -47,11 +47,11 @@ fn declaration_order(
 }
 
 /// What each declaration stands for, where they stand in an order, each behind those that it uses.
-fn filled(
+fn filled<'a>(
     alloc: Global,
     types: &mut Types,
-    names: &Keys<'_>,
-    declarations: &[Declaration<'_>],
+    names: &Keys<'a>,
+    declarations: &[Declaration<'a>],
     order: &[usize],
 ) -> Result<Vec<Option<Meaning>>, MeaningFault>
     requires names { listed names.now ≡ keys_of (map declaration_view declarations.now) }

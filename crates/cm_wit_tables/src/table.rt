@@ -17,7 +17,7 @@ pub struct Table<'a> {
 impl<'a> Table<'a> {
     /// What the names of the list of this number stand for: of several of one name the first
     /// counts.
-    pub fn scope(&self, list: usize) -> Scope<'_>
+    pub fn scope(&self, list: usize) -> Scope<'_, 'a>
         ensures names { result.names.now ≡ self.now.names }
         ensures table { result.table.now ≡ self.now.meanings.items }
         ensures list { result.list ≡ list }
