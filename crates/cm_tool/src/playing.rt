@@ -2,11 +2,8 @@
 
 use crate::fault::{Fault, report};
 use crate::outcome::Outcome;
-use cm_tool_lines::{
-    Drive, Event, Guest, Misuse, Move, Player, Script, ScriptGuest, Set, write_event,
-};
-use std::alloc::{AllocError, Global};
-use std::collections::VecDeque;
+use cm_tool_lines::{Drive, Event, Guest, Misuse, Player, Script, ScriptGuest, Set, write_event};
+use std::alloc::Global;
 use std::io;
 use std::io::Write;
 
@@ -27,7 +24,11 @@ pub fn play<O: Write, E: Write>(
         begins,
     } = script;
     let components = moves.len();
-    let mut seats = seats_of(alloc, moves)?;
+    let mut seats: Vec<Option<Box<dyn Guest>>> = Vec::with_capacity(alloc, moves.len())?;
+    for moves in moves {
+        let guest: Box<dyn Guest> = Box::new(alloc, ScriptGuest::new(moves))?;
+        seats.push(Some(guest))?;
+    }
     let mut worst = Outcome::Done;
     for (index, root) in begins.into_iter().enumerate() {
         let drive = Drive {
@@ -39,19 +40,6 @@ pub fn play<O: Write, E: Write>(
         worst = worst.max(tell_of_drive(played, drive, limit, out, err)?);
     }
     Ok(worst)
-}
-
-/// A guest for each component, which makes its moves.
-fn seats_of(
-    alloc: Global,
-    moves: Vec<VecDeque<Move>>,
-) -> Result<Vec<Option<Box<dyn Guest>>>, AllocError> {
-    let mut seats: Vec<Option<Box<dyn Guest>>> = Vec::with_capacity(alloc, moves.len())?;
-    for moves in moves {
-        let guest: Box<dyn Guest> = Box::new(alloc, ScriptGuest::new(moves))?;
-        seats.push(Some(guest))?;
-    }
-    Ok(seats)
 }
 
 /// Prints the events of a drive and answers its outcome. Where it was refused or reached its limit,
