@@ -170,7 +170,7 @@ fn answer_of_set(
         ["step", made @ ..] => write_stepped(line, set.step(&read_move(alloc, made)?)),
         ["run", moves @ ..] => write_ran(line, set.run(alloc, &read_moves(alloc, moves)?)),
         ["drives", roots, limit, seats @ ..] => {
-            drive_seats(alloc, set, roots, read_number(limit)?, seats, line)
+            write_drives(alloc, set, roots, read_number(limit)?, seats, line)
         }
         words => write_state(set, words, line),
     }
@@ -243,9 +243,10 @@ fn read_moves(alloc: Global, words: &[&str]) -> Result<Vec<Move>, RowFault> {
     Ok(moves)
 }
 
-/// Drives a set with the guests of these seats, as [`write_drives`] tells. A seat is `-` for
-/// nobody, or the moves of a guest, which stops after them; `no` seats are none.
-fn drive_seats(
+/// Writes for each root what the drive from it answers, which seats have a guest behind it, and
+/// which instances are closed then. A seat is `-` for nobody, or the moves of a guest, which stops
+/// after them; `no` seats are none.
+fn write_drives(
     alloc: Global,
     set: &mut Set,
     roots: &str,
@@ -266,28 +267,13 @@ fn drive_seats(
             }
         }
     }
-    write_drives(alloc, set, &mut seats, roots, limit, line)
-}
-
-/// Writes for each root what the drive from it answers, which seats have a guest behind it, and
-/// which instances are closed then.
-fn write_drives(
-    alloc: Global,
-    set: &mut Set,
-    seats: &mut Vec<Option<Box<dyn Guest>>>,
-    roots: &str,
-    limit: u64,
-    line: &mut Line,
-) -> Result<(), RowFault> {
     for (i, root) in roots.split(',').enumerate() {
         if i > 0 {
             line.put(", then ");
         }
-        write_ran(
-            line,
-            Player::drive(alloc, set, seats, read_number(root)?, limit),
-        )?;
-        write_seats(line, seats);
+        let root = read_number(root)?;
+        write_ran(line, Player::drive(alloc, set, &mut seats, root, limit))?;
+        write_seats(line, &seats);
         write_closed(line, set);
     }
     Ok(())
