@@ -2,3 +2,9 @@ mod TellingLaws
 mod InsideLaws
 mod OwnedLaws
 mod CopiedLaws
+mod PokeLemmas
+mod PutLemmas
+mod SlotLemmas
+mod CountLemmas
+mod CallLemmas
+mod ReadyLemmas

@@ -33,15 +33,20 @@
 //! in it.
 #![tactic(auto)]
 
+mod cases;
 pub mod fitting_laws;
 pub mod laws;
+mod lowering;
+mod passing;
+mod slots;
 
 pub use cm_abi_model::{AbiFault, Request, StringEncoding, Way};
 pub use cm_copy::{Found, copy};
 pub use cm_giving::{HandleLeaf, Receiver};
 pub use cm_lift::{Lifted, Passed, lift};
-pub use cm_lower::{Passing, lower};
 pub use cm_lowering::{Encodings, check_answer, check_answers, requests};
 pub use cm_requesting::PartRequests;
 pub use cm_scan::{PartKind, PartRecord};
 pub use cm_scan_call::{Encodings as ScanEncodings, Scanned, scan};
+pub use lowering::lower;
+pub use passing::Passing;

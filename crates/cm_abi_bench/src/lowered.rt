@@ -2,7 +2,7 @@
 
 ghost use Rattle.std.specs.Prelude.{◌≡◌, ◌^◌, ◌<◌, slice_index, IfOk, IfSome, length, ℕ};
 ghost use Rattle.cm_abi_bench.specs.Calls.{IsLifted, IsOf};
-ghost use Rattle.cm_lower.specs.Lowers.{CanBeLowered};
+ghost use Rattle.cm_abi.specs.Lowers.{CanBeLowered};
 ghost use Rattle.cm_types.specs.Types.{Fields};
 
 use crate::call::{Call, MOST_MEMORY, RECEIVER, first_two, passed_by};

@@ -17,8 +17,8 @@ use Rattle.cm_placed.specs.declared.signatures.Extern.{Extern}
 use Rattle.cm_placed.specs.declared.signatures.ExternDesc.TheVariants as desc
 use Rattle.cm_validity.specs.Spaces.{Spaces, spaces_of}
 use Rattle.cm_validity.specs.Valid.{IsValid}
-use Rattle.cm_shared.specs.Shared.{AreShared}
-use Rattle.cm_shared.specs.declared.shared.Shared.{Shared}
+use Rattle.cm_instance_items.specs.Shared.{AreShared}
+use Rattle.cm_instance_items.specs.declared.shared.Shared.{Shared}
 use Rattle.cm_entries.specs.ComponentSpaces.{export_def, is_exported_there}
 use Rattle.cm_entries.specs.Entries.{members_of}
 use Rattle.cm_entries.specs.declared.entries.InstanceEntry.{InstanceEntry}

@@ -16,8 +16,8 @@ use Rattle.cm_types.specs.Types.{Ty, FuncTy}
 use Rattle.cm_placed.specs.declared.instances.InstanceType.{InstanceType}
 use Rattle.cm_validity.specs.Definitions.{NamedExport, NamedMember, exported_instance}
 use Rattle.cm_validity.specs.Spaces.{Spaces}
-use Rattle.cm_shared.specs.Shared.{AreShared, exported_instance_in}
-use Rattle.cm_shared.specs.declared.shared.Shared.{Shared}
+use Rattle.cm_instance_items.specs.Shared.{AreShared, exported_instance_in}
+use Rattle.cm_instance_items.specs.declared.shared.Shared.{Shared}
 use Rattle.cm_entries.specs.ComponentSpaces.{export_def, exported_def, is_exported_there}
 use Rattle.cm_entries.specs.Entries.{members_of}
 use Rattle.cm_entries.specs.declared.entries.InstanceEntry.{InstanceEntry}

@@ -3,7 +3,7 @@
 ghost use Rattle.std.specs.Prelude.{IfOk, List, OnOk};
 ghost use Rattle.cm_types.specs.Types.{FuncTy, Ty};
 ghost use Rattle.cm_validity.specs.Spaces.{Spaces};
-ghost use Rattle.cm_shared.specs.Shared.{AreShared};
+ghost use Rattle.cm_instance_items.specs.Shared.{AreShared};
 ghost use Rattle.cm_checked_signature.specs.Made.{AreExportsOf, AreExternsOf, AreMade, InEachArena};
 ghost use Rattle.cm_checked_signature.specs.Made.{IsDescOf, IsExternOf};
 
@@ -12,7 +12,7 @@ use crate::made::Made;
 use cm_entries::{ExportEntry, ExportedEntry};
 use cm_placed::laws::unmoved;
 use cm_placed::{Extern, ExternDesc};
-use cm_shared::Shared;
+use cm_instance_items::Shared;
 use std::alloc::{AllocError, Global};
 
 /// What an export is, of the instance of this number, if it has one.

@@ -2,9 +2,9 @@
 use Rattle.std.proofs.Common.{◌≡◌, ℕ, ◌+◌, ◌<◌, ◌≤◌, ◌↔◌, Bool, true, false, IsTrue, List, [], ◌∷◌, ◌++◌, length, map, take, drop, get_or, refl, sym, ap, subst, ◌∙◌}
 use Rattle.std.specs.List.{AllByRecursion}
 use Rattle.std.proofs.lemmas.List.{drop_more, map-append, map_more, take_all, take-append-drop}
-use Rattle.cm_conformance.specs.Comparisons.{Entry}
-use Rattle.cm_conformance.specs.Conformance.{AllFit, Fits, IsFirstIn, reason_of}
-use Rattle.cm_conformance.specs.declared.fault.ConformReason.{ConformReason}
+use Rattle.cm_conforms.specs.Comparisons.{Entry}
+use Rattle.cm_conforms.specs.Conformance.{AllFit, Fits, IsFirstIn, reason_of}
+use Rattle.cm_conforms.specs.declared.fault.ConformReason.{ConformReason}
 
 all_more : {A : Type 0} (P : A → Type 0) (xs : List A) (y : A) → AllByRecursion P xs → P y → AllByRecursion P (xs ++ y ∷ [])
 all_more P [] y h p = (p, tt)

@@ -7,8 +7,8 @@ use Rattle.cm_types.specs.Types.{Ty, FuncTy}
 use Rattle.cm_types.specs.declared.resource.ResourceId.{ResourceId}
 use Rattle.cm_replaced.specs.Replaced.{Standing, replaced, replaced_func}
 use Rattle.cm_type_numbers.specs.Numbering.{Numbering, AreFuncNumbers, AreNumbers, number, number_func}
-use Rattle.cm_conformance.specs.Comparisons.{Entry}
-use Rattle.cm_conformance.specs.Conformance.{have_mark, mark, world_mark}
+use Rattle.cm_conforms.specs.Comparisons.{Entry}
+use Rattle.cm_conforms.specs.Conformance.{have_mark, mark, world_mark}
 use Rattle.cm_conforms.specs.Judging.{AreSides, marks_of}
 use Rattle.cm_conforms.specs.Pairs.{pair_in}
 use Rattle.cm_conforms.specs.declared.judge.Side.{Side}

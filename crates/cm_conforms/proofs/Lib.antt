@@ -1,5 +1,9 @@
 mod KeyLaws
 mod WalkLaws
-mod PairLaws
+mod TableLaws
 mod FaultLaws
 mod JudgeLaws
+mod FirstLaws
+mod PairLaws
+mod MoreLaws
+mod ItselfLaws

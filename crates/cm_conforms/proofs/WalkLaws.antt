@@ -16,8 +16,8 @@ use Rattle.cm_placed.specs.declared.instances.InstanceType.{InstanceType}
 use Rattle.cm_placed.specs.declared.instances.Item.{Item}
 use Rattle.cm_placed.specs.declared.signatures.ExternDesc.{ExternDesc}
 use Rattle.cm_placed.specs.declared.signatures.ExternDesc.TheVariants as extern
-use Rattle.cm_conformance.specs.Comparisons.{extern_entries, item_entries, named}
-use Rattle.cm_conformance.specs.declared.fault.ConformList.{ConformList}
+use Rattle.cm_conforms.specs.Comparisons.{extern_entries, item_entries, named}
+use Rattle.cm_conforms.specs.declared.fault.ConformList.{ConformList}
 use Rattle.cm_conforms.specs.Views.{brought_item, desc_in}
 
 next_element : {A B : Type 0} (view : A → B) (xs : List A) (i : ℕ) (x : A) → i < length xs → x ≡ get_or xs i x → map view (drop i xs) ≡ view x ∷ map view (drop (i + 1) xs)

@@ -3,8 +3,8 @@ use Rattle.std.specs.Prelude.{◌≡◌, List}
 use Rattle.cm_replaced.specs.Replaced.{Standing}
 use Rattle.cm_type_numbers.specs.Numbering.{numbering}
 use Rattle.cm_placed_numbers.specs.Tables.{KnowsPlaced}
-use Rattle.cm_conformance.specs.Comparisons.{Entry}
-use Rattle.cm_conformance.specs.Conformance.{have_pair, mark, world_pair}
+use Rattle.cm_conforms.specs.Comparisons.{Entry}
+use Rattle.cm_conforms.specs.Conformance.{have_pair, mark, world_pair}
 use Rattle.cm_conforms.specs.Pairs.{HasPairs, pair_in}
 use Rattle.cm_conforms.specs.declared.judge.Side.{Side}
 use Rattle.cm_conforms.specs.declared.judge.Tables.{Tables}

@@ -2,3 +2,7 @@ pub mod Judging
 pub mod Keys
 pub mod Pairs
 pub mod Views
+pub mod Comparisons
+pub mod Conformance
+pub mod Faults
+pub mod Itself

@@ -11,11 +11,11 @@ use Rattle.cm_placed.specs.declared.instances.ItemDesc.{ItemDesc}
 use Rattle.cm_placed_numbers.specs.Moved.{brought_func, brought_type}
 use Rattle.cm_placed.specs.Externs.{extern_desc_of}
 use Rattle.cm_placed.specs.declared.signatures.ExternDesc.{ExternDesc}
-use Rattle.cm_conformance.specs.Comparisons as all
-use Rattle.cm_conformance.specs.Comparisons.{Entry, nothing, two_sorts, two_funcs, two_types}
-use Rattle.cm_conformance.specs.Comparisons.{two_resources}
-use Rattle.cm_conformance.specs.declared.fault.ConformList.{ConformList}
-use Rattle.cm_conformance.specs.declared.fault.ConformList.TheVariants as walked
+use Rattle.cm_conforms.specs.Comparisons as all
+use Rattle.cm_conforms.specs.Comparisons.{Entry, nothing, two_sorts, two_funcs, two_types}
+use Rattle.cm_conforms.specs.Comparisons.{two_resources}
+use Rattle.cm_conforms.specs.declared.fault.ConformList.{ConformList}
+use Rattle.cm_conforms.specs.declared.fault.ConformList.TheVariants as walked
 use Rattle.cm_conforms.specs.declared.comparisons.Comparison.{Comparison}
 use Rattle.cm_conforms.specs.declared.comparisons.Comparison.TheVariants as two
 use Rattle.cm_conforms.specs.declared.comparisons.PlacedComparison.{PlacedComparison}

@@ -7,12 +7,12 @@ ghost use Rattle.cm_placed.specs.Instances.{numbered};
 ghost use Rattle.cm_placed.specs.Placed.{moved_by, placed_func};
 ghost use Rattle.cm_types.specs.Signatures.{equal_resource, equal_type, fresh_resource};
 ghost use Rattle.cm_types.specs.Signatures.{func_item};
-ghost use Rattle.cm_conformance.specs.Comparisons.{facing, two_funcs, two_items};
-ghost use Rattle.cm_conformance.specs.Conformance.{reason_of};
+ghost use Rattle.cm_conforms.specs.Comparisons.{facing, two_funcs, two_items};
+ghost use Rattle.cm_conforms.specs.Conformance.{reason_of};
 ghost use Rattle.cm_placed_numbers.specs.Moved.{brought_func, brought_type};
 ghost use Rattle.cm_conforms.specs.Views.{brought_desc, comparison_of, other, own};
 
-use cm_conformance::{ConformItem, ConformList, ConformReason};
+use crate::fault::{ConformItem, ConformList, ConformReason};
 use cm_placed::{ItemDesc, Placed, moved_resource};
 use cm_placed_numbers::Brought;
 use cm_replaced::Move;

@@ -2,16 +2,16 @@
 
 ghost use Rattle.std.specs.Prelude.{◌≡◌, ◌⊎◌, IfErr, List, OnOk, map};
 ghost use Rattle.cm_placed.specs.Signatures.{signature_of};
-ghost use Rattle.cm_conformance.specs.Comparisons.{Entry};
-ghost use Rattle.cm_conformance.specs.Conformance.{AllFit, Conforms, IsFirstFault, IsFirstIn};
+ghost use Rattle.cm_conforms.specs.Comparisons.{Entry};
+ghost use Rattle.cm_conforms.specs.Conformance.{AllFit, Conforms, IsFirstFault, IsFirstIn};
 ghost use Rattle.cm_conforms.specs.Judging.{AreSides};
 ghost use Rattle.cm_conforms.specs.Views.{entry_of};
 
 use crate::comparisons::PlacedComparison;
+use crate::fault::{ConformFault, ConformReason};
 use crate::judge::{Side, Tables};
 use crate::pairs::Pairs;
 use crate::walk::entries;
-use cm_conformance::{ConformFault, ConformReason};
 use cm_placed::Signature;
 use std::alloc::Global;
 

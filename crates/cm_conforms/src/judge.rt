@@ -3,8 +3,8 @@
 ghost use Rattle.std.specs.Prelude.{◌≡◌, ◌↔◌, IfOk, IsTrue, List, OnOk};
 ghost use Rattle.cm_replaced.specs.Replaced.{replaced, replaced_func};
 ghost use Rattle.cm_placed_numbers.specs.Moved.{brought_func, brought_type};
-ghost use Rattle.cm_conformance.specs.Comparisons.{Entry};
-ghost use Rattle.cm_conformance.specs.Conformance.{Fits};
+ghost use Rattle.cm_conforms.specs.Comparisons.{Entry};
+ghost use Rattle.cm_conforms.specs.Conformance.{Fits};
 ghost use Rattle.cm_conforms.specs.Judging.{AreKnown, AreSides, marks_of};
 ghost use Rattle.cm_conforms.specs.Views.{comparison_of};
 ghost use Rattle.cm_conforms.specs.declared.judge.Side.{Side as Sided};

@@ -3,7 +3,7 @@
 ghost use Rattle.std.specs.Prelude.{◌≡◌, ◌<◌, IfOk, length, map};
 ghost use Rattle.std.specs.List.{HoldsAt};
 ghost use Rattle.std.specs.Option.{option_copied};
-ghost use Rattle.cm_conformance.specs.Comparisons.{named};
+ghost use Rattle.cm_conforms.specs.Comparisons.{named};
 ghost use Rattle.cm_keys.specs.Keys.{key_view};
 ghost use Rattle.cm_keys.specs.Listed.{listed};
 ghost use Rattle.cm_conforms.specs.Keys.{extern_key, item_key};

@@ -4,8 +4,8 @@ ghost use Rattle.std.specs.Prelude.{◌≡◌, IfOk, OnOk, None, map};
 ghost use Rattle.cm_type_arena.specs.declared.types.Types.{Types};
 ghost use Rattle.cm_types.specs.declared.resource.ResourceId.{ResourceId as Resource};
 ghost use Rattle.cm_types.specs.Resources.{same_resource};
-ghost use Rattle.cm_conformance.specs.Conformance.{have_pair, mark, meets_have, meets_world};
-ghost use Rattle.cm_conformance.specs.Conformance.{world_pair};
+ghost use Rattle.cm_conforms.specs.Conformance.{have_pair, mark, meets_have, meets_world};
+ghost use Rattle.cm_conforms.specs.Conformance.{world_pair};
 ghost use Rattle.cm_conforms.specs.Pairs.{HasPairs, Notes, key_of, pair_in};
 ghost use Rattle.cm_conforms.specs.Views.{comparison_of, entry_of};
 

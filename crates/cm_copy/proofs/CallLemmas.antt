@@ -30,11 +30,11 @@ use Rattle.cm_stored.specs.Calls.{IsFlatTuple, IsProvided, IsSpilledTuple}
 use Rattle.cm_stored.specs.Fitting.{Fits}
 use Rattle.cm_stored.specs.FlatLowering.{behind_by, slots_by}
 use Rattle.cm_stored.specs.Storing.{given_of, stored_by}
-use Rattle.cm_copying.specs.Copying.{copying_of, size_kept}
-use Rattle.cm_copying.specs.declared.copier.Copier.{Copier}
-use Rattle.cm_copying.specs.Known.{HasSizes, first_part}
-use Rattle.cm_copying.specs.Ready.{IsSound}
-use Rattle.cm_copying.specs.Shown.{without_handles}
+use Rattle.cm_copy.specs.Copying.{copying_of, size_kept}
+use Rattle.cm_copy.specs.declared.copier.Copier.{Copier}
+use Rattle.cm_copy.specs.Known.{HasSizes, first_part}
+use Rattle.cm_copy.specs.Ready.{IsSound}
+use Rattle.cm_copy.specs.Shown.{without_handles}
 use Rattle.cm_copy.specs.CallCopies.{IsFlatCopy, IsSpilledCopy}
 use Rattle.cm_copy.specs.FlatReady.{IsFlatReady}
 use Rattle.cm_copy.specs.FlatShown.{flat_shown}

@@ -20,7 +20,7 @@ use Rattle.cm_stored.specs.Calls.{IsProvided}
 use Rattle.cm_stored.specs.Kinds.{FitKinds, kind_limit, slot_limit}
 use Rattle.cm_requesting.specs.declared.part_requests.PartRequests.{PartRequests}
 use Rattle.cm_abi_model.specs.Ways.{way_of}
-use Rattle.cm_copying.specs.declared.copier.Copier.{Copier}
+use Rattle.cm_copy.specs.declared.copier.Copier.{Copier}
 use Rattle.cm_copy.specs.PassingOn.{CanBePassedOn}
 use Rattle.cm_giving.specs.Leaves.{leaves_of}
 use Rattle.cm_giving.specs.declared.leaf.HandleLeaf.{HandleLeaf as CodedLeaf}

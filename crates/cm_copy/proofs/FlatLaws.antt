@@ -17,11 +17,11 @@ use Rattle.cm_abi_model.specs.Views.{View}
 use Rattle.cm_lifting.specs.Outcomes.{State}
 use Rattle.cm_lifting.specs.PartLaws.{ElementsAreRead, TextIsRead}
 use Rattle.cm_stored.specs.Fitting.{FitEach, FitFields, Fits, FitsCase}
-use Rattle.cm_copying.specs.Copying.{Copying}
-use Rattle.cm_copying.specs.Known.{HasSizes, HaveSizes}
-use Rattle.cm_copying.specs.PartLaws.{ElementsAreCopied, TextIsCopied}
-use Rattle.cm_copying.specs.Ready.{AreReady}
-use Rattle.cm_copying.specs.Shown.{all_without_handles, values_each, without_handles}
+use Rattle.cm_copy.specs.Copying.{Copying}
+use Rattle.cm_copy.specs.Known.{HasSizes, HaveSizes}
+use Rattle.cm_copy.specs.PartLaws.{ElementsAreCopied, TextIsCopied}
+use Rattle.cm_copy.specs.Ready.{AreReady}
+use Rattle.cm_copy.specs.Shown.{all_without_handles, values_each, without_handles}
 use Rattle.cm_copy.specs.FlatReady.{AreFlatFieldsReady, IsFlatCaseReady, IsFlatReady}
 use Rattle.cm_copy.specs.FlatShown.{flat_shown, flat_shown_case, flat_shown_fields}
 

@@ -10,9 +10,9 @@ use Rattle.cm_lifting.specs.Sized.{ArePartsSized, ArePayloadsSized}
 use Rattle.cm_abi_model.specs.Views.{Way, flat_limit, params, results}
 use Rattle.cm_stored.specs.FlatLowering.{ArePassedIn, IsPassedIn, PayloadsPassedIn}
 use Rattle.cm_storing.specs.Sources.{IsCarriedReady, case_told, payload_in}
-use Rattle.cm_copying.specs.Copying.{Copying}
-use Rattle.cm_copying.specs.Ready.{IsSound}
-use Rattle.cm_copying.specs.Shown.{values_each}
+use Rattle.cm_copy.specs.Copying.{Copying}
+use Rattle.cm_copy.specs.Ready.{IsSound}
+use Rattle.cm_copy.specs.Shown.{values_each}
 use Rattle.cm_copy.specs.FlatReady.{AreFieldsInSlots, ArePayloadsInSlots, IsFlatCaseReady, IsFlatReady, IsInSlots}
 use Rattle.cm_copy.specs.FlatShown.{flat_shown, flat_shown_case}
 

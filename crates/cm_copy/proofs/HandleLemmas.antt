@@ -10,20 +10,9 @@ use Rattle.cm_abi_model.specs.Receives.{behind_each, put}
 use Rattle.cm_abi_model.specs.Stores.{Given, Placed, Storing, place_of, store_each}
 use Rattle.cm_stored.specs.FlatLowering.{behind_by, behind_by_case, behind_by_fields, flat_number, slots_by, slots_by_case, slots_by_fields}
 use Rattle.cm_stored.specs.Storing.{number_in, stored_by}
-use Rattle.cm_copying.specs.Shown.{all_without_handles, some_handle, without_handles}
-
-number_stays : (v : Val) → number_in (without_handles v) ≡ number_in v
-number_stays (truth b) = refl
-number_stays (signed_number z) = refl
-number_stays (number n) = refl
-number_stays (scalar c) = refl
-number_stays (text cs) = refl
-number_stays (elements vs) = refl
-number_stays (parts vs) = refl
-number_stays (bare i) = refl
-number_stays (bearing i v) = refl
-number_stays (flag_set n) = refl
-number_stays (handle h) = refl
+use Rattle.cm_copy.specs.Shown.{all_without_handles, some_handle, without_handles}
+use Rattle.cm_copy.proofs.ReadLemmas.{same_count}
+use Rattle.cm_copy.proofs.StoredLemmas.{each_stays, number_stays}
 
 flat_stays : (l : Leaf) (v : Val) → flat_number l (without_handles v) ≡ flat_number l v
 flat_stays leaf.Bool v = number_stays v
@@ -32,17 +21,8 @@ flat_stays (leaf.Unsigned w) v = number_stays v
 flat_stays leaf.Char v = number_stays v
 flat_stays (leaf.Flags labels w) v = number_stays v
 
-pub same_count : (vs : Vals) → count_of (all_without_handles vs) ≡ count_of vs
-same_count no_vals = refl
-same_count (val v vs) = ap (λ n. 1 + n) (same_count vs)
-
 module _ (parts_stay : (v : Val) → part_count (without_handles v) ≡ part_count v) (handles_stay : (v : Val) → handle_count (without_handles v) ≡ handle_count v)
     (stored_stays : (g : Given) (sh : Shape) (v : Val) (p k h : ℕ) → stored_by g sh (without_handles v) p k h ≡ stored_by g sh v p k h) where
-  each_stays : (S : Storing) (size : ℕ) (vs : Vals) (p k h : ℕ) → ((v : Val) (p k h : ℕ) → S (without_handles v) p k h ≡ S v p k h) → store_each S size (all_without_handles vs) p k h ≡ store_each S size vs p k h
-  each_stays S size no_vals p k h one = refl
-  each_stays S size (val v vs) p k h one =
-      rw (parts_stay v, handles_stay v, one v p k h) (ap (λ xs. S v p k h ++ xs) (each_stays S size vs (p + size) (k + part_count v) (h + handle_count v) one))
-
   behind_stays : (B : Val → ℕ → ℕ → List Placed) (vs : Vals) (k h : ℕ) → ((v : Val) (k h : ℕ) → B (without_handles v) k h ≡ B v k h) → behind_each B (all_without_handles vs) k h ≡ behind_each B vs k h
   behind_stays B no_vals k h one = refl
   behind_stays B (val v vs) k h one =

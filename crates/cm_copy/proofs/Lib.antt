@@ -6,3 +6,9 @@ pub mod CallLemmas
 mod CountLaws
 mod SettledLaws
 mod CopyLaws
+pub mod LeafLemmas
+pub mod CopyLemmas
+pub mod ReadLemmas
+pub mod StoredLemmas
+pub mod BulkLemmas
+pub mod SizeLaws

@@ -11,9 +11,9 @@ use Rattle.cm_abi_model.specs.Ways.{way_of}
 use Rattle.cm_lift.specs.declared.passed.Passed.{Passed}
 use Rattle.cm_stored.specs.FlatLowering.{behind_by, slots_by}
 use Rattle.cm_stored.specs.Storing.{given_of, stored_by}
-use Rattle.cm_copying.specs.Copying.{copying_of}
-use Rattle.cm_copying.specs.Known.{CanBeCopied}
-use Rattle.cm_copying.specs.declared.copier.Copier.{Copier}
+use Rattle.cm_copy.specs.Copying.{copying_of}
+use Rattle.cm_copy.specs.Known.{CanBeCopied}
+use Rattle.cm_copy.specs.declared.copier.Copier.{Copier}
 use Rattle.cm_copy.specs.FlatReady.{IsFlatReady, IsInSlots}
 use Rattle.cm_copy.specs.FlatShown.{flat_shown}
 

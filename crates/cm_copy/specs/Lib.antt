@@ -5,3 +5,8 @@ pub mod CallCopies
 pub mod Copies
 pub mod Settled
 pub mod SlotLaws
+pub mod Shown
+pub mod Copying
+pub mod Ready
+pub mod Known
+pub mod PartLaws

@@ -9,14 +9,14 @@ ghost use Rattle.cm_layout.specs.Shapes.{Shape};
 ghost use Rattle.cm_abi_model.specs.Stores.{Given};
 ghost use Rattle.cm_abi_model.specs.Views.{flat_limit};
 ghost use Rattle.cm_abi_model.specs.Ways.{way_of};
-ghost use Rattle.cm_copying.specs.Shown.{without_handles};
-ghost use Rattle.cm_copying.specs.declared.copier.Copier.{Copier};
+ghost use Rattle.cm_copy.specs.Shown.{without_handles};
+ghost use Rattle.cm_copy.specs.declared.copier.Copier.{Copier};
 ghost use Rattle.cm_copy.specs.CallCopies.{IsFlatCopy, IsSpilledCopy};
 ghost use Rattle.cm_copy.specs.PassingOn.{CanBePassedOn};
 ghost use Rattle.cm_lift.specs.declared.passed.Passed.{Passed};
 ghost use Rattle.cm_stored.specs.FlatLowering.{behind_by, slots_by};
 
-use cm_copying::laws::{
+use crate::laws::{
     handles_are_stored_as_numbers, parts_that_are_read_are_copied, records_tell_sizes,
 };
 use cm_layout::laws::layouts;

@@ -10,8 +10,9 @@ ghost use Rattle.cm_copy.specs.PassingOn.{CanBePassedOn};
 ghost use Rattle.cm_stored.specs.Storing.{given_of};
 
 use crate::call_laws::what_is_denoted_is_copied;
+use crate::copier::Copier;
+use crate::copies::copy_value;
 use crate::slots::Slots;
-use cm_copying::{Copier, copy_value};
 use cm_lift::{Passed, number_32};
 use cm_passing::pass_value;
 use cm_stored::Next;

@@ -14,12 +14,12 @@ ghost use Rattle.cm_giving.specs.Giving.{Gives, numbers_given};
 ghost use Rattle.cm_copy.specs.Copies.{FoundCanBeCopied, IsFaultOfCopying, IsReceivingIn};
 ghost use Rattle.cm_copy.specs.Copies.{PartsAreApart, given_by, handles_of_values};
 
+use crate::copier::Copier;
 use crate::copy_call;
 use crate::found::Found;
-use crate::laws::what_can_be_copied_is_settled;
+use crate::settled_laws::what_can_be_copied_is_settled;
 use cm_abi_model::AbiFault;
 use cm_abi_model::laws::{what_is_received_is_denoted, what_is_stored_stays};
-use cm_copying::Copier;
 use cm_giving::{Receiver, give};
 use cm_handles::Table;
 use cm_requesting::PartRequests;

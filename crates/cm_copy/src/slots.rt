@@ -4,9 +4,9 @@
 ghost use Rattle.std.specs.Prelude.{◌≡◌, ℕ, ◌+◌, ◌*◌, ◌<◌, ◌≤◌, length, refl};
 ghost use Rattle.cm_types.specs.declared.limits.TheConstants.{MAX_FLAT_PARAMS};
 ghost use Rattle.cm_abi_model.specs.Numbers.{wrapped_at as wrapped};
-ghost use Rattle.cm_copying.specs.Copying.{copying_of};
-ghost use Rattle.cm_copying.specs.Ready.{AreReady, IsSound};
-ghost use Rattle.cm_copying.specs.Shown.{scalars_at, some_handle, values_each};
+ghost use Rattle.cm_copy.specs.Copying.{copying_of};
+ghost use Rattle.cm_copy.specs.Ready.{AreReady, IsSound};
+ghost use Rattle.cm_copy.specs.Shown.{scalars_at, some_handle, values_each};
 ghost use Rattle.cm_copy.specs.FlatReady.{AreFieldsInSlots, AreFlatFieldsReady, IsFlatReady};
 ghost use Rattle.cm_copy.specs.FlatReady.{IsInSlots};
 ghost use Rattle.cm_copy.specs.FlatShown.{flat_shown, flat_shown_fields};
@@ -14,8 +14,11 @@ ghost use Rattle.cm_copy.specs.SlotLaws.{has_number};
 ghost use Rattle.cm_stored.specs.FlatLowering.{IsPassedIn};
 ghost use Rattle.cm_stored.specs.Storing.{given_of};
 
+use crate::copier::Copier;
+use crate::leaves::number_stored;
+use crate::place::Place;
+use crate::texts::{size_of_part, write_text_at};
 use cm_abi_model::StringEncoding;
-use cm_copying::{Copier, Place, number_stored, size_of_part, write_text_at};
 use cm_layout::{Layout, Leaf, Part};
 use cm_lift::{number_32, wrapped_at};
 use cm_lifting::core_size;

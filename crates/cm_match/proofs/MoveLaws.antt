@@ -11,7 +11,7 @@ use Rattle.cm_validity.specs.Definitions.{InstanceTy}
 use Rattle.cm_validity.specs.Moves.{moved_id, moved_type, moved_func, moved_item}
 use Rattle.cm_validity.specs.Counted.{IsCounted, IsFuncCounted, IsItemCounted, IsNumbered}
 use Rattle.cm_validity.specs.CountedSpaces.{AreItemsCounted}
-use Rattle.cm_shared.specs.Shared.{item_from}
+use Rattle.cm_instance_items.specs.Shared.{item_from}
 
 abbrev pub TypesMove : Type 0
 TypesMove = (i : InstanceTy) (next : ℕ) (t : Ty) → IsCounted (i.first + i.fresh) t → moved_type i next t ≡ replaced (moved_range i.first i.fresh next) t

@@ -16,8 +16,8 @@ use Rattle.cm_types.specs.Signatures as extern
 use Rattle.cm_validity.specs.Definitions.{ExportDef, InstanceTy, NamedMember, exported_instance, instance_type}
 use Rattle.cm_validity.specs.Spaces.{Spaces, next_resource, spaces_of}
 use Rattle.cm_validity.specs.CountedSpaces.{AreSpacesCounted, IsDefCounted, IsInstanceCounted}
-use Rattle.cm_shared.specs.Shared.{AreShared, IsImportOf, exported_instance_in, export_at, import_type_in, item_from}
-use Rattle.cm_shared.specs.declared.shared.Shared.{Shared}
+use Rattle.cm_instance_items.specs.Shared.{AreShared, IsImportOf, exported_instance_in, export_at, import_type_in, item_from}
+use Rattle.cm_instance_items.specs.declared.shared.Shared.{Shared}
 use Rattle.cm_serving.specs.cm_validate.Checked.{sections_in, spaces_in}
 use Rattle.cm_serving.specs.cm_validate.declared.checked.Checked.{Checked}
 use Rattle.cm_links.specs.declared.component.Link.{Link}

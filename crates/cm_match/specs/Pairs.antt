@@ -9,8 +9,8 @@ use Rattle.std.specs.Ordering.{is_eq, nat_cmp, ordering_then}
 use Rattle.std.specs.declared.cmp.Ordering.{Ordering}
 use Rattle.cm_types.specs.Signatures.{NamedExtern}
 use Rattle.cm_validity.specs.Spaces.{Spaces}
-use Rattle.cm_shared.specs.Shared.{AreShared, exported_instance_in, import_type_in}
-use Rattle.cm_shared.specs.declared.shared.Shared.{Shared}
+use Rattle.cm_instance_items.specs.Shared.{AreShared, exported_instance_in, import_type_in}
+use Rattle.cm_instance_items.specs.declared.shared.Shared.{Shared}
 use Rattle.cm_serving.specs.cm_validate.Checked.{spaces_in}
 use Rattle.cm_serving.specs.cm_validate.declared.checked.Checked.{Checked}
 use Rattle.cm_links.specs.declared.component.Link.{Link}

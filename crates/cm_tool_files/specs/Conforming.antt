@@ -2,8 +2,8 @@
 -- project's own choice).
 use Rattle.std.specs.Prelude.{◌≡◌, ◌⊎◌, ℕ, List, [], ◌∷◌}
 use Rattle.cm_types.specs.Signatures.{SignatureTy}
-use Rattle.cm_conformance.specs.Conformance.{Conforms, IsFirstFault}
-use Rattle.cm_conformance.specs.declared.fault.ConformReason.TheVariants as conform
+use Rattle.cm_conforms.specs.Conformance.{Conforms, IsFirstFault}
+use Rattle.cm_conforms.specs.declared.fault.ConformReason.TheVariants as conform
 use Rattle.cm_wit.specs.Packages.{IsRefused}
 use Rattle.cm_wit.specs.Texts.{IsPackage}
 use Rattle.cm_wit_signature.specs.cm_wit_items.Faults.{IsFaultOfWorld, IsWorldSignature}

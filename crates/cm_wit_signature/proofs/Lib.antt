@@ -6,3 +6,7 @@ mod MadeLaws
 mod SignLaws
 mod OrderLaws
 mod FoundLaws
+pub mod MeaningLaws
+mod ReadLaws
+mod TypeTexts
+pub mod FileTexts

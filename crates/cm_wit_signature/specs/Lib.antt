@@ -4,3 +4,5 @@ pub mod Adding
 pub mod Faults
 pub mod Typed
 pub mod Made
+pub mod Written
+pub mod Files

@@ -1,5 +1,5 @@
 //! The imports and exports of a world of packages, and its signature, whose types are put into an
-//! arena.
+//! arena; and laws by which packages hold only types that a component file can spell.
 #![tactic(auto)]
 
 mod externs;
@@ -7,7 +7,9 @@ mod faults;
 mod parts;
 mod signature;
 mod signing;
+pub mod spellable_laws;
 mod worlds;
+pub mod written_laws;
 
 pub use externs::push_externs;
 pub use parts::Parts;

@@ -3,7 +3,7 @@
 
 ghost use Rattle.std.specs.Prelude.{◌≡◌, ◌^◌, ◌<◌, slice_index, IfOk, ℕ};
 ghost use Rattle.cm_lift.specs.HandingOver.{LendsBelow};
-ghost use Rattle.cm_lower.specs.Lowers.{CanBeLowered};
+ghost use Rattle.cm_abi.specs.Lowers.{CanBeLowered};
 ghost use Rattle.cm_types.specs.Types.{Fields};
 ghost use Rattle.leaf_rows.specs.Calls.{IsLifted, IsOf};
 

@@ -1,6 +1,6 @@
 //! Values of calls as trees: lifted, asked for and lowered.
 
-ghost use Rattle.cm_lower.specs.Lowers.{CanBeLowered};
+ghost use Rattle.cm_abi.specs.Lowers.{CanBeLowered};
 ghost use Rattle.cm_types.specs.Types.{Fields};
 ghost use Rattle.leaf_rows.specs.Calls.{IsOf};
 

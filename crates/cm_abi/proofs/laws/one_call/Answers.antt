@@ -1,7 +1,7 @@
 use Rattle.std.proofs.Common.{◌∙◌, ap, subst}
 use Rattle.cm_abi_model.specs.Denotes.{Denotes}
 use Rattle.cm_abi_model.specs.Ways.{way_of}
-use Rattle.cm_lower.specs.Lowers.{tuple_in}
+use Rattle.cm_abi.specs.Lowers.{tuple_in}
 use Rattle.cm_abi_model.specs.Taken.{met}
 use Rattle.cm_abi.specs.Calls.{owned_in}
 use Rattle.cm_abi.proofs.OwnedLaws.{owned_are_taken}

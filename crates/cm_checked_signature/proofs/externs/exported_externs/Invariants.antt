@@ -1,7 +1,7 @@
 use Rattle.std.proofs.Common.{List, take}
 use Rattle.cm_types.specs.Types.{Ty, FuncTy}
 use Rattle.cm_validity.specs.Spaces.{Spaces}
-use Rattle.cm_shared.specs.Shared.{AreShared}
+use Rattle.cm_instance_items.specs.Shared.{AreShared}
 use Rattle.cm_checked_signature.specs.Made.{AreExportsOf, AreExternsOf, AreMade}
 use Rattle.cm_checked_signature.proofs.externs.exported_externs.Given as goal
 

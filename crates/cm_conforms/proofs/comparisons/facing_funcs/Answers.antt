@@ -1,8 +1,8 @@
 use Rattle.std.proofs.Common.{◌≡◌, refl, subst, sym}
 use Rattle.cm_type_arena.specs.Places.{funcs_of}
 use Rattle.cm_placed.specs.Placed.{placed_func}
-use Rattle.cm_conformance.specs.Comparisons.{facing, two_funcs}
-use Rattle.cm_conformance.specs.declared.fault.ConformList.{ConformList}
+use Rattle.cm_conforms.specs.Comparisons.{facing, two_funcs}
+use Rattle.cm_conforms.specs.declared.fault.ConformList.{ConformList}
 use Rattle.cm_conforms.specs.Views.{other, own}
 use Rattle.cm_conforms.proofs.comparisons.facing_funcs.Goals as goal
 

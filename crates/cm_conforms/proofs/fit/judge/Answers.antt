@@ -1,5 +1,5 @@
 use Rattle.std.proofs.Common.{◌≡◌, true, false, inr, map, rules}
-use Rattle.cm_conformance.specs.Conformance.{Fits}
+use Rattle.cm_conforms.specs.Conformance.{Fits}
 use Rattle.cm_conforms.specs.Views.{comparison_of, entry_of}
 use Rattle.cm_conforms.proofs.FaultLaws.{first_here, fit_more, told_false, told_true}
 use Rattle.cm_conforms.proofs.fit.judge.Goals as goal

@@ -1,5 +1,5 @@
 use Rattle.std.proofs.Common.{map, take}
-use Rattle.cm_conformance.specs.Conformance.{AllFit}
+use Rattle.cm_conforms.specs.Conformance.{AllFit}
 use Rattle.cm_conforms.specs.Judging.{AreKnown}
 use Rattle.cm_conforms.specs.Views.{entry_of}
 use Rattle.cm_conforms.proofs.fit.judge.Given as goal

@@ -1,5 +1,5 @@
 use Rattle.std.proofs.Common.{◌++◌, ◌∙◌, ap, List, map}
-use Rattle.cm_conformance.specs.Comparisons.{Entry}
+use Rattle.cm_conforms.specs.Comparisons.{Entry}
 use Rattle.cm_conforms.specs.Views.{entry_of, other, own}
 use Rattle.cm_conforms.proofs.WalkLaws.{instance_entries, on_ok_more}
 use Rattle.cm_conforms.proofs.walk.add_extern.Goals as goal

@@ -3,7 +3,7 @@ use Rattle.std.specs.Option.{option_copied, option_map}
 use Rattle.cm_type_arena.specs.Places.{funcs_of, types_of}
 use Rattle.cm_types.specs.Signatures.{ExternTy}
 use Rattle.cm_placed.specs.Externs.{extern_of, externs_in}
-use Rattle.cm_conformance.specs.Comparisons.{entries_from, extern_entries, extern_named}
+use Rattle.cm_conforms.specs.Comparisons.{entries_from, extern_entries, extern_named}
 use Rattle.cm_conforms.specs.Views.{desc_in, entry_of, other, own}
 use Rattle.cm_conforms.specs.declared.comparisons.PlacedComparison.{PlacedComparison}
 use Rattle.cm_conforms.proofs.WalkLaws.{adds_end, adds_join, named_view}

@@ -1,7 +1,7 @@
 use Rattle.cm_type_arena.specs.Places.{funcs_of, types_of}
 use Rattle.cm_type_arena.specs.declared.types.Types.{Types}
 use Rattle.cm_placed.specs.Externs.{extern_of, externs_in}
-use Rattle.cm_conformance.specs.Comparisons.{entries_from}
+use Rattle.cm_conforms.specs.Comparisons.{entries_from}
 use Rattle.cm_conforms.specs.Views.{entry_of, other, own}
 use Rattle.cm_conforms.proofs.WalkLaws.{Adds}
 use Rattle.cm_conforms.proofs.walk.add_externs.Given as goal

@@ -1,5 +1,5 @@
 use Rattle.std.proofs.Common.{[], ◌∷◌, ap, refl, map, Some}
-use Rattle.cm_conformance.specs.Comparisons.{item_comparison, item_entries, item_entry}
+use Rattle.cm_conforms.specs.Comparisons.{item_comparison, item_entries, item_entry}
 use Rattle.cm_conforms.specs.Views.{brought_item, entry_of, other, own}
 use Rattle.cm_conforms.specs.declared.comparisons.PlacedComparison.{PlacedComparison}
 use Rattle.cm_conforms.proofs.WalkLaws.{adds_join, one_pushed}

@@ -1,6 +1,6 @@
 use Rattle.std.proofs.Common.{map}
 use Rattle.cm_type_arena.specs.declared.types.Types.{Types}
-use Rattle.cm_conformance.specs.Comparisons.{item_entries}
+use Rattle.cm_conforms.specs.Comparisons.{item_entries}
 use Rattle.cm_conforms.specs.Views.{brought_item, entry_of, other, own}
 use Rattle.cm_conforms.proofs.WalkLaws.{Adds}
 use Rattle.cm_conforms.proofs.walk.add_items.Given as goal

@@ -1,7 +1,7 @@
 use Rattle.std.proofs.Common.{◌≡◌, ◌∙◌, ℕ, ap, sym, refl, List, map, Some, None, Option}
 use Rattle.std.specs.Option.{option_map}
 use Rattle.cm_types.specs.Signatures.{ItemTy}
-use Rattle.cm_conformance.specs.Comparisons.{facing, item_named, or_nothing, two_items}
+use Rattle.cm_conforms.specs.Comparisons.{facing, item_named, or_nothing, two_items}
 use Rattle.cm_conforms.specs.Views.{brought_desc, brought_item, other, own}
 use Rattle.cm_conforms.proofs.WalkLaws.{named_view}
 use Rattle.cm_conforms.proofs.walk.compared_item.Goals as goal

@@ -7,7 +7,7 @@ use Rattle.cm_types.specs.CoreValues.{kind_of}
 use Rattle.cm_abi_model.specs.Receives.{call_bytes, call_kinds, call_numbers}
 use Rattle.cm_abi_model.specs.Stores.{poke}
 use Rattle.cm_abi_model.specs.Ways.{way_of}
-use Rattle.cm_copying.specs.declared.copier.Copier.{Copier}
+use Rattle.cm_copy.specs.declared.copier.Copier.{Copier}
 use Rattle.cm_requesting.specs.declared.part_requests.PartRequests.{PartRequests}
 use Rattle.cm_giving.specs.Giving.{added_count}
 use Rattle.cm_handles.specs.Handles.{indices_left}

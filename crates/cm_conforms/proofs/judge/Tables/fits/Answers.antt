@@ -2,8 +2,8 @@ use Rattle.std.proofs.Common.{◌≡◌, ◌↔◌, Bool, IsTrue, List, subst, s
 use Rattle.cm_types.specs.declared.resource.ResourceId.{ResourceId}
 use Rattle.cm_replaced.specs.Replaced.{replaced, replaced_func}
 use Rattle.cm_type_arena.specs.declared.types.Types.{Types}
-use Rattle.cm_conformance.specs.Comparisons.{Entry}
-use Rattle.cm_conformance.specs.Conformance.{Fits}
+use Rattle.cm_conforms.specs.Comparisons.{Entry}
+use Rattle.cm_conforms.specs.Conformance.{Fits}
 use Rattle.cm_conforms.specs.Judging.{marks_of}
 use Rattle.cm_placed_numbers.specs.Moved.{brought_func, brought_type}
 use Rattle.cm_conforms.specs.Views.{comparison_of}

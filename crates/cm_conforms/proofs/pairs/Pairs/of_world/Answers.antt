@@ -1,6 +1,6 @@
-use Rattle.cm_conformance.specs.Conformance.{meets_have}
+use Rattle.cm_conforms.specs.Conformance.{meets_have}
 use Rattle.cm_conforms.specs.Views.{entry_of}
-use Rattle.cm_conforms.proofs.PairLaws.{seeks_all, seeks_step}
+use Rattle.cm_conforms.proofs.TableLaws.{seeks_all, seeks_step}
 use Rattle.cm_conforms.proofs.pairs.Pairs.of_world.Goals as goal
 
 pub loop-place-preserved : goal.loop-place-preserved

@@ -1,7 +1,7 @@
 use Rattle.cm_type_arena.specs.declared.types.Types.{Types}
-use Rattle.cm_conformance.specs.Conformance.{meets_have}
+use Rattle.cm_conforms.specs.Conformance.{meets_have}
 use Rattle.cm_conforms.specs.Views.{entry_of}
-use Rattle.cm_conforms.proofs.PairLaws.{Seeks}
+use Rattle.cm_conforms.proofs.TableLaws.{Seeks}
 use Rattle.cm_conforms.proofs.pairs.Pairs.of_world.Given as goal
 
 abbrev pub invariant-loop-place : goal.invariant-loop-place

@@ -1,0 +1,91 @@
+-- Lowering the values of a call (CanonicalABI.md, "Lifting and Lowering Values").
+use Rattle.std.specs.Prelude.{◌≡◌, ℕ, ◌<◌, ◌≤◌, ◌⊎◌, true, List, None}
+use Rattle.cm_types.specs.Spellable.{are_spellable}
+use Rattle.cm_types.specs.Types.{Fields}
+use Rattle.cm_types.specs.Values.{HasType, Val, parts}
+use Rattle.cm_handles.specs.Handles.{Handles, indices_left}
+use Rattle.cm_layout.specs.Layouts.{layout_of}
+use Rattle.cm_layout.specs.Shapes.{layout_of_fields_at}
+use Rattle.cm_values.specs.ValueTrees.{values_of}
+use Rattle.cm_abi_model.specs.declared.encoding.StringEncoding.TheVariants as encoding
+use Rattle.cm_abi_model.specs.declared.fault.AbiFault.{AbiFault}
+use Rattle.cm_abi_model.specs.declared.fault.AbiFault.TheVariants as fault
+use Rattle.cm_abi_model.specs.declared.request.Request.{Request}
+use Rattle.cm_abi_model.specs.Parts.{Part, parts_in}
+use Rattle.cm_abi_model.specs.Receives.{HandleLeaf, call_kinds, leaves_in}
+use Rattle.cm_abi_model.specs.Requests.{IsStored, requests, stored_charset, tuple_of}
+use Rattle.cm_abi_model.specs.Stores.{Given}
+use Rattle.cm_abi_model.specs.Taken.{MAX_CONTENT}
+use Rattle.cm_abi_model.specs.Views.{View}
+use Rattle.cm_abi_model.specs.Ways.{way_of}
+use Rattle.cm_lowering.specs.Answering.{HaveScalars, IsFaultOfAnswers, first_fault}
+use Rattle.cm_lowering.specs.Answering.{places_of, regions_of}
+use Rattle.cm_lowering.specs.Asking.{content_of_parts}
+use Rattle.cm_lowering.specs.Overlap.{AreDisjoint}
+use Rattle.cm_giving.specs.Giving.{IsViewOf, added_count, numbers_given}
+use Rattle.cm_giving.specs.declared.receiver.Receiver.{Receiver}
+use Rattle.cm_abi.specs.declared.passing.Passing.{Passing}
+
+-- the tuple of the values of a call, its parts, and its handles, in reading order
+abbrev pub tuple_in : Passing → Val
+tuple_in p = parts (values_of p.values.now)
+
+abbrev pub parts_passed : Passing → Fields → List Part
+parts_passed p types = parts_in (tuple_of types) (tuple_in p)
+
+abbrev pub handles_passed : Passing → Fields → List HandleLeaf
+handles_passed p types = leaves_in (tuple_of types) (tuple_in p)
+
+-- what lowering the values asks for
+abbrev pub asked_for : Passing → Fields → List Request
+asked_for p types =
+    requests (way_of p.way) types (tuple_in p) p.encodings.source p.encodings.target
+    p.encodings.tags.now
+
+-- Values of these types can be lowered: their layout and the kinds of the core values that pass
+-- them are those of the types, which a file can spell; strings can be stored in their target, and
+-- with the lists are within the limit of one direction of a call. Where strings come in Latin-1 or
+-- in UTF-16, each is spelled in the one that its tag says.
+pub record CanBeLowered (p : Passing) (types : Fields) : Type 0 where
+  pub layout : layout_of p.layout.now ≡ layout_of_fields_at types
+  pub kinds : p.kinds.now ≡ call_kinds (way_of p.way) types
+  pub typed : HasType (tuple_of types) (tuple_in p)
+  pub spellable : are_spellable types ≡ true
+  pub stores : IsStored p.encodings.target
+  pub spelled : p.encodings.source ≡ encoding.Latin1OrUtf16
+      → HaveScalars p.encodings.source p.encodings.tags.now (parts_passed p types)
+  pub small :
+      content_of_parts p.encodings.source p.encodings.tags.now (parts_passed p types) ≤ MAX_CONTENT
+
+-- the answers to requests will do in a memory of so many bytes: each is aligned with its region in
+-- the memory, and the regions of two parts have no address in common
+pub record WillDo (memory_length : ℕ) (rs : List Request) (answers : List ℕ) : Type 0 where
+  pub each : first_fault memory_length rs answers ≡ None
+  pub apart : AreDisjoint (regions_of rs answers)
+
+-- what the values are given: each part the answer to the last request for it, each handle its
+-- number, by the receiver's table as it was
+abbrev pub given_for : Passing → Fields → Receiver → Handles → List ℕ → Given
+given_for p types to table answers =
+    record {
+      places = places_of (asked_for p types) answers;
+      numbers = numbers_given to table (handles_passed p types);
+      charset = stored_charset p.encodings.target;
+    }
+
+-- a view of the receiver, with this memory and this table, that reads strings as they are stored
+pub record IsReceiving (w : View) (p : Passing) (to : Receiver) (memory : List ℕ)
+    (table : Handles) : Type 0 where
+  pub receiver : IsViewOf w to table
+  pub memory_is : w.memory ≡ memory
+  pub encoding_is : w.encoding ≡ p.encodings.target
+
+-- Why values are not lowered: what is wrong with the answers; where they will do, that the table
+-- has fewer indices left than it is to get handles; or that there is no memory.
+abbrev pub IsFaultOfLowering : ℕ → Passing → Fields → Receiver → Handles → List ℕ → AbiFault
+    → Type 0
+IsFaultOfLowering memory_length p types to table answers f =
+    IsFaultOfAnswers memory_length (asked_for p types) answers f
+    ⊎ ((f ≡ fault.TableFull) × WillDo memory_length (asked_for p types) answers
+    × (indices_left table < added_count to (handles_passed p types)))
+    ⊎ (f ≡ fault.EngineMemory)

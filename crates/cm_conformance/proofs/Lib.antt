@@ -1,4 +1,0 @@
-mod FirstLaws
-mod PairLaws
-mod MoreLaws
-mod ItselfLaws

@@ -1,4 +1,0 @@
-pub mod Comparisons
-pub mod Conformance
-pub mod Faults
-pub mod Itself

@@ -1,6 +1,0 @@
-mod PokeLemmas
-mod PutLemmas
-mod SlotLemmas
-mod CountLemmas
-mod CallLemmas
-mod ReadyLemmas

@@ -1,4 +1,0 @@
-pub mod NumberLaws
-pub mod RootLaws
-pub mod FollowLaws
-pub mod SharedLaws

@@ -1,4 +1,0 @@
-pub mod MeaningLaws
-mod ReadLaws
-mod TypeTexts
-pub mod FileTexts

@@ -1,5 +1,0 @@
-use Rattle.cm_wit_written.proofs.FileTexts.{texts_write}
-use Rattle.cm_wit_written.proofs.spellable_laws.what_texts_write.Goals as goal
-
-pub returns : goal.returns
-returns c = texts_write
