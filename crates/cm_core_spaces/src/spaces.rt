@@ -24,8 +24,7 @@ pub struct CoreSpaces<'a> {
 }
 
 impl<'a> CoreSpaces<'a> {
-    ghost use Rattle.std.specs.Prelude.{◌≡◌, false, length, slice_get, ℕ, OnOk, OnErr};
-    ghost use Rattle.std.specs.Option.{option_map};
+    ghost use Rattle.std.specs.Prelude.{◌≡◌, false, map, ℕ, OnOk, OnErr};
     ghost use Rattle.cm_validity.specs.Definitions.{CoreFuncDef};
     ghost use Rattle.cm_validity.specs.Items.{core_module_item};
     ghost use Rattle.cm_validity.specs.Options.{guest_broken, is_guest};
@@ -64,20 +63,13 @@ impl<'a> CoreSpaces<'a> {
         Ok(())
     }
 
-    /// The core function of an index, if there is one.
-    pub fn func(&self, index: u32) -> Option<CoreFunc<'a>>
-        ensures { (made : ℕ → CoreFuncDef) (s : Spaces) → IsCoreOf made self.now s
-            → option_map (func_of made) result ≡ slice_get s.core_funcs index }
+    /// The core functions, in order; what else stands in the spaces is dropped.
+    pub fn into_funcs(self) -> Vec<CoreFunc<'a>>
+        ensures { (made : ℕ → CoreFuncDef) (s : Spaces) → IsCoreOf made self.entry s
+            → s.core_funcs ≡ map (func_of made) result.items }
     {
-        self.funcs.get(index as usize).copied()
-    }
-
-    /// How many core functions there are.
-    pub fn func_count(&self) -> usize
-        ensures { (made : ℕ → CoreFuncDef) (s : Spaces) → IsCoreOf made self.now s
-            → result ≡ length s.core_funcs }
-    {
-        self.funcs.len()
+        let CoreSpaces { funcs, .. } = self;
+        funcs
     }
 
     /// What an index of a core function breaks that has to be a guest's: `NoSuchIndex` where it

@@ -18,5 +18,6 @@ pub use aliases::Aliased;
 pub use cm_type_scope::TypeEntry;
 pub use entries::{FuncEntry, InstanceEntry, MemberEntry};
 pub use lifts::func_type_at;
+pub use lists::ComponentLists;
 pub use resources::resource_fault;
 pub use spaces::{ComponentSpaces, ExportEntry, ExportedEntry};

@@ -1,5 +1,6 @@
 mod ResultLaws
 mod MadeLaws
+mod EntryLaws
 mod AnswerLaws
 mod TypeLaws
 mod CanonLaws

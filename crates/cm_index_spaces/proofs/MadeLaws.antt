@@ -1,7 +1,8 @@
 -- What tells the core functions that canonical definitions made.
 use Rattle.std.proofs.Common.{◌≡◌, ℕ, zero, suc, ◌≤◌, ◌<◌, Bool, true, false, ◌&&◌, List, [], ◌∷◌, ◌++◌, length, map, Option, Some, None, refl, sym, ap, ◌∙◌, arith, subst, length-append}
 use Rattle.std.proofs.lemmas.Bool.{ltb-true, lt-ltb}
-use Rattle.std.proofs.lemmas.List.{get_or_append_left, map-append}
+use Rattle.std.proofs.lemmas.List.{get_or_append_left, length-map, map-append}
+use Rattle.std.proofs.lemmas.Option.{slice_get-map}
 use Rattle.std.specs.List.{list_all, slice_get}
 use Rattle.cm_types.specs.Types.{FuncTy}
 use Rattle.cm_replaced.specs.Replaced.{replaced_func}
@@ -11,14 +12,13 @@ use Rattle.cm_validity.specs.Options.{is_guest}
 use Rattle.cm_type_scope.specs.TypeScopes.{Extends}
 use Rattle.std.specs.Option.{option_map}
 use Rattle.cm_validity.specs.Spaces.{Spaces}
-use Rattle.cm_core_spaces.specs.CoreSpaces.{IsCoreOf}
 use Rattle.cm_core_spaces.specs.Entries.{export_of, func_of}
 use Rattle.cm_core_spaces.specs.declared.entries.CoreFunc.{CoreFunc}
 use Rattle.cm_core_spaces.specs.declared.entries.CoreFunc.TheVariants as func
 use Rattle.cm_core_spaces.specs.declared.entries.GuestExport.{GuestExport}
-use Rattle.cm_index_spaces.specs.IndexSpaces.{IsAt, funcs_in}
+use Rattle.cm_index_spaces.specs.ComponentEntries.{AreEntriesOf, funcs_in}
 use Rattle.cm_index_spaces.specs.Made.{Tells, is_made_there, made_def}
-use Rattle.cm_index_spaces.specs.declared.spaces.IndexSpaces.{IndexSpaces}
+use Rattle.cm_index_spaces.specs.declared.entries.ComponentEntries.{ComponentEntries}
 use Rattle.cm_index_spaces.specs.declared.made.MadeFunc.{MadeFunc}
 use Rattle.cm_index_spaces.specs.declared.made.MadeFunc.TheVariants as made
 
@@ -88,28 +88,36 @@ making_is j k e = cc
 apart : making 0 ≡ making 1 → ⊥
 apart e = omega (arith, making_is 0 1 e)
 
-module _ (w : IndexSpaces) (s : Spaces) (at : IsAt w s) (index : ℕ) (f : Option CoreFunc) (is : (tell : ℕ → CoreFuncDef) (t : Spaces) → IsCoreOf tell w.core t → option_map (func_of tell) f ≡ slice_get t.core_funcs index) where
-  told : (k : ℕ) → option_map (func_of (told_or k (funcs_in w) w.made.items)) f ≡ slice_get s.core_funcs index
-  told k = is (told_or k (funcs_in w) w.made.items) s (at.core_is (told_or k (funcs_in w) w.made.items) (tells_or k (funcs_in w) w.made.items))
+module _ (e : ComponentEntries) (s : Spaces) (are : AreEntriesOf e s) (index : ℕ) (f : Option CoreFunc) (is : f ≡ slice_get e.core_funcs.items index) where
+  abbrev shown : ℕ → CoreFunc → CoreFuncDef
+  shown k = func_of (told_or k (funcs_in e) e.made.items)
 
-  abbrev shown : ℕ → Option CoreFunc → Option CoreFuncDef
-  shown k o = option_map (func_of (told_or k (funcs_in w) w.made.items)) o
+  told : (k : ℕ) → option_map (shown k) f ≡ slice_get s.core_funcs index
+  told k =
+      ap (option_map (shown k)) is ∙ sym (slice_get-map (shown k) e.core_funcs.items index)
+      ∙ ap (λ (ds : List CoreFuncDef). slice_get ds index) (sym (are.core_funcs_are (told_or k (funcs_in e) e.made.items) (tells_or k (funcs_in e) e.made.items)))
 
   pub no_func : f ≡ None → None ≡ slice_get s.core_funcs index
-  no_func e = sym (ap (shown 0) e) ∙ told 0
+  no_func n = sym (ap (option_map (shown 0)) n) ∙ told 0
 
-  pub guest_func : (e : GuestExport) → f ≡ Some (func.Guest e) → Some (guest (export_of e)) ≡ slice_get s.core_funcs index
-  guest_func e h = sym (ap (shown 0) h) ∙ told 0
+  pub guest_func : (x : GuestExport) → f ≡ Some (func.Guest x) → Some (guest (export_of x)) ≡ slice_get s.core_funcs index
+  guest_func x h = sym (ap (option_map (shown 0)) h) ∙ told 0
 
-  pub made_func : (n : ℕ) (m : MadeFunc) → f ≡ Some (func.Made n) → slice_get w.made.items n ≡ Some m → Some (made_def (funcs_in w) m) ≡ slice_get s.core_funcs index
-  made_func n m h e = sym (ap Some (told_there 0 (funcs_in w) w.made.items n m e)) ∙ sym (ap (shown 0) h) ∙ told 0
+  pub made_func : (n : ℕ) (m : MadeFunc) → f ≡ Some (func.Made n) → slice_get e.made.items n ≡ Some m → Some (made_def (funcs_in e) m) ≡ slice_get s.core_funcs index
+  made_func n m h there = sym (ap Some (told_there 0 (funcs_in e) e.made.items n m there)) ∙ sym (ap (option_map (shown 0)) h) ∙ told 0
 
   -- so what is behind the list is no core function
-  behind : (n k : ℕ) → f ≡ Some (func.Made n) → slice_get w.made.items n ≡ None → Some (making k) ≡ slice_get s.core_funcs index
-  behind n k h e = sym (ap Some (told_behind k (funcs_in w) w.made.items n e)) ∙ sym (ap (shown k) h) ∙ told k
+  behind : (n k : ℕ) → f ≡ Some (func.Made n) → slice_get e.made.items n ≡ None → Some (making k) ≡ slice_get s.core_funcs index
+  behind n k h none = sym (ap Some (told_behind k (funcs_in e) e.made.items n none)) ∙ sym (ap (option_map (shown k)) h) ∙ told k
 
-  pub none_behind : (n : ℕ) → f ≡ Some (func.Made n) → slice_get w.made.items n ≡ None → ⊥
-  none_behind n h e = apart (some_is (making 0) (making 1) (behind n 0 h e ∙ sym (behind n 1 h e)))
+  pub none_behind : (n : ℕ) → f ≡ Some (func.Made n) → slice_get e.made.items n ≡ None → ⊥
+  none_behind n h none = apart (some_is (making 0) (making 1) (behind n 0 h none ∙ sym (behind n 1 h none)))
+
+-- how many there are
+pub func_count : (e : ComponentEntries) (s : Spaces) → AreEntriesOf e s → length e.core_funcs.items ≡ length s.core_funcs
+func_count e s are =
+    sym (length-map e.core_funcs.items (func_of (told_by (funcs_in e) e.made.items)))
+    ∙ ap (λ (ds : List CoreFuncDef). length ds) (sym (are.core_funcs_are (told_by (funcs_in e) e.made.items) (tells (funcs_in e) e.made.items)))
 
 -- the type of one that is in the list is there
 pub one_there : (n : ℕ) (ms : List MadeFunc) (i : ℕ) (m : MadeFunc) → list_all (is_made_there n) ms ≡ true → slice_get ms i ≡ Some m → is_made_there n m ≡ true

@@ -3,14 +3,14 @@
 
 mod canons;
 mod core_items;
+mod entries;
 mod items;
-mod lists;
 mod made;
 mod spaces;
 mod types;
 
 pub use cm_core_spaces::GuestExport;
 pub use cm_entries::{ExportEntry, ExportedEntry, FuncEntry, InstanceEntry, MemberEntry};
-pub use lists::ComponentExterns;
+pub use entries::{ComponentEntries, ComponentExterns};
 pub use made::{CoreFuncEntry, MadeFunc};
 pub use spaces::IndexSpaces;

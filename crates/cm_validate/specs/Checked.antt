@@ -3,7 +3,7 @@ use Rattle.std.specs.Prelude.{List}
 use Rattle.cm_types.specs.Types.{Ty, FuncTy}
 use Rattle.cm_component.specs.Trees.{SectionTree}
 use Rattle.cm_validity.specs.Spaces.{Spaces, spaces_of}
-use Rattle.cm_index_spaces.specs.IndexSpaces as index
+use Rattle.cm_index_spaces.specs.ComponentEntries as entries
 use Rattle.cm_validate.specs.declared.checked.Checked.{Checked}
 
 -- its sections, and its index spaces
@@ -15,7 +15,7 @@ spaces_in c = spaces_of (sections_in c)
 
 -- the types of its arena, and those of functions
 abbrev pub types_in : Checked → List Ty
-types_in c = index.types_in c.spaces
+types_in c = entries.types_in c.entries
 
 abbrev pub funcs_in : Checked → List FuncTy
-funcs_in c = index.funcs_in c.spaces
+funcs_in c = entries.funcs_in c.entries

@@ -31,7 +31,10 @@ pub fn validate<'a>(alloc: Global, component: &'a Component) -> Result<Checked<'
 {
     components_have_one_answer();
     match index_spaces(alloc, component) {
-        Ok(spaces) => Ok(Checked { component, spaces }),
+        Ok(spaces) => Ok(Checked {
+            component,
+            entries: spaces.into_entries(),
+        }),
         Err(fault) => Err(fault),
     }
 }

@@ -39,7 +39,7 @@ impl<'a> Checked<'a> {
         ensures types { types_of result.now ≡ types_in self.now }
         ensures funcs { funcs_of result.now ≡ funcs_in self.now }
     {
-        self.spaces.arena()
+        self.entries.arena()
     }
 
     /// What it imports, in order.
@@ -49,7 +49,7 @@ impl<'a> Checked<'a> {
         ensures there { list_all (λ e. is_extern_there
             (length (types_in self.now)) (length (funcs_in self.now)) e.desc) result.now ≡ true }
     {
-        self.spaces.imports()
+        self.entries.imports()
     }
 
     /// What it exports, in order.
@@ -59,7 +59,7 @@ impl<'a> Checked<'a> {
         ensures there { list_all (λ e. is_exported_there
             (length (types_in self.now)) (length (funcs_in self.now)) e.def) result.now ≡ true }
     {
-        self.spaces.exports()
+        self.entries.exports()
     }
 
     /// What it imports and exports, in order, with the arena of its types, taken over: what else it
@@ -78,15 +78,15 @@ impl<'a> Checked<'a> {
             (length (types_in self.entry)) (length (funcs_in self.entry)) e.def)
             result.exports.items ≡ true }
     {
-        let Checked { spaces, .. } = self;
-        spaces.into_externs()
+        let Checked { entries, .. } = self;
+        entries.into_externs()
     }
 
     /// How many core functions it has.
     pub fn core_func_count(&self) -> usize
         ensures { result ≡ length (spaces_in self.now).core_funcs }
     {
-        self.spaces.core_func_count()
+        self.entries.core_func_count()
     }
 
     /// What the core function of an index is, if there is one: a guest's; a lowered import, by its
@@ -98,7 +98,7 @@ impl<'a> Checked<'a> {
         ensures there { IfSome result
             (λ f. is_core_func_there (length (funcs_in self.now)) f ≡ true) }
     {
-        self.spaces.core_func(index)
+        self.entries.core_func(index)
     }
 
     /// What an exported function is, by the number of the export, from 0, and, where the export is
@@ -119,6 +119,6 @@ impl<'a> Checked<'a> {
         ensures { option_map resource_def result
             ≡ slice_get (spaces_in self.now).resources number }
     {
-        self.spaces.resource(number)
+        self.entries.resource(number)
     }
 }
