@@ -10,9 +10,9 @@ ghost use Rattle.cm_checked_signature.specs.Made.{IsDescOf, IsExternOf};
 use crate::items::func_place;
 use crate::made::Made;
 use cm_entries::{ExportEntry, ExportedEntry};
+use cm_instance_items::Shared;
 use cm_placed::laws::unmoved;
 use cm_placed::{Extern, ExternDesc};
-use cm_instance_items::Shared;
 use std::alloc::{AllocError, Global};
 
 /// What an export is, of the instance of this number, if it has one.

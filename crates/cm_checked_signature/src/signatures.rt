@@ -6,8 +6,8 @@ ghost use Rattle.cm_validate.specs.Checked.{spaces_in};
 ghost use Rattle.cm_checked_signature.specs.Exports.{signature_in};
 
 use crate::externs::exported_externs;
-use cm_placed::Signature;
 use cm_instance_items::Shared;
+use cm_placed::Signature;
 use cm_validate::{Checked, ComponentExterns};
 use std::alloc::{AllocError, Global};
 

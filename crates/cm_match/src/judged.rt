@@ -3,10 +3,10 @@
 ghost use Rattle.std.specs.Prelude.{◌≡◌, IfOk, OnOk};
 ghost use Rattle.cm_match.specs.Pairs.{AreTables, instance_of_export, type_of_import};
 
+use cm_instance_items::Shared;
 use cm_links::alike_laws::imports_are_served_alike;
 use cm_links::{Link, LinkReason};
 use cm_serving::{Checked, Linking, Tables};
-use cm_instance_items::Shared;
 use cm_validity::counted_laws::{moves_of_what_is_counted, resources_are_counted};
 use std::alloc::{AllocError, Global};
 use std::collections::BTreeSet;

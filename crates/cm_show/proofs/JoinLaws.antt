@@ -11,7 +11,7 @@ pub wrote_none : (p : Page) → Wrote [] p p
 wrote_none p = record { text = sym (append-nil (text_on p)); seen = refl }
 
 -- what is written behind pieces is written behind what they were written behind
-behind : (a b : List Piece) (p q : Page) → Wrote a p q → text_on q ++ text_behind (seen_on q) b ≡ text_on p ++ text_behind (seen_on p) (a ++ b)
+pub behind : (a b : List Piece) (p q : Page) → Wrote a p q → text_on q ++ text_behind (seen_on q) b ≡ text_on p ++ text_behind (seen_on p) (a ++ b)
 behind a b p q w =
     ap (λ (z : List ℕ). z ++ text_behind (seen_on q) b) w.text
     ∙ (ap (λ (z : List ResourceId). (text_on p ++ text_behind (seen_on p) a) ++ text_behind z b) w.seen

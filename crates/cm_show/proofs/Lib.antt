@@ -1,5 +1,6 @@
 pub mod Seen
 pub mod PageLaws
-pub mod ListLaws
 pub mod JoinLaws
+pub mod ShownLaws
+pub mod ListLaws
 pub mod LineLaws

@@ -26,7 +26,7 @@ use Rattle.cm_pages.specs.Pages.{IsOver, seen_on, text_on}
 use Rattle.cm_pages.specs.Pieces.{Piece, chars, seen_behind, text_behind}
 use Rattle.cm_pages.specs.declared.page.Page.{Page}
 use Rattle.cm_show.specs.Counted.{counted}
-use Rattle.cm_show.specs.ShownTypes.{type_pieces}
+use Rattle.cm_show.specs.ShownTypes.{between, type_pieces}
 use Rattle.cm_show.specs.Written.{Wrote}
 use Rattle.cm_show.specs.declared.counting.Counting.{Counting}
 use Rattle.cm_show.specs.Shown.{extern_lines, externs_lines, func_pieces, item_line, line}
@@ -135,3 +135,9 @@ extern_func_line types word e p c f d place brought at =
     ∙ ap (replaced_func (counted c)) (sym at)))
 
 pub ruleset line_laws = (item_there, extern_there)
+
+-- ---- the pieces of a line, from its front to its end
+
+pub func_split : (params answer : List Piece) → (between (codes "(") (codes ")") params ++ answer) ++ chars (codes "\n") ∷ [] ≡ chars (codes "(") ∷ (params ++ chars (codes ")") ∷ (answer ++ chars (codes "\n") ∷ []))
+func_split params answer =
+    ap (λ (ps : List Piece). chars (codes "(") ∷ ps) (append_assoc (params ++ chars (codes ")") ∷ []) answer (chars (codes "\n") ∷ []) ∙ append_assoc params (chars (codes ")") ∷ []) (answer ++ chars (codes "\n") ∷ []))

@@ -1,11 +1,9 @@
 -- Pieces that are written one behind the other.
-use Rattle.std.proofs.Common.{◌≡◌, ℕ, zero, suc, ◌+◌, ◌<◌, ◌≤◌, ◌&&◌, ◌||◌, Bool, true, false, not, cond, nat_eq, if◌then◌else◌, List, [], ◌∷◌, ◌++◌, length, map, drop, get_or, refl, sym, ap, subst, ◌∙◌, append_assoc, append-nil, drop-cons, add-one, arith}
+use Rattle.std.proofs.Common.{◌≡◌, ℕ, zero, suc, ◌+◌, ◌<◌, ◌≤◌, List, [], ◌∷◌, ◌++◌, length, drop, get_or, refl, sym, ap, subst, ◌∙◌, append_assoc, append-nil, drop-cons, add-one, arith}
 use Rattle.std.proofs.lemmas.List.{drop_all, length-append}
 use Rattle.std.specs.Prelude.{codes}
-use Rattle.std.specs.List.{list_any, position_or_len}
 use Rattle.std.specs.Fmt.{decimal}
 use Rattle.cm_types.specs.declared.resource.ResourceId.{ResourceId}
-use Rattle.cm_types.specs.Resources.{same_resource}
 use Rattle.cm_pages.specs.Pieces.{Piece, chars, number_of, number_behind, appeared, seen_behind, text_behind}
 use Rattle.cm_show.specs.Lists.{comma_before}
 use Rattle.cm_pages.specs.Pages.{seen_on, IsOver, text_on}
@@ -21,8 +19,6 @@ seen_append seen [] b = refl
 seen_append seen (chars t ∷ ps) b = seen_append seen ps b
 seen_append seen (number_of r ∷ ps) b = seen_append (appeared seen r) ps b
 
-pub ruleset page_laws = (append_assoc, append-nil, text_append, seen_append, length-append)
-
 -- ---- commas
 
 pub comma_none : (n : ℕ) → n ≡ 0 → comma_before n ≡ []
@@ -31,8 +27,6 @@ comma_none n e = ap comma_before e
 pub comma_some : (n : ℕ) → (n ≡ 0 → ⊥) → comma_before n ≡ chars (codes ", ") ∷ []
 comma_some zero h = absurd (h refl)
 comma_some (suc n) h = refl
-
-pub ruleset comma_laws = (append_assoc, append-nil, comma_none, comma_some)
 
 -- ---- members of lists
 

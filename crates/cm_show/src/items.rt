@@ -14,14 +14,17 @@ ghost use Rattle.cm_placed.specs.Externs.{are_externs_in, extern_desc_of, extern
 ghost use Rattle.cm_placed.specs.Externs.{is_extern_there};
 ghost use Rattle.cm_show.specs.Counted.{counted};
 ghost use Rattle.cm_pages.specs.Pages.{IsOver, seen_on, text_on};
-ghost use Rattle.cm_pages.specs.Pieces.{chars, number_of, seen_behind, text_behind};
+ghost use Rattle.cm_pages.specs.Pieces.{chars, seen_behind, text_behind};
+ghost use Rattle.cm_pages.specs.declared.fault.ShowFault.TheVariants as fault;
 ghost use Rattle.cm_show.specs.Shown.{answer_pieces, extern_lines, externs_lines, func_pieces};
 ghost use Rattle.cm_show.specs.ShownTypes.{type_pieces};
-ghost use Rattle.cm_show.specs.Shown.{item_line, resource_pieces};
-ghost use Rattle.cm_pages.specs.declared.fault.ShowFault.TheVariants as fault;
+ghost use Rattle.cm_show.specs.Shown.{item_line, line, resource_pieces};
+ghost use Rattle.cm_show.specs.Written.{Shows};
 
-use crate::laws::{pages_join, pieces_join};
-use crate::{Counting, show_fields, show_type};
+use crate::Counting;
+use crate::laws::pages_join;
+use crate::putting::{put, put_resource};
+use crate::types::{add_fields, add_type};
 use cm_pages::{Page, ShowFault};
 use cm_placed::{Extern, ExternDesc, Item, ItemDesc, moved_resource};
 use cm_replaced::Move;
@@ -30,95 +33,60 @@ use cm_type_arena::Types;
 use cm_types::{ExternName, Func, ResourceId, TypeNode, TypeTree};
 
 /// Adds what a line begins with: a word, a name and a blank.
-#[tactic(auto, using(crate::proofs::LineLaws::page_laws))]
 fn begin_line(page: &mut Page, word: &str, name: &ExternName) -> Result<(), ShowFault>
-    ensures text { OnOk result (text_on page.new
-        ≡ text_on page.old ++ text_behind (seen_on page.old) (chars word.now ∷ chars
-        name.now ∷ chars (codes " ") ∷ [])) }
-    ensures seen { OnOk result (seen_on page.new ≡ seen_behind (seen_on page.old) (chars word.now ∷
-        chars name.now ∷ chars (codes " ") ∷ [])) }
-    ensures over { IsErrOf result fault.TooLong → IsOver page.old (chars word.now ∷ chars name.now ∷
-        chars (codes " ") ∷ []) }
+    ensures { Shows (chars word.now ∷ chars name.now ∷ chars (codes " ") ∷ []) page.old
+        page.new result }
 {
-    pieces_join();
-    page.put(word)?;
-    page.put(name.as_str())?;
-    page.put(" ")
+    put(page, word)?;
+    put(page, name.as_str())?;
+    put(page, " ")
 }
 
 /// Adds the type of a result, if there is one.
-#[tactic(auto, using(crate::proofs::LineLaws::page_laws))]
 fn show_answer(page: &mut Page, tree: &Option<TypeTree>, by: Counting) -> Result<(), ShowFault>
-    ensures text { OnOk result (text_on page.new
-        ≡ text_on page.old ++ text_behind (seen_on page.old) (answer_pieces (option_map
-        (replaced (counted by)) (option_map tree_type tree.now)))) }
-    ensures seen { OnOk result (seen_on page.new ≡ seen_behind (seen_on page.old) (answer_pieces
-        (option_map (replaced (counted by)) (option_map tree_type tree.now)))) }
-    ensures over { IsErrOf result fault.TooLong → IsOver page.old (answer_pieces (option_map
-        (replaced (counted by)) (option_map tree_type tree.now))) }
+    ensures { Shows (answer_pieces (option_map (replaced (counted by)) (option_map tree_type
+        tree.now))) page.old page.new result }
 {
-    pieces_join();
-    let Some(tree) = tree else {
-        return Ok(());
-    };
-    page.put(" -> ")?;
-    show_type(page, &tree.root, by)
+    match tree {
+        None => Ok(()),
+        Some(tree) => {
+            put(page, " -> ")?;
+            add_type(page, &tree.root, by)
+        }
+    }
 }
 
 /// Adds the type of a function, and ends the line.
-#[tactic(auto, using(crate::proofs::LineLaws::page_laws))]
 fn end_with_func(page: &mut Page, func: &Func, by: Counting) -> Result<(), ShowFault>
-    ensures text { OnOk result (text_on page.new
-        ≡ text_on page.old ++ text_behind (seen_on page.old) (func_pieces (replaced_func
-        (counted by) (func_of func.now)) ++ chars (codes "\n") ∷ [])) }
-    ensures seen { OnOk result (seen_on page.new ≡ seen_behind (seen_on page.old) (func_pieces
-        (replaced_func (counted by) (func_of func.now)) ++ chars (codes "\n") ∷ [])) }
-    ensures over { IsErrOf result fault.TooLong → IsOver page.old (func_pieces (replaced_func
-        (counted by) (func_of func.now)) ++ chars (codes "\n") ∷ []) }
+    ensures { Shows (func_pieces (replaced_func (counted by) (func_of func.now)) ++ chars
+        (codes "\n") ∷ []) page.old page.new result }
 {
-    pieces_join();
-    page.put("(")?;
-    show_fields(page, &func.params, by)?;
-    page.put(")")?;
+    put(page, "(")?;
+    add_fields(page, &func.params, by)?;
+    put(page, ")")?;
     show_answer(page, &func.result, by)?;
-    page.put("\n")
+    put(page, "\n")
 }
 
 /// Adds a type, and ends the line.
-#[tactic(auto, using(crate::proofs::LineLaws::page_laws))]
 fn end_with_type(page: &mut Page, node: &TypeNode, by: Counting) -> Result<(), ShowFault>
-    ensures text { OnOk result (text_on page.new
-        ≡ text_on page.old ++ text_behind (seen_on page.old) (type_pieces (replaced
-        (counted by) (type_of node.now)) ++ chars (codes "\n") ∷ [])) }
-    ensures seen { OnOk result (seen_on page.new ≡ seen_behind (seen_on page.old) (type_pieces
-        (replaced (counted by) (type_of node.now)) ++ chars (codes "\n") ∷ [])) }
-    ensures over { IsErrOf result fault.TooLong → IsOver page.old (type_pieces (replaced (counted
-        by) (type_of node.now)) ++ chars (codes "\n") ∷ []) }
+    ensures { Shows (type_pieces (replaced (counted by) (type_of node.now)) ++ chars (codes
+        "\n") ∷ []) page.old page.new result }
 {
-    pieces_join();
-    show_type(page, node, by)?;
-    page.put("\n")
+    add_type(page, node, by)?;
+    put(page, "\n")
 }
 
 /// Adds a resource, and ends the line.
-#[tactic(auto, using(crate::proofs::LineLaws::page_laws))]
 fn end_with_resource(page: &mut Page, id: ResourceId) -> Result<(), ShowFault>
-    ensures text { OnOk result (text_on page.new
-        ≡ text_on page.old ++ text_behind (seen_on page.old) (resource_pieces id ++ chars
-        (codes "\n") ∷ [])) }
-    ensures seen { OnOk result (seen_on page.new ≡ seen_behind (seen_on page.old) (resource_pieces
-        id ++ chars (codes "\n") ∷ [])) }
-    ensures over { IsErrOf result fault.TooLong → IsOver page.old (resource_pieces id ++ chars
-        (codes "\n") ∷ []) }
+    ensures { Shows (resource_pieces id ++ chars (codes "\n") ∷ []) page.old page.new result }
 {
-    pieces_join();
-    page.put("resource#")?;
-    page.put_resource(id)?;
-    page.put("\n")
+    put(page, "resource#")?;
+    put_resource(page, id)?;
+    put(page, "\n")
 }
 
 /// Adds the line of an item that an import or an export brings so.
-#[tactic(auto, using(crate::proofs::LineLaws::page_laws))]
 fn show_item(
     page: &mut Page,
     types: &Types,
@@ -127,18 +95,9 @@ fn show_item(
 ) -> Result<(), ShowFault>
     requires { is_desc_there (length (types_of types.now)) (length (funcs_of types.now))
         item.now.desc ≡ true }
-    ensures text { OnOk result (text_on page.new
-        ≡ text_on page.old ++ text_behind (seen_on page.old) (item_line item.now.name
-        (replaced_desc (moved_by brought) (desc_of (types_of types.now) (funcs_of types.now)
-        item.now.desc)))) }
-    ensures seen { OnOk result (seen_on page.new ≡ seen_behind (seen_on page.old) (item_line
-        item.now.name (replaced_desc (moved_by brought) (desc_of (types_of types.now) (funcs_of
-        types.now) item.now.desc)))) }
-    ensures over { IsErrOf result fault.TooLong → IsOver page.old (item_line item.now.name
-        (replaced_desc (moved_by brought) (desc_of (types_of types.now) (funcs_of types.now)
-        item.now.desc))) }
+    ensures { Shows (item_line item.now.name (replaced_desc (moved_by brought) (desc_of
+        (types_of types.now) (funcs_of types.now) item.now.desc))) page.old page.new result }
 {
-    pieces_join();
     replacing();
     match item.desc {
         ItemDesc::Func(placed) => {
@@ -157,11 +116,23 @@ fn show_item(
                 Counting::new(placed.by, brought),
             )
         }
-        ItemDesc::EqualResource(number) | ItemDesc::FreshResource(number) => {
-            begin_line(page, "  type ", &item.name)?;
-            end_with_resource(page, brought_resource(brought, number))
-        }
+        ItemDesc::EqualResource(number) => show_resource(page, &item.name, brought, number),
+        ItemDesc::FreshResource(number) => show_resource(page, &item.name, brought, number),
     }
+}
+
+/// Adds the line of a resource of this number that an import or an export brings so.
+fn show_resource(
+    page: &mut Page,
+    name: &ExternName,
+    brought: Option<Move>,
+    number: u64,
+) -> Result<(), ShowFault>
+    ensures { Shows (line (codes "  type ") name.now (resource_pieces (moved_by brought
+        (numbered number)))) page.old page.new result }
+{
+    begin_line(page, "  type ", name)?;
+    end_with_resource(page, brought_resource(brought, number))
 }
 
 /// The resource of this number, as an import or an export brings it.
@@ -204,24 +175,16 @@ fn show_items(
 }
 
 /// Adds the lines of an import or an export.
-#[tactic(auto, using(crate::proofs::LineLaws::page_laws))]
 fn show_extern(page: &mut Page, types: &Types, word: &str, each: &Extern) -> Result<(), ShowFault>
     requires { is_extern_there (length (types_of types.now)) (length (funcs_of types.now))
         each.now.desc ≡ true }
-    ensures text { OnOk result (text_on page.new
-        ≡ text_on page.old ++ text_behind (seen_on page.old) (extern_lines word.now
-        each.now.name (extern_desc_of (types_of types.now) (funcs_of types.now) each.now.desc))) }
-    ensures seen { OnOk result (seen_on page.new ≡ seen_behind (seen_on page.old) (extern_lines
-        word.now each.now.name (extern_desc_of (types_of types.now) (funcs_of types.now)
-        each.now.desc))) }
-    ensures over { IsErrOf result fault.TooLong → IsOver page.old (extern_lines word.now
-        each.now.name (extern_desc_of (types_of types.now) (funcs_of types.now) each.now.desc)) }
+    ensures { Shows (extern_lines word.now each.now.name (extern_desc_of (types_of types.now)
+        (funcs_of types.now) each.now.desc)) page.old page.new result }
 {
-    pieces_join();
-    begin_line(page, word, &each.name)?;
     match &each.desc {
         ExternDesc::Func(placed) => {
-            page.put("func ")?;
+            begin_line(page, word, &each.name)?;
+            put(page, "func ")?;
             end_with_func(
                 page,
                 types.func(placed.place),
@@ -229,8 +192,9 @@ fn show_extern(page: &mut Page, types: &Types, word: &str, each: &Extern) -> Res
             )
         }
         ExternDesc::Instance { ty, by } => {
-            page.put("instance")?;
-            page.put("\n")?;
+            begin_line(page, word, &each.name)?;
+            put(page, "instance")?;
+            put(page, "\n")?;
             show_items(page, types, &ty.items, *by)
         }
     }

@@ -5,6 +5,7 @@ mod counting;
 mod items;
 pub mod laws;
 mod lists;
+mod putting;
 mod signatures;
 mod types;
 

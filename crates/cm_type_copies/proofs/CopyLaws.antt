@@ -1,11 +1,11 @@
 -- What holds of copies of types, also among more types.
-use Rattle.std.proofs.Common.{inl, inr, ◌≡◌, ℕ, zero, suc, ◌+◌, ◌<◌, ◌≤◌, List, [], ◌∷◌, ◌++◌, length, map, take, Option, Some, false, refl, sym, ap, subst, ◌∙◌, arith, append-nil, append_assoc, length-append}
+use Rattle.std.proofs.Common.{inl, inr, Result, Ok, Err, IfOk, ◌≡◌, ℕ, zero, suc, ◌+◌, ◌<◌, ◌≤◌, List, [], ◌∷◌, ◌++◌, length, map, take, Option, Some, false, refl, sym, ap, subst, ◌∙◌, arith, append-nil, append_assoc, length-append}
 use Rattle.std.specs.Prelude.{slice_index}
 use Rattle.std.specs.List.{AllByRecursion}
 use Rattle.std.specs.Ordering.{is_eq, nat_cmp}
 use Rattle.std.specs.Cmp.{unsigned_tied}
 use Rattle.std.proofs.lemmas.Bool.{cases_eq, ne_eqb}
-use Rattle.std.proofs.lemmas.List.{get_or_append_left, map-append}
+use Rattle.std.proofs.lemmas.List.{get_or_append_left, length-map, map-append}
 use Rattle.std.proofs.Math.Seq.{take-suc, take-length}
 use Rattle.cm_types.specs.Types.{Ty, Fields, Cases, bool, signed, unsigned, char, string, list, fixed_list, fields, cases, flags, own, borrow, no_fields, field, no_cases, plain, carrying}
 use Rattle.cm_types.specs.Limits.{depth_of, depth_of_fields, depth_of_cases}
@@ -73,30 +73,33 @@ module _ (s : Standing) where
   ]
 
   -- one more part is copied
-  pub part_copied : (old mid new : List Ty) (ps : List ℕ) (i : ℕ) (done : List ℕ) (copy : ℕ) → BeginsWith new mid → AllByRecursion (λ p. p < length mid) done
-      → map (type_at mid) done ≡ map (λ p. replaced s (type_at old p)) (take i ps) → i < length ps → type_at new copy ≡ replaced s (type_at old (slice_index ps i))
-      → map (type_at new) (done ++ copy ∷ []) ≡ map (λ p. replaced s (type_at old p)) (take (i + 1) ps)
-  part_copied old mid new ps i done copy b all so_far lt is =
+  pub part_copied : (mid new ts : List Ty) (i : ℕ) (done : List ℕ) (copy : ℕ) → BeginsWith new mid → AllByRecursion (λ p. p < length mid) done → map (type_at mid) done ≡ map (replaced s) (take i ts)
+      → i < length ts → type_at new copy ≡ replaced s (type_at ts i) → map (type_at new) (done ++ copy ∷ []) ≡ map (replaced s) (take (i + 1) ts)
+  part_copied mid new ts i done copy b all so_far lt is =
       let n : i + 1 ≡ suc i = omega arith in
-      let more : take (i + 1) ps ≡ take i ps ++ slice_index ps i ∷ [] = ap (λ (k : ℕ). take k ps) n ∙ take-suc ps i 0 lt in
+      let more : take (i + 1) ts ≡ take i ts ++ type_at ts i ∷ [] = ap (λ (k : ℕ). take k ts) n ∙ take-suc ts i bool lt in
       map-append (type_at new) done (copy ∷ [])
-      ∙ ap (λ ts. ts ++ type_at new copy ∷ []) (all_at_front mid new b done all ∙ so_far)
-      ∙ ap (λ t. map (λ p. replaced s (type_at old p)) (take i ps) ++ t ∷ []) is
-      ∙ sym (map-append (λ p. replaced s (type_at old p)) (take i ps) (slice_index ps i ∷ []))
-      ∙ ap (map (λ p. replaced s (type_at old p))) (sym more)
+      ∙ ap (λ us. us ++ type_at new copy ∷ []) (all_at_front mid new b done all ∙ so_far)
+      ∙ ap (λ t. map (replaced s) (take i ts) ++ t ∷ []) is
+      ∙ sym (map-append (replaced s) (take i ts) (type_at ts i ∷ []))
+      ∙ ap (map (replaced s)) (sym more)
 
-  pub mapped_twice : (old : List Ty) (ps : List ℕ) → map (replaced s) (map (type_at old) ps) ≡ map (λ p. replaced s (type_at old p)) ps
-  mapped_twice old [] = refl
-  mapped_twice old (p ∷ ps) = ap (λ ts. replaced s (type_at old p) ∷ ts) (mapped_twice old ps)
+  -- all parts are copied
+  pub all_copied : (mid ts : List Ty) (i : ℕ) (done : List ℕ) → i ≡ length ts → map (type_at mid) done ≡ map (replaced s) (take i ts) → map (replaced s) ts ≡ map (type_at mid) done
+  all_copied mid ts i done all so_far = ap (map (replaced s)) (sym (take-length ts) ∙ ap (λ (n : ℕ). take n ts) (sym all)) ∙ sym so_far
 
-  -- what a type holds, replaced, where each part is copied
-  pub held_replaced : (old mid : List Ty) (ps : List ℕ) (i : ℕ) (t : Ty) (done : List ℕ) → i ≡ length ps → parts_in t ≡ map (type_at old) ps
-      → map (type_at mid) done ≡ map (λ p. replaced s (type_at old p)) (take i ps) → map (replaced s) (parts_in t) ≡ map (type_at mid) done
-  held_replaced old mid ps i t done all held copied =
-      ap (map (replaced s)) held
-      ∙ mapped_twice old ps
-      ∙ ap (map (λ p. replaced s (type_at old p))) (sym (take-length ps) ∙ ap (λ (n : ℕ). take n ps) (sym all))
-      ∙ sym copied
+  -- as many places as types, where these with theirs replaced stand there
+  pub copied_long : (types ts : List Ty) (ps : List ℕ) → map (replaced s) ts ≡ map (type_at types) ps → length ps ≡ length ts
+  copied_long types ts ps copied = sym (length-map ps (type_at types)) ∙ ap length (sym copied) ∙ length-map ts (replaced s)
+
+  -- the place of a definition, if it has one, is that of a copy
+  pub made_copy : {E : Type 0} (r : Result ℕ E) (types : List Ty) (place : ℕ) (t : Ty) → place < length types → t ≡ replaced s (type_at types place) → IfOk r (λ k. k < length types) → IfOk r (λ k. type_at types k ≡ t) → IfOk r (λ k. IsCopy s types place k)
+  made_copy (Ok k) types place t lt is there ty = record { place_there = lt; copy_there = there; ty = ty ∙ is }
+  made_copy (Err e) types place t lt is there ty = tt
+
+  -- a type that stays as it is, is its own copy
+  pub own_copy : (types : List Ty) (place : ℕ) → place < length types → replaced s (type_at types place) ≡ type_at types place → IsCopy s types place place
+  own_copy types place lt same = record { place_there = lt; copy_there = lt; ty = sym same }
 
 -- ---- what a type holds is less deep
 
@@ -132,13 +135,24 @@ at_mapped types [] i lt = absurd (omega (arith, lt))
 at_mapped types (p ∷ ps) zero lt = refl
 at_mapped types (p ∷ ps) (suc i) lt = at_mapped types ps i (omega (arith, lt))
 
-long_mapped : (types : List Ty) (ps : List ℕ) → length (map (type_at types) ps) ≡ length ps
-long_mapped types [] = refl
-long_mapped types (p ∷ ps) = ap suc (long_mapped types ps)
+-- ---- the parts of a type at a place, also among more types
 
-pub part_shallower : (types : List Ty) (t : Ty) (ps : List ℕ) (i : ℕ) → parts_in t ≡ map (type_at types) ps → i < length ps → depth_of (type_at types (slice_index ps i)) < depth_of t
-part_shallower types t ps i are lt =
-    let long : length (parts_in t) ≡ length ps = ap length are ∙ long_mapped types ps in
-    let h = shallower t i (omega (arith, lt, long)) in
-    let e : depth_of (type_at (parts_in t) i) ≡ depth_of (type_at types (slice_index ps i)) = ap (λ (ts : List Ty). depth_of (type_at ts i)) are ∙ ap depth_of (at_mapped types ps i lt) in
-    omega (arith, h, e)
+module _ (old mid : List Ty) (place : ℕ) (ps : List ℕ) (b : BeginsWith mid old) (there : place < length old) (are : parts_in (type_at mid place) ≡ map (type_at mid) ps) where
+  held : parts_in (type_at old place) ≡ map (type_at mid) ps
+  held = ap parts_in (sym (at_front old mid place b there)) ∙ are
+
+  pub parts_long : length (parts_in (type_at old place)) ≡ length ps
+  parts_long = ap length held ∙ length-map ps (type_at mid)
+
+  pub part_is : (i : ℕ) → i < length ps → type_at mid (slice_index ps i) ≡ type_at (parts_in (type_at old place)) i
+  part_is i lt = sym (ap (λ (ts : List Ty). type_at ts i) held ∙ at_mapped mid ps i lt)
+
+  pub part_shallower : (i : ℕ) → i < length ps → depth_of (type_at mid (slice_index ps i)) < depth_of (type_at old place)
+  part_shallower i lt =
+      let h = shallower (type_at old place) i (omega (arith, lt, parts_long)) in
+      let e : depth_of (type_at mid (slice_index ps i)) ≡ depth_of (type_at (parts_in (type_at old place)) i) = ap depth_of (part_is i lt) in
+      omega (arith, h, e)
+
+-- a place among the parts is one among them later
+pub index_stays : (old mid : List Ty) (place i : ℕ) (before ps : List ℕ) → BeginsWith mid old → place < length old → parts_in (type_at old place) ≡ map (type_at old) before → parts_in (type_at mid place) ≡ map (type_at mid) ps → i < length before → i < length ps
+index_stays old mid place i before ps b there was are lt = omega (arith, lt, parts_long old old place before (itself old) there was, parts_long old mid place ps b there are)

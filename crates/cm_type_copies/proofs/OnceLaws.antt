@@ -1,15 +1,15 @@
 -- Each place is copied once.
-use Rattle.std.proofs.Common.{inl, inr, ◌≡◌, ℕ, zero, suc, ◌+◌, ◌<◌, ◌≤◌, true, false, List, [], ◌∷◌, ◌++◌, length, map, Option, Some, None, refl, sym, ap, ◌∙◌, arith, append-nil, append_assoc, Result, Ok, Err, OnOk}
+use Rattle.std.proofs.Common.{inl, inr, ◌≡◌, ℕ, zero, suc, ◌+◌, ◌<◌, ◌≤◌, true, false, List, [], ◌∷◌, ◌++◌, length, map, Option, Some, None, refl, sym, ap, subst, ◌∙◌, arith, append-nil, append_assoc, Result, Ok, Err, OnOk}
 use Rattle.std.specs.Prelude.{is_some}
 use Rattle.std.specs.List.{AllByRecursion}
 use Rattle.std.specs.Ordering.{is_eq, nat_cmp}
 use Rattle.std.specs.Cmp.{unsigned_tied}
 use Rattle.std.proofs.lemmas.Bool.{cases_eq, ne_eqb}
 use Rattle.std.proofs.lemmas.List.{map-append}
-use Rattle.cm_types.specs.Types.{Ty}
+use Rattle.cm_types.specs.Types.{FuncTy, Ty}
 use Rattle.cm_type_arena.specs.TypeDefs.{type_at}
 use Rattle.cm_replaced.specs.Replaced.{Standing, replaced}
-use Rattle.cm_type_copies.specs.Copies.{AddsOnce, AreDistinct, BeginsWith, CopiesOnce}
+use Rattle.cm_type_copies.specs.Copies.{AddsOnce, AreCopies, AreDistinct, BeginsWith, CopiesOnce, IsCopy}
 use Rattle.cm_type_copies.proofs.CopyLaws.{at_front}
 
 all_both : (P : ℕ → Type 0) (xs ys : List ℕ) → AllByRecursion P xs → AllByRecursion P ys → AllByRecursion P (xs ++ ys)
@@ -106,6 +106,20 @@ module _ (s : Standing) where
       let same : type_at b place ≡ type_at a place = at_front a b place (map (λ p. replaced s (type_at a p)) x.once.sources, x.once.added) lt in
       both_once a b c t u v (place + 1) (omega (arith, lt)) (wider a b t u place (place + 1) (omega arith) x)
       (one_once b c u v place copy ty pushed (is ∙ ap (replaced s) (sym same)) (x.above place (omega arith) ∙ none) here others)
+
+-- a part has a copy, and what this took is among the types
+pub record PartCopied (s : Standing) (mid new : List Ty) (fs gs : List FuncTy) (t u : ℕ → Option ℕ) (place part copy : ℕ) : Type 0 where
+  pub kept : BeginsWith new mid
+  pub funcs : gs ≡ fs
+  pub copies : AreCopies s new u
+  pub once : CopiesOnce s mid new t u place
+  pub is : IsCopy s new part copy
+
+pub part_copied_as : (s : Standing) (mid new made : List Ty) (fs gs hs : List FuncTy) (t u v : ℕ → Option ℕ) (place part copy known : ℕ) → new ≡ made → gs ≡ hs → u ≡ v → copy ≡ known → PartCopied s mid made fs hs t v place part known
+    → PartCopied s mid new fs gs t u place part copy
+part_copied_as s mid new made fs gs hs t u v place part copy known e f k c x =
+    subst (λ (ts : List Ty). PartCopied s mid ts fs gs t u place part copy) (sym e) (subst (λ (ts : List FuncTy). PartCopied s mid made fs ts t u place part copy) (sym f) (subst (λ (w : ℕ → Option ℕ). PartCopied s mid made fs hs t w place part copy) (sym k)
+    (subst (λ (n : ℕ). PartCopied s mid made fs hs t v place part n) (sym c) x)))
 
 pub once_alone : {T E : Type 0} (r : Result T E) (s : Standing) (a b : List Ty) (t u : ℕ → Option ℕ) (n : ℕ) → OnOk r (CopiesOnce s a b t u n) → OnOk r (AddsOnce s a b n)
 once_alone (Ok x) s a b t u n h = h.once

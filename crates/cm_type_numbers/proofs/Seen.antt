@@ -2,7 +2,7 @@
 use Rattle.std.proofs.Common.{◌≡◌, ℕ, Option, Vec, Global, rules, codes}
 use Rattle.std.specs.Option.{option_map}
 use Rattle.std.specs.declared.rc.Rc.{Rc}
-use Rattle.cm_types.specs.Types.{list, fixed_list, fields, cases, flags, record_type, tuple_type, variant_type, enum_type, option_type, result_type, no_cases, plain, carrying}
+use Rattle.cm_types.specs.Types.{bool, signed, unsigned, bits_8, bits_16, bits_32, bits_64, char, string, list, fixed_list, fields, cases, flags, record_type, tuple_type, variant_type, enum_type, option_type, result_type, no_cases, plain, carrying}
 use Rattle.cm_types.specs.TypeTrees.{type_of, field_of, case_of, fields_of, parts_of, cases_of, plain_from, shared_payload}
 use Rattle.cm_names.specs.declared.names.Label.{Label}
 use Rattle.cm_types.specs.declared.type_trees.TypeNode.{TypeNode, the_lemmas}
@@ -49,3 +49,37 @@ seen_case_label c = search (rules, the_lemmas)
 
 pub seen_payload : (c : Case) → (case_of c).1 ≡ option_map type_of (out-Case c).payload
 seen_payload c = search (rules, the_lemmas)
+
+-- primitive types
+pub seen_Bool : type_of leaf.Bool ≡ bool
+seen_Bool = search (rules, the_lemmas)
+
+pub seen_S8 : type_of leaf.S8 ≡ signed bits_8
+seen_S8 = search (rules, the_lemmas)
+
+pub seen_U8 : type_of leaf.U8 ≡ unsigned bits_8
+seen_U8 = search (rules, the_lemmas)
+
+pub seen_S16 : type_of leaf.S16 ≡ signed bits_16
+seen_S16 = search (rules, the_lemmas)
+
+pub seen_U16 : type_of leaf.U16 ≡ unsigned bits_16
+seen_U16 = search (rules, the_lemmas)
+
+pub seen_S32 : type_of leaf.S32 ≡ signed bits_32
+seen_S32 = search (rules, the_lemmas)
+
+pub seen_U32 : type_of leaf.U32 ≡ unsigned bits_32
+seen_U32 = search (rules, the_lemmas)
+
+pub seen_S64 : type_of leaf.S64 ≡ signed bits_64
+seen_S64 = search (rules, the_lemmas)
+
+pub seen_U64 : type_of leaf.U64 ≡ unsigned bits_64
+seen_U64 = search (rules, the_lemmas)
+
+pub seen_Char : type_of leaf.Char ≡ char
+seen_Char = search (rules, the_lemmas)
+
+pub seen_String : type_of leaf.String ≡ string
+seen_String = search (rules, the_lemmas)

@@ -1,21 +1,23 @@
 -- What definitions stand for.
-use Rattle.std.proofs.Common.{◌≡◌, ℕ, List, Option, Some, None, refl, ap}
+use Rattle.std.proofs.Common.{◌≡◌, ℕ, List, [], ◌∷◌, Option, Some, None, refl, ap, ◌∙◌, sym, Vec, Global}
+use Rattle.std.specs.List.{AllZip}
 use Rattle.std.specs.Option.{option_map}
-use Rattle.cm_types.specs.Types.{Ty}
-use Rattle.cm_types.specs.TypeTrees.{TypedLabel, CaseOf, fields_from}
-use Rattle.cm_types.specs.Limits.{IsWithinLimits}
-use Rattle.cm_types.specs.Spellable.{is_spellable, are_spellable}
-use Rattle.cm_type_arena.specs.TypeDefs.{type_at}
+use Rattle.std.specs.Prelude.{map}
+use Rattle.cm_types.specs.declared.resource.ResourceId.{ResourceId}
+use Rattle.cm_types.specs.TypeTrees.{TypedLabel, fields_from}
+use Rattle.cm_types.specs.Spellable.{are_spellable}
+use Rattle.cm_wit_types.specs.declared.signatures.Typed as typed_code
+use Rattle.cm_wit_types.specs.SignatureViews.{typed_tree}
+use Rattle.cm_wit_text.specs.declared.interfaces.Case as case_code
+use Rattle.cm_wit_text.specs.declared.interfaces.TypeDef.{TypeDef}
+use Rattle.cm_wit_text.specs.declared.interfaces.TypeDef.TheVariants as text_is
+use Rattle.cm_wit_text.specs.Views.{case_tree, type_def_tree}
 use Rattle.cm_wit_meanings.specs.declared.fault.MeaningFault.{MeaningFault}
 use Rattle.cm_wit_meanings.specs.declared.fault.MeaningFault.TheVariants as fault
-use Rattle.cm_wit_meanings.specs.declared.scope.Meaning.TheVariants as meant
-use Rattle.cm_wit_meanings.specs.Scopes.{value, as_type}
-use Rattle.cm_wit_meanings.specs.Places.{meaning_in}
-use Rattle.cm_wit_meanings.specs.Meanings.{record_of, variant_of}
-use Rattle.cm_wit_meanings.specs.Faults.{IsFaultIn, IsTypeFault, AreFieldsFault}
-use Rattle.cm_wit_definitions.proofs.FaultLaws.{both_false, made_fault, made_type, unmade_type}
-use Rattle.cm_wit_definitions.proofs.GrowthLaws.{extends_same, extends_more}
-use Rattle.cm_wit_definitions.proofs.MemberLaws.{mapped_fault}
+use Rattle.cm_wit_meanings.specs.Scopes.{Scope, value}
+use Rattle.cm_wit_meanings.specs.Meanings.{case_meaning, def_meaning, each_meaning, record_of, typed_meaning, variant_of}
+use Rattle.cm_wit_meanings.specs.Faults.{AreFieldsFault, IsTypeFault}
+use Rattle.cm_wit_definitions.proofs.FaultLaws.{both_false}
 
 pub record_refused : (o : Option (List TypedLabel)) (f : MeaningFault) → AreFieldsFault o f → IsTypeFault (option_map record_of o) f
 record_refused None fault.NoSuchType h = refl
@@ -26,15 +28,18 @@ record_refused None fault.NotSpellable h = tt
 record_refused (Some fs) fault.NotSpellable h = both_false _ (are_spellable (fields_from fs)) h
 record_refused o fault.Memory h = tt
 
-pub variant_refused : (o : Option (List CaseOf)) (f : MeaningFault) → IsFaultIn variant_of o f → IsTypeFault (option_map variant_of o) f
-variant_refused o f h = made_fault variant_of o f h
+-- names that were cloned
+pub cloned : (xs ys : List (List ℕ)) → AllZip (λ x y. y ≡ x) xs ys → ys ≡ xs
+cloned [] [] h = refl
+cloned [] (y ∷ ys) h = absurd h
+cloned (x ∷ xs) [] h = absurd h
+cloned (x ∷ xs) (y ∷ ys) h = rw (h.0, cloned xs ys h.1) refl
 
-pub ruleset whole_laws = (record_refused, variant_refused, made_type, unmade_type, extends_same, extends_more)
+-- ---- what a text of each kind stands for
 
-pub value_made : (o : Option Ty) (types : List Ty) (p : ℕ) → o ≡ Some (type_at types p) → option_map value o ≡ Some (meaning_in types (meant.Value p))
-value_made o types p e = ap (option_map value) e
+module _ (s : Scope) (r : ResourceId) (text : TypeDef) where
+  pub record_means : (v : Vec typed_code.Typed Global) (fs : List typed_code.Typed) → text ≡ text_is.Record v → fs ≡ v.items → def_meaning s r (type_def_tree text) ≡ option_map value (option_map record_of (each_meaning (typed_meaning s) (map typed_tree fs)))
+  record_means v fs e is = ap (λ (x : TypeDef). def_meaning s r (type_def_tree x)) e ∙ ap (λ (xs : List typed_code.Typed). option_map value (option_map record_of (each_meaning (typed_meaning s) (map typed_tree xs)))) (sym is)
 
-pub value_refused : (o : Option Ty) (f : MeaningFault) → IsTypeFault o f → IsFaultIn as_type (option_map value o) f
-value_refused o f h = mapped_fault value (λ m. IsWithinLimits (as_type m)) (λ m. is_spellable (as_type m)) o f h
-
-pub ruleset def_laws = (value_made, value_refused, extends_same, extends_more)
+  pub variant_means : (v : Vec case_code.Case Global) (cs : List case_code.Case) → text ≡ text_is.Variant v → cs ≡ v.items → def_meaning s r (type_def_tree text) ≡ option_map value (option_map variant_of (each_meaning (case_meaning s) (map case_tree cs)))
+  variant_means v cs e is = ap (λ (x : TypeDef). def_meaning s r (type_def_tree x)) e ∙ ap (λ (xs : List case_code.Case). option_map value (option_map variant_of (each_meaning (case_meaning s) (map case_tree xs)))) (sym is)

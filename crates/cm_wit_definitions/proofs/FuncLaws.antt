@@ -1,10 +1,10 @@
 -- What functions stand for.
-use Rattle.std.proofs.Common.{◌≡◌, ℕ, ◌<◌, ◌≤◌, true, List, [], ◌∷◌, ◌++◌, length, map, Option, Some, None, IfSome, IfOk, IfErr, refl, sym, ap, subst, ◌∙◌, arith, Result, Ok, Err, length-append, codes}
+use Rattle.std.proofs.Common.{◌≡◌, ℕ, ◌<◌, ◌≤◌, true, List, [], ◌∷◌, ◌++◌, length, map, Option, Some, None, IfSome, IfOk, IfErr, refl, sym, ap, subst, ◌∙◌, arith, Result, Ok, Err, Vec, Global, length-append, codes}
 use Rattle.std.specs.Option.{option_map, option_and_then}
 use Rattle.std.specs.List.{AllByRecursion}
 use Rattle.std.proofs.lemmas.List.{get_or_push}
 use Rattle.cm_types.specs.declared.resource.ResourceId.{ResourceId}
-use Rattle.cm_type_arena.specs.Places.{HasFuncParts, types_of}
+use Rattle.cm_type_arena.specs.Places.{HasFuncParts, funcs_of, types_of}
 use Rattle.cm_type_arena.specs.declared.types.Types.{Types}
 use Rattle.cm_types.specs.Types.{Ty, FuncTy, borrow, own}
 use Rattle.cm_types.specs.TypeTrees.{TypedLabel, fields_from}
@@ -14,6 +14,11 @@ use Rattle.cm_type_arena.specs.TypeDefs.{type_at, func_at, field_def_type, func_
 use Rattle.cm_type_arena.specs.declared.funcs.FuncDef.{FuncDef}
 use Rattle.cm_type_arena.specs.declared.type_defs.FieldDef.{FieldDef}
 use Rattle.cm_wit_types.specs.declared.signatures.Func as func_code
+use Rattle.cm_wit_types.specs.declared.signatures.Typed as typed_code
+use Rattle.cm_wit_text.specs.declared.interfaces.ResourceFunc.{ResourceFunc}
+use Rattle.cm_wit_text.specs.declared.interfaces.ResourceFunc.TheVariants as func_is
+use Rattle.cm_wit_text.specs.Trees.{constructor}
+use Rattle.cm_wit_text.specs.Views.{resource_func_tree}
 use Rattle.cm_wit_types.specs.SignatureViews.{func_tree, typed_tree}
 use Rattle.cm_wit_types.specs.TypeViews.{type_tree}
 use Rattle.cm_wit_meanings.specs.declared.fault.MeaningFault.{MeaningFault}
@@ -21,11 +26,13 @@ use Rattle.cm_wit_meanings.specs.declared.fault.MeaningFault.TheVariants as faul
 use Rattle.cm_wit_meanings.specs.declared.scope.Scope as code_scope
 use Rattle.cm_wit_meanings.specs.Scopes.{Scope}
 use Rattle.cm_wit_meanings.specs.Places.{Extends, ArePlaced, scope_in}
-use Rattle.cm_wit_meanings.specs.Meanings.{func_meaning, each_meaning, typed_meaning, payload_meaning, with_self}
+use Rattle.cm_wit_meanings.specs.Meanings.{func_meaning, each_meaning, typed_meaning, payload_meaning, resource_func_meaning, with_self}
 use Rattle.cm_wit_meanings.specs.Faults.{IsFuncWithin, IsFuncFault, AreFieldsFault, IsPayloadFault, IsTypeFault}
-use Rattle.cm_wit_definitions.proofs.FuncFaultLaws.{both_false, first_false}
-use Rattle.cm_wit_definitions.proofs.FuncGrowthLaws.{extends_same, extends_one, extends_more, place_kept, extends_length, arena_within}
-use Rattle.cm_wit_definitions.proofs.FuncScopeLaws.{scope_kept, scope_placed}
+use Rattle.cm_wit_meanings.specs.Added.{AddedType}
+use Rattle.cm_wit_definitions.specs.Added.{AddedFields, AddedFunc}
+use Rattle.cm_wit_definitions.proofs.FaultLaws.{both_false, first_false}
+use Rattle.cm_wit_definitions.proofs.GrowthLaws.{extends_same, extends_one, extends_more, place_kept, extends_length, arena_within}
+use Rattle.cm_wit_definitions.proofs.ScopeLaws.{scope_kept}
 
 -- ---- the last one
 
@@ -89,26 +96,30 @@ pub fields_below : (old new : List Ty) (fs : List FieldDef) → Extends old new 
 fields_below old new fs e h = fields_there (length old) (length new) fs (extends_length old new e) h
 
 -- the parameters and the result, one after the other
-module _ (sc : code_scope.Scope) (text : func_code.Func) (first mid last : List Ty) (e : Extends first mid) (g : Extends mid last) (placed : ArePlaced (length first) sc.table.now) (fs : List FieldDef) (there : AllByRecursion (λ d. d.ty < length mid) fs)
-    (p : each_meaning (typed_meaning (scope_in first sc)) (map typed_tree text.params.items) ≡ Some (map (field_def_type mid) fs)) where
-  pub func_of_parts : (t : Option ℕ) (d : FuncDef) → payload_meaning (scope_in mid sc) (option_map type_tree text.result) ≡ Some (option_map (type_at last) t) → d.params.items ≡ fs → d.result ≡ t → func_meaning (scope_in first sc) (func_tree text) ≡ Some (func_def_type last d)
-  func_of_parts t d q a b =
-      let same = scope_kept first mid sc e placed in
-      let stay : map (field_def_type last) fs ≡ map (field_def_type mid) fs = fields_stay mid last fs g there in
-      func_made (each_meaning (typed_meaning (scope_in first sc)) (map typed_tree text.params.items)) (map (field_def_type last) fs) (payload_meaning (scope_in first sc) (option_map type_tree text.result)) (option_map (type_at last) t)
-      (p ∙ ap Some (sym stay)) (ap (λ (s : Scope). payload_meaning s (option_map type_tree text.result)) (sym same) ∙ q)
-      ∙ sym (rw (a, b) refl)
+module _ (sc : code_scope.Scope) (text : func_code.Func) (first mid last : Types) (placed : ArePlaced (length (types_of first)) sc.table.now) (v : Vec FieldDef Global)
+    (a : AddedFields first mid (each_meaning (typed_meaning (scope_in (types_of first) sc)) (map typed_tree text.params.items)) (Ok v)) (grown : Extends (types_of mid) (types_of last)) (funcs : funcs_of last ≡ funcs_of mid) where
+  same_answer : payload_meaning (scope_in (types_of mid) sc) (option_map type_tree text.result) ≡ payload_meaning (scope_in (types_of first) sc) (option_map type_tree text.result)
+  same_answer = ap (λ (s : Scope). payload_meaning s (option_map type_tree text.result)) (scope_kept (types_of first) (types_of mid) sc a.grown placed)
 
--- what is wrong with the result
-module _ (sc : code_scope.Scope) (text : func_code.Func) (first mid : List Ty) (e : Extends first mid) (placed : ArePlaced (length first) sc.table.now) (xs : List TypedLabel)
-    (p : each_meaning (typed_meaning (scope_in first sc)) (map typed_tree text.params.items) ≡ Some xs) where
-  pub answer_refused : (f : MeaningFault) → IsPayloadFault (payload_meaning (scope_in mid sc) (option_map type_tree text.result)) f → IsFuncFault (func_meaning (scope_in first sc) (func_tree text)) f
-  answer_refused f h =
-      let same = scope_kept first mid sc e placed in
-      result_refused (each_meaning (typed_meaning (scope_in first sc)) (map typed_tree text.params.items)) xs (payload_meaning (scope_in first sc) (option_map type_tree text.result)) f p
-      (subst (λ (s : Scope). IsPayloadFault (payload_meaning s (option_map type_tree text.result)) f) same h)
+  pub func_added : (t : Option ℕ) (d : FuncDef) → IsBelow (length (types_of last)) t → payload_meaning (scope_in (types_of mid) sc) (option_map type_tree text.result) ≡ Some (option_map (type_at (types_of last)) t) → d.params.items ≡ v.items → d.result ≡ t → AddedFunc first last (func_meaning (scope_in (types_of first) sc) (func_tree text)) (Ok d)
+  func_added t d there q e r =
+      let stay : map (field_def_type (types_of last)) v.items ≡ map (field_def_type (types_of mid)) v.items = fields_stay (types_of mid) (types_of last) v.items grown a.there in
+      record {
+        there = rw (e, r) (fields_below (types_of mid) (types_of last) v.items grown a.there, there);
+        meaning = func_made (each_meaning (typed_meaning (scope_in (types_of first) sc)) (map typed_tree text.params.items)) (map (field_def_type (types_of last)) v.items) (payload_meaning (scope_in (types_of first) sc) (option_map type_tree text.result)) (option_map (type_at (types_of last)) t) (a.meaning ∙ ap Some (sym stay)) (sym same_answer ∙ q) ∙ sym (rw (e, r) refl);
+        fault = tt;
+        grown = extends_more (types_of first) (types_of mid) (types_of last) a.grown grown;
+        funcs = funcs ∙ a.funcs;
+      }
 
-pub ruleset def_laws = (extends_same, extends_more, params_refused, scope_placed, fields_below)
+  pub answer_refused : (f : MeaningFault) → IsPayloadFault (payload_meaning (scope_in (types_of mid) sc) (option_map type_tree text.result)) f → AddedFunc first last (func_meaning (scope_in (types_of first) sc) (func_tree text)) (Err f)
+  answer_refused f h = record {
+    there = tt;
+    meaning = tt;
+    fault = result_refused (each_meaning (typed_meaning (scope_in (types_of first) sc)) (map typed_tree text.params.items)) (map (field_def_type (types_of mid)) v.items) (payload_meaning (scope_in (types_of first) sc) (option_map type_tree text.result)) f a.meaning (subst (λ (o : Option (Option Ty)). IsPayloadFault o f) same_answer h);
+    grown = extends_more (types_of first) (types_of mid) (types_of last) a.grown grown;
+    funcs = funcs ∙ a.funcs;
+  }
 
 -- ---- the whole function
 
@@ -119,8 +130,6 @@ func_placed o x funcs (Err f) e h = tt
 pub func_unplaced : (o : Option FuncTy) (x : FuncTy) (r : Result ℕ MeaningFault) → o ≡ Some x → IfErr r (IsFuncFault (Some x)) → IfErr r (IsFuncFault o)
 func_unplaced o x (Ok p) e h = tt
 func_unplaced o x (Err f) e h = subst (λ (m : Option FuncTy). IsFuncFault m f) (sym e) h
-
-pub ruleset func_laws = (extends_same, extends_more, func_placed, func_unplaced)
 
 -- ---- with `self`
 
@@ -142,18 +151,24 @@ module _ (old new : List Ty) (r : ResourceId) (e : Extends old new) (d : FuncDef
   pub self_there : (made : FuncDef) (f : FieldDef) → f.ty < length new → made.params.items ≡ f ∷ d.params.items → made.result ≡ d.result → HasFuncParts (length new) made
   self_there made f lt q s = rw (q, s) ((lt, fields_below old new d.params.items e parts.0), option_there (length old) (length new) d.result (extends_length old new e) parts.1)
 
+pub self_added : (old new : Types) (r : ResourceId) (d : FuncDef) → HasFuncParts (length (types_of old)) d → (f : FieldDef) (made : FuncDef) → AddedType old new (Some (borrow r)) (Ok f.ty) → f.label ≡ codes "self" → made.params.items ≡ f ∷ d.params.items → made.result ≡ d.result → AddedFunc old new (Some (with_self r (func_def_type (types_of old) d))) (Ok made)
+self_added old new r d parts f made a l q s =
+    let is : type_at (types_of new) f.ty ≡ borrow r = cc a.meaning in
+    record {
+      there = self_there (types_of old) (types_of new) r a.grown d parts made f a.there q s;
+      meaning = ap Some (sym (self_made (types_of old) (types_of new) r a.grown d parts made f l is q s));
+      fault = tt;
+      grown = a.grown;
+      funcs = a.funcs;
+    }
+
 pub self_refused : (r : ResourceId) (f : FuncTy) (why : MeaningFault) → IsTypeFault (Some (borrow r)) why → IsFuncFault (Some (with_self r f)) why
 self_refused r f fault.NoSuchType h = absurd cc
 self_refused r f fault.TooLarge h = λ w. h (omega (arith, w.0.0), omega (arith, w.0.1))
 self_refused r f fault.NotSpellable h = absurd cc
 self_refused r f fault.Memory h = tt
 
-pub ruleset self_laws = (extends_same, extends_more, self_refused)
-
 -- ---- methods
-
-pub method_made : (o : Option FuncTy) (x y : FuncTy) (r : ResourceId) → o ≡ Some x → y ≡ with_self r x → option_map (with_self r) o ≡ Some y
-method_made o x y r e q = ap (option_map (with_self r)) e ∙ ap Some (sym q)
 
 pub method_refused : (o : Option FuncTy) (r : ResourceId) (f : MeaningFault) → IsFuncFault o f → IsFuncFault (option_map (with_self r) o) f
 method_refused None r fault.NoSuchType h = refl
@@ -163,11 +178,6 @@ method_refused (Some x) r fault.TooLarge h = λ w. h ((omega (arith, w.0.0), ome
 method_refused None r fault.NotSpellable h = tt
 method_refused (Some x) r fault.NotSpellable h = h
 method_refused o r fault.Memory h = tt
-
-pub method_unmade : (o : Option FuncTy) (x : FuncTy) (r : ResourceId) (f : MeaningFault) → o ≡ Some x → IsFuncFault (Some (with_self r x)) f → IsFuncFault (option_map (with_self r) o) f
-method_unmade o x r f e h = subst (λ (m : Option FuncTy). IsFuncFault m f) (sym (ap (option_map (with_self r)) e)) h
-
-pub ruleset method_laws = (extends_same, extends_more, method_made, method_refused, method_unmade)
 
 -- ---- constructors
 
@@ -192,9 +202,19 @@ own_refused ts r fault.Memory h = tt
 pub constructor_unmade : (o : Option (List TypedLabel)) (ts : List TypedLabel) (r : ResourceId) (f : MeaningFault) → o ≡ Some ts → IsTypeFault (Some (own r)) f → IsFuncFault (option_map (made_by r) o) f
 constructor_unmade o ts r f e h = subst (λ (m : Option FuncTy). IsFuncFault m f) (sym (ap (option_map (made_by r)) e)) (own_refused ts r f h)
 
-pub constructor_made : (old new : List Ty) (o : Option (List TypedLabel)) (fs : List FieldDef) (r : ResourceId) (p : ℕ) (d : FuncDef) → o ≡ Some (map (field_def_type old) fs) → Extends old new → AllByRecursion (λ f. f.ty < length old) fs → type_at new p ≡ own r → d.params.items ≡ fs → d.result ≡ Some p → option_map (made_by r) o ≡ Some (func_def_type new d)
-constructor_made old new o fs r p d e g there q a b =
-    let stay : map (field_def_type new) fs ≡ map (field_def_type old) fs = fields_stay old new fs g there in
-    ap (option_map (made_by r)) e ∙ sym (rw (a, b, stay, q) refl)
+pub constructor_added : {old mid new : Types} {o : Option (List TypedLabel)} {p : ℕ} (r : ResourceId) (v : Vec FieldDef Global) (d : FuncDef) → AddedFields old mid o (Ok v) → AddedType mid new (Some (own r)) (Ok p) → d.params.items ≡ v.items → d.result ≡ Some p → AddedFunc old new (option_map (made_by r) o) (Ok d)
+constructor_added {old} {mid} {new} {o} {p} r v d a b e q =
+    let stay : map (field_def_type (types_of new)) v.items ≡ map (field_def_type (types_of mid)) v.items = fields_stay (types_of mid) (types_of new) v.items b.grown a.there in
+    let is : type_at (types_of new) p ≡ own r = cc b.meaning in
+    record {
+      there = rw (e, q) (fields_below (types_of mid) (types_of new) v.items b.grown a.there, b.there);
+      meaning = ap (option_map (made_by r)) a.meaning ∙ sym (rw (e, q, stay, is) refl);
+      fault = tt;
+      grown = extends_more (types_of old) (types_of mid) (types_of new) a.grown b.grown;
+      funcs = b.funcs ∙ a.funcs;
+    }
 
-pub ruleset constructor_laws = (extends_same, extends_more, constructor_refused, constructor_unmade, fields_below)
+-- ---- functions of resources
+
+pub constructor_means : (s : Scope) (r : ResourceId) (text : ResourceFunc) (v : Vec typed_code.Typed Global) (ps : List typed_code.Typed) → text ≡ func_is.Constructor v → ps ≡ v.items → resource_func_meaning s r (resource_func_tree text) ≡ resource_func_meaning s r (constructor (map typed_tree ps))
+constructor_means s r text v ps e is = ap (λ (x : ResourceFunc). resource_func_meaning s r (resource_func_tree x)) e ∙ ap (λ (xs : List typed_code.Typed). resource_func_meaning s r (constructor (map typed_tree xs))) (sym is)

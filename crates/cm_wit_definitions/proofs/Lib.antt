@@ -3,9 +3,7 @@ mod ScopeLaws
 mod FaultLaws
 mod EachLaws
 mod PushLaws
+mod AddedLaws
 mod MemberLaws
 mod DefinitionLaws
-mod FuncGrowthLaws
-mod FuncScopeLaws
-mod FuncFaultLaws
 mod FuncLaws

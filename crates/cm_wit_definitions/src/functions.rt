@@ -1,18 +1,18 @@
 //! What functions stand for.
 
 ghost use Rattle.std.specs.Prelude.{◌≡◌, ◌<◌, IfOk, IfErr, Some, codes, length, map};
-ghost use Rattle.std.specs.List.{AllByRecursion};
 ghost use Rattle.std.specs.Option.{option_map};
 ghost use Rattle.cm_type_arena.specs.Places.{HasFuncParts, funcs_of, types_of};
-ghost use Rattle.cm_type_arena.specs.TypeDefs.{field_def_type, func_at, func_def_type};
+ghost use Rattle.cm_type_arena.specs.TypeDefs.{func_at, func_def_type};
 ghost use Rattle.cm_wit_types.specs.SignatureViews.{func_tree, typed_tree};
 ghost use Rattle.cm_wit_text.specs.Trees.{constructor};
 ghost use Rattle.cm_wit_text.specs.Views.{resource_func_tree};
 ghost use Rattle.cm_wit_meanings.specs.Faults.{IsFuncFault, IsFuncWithin};
 ghost use Rattle.cm_wit_meanings.specs.Meanings.{func_meaning, resource_func_meaning, with_self};
 ghost use Rattle.cm_wit_meanings.specs.Places.{ArePlaced, Extends, scope_in};
+ghost use Rattle.cm_wit_definitions.specs.Added.{AddedFunc};
 
-use crate::{push_fields, push_payload};
+use crate::members::{add_fields, push_payload};
 use cm_type_arena::{DefFault, FieldDef, FuncDef, TypeDef, Types};
 use cm_types::{Label, ResourceId};
 use cm_wit_meanings::{MeaningFault, Scope, push};
@@ -42,7 +42,6 @@ fn push_func_def(alloc: Global, types: &mut Types, def: FuncDef) -> Result<usize
 }
 
 /// Adds the types in a function, and answers these with their places.
-#[tactic(auto, using(crate::proofs::FuncLaws::def_laws))]
 fn func_def(
     alloc: Global,
     types: &mut Types,
@@ -50,16 +49,10 @@ fn func_def(
     text: &Func,
 ) -> Result<FuncDef, MeaningFault>
     requires placed { ArePlaced (length (types_of types.old)) scope.now.table.now }
-    ensures parts { IfOk result (HasFuncParts (length (types_of types.new))) }
-    ensures meaning { IfOk result (λ d.
-        func_meaning (scope_in (types_of types.old) scope.now) (func_tree text.now)
-        ≡ Some (func_def_type (types_of types.new) d)) }
-    ensures fault { IfErr result (IsFuncFault
-        (func_meaning (scope_in (types_of types.old) scope.now) (func_tree text.now))) }
-    ensures grown { Extends (types_of types.old) (types_of types.new) }
-    ensures funcs { funcs_of types.new ≡ funcs_of types.old }
+    ensures { AddedFunc types.old types.new
+        (func_meaning (scope_in (types_of types.old) scope.now) (func_tree text.now)) result }
 {
-    let params = push_fields(alloc, types, scope, &text.params)?;
+    let params = add_fields(alloc, types, scope, &text.params)?;
     let answer = push_payload(alloc, types, scope, &text.result)?;
     Ok(FuncDef {
         params,
@@ -76,7 +69,6 @@ fn func_def(
 /// it; and `Memory` where there is no memory. Then some of the types in it may have been added;
 /// earlier types, and those of functions, stay as they are. It costs the function's own length and
 /// a look-up for each of its names: nothing below them is walked.
-#[tactic(auto, using(crate::proofs::FuncLaws::func_laws))]
 pub fn push_func(
     alloc: Global,
     types: &mut Types,
@@ -109,7 +101,6 @@ fn self_label(alloc: Global) -> Result<Label, AllocError>
 }
 
 /// The function with a first parameter `self`, the borrowed resource.
-#[tactic(auto, using(crate::proofs::FuncLaws::self_laws))]
 fn with_self(
     alloc: Global,
     types: &mut Types,
@@ -117,13 +108,8 @@ fn with_self(
     def: FuncDef,
 ) -> Result<FuncDef, MeaningFault>
     requires parts { HasFuncParts (length (types_of types.old)) def }
-    ensures parts { IfOk result (HasFuncParts (length (types_of types.new))) }
-    ensures ty { IfOk result (λ d. func_def_type (types_of types.new) d
-        ≡ with_self resource (func_def_type (types_of types.old) def)) }
-    ensures fault { IfErr result (IsFuncFault
-        (Some (with_self resource (func_def_type (types_of types.old) def)))) }
-    ensures grown { Extends (types_of types.old) (types_of types.new) }
-    ensures funcs { funcs_of types.new ≡ funcs_of types.old }
+    ensures { AddedFunc types.old types.new
+        (Some (with_self resource (func_def_type (types_of types.old) def))) result }
 {
     let label = self_label(alloc)?;
     let ty = push(alloc, types, TypeDef::Borrow(resource))?;
@@ -141,7 +127,6 @@ fn with_self(
 }
 
 /// Adds the types in a method, and answers these with their places.
-#[tactic(auto, using(crate::proofs::FuncLaws::method_laws))]
 fn method_def(
     alloc: Global,
     types: &mut Types,
@@ -150,21 +135,14 @@ fn method_def(
     text: &Func,
 ) -> Result<FuncDef, MeaningFault>
     requires placed { ArePlaced (length (types_of types.old)) scope.now.table.now }
-    ensures parts { IfOk result (HasFuncParts (length (types_of types.new))) }
-    ensures meaning { IfOk result (λ d. option_map (with_self resource)
-        (func_meaning (scope_in (types_of types.old) scope.now) (func_tree text.now))
-        ≡ Some (func_def_type (types_of types.new) d)) }
-    ensures fault { IfErr result (IsFuncFault (option_map (with_self resource)
-        (func_meaning (scope_in (types_of types.old) scope.now) (func_tree text.now)))) }
-    ensures grown { Extends (types_of types.old) (types_of types.new) }
-    ensures funcs { funcs_of types.new ≡ funcs_of types.old }
+    ensures { AddedFunc types.old types.new (option_map (with_self resource)
+        (func_meaning (scope_in (types_of types.old) scope.now) (func_tree text.now))) result }
 {
     let def = func_def(alloc, types, scope, text)?;
     with_self(alloc, types, resource, def)
 }
 
 /// Adds the types in a constructor with these parameters, and answers these with their places.
-#[tactic(auto, using(crate::proofs::FuncLaws::constructor_laws))]
 fn constructor_def(
     alloc: Global,
     types: &mut Types,
@@ -173,17 +151,11 @@ fn constructor_def(
     texts: &[Typed],
 ) -> Result<FuncDef, MeaningFault>
     requires placed { ArePlaced (length (types_of types.old)) scope.now.table.now }
-    ensures parts { IfOk result (HasFuncParts (length (types_of types.new))) }
-    ensures meaning { IfOk result (λ d.
-        resource_func_meaning (scope_in (types_of types.old) scope.now) resource
-        (constructor (map typed_tree texts.now)) ≡ Some (func_def_type (types_of types.new) d)) }
-    ensures fault { IfErr result (IsFuncFault
+    ensures { AddedFunc types.old types.new
         (resource_func_meaning (scope_in (types_of types.old) scope.now) resource
-        (constructor (map typed_tree texts.now)))) }
-    ensures grown { Extends (types_of types.old) (types_of types.new) }
-    ensures funcs { funcs_of types.new ≡ funcs_of types.old }
+        (constructor (map typed_tree texts.now))) result }
 {
-    let params = push_fields(alloc, types, scope, texts)?;
+    let params = add_fields(alloc, types, scope, texts)?;
     let place = push(alloc, types, TypeDef::Own(resource))?;
     Ok(FuncDef {
         params,
@@ -191,12 +163,33 @@ fn constructor_def(
     })
 }
 
+/// Adds the types in a function of a resource, and answers these with their places.
+fn resource_func_def(
+    alloc: Global,
+    types: &mut Types,
+    scope: &Scope<'_, '_>,
+    resource: ResourceId,
+    text: &ResourceFunc,
+) -> Result<FuncDef, MeaningFault>
+    requires placed { ArePlaced (length (types_of types.old)) scope.now.table.now }
+    ensures { AddedFunc types.old types.new
+        (resource_func_meaning (scope_in (types_of types.old) scope.now) resource
+        (resource_func_tree text.now)) result }
+{
+    match text {
+        ResourceFunc::Method(_, func) => method_def(alloc, types, scope, resource, func),
+        ResourceFunc::Static(_, func) => func_def(alloc, types, scope, func),
+        ResourceFunc::Constructor(params) => {
+            constructor_def(alloc, types, scope, resource, params)
+        }
+    }
+}
+
 /// Adds the type of a function of a resource, and the types in it, and answers its place among
 /// those of functions. A method has a first parameter `self`, the borrowed resource, and a
 /// constructor answers a handle that owns it.
 ///
 /// Faults come as those of `push_func`.
-#[tactic(auto, using(crate::proofs::FuncLaws::func_laws))]
 pub fn push_resource_func(
     alloc: Global,
     types: &mut Types,
@@ -216,15 +209,6 @@ pub fn push_resource_func(
     ensures grown { Extends (types_of types.old) (types_of types.new) }
     ensures funcs { Extends (funcs_of types.old) (funcs_of types.new) }
 {
-    match text {
-        ResourceFunc::Method(_, func) => {
-            let def = method_def(alloc, types, scope, resource, func)?;
-            push_func_def(alloc, types, def)
-        }
-        ResourceFunc::Static(_, func) => push_func(alloc, types, scope, func),
-        ResourceFunc::Constructor(params) => {
-            let def = constructor_def(alloc, types, scope, resource, params)?;
-            push_func_def(alloc, types, def)
-        }
-    }
+    let def = resource_func_def(alloc, types, scope, resource, text)?;
+    push_func_def(alloc, types, def)
 }

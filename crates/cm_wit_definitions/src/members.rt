@@ -1,20 +1,18 @@
 //! What the fields, cases and parameters of texts stand for.
 
-ghost use Rattle.std.specs.Prelude.{◌≡◌, ◌<◌, IfOk, IfErr, IfSome, Some, length, map};
+ghost use Rattle.std.specs.Prelude.{◌≡◌, ◌<◌, IfOk, IfErr, Some, length, map};
 ghost use Rattle.std.specs.List.{AllByRecursion};
 ghost use Rattle.std.specs.Option.{option_map};
-ghost use Rattle.cm_types.specs.Limits.{IsWithinLimits};
-ghost use Rattle.cm_types.specs.Spellable.{is_spellable, is_spellable_payload};
 ghost use Rattle.cm_type_arena.specs.Places.{funcs_of, types_of};
-ghost use Rattle.cm_type_arena.specs.TypeDefs.{IsBelow, case_def_type, field_def_type, type_at};
+ghost use Rattle.cm_type_arena.specs.TypeDefs.{IsBelow, field_def_type, type_at};
 ghost use Rattle.cm_wit_types.specs.TypeViews.{type_tree};
 ghost use Rattle.cm_wit_types.specs.SignatureViews.{typed_tree};
 ghost use Rattle.cm_wit_text.specs.Views.{case_tree};
-ghost use Rattle.cm_wit_meanings.specs.Faults.{AreFieldsFault, IsFaultIn, IsFaultOf};
-ghost use Rattle.cm_wit_meanings.specs.Faults.{IsPayloadFault};
+ghost use Rattle.cm_wit_meanings.specs.Faults.{AreFieldsFault, IsPayloadFault};
 ghost use Rattle.cm_wit_meanings.specs.Meanings.{case_meaning, each_meaning, payload_meaning};
-ghost use Rattle.cm_wit_meanings.specs.Meanings.{record_of, typed_meaning, variant_of};
+ghost use Rattle.cm_wit_meanings.specs.Meanings.{typed_meaning};
 ghost use Rattle.cm_wit_meanings.specs.Places.{ArePlaced, Extends, scope_in};
+ghost use Rattle.cm_wit_definitions.specs.Added.{AddedCase, AddedCases, AddedField, AddedFields};
 
 use cm_type_arena::{CaseDef, FieldDef, Types};
 use cm_wit_meanings::{MeaningFault, Scope, push_type};
@@ -23,7 +21,6 @@ use cm_wit_types::{Typed, WitType};
 use std::alloc::Global;
 
 /// Adds the type of a field, and answers the field with its place.
-#[tactic(auto, using(crate::proofs::MemberLaws::field_laws))]
 fn push_field(
     alloc: Global,
     types: &mut Types,
@@ -31,19 +28,35 @@ fn push_field(
     text: &Typed,
 ) -> Result<FieldDef, MeaningFault>
     requires placed { ArePlaced (length (types_of types.old)) scope.now.table.now }
-    ensures there { IfOk result (λ f. f.ty < length (types_of types.new)) }
-    ensures meaning { IfOk result (λ f.
-        typed_meaning (scope_in (types_of types.old) scope.now) (typed_tree text.now)
-        ≡ Some (field_def_type (types_of types.new) f)) }
-    ensures fault { IfErr result
-        (IsFaultOf (λ f. IsWithinLimits f.1) (λ f. is_spellable f.1)
-        (typed_meaning (scope_in (types_of types.old) scope.now) (typed_tree text.now))) }
-    ensures grown { Extends (types_of types.old) (types_of types.new) }
-    ensures funcs { funcs_of types.new ≡ funcs_of types.old }
+    ensures { AddedField types.old types.new (typed_meaning
+        (scope_in (types_of types.old) scope.now) (typed_tree text.now)) result }
 {
     let label = text.name.clone()?;
     let ty = push_type(alloc, types, scope, &text.ty)?;
     Ok(FieldDef { label, ty })
+}
+
+/// Adds the types of fields or parameters, and answers these with their places, in order; its
+/// faults are those of `push_fields`.
+pub fn add_fields(
+    alloc: Global,
+    types: &mut Types,
+    scope: &Scope<'_, '_>,
+    texts: &[Typed],
+) -> Result<Vec<FieldDef>, MeaningFault>
+    requires placed { ArePlaced (length (types_of types.old)) scope.now.table.now }
+    ensures { AddedFields types.old types.new
+        (each_meaning (typed_meaning (scope_in (types_of types.old) scope.now))
+        (map typed_tree texts.now)) result }
+{
+    let mut fields = Vec::new(alloc);
+    for text in texts {
+        let field = push_field(alloc, types, scope, text)?;
+        if fields.push(field).is_err() {
+            return Err(MeaningFault::Memory);
+        }
+    }
+    Ok(fields)
 }
 
 /// Adds the types of fields or parameters, and answers these with their places, in order.
@@ -71,14 +84,7 @@ pub fn push_fields(
     ensures grown { Extends (types_of types.old) (types_of types.new) }
     ensures funcs { funcs_of types.new ≡ funcs_of types.old }
 {
-    let mut fields = Vec::new(alloc);
-    for text in texts {
-        let field = push_field(alloc, types, scope, text)?;
-        if fields.push(field).is_err() {
-            return Err(MeaningFault::Memory);
-        }
-    }
-    Ok(fields)
+    add_fields(alloc, types, scope, texts)
 }
 
 /// Adds the type of a payload or a result, if there is one, and answers its place; none is added
@@ -111,7 +117,6 @@ pub fn push_payload(
 }
 
 /// Adds the type of a case's payload, if it carries one, and answers the case with its place.
-#[tactic(auto, using(crate::proofs::MemberLaws::case_laws))]
 fn push_case(
     alloc: Global,
     types: &mut Types,
@@ -119,15 +124,8 @@ fn push_case(
     text: &Case,
 ) -> Result<CaseDef, MeaningFault>
     requires placed { ArePlaced (length (types_of types.old)) scope.now.table.now }
-    ensures there { IfOk result (λ c. IsBelow (length (types_of types.new)) c.payload) }
-    ensures meaning { IfOk result (λ c.
-        case_meaning (scope_in (types_of types.old) scope.now) (case_tree text.now)
-        ≡ Some (case_def_type (types_of types.new) c)) }
-    ensures fault { IfErr result
-        (IsFaultOf (λ c. IfSome c.1 IsWithinLimits) (λ c. is_spellable_payload c.1)
-        (case_meaning (scope_in (types_of types.old) scope.now) (case_tree text.now))) }
-    ensures grown { Extends (types_of types.old) (types_of types.new) }
-    ensures funcs { funcs_of types.new ≡ funcs_of types.old }
+    ensures { AddedCase types.old types.new (case_meaning
+        (scope_in (types_of types.old) scope.now) (case_tree text.now)) result }
 {
     let label = text.name.clone()?;
     let payload = push_payload(alloc, types, scope, &text.ty)?;
@@ -142,17 +140,9 @@ pub fn push_cases(
     texts: &[Case],
 ) -> Result<Vec<CaseDef>, MeaningFault>
     requires placed { ArePlaced (length (types_of types.old)) scope.now.table.now }
-    ensures there { IfOk result (λ cs.
-        AllByRecursion (λ c. IsBelow (length (types_of types.new)) c.payload) cs.items) }
-    ensures meaning { IfOk result (λ cs.
-        each_meaning (case_meaning (scope_in (types_of types.old) scope.now))
-        (map case_tree texts.now)
-        ≡ Some (map (case_def_type (types_of types.new)) cs.items)) }
-    ensures fault { IfErr result (IsFaultIn variant_of
+    ensures { AddedCases types.old types.new
         (each_meaning (case_meaning (scope_in (types_of types.old) scope.now))
-        (map case_tree texts.now))) }
-    ensures grown { Extends (types_of types.old) (types_of types.new) }
-    ensures funcs { funcs_of types.new ≡ funcs_of types.old }
+        (map case_tree texts.now)) result }
 {
     let mut cases = Vec::new(alloc);
     for text in texts {

@@ -1,14 +1,14 @@
 -- Faults of parts are faults of the whole.
-use Rattle.std.proofs.Common.{◌≡◌, ℕ, ◌≤◌, ◌*◌, max, Bool, true, false, ◌&&◌, nat_lt, Option, Some, None, refl, ap, arith}
+use Rattle.std.proofs.Common.{◌≡◌, ℕ, ◌≤◌, ◌*◌, max, Bool, true, false, ◌&&◌, nat_lt, Option, Some, None, IfSome, refl, ap, arith}
 use Rattle.std.proofs.Math.Nat.{le-mul_of_pos_right, mul_comm}
 use Rattle.std.specs.Option.{option_map, option_and_then}
 use Rattle.cm_types.specs.Types.{Ty, list, fixed_list}
 use Rattle.cm_types.specs.Limits.{IsWithinLimits, nodes_of}
-use Rattle.cm_types.specs.Spellable.{is_spellable}
+use Rattle.cm_types.specs.Spellable.{is_spellable, is_spellable_payload}
 use Rattle.cm_wit_meanings.specs.declared.fault.MeaningFault.{MeaningFault}
 use Rattle.cm_wit_meanings.specs.declared.fault.MeaningFault.TheVariants as fault
 use Rattle.cm_wit_meanings.specs.Meanings.{option_of, result_of}
-use Rattle.cm_wit_meanings.specs.Faults.{IsTypeFault, IsFaultIn}
+use Rattle.cm_wit_meanings.specs.Faults.{IsTypeFault, IsFaultIn, IsPayloadFault}
 
 pub both_false : (a b : Bool) → b ≡ false → (a && b) ≡ false
 both_false true b h = h
@@ -44,30 +44,58 @@ fixed_fault n o f h =
 pub option_fault : (o : Option Ty) (f : MeaningFault) → IsTypeFault o f → IsTypeFault (option_map option_of o) f
 option_fault o f h = above_fault option_of (λ t w. (omega (arith, w.0), omega (arith, w.1))) (λ t e. first_false (is_spellable t) true e) o f h
 
-pub ok_fault : (o : Option Ty) (f : MeaningFault) → IsTypeFault o f → IsTypeFault (option_map (λ x. result_of (Some x) None) o) f
-ok_fault o f h = above_fault (λ x. result_of (Some x) None) (λ t w. (omega (arith, w.0), omega (arith, w.1))) (λ t e. first_false (is_spellable t) true e) o f h
+-- ---- a result, by its payloads
 
-pub error_fault : (o : Option Ty) (f : MeaningFault) → IsTypeFault o f → IsTypeFault (option_map (λ x. result_of None (Some x)) o) f
-error_fault o f h = above_fault (λ x. result_of None (Some x)) (λ t w. (omega (arith, w.0), omega (arith, w.1))) (λ t e. first_false (is_spellable t) true e) o f h
+abbrev pub both_of : Option (Option Ty) → Option (Option Ty) → Option Ty
+both_of a b = option_and_then (λ x. option_map (λ y. result_of x y) b) a
 
--- ---- a result with both parts
+payloads_within : (x y : Option Ty) → IsWithinLimits (result_of x y) → IfSome x IsWithinLimits × IfSome y IsWithinLimits
+payloads_within None None w = (tt, tt)
+payloads_within (Some a) None w = ((omega (arith, w.0), omega (arith, w.1)), tt)
+payloads_within None (Some b) w = (tt, (omega (arith, w.0), omega (arith, w.1)))
+payloads_within (Some a) (Some b) w = ((omega (arith, w.0), omega (arith, w.1)), (omega (arith, w.0), omega (arith, w.1)))
 
-abbrev pub both_of : Option Ty → Option Ty → Option Ty
-both_of a b = option_and_then (λ x. option_map (λ y. result_of (Some x) (Some y)) b) a
+ok_spelled : (x y : Option Ty) → is_spellable_payload x ≡ false → is_spellable (result_of x y) ≡ false
+ok_spelled None y h = absurd cc
+ok_spelled (Some a) None h = first_false (is_spellable a) true h
+ok_spelled (Some a) (Some b) h = first_false (is_spellable a) (is_spellable b && true) h
 
-pub left_fault : (a b : Option Ty) (f : MeaningFault) → IsTypeFault a f → IsTypeFault (both_of a b) f
-left_fault None b fault.NoSuchType h = refl
-left_fault (Some x) b fault.NoSuchType h = absurd cc
-left_fault None b fault.TooLarge h = tt
-left_fault (Some x) None fault.TooLarge h = tt
-left_fault (Some x) (Some y) fault.TooLarge h = λ w. h (omega (arith, w.0), omega (arith, w.1))
-left_fault None b fault.NotSpellable h = tt
-left_fault (Some x) None fault.NotSpellable h = tt
-left_fault (Some x) (Some y) fault.NotSpellable h = first_false (is_spellable x) (is_spellable y && true) h
-left_fault a b fault.Memory h = tt
+error_spelled : (x y : Option Ty) → is_spellable_payload y ≡ false → is_spellable (result_of x y) ≡ false
+error_spelled x None h = absurd cc
+error_spelled None (Some b) h = first_false (is_spellable b) true h
+error_spelled (Some a) (Some b) h = both_false (is_spellable a) (is_spellable b && true) (first_false (is_spellable b) true h)
 
-pub right_fault : (a b : Option Ty) (x : Ty) (f : MeaningFault) → a ≡ Some x → IsTypeFault b f → IsTypeFault (both_of a b) f
-right_fault a b x f e h = rw e (above_fault (λ y. result_of (Some x) (Some y)) (λ t w. (omega (arith, w.0), omega (arith, w.1))) (λ t p. both_false (is_spellable x) (is_spellable t && true) (first_false (is_spellable t) true p)) b f h)
+pub ok_fault : (a b : Option (Option Ty)) (f : MeaningFault) → IsPayloadFault a f → IsTypeFault (both_of a b) f
+ok_fault None b fault.NoSuchType h = refl
+ok_fault (Some x) b fault.NoSuchType h = absurd cc
+ok_fault None b fault.TooLarge h = tt
+ok_fault (Some x) None fault.TooLarge h = tt
+ok_fault (Some x) (Some y) fault.TooLarge h = λ w. h (payloads_within x y w).0
+ok_fault None b fault.NotSpellable h = tt
+ok_fault (Some x) None fault.NotSpellable h = tt
+ok_fault (Some x) (Some y) fault.NotSpellable h = ok_spelled x y h
+ok_fault a b fault.Memory h = tt
+
+error_fault_of : (x : Option Ty) (b : Option (Option Ty)) (f : MeaningFault) → IsPayloadFault b f → IsTypeFault (both_of (Some x) b) f
+error_fault_of x None fault.NoSuchType h = refl
+error_fault_of x (Some y) fault.NoSuchType h = absurd cc
+error_fault_of x None fault.TooLarge h = tt
+error_fault_of x (Some y) fault.TooLarge h = λ w. h (payloads_within x y w).1
+error_fault_of x None fault.NotSpellable h = tt
+error_fault_of x (Some y) fault.NotSpellable h = error_spelled x y h
+error_fault_of x b fault.Memory h = tt
+
+pub error_fault : (a b : Option (Option Ty)) (x : Option Ty) (f : MeaningFault) → a ≡ Some x → IsPayloadFault b f → IsTypeFault (both_of a b) f
+error_fault a b x f e h = rw e (error_fault_of x b f h)
+
+pub some_fault : (o : Option Ty) (f : MeaningFault) → IsTypeFault o f → IsPayloadFault (option_map Some o) f
+some_fault None fault.NoSuchType h = refl
+some_fault (Some x) fault.NoSuchType h = absurd cc
+some_fault None fault.TooLarge h = tt
+some_fault (Some x) fault.TooLarge h = h
+some_fault None fault.NotSpellable h = tt
+some_fault (Some x) fault.NotSpellable h = h
+some_fault o fault.Memory h = tt
 
 -- ---- what is made of several
 

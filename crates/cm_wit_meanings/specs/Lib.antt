@@ -2,3 +2,4 @@ pub mod Scopes
 pub mod Meanings
 pub mod Faults
 pub mod Places
+pub mod Added

@@ -4,6 +4,7 @@ ghost use Rattle.std.specs.Prelude.{◌≡◌, ◌<◌, IfOk, IfErr, Some, lengt
 ghost use Rattle.cm_types.specs.Limits.{IsWithinLimits};
 ghost use Rattle.cm_type_arena.specs.Places.{HasParts, funcs_of, types_of};
 ghost use Rattle.cm_type_arena.specs.TypeDefs.{def_type, type_at};
+ghost use Rattle.cm_wit_meanings.specs.Added.{AddedType};
 ghost use Rattle.cm_wit_meanings.specs.Faults.{IsTypeFault};
 ghost use Rattle.cm_wit_meanings.specs.Places.{Extends};
 
@@ -11,11 +12,23 @@ use crate::fault::MeaningFault;
 use cm_type_arena::{DefFault, TypeDef, Types};
 use std::alloc::Global;
 
+/// Adds a type, and answers its place; its faults are those of `push`.
+pub fn add(alloc: Global, types: &mut Types, def: TypeDef) -> Result<usize, MeaningFault>
+    requires parts { HasParts (length (types_of types.old)) def }
+    ensures { AddedType types.old types.new (Some (def_type (types_of types.old) def)) result }
+{
+    match types.push(alloc, def) {
+        Ok(place) => Ok(place),
+        Err(DefFault::TooLarge) => Err(MeaningFault::TooLarge),
+        Err(DefFault::NotSpellable) => Err(MeaningFault::NotSpellable),
+        Err(DefFault::Memory) => Err(MeaningFault::Memory),
+    }
+}
+
 /// Adds a type, and answers its place.
 ///
 /// `TooLarge` comes where it would not be within the limits, else `NotSpellable` where no file can
 /// spell it, and `Memory` where there is no memory for it; the types then stay as they are.
-#[tactic(auto, using(crate::proofs::GrowthLaws::push_laws))]
 pub fn push(alloc: Global, types: &mut Types, def: TypeDef) -> Result<usize, MeaningFault>
     requires parts { HasParts (length (types_of types.old)) def }
     ensures there { IfOk result (λ p. p < length (types_of types.new)) }
@@ -26,10 +39,5 @@ pub fn push(alloc: Global, types: &mut Types, def: TypeDef) -> Result<usize, Mea
     ensures grown { Extends (types_of types.old) (types_of types.new) }
     ensures funcs { funcs_of types.new ≡ funcs_of types.old }
 {
-    match types.push(alloc, def) {
-        Ok(place) => Ok(place),
-        Err(DefFault::TooLarge) => Err(MeaningFault::TooLarge),
-        Err(DefFault::NotSpellable) => Err(MeaningFault::NotSpellable),
-        Err(DefFault::Memory) => Err(MeaningFault::Memory),
-    }
+    add(alloc, types, def)
 }

@@ -3,8 +3,8 @@ use Rattle.cm_show.proofs.PageLaws.{Adds}
 use Rattle.cm_show.proofs.ListLaws.{field_piece, member, part_piece}
 use Rattle.cm_show.proofs.types.+types.Given as goal
 
-abbrev pub invariant-show_fields-loop-index : goal.invariant-show_fields-loop-index
-invariant-show_fields-loop-index l = Adds (member (field_piece (counted l.by))) l.fields l.index l.initial.page l.page
+abbrev pub invariant-add_fields-loop-index : goal.invariant-add_fields-loop-index
+invariant-add_fields-loop-index l = Adds (member (field_piece (counted l.by))) l.fields l.index l.initial.page l.page
 
 abbrev pub invariant-show_parts-loop-index : goal.invariant-show_parts-loop-index
 invariant-show_parts-loop-index l = Adds (member (part_piece (counted l.by))) l.parts l.index l.initial.page l.page

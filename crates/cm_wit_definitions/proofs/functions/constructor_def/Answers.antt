@@ -1,11 +1,16 @@
-use Rattle.std.proofs.Common.{refl, Some, map}
-use Rattle.cm_type_arena.specs.Places.{types_of}
-use Rattle.cm_wit_types.specs.SignatureViews.{typed_tree}
-use Rattle.cm_wit_meanings.specs.Meanings.{each_meaning, typed_meaning}
-use Rattle.cm_wit_meanings.specs.Places.{scope_in}
-use Rattle.cm_wit_definitions.proofs.FuncLaws.{constructor_made}
+use Rattle.std.proofs.Common.{Ok, Err, refl, rules, Some}
+use Rattle.cm_wit_definitions.proofs.AddedLaws.{answers_so, behind, refused, type_added}
+use Rattle.cm_wit_definitions.proofs.FuncLaws.{constructor_added, constructor_refused, constructor_unmade}
 use Rattle.cm_wit_definitions.proofs.functions.constructor_def.Goals as goal
 
-pub returns-clause-meaning : goal.returns-clause-meaning
-returns-clause-meaning c =
-    constructor_made (types_of c.push_fields.new.types) (types_of c.push.new.types) (each_meaning (typed_meaning (scope_in (types_of c.args.types.now) c.args.scope.now)) (map typed_tree c.args.texts.now)) c.in_ok-params.params.items c.args.resource c.in_ok-place.place (record { params = c.in_ok-params.params; result = Some c.in_ok-place.place }) c.in_ok-params.ensures.meaning c.in_ok-place.ensures.grown c.in_ok-params.ensures.there c.in_ok-place.ensures.ty refl refl
+pub returns-in_err-params : goal.returns-in_err-params
+returns-in_err-params c = answers_so (search rules) (refused c.in_err-params.ensures (constructor_refused _ c.args.resource _))
+
+pub returns-in_err-place : goal.returns-in_err-place
+returns-in_err-place c =
+    let own = type_added c.add_fields.new.types c.push.new.types _ (Err c.in_err-place.field-0.0) tt tt c.in_err-place.ensures.fault c.in_err-place.ensures.grown c.in_err-place.ensures.funcs in
+    answers_so (search rules) (refused (behind c.in_ok-params.ensures own) (constructor_unmade _ _ c.args.resource _ c.in_ok-params.ensures.meaning))
+
+pub returns : goal.returns
+returns c =
+    constructor_added c.args.resource c.in_ok-params.params (record { params = c.in_ok-params.params; result = Some c.in_ok-place.place }) c.in_ok-params.ensures (type_added c.add_fields.new.types c.push.new.types _ (Ok c.in_ok-place.place) c.in_ok-place.ensures.there c.in_ok-place.ensures.ty tt c.in_ok-place.ensures.grown c.in_ok-place.ensures.funcs) refl refl

@@ -1,5 +1,5 @@
 use Rattle.cm_wit_meanings.proofs.TypeLaws.{PushedTypes}
 use Rattle.cm_wit_meanings.proofs.types.+types.Given as goal
 
-abbrev pub invariant-push_types-loop-text : goal.invariant-push_types-loop-text
-invariant-push_types-loop-text l = PushedTypes l.scope l.texts l.initial.types l.text-index l.types l.places.items
+abbrev pub invariant-push_parts-loop-text : goal.invariant-push_parts-loop-text
+invariant-push_parts-loop-text l = PushedTypes l.scope l.texts l.initial.types l.text-index l.types l.places.items

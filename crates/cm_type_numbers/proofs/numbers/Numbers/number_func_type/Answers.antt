@@ -1,4 +1,5 @@
 use Rattle.std.proofs.Common.{◌≡◌, ◌∙◌, ℕ, List, ap, map, subst, sym}
+use Rattle.std.proofs.lemmas.Result.{IfOk-from_err}
 use Rattle.cm_types.specs.TypeTrees.{fields_of}
 use Rattle.cm_types.specs.Types.{Ty}
 use Rattle.cm_type_arena.specs.Arena.{field_types}
@@ -62,3 +63,45 @@ returns-clause-number g c = if_ok_more c.node-in-Some.result _ _ c.node-in-Some.
     (g.R.Replacement.replacement c.args.replacement.now) (types_of c.args.types.now) c.func_params-places.result.now c.deref.result.now (passed (numbering c.number_parts.new.self) (g.R.Replacement.replacement c.args.replacement.now) _ c.in_ok-parts.parts.items c.deref.result.now c.deref.ensures.value c.in_ok-parts.ensures.numbers)
     (func_at (funcs_of c.args.types.now) c.args.place) c.deref-2.result.now (ap fields_of c.deref-2.ensures.value ∙ ap (λ f. f.params) c.func.ensures) c.func_params-places.ensures.params c.in_ok-params-2.params
     (c.in_ok-params-2.ensures.number (g.R.Replacement.replacement c.args.replacement.now)) (numbering c.number_type.new.self) c.node-in-Some.ensures.kept n c.in_ok-result-in-Some.result c.in-Some.answer c.in-Some.ensures.answer c.in_ok-result-in-Some.ensures.number made)
+
+pub returns-in_err-params-clause-number : goal.returns-in_err-params-clause-number
+returns-in_err-params-clause-number g c = IfOk-from_err c.from_residual.result _ c.from_residual.ensures.0
+
+pub returns-in_err-params-clause-kept : goal.returns-in_err-params-clause-kept
+returns-in_err-params-clause-kept g c = c.node.ensures.kept
+
+pub returns-then-place-func_count-clause-kept : goal.returns-then-place-func_count-clause-kept
+returns-then-place-func_count-clause-kept g c = extends_on (numbering c.args.self.now) (numbering c.node.new.self) (numbering c.node-then-place-func_count.new.self) c.node.ensures.kept c.node-then-place-func_count.ensures.kept
+
+pub number_parts-requires : goal.number_parts-requires
+number_parts-requires g c = c.requires
+
+pub returns-in_err-parts-clause-number : goal.returns-in_err-parts-clause-number
+returns-in_err-parts-clause-number g c = IfOk-from_err c.from_residual-in_err-parts.result _ c.from_residual-in_err-parts.ensures.0
+
+pub returns-in_err-parts-clause-known : goal.returns-in_err-parts-clause-known
+returns-in_err-parts-clause-known g c = c.number_parts.ensures.known
+
+pub returns-in_err-parts-clause-kept : goal.returns-in_err-parts-clause-kept
+returns-in_err-parts-clause-kept g c = c.number_parts.ensures.kept
+
+pub returns-in_err-params-2-clause-number : goal.returns-in_err-params-2-clause-number
+returns-in_err-params-2-clause-number g c = IfOk-from_err c.from_residual-in_err-params-2.result _ c.from_residual-in_err-params-2.ensures.0
+
+pub returns-in_err-params-2-clause-kept : goal.returns-in_err-params-2-clause-kept
+returns-in_err-params-2-clause-kept g c = extends_on (numbering c.args.self.now) (numbering c.number_parts.new.self) (numbering c.fields.new.self) c.number_parts.ensures.kept c.fields.ensures.kept
+
+pub returns-in-None-clause-kept : goal.returns-in-None-clause-kept
+returns-in-None-clause-kept g c = extends_on (numbering c.args.self.now) (numbering c.fields.new.self) (numbering c.node-in-None.new.self) (extends_on (numbering c.args.self.now) (numbering c.number_parts.new.self) (numbering c.fields.new.self) c.number_parts.ensures.kept c.fields.ensures.kept) c.node-in-None.ensures.kept
+
+pub returns-in_err-result-in-Some-clause-number : goal.returns-in_err-result-in-Some-clause-number
+returns-in_err-result-in-Some-clause-number g c = IfOk-from_err c.from_residual-in_err-result-in-Some.result _ c.from_residual-in_err-result-in-Some.ensures.0
+
+pub returns-in_err-result-in-Some-clause-known : goal.returns-in_err-result-in-Some-clause-known
+returns-in_err-result-in-Some-clause-known g c = c.number_type.ensures.known
+
+pub returns-in_err-result-in-Some-clause-kept : goal.returns-in_err-result-in-Some-clause-kept
+returns-in_err-result-in-Some-clause-kept g c = extends_on (numbering c.args.self.now) (numbering c.fields.new.self) (numbering c.number_type.new.self) (extends_on (numbering c.args.self.now) (numbering c.number_parts.new.self) (numbering c.fields.new.self) c.number_parts.ensures.kept c.fields.ensures.kept) c.number_type.ensures.kept
+
+pub returns-clause-kept : goal.returns-clause-kept
+returns-clause-kept g c = extends_on (numbering c.args.self.now) (numbering c.number_type.new.self) (numbering c.node-in-Some.new.self) (extends_on (numbering c.args.self.now) (numbering c.fields.new.self) (numbering c.number_type.new.self) (extends_on (numbering c.args.self.now) (numbering c.number_parts.new.self) (numbering c.fields.new.self) c.number_parts.ensures.kept c.fields.ensures.kept) c.number_type.ensures.kept) c.node-in-Some.ensures.kept
