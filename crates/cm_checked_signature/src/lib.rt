@@ -6,5 +6,5 @@ mod items;
 mod made;
 mod signatures;
 
-pub use cm_validate::Checked;
+pub use cm_validate::{Checked, ValidFault, ValidReason, validate};
 pub use signatures::signature;

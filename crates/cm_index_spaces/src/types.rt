@@ -4,7 +4,7 @@ use crate::spaces::IndexSpaces;
 use cm_arena_layouts::laws::first_layouts_stay;
 use cm_core_spaces::laws::others_add_nothing as core_stays;
 use cm_entries::laws::{entries_stay, others_add_nothing as component_stays};
-use cm_instance_types::define_instance;
+use cm_inline_exports::define_instance;
 use cm_types::{Declaration, DefType, DefValType, FuncType};
 use cm_validity::ValidReason;
 use cm_validity::counted_laws::resources_are_counted;

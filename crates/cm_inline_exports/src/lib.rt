@@ -5,4 +5,5 @@ mod instances;
 mod members;
 mod sketches;
 
+pub use cm_instance_types::define_instance;
 pub use instances::add_instance;

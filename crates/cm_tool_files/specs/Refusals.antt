@@ -5,7 +5,7 @@ use Rattle.cm_reading.specs.File.{FirstFault}
 use Rattle.cm_reading_codes.specs.declared.fault.DecodeReason.TheVariants as decoding
 use Rattle.cm_validity.specs.declared.fault.ValidReason.TheVariants as validity
 use Rattle.cm_validity.specs.Valid.{IsFaultOf}
-use Rattle.cm_validate.specs.Walks.{IsFineBefore}
+use Rattle.cm_checked_signature.specs.cm_validate.Walks.{IsFineBefore}
 use Rattle.cm_tool_files.specs.declared.bad_file.FileReason.{FileReason}
 use Rattle.cm_tool_files.specs.declared.bad_file.FileReason.TheVariants as reason
 
