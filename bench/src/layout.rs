@@ -10,22 +10,22 @@ unsafe extern "C" {
     fn cm_bench_flatten(words: *const u32, count: usize, rounds: u32) -> u64;
 }
 
-// What a word makes, in its low four bits; above them of how many.
-const U8: u32 = 0;
-const U32: u32 = 1;
-const U64: u32 = 2;
-const BOOL: u32 = 3;
-const STRING: u32 = 4;
-const LIST: u32 = 5;
-const OPTION: u32 = 6;
-const TUPLE: u32 = 7;
-const VARIANT: u32 = 8;
-const RESULT: u32 = 9;
-const FIXED: u32 = 10;
-const RECORD: u32 = 11;
+// What a word makes, in its low five bits; above them of how many.
+const BOOL: u32 = 0;
+const U8: u32 = 2;
+const U32: u32 = 6;
+const U64: u32 = 8;
+const STRING: u32 = 10;
+const LIST: u32 = 11;
+const OPTION: u32 = 12;
+const RECORD: u32 = 13;
+const TUPLE: u32 = 16;
+const VARIANT: u32 = 17;
+const RESULT: u32 = 18;
+const FIXED: u32 = 19;
 
 fn of(what: u32, count: usize) -> u32 {
-    what | (count as u32) << 4
+    what | (count as u32) << 5
 }
 
 /// How deep the deep shapes are, below what holds them.
@@ -149,9 +149,9 @@ fn take(stack: &mut Vec<Type>, count: usize) -> Rc<Vec<Type>> {
 fn type_of(words: &[u32]) -> Type {
     let mut stack = Vec::new();
     for word in words {
-        let count = (word >> 4) as usize;
+        let count = (word >> 5) as usize;
         let mut pop = || Rc::new(stack.pop().expect("a type"));
-        let ty = match word & 15 {
+        let ty = match word & 31 {
             U8 => Type::U8,
             U32 => Type::U32,
             U64 => Type::U64,

@@ -1,7 +1,7 @@
 //! The adapters of the library: each function makes so many calls that pass one value.
 
 unsafe extern "C" {
-    fn cm_abi_bench_scan(
+    fn cm_bench_calls_scan(
         words: *const u32,
         word_count: usize,
         source: u32,
@@ -12,7 +12,7 @@ unsafe extern "C" {
         slot_count: usize,
         rounds: u32,
     ) -> u64;
-    fn cm_abi_bench_copy(
+    fn cm_bench_calls_copy(
         words: *const u32,
         word_count: usize,
         source: u32,
@@ -25,7 +25,7 @@ unsafe extern "C" {
         receiver_size: usize,
         rounds: u32,
     ) -> u64;
-    fn cm_abi_bench_lift(
+    fn cm_bench_calls_lift(
         words: *const u32,
         word_count: usize,
         source: u32,
@@ -36,7 +36,7 @@ unsafe extern "C" {
         slot_count: usize,
         rounds: u32,
     ) -> u64;
-    fn cm_abi_bench_lower(
+    fn cm_bench_calls_lower(
         words: *const u32,
         word_count: usize,
         source: u32,
@@ -51,7 +51,7 @@ unsafe extern "C" {
     ) -> u64;
 }
 
-/// A type, in postfix order: what a word says stands in its low four bits, how many above them.
+/// A type, in postfix order: what a word says stands in its low five bits, how many above them.
 pub mod words {
     pub const BOOL: u32 = 0;
     pub const S8: u32 = 1;
@@ -69,17 +69,17 @@ pub mod words {
 
     /// Of so many types before it.
     pub const fn record_of(count: u32) -> u32 {
-        13 | count << 4
+        13 | count << 5
     }
 
     /// Of so many labels.
     pub const fn enum_of(count: u32) -> u32 {
-        14 | count << 4
+        14 | count << 5
     }
 
     /// Of so many labels.
     pub const fn flags_of(count: u32) -> u32 {
-        15 | count << 4
+        15 | count << 5
     }
 }
 
@@ -103,7 +103,7 @@ impl Call {
     /// Scans the value so many times.
     pub fn scan(&self, rounds: u32) -> u64 {
         unsafe {
-            cm_abi_bench_scan(
+            cm_bench_calls_scan(
                 self.words.as_ptr(),
                 self.words.len(),
                 self.source,
@@ -120,7 +120,7 @@ impl Call {
     /// Scans and copies the value so many times: the first two core values that pass it.
     pub fn copy(&self, receiver: &mut [u8], rounds: u32) -> u64 {
         unsafe {
-            cm_abi_bench_copy(
+            cm_bench_calls_copy(
                 self.words.as_ptr(),
                 self.words.len(),
                 self.source,
@@ -139,7 +139,7 @@ impl Call {
     /// Lifts the value so many times.
     pub fn lift(&self, rounds: u32) -> u64 {
         unsafe {
-            cm_abi_bench_lift(
+            cm_bench_calls_lift(
                 self.words.as_ptr(),
                 self.words.len(),
                 self.source,
@@ -156,7 +156,7 @@ impl Call {
     /// Lifts and lowers the value so many times: the first two core values that pass it.
     pub fn lower(&self, receiver: &mut [u8], rounds: u32) -> u64 {
         unsafe {
-            cm_abi_bench_lower(
+            cm_bench_calls_lower(
                 self.words.as_ptr(),
                 self.words.len(),
                 self.source,

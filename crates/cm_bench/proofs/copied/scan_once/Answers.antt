@@ -3,7 +3,7 @@ use Rattle.cm_layout.specs.Layouts.{layout_of}
 use Rattle.cm_abi_model.specs.Views.{View, params}
 use Rattle.cm_abi_model.specs.Ways.{way_of}
 use Rattle.cm_scan_call.specs.Scans.{ScansCall}
-use Rattle.cm_abi_bench.proofs.copied.scan_once.Goals as goal
+use Rattle.cm_bench.proofs.copied.scan_once.Goals as goal
 
 -- what the scan kept is that of the call, in the view of its giver
 pub returns-in-Ok : goal.returns-in-Ok

@@ -1,6 +1,6 @@
 use Rattle.std.proofs.Common.{◌≡◌, map, take}
 use Rattle.cm_types.specs.CoreValues.{kind_of}
-use Rattle.cm_abi_bench.proofs.call.zeros.Given as goal
+use Rattle.cm_bench.proofs.call.zeros.Given as goal
 
 -- a core value of each kind so far
 abbrev pub invariant-loop-kind : goal.invariant-loop-kind

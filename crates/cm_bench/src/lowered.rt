@@ -1,7 +1,7 @@
 //! Values lifted and lowered, as trees.
 
 ghost use Rattle.std.specs.Prelude.{◌≡◌, ◌^◌, ◌<◌, slice_index, IfOk, IfSome, length, ℕ};
-ghost use Rattle.cm_abi_bench.specs.Calls.{IsLifted, IsOf};
+ghost use Rattle.cm_bench.specs.Calls.{IsLifted, IsOf};
 ghost use Rattle.cm_abi.specs.Lowers.{CanBeLowered};
 ghost use Rattle.cm_types.specs.Types.{Fields};
 

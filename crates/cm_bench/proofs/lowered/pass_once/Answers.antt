@@ -6,7 +6,7 @@ use Rattle.cm_abi_model.specs.Receives.{call_kinds}
 use Rattle.cm_abi_model.specs.Requests.{IsStored}
 use Rattle.cm_abi_model.specs.Ways.{way_of}
 use Rattle.cm_lift.specs.Lifts.{Lifts}
-use Rattle.cm_abi_bench.proofs.lowered.pass_once.Goals as goal
+use Rattle.cm_bench.proofs.lowered.pass_once.Goals as goal
 
 -- what was lifted from bytes goes on as it is, so it can be lowered
 pub lower_once-requires : goal.lower_once-requires

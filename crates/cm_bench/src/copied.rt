@@ -1,7 +1,7 @@
 //! Values scanned and copied.
 
 ghost use Rattle.std.specs.Prelude.{◌≡◌, [], IfSome, List, None, map, true, ℕ};
-ghost use Rattle.cm_abi_bench.specs.Calls.{IsOf, IsScanned};
+ghost use Rattle.cm_bench.specs.Calls.{IsOf, IsScanned};
 ghost use Rattle.cm_lowering.specs.Answering.{first_fault};
 ghost use Rattle.cm_requesting.specs.Asking.{IsAllAnswered, IsAnswered, all_requests};
 ghost use Rattle.cm_types.specs.CoreValues.{kind_of};

@@ -7,7 +7,7 @@ ghost use Rattle.cm_abi_model.specs.Views.{params};
 ghost use Rattle.cm_types.specs.CoreValues.{kind_of};
 ghost use Rattle.cm_types.specs.Funcs.{func_of};
 ghost use Rattle.cm_types.specs.Types.{Fields};
-ghost use Rattle.cm_abi_bench.specs.Calls.{IsOf};
+ghost use Rattle.cm_bench.specs.Calls.{IsOf};
 
 use crate::types::func_of_words;
 use cm_abi::{Passed, Receiver, StringEncoding, Way};

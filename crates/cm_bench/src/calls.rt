@@ -1,13 +1,6 @@
 //! What the benchmark of the adapters in `bench/abi` calls. Each function makes the layout of a
 //! type, and then so many calls that pass one value of it; it answers a number that depends on
 //! what the last one passed.
-#![tactic(auto)]
-
-mod call;
-mod copied;
-mod lowered;
-mod room;
-mod types;
 
 use crate::call::call_of;
 use crate::copied::{copy_all, scan_all};
@@ -19,7 +12,7 @@ use std::alloc::Global;
 /// its giver; `source` and `target` tell how many bytes a unit of a string has on each side, 1 in
 /// UTF-8 and 2 in UTF-16.
 #[unsafe(no_mangle)]
-pub extern "C" fn cm_abi_bench_scan(
+pub extern "C" fn cm_bench_calls_scan(
     alloc: Global,
     words: &[u32],
     source: u32,
@@ -38,7 +31,7 @@ pub extern "C" fn cm_abi_bench_scan(
 /// core values that pass it there, the first in the low 32 bits, or the greatest number where it
 /// is refused. The receiver's memory is given out from its beginning, in multiples of 8 bytes.
 #[unsafe(no_mangle)]
-pub extern "C" fn cm_abi_bench_copy(
+pub extern "C" fn cm_bench_calls_copy(
     alloc: Global,
     words: &[u32],
     source: u32,
@@ -57,7 +50,7 @@ pub extern "C" fn cm_abi_bench_copy(
 /// Lifts the value so many times: how many values the call has, or the greatest number where it is
 /// refused.
 #[unsafe(no_mangle)]
-pub extern "C" fn cm_abi_bench_lift(
+pub extern "C" fn cm_bench_calls_lift(
     alloc: Global,
     words: &[u32],
     source: u32,
@@ -73,9 +66,9 @@ pub extern "C" fn cm_abi_bench_lift(
 }
 
 /// Lifts the value and lowers it into the memory of its receiver, so many times; else as
-/// `cm_abi_bench_copy`.
+/// `cm_bench_calls_copy`.
 #[unsafe(no_mangle)]
-pub extern "C" fn cm_abi_bench_lower(
+pub extern "C" fn cm_bench_calls_lower(
     alloc: Global,
     words: &[u32],
     source: u32,

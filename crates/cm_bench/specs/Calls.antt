@@ -18,7 +18,7 @@ use Rattle.cm_requesting.specs.declared.part_requests.PartRequests.{PartRequests
 use Rattle.cm_scan_call.specs.Scans.{ScansCall}
 use Rattle.cm_scan_call.specs.declared.scanned.Scanned.{Scanned}
 use Rattle.cm_abi.specs.Calls.{AreBytes}
-use Rattle.cm_abi_bench.specs.declared.call.Call.{Call}
+use Rattle.cm_bench.specs.declared.call.Call.{Call}
 
 -- A call passes parameters of these types, which a file can spell: its layout and the kinds of its
 -- core values are theirs. Its receiver stores strings as its encoding says.
