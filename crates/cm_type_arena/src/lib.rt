@@ -9,6 +9,7 @@ mod funcs;
 mod primitives;
 mod summaries;
 mod type_defs;
+pub mod type_laws;
 mod types;
 
 pub use funcs::FuncDef;

@@ -17,6 +17,7 @@ ghost use Rattle.cm_type_copies.specs.Copies.{AddsOnce, AreCopies, BeginsWith, C
 use crate::definitions::replaced_def;
 use cm_replaced::Replacement;
 use cm_replaced::laws::{replacing, what_stays};
+use cm_type_arena::type_laws::types_are_lawful;
 use cm_type_arena::{DefFault, TypeDef, Types};
 use std::alloc::{AllocError, Global};
 use std::collections::BTreeMap;
@@ -120,6 +121,7 @@ fn push_copy<R: Replacement>(
     ensures funcs { funcs_of types.new ≡ funcs_of types.old }
 {
     what_stays();
+    types_are_lawful(types, place);
     let def = replaced_def(alloc, types.node(place), parts, by)?;
     push_lawful(types, alloc, def)
 }

@@ -7,7 +7,6 @@ use Rattle.cm_types.specs.TypeTrees.{type_of}
 use Rattle.cm_type_arena.specs.Arena.{parts_in}
 use Rattle.cm_type_arena.specs.Places.{funcs_of, types_of}
 use Rattle.cm_type_arena.specs.TypeDefs.{def_type, type_at}
-use Rattle.cm_type_arena.proofs.ArenaLaws.{limits_there, spellable_there}
 use Rattle.cm_replaced.specs.Replaced.{replaced}
 use Rattle.cm_type_copies.proofs.CopyLaws.{at_front, copied_long, itself, longer, made_copy}
 use Rattle.cm_type_copies.proofs.copies.push_copy.Goals as goal
@@ -40,7 +39,7 @@ push_lawful-requires-clause-within g c =
     let ty : def_type old c.in_ok-def.def ≡ replaced s t = c.in_ok-def.ensures.ty old (ap (λ (u : Ty). map (replaced s) (parts_in u)) c.node.ensures ∙ c.requires.copied) ∙ ap (replaced s) c.node.ensures in
     let nodes : nodes_of (def_type old c.in_ok-def.def) ≡ nodes_of t = ap nodes_of ty ∙ c.what_stays.ensures.nodes s t in
     let depth : depth_of (def_type old c.in_ok-def.def) ≡ depth_of t = ap depth_of ty ∙ c.what_stays.ensures.depth s t in
-    let limits : IsWithinLimits t = limits_there c.args.types.now.entries.items c.args.place c.args.types.now.arena c.requires.place in
+    let limits : IsWithinLimits t = c.types_are_lawful.ensures.within in
     (omega (arith, nodes, limits.0), omega (arith, depth, limits.1))
 
 pub push_lawful-requires-clause-spellable : goal.push_lawful-requires-clause-spellable
@@ -49,7 +48,7 @@ push_lawful-requires-clause-spellable g c =
     let old = types_of c.args.types.now in
     let t = type_at old c.args.place in
     let ty : def_type old c.in_ok-def.def ≡ replaced s t = c.in_ok-def.ensures.ty old (ap (λ (u : Ty). map (replaced s) (parts_in u)) c.node.ensures ∙ c.requires.copied) ∙ ap (replaced s) c.node.ensures in
-    ap is_spellable ty ∙ c.what_stays.ensures.spellable s t ∙ spellable_there c.args.types.now.entries.items c.args.place c.args.types.now.arena c.requires.place
+    ap is_spellable ty ∙ c.what_stays.ensures.spellable s t ∙ c.types_are_lawful.ensures.spellable
 
 pub returns-clause-copy : goal.returns-clause-copy
 returns-clause-copy g c =
