@@ -1,11 +1,11 @@
 -- Which types are plain bytes.
-use Rattle.std.proofs.Common.{add-zero, ◌≡◌, ℕ, zero, suc, ◌+◌, ◌*◌, ◌≤◌, ◌<◌, Bool, true, false, ◌&&◌, ◌||◌, refl, sym, ap, ◌∙◌, arith, inl, inr}
+use Rattle.std.proofs.Common.{add-zero, ◌≡◌, ℕ, zero, suc, ◌+◌, ◌*◌, ◌≤◌, Bool, true, false, ◌&&◌, ◌||◌, sym, ap, ◌∙◌, arith, inl, inr}
 use Rattle.std.proofs.lemmas.Bool.{eqb-true, eq-eqb, ne_eqb, or_right, or_cases}
 use Rattle.std.proofs.lemmas.Bool.Decides.{nat_tests}
 use Rattle.std.specs.Prelude.{◌==◌}
 use Rattle.std.specs.Cmp.{both_ways}
 use Rattle.std.proofs.Math.Nat.{mul-le-mul_left}
-use Rattle.cm_types.specs.Types.{Ty, Fields, Cases, FieldsKind, CasesKind, bool, signed, unsigned, char, string, list, fixed_list, fields, cases, flags, own, borrow, no_fields, field, no_cases, plain, carrying}
+use Rattle.cm_types.specs.Types.{Ty, Fields, Cases, FieldsKind, CasesKind, bool, signed, unsigned, char, string, list, fixed_list, fields, cases, flags, own, borrow, no_fields, field}
 use Rattle.cm_layout.specs.Alignment.{align_to}
 use Rattle.cm_layout.specs.Sizes.{align_of, align_of_fields, align_of_payloads, case_count, discriminant_size, payload_offset, size_of, end_of, greatest_payload}
 use Rattle.cm_layout.specs.PlainBytes.{number_bytes, number_bytes_of_fields, is_bulk}

@@ -1,9 +1,9 @@
 -- What loops over fields and cases keep, and what it gives in the end.
-use Rattle.std.proofs.Common.{◌≡◌, ℕ, zero, suc, ◌+◌, ◌*◌, ◌≤◌, ◌<◌, max, Bool, true, false, ◌&&◌, List, [], ◌∷◌, ◌++◌, length, Option, Some, None, refl, sym, ap, ◌∙◌, arith, ◌||◌, zero-add, length-append}
+use Rattle.std.proofs.Common.{◌≡◌, ℕ, ◌+◌, ◌*◌, ◌≤◌, ◌<◌, max, true, false, ◌&&◌, List, [], length, Option, Some, None, refl, sym, ap, ◌∙◌, arith, ◌||◌, zero-add, length-append, codes}
 use Rattle.std.proofs.lemmas.Bool.{eq-eqb, ne_eqb}
 use Rattle.std.proofs.lemmas.Bool.Decides.{nat_tests}
 use Rattle.std.specs.Prelude.{◌==◌}
-use Rattle.cm_types.specs.Types.{Ty, Fields, Cases, FieldsKind, CasesKind, fixed_list, fields, cases, flags, no_fields, field, no_cases, plain, carrying}
+use Rattle.cm_types.specs.Types.{Ty, Fields, Cases, FieldsKind, CasesKind, option_type, fixed_list, fields, cases, flags, no_fields, field, no_cases, plain, carrying}
 use Rattle.cm_types.specs.TypeTrees.{case_before, plain_from}
 use Rattle.cm_types.specs.Limits.{nodes_of, nodes_of_fields, nodes_of_cases, payload_nodes}
 use Rattle.cm_layout.specs.Alignment.{align_to}
@@ -216,6 +216,45 @@ enum_taken k ls n d h e f g =
     (enum_align k h.align n ls (ap (λ x. x.align) g ∙ f) e)
     (ap (λ x. x.width) g ∙ omega (arith, ap length (flat_plain ls)))
     (ap (λ x. x.is_bulk) g ∙ sym (cases_not_bulk k (plain_from ls)))
+
+-- what is the head of a type is what it takes
+pub head_taken : (u t : Ty) (h k : Head) → u ≡ t → h ≡ k → k.size ≡ size_of t → k.align ≡ align_of t → k.width ≡ length (flat_of t) → k.is_bulk ≡ is_bulk t → IsTakenBy u h
+head_taken u t h k e f size align width bulk =
+    rw (e, f) (taken t k size align width bulk)
+
+-- there is room for the end of fields
+pub fields_room : (u : Ty) (k : FieldsKind) (fs : Fields) (s : FieldsSoFar) → u ≡ fields k fs → nodes_of u ≤ 10000 → TakeTogether fs s → s.end + s.align < 4294967296
+fields_room u k fs s e within h =
+    let n : nodes_of u ≡ nodes_of (fields k fs) = ap nodes_of e in
+    omega (arith, n, within, h.small, h.near)
+
+-- the greater of two alignments is one
+pub both_positive : (x a b : ℕ) → x ≡ max a b → 1 ≤ a → 1 ≤ x
+both_positive x a b e h = omega arith
+
+pub both_near : (x a b : ℕ) → x ≡ max a b → a ≤ 8 → b ≤ 8 → x ≤ 8
+both_near x a b e h i = omega arith
+
+-- the number of few cases is small
+pub one_small : 1 ≤ 4
+one_small = omega arith
+
+-- there is room for what has cases
+pub room_for_cases : (k : CasesKind) (cs : Cases) (s : CasesSoFar) → nodes_of (cases k cs) ≤ 10000 → AreGreatestOf cs s → s.size ≤ 320000
+room_for_cases k cs s within h = omega (arith, within, h.small)
+
+pub space_for_cases : (k : CasesKind) (cs : Cases) (s : CasesSoFar) → nodes_of (cases k cs) ≤ 10000 → AreGreatestOf cs s → s.width ≤ 20000
+space_for_cases k cs s within h = omega (arith, within, h.narrow)
+
+pub room_of_option : (t : Ty) → nodes_of t + 1 ≤ 10000 → nodes_of (cases option_type (plain (codes "none") (carrying (codes "some") t no_cases))) ≤ 10000
+room_of_option t h = omega (arith, h)
+
+-- one payload takes what its type takes
+pub payload_taken : (m : List ℕ) (t : Ty) (h : Head) (n s : CasesSoFar) → n ≡ record { size = 0; align = 1; width = 0 } → IsTakenBy t h
+    → s.size ≡ max n.size h.size → s.align ≡ max n.align h.align → s.width ≡ max n.width h.width → AreGreatestOf (carrying m t no_cases) s
+payload_taken m t h n s e k size align width =
+    let g = one_greatest [] m t h n s e k size align width in
+    record { size = g.size; align = g.align; width = g.width; small = g.small; narrow = g.narrow; positive = g.positive; near = g.near }
 
 pub flags_taken : (ls : List (List ℕ)) (n d : ℕ) (h : Head) → n ≡ length ls → d ≡ flags_size n → h ≡ record { size = d; align = d; width = 1; is_bulk = false } → IsTakenBy (flags ls) h
 flags_taken ls n d h e f g =

@@ -1,16 +1,13 @@
 -- What layout each form of the code makes.
-use Rattle.std.proofs.Common.{◌≡◌, ℕ, Bool, zero, suc, ◌+◌, ◌≤◌, ◌<◌, ◌++◌, List, [], ◌∷◌, length, map, max, Option, Some, None, Vec, Global, rules, refl, sym, ap, ◌∙◌, arith, append_assoc, append-nil}
+use Rattle.std.proofs.Common.{◌≡◌, ℕ, Bool, suc, ◌+◌, ◌<◌, ◌++◌, List, [], ◌∷◌, length, map, max, Option, Some, None, Vec, Global, rules, refl, sym, ap, ◌∙◌, arith, append_assoc, append-nil}
 use Rattle.std.proofs.lemmas.List.{map-append, length-map}
 use Rattle.std.specs.declared.rc.Rc.{Rc}
 use Rattle.std.specs.Option.{option_map}
-use Rattle.cm_types.specs.Types.{Ty, Fields, Cases, CasesKind, FieldsKind, cases, fields, no_fields, field, no_cases, plain, carrying}
+use Rattle.cm_types.specs.Types.{Ty, Fields, Cases, CasesKind, cases, field, no_cases, plain, carrying}
 use Rattle.cm_types.specs.TypeTrees.{case_before, plain_from}
-use Rattle.cm_types.specs.Limits.{nodes_of_fields}
 use Rattle.cm_layout.specs.declared.heads.Head.{Head}
 use Rattle.cm_layout.specs.declared.cases.CasesSoFar.{CasesSoFar}
 use Rattle.cm_layout.specs.declared.fields.FieldsSoFar.{FieldsSoFar}
-use Rattle.cm_layout.specs.declared.builders.FieldsBuilder.{FieldsBuilder}
-use Rattle.cm_layout.specs.declared.builders.CasesBuilder.{CasesBuilder}
 use Rattle.cm_layout.specs.declared.layouts.Form.{Form, the_lemmas}
 use Rattle.cm_layout.specs.declared.layouts.Form.TheViews as view
 use Rattle.cm_layout.specs.declared.layouts.Form.TheVariants as form
@@ -21,8 +18,8 @@ use Rattle.cm_layout.specs.declared.layouts.Part.{Part}
 use Rattle.cm_layout.specs.Alignment.{align_to}
 use Rattle.cm_layout.specs.Flattening.{flat_of}
 use Rattle.cm_layout.specs.PlainBytes.{is_bulk}
-use Rattle.cm_layout.specs.Sizes.{size_of, align_of, case_count, discriminant_size, payload_offset}
-use Rattle.cm_layout.specs.Shapes.{LayoutTy, Shape, list_shape, fixed_list_shape, fields_shape, cases_shape, parts_from, parts_at, payloads_from, payloads_of, payload_before, head_of, shape_of_type, layout_at}
+use Rattle.cm_layout.specs.Sizes.{size_of, align_of, case_count, discriminant_size}
+use Rattle.cm_layout.specs.Shapes.{LayoutTy, Shape, list_shape, fixed_list_shape, fields_shape, cases_shape, parts_from, payloads_from, payloads_of, payload_before, head_of, shape_of_type, layout_at}
 use Rattle.cm_layout.specs.Heads.{AreGreatestOf, IsTakenBy, LeavesFields}
 use Rattle.cm_layout.specs.Layouts.{layout_of, shape_of, part_of, payload_of, nothings, PlacedLayout}
 use Rattle.cm_layout.proofs.AlignLemmas.{count_plain, align_plain}

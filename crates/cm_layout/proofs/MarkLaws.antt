@@ -1,10 +1,10 @@
 -- What is marked as plain bytes is numbers, one behind the other, and nothing else is marked.
-use Rattle.std.proofs.Common.{◌≡◌, ◌↔◌, ℕ, ◌+◌, ◌*◌, ◌≤◌, ◌<◌, Bool, true, false, ◌&&◌, ◌||◌, IsTrue, length, refl, sym, ap, ◌∙◌, arith, inl, inr, subst}
+use Rattle.std.proofs.Common.{◌≡◌, ◌↔◌, ℕ, ◌+◌, ◌<◌, false, ◌&&◌, ◌||◌, IsTrue, length, refl, sym, ◌∙◌, arith, inl, inr}
 use Rattle.std.proofs.lemmas.Bool.{eqb-true, eqb-false, eq-eqb, and_parts, and_from, or_cases, or_left, or_right, cases_Bool}
 use Rattle.std.specs.Prelude.{◌==◌}
-use Rattle.cm_types.specs.Types.{Ty, Fields, Cases, FieldsKind, CasesKind, bool, signed, unsigned, char, string, list, fixed_list, fields, cases, flags, own, borrow, no_fields, field, no_cases, plain, carrying}
+use Rattle.cm_types.specs.Types.{Ty, Fields, Cases, bool, signed, unsigned, char, string, list, fixed_list, fields, cases, flags, own, borrow, no_fields, field, no_cases, plain, carrying}
 use Rattle.cm_layout.specs.Alignment.{align_to}
-use Rattle.cm_layout.specs.Sizes.{align_of, align_of_fields, flags_size, size_of, end_of}
+use Rattle.cm_layout.specs.Sizes.{align_of, flags_size, size_of, end_of}
 use Rattle.cm_layout.specs.PlainBytes.{number_bytes_of_fields, is_bulk}
 use Rattle.cm_layout.specs.Shapes.{head_of, shape_of_type, parts_at, parts_from, payloads_of, payloads_from}
 use Rattle.cm_layout.specs.Laid.{IsNumbers, AreNumbers, IsMarked, ArePartsMarked, ArePayloadsMarked}

@@ -1,5 +1,5 @@
 -- The sizes of the numbers of cases and of sets of labels are the least that serve.
-use Rattle.std.proofs.Common.{◌≡◌, ℕ, ◌*◌, ◌≤◌, ◌<◌, ◌^◌, ◌⊎◌, nat_le, true, false, inl, inr, refl, arith, subst}
+use Rattle.std.proofs.Common.{◌≡◌, ℕ, ◌*◌, ◌≤◌, ◌<◌, ◌^◌, ◌⊎◌, nat_le, inl, inr, refl, arith, subst}
 use Rattle.std.proofs.lemmas.Bool.{cases_Bool, leb-true, leb-false}
 use Rattle.cm_layout.specs.Sizes.{IsLeastBytes, discriminant_size, flags_size}
 

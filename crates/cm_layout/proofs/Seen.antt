@@ -2,7 +2,8 @@
 use Rattle.std.proofs.Common.{◌≡◌, ℕ, ◌+◌, List, [], ◌∷◌, Option, Some, None, Vec, Global, rules, codes, refl, arith}
 use Rattle.std.specs.Option.{option_map}
 use Rattle.std.specs.declared.rc.Rc.{Rc}
-use Rattle.cm_types.specs.Types.{Ty, Cases, string, list, fixed_list, fields, cases, flags, record_type, tuple_type, variant_type, enum_type, option_type, result_type, no_cases, plain, carrying}
+use Rattle.cm_types.specs.Types.{Ty, Cases, bool, signed, unsigned, bits_8, bits_16, bits_32, bits_64, char, string, own, borrow, list, fixed_list, fields, cases, flags, record_type, tuple_type, variant_type, enum_type, option_type, result_type, no_cases, plain, carrying}
+use Rattle.cm_types.specs.declared.resource.ResourceId.{ResourceId}
 use Rattle.cm_types.specs.Limits.{nodes_of_cases, payload_nodes}
 use Rattle.cm_types.specs.TypeTrees.{type_of, field_of, case_of, fields_of, parts_of, cases_of, plain_from, case_before, shared_payload}
 use Rattle.cm_names.specs.declared.names.Label.{Label}
@@ -11,6 +12,42 @@ use Rattle.cm_types.specs.declared.type_trees.TypeNode.TheViews as node
 use Rattle.cm_types.specs.declared.type_trees.TypeNode.TheVariants as leaf
 use Rattle.cm_types.specs.declared.type_trees.Field.{Field, out-Field}
 use Rattle.cm_types.specs.declared.type_trees.Case.{Case, out-Case}
+
+pub seen_Bool : type_of leaf.Bool ≡ bool
+seen_Bool = search (rules, the_lemmas)
+
+pub seen_S8 : type_of leaf.S8 ≡ signed bits_8
+seen_S8 = search (rules, the_lemmas)
+
+pub seen_U8 : type_of leaf.U8 ≡ unsigned bits_8
+seen_U8 = search (rules, the_lemmas)
+
+pub seen_S16 : type_of leaf.S16 ≡ signed bits_16
+seen_S16 = search (rules, the_lemmas)
+
+pub seen_U16 : type_of leaf.U16 ≡ unsigned bits_16
+seen_U16 = search (rules, the_lemmas)
+
+pub seen_S32 : type_of leaf.S32 ≡ signed bits_32
+seen_S32 = search (rules, the_lemmas)
+
+pub seen_U32 : type_of leaf.U32 ≡ unsigned bits_32
+seen_U32 = search (rules, the_lemmas)
+
+pub seen_S64 : type_of leaf.S64 ≡ signed bits_64
+seen_S64 = search (rules, the_lemmas)
+
+pub seen_U64 : type_of leaf.U64 ≡ unsigned bits_64
+seen_U64 = search (rules, the_lemmas)
+
+pub seen_Char : type_of leaf.Char ≡ char
+seen_Char = search (rules, the_lemmas)
+
+pub seen_Own : (r : ResourceId) → type_of (leaf.Own r) ≡ own r
+seen_Own r = search (rules, the_lemmas)
+
+pub seen_Borrow : (r : ResourceId) → type_of (leaf.Borrow r) ≡ borrow r
+seen_Borrow r = search (rules, the_lemmas)
 
 pub seen_List : (b : Rc TypeNode Global) → type_of (node.List b) ≡ list (type_of b.value)
 seen_List b = search (rules, the_lemmas)

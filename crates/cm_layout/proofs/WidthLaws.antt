@@ -1,11 +1,11 @@
 -- How many core values pass a type.
-use Rattle.std.proofs.Common.{◌≡◌, ℕ, zero, suc, ◌+◌, ◌*◌, ◌≤◌, max, List, [], ◌∷◌, ◌++◌, length, Option, Some, None, refl, ap, ◌∙◌, arith, length-append}
+use Rattle.std.proofs.Common.{◌≡◌, ℕ, zero, suc, ◌+◌, ◌*◌, ◌≤◌, max, List, [], ◌∷◌, length, refl, ◌∙◌, arith, length-append}
 use Rattle.std.proofs.Math.Nat.{mul-le-mul_left}
 use Rattle.cm_types.specs.declared.core_value.CoreKind.{CoreKind}
 use Rattle.cm_types.specs.Types.{Ty, Fields, Cases, bool, signed, unsigned, char, string, list, fixed_list, fields, cases, flags, own, borrow, no_fields, field, no_cases, plain, carrying}
-use Rattle.cm_types.specs.TypeTrees.{case_before, plain_from}
+use Rattle.cm_types.specs.TypeTrees.{plain_from}
 use Rattle.cm_types.specs.Limits.{nodes_of, nodes_of_fields, nodes_of_cases}
-use Rattle.cm_layout.specs.Flattening.{copies, join, join_slots, flat_of, flat_of_fields, flat_of_cases, flat_of_payload}
+use Rattle.cm_layout.specs.Flattening.{copies, join_slots, flat_of, flat_of_fields, flat_of_cases}
 
 pub copies_long : (n : ℕ) (xs : List CoreKind) → length (copies n xs) ≡ n * length xs
 copies_long zero xs = omega arith

@@ -1,7 +1,7 @@
 -- What a value of a type takes, as the code's numbers of 32 bits (CanonicalABI.md, "Alignment",
 -- "Element Size" and "Flattening"). Each node adds at most 32 bytes and 2 core values, so that no
 -- sum of such numbers of one type overflows.
-use Rattle.std.specs.Prelude.{◌≡◌, ℕ, ◌+◌, ◌*◌, ◌≤◌, ◌==◌, max, length}
+use Rattle.std.specs.Prelude.{◌≡◌, ◌+◌, ◌*◌, ◌≤◌, ◌==◌, max, length}
 use Rattle.cm_types.specs.Types.{Ty, Fields, Cases}
 use Rattle.cm_types.specs.Limits.{nodes_of, nodes_of_cases, nodes_of_fields}
 use Rattle.cm_types.specs.declared.limits.TheConstants.{MAX_NODES}

@@ -1,5 +1,5 @@
 -- The layouts that the code's are.
-use Rattle.std.specs.Prelude.{◌≡◌, ℕ, zero, suc, List, ◌++◌, map, Option, Some, None}
+use Rattle.std.specs.Prelude.{◌≡◌, ℕ, zero, suc, ◌++◌, map, Option, Some, None}
 use Rattle.cm_types.specs.Types.{Fields, Cases}
 use Rattle.cm_layout.specs.Heads.{LeavesCases, LeavesFields}
 use Rattle.cm_layout.specs.Shapes.{LayoutTy, Shape, Payloads, leaf_shape, string_shape, list_shape}

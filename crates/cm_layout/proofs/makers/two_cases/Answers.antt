@@ -1,9 +1,8 @@
 use Rattle.std.proofs.Common.{◌≡◌, ◌≤◌, List, ℕ, Option}
 use Rattle.std.specs.Option.{option_map}
-use Rattle.cm_types.specs.Types.{Ty, CasesKind, Cases, FieldsKind, cases, no_cases}
+use Rattle.cm_types.specs.Types.{Ty, CasesKind, Cases, cases, no_cases}
 use Rattle.cm_types.specs.TypeTrees.{case_before}
 use Rattle.cm_types.specs.Limits.{nodes_of_cases}
-use Rattle.cm_layout.specs.declared.layouts.Layout.{Layout}
 use Rattle.cm_layout.specs.Shapes.{layout_at}
 use Rattle.cm_layout.specs.Layouts.{IsLayingCases, layout_of, payload_of}
 use Rattle.std.proofs.lemmas.Result.{IfOk-weaker}

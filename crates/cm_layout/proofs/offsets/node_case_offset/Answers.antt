@@ -1,4 +1,4 @@
-use Rattle.std.proofs.Common.{◌≡◌, ◌∙◌, ap, arith, codes, refl, sym, vec_len}
+use Rattle.std.proofs.Common.{◌≡◌, ◌∙◌, ap, arith, codes, refl, vec_len}
 use Rattle.cm_types.specs.TypeTrees.{case_before, type_of, cases_of, shared_payload}
 use Rattle.cm_types.specs.Types.{no_cases, plain, carrying}
 use Rattle.cm_layout.specs.Sizes.{case_count, discriminant_size}

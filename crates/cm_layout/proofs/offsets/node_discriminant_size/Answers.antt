@@ -1,4 +1,4 @@
-use Rattle.std.proofs.Common.{◌≡◌, ◌∙◌, ap, arith, sym, vec_len}
+use Rattle.std.proofs.Common.{◌≡◌, ◌∙◌, ap, arith, vec_len}
 use Rattle.cm_types.specs.TypeTrees.{type_of, cases_of, plain_from}
 use Rattle.cm_layout.specs.Sizes.{case_count, discriminant_size}
 use Rattle.cm_layout.proofs.Seen.{seen_Variant, seen_Enum}

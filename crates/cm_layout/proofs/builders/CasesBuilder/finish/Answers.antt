@@ -1,4 +1,4 @@
-use Rattle.std.proofs.Common.{◌≡◌, ◌∙◌, ap, map, length, arith}
+use Rattle.std.proofs.Common.{◌≡◌, ◌∙◌, ap, map, arith}
 use Rattle.cm_types.specs.Types.{cases}
 use Rattle.cm_layout.specs.declared.layouts.Form.TheViews as view
 use Rattle.cm_layout.specs.Shapes.{cases_shape, payloads_from, payloads_of}
