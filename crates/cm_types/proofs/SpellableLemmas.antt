@@ -1,8 +1,9 @@
 -- What the test for types that a file can spell computes on lists of cases.
 use Rattle.std.proofs.Common.{◌≡◌, ℕ, Bool, true, false, not, ◌&&◌, List, [], ◌∷◌, ◌≤◌, length, map, arith, sym, ap, ◌∙◌, Option, Some, None, refl}
-use Rattle.cm_types.specs.Types.{Ty, Cases}
+use Rattle.cm_types.specs.Types
+use Rattle.cm_types.specs.Types.{Ty, Cases, result_type, no_cases}
 use Rattle.cm_types.specs.TypeTrees.{TypedLabel, CaseOf, fields_from, parts_from, cases_from, plain_from, case_before}
-use Rattle.cm_types.specs.Spellable.{has_no_fields, has_no_cases, are_spellable_payloads, is_spellable_payload}
+use Rattle.cm_types.specs.Spellable.{is_spellable, has_no_fields, has_no_cases, are_spellable_payloads, is_spellable_payload}
 
 pub plain_spellable : (ls : List (List ℕ)) → are_spellable_payloads (plain_from ls) ≡ true
 plain_spellable [] = refl
@@ -40,5 +41,24 @@ and_yes false = refl
 pub enum_spellable : (r : Bool) (p ls : List (List ℕ)) → r ≡ has_no_cases (plain_from p) → p ≡ ls
     → not r ≡ (not (has_no_cases (plain_from ls)) && are_spellable_payloads (plain_from ls))
 enum_spellable r p ls e f = rw (plain_spellable ls, and_yes (not (has_no_cases (plain_from ls)))) (ap not e ∙ ap (λ xs. not (has_no_cases (plain_from xs))) f)
+
+-- the parts of a test, where the first decides and where it does not
+pub then_not : (r n m b : Bool) → n ≡ m → n ≡ false → r ≡ b → r ≡ (not m && b)
+then_not r n m b e f h = h ∙ ap (λ (x : Bool). not x && b) (sym f ∙ e)
+
+pub else_not : (n m b : Bool) → n ≡ m → n ≡ true → not n ≡ (not m && b)
+else_not n m b e f = ap not f ∙ ap (λ (x : Bool). not x && b) (sym f ∙ e)
+
+pub then_and : (r n m b : Bool) → n ≡ m → n ≡ true → r ≡ b → r ≡ (m && b)
+then_and r n m b e f h = h ∙ ap (λ (x : Bool). x && b) (sym f ∙ e)
+
+pub else_and : (n m b : Bool) → n ≡ m → n ≡ false → n ≡ (m && b)
+else_and n m b e f = f ∙ ap (λ (x : Bool). x && b) (sym f ∙ e)
+
+pub result_spelled : (k l : List ℕ) (p q : Option Ty) → is_spellable (Types.cases result_type (case_before k p (case_before l q no_cases))) ≡ (is_spellable_payload p && is_spellable_payload q)
+result_spelled k l p q =
+    let rest = case_before l q no_cases in
+    let whole = ap (λ (b : Bool). not b && are_spellable_payloads (case_before k p rest)) (before_not_none k p rest) in
+    whole ∙ before_spellable k p rest ∙ ap (λ (b : Bool). is_spellable_payload p && b) (before_spellable l q no_cases ∙ and_yes (is_spellable_payload q))
 
 pub ruleset cases = (plain_spellable, before_not_none, before_spellable, and_yes)
