@@ -1,5 +1,6 @@
 use Rattle.std.proofs.Common.{◌≡◌, ◌<◌, length, get_or, arith, refl, ◌∙◌, sym, ap, ◌++◌, ◌∷◌, [], List, ℕ}
 use Rattle.cm_graph.proofs.MarkLaws.{row_is, row_push}
+use Rattle.std.proofs.lemmas.Result.{IfOk-from_err}
 use Rattle.cm_graph.proofs.rows.incoming.Goals as goal
 
 pub loop-from-preserved : goal.loop-from-preserved
@@ -8,3 +9,30 @@ loop-from-preserved c =
     let old = row_is c.loop-from.rows.items (get_or c.args.edges.now c.loop-from.from-index (0, 0)).1 c.index_mut.result.now within c.index_mut.ensures.value in
     let pushed = c.in_ok-push-2.ensures.items ∙ ap (λ (xs : List ℕ). xs ++ (get_or c.args.edges.now c.loop-from.from-index (0, 0)).0 ∷ []) (sym old) in
     (c.loop-from.invariant.0, λ b lt. row_push c.loop-from.rows.items c.args.edges.now c.loop-from.from-index (get_or c.args.edges.now c.loop-from.from-index (0, 0)) c.push-in-loop-from.new.self b (omega arith) refl within pushed (c.loop-from.invariant.1 b lt))
+
+pub returns-in_err-rows-clause-rows : goal.returns-in_err-rows-clause-rows
+returns-in_err-rows-clause-rows c = IfOk-from_err c.from_residual.result _ c.from_residual.ensures.0
+
+pub returns-in_err-rows-clause-sources : goal.returns-in_err-rows-clause-sources
+returns-in_err-rows-clause-sources c = IfOk-from_err c.from_residual.result _ c.from_residual.ensures.0
+
+pub returns-in_err-push-clause-rows : goal.returns-in_err-push-clause-rows
+returns-in_err-push-clause-rows c = IfOk-from_err c.from_residual-in_err-push.result _ c.from_residual-in_err-push.ensures.0
+
+pub returns-in_err-push-clause-sources : goal.returns-in_err-push-clause-sources
+returns-in_err-push-clause-sources c = IfOk-from_err c.from_residual-in_err-push.result _ c.from_residual-in_err-push.ensures.0
+
+pub returns-in_err-push-2-clause-rows : goal.returns-in_err-push-2-clause-rows
+returns-in_err-push-2-clause-rows c = IfOk-from_err c.from_residual-in_err-push-2.result _ c.from_residual-in_err-push-2.ensures.0
+
+pub returns-in_err-push-2-clause-sources : goal.returns-in_err-push-2-clause-sources
+returns-in_err-push-2-clause-sources c = IfOk-from_err c.from_residual-in_err-push-2.result _ c.from_residual-in_err-push-2.ensures.0
+
+pub loop-from-init : goal.loop-from-init
+loop-from-init c = (omega (arith, c.loop-node.invariant.0), λ b lt. c.loop-node.invariant.1 b)
+
+pub index_mut-requires : goal.index_mut-requires
+index_mut-requires c = omega (arith, (c.requires c.loop-from.from-index (0, 0) (omega arith)).1, c.loop-from.invariant.0)
+
+pub returns-clause-rows : goal.returns-clause-rows
+returns-clause-rows c = c.loop-from.invariant.0
