@@ -1,5 +1,8 @@
-use Rattle.std.proofs.Common.{◌≡◌, ◌<◌, length, get_or, arith, refl, ◌∙◌, sym, ap, ◌++◌, ◌∷◌, [], List, ℕ}
+use Rattle.std.proofs.Common.{◌≡◌, ◌<◌, length, get_or, arith, refl, ◌∙◌, sym, ap, subst, take, ◌++◌, ◌∷◌, [], List, ℕ, zero, suc, Vec, Global}
 use Rattle.cm_graph.proofs.MarkLaws.{row_is, row_push}
+use Rattle.std.proofs.Math.Seq.{take-length}
+use Rattle.cm_graph.specs.Graphs.{Edges}
+use Rattle.cm_graph.specs.Rows.{row_of, sources}
 use Rattle.std.proofs.lemmas.Result.{IfOk-from_err}
 use Rattle.cm_graph.proofs.rows.incoming.Goals as goal
 
@@ -36,3 +39,21 @@ index_mut-requires c = omega (arith, (c.requires c.loop-from.from-index (0, 0) (
 
 pub returns-clause-rows : goal.returns-clause-rows
 returns-clause-rows c = c.loop-from.invariant.0
+
+-- one more empty row
+rows_empty : (xs : List (Vec ℕ Global)) (x : Vec ℕ Global) → x.items ≡ [] → ((b : ℕ) → row_of xs b ≡ []) → (b : ℕ) → row_of (xs ++ x ∷ []) b ≡ []
+rows_empty [] x e h zero = e
+rows_empty [] x e h (suc b) = refl
+rows_empty (y ∷ ys) x e h zero = h zero
+rows_empty (y ∷ ys) x e h (suc b) = rows_empty ys x e (λ k. h (suc k)) b
+
+pub loop-node-preserved : goal.loop-node-preserved
+loop-node-preserved c = (
+  omega (arith, c.in_ok-push.ensures.len, c.loop-node.invariant.0),
+  λ b. subst (λ (xs : List (Vec ℕ Global)). row_of xs b ≡ []) (sym c.in_ok-push.ensures.items) (rows_empty c.loop-node.rows.items c.new.result c.new.ensures.items c.loop-node.invariant.1 b),
+)
+
+pub returns-clause-sources : goal.returns-clause-sources
+returns-clause-sources c =
+    let all : c.loop-from.from-index ≡ length c.args.edges.now = omega arith in
+    λ b lt. c.loop-from.invariant.1 b lt ∙ ap (λ (es : Edges). sources es b) (ap (λ (n : ℕ). take n c.args.edges.now) all ∙ take-length c.args.edges.now)
