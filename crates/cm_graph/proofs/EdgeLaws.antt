@@ -37,6 +37,17 @@ finds_not {A} {D} h xs i start out x lt e s f = record {
 pub finds_all : {A D : Type 0} (h : A → Option D) (xs : List A) (i : ℕ) (start out : List D) → length xs ≤ i → Finds h xs i start out → out ≡ start ++ filter_map h xs
 finds_all {A} {D} h xs i start out le f = sym (append-nil out) ∙ (sym (ap (λ (ys : List A). out ++ filter_map h ys) (drop_all i xs le)) ∙ f.is)
 
+-- the edge from an interface that is used
+pub edge_inside : (count number used : ℕ) → used < count → edge count number (Some used) ≡ Some (used, number)
+edge_inside count number used lt =
+    let e : nat_lt used count ≡ true = grind (arith, nat_tests) in
+    ap (λ (b : Bool). if b then Some (used, number) else None) e
+
+pub edge_outside : (count number used : ℕ) → count ≤ used → edge count number (Some used) ≡ None
+edge_outside count number used le =
+    let e : nat_lt used count ≡ false = grind (arith, nat_tests) in
+    ap (λ (b : Bool). if b then Some (used, number) else None) e
+
 pub ruleset part_laws = (finds_none, finds_some, finds_not, finds_all)
 
 -- The edges to the first interfaces, and those to the rest, make all.
