@@ -1,12 +1,12 @@
 -- Mentions that are added one part behind the other.
-use Rattle.std.proofs.Common.{◌≡◌, ℕ, ◌+◌, ◌<◌, ◌≤◌, List, [], ◌∷◌, ◌++◌, suc, length, map, drop, get_or, refl, sym, ap, ◌∙◌, append_assoc, append-nil, drop-cons, add-one, arith}
+use Rattle.std.proofs.Common.{◌≡◌, ℕ, ◌+◌, ◌<◌, ◌≤◌, List, [], ◌∷◌, ◌++◌, suc, length, map, drop, get_or, refl, sym, ap, ◌∙◌, append_assoc, append-nil, drop-cons, add-one}
 use Rattle.std.proofs.lemmas.List.{length-append, length-map, drop_all}
 use Rattle.std.specs.Global.{Vec}
-use Rattle.cm_wit_types.specs.Types.{Ty, Tys, types_from}
+use Rattle.cm_wit_types.specs.Types.{Ty, types_from}
 use Rattle.cm_wit_mentions.specs.declared.mention.Mention as code
 use Rattle.cm_wit_mentions.specs.declared.mention.Place.{Place}
 use Rattle.cm_wit_mentions.specs.Mentions.{Mention}
-use Rattle.cm_wit_mentions.specs.Marks.{Marks, none, one, ◌then◌, each}
+use Rattle.cm_wit_mentions.specs.Marks.{Marks, none, ◌then◌, each}
 use Rattle.cm_wit_mentions.specs.MentionViews.{mention_view, Adds}
 use Rattle.cm_wit_mentions.specs.FileMentions.{type_marks, types_marks}
 

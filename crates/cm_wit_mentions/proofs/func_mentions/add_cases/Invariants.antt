@@ -1,4 +1,4 @@
-use Rattle.std.proofs.Common.{◌≡◌, ◌++◌, map, drop, length, false}
+use Rattle.std.proofs.Common.{◌++◌, map, drop, length, false}
 use Rattle.cm_wit_text.specs.Views.{case_tree}
 use Rattle.cm_wit_mentions.specs.FileMentions.{label, type_marks, case_marks}
 use Rattle.cm_wit_mentions.specs.Marks.{each, one, ◌then◌, optional}

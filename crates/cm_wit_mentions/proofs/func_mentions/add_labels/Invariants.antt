@@ -1,4 +1,4 @@
-use Rattle.std.proofs.Common.{◌≡◌, ◌++◌, map, drop, length, false}
+use Rattle.std.proofs.Common.{◌++◌, map, drop, length, false}
 use Rattle.cm_wit_mentions.specs.FileMentions.{label, label_marks}
 use Rattle.cm_wit_mentions.specs.Marks.{each, one}
 use Rattle.cm_wit_mentions.specs.MentionViews.{mention_view}

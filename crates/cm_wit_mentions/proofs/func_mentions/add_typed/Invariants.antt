@@ -1,4 +1,4 @@
-use Rattle.std.proofs.Common.{◌≡◌, ◌++◌, map, drop, length}
+use Rattle.std.proofs.Common.{◌++◌, map, drop, length}
 use Rattle.cm_wit_types.specs.SignatureViews.{typed_tree}
 use Rattle.cm_wit_mentions.specs.FileMentions.{label, type_marks, typed_marks}
 use Rattle.cm_wit_mentions.specs.Marks.{each, one, ◌then◌}

@@ -1,4 +1,4 @@
-use Rattle.std.proofs.Common.{◌≡◌, ◌++◌, map, drop, length}
+use Rattle.std.proofs.Common.{◌++◌, map, drop, length}
 use Rattle.cm_wit_text.specs.Views.{resource_func_tree}
 use Rattle.cm_wit_mentions.specs.FileMentions.{resource_func_marks}
 use Rattle.cm_wit_mentions.specs.Marks.{each}

@@ -1,4 +1,4 @@
-use Rattle.std.proofs.Common.{◌≡◌, ◌++◌, map, drop, length}
+use Rattle.std.proofs.Common.{◌++◌, map, drop, length}
 use Rattle.cm_wit_text.specs.Views.{used_name_tree}
 use Rattle.cm_wit_types.specs.SignatureViews.{path_tree}
 use Rattle.cm_wit_mentions.specs.FileMentions.{used_marks}
