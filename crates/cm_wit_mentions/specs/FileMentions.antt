@@ -1,13 +1,13 @@
 -- What each name of a file declares and refers to, in reading order (WIT.md, "Packages and Worlds";
 -- Binary.md, "Import and Export Definitions", for the full names).
-use Rattle.std.specs.Prelude.{ℕ, ◌+◌, Bool, true, false, List, Option, Some, None}
+use Rattle.std.specs.Prelude.{ℕ, ◌+◌, Bool, true, false, List, [], ◌∷◌, ◌++◌, Option, Some, None}
 use Rattle.cm_types.specs.ExternNames as name
 use Rattle.cm_types.specs.ExternNames.{NameTree}
 use Rattle.cm_wit_types.specs.Types.{Ty, Tys, primitive, named, borrow, list, fixed_list, option}
 use Rattle.cm_wit_types.specs.Types.{tuple, plain_result, ok_result, error_result, result}
 use Rattle.cm_wit_types.specs.Types.{no_types, types}
 use Rattle.cm_wit_types.specs.Signatures.{Typed, Func, Path, local, foreign}
-use Rattle.cm_wit_text.specs.Trees.{Case, ResourceFunc, method, static, constructor}
+use Rattle.cm_wit_text.specs.Trees.{UsedName, Use, Case, ResourceFunc, method, static, constructor}
 use Rattle.cm_wit_text.specs.Trees.{TypeDef, alias, record_of, variant, enum, flags, resource}
 use Rattle.cm_wit_text.specs.Trees.{InterfaceItem, uses, defines, has_func, Interface}
 use Rattle.cm_wit_text.specs.Trees.{WorldExtern, interface_at, named_func, WorldItem, imports}
