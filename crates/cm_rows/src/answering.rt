@@ -8,9 +8,9 @@ use std::io;
 
 /// What answers rows, in their order.
 pub trait Driver {
-    /// Writes the answer to a row, whose words stand one space apart. Where there is none, what was
-    /// written is let go.
-    fn answer(&mut self, alloc: Global, words: &[&str], line: &mut Line) -> Result<(), RowFault>;
+    /// Writes the answer to a row, whose words stand one space apart. Where the line keeps that
+    /// something is wrong, what was written is let go.
+    fn answer(&mut self, alloc: Global, words: &[&str], line: &mut Line);
 }
 
 /// Reads lines to the end of standard input, and prints each as `LINE -> ANSWER`. Empty lines and
@@ -38,6 +38,6 @@ pub fn answer_rows<D: Driver>(
 fn answer_line<D: Driver>(driver: &mut D, alloc: Global, line: &str) -> Result<String, RowFault> {
     let words: Vec<&str> = line.split(' ').collect(alloc)?;
     let mut answer = Line::new(alloc);
-    driver.answer(alloc, words.as_slice(), &mut answer)?;
+    driver.answer(alloc, words.as_slice(), &mut answer);
     answer.done()
 }

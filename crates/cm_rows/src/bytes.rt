@@ -6,8 +6,7 @@ use crate::words::split_repeat;
 use hex::FromHexError;
 use std::alloc::{AllocError, Global};
 
-/// The bytes that a word spells: `-` is none; else parts joined by dots, each of which is pairs of
-/// digits, or `N*` and pairs of digits that stand N times.
+/// The bytes that a word spells.
 pub fn read_bytes(alloc: Global, word: &str) -> Result<Vec<u8>, RowFault> {
     let mut bytes = Vec::new(alloc);
     if word == "-" {
@@ -54,7 +53,7 @@ pub fn write_bytes(line: &mut Line, bytes: &[u8]) {
 /// Units that are equal and follow one another are written once from this many on.
 const LEAST_REPEAT: usize = 4;
 
-/// Writes bytes as [`read_bytes`] reads them. A run of at least four equal units of `unit` bytes is
+/// Writes bytes as [`Line::bytes`] reads them. A run of at least four equal units of `unit` bytes is
 /// a part of its own, written once with its number.
 pub fn write_units(line: &mut Line, bytes: &[u8], unit: usize) {
     if bytes.is_empty() {

@@ -8,7 +8,7 @@ mod line;
 mod words;
 
 pub use answering::{Driver, answer_rows};
-pub use bytes::{read_bytes, write_bytes, write_units};
+pub use bytes::{write_bytes, write_units};
 pub use fault::RowFault;
 pub use line::Line;
-pub use words::{read_number, split_repeat, split_words};
+pub use words::{split_repeat, word, words_from};

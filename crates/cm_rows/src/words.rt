@@ -1,17 +1,14 @@
-//! Numbers, and words that stand for several.
+//! Words of rows.
 
-use crate::fault::RowFault;
-use std::str::FromStr;
+/// The word at a place; empty where there is none.
+pub fn word<'a>(words: &[&'a str], at: usize) -> &'a str {
+    words.get(at).copied().unwrap_or("")
+}
 
-/// The number that a word is.
-pub fn read_number<T: FromStr>(word: &str) -> Result<T, RowFault>
-where
-    <T as FromStr>::Err: Drop,
-{
-    match word.parse::<T>() {
-        Ok(number) => Ok(number),
-        Err(_) => Err(RowFault::NotARow),
-    }
+/// The words from a place on.
+pub fn words_from<'a, 'b>(words: &'a [&'b str], at: usize) -> &'a [&'b str] {
+    let start = at.min(words.len());
+    &words[start..]
 }
 
 /// Of a word `N*WORD` the number and the word after it; any other word stands once.
@@ -22,21 +19,5 @@ pub fn split_repeat(word: &str) -> (u32, &str) {
             Err(_) => (1, word),
         },
         None => (1, word),
-    }
-}
-
-/// The words before and after the first that is `mark`.
-pub fn split_words<'a, 'b>(
-    words: &'a [&'b str],
-    mark: &str,
-) -> Result<(&'a [&'b str], &'a [&'b str]), RowFault> {
-    let place = words
-        .iter()
-        .position(|word| *word == mark)
-        .ok_or(RowFault::NotARow)?;
-    let (before, after) = words.split_at(place);
-    match after {
-        [_, after @ ..] => Ok((before, after)),
-        [] => Err(RowFault::NotARow),
     }
 }

@@ -10,27 +10,27 @@
 //! a place for N of that place.
 
 use crate::plain::write_fault;
-use crate::words::{read_labels, read_primitive, read_resource};
-use cm_layout::{layout_of_params, size};
-use cm_rows::{Line, RowFault, read_number, split_repeat, split_words};
-use cm_type_arena::{CaseDef, DefFault, FieldDef, FuncDef, Primitive, Summary, TypeDef, Types};
-use cm_types::{Func, Label, TypeTree};
+use crate::words::{primitive_named, read_labels, read_resource};
+use cm_layout::{Layout, layout_of_params, size};
+use cm_rows::{Line, split_repeat, word, words_from};
+use cm_type_arena::{CaseDef, DefFault, FieldDef, FuncDef, Summary, TypeDef, Types};
+use cm_types::Label;
 use std::alloc::{AllocError, Global};
-use std::rc::Rc;
 
 /// The answer to `ITEM ; ITEM ..`: of each item, and of several alike of the last, the place with
 /// those of its parts, what is known of it and its size in bytes; or its fault; or `unordered`
 /// where a part has no place.
-pub fn answer(alloc: Global, words: &[&str], line: &mut Line) -> Result<(), RowFault> {
-    let mut arena = Arena::new(alloc)?;
+pub fn answer(alloc: Global, words: &[&str], line: &mut Line) {
+    let Some(mut arena) = Arena::new(alloc, line) else {
+        return;
+    };
     for (place, words) in words.split(|word| *word == ";").enumerate() {
-        let outcome = arena.read_item(words)?;
+        let outcome = arena.read_item(words, line);
         if place > 0 {
             line.put(" ; ");
         }
-        arena.write_outcome(outcome, line)?;
+        arena.write_outcome(outcome, line);
     }
-    Ok(())
 }
 
 /// The types so far.
@@ -55,9 +55,9 @@ enum Outcome {
 }
 
 impl Arena {
-    fn new(alloc: Global) -> Result<Arena, AllocError> {
-        let types = Types::new(alloc)?;
-        Ok(Arena {
+    fn new(alloc: Global, line: &mut Line) -> Option<Arena> {
+        let types = line.kept(Types::new(alloc))?;
+        Some(Arena {
             alloc,
             first: types.len(),
             types,
@@ -65,34 +65,33 @@ impl Arena {
     }
 
     /// The types of `ITEM ; ITEM ..`.
-    pub fn read(alloc: Global, words: &[&str]) -> Result<Arena, RowFault> {
-        let mut arena = Arena::new(alloc)?;
+    pub fn read(alloc: Global, words: &[&str], line: &mut Line) -> Option<Arena> {
+        let mut arena = Arena::new(alloc, line)?;
         for words in words.split(|word| *word == ";") {
-            arena.read_item(words)?;
+            arena.read_item(words, line);
         }
-        Ok(arena)
+        Some(arena)
     }
 
     /// Adds an item, or several alike: what became of the last.
-    fn read_item(&mut self, words: &[&str]) -> Result<Outcome, RowFault> {
-        let [word, words @ ..] = words else {
-            return Err(RowFault::NotARow);
-        };
-        let (times, word) = split_repeat(word);
+    fn read_item(&mut self, words: &[&str], line: &mut Line) -> Outcome {
+        let (times, item) = split_repeat(word(words, 0));
         let mut outcome = Outcome::Unordered;
         for _ in 0..times {
-            outcome = self.push(word, words)?;
+            outcome = self.push(item, words_from(words, 1), line);
         }
-        Ok(outcome)
+        outcome
     }
 
-    fn push(&mut self, word: &str, words: &[&str]) -> Result<Outcome, RowFault> {
+    fn push(&mut self, word: &str, words: &[&str], line: &mut Line) -> Outcome {
         let (name, operand) = word.split_once(':').unwrap_or((word, ""));
         let places = Places::of(self.alloc, &self.types);
         if name == "func" {
-            Ok(self.push_func(places.read_func(operand, words)?))
-        } else {
-            Ok(self.push_type(places.read_def(name, operand, words)?))
+            return self.push_func(places.read_func(operand, words, line));
+        }
+        match places.read_def(name, operand, words, line) {
+            Some(def) => self.push_type(def),
+            None => Outcome::Unordered,
         }
     }
 
@@ -116,38 +115,36 @@ impl Arena {
         }
     }
 
-    fn write_outcome(&self, outcome: Outcome, line: &mut Line) -> Result<(), RowFault> {
+    fn write_outcome(&self, outcome: Outcome, line: &mut Line) {
         match outcome {
-            Outcome::Type(place) => return self.write_type(place, line),
-            Outcome::Func(place) => return self.write_func(place, line),
+            Outcome::Type(place) => self.write_type(place, line),
+            Outcome::Func(place) => self.write_func(place, line),
             Outcome::Refused(fault) => write_fault(line, fault as u8),
             Outcome::Unordered => line.put("unordered"),
         }
-        Ok(())
     }
 
     /// Writes `PLACE of PARTS: SUMMARY, SIZE`.
-    fn write_type(&self, place: usize, line: &mut Line) -> Result<(), RowFault> {
+    fn write_type(&self, place: usize, line: &mut Line) {
         if place >= self.types.len() {
-            return Err(RowFault::NotARow);
+            return line.refuse();
         }
-        let size = size_of(self.types.tree(place)?);
         line.show(place);
         line.put(" of");
         write_places(line, self.types.parts(place));
         line.put(":");
         write_summary(line, self.types.summary(place));
         line.put(", size ");
-        line.show(size);
-        Ok(())
+        if let Some(tree) = line.kept(self.types.tree(place)) {
+            line.show(size(&tree));
+        }
     }
 
     /// Writes `func PLACE of PARAMETERS to RESULT: SUMMARY, SIZE` of the parameters as a tuple.
-    fn write_func(&self, place: usize, line: &mut Line) -> Result<(), RowFault> {
+    fn write_func(&self, place: usize, line: &mut Line) {
         if place >= self.types.func_count() {
-            return Err(RowFault::NotARow);
+            return line.refuse();
         }
-        let size = size_of_params(self.alloc, self.types.share_func(place)?)?;
         line.put("func ");
         line.show(place);
         line.put(" of");
@@ -162,8 +159,15 @@ impl Arena {
         line.put(", ");
         line.show(self.types.func(place).params.len());
         line.put(" of size ");
-        line.show(size);
-        Ok(())
+        if let Some(func) = line.kept(self.types.share_func(place)) {
+            write_size_of_params(line, layout_of_params(self.alloc, &func));
+        }
+    }
+}
+
+fn write_size_of_params(line: &mut Line, layout: Result<Layout, AllocError>) {
+    if let Some(layout) = line.kept(layout) {
+        line.show(layout.head.size);
     }
 }
 
@@ -182,160 +186,110 @@ impl Places {
         }
     }
 
-    fn read_func(self, labels: &str, words: &[&str]) -> Result<FuncDef, RowFault> {
-        let (params, answer) = split_words(words, "->")?;
-        let [answer] = answer else {
-            return Err(RowFault::NotARow);
-        };
-        let result = self.read_payload(answer)?;
-        let params = self.read_fields(labels, params)?;
-        Ok(FuncDef { params, result })
-    }
-
-    fn read_def(self, name: &str, operand: &str, words: &[&str]) -> Result<TypeDef, RowFault> {
-        match name {
-            "list" => Ok(TypeDef::List(self.read_part(words)?)),
-            "option" => Ok(TypeDef::Option(self.read_part(words)?)),
-            "fixed" => Ok(TypeDef::FixedList {
-                element: self.read_part(words)?,
-                length: read_number(operand)?,
-            }),
-            "tuple" => Ok(TypeDef::Tuple(self.read_places(words)?)),
-            "record" => Ok(TypeDef::Record(self.read_fields(operand, words)?)),
-            "variant" => Ok(TypeDef::Variant(self.read_cases(operand, words)?)),
-            "result" => self.read_result(words),
-            name if words.is_empty() => read_leaf(self.alloc, name, operand),
-            _ => Err(RowFault::NotARow),
+    fn read_func(self, labels: &str, words: &[&str], line: &mut Line) -> FuncDef {
+        let (params, answer) = line.split(words, "->");
+        FuncDef {
+            params: self.read_fields(labels, params, line),
+            result: self.read_payload(word(answer, 0), line),
         }
     }
 
-    fn read_part(self, words: &[&str]) -> Result<usize, RowFault> {
-        match words {
-            [part] => self.read(part),
-            _ => Err(RowFault::NotARow),
-        }
-    }
-
-    fn read_result(self, words: &[&str]) -> Result<TypeDef, RowFault> {
-        match words {
-            [ok, error] => Ok(TypeDef::Result {
-                ok: self.read_payload(ok)?,
-                error: self.read_payload(error)?,
-            }),
-            _ => Err(RowFault::NotARow),
-        }
+    fn read_def(
+        self,
+        name: &str,
+        operand: &str,
+        words: &[&str],
+        line: &mut Line,
+    ) -> Option<TypeDef> {
+        let first = word(words, 0);
+        Some(match name {
+            "list" => TypeDef::List(self.read(first, line)),
+            "option" => TypeDef::Option(self.read(first, line)),
+            "fixed" => TypeDef::FixedList {
+                element: self.read(first, line),
+                length: line.number(operand),
+            },
+            "tuple" => TypeDef::Tuple(self.read_places(words, line)),
+            "record" => TypeDef::Record(self.read_fields(operand, words, line)),
+            "variant" => TypeDef::Variant(self.read_cases(operand, words, line)),
+            "result" => TypeDef::Result {
+                ok: self.read_payload(first, line),
+                error: self.read_payload(word(words, 1), line),
+            },
+            "enum" => TypeDef::Enum(read_labels(self.alloc, operand, line)),
+            "flags" => TypeDef::Flags(read_labels(self.alloc, operand, line)),
+            "own" => TypeDef::Own(read_resource(operand, line)),
+            "borrow" => TypeDef::Borrow(read_resource(operand, line)),
+            name => TypeDef::Primitive(line.wanted(primitive_named(name))?),
+        })
     }
 
     /// A place by its number, by the name of a primitive type, or as `last`.
-    pub fn read(self, word: &str) -> Result<usize, RowFault> {
+    pub fn read(self, word: &str, line: &mut Line) -> usize {
         if word == "last" {
-            return self.count.checked_sub(1).ok_or(RowFault::NotARow);
+            return line.wanted(self.count.checked_sub(1)).unwrap_or(0);
         }
-        match read_primitive(word) {
-            Ok(primitive) => Ok(primitive as usize),
-            Err(_) => read_number(word),
+        match primitive_named(word) {
+            Some(primitive) => primitive as usize,
+            None => line.number(word),
         }
     }
 
-    fn read_places(self, words: &[&str]) -> Result<Vec<usize>, RowFault> {
+    fn read_places(self, words: &[&str], line: &mut Line) -> Vec<usize> {
         let mut places = Vec::new(self.alloc);
         for word in words {
             let (times, word) = split_repeat(word);
-            let place = self.read(word)?;
+            let place = self.read(word, line);
             for _ in 0..times {
-                places.push(place)?;
+                line.push(&mut places, place);
             }
         }
-        Ok(places)
+        places
     }
 
-    fn read_payload(self, word: &str) -> Result<Option<usize>, RowFault> {
+    fn read_payload(self, word: &str, line: &mut Line) -> Option<usize> {
         match word {
-            "-" => Ok(None),
-            word => Ok(Some(self.read(word)?)),
+            "-" => None,
+            word => Some(self.read(word, line)),
         }
-    }
-
-    fn read_payloads(self, words: &[&str]) -> Result<Vec<Option<usize>>, RowFault> {
-        let mut payloads = Vec::new(self.alloc);
-        for word in words {
-            payloads.push(self.read_payload(word)?)?;
-        }
-        Ok(payloads)
     }
 
     /// As many fields as places, with these labels.
-    fn read_fields(self, labels: &str, words: &[&str]) -> Result<Vec<FieldDef>, RowFault> {
-        let places = self.read_places(words)?;
-        fields_of(self.alloc, labels_of(self.alloc, labels)?, &places)
+    fn read_fields(self, labels: &str, words: &[&str], line: &mut Line) -> Vec<FieldDef> {
+        let labels = labels_of(self.alloc, labels, line);
+        let places = self.read_places(words, line);
+        if labels.len() != places.len() {
+            line.refuse();
+        }
+        let mut fields = Vec::new(self.alloc);
+        for (label, place) in labels.into_iter().zip(&places) {
+            line.push(&mut fields, FieldDef { label, ty: *place });
+        }
+        fields
     }
 
     /// As many cases as payloads, with these labels.
-    fn read_cases(self, labels: &str, words: &[&str]) -> Result<Vec<CaseDef>, RowFault> {
-        let payloads = self.read_payloads(words)?;
-        cases_of(self.alloc, labels_of(self.alloc, labels)?, &payloads)
-    }
-}
-
-/// A definition of one word.
-fn read_leaf(alloc: Global, name: &str, operand: &str) -> Result<TypeDef, RowFault> {
-    match name {
-        "enum" => Ok(TypeDef::Enum(read_labels(alloc, operand)?)),
-        "flags" => Ok(TypeDef::Flags(read_labels(alloc, operand)?)),
-        "own" => Ok(TypeDef::Own(read_resource(operand)?)),
-        "borrow" => Ok(TypeDef::Borrow(read_resource(operand)?)),
-        name => Ok(TypeDef::Primitive(read_primitive(name)?)),
+    fn read_cases(self, labels: &str, words: &[&str], line: &mut Line) -> Vec<CaseDef> {
+        let labels = labels_of(self.alloc, labels, line);
+        if labels.len() != words.len() {
+            line.refuse();
+        }
+        let mut cases = Vec::new(self.alloc);
+        for (label, word) in labels.into_iter().zip(words) {
+            let payload = self.read_payload(word, line);
+            line.push(&mut cases, CaseDef { label, payload });
+        }
+        cases
     }
 }
 
 /// The labels that a text spells; none where it is empty.
-fn labels_of(alloc: Global, text: &str) -> Result<Vec<Label>, RowFault> {
+fn labels_of(alloc: Global, text: &str, line: &mut Line) -> Vec<Label> {
     if text.is_empty() {
-        Ok(Vec::new(alloc))
+        Vec::new(alloc)
     } else {
-        read_labels(alloc, text)
+        read_labels(alloc, text, line)
     }
-}
-
-fn fields_of(
-    alloc: Global,
-    labels: Vec<Label>,
-    places: &[usize],
-) -> Result<Vec<FieldDef>, RowFault> {
-    if labels.len() != places.len() {
-        return Err(RowFault::NotARow);
-    }
-    let mut fields = Vec::new(alloc);
-    for (label, place) in labels.into_iter().zip(places) {
-        fields.push(FieldDef { label, ty: *place })?;
-    }
-    Ok(fields)
-}
-
-fn cases_of(
-    alloc: Global,
-    labels: Vec<Label>,
-    payloads: &[Option<usize>],
-) -> Result<Vec<CaseDef>, RowFault> {
-    if labels.len() != payloads.len() {
-        return Err(RowFault::NotARow);
-    }
-    let mut cases = Vec::new(alloc);
-    for (label, payload) in labels.into_iter().zip(payloads) {
-        cases.push(CaseDef {
-            label,
-            payload: *payload,
-        })?;
-    }
-    Ok(cases)
-}
-
-fn size_of(tree: TypeTree) -> u32 {
-    size(&tree)
-}
-
-fn size_of_params(alloc: Global, func: Rc<Func>) -> Result<u32, AllocError> {
-    Ok(layout_of_params(alloc, &func)?.head.size)
 }
 
 /// Writes each place after a space, of the first eight, and how many others there are; `-` for

@@ -33,82 +33,69 @@ mod scanned;
 mod tables;
 mod values;
 
-use cm_rows::{Line, RowFault, split_words};
+use cm_rows::{Line, word, words_from};
 use std::alloc::Global;
 
 /// Writes the answer to a row on a call, or on one step of it.
-pub fn answer(alloc: Global, words: &[&str], line: &mut Line) -> Result<(), RowFault> {
-    let [verb, rest @ ..] = words else {
-        return Err(RowFault::NotARow);
-    };
-    match *verb {
-        "lift" => lift(alloc, rest, line),
-        "pass" => pass(alloc, rest, line),
-        "requests" => ask(alloc, rest, line),
-        "give" => giving::answer(alloc, rest, line),
-        "answers" => answers::answer(alloc, rest, line),
-        verb => call_or_scan(alloc, verb, rest, line),
+pub fn answer(alloc: Global, verb: &str, words: &[&str], line: &mut Line) {
+    match verb {
+        "lift" => lift(alloc, words, line),
+        "pass" => pass(alloc, words, line),
+        "requests" => ask(alloc, words, line),
+        "give" => giving::answer(alloc, words, line),
+        "answers" => answers::answer(alloc, words, line),
+        verb => call_or_scan(alloc, verb, words, line),
     }
 }
 
-fn lift(alloc: Global, words: &[&str], line: &mut Line) -> Result<(), RowFault> {
-    let [way, source, memory, table, rest @ ..] = words else {
-        return Err(RowFault::NotARow);
-    };
-    let sides = call::read_sides(source, "utf8", "0", "0")?;
-    let given = call::read_call(alloc, sides, way, memory, rest, &[])?;
-    lifted::answer(alloc, &given, table, line)
+fn lift(alloc: Global, words: &[&str], line: &mut Line) {
+    let sides = call::read_sides(word(words, 1), "utf8", "0", "0", line);
+    let way = word(words, 0);
+    let memory = word(words, 2);
+    let rest = words_from(words, 4);
+    if let Some(given) = call::read_call(alloc, sides, way, memory, rest, &[], line) {
+        lifted::answer(alloc, &given, word(words, 3), line);
+    }
 }
 
-fn pass(alloc: Global, words: &[&str], line: &mut Line) -> Result<(), RowFault> {
-    let [way, source, memory, table, instance, rest @ ..] = words else {
-        return Err(RowFault::NotARow);
-    };
-    let sides = call::read_sides(source, "utf8", "0", instance)?;
-    let given = call::read_call(alloc, sides, way, memory, rest, &[])?;
-    lifted::pass(alloc, &given, table, line)
+fn pass(alloc: Global, words: &[&str], line: &mut Line) {
+    let sides = call::read_sides(word(words, 1), "utf8", "0", word(words, 4), line);
+    let way = word(words, 0);
+    let memory = word(words, 2);
+    let rest = words_from(words, 5);
+    if let Some(given) = call::read_call(alloc, sides, way, memory, rest, &[], line) {
+        lifted::pass(alloc, &given, word(words, 3), line);
+    }
 }
 
-fn ask(alloc: Global, words: &[&str], line: &mut Line) -> Result<(), RowFault> {
-    let [way, source, memory, table, target, rest @ ..] = words else {
-        return Err(RowFault::NotARow);
-    };
-    call::read_stored(source)?;
-    let sides = call::read_sides(source, target, "0", "0")?;
-    let given = call::read_call(alloc, sides, way, memory, rest, &[])?;
-    lifted::ask(alloc, &given, table, line)
+fn ask(alloc: Global, words: &[&str], line: &mut Line) {
+    let source = word(words, 1);
+    call::read_stored(source, line);
+    let sides = call::read_sides(source, word(words, 4), "0", "0", line);
+    let way = word(words, 0);
+    let memory = word(words, 2);
+    let rest = words_from(words, 5);
+    if let Some(given) = call::read_call(alloc, sides, way, memory, rest, &[], line) {
+        lifted::ask(alloc, &given, word(words, 3), line);
+    }
 }
 
-fn call_or_scan(
-    alloc: Global,
-    verb: &str,
-    words: &[&str],
-    line: &mut Line,
-) -> Result<(), RowFault> {
-    let [
-        way,
-        source,
-        target,
-        memory,
-        table,
-        length,
-        received,
-        instance,
-        rest @ ..,
-    ] = words
-    else {
-        return Err(RowFault::NotARow);
+fn call_or_scan(alloc: Global, verb: &str, words: &[&str], line: &mut Line) {
+    let (source, target) = (word(words, 1), word(words, 2));
+    let sides = call::read_sides(source, target, word(words, 5), word(words, 7), line);
+    let (memory, table, received) = (word(words, 3), word(words, 4), word(words, 6));
+    let (rest, answers) = line.split(words_from(words, 8), "at");
+    let way = word(words, 0);
+    let Some(given) = call::read_call(alloc, sides, way, memory, rest, answers, line) else {
+        return;
     };
-    let sides = call::read_sides(source, target, length, instance)?;
-    let (rest, answers) = split_words(rest, "at")?;
-    let given = call::read_call(alloc, sides, way, memory, rest, answers)?;
     match verb {
         "call" => {
-            lowered::answer(alloc, &given, table, received, line)?;
+            lowered::answer(alloc, &given, table, received, line);
             line.put(" | ");
         }
         "scan" => {}
-        _ => return Err(RowFault::NotARow),
+        _ => return line.refuse(),
     }
-    scanned::answer(alloc, &given, table, received, line)
+    scanned::answer(alloc, &given, table, received, line);
 }

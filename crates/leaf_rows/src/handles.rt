@@ -7,7 +7,7 @@ ghost use Rattle.cm_handles.specs.Handles.{handle_at};
 use crate::plain::write_fault;
 use crate::words::read_resource;
 use cm_handles::{Handle, HandleFault, HandleKind, Table};
-use cm_rows::{Line, RowFault, read_number};
+use cm_rows::{Line, RowFault, word, words_from};
 use cm_types::ResourceId;
 use std::alloc::Global;
 
@@ -37,99 +37,80 @@ impl Handles {
         }
     }
 
-    /// The answer to `new`, `memory_fault` (the number of the one that no row meets), `fill COUNT
-    /// RESOURCE SERIAL`, `add HANDLE..`, or a call by its name, whose words are those of its
-    /// arguments.
-    pub fn answer(
-        &mut self,
-        alloc: Global,
-        words: &[&str],
-        line: &mut Line,
-    ) -> Result<(), RowFault> {
-        let [call, rest @ ..] = words else {
-            return Err(RowFault::NotARow);
-        };
-        match *call {
-            "add" => write_index(line, self.table.add(read_handle(rest)?)),
-            "fill" => self.fill(rest, line),
-            "restore" => self.restore(rest, line),
-            call => match rest {
-                [] => self.answer_word(alloc, call, line),
-                [additional] if call == "reserve" => {
-                    write_unit(line, self.table.reserve(read_number(additional)?))
-                }
-                [index, resource] => self.call(
-                    call,
-                    read_number(index)?,
-                    read_resource(resource)?,
-                    line,
-                ),
-                _ => Err(RowFault::NotARow),
-            },
-        }
-    }
-
-    fn answer_word(&mut self, alloc: Global, word: &str, line: &mut Line) -> Result<(), RowFault> {
-        match word {
+    /// The answer to `new`, `close`, `memory_fault` (the number of the one that no row meets), `fill
+    /// COUNT HANDLE`, `add HANDLE`, `reserve COUNT`, `restore INDEX INDEX RESOURCE`, or a call by
+    /// its name, whose words are those of its arguments.
+    pub fn answer(&mut self, alloc: Global, words: &[&str], line: &mut Line) {
+        let first = word(words, 1);
+        match word(words, 0) {
             "new" => {
                 self.table = Table::new(alloc);
                 line.put("empty");
             }
-            "memory_fault" => write_fault(line, HandleFault::Memory.number()),
             "close" => {
                 self.table.close();
                 line.put("closed");
             }
-            _ => return Err(RowFault::NotARow),
+            "memory_fault" => write_fault(line, HandleFault::Memory.number()),
+            "add" => {
+                let handle = read_handle(words_from(words, 1), line);
+                if line.is_fine() {
+                    write_index(line, self.table.add(handle));
+                }
+            }
+            "fill" => {
+                let handle = read_handle(words_from(words, 2), line);
+                self.fill(line.number(first), handle, line);
+            }
+            "reserve" => match self.table.reserve(line.number(first)) {
+                Ok(()) => line.put("done"),
+                Err(fault) => write_refusal(line, fault),
+            },
+            "restore" => {
+                let resource = read_resource(word(words, 3), line);
+                self.restore(
+                    line.number(first),
+                    line.number(word(words, 2)),
+                    resource,
+                    line,
+                );
+            }
+            call => {
+                let resource = read_resource(word(words, 2), line);
+                self.call(call, line.number(first), resource, line);
+            }
         }
-        Ok(())
     }
 
     /// A call that takes the index of a handle and its resource.
-    fn call(
-        &mut self,
-        call: &str,
-        index: u32,
-        resource: ResourceId,
-        line: &mut Line,
-    ) -> Result<(), RowFault> {
-        match call {
-            "get" => write_handle(line, self.table.get(index, resource)),
-            "drop_handle" => write_handle(line, self.table.drop_handle(index, resource)),
-            "take_own" => write_handle(line, self.table.take_own(index, resource)),
-            "lend" => {
-                if !may_lend(&self.table, index) {
-                    return Err(RowFault::NotARow);
-                }
-                write_handle(line, self.table.lend(index, resource));
-            }
-            "unlend" => {
-                match self.table.get(index, resource) {
-                    Ok(handle) if handle.lends > 0 => self.table.unlend(index),
-                    _ => return Err(RowFault::NotARow),
-                }
-                write_handle(line, self.table.get(index, resource));
-            }
-            _ => return Err(RowFault::NotARow),
+    fn call(&mut self, call: &str, index: u32, resource: ResourceId, line: &mut Line) {
+        if !line.is_fine() {
+            return;
         }
-        Ok(())
-    }
-
-    fn fill(&mut self, words: &[&str], line: &mut Line) -> Result<(), RowFault> {
-        match words {
-            [count, handle @ ..] => self.add_several(
-                read_number(count)?,
-                read_handle(handle)?,
-                line,
-            ),
-            [] => Err(RowFault::NotARow),
-        }
+        let outcome = match call {
+            "get" => self.table.get(index, resource),
+            "drop_handle" => self.table.drop_handle(index, resource),
+            "take_own" => self.table.take_own(index, resource),
+            "lend" if may_lend(&self.table, index) => self.table.lend(index, resource),
+            "unlend" => match self.table.get(index, resource) {
+                Ok(handle) if handle.lends > 0 => {
+                    self.table.unlend(index);
+                    self.table.get(index, resource)
+                }
+                _ => return line.refuse(),
+            },
+            _ => return line.refuse(),
+        };
+        write_handle(line, outcome);
     }
 
     /// Adds so many handles, of which each is to stand at the index after that of the one before
     /// it.
-    fn add_several(&mut self, count: u32, handle: Handle, line: &mut Line) -> Result<(), RowFault> {
+    fn fill(&mut self, count: u32, handle: Handle, line: &mut Line) {
         let mut last = 0u32;
+        if !line.is_fine() {
+            return;
+        }
         for _ in 0..count {
             let rep = last.saturating_add(1);
             match self.table.add(Handle { rep, ..handle }) {
@@ -139,35 +120,16 @@ impl Handles {
         }
         line.put("up to ");
         line.show(last);
-        Ok(())
-    }
-
-    fn restore(&mut self, words: &[&str], line: &mut Line) -> Result<(), RowFault> {
-        match words {
-            [first, second, resource] => self.take_and_restore(
-                read_number(first)?,
-                read_number(second)?,
-                read_resource(resource)?,
-                line,
-            ),
-            _ => Err(RowFault::NotARow),
-        }
     }
 
     /// Takes two handles, says what stands at their indices then, and puts them back, the last one
     /// first.
-    fn take_and_restore(
-        &mut self,
-        first: u32,
-        second: u32,
-        resource: ResourceId,
-        line: &mut Line,
-    ) -> Result<(), RowFault> {
+    fn restore(&mut self, first: u32, second: u32, resource: ResourceId, line: &mut Line) {
         let Ok(first_handle) = self.table.take_own(first, resource) else {
-            return Err(RowFault::NotARow);
+            return line.refuse();
         };
         let Ok(second_handle) = self.table.take_own(second, resource) else {
-            return Err(RowFault::NotARow);
+            return line.refuse();
         };
         write_handle(line, self.table.get(first, resource));
         line.put(", ");
@@ -178,7 +140,6 @@ impl Handles {
         write_handle(line, self.table.get(first, resource));
         line.put(", ");
         write_handle(line, self.table.get(second, resource));
-        Ok(())
     }
 }
 
@@ -199,43 +160,38 @@ fn may_lend(table: &Table, index: u32) -> bool
 
 /// A handle that is lent to no one: `owned RESOURCE SERIAL REP` or `borrowed RESOURCE SERIAL REP
 /// CALL`.
-fn read_handle(words: &[&str]) -> Result<Handle, RowFault> {
-    let (resource, serial, rep, kind) = match words {
-        ["owned", resource, serial, rep] => (resource, serial, rep, HandleKind::Owned),
-        ["borrowed", resource, serial, rep, call] => {
-            let call = read_number(call)?;
-            (resource, serial, rep, HandleKind::Borrowed { call })
-        }
-        _ => return Err(RowFault::NotARow),
+fn read_handle(words: &[&str], line: &mut Line) -> Handle {
+    let kind = match word(words, 0) {
+        "borrowed" => HandleKind::Borrowed {
+            call: line.number(word(words, 4)),
+        },
+        _ => HandleKind::Owned,
     };
-    Ok(Handle {
-        resource: read_resource(resource)?,
-        serial: read_number(serial)?,
+    Handle {
+        resource: read_resource(word(words, 1), line),
+        serial: line.number(word(words, 2)),
         lends: 0,
-        rep: read_number(rep)?,
+        rep: line.number(word(words, 3)),
         kind,
-    })
-}
-
-fn write_unit(line: &mut Line, outcome: Result<(), HandleFault>) -> Result<(), RowFault> {
-    match outcome {
-        Ok(()) => line.put("done"),
-        Err(HandleFault::Memory) => return Err(RowFault::Memory),
-        Err(fault) => write_fault(line, fault.number()),
     }
-    Ok(())
 }
 
-fn write_index(line: &mut Line, outcome: Result<u32, HandleFault>) -> Result<(), RowFault> {
+fn write_index(line: &mut Line, outcome: Result<u32, HandleFault>) {
     match outcome {
         Ok(index) => {
             line.put("at ");
             line.show(index);
         }
-        Err(HandleFault::Memory) => return Err(RowFault::Memory),
-        Err(fault) => write_fault(line, fault.number()),
+        Err(fault) => write_refusal(line, fault),
     }
-    Ok(())
+}
+
+/// Writes the number of a fault; want of memory is that of the row.
+fn write_refusal(line: &mut Line, fault: HandleFault) {
+    if let HandleFault::Memory = fault {
+        line.fail(RowFault::Memory);
+    }
+    write_fault(line, fault.number());
 }
 
 /// Writes a handle as `read_handle` reads it, and how often it is lent; or the fault.
@@ -247,24 +203,10 @@ fn write_handle(line: &mut Line, outcome: Result<Handle, HandleFault>) {
 }
 
 fn write_held(line: &mut Line, handle: Handle) {
-    match handle.kind {
-        HandleKind::Owned => {
-            line.put("owned ");
-            write_owner(line, handle);
-        }
-        HandleKind::Borrowed { call } => {
-            line.put("borrowed ");
-            write_owner(line, handle);
-            line.put(" ");
-            line.show(call);
-        }
-    }
-    line.put(" lent ");
-    line.show(handle.lends);
-}
-
-/// Writes `RESOURCE SERIAL REP`.
-fn write_owner(line: &mut Line, handle: Handle) {
+    line.put(match handle.kind {
+        HandleKind::Owned => "owned ",
+        HandleKind::Borrowed { .. } => "borrowed ",
+    });
     line.show(handle.resource.component);
     line.put(".");
     line.show(handle.resource.number);
@@ -272,4 +214,10 @@ fn write_owner(line: &mut Line, handle: Handle) {
     line.show(handle.serial);
     line.put(" ");
     line.show(handle.rep);
+    if let HandleKind::Borrowed { call } = handle.kind {
+        line.put(" ");
+        line.show(call);
+    }
+    line.put(" lent ");
+    line.show(handle.lends);
 }

@@ -6,59 +6,57 @@ use cm_layout::{
     Form, HandleType, Head, Layout, Leaf, Part, Payload, align, case_offset, discriminant_size,
     field_offset, has_cases, has_field, head, layout, layout_of_params, size,
 };
-use cm_rows::{Line, RowFault, read_number};
+use cm_rows::{Line, word, words_from};
 use cm_types::{CoreKind, ResourceId, TypeTree};
 use std::alloc::{AllocError, Global};
 use std::fmt::Display;
 
 /// The answer to `whole TYPE`, `fields TYPE`, `payload TYPE`, `head TYPE`, `tree TYPE`,
 /// `made TYPE`, `leaves COUNT`, `params FUNC`, `lift FUNC` or `lower FUNC`.
-pub fn answer(alloc: Global, words: &[&str], line: &mut Line) -> Result<(), RowFault> {
-    let [kind, rest @ ..] = words else {
-        return Err(RowFault::NotARow);
-    };
-    match *kind {
-        "params" => write_params(alloc, rest, line),
+pub fn answer(alloc: Global, words: &[&str], line: &mut Line) {
+    let rest = words_from(words, 1);
+    match word(words, 0) {
+        "params" => {
+            if let Some(func) = read_func(alloc, rest, line) {
+                write_made(line, layout_of_params(alloc, &func));
+            }
+        }
         "lift" => write_flat_func(alloc, rest, Side::Lift, line),
         "lower" => write_flat_func(alloc, rest, Side::Lower, line),
-        "leaves" => write_leaves(rest, line),
-        kind => answer_on_type(alloc, kind, &read_tree(alloc, rest)?, line),
+        "leaves" => {
+            let labels = line.number::<u32>(word(rest, 0));
+            write_leaves(line, labels as usize);
+        }
+        kind => {
+            if let Some(ty) = read_tree(alloc, rest, line) {
+                answer_on_type(alloc, kind, &ty, line);
+            }
+        }
     }
 }
 
-fn answer_on_type(
-    alloc: Global,
-    kind: &str,
-    ty: &TypeTree,
-    line: &mut Line,
-) -> Result<(), RowFault> {
+fn answer_on_type(alloc: Global, kind: &str, ty: &TypeTree, line: &mut Line) {
     match kind {
-        "whole" => write_whole(alloc, ty, line)?,
+        "whole" => write_whole(alloc, ty, line),
         "fields" => write_fields(line, ty),
         "payload" => write_payload(line, ty),
         "head" => write_head(line, head(ty)),
-        "tree" => write_made(line, layout(alloc, ty)?),
-        "made" => write_list(alloc, ty, line)?,
-        _ => return Err(RowFault::NotARow),
+        "tree" => write_made(line, layout(alloc, ty)),
+        "made" => write_made(line, list_of(alloc, ty)),
+        _ => line.refuse(),
     }
-    Ok(())
-}
-
-fn write_params(alloc: Global, func: &[&str], line: &mut Line) -> Result<(), RowFault> {
-    let func = read_func(alloc, func)?;
-    write_made(line, layout_of_params(alloc, &func)?);
-    Ok(())
 }
 
 /// Writes size, alignment and flat kinds.
-fn write_whole(alloc: Global, ty: &TypeTree, line: &mut Line) -> Result<(), AllocError> {
+fn write_whole(alloc: Global, ty: &TypeTree, line: &mut Line) {
     line.put("size ");
     line.show(size(ty));
     line.put(", align ");
     line.show(align(ty));
     line.put(", flat");
-    write_kinds(line, &flatten(alloc, ty)?);
-    Ok(())
+    if let Some(kinds) = line.kept(flatten(alloc, ty)) {
+        write_kinds(line, &kinds);
+    }
 }
 
 /// Writes the offsets of the fields in order.
@@ -85,37 +83,30 @@ fn write_payload(line: &mut Line, ty: &TypeTree) {
     }
 }
 
-/// Writes a list that is made of the type's layout, shared once more.
-fn write_list(alloc: Global, ty: &TypeTree, line: &mut Line) -> Result<(), AllocError> {
+/// A list that is made of the type's layout, shared once more.
+fn list_of(alloc: Global, ty: &TypeTree) -> Result<Layout, AllocError> {
     let element = layout(alloc, ty)?;
-    write_made(line, Layout::list(alloc, element.share()?)?);
-    Ok(())
+    Layout::list(alloc, element.share()?)
 }
 
 /// Writes what is made of numbers and handles alone: a leaf, a string, flags, an enum and a handle.
-fn write_leaves(words: &[&str], line: &mut Line) -> Result<(), RowFault> {
-    match words {
-        [labels] => write_leaves_of(line, read_number::<u32>(labels)? as usize),
-        _ => return Err(RowFault::NotARow),
-    }
-    Ok(())
-}
-
-fn write_leaves_of(line: &mut Line, labels: usize) {
+fn write_leaves(line: &mut Line, labels: usize) {
     let resource = ResourceId {
         component: 0,
         number: 7,
     };
-    write_made(line, Layout::leaf(Leaf::Signed(2)));
+    write_layout(line, &Layout::leaf(Leaf::Signed(2)));
     write_head(line, Leaf::Char.head());
-    write_made(line, Layout::string());
-    write_made(line, Layout::flags(labels));
-    write_made(line, Layout::enumeration(labels));
-    write_made(line, Layout::handle(HandleType::Own(resource)));
+    write_layout(line, &Layout::string());
+    write_layout(line, &Layout::flags(labels));
+    write_layout(line, &Layout::enumeration(labels));
+    write_layout(line, &Layout::handle(HandleType::Own(resource)));
 }
 
-fn write_made(line: &mut Line, layout: Layout) {
-    write_layout(line, &layout);
+fn write_made(line: &mut Line, layout: Result<Layout, AllocError>) {
+    if let Some(layout) = line.kept(layout) {
+        write_layout(line, &layout);
+    }
 }
 
 /// Writes `SIZE/ALIGN/WIDTH`, with `plain` behind it for plain bytes.
@@ -188,14 +179,11 @@ fn write_leaf(line: &mut Line, leaf: Leaf) {
 }
 
 fn write_handle(line: &mut Line, handle: HandleType) {
-    match handle {
-        HandleType::Own(resource) => {
-            write_pair(line, " own ", resource.component, ".", resource.number);
-        }
-        HandleType::Borrow(resource) => {
-            write_pair(line, " borrow ", resource.component, ".", resource.number);
-        }
-    }
+    let (kind, resource) = match handle {
+        HandleType::Own(resource) => (" own ", resource),
+        HandleType::Borrow(resource) => (" borrow ", resource),
+    };
+    write_pair(line, kind, resource.component, ".", resource.number);
 }
 
 /// Writes two values, each behind its text.
@@ -249,15 +237,12 @@ fn write_kinds(line: &mut Line, kinds: &[CoreKind]) {
     }
 }
 
-fn write_flat_func(
-    alloc: Global,
-    func: &[&str],
-    side: Side,
-    line: &mut Line,
-) -> Result<(), RowFault> {
-    let func = read_func(alloc, func)?;
-    write_flat(line, &flatten_func(alloc, &func, side)?);
-    Ok(())
+fn write_flat_func(alloc: Global, func: &[&str], side: Side, line: &mut Line) {
+    if let Some(func) = read_func(alloc, func, line) {
+        if let Some(flat) = line.kept(flatten_func(alloc, &func, side)) {
+            write_flat(line, &flat);
+        }
+    }
 }
 
 fn write_flat(line: &mut Line, flat: &FlatFunc) {

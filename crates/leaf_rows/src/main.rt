@@ -21,7 +21,7 @@ mod values;
 mod wit;
 mod words;
 
-use cm_rows::{Driver, Line, RowFault, answer_rows};
+use cm_rows::{Driver, Line, answer_rows, word, words_from};
 use handles::Handles;
 use std::alloc::Global;
 use std::io;
@@ -36,11 +36,9 @@ struct LeafRows {
 }
 
 impl Driver for LeafRows {
-    fn answer(&mut self, alloc: Global, words: &[&str], line: &mut Line) -> Result<(), RowFault> {
-        let [kind, rest @ ..] = words else {
-            return Err(RowFault::NotARow);
-        };
-        match *kind {
+    fn answer(&mut self, alloc: Global, words: &[&str], line: &mut Line) {
+        let rest = words_from(words, 1);
+        match word(words, 0) {
             "number" => numbers::answer(alloc, rest, line),
             "name" => names::answer(alloc, rest, line),
             "type" => types::answer(alloc, rest, line),
@@ -53,7 +51,7 @@ impl Driver for LeafRows {
             "shows" => shown::answer(alloc, rest, line),
             "fit" => candidates::answer(alloc, rest, line),
             "wit" => wit::answer(alloc, &mut self.texts, rest, line),
-            _ => calls::answer(alloc, words, line),
+            call => calls::answer(alloc, call, rest, line),
         }
     }
 }

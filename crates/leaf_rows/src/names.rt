@@ -2,59 +2,43 @@
 
 use crate::calls::passing::read_slot;
 use crate::plain::write_fault;
-use cm_rows::{Line, RowFault, read_number};
+use cm_rows::{Line, RowFault, word};
 use cm_types::{CoreKind, CoreValue, ExternName, ExternNameForm, Label, NameFault, same_name};
 use cm_values::is_scalar;
 use std::alloc::Global;
 
 /// The answer to `label TEXT`, `extern TEXT`, `same TEXT TEXT`, `is_scalar NUMBER` or
 /// `kind VALUE`. A TEXT of no bytes is a word of no bytes.
-pub fn answer(alloc: Global, words: &[&str], line: &mut Line) -> Result<(), RowFault> {
-    match words {
-        [call, word] => return answer_one(alloc, call, word, line),
-        ["same", a, b] => line.show(same_name(a, b)),
-        _ => return Err(RowFault::NotARow),
-    }
-    Ok(())
-}
-
-fn answer_one(alloc: Global, call: &str, word: &str, line: &mut Line) -> Result<(), RowFault> {
-    match call {
-        "label" => return write_label(line, Label::parse(alloc, word)),
-        "extern" => return write_extern(line, ExternName::parse(alloc, word)),
-        "is_scalar" => line.show(is_scalar(read_number(word)?)),
-        "kind" => return write_kind(line, word),
-        _ => return Err(RowFault::NotARow),
-    }
-    Ok(())
-}
-
-fn write_label(line: &mut Line, label: Result<Label, NameFault>) -> Result<(), RowFault> {
-    match label {
-        Ok(label) => write_text(line, label.as_str(), label.as_bytes()),
-        Err(fault) => return write_name_fault(line, fault),
-    }
-    Ok(())
-}
-
-fn write_extern(line: &mut Line, name: Result<ExternName, NameFault>) -> Result<(), RowFault> {
-    match name {
-        Ok(name) => {
-            write_text(line, name.as_str(), name.as_bytes());
-            write_form(line, &name.form());
+pub fn answer(alloc: Global, words: &[&str], line: &mut Line) {
+    let text = word(words, 1);
+    match word(words, 0) {
+        "same" => line.show(same_name(text, word(words, 2))),
+        "label" => match Label::parse(alloc, text) {
+            Ok(label) => write_text(line, label.as_str(), label.as_bytes()),
+            Err(fault) => write_name_fault(line, fault),
+        },
+        "extern" => match ExternName::parse(alloc, text) {
+            Ok(name) => {
+                write_text(line, name.as_str(), name.as_bytes());
+                write_form(line, &name.form());
+            }
+            Err(fault) => write_name_fault(line, fault),
+        },
+        "is_scalar" => {
+            let number = line.number(text);
+            line.show(is_scalar(number));
         }
-        Err(fault) => return write_name_fault(line, fault),
+        "kind" => write_kind(line, text),
+        _ => line.refuse(),
     }
-    Ok(())
 }
 
-fn write_name_fault(line: &mut Line, fault: NameFault) -> Result<(), RowFault> {
+fn write_name_fault(line: &mut Line, fault: NameFault) {
     let number = fault.number();
     if number == NameFault::Memory.number() {
-        return Err(RowFault::Memory);
+        line.fail(RowFault::Memory);
     }
     write_fault(line, number);
-    Ok(())
 }
 
 /// Writes the text that a name holds, and whether its bytes are others.
@@ -106,14 +90,13 @@ fn write_member(line: &mut Line, kind: &str, name: &str, owner: &str) {
 }
 
 /// Writes the kind of a value, which is `i32:NUMBER`, `i64:NUMBER` or `default`.
-fn write_kind(line: &mut Line, value: &str) -> Result<(), RowFault> {
+fn write_kind(line: &mut Line, value: &str) {
     let value = match value {
         "default" => CoreValue::default(),
-        value => read_slot(value)?,
+        value => read_slot(value, line),
     };
     line.put(match value.kind() {
         CoreKind::I32 => "i32",
         CoreKind::I64 => "i64",
     });
-    Ok(())
 }

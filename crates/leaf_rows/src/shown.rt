@@ -11,24 +11,20 @@ use std::alloc::Global;
 const MAX_WRITTEN: usize = 1000;
 
 /// The answer to a signature.
-pub fn answer(alloc: Global, words: &[&str], line: &mut Line) -> Result<(), RowFault> {
-    write_shown(alloc, &read_signature(alloc, words)?, MAX_WRITTEN, line)
+pub fn answer(alloc: Global, words: &[&str], line: &mut Line) {
+    if let Some(signature) = read_signature(alloc, words, line) {
+        write_shown(alloc, &signature, MAX_WRITTEN, line);
+    }
 }
 
 /// Writes the lines that show a signature, each behind `|`, or how many bytes they have, if those
 /// are more than this number; else the number of the fault.
-pub fn write_shown(
-    alloc: Global,
-    signature: &Signature,
-    most: usize,
-    line: &mut Line,
-) -> Result<(), RowFault> {
+pub fn write_shown(alloc: Global, signature: &Signature, most: usize, line: &mut Line) {
     match show(alloc, signature) {
         Ok(text) => write_text(line, &text, most),
-        Err(ShowFault::Memory) => return Err(RowFault::Memory),
+        Err(ShowFault::Memory) => line.fail(RowFault::Memory),
         Err(fault) => write_fault(line, fault.number()),
     }
-    Ok(())
 }
 
 fn write_text(line: &mut Line, text: &str, most: usize) {

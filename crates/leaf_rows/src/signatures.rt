@@ -16,34 +16,35 @@ use crate::arena::{Arena, Places};
 use crate::words::{read_move, read_name};
 use cm_placed::{Extern, ExternDesc, InstanceType, Item, ItemDesc, Placed, Signature};
 use cm_replaced::Move;
-use cm_rows::{RowFault, read_number, split_repeat, split_words};
+use cm_rows::{Line, split_repeat, word, words_from};
 use cm_type_arena::Types;
 use std::alloc::Global;
 use std::rc::Rc;
 
-pub fn read_signature(alloc: Global, words: &[&str]) -> Result<Signature, RowFault> {
-    let (types, externs) = split_words(words, "|")?;
-    let (imports, exports) = split_words(externs, "|")?;
-    let types = read_types(alloc, types)?;
+pub fn read_signature(alloc: Global, words: &[&str], line: &mut Line) -> Option<Signature> {
+    let (types, externs) = line.split(words, "|");
+    let (imports, exports) = line.split(externs, "|");
+    let types = read_types(alloc, types, line)?;
     let places = Places::of(alloc, &types);
-    let imports = read_externs(alloc, places, imports)?;
-    let exports = read_externs(alloc, places, exports)?;
+    let imports = read_externs(alloc, places, imports, line);
+    let exports = read_externs(alloc, places, exports, line);
     if !are_there(&types, &imports) || !are_there(&types, &exports) {
-        return Err(RowFault::NotARow);
+        line.refuse();
+        return None;
     }
-    Ok(Signature::new(types, imports, exports))
+    Some(Signature::new(types, imports, exports))
 }
 
-fn read_types(alloc: Global, words: &[&str]) -> Result<Types, RowFault> {
+fn read_types(alloc: Global, words: &[&str], line: &mut Line) -> Option<Types> {
     if is_empty(words) {
-        return Ok(Types::new(alloc)?);
+        return line.kept(Types::new(alloc));
     }
-    let Arena { types, .. } = Arena::read(alloc, words)?;
-    Ok(types)
+    let Arena { types, .. } = Arena::read(alloc, words, line)?;
+    Some(types)
 }
 
 fn is_empty(words: &[&str]) -> bool {
-    matches!(words, ["-"])
+    words.len() == 1 && word(words, 0) == "-"
 }
 
 /// Whether all places are in the arena.
@@ -83,106 +84,103 @@ fn is_item_there(types: usize, funcs: usize, desc: ItemDesc) -> bool
     }
 }
 
-fn read_externs(alloc: Global, places: Places, words: &[&str]) -> Result<Vec<Extern>, RowFault> {
+fn read_externs(alloc: Global, places: Places, words: &[&str], line: &mut Line) -> Vec<Extern> {
     let mut externs = Vec::new(alloc);
-    let mut last = Rc::new(alloc, read_instance(alloc, places, &["-"])?)?;
     if is_empty(words) {
-        return Ok(externs);
+        return externs;
     }
+    let mut last = None;
     for words in words.split(|word| *word == ";") {
-        let [name, desc @ ..] = words else {
-            return Err(RowFault::NotARow);
-        };
-        if let ["instance", _, items @ ..] = desc {
-            last = Rc::new(alloc, read_instance(alloc, places, items)?)?;
+        let desc = words_from(words, 1);
+        if word(desc, 0) == "instance" {
+            let ty = read_instance(alloc, places, words_from(desc, 2), line);
+            last = line.kept(Rc::new(alloc, ty));
         }
-        push_externs(alloc, &mut externs, &last, name, desc)?;
+        push_externs(alloc, &mut externs, last.as_ref(), words, line);
     }
-    Ok(externs)
+    externs
 }
 
+/// Adds an import or an export, as often as its name says; an instance is one of this type.
 fn push_externs(
     alloc: Global,
     externs: &mut Vec<Extern>,
-    ty: &Rc<InstanceType>,
-    name: &str,
-    desc: &[&str],
-) -> Result<(), RowFault> {
-    let (times, name) = split_repeat(name);
+    ty: Option<&Rc<InstanceType>>,
+    words: &[&str],
+    line: &mut Line,
+) {
+    let (times, text) = split_repeat(word(words, 0));
     for _ in 0..times {
-        externs.push(Extern {
-            name: read_name(alloc, name)?,
-            desc: read_desc(ty, desc)?,
-        })?;
+        let Some(name) = read_name(alloc, text, line) else {
+            break;
+        };
+        if let Some(desc) = read_desc(ty, words_from(words, 1), line) {
+            line.push(externs, Extern { name, desc });
+        }
     }
-    Ok(())
 }
 
 /// What an import or an export is; of an instance, one of this type.
-fn read_desc(ty: &Rc<InstanceType>, words: &[&str]) -> Result<ExternDesc, RowFault> {
-    match words {
-        ["func", place @ ..] => Ok(ExternDesc::Func(read_func(place)?)),
-        ["instance", by, ..] | ["same", by] => brought(ty, by),
-        _ => Err(RowFault::NotARow),
+fn read_desc(ty: Option<&Rc<InstanceType>>, words: &[&str], line: &mut Line) -> Option<ExternDesc> {
+    match word(words, 0) {
+        "func" => Some(ExternDesc::Func(read_func(words, line))),
+        "instance" | "same" => {
+            let shared: Result<_, _> = line.wanted(ty)?.clone();
+            Some(ExternDesc::Instance {
+                ty: line.kept(shared)?,
+                by: read_by(word(words, 1), line),
+            })
+        }
+        _ => line.wanted(None),
     }
 }
 
-fn brought(ty: &Rc<InstanceType>, by: &str) -> Result<ExternDesc, RowFault> {
-    Ok(ExternDesc::Instance {
-        ty: ty.clone()?,
-        by: read_by(by)?,
-    })
-}
-
-fn read_by(word: &str) -> Result<Option<Move>, RowFault> {
+/// A move; `-` or nothing for none.
+fn read_by(word: &str, line: &mut Line) -> Option<Move> {
     match word {
-        "-" => Ok(None),
-        word => Ok(Some(read_move(word)?)),
+        "-" | "" => None,
+        word => read_move(word, line),
     }
 }
 
-fn read_instance(alloc: Global, places: Places, words: &[&str]) -> Result<InstanceType, RowFault> {
+fn read_instance(alloc: Global, places: Places, words: &[&str], line: &mut Line) -> InstanceType {
     let mut items = Vec::new(alloc);
     if !is_empty(words) {
         for words in words.split(|word| *word == ",") {
-            items.push(read_item(alloc, places, words)?)?;
+            if let Some(name) = read_name(alloc, word(words, 0), line) {
+                let desc = read_item(places, words_from(words, 1), line);
+                line.push(&mut items, Item { name, desc });
+            }
         }
     }
-    Ok(InstanceType {
+    InstanceType {
         items,
         first: 0,
         fresh: 0,
-    })
+    }
 }
 
-fn read_item(alloc: Global, places: Places, words: &[&str]) -> Result<Item, RowFault> {
-    let [name, desc @ ..] = words else {
-        return Err(RowFault::NotARow);
-    };
-    let desc = match desc {
-        ["func", place @ ..] => ItemDesc::Func(read_func(place)?),
-        ["type", place] => ItemDesc::EqualType(Placed::at(places.read(place)?)),
-        ["type", place, by] => ItemDesc::EqualType(Placed {
-            place: places.read(place)?,
-            by: read_by(by)?,
+fn read_item(places: Places, words: &[&str], line: &mut Line) -> ItemDesc {
+    let number = word(words, 1);
+    match word(words, 0) {
+        "func" => ItemDesc::Func(read_func(words, line)),
+        "type" => ItemDesc::EqualType(Placed {
+            place: places.read(number, line),
+            by: read_by(word(words, 2), line),
         }),
-        ["equal", number] => ItemDesc::EqualResource(read_number(number)?),
-        ["fresh", number] => ItemDesc::FreshResource(read_number(number)?),
-        _ => return Err(RowFault::NotARow),
-    };
-    Ok(Item {
-        name: read_name(alloc, name)?,
-        desc,
-    })
+        "equal" => ItemDesc::EqualResource(line.number(number)),
+        "fresh" => ItemDesc::FreshResource(line.number(number)),
+        _ => {
+            line.refuse();
+            ItemDesc::FreshResource(0)
+        }
+    }
 }
 
-fn read_func(words: &[&str]) -> Result<Placed, RowFault> {
-    match words {
-        [place] => Ok(Placed::at(read_number(place)?)),
-        [place, by] => Ok(Placed {
-            place: read_number(place)?,
-            by: read_by(by)?,
-        }),
-        _ => Err(RowFault::NotARow),
+/// The type of a function, behind the word that says that it is one.
+fn read_func(words: &[&str], line: &mut Line) -> Placed {
+    Placed {
+        place: line.number(word(words, 1)),
+        by: read_by(word(words, 2), line),
     }
 }

@@ -1,98 +1,64 @@
 //! Rows on texts in the encodings.
 
-use cm_rows::{Line, RowFault, read_bytes, read_number, write_bytes, write_units};
+use cm_rows::{Line, RowFault, word, words_from, write_bytes, write_units};
 use cm_text::{
     Encoding, Latin1, Source, TextFault, Utf8, Utf16, ascii_run, ascii_units, narrow, transcode,
     transcode_into, transcoded_size, widen,
 };
-use std::alloc::{AllocError, Global};
+use std::alloc::Global;
 
 /// The answer to `transcode FROM TO BYTES..`, `scalars FROM BYTES`, `split_first FROM BYTES`,
 /// `append TO NUMBER..`, `constants ENCODING`, `ascii_run BYTES..`, `ascii_units BYTES..`, `widen
 /// BYTES` or `narrow BYTES`.
-pub fn answer(alloc: Global, words: &[&str], line: &mut Line) -> Result<(), RowFault> {
-    let [call, rest @ ..] = words else {
-        return Err(RowFault::NotARow);
-    };
-    match *call {
-        "transcode" => transcode_row(alloc, rest, line),
-        "append" => append_row(alloc, rest, line),
-        "ascii_run" => ascii_runs(alloc, rest, line),
-        "ascii_units" => ascii_unit_counts(alloc, rest, line),
-        call => match rest {
-            [word] => answer_one(alloc, call, word, line),
-            [from, text] => answer_text(alloc, call, from, &read_bytes(alloc, text)?, line),
-            _ => Err(RowFault::NotARow),
-        },
+pub fn answer(alloc: Global, words: &[&str], line: &mut Line) {
+    let rest = words_from(words, 1);
+    let (first, text) = (word(rest, 0), word(rest, 1));
+    match word(words, 0) {
+        "transcode" => write_transcoded(alloc, first, text, words_from(rest, 2), line),
+        "scalars" => write_scalars_of(alloc, first, &line.bytes(alloc, text), line),
+        "split_first" => write_first_of(first, &line.bytes(alloc, text), line),
+        "append" => write_appended(alloc, first, words_from(rest, 1), line),
+        "constants" => write_constants(first, line),
+        "ascii_run" => write_ascii_runs(alloc, rest, line),
+        "ascii_units" => write_ascii_units(alloc, rest, line),
+        "widen" => write_wide(alloc, &line.bytes(alloc, first), line),
+        "narrow" => write_narrow(alloc, &line.bytes(alloc, first), line),
+        _ => line.refuse(),
     }
 }
 
-fn answer_one(alloc: Global, call: &str, word: &str, line: &mut Line) -> Result<(), RowFault> {
-    match call {
-        "constants" => constants_row(word, line),
-        "widen" => write_wide(alloc, &read_bytes(alloc, word)?, line),
-        "narrow" => write_narrow(alloc, &read_bytes(alloc, word)?, line),
-        _ => Err(RowFault::NotARow),
-    }
-}
-
-fn answer_text(
-    alloc: Global,
-    call: &str,
-    from: &str,
-    text: &[u8],
-    line: &mut Line,
-) -> Result<(), RowFault> {
-    match call {
-        "scalars" => scalars_row(alloc, from, text, line),
-        "split_first" => split_first_row(alloc, from, text, line),
-        _ => Err(RowFault::NotARow),
-    }
-}
-
-fn transcode_row(alloc: Global, words: &[&str], line: &mut Line) -> Result<(), RowFault> {
-    let [from, to, texts @ ..] = words else {
-        return Err(RowFault::NotARow);
-    };
-    match (*from, *to) {
+fn write_transcoded(alloc: Global, from: &str, to: &str, texts: &[&str], line: &mut Line) {
+    match (from, to) {
         ("utf8", "utf8") => write_texts::<Utf8, Utf8>(alloc, texts, line),
         ("utf8", "utf16") => write_texts::<Utf8, Utf16>(alloc, texts, line),
         ("utf16", "utf8") => write_texts::<Utf16, Utf8>(alloc, texts, line),
         ("utf16", "utf16") => write_texts::<Utf16, Utf16>(alloc, texts, line),
         ("latin1", "utf8") => write_texts::<Latin1, Utf8>(alloc, texts, line),
         ("latin1", "utf16") => write_texts::<Latin1, Utf16>(alloc, texts, line),
-        _ => Err(RowFault::NotARow),
+        _ => line.refuse(),
     }
 }
 
-fn write_texts<S: Source, D: Encoding>(
-    alloc: Global,
-    texts: &[&str],
-    line: &mut Line,
-) -> Result<(), RowFault> {
+fn write_texts<S: Source, D: Encoding>(alloc: Global, texts: &[&str], line: &mut Line) {
     for (place, text) in texts.iter().enumerate() {
         if place > 0 {
             line.put(" ");
         }
-        write_text::<S, D>(alloc, &read_bytes(alloc, text)?, line)?;
+        let bytes = line.bytes(alloc, text);
+        write_text::<S, D>(alloc, &bytes, line);
     }
-    Ok(())
 }
 
 /// Writes the text in the other encoding, or where it is ill-formed, and what another call says
 /// otherwise.
-fn write_text<S: Source, D: Encoding>(
-    alloc: Global,
-    bytes: &[u8],
-    line: &mut Line,
-) -> Result<(), RowFault> {
+fn write_text<S: Source, D: Encoding>(alloc: Global, bytes: &[u8], line: &mut Line) {
     match transcode::<S, D>(alloc, bytes) {
         Ok(text) => {
             write_units(line, &text, D::UNIT_SIZE);
             if S::check(bytes).is_err() {
                 line.put("(checked as none)");
             }
-            if !writes_into::<S, D>(alloc, bytes, &text)? {
+            if !writes_into::<S, D>(alloc, bytes, &text, line) {
                 line.put("(written otherwise)");
             }
         }
@@ -102,9 +68,8 @@ fn write_text<S: Source, D: Encoding>(
             write_other_fault(line, at, transcoded_size::<S, D>(bytes).err());
             write_other_fault(line, at, S::scalars(alloc, bytes).err());
         }
-        Err(TextFault::Memory) => return Err(RowFault::Memory),
+        Err(TextFault::Memory) => line.fail(RowFault::Memory),
     }
-    Ok(())
 }
 
 /// Whether the text has this size and is written into a slice of that size.
@@ -112,15 +77,16 @@ fn writes_into<S: Source, D: Encoding>(
     alloc: Global,
     bytes: &[u8],
     text: &[u8],
-) -> Result<bool, RowFault> {
-    match transcoded_size::<S, D>(bytes) {
-        Ok(size) => {
-            let mut room = Vec::from_elem(alloc, 0xAAu8, size)?;
-            transcode_into::<S, D>(bytes, room.as_mut_slice());
-            Ok(room.as_slice() == text)
-        }
-        Err(_) => Ok(false),
-    }
+    line: &mut Line,
+) -> bool {
+    let Ok(size) = transcoded_size::<S, D>(bytes) else {
+        return false;
+    };
+    let Some(mut room) = line.kept(Vec::from_elem(alloc, 0xAAu8, size)) else {
+        return false;
+    };
+    transcode_into::<S, D>(bytes, room.as_mut_slice());
+    room.as_slice() == text
 }
 
 /// Writes a fault that is not the one at `at`, or that there is none.
@@ -142,108 +108,81 @@ fn write_ill_formed(line: &mut Line, at: usize) {
     line.show(at);
 }
 
-fn scalars_row(alloc: Global, from: &str, text: &[u8], line: &mut Line) -> Result<(), RowFault> {
+fn write_scalars_of(alloc: Global, from: &str, text: &[u8], line: &mut Line) {
     match from {
-        "utf8" => write_scalars(alloc, Utf8::scalars(alloc, text), line),
-        "utf16" => write_scalars(alloc, Utf16::scalars(alloc, text), line),
-        "latin1" => write_scalars(alloc, Latin1::scalars(alloc, text), line),
-        _ => Err(RowFault::NotARow),
+        "utf8" => write_scalars(Utf8::scalars(alloc, text), line),
+        "utf16" => write_scalars(Utf16::scalars(alloc, text), line),
+        "latin1" => write_scalars(Latin1::scalars(alloc, text), line),
+        _ => line.refuse(),
     }
 }
 
-fn write_scalars(
-    alloc: Global,
-    scalars: Result<Vec<char>, TextFault>,
-    line: &mut Line,
-) -> Result<(), RowFault> {
+fn write_scalars(scalars: Result<Vec<char>, TextFault>, line: &mut Line) {
     match scalars {
         Ok(scalars) => {
             line.put("scalars");
             for scalar in &scalars {
                 line.put(" ");
-                write_number(alloc, *scalar, line)?;
+                line.hex(u32::from(*scalar));
             }
         }
         Err(TextFault::IllFormed { at }) => write_ill_formed(line, at),
-        Err(TextFault::Memory) => return Err(RowFault::Memory),
+        Err(TextFault::Memory) => line.fail(RowFault::Memory),
     }
-    Ok(())
 }
 
-/// Writes the number of a scalar in hexadecimal digits.
-fn write_number(alloc: Global, scalar: char, line: &mut Line) -> Result<(), AllocError> {
-    let number = u32::from(scalar);
-    line.put(&format!(in alloc; "{number:x}")?);
-    Ok(())
-}
-
-fn split_first_row(
-    alloc: Global,
-    from: &str,
-    text: &[u8],
-    line: &mut Line,
-) -> Result<(), RowFault> {
+fn write_first_of(from: &str, text: &[u8], line: &mut Line) {
     match from {
-        "utf8" => write_first(alloc, Utf8::split_first(text), line)?,
-        "utf16" => write_first(alloc, Utf16::split_first(text), line)?,
-        "latin1" => write_first(alloc, Latin1::split_first(text), line)?,
-        _ => return Err(RowFault::NotARow),
+        "utf8" => write_first(Utf8::split_first(text), line),
+        "utf16" => write_first(Utf16::split_first(text), line),
+        "latin1" => write_first(Latin1::split_first(text), line),
+        _ => line.refuse(),
     }
-    Ok(())
 }
 
-fn write_first(
-    alloc: Global,
-    first: Option<(char, &[u8])>,
-    line: &mut Line,
-) -> Result<(), AllocError> {
+fn write_first(first: Option<(char, &[u8])>, line: &mut Line) {
     match first {
         Some((scalar, rest)) => {
             line.put("scalar ");
-            write_number(alloc, scalar, line)?;
+            line.hex(u32::from(scalar));
             line.put(", left ");
             write_bytes(line, rest);
         }
         None => line.put("none"),
     }
-    Ok(())
 }
 
-fn append_row(alloc: Global, words: &[&str], line: &mut Line) -> Result<(), RowFault> {
-    let [to, numbers @ ..] = words else {
-        return Err(RowFault::NotARow);
-    };
-    match *to {
+fn write_appended(alloc: Global, to: &str, numbers: &[&str], line: &mut Line) {
+    match to {
         "utf8" => append_all::<Utf8>(alloc, numbers, line),
         "utf16" => append_all::<Utf16>(alloc, numbers, line),
-        _ => Err(RowFault::NotARow),
+        _ => line.refuse(),
     }
 }
 
 /// Writes the text of scalars, whose numbers are in hexadecimal digits.
-fn append_all<D: Encoding>(
-    alloc: Global,
-    numbers: &[&str],
-    line: &mut Line,
-) -> Result<(), RowFault> {
+fn append_all<D: Encoding>(alloc: Global, numbers: &[&str], line: &mut Line) {
     let mut text = Vec::new(alloc);
     for number in numbers {
-        let number = u32::from_str_radix(number, 16).map_err(|_| RowFault::NotARow)?;
-        let scalar = char::from_u32(number).ok_or(RowFault::NotARow)?;
-        D::append(&mut text, scalar)?;
+        let number = u32::from_str_radix(number, 16).unwrap_or(u32::MAX);
+        match char::from_u32(number) {
+            Some(scalar) => {
+                line.kept(D::append(&mut text, scalar));
+            }
+            None => line.refuse(),
+        }
     }
     write_bytes(line, &text);
-    Ok(())
 }
 
 /// Writes the size of a unit, the alignment and, of an encoding that is written, the greatest
 /// growth.
-fn constants_row(encoding: &str, line: &mut Line) -> Result<(), RowFault> {
+fn write_constants(encoding: &str, line: &mut Line) {
     let (unit, alignment, growth) = match encoding {
         "utf8" => (Utf8::UNIT_SIZE, Utf8::ALIGNMENT, Utf8::GREATEST_GROWTH),
         "utf16" => (Utf16::UNIT_SIZE, Utf16::ALIGNMENT, Utf16::GREATEST_GROWTH),
         "latin1" => (Latin1::UNIT_SIZE, Latin1::ALIGNMENT, 0),
-        _ => return Err(RowFault::NotARow),
+        _ => return line.refuse(),
     };
     line.put("unit ");
     line.show(unit);
@@ -251,46 +190,45 @@ fn constants_row(encoding: &str, line: &mut Line) -> Result<(), RowFault> {
     line.show(alignment);
     line.put(", growth ");
     line.show(growth);
-    Ok(())
 }
 
-fn ascii_runs(alloc: Global, texts: &[&str], line: &mut Line) -> Result<(), RowFault> {
+fn write_ascii_runs(alloc: Global, texts: &[&str], line: &mut Line) {
     line.put("first");
     for text in texts {
         line.put(" ");
-        line.show(ascii_run(&read_bytes(alloc, text)?));
+        let bytes = line.bytes(alloc, text);
+        line.show(ascii_run(&bytes));
     }
-    Ok(())
 }
 
-fn ascii_unit_counts(alloc: Global, texts: &[&str], line: &mut Line) -> Result<(), RowFault> {
+fn write_ascii_units(alloc: Global, texts: &[&str], line: &mut Line) {
     line.put("first");
     for text in texts {
         line.put(" ");
-        line.show(ascii_units(&read_bytes(alloc, text)?));
+        let bytes = line.bytes(alloc, text);
+        line.show(ascii_units(&bytes));
     }
-    Ok(())
 }
 
 /// Only fewer than 1,000 bytes are a row.
-fn write_wide(alloc: Global, bytes: &[u8], line: &mut Line) -> Result<(), RowFault> {
+fn write_wide(alloc: Global, bytes: &[u8], line: &mut Line) {
     if bytes.len() >= 1_000 {
-        return Err(RowFault::NotARow);
+        return line.refuse();
     }
-    let mut units = Vec::from_elem(alloc, 0xAAu8, 2 * bytes.len())?;
-    widen(bytes, units.as_mut_slice());
-    write_bytes(line, &units);
-    Ok(())
+    if let Some(mut units) = line.kept(Vec::from_elem(alloc, 0xAAu8, 2 * bytes.len())) {
+        widen(bytes, units.as_mut_slice());
+        write_bytes(line, &units);
+    }
 }
 
 /// Only units below 0x80 are a row.
-fn write_narrow(alloc: Global, units: &[u8], line: &mut Line) -> Result<(), RowFault> {
+fn write_narrow(alloc: Global, units: &[u8], line: &mut Line) {
     let count = ascii_units(units);
     if units.len() >= 1_000 || units.len() != count.saturating_mul(2) {
-        return Err(RowFault::NotARow);
+        return line.refuse();
     }
-    let mut bytes = Vec::from_elem(alloc, 0xAAu8, count)?;
-    narrow(units, bytes.as_mut_slice());
-    write_bytes(line, &bytes);
-    Ok(())
+    if let Some(mut bytes) = line.kept(Vec::from_elem(alloc, 0xAAu8, count)) {
+        narrow(units, bytes.as_mut_slice());
+        write_bytes(line, &bytes);
+    }
 }

@@ -4,17 +4,17 @@ use crate::arena::Arena;
 use crate::runs::Runs;
 use crate::words::{read_move, read_resources};
 use cm_replaced::{Replacement, Row};
-use cm_rows::{Line, RowFault};
+use cm_rows::{Line, word, words_from};
 use cm_type_arena::Types;
 use cm_type_numbers::Numbers;
-use std::alloc::{AllocError, Global};
+use std::alloc::Global;
 
 /// The answer to `RESOURCES ITEM ; ITEM .. | RESOURCES ITEM ; ITEM ..`: types by places, each list
 /// with what stands for resources, which is a row of them joined by commas, `-` for none, or
 /// `move:FIRST,COUNT,NEXT`. For each item that is a type it is how many different numbers stood
 /// before the first with the same number, in the order of the lists, and so, behind `/`, for each
 /// function.
-pub fn answer(alloc: Global, words: &[&str], line: &mut Line) -> Result<(), RowFault> {
+pub fn answer(alloc: Global, words: &[&str], line: &mut Line) {
     let mut table = Table {
         alloc,
         numbers: Numbers::new(alloc),
@@ -23,9 +23,8 @@ pub fn answer(alloc: Global, words: &[&str], line: &mut Line) -> Result<(), RowF
         is_begun: false,
     };
     for words in words.split(|word| *word == "|") {
-        table.read_list(words, line)?;
+        table.read_list(words, line);
     }
-    Ok(())
 }
 
 /// The numbers so far, and which of them were met.
@@ -40,22 +39,22 @@ struct Table {
 }
 
 impl Table {
-    fn read_list(&mut self, words: &[&str], line: &mut Line) -> Result<(), RowFault> {
-        let [resources, words @ ..] = words else {
-            return Err(RowFault::NotARow);
+    fn read_list(&mut self, words: &[&str], line: &mut Line) {
+        let resources = word(words, 0);
+        let Some(arena) = Arena::read(self.alloc, words_from(words, 1), line) else {
+            return;
         };
-        let arena = Arena::read(self.alloc, words)?;
         if self.is_begun {
             line.put(" | ");
         }
-        match resources.strip_prefix("move:") {
-            Some(numbers) => self.number(&read_move(numbers)?, &arena.types, arena.first, line)?,
-            None => {
-                let row = read_resources(self.alloc, resources)?;
-                self.number(&Row(&row), &arena.types, arena.first, line)?;
+        if let Some(numbers) = resources.strip_prefix("move:") {
+            if let Some(moved) = read_move(numbers, line) {
+                self.number(&moved, &arena.types, arena.first, line);
             }
+            return;
         }
-        Ok(())
+        let row = read_resources(self.alloc, resources, line);
+        self.number(&Row(&row), &arena.types, arena.first, line);
     }
 
     fn number<R: Replacement>(
@@ -64,16 +63,18 @@ impl Table {
         types: &Types,
         first: usize,
         line: &mut Line,
-    ) -> Result<(), AllocError> {
-        let numbers = self.numbers.number_types(self.alloc, resources, types)?;
-        let funcs = self.numbers.number_funcs(self.alloc, types, &numbers)?;
+    ) {
+        let numbers = self.numbers.number_types(self.alloc, resources, types);
+        let numbers = line.kept(numbers).unwrap_or(Vec::new(self.alloc));
+        let funcs = self.numbers.number_funcs(self.alloc, types, &numbers);
+        let funcs = line.kept(funcs).unwrap_or(Vec::new(self.alloc));
         let numbers = numbers.get(first..).unwrap_or(&[]);
         self.is_begun |= !numbers.is_empty() || !funcs.is_empty();
-        self.types.write(numbers, line)?;
+        self.types.write(numbers, line);
         if !funcs.is_empty() {
             line.put(" / ");
         }
-        self.funcs.write(&funcs, line)
+        self.funcs.write(&funcs, line);
     }
 }
 
@@ -91,22 +92,21 @@ impl Classes {
     }
 
     /// The place of a number among those met.
-    fn class(&mut self, number: usize) -> Result<usize, AllocError> {
+    fn class(&mut self, number: usize, line: &mut Line) -> usize {
         if let Some(class) = self.met.iter().position(|met| *met == number) {
-            return Ok(class);
+            return class;
         }
         let class = self.met.len();
-        self.met.push(number)?;
-        Ok(class)
+        line.push(&mut self.met, number);
+        class
     }
 
     /// Writes the classes of numbers, one after another.
-    fn write(&mut self, numbers: &[usize], line: &mut Line) -> Result<(), AllocError> {
+    fn write(&mut self, numbers: &[usize], line: &mut Line) {
         let mut runs = Runs::new();
         for number in numbers {
-            runs.add(self.class(*number)?, line);
+            runs.add(self.class(*number, line), line);
         }
         runs.end_run(line);
-        Ok(())
     }
 }

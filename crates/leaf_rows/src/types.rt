@@ -9,10 +9,11 @@
 
 use crate::plain::write_fault;
 use crate::values::read_value;
-use crate::words::{read_label, read_labels, read_resource, read_resources};
+use crate::words::{named, primitive_named, read_labels, read_resource, read_resources};
 use cm_replaced::{same_func, same_type};
-use cm_rows::{Line, RowFault, read_number, split_repeat, split_words};
-use cm_types::{Case, Field, Func, ResourceId, TypeFault, TypeNode, TypeTree};
+use cm_rows::{Line, split_repeat, word, words_from};
+use cm_type_arena::Primitive;
+use cm_types::{Case, Field, Func, Label, TypeFault, TypeNode, TypeTree};
 use cm_values::has_type;
 use std::alloc::Global;
 use std::rc::Rc;
@@ -20,79 +21,53 @@ use std::rc::Rc;
 /// The answer to `within TYPE`, `within_func TYPE..` (of the parameters), `equal TYPE | TYPE ..`,
 /// `same LEFT RIGHT TYPE = TYPE`, `has TYPE = VALUE` or `same_func FUNC = FUNC`. LEFT and RIGHT are
 /// resources joined by commas, or `-`.
-pub fn answer(alloc: Global, words: &[&str], line: &mut Line) -> Result<(), RowFault> {
-    let [call, rest @ ..] = words else {
-        return Err(RowFault::NotARow);
-    };
-    match *call {
-        "within" => write_within(alloc, rest, line),
-        "within_func" => write_within_func(alloc, rest, line),
+pub fn answer(alloc: Global, words: &[&str], line: &mut Line) {
+    let rest = words_from(words, 1);
+    match word(words, 0) {
+        "within" => {
+            if let Some(ty) = read_type(alloc, rest, line) {
+                write_limit(line, TypeTree::new(ty).err());
+            }
+        }
+        "within_func" => {
+            let params = read_params(alloc, rest, line);
+            write_limit(line, Func::new(params, None).err());
+        }
         "equal" => write_equals(alloc, rest, line),
         "same" => write_same(alloc, rest, line),
         "has" => write_has(alloc, rest, line),
         "same_func" => write_same_func(alloc, rest, line),
-        _ => Err(RowFault::NotARow),
+        _ => line.refuse(),
     }
 }
 
-fn write_within(alloc: Global, ty: &[&str], line: &mut Line) -> Result<(), RowFault> {
-    write_limit(line, TypeTree::new(read_type(alloc, ty)?).err());
-    Ok(())
+fn write_same(alloc: Global, words: &[&str], line: &mut Line) {
+    let left = read_resources(alloc, word(words, 0), line);
+    let right = read_resources(alloc, word(words, 1), line);
+    let (a, b) = line.split(words_from(words, 2), "=");
+    if let Some(a) = read_type(alloc, a, line) {
+        if let Some(b) = read_type(alloc, b, line) {
+            line.show(same_type(&a, &b, &left, &right));
+        }
+    }
 }
 
-fn write_within_func(alloc: Global, params: &[&str], line: &mut Line) -> Result<(), RowFault> {
-    let params = labelled(alloc, read_types(alloc, params)?)?;
-    write_limit(line, Func::new(params, None).err());
-    Ok(())
+fn write_has(alloc: Global, words: &[&str], line: &mut Line) {
+    let (ty, value) = line.split(words, "=");
+    if let Some(ty) = read_tree(alloc, ty, line) {
+        if let Some(value) = read_value(alloc, value, line) {
+            line.show(has_type(&value, &ty));
+        }
+    }
 }
 
-fn write_same(alloc: Global, words: &[&str], line: &mut Line) -> Result<(), RowFault> {
-    let [left, right, types @ ..] = words else {
-        return Err(RowFault::NotARow);
-    };
-    let left = read_resources(alloc, left)?;
-    let right = read_resources(alloc, right)?;
-    write_same_by(alloc, &left, &right, types, line)
-}
-
-fn write_same_by(
-    alloc: Global,
-    left: &[ResourceId],
-    right: &[ResourceId],
-    types: &[&str],
-    line: &mut Line,
-) -> Result<(), RowFault> {
-    let (a, b) = split_words(types, "=")?;
-    let (a, b) = (read_type(alloc, a)?, read_type(alloc, b)?);
-    line.show(same_type(&a, &b, left, right));
-    Ok(())
-}
-
-fn write_has(alloc: Global, words: &[&str], line: &mut Line) -> Result<(), RowFault> {
-    let (ty, value) = split_words(words, "=")?;
-    write_has_type(alloc, &read_tree(alloc, ty)?, value, line)
-}
-
-fn write_has_type(
-    alloc: Global,
-    ty: &TypeTree,
-    value: &[&str],
-    line: &mut Line,
-) -> Result<(), RowFault> {
-    let value = read_value(alloc, value)?;
-    line.show(has_type(&value, ty));
-    Ok(())
-}
-
-fn write_same_func(alloc: Global, funcs: &[&str], line: &mut Line) -> Result<(), RowFault> {
-    let (a, b) = split_words(funcs, "=")?;
-    write_same_as(alloc, &read_func(alloc, a)?, b, line)
-}
-
-fn write_same_as(alloc: Global, a: &Func, b: &[&str], line: &mut Line) -> Result<(), RowFault> {
-    let b = read_func(alloc, b)?;
-    line.show(same_func(a, &b, &[], &[]));
-    Ok(())
+fn write_same_func(alloc: Global, funcs: &[&str], line: &mut Line) {
+    let (a, b) = line.split(funcs, "=");
+    if let Some(a) = read_func(alloc, a, line) {
+        if let Some(b) = read_func(alloc, b, line) {
+            line.show(same_func(&a, &b, &[], &[]));
+        }
+    }
 }
 
 /// Writes `within`, or the fault.
@@ -104,9 +79,9 @@ fn write_limit(line: &mut Line, fault: Option<TypeFault>) {
 }
 
 /// Writes for each type its place, from 0, and then the places of the types that are equal to it.
-fn write_equals(alloc: Global, words: &[&str], line: &mut Line) -> Result<(), RowFault> {
-    let left = read_several(alloc, words)?;
-    let right = read_several(alloc, words)?;
+fn write_equals(alloc: Global, words: &[&str], line: &mut Line) {
+    let left = read_several(alloc, words, line);
+    let right = read_several(alloc, words, line);
     for (i, a) in left.iter().enumerate() {
         if i > 0 {
             line.put(" ");
@@ -115,7 +90,6 @@ fn write_equals(alloc: Global, words: &[&str], line: &mut Line) -> Result<(), Ro
         line.put(":");
         write_equals_of(line, a, &right);
     }
-    Ok(())
 }
 
 fn write_equals_of(line: &mut Line, ty: &TypeNode, others: &[TypeNode]) {
@@ -126,22 +100,25 @@ fn write_equals_of(line: &mut Line, ty: &TypeNode, others: &[TypeNode]) {
     }
 }
 
-fn read_several(alloc: Global, words: &[&str]) -> Result<Vec<TypeNode>, RowFault> {
+fn read_several(alloc: Global, words: &[&str], line: &mut Line) -> Vec<TypeNode> {
     let mut types = Vec::new(alloc);
     for words in words.split(|word| *word == "|") {
-        types.push(read_type(alloc, words)?)?;
+        if let Some(ty) = read_type(alloc, words, line) {
+            line.push(&mut types, ty);
+        }
     }
-    Ok(types)
+    types
 }
 
 /// The function whose parameters' types stand before `->` and whose result's type, or `-`, after
 /// it. Each parameter is called `a`.
-pub fn read_func(alloc: Global, words: &[&str]) -> Result<Func, RowFault> {
-    let (params, answer) = split_words(words, "->")?;
-    match answer {
-        ["-"] => make_func(alloc, params, None),
-        words => make_func(alloc, params, Some(read_tree(alloc, words)?)),
-    }
+pub fn read_func(alloc: Global, words: &[&str], line: &mut Line) -> Option<Func> {
+    let (params, answer) = line.split(words, "->");
+    let answer = match word(answer, 0) {
+        "-" => None,
+        _ => read_tree(alloc, answer, line),
+    };
+    make_func(alloc, params, answer, line)
 }
 
 /// The function with parameters of the types that words spell, each called `a`, and this result.
@@ -149,47 +126,52 @@ pub fn make_func(
     alloc: Global,
     params: &[&str],
     answer: Option<TypeTree>,
-) -> Result<Func, RowFault> {
-    let params = labelled(alloc, read_types(alloc, params)?)?;
-    Func::new(params, answer).map_err(|_| RowFault::NotARow)
+    line: &mut Line,
+) -> Option<Func> {
+    let params = read_params(alloc, params, line);
+    line.wanted(Func::new(params, answer).ok())
 }
 
-/// Fields of these types, each of which is called `a`.
-fn labelled(alloc: Global, types: Vec<TypeNode>) -> Result<Vec<Field>, RowFault> {
+/// Parameters of the types that words spell, each of which is called `a`.
+fn read_params(alloc: Global, words: &[&str], line: &mut Line) -> Vec<Field> {
+    let types = read_types(alloc, words, line);
     let mut fields = Vec::new(alloc);
     for ty in types {
-        let label = read_label(alloc, "a")?;
-        fields.push(Field { label, ty })?;
+        if let Some(label) = named(Label::parse(alloc, "a"), line) {
+            line.push(&mut fields, Field { label, ty });
+        }
     }
-    Ok(fields)
+    fields
 }
 
 /// The type that words spell, which is to be within the limits.
-pub fn read_tree(alloc: Global, words: &[&str]) -> Result<TypeTree, RowFault> {
-    TypeTree::new(read_type(alloc, words)?).map_err(|_| RowFault::NotARow)
+pub fn read_tree(alloc: Global, words: &[&str], line: &mut Line) -> Option<TypeTree> {
+    let ty = read_type(alloc, words, line)?;
+    line.wanted(TypeTree::new(ty).ok())
 }
 
-fn read_type(alloc: Global, words: &[&str]) -> Result<TypeNode, RowFault> {
-    let mut types = read_types(alloc, words)?;
-    match types.pop() {
-        Some(ty) if types.is_empty() => Ok(ty),
-        _ => Err(RowFault::NotARow),
+/// The type that words spell, if they spell one alone.
+fn read_type(alloc: Global, words: &[&str], line: &mut Line) -> Option<TypeNode> {
+    let mut types = read_types(alloc, words, line);
+    if types.len() != 1 {
+        line.refuse();
     }
+    types.pop()
 }
 
 /// The types that words spell, one after another.
-fn read_types(alloc: Global, words: &[&str]) -> Result<Vec<TypeNode>, RowFault> {
+fn read_types(alloc: Global, words: &[&str], line: &mut Line) -> Vec<TypeNode> {
     let mut stack = TypeStack {
         payloads: Vec::new(alloc),
     };
     for word in words.iter().rev() {
         let (times, word) = split_repeat(word);
         for _ in 0..times {
-            stack.push_word(alloc, word)?;
+            stack.push_word(alloc, word, line);
         }
     }
     let count = stack.payloads.len();
-    stack.pop_several(alloc, count)
+    stack.pop_several(alloc, count, line)
 }
 
 /// The types, or places of no type, that are read so far, from the last one of the row on.
@@ -199,36 +181,36 @@ struct TypeStack {
 }
 
 impl TypeStack {
-    fn push_word(&mut self, alloc: Global, word: &str) -> Result<(), RowFault> {
+    fn push_word(&mut self, alloc: Global, word: &str, line: &mut Line) {
         let payload = match word.split_once(':') {
-            Some((name, operand)) => Some(self.with_operand(alloc, name, operand)?),
+            Some((name, operand)) => self.with_operand(alloc, name, operand, line),
             None if word == "-" => None,
-            None => Some(self.plain(alloc, word)?),
+            None => self.plain(alloc, word, line),
         };
-        self.payloads.push(payload)?;
-        Ok(())
+        line.push(&mut self.payloads, payload);
     }
 
-    fn plain(&mut self, alloc: Global, word: &str) -> Result<TypeNode, RowFault> {
+    fn plain(&mut self, alloc: Global, word: &str, line: &mut Line) -> Option<TypeNode> {
         match word {
-            "list" => Ok(TypeNode::List(self.pop_part(alloc)?)),
-            "option" => Ok(TypeNode::Option(self.pop_part(alloc)?)),
-            "twice" => self.twice(alloc),
-            "result" => self.result(alloc),
-            word => read_leaf(word),
+            "list" => Some(TypeNode::List(self.pop_part(alloc, line)?)),
+            "option" => Some(TypeNode::Option(self.pop_part(alloc, line)?)),
+            "twice" => self.twice(alloc, line),
+            "result" => Some(TypeNode::Result {
+                ok: self.pop_shared(alloc, line),
+                error: self.pop_shared(alloc, line),
+            }),
+            word => read_leaf(word, line),
         }
     }
 
-    fn twice(&mut self, alloc: Global) -> Result<TypeNode, RowFault> {
-        let part = self.pop()?;
-        let parts = vec![in alloc; part.share()?, part]?;
-        Ok(TypeNode::Tuple(Rc::new(alloc, parts)?))
-    }
-
-    fn result(&mut self, alloc: Global) -> Result<TypeNode, RowFault> {
-        let ok = self.pop_shared(alloc)?;
-        let error = self.pop_shared(alloc)?;
-        Ok(TypeNode::Result { ok, error })
+    fn twice(&mut self, alloc: Global, line: &mut Line) -> Option<TypeNode> {
+        let part = self.pop(line)?;
+        let mut parts = Vec::new(alloc);
+        if let Some(shared) = line.kept(part.share()) {
+            line.push(&mut parts, shared);
+        }
+        line.push(&mut parts, part);
+        Some(TypeNode::Tuple(line.kept(Rc::new(alloc, parts))?))
     }
 
     fn with_operand(
@@ -236,113 +218,110 @@ impl TypeStack {
         alloc: Global,
         name: &str,
         operand: &str,
-    ) -> Result<TypeNode, RowFault> {
-        match name {
-            "fixed" => self.fixed_list(alloc, read_number(operand)?),
-            "tuple" => self.tuple(alloc, read_number(operand)?),
-            "record" => self.record(alloc, operand),
-            "variant" => self.variant(alloc, operand),
-            "own" => Ok(TypeNode::Own(read_resource(operand)?)),
-            "borrow" => Ok(TypeNode::Borrow(read_resource(operand)?)),
-            name => of_labels(alloc, name, operand),
-        }
-    }
-
-    fn fixed_list(&mut self, alloc: Global, length: u32) -> Result<TypeNode, RowFault> {
-        let element = self.pop_part(alloc)?;
-        Ok(TypeNode::FixedList { element, length })
-    }
-
-    fn tuple(&mut self, alloc: Global, count: usize) -> Result<TypeNode, RowFault> {
-        let parts = self.pop_several(alloc, count)?;
-        Ok(TypeNode::Tuple(Rc::new(alloc, parts)?))
-    }
-
-    fn record(&mut self, alloc: Global, labels: &str) -> Result<TypeNode, RowFault> {
-        let fields = self.pop_fields(alloc, labels)?;
-        Ok(TypeNode::Record(Rc::new(alloc, fields)?))
-    }
-
-    fn variant(&mut self, alloc: Global, labels: &str) -> Result<TypeNode, RowFault> {
-        let cases = self.pop_cases(alloc, labels)?;
-        Ok(TypeNode::Variant(Rc::new(alloc, cases)?))
-    }
-
-    fn pop_payload(&mut self) -> Result<Option<TypeNode>, RowFault> {
-        match self.payloads.pop() {
-            Some(payload) => Ok(payload),
-            None => Err(RowFault::NotARow),
-        }
-    }
-
-    fn pop(&mut self) -> Result<TypeNode, RowFault> {
-        match self.payloads.pop() {
-            Some(Some(ty)) => Ok(ty),
-            _ => Err(RowFault::NotARow),
-        }
-    }
-
-    fn pop_part(&mut self, alloc: Global) -> Result<Rc<TypeNode>, RowFault> {
-        Ok(Rc::new(alloc, self.pop()?)?)
-    }
-
-    fn pop_shared(&mut self, alloc: Global) -> Result<Option<Rc<TypeNode>>, RowFault> {
-        Ok(match self.pop_payload()? {
-            Some(ty) => Some(Rc::new(alloc, ty)?),
-            None => None,
+        line: &mut Line,
+    ) -> Option<TypeNode> {
+        Some(match name {
+            "fixed" => TypeNode::FixedList {
+                element: self.pop_part(alloc, line)?,
+                length: line.number(operand),
+            },
+            "tuple" => {
+                let parts = self.pop_several(alloc, line.number(operand), line);
+                TypeNode::Tuple(line.kept(Rc::new(alloc, parts))?)
+            }
+            "own" => TypeNode::Own(read_resource(operand, line)),
+            "borrow" => TypeNode::Borrow(read_resource(operand, line)),
+            name => return self.of_labels(alloc, name, read_labels(alloc, operand, line), line),
         })
     }
 
-    fn pop_several(&mut self, alloc: Global, count: usize) -> Result<Vec<TypeNode>, RowFault> {
+    /// A record, a variant, an enum or flags, of these labels.
+    fn of_labels(
+        &mut self,
+        alloc: Global,
+        name: &str,
+        labels: Vec<Label>,
+        line: &mut Line,
+    ) -> Option<TypeNode> {
+        Some(match name {
+            "record" => {
+                let fields = self.pop_fields(alloc, labels, line);
+                TypeNode::Record(line.kept(Rc::new(alloc, fields))?)
+            }
+            "variant" => {
+                let cases = self.pop_cases(alloc, labels, line);
+                TypeNode::Variant(line.kept(Rc::new(alloc, cases))?)
+            }
+            "enum" => TypeNode::Enum(line.kept(Rc::new(alloc, labels))?),
+            "flags" => TypeNode::Flags(line.kept(Rc::new(alloc, labels))?),
+            _ => return line.wanted(None),
+        })
+    }
+
+    /// The type that stands next, or that none does.
+    fn pop_payload(&mut self, line: &mut Line) -> Option<TypeNode> {
+        line.wanted(self.payloads.pop()).flatten()
+    }
+
+    /// The type that stands next.
+    fn pop(&mut self, line: &mut Line) -> Option<TypeNode> {
+        line.wanted(self.payloads.pop().flatten())
+    }
+
+    fn pop_part(&mut self, alloc: Global, line: &mut Line) -> Option<Rc<TypeNode>> {
+        let part = self.pop(line)?;
+        line.kept(Rc::new(alloc, part))
+    }
+
+    fn pop_shared(&mut self, alloc: Global, line: &mut Line) -> Option<Rc<TypeNode>> {
+        let part = self.pop_payload(line)?;
+        line.kept(Rc::new(alloc, part))
+    }
+
+    fn pop_several(&mut self, alloc: Global, count: usize, line: &mut Line) -> Vec<TypeNode> {
         let mut types = Vec::new(alloc);
         for _ in 0..count {
-            types.push(self.pop()?)?;
+            let Some(ty) = self.pop(line) else {
+                break;
+            };
+            line.push(&mut types, ty);
         }
-        Ok(types)
+        types
     }
 
-    fn pop_fields(&mut self, alloc: Global, labels: &str) -> Result<Vec<Field>, RowFault> {
+    fn pop_fields(&mut self, alloc: Global, labels: Vec<Label>, line: &mut Line) -> Vec<Field> {
         let mut fields = Vec::new(alloc);
-        for label in read_labels(alloc, labels)? {
-            let ty = self.pop()?;
-            fields.push(Field { label, ty })?;
+        for label in labels {
+            if let Some(ty) = self.pop(line) {
+                line.push(&mut fields, Field { label, ty });
+            }
         }
-        Ok(fields)
+        fields
     }
 
-    fn pop_cases(&mut self, alloc: Global, labels: &str) -> Result<Vec<Case>, RowFault> {
+    fn pop_cases(&mut self, alloc: Global, labels: Vec<Label>, line: &mut Line) -> Vec<Case> {
         let mut cases = Vec::new(alloc);
-        for label in read_labels(alloc, labels)? {
-            let payload = self.pop_payload()?;
-            cases.push(Case { label, payload })?;
+        for label in labels {
+            let payload = self.pop_payload(line);
+            line.push(&mut cases, Case { label, payload });
         }
-        Ok(cases)
+        cases
     }
 }
 
-/// An enum or flags.
-fn of_labels(alloc: Global, name: &str, labels: &str) -> Result<TypeNode, RowFault> {
-    let labels = Rc::new(alloc, read_labels(alloc, labels)?)?;
-    match name {
-        "enum" => Ok(TypeNode::Enum(labels)),
-        "flags" => Ok(TypeNode::Flags(labels)),
-        _ => Err(RowFault::NotARow),
-    }
-}
-
-fn read_leaf(word: &str) -> Result<TypeNode, RowFault> {
-    Ok(match word {
-        "bool" => TypeNode::Bool,
-        "s8" => TypeNode::S8,
-        "u8" => TypeNode::U8,
-        "s16" => TypeNode::S16,
-        "u16" => TypeNode::U16,
-        "s32" => TypeNode::S32,
-        "u32" => TypeNode::U32,
-        "s64" => TypeNode::S64,
-        "u64" => TypeNode::U64,
-        "char" => TypeNode::Char,
-        "string" => TypeNode::String,
-        _ => return Err(RowFault::NotARow),
+fn read_leaf(word: &str, line: &mut Line) -> Option<TypeNode> {
+    let primitive = line.wanted(primitive_named(word))?;
+    Some(match primitive {
+        Primitive::Bool => TypeNode::Bool,
+        Primitive::S8 => TypeNode::S8,
+        Primitive::U8 => TypeNode::U8,
+        Primitive::S16 => TypeNode::S16,
+        Primitive::U16 => TypeNode::U16,
+        Primitive::S32 => TypeNode::S32,
+        Primitive::U32 => TypeNode::U32,
+        Primitive::S64 => TypeNode::S64,
+        Primitive::U64 => TypeNode::U64,
+        Primitive::Char => TypeNode::Char,
+        Primitive::String => TypeNode::String,
     })
 }

@@ -4,28 +4,26 @@
 //! `case:INDEX` before its payload, where `-` is none. The others are one word: `bool:true`,
 //! `signed:NUMBER`, `unsigned:NUMBER`, `char:CHAR`, `string:TEXT` and `flags:NUMBER`.
 
-use cm_rows::{RowFault, read_number};
+use cm_rows::Line;
 use cm_values::Value;
 use std::alloc::Global;
 
 /// The value that words spell.
-pub fn read_value(alloc: Global, words: &[&str]) -> Result<Value, RowFault> {
+pub fn read_value(alloc: Global, words: &[&str], line: &mut Line) -> Option<Value> {
     let mut stack = ValueStack {
         payloads: Vec::new(alloc),
     };
     for word in words.iter().rev() {
         let payload = match word.split_once(':') {
-            Some((name, operand)) => Some(stack.read_word(alloc, name, operand)?),
+            Some((name, operand)) => stack.read_word(alloc, name, operand, line),
             None => None,
         };
-        stack.payloads.push(payload)?;
+        line.push(&mut stack.payloads, payload);
     }
-    let value = stack.pop()?;
-    if stack.payloads.is_empty() {
-        Ok(value)
-    } else {
-        Err(RowFault::NotARow)
+    if stack.payloads.len() != 1 {
+        line.refuse();
     }
+    stack.pop(line)
 }
 
 /// The values, or places of no value, that are read so far, from the last one of the row on.
@@ -35,56 +33,56 @@ struct ValueStack {
 }
 
 impl ValueStack {
-    fn read_word(&mut self, alloc: Global, name: &str, operand: &str) -> Result<Value, RowFault> {
-        Ok(match name {
-            "list" => Value::List(self.pop_several(alloc, read_number(operand)?)?),
-            "fields" => Value::Fields(self.pop_several(alloc, read_number(operand)?)?),
+    fn read_word(
+        &mut self,
+        alloc: Global,
+        name: &str,
+        operand: &str,
+        line: &mut Line,
+    ) -> Option<Value> {
+        Some(match name {
+            "list" => Value::List(self.pop_several(alloc, line.number(operand), line)),
+            "fields" => Value::Fields(self.pop_several(alloc, line.number(operand), line)),
             "case" => Value::Case {
-                index: read_number(operand)?,
-                payload: self.pop_boxed(alloc)?,
+                index: line.number(operand),
+                payload: self.pop_boxed(alloc, line),
             },
-            "string" => Value::String(String::from_str(alloc, operand)?),
-            name => read_number_value(name, operand)?,
+            "string" => Value::String(line.kept(String::from_str(alloc, operand))?),
+            name => read_number_value(name, operand, line),
         })
     }
 
-    fn pop_payload(&mut self) -> Result<Option<Value>, RowFault> {
-        match self.payloads.pop() {
-            Some(payload) => Ok(payload),
-            None => Err(RowFault::NotARow),
-        }
+    fn pop(&mut self, line: &mut Line) -> Option<Value> {
+        line.wanted(self.payloads.pop().flatten())
     }
 
-    fn pop(&mut self) -> Result<Value, RowFault> {
-        match self.payloads.pop() {
-            Some(Some(value)) => Ok(value),
-            _ => Err(RowFault::NotARow),
-        }
+    fn pop_boxed(&mut self, alloc: Global, line: &mut Line) -> Option<Box<Value>> {
+        let payload = line.wanted(self.payloads.pop()).flatten()?;
+        line.kept(Box::new(alloc, payload))
     }
 
-    fn pop_boxed(&mut self, alloc: Global) -> Result<Option<Box<Value>>, RowFault> {
-        Ok(match self.pop_payload()? {
-            Some(value) => Some(Box::new(alloc, value)?),
-            None => None,
-        })
-    }
-
-    fn pop_several(&mut self, alloc: Global, count: usize) -> Result<Vec<Value>, RowFault> {
+    fn pop_several(&mut self, alloc: Global, count: usize, line: &mut Line) -> Vec<Value> {
         let mut values = Vec::new(alloc);
         for _ in 0..count {
-            values.push(self.pop()?)?;
+            let Some(value) = self.pop(line) else {
+                break;
+            };
+            line.push(&mut values, value);
         }
-        Ok(values)
+        values
     }
 }
 
-fn read_number_value(name: &str, operand: &str) -> Result<Value, RowFault> {
-    Ok(match name {
+fn read_number_value(name: &str, operand: &str, line: &mut Line) -> Value {
+    match name {
         "bool" => Value::Bool(operand == "true"),
-        "signed" => Value::Signed(read_number(operand)?),
-        "unsigned" => Value::Unsigned(read_number(operand)?),
-        "char" => Value::Char(operand.chars().next().ok_or(RowFault::NotARow)?),
-        "flags" => Value::Flags(read_number(operand)?),
-        _ => return Err(RowFault::NotARow),
-    })
+        "signed" => Value::Signed(line.number(operand)),
+        "unsigned" => Value::Unsigned(line.number(operand)),
+        "char" => Value::Char(line.wanted(operand.chars().next()).unwrap_or('?')),
+        "flags" => Value::Flags(line.number(operand)),
+        _ => {
+            line.refuse();
+            Value::Bool(false)
+        }
+    }
 }

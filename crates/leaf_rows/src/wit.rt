@@ -3,7 +3,6 @@
 mod files;
 mod instances;
 mod packages;
-mod parsing;
 mod printing;
 mod reading;
 mod showing;
@@ -13,8 +12,12 @@ mod tables;
 pub mod texts;
 mod worlds;
 
-use cm_rows::{Line, RowFault, read_number};
+use cm_rows::{Line, word, words_from};
+use cm_wit::parse;
+use cm_wit_text::read_file;
 use packages::Question;
+use reading::write_read;
+use spelled::read_text;
 use std::alloc::Global;
 use texts::Texts;
 
@@ -22,42 +25,37 @@ use texts::Texts;
 /// WORD..` or `printed WORD..`, on the text that the words are; to `print NAME NAME`; or to `world
 /// NAME`, `number NUMBER`, `table INSTANCES` or `signature NAME`, each with the texts of packages
 /// behind it.
-pub fn answer(
-    alloc: Global,
-    texts: &mut Texts,
-    words: &[&str],
-    line: &mut Line,
-) -> Result<(), RowFault> {
-    let [call, rest @ ..] = words else {
-        return Err(RowFault::NotARow);
-    };
-    match *call {
-        "text" => texts.answer_begin(alloc, rest, line),
+pub fn answer(alloc: Global, texts: &mut Texts, words: &[&str], line: &mut Line) {
+    let rest = words_from(words, 1);
+    match word(words, 0) {
+        "text" => texts.begin(alloc, word(rest, 0), line),
         "line" => texts.add_line(alloc, rest, line),
-        "read" => reading::answer(alloc, rest, line),
-        "parse" => parsing::answer_parse(alloc, rest, line),
-        "printed" => parsing::answer_print(alloc, rest, line),
-        "print" => printing::answer(alloc, texts, rest, line),
+        "read" => {
+            let text = read_text(alloc, rest, line);
+            write_read(line, read_file(alloc, text.as_str()));
+        }
+        "parse" => {
+            let text = read_text(alloc, rest, line);
+            write_read(line, parse(alloc, text.as_str()));
+        }
+        "printed" => {
+            let text = read_text(alloc, rest, line);
+            printing::answer(alloc, text.as_str(), line);
+        }
+        "print" => printing::compare(alloc, texts, word(rest, 0), word(rest, 1), line),
         call => ask(alloc, texts, call, rest, line),
     }
 }
 
-fn ask(
-    alloc: Global,
-    texts: &Texts,
-    call: &str,
-    words: &[&str],
-    line: &mut Line,
-) -> Result<(), RowFault> {
-    let [word, rest @ ..] = words else {
-        return Err(RowFault::NotARow);
-    };
+fn ask(alloc: Global, texts: &Texts, call: &str, words: &[&str], line: &mut Line) {
+    let asked = word(words, 0);
     let question = match call {
-        "world" => Question::WorldOfName(*word),
-        "number" => Question::WorldOfNumber(read_number(word)?),
-        "table" => Question::Table(*word),
-        "signature" => Question::Signature(*word),
-        _ => return Err(RowFault::NotARow),
+        "world" => Question::WorldOfName(asked),
+        "number" => Question::WorldOfNumber(line.number(asked)),
+        "table" => Question::Table(asked),
+        "signature" => Question::Signature(asked),
+        _ => return line.refuse(),
     };
-    packages::answer(alloc, texts, question, rest, line)
+    let texts = texts.texts(alloc, words_from(words, 1), line);
+    packages::answer(alloc, &texts, question, line);
 }

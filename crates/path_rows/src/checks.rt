@@ -2,7 +2,7 @@
 
 use crate::files::Files;
 use cm_placed::{Extern, ExternDesc, Placed};
-use cm_rows::{Line, RowFault, read_number};
+use cm_rows::{Line, RowFault, word, words_from};
 use cm_type_arena::Types;
 use cm_validate::{
     Checked, CoreFuncEntry, ExportEntry, ExportedEntry, FuncEntry, GuestExport, InstanceEntry,
@@ -12,70 +12,58 @@ use std::alloc::Global;
 
 /// The answer to `validate SOURCE`, `core_funcs SOURCE`, `core SOURCE INDEX` or `func SOURCE EXPORT
 /// ITEM`.
-pub fn answer(
-    alloc: Global,
-    files: &Files,
-    words: &[&str],
-    line: &mut Line,
-) -> Result<(), RowFault> {
-    let [question, source, rest @ ..] = words else {
-        return Err(RowFault::NotARow);
+pub fn answer(alloc: Global, files: &Files, words: &[&str], line: &mut Line) {
+    let question = word(words, 0);
+    let Some(component) = files.component(alloc, word(words, 1), line) else {
+        return;
     };
-    let component = files.component(alloc, source)?;
     match validate(alloc, &component) {
-        Ok(checked) => answer_of(&checked, question, rest, line),
-        Err(fault) if *question == "validate" => write_fault(line, &fault),
-        Err(fault) => Err(not_a_row(&fault)),
+        Ok(checked) => answer_of(&checked, question, words_from(words, 2), line),
+        Err(fault) if question == "validate" => write_fault(line, &fault),
+        Err(fault) => keep_invalid(line, &fault),
     }
 }
 
 /// The answer to `valid SOURCE`, where words behind it say what the component is.
-pub fn valid_answer(
-    alloc: Global,
-    files: &Files,
-    words: &[&str],
-    line: &mut Line,
-) -> Result<(), RowFault> {
-    let [source, ..] = words else {
-        return Err(RowFault::NotARow);
-    };
-    let component = files.component(alloc, source)?;
-    match validate(alloc, &component) {
-        Ok(_) => line.put("valid"),
-        Err(fault) => return write_fault(line, &fault),
+pub fn valid_answer(alloc: Global, files: &Files, source: &str, line: &mut Line) {
+    if let Some(component) = files.component(alloc, source, line) {
+        match validate(alloc, &component) {
+            Ok(_) => line.put("valid"),
+            Err(fault) => write_fault(line, &fault),
+        }
     }
-    Ok(())
 }
 
-fn answer_of(
-    checked: &Checked<'_>,
-    question: &str,
-    words: &[&str],
-    line: &mut Line,
-) -> Result<(), RowFault> {
-    match (question, words) {
-        ("validate", []) => write_signature(line, checked),
-        ("core_funcs", []) => write_core_funcs(line, checked),
-        ("core", [index]) => write_core(line, checked, read_number(index)?),
-        ("func", [export, item]) => write_func(line, checked, read_number(export)?, item),
-        _ => return Err(RowFault::NotARow),
+fn answer_of(checked: &Checked<'_>, question: &str, words: &[&str], line: &mut Line) {
+    let first = word(words, 0);
+    match question {
+        "validate" => write_signature(line, checked),
+        "core_funcs" => write_core_funcs(line, checked),
+        "core" => {
+            let index = line.number(first);
+            write_core(line, checked, index);
+        }
+        "func" => {
+            let export = line.number(first);
+            write_func(line, checked, export, word(words, 1));
+        }
+        _ => line.refuse(),
     }
-    Ok(())
 }
 
-/// What is said of a component that is to be valid and is not.
-pub fn not_a_row(fault: &ValidFault) -> RowFault {
-    match fault.reason {
+/// Keeps what is wrong with a component that is to be valid and is not.
+pub fn keep_invalid(line: &mut Line, fault: &ValidFault) {
+    line.fail(match fault.reason {
         ValidReason::Memory => RowFault::Memory,
         _ => RowFault::NotARow,
-    }
+    });
 }
 
 /// Writes the fault of a component that is not valid; `Memory` is none of them.
-fn write_fault(line: &mut Line, fault: &ValidFault) -> Result<(), RowFault> {
+fn write_fault(line: &mut Line, fault: &ValidFault) {
     let number = fault.reason.number();
     if number == ValidReason::Memory.number() {
-        return Err(RowFault::Memory);
+        line.fail(RowFault::Memory);
     }
     line.put("fault ");
     line.show(number);
@@ -83,7 +71,6 @@ fn write_fault(line: &mut Line, fault: &ValidFault) -> Result<(), RowFault> {
     line.show(fault.section);
     line.put(", item ");
     line.show(fault.item);
-    Ok(())
 }
 
 fn write_signature(line: &mut Line, checked: &Checked<'_>) {

@@ -3,7 +3,7 @@
 use crate::pieces::answers::write_outcome;
 use crate::sections::read_sections;
 use cm_binary::{Component, DecodeFault, DecodeReason, decode, encode, written_and_read};
-use cm_rows::{Line, RowFault, read_bytes, read_number, write_bytes};
+use cm_rows::{Line, RowFault, word, words_from, write_bytes};
 use std::alloc::Global;
 
 /// Files that rows have named.
@@ -26,82 +26,84 @@ impl Files {
     }
 
     /// The bytes of a source: of the file that `@NAME` names, or those that the word spells.
-    pub fn read(&self, alloc: Global, source: &str) -> Result<Vec<u8>, RowFault> {
+    pub fn read(&self, alloc: Global, source: &str, line: &mut Line) -> Vec<u8> {
         let Some(name) = source.strip_prefix('@') else {
-            return read_bytes(alloc, source);
+            return line.bytes(alloc, source);
         };
-        let file = self
-            .named
-            .iter()
-            .rev()
-            .find(|file| file.name.as_str() == name)
-            .ok_or(RowFault::NotARow)?;
-        Ok(file.bytes.clone()?)
+        let mut files = self.named.iter().rev();
+        match files.find(|file| file.name.as_str() == name) {
+            Some(file) => {
+                let bytes = line.kept(file.bytes.to_vec(alloc));
+                bytes.unwrap_or(Vec::new(alloc))
+            }
+            None => {
+                line.refuse();
+                Vec::new(alloc)
+            }
+        }
     }
 
     /// The component of a source, which is to have one.
-    pub fn component(&self, alloc: Global, source: &str) -> Result<Component, RowFault> {
-        read_component(alloc, &self.read(alloc, source)?)
+    pub fn component(&self, alloc: Global, source: &str, line: &mut Line) -> Option<Component> {
+        read_component(alloc, &self.read(alloc, source, line), line)
     }
 
     /// The components of the sources, each of which is to have one.
-    pub fn components(&self, alloc: Global, sources: &[&str]) -> Result<Vec<Component>, RowFault> {
-        let mut components = Vec::with_capacity(alloc, sources.len())?;
+    pub fn components(&self, alloc: Global, sources: &[&str], line: &mut Line) -> Vec<Component> {
+        let mut components = Vec::new(alloc);
         for source in sources {
-            components.push(self.component(alloc, source)?)?;
+            if let Some(component) = self.component(alloc, source, line) {
+                line.push(&mut components, component);
+            }
         }
-        Ok(components)
+        components
     }
 
-    fn name(
-        &mut self,
-        alloc: Global,
-        name: &str,
-        bytes: Vec<u8>,
-        line: &mut Line,
-    ) -> Result<(), RowFault> {
+    fn name(&mut self, alloc: Global, name: &str, bytes: Vec<u8>, line: &mut Line) {
         write_length(line, bytes.len());
-        let name = String::from_str(alloc, name)?;
-        self.named.push(NamedFile { name, bytes })?;
-        Ok(())
+        if let Some(name) = line.kept(String::from_str(alloc, name)) {
+            line.push(&mut self.named, NamedFile { name, bytes });
+        }
     }
 
     /// The answer to `name NAME BYTES`, `limits SECTIONS`, `decode SOURCE`, `changed SOURCE AT
     /// BYTES`, `beginnings SOURCE`, `encode SOURCE` or `written_and_read SOURCE`.
-    pub fn answer(
-        &mut self,
-        alloc: Global,
-        words: &[&str],
-        line: &mut Line,
-    ) -> Result<(), RowFault> {
-        match words {
-            ["name", name, bytes] => {
-                let bytes = read_bytes(alloc, bytes)?;
-                self.name(alloc, name, bytes, line)
+    pub fn answer(&mut self, alloc: Global, words: &[&str], line: &mut Line) {
+        let source = word(words, 1);
+        match word(words, 0) {
+            "name" => {
+                let bytes = line.bytes(alloc, word(words, 2));
+                self.name(alloc, source, bytes, line);
             }
-            ["limits", sections @ ..] => write_limits(alloc, sections, line),
-            ["decode", source] => write_decoded(alloc, &self.read(alloc, source)?, line),
-            ["changed", source, at, bytes] => {
-                let mut file = self.read(alloc, source)?;
-                let bytes = read_bytes(alloc, bytes)?;
-                change(&mut file, read_number(at)?, &bytes);
-                write_decoded(alloc, &file, line)
+            "limits" => write_limits(alloc, words_from(words, 1), line),
+            "changed" => {
+                let mut file = self.read(alloc, source, line);
+                let bytes = line.bytes(alloc, word(words, 3));
+                change(&mut file, line.number(word(words, 2)), &bytes);
+                write_outcome(alloc, decode(alloc, &file), line);
             }
-            ["beginnings", source] => {
-                write_beginnings(alloc, &self.read(alloc, source)?, line);
-                Ok(())
-            }
-            ["encode", source] => {
-                let component = self.component(alloc, source)?;
-                write_bytes(line, &encode(alloc, &component)?);
-                Ok(())
-            }
-            ["written_and_read", source] => {
-                let component = self.component(alloc, source)?;
-                write_outcome(alloc, written_and_read(alloc, &component), line)
-            }
-            _ => Err(RowFault::NotARow),
+            call => answer_of_file(alloc, call, &self.read(alloc, source, line), line),
         }
+    }
+}
+
+fn answer_of_file(alloc: Global, call: &str, file: &[u8], line: &mut Line) {
+    match call {
+        "decode" => write_outcome(alloc, decode(alloc, file), line),
+        "beginnings" => write_beginnings(alloc, file, line),
+        "encode" => {
+            if let Some(component) = read_component(alloc, file, line) {
+                if let Some(bytes) = line.kept(encode(alloc, &component)) {
+                    write_bytes(line, &bytes);
+                }
+            }
+        }
+        "written_and_read" => {
+            if let Some(component) = read_component(alloc, file, line) {
+                write_outcome(alloc, written_and_read(alloc, &component), line);
+            }
+        }
+        _ => line.refuse(),
     }
 }
 
@@ -112,23 +114,32 @@ fn write_length(line: &mut Line, length: usize) {
 
 /// Writes how many bytes the file of a component of these sections has, or the limit that they
 /// pass.
-fn write_limits(alloc: Global, words: &[&str], line: &mut Line) -> Result<(), RowFault> {
-    match Component::new(read_sections(alloc, words)?) {
-        Ok(component) => write_length(line, encode(alloc, &component)?.len()),
+fn write_limits(alloc: Global, words: &[&str], line: &mut Line) {
+    match Component::new(read_sections(alloc, words, line)) {
+        Ok(component) => {
+            if let Some(bytes) = line.kept(encode(alloc, &component)) {
+                write_length(line, bytes.len());
+            }
+        }
         Err(fault) => {
             line.put("fault ");
             line.show(fault.number());
         }
     }
-    Ok(())
 }
 
 /// The component of a file, which is to have one.
-pub fn read_component(alloc: Global, file: &[u8]) -> Result<Component, RowFault> {
-    decode(alloc, file).map_err(|fault| match fault.reason {
-        DecodeReason::Memory => RowFault::Memory,
-        _ => RowFault::NotARow,
-    })
+pub fn read_component(alloc: Global, file: &[u8], line: &mut Line) -> Option<Component> {
+    match decode(alloc, file) {
+        Ok(component) => Some(component),
+        Err(fault) => {
+            line.fail(match fault.reason {
+                DecodeReason::Memory => RowFault::Memory,
+                _ => RowFault::NotARow,
+            });
+            None
+        }
+    }
 }
 
 /// Writes bytes over those of a file from `at` on.
@@ -138,15 +149,11 @@ fn change(file: &mut Vec<u8>, at: usize, bytes: &[u8]) {
     }
 }
 
-fn write_decoded(alloc: Global, bytes: &[u8], line: &mut Line) -> Result<(), RowFault> {
-    write_outcome(alloc, decode(alloc, bytes), line)
-}
-
 /// Writes `fault NUMBER at PLACE`, and of a form that is not carried which one it is.
-pub fn write_fault(line: &mut Line, fault: &DecodeFault) -> Result<(), RowFault> {
+pub fn write_fault(line: &mut Line, fault: &DecodeFault) {
     let number = fault.reason.number();
     if number == DecodeReason::Memory.number() {
-        return Err(RowFault::Memory);
+        line.fail(RowFault::Memory);
     }
     line.put("fault ");
     line.show(number);
@@ -156,7 +163,6 @@ pub fn write_fault(line: &mut Line, fault: &DecodeFault) -> Result<(), RowFault>
         line.put(", ");
         line.show(feature);
     }
-    Ok(())
 }
 
 /// Writes for each length below that of the file the fault of so many bytes of it, or `whole`.

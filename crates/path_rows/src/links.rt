@@ -1,54 +1,52 @@
 //! Rows on sets of components: their plan, or why they can't be linked; and what imported functions
 //! and resources come to. Nothing is kept between them.
 
-use crate::checks::not_a_row;
+use crate::checks::keep_invalid;
 use crate::files::Files;
 use cm_binary::Component;
 use cm_match::{LinkFault, LinkReason, Linked, PlanLine, link};
-use cm_rows::{Line, RowFault, read_number, split_words};
+use cm_rows::{Line, RowFault, word, words_from};
 use cm_validate::validate;
 use std::alloc::Global;
 
 /// The answer to `plan SOURCE..`, `target COMPONENT IMPORT ITEM SOURCE..` or `resource COMPONENT
 /// NUMBER SOURCE..`; words behind `:` say what the row shows.
-pub fn answer(
-    alloc: Global,
-    files: &Files,
-    words: &[&str],
-    line: &mut Line,
-) -> Result<(), RowFault> {
-    let (row, _) = split_words(words, ":")?;
-    match row {
-        ["plan", sources @ ..] => plan_answer(alloc, files, sources, line),
-        ["target", rest @ ..] => target_answer(alloc, files, rest, line),
-        ["resource", rest @ ..] => resource_answer(alloc, files, rest, line),
-        _ => Err(RowFault::NotARow),
+pub fn answer(alloc: Global, files: &Files, words: &[&str], line: &mut Line) {
+    let (row, _) = line.split(words, ":");
+    match word(row, 0) {
+        "plan" => write_plan_of(alloc, files, words_from(row, 1), line),
+        call => answer_on_item(alloc, files, call, row, line),
     }
 }
 
-/// The set of these components, which are to be valid, or why they can't be linked.
+/// The set of these components, which are to be valid, or why they can't be linked. Where one is
+/// not valid, or there is no memory, the line keeps that.
 pub fn link_components<'a>(
     alloc: Global,
     components: &'a [Component],
-) -> Result<Result<Linked<'a>, LinkFault>, RowFault> {
-    let mut checked = Vec::with_capacity(alloc, components.len())?;
+    line: &mut Line,
+) -> Result<Linked<'a>, LinkFault> {
+    let mut checked = Vec::new(alloc);
     for component in components {
         match validate(alloc, component) {
-            Ok(component) => checked.push(component)?,
-            Err(fault) => return Err(not_a_row(&fault)),
+            Ok(component) => line.push(&mut checked, component),
+            Err(fault) => keep_invalid(line, &fault),
         }
     }
-    match link(alloc, checked) {
-        Err(fault) if fault.reason == LinkReason::Memory => Err(RowFault::Memory),
-        answer => Ok(answer),
+    let linked = link(alloc, checked);
+    if let Err(fault) = &linked {
+        if fault.reason == LinkReason::Memory {
+            line.fail(RowFault::Memory);
+        }
     }
+    linked
 }
 
 /// The number of an item of an instance, or `-` for none.
-pub fn read_item(word: &str) -> Result<Option<usize>, RowFault> {
+pub fn read_item(word: &str, line: &mut Line) -> Option<usize> {
     match word {
-        "-" => Ok(None),
-        word => Ok(Some(read_number(word)?)),
+        "-" => None,
+        word => Some(line.number(word)),
     }
 }
 
@@ -62,19 +60,32 @@ pub fn write_link_fault(line: &mut Line, fault: LinkFault) {
 }
 
 /// Writes the plan of the set, or its fault.
-fn plan_answer(
-    alloc: Global,
-    files: &Files,
-    sources: &[&str],
-    line: &mut Line,
-) -> Result<(), RowFault> {
-    let components = files.components(alloc, sources)?;
-    match link_components(alloc, &components)? {
+fn write_plan_of(alloc: Global, files: &Files, sources: &[&str], line: &mut Line) {
+    let components = files.components(alloc, sources, line);
+    match link_components(alloc, &components, line) {
         Ok(linked) if linked.plan().is_empty() => line.put("nothing"),
         Ok(linked) => write_plan(line, linked.plan()),
         Err(fault) => write_link_fault(line, fault),
     }
-    Ok(())
+}
+
+/// Writes what an import, or an item of one, or a resource comes to.
+fn answer_on_item(alloc: Global, files: &Files, call: &str, words: &[&str], line: &mut Line) {
+    let component = line.number(word(words, 1));
+    let number = word(words, 2);
+    let behind = if call == "target" { 4 } else { 3 };
+    let components = files.components(alloc, words_from(words, behind), line);
+    let Ok(linked) = link_components(alloc, &components, line) else {
+        return line.refuse();
+    };
+    match call {
+        "target" => {
+            let item = read_item(word(words, 3), line);
+            write_target(line, &linked, component, number, item);
+        }
+        "resource" => write_resource(line, &linked, component, number),
+        _ => line.refuse(),
+    }
 }
 
 /// Writes the lines of a plan, with commas between.
@@ -94,36 +105,14 @@ fn write_plan(line: &mut Line, plan: &[PlanLine]) {
 }
 
 /// Writes the lifted function that an import, or an item of one, comes to.
-fn target_answer(
-    alloc: Global,
-    files: &Files,
-    words: &[&str],
-    line: &mut Line,
-) -> Result<(), RowFault> {
-    let [component, import, item, sources @ ..] = words else {
-        return Err(RowFault::NotARow);
-    };
-    let (component, import, item) = (
-        read_number(component)?,
-        read_number(import)?,
-        read_item(item)?,
-    );
-    let components = files.components(alloc, sources)?;
-    match link_components(alloc, &components)? {
-        Ok(linked) => write_target(line, &linked, component, import, item),
-        Err(_) => return Err(RowFault::NotARow),
-    }
-    Ok(())
-}
-
 fn write_target(
     line: &mut Line,
     linked: &Linked<'_>,
     component: u32,
-    import: usize,
+    import: &str,
     item: Option<usize>,
 ) {
-    match linked.target(component, import, item) {
+    match linked.target(component, line.number(import), item) {
         None => line.put("none"),
         Some(target) => {
             line.put("component ");
@@ -135,26 +124,8 @@ fn write_target(
 }
 
 /// Writes what a resource is in the end.
-fn resource_answer(
-    alloc: Global,
-    files: &Files,
-    words: &[&str],
-    line: &mut Line,
-) -> Result<(), RowFault> {
-    let [component, number, sources @ ..] = words else {
-        return Err(RowFault::NotARow);
-    };
-    let (component, number) = (read_number(component)?, read_number(number)?);
-    let components = files.components(alloc, sources)?;
-    match link_components(alloc, &components)? {
-        Ok(linked) => write_resource(line, &linked, component, number),
-        Err(_) => return Err(RowFault::NotARow),
-    }
-    Ok(())
-}
-
-fn write_resource(line: &mut Line, linked: &Linked<'_>, component: u32, number: u64) {
-    match linked.resource(component, number) {
+fn write_resource(line: &mut Line, linked: &Linked<'_>, component: u32, number: &str) {
+    match linked.resource(component, line.number(number)) {
         None => line.put("none"),
         Some(resource) => {
             line.show(resource.component);

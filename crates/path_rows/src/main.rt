@@ -12,7 +12,7 @@ mod sections;
 mod sets;
 mod tool;
 
-use cm_rows::{Driver, Line, RowFault, answer_rows};
+use cm_rows::{Driver, Line, answer_rows, word, words_from};
 use files::Files;
 use pieces::{readers, writers};
 use sets::Sets;
@@ -31,35 +31,22 @@ struct PathRows {
 }
 
 impl Driver for PathRows {
-    fn answer(&mut self, alloc: Global, words: &[&str], line: &mut Line) -> Result<(), RowFault> {
-        match words {
-            ["files", rest @ ..] => self.files.answer(alloc, rest, line),
-            ["checked", rest @ ..] => checks::answer(alloc, &self.files, rest, line),
-            ["link", sources @ ..] => self.sets.link(alloc, &self.files, sources, line),
-            ["set", rest @ ..] => self.sets.answer(alloc, rest, line),
-            ["valid", rest @ ..] => checks::valid_answer(alloc, &self.files, rest, line),
-            ["pieces", rest @ ..] => pieces::answer(alloc, rest, line),
-            ["read", rest @ ..] => readers::answer(alloc, rest, line),
-            ["write", rest @ ..] => writers::answer(alloc, rest, line),
-            words => self.answer_on_tool(alloc, words, line),
-        }
-    }
-}
-
-impl PathRows {
-    /// Answers a row on the command or its parts, or on sets of which nothing is kept.
-    fn answer_on_tool(
-        &mut self,
-        alloc: Global,
-        words: &[&str],
-        line: &mut Line,
-    ) -> Result<(), RowFault> {
-        match words {
-            ["file", rest @ ..] => self.tool_files.answer(alloc, rest, line),
-            ["tool", rest @ ..] => commands::answer(alloc, &mut self.tool_files, rest, line),
-            ["script", rest @ ..] => scripts::answer(alloc, rest, line),
-            ["event", rest @ ..] => event_lines::answer(alloc, rest, line),
-            words => links::answer(alloc, &self.files, words, line),
+    fn answer(&mut self, alloc: Global, words: &[&str], line: &mut Line) {
+        let rest = words_from(words, 1);
+        match word(words, 0) {
+            "files" => self.files.answer(alloc, rest, line),
+            "checked" => checks::answer(alloc, &self.files, rest, line),
+            "link" => self.sets.link(alloc, &self.files, rest, line),
+            "set" => self.sets.answer(alloc, rest, line),
+            "valid" => checks::valid_answer(alloc, &self.files, word(rest, 0), line),
+            "pieces" => pieces::answer(alloc, rest, line),
+            "read" => readers::answer(alloc, rest, line),
+            "write" => writers::answer(alloc, rest, line),
+            "file" => self.tool_files.answer(alloc, rest, line),
+            "tool" => commands::answer(alloc, &mut self.tool_files, rest, line),
+            "script" => scripts::answer(alloc, rest, line),
+            "event" => event_lines::answer(alloc, rest, line),
+            _ => links::answer(alloc, &self.files, words, line),
         }
     }
 }

@@ -7,124 +7,114 @@ pub mod writers;
 use crate::files::write_fault;
 use crate::pieces::answers::{show_outcome, write_answers, write_outcome};
 use cm_pieces::{Decoder, decode_pieces};
-use cm_rows::{Line, RowFault, read_bytes, read_number};
+use cm_rows::{Line, word, words_from};
 use std::alloc::Global;
+
+/// What takes the pieces of a file.
+#[derive(Clone, Copy)]
+enum Taker {
+    /// A decoder that is fed them.
+    Decoder,
+    /// `decode_pieces`.
+    Joined,
+}
 
 /// The answer to `feed PIECE..`, `feed_cuts FILE`, `feed_parts SIZE FILE` or, of `decode_pieces`,
 /// `join PIECE..`, `join_cuts FILE` or `join_parts SIZE FILE`.
-pub fn answer(alloc: Global, words: &[&str], line: &mut Line) -> Result<(), RowFault> {
-    let [form, rest @ ..] = words else {
-        return Err(RowFault::NotARow);
-    };
-    match *form {
-        "feed" => write_fed_pieces(alloc, rest, line),
-        "feed_cuts" => write_fed_cuts(alloc, &read_file(alloc, rest)?, line),
-        "feed_parts" => write_fed_parts(alloc, rest, line),
-        "join" => write_joined_pieces(alloc, rest, line),
-        "join_cuts" => write_joined_cuts(alloc, &read_file(alloc, rest)?, line),
-        "join_parts" => write_joined_parts(alloc, rest, line),
-        _ => Err(RowFault::NotARow),
+pub fn answer(alloc: Global, words: &[&str], line: &mut Line) {
+    let rest = words_from(words, 1);
+    match word(words, 0) {
+        "feed" => take_pieces(alloc, Taker::Decoder, rest, line),
+        "join" => take_pieces(alloc, Taker::Joined, rest, line),
+        "feed_parts" => take_parts(alloc, Taker::Decoder, rest, line),
+        "join_parts" => take_parts(alloc, Taker::Joined, rest, line),
+        "feed_cuts" => write_fed_cuts(alloc, &line.bytes(alloc, word(rest, 0)), line),
+        "join_cuts" => write_joined_cuts(alloc, &line.bytes(alloc, word(rest, 0)), line),
+        _ => line.refuse(),
     }
 }
 
-fn read_file(alloc: Global, words: &[&str]) -> Result<Vec<u8>, RowFault> {
-    match words {
-        [file] => read_bytes(alloc, file),
-        _ => Err(RowFault::NotARow),
-    }
-}
-
-/// The size of parts, and a file.
-fn read_parts(alloc: Global, words: &[&str]) -> Result<(usize, Vec<u8>), RowFault> {
-    match words {
-        [size, file] => Ok((read_number(size)?, read_bytes(alloc, file)?)),
-        _ => Err(RowFault::NotARow),
-    }
-}
-
-fn read_pieces(alloc: Global, words: &[&str]) -> Result<Vec<Vec<u8>>, RowFault> {
+fn take_pieces(alloc: Global, taker: Taker, words: &[&str], line: &mut Line) {
     let mut pieces = Vec::new(alloc);
     for word in words {
-        pieces.push(read_bytes(alloc, word)?)?;
+        let piece = line.bytes(alloc, word);
+        line.push(&mut pieces, piece);
     }
-    Ok(pieces)
+    take(alloc, taker, &slices(alloc, &pieces, line), line);
 }
 
-fn slices(alloc: Global, pieces: &[Vec<u8>]) -> Result<Vec<&[u8]>, RowFault> {
+fn slices<'a>(alloc: Global, pieces: &'a [Vec<u8>], line: &mut Line) -> Vec<&'a [u8]> {
     let mut slices = Vec::new(alloc);
     for piece in pieces {
-        slices.push(piece.as_slice())?;
+        line.push(&mut slices, piece.as_slice());
     }
-    Ok(slices)
+    slices
+}
+
+fn take_parts(alloc: Global, taker: Taker, words: &[&str], line: &mut Line) {
+    let size = line.number(word(words, 0));
+    let file = line.bytes(alloc, word(words, 1));
+    take(alloc, taker, &parts(alloc, &file, size, line), line);
 }
 
 /// The file in parts of so many bytes, with an empty piece behind each.
-fn parts(alloc: Global, file: &[u8], size: usize) -> Result<Vec<&[u8]>, RowFault> {
+fn parts<'a>(alloc: Global, file: &'a [u8], size: usize, line: &mut Line) -> Vec<&'a [u8]> {
+    let mut parts: Vec<&'a [u8]> = Vec::new(alloc);
     if size == 0 {
-        return Err(RowFault::NotARow);
+        line.refuse();
+        return parts;
     }
-    let mut parts: Vec<&[u8]> = Vec::new(alloc);
     for part in file.chunks(size) {
-        parts.push(part)?;
-        parts.push(&[])?;
+        line.push(&mut parts, part);
+        line.push(&mut parts, &[]);
     }
-    Ok(parts)
+    parts
+}
+
+/// Writes what each piece is answered, and then `finish`; or what the pieces come to.
+fn take(alloc: Global, taker: Taker, pieces: &[&[u8]], line: &mut Line) {
+    match taker {
+        Taker::Decoder => {
+            let answers = feed_all(alloc, Decoder::new(alloc), pieces, line);
+            write_answers(line, &answers);
+        }
+        Taker::Joined => write_outcome(alloc, decode_pieces(alloc, pieces), line),
+    }
+}
+
+fn feed_all(alloc: Global, mut decoder: Decoder, pieces: &[&[u8]], line: &mut Line) -> Vec<Line> {
+    let mut answers = Vec::new(alloc);
+    for piece in pieces {
+        line.push(&mut answers, feed(alloc, &mut decoder, piece));
+    }
+    line.push(&mut answers, show_outcome(alloc, decoder.finish()));
+    answers
 }
 
 /// Feeds the piece: `pending` then, or the fault.
-fn feed(alloc: Global, decoder: &mut Decoder, piece: &[u8]) -> Result<String, RowFault> {
+fn feed(alloc: Global, decoder: &mut Decoder, piece: &[u8]) -> Line {
     let mut line = Line::new(alloc);
     match decoder.feed(piece) {
         Ok(()) => line.show(decoder.pending()),
-        Err(fault) => write_fault(&mut line, &fault)?,
+        Err(fault) => write_fault(&mut line, &fault),
     }
-    line.done()
-}
-
-fn write_fed_pieces(alloc: Global, words: &[&str], line: &mut Line) -> Result<(), RowFault> {
-    let pieces = read_pieces(alloc, words)?;
-    write_fed(alloc, &slices(alloc, &pieces)?, line)
-}
-
-fn write_fed_parts(alloc: Global, words: &[&str], line: &mut Line) -> Result<(), RowFault> {
-    let (size, file) = read_parts(alloc, words)?;
-    write_fed(alloc, &parts(alloc, &file, size)?, line)
-}
-
-/// Writes what each piece is answered, and then `finish`.
-fn write_fed(alloc: Global, pieces: &[&[u8]], line: &mut Line) -> Result<(), RowFault> {
-    write_answers(line, &feed_all(alloc, Decoder::new(alloc), pieces)?);
-    Ok(())
-}
-
-fn feed_all(
-    alloc: Global,
-    mut decoder: Decoder,
-    pieces: &[&[u8]],
-) -> Result<Vec<String>, RowFault> {
-    let mut answers = Vec::new(alloc);
-    for piece in pieces {
-        answers.push(feed(alloc, &mut decoder, piece)?)?;
-    }
-    answers.push(show_outcome(alloc, decoder.finish())?)?;
-    Ok(answers)
+    line
 }
 
 /// What is answered at each cut of a file: the piece before it, the piece behind it, and `finish`.
 #[derive(Drop)]
 struct Cuts {
-    before: Vec<String>,
-    behind: Vec<String>,
-    ends: Vec<String>,
+    before: Vec<Line>,
+    behind: Vec<Line>,
+    ends: Vec<Line>,
 }
 
 impl Cuts {
-    fn feed(&mut self, alloc: Global, first: &[u8], second: &[u8]) -> Result<(), RowFault> {
+    fn feed(&mut self, alloc: Global, first: &[u8], second: &[u8], line: &mut Line) {
         let mut decoder = Decoder::new(alloc);
-        self.before.push(feed(alloc, &mut decoder, first)?)?;
-        self.behind.push(feed(alloc, &mut decoder, second)?)?;
-        self.ends.push(show_outcome(alloc, decoder.finish())?)?;
-        Ok(())
+        line.push(&mut self.before, feed(alloc, &mut decoder, first));
+        line.push(&mut self.behind, feed(alloc, &mut decoder, second));
+        line.push(&mut self.ends, show_outcome(alloc, decoder.finish()));
     }
 
     fn write(&self, line: &mut Line) {
@@ -139,7 +129,7 @@ impl Cuts {
 
 /// Writes for each cut of the file what the piece before it is answered; then, again for each, the
 /// piece behind it; then `finish`.
-fn write_fed_cuts(alloc: Global, file: &[u8], line: &mut Line) -> Result<(), RowFault> {
+fn write_fed_cuts(alloc: Global, file: &[u8], line: &mut Line) {
     let mut cuts = Cuts {
         before: Vec::new(alloc),
         behind: Vec::new(alloc),
@@ -147,34 +137,18 @@ fn write_fed_cuts(alloc: Global, file: &[u8], line: &mut Line) -> Result<(), Row
     };
     for cut in 0..=file.len() {
         let (first, second) = file.split_at(cut);
-        cuts.feed(alloc, first, second)?;
+        cuts.feed(alloc, first, second, line);
     }
     cuts.write(line);
-    Ok(())
-}
-
-fn write_joined_pieces(alloc: Global, words: &[&str], line: &mut Line) -> Result<(), RowFault> {
-    let pieces = read_pieces(alloc, words)?;
-    write_joined(alloc, &slices(alloc, &pieces)?, line)
-}
-
-fn write_joined_parts(alloc: Global, words: &[&str], line: &mut Line) -> Result<(), RowFault> {
-    let (size, file) = read_parts(alloc, words)?;
-    write_joined(alloc, &parts(alloc, &file, size)?, line)
-}
-
-fn write_joined(alloc: Global, pieces: &[&[u8]], line: &mut Line) -> Result<(), RowFault> {
-    write_outcome(alloc, decode_pieces(alloc, pieces), line)
 }
 
 /// Writes what the two pieces of each cut come to, with empty pieces around them.
-fn write_joined_cuts(alloc: Global, file: &[u8], line: &mut Line) -> Result<(), RowFault> {
+fn write_joined_cuts(alloc: Global, file: &[u8], line: &mut Line) {
     let mut answers = Vec::new(alloc);
     for cut in 0..=file.len() {
         let (first, second) = file.split_at(cut);
         let outcome = decode_pieces(alloc, &[&[], first, &[], second, &[]]);
-        answers.push(show_outcome(alloc, outcome)?)?;
+        line.push(&mut answers, show_outcome(alloc, outcome));
     }
     write_answers(line, &answers);
-    Ok(())
 }

@@ -2,41 +2,46 @@
 //! `types COUNT`, so many types of functions with no parameters and no result.
 
 use cm_binary::{CustomSection, Section};
-use cm_rows::{RowFault, read_bytes, read_number};
+use cm_rows::{Line, word};
 use cm_types::{DefType, FuncType};
 use std::alloc::Global;
 
 /// The sections that words spell.
-pub fn read_sections(alloc: Global, words: &[&str]) -> Result<Vec<Section>, RowFault> {
+pub fn read_sections(alloc: Global, words: &[&str], line: &mut Line) -> Vec<Section> {
     let mut sections = Vec::new(alloc);
     if words.is_empty() {
-        return Ok(sections);
+        return sections;
     }
     for words in words.split(|word| *word == "|") {
-        sections.push(read_section(alloc, words)?)?;
+        if let Some(section) = read_section(alloc, words, line) {
+            line.push(&mut sections, section);
+        }
     }
-    Ok(sections)
+    sections
 }
 
-fn read_section(alloc: Global, words: &[&str]) -> Result<Section, RowFault> {
-    match words {
-        ["custom", name, bytes] => Ok(Section::Custom(CustomSection {
-            name: String::from_str(alloc, name)?,
-            bytes: read_bytes(alloc, bytes)?,
-        })),
-        ["module", bytes] => Ok(Section::CoreModule(read_bytes(alloc, bytes)?)),
-        ["types", count] => Ok(Section::Types(empty_funcs(alloc, read_number(count)?)?)),
-        _ => Err(RowFault::NotARow),
-    }
+fn read_section(alloc: Global, words: &[&str], line: &mut Line) -> Option<Section> {
+    let first = word(words, 1);
+    Some(match word(words, 0) {
+        "custom" => Section::Custom(CustomSection {
+            name: line.kept(String::from_str(alloc, first))?,
+            bytes: line.bytes(alloc, word(words, 2)),
+        }),
+        "module" => Section::CoreModule(line.bytes(alloc, first)),
+        "types" => Section::Types(empty_funcs(alloc, line.number(first), line)),
+        _ => return line.wanted(None),
+    })
 }
 
-fn empty_funcs(alloc: Global, count: usize) -> Result<Vec<DefType>, RowFault> {
+fn empty_funcs(alloc: Global, count: usize, line: &mut Line) -> Vec<DefType> {
     let mut types = Vec::new(alloc);
     for _ in 0..count {
-        types.push(DefType::Func(FuncType {
-            params: Vec::new(alloc),
+        let params = Vec::new(alloc);
+        let func = FuncType {
+            params,
             result: None,
-        }))?;
+        };
+        line.push(&mut types, DefType::Func(func));
     }
-    Ok(types)
+    types
 }

@@ -8,11 +8,12 @@ use crate::tool::escapes::read_text;
 use cm_binary::Component;
 use cm_machine::{Event, Flat, Guest, Misuse, Move, Player, Set};
 use cm_match::Linked;
-use cm_rows::{Line, RowFault, read_number, write_units};
+use cm_rows::{Line, RowFault, word, words_from, write_units};
 use cm_script::{LineFault, ScriptGuest, Statement};
 use cm_types::CoreValue;
 use std::alloc::Global;
 use std::collections::VecDeque;
+use std::fmt::Display;
 
 /// The components that were linked last, until a machine is made of them, and the machine that was
 /// made last.
@@ -31,66 +32,47 @@ impl Sets {
     }
 
     /// Links the components of the sources, in this order.
-    pub fn link(
-        &mut self,
-        alloc: Global,
-        files: &Files,
-        sources: &[&str],
-        line: &mut Line,
-    ) -> Result<(), RowFault> {
-        let components = files.components(alloc, sources)?;
-        match link_components(alloc, &components)? {
+    pub fn link(&mut self, alloc: Global, files: &Files, sources: &[&str], line: &mut Line) {
+        let components = files.components(alloc, sources, line);
+        match link_components(alloc, &components, line) {
             Ok(linked) => write_plan(line, &linked),
-            Err(fault) => {
-                write_link_fault(line, fault);
-                return Ok(());
-            }
+            Err(fault) => return write_link_fault(line, fault),
         }
-        self.linked = Some(components);
-        Ok(())
+        if line.is_fine() {
+            self.linked = Some(components);
+        }
     }
 
     /// The answer to `target COMPONENT IMPORT ITEM`, `new PAGES..` (which takes the linked set),
     /// `begin INSTANCE`, `step MOVE`, `run MOVE ; ..`, `acting`, `memory INSTANCE`, `is_closed
     /// INSTANCE`, `drives ROOTS LIMIT SEAT | ..` or `flat VALUE..`.
-    pub fn answer(
-        &mut self,
-        alloc: Global,
-        words: &[&str],
-        line: &mut Line,
-    ) -> Result<(), RowFault> {
-        match words {
-            ["target", component, import, item] => self.write_target(
-                alloc,
-                read_number(component)?,
-                read_number(import)?,
-                read_item(item)?,
-                line,
-            ),
-            ["new", pages @ ..] => self.make(alloc, pages, line),
-            ["flat", values @ ..] => write_flat(line, &read_values(alloc, values)?),
-            words => match &mut self.set {
-                Some(set) => answer_of_set(alloc, set, words, line),
-                None => Err(RowFault::NotARow),
+    pub fn answer(&mut self, alloc: Global, words: &[&str], line: &mut Line) {
+        match word(words, 0) {
+            "target" => self.write_target(alloc, words, line),
+            "new" => self.make(alloc, words_from(words, 1), line),
+            "flat" => {
+                let values = read_values(alloc, words_from(words, 1), line);
+                write_flat(line, &values);
+            }
+            call => match &mut self.set {
+                Some(set) => answer_of_set(alloc, set, call, words_from(words, 1), line),
+                None => line.refuse(),
             },
         }
     }
 
-    fn write_target(
-        &self,
-        alloc: Global,
-        component: u32,
-        import: usize,
-        item: Option<usize>,
-        line: &mut Line,
-    ) -> Result<(), RowFault> {
-        let components = self.linked.as_ref().ok_or(RowFault::NotARow)?;
-        let Ok(linked) = link_components(alloc, components)? else {
-            return Err(RowFault::NotARow);
+    fn write_target(&self, alloc: Global, words: &[&str], line: &mut Line) {
+        let Some(components) = self.linked.as_ref() else {
+            return line.refuse();
+        };
+        let component = line.number(word(words, 1));
+        let import = line.number(word(words, 2));
+        let item = read_item(word(words, 3), line);
+        let Ok(linked) = link_components(alloc, components, line) else {
+            return line.refuse();
         };
         let Some(target) = linked.target(component, import, item) else {
-            line.put("none");
-            return Ok(());
+            return line.put("none");
         };
         line.put("core function ");
         line.show(target.core_func);
@@ -99,23 +81,24 @@ impl Sets {
         if let Some(checked) = linked.components().get(target.component as usize) {
             write_shape(line, checked.types(), target.ty);
         }
-        Ok(())
     }
 
-    fn make(&mut self, alloc: Global, pages: &[&str], line: &mut Line) -> Result<(), RowFault> {
-        let components = self.linked.take().ok_or(RowFault::NotARow)?;
+    fn make(&mut self, alloc: Global, pages: &[&str], line: &mut Line) {
+        let Some(components) = self.linked.take() else {
+            return line.refuse();
+        };
         let mut numbers = Vec::new(alloc);
         for number in pages {
-            numbers.push(read_number(number)?)?;
+            let number = line.number(number);
+            line.push(&mut numbers, number);
         }
-        let Ok(linked) = link_components(alloc, &components)? else {
-            return Err(RowFault::NotARow);
+        let Ok(linked) = link_components(alloc, &components, line) else {
+            return line.refuse();
         };
         match Set::new(alloc, &linked, &numbers) {
             Ok(set) => {
                 self.set = Some(set);
                 line.put("made");
-                Ok(())
             }
             Err(misuse) => write_misuse(line, misuse),
         }
@@ -140,9 +123,9 @@ fn write_plan(line: &mut Line, linked: &Linked<'_>) {
 }
 
 /// Writes the number of a misuse, and the core function that is not carried.
-fn write_misuse(line: &mut Line, misuse: Misuse) -> Result<(), RowFault> {
+fn write_misuse(line: &mut Line, misuse: Misuse) {
     if let Misuse::Memory = misuse {
-        return Err(RowFault::Memory);
+        line.fail(RowFault::Memory);
     }
     line.put("misuse ");
     line.show(misuse.number());
@@ -156,33 +139,39 @@ fn write_misuse(line: &mut Line, misuse: Misuse) -> Result<(), RowFault> {
         line.put(" of ");
         line.show(component);
     }
-    Ok(())
 }
 
-fn answer_of_set(
-    alloc: Global,
-    set: &mut Set,
-    words: &[&str],
-    line: &mut Line,
-) -> Result<(), RowFault> {
-    match words {
-        ["begin", instance] => write_stepped(line, set.begin(read_number(instance)?)),
-        ["step", made @ ..] => write_stepped(line, set.step(&read_move(alloc, made)?)),
-        ["run", moves @ ..] => write_ran(line, set.run(alloc, &read_moves(alloc, moves)?)),
-        ["drives", roots, limit, seats @ ..] => {
-            write_drives(alloc, set, roots, read_number(limit)?, seats, line)
+fn answer_of_set(alloc: Global, set: &mut Set, call: &str, words: &[&str], line: &mut Line) {
+    match call {
+        "step" => {
+            if let Some(made) = read_move(alloc, words, line) {
+                write_stepped(line, set.step(&made));
+            }
         }
-        words => write_state(set, words, line),
+        "run" => {
+            let moves = read_moves(alloc, words, line);
+            write_ran(line, set.run(alloc, &moves));
+        }
+        "drives" => {
+            let limit = line.number(word(words, 1));
+            write_drives(
+                alloc,
+                set,
+                word(words, 0),
+                limit,
+                words_from(words, 2),
+                line,
+            );
+        }
+        "acting" => write_found(line, set.acting()),
+        call => answer_of_instance(set, call, line.number(word(words, 0)), line),
     }
 }
 
-fn write_state(set: &Set, words: &[&str], line: &mut Line) -> Result<(), RowFault> {
-    match words {
-        ["acting"] => match set.acting() {
-            Some(instance) => line.show(instance),
-            None => line.put("none"),
-        },
-        ["memory", instance] => match set.memory(read_number(instance)?) {
+fn answer_of_instance(set: &mut Set, call: &str, instance: u32, line: &mut Line) {
+    match call {
+        "begin" => write_stepped(line, set.begin(instance)),
+        "memory" => match set.memory(instance) {
             Some(memory) => {
                 line.show(memory.len());
                 line.put(" bytes: ");
@@ -190,57 +179,57 @@ fn write_state(set: &Set, words: &[&str], line: &mut Line) -> Result<(), RowFaul
             }
             None => line.put("none"),
         },
-        ["is_closed", instance] => match set.is_closed(read_number(instance)?) {
-            Some(is_closed) => line.show(is_closed),
-            None => line.put("none"),
-        },
-        _ => return Err(RowFault::NotARow),
+        "is_closed" => write_found(line, set.is_closed(instance)),
+        _ => line.refuse(),
     }
-    Ok(())
+}
+
+/// Writes what was found, or `none`.
+pub fn write_found<T: Display + Drop>(line: &mut Line, found: Option<T>) {
+    match found {
+        Some(found) => line.show(found),
+        None => line.put("none"),
+    }
 }
 
 /// Writes the event of a step, or its misuse.
-fn write_stepped(line: &mut Line, event: Result<Event, Misuse>) -> Result<(), RowFault> {
+fn write_stepped(line: &mut Line, event: Result<Event, Misuse>) {
     match event {
-        Ok(event) => {
-            write_event(line, &event);
-            Ok(())
-        }
+        Ok(event) => write_event(line, &event),
         Err(misuse) => write_misuse(line, misuse),
     }
 }
 
 /// Writes the events of a run, or its misuse.
-fn write_ran(line: &mut Line, events: Result<Vec<Event>, Misuse>) -> Result<(), RowFault> {
+fn write_ran(line: &mut Line, events: Result<Vec<Event>, Misuse>) {
     match events {
-        Ok(events) => {
-            write_events(line, &events);
-            Ok(())
-        }
+        Ok(events) => write_events(line, &events),
         Err(misuse) => write_misuse(line, misuse),
     }
 }
 
 /// A move, as a line of a script spells it.
-fn read_move(alloc: Global, words: &[&str]) -> Result<Move, RowFault> {
-    let line = read_text(alloc, words)?;
-    match Statement::parse(alloc, line.as_str()) {
-        Ok(Statement::Move(made)) => Ok(made),
-        Ok(_) => Err(RowFault::NotARow),
-        Err(LineFault::Memory) => Err(RowFault::Memory),
-        Err(_) => Err(RowFault::NotARow),
+fn read_move(alloc: Global, words: &[&str], line: &mut Line) -> Option<Move> {
+    let text = read_text(alloc, words, line);
+    match Statement::parse(alloc, text.as_str()) {
+        Ok(Statement::Move(made)) => return Some(made),
+        Err(LineFault::Memory) => line.fail(RowFault::Memory),
+        _ => line.refuse(),
     }
+    None
 }
 
-fn read_moves(alloc: Global, words: &[&str]) -> Result<Vec<Move>, RowFault> {
+fn read_moves(alloc: Global, words: &[&str], line: &mut Line) -> Vec<Move> {
     let mut moves = Vec::new(alloc);
     if words.is_empty() {
-        return Ok(moves);
+        return moves;
     }
     for words in words.split(|word| *word == ";") {
-        moves.push(read_move(alloc, words)?)?;
+        if let Some(made) = read_move(alloc, words, line) {
+            line.push(&mut moves, made);
+        }
     }
-    Ok(moves)
+    moves
 }
 
 /// Writes for each root what the drive from it answers, which seats have a guest behind it, and
@@ -253,17 +242,18 @@ fn write_drives(
     limit: u64,
     words: &[&str],
     line: &mut Line,
-) -> Result<(), RowFault> {
+) {
     let mut seats: Vec<Option<Box<dyn Guest>>> = Vec::new(alloc);
-    if words != ["no"].as_slice() {
+    if word(words, 0) != "no" {
         for words in words.split(|word| *word == "|") {
-            match words {
-                ["-"] => seats.push(None)?,
-                words => {
-                    let moves = VecDeque::from(read_moves(alloc, words)?);
-                    let guest: Box<dyn Guest> = Box::new(alloc, ScriptGuest::new(moves))?;
-                    seats.push(Some(guest))?;
-                }
+            if word(words, 0) == "-" {
+                line.push(&mut seats, None);
+                continue;
+            }
+            let moves = VecDeque::from(read_moves(alloc, words, line));
+            if let Some(made) = line.kept(Box::new(alloc, ScriptGuest::new(moves))) {
+                let guest: Box<dyn Guest> = made;
+                line.push(&mut seats, Some(guest));
             }
         }
     }
@@ -271,12 +261,11 @@ fn write_drives(
         if i > 0 {
             line.put(", then ");
         }
-        let root = read_number(root)?;
-        write_ran(line, Player::drive(alloc, set, &mut seats, root, limit))?;
+        let root = line.number(root);
+        write_ran(line, Player::drive(alloc, set, &mut seats, root, limit));
         write_seats(line, &seats);
         write_closed(line, set);
     }
-    Ok(())
 }
 
 fn write_seats(line: &mut Line, seats: &Vec<Option<Box<dyn Guest>>>) {
@@ -300,28 +289,32 @@ fn write_closed(line: &mut Line, set: &Set) {
     }
 }
 
-pub fn read_values(alloc: Global, words: &[&str]) -> Result<Vec<CoreValue>, RowFault> {
+pub fn read_values(alloc: Global, words: &[&str], line: &mut Line) -> Vec<CoreValue> {
     let mut values = Vec::new(alloc);
     for word in words {
-        let value = match word.split_once(':') {
-            Some(("i32", number)) => CoreValue::I32(read_number(number)?),
-            Some(("i64", number)) => CoreValue::I64(read_number(number)?),
-            _ => return Err(RowFault::NotARow),
-        };
-        values.push(value)?;
+        match word.split_once(':') {
+            Some(("i32", number)) => {
+                let number = line.number(number);
+                line.push(&mut values, CoreValue::I32(number));
+            }
+            Some(("i64", number)) => {
+                let number = line.number(number);
+                line.push(&mut values, CoreValue::I64(number));
+            }
+            _ => line.refuse(),
+        }
     }
-    Ok(values)
+    values
 }
 
 /// Writes the values as they are kept in place; more than 16 are no row.
-fn write_flat(line: &mut Line, values: &[CoreValue]) -> Result<(), RowFault> {
+fn write_flat(line: &mut Line, values: &[CoreValue]) {
     let flat = match values {
         [] => Flat::new(),
         [value] => Flat::one(*value),
         values if values.len() <= 16 => Flat::from_slice(values),
-        _ => return Err(RowFault::NotARow),
+        _ => return line.refuse(),
     };
     line.put("values");
     write_values(line, flat.as_slice());
-    Ok(())
 }

@@ -10,22 +10,33 @@ use crate::calls::call::read_answers;
 use crate::calls::passing::write_fault;
 use cm_abi_model::Request;
 use cm_lowering::check_answers;
-use cm_rows::{Line, RowFault, read_number, split_words};
-use std::alloc::Global;
+use cm_rows::{Line, RowFault, word, words_from};
+use std::alloc::{AllocError, Global};
 
 /// Writes where the parts stand, or the number of the fault.
-pub fn answer(alloc: Global, words: &[&str], line: &mut Line) -> Result<(), RowFault> {
-    let [length, words @ ..] = words else {
-        return Err(RowFault::NotARow);
-    };
-    let (requests, answers) = split_words(words, "=")?;
-    let requests = read_requests(alloc, requests)?;
-    let answers = read_answers(alloc, answers)?;
-    if answers.len() != requests.len() {
-        return Err(RowFault::NotARow);
+pub fn answer(alloc: Global, words: &[&str], line: &mut Line) {
+    let length = line.number(word(words, 0));
+    let (requests, answers) = line.split(words_from(words, 1), "=");
+    let answers = read_answers(alloc, answers, line);
+    match read_requests(alloc, requests, line) {
+        Ok(requests) => write_places(alloc, &requests, &answers, length, line),
+        Err(_) => line.fail(RowFault::Memory),
     }
-    let length = read_number(length)?;
-    match check_answers(alloc, &requests, &answers, length) {
+}
+
+fn write_places(
+    alloc: Global,
+    requests: &[Request],
+    answers: &[u32],
+    length: usize,
+    line: &mut Line,
+)
+    requires { AreAligned requests.now }
+{
+    if answers.len() != requests.len() {
+        return line.refuse();
+    }
+    match check_answers(alloc, requests, answers, length) {
         Ok(places) => {
             line.put("places");
             for place in &places {
@@ -33,37 +44,37 @@ pub fn answer(alloc: Global, words: &[&str], line: &mut Line) -> Result<(), RowF
                 line.show(*place);
             }
         }
-        Err(fault) => write_fault(line, fault)?,
+        Err(fault) => write_fault(line, fault),
     }
-    Ok(())
 }
 
-fn read_requests(alloc: Global, words: &[&str]) -> Result<Vec<Request>, RowFault>
+fn read_requests(alloc: Global, words: &[&str], line: &mut Line) -> Result<Vec<Request>, AllocError>
     ensures { IfOk result (λ rs. AreAligned rs.items) }
 {
     let mut requests = Vec::new(alloc);
     for word in words {
-        requests.push(read_request(word)?)?;
+        requests.push(read_request(word, line))?;
     }
     Ok(requests)
 }
 
-fn read_request(word: &str) -> Result<Request, RowFault>
-    ensures { IfOk result (λ r. 0 < r.align) }
+/// A request; one with no alignment is no row.
+fn read_request(word: &str, line: &mut Line) -> Request
+    ensures { 0 < result.align }
 {
     let (chained, word) = match word.split_once('>') {
         Some((_, word)) => (true, word),
         None => (false, word),
     };
-    let (align, size) = word.split_once(':').ok_or(RowFault::NotARow)?;
-    let align = read_number(align)?;
+    let (align, size) = word.split_once(':').unwrap_or(("", ""));
+    let align = line.number::<u32>(align);
     if align == 0 {
-        return Err(RowFault::NotARow);
+        line.refuse();
     }
-    Ok(Request {
+    Request {
         chained,
         old_size: 0,
-        align,
-        size: read_number(size)?,
-    })
+        align: align.max(1),
+        size: line.number(size),
+    }
 }

@@ -1,6 +1,7 @@
 //! The calls of rows.
 
-ghost use Rattle.std.specs.Prelude.{◌≡◌, IfOk};
+ghost use Rattle.std.specs.Prelude.{◌≡◌, ◌<◌, ◌^◌, IfOk, length};
+ghost use Rattle.std.specs.Option.{IfSome};
 ghost use Rattle.cm_abi_model.specs.Receives.{call_kinds};
 ghost use Rattle.cm_abi_model.specs.Requests.{IsStored};
 ghost use Rattle.cm_abi_model.specs.Ways.{way_of};
@@ -15,7 +16,7 @@ use cm_abi_model::{Request, StringEncoding, Way};
 use cm_flat::{FlatFunc, Side, flatten_func};
 use cm_giving::Receiver;
 use cm_layout::{Layout, layout_of_params};
-use cm_rows::{Line, RowFault, read_bytes, read_number, split_words};
+use cm_rows::{Line, RowFault};
 use cm_types::{CoreKind, CoreValue, Func};
 use std::alloc::{AllocError, Global};
 
@@ -42,13 +43,16 @@ pub struct Call {
 }
 
 /// An encoding in which strings are stored.
-pub fn read_stored(word: &str) -> Result<StringEncoding, RowFault>
-    ensures { IfOk result IsStored }
+pub fn read_stored(word: &str, line: &mut Line) -> StringEncoding
+    ensures { IsStored result }
 {
-    match read_encoding(word)? {
-        StringEncoding::Latin1OrUtf16 => Err(RowFault::NotARow),
-        StringEncoding::Utf8 => Ok(StringEncoding::Utf8),
-        StringEncoding::Utf16 => Ok(StringEncoding::Utf16),
+    match read_encoding(word, line) {
+        StringEncoding::Latin1OrUtf16 => {
+            line.refuse();
+            StringEncoding::Utf8
+        }
+        StringEncoding::Utf8 => StringEncoding::Utf8,
+        StringEncoding::Utf16 => StringEncoding::Utf16,
     }
 }
 
@@ -58,16 +62,17 @@ pub fn read_sides(
     target: &str,
     length: &str,
     instance: &str,
-) -> Result<Sides, RowFault>
-    ensures { IfOk result (λ s. IsStored s.target) }
+    line: &mut Line,
+) -> Sides
+    ensures { IsStored result.target }
 {
-    let target = read_stored(target)?;
-    Ok(Sides {
-        source: read_encoding(source)?,
+    let target = read_stored(target, line);
+    Sides {
+        source: read_encoding(source, line),
         target,
-        length: read_number(length)?,
-        to: read_receiver(instance)?,
-    })
+        length: line.number(length),
+        to: read_receiver(instance, line),
+    }
 }
 
 /// The kinds of the core values that pass the parameters of a function one way or the other.
@@ -83,6 +88,18 @@ fn kinds_passed(alloc: Global, func: &Func, way: Way) -> Result<Vec<CoreKind>, A
     Ok(pointer)
 }
 
+/// The bytes of a memory, of which more than 2^30 are no row.
+fn read_memory(alloc: Global, word: &str, line: &mut Line) -> Vec<u8>
+    ensures { length result.items < 2 ^ 62 }
+{
+    let memory = line.bytes(alloc, word);
+    if memory.len() > 1 << 30 {
+        line.refuse();
+        return Vec::new(alloc);
+    }
+    memory
+}
+
 /// The call that words say: `TYPE.. = SLOT..`, the giver's memory, and the answers.
 pub fn read_call(
     alloc: Global,
@@ -91,37 +108,41 @@ pub fn read_call(
     memory: &str,
     words: &[&str],
     answers: &[&str],
-) -> Result<Call, RowFault>
+    line: &mut Line,
+) -> Option<Call>
     requires { IsStored sides.target }
-    ensures { IfOk result (λ c. (types : Fields) × IsOf c types) }
+    ensures { IfSome result (λ c. (types : Fields) × IsOf c types) }
 {
-    let (types, slots) = split_words(words, "=")?;
-    let func = make_func(alloc, types, None)?;
-    let way = read_way(way)?;
-    let layout = layout_of_params(alloc, &func)?;
-    let kinds = kinds_passed(alloc, &func, way)?;
-    let memory = read_bytes(alloc, memory)?;
-    if memory.len() > 1 << 30 {
-        return Err(RowFault::NotARow);
-    }
-    Ok(Call {
+    let way = read_way(way, line);
+    let (types, slots) = line.split(words, "=");
+    let func = make_func(alloc, types, None, line)?;
+    let Ok(layout) = layout_of_params(alloc, &func) else {
+        line.fail(RowFault::Memory);
+        return None;
+    };
+    let Ok(kinds) = kinds_passed(alloc, &func, way) else {
+        line.fail(RowFault::Memory);
+        return None;
+    };
+    Some(Call {
         sides,
         way,
         layout,
         kinds,
-        slots: read_slots(alloc, slots)?,
-        memory,
-        answers: read_answers(alloc, answers)?,
+        slots: read_slots(alloc, slots, line),
+        memory: read_memory(alloc, memory, line),
+        answers: read_answers(alloc, answers, line),
     })
 }
 
 /// The numbers that words say.
-pub fn read_answers(alloc: Global, words: &[&str]) -> Result<Vec<u32>, RowFault> {
+pub fn read_answers(alloc: Global, words: &[&str], line: &mut Line) -> Vec<u32> {
     let mut answers = Vec::new(alloc);
     for word in words {
-        answers.push(read_number(word)?)?;
+        let answer = line.number(word);
+        line.push(&mut answers, answer);
     }
-    Ok(answers)
+    answers
 }
 
 /// Writes a request behind a space, with its old pointer.

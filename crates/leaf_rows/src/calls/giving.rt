@@ -9,30 +9,28 @@ use crate::calls::tables::{read_handle, read_table, write_table};
 use cm_abi_model::AbiFault;
 use cm_giving::{HandleLeaf, HandleValue, Receiver, give};
 use cm_handles::{Handle, HandleKind, Table};
-use cm_rows::{Line, RowFault, read_number};
+use cm_rows::{Line, word, words_from};
 use std::alloc::Global;
 
 /// The receiver with the instance that a word says.
-pub fn read_receiver(instance: &str) -> Result<Receiver, RowFault> {
-    Ok(Receiver {
-        instance: read_number(instance)?,
+pub fn read_receiver(instance: &str, line: &mut Line) -> Receiver {
+    Receiver {
+        instance: line.number(instance),
         call: 9,
-    })
+    }
 }
 
 /// Writes the numbers that stand for the handles, and the table then.
-pub fn answer(alloc: Global, words: &[&str], line: &mut Line) -> Result<(), RowFault> {
-    let [table, instance, handles @ ..] = words else {
-        return Err(RowFault::NotARow);
-    };
-    let mut table = read_table(alloc, table)?;
-    let to = read_receiver(instance)?;
+pub fn answer(alloc: Global, words: &[&str], line: &mut Line) {
+    let mut table = read_table(alloc, word(words, 0), line);
+    let to = read_receiver(word(words, 1), line);
     let mut leaves = Vec::new(alloc);
-    for word in handles {
-        leaves.push(leaf_of(read_handle(word)?))?;
+    for word in words_from(words, 2) {
+        let handle = read_handle(word, line);
+        line.push(&mut leaves, leaf_of(handle));
     }
     let given = give(alloc, &mut table, to, &leaves);
-    write_given(line, given, &table)
+    write_given(line, given, &table);
 }
 
 fn leaf_of(handle: Handle) -> HandleLeaf {
@@ -48,11 +46,7 @@ fn leaf_of(handle: Handle) -> HandleLeaf {
 }
 
 /// Writes the numbers, or the number of the fault, and the table.
-pub fn write_given(
-    line: &mut Line,
-    given: Result<Vec<u32>, AbiFault>,
-    table: &Table,
-) -> Result<(), RowFault> {
+pub fn write_given(line: &mut Line, given: Result<Vec<u32>, AbiFault>, table: &Table) {
     match given {
         Ok(numbers) => {
             line.put("numbers");
@@ -61,8 +55,7 @@ pub fn write_given(
                 line.show(*number);
             }
         }
-        Err(fault) => write_fault(line, fault)?,
+        Err(fault) => write_fault(line, fault),
     }
     write_table(line, table);
-    Ok(())
 }

@@ -16,7 +16,7 @@ use cm_abi::laws::one_call;
 use cm_abi::{AbiFault, Encodings, Lifted, Passed, Passing, Request, lift, requests};
 use cm_giving::give_values;
 use cm_handles::Table;
-use cm_rows::{Line, RowFault};
+use cm_rows::Line;
 use std::alloc::{AllocError, Global};
 
 /// Each number in a memory is one of 8 bits.
@@ -73,51 +73,49 @@ pub fn write_lifted(line: &mut Line, lifted: &Lifted, table: &Table) {
 }
 
 /// Writes the values and what went with them, or the fault, and the giver's table then.
-pub fn answer(alloc: Global, call: &Call, table: &str, line: &mut Line) -> Result<(), RowFault>
+pub fn answer(alloc: Global, call: &Call, table: &str, line: &mut Line)
     requires { (types : Fields) × IsOf call.now types }
 {
-    let mut table = read_table(alloc, table)?;
+    let mut table = read_table(alloc, table, line);
     match lift_call(alloc, call, &mut table) {
         Ok(lifted) => write_lifted(line, &lifted, &table),
         Err(fault) => {
-            write_fault(line, fault)?;
+            write_fault(line, fault);
             write_table(line, &table);
         }
     }
-    Ok(())
-}
-
-/// What is lifted, of a row whose values can be.
-fn lift_row(alloc: Global, call: &Call, table: &str) -> Result<Lifted, RowFault>
-    requires { (types : Fields) × IsOf call.now types }
-    ensures { IfOk result (IsLifted call.now) }
-{
-    let mut table = read_table(alloc, table)?;
-    lift_call(alloc, call, &mut table).map_err(|_| RowFault::NotARow)
 }
 
 /// Writes the numbers that stand for the handles of the values where they were given to the
-/// receiver of the call, and its table then.
-pub fn pass(alloc: Global, call: &Call, table: &str, line: &mut Line) -> Result<(), RowFault>
+/// receiver of the call, and its table then. Only values that can be lifted are a row.
+pub fn pass(alloc: Global, call: &Call, table: &str, line: &mut Line)
     requires { (types : Fields) × IsOf call.now types }
 {
-    let lifted = lift_row(alloc, call, table)?;
+    let mut table = read_table(alloc, table, line);
+    let Ok(lifted) = lift_call(alloc, call, &mut table) else {
+        return line.refuse();
+    };
     let mut received = Table::new(alloc);
     let to = call.sides.to;
     let given = give_values(alloc, &mut received, to, &call.layout, &lifted.values);
-    write_given(line, given, &received)
+    write_given(line, given, &received);
 }
 
-/// Writes what lowering the values asks for.
-pub fn ask(alloc: Global, call: &Call, table: &str, line: &mut Line) -> Result<(), RowFault>
+/// Writes what lowering the values asks for. Only values that can be lifted are a row.
+pub fn ask(alloc: Global, call: &Call, table: &str, line: &mut Line)
     requires { (types : Fields) × IsOf call.now types }
 {
     one_call();
-    let lifted = lift_row(alloc, call, table)?;
-    let passing = passed_on(call, &lifted);
-    let asked = asked_for(alloc, &passing)?;
-    write_requests(line, &asked);
-    Ok(())
+    let mut table = read_table(alloc, table, line);
+    match lift_call(alloc, call, &mut table) {
+        Ok(lifted) => {
+            let passing = passed_on(call, &lifted);
+            if let Some(asked) = line.kept(asked_for(alloc, &passing)) {
+                write_requests(line, &asked);
+            }
+        }
+        Err(_) => line.refuse(),
+    }
 }
 
 /// The requests for what a call passes on.

@@ -19,40 +19,28 @@ use std::alloc::Global;
 pub const FILL: u8 = 0xaa;
 
 /// Writes the values of a call, the giver's table then, and what lowering them comes to.
-pub fn answer(
-    alloc: Global,
-    call: &Call,
-    table: &str,
-    received: &str,
-    line: &mut Line,
-) -> Result<(), RowFault>
+pub fn answer(alloc: Global, call: &Call, table: &str, received: &str, line: &mut Line)
     requires { (types : Fields) × IsOf call.now types }
 {
     one_call();
-    let mut table = read_table(alloc, table)?;
+    let mut table = read_table(alloc, table, line);
     match lift_call(alloc, call, &mut table) {
         Ok(lifted) => {
             write_lifted(line, &lifted, &table);
             let passing = passed_on(call, &lifted);
-            lower_values(alloc, call, &passing, read_table(alloc, received)?, line)
+            let received = read_table(alloc, received, line);
+            lower_values(alloc, call, &passing, received, line);
         }
         Err(fault) => {
-            write_fault(line, fault)?;
+            write_fault(line, fault);
             write_table(line, &table);
-            Ok(())
         }
     }
 }
 
 /// Writes what lowering values asks for and, with the answers of the call, the core values that
 /// pass them, or the fault, and the receiver's memory and table then.
-fn lower_values(
-    alloc: Global,
-    call: &Call,
-    passing: &Passing<'_>,
-    received: Table,
-    line: &mut Line,
-) -> Result<(), RowFault>
+fn lower_values(alloc: Global, call: &Call, passing: &Passing<'_>, received: Table, line: &mut Line)
     requires { (types : Fields) × CanBeLowered passing.now types }
 {
     let Passing {
@@ -62,13 +50,17 @@ fn lower_values(
         encodings,
         ..
     } = *passing;
-    let asked = requests(alloc, layout, way, values, &encodings)?;
+    let mut received = received;
+    let Ok(asked) = requests(alloc, layout, way, values, &encodings) else {
+        return line.fail(RowFault::Memory);
+    };
     if asked.len() != call.answers.len() {
-        return Err(RowFault::NotARow);
+        return line.refuse();
     }
     write_requests(line, &asked, &call.answers);
-    let mut received = received;
-    let mut memory = Vec::from_elem(alloc, FILL, call.sides.length as usize)?;
+    let Ok(mut memory) = Vec::from_elem(alloc, FILL, call.sides.length as usize) else {
+        return line.fail(RowFault::Memory);
+    };
     let to = call.sides.to;
     let lowered = lower(
         alloc,
@@ -78,7 +70,7 @@ fn lower_values(
         passing,
         &call.answers,
     );
-    write_received(line, lowered, &memory, &received)
+    write_received(line, lowered, &memory, &received);
 }
 
 /// Writes the core values that pass what the receiver got, or the fault, and its memory and table.
@@ -87,21 +79,18 @@ pub fn write_received(
     slots: Result<Vec<CoreValue>, AbiFault>,
     memory: &[u8],
     received: &Table,
-) -> Result<(), RowFault> {
+) {
+    line.put(" ");
     match slots {
         Ok(slots) => {
-            line.put(" gives");
+            line.put("gives");
             write_slots(line, &slots);
         }
-        Err(fault) => {
-            line.put(" ");
-            write_fault(line, fault)?;
-        }
+        Err(fault) => write_fault(line, fault),
     }
     line.put(" memory ");
     write_units(line, memory, 1);
     write_table(line, received);
-    Ok(())
 }
 
 /// Writes requests, each with its old pointer: where it is chained the answer to the one before.

@@ -6,48 +6,57 @@
 use crate::plain;
 use cm_abi_model::{AbiFault, StringEncoding, Way};
 use cm_handles::Handle;
-use cm_rows::{Line, RowFault, read_number, split_repeat};
+use cm_rows::{Line, RowFault, split_repeat};
 use cm_types::CoreValue;
 use std::alloc::Global;
 
 /// The way that a word names.
-pub fn read_way(word: &str) -> Result<Way, RowFault> {
+pub fn read_way(word: &str, line: &mut Line) -> Way {
     match word {
-        "params" => Ok(Way::Params),
-        "results" => Ok(Way::Results),
-        _ => Err(RowFault::NotARow),
+        "params" => Way::Params,
+        "results" => Way::Results,
+        _ => {
+            line.refuse();
+            Way::Params
+        }
     }
 }
 
 /// The encoding that a word names.
-pub fn read_encoding(word: &str) -> Result<StringEncoding, RowFault> {
+pub fn read_encoding(word: &str, line: &mut Line) -> StringEncoding {
     match word {
-        "utf8" => Ok(StringEncoding::Utf8),
-        "utf16" => Ok(StringEncoding::Utf16),
-        "latin1" => Ok(StringEncoding::Latin1OrUtf16),
-        _ => Err(RowFault::NotARow),
+        "utf8" => StringEncoding::Utf8,
+        "utf16" => StringEncoding::Utf16,
+        "latin1" => StringEncoding::Latin1OrUtf16,
+        _ => {
+            line.refuse();
+            StringEncoding::Utf8
+        }
     }
 }
 
 /// The core values that words spell.
-pub fn read_slots(alloc: Global, words: &[&str]) -> Result<Vec<CoreValue>, RowFault> {
+pub fn read_slots(alloc: Global, words: &[&str], line: &mut Line) -> Vec<CoreValue> {
     let mut slots = Vec::new(alloc);
     for word in words {
         let (times, word) = split_repeat(word);
-        let slot = read_slot(word)?;
+        let slot = read_slot(word, line);
         for _ in 0..times {
-            slots.push(slot)?;
+            line.push(&mut slots, slot);
         }
     }
-    Ok(slots)
+    slots
 }
 
 /// The core value that a word spells.
-pub fn read_slot(word: &str) -> Result<CoreValue, RowFault> {
+pub fn read_slot(word: &str, line: &mut Line) -> CoreValue {
     match word.split_once(':') {
-        Some(("i32", number)) => Ok(CoreValue::I32(read_number(number)?)),
-        Some(("i64", number)) => Ok(CoreValue::I64(read_number(number)?)),
-        _ => Err(RowFault::NotARow),
+        Some(("i32", number)) => CoreValue::I32(line.number(number)),
+        Some(("i64", number)) => CoreValue::I64(line.number(number)),
+        _ => {
+            line.refuse();
+            CoreValue::I32(0)
+        }
     }
 }
 
@@ -81,10 +90,9 @@ pub fn write_hands(line: &mut Line, owns: &[Handle], lends: &[u32]) {
 }
 
 /// Writes `fault NUMBER`; want of memory is that of the row.
-pub fn write_fault(line: &mut Line, fault: AbiFault) -> Result<(), RowFault> {
+pub fn write_fault(line: &mut Line, fault: AbiFault) {
     if fault == AbiFault::EngineMemory {
-        return Err(RowFault::Memory);
+        line.fail(RowFault::Memory);
     }
     plain::write_fault(line, fault.number());
-    Ok(())
 }

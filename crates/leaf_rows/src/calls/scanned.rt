@@ -24,16 +24,10 @@ use std::alloc::{AllocError, Global};
 
 /// Writes the records of the parts of a call, the giver's table then, what they ask for, and what
 /// copying the values comes to.
-pub fn answer(
-    alloc: Global,
-    call: &Call,
-    table: &str,
-    received: &str,
-    line: &mut Line,
-) -> Result<(), RowFault>
+pub fn answer(alloc: Global, call: &Call, table: &str, received: &str, line: &mut Line)
     requires { (types : Fields) × IsOf call.now types }
 {
-    let mut table = read_table(alloc, table)?;
+    let mut table = read_table(alloc, table, line);
     let passed = Passed {
         way: call.way,
         layout: &call.layout,
@@ -51,19 +45,12 @@ pub fn answer(
                 handles,
                 ..
             } = scanned;
-            copy_values(
-                alloc,
-                call,
-                requests,
-                &handles,
-                read_table(alloc, received)?,
-                line,
-            )
+            let received = read_table(alloc, received, line);
+            copy_values(alloc, call, requests, &handles, received, line);
         }
         Err(fault) => {
-            write_fault(line, fault)?;
+            write_fault(line, fault);
             write_table(line, &table);
-            Ok(())
         }
     }
 }
@@ -96,7 +83,7 @@ fn copy_values(
     handles: &[HandleLeaf],
     received: Table,
     line: &mut Line,
-) -> Result<(), RowFault>
+)
     requires { (types : Fields) × IsOf call.now types
         × IsScanned call.now types requests handles.now }
 {
@@ -107,8 +94,8 @@ fn copy_values(
         &call.answers,
         call.sides.length as usize,
         line,
-    )? {
-        return Ok(());
+    ) {
+        return;
     }
     let passed = Passed {
         way: call.way,
@@ -121,8 +108,12 @@ fn copy_values(
         handles,
     };
     let mut received = received;
-    let mut memory = Vec::from_elem(alloc, FILL, call.sides.length as usize)?;
-    let mut slots = zeros(alloc, &call.kinds)?;
+    let Ok(mut memory) = Vec::from_elem(alloc, FILL, call.sides.length as usize) else {
+        return line.fail(RowFault::Memory);
+    };
+    let Ok(mut slots) = zeros(alloc, &call.kinds) else {
+        return line.fail(RowFault::Memory);
+    };
     let to = call.sides.to;
     let copied = copy(
         alloc,
@@ -177,16 +168,11 @@ fn write_next(parts: &PartRequests, line: &mut Line) -> bool
 /// Writes what parts ask for, each request answered before the next one, and where the parts then
 /// stand; or, at the first answer that will not do, its fault and what is asked for again. Whether
 /// all answers will do.
-fn ask(
-    parts: &mut PartRequests,
-    answers: &[u32],
-    length: usize,
-    line: &mut Line,
-) -> Result<bool, RowFault>
+fn ask(parts: &mut PartRequests, answers: &[u32], length: usize, line: &mut Line) -> bool
     requires { IsAnswered parts.old [] }
-    ensures answered { IfOk result (λ b. b ≡ true → (given : List ℕ)
+    ensures answered { result ≡ true → (given : List ℕ)
         × IsAllAnswered parts.new given
-        × (first_fault length (all_requests parts.new) given ≡ None)) }
+        × (first_fault length (all_requests parts.new) given ≡ None) }
     ensures records { parts.new.records ≡ parts.old.records }
     ensures source { parts.new.source ≡ parts.old.source }
     ensures target { parts.new.target ≡ parts.old.target }
@@ -195,23 +181,25 @@ fn ask(
     line.put(" asks");
     for answer in answers {
         if !write_next(parts, line) {
-            return Err(RowFault::NotARow);
+            line.refuse();
+            return false;
         }
         if let Err(fault) = parts.answer(*answer, length) {
             line.put(" ");
-            write_fault(line, fault)?;
+            write_fault(line, fault);
             line.put(" again");
             write_next(parts, line);
-            return Ok(false);
+            return false;
         }
     }
     if parts.next_request().is_some() {
-        return Err(RowFault::NotARow);
+        line.refuse();
+        return false;
     }
     line.put(" places");
     for place in parts.places() {
         line.put(" ");
         line.show(*place);
     }
-    Ok(true)
+    true
 }

@@ -5,28 +5,28 @@
 //! behind it says how often it is lent. Its representation is its serial number and 100. `N*`
 //! before a handle stands for N of it.
 
-ghost use Rattle.std.specs.Prelude.{◌<◌, ◌^◌, IfOk};
+ghost use Rattle.std.specs.Prelude.{◌<◌, ◌^◌};
 ghost use Rattle.cm_lift.specs.HandingOver.{LendsBelow};
 
 use cm_handles::{Handle, HandleFault, HandleKind, Table};
-use cm_rows::{Line, RowFault, read_number, split_repeat};
+use cm_rows::{Line, RowFault, split_repeat};
 use cm_types::ResourceId;
 use std::alloc::Global;
 
 /// The table that a word spells. Its handles are lent fewer than 256 times, so few enough for what
 /// lifts them.
 #[tactic(auto, using(crate::proofs::TableLemmas::lends))]
-pub fn read_table(alloc: Global, word: &str) -> Result<Table, RowFault>
-    ensures { IfOk result (λ t. LendsBelow (2 ^ 100) t.handles) }
+pub fn read_table(alloc: Global, word: &str, line: &mut Line) -> Table
+    ensures { LendsBelow (2 ^ 100) result.handles }
 {
     let mut table = empty(alloc);
     if word == "-" {
-        return Ok(table);
+        return table;
     }
     for part in word.split(',') {
-        add(&mut table, part)?;
+        add(&mut table, part, line);
     }
-    Ok(table)
+    table
 }
 
 /// A table with no handles.
@@ -38,35 +38,48 @@ fn empty(alloc: Global) -> Table
 }
 
 /// Adds the handle that a word spells, as often as it says.
-fn add(table: &mut Table, word: &str) -> Result<(), RowFault>
+fn add(table: &mut Table, word: &str, line: &mut Line)
     requires { LendsBelow 256 table.old.handles }
     ensures { LendsBelow 256 table.new.handles }
 {
     let (times, word) = split_repeat(word);
-    let handle = read_handle(word)?;
+    let handle = read_handle(word, line);
     for _ in 0..times {
-        add_handle(table, handle)?;
+        add_handle(table, handle, line);
     }
-    Ok(())
+}
+
+/// Adds a handle.
+#[tactic(auto, using(crate::proofs::TableLemmas::lends))]
+fn add_handle(table: &mut Table, handle: Handle, line: &mut Line)
+    requires lends { LendsBelow 256 table.old.handles }
+    requires few { handle.lends < 256 }
+    ensures { LendsBelow 256 table.new.handles }
+{
+    match table.add(handle) {
+        Ok(_) => {}
+        Err(HandleFault::Memory) => line.fail(RowFault::Memory),
+        Err(_) => line.refuse(),
+    }
 }
 
 /// The handle that a word spells.
-pub fn read_handle(word: &str) -> Result<Handle, RowFault>
-    ensures { IfOk result (λ h. h.lends < 256) }
+pub fn read_handle(word: &str, line: &mut Line) -> Handle
+    ensures { result.lends < 256 }
 {
     let (resource, word) = match word.split_once('\'') {
         Some((_, word)) => (1, word),
         None => (0, word),
     };
     let (word, lends) = word.split_once('+').unwrap_or((word, "0"));
-    let lends: u8 = read_number(lends)?;
+    let lends: u8 = line.number(lends);
     let (kind, serial) = match word.split_at_checked(1) {
         Some(("o", serial)) => (HandleKind::Owned, serial),
         Some(("b", serial)) => (HandleKind::Borrowed { call: 7 }, serial),
-        _ => return Err(RowFault::NotARow),
+        _ => (HandleKind::Owned, ""),
     };
-    let serial: u32 = read_number(serial)?;
-    Ok(Handle {
+    let serial: u32 = line.number(serial);
+    Handle {
         resource: ResourceId {
             component: 0,
             number: resource,
@@ -75,20 +88,6 @@ pub fn read_handle(word: &str) -> Result<Handle, RowFault>
         lends: u128::from(lends),
         rep: serial.wrapping_add(100),
         kind,
-    })
-}
-
-/// Adds a handle.
-#[tactic(auto, using(crate::proofs::TableLemmas::lends))]
-fn add_handle(table: &mut Table, handle: Handle) -> Result<(), RowFault>
-    requires lends { LendsBelow 256 table.old.handles }
-    requires few { handle.lends < 256 }
-    ensures { LendsBelow 256 table.new.handles }
-{
-    match table.add(handle) {
-        Ok(_) => Ok(()),
-        Err(HandleFault::Memory) => Err(RowFault::Memory),
-        Err(_) => Err(RowFault::NotARow),
     }
 }
 

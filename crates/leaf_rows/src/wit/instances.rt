@@ -1,27 +1,27 @@
 //! Instances of interfaces, as rows name them.
 
-use cm_rows::{RowFault, read_number};
+use cm_rows::Line;
 use cm_wit_declared::Instance;
 use std::alloc::Global;
 
 /// An interface by its number, behind `i` where it is imported, and `e` where it is exported.
-fn read_instance(word: &str) -> Result<Instance, RowFault> {
+fn read_instance(word: &str, line: &mut Line) -> Instance {
     let (exported, number) = match word.strip_prefix('e') {
         Some(number) => (true, number),
-        None => (false, word.strip_prefix('i').ok_or(RowFault::NotARow)?),
+        None => (false, word.strip_prefix('i').unwrap_or("")),
     };
-    let interface = read_number(number)?;
-    Ok(Instance {
+    Instance {
         exported,
-        interface,
-    })
+        interface: line.number(number),
+    }
 }
 
 /// Instances, with commas between them.
-pub fn read_instances(alloc: Global, word: &str) -> Result<Vec<Instance>, RowFault> {
+pub fn read_instances(alloc: Global, word: &str, line: &mut Line) -> Vec<Instance> {
     let mut instances = Vec::new(alloc);
     for part in word.split(',') {
-        instances.push(read_instance(part)?)?;
+        let instance = read_instance(part, line);
+        line.push(&mut instances, instance);
     }
-    Ok(instances)
+    instances
 }

@@ -9,7 +9,6 @@ ghost use Rattle.cm_wit_worlds.specs.InterfaceViews.{files_of, placed_interface}
 
 use crate::wit::files::package_files;
 use crate::wit::reading::write_fault;
-use crate::wit::texts::Texts;
 use crate::wit::worlds::{write_externs, write_world_fault};
 use crate::wit::{signatures, tables};
 use cm_rows::{Line, RowFault};
@@ -34,44 +33,28 @@ pub enum Question<'a> {
 }
 
 /// Writes the answer to a question of the packages of texts, or the first fault.
-pub fn answer(
-    alloc: Global,
-    texts: &Texts,
-    question: Question,
-    words: &[&str],
-    line: &mut Line,
-) -> Result<(), RowFault> {
-    let texts = texts.texts(alloc, words)?;
+pub fn answer(alloc: Global, texts: &[String], question: Question, line: &mut Line) {
     let mut packages = Vec::new(alloc);
-    for text in &texts {
+    for text in texts {
         match parse(alloc, text.as_str()) {
-            Ok(package) => packages.push(package)?,
+            Ok(package) => line.push(&mut packages, package),
             Err(fault) => return write_fault(line, fault),
         }
     }
-    answer_of(alloc, &packages, question, line)
-}
-
-fn answer_of(
-    alloc: Global,
-    packages: &[Package],
-    question: Question,
-    line: &mut Line,
-) -> Result<(), RowFault> {
     match question {
-        Question::Signature(name) => signatures::answer(alloc, packages, name, line),
-        _ => answer_named(alloc, packages, question, line),
+        Question::Signature(name) => signatures::answer(alloc, &packages, name, line),
+        _ => answer_named(alloc, &packages, question, line),
     }
 }
 
-fn answer_named(
-    alloc: Global,
-    packages: &[Package],
-    question: Question,
-    line: &mut Line,
-) -> Result<(), RowFault> {
-    let names = package_names(alloc, &package_files(alloc, packages)?)?;
-    answer_in(alloc, packages, &names, question, line)
+fn answer_named(alloc: Global, packages: &[Package], question: Question, line: &mut Line) {
+    let Ok(files) = package_files(alloc, packages) else {
+        return line.fail(RowFault::Memory);
+    };
+    match package_names(alloc, &files) {
+        Ok(names) => answer_in(alloc, packages, &names, question, line),
+        Err(_) => line.fail(RowFault::Memory),
+    }
 }
 
 /// The same, where the names of the packages are these.
@@ -81,16 +64,24 @@ fn answer_in<'a>(
     names: &'a [String],
     question: Question,
     line: &mut Line,
-) -> Result<(), RowFault>
+)
     requires { map string_bytes names.now ≡ map package_name (map package_tree packages.now) }
 {
-    let files = package_files(alloc, packages)?;
-    let interfaces = interfaces(alloc, &files)?;
-    let directory = Directory::new(alloc, files, names, &interfaces)?;
-    if let Question::Table(instances) = question {
-        return tables::answer(alloc, &directory, &interfaces, instances, line);
+    let Ok(files) = package_files(alloc, packages) else {
+        return line.fail(RowFault::Memory);
+    };
+    let Ok(interfaces) = interfaces(alloc, &files) else {
+        return line.fail(RowFault::Memory);
+    };
+    let Ok(directory) = Directory::new(alloc, files, names, &interfaces) else {
+        return line.fail(RowFault::Memory);
+    };
+    match question {
+        Question::Table(instances) => {
+            tables::answer(alloc, &directory, &interfaces, instances, line);
+        }
+        _ => answer_worlds(alloc, &directory, &interfaces, question, line),
     }
-    answer_worlds(alloc, &directory, &interfaces, question, line)
 }
 
 /// Writes what the world that is asked for imports and exports, in order, or the first fault, of
@@ -101,14 +92,16 @@ fn answer_worlds<'a>(
     interfaces: &[PlacedInterface<'a>],
     question: Question,
     line: &mut Line,
-) -> Result<(), RowFault>
+)
     requires { map placed_interface interfaces.now
         ≡ spec.interfaces (files_of directory.now.files.items) }
 {
-    let worlds = worlds(alloc, &directory.files)?;
-    match find_world(alloc, directory, &worlds, question)? {
+    let Ok(worlds) = worlds(alloc, &directory.files) else {
+        return line.fail(RowFault::Memory);
+    };
+    match find_world(alloc, directory, &worlds, question, line) {
         Some(world) => answer_world(alloc, directory, interfaces, &world, line),
-        None => write_world_fault(alloc, WorldFault::NoSuchWorld, line),
+        None => write_world_fault(line, WorldFault::NoSuchWorld),
     }
 }
 
@@ -119,13 +112,13 @@ fn answer_world<'a>(
     interfaces: &[PlacedInterface<'a>],
     world: &PlacedWorld<'a>,
     line: &mut Line,
-) -> Result<(), RowFault>
+)
     requires { map placed_interface interfaces.now
         ≡ spec.interfaces (files_of directory.now.files.items) }
 {
     match externs_of(alloc, directory, interfaces, world) {
         Ok(externs) => write_externs(alloc, interfaces, world, &externs, line),
-        Err(fault) => write_world_fault(alloc, fault, line),
+        Err(fault) => write_world_fault(line, fault),
     }
 }
 
@@ -134,14 +127,14 @@ fn find_world<'a>(
     directory: &Directory<'a>,
     worlds: &[PlacedWorld<'a>],
     question: Question,
-) -> Result<Option<PlacedWorld<'a>>, RowFault> {
+    line: &mut Line,
+) -> Option<PlacedWorld<'a>> {
     let number = match question {
-        Question::WorldOfName(name) => directory.world_at(alloc, worlds, name)?,
+        Question::WorldOfName(name) => {
+            line.kept(directory.world_at(alloc, worlds, name)).flatten()
+        }
         Question::WorldOfNumber(number) => Some(number),
         Question::Table(_) | Question::Signature(_) => None,
     };
-    match number {
-        Some(number) => Ok(worlds.get(number).copied()),
-        None => Ok(None),
-    }
+    worlds.get(number?).copied()
 }

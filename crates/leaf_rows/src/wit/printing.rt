@@ -1,8 +1,9 @@
 //! Rows on printing.
 
 use crate::wit::reading::write_fault;
+use crate::wit::spelled::write_text;
 use crate::wit::texts::Texts;
-use cm_rows::{Line, RowFault};
+use cm_rows::Line;
 use cm_wit::{WitFault, parse, print};
 use std::alloc::Global;
 
@@ -15,32 +16,32 @@ fn printed(alloc: Global, text: &str) -> Result<String, WitFault> {
     }
 }
 
-/// Writes whether the package of one text is printed as another text stands, and so is what was
-/// printed, and how many bytes were printed.
-pub fn answer(
-    alloc: Global,
-    texts: &Texts,
-    words: &[&str],
-    line: &mut Line,
-) -> Result<(), RowFault> {
-    let [written, wanted] = words else {
-        return Err(RowFault::NotARow);
-    };
-    let (Some(written), Some(wanted)) = (texts.named(written), texts.named(wanted)) else {
-        return Err(RowFault::NotARow);
-    };
-    match printed_twice(alloc, written) {
-        Ok((once, again)) => write_compared(line, once.as_str(), again.as_str(), wanted),
-        Err(fault) => write_fault(line, fault)?,
-    }
-    Ok(())
-}
-
 /// The text that prints the package of a text, and the one that prints the package of that.
-pub fn printed_twice(alloc: Global, text: &str) -> Result<(String, String), WitFault> {
+fn printed_twice(alloc: Global, text: &str) -> Result<(String, String), WitFault> {
     let once = printed(alloc, text)?;
     let again = printed(alloc, once.as_str())?;
     Ok((once, again))
+}
+
+/// Writes the text that prints a package, where reading and printing it gives the same bytes again.
+pub fn answer(alloc: Global, text: &str, line: &mut Line) {
+    match printed_twice(alloc, text) {
+        Ok((once, again)) if again == once => write_text(line, once.as_str()),
+        Ok(_) => line.put("printed again in another way"),
+        Err(fault) => write_fault(line, fault),
+    }
+}
+
+/// Writes whether the package of one text is printed as another text stands, and so is what was
+/// printed, and how many bytes were printed.
+pub fn compare(alloc: Global, texts: &Texts, written: &str, wanted: &str, line: &mut Line) {
+    let (Some(written), Some(wanted)) = (texts.named(written), texts.named(wanted)) else {
+        return line.refuse();
+    };
+    match printed_twice(alloc, written) {
+        Ok((once, again)) => write_compared(line, once.as_str(), again.as_str(), wanted),
+        Err(fault) => write_fault(line, fault),
+    }
 }
 
 fn write_compared(line: &mut Line, once: &str, again: &str, wanted: &str) {

@@ -5,21 +5,15 @@ use cm_type_arena::Types;
 use cm_wit_declared::Declaration;
 use cm_wit_meanings::Meaning;
 use cm_wit_tables::{Table, TableFault};
-use std::alloc::Global;
 
 /// Writes the number and the name of a table's fault.
-pub fn write_table_fault(
-    alloc: Global,
-    fault: TableFault,
-    line: &mut Line,
-) -> Result<(), RowFault> {
+pub fn write_table_fault(line: &mut Line, fault: TableFault) {
     if fault == TableFault::Memory {
-        return Err(RowFault::Memory);
+        line.fail(RowFault::Memory);
     }
     line.show(fault.number());
     line.put(" ");
-    line.put(&format!(in alloc; "{fault:?}")?);
-    Ok(())
+    line.debug(&fault);
 }
 
 /// Writes what a name stands for: a resource by its number, a type by how many nodes and levels it

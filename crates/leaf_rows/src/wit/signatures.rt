@@ -2,22 +2,16 @@
 
 use crate::shown::write_shown;
 use crate::wit::worlds::write_world_fault;
-use cm_placed::Signature;
-use cm_rows::{Line, RowFault};
+use cm_rows::Line;
 use cm_wit::Package;
 use cm_wit_signature::world_signature;
 use std::alloc::Global;
 
 /// Writes the lines that show the signature of the world of a full name, each behind `|`; or the
 /// number and the name of the fault.
-pub fn answer(
-    alloc: Global,
-    packages: &[Package],
-    name: &str,
-    line: &mut Line,
-) -> Result<(), RowFault> {
+pub fn answer(alloc: Global, packages: &[Package], name: &str, line: &mut Line) {
     match world_signature(alloc, packages, name) {
         Ok(signature) => write_shown(alloc, &signature, usize::MAX, line),
-        Err(fault) => write_world_fault(alloc, fault, line),
+        Err(fault) => write_world_fault(line, fault),
     }
 }

@@ -1,54 +1,51 @@
 //! Texts of several lines, as rows write them.
 
-use cm_rows::{Line, RowFault, read_number};
+use cm_rows::Line;
 use std::alloc::Global;
 
 /// The text that words stand for, one blank apart: `~n` is a line feed, `~r` a carriage return,
 /// `~t` a tab, and `~N(PART)` stands for N times the part, which has no `)`.
-pub fn read_text(alloc: Global, words: &[&str]) -> Result<String, RowFault> {
-    let mut text = String::new(alloc);
+pub fn read_text(alloc: Global, words: &[&str], line: &mut Line) -> String {
+    let mut text = Line::new(alloc);
     for (index, word) in words.iter().enumerate() {
         if index > 0 {
-            text.push_str(" ")?;
+            text.put(" ");
         }
-        add_word(&mut text, word)?;
+        add_word(&mut text, word);
     }
-    Ok(text)
+    line.kept(text.done()).unwrap_or(String::new(alloc))
 }
 
-fn add_word(text: &mut String, word: &str) -> Result<(), RowFault> {
-    let mut parts = word.split('~');
-    text.push_str(parts.next().unwrap_or(""))?;
-    for part in parts {
-        add_part(text, part)?;
+fn add_word(text: &mut Line, word: &str) {
+    for (index, part) in word.split('~').enumerate() {
+        if index == 0 {
+            text.put(part);
+        } else {
+            add_part(text, part);
+        }
     }
-    Ok(())
 }
 
 /// Adds what stands behind a `~`.
-fn add_part(text: &mut String, part: &str) -> Result<(), RowFault> {
-    let (first, rest) = part.split_at_checked(1).ok_or(RowFault::NotARow)?;
-    match first {
-        "n" => add_both(text, "\n", rest),
-        "r" => add_both(text, "\r", rest),
-        "t" => add_both(text, "\t", rest),
-        _ => add_repeated(text, part),
-    }
+fn add_part(text: &mut Line, part: &str) {
+    let (first, rest) = part.split_at_checked(1).unwrap_or(("", ""));
+    text.put(match first {
+        "n" => "\n",
+        "r" => "\r",
+        "t" => "\t",
+        _ => return add_repeated(text, part),
+    });
+    text.put(rest);
 }
 
 /// Adds what `N(PART)` and the words behind it stand for.
-fn add_repeated(text: &mut String, part: &str) -> Result<(), RowFault> {
-    let (times, rest) = part.split_once('(').ok_or(RowFault::NotARow)?;
-    let (repeated, rest) = rest.split_once(')').ok_or(RowFault::NotARow)?;
-    for _ in 0..read_number::<u32>(times)? {
-        text.push_str(repeated)?;
+fn add_repeated(text: &mut Line, part: &str) {
+    let (times, rest) = part.split_once('(').unwrap_or(("", ""));
+    let (repeated, rest) = rest.split_once(')').unwrap_or(("", ""));
+    for _ in 0..text.number::<u32>(times) {
+        text.put(repeated);
     }
-    Ok(text.push_str(rest)?)
-}
-
-fn add_both(text: &mut String, first: &str, second: &str) -> Result<(), RowFault> {
-    text.push_str(first)?;
-    Ok(text.push_str(second)?)
+    text.put(rest);
 }
 
 /// Writes a text on one line, with `~n` for a line feed.

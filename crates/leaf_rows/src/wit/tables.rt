@@ -21,16 +21,20 @@ pub fn answer<'a>(
     interfaces: &[PlacedInterface<'a>],
     instances: &str,
     line: &mut Line,
-) -> Result<(), RowFault>
+)
     requires { map placed_interface interfaces.now
         ≡ spec.interfaces (files_of directory.now.files.items) }
 {
-    let instances = read_instances(alloc, instances)?;
-    let declarations = declarations_of(alloc, directory, interfaces, &instances)?;
-    let mut types = Types::new(alloc)?;
+    let instances = read_instances(alloc, instances, line);
+    let declared = declarations_of(alloc, directory, interfaces, &instances);
+    let Ok(declarations) = declared else {
+        return line.fail(RowFault::Memory);
+    };
+    let Ok(mut types) = Types::new(alloc) else {
+        return line.fail(RowFault::Memory);
+    };
     match table_of(alloc, &mut types, &declarations) {
         Ok(table) => write_table(line, &types, &declarations, &table),
-        Err(fault) => write_table_fault(alloc, fault, line)?,
+        Err(fault) => write_table_fault(line, fault),
     }
-    Ok(())
 }

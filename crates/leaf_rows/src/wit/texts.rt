@@ -4,7 +4,7 @@
 //! last. Rows after them name the text.
 
 use crate::wit::spelled::read_text;
-use cm_rows::{Line, RowFault};
+use cm_rows::{Line, word};
 use std::alloc::Global;
 
 /// A text and its name.
@@ -27,36 +27,25 @@ impl Texts {
         }
     }
 
-    /// Begins a text, of the name that words are, and writes `begun`.
-    pub fn answer_begin(
-        &mut self,
-        alloc: Global,
-        words: &[&str],
-        line: &mut Line,
-    ) -> Result<(), RowFault> {
-        let [name] = words else {
-            return Err(RowFault::NotARow);
-        };
-        let name = String::from_str(alloc, name)?;
-        let text = String::new(alloc);
-        self.named.push(NamedText { name, text })?;
+    /// Begins a text of a name, and writes `begun`.
+    pub fn begin(&mut self, alloc: Global, name: &str, line: &mut Line) {
+        if let Some(name) = line.kept(String::from_str(alloc, name)) {
+            let text = String::new(alloc);
+            line.push(&mut self.named, NamedText { name, text });
+        }
         line.put("begun");
-        Ok(())
     }
 
     /// Adds a line to the last text, and writes how many bytes that then has.
-    pub fn add_line(
-        &mut self,
-        alloc: Global,
-        words: &[&str],
-        line: &mut Line,
-    ) -> Result<(), RowFault> {
-        let last = self.named.last_mut().ok_or(RowFault::NotARow)?;
-        last.text.push_str(&read_text(alloc, words)?)?;
-        last.text.push_str("\n")?;
+    pub fn add_line(&mut self, alloc: Global, words: &[&str], line: &mut Line) {
+        let text = read_text(alloc, words, line);
+        let Some(last) = self.named.last_mut() else {
+            return line.refuse();
+        };
+        line.kept(last.text.push_str(text.as_str()));
+        line.kept(last.text.push_str("\n"));
         line.show(last.text.len());
         line.put(" bytes");
-        Ok(())
     }
 
     /// The text of a name.
@@ -71,21 +60,23 @@ impl Texts {
 
     /// The text that words of a row stand for: that of the name that they are, or else the one that
     /// they spell.
-    fn text(&self, alloc: Global, words: &[&str]) -> Result<String, RowFault> {
-        if let [name] = words {
-            if let Some(text) = self.named(name) {
-                return Ok(String::from_str(alloc, text)?);
+    fn text(&self, alloc: Global, words: &[&str], line: &mut Line) -> String {
+        if words.len() == 1 {
+            if let Some(text) = self.named(word(words, 0)) {
+                let text = line.kept(String::from_str(alloc, text));
+                return text.unwrap_or(String::new(alloc));
             }
         }
-        read_text(alloc, words)
+        read_text(alloc, words, line)
     }
 
     /// The texts that words of a row stand for, which `|` parts.
-    pub fn texts(&self, alloc: Global, words: &[&str]) -> Result<Vec<String>, RowFault> {
+    pub fn texts(&self, alloc: Global, words: &[&str], line: &mut Line) -> Vec<String> {
         let mut texts = Vec::new(alloc);
         for part in words.split(|word| *word == "|") {
-            texts.push(self.text(alloc, part)?)?;
+            let text = self.text(alloc, part, line);
+            line.push(&mut texts, text);
         }
-        Ok(texts)
+        texts
     }
 }

@@ -6,18 +6,13 @@ use cm_wit_worlds::{PlacedInterface, PlacedWorld, WorldExterns, WorldFault, full
 use std::alloc::Global;
 
 /// Writes the number and the name of a world's fault.
-pub fn write_world_fault(
-    alloc: Global,
-    fault: WorldFault,
-    line: &mut Line,
-) -> Result<(), RowFault> {
+pub fn write_world_fault(line: &mut Line, fault: WorldFault) {
     if fault == WorldFault::Memory {
-        return Err(RowFault::Memory);
+        line.fail(RowFault::Memory);
     }
     line.show(fault.number());
     line.put(" ");
-    line.put(&format!(in alloc; "{fault:?}")?);
-    Ok(())
+    line.debug(&fault);
 }
 
 /// Writes the imports and the exports of a world, in order: interfaces by their full names,
@@ -28,11 +23,11 @@ pub fn write_externs<'a>(
     world: &PlacedWorld<'a>,
     externs: &WorldExterns,
     line: &mut Line,
-) -> Result<(), RowFault> {
+) {
     line.put("imports");
-    write_names(line, alloc, interfaces, world, &externs.imports)?;
+    write_names(line, alloc, interfaces, world, &externs.imports);
     line.put("; exports");
-    write_names(line, alloc, interfaces, world, &externs.exports)
+    write_names(line, alloc, interfaces, world, &externs.exports);
 }
 
 fn write_names<'a>(
@@ -41,15 +36,14 @@ fn write_names<'a>(
     interfaces: &[PlacedInterface<'a>],
     world: &PlacedWorld<'a>,
     numbers: &[usize],
-) -> Result<(), RowFault> {
+) {
     if numbers.is_empty() {
         line.put(" none");
     }
     for number in numbers {
         line.put(" ");
-        write_name(line, alloc, interfaces, world, *number)?;
+        write_name(line, alloc, interfaces, world, *number);
     }
-    Ok(())
 }
 
 /// Writes the full name of the interface of a number, or the name of the function of an item, whose
@@ -60,11 +54,13 @@ fn write_name<'a>(
     interfaces: &[PlacedInterface<'a>],
     world: &PlacedWorld<'a>,
     number: usize,
-) -> Result<(), RowFault> {
+) {
     if let Some(placed) = interfaces.get(number) {
-        let name = full_name(alloc, placed.file, &placed.interface.name)?;
-        line.put(name.as_str());
-        return Ok(());
+        let name = full_name(alloc, placed.file, &placed.interface.name);
+        if let Some(name) = line.kept(name) {
+            line.put(name.as_str());
+        }
+        return;
     }
     let item = number.saturating_sub(interfaces.len());
     line.put(match world.world.items.get(item) {
@@ -72,5 +68,4 @@ fn write_name<'a>(
         | Some(WorldItem::Export(WorldExtern::Func(name, _))) => name.as_str(),
         _ => "?",
     });
-    Ok(())
 }

@@ -2,7 +2,7 @@
 
 use crate::pieces::answers::{show_outcome, write_answers, write_outcome};
 use cm_pieces::decode_from;
-use cm_rows::{Line, RowFault, read_bytes, read_number};
+use cm_rows::{Line, word};
 use std::alloc::Global;
 use std::io;
 use std::io::{ErrorKind, Read};
@@ -63,59 +63,51 @@ impl<'a> Read for Tap<'a> {
 
 /// The answer to `slice FILE`, or of a reader that gives at most SIZE bytes a read, to `parts SIZE
 /// FILE`, `interrupted SIZE FILE` or `failing SIZE FILE`.
-pub fn answer(alloc: Global, words: &[&str], line: &mut Line) -> Result<(), RowFault> {
-    match words {
-        ["slice", file] => write_slice(alloc, &read_bytes(alloc, file)?, line),
-        [form, size, file] => {
-            let size = read_number(size)?;
-            write_read_file(alloc, form, size, &read_bytes(alloc, file)?, line)
+pub fn answer(alloc: Global, words: &[&str], line: &mut Line) {
+    let first = word(words, 1);
+    match word(words, 0) {
+        "slice" => write_slice(alloc, &line.bytes(alloc, first), line),
+        form => {
+            let size = line.number(first);
+            write_read_file(alloc, form, size, &line.bytes(alloc, word(words, 2)), line);
         }
-        _ => Err(RowFault::NotARow),
     }
 }
 
-fn write_slice(alloc: Global, mut file: &[u8], line: &mut Line) -> Result<(), RowFault> {
-    write_outcome(alloc, decode_from(alloc, &mut file), line)
+fn write_slice(alloc: Global, mut file: &[u8], line: &mut Line) {
+    write_outcome(alloc, decode_from(alloc, &mut file), line);
 }
 
-fn write_read_file(
-    alloc: Global,
-    form: &str,
-    size: usize,
-    file: &[u8],
-    line: &mut Line,
-) -> Result<(), RowFault> {
+fn write_read_file(alloc: Global, form: &str, size: usize, file: &[u8], line: &mut Line) {
     match form {
         "parts" => write_read(alloc, &mut Tap::new(file, size, Ending::End, false), line),
         "interrupted" => write_read(alloc, &mut Tap::new(file, size, Ending::End, true), line),
         "failing" => write_failing(alloc, file, size, line),
-        _ => Err(RowFault::NotARow),
+        _ => line.refuse(),
     }
 }
 
 /// Writes what is read, how many bytes are left in the reader, and the most that a read asked for.
-fn write_read(alloc: Global, tap: &mut Tap<'_>, line: &mut Line) -> Result<(), RowFault> {
-    write_outcome(alloc, decode_from(alloc, tap), line)?;
+fn write_read(alloc: Global, tap: &mut Tap<'_>, line: &mut Line) {
+    write_outcome(alloc, decode_from(alloc, tap), line);
     line.put("; ");
     line.show(tap.rest.len());
     line.put(" left, at most ");
     line.show(tap.asked);
     line.put(" a read");
-    Ok(())
 }
 
 /// Writes what is read of a reader that fails behind so many bytes, for each number up to the
 /// length.
-fn write_failing(alloc: Global, file: &[u8], size: usize, line: &mut Line) -> Result<(), RowFault> {
+fn write_failing(alloc: Global, file: &[u8], size: usize, line: &mut Line) {
     let mut answers = Vec::new(alloc);
     for length in 0..=file.len() {
-        answers.push(show_failure(alloc, &file[..length], size)?)?;
+        line.push(&mut answers, show_failure(alloc, &file[..length], size));
     }
     write_answers(line, &answers);
-    Ok(())
 }
 
-fn show_failure(alloc: Global, beginning: &[u8], size: usize) -> Result<String, RowFault> {
+fn show_failure(alloc: Global, beginning: &[u8], size: usize) -> Line {
     let mut tap = Tap::new(beginning, size, Ending::Failure, false);
     show_outcome(alloc, decode_from(alloc, &mut tap))
 }

@@ -5,18 +5,17 @@ use crate::pieces::answers::write_answers;
 use crate::pipes::{Full, Pipe};
 use cm_binary::Component;
 use cm_pieces::{WriteReason, write_to};
-use cm_rows::{Line, RowFault, read_bytes, read_number, write_units};
-use std::alloc::{AllocError, Global};
+use cm_rows::{Line, RowFault, word, write_units};
+use std::alloc::Global;
 
 /// The answer of a writer that takes at most SIZE bytes a write to `parts SIZE FILE`, `interrupted
 /// SIZE FILE`, `failing SIZE FILE` or `stalling SIZE FILE`, of a file that has a component.
-pub fn answer(alloc: Global, words: &[&str], line: &mut Line) -> Result<(), RowFault> {
-    let [form, size, file] = words else {
-        return Err(RowFault::NotARow);
-    };
-    let (size, file) = (read_number(size)?, read_bytes(alloc, file)?);
-    let component = read_component(alloc, &file)?;
-    write_form(alloc, form, size, &file, &component, line)
+pub fn answer(alloc: Global, words: &[&str], line: &mut Line) {
+    let size = line.number(word(words, 1));
+    let file = line.bytes(alloc, word(words, 2));
+    if let Some(component) = read_component(alloc, &file, line) {
+        write_form(alloc, word(words, 0), size, &file, &component, line);
+    }
 }
 
 /// A writer with memory for all of a file, so that it asks for none as it is written to.
@@ -26,8 +25,10 @@ fn pipe_for(
     size: usize,
     room: usize,
     full: Full,
-) -> Result<Pipe, AllocError> {
-    Ok(Pipe::new(Vec::with_capacity(alloc, file.len())?, size, room, full))
+    line: &mut Line,
+) -> Pipe {
+    let taken = line.kept(Vec::with_capacity(alloc, file.len()));
+    Pipe::new(taken.unwrap_or(Vec::new(alloc)), size, room, full)
 }
 
 fn write_form(
@@ -37,49 +38,34 @@ fn write_form(
     file: &[u8],
     component: &Component,
     line: &mut Line,
-) -> Result<(), RowFault> {
+) {
     match form {
-        "parts" => {
-            let pipe = pipe_for(alloc, file, size, usize::MAX, Full::Fails)?;
-            write_written(alloc, component, pipe, line)
-        }
-        "interrupted" => {
-            let mut pipe = pipe_for(alloc, file, size, usize::MAX, Full::Fails)?;
-            pipe.interrupts = true;
-            write_written(alloc, component, pipe, line)
+        "parts" | "interrupted" => {
+            let mut pipe = pipe_for(alloc, file, size, usize::MAX, Full::Fails, line);
+            pipe.interrupts = form == "interrupted";
+            write_written(alloc, component, pipe, line);
         }
         "failing" => write_full(alloc, component, file, size, Full::Fails, line),
         "stalling" => write_full(alloc, component, file, size, Full::TakesNone, line),
-        _ => Err(RowFault::NotARow),
+        _ => line.refuse(),
     }
 }
 
 /// Writes whether all was written, and what the writer holds.
-fn write_written(
-    alloc: Global,
-    component: &Component,
-    pipe: Pipe,
-    line: &mut Line,
-) -> Result<(), RowFault> {
+fn write_written(alloc: Global, component: &Component, pipe: Pipe, line: &mut Line) {
     let mut pipe = pipe;
-    write_end(alloc, component, &mut pipe, line)?;
+    write_end(alloc, component, &mut pipe, line);
     line.put(", ");
     write_units(line, &pipe.taken, 1);
-    Ok(())
 }
 
-fn write_end(
-    alloc: Global,
-    component: &Component,
-    pipe: &mut Pipe,
-    line: &mut Line,
-) -> Result<(), RowFault> {
+fn write_end(alloc: Global, component: &Component, pipe: &mut Pipe, line: &mut Line) {
     match write_to(alloc, component, pipe) {
         Ok(()) => line.put("written"),
         Err(fault) => {
             let number = fault.reason.number();
             if number == WriteReason::Memory.number() {
-                return Err(RowFault::Memory);
+                line.fail(RowFault::Memory);
             }
             line.put("fault ");
             line.show(number);
@@ -87,7 +73,6 @@ fn write_end(
             line.show(fault.written);
         }
     }
-    Ok(())
 }
 
 /// Writes what is written to a writer that is full behind so many bytes, for each number up to the
@@ -99,29 +84,26 @@ fn write_full(
     size: usize,
     full: Full,
     line: &mut Line,
-) -> Result<(), RowFault> {
+) {
     let mut answers = Vec::new(alloc);
     for room in 0..=file.len() {
-        let pipe = pipe_for(alloc, file, size, room, full)?;
-        answers.push(show_beginning(alloc, component, pipe, &file[..room])?)?;
+        let pipe = pipe_for(alloc, file, size, room, full, line);
+        line.push(
+            &mut answers,
+            show_beginning(alloc, component, pipe, &file[..room]),
+        );
     }
     write_answers(line, &answers);
-    Ok(())
 }
 
-fn show_beginning(
-    alloc: Global,
-    component: &Component,
-    pipe: Pipe,
-    beginning: &[u8],
-) -> Result<String, RowFault> {
+fn show_beginning(alloc: Global, component: &Component, pipe: Pipe, beginning: &[u8]) -> Line {
     let mut pipe = pipe;
     let mut line = Line::new(alloc);
-    write_end(alloc, component, &mut pipe, &mut line)?;
+    write_end(alloc, component, &mut pipe, &mut line);
     line.put(if pipe.taken.as_slice() == beginning {
         ", its beginning"
     } else {
         ", other bytes"
     });
-    line.done()
+    line
 }

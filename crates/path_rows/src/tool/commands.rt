@@ -4,48 +4,56 @@ use crate::pipes::{Full, Pipe};
 use crate::tool::escapes::write_text;
 use crate::tool::memory_files::MemoryFiles;
 use cm_machine::Set;
-use cm_rows::{Line, RowFault, read_number};
+use cm_rows::{Line, RowFault, word, words_from};
 use cm_tool::{Fault, LIMIT, Outcome, load_files, load_script, play, report, tool};
 use cm_words::{Request, USAGE, WordsFault};
-use std::alloc::{AllocError, Global};
+use std::alloc::Global;
 
 /// The answer to `run WORD..`, `cut WORD..`, `words WORD..`, `usage`, `limit`, `limited LIMIT
 /// SCRIPT FILE..`.
-pub fn answer(
-    alloc: Global,
-    files: &mut MemoryFiles,
-    words: &[&str],
-    line: &mut Line,
-) -> Result<(), RowFault> {
-    match words {
-        ["run", words @ ..] => {
-            let words = read_words(alloc, words)?;
-            write_ran(line, &run(alloc, &words, files, usize::MAX));
+pub fn answer(alloc: Global, files: &mut MemoryFiles, words: &[&str], line: &mut Line) {
+    match word(words, 0) {
+        "usage" => line.put(USAGE),
+        "limit" => line.show(LIMIT),
+        "limited" => {
+            let limit = line.number(word(words, 1));
+            play_limited(
+                alloc,
+                files,
+                limit,
+                word(words, 2),
+                words_from(words, 3),
+                line,
+            );
         }
-        ["cut", words @ ..] => {
-            let words = read_words(alloc, words)?;
-            write_cuts(alloc, &words, files, line);
-        }
-        ["words", words @ ..] => {
-            let words = read_words(alloc, words)?;
-            return write_request(line, Request::read(alloc, &words));
-        }
-        ["usage"] => line.put(USAGE),
-        ["limit"] => line.show(LIMIT),
-        ["limited", limit, script, names @ ..] => {
-            play_limited(alloc, files, read_number(limit)?, script, names, line);
-        }
-        _ => return Err(RowFault::NotARow),
+        call => answer_on_words(alloc, files, call, words_from(words, 1), line),
     }
-    Ok(())
 }
 
-fn read_words(alloc: Global, words: &[&str]) -> Result<Vec<String>, AllocError> {
-    let mut given = Vec::with_capacity(alloc, words.len())?;
-    for word in words {
-        given.push(String::from_str(alloc, word)?)?;
+fn answer_on_words(
+    alloc: Global,
+    files: &mut MemoryFiles,
+    call: &str,
+    words: &[&str],
+    line: &mut Line,
+) {
+    let words = read_words(alloc, words, line);
+    match call {
+        "run" => write_ran(line, &run(alloc, &words, files, usize::MAX)),
+        "cut" => write_cuts(alloc, &words, files, line),
+        "words" => write_request(line, Request::read(alloc, &words)),
+        _ => line.refuse(),
     }
-    Ok(given)
+}
+
+fn read_words(alloc: Global, words: &[&str], line: &mut Line) -> Vec<String> {
+    let mut given = Vec::new(alloc);
+    for word in words {
+        if let Some(word) = line.kept(String::from_str(alloc, word)) {
+            line.push(&mut given, word);
+        }
+    }
+    given
 }
 
 /// What a command printed, and its exit status.
@@ -109,7 +117,7 @@ fn write_cuts(alloc: Global, words: &[String], files: &mut MemoryFiles, line: &m
     }
 }
 
-fn write_request(line: &mut Line, request: Result<Request, WordsFault>) -> Result<(), RowFault> {
+fn write_request(line: &mut Line, request: Result<Request, WordsFault>) {
     match request {
         Ok(Request::Check { file }) => {
             line.put("check of ");
@@ -138,9 +146,8 @@ fn write_request(line: &mut Line, request: Result<Request, WordsFault>) -> Resul
             write_names(line, &files);
         }
         Err(WordsFault::NoCommand) => line.put("no command"),
-        Err(WordsFault::Memory) => return Err(RowFault::Memory),
+        Err(WordsFault::Memory) => line.fail(RowFault::Memory),
     }
-    Ok(())
 }
 
 fn write_names(line: &mut Line, names: &[&str]) {

@@ -1,41 +1,41 @@
 //! Text of several lines in a row of one.
 
-use cm_rows::{Line, RowFault};
+use cm_rows::Line;
 use std::alloc::Global;
 
 /// The text that words spell, one space between them, where `\n`, `\r` and `\t` are the line feed,
 /// the carriage return and the tab.
-pub fn read_text(alloc: Global, words: &[&str]) -> Result<String, RowFault> {
-    let mut text = String::new(alloc);
+pub fn read_text(alloc: Global, words: &[&str], line: &mut Line) -> String {
+    let mut text = Line::new(alloc);
     for (i, word) in words.iter().enumerate() {
         if i > 0 {
-            text.push_str(" ")?;
+            text.put(" ");
         }
-        read_word(&mut text, word)?;
+        read_word(&mut text, word);
     }
-    Ok(text)
+    line.kept(text.done()).unwrap_or(String::new(alloc))
 }
 
-fn read_word(text: &mut String, word: &str) -> Result<(), RowFault> {
-    let mut parts = word.split('\\');
-    text.push_str(parts.next().unwrap_or(""))?;
-    for part in parts {
-        read_escape(text, part)?;
+fn read_word(text: &mut Line, word: &str) {
+    for (i, part) in word.split('\\').enumerate() {
+        if i == 0 {
+            text.put(part);
+        } else {
+            read_escape(text, part);
+        }
     }
-    Ok(())
 }
 
 /// Adds what stands behind a backslash.
-fn read_escape(text: &mut String, part: &str) -> Result<(), RowFault> {
-    let (escape, rest) = part.split_at_checked(1).ok_or(RowFault::NotARow)?;
-    let character = match escape {
+fn read_escape(text: &mut Line, part: &str) {
+    let (escape, rest) = part.split_at_checked(1).unwrap_or(("", ""));
+    text.put(match escape {
         "n" => "\n",
         "r" => "\r",
         "t" => "\t",
-        _ => return Err(RowFault::NotARow),
-    };
-    text.push_str(character)?;
-    Ok(text.push_str(rest)?)
+        _ => return text.refuse(),
+    });
+    text.put(rest);
 }
 
 /// Writes bytes as the text that `read_text` reads, or `-` for none; a byte that is no ASCII as

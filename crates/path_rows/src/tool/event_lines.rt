@@ -3,82 +3,86 @@
 use crate::sets::read_values;
 use crate::tool::escapes::write_text;
 use cm_machine::{Event, Flat, Trap};
-use cm_rows::{Line, RowFault, read_number};
+use cm_rows::{Line, RowFault, word, words_from};
 use cm_tool_lines::write_event;
 use std::alloc::Global;
 
 /// Writes the line of an event, whose words are its parts.
-pub fn answer(alloc: Global, words: &[&str], line: &mut Line) -> Result<(), RowFault> {
-    let event = read_event(alloc, words)?;
+pub fn answer(alloc: Global, words: &[&str], line: &mut Line) {
+    let event = read_event(alloc, words, line);
     let mut printed = Vec::new(alloc);
     if write_event(&mut printed, &event).is_err() {
-        return Err(RowFault::Memory);
+        line.fail(RowFault::Memory);
     }
     write_text(line, &printed);
-    Ok(())
 }
 
-fn read_event(alloc: Global, words: &[&str]) -> Result<Event, RowFault> {
-    match words {
-        ["Done"] => Ok(Event::Done),
-        ["Ended"] => Ok(Event::Ended),
-        ["Grown", "none"] => Ok(Event::Grown(None)),
-        ["Grown", pages] => Ok(Event::Grown(Some(read_number(pages)?))),
-        ["Trapped", trap] => Ok(Event::Trapped(read_trap(trap)?)),
-        ["Dtor", instance, func, rep] => Ok(Event::Dtor {
-            instance: read_number(instance)?,
-            func: read_number(func)?,
-            rep: read_number(rep)?,
-        }),
-        ["Resume", instance, values @ ..] => Ok(Event::Resume {
-            instance: read_number(instance)?,
-            values: read_flat(alloc, values)?,
-        }),
-        [name, instance, func, args @ ..] => read_call(
-            name,
-            read_number(instance)?,
-            read_number(func)?,
-            read_flat(alloc, args)?,
-        ),
-        _ => Err(RowFault::NotARow),
+fn read_event(alloc: Global, words: &[&str], line: &mut Line) -> Event {
+    let (first, second) = (word(words, 1), word(words, 2));
+    match word(words, 0) {
+        "Done" => Event::Done,
+        "Ended" => Event::Ended,
+        "Grown" if first == "none" => Event::Grown(None),
+        "Grown" => Event::Grown(Some(line.number(first))),
+        "Trapped" => Event::Trapped(read_trap(first, line)),
+        "Dtor" => Event::Dtor {
+            instance: line.number(first),
+            func: line.number(second),
+            rep: line.number(word(words, 3)),
+        },
+        "Resume" => Event::Resume {
+            instance: line.number(first),
+            values: read_flat(alloc, words_from(words, 2), line),
+        },
+        name => {
+            let args = read_flat(alloc, words_from(words, 3), line);
+            read_call(name, line.number(first), line.number(second), args, line)
+        }
     }
 }
 
-fn read_call(name: &str, instance: u32, func: u32, args: Flat) -> Result<Event, RowFault> {
+fn read_call(name: &str, instance: u32, func: u32, args: Flat, line: &mut Line) -> Event {
     match name {
-        "Enter" => Ok(Event::Enter {
+        "Enter" => Event::Enter {
             instance,
             func,
             args,
-        }),
-        "Realloc" => Ok(Event::Realloc {
+        },
+        "Realloc" => Event::Realloc {
             instance,
             func,
             args,
-        }),
-        "PostReturn" => Ok(Event::PostReturn {
+        },
+        "PostReturn" => Event::PostReturn {
             instance,
             func,
             args,
-        }),
-        _ => Err(RowFault::NotARow),
+        },
+        _ => {
+            line.refuse();
+            Event::Ended
+        }
     }
 }
 
-fn read_trap(name: &str) -> Result<Trap, RowFault> {
+fn read_trap(name: &str, line: &mut Line) -> Trap {
     match name {
-        "CoreShape" => Ok(Trap::CoreShape),
-        "Unreachable" => Ok(Trap::Unreachable),
-        "CalleeClosed" => Ok(Trap::CalleeClosed),
-        _ => Err(RowFault::NotARow),
+        "CoreShape" => Trap::CoreShape,
+        "Unreachable" => Trap::Unreachable,
+        "CalleeClosed" => Trap::CalleeClosed,
+        _ => {
+            line.refuse();
+            Trap::Unreachable
+        }
     }
 }
 
 /// At most 16 values.
-fn read_flat(alloc: Global, words: &[&str]) -> Result<Flat, RowFault> {
-    let values = read_values(alloc, words)?;
+fn read_flat(alloc: Global, words: &[&str], line: &mut Line) -> Flat {
+    let values = read_values(alloc, words, line);
     if values.len() > 16 {
-        return Err(RowFault::NotARow);
+        line.refuse();
+        return Flat::new();
     }
-    Ok(Flat::from_slice(&values))
+    Flat::from_slice(&values)
 }

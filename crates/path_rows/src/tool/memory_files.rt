@@ -1,7 +1,7 @@
 //! Files in memory.
 
 use crate::tool::escapes::read_text;
-use cm_rows::{Line, RowFault, read_bytes};
+use cm_rows::{Line, word, words_from};
 use cm_tool_files::{FileFault, Files};
 use std::alloc::Global;
 use std::io::ErrorKind;
@@ -28,16 +28,10 @@ impl MemoryFiles {
 
     /// The answer to `NAME bytes BYTES`, `NAME text TEXT`, `NAME missing`, `NAME folder`, `NAME
     /// forbidden`, `NAME broken` or `NAME memory`.
-    pub fn answer(
-        &mut self,
-        alloc: Global,
-        words: &[&str],
-        line: &mut Line,
-    ) -> Result<(), RowFault> {
-        let [name, kind, rest @ ..] = words else {
-            return Err(RowFault::NotARow);
+    pub fn answer(&mut self, alloc: Global, words: &[&str], line: &mut Line) {
+        let Some(outcome) = read_outcome(alloc, words, line) else {
+            return line.refuse();
         };
-        let outcome = read_outcome(alloc, kind, rest)?;
         match &outcome {
             Ok(bytes) => {
                 line.show(bytes.len());
@@ -45,30 +39,30 @@ impl MemoryFiles {
             }
             Err(fault) => line.put(fault.name()),
         }
-        let name = String::from_str(alloc, name)?;
-        self.entries.push(Entry { name, outcome })?;
-        Ok(())
+        if let Some(name) = line.kept(String::from_str(alloc, word(words, 0))) {
+            line.push(&mut self.entries, Entry { name, outcome });
+        }
     }
 }
 
 fn read_outcome(
     alloc: Global,
-    kind: &str,
     words: &[&str],
-) -> Result<Result<Vec<u8>, FileFault>, RowFault> {
-    Ok(match (kind, words) {
-        ("bytes", [bytes]) => Ok(read_bytes(alloc, bytes)?),
-        ("text", words) => {
-            let text = read_text(alloc, words)?;
-            Ok(text.as_bytes().to_vec(alloc)?)
+    line: &mut Line,
+) -> Option<Result<Vec<u8>, FileFault>> {
+    Some(Err(match word(words, 1) {
+        "bytes" => return Some(Ok(line.bytes(alloc, word(words, 2)))),
+        "text" => {
+            let text = read_text(alloc, words_from(words, 2), line);
+            return Some(Ok(line.kept(text.as_bytes().to_vec(alloc))?));
         }
-        ("missing", []) => Err(FileFault::Read(ErrorKind::NotFound)),
-        ("folder", []) => Err(FileFault::Read(ErrorKind::IsADirectory)),
-        ("forbidden", []) => Err(FileFault::Read(ErrorKind::PermissionDenied)),
-        ("broken", []) => Err(FileFault::Read(ErrorKind::Other)),
-        ("memory", []) => Err(FileFault::Memory),
-        _ => return Err(RowFault::NotARow),
-    })
+        "missing" => FileFault::Read(ErrorKind::NotFound),
+        "folder" => FileFault::Read(ErrorKind::IsADirectory),
+        "forbidden" => FileFault::Read(ErrorKind::PermissionDenied),
+        "broken" => FileFault::Read(ErrorKind::Other),
+        "memory" => FileFault::Memory,
+        _ => return None,
+    }))
 }
 
 impl Files for MemoryFiles {

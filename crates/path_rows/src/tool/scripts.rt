@@ -1,77 +1,65 @@
 //! Rows on scripts, their numbers and their bytes.
 
 use crate::events::write_values;
+use crate::sets::write_found;
 use crate::tool::escapes::read_text;
 use cm_machine::Move;
-use cm_rows::{Line, RowFault, read_number, write_bytes};
+use cm_rows::{Line, RowFault, word, words_from, write_bytes};
 use cm_script::{
     LineFault, Script, ScriptFault, ScriptRefusal, form_of, read_u32, read_u64, script_bytes,
 };
 use std::alloc::Global;
 use std::collections::VecDeque;
-use std::fmt::Display;
 
 /// The answer to `parse COMPONENTS TEXT`, `bytes WORD`, `u32 WORD`, `u64 WORD` or `form LINE`.
-pub fn answer(alloc: Global, words: &[&str], line: &mut Line) -> Result<(), RowFault> {
-    match words {
-        ["parse", components, text @ ..] => {
-            let components = read_components(components)?;
-            let text = read_text(alloc, text)?;
-            match Script::parse(alloc, text.as_str(), components) {
-                Ok(script) => write_script(line, &script),
-                Err(refusal) => return write_refusal(line, refusal),
-            }
+pub fn answer(alloc: Global, words: &[&str], line: &mut Line) {
+    let first = word(words, 1);
+    match word(words, 0) {
+        "parse" => write_parsed(alloc, first, words_from(words, 2), line),
+        "bytes" => {
+            let text = read_text(alloc, words_from(words, 1), line);
+            write_spelled(alloc, text.as_str(), line);
         }
-        ["bytes", text @ ..] => {
-            let text = read_text(alloc, text)?;
-            return write_spelled(alloc, text.as_str(), line);
-        }
-        ["u32", word] => write_number(line, read_u32(word)),
-        ["u64", word] => write_number(line, read_u64(word)),
-        ["form", text @ ..] => {
-            let text = read_text(alloc, text)?;
+        "u32" => write_found(line, read_u32(first)),
+        "u64" => write_found(line, read_u64(first)),
+        "form" => {
+            let text = read_text(alloc, words_from(words, 1), line);
             line.put(form_of(text.as_str()));
         }
-        _ => return Err(RowFault::NotARow),
+        _ => line.refuse(),
     }
-    Ok(())
 }
 
-/// At most 100 components.
-fn read_components(word: &str) -> Result<usize, RowFault> {
-    let components = read_number(word)?;
+/// Writes the script of at most 100 components that words spell, or its fault.
+fn write_parsed(alloc: Global, components: &str, words: &[&str], line: &mut Line) {
+    let text = read_text(alloc, words, line);
+    let components = line.number(components);
     if components > 100 {
-        return Err(RowFault::NotARow);
+        return line.refuse();
     }
-    Ok(components)
-}
-
-fn write_number<T: Display + Drop>(line: &mut Line, number: Option<T>) {
-    match number {
-        Some(number) => line.show(number),
-        None => line.put("none"),
+    match Script::parse(alloc, text.as_str(), components) {
+        Ok(script) => write_script(line, &script),
+        Err(refusal) => write_refusal(line, refusal),
     }
 }
 
 /// Writes the bytes that a word of a script spells.
-fn write_spelled(alloc: Global, word: &str, line: &mut Line) -> Result<(), RowFault> {
+fn write_spelled(alloc: Global, word: &str, line: &mut Line) {
     match script_bytes(alloc, word) {
         Ok(bytes) => write_bytes(line, &bytes),
         Err(ScriptFault::BadHex) => line.put("bad hex"),
-        Err(ScriptFault::Memory) => return Err(RowFault::Memory),
+        Err(ScriptFault::Memory) => line.fail(RowFault::Memory),
     }
-    Ok(())
 }
 
-fn write_refusal(line: &mut Line, refusal: ScriptRefusal) -> Result<(), RowFault> {
+fn write_refusal(line: &mut Line, refusal: ScriptRefusal) {
     match refusal.fault {
-        LineFault::Memory => Err(RowFault::Memory),
+        LineFault::Memory => line.fail(RowFault::Memory),
         fault => {
             line.put("line ");
             line.show(refusal.line);
             line.put(": ");
             line.show(fault);
-            Ok(())
         }
     }
 }

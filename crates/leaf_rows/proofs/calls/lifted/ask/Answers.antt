@@ -11,7 +11,7 @@ use Rattle.leaf_rows.proofs.calls.lifted.ask.Goals as goal
 -- what was lifted from bytes goes on as it is, so it can be lowered
 pub asked_for-requires : goal.asked_for-requires
 asked_for-requires c =
-    let done = c.in_ok-lifted.ensures in
+    let done = c.in-Ok.ensures in
     let is = done.is_of in
     let on = c.passed_on-passing.ensures in
     let p = c.passed_on-passing.result in

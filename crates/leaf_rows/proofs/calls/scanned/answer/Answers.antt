@@ -9,7 +9,7 @@ pub copy_values-requires : goal.copy_values-requires
 copy_values-requires c =
     let types = c.requires.0 in
     let is = c.requires.1 in
-    let w : View = record { memory = c.deref-2.result.now; table = c.in_ok-table.table.handles; instance = 0; encoding = c.args.call.now.sides.source; call = 0 } in
+    let w : View = record { memory = c.deref-2.result.now; table = c.read_table-table.result.handles; instance = 0; encoding = c.args.call.now.sides.source; call = 0 } in
     let scans = c.in-Ok.ensures.scans w types (record { memory_is = refl; table_is = refl; encoding_is = refl }) is.layout in (
       types,
       is,
