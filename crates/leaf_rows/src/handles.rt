@@ -162,10 +162,14 @@ fn may_lend(table: &Table, index: u32) -> bool
 /// CALL`.
 fn read_handle(words: &[&str], line: &mut Line) -> Handle {
     let kind = match word(words, 0) {
+        "owned" => HandleKind::Owned,
         "borrowed" => HandleKind::Borrowed {
             call: line.number(word(words, 4)),
         },
-        _ => HandleKind::Owned,
+        _ => {
+            line.refuse();
+            HandleKind::Owned
+        }
     };
     Handle {
         resource: read_resource(word(words, 1), line),

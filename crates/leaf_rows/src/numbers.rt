@@ -44,24 +44,20 @@ fn answer_reading(call: &str, bytes: &[u8], at: &str, line: &mut Line) {
     }
 }
 
-/// Adds a number to bytes.
+/// Adds a number to bytes; of numbers with a sign, only one of 33 bits is a row.
 fn add_number(out: &mut Vec<u8>, call: &str, number: &str, line: &mut Line) {
     let written = match call {
         "write_u32" => write_u32(out, line.number(number)),
         "write_count" => write_count(out, line.number(number)),
-        _ => write_s33(out, read_signed(number, line)),
+        _ => {
+            let number = line.number::<i64>(number);
+            if number < -(1 << 32) || number >= 1 << 32 {
+                return line.refuse();
+            }
+            write_s33(out, number)
+        }
     };
     line.kept(written);
-}
-
-/// Only a number of 33 bits with a sign is a row.
-fn read_signed(word: &str, line: &mut Line) -> i64 {
-    let number = line.number(word);
-    if number < -(1 << 32) || number >= 1 << 32 {
-        line.refuse();
-        return 0;
-    }
-    number
 }
 
 /// Writes `NUMBER, COUNT left`, or the fault.

@@ -82,7 +82,8 @@ fn writes_into<S: Source, D: Encoding>(
     let Ok(size) = transcoded_size::<S, D>(bytes) else {
         return false;
     };
-    let Some(mut room) = line.kept(Vec::from_elem(alloc, 0xAAu8, size)) else {
+    let Ok(mut room) = Vec::from_elem(alloc, 0xAAu8, size) else {
+        line.fail(RowFault::Memory);
         return false;
     };
     transcode_into::<S, D>(bytes, room.as_mut_slice());
@@ -215,10 +216,11 @@ fn write_wide(alloc: Global, bytes: &[u8], line: &mut Line) {
     if bytes.len() >= 1_000 {
         return line.refuse();
     }
-    if let Some(mut units) = line.kept(Vec::from_elem(alloc, 0xAAu8, 2 * bytes.len())) {
-        widen(bytes, units.as_mut_slice());
-        write_bytes(line, &units);
-    }
+    let Ok(mut units) = Vec::from_elem(alloc, 0xAAu8, 2 * bytes.len()) else {
+        return line.fail(RowFault::Memory);
+    };
+    widen(bytes, units.as_mut_slice());
+    write_bytes(line, &units);
 }
 
 /// Only units below 0x80 are a row.
@@ -227,8 +229,9 @@ fn write_narrow(alloc: Global, units: &[u8], line: &mut Line) {
     if units.len() >= 1_000 || units.len() != count.saturating_mul(2) {
         return line.refuse();
     }
-    if let Some(mut bytes) = line.kept(Vec::from_elem(alloc, 0xAAu8, count)) {
-        narrow(units, bytes.as_mut_slice());
-        write_bytes(line, &bytes);
-    }
+    let Ok(mut bytes) = Vec::from_elem(alloc, 0xAAu8, count) else {
+        return line.fail(RowFault::Memory);
+    };
+    narrow(units, bytes.as_mut_slice());
+    write_bytes(line, &bytes);
 }
