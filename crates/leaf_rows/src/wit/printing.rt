@@ -26,9 +26,16 @@ fn printed_twice(alloc: Global, text: &str) -> Result<(String, String), WitFault
 /// Writes the text that prints a package, where reading and printing it gives the same bytes again.
 pub fn answer(alloc: Global, text: &str, line: &mut Line) {
     match printed_twice(alloc, text) {
-        Ok((once, again)) if again == once => write_text(line, once.as_str()),
-        Ok(_) => line.put("printed again in another way"),
+        Ok((once, again)) => write_printed(line, once.as_str(), again.as_str()),
         Err(fault) => write_fault(line, fault),
+    }
+}
+
+fn write_printed(line: &mut Line, once: &str, again: &str) {
+    if again == once {
+        write_text(line, once);
+    } else {
+        line.put("printed again in another way");
     }
 }
 
