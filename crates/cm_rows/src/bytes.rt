@@ -53,8 +53,8 @@ pub fn write_bytes(line: &mut Line, bytes: &[u8]) {
 /// Units that are equal and follow one another are written once from this many on.
 const LEAST_REPEAT: usize = 4;
 
-/// Writes bytes as [`Line::bytes`] reads them. A run of at least four equal units of `unit` bytes is
-/// a part of its own, written once with its number.
+/// Writes bytes as [`Line::bytes`] reads them. A run of at least four equal units of `unit` bytes
+/// is a part of its own, written once with its number.
 pub fn write_units(line: &mut Line, bytes: &[u8], unit: usize) {
     if bytes.is_empty() {
         line.put("-");

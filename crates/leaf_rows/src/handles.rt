@@ -37,9 +37,9 @@ impl Handles {
         }
     }
 
-    /// The answer to `new`, `close`, `memory_fault` (the number of the one that no row meets), `fill
-    /// COUNT HANDLE`, `add HANDLE`, `reserve COUNT`, `restore INDEX INDEX RESOURCE`, or a call by
-    /// its name, whose words are those of its arguments.
+    /// The answer to `new`, `close`, `memory_fault` (the number of the one that no row meets),
+    /// `fill COUNT HANDLE`, `add HANDLE`, `reserve COUNT`, `restore INDEX INDEX RESOURCE`, or a
+    /// call by its name, whose words are those of its arguments.
     pub fn answer(&mut self, alloc: Global, words: &[&str], line: &mut Line) {
         let first = word(words, 1);
         match word(words, 0) {
