@@ -59,10 +59,13 @@ impl Files {
         components
     }
 
+    /// Names a file, if nothing was wrong with its row.
     fn name(&mut self, alloc: Global, name: &str, bytes: Vec<u8>, line: &mut Line) {
         write_length(line, bytes.len());
         if let Some(name) = line.kept(String::from_str(alloc, name)) {
-            line.push(&mut self.named, NamedFile { name, bytes });
+            if line.is_fine() {
+                line.push(&mut self.named, NamedFile { name, bytes });
+            }
         }
     }
 

@@ -42,6 +42,9 @@ impl Texts {
         let Some(last) = self.named.last_mut() else {
             return line.refuse();
         };
+        if !line.is_fine() {
+            return;
+        }
         line.kept(last.text.push_str(text.as_str()));
         line.kept(last.text.push_str("\n"));
         line.show(last.text.len());
