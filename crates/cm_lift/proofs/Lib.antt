@@ -4,3 +4,4 @@ pub mod WalkLemmas
 pub mod FlatLaws
 pub mod HandLaws
 pub mod PassedLaws
+pub mod SpilledLemmas

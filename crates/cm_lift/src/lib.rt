@@ -11,5 +11,4 @@ mod walk;
 pub use cm_leaf_reading::slots::{behind, number_32, wrapped_at};
 pub use handing::{Handed, hand_over};
 pub use lifted::{Lifted, first_fault, lift};
-pub use passed::Passed;
-pub use walk::make_flat;
+pub use passed::{Passed, make_passed};

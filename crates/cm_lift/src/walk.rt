@@ -38,7 +38,7 @@ use cm_values::Value;
 /// stops at the first fault, as [`cm_lifting::make_value`] does, and with `Memory` where there is
 /// no memory for what is made or kept.
 #[cycle(walking)]
-pub fn make_flat<M: Maker>(
+pub(crate) fn make_flat<M: Maker>(
     reader: &Reader<'_, M>,
     layout: &Layout,
     slots: &[CoreValue],
