@@ -1,13 +1,12 @@
 -- What is made of values that are passed.
-use Rattle.std.proofs.Common.{◌≡◌, ◌+◌, ◌<◌, ◌≤◌, inl, inr, List, [], ◌++◌, length, Ok, Err, Result, refl, sym, ap, subst, ◌∙◌, arith, append-nil, append_assoc}
+use Rattle.std.proofs.Common.{◌≡◌, inl, inr, List, length, Ok, Err, Result, ap, subst, arith}
 use Rattle.std.specs.Bool.{⊤}
-use Rattle.std.proofs.lemmas.List.{length-append}
-use Rattle.cm_types.specs.Values.{Val, Vals, no_vals, val, parts}
+use Rattle.cm_types.specs.Values.{Val, Vals, parts}
 use Rattle.cm_lifting.specs.cm_leaf_reading.declared.stop.Stop.{Stop}
 use Rattle.cm_lifting.specs.cm_leaf_reading.declared.stop.Stop.TheVariants as stop
-use Rattle.cm_lifting.specs.Outcomes.{Outcome, State, mapped, ◌>>=◌}
+use Rattle.cm_lifting.specs.Outcomes.{Outcome, State, mapped}
 use Rattle.cm_lifting.specs.declared.record.PartRecord.{PartRecord}
-use Rattle.cm_lifting.specs.Making.{HasMore, IsRead, KeepsHandles, Makes, StopsMaking, with_last}
+use Rattle.cm_lifting.specs.Making.{HasMore, IsRead, Makes, StopsMaking}
 use Rattle.cm_lifting.specs.MakingLaws.{read_of}
 use Rattle.cm_lifting.specs.Records.{held}
 

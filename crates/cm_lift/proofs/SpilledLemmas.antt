@@ -1,7 +1,7 @@
 -- What is made of a value at a pointer, of which its own bytes are the first part.
-use Rattle.std.proofs.Common.{◌≡◌, ℕ, ◌+◌, ◌%◌, ◌<◌, ◌≤◌, inl, inr, List, [], ◌∷◌, ◌++◌, length}
-use Rattle.std.proofs.Common.{Ok, Err, Result, ap, sym, subst, arith, refl, le-ltb}
-use Rattle.std.specs.Prelude.{not, nat_lt, ◌==◌, if◌then◌else◌, true}
+use Rattle.std.proofs.Common.{◌≡◌, ℕ, ◌+◌, ◌%◌, ◌≤◌, inl, inr, List, [], ◌∷◌, ◌++◌, length}
+use Rattle.std.proofs.Common.{Ok, Err, Result, ap, subst, arith, refl, le-ltb}
+use Rattle.std.specs.Prelude.{◌==◌, true}
 use Rattle.cm_types.specs.Values.{Val}
 use Rattle.cm_layout.specs.Shapes.{LayoutTy}
 use Rattle.cm_abi_model.specs.declared.encoding.StringEncoding.{StringEncoding}

@@ -1,5 +1,5 @@
 -- Bytes that show a value are read as it, where its content is within what is left.
-use Rattle.std.proofs.Common.{◌≡◌, ℕ, zero, suc, ◌+◌, ◌-◌, ◌*◌, ◌%◌, ◌≤◌, ◌==◌, true, List, length, Some, Ok, Err, refl, sym, ap, subst, ◌∙◌, arith}
+use Rattle.std.proofs.Common.{◌≡◌, ℕ, zero, suc, ◌+◌, ◌-◌, ◌*◌, ◌%◌, ◌≤◌, ◌==◌, true, List, length, Some, Ok, refl, sym, ap, subst, ◌∙◌, arith}
 use Rattle.std.specs.Prelude.{if◌then◌else◌}
 use Rattle.std.proofs.Math.Nat.{mul-mod_left}
 use Rattle.std.proofs.lemmas.Bool.{and_from, le-ltb}
@@ -13,21 +13,20 @@ use Rattle.cm_layout.specs.declared.heads.Head.{Head}
 use Rattle.cm_layout.specs.declared.layouts.HandleType.TheVariants as handle_type
 use Rattle.cm_layout.specs.Alignment.{align_to}
 use Rattle.cm_layout.specs.Sizes.{align_of, size_of, case_count, discriminant_size, payload_offset}
-use Rattle.cm_layout.specs.Shapes.{LayoutTy, layout_at, shape_of_type, parts_at, parts_from, payloads_of, payloads_from, head_of}
+use Rattle.cm_layout.specs.Shapes.{shape_of_type, parts_at, parts_from, payloads_of, payloads_from, head_of}
 use Rattle.cm_abi_model.specs.Numbers.{number_at}
 use Rattle.cm_abi_model.specs.Shows.{Shows, ShowEach, ShowFields, ShowsElements, ShowsHandle, ShowsOwned, ShowsPayload}
 use Rattle.cm_abi_model.specs.Taken.{Met, content_of, met_at, met_each, met_in_fields, met_in_payload}
 use Rattle.cm_abi_model.specs.Texts.{IsAligned, ShowsText, bytes_from, charset_of, text_align, text_size}
 use Rattle.cm_abi_model.specs.Views.{View}
 use Rattle.cm_abi_model.specs.declared.encoding.StringEncoding.{StringEncoding}
-use Rattle.cm_abi_model.specs.declared.fault.AbiFault.{AbiFault}
 use Rattle.cm_abi_model.specs.declared.fault.AbiFault.TheVariants as fault
 use Rattle.cm_leaf_reading.specs.Decoded.{decoded}
 use Rattle.cm_leaf_reading.specs.Decoding.{text_decoded}
 use Rattle.cm_leaf_reading.specs.Outcomes.{Outcome, State, mapped, ◌>>=◌}
-use Rattle.cm_lifting.specs.Reading.{Source, after_meeting, after_text, read_at, read_case, read_each, read_elements, read_handle, read_parts, read_text, region, seen_by, text_value, value_of_handle}
+use Rattle.cm_lifting.specs.Reading.{after_meeting, after_text, read_at, read_case, read_each, read_elements, read_handle, read_parts, read_text, region, seen_by, text_value, value_of_handle}
 use Rattle.cm_lifting.proofs.MeetLaws.{content_both}
-use Rattle.cm_lifting.proofs.ReadLaws.{Told, as_handle, read_shows}
+use Rattle.cm_lifting.proofs.ReadLaws.{as_handle, read_shows}
 use Rattle.cm_lifting.proofs.ShownLaws.{IsTold, read_err, read_ok}
 
 -- reading comes to a value
@@ -225,18 +224,3 @@ mutual
   payload_found w (plain l cs) p i (suc n) s v h room = payload_found w cs p i n s v h room
   payload_found w (carrying l t cs) p i zero s v h room = mapped_found (λ u. bearing i u) (read_at (seen_by w) (shape_of_type t) p s) v (shown_found w t p s v h room)
   payload_found w (carrying l t cs) p i (suc n) s v h room = payload_found w cs p i n s v h room
-
--- ---- of the code's
-
-pub loaded : (w : View) (t : Ty) (g : Source) (l : LayoutTy) (p : ℕ) (s after : State) (v : Val) → seen_by w ≡ g → l ≡ layout_at t → read_at g l.shape p s ≡ Ok (v, after) → Told w t p s v after
-loaded w t g l p s after v seen is e = read_shows w t p s after v (ap (λ x. read_at x (shape_of_type t) p s) seen ∙ (ap (λ (x : LayoutTy). read_at g x.shape p s) (sym is) ∙ e))
-
-not_both : {A : Type 0} (r : Outcome A) (x : A × State) (y : AbiFault × State) → r ≡ Ok x → r ≡ Err y → ⊥
-not_both r x y a b = cc
-
-pub not_failed : (w : View) (t : Ty) (g : Source) (l : LayoutTy) (p : ℕ) (s after : State) (v : Val) (f : AbiFault) → seen_by w ≡ g → l ≡ layout_at t
-    → Shows w t p v → content_of (met_at w t p v) ≤ s.left → read_at g l.shape p s ≡ Err (f, after) → ⊥
-not_failed w t g l p s after v f seen is shown room e =
-    let found = shown_found w t p s v shown room in
-    not_both (read_at (seen_by w) (shape_of_type t) p s) (v, found.after) (f, after) found.is
-    (ap (λ x. read_at x (shape_of_type t) p s) seen ∙ (ap (λ (x : LayoutTy). read_at g x.shape p s) (sym is) ∙ e))

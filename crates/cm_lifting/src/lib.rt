@@ -2,7 +2,6 @@
 #![tactic(auto)]
 
 pub mod laws;
-mod load;
 mod loading;
 mod maker;
 mod record;
@@ -12,7 +11,6 @@ pub use cm_leaf_reading::{
     Giver, MetHandle, Progress, Stop, check_region, core_size, leaf_value, load_handle,
     measure_text, number_32, number_at,
 };
-pub use load::load_value;
 pub use loading::{is_plain_leaf, make_handle, make_list, make_value};
 pub use maker::{Maker, Reader};
 pub use record::{PartKind, PartRecord};

@@ -1,11 +1,11 @@
 -- The records of what bytes show tell its parts.
-use Rattle.std.proofs.Common.{◌≡◌, ℕ, zero, suc, ◌+◌, ◌*◌, ◌/◌, ◌<◌, ◌≤◌, Bool, true, false, List, [], ◌∷◌, ◌++◌, length, drop, Some, None, Ok, Err, refl, sym, ap, subst, ◌∙◌, arith, length-drop}
+use Rattle.std.proofs.Common.{◌≡◌, ℕ, zero, suc, ◌+◌, ◌*◌, ◌/◌, ◌<◌, ◌≤◌, Bool, true, false, List, [], ◌∷◌, ◌++◌, length, drop, Some, None, refl, sym, ap, subst, ◌∙◌, arith, length-drop}
 use Rattle.std.specs.Prelude.{not, nat_lt, if◌then◌else◌}
 use Rattle.std.proofs.lemmas.List.{length-take-le}
 use Rattle.cm_types.specs.Types.{Ty, Fields, Cases, bool, signed, unsigned, char, string, list, fixed_list, fields, cases, flags, own, borrow, no_fields, field, no_cases, plain, carrying}
 use Rattle.cm_types.specs.Values.{Val, Vals, no_vals, val, truth, signed_number, number, scalar, text, elements, parts, bare, bearing, flag_set, handle, count_of}
 use Rattle.cm_layout.specs.Alignment.{align_to}
-use Rattle.cm_layout.specs.Shapes.{LayoutTy, head_of, layout_at, parts_at, parts_from, payloads_from, payloads_of, shape_of_type}
+use Rattle.cm_layout.specs.Shapes.{head_of, parts_at, parts_from, payloads_from, payloads_of, shape_of_type}
 use Rattle.cm_layout.specs.Sizes.{align_of, payload_offset, size_of}
 use Rattle.cm_abi_model.specs.declared.encoding.StringEncoding.{StringEncoding}
 use Rattle.cm_abi_model.specs.declared.encoding.StringEncoding.TheVariants as encoding
@@ -16,8 +16,7 @@ use Rattle.cm_abi_model.specs.Shows.{ShowEach, ShowFields, Shows, ShowsElements,
 use Rattle.cm_abi_model.specs.Texts.{Charset, Has, ShowsText, UTF16_TAG, bytes_from, charset_of, latin1, spell, text_align, text_size, unit_size, units_of, utf16, utf8}
 use Rattle.cm_abi_model.specs.Views.{View}
 use Rattle.cm_text.specs.Text.{IsText}
-use Rattle.cm_lifting.specs.Outcomes.{Outcome, State, mapped}
-use Rattle.cm_lifting.specs.Reading.{Source, read_at, seen_by}
+use Rattle.cm_lifting.specs.Reading.{seen_by}
 use Rattle.cm_lifting.specs.declared.record.PartRecord.{PartRecord}
 use Rattle.cm_scan.specs.Places.{places_at, places_each, places_in_fields, places_in_payload}
 use Rattle.cm_scan.specs.Records.{element_record, is_tagged, records_at, records_each, records_of_case, records_of_fields, records_of_list, text_record}
@@ -147,28 +146,3 @@ list_tells some w target t at n vs h = (
   elements_tell w target t at n vs (some t) h.count,
   each_tells w target (Shows w t) (records_at (seen_by w) target (shape_of_type t)) (parts_in t) (places_at w t) (size_of t) at vs (λ p v shown. shown_tells some w target t p v shown) h.each,
 )
-
--- ---- of the code's
-
-kept_value : {A B : Type 0} (f : A → B) (r : Outcome A) (y : B) (s : State) → mapped f r ≡ Ok (y, s) → (x : A) × (r ≡ Ok (x, s)) × (f x ≡ y)
-kept_value f (Ok x) y s e =
-    let same : (f x.0, x.1) ≡ (y, s) = cc in
-    (x.0, ap (λ z. Ok (x.0, z)) (ap (λ (z : _ × State). z.1) same), ap (λ (z : _ × State). z.0) same)
-kept_value f (Err z) y s e = absurd (cc)
-
--- what the laws promise
-abbrev ShownLaw : Type 0
-ShownLaw = (w : View) (t : Ty) (p : ℕ) (s after : State) (v : Val) → read_at (seen_by w) (shape_of_type t) p s ≡ Ok (v, after) → Shows w t p v
-
-abbrev TellsLaw : Type 0
-TellsLaw = (w : View) (target : StringEncoding) (t : Ty) (p : ℕ) (v : Val) → Shows w t p v → TellAll w target (records_at (seen_by w) target (shape_of_type t) p v) (parts_in t v) (places_at w t p v)
-
-pub scanned_tells : ShownLaw → TellsLaw → (w : View) (target : StringEncoding) (g : Source) (l : LayoutTy) (t : Ty) (p : ℕ) (s after : State) (old now : List PartRecord) → seen_by w ≡ g → l ≡ layout_at t
-    → mapped (λ v. old ++ records_at g target l.shape p v) (read_at g l.shape p s) ≡ Ok (now, after)
-    → (v : Val) × (rs : List PartRecord) × Shows w t p v × (now ≡ old ++ rs) × TellAll w target rs (parts_in t v) (places_at w t p v)
-scanned_tells shows tells w target g l t p s after old now seen is e =
-    let kept : mapped (λ v. old ++ records_at (seen_by w) target (shape_of_type t) p v) (read_at (seen_by w) (shape_of_type t) p s) ≡ Ok (now, after) =
-    ap (λ (x : LayoutTy). mapped (λ v. old ++ records_at (seen_by w) target x.shape p v) (read_at (seen_by w) x.shape p s)) (sym is) ∙ (ap (λ x. mapped (λ v. old ++ records_at x target l.shape p v) (read_at x l.shape p s)) seen ∙ e) in
-    let one = kept_value (λ v. old ++ records_at (seen_by w) target (shape_of_type t) p v) (read_at (seen_by w) (shape_of_type t) p s) now after kept in
-    let shown = shows w t p s after one.0 one.1 in
-    (one.0, records_at (seen_by w) target (shape_of_type t) p one.0, shown, sym one.2, tells w target t p one.0 shown)

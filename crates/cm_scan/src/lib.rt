@@ -1,14 +1,11 @@
-//! Values of components looked at where they stand in a memory, with no tree made of them: the same
-//! checks as of a value that is read, and a record of each string and list (CanonicalABI.md,
-//! "Loading").
+//! Values of components looked at where they stand, with no tree made of them: the same checks as
+//! of a value that is read, and a record of each string and list (CanonicalABI.md, "Loading").
 #![tactic(auto)]
 
 pub mod laws;
 mod recorder;
-mod scan;
 mod scanner;
 
 pub use cm_lifting::{PartKind, PartRecord};
 pub use recorder::Recorder;
-pub use scan::scan_value;
 pub use scanner::{Scan, Scanner};

@@ -2,7 +2,6 @@ use Rattle.std.proofs.Common.{[], ◌∷◌, arith, ◌%◌, ◌≡◌, sym, ap,
 use Rattle.cm_layout.specs.Layouts.{layout_of}
 use Rattle.cm_layout.specs.Shapes.{LayoutTy}
 use Rattle.cm_layout.specs.declared.heads.Head.{Head}
-use Rattle.cm_layout.specs.declared.layouts.Layout.{the_lemmas}
 use Rattle.cm_lifting.specs.Outcomes.{state_of}
 use Rattle.cm_lifting.specs.Reading.{source_of}
 use Rattle.cm_lifting.specs.Records.{element_record}
