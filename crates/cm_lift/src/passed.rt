@@ -59,8 +59,8 @@ pub(crate) fn read_passed(
 /// (CanonicalABI.md, "Lifting and Lowering Values", `lift_flat_values`).
 ///
 /// At that pointer it stops with `Misaligned` where it is not aligned with the tuple, else with
-/// `PointerBounds` where the tuple passes the end of the memory; and as [`make_flat`] and
-/// [`cm_lifting::make_value`] do.
+/// `PointerBounds` where the tuple passes the end of the memory; else at the first fault of the
+/// values in reading order, or with `Memory` where there is none for what is made or kept.
 pub fn make_passed<M: Maker>(
     reader: &Reader<'_, M>,
     passed: &Passed<'_>,
