@@ -7,12 +7,12 @@ use Rattle.cm_abi_model.specs.declared.encoding.StringEncoding.{StringEncoding}
 use Rattle.cm_abi_model.specs.Requests.{call_parts}
 use Rattle.cm_abi_model.specs.Views.{View}
 use Rattle.cm_abi_model.specs.Ways.{way_of}
-use Rattle.cm_copy.specs.declared.found.Found.{Found}
-use Rattle.cm_requesting.specs.declared.part_requests.PartRequests.{PartRequests}
-use Rattle.cm_scan.specs.Telling.{TellAll}
-use Rattle.cm_scan_call.specs.CallPlaces.{call_places}
-use Rattle.cm_scan_call.specs.Scans.{ScansCall}
-use Rattle.cm_scan_call.specs.declared.scanned.Scanned.{Scanned}
+use Rattle.cm_abi_copy.specs.declared.found.Found.{Found}
+use Rattle.cm_abi_requests.specs.declared.part_requests.PartRequests.{PartRequests}
+use Rattle.cm_abi_lift.specs.Telling.{TellAll}
+use Rattle.cm_abi_copy.specs.CallPlaces.{call_places}
+use Rattle.cm_abi_copy.specs.Scans.{ScansCall}
+use Rattle.cm_abi_copy.specs.declared.scanned.Scanned.{Scanned}
 use Rattle.cm_abi.specs.Calls.{GoesOnAsFound}
 
 pub told : (giver : View) (target : StringEncoding) (types : Fields) (v : Val) (t : Handles) (scanned : Scanned) (f : Found) (s : PartRequests)

@@ -11,10 +11,10 @@ use Rattle.cm_abi_model.specs.Parts.{Part, text_part, element_part, handle_count
 use Rattle.cm_abi_model.specs.Receives.{HandleLeaf, leaves_each, leaves_in, leaves_in_fields, leaves_in_payload}
 use Rattle.cm_abi_model.specs.Requests.{chain, charset, first_tag, growths, part_align, part_requests, part_sizes, shrunk, stored_charset, tags_behind, text_sizes}
 use Rattle.cm_abi_model.specs.Texts.{Charset, utf8, utf16, latin1}
-use Rattle.cm_lowering.specs.Answering.{begins_part, places_of, regions_of}
-use Rattle.cm_lowering.specs.declared.regions.Region.{Region}
-use Rattle.cm_giving.specs.Giving.{added_for, numbers_given, with_added}
-use Rattle.cm_giving.specs.declared.receiver.Receiver.{Receiver}
+use Rattle.cm_abi_requests.specs.Answering.{begins_part, places_of, regions_of}
+use Rattle.cm_abi_requests.specs.declared.regions.Region.{Region}
+use Rattle.cm_abi_lower.specs.Giving.{added_for, numbers_given, with_added}
+use Rattle.cm_abi_lower.specs.declared.receiver.Receiver.{Receiver}
 
 -- ---- handles
 

@@ -9,7 +9,7 @@ use Rattle.cm_abi_model.specs.declared.encoding.StringEncoding.{StringEncoding}
 use Rattle.cm_abi_model.specs.Parts.{Part, handle_count, part_count, part_count_each, parts_each, parts_in, parts_in_fields, parts_in_payload}
 use Rattle.cm_abi_model.specs.Requests.{stored_charset, text_bytes}
 use Rattle.cm_abi_model.specs.Stores.{Given, place_of}
-use Rattle.cm_stored.specs.Fitting.{FitEach, FitFields, Fits, FitsCase}
+use Rattle.cm_abi_store.specs.Fitting.{FitEach, FitFields, Fits, FitsCase}
 use Rattle.cm_abi.specs.Inside.{AreInside}
 
 -- ---- how many parts

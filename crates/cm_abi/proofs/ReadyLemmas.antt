@@ -7,7 +7,7 @@ use Rattle.cm_types.specs.declared.core_value.CoreValue.{CoreValue}
 use Rattle.cm_types.specs.Spellable.{are_spellable}
 use Rattle.cm_types.specs.Types.{Fields, Ty}
 use Rattle.cm_types.specs.Values.{HasType, Val}
-use Rattle.cm_values.specs.ValueTrees.{values_of}
+use Rattle.cm_types.specs.ValueTrees.{values_of}
 use Rattle.cm_handles.specs.Handles.{Handles, IsSoundHandles}
 use Rattle.cm_abi_model.specs.declared.encoding.StringEncoding.{StringEncoding}
 use Rattle.cm_abi_model.specs.declared.request.Request.{Request}
@@ -21,12 +21,12 @@ use Rattle.cm_abi_model.specs.Requests.{IsStored, call_parts, part_requests, sto
 use Rattle.cm_abi_model.specs.Stores.{Framed, Given, Holds, poke}
 use Rattle.cm_abi_model.specs.Views.{View, Way}
 use Rattle.cm_abi_model.specs.Ways.{way_of}
-use Rattle.cm_lowering.specs.Answering.{AreCounted, HaveScalars, first_fault, places_of, regions_of}
-use Rattle.cm_lowering.specs.Asking.{content_of_parts}
-use Rattle.cm_lowering.specs.Overlap.{AreDisjoint}
-use Rattle.cm_giving.specs.Giving.{Gives, numbers_given}
-use Rattle.cm_giving.specs.declared.receiver.Receiver.{Receiver}
-use Rattle.cm_stored.specs.Calls.{IsProvided}
+use Rattle.cm_abi_requests.specs.Answering.{AreCounted, HaveScalars, first_fault, places_of, regions_of}
+use Rattle.cm_abi_requests.specs.Asking.{content_of_parts}
+use Rattle.cm_abi_requests.specs.Overlap.{AreDisjoint}
+use Rattle.cm_abi_lower.specs.Giving.{Gives, numbers_given}
+use Rattle.cm_abi_lower.specs.declared.receiver.Receiver.{Receiver}
+use Rattle.cm_abi_store.specs.Calls.{IsProvided}
 use Rattle.cm_abi.specs.Kinds.{FitKinds}
 use Rattle.cm_abi.specs.Lowers.{CanBeLowered, IsReceiving, asked_for, given_for, handles_passed, parts_passed, tuple_in}
 use Rattle.cm_abi.specs.declared.passing.Passing.{Passing}

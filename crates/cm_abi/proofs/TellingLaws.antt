@@ -10,10 +10,10 @@ use Rattle.cm_abi_model.specs.Parts.{Part, text_part, element_part}
 use Rattle.cm_abi_model.specs.Requests.{charset, text_bytes, text_units}
 use Rattle.cm_abi_model.specs.Texts.{Charset, Has, bytes_from, latin1, spell, utf8, utf16}
 use Rattle.cm_abi_model.specs.Views.{View}
-use Rattle.cm_scan.specs.Telling.{TellAll, Tells, TellsSource, TellsText}
-use Rattle.cm_scan.specs.cm_lifting.declared.record.PartKind.{PartKind}
-use Rattle.cm_scan.specs.cm_lifting.declared.record.PartKind.TheVariants as kind
-use Rattle.cm_scan.specs.cm_lifting.declared.record.PartRecord.{PartRecord}
+use Rattle.cm_abi_lift.specs.Telling.{TellAll, Tells, TellsSource, TellsText}
+use Rattle.cm_abi_lift.specs.cm_abi_load.declared.record.PartKind.{PartKind}
+use Rattle.cm_abi_lift.specs.cm_abi_load.declared.record.PartKind.TheVariants as kind
+use Rattle.cm_abi_lift.specs.cm_abi_load.declared.record.PartRecord.{PartRecord}
 use Rattle.cm_abi.specs.Reads.{AreAlike, AreAllAlike, ReadsBytes}
 
 -- ---- what is told is read

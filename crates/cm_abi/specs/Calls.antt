@@ -10,10 +10,10 @@ use Rattle.cm_abi_model.specs.Requests.{IsStored}
 use Rattle.cm_abi_model.specs.Views.{View}
 use Rattle.cm_abi_model.specs.Ways.{way_of}
 use Rattle.cm_abi_model.specs.declared.encoding.StringEncoding.{StringEncoding}
-use Rattle.cm_copy.specs.declared.found.Found.{Found}
+use Rattle.cm_abi_copy.specs.declared.found.Found.{Found}
 use Rattle.cm_abi.specs.declared.passing.Passing.{Passing}
-use Rattle.cm_requesting.specs.declared.part_requests.PartRequests.{PartRequests}
-use Rattle.cm_scan_call.specs.declared.scanned.Scanned.{Scanned}
+use Rattle.cm_abi_requests.specs.declared.part_requests.PartRequests.{PartRequests}
+use Rattle.cm_abi_copy.specs.declared.scanned.Scanned.{Scanned}
 
 -- a memory of bytes
 abbrev pub AreBytes : List ℕ → Type 0

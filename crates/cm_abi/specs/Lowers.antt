@@ -6,7 +6,7 @@ use Rattle.cm_types.specs.Values.{HasType, Val, parts}
 use Rattle.cm_handles.specs.Handles.{Handles, indices_left}
 use Rattle.cm_layout.specs.Layouts.{layout_of}
 use Rattle.cm_layout.specs.Shapes.{layout_of_fields_at}
-use Rattle.cm_values.specs.ValueTrees.{values_of}
+use Rattle.cm_types.specs.ValueTrees.{values_of}
 use Rattle.cm_abi_model.specs.declared.encoding.StringEncoding.TheVariants as encoding
 use Rattle.cm_abi_model.specs.declared.fault.AbiFault.{AbiFault}
 use Rattle.cm_abi_model.specs.declared.fault.AbiFault.TheVariants as fault
@@ -18,12 +18,12 @@ use Rattle.cm_abi_model.specs.Stores.{Given}
 use Rattle.cm_abi_model.specs.Taken.{MAX_CONTENT}
 use Rattle.cm_abi_model.specs.Views.{View}
 use Rattle.cm_abi_model.specs.Ways.{way_of}
-use Rattle.cm_lowering.specs.Answering.{HaveScalars, IsFaultOfAnswers, first_fault}
-use Rattle.cm_lowering.specs.Answering.{places_of, regions_of}
-use Rattle.cm_lowering.specs.Asking.{content_of_parts}
-use Rattle.cm_lowering.specs.Overlap.{AreDisjoint}
-use Rattle.cm_giving.specs.Giving.{IsViewOf, added_count, numbers_given}
-use Rattle.cm_giving.specs.declared.receiver.Receiver.{Receiver}
+use Rattle.cm_abi_requests.specs.Answering.{HaveScalars, IsFaultOfAnswers, first_fault}
+use Rattle.cm_abi_requests.specs.Answering.{places_of, regions_of}
+use Rattle.cm_abi_requests.specs.Asking.{content_of_parts}
+use Rattle.cm_abi_requests.specs.Overlap.{AreDisjoint}
+use Rattle.cm_abi_lower.specs.Giving.{IsViewOf, added_count, numbers_given}
+use Rattle.cm_abi_lower.specs.declared.receiver.Receiver.{Receiver}
 use Rattle.cm_abi.specs.declared.passing.Passing.{Passing}
 
 -- the tuple of the values of a call, its parts, and its handles, in reading order

@@ -1,9 +1,9 @@
 //! The numbers of the cases in values.
 
 ghost use Rattle.cm_abi_model.specs.Parts.{AllCasesFit, CasesFit};
-ghost use Rattle.cm_values.specs.ValueTrees.{boxed_value, payload_value, value_of, values_of};
+ghost use Rattle.cm_types.specs.ValueTrees.{boxed_value, payload_value, value_of, values_of};
 
-use cm_values::Value;
+use cm_types::Value;
 
 /// The numbers of the cases in a value are numbers of 32 bits. It takes no memory and changes
 /// nothing.

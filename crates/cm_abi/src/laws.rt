@@ -9,26 +9,26 @@ ghost use Rattle.cm_abi_model.specs.Receives.{leaves_in};
 ghost use Rattle.cm_abi_model.specs.Requests.{requests, tuple_of};
 ghost use Rattle.cm_abi_model.specs.Views.{View, Way};
 ghost use Rattle.cm_abi_model.specs.Ways.{way_of};
-ghost use Rattle.cm_lift.specs.HandingOver.{Hands};
-ghost use Rattle.cm_lift.specs.Lifts.{Lifts};
+ghost use Rattle.cm_abi_lift.specs.HandingOver.{Hands};
+ghost use Rattle.cm_abi_lift.specs.Lifts.{Lifts};
 ghost use Rattle.cm_abi.specs.Lowers.{CanBeLowered, tuple_in};
 ghost use Rattle.cm_abi.specs.declared.passing.Passing.{Passing};
 ghost use Rattle.cm_handles.specs.Handles.{Handles};
 ghost use Rattle.cm_abi_model.specs.declared.encoding.StringEncoding.{StringEncoding};
-ghost use Rattle.cm_scan_call.specs.MetLeaves.{stands_for};
-ghost use Rattle.cm_requesting.specs.Asking.{all_requests};
-ghost use Rattle.cm_requesting.specs.RecordRequests.{tags_of};
-ghost use Rattle.cm_requesting.specs.declared.part_requests.PartRequests.{PartRequests};
-ghost use Rattle.cm_scan_call.specs.Scans.{ScansCall};
-ghost use Rattle.cm_scan_call.specs.declared.scanned.Scanned.{Scanned};
-ghost use Rattle.cm_copy.specs.Copies.{GoesOn};
-ghost use Rattle.cm_copy.specs.declared.found.Found.{Found};
+ghost use Rattle.cm_abi_copy.specs.MetLeaves.{stands_for};
+ghost use Rattle.cm_abi_requests.specs.RequestingAsking.{all_requests};
+ghost use Rattle.cm_abi_requests.specs.RecordRequests.{tags_of};
+ghost use Rattle.cm_abi_requests.specs.declared.part_requests.PartRequests.{PartRequests};
+ghost use Rattle.cm_abi_copy.specs.Scans.{ScansCall};
+ghost use Rattle.cm_abi_copy.specs.declared.scanned.Scanned.{Scanned};
+ghost use Rattle.cm_abi_copy.specs.Copies.{GoesOn};
+ghost use Rattle.cm_abi_copy.specs.declared.found.Found.{Found};
 ghost use Rattle.cm_abi.specs.Calls.{AreBytes, GoOn, GoesOnAsFound, owned_in};
 
+use cm_abi_copy::met_laws::handles_that_are_met_are_the_values;
 use cm_abi_model::laws::denotations_are_unique;
-use cm_lowering::laws::{content_of_what_is_denoted, what_is_denoted_can_be_lowered};
-use cm_requesting::laws::records_ask_for_parts;
-use cm_scan_call::met_laws::handles_that_are_met_are_the_values;
+use cm_abi_requests::laws::{content_of_what_is_denoted, what_is_denoted_can_be_lowered};
+use cm_abi_requests::requesting_laws::records_ask_for_parts;
 
 /// One call, end to end: parameters or results, of all types, from UTF-8, UTF-16 or Latin-1 and
 /// UTF-16 to UTF-8 or UTF-16.

@@ -40,13 +40,10 @@ mod lowering;
 mod passing;
 mod slots;
 
+pub use cm_abi_copy::{Encodings as ScanEncodings, Found, Scanned, copy, scan};
+pub use cm_abi_lift::{Lifted, PartKind, PartRecord, Passed, lift};
+pub use cm_abi_lower::{HandleLeaf, Receiver};
 pub use cm_abi_model::{AbiFault, Request, StringEncoding, Way};
-pub use cm_copy::{Found, copy};
-pub use cm_giving::{HandleLeaf, Receiver};
-pub use cm_lift::{Lifted, Passed, lift};
-pub use cm_lowering::{Encodings, check_answer, check_answers, requests};
-pub use cm_requesting::PartRequests;
-pub use cm_scan::{PartKind, PartRecord};
-pub use cm_scan_call::{Encodings as ScanEncodings, Scanned, scan};
+pub use cm_abi_requests::{Encodings, PartRequests, check_answer, check_answers, requests};
 pub use lowering::lower;
 pub use passing::Passing;

@@ -8,21 +8,20 @@ ghost use Rattle.cm_abi_model.specs.Receives.{NoneImplemented, Receives, call_by
 ghost use Rattle.cm_abi_model.specs.Stores.{Framed};
 ghost use Rattle.cm_abi_model.specs.Views.{View};
 ghost use Rattle.cm_abi_model.specs.Ways.{way_of};
-ghost use Rattle.cm_giving.specs.Giving.{Gives, numbers_given};
+ghost use Rattle.cm_abi_lower.specs.Giving.{Gives, numbers_given};
 ghost use Rattle.cm_abi.specs.Lowers.{CanBeLowered, IsFaultOfLowering, IsReceiving, WillDo};
 ghost use Rattle.cm_abi.specs.Lowers.{asked_for, given_for, handles_passed, tuple_in};
 
 use crate::cases::cases_fit;
 use crate::passing::Passing;
 use crate::slots::put_core_values;
+use cm_abi_lower::{Receiver, give_values, store_call};
 use cm_abi_model::AbiFault;
 use cm_abi_model::laws::{what_is_received_is_denoted, what_is_stored_stays};
-use cm_giving::{Receiver, give_values};
+use cm_abi_requests::laws::{answers_place_parts, what_is_typed_can_be_lowered};
+use cm_abi_requests::{check_answers, requests};
+use cm_abi_store::Target;
 use cm_handles::Table;
-use cm_lowering::laws::{answers_place_parts, what_is_typed_can_be_lowered};
-use cm_lowering::{check_answers, requests};
-use cm_passing::store_call;
-use cm_stored::Target;
 use cm_types::CoreValue;
 use std::alloc::Global;
 

@@ -1,10 +1,9 @@
 //! What a call is to pass.
 
 use cm_abi_model::Way;
+use cm_abi_requests::Encodings;
 use cm_layout::Layout;
-use cm_lowering::Encodings;
-use cm_types::CoreKind;
-use cm_values::Value;
+use cm_types::{CoreKind, Value};
 
 /// What a call is to pass: values, and how.
 #[derive(Clone, Copy)]

@@ -5,18 +5,18 @@ use Rattle.cm_types.specs.Types.{Fields}
 use Rattle.cm_types.specs.Values.{Val, parts}
 use Rattle.cm_layout.specs.Layouts.{layout_of}
 use Rattle.cm_layout.specs.Shapes.{layout_of_fields_at}
-use Rattle.cm_values.specs.ValueTrees.{values_of}
+use Rattle.cm_types.specs.ValueTrees.{values_of}
 use Rattle.cm_handles.specs.Handles.{Handles}
 use Rattle.cm_abi_model.specs.Receives.{call_kinds}
 use Rattle.cm_abi_model.specs.Requests.{IsStored}
 use Rattle.cm_abi_model.specs.Views.{View, params}
-use Rattle.cm_giving.specs.declared.leaf.HandleLeaf.{HandleLeaf}
-use Rattle.cm_lift.specs.HandingOver.{Hands}
-use Rattle.cm_lift.specs.Lifts.{Lifts}
-use Rattle.cm_lift.specs.declared.lifted.Lifted.{Lifted}
-use Rattle.cm_requesting.specs.declared.part_requests.PartRequests.{PartRequests}
-use Rattle.cm_scan_call.specs.Scans.{ScansCall}
-use Rattle.cm_scan_call.specs.declared.scanned.Scanned.{Scanned}
+use Rattle.cm_abi_lower.specs.declared.leaf.HandleLeaf.{HandleLeaf}
+use Rattle.cm_abi_lift.specs.HandingOver.{Hands}
+use Rattle.cm_abi_lift.specs.Lifts.{Lifts}
+use Rattle.cm_abi_lift.specs.declared.lifted.Lifted.{Lifted}
+use Rattle.cm_abi_requests.specs.declared.part_requests.PartRequests.{PartRequests}
+use Rattle.cm_abi_copy.specs.Scans.{ScansCall}
+use Rattle.cm_abi_copy.specs.declared.scanned.Scanned.{Scanned}
 use Rattle.cm_abi.specs.Calls.{AreBytes}
 use Rattle.cm_bench.specs.declared.call.Call.{Call}
 

@@ -11,8 +11,7 @@ ghost use Rattle.cm_bench.specs.Calls.{IsOf};
 
 use crate::types::func_of_words;
 use cm_abi::{Passed, Receiver, StringEncoding, Way};
-use cm_flat::{FlatFunc, Side, flatten_func};
-use cm_layout::{Layout, layout_of_params};
+use cm_layout::{FlatFunc, Layout, Side, flatten_func, layout_of_params};
 use cm_types::{CoreKind, CoreValue, Func};
 use std::alloc::{AllocError, Global};
 

@@ -2,8 +2,8 @@
 
 ghost use Rattle.std.specs.Prelude.{◌≡◌, [], IfSome, List, None, map, true, ℕ};
 ghost use Rattle.cm_bench.specs.Calls.{IsOf, IsScanned};
-ghost use Rattle.cm_lowering.specs.Answering.{first_fault};
-ghost use Rattle.cm_requesting.specs.Asking.{IsAllAnswered, IsAnswered, all_requests};
+ghost use Rattle.cm_abi_requests.specs.Answering.{first_fault};
+ghost use Rattle.cm_abi_requests.specs.RequestingAsking.{IsAllAnswered, IsAnswered, all_requests};
 ghost use Rattle.cm_types.specs.CoreValues.{kind_of};
 ghost use Rattle.cm_types.specs.Types.{Fields};
 
@@ -11,8 +11,8 @@ use crate::call::{Call, MOST_MEMORY, RECEIVER, first_two, passed_by, zeros};
 use crate::room::Room;
 use cm_abi::laws::one_copied_call;
 use cm_abi::{Found, HandleLeaf, PartRequests, ScanEncodings, Scanned, copy, scan};
+use cm_abi_requests::requesting_laws::answers_stay_fine;
 use cm_handles::Table;
-use cm_requesting::laws::answers_stay_fine;
 use cm_types::{CoreValue, MAX_FLAT_PARAMS};
 use std::alloc::Global;
 

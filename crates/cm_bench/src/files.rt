@@ -1,9 +1,8 @@
 //! Files of components, for `bench/src/files.rs`. Each call answers a number that depends on what
 //! was read.
 
-use cm_binary::{Component, decode, encode};
-use cm_pieces::{decode_from, decode_pieces};
-use cm_validate::validate;
+use cm_binary::{Component, decode, decode_from, decode_pieces, encode};
+use cm_validate_spaces::validate;
 use std::alloc::Global;
 
 /// Decodes a file: how many sections it has, 0 where it is refused.

@@ -2,8 +2,7 @@
 //! number that depends on all that the calls on it answered.
 
 use crate::types::type_of_words;
-use cm_flat::flatten;
-use cm_layout::layout;
+use cm_layout::{flatten, layout};
 use std::alloc::Global;
 
 /// Makes the layout of a type so many times: the sum of its size and its core values, or the

@@ -3,7 +3,7 @@
 use crate::files::component;
 use cm_binary::Component;
 use cm_match::{Linked, link};
-use cm_validate::validate;
+use cm_validate_spaces::validate;
 use std::alloc::Global;
 
 /// Decodes, validates and links the files that stand one behind another in these bytes, each so

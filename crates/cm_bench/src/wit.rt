@@ -1,7 +1,7 @@
 //! What the benchmark of WIT texts in `bench/wit` calls: functions on a text's bytes. Each answers
 //! a number that depends on what was read.
 
-use cm_wit::{Package, parse, print};
+use cm_wit_package::{Package, parse, print};
 use std::alloc::Global;
 use std::str;
 

@@ -3,24 +3,24 @@ use Rattle.std.proofs.Common.{◌≡◌, ℕ, ◌-◌, ◌++◌, ◌∷◌, [], 
 use Rattle.std.specs.Str.{is_utf8}
 use Rattle.std.proofs.lemmas.Bool.{and_parts}
 use Rattle.std.proofs.lemmas.List.{length-append}
-use Rattle.cm_grammar.specs.LebWriting.{shortest_unsigned}
-use Rattle.cm_grammar.specs.Spelling.{blob_spelling}
-use Rattle.cm_grammar.proofs.LeastLaws.{Least, done_least, bind_least, code_least, refuse_least}
-use Rattle.cm_grammar.proofs.WrittenLaws.{Spelled, Writes, bind_written, last_written, code_written}
-use Rattle.cm_component.specs.declared.instances.InstanceExportSort.{InstanceExportSort}
-use Rattle.cm_component.specs.declared.instances.InstanceExportSort.TheVariants as instance_sorts
+use Rattle.cm_binary_grammar.specs.LebWriting.{shortest_unsigned}
+use Rattle.cm_binary_grammar.specs.Spelling.{blob_spelling}
+use Rattle.cm_binary_grammar.proofs.LeastLaws.{Least, done_least, bind_least, code_least, refuse_least}
+use Rattle.cm_binary_grammar.proofs.WrittenLaws.{Spelled, Writes, bind_written, last_written, code_written}
+use Rattle.cm_binary_model.specs.declared.instances.InstanceExportSort.{InstanceExportSort}
+use Rattle.cm_binary_model.specs.declared.instances.InstanceExportSort.TheVariants as instance_sorts
 use Rattle.cm_types.specs.declared.def_types.OuterType.{OuterType}
-use Rattle.cm_component.specs.Trees as trees
-use Rattle.cm_component.specs.Trees.{AliasTree}
-use Rattle.cm_component.specs.Spelling.{core_sort_code, outer_type_spelling, alias_spelling}
-use Rattle.cm_component.specs.Parts.{is_index, holds_name, holds_outer_type, holds_alias}
-use Rattle.cm_reading_codes.specs.declared.codes.AliasSort.{AliasSort}
-use Rattle.cm_reading_codes.specs.declared.codes.AliasSort.TheVariants as alias_sorts
-use Rattle.cm_reading_codes.specs.declared.codes.CoreAliasTarget.TheVariants as core_targets
-use Rattle.cm_reading_codes.specs.declared.codes.FuncAliasTarget.TheVariants as func_targets
-use Rattle.cm_reading_codes.specs.declared.codes.TypeAliasTarget.{TypeAliasTarget}
-use Rattle.cm_reading_codes.specs.declared.codes.TypeAliasTarget.TheVariants as type_targets
-use Rattle.cm_reading_types.specs.Aliases.{outer_type, instance_export, type_alias_of, alias_of, alias}
+use Rattle.cm_binary_model.specs.Trees as trees
+use Rattle.cm_binary_model.specs.Trees.{AliasTree}
+use Rattle.cm_binary_model.specs.Spelling.{core_sort_code, outer_type_spelling, alias_spelling}
+use Rattle.cm_binary_model.specs.Parts.{is_index, holds_name, holds_outer_type, holds_alias}
+use Rattle.cm_binary_forms.specs.declared.codes.AliasSort.{AliasSort}
+use Rattle.cm_binary_forms.specs.declared.codes.AliasSort.TheVariants as alias_sorts
+use Rattle.cm_binary_forms.specs.declared.codes.CoreAliasTarget.TheVariants as core_targets
+use Rattle.cm_binary_forms.specs.declared.codes.FuncAliasTarget.TheVariants as func_targets
+use Rattle.cm_binary_forms.specs.declared.codes.TypeAliasTarget.{TypeAliasTarget}
+use Rattle.cm_binary_forms.specs.declared.codes.TypeAliasTarget.TheVariants as type_targets
+use Rattle.cm_binary_forms.specs.Aliases.{outer_type, instance_export, type_alias_of, alias_of, alias}
 use Rattle.cm_binary.proofs.Texts.{index_least, text_least, plain_name_least, index_written, text_writes, plain_name_writes}
 use Rattle.cm_binary.proofs.InstanceBytes.{core_sort_read}
 

@@ -3,24 +3,24 @@ use Rattle.std.proofs.Common.{◌≡◌, ℕ, ◌-◌, ◌<◌, ◌^◌, ◌++�
 use Rattle.std.specs.List.{list_all}
 use Rattle.std.proofs.lemmas.Bool.{and_parts}
 use Rattle.std.proofs.lemmas.List.{length-append}
-use Rattle.cm_grammar.specs.LebWriting.{shortest_unsigned}
-use Rattle.cm_grammar.specs.Spelling.{vec_spelling}
-use Rattle.cm_grammar.proofs.LeastLaws.{Least, done_least, bind_least, code_least, fixed_least, vec_least}
-use Rattle.cm_grammar.proofs.WrittenLaws.{Writes, done_written, bind_written, last_written, code_written, fixed_written, vec_written}
-use Rattle.cm_component.specs.declared.canons.CanonOption.{CanonOption}
-use Rattle.cm_component.specs.declared.canons.CanonOption.TheVariants as options
-use Rattle.cm_component.specs.Trees as trees
-use Rattle.cm_component.specs.Trees.{CanonTree}
-use Rattle.cm_component.specs.Spelling.{option_spelling, canon_spelling}
-use Rattle.cm_component.specs.Parts.{is_index, holds_option, holds_canon}
-use Rattle.cm_component.proofs.Nonempty.{option_some}
-use Rattle.cm_reading_codes.specs.declared.fault.DecodeReason.TheVariants.{BadNumber}
-use Rattle.cm_reading_codes.specs.declared.codes.CanonForm.{CanonForm}
-use Rattle.cm_reading_codes.specs.declared.codes.CanonForm.TheVariants as canon_forms
-use Rattle.cm_reading_codes.specs.declared.codes.OptionForm.{OptionForm}
-use Rattle.cm_reading_codes.specs.declared.codes.OptionForm.TheVariants as option_forms
-use Rattle.cm_reading_codes.specs.Texts.{vector}
-use Rattle.cm_reading.specs.Canons.{canon_option_of, canon_option, canon_of, canon}
+use Rattle.cm_binary_grammar.specs.LebWriting.{shortest_unsigned}
+use Rattle.cm_binary_grammar.specs.Spelling.{vec_spelling}
+use Rattle.cm_binary_grammar.proofs.LeastLaws.{Least, done_least, bind_least, code_least, fixed_least, vec_least}
+use Rattle.cm_binary_grammar.proofs.WrittenLaws.{Writes, done_written, bind_written, last_written, code_written, fixed_written, vec_written}
+use Rattle.cm_binary_model.specs.declared.canons.CanonOption.{CanonOption}
+use Rattle.cm_binary_model.specs.declared.canons.CanonOption.TheVariants as options
+use Rattle.cm_binary_model.specs.Trees as trees
+use Rattle.cm_binary_model.specs.Trees.{CanonTree}
+use Rattle.cm_binary_model.specs.Spelling.{option_spelling, canon_spelling}
+use Rattle.cm_binary_model.specs.Parts.{is_index, holds_option, holds_canon}
+use Rattle.cm_binary_model.proofs.Nonempty.{option_some}
+use Rattle.cm_binary_forms.specs.declared.fault.DecodeReason.TheVariants.{BadNumber}
+use Rattle.cm_binary_forms.specs.declared.codes.CanonForm.{CanonForm}
+use Rattle.cm_binary_forms.specs.declared.codes.CanonForm.TheVariants as canon_forms
+use Rattle.cm_binary_forms.specs.declared.codes.OptionForm.{OptionForm}
+use Rattle.cm_binary_forms.specs.declared.codes.OptionForm.TheVariants as option_forms
+use Rattle.cm_binary_forms.specs.Texts.{vector}
+use Rattle.cm_binary_forms.specs.Canons.{canon_option_of, canon_option, canon_of, canon}
 use Rattle.cm_binary.proofs.Texts.{index_least, index_written}
 
 -- ---- nothing shorter

@@ -1,13 +1,13 @@
 -- No table refuses a byte for want of one.
 use Rattle.std.proofs.Common.{◌≡◌, ℕ, Bool, true, false, cond, Result, Ok, Err, refl}
-use Rattle.cm_grammar.proofs.WantLaws.{Never}
-use Rattle.cm_reading_codes.specs.declared.fault.DecodeReason.{DecodeReason}
-use Rattle.cm_reading_codes.specs.declared.fault.DecodeReason.TheVariants.{Truncated, UnknownCode, Unsupported}
-use Rattle.cm_reading_codes.specs.declared.fault.Feature.{Feature}
-use Rattle.cm_reading_codes.specs.declared.codes.ValueForm.TheVariants as value_forms
-use Rattle.cm_reading_codes.specs.declared.codes.TypeForm.TheVariants as type_forms
-use Rattle.cm_reading_codes.specs.declared.codes.DeclaredTypeForm.TheVariants as declared_type_forms
-use Rattle.cm_reading_codes.specs.Codes.{section_kind, core_instance_form, core_sort, instance_form, instance_export_sort, alias_sort, core_alias_target, func_alias_target, type_alias_target, no_alias_target, as_case, prim_val_type, value_form, type_form, declared_type_form, declaration_form, outer_type_target, declared_desc_form, type_bound_form, optional_form, result_form, canon_form, option_form, desc_form, export_sort, export_desc}
+use Rattle.cm_binary_grammar.proofs.WantLaws.{Never}
+use Rattle.cm_binary_forms.specs.declared.fault.DecodeReason.{DecodeReason}
+use Rattle.cm_binary_forms.specs.declared.fault.DecodeReason.TheVariants.{Truncated, UnknownCode, Unsupported}
+use Rattle.cm_binary_forms.specs.declared.fault.Feature.{Feature}
+use Rattle.cm_binary_forms.specs.declared.codes.ValueForm.TheVariants as value_forms
+use Rattle.cm_binary_forms.specs.declared.codes.TypeForm.TheVariants as type_forms
+use Rattle.cm_binary_forms.specs.declared.codes.DeclaredTypeForm.TheVariants as declared_type_forms
+use Rattle.cm_binary_forms.specs.Codes.{section_kind, core_instance_form, core_sort, instance_form, instance_export_sort, alias_sort, core_alias_target, func_alias_target, type_alias_target, no_alias_target, as_case, prim_val_type, value_form, type_form, declared_type_form, declaration_form, outer_type_target, declared_desc_form, type_bound_form, optional_form, result_form, canon_form, option_form, desc_form, export_sort, export_desc}
 
 -- The answer is no want of a byte.
 abbrev IsNot : {K : Type 0} → Result K DecodeReason → Type 0

@@ -1,9 +1,9 @@
 -- What is written of a component.
 use Rattle.std.proofs.Common.{◌≡◌, ℕ, ◌≤◌, List, length, Result, Ok, Err, sym, ap, subst, arith}
 use Rattle.std.specs.Prelude.{IfOk}
-use Rattle.cm_component.specs.Trees.{SectionTree}
-use Rattle.cm_reading.specs.File.{Spells}
-use Rattle.cm_component.specs.Spelling.{spelling}
+use Rattle.cm_binary_model.specs.Trees.{SectionTree}
+use Rattle.cm_binary_forms.specs.File.{Spells}
+use Rattle.cm_binary_model.specs.Spelling.{spelling}
 use Rattle.cm_binary.proofs.File.{file_least}
 
 pub is_spelled : {V : Type 0} (items_of : V → List ℕ) (c : List SectionTree) {E : Type 0} (r : Result V E) → Spells c (spelling c) → IfOk r (λ v. items_of v ≡ spelling c) → IfOk r (λ v. Spells c (items_of v))

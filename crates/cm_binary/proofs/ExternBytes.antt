@@ -2,22 +2,22 @@
 use Rattle.std.proofs.Common.{◌≡◌, ℕ, ◌-◌, ◌++◌, ◌∷◌, [], length, true, Ok, refl, arith}
 use Rattle.std.proofs.lemmas.Bool.{and_parts}
 use Rattle.std.proofs.lemmas.List.{length-append}
-use Rattle.cm_grammar.specs.LebWriting.{shortest_unsigned}
-use Rattle.cm_grammar.proofs.LeastLaws.{Least, done_least, bind_least, code_least}
-use Rattle.cm_grammar.proofs.WrittenLaws.{Spelled, Writes, bind_written, last_written, code_written}
-use Rattle.cm_component.specs.declared.externs.ExternDesc.{ExternDesc}
-use Rattle.cm_component.specs.declared.externs.ExternDesc.TheVariants as descs
-use Rattle.cm_component.specs.declared.externs.ExportSort.{ExportSort}
-use Rattle.cm_component.specs.declared.externs.ExportSort.TheVariants as export_sorts
-use Rattle.cm_component.specs.declared.externs.Import.{Import}
-use Rattle.cm_component.specs.declared.externs.Export.{Export}
-use Rattle.cm_component.specs.Spelling.{extern_name_spelling, desc_spelling, import_spelling, export_sort_code, export_spelling}
-use Rattle.cm_component.specs.Parts.{is_index, holds_desc, holds_name, holds_import, holds_export}
-use Rattle.cm_reading_codes.specs.declared.codes.DescForm.{DescForm}
-use Rattle.cm_reading_codes.specs.declared.codes.DescForm.TheVariants as desc_forms
-use Rattle.cm_reading_codes.specs.declared.codes.NoDescription.TheVariants as descriptions
-use Rattle.cm_reading_codes.specs.Codes.{export_sort}
-use Rattle.cm_reading.specs.Externs.{extern_desc_of, extern_desc, import_item, export_item}
+use Rattle.cm_binary_grammar.specs.LebWriting.{shortest_unsigned}
+use Rattle.cm_binary_grammar.proofs.LeastLaws.{Least, done_least, bind_least, code_least}
+use Rattle.cm_binary_grammar.proofs.WrittenLaws.{Spelled, Writes, bind_written, last_written, code_written}
+use Rattle.cm_binary_model.specs.declared.externs.ExternDesc.{ExternDesc}
+use Rattle.cm_binary_model.specs.declared.externs.ExternDesc.TheVariants as descs
+use Rattle.cm_binary_model.specs.declared.externs.ExportSort.{ExportSort}
+use Rattle.cm_binary_model.specs.declared.externs.ExportSort.TheVariants as export_sorts
+use Rattle.cm_binary_model.specs.declared.externs.Import.{Import}
+use Rattle.cm_binary_model.specs.declared.externs.Export.{Export}
+use Rattle.cm_binary_model.specs.Spelling.{extern_name_spelling, desc_spelling, import_spelling, export_sort_code, export_spelling}
+use Rattle.cm_binary_model.specs.Parts.{is_index, holds_desc, holds_name, holds_import, holds_export}
+use Rattle.cm_binary_forms.specs.declared.codes.DescForm.{DescForm}
+use Rattle.cm_binary_forms.specs.declared.codes.DescForm.TheVariants as desc_forms
+use Rattle.cm_binary_forms.specs.declared.codes.NoDescription.TheVariants as descriptions
+use Rattle.cm_binary_forms.specs.Codes.{export_sort}
+use Rattle.cm_binary_forms.specs.Externs.{extern_desc_of, extern_desc, import_item, export_item}
 use Rattle.cm_binary.proofs.Texts.{index_least, extern_name_least, index_written, extern_name_writes}
 
 -- ---- nothing shorter

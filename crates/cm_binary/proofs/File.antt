@@ -4,15 +4,15 @@ use Rattle.std.proofs.Common.{◌≡◌, ℕ, ◌<◌, ◌≤◌, List, length, 
 use Rattle.std.specs.List.{flat_map, list_all, sum_by}
 use Rattle.std.proofs.lemmas.Bool.{ltb-false, le-ltb}
 use Rattle.std.proofs.lemmas.List.{length-append}
-use Rattle.cm_grammar.proofs.LeastLaws.{LeastWhole, fixed_least, join_least, at_most_least}
-use Rattle.cm_component.specs.Trees.{SectionTree}
-use Rattle.cm_component.specs.Spelling.{section_spelling, spelling}
-use Rattle.cm_component.specs.Limits.{types_in, has_preamble, limit_fault}
-use Rattle.cm_component.specs.Parts.{holds}
-use Rattle.cm_component.specs.declared.limits.TheConstants.{MAX_TYPES, MAX_FILE_BYTES, COMPONENT_PREAMBLE}
-use Rattle.cm_component.specs.declared.limits.LimitFault.{LimitFault}
-use Rattle.cm_component.specs.declared.limits.LimitFault.TheVariants.{TooMany, TooLong, NotAModule}
-use Rattle.cm_reading.specs.File.{component, file, Spells}
+use Rattle.cm_binary_grammar.proofs.LeastLaws.{LeastWhole, fixed_least, join_least, at_most_least}
+use Rattle.cm_binary_model.specs.Trees.{SectionTree}
+use Rattle.cm_binary_model.specs.Spelling.{section_spelling, spelling}
+use Rattle.cm_binary_model.specs.Limits.{types_in, has_preamble, limit_fault}
+use Rattle.cm_binary_model.specs.Parts.{holds}
+use Rattle.cm_binary_model.specs.declared.limits.TheConstants.{MAX_TYPES, MAX_FILE_BYTES, COMPONENT_PREAMBLE}
+use Rattle.cm_binary_model.specs.declared.limits.LimitFault.{LimitFault}
+use Rattle.cm_binary_model.specs.declared.limits.LimitFault.TheVariants.{TooMany, TooLong, NotAModule}
+use Rattle.cm_binary_forms.specs.File.{component, file, Spells}
 use Rattle.cm_binary.proofs.SectionBytes.{sections_least, sections_write, sections_keep}
 
 -- ---- nothing shorter

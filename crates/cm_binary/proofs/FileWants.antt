@@ -1,50 +1,50 @@
 -- In each production want of a byte stands where the bytes end.
 use Rattle.std.proofs.Common.{◌≡◌, ℕ, zero, suc, Bool, true, false}
-use Rattle.cm_grammar.specs.Grammar.{number}
-use Rattle.cm_grammar.proofs.WantLaws.{Ends, EndsWhole, done_ends, bind_ends, ahead_ends, code_ends, number_ends, signed_ends, raw_ends, check_ends, fixed_ends, chain_ends, from_stock_ends, vec_ends, build_ends, remainder_ends, exactly_ends, join_ends, begins_with_ends, to_end_ends, of_size_ends, at_most_ends}
-use Rattle.cm_component.specs.declared.limits.TheConstants.{MAX_TYPES}
-use Rattle.cm_reading_codes.specs.declared.fault.DecodeReason.{DecodeReason}
-use Rattle.cm_reading_codes.specs.declared.fault.DecodeReason.TheVariants.{BadPreamble, Truncated, BadNumber, SizeMismatch, UnknownCode, BadUtf8, BadName, NotAModule, TooMany, TooLong}
-use Rattle.cm_reading_codes.specs.declared.codes.SectionKind.{SectionKind}
-use Rattle.cm_reading_codes.specs.declared.codes.SectionKind.TheVariants as kinds
-use Rattle.cm_reading_codes.specs.declared.codes.AliasSort.{AliasSort}
-use Rattle.cm_reading_codes.specs.declared.codes.AliasSort.TheVariants as alias_sorts
-use Rattle.cm_reading_codes.specs.declared.codes.OptionalForm.{OptionalForm}
-use Rattle.cm_reading_codes.specs.declared.codes.OptionalForm.TheVariants as optional_forms
-use Rattle.cm_reading_codes.specs.declared.codes.ValueForm.{ValueForm}
-use Rattle.cm_reading_codes.specs.declared.codes.ValueForm.TheVariants as value_forms
-use Rattle.cm_reading_codes.specs.declared.codes.TypeForm.{TypeForm}
-use Rattle.cm_reading_codes.specs.declared.codes.TypeForm.TheVariants as type_forms
-use Rattle.cm_reading_codes.specs.declared.codes.DeclaredTypeForm.{DeclaredTypeForm}
-use Rattle.cm_reading_codes.specs.declared.codes.DeclaredTypeForm.TheVariants as declared_type_forms
-use Rattle.cm_reading_codes.specs.declared.codes.DeclarationForm.{DeclarationForm}
-use Rattle.cm_reading_codes.specs.declared.codes.DeclarationForm.TheVariants as declaration_forms
-use Rattle.cm_reading_codes.specs.declared.codes.DeclaredDescForm.{DeclaredDescForm}
-use Rattle.cm_reading_codes.specs.declared.codes.DeclaredDescForm.TheVariants as declared_descs
-use Rattle.cm_reading_codes.specs.declared.codes.TypeBoundForm.{TypeBoundForm}
-use Rattle.cm_reading_codes.specs.declared.codes.TypeBoundForm.TheVariants as bound_forms
-use Rattle.cm_reading_codes.specs.declared.codes.ResultForm.{ResultForm}
-use Rattle.cm_reading_codes.specs.declared.codes.ResultForm.TheVariants as result_forms
-use Rattle.cm_reading_codes.specs.declared.codes.CanonForm.{CanonForm}
-use Rattle.cm_reading_codes.specs.declared.codes.CanonForm.TheVariants as canon_forms
-use Rattle.cm_reading_codes.specs.declared.codes.CoreInstanceForm.{CoreInstanceForm}
-use Rattle.cm_reading_codes.specs.declared.codes.CoreInstanceForm.TheVariants as core_instance_forms
-use Rattle.cm_reading_codes.specs.declared.codes.TypeAliasTarget.{TypeAliasTarget}
-use Rattle.cm_reading_codes.specs.declared.codes.TypeAliasTarget.TheVariants as type_targets
-use Rattle.cm_reading_codes.specs.declared.codes.OptionForm.{OptionForm}
-use Rattle.cm_reading_codes.specs.declared.codes.OptionForm.TheVariants as option_forms
-use Rattle.cm_reading_codes.specs.declared.codes.DescForm.{DescForm}
-use Rattle.cm_reading_codes.specs.declared.codes.DescForm.TheVariants as desc_forms
-use Rattle.cm_component.specs.declared.instances.InstanceExportSort.{InstanceExportSort}
-use Rattle.cm_reading_codes.specs.Codes.{is_from}
-use Rattle.cm_reading_codes.specs.Texts.{Production, text, label, plain_name, extern_name}
-use Rattle.cm_reading.specs.Instances.{core_arg, core_export, core_instance_of, core_instance, inline_export, instance_item}
-use Rattle.cm_reading_types.specs.Aliases.{outer_type, instance_export, type_alias_of, alias_of, alias}
-use Rattle.cm_reading_types.specs.Types.{optional_of, optional, type_index, val_type_of, val_type, param, case_type, def_val_type_of, func_result_of, func_result, func_type, declared_type_of, declared_type, declared_type_from, declared_alias_of, declared_alias, type_bound_of, type_bound, export_desc_of, export_desc, export_decl, declaration_of, declaration, declarations, def_type_of, def_type, def_type_from, type_defs}
-use Rattle.cm_reading.specs.Canons.{canon_option_of, canon_option, canon_of, canon}
-use Rattle.cm_reading.specs.Externs.{extern_desc_of, extern_desc, import_item, export_item}
-use Rattle.cm_reading.specs.Sections.{contents, section, sections, room_after}
-use Rattle.cm_reading.specs.File.{component, file}
+use Rattle.cm_binary_grammar.specs.Grammar.{number}
+use Rattle.cm_binary_grammar.proofs.WantLaws.{Ends, EndsWhole, done_ends, bind_ends, ahead_ends, code_ends, number_ends, signed_ends, raw_ends, check_ends, fixed_ends, chain_ends, from_stock_ends, vec_ends, build_ends, remainder_ends, exactly_ends, join_ends, begins_with_ends, to_end_ends, of_size_ends, at_most_ends}
+use Rattle.cm_binary_model.specs.declared.limits.TheConstants.{MAX_TYPES}
+use Rattle.cm_binary_forms.specs.declared.fault.DecodeReason.{DecodeReason}
+use Rattle.cm_binary_forms.specs.declared.fault.DecodeReason.TheVariants.{BadPreamble, Truncated, BadNumber, SizeMismatch, UnknownCode, BadUtf8, BadName, NotAModule, TooMany, TooLong}
+use Rattle.cm_binary_forms.specs.declared.codes.SectionKind.{SectionKind}
+use Rattle.cm_binary_forms.specs.declared.codes.SectionKind.TheVariants as kinds
+use Rattle.cm_binary_forms.specs.declared.codes.AliasSort.{AliasSort}
+use Rattle.cm_binary_forms.specs.declared.codes.AliasSort.TheVariants as alias_sorts
+use Rattle.cm_binary_forms.specs.declared.codes.OptionalForm.{OptionalForm}
+use Rattle.cm_binary_forms.specs.declared.codes.OptionalForm.TheVariants as optional_forms
+use Rattle.cm_binary_forms.specs.declared.codes.ValueForm.{ValueForm}
+use Rattle.cm_binary_forms.specs.declared.codes.ValueForm.TheVariants as value_forms
+use Rattle.cm_binary_forms.specs.declared.codes.TypeForm.{TypeForm}
+use Rattle.cm_binary_forms.specs.declared.codes.TypeForm.TheVariants as type_forms
+use Rattle.cm_binary_forms.specs.declared.codes.DeclaredTypeForm.{DeclaredTypeForm}
+use Rattle.cm_binary_forms.specs.declared.codes.DeclaredTypeForm.TheVariants as declared_type_forms
+use Rattle.cm_binary_forms.specs.declared.codes.DeclarationForm.{DeclarationForm}
+use Rattle.cm_binary_forms.specs.declared.codes.DeclarationForm.TheVariants as declaration_forms
+use Rattle.cm_binary_forms.specs.declared.codes.DeclaredDescForm.{DeclaredDescForm}
+use Rattle.cm_binary_forms.specs.declared.codes.DeclaredDescForm.TheVariants as declared_descs
+use Rattle.cm_binary_forms.specs.declared.codes.TypeBoundForm.{TypeBoundForm}
+use Rattle.cm_binary_forms.specs.declared.codes.TypeBoundForm.TheVariants as bound_forms
+use Rattle.cm_binary_forms.specs.declared.codes.ResultForm.{ResultForm}
+use Rattle.cm_binary_forms.specs.declared.codes.ResultForm.TheVariants as result_forms
+use Rattle.cm_binary_forms.specs.declared.codes.CanonForm.{CanonForm}
+use Rattle.cm_binary_forms.specs.declared.codes.CanonForm.TheVariants as canon_forms
+use Rattle.cm_binary_forms.specs.declared.codes.CoreInstanceForm.{CoreInstanceForm}
+use Rattle.cm_binary_forms.specs.declared.codes.CoreInstanceForm.TheVariants as core_instance_forms
+use Rattle.cm_binary_forms.specs.declared.codes.TypeAliasTarget.{TypeAliasTarget}
+use Rattle.cm_binary_forms.specs.declared.codes.TypeAliasTarget.TheVariants as type_targets
+use Rattle.cm_binary_forms.specs.declared.codes.OptionForm.{OptionForm}
+use Rattle.cm_binary_forms.specs.declared.codes.OptionForm.TheVariants as option_forms
+use Rattle.cm_binary_forms.specs.declared.codes.DescForm.{DescForm}
+use Rattle.cm_binary_forms.specs.declared.codes.DescForm.TheVariants as desc_forms
+use Rattle.cm_binary_model.specs.declared.instances.InstanceExportSort.{InstanceExportSort}
+use Rattle.cm_binary_forms.specs.Codes.{is_from}
+use Rattle.cm_binary_forms.specs.Texts.{Production, text, label, plain_name, extern_name}
+use Rattle.cm_binary_forms.specs.Instances.{core_arg, core_export, core_instance_of, core_instance, inline_export, instance_item}
+use Rattle.cm_binary_forms.specs.Aliases.{outer_type, instance_export, type_alias_of, alias_of, alias}
+use Rattle.cm_binary_forms.specs.Types.{optional_of, optional, type_index, val_type_of, val_type, param, case_type, def_val_type_of, func_result_of, func_result, func_type, declared_type_of, declared_type, declared_type_from, declared_alias_of, declared_alias, type_bound_of, type_bound, export_desc_of, export_desc, export_decl, declaration_of, declaration, declarations, def_type_of, def_type, def_type_from, type_defs}
+use Rattle.cm_binary_forms.specs.Canons.{canon_option_of, canon_option, canon_of, canon}
+use Rattle.cm_binary_forms.specs.Externs.{extern_desc_of, extern_desc, import_item, export_item}
+use Rattle.cm_binary_forms.specs.Sections.{contents, section, sections, room_after}
+use Rattle.cm_binary_forms.specs.File.{component, file}
 use Rattle.cm_binary.proofs.CodeWants.{section_kind_never, core_instance_form_never, core_sort_never, instance_form_never, instance_export_sort_never, alias_sort_never, core_alias_target_never, func_alias_target_never, type_alias_target_never, no_alias_target_never, prim_val_type_never, type_form_never, declared_type_form_never, declaration_form_never, outer_type_target_never, declared_desc_form_never, type_bound_form_never, optional_form_never, result_form_never, canon_form_never, option_form_never, desc_form_never, export_sort_never, export_desc_never}
 
 -- Another reason than want of a byte.

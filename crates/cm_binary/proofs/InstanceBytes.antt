@@ -4,25 +4,25 @@ use Rattle.std.specs.Str.{is_utf8}
 use Rattle.std.specs.List.{list_all}
 use Rattle.std.proofs.lemmas.Bool.{and_parts}
 use Rattle.std.proofs.lemmas.List.{length-append}
-use Rattle.cm_grammar.specs.LebWriting.{shortest_unsigned}
-use Rattle.cm_grammar.specs.Spelling.{blob_spelling, vec_spelling}
-use Rattle.cm_grammar.proofs.LeastLaws.{Least, done_least, bind_least, code_least, fixed_least, vec_least}
-use Rattle.cm_grammar.proofs.WrittenLaws.{Writes, bind_written, last_written, code_written, fixed_written, vec_written}
-use Rattle.cm_component.specs.declared.instances.CoreSort.{CoreSort}
-use Rattle.cm_component.specs.declared.instances.CoreSort.TheVariants as core_sorts
-use Rattle.cm_component.specs.declared.instances.InlineExport.{InlineExport}
-use Rattle.cm_component.specs.declared.instances.InstanceExportSort.{InstanceExportSort}
-use Rattle.cm_component.specs.declared.instances.InstanceExportSort.TheVariants as instance_sorts
-use Rattle.cm_component.specs.Trees as trees
-use Rattle.cm_component.specs.Trees.{ArgTree, CoreExportTree, CoreInstanceTree}
-use Rattle.cm_component.specs.Spelling.{extern_name_spelling, core_arg_spelling, core_sort_code, core_export_spelling, core_instance_spelling, instance_sort_code, inline_export_spelling, instance_spelling}
-use Rattle.cm_component.specs.Parts.{is_index, holds_name, holds_arg, holds_core_export, holds_core_instance, holds_inline_export, holds_instance}
-use Rattle.cm_component.proofs.Nonempty.{core_arg_some, core_export_some, inline_export_some}
-use Rattle.cm_reading_codes.specs.declared.fault.DecodeReason.TheVariants.{BadNumber}
-use Rattle.cm_reading_codes.specs.declared.codes.CoreInstanceForm.{CoreInstanceForm}
-use Rattle.cm_reading_codes.specs.declared.codes.CoreInstanceForm.TheVariants as forms
-use Rattle.cm_reading_codes.specs.Codes.{core_sort, instance_export_sort}
-use Rattle.cm_reading.specs.Instances.{core_arg, core_export, core_instance_of, core_instance, inline_export, instance_item}
+use Rattle.cm_binary_grammar.specs.LebWriting.{shortest_unsigned}
+use Rattle.cm_binary_grammar.specs.Spelling.{blob_spelling, vec_spelling}
+use Rattle.cm_binary_grammar.proofs.LeastLaws.{Least, done_least, bind_least, code_least, fixed_least, vec_least}
+use Rattle.cm_binary_grammar.proofs.WrittenLaws.{Writes, bind_written, last_written, code_written, fixed_written, vec_written}
+use Rattle.cm_binary_model.specs.declared.instances.CoreSort.{CoreSort}
+use Rattle.cm_binary_model.specs.declared.instances.CoreSort.TheVariants as core_sorts
+use Rattle.cm_binary_model.specs.declared.instances.InlineExport.{InlineExport}
+use Rattle.cm_binary_model.specs.declared.instances.InstanceExportSort.{InstanceExportSort}
+use Rattle.cm_binary_model.specs.declared.instances.InstanceExportSort.TheVariants as instance_sorts
+use Rattle.cm_binary_model.specs.Trees as trees
+use Rattle.cm_binary_model.specs.Trees.{ArgTree, CoreExportTree, CoreInstanceTree}
+use Rattle.cm_binary_model.specs.Spelling.{extern_name_spelling, core_arg_spelling, core_sort_code, core_export_spelling, core_instance_spelling, instance_sort_code, inline_export_spelling, instance_spelling}
+use Rattle.cm_binary_model.specs.Parts.{is_index, holds_name, holds_arg, holds_core_export, holds_core_instance, holds_inline_export, holds_instance}
+use Rattle.cm_binary_model.proofs.Nonempty.{core_arg_some, core_export_some, inline_export_some}
+use Rattle.cm_binary_forms.specs.declared.fault.DecodeReason.TheVariants.{BadNumber}
+use Rattle.cm_binary_forms.specs.declared.codes.CoreInstanceForm.{CoreInstanceForm}
+use Rattle.cm_binary_forms.specs.declared.codes.CoreInstanceForm.TheVariants as forms
+use Rattle.cm_binary_forms.specs.Codes.{core_sort, instance_export_sort}
+use Rattle.cm_binary_forms.specs.Instances.{core_arg, core_export, core_instance_of, core_instance, inline_export, instance_item}
 use Rattle.cm_binary.proofs.Texts.{index_least, text_least, extern_name_least, index_written, text_writes, extern_name_writes}
 
 pub core_sort_read : (s : CoreSort) → core_sort (core_sort_code s) ≡ Ok s

@@ -11,3 +11,10 @@ pub mod EncodeLaws
 pub mod CodeWants
 pub mod FileWants
 pub mod OneAnswer
+pub mod ProgressLaws
+pub mod LimitLaws
+pub mod StopLaws
+pub mod AfterLaws
+pub mod PieceLaws
+pub mod ComeLaws
+pub mod StreamLaws

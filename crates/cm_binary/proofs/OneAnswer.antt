@@ -1,17 +1,17 @@
 -- A file's bytes come to one answer, and want of a byte stands at their end.
 use Rattle.std.proofs.Common.{◌≡◌, ℕ, ◌+◌, ◌-◌, List, length, Result, Ok, Err, refl, sym, ap, ◌∙◌, arith}
-use Rattle.cm_grammar.specs.declared.fault.Fault.{Fault}
-use Rattle.cm_grammar.specs.declared.fault.End.TheVariants as end
-use Rattle.cm_grammar.specs.Faults.{flaw}
-use Rattle.cm_grammar.proofs.Tools.{IsBytes, err_of}
-use Rattle.cm_grammar.proofs.AnswerLaws.{comes_read}
-use Rattle.cm_component.specs.Trees.{SectionTree}
-use Rattle.cm_reading_codes.specs.declared.fault.DecodeFault.{DecodeFault}
-use Rattle.cm_reading_codes.specs.declared.fault.DecodeReason.{DecodeReason}
-use Rattle.cm_reading_codes.specs.declared.fault.DecodeReason.TheVariants.{Truncated}
-use Rattle.cm_reading.specs.File.{file, FirstFault}
+use Rattle.cm_binary_grammar.specs.declared.fault.Fault.{Fault}
+use Rattle.cm_binary_grammar.specs.declared.fault.End.TheVariants as end
+use Rattle.cm_binary_grammar.specs.Faults.{flaw}
+use Rattle.cm_binary_grammar.proofs.Tools.{IsBytes, err_of}
+use Rattle.cm_binary_grammar.proofs.AnswerLaws.{comes_read}
+use Rattle.cm_binary_model.specs.Trees.{SectionTree}
+use Rattle.cm_binary_forms.specs.declared.fault.DecodeFault.{DecodeFault}
+use Rattle.cm_binary_forms.specs.declared.fault.DecodeReason.{DecodeReason}
+use Rattle.cm_binary_forms.specs.declared.fault.DecodeReason.TheVariants.{Truncated}
+use Rattle.cm_binary_forms.specs.File.{file, FirstFault}
 use Rattle.cm_binary.specs.Answers.{IsAnswer, IsOnlyAnswer}
-use Rattle.cm_reading.proofs.LawfulFile.{file_lawful}
+use Rattle.cm_binary_forms.proofs.LawfulFile.{file_lawful}
 use Rattle.cm_binary.proofs.FileWants.{file_ends}
 
 abbrev Answer : Type 0

@@ -4,28 +4,28 @@ use Rattle.std.specs.List.{flat_map, list_all, sum_by, starts_with}
 use Rattle.std.proofs.lemmas.Bool.{and_parts, and_from, eqb-true, eq-eqb}
 use Rattle.std.proofs.lemmas.List.{length-append}
 use Rattle.std.proofs.lemmas.List.Sums.{sum_by-cons}
-use Rattle.cm_grammar.specs.LebWriting.{shortest_unsigned}
-use Rattle.cm_grammar.specs.Whole.{remainder, SpellsEach, of_size}
-use Rattle.cm_grammar.specs.Spelling.{vec_spelling, blob_spelling}
-use Rattle.cm_grammar.proofs.LeastLaws.{Least, LeastWhole, bind_least, code_least, vec_least, build_least, remainder_least, begins_with_least, exactly_least, join_least, of_size_least, to_end_least}
-use Rattle.cm_grammar.proofs.WrittenLaws.{Spelled, bind_written, code_written, number_written, vec_written, each_written, AreFine, fine_parts}
-use Rattle.cm_component.specs.Trees as trees
-use Rattle.cm_component.specs.Trees.{SectionTree}
-use Rattle.cm_component.specs.Spelling.{core_instance_spelling, instance_spelling, alias_spelling, def_spelling, canon_spelling, import_spelling, export_spelling, contents_spelling, section_id, section_spelling}
-use Rattle.cm_component.specs.Limits.{types_in, has_preamble}
-use Rattle.cm_component.specs.Parts.{holds_core_instance, holds_instance, holds_alias, holds_canon, holds_import, holds_export, holds}
-use Rattle.cm_component.specs.declared.limits.TheConstants.{MODULE_PREAMBLE}
-use Rattle.cm_component.proofs.Nonempty.{core_instance_some, instance_some, alias_some, canon_some, import_some, export_some}
-use Rattle.cm_reading_codes.specs.declared.fault.DecodeReason.{DecodeReason}
-use Rattle.cm_reading_codes.specs.declared.fault.DecodeReason.TheVariants.{SizeMismatch, BadNumber}
-use Rattle.cm_reading_codes.specs.declared.codes.SectionKind.{SectionKind}
-use Rattle.cm_reading_codes.specs.declared.codes.SectionKind.TheVariants as kinds
-use Rattle.cm_reading_codes.specs.Codes.{section_kind}
-use Rattle.cm_reading.specs.Instances.{core_instance, instance_item}
-use Rattle.cm_reading_types.specs.Aliases.{alias}
-use Rattle.cm_reading.specs.Canons.{canon}
-use Rattle.cm_reading.specs.Externs.{import_item, export_item}
-use Rattle.cm_reading.specs.Sections.{contents, section, sections, room_after}
+use Rattle.cm_binary_grammar.specs.LebWriting.{shortest_unsigned}
+use Rattle.cm_binary_grammar.specs.Whole.{remainder, SpellsEach, of_size}
+use Rattle.cm_binary_grammar.specs.Spelling.{vec_spelling, blob_spelling}
+use Rattle.cm_binary_grammar.proofs.LeastLaws.{Least, LeastWhole, bind_least, code_least, vec_least, build_least, remainder_least, begins_with_least, exactly_least, join_least, of_size_least, to_end_least}
+use Rattle.cm_binary_grammar.proofs.WrittenLaws.{Spelled, bind_written, code_written, number_written, vec_written, each_written, AreFine, fine_parts}
+use Rattle.cm_binary_model.specs.Trees as trees
+use Rattle.cm_binary_model.specs.Trees.{SectionTree}
+use Rattle.cm_binary_model.specs.Spelling.{core_instance_spelling, instance_spelling, alias_spelling, def_spelling, canon_spelling, import_spelling, export_spelling, contents_spelling, section_id, section_spelling}
+use Rattle.cm_binary_model.specs.Limits.{types_in, has_preamble}
+use Rattle.cm_binary_model.specs.Parts.{holds_core_instance, holds_instance, holds_alias, holds_canon, holds_import, holds_export, holds}
+use Rattle.cm_binary_model.specs.declared.limits.TheConstants.{MODULE_PREAMBLE}
+use Rattle.cm_binary_model.proofs.Nonempty.{core_instance_some, instance_some, alias_some, canon_some, import_some, export_some}
+use Rattle.cm_binary_forms.specs.declared.fault.DecodeReason.{DecodeReason}
+use Rattle.cm_binary_forms.specs.declared.fault.DecodeReason.TheVariants.{SizeMismatch, BadNumber}
+use Rattle.cm_binary_forms.specs.declared.codes.SectionKind.{SectionKind}
+use Rattle.cm_binary_forms.specs.declared.codes.SectionKind.TheVariants as kinds
+use Rattle.cm_binary_forms.specs.Codes.{section_kind}
+use Rattle.cm_binary_forms.specs.Instances.{core_instance, instance_item}
+use Rattle.cm_binary_forms.specs.Aliases.{alias}
+use Rattle.cm_binary_forms.specs.Canons.{canon}
+use Rattle.cm_binary_forms.specs.Externs.{import_item, export_item}
+use Rattle.cm_binary_forms.specs.Sections.{contents, section, sections, room_after}
 use Rattle.cm_binary.proofs.Texts.{index_least, text_least, text_writes}
 use Rattle.cm_binary.proofs.InstanceBytes.{core_instance_least, core_instance_writes, instance_least, instance_writes}
 use Rattle.cm_binary.proofs.AliasBytes.{alias_least, alias_writes}

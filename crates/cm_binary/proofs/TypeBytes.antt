@@ -7,14 +7,14 @@ use Rattle.std.proofs.lemmas.Bool.{and_parts, ltb-true}
 use Rattle.std.proofs.lemmas.Bool.Decides.{nat_tests}
 use Rattle.std.proofs.lemmas.Int.{ints}
 use Rattle.std.proofs.lemmas.List.{length-append}
-use Rattle.cm_grammar.specs.Numbers.{IsWithin}
-use Rattle.cm_grammar.specs.LebReading.{is_within}
-use Rattle.cm_grammar.specs.LebWriting.{group_of, signed_length, to_two_complement, shortest_unsigned, shortest_signed}
-use Rattle.cm_grammar.proofs.LebWritingLaws.{shortest_signed-apart}
-use Rattle.cm_grammar.specs.Grammar.{code, from_stock, vec}
-use Rattle.cm_grammar.specs.Spelling.{blob_spelling, vec_spelling}
-use Rattle.cm_grammar.proofs.LeastLaws.{Least, done_least, bind_least, ahead_least, code_least, refuse_least, number_least, signed_least, check_least, fixed_least, vec_least, from_stock_least, stocked_least}
-use Rattle.cm_grammar.proofs.WrittenLaws.{Spelled, Writes, WritesFrom, done_written, bind_written, last_written, ahead_written, code_written, number_written, signed_written, check_written, fixed_written, vec_written, from_stock_written, stocked_written, chain_costs, from_stock_costs}
+use Rattle.cm_binary_grammar.specs.Numbers.{IsWithin}
+use Rattle.cm_binary_grammar.specs.LebReading.{is_within}
+use Rattle.cm_binary_grammar.specs.LebWriting.{group_of, signed_length, to_two_complement, shortest_unsigned, shortest_signed}
+use Rattle.cm_binary_grammar.proofs.LebWritingLaws.{shortest_signed-apart}
+use Rattle.cm_binary_grammar.specs.Grammar.{code, from_stock, vec}
+use Rattle.cm_binary_grammar.specs.Spelling.{blob_spelling, vec_spelling}
+use Rattle.cm_binary_grammar.proofs.LeastLaws.{Least, done_least, bind_least, ahead_least, code_least, refuse_least, number_least, signed_least, check_least, fixed_least, vec_least, from_stock_least, stocked_least}
+use Rattle.cm_binary_grammar.proofs.WrittenLaws.{Spelled, Writes, WritesFrom, done_written, bind_written, last_written, ahead_written, code_written, number_written, signed_written, check_written, fixed_written, vec_written, from_stock_written, stocked_written, chain_costs, from_stock_costs}
 use Rattle.cm_types.specs.Names.{is_label}
 use Rattle.cm_types.specs.declared.def_types.PrimValType.{PrimValType}
 use Rattle.cm_types.specs.declared.def_types.PrimValType.TheVariants as prims
@@ -30,33 +30,33 @@ use Rattle.cm_types.specs.declared.def_types.ExportDesc.TheVariants as export_de
 use Rattle.cm_types.specs.declared.def_types.ExportDecl.{ExportDecl}
 use Rattle.cm_types.specs.DefTypes as types
 use Rattle.cm_types.specs.DefTypes.{DefValTypeTree, FuncTypeTree, DeclaredTypeTree, DeclarationTree, DefTypeTree, value_def, func_def, resource_def, instance_def}
-use Rattle.cm_component.specs.Spelling.{optional_spelling, prim_val_type_code, val_type_spelling, param_spelling, case_spelling, def_val_type_code, def_val_type_parts, result_spelling, func_spelling, declared_type_spelling, type_bound_spelling, extern_name_spelling, export_desc_spelling, export_decl_spelling, outer_type_spelling, declaration_spelling, def_spelling}
-use Rattle.cm_component.specs.Parts.{is_index, holds_optional, holds_label, holds_val_type, holds_param, holds_case, holds_def_val_type, holds_func, holds_declared_type, holds_name, holds_type_bound, holds_export_desc, holds_export_decl, holds_outer_type, holds_declaration, holds_def}
-use Rattle.cm_component.specs.Limits.{types_in_declaration, types_in_def}
-use Rattle.cm_component.proofs.Nonempty.{blob_some, val_type_some, param_some, case_some, declaration_some, def_some}
-use Rattle.cm_reading_codes.specs.declared.fault.DecodeReason.TheVariants.{BadNumber, TooMany}
-use Rattle.cm_reading_codes.specs.declared.codes.OptionalForm.{OptionalForm}
-use Rattle.cm_reading_codes.specs.declared.codes.OptionalForm.TheVariants as optional_forms
-use Rattle.cm_reading_codes.specs.declared.codes.ResultForm.{ResultForm}
-use Rattle.cm_reading_codes.specs.declared.codes.ResultForm.TheVariants as result_forms
-use Rattle.cm_reading_codes.specs.declared.codes.ValueForm.{ValueForm}
-use Rattle.cm_reading_codes.specs.declared.codes.ValueForm.TheVariants as value_forms
-use Rattle.cm_reading_codes.specs.declared.codes.DeclaredTypeForm.{DeclaredTypeForm}
-use Rattle.cm_reading_codes.specs.declared.codes.DeclaredTypeForm.TheVariants as declared_type_forms
-use Rattle.cm_reading_codes.specs.declared.codes.DeclarationForm.{DeclarationForm}
-use Rattle.cm_reading_codes.specs.declared.codes.DeclarationForm.TheVariants as declaration_forms
-use Rattle.cm_reading_codes.specs.declared.codes.DeclaredDescForm.{DeclaredDescForm}
-use Rattle.cm_reading_codes.specs.declared.codes.DeclaredDescForm.TheVariants as declared_descs
-use Rattle.cm_reading_codes.specs.declared.codes.TypeBoundForm.{TypeBoundForm}
-use Rattle.cm_reading_codes.specs.declared.codes.TypeBoundForm.TheVariants as bound_forms
-use Rattle.cm_reading_codes.specs.declared.codes.AliasSort.{AliasSort}
-use Rattle.cm_reading_codes.specs.declared.codes.AliasSort.TheVariants as alias_sorts
-use Rattle.cm_reading_codes.specs.declared.codes.OuterTypeTarget.TheVariants as outer_targets
-use Rattle.cm_reading_codes.specs.declared.codes.TypeForm.{TypeForm}
-use Rattle.cm_reading_codes.specs.declared.codes.TypeForm.TheVariants as type_forms
-use Rattle.cm_reading_codes.specs.Codes.{is_from, prim_val_type, declared_type_form, type_form}
-use Rattle.cm_reading_codes.specs.Texts.{Production, index, label}
-use Rattle.cm_reading_types.specs.Types.{optional_of, optional, is_type_index, as_index, type_index, val_type_of, val_type, param, case_type, def_val_type_of, func_result_of, func_result, func_type, declared_type_of, declared_type, declared_type_from, declared_alias_of, declared_alias, type_bound_of, type_bound, export_desc_of, export_desc, export_decl, declaration_of, declaration, declarations, def_type_of, def_type, def_type_from, type_defs}
+use Rattle.cm_binary_model.specs.Spelling.{optional_spelling, prim_val_type_code, val_type_spelling, param_spelling, case_spelling, def_val_type_code, def_val_type_parts, result_spelling, func_spelling, declared_type_spelling, type_bound_spelling, extern_name_spelling, export_desc_spelling, export_decl_spelling, outer_type_spelling, declaration_spelling, def_spelling}
+use Rattle.cm_binary_model.specs.Parts.{is_index, holds_optional, holds_label, holds_val_type, holds_param, holds_case, holds_def_val_type, holds_func, holds_declared_type, holds_name, holds_type_bound, holds_export_desc, holds_export_decl, holds_outer_type, holds_declaration, holds_def}
+use Rattle.cm_binary_model.specs.Limits.{types_in_declaration, types_in_def}
+use Rattle.cm_binary_model.proofs.Nonempty.{blob_some, val_type_some, param_some, case_some, declaration_some, def_some}
+use Rattle.cm_binary_forms.specs.declared.fault.DecodeReason.TheVariants.{BadNumber, TooMany}
+use Rattle.cm_binary_forms.specs.declared.codes.OptionalForm.{OptionalForm}
+use Rattle.cm_binary_forms.specs.declared.codes.OptionalForm.TheVariants as optional_forms
+use Rattle.cm_binary_forms.specs.declared.codes.ResultForm.{ResultForm}
+use Rattle.cm_binary_forms.specs.declared.codes.ResultForm.TheVariants as result_forms
+use Rattle.cm_binary_forms.specs.declared.codes.ValueForm.{ValueForm}
+use Rattle.cm_binary_forms.specs.declared.codes.ValueForm.TheVariants as value_forms
+use Rattle.cm_binary_forms.specs.declared.codes.DeclaredTypeForm.{DeclaredTypeForm}
+use Rattle.cm_binary_forms.specs.declared.codes.DeclaredTypeForm.TheVariants as declared_type_forms
+use Rattle.cm_binary_forms.specs.declared.codes.DeclarationForm.{DeclarationForm}
+use Rattle.cm_binary_forms.specs.declared.codes.DeclarationForm.TheVariants as declaration_forms
+use Rattle.cm_binary_forms.specs.declared.codes.DeclaredDescForm.{DeclaredDescForm}
+use Rattle.cm_binary_forms.specs.declared.codes.DeclaredDescForm.TheVariants as declared_descs
+use Rattle.cm_binary_forms.specs.declared.codes.TypeBoundForm.{TypeBoundForm}
+use Rattle.cm_binary_forms.specs.declared.codes.TypeBoundForm.TheVariants as bound_forms
+use Rattle.cm_binary_forms.specs.declared.codes.AliasSort.{AliasSort}
+use Rattle.cm_binary_forms.specs.declared.codes.AliasSort.TheVariants as alias_sorts
+use Rattle.cm_binary_forms.specs.declared.codes.OuterTypeTarget.TheVariants as outer_targets
+use Rattle.cm_binary_forms.specs.declared.codes.TypeForm.{TypeForm}
+use Rattle.cm_binary_forms.specs.declared.codes.TypeForm.TheVariants as type_forms
+use Rattle.cm_binary_forms.specs.Codes.{is_from, prim_val_type, declared_type_form, type_form}
+use Rattle.cm_binary_forms.specs.Texts.{Production, index, label}
+use Rattle.cm_binary_forms.specs.Types.{optional_of, optional, is_type_index, as_index, type_index, val_type_of, val_type, param, case_type, def_val_type_of, func_result_of, func_result, func_type, declared_type_of, declared_type, declared_type_from, declared_alias_of, declared_alias, type_bound_of, type_bound, export_desc_of, export_desc, export_decl, declaration_of, declaration, declarations, def_type_of, def_type, def_type_from, type_defs}
 use Rattle.cm_binary.proofs.Texts.{label_least, label_written, extern_name_least, extern_name_writes}
 use Rattle.cm_binary.proofs.AliasBytes.{outer_type_least, outer_type_written}
 

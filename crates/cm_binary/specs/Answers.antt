@@ -1,13 +1,13 @@
 -- What reading a file answers, want of memory aside.
 use Rattle.std.specs.Prelude.{◌≡◌, ◌⊎◌, ℕ, ◌+◌, ◌<◌, List, length, slice_index, Result, Ok, Err}
 use Rattle.std.specs.Prelude.{MatchResult}
-use Rattle.cm_grammar.specs.declared.fault.Fault.{Fault}
-use Rattle.cm_grammar.specs.Faults.{flaw}
-use Rattle.cm_component.specs.Trees.{SectionTree}
-use Rattle.cm_reading_codes.specs.declared.fault.DecodeFault.{DecodeFault}
-use Rattle.cm_reading_codes.specs.declared.fault.DecodeReason.{DecodeReason}
-use Rattle.cm_reading_codes.specs.declared.fault.DecodeReason.TheVariants.{Memory}
-use Rattle.cm_reading.specs.File.{Spells, FirstFault}
+use Rattle.cm_binary_grammar.specs.declared.fault.Fault.{Fault}
+use Rattle.cm_binary_grammar.specs.Faults.{flaw}
+use Rattle.cm_binary_model.specs.Trees.{SectionTree}
+use Rattle.cm_binary_forms.specs.declared.fault.DecodeFault.{DecodeFault}
+use Rattle.cm_binary_forms.specs.declared.fault.DecodeReason.{DecodeReason}
+use Rattle.cm_binary_forms.specs.declared.fault.DecodeReason.TheVariants.{Memory}
+use Rattle.cm_binary_forms.specs.File.{Spells, FirstFault}
 
 -- The answer is this component, or that memory was refused.
 abbrev pub Accepts : Result (List SectionTree) DecodeFault → List SectionTree → Type 0

@@ -1,12 +1,12 @@
 //! Aliases.
 
 ghost use Rattle.std.specs.Prelude.{◌≡◌, ◌++◌, OnOk};
-ghost use Rattle.cm_component.specs.Spelling.{outer_type_spelling};
+ghost use Rattle.cm_binary_model.specs.Spelling.{outer_type_spelling};
 
 use crate::instances::{core_sort_code, instance_sort_code};
 use crate::written::Written;
-use cm_component::Alias;
-use cm_grammar::{write_blob, write_u32};
+use cm_binary_grammar::{write_blob, write_u32};
+use cm_binary_model::Alias;
 use cm_types::OuterType;
 use std::alloc::AllocError;
 

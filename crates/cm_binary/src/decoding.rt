@@ -1,18 +1,17 @@
 //! Reading component files.
 
 ghost use Rattle.std.specs.Prelude.{◌≡◌, ℕ, ◌⊎◌, List, length, map, IfOk, IfErr, None};
-ghost use Rattle.cm_grammar.specs.declared.fault.End.TheVariants as end;
-ghost use Rattle.cm_component.specs.Trees.{SectionTree, section_tree};
-ghost use Rattle.cm_component.specs.Limits.{limit_fault};
-ghost use Rattle.cm_reading_codes.specs.declared.fault.DecodeReason.{DecodeReason};
-ghost use Rattle.cm_reading_codes.specs.declared.fault.DecodeReason.TheVariants as reasons;
-ghost use Rattle.cm_reading.specs.File.{file, Spells, FirstFault};
+ghost use Rattle.cm_binary_grammar.specs.declared.fault.End.TheVariants as end;
+ghost use Rattle.cm_binary_model.specs.Trees.{SectionTree, section_tree};
+ghost use Rattle.cm_binary_model.specs.Limits.{limit_fault};
+ghost use Rattle.cm_binary_forms.specs.declared.fault.DecodeReason.{DecodeReason};
+ghost use Rattle.cm_binary_forms.specs.declared.fault.DecodeReason.TheVariants as reasons;
+ghost use Rattle.cm_binary_forms.specs.File.{file, Spells, FirstFault};
 ghost use Rattle.cm_binary.specs.Answers.{Accepts, Refuses, Answers};
 
-use cm_component::{Component, Section};
-use cm_grammar::ReadError;
-use cm_reading::read_file;
-use cm_reading_codes::{DecodeFault, DecodeReason};
+use cm_binary_forms::{DecodeFault, DecodeReason, read_file};
+use cm_binary_grammar::ReadError;
+use cm_binary_model::{Component, Section};
 use std::alloc::Global;
 
 /// Reads a component file (Binary.md), whose bytes these are, all of them.

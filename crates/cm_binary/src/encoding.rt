@@ -1,14 +1,14 @@
 //! Writing component files.
 
 ghost use Rattle.std.specs.Prelude.{ℕ, ◌≡◌, ◌≤◌, List, length, IfOk};
-ghost use Rattle.cm_component.specs.Spelling.{spelling};
-ghost use Rattle.cm_reading.specs.File.{Spells};
+ghost use Rattle.cm_binary_model.specs.Spelling.{spelling};
+ghost use Rattle.cm_binary_forms.specs.File.{Spells};
 ghost use Rattle.cm_binary.specs.Answers.{Accepts};
 
 use crate::decoding::decode;
 use crate::write_file;
-use cm_component::Component;
-use cm_reading_codes::{DecodeFault, DecodeReason};
+use cm_binary_forms::{DecodeFault, DecodeReason};
+use cm_binary_model::Component;
 use std::alloc::{AllocError, Global};
 
 /// Writes a component as a file (Binary.md), with the shortest spelling of each number. Of all the

@@ -1,12 +1,12 @@
 //! Imports and exports.
 
 ghost use Rattle.std.specs.Prelude.{◌≡◌, ◌++◌, OnOk};
-ghost use Rattle.cm_component.specs.Spelling.{extern_name_spelling, desc_spelling};
-ghost use Rattle.cm_component.specs.Spelling.{export_sort_code};
+ghost use Rattle.cm_binary_model.specs.Spelling.{extern_name_spelling, desc_spelling};
+ghost use Rattle.cm_binary_model.specs.Spelling.{export_sort_code};
 
 use crate::written::Written;
-use cm_component::{Export, ExportSort, ExternDesc, Import};
-use cm_grammar::{write_blob, write_u32};
+use cm_binary_grammar::{write_blob, write_u32};
+use cm_binary_model::{Export, ExportSort, ExternDesc, Import};
 use cm_types::ExternName;
 use std::alloc::AllocError;
 

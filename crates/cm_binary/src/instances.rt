@@ -1,15 +1,15 @@
 //! Core instances and instances.
 
 ghost use Rattle.std.specs.Prelude.{◌≡◌};
-ghost use Rattle.cm_component.specs.Spelling.{core_sort_code, instance_sort_code};
+ghost use Rattle.cm_binary_model.specs.Spelling.{core_sort_code, instance_sort_code};
 
 use crate::externs::write_extern_name;
 use crate::written::{Written, write_vec};
-use cm_component::{
+use cm_binary_grammar::{write_blob, write_u32};
+use cm_binary_model::{
     CoreInlineExport, CoreInstance, CoreInstantiationArg, CoreSort, InlineExport, Instance,
     InstanceExportSort,
 };
-use cm_grammar::{write_blob, write_u32};
 use std::alloc::AllocError;
 
 impl Written for CoreInstantiationArg {

@@ -1,11 +1,11 @@
 //! Laws of component files.
 
 ghost use Rattle.std.specs.Prelude.{◌≡◌, ◌≢◌, ℕ, List, ◌++◌, length, Result};
-ghost use Rattle.cm_component.specs.Trees.{SectionTree};
-ghost use Rattle.cm_reading_codes.specs.declared.fault.DecodeFault.{DecodeFault};
-ghost use Rattle.cm_reading_codes.specs.declared.fault.DecodeReason.{DecodeReason};
-ghost use Rattle.cm_reading_codes.specs.declared.fault.DecodeReason.TheVariants as reasons;
-ghost use Rattle.cm_reading.specs.File.{FirstFault};
+ghost use Rattle.cm_binary_model.specs.Trees.{SectionTree};
+ghost use Rattle.cm_binary_forms.specs.declared.fault.DecodeFault.{DecodeFault};
+ghost use Rattle.cm_binary_forms.specs.declared.fault.DecodeReason.{DecodeReason};
+ghost use Rattle.cm_binary_forms.specs.declared.fault.DecodeReason.TheVariants as reasons;
+ghost use Rattle.cm_binary_forms.specs.File.{FirstFault};
 ghost use Rattle.cm_binary.specs.Answers.{AreBytes, IsOnlyAnswer};
 
 /// A first fault stays the first fault whatever follows the bytes, unless it is that the input ends

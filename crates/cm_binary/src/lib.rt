@@ -1,24 +1,36 @@
 //! Component files: reading and writing them, each form with the shortest spelling of each number
 //! (Binary.md).
+//!
+//! Component files that come in pieces, are read from a reader, or written to a writer.
 #![tactic(auto)]
 
 mod aliases;
 mod canons;
+mod decoder;
 mod decoding;
 mod encoding;
 mod externs;
+mod fault;
+mod front;
+mod gathered;
 mod instances;
 pub mod laws;
+mod pieces;
 mod sections;
+mod streams;
 mod types;
 mod written;
 
-pub use cm_component::{
+pub use cm_binary_forms::{DecodeFault, DecodeReason, Feature};
+pub use cm_binary_model::{
     Alias, Canon, CanonOption, Component, CoreInlineExport, CoreInstance, CoreInstantiationArg,
     CoreSort, CustomSection, Export, ExportSort, ExternDesc, Import, InlineExport, Instance,
     InstanceExportSort, LimitFault, Section,
 };
-pub use cm_reading_codes::{DecodeFault, DecodeReason, Feature};
+pub use decoder::Decoder;
 pub use decoding::decode;
 pub use encoding::{encode, written_and_read};
+pub use fault::{WriteFault, WriteReason};
+pub use pieces::decode_pieces;
 pub use sections::write_file;
+pub use streams::{decode_from, write_to};

@@ -1,13 +1,13 @@
 //! Sections, and all of them.
 
 ghost use Rattle.std.specs.Prelude.{◌≡◌, ◌++◌, length, map, IfOk, OnOk};
-ghost use Rattle.cm_component.specs.Trees.{section_tree};
-ghost use Rattle.cm_component.specs.Spelling.{contents_spelling, section_id, section_spelling};
-ghost use Rattle.cm_component.specs.Spelling.{spelling};
+ghost use Rattle.cm_binary_model.specs.Trees.{section_tree};
+ghost use Rattle.cm_binary_model.specs.Spelling.{contents_spelling, section_id, section_spelling};
+ghost use Rattle.cm_binary_model.specs.Spelling.{spelling};
 
 use crate::written::write_vec;
-use cm_component::{COMPONENT_PREAMBLE, Section, contents_length, file_length};
-use cm_grammar::{write_blob, write_count};
+use cm_binary_grammar::{write_blob, write_count};
+use cm_binary_model::{COMPONENT_PREAMBLE, Section, contents_length, file_length};
 use std::alloc::{AllocError, Global};
 
 /// The bytes of a file with these sections, with the shortest spelling of each number. Memory is

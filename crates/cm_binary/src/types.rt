@@ -1,19 +1,19 @@
 //! Types.
 
 ghost use Rattle.std.specs.Prelude.{◌≡◌, ◌++◌, OnOk};
-ghost use Rattle.cm_grammar.specs.LebWriting.{shortest_unsigned};
+ghost use Rattle.cm_binary_grammar.specs.LebWriting.{shortest_unsigned};
 ghost use Rattle.cm_types.specs.DefTypes.{def_val_type_tree, func_type_tree};
 ghost use Rattle.cm_types.specs.DefTypes.{declared_type_tree};
-ghost use Rattle.cm_component.specs.Spelling.{optional_spelling, prim_val_type_code};
-ghost use Rattle.cm_component.specs.Spelling.{val_type_spelling, def_val_type_code};
-ghost use Rattle.cm_component.specs.Spelling.{def_val_type_parts};
-ghost use Rattle.cm_component.specs.Spelling.{result_spelling, func_spelling};
-ghost use Rattle.cm_component.specs.Spelling.{declared_type_spelling, export_desc_spelling};
+ghost use Rattle.cm_binary_model.specs.Spelling.{optional_spelling, prim_val_type_code};
+ghost use Rattle.cm_binary_model.specs.Spelling.{val_type_spelling, def_val_type_code};
+ghost use Rattle.cm_binary_model.specs.Spelling.{def_val_type_parts};
+ghost use Rattle.cm_binary_model.specs.Spelling.{result_spelling, func_spelling};
+ghost use Rattle.cm_binary_model.specs.Spelling.{declared_type_spelling, export_desc_spelling};
 
 use crate::aliases::write_outer_type;
 use crate::externs::write_extern_name;
 use crate::written::{Written, write_vec};
-use cm_grammar::{write_blob, write_s33, write_u32};
+use cm_binary_grammar::{write_blob, write_s33, write_u32};
 use cm_types::{
     CaseType, Declaration, DeclaredType, DefType, DefValType, ExportDesc, FuncType, Label,
     LabeledValType, PrimValType, TypeBound, ValType,

@@ -1,10 +1,10 @@
 //! What is written of values, one or several of them.
 
 ghost use Rattle.std.specs.Prelude.{◌≡◌, ◌++◌, map, OnOk};
-ghost use Rattle.cm_grammar.specs.Spelling.{vec_spelling};
+ghost use Rattle.cm_binary_grammar.specs.Spelling.{vec_spelling};
 
-use cm_component::Part;
-use cm_grammar::write_count;
+use cm_binary_grammar::write_count;
+use cm_binary_model::Part;
 use std::alloc::AllocError;
 
 /// A part of a file that is written.

@@ -10,3 +10,6 @@ pub mod HeadLaws
 pub mod LayoutLemmas
 pub mod LawsOfLayouts
 pub mod NumberLaws
+pub mod FlatSeen
+pub mod FlatLemmas
+pub mod SlotLaws

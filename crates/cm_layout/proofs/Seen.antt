@@ -6,7 +6,7 @@ use Rattle.cm_types.specs.Types.{Ty, Cases, bool, signed, unsigned, bits_8, bits
 use Rattle.cm_types.specs.declared.resource.ResourceId.{ResourceId}
 use Rattle.cm_types.specs.Limits.{nodes_of_cases, payload_nodes}
 use Rattle.cm_types.specs.TypeTrees.{type_of, field_of, case_of, fields_of, parts_of, cases_of, plain_from, case_before, shared_payload}
-use Rattle.cm_names.specs.declared.names.Label.{Label}
+use Rattle.cm_types.specs.declared.names.Label.{Label}
 use Rattle.cm_types.specs.declared.type_trees.TypeNode.{TypeNode, the_lemmas}
 use Rattle.cm_types.specs.declared.type_trees.TypeNode.TheViews as node
 use Rattle.cm_types.specs.declared.type_trees.TypeNode.TheVariants as leaf

@@ -6,3 +6,4 @@ pub mod Shapes
 pub mod Heads
 pub mod Layouts
 pub mod Laid
+pub mod FlatFuncs

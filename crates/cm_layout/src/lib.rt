@@ -1,10 +1,17 @@
 //! How values of component types lie in memory, and how many core values pass them
 //! (CanonicalABI.md, "Alignment", "Element Size" and "Flattening").
+//!
+//! The core values that values of component types are passed as, and the core signatures of
+//! functions (CanonicalABI.md, "Flattening").
 #![tactic(auto)]
 
 mod builders;
 mod cases;
 mod fields;
+mod flat_funcs;
+pub mod flat_laws;
+mod flat_whole_types;
+mod flattening;
 mod heads;
 pub mod laws;
 mod layouts;
@@ -15,6 +22,9 @@ mod steps;
 mod whole_types;
 
 pub use builders::{CasesBuilder, FieldsBuilder};
+pub use cm_types::{MAX_FLAT_PARAMS, MAX_FLAT_RESULTS};
+pub use flat_funcs::{FlatFunc, Side, flatten_func};
+pub use flat_whole_types::flatten;
 pub use heads::Head;
 pub use layouts::{Form, HandleType, Layout, Leaf, Part, Payload};
 pub use makers::{layout, layout_of_fields, layout_of_params};

@@ -9,7 +9,7 @@ pub use Rattle.cm_machine_model.specs.Fresh
 pub use Rattle.cm_machine_model.specs.History
 pub use Rattle.cm_machine_model.specs.Values
 pub use Rattle.cm_machine_model.specs.Guarded
-pub use Rattle.cm_set.specs.cm_core_funcs.CoreFuncs
+pub use Rattle.cm_machine_set.specs.cm_machine_plan.CoreFuncs
 pub mod Acting
 pub mod Doing
 pub mod Causes

@@ -15,7 +15,7 @@ ghost use Rattle.cm_machine.specs.Player.{closes_between};
 ghost use Rattle.cm_machine.specs.Player.{seat_after_close, is_taken};
 
 use cm_machine_model::{Event, Misuse, Move};
-use cm_set::Set;
+use cm_machine_set::Set;
 use std::alloc::Global;
 
 /// A guest: what the core module of an instance does, as a list of moves.

@@ -3,17 +3,17 @@ use Rattle.std.proofs.Common.{◌≡◌, ℕ, List, Option, Some, None, slice_ge
 use Rattle.std.proofs.lemmas.Option.{slice_get-get_or, slice_get-map, slice_get_past}
 use Rattle.std.specs.Slice.{IsItemAt}
 use Rattle.std.specs.Option.{option_map, option_and_then}
-use Rattle.cm_validity.specs.Definitions.{ExportDef, exported_func, exported_instance, FuncDef}
-use Rattle.cm_validity.specs.Definitions as definitions
-use Rattle.cm_validity.specs.Spaces.{Spaces, spaces_of}
-use Rattle.cm_serving.specs.cm_validate.Checked as checked
-use Rattle.cm_serving.specs.cm_validate.Exported.{exported_func_of, func_under}
-use Rattle.cm_serving.specs.cm_validate.declared.checked.Checked.{Checked}
-use Rattle.cm_links.specs.Origins.{Links, item_name}
-use Rattle.cm_links.specs.declared.component.Link.{Link}
-use Rattle.cm_links.specs.Imports.{export_in, links_of}
-use Rattle.cm_links.specs.Targets.{func_for, linked_func, serving_func}
-use Rattle.cm_serving.specs.cm_linker.Sets.{funcs_at, sections_of, set_of}
+use Rattle.cm_validate_model.specs.Definitions.{ExportDef, exported_func, exported_instance, FuncDef}
+use Rattle.cm_validate_model.specs.Definitions as definitions
+use Rattle.cm_validate_model.specs.Spaces.{Spaces, spaces_of}
+use Rattle.cm_match_serving.specs.cm_validate_spaces.Checked as checked
+use Rattle.cm_match_serving.specs.cm_validate_spaces.Exported.{exported_func_of, func_under}
+use Rattle.cm_match_serving.specs.cm_validate_spaces.declared.checked.Checked.{Checked}
+use Rattle.cm_match_model.specs.Origins.{Links, item_name}
+use Rattle.cm_match_model.specs.declared.component.Link.{Link}
+use Rattle.cm_match_model.specs.Imports.{export_in, links_of}
+use Rattle.cm_match_model.specs.Targets.{func_for, linked_func, serving_func}
+use Rattle.cm_match_serving.specs.Sets.{funcs_at, sections_of, set_of}
 
 -- what a look-up gives
 pub got : {X : Type 0} (xs : List X) (i : ℕ) (r : Option (Bor X)) → IsItemAt xs i r → option_map (λ x. x.now) r ≡ slice_get xs i

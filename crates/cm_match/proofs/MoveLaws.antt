@@ -4,14 +4,14 @@ use Rattle.std.proofs.lemmas.Bool.{cases_lt, lt-ltb, le-ltb, lt-leb}
 use Rattle.cm_types.specs.Signatures.{ItemTy, NamedItem, func_item, equal_type, equal_resource, fresh_resource}
 use Rattle.cm_types.specs.Types.{Ty, FuncTy}
 use Rattle.cm_types.specs.declared.resource.ResourceId.{ResourceId}
-use Rattle.cm_replaced.specs.Moves.{moved as moved_range}
-use Rattle.cm_replaced.specs.Replaced.{replaced, replaced_func}
-use Rattle.cm_placed.specs.Instances.{numbered, replaced_desc, replaced_item}
-use Rattle.cm_validity.specs.Definitions.{InstanceTy}
-use Rattle.cm_validity.specs.Moves.{moved_id, moved_type, moved_func, moved_item}
-use Rattle.cm_validity.specs.Counted.{IsCounted, IsFuncCounted, IsItemCounted, IsNumbered}
-use Rattle.cm_validity.specs.CountedSpaces.{AreItemsCounted}
-use Rattle.cm_instance_items.specs.Shared.{item_from}
+use Rattle.cm_types_resources.specs.Moves.{moved as moved_range}
+use Rattle.cm_types_resources.specs.Replaced.{replaced, replaced_func}
+use Rattle.cm_types_placed.specs.Instances.{numbered, replaced_desc, replaced_item}
+use Rattle.cm_validate_model.specs.Definitions.{InstanceTy}
+use Rattle.cm_validate_model.specs.Moves.{moved_id, moved_type, moved_func, moved_item}
+use Rattle.cm_validate_model.specs.Counted.{IsCounted, IsFuncCounted, IsItemCounted, IsNumbered}
+use Rattle.cm_validate_model.specs.CountedSpaces.{AreItemsCounted}
+use Rattle.cm_validate_items.specs.Shared.{item_from}
 
 abbrev pub TypesMove : Type 0
 TypesMove = (i : InstanceTy) (next : ℕ) (t : Ty) → IsCounted (i.first + i.fresh) t → moved_type i next t ≡ replaced (moved_range i.first i.fresh next) t

@@ -10,22 +10,22 @@ use Rattle.std.specs.declared.cmp.Ordering.TheVariants.{Less, Equal, Greater}
 use Rattle.std.proofs.lemmas.Bool.{and_parts}
 use Rattle.std.proofs.lemmas.Grind.{common_steps}
 use Rattle.std.proofs.lemmas.Option.{slice_get_within, slice_get-map}
-use Rattle.cm_component.specs.Trees.{SectionTree}
+use Rattle.cm_binary_model.specs.Trees.{SectionTree}
 use Rattle.cm_types.specs.Signatures.{NamedExtern, NamedItem}
 use Rattle.cm_types.specs.Signatures as extern
-use Rattle.cm_validity.specs.Definitions.{ExportDef, InstanceTy, NamedMember, exported_instance, instance_type}
-use Rattle.cm_validity.specs.Spaces.{Spaces, next_resource, spaces_of}
-use Rattle.cm_validity.specs.CountedSpaces.{AreSpacesCounted, IsDefCounted, IsInstanceCounted}
-use Rattle.cm_instance_items.specs.Shared.{AreShared, IsImportOf, exported_instance_in, export_at, import_type_in, item_from}
-use Rattle.cm_instance_items.specs.declared.shared.Shared.{Shared}
-use Rattle.cm_serving.specs.cm_validate.Checked.{sections_in, spaces_in}
-use Rattle.cm_serving.specs.cm_validate.declared.checked.Checked.{Checked}
-use Rattle.cm_links.specs.declared.component.Link.{Link}
-use Rattle.cm_links.specs.Imports.{import_at, import_in, link_of, links_of}
-use Rattle.cm_links.specs.Links.{IsServed}
-use Rattle.cm_serving.specs.cm_linker.Sets.{sections_of, set_of}
-use Rattle.cm_links.specs.Alike.{IsLinkedTo}
-use Rattle.cm_links.specs.Brought.{OwnsWhatItBrings}
+use Rattle.cm_validate_model.specs.Definitions.{ExportDef, InstanceTy, NamedMember, exported_instance, instance_type}
+use Rattle.cm_validate_model.specs.Spaces.{Spaces, next_resource, spaces_of}
+use Rattle.cm_validate_model.specs.CountedSpaces.{AreSpacesCounted, IsDefCounted, IsInstanceCounted}
+use Rattle.cm_validate_items.specs.Shared.{AreShared, IsImportOf, exported_instance_in, export_at, import_type_in, item_from}
+use Rattle.cm_validate_items.specs.declared.shared.Shared.{Shared}
+use Rattle.cm_match_serving.specs.cm_validate_spaces.Checked.{sections_in, spaces_in}
+use Rattle.cm_match_serving.specs.cm_validate_spaces.declared.checked.Checked.{Checked}
+use Rattle.cm_match_model.specs.declared.component.Link.{Link}
+use Rattle.cm_match_model.specs.Imports.{import_at, import_in, link_of, links_of}
+use Rattle.cm_match_model.specs.Links.{IsServed}
+use Rattle.cm_match_serving.specs.Sets.{sections_of, set_of}
+use Rattle.cm_match_model.specs.Alike.{IsLinkedTo}
+use Rattle.cm_match_model.specs.Brought.{OwnsWhatItBrings}
 use Rattle.cm_match.specs.Pairs.{AreTables, IsNoted, IsPairOf, IsServedPair, Pair, pair_cmp, pair_eq}
 use Rattle.cm_match.specs.declared.judged.Judged.{Judged}
 use Rattle.std.specs.Prelude.{IfSome, is_some, not}

@@ -4,25 +4,25 @@ use Rattle.std.specs.List.{AllByRecursion}
 use Rattle.std.specs.Option.{option_map}
 use Rattle.std.specs.Prelude.{option_to_list}
 use Rattle.cm_types.specs.Signatures.{NamedExtern}
-use Rattle.cm_validity.specs.Spaces.{Spaces}
-use Rattle.cm_links.specs.declared.fault.LinkFault.{LinkFault}
-use Rattle.cm_links.specs.declared.fault.LinkReason.{LinkReason}
-use Rattle.cm_links.specs.declared.fault.LinkReason.TheVariants as reason
-use Rattle.cm_links.specs.declared.plan.PlanLine.{PlanLine}
-use Rattle.cm_links.specs.Imports.{ImportAt, all_imports_from, import_at, import_in, imports_from, imports_of, link_of}
-use Rattle.cm_links.specs.Links.{IsNotServed, IsServed, lines_of, plan_line}
+use Rattle.cm_validate_model.specs.Spaces.{Spaces}
+use Rattle.cm_match_model.specs.declared.fault.LinkFault.{LinkFault}
+use Rattle.cm_match_model.specs.declared.fault.LinkReason.{LinkReason}
+use Rattle.cm_match_model.specs.declared.fault.LinkReason.TheVariants as reason
+use Rattle.cm_match_model.specs.declared.plan.PlanLine.{PlanLine}
+use Rattle.cm_match_model.specs.Imports.{ImportAt, all_imports_from, import_at, import_in, imports_from, imports_of, link_of}
+use Rattle.cm_match_model.specs.Links.{IsNotServed, IsServed, lines_of, plan_line}
 use Rattle.cm_match.specs.Before.{AreServedBefore, imports_at, imports_before}
 use Rattle.std.specs.Bool.{⊤}
 use Rattle.cm_types.specs.Signatures.{ExternTy, ItemTy}
 use Rattle.cm_types.specs.Signatures as extern
-use Rattle.cm_links.specs.declared.plan.TheConstants.{MAX_COMPONENTS}
-use Rattle.cm_validity.specs.Definitions.{ExportDef, exported_func, exported_instance}
-use Rattle.cm_serving.specs.cm_validate.Checked as checked
-use Rattle.cm_serving.specs.cm_validate.declared.checked.Checked.{Checked}
-use Rattle.cm_links.specs.Links.{CanBeLinked, IsLinkFault, plan_of}
-use Rattle.cm_links.specs.Serving.{IsExternUnserved, IsUnserved, item_under}
-use Rattle.cm_serving.specs.cm_linker.Sets.{sections_of, set_of}
-use Rattle.cm_validity.specs.Spaces.{spaces_of}
+use Rattle.cm_match_model.specs.declared.plan.TheConstants.{MAX_COMPONENTS}
+use Rattle.cm_validate_model.specs.Definitions.{ExportDef, exported_func, exported_instance}
+use Rattle.cm_match_serving.specs.cm_validate_spaces.Checked as checked
+use Rattle.cm_match_serving.specs.cm_validate_spaces.declared.checked.Checked.{Checked}
+use Rattle.cm_match_model.specs.Links.{CanBeLinked, IsLinkFault, plan_of}
+use Rattle.cm_match_model.specs.Serving.{IsExternUnserved, IsUnserved, item_under}
+use Rattle.cm_match_serving.specs.Sets.{sections_of, set_of}
+use Rattle.cm_validate_model.specs.Spaces.{spaces_of}
 use Rattle.cm_match.specs.Walks.{HasServed, IsFirstOf, IsWalkFault, Serves, Stops}
 use Rattle.cm_match.proofs.Follow.{space_at}
 

@@ -2,9 +2,9 @@
 use Rattle.std.specs.Prelude.{ℕ, List, [], ◌++◌, slice_get, take}
 use Rattle.std.specs.List.{AllByRecursion}
 use Rattle.std.specs.Option.{option_map_or}
-use Rattle.cm_validity.specs.Spaces.{Spaces}
-use Rattle.cm_links.specs.Imports.{ImportAt, all_imports_from, imports_from}
-use Rattle.cm_links.specs.Links.{IsServed}
+use Rattle.cm_validate_model.specs.Spaces.{Spaces}
+use Rattle.cm_match_model.specs.Imports.{ImportAt, all_imports_from, imports_from}
+use Rattle.cm_match_model.specs.Links.{IsServed}
 
 -- those of one component
 abbrev pub imports_at : List Spaces → ℕ → List ImportAt

@@ -1,5 +1,4 @@
-pub use Rattle.cm_serving.specs.cm_validate
-pub use Rattle.cm_serving.specs.cm_index_spaces
+pub use Rattle.cm_match_serving.specs.cm_validate_spaces
 pub mod Pairs
 pub mod Before
 pub mod Walks

@@ -1,9 +1,9 @@
 -- The components of a linked set, and their index spaces.
 use Rattle.std.specs.Prelude.{List}
-use Rattle.cm_component.specs.Trees.{SectionTree}
-use Rattle.cm_validity.specs.Spaces.{Spaces}
-use Rattle.cm_serving.specs.cm_validate.declared.checked.Checked.{Checked}
-use Rattle.cm_serving.specs.cm_linker.Sets.{sections_of, set_of}
+use Rattle.cm_binary_model.specs.Trees.{SectionTree}
+use Rattle.cm_validate_model.specs.Spaces.{Spaces}
+use Rattle.cm_match_serving.specs.cm_validate_spaces.declared.checked.Checked.{Checked}
+use Rattle.cm_match_serving.specs.Sets.{sections_of, set_of}
 use Rattle.cm_match.specs.declared.linked.Linked.{Linked}
 
 abbrev pub components_in : Linked → List Checked

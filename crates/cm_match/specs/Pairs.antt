@@ -8,16 +8,16 @@ use Rattle.std.specs.Option.{option_and_then}
 use Rattle.std.specs.Ordering.{is_eq, nat_cmp, ordering_then}
 use Rattle.std.specs.declared.cmp.Ordering.{Ordering}
 use Rattle.cm_types.specs.Signatures.{NamedExtern}
-use Rattle.cm_validity.specs.Spaces.{Spaces}
-use Rattle.cm_instance_items.specs.Shared.{AreShared, exported_instance_in, import_type_in}
-use Rattle.cm_instance_items.specs.declared.shared.Shared.{Shared}
-use Rattle.cm_serving.specs.cm_validate.Checked.{spaces_in}
-use Rattle.cm_serving.specs.cm_validate.declared.checked.Checked.{Checked}
-use Rattle.cm_links.specs.declared.component.Link.{Link}
-use Rattle.cm_links.specs.Imports.{import_at, import_in, links_of}
-use Rattle.cm_links.specs.Links.{IsServed}
-use Rattle.cm_serving.specs.cm_linker.Sets.{set_of}
-use Rattle.cm_serving.specs.Tables.{AreKnown}
+use Rattle.cm_validate_model.specs.Spaces.{Spaces}
+use Rattle.cm_validate_items.specs.Shared.{AreShared, exported_instance_in, import_type_in}
+use Rattle.cm_validate_items.specs.declared.shared.Shared.{Shared}
+use Rattle.cm_match_serving.specs.cm_validate_spaces.Checked.{spaces_in}
+use Rattle.cm_match_serving.specs.cm_validate_spaces.declared.checked.Checked.{Checked}
+use Rattle.cm_match_model.specs.declared.component.Link.{Link}
+use Rattle.cm_match_model.specs.Imports.{import_at, import_in, links_of}
+use Rattle.cm_match_model.specs.Links.{IsServed}
+use Rattle.cm_match_serving.specs.Sets.{set_of}
+use Rattle.cm_match_serving.specs.Tables.{AreKnown}
 use Rattle.cm_match.specs.declared.judged.Judged.{Judged}
 
 -- ---- tables

@@ -1,10 +1,10 @@
 -- What imported functions come to (how components are linked is this project's own choice).
 use Rattle.std.specs.Prelude.{List}
-use Rattle.cm_placed.specs.Placed.{placed_func}
-use Rattle.cm_serving.specs.cm_validate.declared.checked.Checked.{Checked}
-use Rattle.cm_serving.specs.cm_entries.Entries.{func_def}
-use Rattle.cm_links.specs.Targets as targets
-use Rattle.cm_serving.specs.cm_linker.Sets.{funcs_at}
+use Rattle.cm_types_placed.specs.Placed.{placed_func}
+use Rattle.cm_match_serving.specs.cm_validate_spaces.declared.checked.Checked.{Checked}
+use Rattle.cm_match_serving.specs.cm_validate_entries.Entries.{func_def}
+use Rattle.cm_match_model.specs.Targets as targets
+use Rattle.cm_match_serving.specs.Sets.{funcs_at}
 use Rattle.cm_match.specs.declared.following.ServingFunc.{ServingFunc}
 use Rattle.cm_match.specs.declared.target.Target.{Target}
 

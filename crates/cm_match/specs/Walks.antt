@@ -2,14 +2,14 @@
 -- this project's own choice).
 use Rattle.std.specs.Prelude.{◌≡◌, ◌⊎◌, ℕ, List, [], ◌∷◌, ◌++◌, Some}
 use Rattle.cm_types.specs.Signatures.{NamedExtern}
-use Rattle.cm_validity.specs.Spaces.{Spaces}
-use Rattle.cm_links.specs.declared.fault.LinkFault.{LinkFault}
-use Rattle.cm_links.specs.declared.fault.LinkReason.{LinkReason}
-use Rattle.cm_links.specs.declared.fault.LinkReason.TheVariants as reason
-use Rattle.cm_links.specs.declared.plan.PlanLine.{PlanLine}
-use Rattle.cm_links.specs.Imports.{ImportAt, import_at, import_in, imports_of}
-use Rattle.cm_links.specs.Links.{IsNotServed, IsServed, lines_of}
-use Rattle.cm_links.specs.Serving.{IsFirst}
+use Rattle.cm_validate_model.specs.Spaces.{Spaces}
+use Rattle.cm_match_model.specs.declared.fault.LinkFault.{LinkFault}
+use Rattle.cm_match_model.specs.declared.fault.LinkReason.{LinkReason}
+use Rattle.cm_match_model.specs.declared.fault.LinkReason.TheVariants as reason
+use Rattle.cm_match_model.specs.declared.plan.PlanLine.{PlanLine}
+use Rattle.cm_match_model.specs.Imports.{ImportAt, import_at, import_in, imports_of}
+use Rattle.cm_match_model.specs.Links.{IsNotServed, IsServed, lines_of}
+use Rattle.cm_match_model.specs.Serving.{IsFirst}
 use Rattle.cm_match.specs.Before.{AreServedBefore, imports_before}
 
 -- the imports before a place are served, and these are their lines

@@ -2,19 +2,19 @@
 
 ghost use Rattle.std.specs.Prelude.{◌≡◌, IfSome, Some, length, slice_get, true};
 ghost use Rattle.std.specs.Option.{option_and_then, option_map};
-ghost use Rattle.cm_validity.specs.Spaces.{Spaces};
-ghost use Rattle.cm_placed.specs.Placed.{is_there};
-ghost use Rattle.cm_serving.specs.cm_entries.Entries.{func_def, is_func_there};
-ghost use Rattle.cm_serving.specs.cm_validate.Exported.{func_under};
-ghost use Rattle.cm_links.specs.Imports.{export_in, links_of};
-ghost use Rattle.cm_links.specs.Targets.{func_for, serving_func, target_within};
-ghost use Rattle.cm_serving.specs.cm_linker.Linkings.{components_in, set_in};
-ghost use Rattle.cm_serving.specs.cm_linker.Sets.{funcs_at};
+ghost use Rattle.cm_validate_model.specs.Spaces.{Spaces};
+ghost use Rattle.cm_types_placed.specs.Placed.{is_there};
+ghost use Rattle.cm_match_serving.specs.cm_validate_entries.Entries.{func_def, is_func_there};
+ghost use Rattle.cm_match_serving.specs.cm_validate_spaces.Exported.{func_under};
+ghost use Rattle.cm_match_model.specs.Imports.{export_in, links_of};
+ghost use Rattle.cm_match_model.specs.Targets.{func_for, serving_func, target_within};
+ghost use Rattle.cm_match_serving.specs.Linkings.{components_in, set_in};
+ghost use Rattle.cm_match_serving.specs.Sets.{funcs_at};
 ghost use Rattle.cm_match.specs.Targets.{func_at, target_def};
 
 use crate::target::Target;
-use cm_links::Link;
-use cm_serving::{FuncEntry, Linking};
+use cm_match_model::Link;
+use cm_match_serving::{FuncEntry, Linking};
 
 /// A function of a component, by its place in the set.
 #[derive(Clone, Copy)]

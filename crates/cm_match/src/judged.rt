@@ -3,11 +3,11 @@
 ghost use Rattle.std.specs.Prelude.{◌≡◌, IfOk, OnOk};
 ghost use Rattle.cm_match.specs.Pairs.{AreTables, instance_of_export, type_of_import};
 
-use cm_instance_items::Shared;
-use cm_links::alike_laws::imports_are_served_alike;
-use cm_links::{Link, LinkReason};
-use cm_serving::{Checked, Linking, Tables};
-use cm_validity::counted_laws::{moves_of_what_is_counted, resources_are_counted};
+use cm_match_model::alike_laws::imports_are_served_alike;
+use cm_match_model::{Link, LinkReason};
+use cm_match_serving::{Checked, Linking, Tables};
+use cm_validate_items::Shared;
+use cm_validate_model::counted_laws::{moves_of_what_is_counted, resources_are_counted};
 use std::alloc::{AllocError, Global};
 use std::collections::BTreeSet;
 
@@ -53,10 +53,10 @@ fn instance_of(tables: &[Shared], link: Link) -> Option<usize>
 impl Judged {
     ghost use Rattle.std.specs.Prelude.{IfSome, IsTrue, Some};
     ghost use Rattle.cm_types.specs.Signatures.{NamedExtern};
-    ghost use Rattle.cm_links.specs.Imports.{import_at, import_in};
-    ghost use Rattle.cm_serving.specs.cm_linker.Linkings.{components_in, set_in};
+    ghost use Rattle.cm_match_model.specs.Imports.{import_at, import_in};
+    ghost use Rattle.cm_match_serving.specs.Linkings.{components_in, set_in};
     ghost use Rattle.cm_match.specs.Pairs.{AreJudged, IsNoted, IsPairOf};
-    ghost use Rattle.cm_serving.specs.Answers.{JudgesImport};
+    ghost use Rattle.cm_match_serving.specs.Answers.{JudgesImport};
 
     /// Nothing is judged yet of these components. `AllocError` comes where there is no memory.
     pub fn new(alloc: Global, components: &[Checked<'_>]) -> Result<Judged, AllocError>

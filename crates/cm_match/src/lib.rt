@@ -11,8 +11,8 @@ mod target;
 mod told;
 mod walk;
 
-pub use cm_links::{LinkFault, LinkReason, MAX_COMPONENTS, PlanLine};
-pub use cm_serving::{Checked, CoreFuncEntry, ExportEntry, MadeFunc};
+pub use cm_match_model::{LinkFault, LinkReason, MAX_COMPONENTS, PlanLine};
+pub use cm_match_serving::{Checked, CoreFuncEntry, ExportEntry, MadeFunc};
 pub use linked::Linked;
 pub use linking::link;
 pub use target::Target;

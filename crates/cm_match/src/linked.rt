@@ -1,14 +1,13 @@
 //! A linked set of components.
 
 ghost use Rattle.std.specs.Prelude.{◌≡◌, ◌≤◌, length};
-ghost use Rattle.cm_links.specs.declared.plan.TheConstants.{MAX_COMPONENTS};
-ghost use Rattle.cm_links.specs.Links.{CanBeLinked, plan_of};
-ghost use Rattle.cm_serving.specs.cm_linker.Choices.{AreChoices};
-ghost use Rattle.cm_serving.specs.cm_linker.Sets.{set_of};
+ghost use Rattle.cm_match_model.specs.declared.plan.TheConstants.{MAX_COMPONENTS};
+ghost use Rattle.cm_match_model.specs.Links.{CanBeLinked, plan_of};
+ghost use Rattle.cm_match_serving.specs.Choices.{AreChoices};
+ghost use Rattle.cm_match_serving.specs.Sets.{set_of};
 
-use cm_candidates::Candidate;
-use cm_links::PlanLine;
-use cm_serving::Checked;
+use cm_match_model::{Candidate, PlanLine};
+use cm_match_serving::Checked;
 
 /// A set of components whose imports are all served by components before.
 #[derive(Drop)]

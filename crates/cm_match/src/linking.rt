@@ -1,21 +1,20 @@
 //! Whether components can be linked.
 
 ghost use Rattle.std.specs.Prelude.{◌≡◌, ◌⊎◌, ◌<◌, ◌≤◌, [], length, IfErr, IfOk, IsErrOf};
-ghost use Rattle.cm_links.specs.declared.fault.LinkReason.TheVariants as reason;
-ghost use Rattle.cm_links.specs.declared.plan.TheConstants.{MAX_COMPONENTS};
-ghost use Rattle.cm_links.specs.Links.{CanBeLinked, IsLinkFault};
-ghost use Rattle.cm_serving.specs.cm_linker.Choices.{AreChoices};
-ghost use Rattle.cm_serving.specs.cm_linker.Sets.{set_of};
+ghost use Rattle.cm_match_model.specs.declared.fault.LinkReason.TheVariants as reason;
+ghost use Rattle.cm_match_model.specs.declared.plan.TheConstants.{MAX_COMPONENTS};
+ghost use Rattle.cm_match_model.specs.Links.{CanBeLinked, IsLinkFault};
+ghost use Rattle.cm_match_serving.specs.Choices.{AreChoices};
+ghost use Rattle.cm_match_serving.specs.Sets.{set_of};
 ghost use Rattle.cm_match.specs.Before.{AreServedBefore};
 ghost use Rattle.cm_match.specs.Linked.{components_in};
 ghost use Rattle.cm_match.specs.Walks.{HasServed, IsWalkFault};
 
 use crate::linked::Linked;
 use crate::walk::walk;
-use cm_candidates::Candidate;
-use cm_links::laws::sets_have_one_answer;
-use cm_links::{LinkFault, LinkReason, MAX_COMPONENTS, PlanLine};
-use cm_serving::{Checked, Linking, choices};
+use cm_match_model::laws::sets_have_one_answer;
+use cm_match_model::{Candidate, LinkFault, LinkReason, MAX_COMPONENTS, PlanLine};
+use cm_match_serving::{Checked, Linking, choices};
 use std::alloc::{AllocError, Global};
 
 fn set_fault(reason: LinkReason) -> LinkFault

@@ -3,20 +3,20 @@
 use crate::following::target_within;
 use crate::linked::Linked;
 use crate::target::Target;
-use cm_links::PlanLine;
-use cm_serving::{Checked, Linking};
+use cm_match_model::PlanLine;
+use cm_match_serving::{Checked, Linking};
 use cm_types::ResourceId;
 
 impl<'a> Linked<'a> {
     ghost use Rattle.std.specs.Prelude.{◌≡◌, IfSome, length, true};
     ghost use Rattle.std.specs.Option.{option_map};
-    ghost use Rattle.cm_placed.specs.Placed.{is_there};
-    ghost use Rattle.cm_links.specs.Origins.{origin_of, resource_of};
-    ghost use Rattle.cm_links.specs.Imports.{links_of};
-    ghost use Rattle.cm_links.specs.Links.{CanBeLinked, plan_of};
-    ghost use Rattle.cm_links.specs.Targets.{targets_of};
-    ghost use Rattle.cm_serving.specs.cm_linker.Linkings as linking;
-    ghost use Rattle.cm_serving.specs.cm_linker.Sets.{funcs_at};
+    ghost use Rattle.cm_types_placed.specs.Placed.{is_there};
+    ghost use Rattle.cm_match_model.specs.Origins.{origin_of, resource_of};
+    ghost use Rattle.cm_match_model.specs.Imports.{links_of};
+    ghost use Rattle.cm_match_model.specs.Links.{CanBeLinked, plan_of};
+    ghost use Rattle.cm_match_model.specs.Targets.{targets_of};
+    ghost use Rattle.cm_match_serving.specs.Linkings as linking;
+    ghost use Rattle.cm_match_serving.specs.Sets.{funcs_at};
     ghost use Rattle.cm_match.specs.Linked.{components_in, set_in};
     ghost use Rattle.cm_match.specs.Targets.{target_def};
 

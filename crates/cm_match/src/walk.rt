@@ -1,15 +1,14 @@
 //! The imports of a set, one after another, to the first that is not served.
 
 ghost use Rattle.std.specs.Prelude.{◌≡◌, ◌<◌, ◌+◌, IfErr, IfOk, OnOk, Some, length, slice_get};
-ghost use Rattle.cm_validity.specs.Spaces.{Spaces};
-ghost use Rattle.cm_serving.specs.cm_linker.Linkings.{components_in, set_in};
+ghost use Rattle.cm_validate_model.specs.Spaces.{Spaces};
+ghost use Rattle.cm_match_serving.specs.Linkings.{components_in, set_in};
 ghost use Rattle.cm_match.specs.Pairs.{AreJudged};
 ghost use Rattle.cm_match.specs.Walks.{AddsLine, HasServed, IsWalkFault, Serves, Stops};
 
 use crate::judged::Judged;
-use cm_candidates::Candidate;
-use cm_links::{LinkFault, LinkReason, PlanLine};
-use cm_serving::Linking;
+use cm_match_model::{Candidate, LinkFault, LinkReason, PlanLine};
+use cm_match_serving::Linking;
 use std::alloc::{AllocError, Global};
 
 /// Adds the line of an import that is linked, to its only candidate.

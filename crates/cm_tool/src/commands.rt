@@ -9,7 +9,7 @@ use cm_tool_files::{
     show_component, text_of,
 };
 use cm_tool_lines::{Linked, Set, SetSize, write_plan};
-use cm_words::{Request, WordsFault};
+use cm_tool_words::{Request, WordsFault};
 use std::alloc::Global;
 use std::io;
 use std::io::Write;

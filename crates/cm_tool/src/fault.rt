@@ -3,13 +3,13 @@
 ghost use Rattle.std.specs.Prelude.{◌≡◌};
 ghost use Rattle.cm_tool.specs.declared.fault.Fault.TheVariants as fault;
 
-use cm_pages::ShowFault;
 use cm_tool_files::{BadFile, Unfit, write_show_fault};
 use cm_tool_lines::{
     BadLine, Drive, LinkFault, Misuse, SetSize, SignatureNames, write_bad_line, write_begin_fault,
     write_limit, write_link_fault, write_set_fault,
 };
-use cm_words::USAGE;
+use cm_tool_show::ShowFault;
+use cm_tool_words::USAGE;
 use std::alloc::{AllocError, AllocFailed};
 use std::io::Write;
 use std::{fmt, io};

@@ -2,12 +2,12 @@
 -- project's own choice).
 use Rattle.std.specs.Prelude.{◌≡◌, ◌⊎◌, ℕ, List, [], ◌∷◌}
 use Rattle.cm_types.specs.Signatures.{SignatureTy}
-use Rattle.cm_conforms.specs.Conformance.{Conforms, IsFirstFault}
-use Rattle.cm_conforms.specs.declared.fault.ConformReason.TheVariants as conform
-use Rattle.cm_wit.specs.Packages.{IsRefused}
-use Rattle.cm_wit.specs.Texts.{IsPackage}
+use Rattle.cm_wit_conforms.specs.Conformance.{Conforms, IsFirstFault}
+use Rattle.cm_wit_conforms.specs.declared.fault.ConformReason.TheVariants as conform
+use Rattle.cm_wit_package.specs.Packages.{IsRefused}
+use Rattle.cm_wit_package.specs.Texts.{IsPackage}
 use Rattle.cm_wit_signature.specs.cm_wit_items.Faults.{IsFaultOfWorld, IsWorldSignature}
-use Rattle.cm_wit_text.specs.Trees.{File}
+use Rattle.cm_wit_reading.specs.Trees.{File}
 use Rattle.cm_tool_files.specs.declared.unfit.UnfitReason.{UnfitReason}
 use Rattle.cm_tool_files.specs.declared.unfit.UnfitReason.TheVariants as reason
 

@@ -1,11 +1,11 @@
 -- Why bytes are no valid component (Binary.md; Explainer.md, "Component Definitions").
 use Rattle.std.specs.Prelude.{◌≡◌, ◌⊎◌, ℕ, List, slice_get}
-use Rattle.cm_component.specs.Trees.{SectionTree}
-use Rattle.cm_reading.specs.File.{FirstFault}
-use Rattle.cm_reading_codes.specs.declared.fault.DecodeReason.TheVariants as decoding
-use Rattle.cm_validity.specs.declared.fault.ValidReason.TheVariants as validity
-use Rattle.cm_validity.specs.Valid.{IsFaultOf}
-use Rattle.cm_checked_signature.specs.cm_validate.Walks.{IsFineBefore}
+use Rattle.cm_binary_model.specs.Trees.{SectionTree}
+use Rattle.cm_binary_forms.specs.File.{FirstFault}
+use Rattle.cm_binary_forms.specs.declared.fault.DecodeReason.TheVariants as decoding
+use Rattle.cm_validate_model.specs.declared.fault.ValidReason.TheVariants as validity
+use Rattle.cm_validate_model.specs.Valid.{IsFaultOf}
+use Rattle.cm_validate_signature.specs.cm_validate_spaces.Walks.{IsFineBefore}
 use Rattle.cm_tool_files.specs.declared.bad_file.FileReason.{FileReason}
 use Rattle.cm_tool_files.specs.declared.bad_file.FileReason.TheVariants as reason
 

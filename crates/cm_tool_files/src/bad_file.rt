@@ -6,7 +6,7 @@ ghost use Rattle.cm_tool_files.specs.Numbers.{file_status};
 use crate::files::FileFault;
 use crate::words::{write_bad_utf8, write_decode_fault, write_file_fault, write_valid_fault};
 use cm_binary::DecodeFault;
-use cm_checked_signature::ValidFault;
+use cm_validate_signature::ValidFault;
 use std::fmt;
 
 /// Why a file is not what a command wants.

@@ -1,18 +1,18 @@
 //! Whether a component fits a world.
 
 ghost use Rattle.std.specs.Prelude.{IfErr, OnOk};
-ghost use Rattle.cm_checked_signature.specs.cm_validate.Checked.{spaces_in};
-ghost use Rattle.cm_checked_signature.specs.Exports.{signature_in};
+ghost use Rattle.cm_validate_signature.specs.cm_validate_spaces.Checked.{spaces_in};
+ghost use Rattle.cm_validate_signature.specs.Exports.{signature_in};
 ghost use Rattle.cm_tool_files.specs.Conforming.{ConformsTo, IsUnfit};
 
 use crate::unfit::UnfitReason;
 use crate::worlds::world_of;
-use cm_checked_signature::{Checked, signature};
-use cm_conforms::conforms;
+use cm_validate_signature::{Checked, signature};
+use cm_wit_conforms::conforms;
 use std::alloc::Global;
 
 /// Whether what a component imports and exports fits the world of a full name of the package that a
-/// text is (`world_of`, `cm_conforms::conforms`).
+/// text is (`world_of`, `cm_wit_conforms::conforms`).
 ///
 /// The reason is the first fault of the text (`Wit`), else that of its world (`World`), else that
 /// of the component's signature against the world's (`Signature`); `Memory`, there or by itself,

@@ -3,17 +3,17 @@
 ghost use Rattle.std.specs.Prelude.{◌≡◌, IfOk, IfErr, OnOk, List};
 ghost use Rattle.std.specs.Str.{IsUtf8};
 ghost use Rattle.std.specs.Str.Lossy.{utf8_valid_len};
-ghost use Rattle.cm_component.specs.Trees.{SectionTree};
-ghost use Rattle.cm_reading.specs.File.{Spells};
-ghost use Rattle.cm_validity.specs.Valid.{IsValid};
-ghost use Rattle.cm_checked_signature.specs.cm_validate.Checked.{sections_in};
+ghost use Rattle.cm_binary_model.specs.Trees.{SectionTree};
+ghost use Rattle.cm_binary_forms.specs.File.{Spells};
+ghost use Rattle.cm_validate_model.specs.Valid.{IsValid};
+ghost use Rattle.cm_validate_signature.specs.cm_validate_spaces.Checked.{sections_in};
 ghost use Rattle.cm_tool_files.specs.Refusals.{IsNoComponent, IsNoText, IsNotValid};
 ghost use Rattle.cm_tool_files.specs.Refusals.{IsWantOfMemory};
 
 use crate::bad_file::{BadFile, FileReason};
 use crate::files::Files;
 use cm_binary::{Component, decode};
-use cm_checked_signature::{Checked, validate};
+use cm_validate_signature::{Checked, validate};
 use std::alloc::Global;
 
 /// The bytes of a file.

@@ -2,19 +2,19 @@
 
 ghost use Rattle.std.specs.Prelude.{◌≡◌, ◌≤◌, ◌<◌, IfOk, IsErrOf, length};
 ghost use Rattle.std.specs.String.{string_bytes};
-ghost use Rattle.cm_checked_signature.specs.cm_validate.Checked.{spaces_in};
-ghost use Rattle.cm_checked_signature.specs.Exports.{signature_in};
-ghost use Rattle.cm_show.specs.Shown.{shown};
-ghost use Rattle.cm_pages.specs.declared.fault.ShowFault.TheVariants as fault;
-ghost use Rattle.cm_pages.specs.declared.page.TheConstants.{MAX_SHOWN};
+ghost use Rattle.cm_validate_signature.specs.cm_validate_spaces.Checked.{spaces_in};
+ghost use Rattle.cm_validate_signature.specs.Exports.{signature_in};
+ghost use Rattle.cm_tool_show.specs.Shown.{shown};
+ghost use Rattle.cm_tool_show.specs.declared.fault.ShowFault.TheVariants as fault;
+ghost use Rattle.cm_tool_show.specs.declared.page.TheConstants.{MAX_SHOWN};
 
-use cm_checked_signature::{Checked, signature};
-use cm_show::{ShowFault, show};
+use cm_tool_show::{ShowFault, show};
+use cm_validate_signature::{Checked, signature};
 use std::alloc::Global;
 use std::fmt;
 
 /// The text that shows what a component imports and exports, a line for each, in the order of its
-/// file (`cm_show::show`). The component is taken over.
+/// file (`cm_tool_show::show`). The component is taken over.
 ///
 /// `TooLong` comes where it has more than `MAX_SHOWN` bytes, and `Memory` where there is no memory.
 pub fn show_component(alloc: Global, component: Checked<'_>) -> Result<String, ShowFault>

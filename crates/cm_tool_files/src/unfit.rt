@@ -3,8 +3,8 @@
 ghost use Rattle.std.specs.Prelude.{◌≡◌};
 ghost use Rattle.cm_tool_files.specs.declared.unfit.UnfitReason.TheVariants as reason;
 
-use cm_conforms::{ConformFault, ConformItem, ConformList, ConformReason};
-use cm_wit::WitFault;
+use cm_wit_conforms::{ConformFault, ConformItem, ConformList, ConformReason};
+use cm_wit_package::WitFault;
 use cm_wit_worlds::WorldFault;
 use std::alloc::AllocError;
 use std::fmt;

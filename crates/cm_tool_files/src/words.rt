@@ -2,7 +2,7 @@
 
 use crate::files::FileFault;
 use cm_binary::{DecodeFault, DecodeReason};
-use cm_checked_signature::{ValidFault, ValidReason};
+use cm_validate_signature::{ValidFault, ValidReason};
 use std::fmt;
 
 /// Writes why a file cannot be read.

@@ -2,12 +2,12 @@
 
 ghost use Rattle.std.specs.Prelude.{IfErr, IfOk};
 ghost use Rattle.cm_types.specs.Signatures.{SignatureTy};
-ghost use Rattle.cm_placed.specs.Signatures.{signature_of};
+ghost use Rattle.cm_types_placed.specs.Signatures.{signature_of};
 ghost use Rattle.cm_tool_files.specs.Conforming.{HasWorld, IsUnfit};
 
 use crate::unfit::UnfitReason;
-use cm_placed::Signature;
-use cm_wit::parse;
+use cm_types_placed::Signature;
+use cm_wit_package::parse;
 use cm_wit_signature::world_signature;
 use std::alloc::Global;
 

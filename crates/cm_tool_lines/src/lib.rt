@@ -7,7 +7,7 @@ mod plan;
 mod play_help;
 mod script_help;
 
-pub use cm_script::{
+pub use cm_tool_script::{
     Event, Guest, LinkFault, Linked, Misuse, Move, Player, Script, ScriptGuest, Set, link,
 };
 pub use events::write_event;

@@ -1,7 +1,7 @@
 //! The line of components that do not link.
 
-use cm_placed::Extern;
-use cm_script::{Checked, ExportEntry, LinkFault, LinkReason};
+use cm_tool_script::{Checked, ExportEntry, LinkFault, LinkReason};
+use cm_types_placed::Extern;
 use std::alloc::{AllocError, Global};
 use std::fmt;
 

@@ -1,6 +1,6 @@
 //! The line of a fault in a script.
 
-use cm_script::{LineFault, ScriptRefusal, form_of};
+use cm_tool_script::{LineFault, ScriptRefusal, form_of};
 use std::alloc::{AllocError, Global};
 use std::fmt;
 

@@ -1,3 +1,10 @@
 pub mod Nodes
 pub mod Seen
 pub mod SpellableLemmas
+pub mod Cuts
+pub mod Labels
+pub mod ExternNameLaws
+pub mod ResourceLaws
+pub mod ValuesSeen
+pub mod TypedValueLemmas
+pub mod TypedValueLaws

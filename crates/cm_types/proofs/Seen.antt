@@ -4,7 +4,7 @@ use Rattle.std.specs.Option.{option_map}
 use Rattle.std.specs.declared.rc.Rc.{Rc}
 use Rattle.cm_types.specs.Types.{string, list, fixed_list, fields, cases, flags, record_type, tuple_type, variant_type, enum_type, option_type, result_type, no_cases, plain, carrying}
 use Rattle.cm_types.specs.TypeTrees.{type_of, field_of, case_of, fields_of, parts_of, cases_of, plain_from, case_before, shared_payload}
-use Rattle.cm_names.specs.declared.names.Label.{Label}
+use Rattle.cm_types.specs.declared.names.Label.{Label}
 use Rattle.cm_types.specs.declared.type_trees.TypeNode.{TypeNode, the_lemmas}
 use Rattle.cm_types.specs.declared.type_trees.TypeNode.TheViews as node
 use Rattle.cm_types.specs.declared.type_trees.TypeNode.TheVariants as leaf

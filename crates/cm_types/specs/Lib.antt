@@ -1,6 +1,3 @@
-pub use Rattle.cm_names.specs.Names
-pub use Rattle.cm_names.specs.ExternNames
-pub use Rattle.cm_names.specs.ExternNameForms
 pub mod CoreValues
 pub mod DefTypes
 pub mod Faults
@@ -14,3 +11,9 @@ pub mod Resolved
 pub mod Values
 pub mod Funcs
 pub mod Signatures
+pub mod NamesFaults
+pub mod Names
+pub mod ExternNames
+pub mod ExternNameForms
+pub mod ValueTrees
+pub mod TypedValues

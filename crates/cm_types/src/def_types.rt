@@ -1,7 +1,7 @@
 //! Types as a component file writes them: a part that is a type of its own stands as an index
 //! (Binary.md, "Type Definitions"). Indices count from 0 in the index space of types.
 
-use cm_names::{ExternName, Label};
+use crate::{ExternName, Label};
 
 /// A value type that has no parts (Binary.md, `primvaltype`).
 #[derive(Clone, Copy, Debug, PartialEq, Eq)]

@@ -1,24 +1,35 @@
 //! Types and signatures of components; names are passed on.
+//!
+//! Labels and extern names of components.
+//!
+//! Values of components, and whether one has a type.
 #![tactic(auto)]
 
 mod core_value;
 mod def_types;
 mod dismantling;
+mod extern_names;
 pub mod laws;
 mod limits;
+mod names;
 mod resource;
 mod signatures;
 mod spellable;
 mod type_trees;
+mod typed_values;
+mod values;
 
-pub use cm_names::{ExternName, ExternNameForm, Label, NameFault, same_name};
 pub use core_value::{CoreKind, CoreValue};
 pub use def_types::{
     CaseType, Declaration, DeclaredType, DefType, DefValType, ExportDecl, ExportDesc, FuncType,
     LabeledValType, OuterType, PrimValType, TypeBound, ValType,
 };
+pub use extern_names::{ExternName, ExternNameForm};
 pub use limits::{MAX_DEPTH, MAX_FLAT_PARAMS, MAX_FLAT_RESULTS, MAX_NODES};
+pub use names::{Label, NameFault, same_name};
 pub use resource::{ResourceId, resolve, same_resource};
 pub use signatures::{ExternType, InstanceItem, ItemType, Signature, SignatureItem};
 pub use spellable::MAX_FLAGS;
 pub use type_trees::{Case, Field, Func, TypeFault, TypeNode, TypeTree};
+pub use typed_values::has_type;
+pub use values::{Value, is_scalar};

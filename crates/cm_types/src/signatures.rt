@@ -1,8 +1,8 @@
 //! What a component imports and exports, with every index expanded.
 
+use crate::ExternName;
 use crate::resource::ResourceId;
 use crate::type_trees::{Func, TypeTree};
-use cm_names::ExternName;
 use std::rc::Rc;
 
 /// What a component imports and exports, each in the order of its file.

@@ -7,8 +7,8 @@ ghost use Rattle.cm_types.specs.Spellable.{is_spellable, is_spellable_payload};
 ghost use Rattle.cm_types.specs.TypeTrees.{shared_payload, cases_of, fields_of, parts_of};
 ghost use Rattle.cm_types.specs.TypeTrees.{plain_from, type_of};
 
+use crate::Label;
 use crate::type_trees::{Case, Field, TypeNode};
-use cm_names::Label;
 use std::rc::Rc;
 
 /// The most labels that flags may have (Binary.md, "Type Definitions").

@@ -7,11 +7,11 @@ ghost use Rattle.cm_types.specs.Spellable.{are_spellable, is_spellable};
 ghost use Rattle.cm_types.specs.Types.{fields, tuple_type};
 ghost use Rattle.cm_types.specs.TypeTrees.{fields_of, type_of};
 
+use crate::Label;
 use crate::dismantling::{dismantle, dismantle_fields};
 use crate::limits::{MAX_DEPTH, MAX_NODES, nodes_of_fields_within, nodes_within};
 use crate::resource::ResourceId;
 use crate::spellable::{are_spellable, is_spellable};
-use cm_names::Label;
 use std::alloc::AllocError;
 use std::rc::Rc;
 use thiserror::Error;

@@ -5,16 +5,16 @@ use Rattle.std.specs.Option.{option_map, option_and_then}
 use Rattle.cm_types.specs.Types.{Ty, FuncTy}
 use Rattle.cm_types.specs.Signatures.{ItemTy, NamedItem, func_item, equal_type}
 use Rattle.cm_types.specs.declared.resource.ResourceId.{ResourceId}
-use Rattle.cm_type_arena.specs.Places.{types_of, funcs_of}
-use Rattle.cm_type_arena.specs.TypeDefs.{type_at, func_at}
-use Rattle.cm_type_arena.specs.declared.types.Types.{Types}
-use Rattle.cm_replaced.specs.Replaced.{replaced, replaced_func}
-use Rattle.cm_placed.specs.Placed.{moved_by}
-use Rattle.cm_placed.specs.Instances.{numbered, desc_of, item_of, items_of, is_desc_there, are_items_there}
-use Rattle.cm_placed.specs.declared.placed.Placed.{Placed}
-use Rattle.cm_placed.specs.declared.instances.Item.{Item}
-use Rattle.cm_placed.specs.declared.instances.ItemDesc.{ItemDesc}
-use Rattle.cm_placed.specs.declared.instances.ItemDesc.TheVariants as desc
+use Rattle.cm_types_arena.specs.Places.{types_of, funcs_of}
+use Rattle.cm_types_arena.specs.TypeDefs.{type_at, func_at}
+use Rattle.cm_types_arena.specs.declared.types.Types.{Types}
+use Rattle.cm_types_resources.specs.Replaced.{replaced, replaced_func}
+use Rattle.cm_types_placed.specs.Placed.{moved_by}
+use Rattle.cm_types_placed.specs.Instances.{numbered, desc_of, item_of, items_of, is_desc_there, are_items_there}
+use Rattle.cm_types_placed.specs.declared.placed.Placed.{Placed}
+use Rattle.cm_types_placed.specs.declared.instances.Item.{Item}
+use Rattle.cm_types_placed.specs.declared.instances.ItemDesc.{ItemDesc}
+use Rattle.cm_types_placed.specs.declared.instances.ItemDesc.TheVariants as desc
 use Rattle.cm_wit_meanings.specs.declared.fault.MeaningFault.{MeaningFault}
 use Rattle.cm_wit_meanings.specs.declared.fault.MeaningFault.TheVariants as fault
 use Rattle.cm_wit_meanings.specs.declared.scope.Scope as code_scope
@@ -24,7 +24,7 @@ use Rattle.cm_wit_meanings.specs.Places.{Extends, ArePlaced, scope_in}
 use Rattle.cm_wit_meanings.specs.Faults.{IsFaultOf, IsFuncWithin, is_func_spellable}
 use Rattle.cm_wit_items.specs.Functions.{item_funcs}
 use Rattle.cm_wit_items.specs.Members.{Member, member_item, member_func, item_with, items_in}
-use Rattle.cm_wit_text.specs.Trees.{ResourceFunc}
+use Rattle.cm_wit_reading.specs.Trees.{ResourceFunc}
 use Rattle.cm_wit_items.specs.declared.members.Member as code
 use Rattle.cm_wit_items.specs.MemberViews.{member_view}
 use Rattle.cm_wit_items.specs.ItemFaults.{AreWithin, are_spelled, IsFaultWith, IsItemFault, AreItemsFault}

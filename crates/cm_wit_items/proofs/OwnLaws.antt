@@ -4,13 +4,13 @@ use Rattle.std.specs.List.{AllByRecursion, filter_map, cons_option}
 use Rattle.std.specs.Option.{option_map, option_and_then, option_map_or}
 use Rattle.std.proofs.lemmas.Option.{unwrap_or-slice_get}
 use Rattle.cm_types.specs.declared.resource.ResourceId.{ResourceId}
-use Rattle.cm_keys.specs.Keys.{Key}
-use Rattle.cm_wit_text.specs.Trees.{TypeDef, alias, record_of, variant, enum, flags}
-use Rattle.cm_wit_text.specs.Trees as trees
+use Rattle.cm_wit_graph.specs.Keys.{Key}
+use Rattle.cm_wit_reading.specs.Trees.{TypeDef, alias, record_of, variant, enum, flags}
+use Rattle.cm_wit_reading.specs.Trees as trees
 use Rattle.cm_wit_meanings.specs.Scopes.{Meaning, Scope, value, resource}
 use Rattle.cm_wit_meanings.specs.Meanings.{def_meaning}
-use Rattle.cm_wit_declared.specs.Declarations.{Declared, Declaration, brought, defined, referred, refers, target, uses, IsRanked}
-use Rattle.cm_wit_declared.specs.Tables.{resource_of, scope_of, declared_meaning, entry_meaning, Solves}
+use Rattle.cm_wit_tables.specs.Declarations.{Declared, Declaration, brought, defined, referred, refers, target, uses, IsRanked}
+use Rattle.cm_wit_tables.specs.Tables.{resource_of, scope_of, declared_meaning, entry_meaning, Solves}
 use Rattle.cm_wit_items.specs.Own.{IsOwn, AreOwn}
 
 some_is : {A : Type 0} (a b : A) → Some a ≡ Some b → a ≡ b

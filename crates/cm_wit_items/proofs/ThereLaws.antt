@@ -7,16 +7,16 @@ use Rattle.std.proofs.lemmas.List.{length-map}
 use Rattle.cm_types.specs.declared.resource.ResourceId.{ResourceId}
 use Rattle.cm_types.specs.Types as cm
 use Rattle.cm_types.specs.TypeTrees.{fields_from}
-use Rattle.cm_keys.specs.Keys.{Key, is_key}
-use Rattle.cm_wit_types.specs.Types.{Ty, Tys, primitive, named, borrow, list, fixed_list, option, tuple, plain_result, ok_result, error_result, result, no_types, types}
-use Rattle.cm_wit_types.specs.Signatures.{Typed, Func}
-use Rattle.cm_wit_text.specs.Trees.{ResourceFunc, method, static, constructor}
+use Rattle.cm_wit_graph.specs.Keys.{Key, is_key}
+use Rattle.cm_wit_reading.specs.Types.{Ty, Tys, primitive, named, borrow, list, fixed_list, option, tuple, plain_result, ok_result, error_result, result, no_types, types}
+use Rattle.cm_wit_reading.specs.Signatures.{Typed, Func}
+use Rattle.cm_wit_reading.specs.Trees.{ResourceFunc, method, static, constructor}
 use Rattle.cm_wit_meanings.specs.Scopes.{Meaning, Scope, resource, as_type, as_resource}
 use Rattle.cm_wit_meanings.specs.Meanings as meant
 use Rattle.cm_wit_meanings.specs.Meanings.{meaning, meanings, each_meaning, typed_meaning, payload_meaning, func_meaning, resource_func_meaning}
-use Rattle.cm_wit_declared.specs.Declarations.{Declaration, names_in, names_in_all, names_in_payload, target, keys_of, key_of}
-use Rattle.cm_wit_declared.specs.Tables.{scope_of, Solves, IsWhole}
-use Rattle.cm_wit_declared.specs.TypeFaults.{IsResource, LeadsToType, LeadsToResource, borrowed_in, borrowed_in_all, borrowed_in_payload}
+use Rattle.cm_wit_tables.specs.Declarations.{Declaration, names_in, names_in_all, names_in_payload, target, keys_of, key_of}
+use Rattle.cm_wit_tables.specs.Tables.{scope_of, Solves, IsWhole}
+use Rattle.cm_wit_tables.specs.TypeFaults.{IsResource, LeadsToType, LeadsToResource, borrowed_in, borrowed_in_all, borrowed_in_payload}
 use Rattle.cm_wit_items.specs.Members.{Member, used, declared, of_resource, function, used_type, own_type, member_func, member_item, item_with, func_name}
 use Rattle.cm_wit_items.specs.Named.{Lead, ParamsHaveTypes, FuncHasTypes, ResourceFuncHasTypes, MemberHasTypes, names_in_params, borrowed_in_params}
 use Rattle.cm_types.specs.Signatures.{func_item, NamedItem}

@@ -6,13 +6,13 @@ use Rattle.std.specs.Option.{option_map, option_and_then}
 use Rattle.std.proofs.lemmas.Bool.Decides.{nat_tests}
 use Rattle.cm_types.specs.declared.resource.ResourceId.{ResourceId}
 use Rattle.cm_types.specs.Signatures.{NamedExtern, SignatureTy, func, instance}
-use Rattle.cm_wit_text.specs.Trees.{File, WorldItem}
+use Rattle.cm_wit_reading.specs.Trees.{File, WorldItem}
 use Rattle.cm_wit_worlds.specs.Interfaces.{PlacedInterface, PlacedWorld, interfaces, full_name}
 use Rattle.cm_wit_meanings.specs.Scopes.{Meaning, resource}
-use Rattle.cm_wit_declared.specs.Declarations.{Declaration}
-use Rattle.cm_wit_declared.specs.Tables.{scope_of, IsWhole}
-use Rattle.cm_wit_declared.specs.TypeFaults.{IsResource}
-use Rattle.cm_wit_declared.specs.Worlds.{Instance, instances, declarations}
+use Rattle.cm_wit_tables.specs.Declarations.{Declaration}
+use Rattle.cm_wit_tables.specs.Tables.{scope_of, IsWhole}
+use Rattle.cm_wit_tables.specs.TypeFaults.{IsResource}
+use Rattle.cm_wit_tables.specs.Worlds.{Instance, instances, declarations}
 use Rattle.cm_wit_items.specs.Members.{members, items_in}
 use Rattle.cm_wit_items.specs.Signatures.{NamedFunc, item_func, func_at, func_extern, interface_extern, instance_extern, in_front, func_in_front, externs_from, interfaces_among, signature_in}
 use Rattle.cm_wit_items.specs.Named.{FuncHasTypes, MemberHasTypes, InstancesHaveTypes, OwnFuncsHaveTypes, HaveTypes, imported}

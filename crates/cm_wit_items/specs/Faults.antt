@@ -7,13 +7,13 @@ use Rattle.cm_types.specs.Types.{Ty, FuncTy}
 use Rattle.cm_types.specs.Limits.{IsWithinLimits}
 use Rattle.cm_types.specs.Spellable.{is_spellable}
 use Rattle.cm_types.specs.Signatures.{SignatureTy}
-use Rattle.cm_wit_text.specs.Trees.{File}
+use Rattle.cm_wit_reading.specs.Trees.{File}
 use Rattle.cm_wit_worlds.specs.Interfaces.{PlacedWorld, world_at, worlds, interfaces}
 use Rattle.cm_wit_meanings.specs.Faults.{IsFuncWithin, is_func_spellable}
 use Rattle.cm_wit_meanings.specs.Scopes.{Meaning, as_type}
-use Rattle.cm_wit_declared.specs.Declarations.{Declaration, HasTypeCycle}
-use Rattle.cm_wit_declared.specs.Tables.{Solves}
-use Rattle.cm_wit_declared.specs.Worlds.{Instance, instances, declarations}
+use Rattle.cm_wit_tables.specs.Declarations.{Declaration, HasTypeCycle}
+use Rattle.cm_wit_tables.specs.Tables.{Solves}
+use Rattle.cm_wit_tables.specs.Worlds.{Instance, instances, declarations}
 use Rattle.cm_wit_worlds.specs.declared.fault.WorldFault.{WorldFault}
 use Rattle.cm_wit_worlds.specs.declared.fault.WorldFault.TheVariants as fault
 use Rattle.cm_wit_worlds.specs.Worlds.{HasNoInterface, HasInterfaceCycle, AreWorldExterns}

@@ -1,6 +1,6 @@
 -- What the code's members of interfaces are.
-use Rattle.cm_wit_types.specs.SignatureViews.{func_tree}
-use Rattle.cm_wit_text.specs.Views.{resource_func_tree}
+use Rattle.cm_wit_reading.specs.SignatureViews.{func_tree}
+use Rattle.cm_wit_reading.specs.Views.{resource_func_tree}
 use Rattle.cm_wit_items.specs.Members as spec
 use Rattle.cm_wit_items.specs.declared.members.Member.{Member}
 use Rattle.cm_wit_items.specs.declared.members.Member.TheVariants as member

@@ -8,14 +8,14 @@ use Rattle.cm_types.specs.Signatures.{ItemTy, NamedItem, func_item, equal_type, 
 use Rattle.cm_types.specs.Signatures.{fresh_resource}
 use Rattle.cm_types.specs.ExternNames.{name_spelling}
 use Rattle.cm_types.specs.ExternNames as name
-use Rattle.cm_wit_types.specs.Signatures.{Func}
-use Rattle.cm_wit_text.specs.Trees.{Interface, InterfaceItem, uses, defines, has_func, TypeDef}
-use Rattle.cm_wit_text.specs.Trees.{alias, record_of, variant, enum, flags, ResourceFunc, method}
-use Rattle.cm_wit_text.specs.Trees.{static, constructor}
-use Rattle.cm_wit_text.specs.Trees as tree
+use Rattle.cm_wit_reading.specs.Signatures.{Func}
+use Rattle.cm_wit_reading.specs.Trees.{Interface, InterfaceItem, uses, defines, has_func, TypeDef}
+use Rattle.cm_wit_reading.specs.Trees.{alias, record_of, variant, enum, flags, ResourceFunc, method}
+use Rattle.cm_wit_reading.specs.Trees.{static, constructor}
+use Rattle.cm_wit_reading.specs.Trees as tree
 use Rattle.cm_wit_meanings.specs.Scopes.{Meaning, Scope, value, resource, as_resource}
 use Rattle.cm_wit_meanings.specs.Meanings.{each_meaning, func_meaning, resource_func_meaning}
-use Rattle.cm_wit_declared.specs.Worlds.{used_as}
+use Rattle.cm_wit_tables.specs.Worlds.{used_as}
 
 -- what an interface has of its own under a name: a used type, by the name that it gets; a type that
 -- it defines; a function of the resource of this name; or a function

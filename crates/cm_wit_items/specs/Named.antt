@@ -4,14 +4,14 @@ use Rattle.std.specs.Prelude.{◌≡◌, ◌↔◌, ℕ, List, [], ◌∷◌, �
 use Rattle.std.specs.Prelude.{map, false}
 use Rattle.std.specs.Prelude.{slice_get}
 use Rattle.std.specs.List.{AllByRecursion, Contains, flat_map}
-use Rattle.cm_wit_types.specs.Signatures.{Func, Typed}
-use Rattle.cm_wit_text.specs.Trees.{File, ResourceFunc, method, static, constructor}
+use Rattle.cm_wit_reading.specs.Signatures.{Func, Typed}
+use Rattle.cm_wit_reading.specs.Trees.{File, ResourceFunc, method, static, constructor}
 use Rattle.cm_wit_worlds.specs.Interfaces.{PlacedWorld, PlacedInterface, interfaces}
-use Rattle.cm_graph.specs.Reach.{IsReached}
-use Rattle.cm_wit_declared.specs.Declarations.{Declaration, names_in, names_in_payload}
-use Rattle.cm_wit_declared.specs.TypeFaults.{LeadsToType, LeadsToResource, AllHaveTypes}
-use Rattle.cm_wit_declared.specs.TypeFaults.{borrowed_in, borrowed_in_payload}
-use Rattle.cm_wit_declared.specs.Worlds.{Instance, instances, declarations}
+use Rattle.cm_wit_graph.specs.Reach.{IsReached}
+use Rattle.cm_wit_tables.specs.Declarations.{Declaration, names_in, names_in_payload}
+use Rattle.cm_wit_tables.specs.TypeFaults.{LeadsToType, LeadsToResource, AllHaveTypes}
+use Rattle.cm_wit_tables.specs.TypeFaults.{borrowed_in, borrowed_in_payload}
+use Rattle.cm_wit_tables.specs.Worlds.{Instance, instances, declarations}
 use Rattle.cm_wit_worlds.specs.Worlds.{rows_of, named, HasInterfaceCycle, AreWorldExterns}
 use Rattle.cm_wit_items.specs.Members.{Member, used, declared, of_resource, function}
 use Rattle.cm_wit_items.specs.Members.{members}

@@ -3,15 +3,15 @@ use Rattle.std.specs.Prelude.{◌≡◌, ℕ, ◌+◌, ◌-◌, nat_lt, Bool, Li
 use Rattle.std.specs.Prelude.{filter, length, slice_get, if◌then◌else◌}
 use Rattle.std.specs.Option.{option_map, option_and_then}
 use Rattle.cm_types.specs.Signatures.{NamedExtern, SignatureTy, func, instance}
-use Rattle.cm_wit_types.specs.Signatures.{Func}
-use Rattle.cm_wit_text.specs.Trees.{File, WorldExtern, WorldItem, interface_at, named_func}
-use Rattle.cm_wit_text.specs.Trees.{imports, exports}
+use Rattle.cm_wit_reading.specs.Signatures.{Func}
+use Rattle.cm_wit_reading.specs.Trees.{File, WorldExtern, WorldItem, interface_at, named_func}
+use Rattle.cm_wit_reading.specs.Trees.{imports, exports}
 use Rattle.cm_wit_worlds.specs.Interfaces.{PlacedInterface, PlacedWorld, full_name, interfaces}
 use Rattle.cm_wit_meanings.specs.Scopes.{Meaning, Scope}
 use Rattle.cm_wit_meanings.specs.Meanings.{func_meaning}
-use Rattle.cm_wit_declared.specs.Declarations.{Declaration}
-use Rattle.cm_wit_declared.specs.Tables.{scope_of}
-use Rattle.cm_wit_declared.specs.Worlds.{instances, declarations}
+use Rattle.cm_wit_tables.specs.Declarations.{Declaration}
+use Rattle.cm_wit_tables.specs.Tables.{scope_of}
+use Rattle.cm_wit_tables.specs.Worlds.{instances, declarations}
 use Rattle.cm_wit_items.specs.Members.{items_in}
 
 -- ---- functions of the world itself

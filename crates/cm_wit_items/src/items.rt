@@ -2,11 +2,11 @@
 
 ghost use Rattle.std.specs.Prelude.{◌≡◌, ℕ, List, None, Some, [], true, IfOk, IfErr, length, map};
 ghost use Rattle.cm_types.specs.Types.{FuncTy, Ty};
-ghost use Rattle.cm_type_arena.specs.Places.{funcs_of, types_of};
-ghost use Rattle.cm_placed.specs.Instances.{are_items_there, desc_of, is_desc_there, item_of};
-ghost use Rattle.cm_placed.specs.Instances.{items_of};
-ghost use Rattle.cm_wit_types.specs.SignatureViews.{func_tree};
-ghost use Rattle.cm_wit_text.specs.Views.{interface_tree, resource_func_tree};
+ghost use Rattle.cm_types_arena.specs.Places.{funcs_of, types_of};
+ghost use Rattle.cm_types_placed.specs.Instances.{are_items_there, desc_of, is_desc_there, item_of};
+ghost use Rattle.cm_types_placed.specs.Instances.{items_of};
+ghost use Rattle.cm_wit_reading.specs.SignatureViews.{func_tree};
+ghost use Rattle.cm_wit_reading.specs.Views.{interface_tree, resource_func_tree};
 ghost use Rattle.cm_wit_meanings.specs.Places.{ArePlaced, Extends, IsPlaced, meaning_in, scope_in};
 ghost use Rattle.cm_wit_meanings.specs.declared.fault.MeaningFault.TheVariants as fault;
 ghost use Rattle.cm_wit_meanings.specs.Scopes as meant;
@@ -22,14 +22,12 @@ ghost use Rattle.cm_wit_items.specs.MemberViews.{member_view};
 ghost use Rattle.cm_wit_items.specs.Own.{AreOwn, IsOwn};
 
 use crate::{Member, extern_name, func_name, interface_members};
-use cm_placed::laws::unmoved;
-use cm_placed::{Item, ItemDesc, Placed};
-use cm_type_arena::Types;
 use cm_types::{Label, ResourceId};
-use cm_wit_definitions::{push_func, push_resource_func};
-use cm_wit_meanings::{Meaning, MeaningFault, Scope};
-use cm_wit_text::{Interface, ResourceFunc};
-use cm_wit_types::Func;
+use cm_types_arena::Types;
+use cm_types_placed::laws::unmoved;
+use cm_types_placed::{Item, ItemDesc, Placed};
+use cm_wit_meanings::{Meaning, MeaningFault, Scope, push_func, push_resource_func};
+use cm_wit_reading::{Func, Interface, ResourceFunc};
 use std::alloc::Global;
 
 /// What a name stands for.

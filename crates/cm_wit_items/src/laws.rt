@@ -2,8 +2,8 @@
 //! its contract is the law.
 
 ghost use Rattle.std.specs.Prelude.{◌≡◌, List, Option, true, length};
-ghost use Rattle.cm_placed.specs.Instances.{are_items_there, items_of};
-ghost use Rattle.cm_placed.specs.declared.instances.Item.{Item};
+ghost use Rattle.cm_types_placed.specs.Instances.{are_items_there, items_of};
+ghost use Rattle.cm_types_placed.specs.declared.instances.Item.{Item};
 ghost use Rattle.cm_types.specs.Types.{FuncTy, Ty};
 ghost use Rattle.cm_wit_meanings.specs.Places.{ArePlaced, Extends, table_in};
 ghost use Rattle.cm_wit_meanings.specs.declared.scope.Meaning.{Meaning};

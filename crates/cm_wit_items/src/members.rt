@@ -2,16 +2,15 @@
 
 ghost use Rattle.std.specs.Prelude.{◌≡◌, ◌++◌, ◌∷◌, IfOk, OnOk, map};
 ghost use Rattle.std.specs.List.{flat_map};
-ghost use Rattle.cm_wit_text.specs.Views.{interface_item_tree, interface_tree};
-ghost use Rattle.cm_wit_text.specs.Views.{resource_func_tree, type_def_tree, used_name_tree};
-ghost use Rattle.cm_wit_declared.specs.Worlds.{used_as};
+ghost use Rattle.cm_wit_reading.specs.Views.{interface_item_tree, interface_tree};
+ghost use Rattle.cm_wit_reading.specs.Views.{resource_func_tree, type_def_tree, used_name_tree};
+ghost use Rattle.cm_wit_tables.specs.Worlds.{used_as};
 ghost use Rattle.cm_wit_items.specs.Members as spec;
 ghost use Rattle.cm_wit_items.specs.Members.{members, members_of, resource_funcs};
 ghost use Rattle.cm_wit_items.specs.MemberViews.{member_view};
 
 use cm_types::Label;
-use cm_wit_text::{Interface, InterfaceItem, ResourceFunc, TypeDef, UsedName};
-use cm_wit_types::Func;
+use cm_wit_reading::{Func, Interface, InterfaceItem, ResourceFunc, TypeDef, UsedName};
 use std::alloc::{AllocError, Global};
 
 /// What an interface has of its own under a name.

@@ -2,11 +2,11 @@
 
 ghost use Rattle.std.specs.Prelude.{◌≡◌, IfOk};
 ghost use Rattle.std.specs.String.{string_bytes};
-ghost use Rattle.cm_wit_text.specs.Views.{resource_func_tree};
+ghost use Rattle.cm_wit_reading.specs.Views.{resource_func_tree};
 ghost use Rattle.cm_wit_items.specs.Members.{func_name};
 
 use cm_types::{ExternName, Label};
-use cm_wit_text::ResourceFunc;
+use cm_wit_reading::ResourceFunc;
 use std::alloc::{AllocError, Global};
 
 /// The name of this text, which is one. Refused only where there is no memory.

@@ -3,17 +3,17 @@
 
 ghost use Rattle.std.specs.Prelude.{◌≡◌, ℕ, List, Option, Some, length};
 ghost use Rattle.cm_types.specs.Signatures.{SignatureTy};
-ghost use Rattle.cm_wit_text.specs.Trees.{File};
+ghost use Rattle.cm_wit_reading.specs.Trees.{File};
 ghost use Rattle.cm_wit_worlds.specs.Interfaces.{PlacedWorld, interfaces};
 ghost use Rattle.cm_wit_meanings.specs.Scopes.{Meaning};
-ghost use Rattle.cm_wit_declared.specs.Declarations.{Declaration, HasTypeCycle};
-ghost use Rattle.cm_wit_declared.specs.Tables.{Solves, scope_of};
-ghost use Rattle.cm_wit_declared.specs.Worlds.{declarations, instances};
+ghost use Rattle.cm_wit_tables.specs.Declarations.{Declaration, HasTypeCycle};
+ghost use Rattle.cm_wit_tables.specs.Tables.{Solves, scope_of};
+ghost use Rattle.cm_wit_tables.specs.Worlds.{declarations, instances};
 ghost use Rattle.cm_wit_items.specs.Named.{HaveTypes};
 ghost use Rattle.cm_wit_items.specs.Own.{AreOwn};
 ghost use Rattle.cm_wit_items.specs.Signatures.{signature_in};
 
-use cm_wit_declared::laws::{
+use cm_wit_tables::wit_declared_laws::{
     acyclic_ones_can_be_ranked, each_stands_where_names_lead, resources_stand_for_resources,
 };
 

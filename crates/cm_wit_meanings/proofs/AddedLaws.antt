@@ -3,9 +3,9 @@ use Rattle.std.proofs.Common.{◌≡◌, ℕ, ◌≤◌, List, length, Option, S
 use Rattle.std.specs.Option.{option_map}
 use Rattle.cm_types.specs.Types.{Ty}
 use Rattle.cm_types.specs.Limits.{IsWithinLimits}
-use Rattle.cm_type_arena.specs.Places.{types_of}
-use Rattle.cm_type_arena.specs.TypeDefs.{IsBelow, type_at}
-use Rattle.cm_type_arena.specs.declared.types.Types.{Types}
+use Rattle.cm_types_arena.specs.Places.{types_of}
+use Rattle.cm_types_arena.specs.TypeDefs.{IsBelow, type_at}
+use Rattle.cm_types_arena.specs.declared.types.Types.{Types}
 use Rattle.cm_wit_meanings.specs.declared.fault.MeaningFault.{MeaningFault}
 use Rattle.cm_wit_meanings.specs.Added.{Added, AddedPayload, AddedType, is_place, payload_at}
 use Rattle.cm_wit_meanings.specs.Meanings.{result_of}

@@ -6,9 +6,9 @@ use Rattle.cm_types.specs.Types.{Ty}
 use Rattle.cm_types.specs.TypeTrees.{parts_from}
 use Rattle.cm_types.specs.Limits.{IsWithin, IsWithinLimits, nodes_of_fields, depth_of_fields}
 use Rattle.cm_types.specs.Spellable.{is_spellable, are_spellable}
-use Rattle.cm_wit_types.specs.declared.types.WitType.{WitType}
-use Rattle.cm_wit_types.specs.Types.{types_from}
-use Rattle.cm_wit_types.specs.TypeViews.{type_tree}
+use Rattle.cm_wit_reading.specs.declared.types.WitType.{WitType}
+use Rattle.cm_wit_reading.specs.Types.{types_from}
+use Rattle.cm_wit_reading.specs.TypeViews.{type_tree}
 use Rattle.cm_wit_meanings.specs.declared.fault.MeaningFault.{MeaningFault}
 use Rattle.cm_wit_meanings.specs.declared.fault.MeaningFault.TheVariants as fault
 use Rattle.cm_wit_meanings.specs.Scopes.{Scope}

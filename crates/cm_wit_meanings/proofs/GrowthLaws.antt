@@ -2,14 +2,14 @@
 use Rattle.std.proofs.Common.{◌≡◌, ℕ, zero, suc, ◌<◌, ◌≤◌, List, [], ◌∷◌, ◌++◌, length, get_or, refl, sym, ap, ◌∙◌, arith, length-append, append-nil, append_assoc, subst}
 use Rattle.std.proofs.lemmas.List.{get_or_append_left, get_or_push}
 use Rattle.cm_types.specs.Types.{Ty, bool}
-use Rattle.cm_type_arena.specs.TypeDefs.{type_at}
+use Rattle.cm_types_arena.specs.TypeDefs.{type_at}
 use Rattle.std.proofs.lemmas.List.{length-map}
 use Rattle.std.proofs.Math.Logic.{∥∥₁_elim}
 use Rattle.std.proofs.Math.Bridge.{le_prop}
 use Rattle.cm_types.specs.Limits.{IsWithinLimits}
 use Rattle.cm_types.specs.TypeTrees.{type_of}
-use Rattle.cm_type_arena.specs.Arena.{IsArena, types_in}
-use Rattle.cm_type_arena.specs.declared.entries.TypeEntry as arena
+use Rattle.cm_types_arena.specs.Arena.{IsArena, types_in}
+use Rattle.cm_types_arena.specs.declared.entries.TypeEntry as arena
 use Rattle.cm_wit_meanings.specs.Places.{Extends}
 
 pub extends_same : {A : Type 0} (old new : List A) → new ≡ old → Extends old new

@@ -5,3 +5,12 @@ mod AddedLaws
 mod EachLaws
 mod PushLaws
 mod TypeLaws
+mod WitDefinitionsGrowthLaws
+mod WitDefinitionsScopeLaws
+mod WitDefinitionsFaultLaws
+mod WitDefinitionsEachLaws
+mod WitDefinitionsPushLaws
+mod WitDefinitionsAddedLaws
+mod MemberLaws
+mod DefinitionLaws
+mod FuncLaws

@@ -3,8 +3,8 @@ use Rattle.std.proofs.Common.{◌≡◌, ℕ, ◌<◌, ◌≤◌, ◌+◌, Bool,
 use Rattle.std.specs.List.{AllByRecursion}
 use Rattle.std.proofs.lemmas.List.{map-append}
 use Rattle.cm_types.specs.Types.{Ty}
-use Rattle.cm_type_arena.specs.Places.{types_of, funcs_of}
-use Rattle.cm_type_arena.specs.declared.types.Types.{Types}
+use Rattle.cm_types_arena.specs.Places.{types_of, funcs_of}
+use Rattle.cm_types_arena.specs.declared.types.Types.{Types}
 use Rattle.cm_wit_meanings.specs.declared.fault.MeaningFault.{MeaningFault}
 use Rattle.cm_wit_meanings.specs.Meanings.{each_meaning}
 use Rattle.cm_wit_meanings.specs.declared.scope.Scope as code_scope

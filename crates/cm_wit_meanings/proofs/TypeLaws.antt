@@ -4,14 +4,14 @@ use Rattle.std.specs.Option.{option_map, option_and_then}
 use Rattle.cm_types.specs.Types.{Ty, list, fixed_list}
 use Rattle.cm_types.specs.Limits.{IsWithinLimits}
 use Rattle.cm_types.specs.Spellable.{is_spellable}
-use Rattle.cm_type_arena.specs.TypeDefs.{type_at}
-use Rattle.cm_type_arena.specs.Places.{types_of}
-use Rattle.cm_type_arena.specs.declared.types.Types.{Types}
-use Rattle.cm_wit_types.specs.declared.types.WitType.{WitType, the_lemmas}
-use Rattle.cm_wit_types.specs.declared.types.WitType.TheViews as node
-use Rattle.cm_wit_types.specs.Types as spec
-use Rattle.cm_wit_types.specs.Types.{types_from}
-use Rattle.cm_wit_types.specs.TypeViews.{type_tree}
+use Rattle.cm_types_arena.specs.TypeDefs.{type_at}
+use Rattle.cm_types_arena.specs.Places.{types_of}
+use Rattle.cm_types_arena.specs.declared.types.Types.{Types}
+use Rattle.cm_wit_reading.specs.declared.types.WitType.{WitType, the_lemmas}
+use Rattle.cm_wit_reading.specs.declared.types.WitType.TheViews as node
+use Rattle.cm_wit_reading.specs.Types as spec
+use Rattle.cm_wit_reading.specs.Types.{types_from}
+use Rattle.cm_wit_reading.specs.TypeViews.{type_tree}
 use Rattle.cm_wit_meanings.specs.declared.fault.MeaningFault.{MeaningFault}
 use Rattle.cm_wit_meanings.specs.declared.fault.MeaningFault.TheVariants as fault
 use Rattle.cm_wit_meanings.specs.declared.scope.Scope as code_scope

@@ -4,12 +4,12 @@ use Rattle.std.specs.Global.{Box, Vec}
 use Rattle.std.specs.List.{AllByRecursion}
 use Rattle.std.specs.Option.{option_map}
 use Rattle.cm_types.specs.Types.{Ty}
-use Rattle.cm_type_arena.specs.Places.{funcs_of, types_of}
-use Rattle.cm_type_arena.specs.TypeDefs.{IsBelow, type_at}
-use Rattle.cm_type_arena.specs.declared.types.Types.{Types}
-use Rattle.cm_wit_types.specs.Types as wit
-use Rattle.cm_wit_types.specs.TypeViews.{type_tree}
-use Rattle.cm_wit_types.specs.declared.types.WitType.{WitType}
+use Rattle.cm_types_arena.specs.Places.{funcs_of, types_of}
+use Rattle.cm_types_arena.specs.TypeDefs.{IsBelow, type_at}
+use Rattle.cm_types_arena.specs.declared.types.Types.{Types}
+use Rattle.cm_wit_reading.specs.Types as wit
+use Rattle.cm_wit_reading.specs.TypeViews.{type_tree}
+use Rattle.cm_wit_reading.specs.declared.types.WitType.{WitType}
 use Rattle.cm_wit_meanings.specs.declared.fault.MeaningFault.{MeaningFault}
 use Rattle.cm_wit_meanings.specs.Meanings.{tuple_of}
 use Rattle.cm_wit_meanings.specs.Places.{Extends}

@@ -4,7 +4,7 @@ use Rattle.cm_types.specs.Types.{Ty, FuncTy}
 use Rattle.cm_types.specs.Limits.{IsWithinLimits}
 use Rattle.cm_types.specs.Spellable.{is_spellable, are_spellable, is_spellable_payload}
 use Rattle.cm_types.specs.TypeTrees.{TypedLabel, fields_from}
-use Rattle.cm_type_arena.specs.TypeDefs.{params_type}
+use Rattle.cm_types_arena.specs.TypeDefs.{params_type}
 use Rattle.cm_wit_meanings.specs.declared.fault.MeaningFault.{MeaningFault}
 use Rattle.cm_wit_meanings.specs.declared.fault.MeaningFault.TheVariants as fault
 use Rattle.cm_wit_meanings.specs.Meanings.{record_of}

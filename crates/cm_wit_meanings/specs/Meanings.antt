@@ -11,12 +11,12 @@ use Rattle.cm_types.specs.Types.{field, no_cases, plain, carrying, bits_8, bits_
 use Rattle.cm_types.specs.Types.{bits_64}
 use Rattle.cm_types.specs.TypeTrees.{TypedLabel, CaseOf, fields_from, parts_from, cases_from}
 use Rattle.cm_types.specs.TypeTrees.{plain_from, case_before}
-use Rattle.cm_wit_types.specs.declared.types.Primitive.{Primitive}
-use Rattle.cm_wit_types.specs.declared.types.Primitive.TheVariants as primitive
-use Rattle.cm_wit_types.specs.Types as wit
-use Rattle.cm_wit_types.specs.Signatures.{Typed, Func}
-use Rattle.cm_wit_text.specs.Trees.{Case, TypeDef, ResourceFunc, method, static, constructor}
-use Rattle.cm_wit_text.specs.Trees as tree
+use Rattle.cm_wit_reading.specs.declared.types.Primitive.{Primitive}
+use Rattle.cm_wit_reading.specs.declared.types.Primitive.TheVariants as primitive
+use Rattle.cm_wit_reading.specs.Types as wit
+use Rattle.cm_wit_reading.specs.Signatures.{Typed, Func}
+use Rattle.cm_wit_reading.specs.Trees.{Case, TypeDef, ResourceFunc, method, static, constructor}
+use Rattle.cm_wit_reading.specs.Trees as tree
 use Rattle.cm_wit_meanings.specs.Scopes.{Scope, Meaning, value, resource, as_type, as_resource}
 
 -- what each of these stands for, where each stands for something

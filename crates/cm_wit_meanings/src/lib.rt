@@ -1,14 +1,22 @@
 //! What the types, definitions and functions of WIT texts stand for; and the types of type texts,
 //! put into an arena.
+//!
+//! The types that definitions, fields and functions of WIT texts stand for, put into an arena.
 #![tactic(auto)]
 
+mod definitions;
 mod fault;
+mod functions;
+mod members;
 mod primitives;
 mod pushing;
 mod scope;
 mod types;
 
+pub use definitions::push_def;
 pub use fault::MeaningFault;
+pub use functions::{push_func, push_resource_func};
+pub use members::{push_fields, push_payload};
 pub use pushing::push;
 pub use scope::{Meaning, Scope};
 pub use types::push_type;

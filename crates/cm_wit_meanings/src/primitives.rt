@@ -1,11 +1,11 @@
 //! Types that hold no other type.
 
 ghost use Rattle.std.specs.Prelude.{◌≡◌};
-ghost use Rattle.cm_type_arena.specs.TypeDefs as arena;
+ghost use Rattle.cm_types_arena.specs.TypeDefs as arena;
 ghost use Rattle.cm_wit_meanings.specs.Meanings.{primitive_type};
 
-use cm_type_arena::Primitive;
-use cm_wit_types::Primitive as Written;
+use cm_types_arena::Primitive;
+use cm_wit_reading::Primitive as Written;
 
 /// The primitive type that a text names.
 pub fn primitive(written: Written) -> Primitive

@@ -2,14 +2,14 @@
 
 ghost use Rattle.std.specs.Prelude.{◌≡◌, ◌<◌, IfOk, IfErr, Some, length};
 ghost use Rattle.cm_types.specs.Limits.{IsWithinLimits};
-ghost use Rattle.cm_type_arena.specs.Places.{HasParts, funcs_of, types_of};
-ghost use Rattle.cm_type_arena.specs.TypeDefs.{def_type, type_at};
+ghost use Rattle.cm_types_arena.specs.Places.{HasParts, funcs_of, types_of};
+ghost use Rattle.cm_types_arena.specs.TypeDefs.{def_type, type_at};
 ghost use Rattle.cm_wit_meanings.specs.Added.{AddedType};
 ghost use Rattle.cm_wit_meanings.specs.Faults.{IsTypeFault};
 ghost use Rattle.cm_wit_meanings.specs.Places.{Extends};
 
 use crate::fault::MeaningFault;
-use cm_type_arena::{DefFault, TypeDef, Types};
+use cm_types_arena::{DefFault, TypeDef, Types};
 use std::alloc::Global;
 
 /// Adds a type, and answers its place; its faults are those of `push`.

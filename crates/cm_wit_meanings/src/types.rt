@@ -2,10 +2,10 @@
 
 ghost use Rattle.std.specs.Prelude.{◌≡◌, ◌<◌, IfOk, IfErr, Some, length, map};
 ghost use Rattle.cm_types.specs.Limits.{IsWithinLimits};
-ghost use Rattle.cm_type_arena.specs.Places.{funcs_of, types_of};
-ghost use Rattle.cm_type_arena.specs.TypeDefs.{type_at};
-ghost use Rattle.cm_wit_types.specs.Types.{borrow, named, types_from};
-ghost use Rattle.cm_wit_types.specs.TypeViews.{type_tree};
+ghost use Rattle.cm_types_arena.specs.Places.{funcs_of, types_of};
+ghost use Rattle.cm_types_arena.specs.TypeDefs.{type_at};
+ghost use Rattle.cm_wit_reading.specs.Types.{borrow, named, types_from};
+ghost use Rattle.cm_wit_reading.specs.TypeViews.{type_tree};
 ghost use Rattle.cm_wit_meanings.specs.Added.{AddedParts, AddedPayload, AddedType};
 ghost use Rattle.cm_wit_meanings.specs.Added.{payload_tree};
 ghost use Rattle.cm_wit_meanings.specs.Faults.{IsTypeFault};
@@ -16,8 +16,8 @@ use crate::fault::MeaningFault;
 use crate::primitives::primitive;
 use crate::pushing::add;
 use crate::scope::{Meaning, Scope};
-use cm_type_arena::{TypeDef, Types};
-use cm_wit_types::WitType;
+use cm_types_arena::{TypeDef, Types};
+use cm_wit_reading::WitType;
 use std::alloc::Global;
 
 /// The place of the type that a name stands for.

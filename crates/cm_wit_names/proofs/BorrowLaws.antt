@@ -4,10 +4,10 @@ use Rattle.std.proofs.Math.ListN.{set, replicate, get_or-eq_default}
 use Rattle.std.proofs.lemmas.List.{get_or-set_same, get_or-set_other, get_or-replicate, length-replicate, length-map}
 use Rattle.std.proofs.lemmas.Option.{slice_get_within}
 use Rattle.std.proofs.lemmas.Bool.{cases_eq, cases_lt}
-use Rattle.cm_graph.specs.Graphs.{IsMarked}
-use Rattle.cm_wit_mentions.specs.declared.mention.Mention as code
-use Rattle.cm_wit_mentions.specs.Mentions.{Mention}
-use Rattle.cm_wit_mentions.specs.MentionViews.{mention_view}
+use Rattle.cm_wit_graph.specs.Graphs.{IsMarked}
+use Rattle.cm_wit_names.specs.declared.mention.Mention as code
+use Rattle.cm_wit_names.specs.Mentions.{Mention}
+use Rattle.cm_wit_names.specs.MentionViews.{mention_view}
 use Rattle.cm_wit_names.specs.Known.{HasBorrow, IsAt, borrow_owner}
 use Rattle.cm_wit_names.proofs.LeastLaws.{element_at, at_view, is_here}
 

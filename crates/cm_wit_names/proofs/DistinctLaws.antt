@@ -5,9 +5,9 @@ use Rattle.std.specs.List.{Contains, list_any, filter_map, cons_option}
 use Rattle.std.specs.Str.{bytes_eq}
 use Rattle.std.proofs.lemmas.List.{take_more, get_or-map, length-map}
 use Rattle.std.proofs.lemmas.List.Elements.{filter_map-append}
-use Rattle.cm_wit_mentions.specs.declared.mention.Mention as code
-use Rattle.cm_wit_mentions.specs.Mentions.{Mention}
-use Rattle.cm_wit_mentions.specs.MentionViews.{mention_view}
+use Rattle.cm_wit_names.specs.declared.mention.Mention as code
+use Rattle.cm_wit_names.specs.Mentions.{Mention}
+use Rattle.cm_wit_names.specs.MentionViews.{mention_view}
 use Rattle.std.specs.Prelude.{◌↔◌}
 use Rattle.std.specs.BTreeSet.{insert_key}
 use Rattle.std.specs.Cmp.{tied_then}

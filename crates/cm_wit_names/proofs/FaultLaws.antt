@@ -1,10 +1,10 @@
 -- The first fault of all.
 use Rattle.std.proofs.Common.{◌≡◌, ℕ, ◌+◌, ◌<◌, ◌≤◌, ◌⊎◌, inl, inr, List, take, Option, Some, None, sym, ap, subst, arith}
 use Rattle.std.proofs.lemmas.Bool.{cases_eq}
-use Rattle.cm_wit_grammar.specs.declared.fault.WitReason.{WitReason}
-use Rattle.cm_wit_grammar.specs.declared.fault.WitReason.TheVariants as reason
-use Rattle.cm_graph.specs.Graphs.{Edges, IsFirstOnCycle, ReachesItself}
-use Rattle.cm_wit_mentions.specs.Mentions.{Mention}
+use Rattle.cm_wit_tokens.specs.declared.fault.WitReason.{WitReason}
+use Rattle.cm_wit_tokens.specs.declared.fault.WitReason.TheVariants as reason
+use Rattle.cm_wit_graph.specs.Graphs.{Edges, IsFirstOnCycle, ReachesItself}
+use Rattle.cm_wit_names.specs.Mentions.{Mention}
 use Rattle.cm_wit_names.specs.Known.{IsAt, edges}
 use Rattle.cm_wit_names.specs.Rules.{HasFault, IsFirstFault, IsLeast, IsTaken, IsUnknown, LeadsToBorrow, Precedes}
 use Rattle.cm_wit_names.specs.Firsts.{Firsts, IsFirst, IsLesser, NotBehind}

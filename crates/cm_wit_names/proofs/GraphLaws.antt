@@ -4,8 +4,8 @@ use Rattle.std.specs.List.{filter_map, cons_option, position_from}
 use Rattle.std.specs.Option.{option_and_then}
 use Rattle.std.proofs.lemmas.Bool.Decides.{nat_tests}
 use Rattle.std.proofs.lemmas.List.{length-map}
-use Rattle.cm_graph.specs.Graphs.{Edges, HasEdge, IsWithin, Walk, IsMarked, LeadsToMarked}
-use Rattle.cm_wit_mentions.specs.Mentions.{Mention, Reference, no_reference, to_interface, to_used, to_type, to_resource}
+use Rattle.cm_wit_graph.specs.Graphs.{Edges, HasEdge, IsWithin, Walk, IsMarked, LeadsToMarked}
+use Rattle.cm_wit_names.specs.Mentions.{Mention, Reference, no_reference, to_interface, to_used, to_type, to_resource}
 use Rattle.cm_wit_names.specs.Known.{is_known_as, known_at, target, edge, edges, using_edges, leading_edge, using_edge, is_borrow, is_used, HasBorrow, HoldsBorrow}
 use Rattle.cm_wit_names.specs.Rules.{LeadsOn}
 

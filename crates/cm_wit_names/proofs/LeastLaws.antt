@@ -4,10 +4,10 @@ use Rattle.std.specs.Option.{option_map}
 use Rattle.std.proofs.lemmas.Option.{slice_get-map, slice_get_read, slice_get_within}
 use Rattle.std.proofs.lemmas.List.{length-map, get_or_default}
 use Rattle.std.proofs.lemmas.Bool.{cases_eq}
-use Rattle.cm_wit_mentions.specs.declared.mention.Mention as code
-use Rattle.cm_wit_mentions.specs.declared.mention.Reference.TheVariants as refers
-use Rattle.cm_wit_mentions.specs.Mentions.{Mention}
-use Rattle.cm_wit_mentions.specs.MentionViews.{mention_view}
+use Rattle.cm_wit_names.specs.declared.mention.Mention as code
+use Rattle.cm_wit_names.specs.declared.mention.Reference.TheVariants as refers
+use Rattle.cm_wit_names.specs.Mentions.{Mention}
+use Rattle.cm_wit_names.specs.MentionViews.{mention_view}
 use Rattle.cm_wit_names.specs.Known.{IsAt}
 use Rattle.cm_wit_names.specs.Rules.{IsLeast}
 

@@ -7,3 +7,4 @@ pub mod GraphLaws
 pub mod BorrowLaws
 pub mod UnknownLaws
 pub mod FaultLaws
+pub mod AddLaws

@@ -7,16 +7,16 @@ use Rattle.std.proofs.lemmas.List.{drop_all}
 use Rattle.std.proofs.lemmas.Bool.Decides.{nat_tests}
 use Rattle.std.proofs.lemmas.Slice.Eq.{bytes_eq-Decides}
 use Rattle.std.specs.Str.{bytes_eq}
-use Rattle.cm_wit_mentions.specs.declared.mention.Mention as code
-use Rattle.cm_wit_mentions.specs.Mentions.{Mention}
-use Rattle.cm_wit_mentions.specs.MentionViews.{mention_view}
-use Rattle.cm_wit_mentions.proofs.AddLaws.{next_element}
+use Rattle.cm_wit_names.specs.declared.mention.Mention as code
+use Rattle.cm_wit_names.specs.Mentions.{Mention}
+use Rattle.cm_wit_names.specs.MentionViews.{mention_view}
+use Rattle.cm_wit_names.proofs.AddLaws.{next_element}
 use Rattle.cm_wit_names.specs.Known.{is_known_as, known_at}
 use Rattle.std.specs.BTreeMap.{is_at}
 use Rattle.std.specs.Map.{lookup}
 use Rattle.std.specs.Option.{option_and_then}
 use Rattle.std.specs.Ordering.{nat_cmp}
-use Rattle.cm_keys.specs.Table.{Table, look_up, or_else, under}
+use Rattle.cm_wit_graph.specs.Table.{Table, look_up, or_else, under}
 use Rattle.cm_wit_names.specs.Table.{IsTableOf, is_key, Notes}
 
 -- What is known is what the table has, or else the first among the mentions to come.

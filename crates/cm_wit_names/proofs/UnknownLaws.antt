@@ -2,9 +2,9 @@
 use Rattle.std.proofs.Common.{◌≡◌, ◌↔◌, ℕ, ◌+◌, ◌<◌, ◌≤◌, Bool, true, false, List, [], ◌∷◌, ◌++◌, length, map, take, get_or, Option, Some, None, refl, sym, ap, subst, ◌∙◌}
 use Rattle.std.specs.Prelude.{IsTrue, is_some, not}
 use Rattle.std.proofs.lemmas.List.{take_more, take_all, map-append}
-use Rattle.cm_wit_mentions.specs.declared.mention.Mention as code
-use Rattle.cm_wit_mentions.specs.Mentions.{Mention, to_used, to_resource}
-use Rattle.cm_wit_mentions.specs.MentionViews.{mention_view, reference_view}
+use Rattle.cm_wit_names.specs.declared.mention.Mention as code
+use Rattle.cm_wit_names.specs.Mentions.{Mention, to_used, to_resource}
+use Rattle.cm_wit_names.specs.MentionViews.{mention_view, reference_view}
 use Rattle.cm_wit_names.specs.Known.{IsAt, IsResource, known_at}
 use Rattle.cm_wit_names.specs.Rules.{IsLeast, IsUnknown, LeadsToBorrow}
 use Rattle.cm_wit_names.proofs.LeastLaws.{element_at, NoneAt, none_at_first, none_at_next, least_here, least_none}

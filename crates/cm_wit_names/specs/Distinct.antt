@@ -2,7 +2,7 @@
 use Rattle.std.specs.Prelude.{◌↔◌, ◌++◌, ℕ, List, [], ◌∷◌}
 use Rattle.std.specs.Global.{Vec}
 use Rattle.std.specs.List.{Contains, cons_option}
-use Rattle.cm_wit_mentions.specs.Mentions.{Mention}
+use Rattle.cm_wit_names.specs.Mentions.{Mention}
 use Rattle.cm_wit_names.specs.Rules.{key_of, IsAmong}
 
 -- a number and a name as they are

@@ -1,8 +1,8 @@
 -- The first fault of all, from the first of each reason.
 use Rattle.std.specs.Prelude.{◌≡◌, ◌≤◌, ◌⊎◌, ℕ, List, Option, Some, None, take, MatchOption}
-use Rattle.cm_wit_grammar.specs.declared.fault.WitReason.{WitReason}
-use Rattle.cm_graph.specs.Graphs.{ReachesItself}
-use Rattle.cm_wit_mentions.specs.Mentions.{Mention}
+use Rattle.cm_wit_tokens.specs.declared.fault.WitReason.{WitReason}
+use Rattle.cm_wit_graph.specs.Graphs.{ReachesItself}
+use Rattle.cm_wit_names.specs.Mentions.{Mention}
 use Rattle.cm_wit_names.specs.Known.{IsAt, edges}
 use Rattle.cm_wit_names.specs.Rules.{IsFirstFault, IsLeast, IsTaken, IsUnknown, LeadsToBorrow}
 

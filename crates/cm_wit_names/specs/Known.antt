@@ -4,9 +4,9 @@ use Rattle.std.specs.Prelude.{Option, Some, None, map, slice_get, if◌then◌el
 use Rattle.std.specs.List.{filter_map, position_from}
 use Rattle.std.specs.Option.{option_map_or, option_and_then}
 use Rattle.std.specs.Str.{bytes_eq}
-use Rattle.cm_wit_mentions.specs.Mentions.{Mention, Reference, no_reference, to_interface, to_used}
-use Rattle.cm_wit_mentions.specs.Mentions.{to_type, to_resource}
-use Rattle.cm_graph.specs.Graphs.{Edges, Leads, LeadsToMarked}
+use Rattle.cm_wit_names.specs.Mentions.{Mention, Reference, no_reference, to_interface, to_used}
+use Rattle.cm_wit_names.specs.Mentions.{to_type, to_resource}
+use Rattle.cm_wit_graph.specs.Graphs.{Edges, Leads, LeadsToMarked}
 
 -- whether a mention makes a type or an interface known by this number and name
 abbrev pub is_known_as : ℕ → List ℕ → Mention → Bool

@@ -3,3 +3,7 @@ pub mod Rules
 pub mod Distinct
 pub mod Firsts
 pub mod Table
+pub mod Mentions
+pub mod MentionViews
+pub mod Marks
+pub mod FileMentions

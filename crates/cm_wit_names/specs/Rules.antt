@@ -7,12 +7,12 @@ use Rattle.std.specs.Option.{option_map, option_map_or}
 use Rattle.std.specs.Char.{to_ascii_lowercase}
 use Rattle.std.specs.Str.{bytes_eq}
 use Rattle.cm_types.specs.ExternNames.{NameTree, name_spelling}
-use Rattle.cm_wit_grammar.specs.declared.fault.WitReason.{WitReason}
-use Rattle.cm_wit_grammar.specs.declared.fault.WitReason.TheVariants as reason
-use Rattle.cm_wit_grammar.specs.Reasons.{reason_number}
-use Rattle.cm_wit_mentions.specs.Mentions.{Mention, Reference, no_reference}
-use Rattle.cm_wit_mentions.specs.Mentions.{to_interface, to_used, to_type, to_resource}
-use Rattle.cm_graph.specs.Graphs.{ReachesItself}
+use Rattle.cm_wit_tokens.specs.declared.fault.WitReason.{WitReason}
+use Rattle.cm_wit_tokens.specs.declared.fault.WitReason.TheVariants as reason
+use Rattle.cm_wit_tokens.specs.Reasons.{reason_number}
+use Rattle.cm_wit_names.specs.Mentions.{Mention, Reference, no_reference}
+use Rattle.cm_wit_names.specs.Mentions.{to_interface, to_used, to_type, to_resource}
+use Rattle.cm_wit_graph.specs.Graphs.{ReachesItself}
 use Rattle.cm_wit_names.specs.Known.{known_at, target, edges, IsAt, IsResource, HoldsBorrow}
 
 -- ---- distinct names

@@ -2,8 +2,8 @@
 use Rattle.std.specs.Prelude.{◌≡◌, ℕ, ◌==◌, ◌&&◌, Bool, false, List, Option, Some, None}
 use Rattle.std.specs.Prelude.{if◌then◌else◌}
 use Rattle.std.specs.Str.{bytes_eq}
-use Rattle.cm_keys.specs.Table.{Table, look_up, or_else}
-use Rattle.cm_wit_mentions.specs.Mentions.{Mention}
+use Rattle.cm_wit_graph.specs.Table.{Table, look_up, or_else}
+use Rattle.cm_wit_names.specs.Mentions.{Mention}
 use Rattle.cm_wit_names.specs.Known.{known_at}
 
 -- The table has for each number and name the first mention.

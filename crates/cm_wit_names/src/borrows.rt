@@ -2,15 +2,15 @@
 
 ghost use Rattle.std.specs.Prelude.{◌≡◌, ◌<◌, ◌↔◌, ◌⊎◌, ℕ, Some, IfOk, IsTrue, length, map};
 ghost use Rattle.std.specs.Prelude.{vec_len};
-ghost use Rattle.cm_graph.specs.Graphs.{IsMarked};
-ghost use Rattle.cm_wit_mentions.specs.MentionViews.{mention_view, reference_view};
+ghost use Rattle.cm_wit_graph.specs.Graphs.{IsMarked};
+ghost use Rattle.cm_wit_names.specs.MentionViews.{mention_view, reference_view};
 ghost use Rattle.cm_wit_names.specs.Known.{HasBorrow, HoldsBorrow, IsAt, borrow_owner, edges};
 ghost use Rattle.cm_wit_names.specs.Rules.{IsLeast, LeadsOn, LeadsToBorrow};
 
 use crate::graphs::is_marked;
 use crate::names::Names;
-use cm_graph::Graph;
-use cm_wit_mentions::{Mention, Reference};
+use crate::{Mention, Reference};
+use cm_wit_graph::Graph;
 use std::alloc::{AllocError, Global};
 
 /// The declaration in whose text a mention is a borrow.

@@ -3,14 +3,14 @@
 ghost use Rattle.std.specs.Prelude.{◌≡◌, IfOk, IsFalse, IsTrue, map, take};
 ghost use Rattle.std.specs.List.{Contains};
 ghost use Rattle.std.specs.Option.{option_map};
-ghost use Rattle.cm_wit_mentions.specs.MentionViews.{mention_view};
+ghost use Rattle.cm_wit_names.specs.MentionViews.{mention_view};
 ghost use Rattle.cm_wit_names.specs.Distinct.{Adds, Notes, key_view};
 ghost use Rattle.cm_wit_names.specs.Known.{IsAt};
 ghost use Rattle.cm_wit_names.specs.Rules.{IsAmong, IsLeast, IsTaken, is_self, key_of};
 
+use crate::Mention;
 use crate::full_names::folded;
 use crate::names::Names;
-use cm_wit_mentions::Mention;
 use std::alloc::{AllocError, Global};
 use std::collections::BTreeSet;
 

@@ -1,11 +1,11 @@
 //! What the declarations of a file lead to.
 
 ghost use Rattle.std.specs.Prelude.{◌≡◌, IfOk, length, map};
-ghost use Rattle.cm_wit_mentions.specs.MentionViews.{mention_view};
+ghost use Rattle.cm_wit_names.specs.MentionViews.{mention_view};
 ghost use Rattle.cm_wit_names.specs.Known.{edge, edges, leading_edge, using_edge, using_edges};
 
 use crate::names::Names;
-use cm_wit_mentions::{Mention, Reference};
+use crate::{Mention, Reference};
 use std::alloc::{AllocError, Global};
 
 /// An edge, where both ends are there.

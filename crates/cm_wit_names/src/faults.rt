@@ -1,13 +1,13 @@
 //! The first fault of the names of a file.
 
 ghost use Rattle.std.specs.Prelude.{◌≡◌, ◌↔◌, List, None, Some, IfOk, IsTrue, map};
-ghost use Rattle.cm_wit_mentions.specs.Mentions.{Mention};
-ghost use Rattle.cm_wit_mentions.specs.MentionViews.{mention_view};
+ghost use Rattle.cm_wit_names.specs.Mentions.{Mention};
+ghost use Rattle.cm_wit_names.specs.MentionViews.{mention_view};
 ghost use Rattle.cm_wit_names.specs.Firsts.{Firsts, IsFirst, IsLesser};
 ghost use Rattle.cm_wit_names.specs.Rules.{IsFirstFault};
 
 use crate::names::Names;
-use cm_wit_grammar::WitReason;
+use cm_wit_tokens::WitReason;
 use std::alloc::{AllocError, Global};
 
 /// The lesser of two places.

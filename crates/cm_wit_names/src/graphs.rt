@@ -1,12 +1,12 @@
 //! The graphs of what the declarations of a file lead to.
 
 ghost use Rattle.std.specs.Prelude.{◌≡◌, IfOk, IsTrue, ◌↔◌, length, map};
-ghost use Rattle.cm_graph.specs.Graphs.{IsMarked};
-ghost use Rattle.cm_wit_mentions.specs.MentionViews.{mention_view};
+ghost use Rattle.cm_wit_graph.specs.Graphs.{IsMarked};
+ghost use Rattle.cm_wit_names.specs.MentionViews.{mention_view};
 ghost use Rattle.cm_wit_names.specs.Known.{edges, using_edges};
 
 use crate::names::Names;
-use cm_graph::Graph;
+use cm_wit_graph::Graph;
 use std::alloc::{AllocError, Global};
 
 /// Whether a node is marked.

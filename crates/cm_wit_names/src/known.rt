@@ -2,11 +2,11 @@
 
 ghost use Rattle.std.specs.Prelude.{◌≡◌, IfOk, OnOk, map};
 ghost use Rattle.std.specs.Option.{option_map};
-ghost use Rattle.cm_wit_mentions.specs.MentionViews.{mention_view};
+ghost use Rattle.cm_wit_names.specs.MentionViews.{mention_view};
 ghost use Rattle.cm_wit_names.specs.Table.{IsTableOf, Notes};
 
-use cm_keys::{Table, note};
-use cm_wit_mentions::Mention;
+use crate::Mention;
+use cm_wit_graph::{Table, note};
 use std::alloc::{AllocError, Global};
 use std::collections::BTreeMap;
 

@@ -1,15 +1,27 @@
 //! The rules on the names of WIT texts.
+//!
+//! What each name of a WIT text declares, and what it refers to.
 #![tactic(auto)]
 
+mod adding;
 mod borrows;
 mod distinct;
 mod edges;
 mod faults;
+mod file_mentions;
 mod full_names;
+mod func_mentions;
 mod graphs;
+mod interface_mentions;
 mod known;
+mod mention;
 mod names;
+mod scope;
+mod type_mentions;
 mod unknown;
+mod world_mentions;
 
+pub use file_mentions::mentions;
 pub use full_names::folded;
+pub use mention::{Declared, Mention, Place, Reference};
 pub use names::Names;

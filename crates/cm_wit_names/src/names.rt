@@ -1,13 +1,13 @@
 //! The names of a file.
 
 ghost use Rattle.std.specs.Prelude.{◌≡◌, IfOk, map};
-ghost use Rattle.cm_wit_mentions.specs.MentionViews.{mention_view, reference_view};
+ghost use Rattle.cm_wit_names.specs.MentionViews.{mention_view, reference_view};
 ghost use Rattle.cm_wit_names.specs.Known.{known_at, target};
 ghost use Rattle.cm_wit_names.specs.Table.{IsTableOf};
 
 use crate::known::known_names;
-use cm_keys::{Table, look_up};
-use cm_wit_mentions::{Mention, Reference};
+use crate::{Mention, Reference};
+use cm_wit_graph::{Table, look_up};
 use std::alloc::{AllocError, Global};
 
 /// What each name of a file says, and what is known by which name.

@@ -1,14 +1,14 @@
 //! Names that lead nowhere.
 
 ghost use Rattle.std.specs.Prelude.{◌≡◌, ◌↔◌, ℕ, IfOk, IsTrue, map};
-ghost use Rattle.cm_graph.specs.Graphs.{IsMarked};
-ghost use Rattle.cm_wit_mentions.specs.MentionViews.{mention_view, reference_view};
+ghost use Rattle.cm_wit_graph.specs.Graphs.{IsMarked};
+ghost use Rattle.cm_wit_names.specs.MentionViews.{mention_view, reference_view};
 ghost use Rattle.cm_wit_names.specs.Known.{IsAt, IsResource, known_at};
 ghost use Rattle.cm_wit_names.specs.Rules.{IsLeast, IsUnknown};
 
+use crate::Reference;
 use crate::graphs::is_marked;
 use crate::names::Names;
-use cm_wit_mentions::Reference;
 use std::alloc::{AllocError, Global};
 
 impl<'a> Names<'a> {

@@ -6,16 +6,16 @@ use Rattle.std.proofs.lemmas.List.{drop_all, map-append}
 use Rattle.std.proofs.lemmas.Bool.Decides.{nat_tests}
 use Rattle.cm_types.specs.Types.{Ty, FuncTy}
 use Rattle.cm_types.specs.Signatures.{NamedItem, NamedExtern, ExternTy, SignatureTy, func, instance}
-use Rattle.cm_replaced.specs.Replaced.{replaced_func}
-use Rattle.cm_type_arena.specs.Places.{types_of, funcs_of}
-use Rattle.cm_type_arena.specs.declared.types.Types.{Types}
-use Rattle.cm_placed.specs.Placed.{moved_by}
-use Rattle.cm_placed.specs.Instances.{items_of, replaced_item, are_items_there}
-use Rattle.cm_placed.specs.declared.instances.Item.{Item}
-use Rattle.cm_placed.specs.Externs.{extern_desc_of, extern_of, externs_in, is_extern_there, are_externs_in}
-use Rattle.cm_placed.specs.declared.signatures.Extern.{Extern}
-use Rattle.cm_placed.specs.declared.signatures.ExternDesc.{ExternDesc}
-use Rattle.cm_placed.specs.declared.signatures.ExternDesc.TheVariants as extern
+use Rattle.cm_types_resources.specs.Replaced.{replaced_func}
+use Rattle.cm_types_arena.specs.Places.{types_of, funcs_of}
+use Rattle.cm_types_arena.specs.declared.types.Types.{Types}
+use Rattle.cm_types_placed.specs.Placed.{moved_by}
+use Rattle.cm_types_placed.specs.Instances.{items_of, replaced_item, are_items_there}
+use Rattle.cm_types_placed.specs.declared.instances.Item.{Item}
+use Rattle.cm_types_placed.specs.Externs.{extern_desc_of, extern_of, externs_in, is_extern_there, are_externs_in}
+use Rattle.cm_types_placed.specs.declared.signatures.Extern.{Extern}
+use Rattle.cm_types_placed.specs.declared.signatures.ExternDesc.{ExternDesc}
+use Rattle.cm_types_placed.specs.declared.signatures.ExternDesc.TheVariants as extern
 use Rattle.cm_wit_worlds.specs.Interfaces.{PlacedInterface, PlacedWorld}
 use Rattle.cm_wit_meanings.specs.declared.fault.MeaningFault.{MeaningFault}
 use Rattle.cm_wit_meanings.specs.declared.fault.MeaningFault.TheVariants as fault

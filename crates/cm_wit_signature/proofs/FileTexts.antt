@@ -7,28 +7,28 @@ use Rattle.cm_wit_tokens.specs.declared.operator.Operator.TheVariants as operato
 use Rattle.cm_wit_tokens.specs.declared.keyword.Keyword.TheVariants as word
 use Rattle.cm_wit_tokens.specs.declared.token.Token.{Token}
 use Rattle.cm_wit_tokens.specs.Tokens.{lexed}
-use Rattle.cm_wit_grammar.specs.Faults.{Fault, and_then}
-use Rattle.cm_wit_grammar.specs.Grammar.{Grammar, token}
-use Rattle.cm_wit_grammar.specs.Lists.{items, items_and, members}
-use Rattle.cm_wit_grammar.specs.Parts.{expect, expect_word, identifier}
-use Rattle.cm_wit_grammar.specs.Whole.{text_reads, whole, placed, to_end}
-use Rattle.cm_wit_types.specs.Types.{Ty, most_depth}
-use Rattle.cm_wit_types.specs.Signatures.{Func, any_type, typed, params, func, local, foreign_rest, optional_version}
-use Rattle.cm_wit_text.specs.declared.heads.TypeHead.{TypeHead}
-use Rattle.cm_wit_text.specs.declared.heads.TypeHead.TheVariants as type_is
-use Rattle.cm_wit_text.specs.declared.heads.ItemHead.{ItemHead}
-use Rattle.cm_wit_text.specs.declared.heads.ItemHead.TheVariants as item_is
-use Rattle.cm_wit_text.specs.declared.heads.MethodHead.{MethodHead}
-use Rattle.cm_wit_text.specs.declared.heads.MethodHead.TheVariants as method_is
-use Rattle.cm_wit_text.specs.declared.heads.WorldHead.{WorldHead}
-use Rattle.cm_wit_text.specs.declared.heads.WorldHead.TheVariants as world_is
-use Rattle.cm_wit_text.specs.declared.heads.FileHead.{FileHead}
-use Rattle.cm_wit_text.specs.declared.heads.FileHead.TheVariants as file_is
-use Rattle.cm_wit_text.specs.Heads.{item_head, method_head, world_head, file_head, package_head}
-use Rattle.cm_wit_text.specs.Interfaces.{braced, ended, use_rest, case_type, case, is_static, func_rest, method_rest, resource_func, resource_rest, more_flags, def_rest, item_rest, interface_item, interface_rest}
-use Rattle.cm_wit_text.specs.Worlds.{behind_colon, extern, with_direction, world_item, world_rest}
-use Rattle.cm_wit_text.specs.Files.{file_item_rest, file_item, file}
-use Rattle.cm_wit_text.specs.Trees.{Case, ResourceFunc, method, static, constructor, TypeDef, alias, record_of, variant, enum, flags, resource, InterfaceItem, uses, defines, has_func, Interface, WorldExtern, interface_at, named_func, WorldItem, World, FileItem, interface, world, File}
+use Rattle.cm_wit_tokens.specs.Faults.{Fault, and_then}
+use Rattle.cm_wit_tokens.specs.Grammar.{Grammar, token}
+use Rattle.cm_wit_tokens.specs.Lists.{items, items_and, members}
+use Rattle.cm_wit_tokens.specs.Parts.{expect, expect_word, identifier}
+use Rattle.cm_wit_tokens.specs.Whole.{text_reads, whole, placed, to_end}
+use Rattle.cm_wit_reading.specs.Types.{Ty, most_depth}
+use Rattle.cm_wit_reading.specs.Signatures.{Func, any_type, typed, params, func, local, foreign_rest, optional_version}
+use Rattle.cm_wit_reading.specs.declared.heads.TypeHead.{TypeHead}
+use Rattle.cm_wit_reading.specs.declared.heads.TypeHead.TheVariants as type_is
+use Rattle.cm_wit_reading.specs.declared.heads.ItemHead.{ItemHead}
+use Rattle.cm_wit_reading.specs.declared.heads.ItemHead.TheVariants as item_is
+use Rattle.cm_wit_reading.specs.declared.heads.MethodHead.{MethodHead}
+use Rattle.cm_wit_reading.specs.declared.heads.MethodHead.TheVariants as method_is
+use Rattle.cm_wit_reading.specs.declared.heads.WorldHead.{WorldHead}
+use Rattle.cm_wit_reading.specs.declared.heads.WorldHead.TheVariants as world_is
+use Rattle.cm_wit_reading.specs.declared.heads.FileHead.{FileHead}
+use Rattle.cm_wit_reading.specs.declared.heads.FileHead.TheVariants as file_is
+use Rattle.cm_wit_reading.specs.Heads.{item_head, method_head, world_head, file_head, package_head}
+use Rattle.cm_wit_reading.specs.Interfaces.{braced, ended, use_rest, case_type, case, is_static, func_rest, method_rest, resource_func, resource_rest, more_flags, def_rest, item_rest, interface_item, interface_rest}
+use Rattle.cm_wit_reading.specs.Worlds.{behind_colon, extern, with_direction, world_item, world_rest}
+use Rattle.cm_wit_reading.specs.Files.{file_item_rest, file_item, file}
+use Rattle.cm_wit_reading.specs.Trees.{Case, ResourceFunc, method, static, constructor, TypeDef, alias, record_of, variant, enum, flags, resource, InterfaceItem, uses, defines, has_func, Interface, WorldExtern, interface_at, named_func, WorldItem, World, FileItem, interface, world, File}
 use Rattle.cm_wit_signature.specs.Written.{IsWritten, IsWrittenDef}
 use Rattle.cm_wit_signature.specs.Files.{AreWrittenParams, IsWrittenFunc, IsWrittenResourceFunc, AreWrittenFuncsOf, IsWrittenItem, IsWrittenExtern, IsWrittenWorldItem, IsWrittenFileItem, IsWrittenFile}
 use Rattle.cm_wit_signature.proofs.ReadLaws.{Only, anything, done_only, bind_only, next_only, chosen_only, SomeAll, items_only, SomeFew, few_only, members_only}

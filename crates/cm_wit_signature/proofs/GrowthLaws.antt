@@ -4,7 +4,7 @@ use Rattle.std.proofs.lemmas.List.{get_or_append_left}
 use Rattle.std.proofs.lemmas.Bool.Decides.{nat_tests}
 use Rattle.cm_types.specs.Types.{Ty, FuncTy, bool, no_fields}
 use Rattle.std.specs.Prelude.{None}
-use Rattle.cm_type_arena.specs.TypeDefs.{type_at, func_at}
+use Rattle.cm_types_arena.specs.TypeDefs.{type_at, func_at}
 use Rattle.cm_wit_meanings.specs.Places.{Extends}
 
 pub extends_same : {A : Type 0} (old new : List A) → new ≡ old → Extends old new

@@ -10,3 +10,9 @@ pub mod MeaningLaws
 mod ReadLaws
 mod TypeTexts
 pub mod FileTexts
+mod RestLaws
+mod LedLaws
+mod ListLaws
+mod MarkLaws
+mod TypedLaws
+mod ReachLaws

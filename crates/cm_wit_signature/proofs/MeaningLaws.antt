@@ -8,11 +8,11 @@ use Rattle.cm_types.specs.declared.resource.ResourceId.{ResourceId}
 use Rattle.cm_types.specs.Types as types
 use Rattle.cm_types.specs.Spellable.{is_spellable, are_spellable, are_spellable_payloads, is_spellable_payload, has_no_cases}
 use Rattle.cm_types.specs.TypeTrees.{TypedLabel, CaseOf, fields_from, parts_from, cases_from, case_before, plain_from}
-use Rattle.cm_wit_types.specs.Types as wit
-use Rattle.cm_wit_types.specs.Signatures.{Typed, Func}
-use Rattle.cm_wit_types.specs.declared.types.Primitive.{Primitive}
-use Rattle.cm_wit_types.specs.declared.types.Primitive.TheVariants as primitive_is
-use Rattle.cm_wit_text.specs.Trees.{Case, TypeDef, alias, record_of, variant, enum, flags, resource, ResourceFunc, method, static, constructor}
+use Rattle.cm_wit_reading.specs.Types as wit
+use Rattle.cm_wit_reading.specs.Signatures.{Typed, Func}
+use Rattle.cm_wit_reading.specs.declared.types.Primitive.{Primitive}
+use Rattle.cm_wit_reading.specs.declared.types.Primitive.TheVariants as primitive_is
+use Rattle.cm_wit_reading.specs.Trees.{Case, TypeDef, alias, record_of, variant, enum, flags, resource, ResourceFunc, method, static, constructor}
 use Rattle.cm_wit_meanings.specs.Meanings as meant
 use Rattle.cm_wit_meanings.specs.Meanings.{meaning, meanings, each_meaning, typed_meaning, case_meaning, payload_meaning, def_meaning, option_of, result_of, tuple_of, variant_of, primitive_type, func_meaning, with_self, resource_func_meaning}
 use Rattle.cm_wit_meanings.specs.Faults.{is_func_spellable}

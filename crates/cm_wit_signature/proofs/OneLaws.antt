@@ -4,17 +4,17 @@ use Rattle.std.specs.List.{flat_map}
 use Rattle.std.specs.Option.{option_map}
 use Rattle.cm_types.specs.Types.{Ty, FuncTy}
 use Rattle.cm_types.specs.Signatures.{ItemTy, NamedItem, NamedExtern, func_item, equal_type, equal_resource, fresh_resource, func, instance}
-use Rattle.cm_type_arena.specs.TypeDefs.{func_at}
-use Rattle.cm_replaced.specs.Replaced.{replaced, replaced_func}
-use Rattle.cm_placed.specs.Placed.{moved_by}
-use Rattle.cm_placed.specs.Instances.{items_of, replaced_desc, replaced_item}
-use Rattle.cm_placed.specs.declared.placed.Placed.{Placed}
-use Rattle.cm_placed.specs.declared.instances.Item.{Item}
-use Rattle.cm_placed.specs.declared.instances.InstanceType.{InstanceType}
-use Rattle.cm_placed.specs.Externs.{extern_of}
-use Rattle.cm_placed.specs.declared.signatures.Extern.{Extern}
-use Rattle.cm_placed.specs.declared.signatures.ExternDesc.{ExternDesc}
-use Rattle.cm_placed.specs.declared.signatures.ExternDesc.TheVariants as extern
+use Rattle.cm_types_arena.specs.TypeDefs.{func_at}
+use Rattle.cm_types_resources.specs.Replaced.{replaced, replaced_func}
+use Rattle.cm_types_placed.specs.Placed.{moved_by}
+use Rattle.cm_types_placed.specs.Instances.{items_of, replaced_desc, replaced_item}
+use Rattle.cm_types_placed.specs.declared.placed.Placed.{Placed}
+use Rattle.cm_types_placed.specs.declared.instances.Item.{Item}
+use Rattle.cm_types_placed.specs.declared.instances.InstanceType.{InstanceType}
+use Rattle.cm_types_placed.specs.Externs.{extern_of}
+use Rattle.cm_types_placed.specs.declared.signatures.Extern.{Extern}
+use Rattle.cm_types_placed.specs.declared.signatures.ExternDesc.{ExternDesc}
+use Rattle.cm_types_placed.specs.declared.signatures.ExternDesc.TheVariants as extern
 use Rattle.cm_wit_worlds.specs.Interfaces.{PlacedInterface, full_name}
 use Rattle.cm_wit_meanings.specs.declared.fault.MeaningFault.{MeaningFault}
 use Rattle.cm_wit_meanings.specs.declared.fault.MeaningFault.TheVariants as fault

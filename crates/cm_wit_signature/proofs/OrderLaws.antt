@@ -1,16 +1,16 @@
 -- What a world imports and exports, and what is known of its instances.
 use Rattle.std.proofs.Common.{◌≡◌, ℕ, List, Result, Ok, Err, IfOk, IfErr, Some, length, subst}
-use Rattle.cm_placed.specs.Signatures.{signature_of}
-use Rattle.cm_placed.specs.declared.signatures.Signature.{Signature}
-use Rattle.cm_wit_text.specs.Trees.{File}
+use Rattle.cm_types_placed.specs.Signatures.{signature_of}
+use Rattle.cm_types_placed.specs.declared.signatures.Signature.{Signature}
+use Rattle.cm_wit_reading.specs.Trees.{File}
 use Rattle.cm_wit_worlds.specs.Interfaces.{PlacedInterface, PlacedWorld, interfaces}
-use Rattle.cm_wit_declared.specs.Declarations.{Declaration}
-use Rattle.cm_wit_declared.specs.Worlds.{Instance, instances, declarations}
+use Rattle.cm_wit_tables.specs.Declarations.{Declaration}
+use Rattle.cm_wit_tables.specs.Worlds.{Instance, instances, declarations}
 use Rattle.cm_wit_worlds.specs.Worlds.{AreWorldExterns}
 use Rattle.cm_wit_worlds.specs.declared.fault.WorldFault.{WorldFault}
 use Rattle.cm_wit_items.specs.Faults.{IsFaultIn, IsWorldSignature, world_of}
 use Rattle.cm_wit_items.specs.Named.{HaveTypes}
-use Rattle.cm_wit_typing.specs.Sides.{interfaces_below}
+use Rattle.cm_wit_signature.specs.Sides.{interfaces_below}
 use Rattle.cm_wit_signature.specs.Typed.{IsTyped}
 
 pub instances_same : (xs : List Instance) (n m : ℕ) (i into o out : List ℕ) → n ≡ m → i ≡ into → o ≡ out → xs ≡ instances n i o → xs ≡ instances m into out

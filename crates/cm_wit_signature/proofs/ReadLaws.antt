@@ -6,11 +6,11 @@ use Rattle.cm_wit_tokens.specs.declared.operator.Operator.{Operator}
 use Rattle.cm_wit_tokens.specs.declared.operator.Operator.TheVariants as operator
 use Rattle.cm_wit_tokens.specs.declared.token.Token.{Token}
 use Rattle.cm_wit_tokens.specs.declared.token.Form.{Form}
-use Rattle.cm_wit_grammar.specs.declared.fault.WitReason.{WitReason}
-use Rattle.cm_wit_grammar.specs.Faults.{Fault, and_then}
-use Rattle.cm_wit_grammar.specs.Grammar.{first, Grammar, done, ◌>>=◌, taken, token_reads, token, passes, chosen, with_front, after_step, steps_in, steps}
-use Rattle.cm_wit_grammar.specs.Lists.{next_item, items, and_more, last_comma, at_most, items_and, next_member, members}
-use Rattle.cm_wit_grammar.specs.Parts.{expect}
+use Rattle.cm_wit_tokens.specs.declared.fault.WitReason.{WitReason}
+use Rattle.cm_wit_tokens.specs.Faults.{Fault, and_then}
+use Rattle.cm_wit_tokens.specs.Grammar.{first, Grammar, done, ◌>>=◌, taken, token_reads, token, passes, chosen, with_front, after_step, steps_in, steps}
+use Rattle.cm_wit_tokens.specs.Lists.{next_item, items, and_more, last_comma, at_most, items_and, next_member, members}
+use Rattle.cm_wit_tokens.specs.Parts.{expect}
 
 -- Of each value that the grammar reads the fact holds.
 pub record Only {A : Type 0} (P : A → Type 0) (g : Grammar A) : Type 0 where

@@ -4,18 +4,18 @@ use Rattle.std.specs.List.{AllByRecursion, list_all}
 use Rattle.cm_types.specs.Limits.{IsWithinLimits}
 use Rattle.cm_types.specs.Spellable.{is_spellable}
 use Rattle.cm_types.specs.Signatures.{SignatureTy}
-use Rattle.cm_keys.specs.Keys.{Key}
-use Rattle.cm_wit_text.specs.Trees.{File}
+use Rattle.cm_wit_graph.specs.Keys.{Key}
+use Rattle.cm_wit_reading.specs.Trees.{File}
 use Rattle.cm_wit_worlds.specs.Interfaces.{PlacedInterface, PlacedWorld, interfaces}
 use Rattle.cm_wit_items.specs.ItemFaults.{AreWithin, IsFaultWith}
 use Rattle.cm_wit_meanings.specs.Faults.{IsFuncWithin, is_func_spellable}
 use Rattle.cm_wit_meanings.specs.Scopes.{Meaning, as_type}
 use Rattle.cm_wit_meanings.specs.declared.fault.MeaningFault.{MeaningFault}
 use Rattle.cm_wit_meanings.specs.declared.fault.MeaningFault.TheVariants as one
-use Rattle.cm_wit_declared.specs.Declarations.{Declaration, HasTypeCycle, keys_of}
-use Rattle.cm_wit_declared.specs.Tables.{Solves}
-use Rattle.cm_wit_declared.specs.TypeFaults.{AllHaveTypes}
-use Rattle.cm_wit_declared.specs.Worlds.{Instance, instances, declarations}
+use Rattle.cm_wit_tables.specs.Declarations.{Declaration, HasTypeCycle, keys_of}
+use Rattle.cm_wit_tables.specs.Tables.{Solves}
+use Rattle.cm_wit_tables.specs.TypeFaults.{AllHaveTypes}
+use Rattle.cm_wit_tables.specs.Worlds.{Instance, instances, declarations}
 use Rattle.cm_wit_items.specs.Faults.{IsWorldSignature, IsFaultIn, IsTooLargeIn, world_of, AreTypesWithin}
 use Rattle.cm_wit_items.specs.Functions.{funcs_in}
 use Rattle.cm_wit_items.specs.Named.{HaveTypes, in_order}

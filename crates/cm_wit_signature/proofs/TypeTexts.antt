@@ -8,14 +8,14 @@ use Rattle.cm_wit_tokens.specs.declared.keyword.Keyword.{Keyword}
 use Rattle.cm_wit_tokens.specs.declared.keyword.Keyword.TheVariants as word
 use Rattle.cm_wit_tokens.specs.declared.token.Form.{Form}
 use Rattle.cm_wit_tokens.specs.declared.token.Form.TheVariants as form
-use Rattle.cm_wit_grammar.specs.declared.fault.WitReason.{WitReason}
-use Rattle.cm_wit_grammar.specs.declared.fault.WitReason.TheVariants as reason
-use Rattle.cm_wit_grammar.specs.Grammar.{Grammar, done, ◌>>=◌, token}
-use Rattle.cm_wit_grammar.specs.Lists.{items}
-use Rattle.cm_wit_grammar.specs.Parts as parts
-use Rattle.cm_wit_grammar.specs.Parts.{expect, identifier, length_of}
-use Rattle.cm_wit_types.specs.Types.{Ty, Start, whole, borrow_of, list_of, option_of, tuple_of, result_of, keyword_head, keyword_start, start_of, no_borrow, borrowless, start_in, too_deep, borrow_rest, list_rest, option_rest, tuple_rest, error_rest, only_error, result_rest, rest_of, ty, types_from, named, borrow, list, fixed_list, option, tuple, plain_result, ok_result, error_result, result, most_depth}
-use Rattle.cm_wit_types.specs.Signatures.{Typed, any_type, result_type, typed, params, func}
+use Rattle.cm_wit_tokens.specs.declared.fault.WitReason.{WitReason}
+use Rattle.cm_wit_tokens.specs.declared.fault.WitReason.TheVariants as reason
+use Rattle.cm_wit_tokens.specs.Grammar.{Grammar, done, ◌>>=◌, token}
+use Rattle.cm_wit_tokens.specs.Lists.{items}
+use Rattle.cm_wit_tokens.specs.Parts as parts
+use Rattle.cm_wit_tokens.specs.Parts.{expect, identifier, length_of}
+use Rattle.cm_wit_reading.specs.Types.{Ty, Start, whole, borrow_of, list_of, option_of, tuple_of, result_of, keyword_head, keyword_start, start_of, no_borrow, borrowless, start_in, too_deep, borrow_rest, list_rest, option_rest, tuple_rest, error_rest, only_error, result_rest, rest_of, ty, types_from, named, borrow, list, fixed_list, option, tuple, plain_result, ok_result, error_result, result, most_depth}
+use Rattle.cm_wit_reading.specs.Signatures.{Typed, any_type, result_type, typed, params, func}
 use Rattle.cm_wit_signature.specs.Written.{IsWritten, AreWritten}
 use Rattle.cm_wit_signature.specs.Files.{AreWrittenParams, IsWrittenFunc}
 use Rattle.cm_wit_signature.proofs.ReadLaws.{Only, done_only, bind_only, next_only, token_only, chosen_only, SomeAll, items_only}

@@ -2,11 +2,13 @@
 use Rattle.std.specs.Prelude.{List}
 use Rattle.std.specs.List.{AllByRecursion}
 use Rattle.std.specs.Option.{IfSome}
-use Rattle.cm_wit_types.specs.Signatures.{Func, Typed}
-use Rattle.cm_wit_text.specs.Trees.{TypeDef, resource}
-use Rattle.cm_wit_text.specs.Trees.{ResourceFunc, method, static, constructor, InterfaceItem, uses}
-use Rattle.cm_wit_text.specs.Trees.{defines, has_func, WorldExtern, interface_at, named_func}
-use Rattle.cm_wit_text.specs.Trees.{WorldItem, imports, exports, FileItem, interface, world, File}
+use Rattle.cm_wit_reading.specs.Signatures.{Func, Typed}
+use Rattle.cm_wit_reading.specs.Trees.{TypeDef, resource}
+use Rattle.cm_wit_reading.specs.Trees.{ResourceFunc, method, static, constructor, InterfaceItem}
+use Rattle.cm_wit_reading.specs.Trees.{uses}
+use Rattle.cm_wit_reading.specs.Trees.{defines, has_func, WorldExtern, interface_at, named_func}
+use Rattle.cm_wit_reading.specs.Trees.{WorldItem, imports, exports, FileItem, interface, world}
+use Rattle.cm_wit_reading.specs.Trees.{File}
 use Rattle.cm_wit_signature.specs.Written.{IsWritten, IsWrittenDef}
 
 -- The type of each parameter is written so.

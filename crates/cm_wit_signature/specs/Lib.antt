@@ -6,3 +6,6 @@ pub mod Typed
 pub mod Made
 pub mod Written
 pub mod Files
+pub mod Tests
+pub mod Sides
+pub mod Typing

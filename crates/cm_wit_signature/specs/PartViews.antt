@@ -1,8 +1,8 @@
 -- What the imports and exports of a world are made of.
 use Rattle.std.specs.Prelude.{ℕ, List, Option, map}
 use Rattle.cm_types.specs.Types.{Ty}
-use Rattle.cm_keys.specs.Listed.{listed}
-use Rattle.cm_wit_types.specs.SignatureViews.{func_tree}
+use Rattle.cm_wit_graph.specs.Listed.{listed}
+use Rattle.cm_wit_reading.specs.SignatureViews.{func_tree}
 use Rattle.cm_wit_worlds.specs.Interfaces.{PlacedInterface, PlacedWorld}
 use Rattle.cm_wit_worlds.specs.InterfaceViews.{placed_interface, placed_world}
 use Rattle.cm_wit_meanings.specs.Places.{table_in}

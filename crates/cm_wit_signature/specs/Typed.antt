@@ -1,9 +1,9 @@
 -- What is known of a world where the names in what it reaches lead to types.
 use Rattle.std.specs.Prelude.{◌≡◌, ℕ, List, length}
-use Rattle.cm_wit_text.specs.Trees.{File}
+use Rattle.cm_wit_reading.specs.Trees.{File}
 use Rattle.cm_wit_worlds.specs.Interfaces.{PlacedInterface, PlacedWorld, interfaces}
-use Rattle.cm_wit_declared.specs.Declarations.{Declaration}
-use Rattle.cm_wit_declared.specs.Worlds.{Instance, instances, declarations}
+use Rattle.cm_wit_tables.specs.Declarations.{Declaration}
+use Rattle.cm_wit_tables.specs.Worlds.{Instance, instances, declarations}
 use Rattle.cm_wit_worlds.specs.Worlds.{AreWorldExterns}
 use Rattle.cm_wit_items.specs.Named.{HaveTypes}
 use Rattle.cm_wit_items.specs.Signatures.{interfaces_among}

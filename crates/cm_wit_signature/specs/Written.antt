@@ -4,9 +4,9 @@ use Rattle.std.specs.List.{AllByRecursion}
 use Rattle.std.specs.Option.{IfSome}
 use Rattle.cm_types.specs.declared.spellable.TheConstants.{MAX_FLAGS}
 use Rattle.cm_types.specs.Spellable.{is_spellable}
-use Rattle.cm_wit_types.specs.Types.{Ty, Tys, list, fixed_list, option, tuple, ok_result}
-use Rattle.cm_wit_types.specs.Types.{error_result, result, no_types, types}
-use Rattle.cm_wit_text.specs.Trees.{TypeDef, alias, record_of, variant, enum, flags, resource}
+use Rattle.cm_wit_reading.specs.Types.{Ty, Tys, list, fixed_list, option, tuple, ok_result}
+use Rattle.cm_wit_reading.specs.Types.{error_result, result, no_types, types}
+use Rattle.cm_wit_reading.specs.Trees.{TypeDef, alias, record_of, variant, enum, flags, resource}
 use Rattle.cm_wit_meanings.specs.Scopes.{Scope, Meaning, as_type}
 
 abbrev mutual

@@ -3,10 +3,10 @@
 ghost use Rattle.std.specs.Prelude.{◌≡◌, ◌≤◌, ◌+◌, ◌<◌, ◌^◌, ◌∷◌, ℕ, List, None, Some, true};
 ghost use Rattle.std.specs.Prelude.{IfOk, IfErr, OnOk, length, map};
 ghost use Rattle.std.specs.List.{flat_map};
-ghost use Rattle.cm_type_arena.specs.Places.{funcs_of, types_of};
-ghost use Rattle.cm_placed.specs.Externs.{are_externs_in, extern_of, externs_in};
-ghost use Rattle.cm_placed.specs.Externs.{is_extern_there};
-ghost use Rattle.cm_wit_text.specs.Trees.{File};
+ghost use Rattle.cm_types_arena.specs.Places.{funcs_of, types_of};
+ghost use Rattle.cm_types_placed.specs.Externs.{are_externs_in, extern_of, externs_in};
+ghost use Rattle.cm_types_placed.specs.Externs.{is_extern_there};
+ghost use Rattle.cm_wit_reading.specs.Trees.{File};
 ghost use Rattle.cm_wit_worlds.specs.Interfaces as spec;
 ghost use Rattle.cm_wit_worlds.specs.InterfaceViews.{placed_interface, placed_world};
 ghost use Rattle.cm_wit_meanings.specs.Places.{ArePlaced, Extends};
@@ -20,13 +20,12 @@ ghost use Rattle.cm_wit_signature.specs.PartViews.{interfaces_in, own_func_view,
 ghost use Rattle.cm_wit_signature.specs.PartViews.{world_in};
 
 use crate::parts::{OwnFunc, Parts};
-use cm_placed::laws::unmoved;
-use cm_placed::{Extern, ExternDesc, InstanceType, Placed};
-use cm_type_arena::Types;
-use cm_wit_definitions::push_func;
+use cm_types_arena::Types;
+use cm_types_placed::laws::unmoved;
+use cm_types_placed::{Extern, ExternDesc, InstanceType, Placed};
 use cm_wit_items::laws::{items_stay, tables_stay};
 use cm_wit_items::{extern_name, push_items};
-use cm_wit_meanings::MeaningFault;
+use cm_wit_meanings::{MeaningFault, push_func};
 use cm_wit_worlds::{PlacedInterface, full_name};
 use std::alloc::{AllocError, Global};
 use std::rc::Rc;
@@ -221,7 +220,7 @@ fn add_number(
 /// interface by its own, and the function of the world's item j by j and the number of all
 /// interfaces. The names of the first instance are those of the list `first`.
 ///
-/// Faults come as those of `cm_wit_items::push_items` and `cm_wit_definitions::push_func`. It costs
+/// Faults come as those of `cm_wit_items::push_items` and `cm_wit_meanings::push_func`. It costs
 /// the texts' own length and a look-up for each of their names.
 pub fn push_externs(
     alloc: Global,

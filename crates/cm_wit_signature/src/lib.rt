@@ -1,17 +1,34 @@
 //! The imports and exports of a world of packages, and its signature, whose types are put into an
 //! arena; and laws by which packages hold only types that a component file can spell.
+//!
+//! The instances of a world, and whether the names in them, and in what the world reaches, lead to
+//! types.
 #![tactic(auto)]
 
 mod externs;
 mod faults;
+mod files;
+mod instances;
+pub mod laws;
+mod members;
 mod parts;
+mod reaching;
 mod signature;
 mod signing;
 pub mod spellable_laws;
+mod texts;
+mod typing;
+mod wit_typing_worlds;
 mod worlds;
 pub mod written_laws;
 
+pub use cm_wit_tables::all_have_types;
 pub use externs::push_externs;
+pub use files::package_files;
+pub use instances::{WorldInstances, instances_of};
 pub use parts::Parts;
+pub use reaching::cycle_fault;
 pub use signature::signature_with;
+pub use typing::typed_declarations;
+pub use wit_typing_worlds::members_have_types;
 pub use worlds::{signature_of_world, world_signature};

@@ -6,13 +6,12 @@ ghost use Rattle.cm_types.specs.Types.{Ty};
 ghost use Rattle.cm_wit_worlds.specs.InterfaceViews.{placed_world};
 ghost use Rattle.cm_wit_meanings.specs.Places.{scope_in};
 ghost use Rattle.cm_wit_items.specs.Signatures.{extern_func, func_at, item_func};
-ghost use Rattle.cm_wit_text.specs.Views.{extern_tree, world_item_tree};
+ghost use Rattle.cm_wit_reading.specs.Views.{extern_tree, world_item_tree};
 
-use cm_keys::Keys;
 use cm_types::Label;
+use cm_wit_graph::Keys;
 use cm_wit_meanings::{Meaning, Scope};
-use cm_wit_text::{WorldExtern, WorldItem};
-use cm_wit_types::Func;
+use cm_wit_reading::{Func, WorldExtern, WorldItem};
 use cm_wit_worlds::{PlacedInterface, PlacedWorld};
 
 /// What the imports and exports of a world are made of: the interfaces of all packages, the world,

@@ -1,10 +1,10 @@
 //! The signature of a world whose names lead to types.
 
 ghost use Rattle.std.specs.Prelude.{◌≡◌, ◌<◌, ◌^◌, ℕ, List, Some, IfOk, IfErr, length, map};
-ghost use Rattle.cm_keys.specs.Listed.{listed};
-ghost use Rattle.cm_placed.specs.Signatures.{signature_of};
-ghost use Rattle.cm_type_arena.specs.Places.{types_of};
-ghost use Rattle.cm_wit_declared.specs.DeclaredViews.{declaration_view, instance_view};
+ghost use Rattle.cm_wit_graph.specs.Listed.{listed};
+ghost use Rattle.cm_types_placed.specs.Signatures.{signature_of};
+ghost use Rattle.cm_types_arena.specs.Places.{types_of};
+ghost use Rattle.cm_wit_tables.specs.DeclaredViews.{declaration_view, instance_view};
 ghost use Rattle.cm_wit_worlds.specs.Interfaces as spec;
 ghost use Rattle.cm_wit_worlds.specs.InterfaceViews.{files_of, placed_interface, placed_world};
 ghost use Rattle.cm_wit_items.specs.ItemFaults.{AreWithin, IsFaultWith};
@@ -13,21 +13,19 @@ ghost use Rattle.cm_wit_meanings.specs.Scopes.{scope_at};
 ghost use Rattle.cm_wit_items.specs.Faults.{IsFaultIn, IsWorldSignature, world_of};
 ghost use Rattle.cm_wit_items.specs.Functions.{funcs_in};
 ghost use Rattle.cm_wit_items.specs.Own.{AreOwn};
-ghost use Rattle.cm_wit_text.specs.Trees.{File};
+ghost use Rattle.cm_wit_reading.specs.Trees.{File};
 ghost use Rattle.cm_wit_worlds.specs.Worlds.{AreWorldExterns};
 ghost use Rattle.cm_wit_signature.specs.Made.{signature_made};
 ghost use Rattle.cm_wit_signature.specs.Typed.{IsTyped};
 
 use crate::faults::{fault_of_meaning, fault_of_table};
-use crate::{Parts, signature_with};
-use cm_placed::Signature;
-use cm_type_arena::Types;
-use cm_wit_declared::Declaration;
+use crate::laws::typing_faults_are_of_worlds;
+use crate::{Parts, WorldInstances, instances_of, signature_with, typed_declarations};
+use cm_types_arena::Types;
+use cm_types_placed::Signature;
 use cm_wit_items::signature_laws::{resources_are_own, typed_ones_have_signatures};
 use cm_wit_meanings::MeaningFault;
-use cm_wit_tables::{Table, table_of};
-use cm_wit_typing::laws::typing_faults_are_of_worlds;
-use cm_wit_typing::{WorldInstances, instances_of, typed_declarations};
+use cm_wit_tables::{Declaration, Table, table_of};
 use cm_wit_worlds::{Directory, PlacedInterface, PlacedWorld, WorldExterns, WorldFault};
 use std::alloc::Global;
 

@@ -12,11 +12,11 @@ use Rattle.cm_wit_meanings.specs.Faults.{IsFaultIn}
 use Rattle.cm_wit_meanings.specs.Meanings.{def_meaning}
 use Rattle.cm_wit_meanings.specs.Places.{meaning_in, table_in, scope_in}
 use Rattle.cm_wit_meanings.specs.Scopes.{Meaning, Scope, as_type}
-use Rattle.cm_wit_text.specs.Trees.{TypeDef}
-use Rattle.cm_wit_declared.specs.DeclaredViews.{declaration_view, declared_view}
-use Rattle.cm_wit_declared.specs.declared.declarations.Declaration as code_declaration
-use Rattle.cm_wit_declared.specs.Declarations.{Declared, defined}
-use Rattle.cm_wit_declared.specs.Tables.{declared_meaning, entry_meaning, resource_of, scope_of}
+use Rattle.cm_wit_reading.specs.Trees.{TypeDef}
+use Rattle.cm_wit_tables.specs.DeclaredViews.{declaration_view, declared_view}
+use Rattle.cm_wit_tables.specs.declared.declarations.Declaration as code_declaration
+use Rattle.cm_wit_tables.specs.Declarations.{Declared, defined}
+use Rattle.cm_wit_tables.specs.Tables.{declared_meaning, entry_meaning, resource_of, scope_of}
 use Rattle.cm_wit_tables.specs.declared.listing.Listing.{Listing}
 use Rattle.cm_wit_tables.specs.Filled.{AreWithin, IsWithin, entry_at}
 use Rattle.cm_wit_tables.specs.Listings.{IsListing, declared}

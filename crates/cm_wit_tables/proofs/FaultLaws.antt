@@ -8,8 +8,8 @@ use Rattle.cm_wit_meanings.specs.declared.fault.MeaningFault.TheVariants as one
 use Rattle.cm_wit_meanings.specs.declared.scope.Meaning as code
 use Rattle.cm_wit_meanings.specs.Places.{meaning_in, table_in}
 use Rattle.cm_wit_meanings.specs.Scopes.{Meaning, as_type}
-use Rattle.cm_wit_declared.specs.Declarations.{Declaration, HasTypeCycle}
-use Rattle.cm_wit_declared.specs.TypeFaults.{AllHaveTypes}
+use Rattle.cm_wit_tables.specs.Declarations.{Declaration, HasTypeCycle}
+use Rattle.cm_wit_tables.specs.TypeFaults.{AllHaveTypes}
 use Rattle.cm_wit_tables.specs.Filled.{AreWithin}
 use Rattle.cm_wit_tables.specs.FillFaults.{IsFillFault}
 use Rattle.cm_wit_tables.specs.declared.fault.TableFault.{TableFault}

@@ -8,17 +8,17 @@ use Rattle.std.proofs.lemmas.Bool.{cases_lt, cases_eq}
 use Rattle.std.proofs.lemmas.List.{ext_get_or, get_or-set_same, get_or-set_other, get_or-take, get_or_default, length-set, length-map, length-take, length-replicate}
 use Rattle.std.proofs.lemmas.List.Elements.{recursion_from_All}
 use Rattle.std.proofs.lemmas.Option.{get_or_from_slice_get}
-use Rattle.cm_order.specs.Orders.{IsOrder, IsWithin as IsBounded}
-use Rattle.cm_type_arena.specs.Places.{types_of, funcs_of}
-use Rattle.cm_type_arena.specs.declared.types.Types.{Types}
+use Rattle.cm_wit_graph.specs.Orders.{IsOrder, IsWithin as IsBounded}
+use Rattle.cm_types_arena.specs.Places.{types_of, funcs_of}
+use Rattle.cm_types_arena.specs.declared.types.Types.{Types}
 use Rattle.cm_wit_meanings.specs.declared.fault.MeaningFault.{MeaningFault}
 use Rattle.cm_wit_meanings.specs.declared.fault.MeaningFault.TheVariants as fault
 use Rattle.cm_wit_meanings.specs.declared.scope.Meaning as code
 use Rattle.cm_wit_meanings.specs.Faults.{IsFaultIn}
 use Rattle.cm_wit_meanings.specs.Places.{ArePlaced, Extends, IsPlaced, meaning_in, table_in}
 use Rattle.cm_wit_meanings.specs.Scopes.{Meaning, as_type}
-use Rattle.cm_wit_declared.specs.Declarations.{Declaration, uses}
-use Rattle.cm_wit_declared.specs.Tables.{Solves, IsWhole}
+use Rattle.cm_wit_tables.specs.Declarations.{Declaration, uses}
+use Rattle.cm_wit_tables.specs.Tables.{Solves, IsWhole}
 use Rattle.cm_wit_tables.specs.Filled.{AreWithin, IsWithin, entry_at}
 use Rattle.cm_wit_tables.specs.FillFaults.{IsFillFault}
 use Rattle.cm_wit_tables.proofs.GrowthLaws.{extends_same, extends_more, table_kept, placed_more, within_more, all_set, all_same}

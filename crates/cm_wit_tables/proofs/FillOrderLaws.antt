@@ -7,8 +7,8 @@ use Rattle.std.proofs.lemmas.Bool.Decides.{nat_tests}
 use Rattle.std.proofs.lemmas.List.{get_or-take, get_or_default, length-take}
 use Rattle.std.proofs.lemmas.List.Elements.{All-from_recursion, recursion_from_All}
 use Rattle.std.proofs.lemmas.Option.{slice_get_past}
-use Rattle.cm_order.specs.Orders.{Needs, Walk, IsOrder, IsBehind}
-use Rattle.cm_wit_declared.specs.Declarations.{Declaration, HasTypeCycle, IsRanked, refers, target, uses}
+use Rattle.cm_wit_graph.specs.Orders.{Needs, Walk, IsOrder, IsBehind}
+use Rattle.cm_wit_tables.specs.Declarations.{Declaration, HasTypeCycle, IsRanked, refers, target, uses}
 
 -- ---- the first place of a number
 

@@ -5,7 +5,7 @@ use Rattle.std.proofs.Math.ListN.{set, replicate}
 use Rattle.std.proofs.lemmas.List.{get_or_append_left}
 use Rattle.cm_types.specs.Types.{Ty, bool}
 use Rattle.cm_types.specs.Limits.{IsWithinLimits}
-use Rattle.cm_type_arena.specs.TypeDefs.{type_at}
+use Rattle.cm_types_arena.specs.TypeDefs.{type_at}
 use Rattle.cm_wit_meanings.specs.declared.scope.Meaning as code
 use Rattle.cm_wit_meanings.specs.declared.scope.Meaning.TheVariants as meant
 use Rattle.cm_wit_meanings.specs.Scopes.{Meaning, value, as_type}

@@ -4,3 +4,17 @@ mod EntryLaws
 mod FillLaws
 mod FaultLaws
 mod OrderLaws
+mod AgreeLaws
+mod TableLaws
+mod ScopeResourceLaws
+mod RankLaws
+mod ThereLaws
+mod ListLaws
+mod PlaceLaws
+mod MapLaws
+mod AddLaws
+mod RowLaws
+mod EdgeLaws
+mod ResourceLaws
+mod LeadLaws
+mod IdLaws

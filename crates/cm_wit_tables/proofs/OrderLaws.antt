@@ -4,8 +4,8 @@ use Rattle.std.specs.Option.{option_map}
 use Rattle.std.specs.Global.{Vec}
 use Rattle.std.specs.declared.alloc.AllocError.{AllocError}
 use Rattle.std.proofs.lemmas.Result.{IfOk-weaker}
-use Rattle.cm_order.specs.Orders.{Needs, IsWithin, IsOrder, IsOrderOf, needs_of}
-use Rattle.cm_wit_declared.specs.Declarations.{Declaration, HasTypeCycle, uses}
+use Rattle.cm_wit_graph.specs.Orders.{Needs, IsWithin, IsOrder, IsOrderOf, needs_of}
+use Rattle.cm_wit_tables.specs.Declarations.{Declaration, HasTypeCycle, uses}
 
 module _ (ds : List Declaration) (rows slice : List (Vec ℕ)) (v : slice ≡ rows) (u : needs_of rows ≡ uses ds) (n : length rows ≡ length ds) where
   pub rows_fit : IsWithin (length ds) (uses ds) → IsWithin (length slice) (needs_of slice)

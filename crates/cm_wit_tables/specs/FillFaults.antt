@@ -6,8 +6,8 @@ use Rattle.cm_types.specs.Spellable.{is_spellable}
 use Rattle.cm_wit_meanings.specs.declared.fault.MeaningFault.{MeaningFault}
 use Rattle.cm_wit_meanings.specs.declared.fault.MeaningFault.TheVariants as fault
 use Rattle.cm_wit_meanings.specs.Scopes.{Meaning, as_type}
-use Rattle.cm_wit_declared.specs.Declarations.{Declaration}
-use Rattle.cm_wit_declared.specs.Tables.{Solves}
+use Rattle.cm_wit_tables.specs.Declarations.{Declaration}
+use Rattle.cm_wit_tables.specs.Tables.{Solves}
 
 -- In the table that has what each does, the k-th declaration stands for this.
 abbrev pub StandsFor : List Declaration → ℕ → Meaning → Type 0

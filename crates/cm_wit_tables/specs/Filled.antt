@@ -7,8 +7,8 @@ use Rattle.cm_types.specs.Limits.{IsWithinLimits}
 use Rattle.cm_wit_meanings.specs.declared.scope.Meaning as code
 use Rattle.cm_wit_meanings.specs.Places.{meaning_in}
 use Rattle.cm_wit_meanings.specs.Scopes.{Meaning, as_type}
-use Rattle.cm_wit_declared.specs.Declarations.{Declaration}
-use Rattle.cm_wit_declared.specs.Tables.{entry_meaning}
+use Rattle.cm_wit_tables.specs.Declarations.{Declaration}
+use Rattle.cm_wit_tables.specs.Tables.{entry_meaning}
 
 -- what the k-th declaration stands for, if there is one, given what each does
 abbrev pub entry_at : List Declaration → List (Option Meaning) → ℕ → Option (Option Meaning)

@@ -2,3 +2,13 @@ pub mod Listings
 pub mod Filled
 pub mod FillFaults
 pub mod TableFaults
+pub mod Declarations
+pub mod Tables
+pub mod Worlds
+pub mod TypeFaults
+pub mod DeclaredViews
+pub mod InstanceKeys
+pub mod Placings
+pub mod Names
+pub mod Leading
+pub mod Resources

@@ -2,8 +2,8 @@
 use Rattle.std.specs.Prelude.{ℕ, List}
 use Rattle.cm_wit_meanings.specs.declared.fault.MeaningFault.{MeaningFault}
 use Rattle.cm_wit_meanings.specs.declared.fault.MeaningFault.TheVariants as one
-use Rattle.cm_wit_declared.specs.Declarations.{Declaration, HasTypeCycle}
-use Rattle.cm_wit_declared.specs.TypeFaults.{AllHaveTypes}
+use Rattle.cm_wit_tables.specs.Declarations.{Declaration, HasTypeCycle}
+use Rattle.cm_wit_tables.specs.TypeFaults.{AllHaveTypes}
 use Rattle.cm_wit_tables.specs.FillFaults.{HasTooLarge, HasUnspellable}
 use Rattle.cm_wit_tables.specs.declared.fault.TableFault.{TableFault}
 use Rattle.cm_wit_tables.specs.declared.fault.TableFault.TheVariants as fault

@@ -2,22 +2,21 @@
 
 ghost use Rattle.std.specs.Prelude.{◌≡◌, ◌<◌, ℕ, List, IfOk, IfErr, IfSome, Some, length};
 ghost use Rattle.std.specs.Option.{option_map};
-ghost use Rattle.cm_keys.specs.Keys.{key_view};
+ghost use Rattle.cm_wit_graph.specs.Keys.{key_view};
 ghost use Rattle.cm_types.specs.Types.{Ty};
-ghost use Rattle.cm_type_arena.specs.Places.{funcs_of, types_of};
+ghost use Rattle.cm_types_arena.specs.Places.{funcs_of, types_of};
 ghost use Rattle.cm_wit_meanings.specs.Faults.{IsFaultIn};
 ghost use Rattle.cm_wit_meanings.specs.Places.{ArePlaced, Extends, IsPlaced, meaning_in, table_in};
 ghost use Rattle.cm_wit_meanings.specs.Scopes.{as_type};
-ghost use Rattle.cm_wit_declared.specs.Declarations.{brought};
-ghost use Rattle.cm_wit_declared.specs.Tables.{declared_meaning, scope_of};
+ghost use Rattle.cm_wit_tables.specs.Declarations.{brought};
+ghost use Rattle.cm_wit_tables.specs.Tables.{declared_meaning, scope_of};
 ghost use Rattle.cm_wit_tables.specs.Filled.{AreWithin, IsWithin, entry_at};
 ghost use Rattle.cm_wit_tables.specs.Listings.{IsListing, declared};
 
+use crate::Declared;
 use crate::listing::Listing;
-use cm_type_arena::Types;
-use cm_wit_declared::Declared;
-use cm_wit_definitions::push_def;
-use cm_wit_meanings::{Meaning, MeaningFault, Scope};
+use cm_types_arena::Types;
+use cm_wit_meanings::{Meaning, MeaningFault, Scope, push_def};
 use std::alloc::Global;
 
 impl<'s, 'k> Listing<'s, 'k> {

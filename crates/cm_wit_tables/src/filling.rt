@@ -1,22 +1,22 @@
 //! The table of what declarations stand for.
 
 ghost use Rattle.std.specs.Prelude.{◌≡◌, ◌<◌, None, IfOk, IfErr, length, replicate};
-ghost use Rattle.cm_order.specs.Orders.{IsOrder};
-ghost use Rattle.cm_type_arena.specs.Places.{funcs_of, types_of};
+ghost use Rattle.cm_wit_graph.specs.Orders.{IsOrder};
+ghost use Rattle.cm_types_arena.specs.Places.{funcs_of, types_of};
 ghost use Rattle.cm_wit_meanings.specs.Places.{ArePlaced, Extends, table_in};
-ghost use Rattle.cm_wit_declared.specs.Declarations.{uses};
-ghost use Rattle.cm_wit_declared.specs.Tables.{Solves};
-ghost use Rattle.cm_wit_declared.specs.TypeFaults.{AllHaveTypes};
+ghost use Rattle.cm_wit_tables.specs.Declarations.{uses};
+ghost use Rattle.cm_wit_tables.specs.Tables.{Solves};
+ghost use Rattle.cm_wit_tables.specs.TypeFaults.{AllHaveTypes};
 ghost use Rattle.cm_wit_tables.specs.Filled.{AreWithin};
 ghost use Rattle.cm_wit_tables.specs.FillFaults.{IsFillFault};
 ghost use Rattle.cm_wit_tables.specs.Listings.{IsListing, declared};
 
 use crate::laws::{ordered_ones_can_be_ranked, ranked_ones_are_acyclic};
 use crate::listing::Listing;
-use cm_type_arena::Types;
-use cm_wit_declared::laws::{
+use crate::wit_declared_laws::{
     each_stands_where_names_lead, one_table, what_is_used_decides, what_is_used_is_declared,
 };
+use cm_types_arena::Types;
 use cm_wit_meanings::{Meaning, MeaningFault};
 use std::alloc::{AllocError, Global};
 

@@ -2,8 +2,8 @@
 //! contract is the law.
 
 ghost use Rattle.std.specs.Prelude.{◌≡◌, ℕ, List, length};
-ghost use Rattle.cm_order.specs.Orders.{IsOrder};
-ghost use Rattle.cm_wit_declared.specs.Declarations.{Declaration, HasTypeCycle, IsRanked, uses};
+ghost use Rattle.cm_wit_graph.specs.Orders.{IsOrder};
+ghost use Rattle.cm_wit_tables.specs.Declarations.{Declaration, HasTypeCycle, IsRanked, uses};
 
 /// Declarations that stand in an order, each behind those that it uses, can be ranked, each above
 /// those that it uses.

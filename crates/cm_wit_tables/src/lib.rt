@@ -1,17 +1,36 @@
 //! What the types that the interfaces of a world declare stand for, as one table, filled in an
 //! order in which each stands behind those that it uses.
+//!
+//! The types that the interfaces of a world declare: what they stand for, as definitions with
+//! laws; their list; what each uses, which are of resources, and whether each name in their texts
+//! leads to a type.
 #![tactic(auto)]
 
+mod declarations;
 mod entry;
 mod fault;
 mod filling;
+mod keys;
 pub mod laws;
+mod leading;
 mod listing;
 mod making;
+mod names;
+mod placing;
+mod resources;
+mod rows;
 mod table;
+pub mod wit_declared_laws;
+mod wit_declared_listing;
 
+pub use declarations::{Declaration, Declared, Instance};
 pub use fault::TableFault;
 pub use filling::fill;
+pub use keys::declaration_keys;
+pub use leading::{all_have_types, all_lead};
 pub use listing::Listing;
 pub use making::table_of;
+pub use resources::{resource_ids, resource_marks};
+pub use rows::use_rows;
 pub use table::Table;
+pub use wit_declared_listing::declarations_of;

@@ -1,18 +1,29 @@
 //! The tokens of WIT texts.
+//!
+//! Grammars of the tokens of WIT texts: steps from which forms are built, with the laws that make
+//! reading exact.
 #![tactic(auto)]
 
 mod comment;
+mod cursor;
+mod fault;
 mod front;
 mod keyword;
 mod lexed;
+mod lists;
 mod operator;
 mod run;
 mod token;
 mod version;
+mod whole;
 
 pub use cm_types::{Label, MAX_DEPTH};
+pub use cursor::Cursor;
+pub use fault::{ReadError, WitFault, WitReason};
 pub use keyword::Keyword;
 pub use lexed::Lexed;
+pub use lists::{Item, read_items, read_items_and, read_members};
 pub use operator::Operator;
 pub use token::{Form, Token};
 pub use version::Version;
+pub use whole::read_text;

@@ -5,7 +5,7 @@ use Rattle.std.specs.Prelude.{String}
 use Rattle.std.specs.Global.{Global}
 use Rattle.std.specs.String.{string_bytes}
 use Rattle.std.proofs.lemmas.List.{drop_all, drop_more, map-append}
-use Rattle.cm_wit_text.specs.Trees.{File}
+use Rattle.cm_wit_reading.specs.Trees.{File}
 use Rattle.cm_wit_worlds.specs.Interfaces.{package_key, package_name}
 
 next_element : {A B : Type 0} (view : A → B) (xs : List A) (i : ℕ) (x : A) → i < length xs → x ≡ get_or xs i x → map view (drop i xs) ≡ view x ∷ map view (drop (i + 1) xs)

@@ -6,7 +6,7 @@ use Rattle.std.proofs.lemmas.List.{drop_all, drop_more, map-append, take_more, t
 use Rattle.std.proofs.lemmas.Bool.{cases_eq}
 use Rattle.std.proofs.lemmas.Bool.Decides.{nat_tests}
 use Rattle.std.proofs.lemmas.List.Folds.{list_any-append}
-use Rattle.cm_order.specs.DepthFirst.{is_among}
+use Rattle.cm_wit_graph.specs.DepthFirst.{is_among}
 
 next_element : {A B : Type 0} (view : A → B) (xs : List A) (i : ℕ) (x : A) → i < length xs → x ≡ get_or xs i x → map view (drop i xs) ≡ view x ∷ map view (drop (i + 1) xs)
 next_element {A} view xs i x lt is = ap (map view) (drop_more xs i x lt ∙ ap (λ (a : A). a ∷ drop (i + 1) xs) (sym is))

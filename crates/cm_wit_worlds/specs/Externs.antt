@@ -3,12 +3,12 @@
 use Rattle.std.specs.Prelude.{ℕ, ◌+◌, List, [], ◌∷◌, Option, Some, None, map, filter, not}
 use Rattle.std.specs.Prelude.{slice_index_or}
 use Rattle.std.specs.List.{filter_map, flat_map}
-use Rattle.cm_order.specs.DepthFirst.{Orders, is_among}
-use Rattle.cm_wit_text.specs.Trees.{File, WorldExtern, interface_at, named_func, WorldItem}
-use Rattle.cm_wit_text.specs.Trees.{imports, exports}
+use Rattle.cm_wit_graph.specs.DepthFirst.{Orders, is_among}
+use Rattle.cm_wit_reading.specs.Trees.{File, WorldExtern, interface_at, named_func, WorldItem}
+use Rattle.cm_wit_reading.specs.Trees.{imports, exports}
 use Rattle.cm_wit_worlds.specs.Interfaces as all
 use Rattle.cm_wit_worlds.specs.Interfaces.{target, use_targets, PlacedWorld}
-use Rattle.cm_graph.specs.Reach.{Rows, row_at}
+use Rattle.cm_wit_graph.specs.Reach.{Rows, row_at}
 
 -- ---- what stands in a world is told by a number: an interface by its own, and the function of the
 -- j-th item by j and the number of all interfaces

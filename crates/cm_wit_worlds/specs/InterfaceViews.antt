@@ -1,9 +1,9 @@
 -- The interfaces and worlds that the code's are.
 use Rattle.std.specs.Prelude.{List, map}
 use Rattle.std.specs.Borrow.{Bor}
-use Rattle.cm_wit_text.specs.declared.file.WitFile.{WitFile}
-use Rattle.cm_wit_text.specs.Trees.{File}
-use Rattle.cm_wit_text.specs.Views.{file_tree, interface_tree, world_tree}
+use Rattle.cm_wit_reading.specs.declared.file.WitFile.{WitFile}
+use Rattle.cm_wit_reading.specs.Trees.{File}
+use Rattle.cm_wit_reading.specs.Views.{file_tree, interface_tree, world_tree}
 use Rattle.cm_wit_worlds.specs.declared.placed.PlacedInterface as code_interface
 use Rattle.cm_wit_worlds.specs.declared.placed.PlacedWorld as code_world
 use Rattle.cm_wit_worlds.specs.Interfaces.{PlacedInterface, PlacedWorld}

@@ -7,10 +7,10 @@ use Rattle.std.specs.Option.{option_and_then, option_map_or}
 use Rattle.std.specs.Str.{bytes_eq}
 use Rattle.cm_types.specs.ExternNames.{name_spelling, version_suffix}
 use Rattle.cm_types.specs.ExternNames as name
-use Rattle.cm_wit_text.specs.cm_wit_types.Signatures.{Path, local, foreign}
-use Rattle.cm_wit_text.specs.Trees.{File, FileItem, interface, world, Interface, InterfaceItem}
-use Rattle.cm_wit_text.specs.Trees.{World, uses, defines, has_func}
-use Rattle.cm_keys.specs.Keys.{Key, first_key}
+use Rattle.cm_wit_reading.specs.Signatures.{Path, local, foreign}
+use Rattle.cm_wit_reading.specs.Trees.{File, FileItem, interface, world, Interface, InterfaceItem}
+use Rattle.cm_wit_reading.specs.Trees.{World, uses, defines, has_func}
+use Rattle.cm_wit_graph.specs.Keys.{Key, first_key}
 
 -- ---- names
 

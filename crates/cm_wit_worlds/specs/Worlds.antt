@@ -1,9 +1,9 @@
 -- Worlds, and what is wrong with what they reach.
 use Rattle.std.specs.Prelude.{◌≡◌, ℕ, List, ◌++◌, Option, map, length}
-use Rattle.cm_wit_text.specs.Trees.{File}
+use Rattle.cm_wit_reading.specs.Trees.{File}
 use Rattle.cm_wit_worlds.specs.Interfaces.{interfaces, use_targets}
 use Rattle.cm_wit_worlds.specs.Interfaces.{PlacedWorld}
-use Rattle.cm_graph.specs.Reach.{Rows, HasMissing, HasCycle}
+use Rattle.cm_wit_graph.specs.Reach.{Rows, HasMissing, HasCycle}
 use Rattle.cm_wit_worlds.specs.declared.fault.WorldFault.{WorldFault}
 use Rattle.cm_wit_worlds.specs.declared.fault.WorldFault.TheVariants as fault
 use Rattle.cm_wit_worlds.specs.Externs.{imports_from, exports_from, found, AreImports}

@@ -1,15 +1,15 @@
 //! Finding interfaces and worlds by their names.
 
 ghost use Rattle.std.specs.Prelude.{◌≡◌, map};
-ghost use Rattle.cm_keys.specs.Listed.{listed};
+ghost use Rattle.cm_wit_graph.specs.Listed.{listed};
 ghost use Rattle.cm_wit_worlds.specs.Interfaces as spec;
 ghost use Rattle.cm_wit_worlds.specs.InterfaceViews.{files_of, placed_interface};
 
 use crate::keying::{interface_keys, package_keys};
 use crate::placed::{PlacedInterface, PlacedWorld};
 use crate::texts::{full_name, package_name, package_text};
-use cm_keys::Keys;
-use cm_wit_text::{Path, WitFile};
+use cm_wit_graph::Keys;
+use cm_wit_reading::{Path, WitFile};
 use std::alloc::{AllocError, Global};
 
 /// Packages, with what finds them and their interfaces by name, each by one look-up.
@@ -28,7 +28,7 @@ impl<'a> Directory<'a> {
     ghost use Rattle.std.specs.List.{position_from};
     ghost use Rattle.cm_wit_worlds.specs.InterfaceViews.{placed_world};
     ghost use Rattle.std.specs.String.{string_bytes};
-    ghost use Rattle.cm_wit_text.specs.cm_wit_types.SignatureViews.{path_tree};
+    ghost use Rattle.cm_wit_reading.specs.SignatureViews.{path_tree};
     ghost use Rattle.cm_wit_worlds.specs.Interfaces.{interface_at, is_world, package_at};
     ghost use Rattle.cm_wit_worlds.specs.Interfaces.{package_name, target};
 

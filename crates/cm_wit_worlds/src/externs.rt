@@ -1,12 +1,12 @@
 //! What the text of a world imports and exports.
 
 ghost use Rattle.std.specs.Prelude.{◌≡◌, ◌+◌, ◌<◌, ◌^◌, ◌++◌, ℕ, [], IfOk, OnOk, map};
-ghost use Rattle.cm_wit_text.specs.Views.{extern_tree, world_item_tree};
+ghost use Rattle.cm_wit_reading.specs.Views.{extern_tree, world_item_tree};
 ghost use Rattle.cm_wit_worlds.specs.InterfaceViews.{files_of};
 ghost use Rattle.cm_wit_worlds.specs.Externs.{exports_from, extern_number, imports_from};
 
 use crate::Directory;
-use cm_wit_text::{WorldExtern, WorldItem};
+use cm_wit_reading::{WorldExtern, WorldItem};
 use std::alloc::{AllocError, Global};
 
 /// The number of what an item is. Refused only where there is no memory.

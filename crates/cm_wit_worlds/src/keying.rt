@@ -2,13 +2,13 @@
 
 ghost use Rattle.std.specs.Prelude.{◌≡◌, IfOk, map};
 ghost use Rattle.std.specs.String.{string_bytes};
-ghost use Rattle.cm_keys.specs.Keys.{key_view};
+ghost use Rattle.cm_wit_graph.specs.Keys.{key_view};
 ghost use Rattle.cm_wit_worlds.specs.Interfaces.{interface_key, package_name};
 ghost use Rattle.cm_wit_worlds.specs.InterfaceViews.{files_of, placed_interface};
 
 use crate::placed::PlacedInterface;
 use crate::texts::package_name;
-use cm_wit_text::WitFile;
+use cm_wit_reading::WitFile;
 use std::alloc::{AllocError, Global};
 
 /// The names of packages, with their versions. Refused only where there is no memory.

@@ -2,12 +2,12 @@
 
 ghost use Rattle.std.specs.Prelude.{◌≡◌, ◌++◌, IfOk, OnOk, map};
 ghost use Rattle.std.specs.List.{filter_map};
-ghost use Rattle.cm_wit_text.specs.Views.{file_item_tree, file_tree};
+ghost use Rattle.cm_wit_reading.specs.Views.{file_item_tree, file_tree};
 ghost use Rattle.cm_wit_worlds.specs.Interfaces.{interface_in, interfaces, world_in, worlds};
 ghost use Rattle.cm_wit_worlds.specs.InterfaceViews.{files_of, placed_interface, placed_world};
 
 use crate::placed::{PlacedInterface, PlacedWorld};
-use cm_wit_text::{FileItem, WitFile};
+use cm_wit_reading::{FileItem, WitFile};
 use std::alloc::{AllocError, Global};
 
 /// Adds the interfaces of a package.

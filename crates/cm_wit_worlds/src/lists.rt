@@ -2,7 +2,7 @@
 
 ghost use Rattle.std.specs.Prelude.{◌≡◌, ◌++◌, ℕ, List, IfOk, OnOk, map, not, filter};
 ghost use Rattle.std.specs.List.{flat_map};
-ghost use Rattle.cm_order.specs.DepthFirst.{is_among, needs_of};
+ghost use Rattle.cm_wit_graph.specs.DepthFirst.{is_among, needs_of};
 ghost use Rattle.cm_wit_worlds.specs.Externs.{found};
 
 use indexmap::IndexSet;

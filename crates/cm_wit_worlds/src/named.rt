@@ -1,15 +1,15 @@
 //! The interfaces that a world names and reaches.
 
 ghost use Rattle.std.specs.Prelude.{◌≡◌, ◌↔◌, ℕ, IfOk, map};
-ghost use Rattle.cm_graph.specs.Graphs.{IsMarked};
+ghost use Rattle.cm_wit_graph.specs.Graphs.{IsMarked};
 ghost use Rattle.cm_wit_worlds.specs.Interfaces as spec;
 ghost use Rattle.cm_wit_worlds.specs.InterfaceViews.{files_of, placed_interface, placed_world};
-ghost use Rattle.cm_graph.specs.Reach.{IsReached};
+ghost use Rattle.cm_wit_graph.specs.Reach.{IsReached};
 ghost use Rattle.cm_wit_worlds.specs.Worlds.{named, rows_of};
 
 use crate::externs::{joined, written_exports, written_imports};
 use crate::{Directory, PlacedInterface, PlacedWorld};
-use cm_graph::reach_from;
+use cm_wit_graph::reach_from;
 use std::alloc::{AllocError, Global};
 
 /// What the text of a world names, of packages whose interfaces are these: its imports and then its

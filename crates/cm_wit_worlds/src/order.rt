@@ -1,7 +1,7 @@
 //! The order of a world's imports.
 
 ghost use Rattle.std.specs.Prelude.{◌≡◌, ℕ, IfOk, map, MatchOption, MatchResult};
-ghost use Rattle.cm_wit_text.specs.Views.{world_tree};
+ghost use Rattle.cm_wit_reading.specs.Views.{world_tree};
 ghost use Rattle.cm_wit_worlds.specs.Interfaces as spec;
 ghost use Rattle.cm_wit_worlds.specs.InterfaceViews.{files_of, placed_interface, placed_world};
 ghost use Rattle.cm_wit_worlds.specs.Externs.{AreImports, found};
@@ -12,8 +12,7 @@ use crate::fault::WorldFault;
 use crate::lists::{found, found_rows, other_needs};
 use crate::world::WorldExterns;
 use crate::{Directory, PlacedInterface, PlacedWorld};
-use cm_graph::reach_from;
-use cm_order::place_all;
+use cm_wit_graph::{place_all, reach_from};
 use indexmap::IndexSet;
 use std::alloc::{AllocError, Global};
 

@@ -1,6 +1,6 @@
 //! Interfaces and worlds with their packages.
 
-use cm_wit_text::{Interface, WitFile, World};
+use cm_wit_reading::{Interface, WitFile, World};
 
 /// An interface with its package, which has this place among the packages.
 #[derive(Clone, Copy)]

@@ -4,11 +4,11 @@ ghost use Rattle.std.specs.Prelude.{◌≡◌, ◌++◌, IfOk, OnOk};
 ghost use Rattle.std.specs.Option.{option_copied};
 ghost use Rattle.std.specs.String.{string_bytes};
 ghost use Rattle.cm_types.specs.ExternNames.{version_suffix};
-ghost use Rattle.cm_wit_text.specs.Views.{file_tree};
+ghost use Rattle.cm_wit_reading.specs.Views.{file_tree};
 ghost use Rattle.cm_wit_worlds.specs.Interfaces.{full_name, package_name, package_text};
 
 use cm_types::Label;
-use cm_wit_text::{Version, WitFile};
+use cm_wit_reading::{Version, WitFile};
 use std::alloc::{AllocError, Global};
 
 fn add_version(out: &mut String, version: &Option<Version>) -> Result<(), AllocError>

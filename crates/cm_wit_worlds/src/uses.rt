@@ -2,7 +2,7 @@
 
 use crate::directory::Directory;
 use crate::placed::PlacedInterface;
-use cm_wit_text::InterfaceItem;
+use cm_wit_reading::InterfaceItem;
 use std::alloc::{AllocError, Global};
 
 impl<'a> Directory<'a> {

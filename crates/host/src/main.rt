@@ -6,7 +6,7 @@ use cm_binary::Component;
 use cm_machine::{Event, Guest, Move, Player, Set};
 use cm_match::link;
 use cm_types::CoreValue;
-use cm_validate::{Checked, validate};
+use cm_validate_spaces::{Checked, validate};
 use std::alloc::Global;
 use std::{fs, rt};
 

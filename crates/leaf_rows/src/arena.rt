@@ -13,8 +13,8 @@ use crate::plain::write_fault;
 use crate::words::{primitive_named, read_labels, read_resource};
 use cm_layout::{Layout, layout_of_params, size};
 use cm_rows::{Line, split_repeat, word, words_from};
-use cm_type_arena::{CaseDef, DefFault, FieldDef, FuncDef, Summary, TypeDef, Types};
 use cm_types::Label;
+use cm_types_arena::{CaseDef, DefFault, FieldDef, FuncDef, Summary, TypeDef, Types};
 use std::alloc::{AllocError, Global};
 
 /// The answer to `ITEM ; ITEM ..`: of each item, and of several alike of the last, the place with

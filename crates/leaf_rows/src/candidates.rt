@@ -1,7 +1,7 @@
 //! Rows on what may serve an import.
 
 use crate::words::read_name;
-use cm_candidates::{Candidate, Exports};
+use cm_match_model::{Candidate, Exports};
 use cm_rows::{Line, word, words_from};
 use std::alloc::{AllocError, Global};
 

@@ -2,8 +2,8 @@
 
 use crate::plain::write_fault;
 use crate::signatures::read_signature;
-use cm_conforms::{ConformFault, ConformList, ConformReason, conforms};
 use cm_rows::{Line, RowFault};
+use cm_wit_conforms::{ConformFault, ConformList, ConformReason, conforms};
 use std::alloc::Global;
 
 /// The answer to `SIGNATURE // SIGNATURE`, the second that of a world: `fits`, or the first fault

@@ -1,10 +1,10 @@
 //! Rows on layouts.
 
 use crate::types::{read_func, read_tree};
-use cm_flat::{FlatFunc, Side, flatten, flatten_func};
 use cm_layout::{
-    Form, HandleType, Head, Layout, Leaf, Part, Payload, align, case_offset, discriminant_size,
-    field_offset, has_cases, has_field, head, layout, layout_of_params, size,
+    FlatFunc, Form, HandleType, Head, Layout, Leaf, Part, Payload, Side, align, case_offset,
+    discriminant_size, field_offset, flatten, flatten_func, has_cases, has_field, head, layout,
+    layout_of_params, size,
 };
 use cm_rows::{Line, word, words_from};
 use cm_types::{CoreKind, ResourceId, TypeTree};

@@ -3,8 +3,9 @@
 use crate::calls::passing::read_slot;
 use crate::plain::write_fault;
 use cm_rows::{Line, RowFault, word};
-use cm_types::{CoreKind, CoreValue, ExternName, ExternNameForm, Label, NameFault, same_name};
-use cm_values::is_scalar;
+use cm_types::{
+    CoreKind, CoreValue, ExternName, ExternNameForm, Label, NameFault, is_scalar, same_name,
+};
 use std::alloc::Global;
 
 /// The answer to `label TEXT`, `extern TEXT`, `same TEXT TEXT`, `is_scalar NUMBER` or

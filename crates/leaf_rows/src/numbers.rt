@@ -1,7 +1,7 @@
 //! Rows on numbers in LEB128.
 
 use crate::plain::write_fault;
-use cm_grammar::{
+use cm_binary_grammar::{
     LebFault, front_s33, front_u32, read_s33, read_u32, spelled_length, write_count, write_s33,
     write_u32,
 };

@@ -2,9 +2,9 @@
 
 use crate::plain::write_fault;
 use crate::signatures::read_signature;
-use cm_placed::Signature;
 use cm_rows::{Line, RowFault};
-use cm_show::{ShowFault, show};
+use cm_tool_show::{ShowFault, show};
+use cm_types_placed::Signature;
 use std::alloc::Global;
 
 /// Texts of more bytes are told by their length.

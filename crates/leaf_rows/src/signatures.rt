@@ -9,15 +9,15 @@
 //! for no types, imports, exports or items.
 
 ghost use Rattle.std.specs.Prelude.{◌≡◌, length};
-ghost use Rattle.cm_placed.specs.Instances.{are_items_there, is_desc_there};
-ghost use Rattle.cm_placed.specs.Externs.{are_externs_in, is_extern_there};
+ghost use Rattle.cm_types_placed.specs.Instances.{are_items_there, is_desc_there};
+ghost use Rattle.cm_types_placed.specs.Externs.{are_externs_in, is_extern_there};
 
 use crate::arena::{Arena, Places};
 use crate::words::{read_move, read_name};
-use cm_placed::{Extern, ExternDesc, InstanceType, Item, ItemDesc, Placed, Signature};
-use cm_replaced::Move;
 use cm_rows::{Line, split_repeat, word, words_from};
-use cm_type_arena::Types;
+use cm_types_arena::Types;
+use cm_types_placed::{Extern, ExternDesc, InstanceType, Item, ItemDesc, Placed, Signature};
+use cm_types_resources::Move;
 use std::alloc::Global;
 use std::rc::Rc;
 

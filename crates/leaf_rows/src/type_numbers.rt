@@ -3,10 +3,10 @@
 use crate::arena::Arena;
 use crate::runs::Runs;
 use crate::words::{read_move, read_resources};
-use cm_replaced::{Replacement, Row};
 use cm_rows::{Line, word, words_from};
-use cm_type_arena::Types;
-use cm_type_numbers::Numbers;
+use cm_types_arena::Types;
+use cm_types_numbers::Numbers;
+use cm_types_resources::{Replacement, Row};
 use std::alloc::Global;
 
 /// The answer to `RESOURCES ITEM ; ITEM .. | RESOURCES ITEM ; ITEM ..`: types by places, each list

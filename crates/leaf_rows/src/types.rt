@@ -10,11 +10,10 @@
 use crate::plain::write_fault;
 use crate::values::read_value;
 use crate::words::{named, primitive_named, read_labels, read_resource, read_resources};
-use cm_replaced::{same_func, same_type};
 use cm_rows::{Line, split_repeat, word, words_from};
-use cm_type_arena::Primitive;
-use cm_types::{Case, Field, Func, Label, TypeFault, TypeNode, TypeTree};
-use cm_values::has_type;
+use cm_types::{Case, Field, Func, Label, TypeFault, TypeNode, TypeTree, has_type};
+use cm_types_arena::Primitive;
+use cm_types_resources::{same_func, same_type};
 use std::alloc::Global;
 use std::rc::Rc;
 

@@ -5,7 +5,7 @@
 //! `signed:NUMBER`, `unsigned:NUMBER`, `char:CHAR`, `string:TEXT` and `flags:NUMBER`.
 
 use cm_rows::Line;
-use cm_values::Value;
+use cm_types::Value;
 use std::alloc::Global;
 
 /// The value that words spell.

@@ -13,8 +13,8 @@ pub mod texts;
 mod worlds;
 
 use cm_rows::{Line, word, words_from};
-use cm_wit::parse;
-use cm_wit_text::read_file;
+use cm_wit_package::parse;
+use cm_wit_reading::read_file;
 use packages::Question;
 use reading::write_read;
 use spelled::read_text;

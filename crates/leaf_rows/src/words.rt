@@ -1,9 +1,9 @@
 //! Words of rows.
 
-use cm_replaced::Move;
 use cm_rows::{Line, RowFault, split_repeat};
-use cm_type_arena::Primitive;
 use cm_types::{ExternName, Label, NameFault, ResourceId};
+use cm_types_arena::Primitive;
+use cm_types_resources::Move;
 use std::alloc::Global;
 
 /// Labels joined by commas, where `N*` before one stands for N of them.

@@ -1,10 +1,10 @@
 //! Rows on validation, and on what the indices of a valid component stand for.
 
 use crate::files::Files;
-use cm_placed::{Extern, ExternDesc, Placed};
 use cm_rows::{Line, RowFault, word, words_from};
-use cm_type_arena::Types;
-use cm_validate::{
+use cm_types_arena::Types;
+use cm_types_placed::{Extern, ExternDesc, Placed};
+use cm_validate_spaces::{
     Checked, CoreFuncEntry, ExportEntry, ExportedEntry, FuncEntry, GuestExport, InstanceEntry,
     MadeFunc, ValidFault, ValidReason, validate,
 };

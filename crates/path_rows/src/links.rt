@@ -6,7 +6,7 @@ use crate::files::Files;
 use cm_binary::Component;
 use cm_match::{LinkFault, LinkReason, Linked, PlanLine, link};
 use cm_rows::{Line, RowFault, word, words_from};
-use cm_validate::validate;
+use cm_validate_spaces::validate;
 use std::alloc::Global;
 
 /// The answer to `plan SOURCE..`, `target COMPONENT IMPORT ITEM SOURCE..` or `resource COMPONENT

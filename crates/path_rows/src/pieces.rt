@@ -6,7 +6,7 @@ pub mod writers;
 
 use crate::files::write_fault;
 use crate::pieces::answers::{show_outcome, write_answers, write_outcome};
-use cm_pieces::{Decoder, decode_pieces};
+use cm_binary::{Decoder, decode_pieces};
 use cm_rows::{Line, word, words_from};
 use std::alloc::Global;
 

@@ -9,7 +9,7 @@ use cm_binary::Component;
 use cm_machine::{Event, Flat, Guest, Misuse, Move, Player, Set};
 use cm_match::Linked;
 use cm_rows::{Line, RowFault, word, words_from, write_units};
-use cm_script::{LineFault, ScriptGuest, Statement};
+use cm_tool_script::{LineFault, ScriptGuest, Statement};
 use cm_types::CoreValue;
 use std::alloc::Global;
 use std::collections::VecDeque;

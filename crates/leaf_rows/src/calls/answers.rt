@@ -4,12 +4,12 @@
 //! the request before it got has a `>` before it.
 
 ghost use Rattle.std.specs.Prelude.{◌<◌, IfOk};
-ghost use Rattle.cm_lowering.specs.Answering.{AreAligned};
+ghost use Rattle.cm_abi_requests.specs.Answering.{AreAligned};
 
 use crate::calls::call::read_answers;
 use crate::calls::passing::write_fault;
 use cm_abi_model::Request;
-use cm_lowering::check_answers;
+use cm_abi_requests::check_answers;
 use cm_rows::{Line, RowFault, word, words_from};
 use std::alloc::{AllocError, Global};
 

@@ -6,8 +6,8 @@
 
 use crate::calls::passing::write_fault;
 use crate::calls::tables::{read_handle, read_table, write_table};
+use cm_abi_lower::{HandleLeaf, HandleValue, Receiver, give};
 use cm_abi_model::AbiFault;
-use cm_giving::{HandleLeaf, HandleValue, Receiver, give};
 use cm_handles::{Handle, HandleKind, Table};
 use cm_rows::{Line, word, words_from};
 use std::alloc::Global;

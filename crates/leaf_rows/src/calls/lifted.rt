@@ -2,7 +2,7 @@
 //! asks for.
 
 ghost use Rattle.std.specs.Prelude.{◌≡◌, ◌^◌, ◌<◌, slice_index, IfOk, ℕ};
-ghost use Rattle.cm_lift.specs.HandingOver.{LendsBelow};
+ghost use Rattle.cm_abi_lift.specs.HandingOver.{LendsBelow};
 ghost use Rattle.cm_abi.specs.Lowers.{CanBeLowered};
 ghost use Rattle.cm_types.specs.Types.{Fields};
 ghost use Rattle.leaf_rows.specs.Calls.{IsLifted, IsOf};
@@ -14,7 +14,7 @@ use crate::calls::tables::{read_table, write_table};
 use crate::calls::values::write_values;
 use cm_abi::laws::one_call;
 use cm_abi::{AbiFault, Encodings, Lifted, Passed, Passing, Request, lift, requests};
-use cm_giving::give_values;
+use cm_abi_lower::give_values;
 use cm_handles::Table;
 use cm_rows::Line;
 use std::alloc::{AllocError, Global};

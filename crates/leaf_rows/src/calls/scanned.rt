@@ -1,8 +1,9 @@
 //! Values of calls by the records of their parts: looked at, asked for and copied, with no tree.
 
 ghost use Rattle.std.specs.Prelude.{◌≡◌, [], IfOk, IsSome, List, None, map, true, ℕ};
-ghost use Rattle.cm_lowering.specs.Answering.{first_fault};
-ghost use Rattle.cm_requesting.specs.Asking.{IsAllAnswered, IsAnswered, all_requests, next_of};
+ghost use Rattle.cm_abi_requests.specs.Answering.{first_fault};
+ghost use Rattle.cm_abi_requests.specs.RequestingAsking.{IsAllAnswered, IsAnswered, all_requests};
+ghost use Rattle.cm_abi_requests.specs.RequestingAsking.{next_of};
 ghost use Rattle.cm_types.specs.CoreValues.{kind_of};
 ghost use Rattle.cm_types.specs.Types.{Fields};
 ghost use Rattle.leaf_rows.specs.Calls.{IsOf, IsScanned};
@@ -16,8 +17,8 @@ use cm_abi::{
     Found, HandleLeaf, PartKind, PartRecord, PartRequests, Passed, ScanEncodings, Scanned, copy,
     scan,
 };
+use cm_abi_requests::requesting_laws::answers_stay_fine;
 use cm_handles::Table;
-use cm_requesting::laws::answers_stay_fine;
 use cm_rows::{Line, RowFault};
 use cm_types::{CoreKind, CoreValue};
 use std::alloc::{AllocError, Global};

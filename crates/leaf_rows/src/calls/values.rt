@@ -1,7 +1,7 @@
 //! Values as rows write them.
 
 use cm_rows::Line;
-use cm_values::Value;
+use cm_types::Value;
 use std::fmt;
 
 /// A number that is displayed in hexadecimal digits.

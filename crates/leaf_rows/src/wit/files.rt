@@ -1,11 +1,11 @@
 //! What packages spell.
 
 ghost use Rattle.std.specs.Prelude.{◌≡◌, IfOk, map};
-ghost use Rattle.cm_wit.specs.PackageViews.{package_tree};
+ghost use Rattle.cm_wit_package.specs.PackageViews.{package_tree};
 ghost use Rattle.cm_wit_worlds.specs.InterfaceViews.{files_of};
 
-use cm_wit::Package;
-use cm_wit_text::WitFile;
+use cm_wit_package::Package;
+use cm_wit_reading::WitFile;
 use std::alloc::{AllocError, Global};
 
 /// The file of each package.

@@ -1,7 +1,7 @@
 //! Instances of interfaces, as rows name them.
 
 use cm_rows::Line;
-use cm_wit_declared::Instance;
+use cm_wit_tables::Instance;
 use std::alloc::Global;
 
 /// An interface by its number, behind `i` where it is imported, and `e` where it is exported.

@@ -2,7 +2,7 @@
 
 ghost use Rattle.std.specs.Prelude.{◌≡◌, map};
 ghost use Rattle.std.specs.String.{string_bytes};
-ghost use Rattle.cm_wit.specs.PackageViews.{package_tree};
+ghost use Rattle.cm_wit_package.specs.PackageViews.{package_tree};
 ghost use Rattle.cm_wit_worlds.specs.Interfaces as spec;
 ghost use Rattle.cm_wit_worlds.specs.Interfaces.{package_name};
 ghost use Rattle.cm_wit_worlds.specs.InterfaceViews.{files_of, placed_interface};
@@ -12,7 +12,7 @@ use crate::wit::reading::write_fault;
 use crate::wit::worlds::{write_externs, write_world_fault};
 use crate::wit::{signatures, tables};
 use cm_rows::{Line, RowFault};
-use cm_wit::{Package, parse};
+use cm_wit_package::{Package, parse};
 use cm_wit_worlds::{
     Directory, PlacedInterface, PlacedWorld, WorldFault, externs_of, interfaces, package_names,
     worlds,

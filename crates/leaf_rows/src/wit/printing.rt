@@ -4,7 +4,7 @@ use crate::wit::reading::write_fault;
 use crate::wit::spelled::write_text;
 use crate::wit::texts::Texts;
 use cm_rows::Line;
-use cm_wit::{WitFault, parse, print};
+use cm_wit_package::{WitFault, parse, print};
 use std::alloc::Global;
 
 /// The text that prints the package of a text.

@@ -1,7 +1,7 @@
 //! What reading comes to.
 
 use cm_rows::{Line, RowFault};
-use cm_wit_text::{WitFault, WitReason};
+use cm_wit_reading::{WitFault, WitReason};
 
 /// Writes `ok`, or the fault.
 pub fn write_read<T: Drop>(line: &mut Line, read: Result<T, WitFault>) {

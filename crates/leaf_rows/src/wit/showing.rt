@@ -1,10 +1,9 @@
 //! Tables of declarations, as rows show them.
 
 use cm_rows::{Line, RowFault};
-use cm_type_arena::Types;
-use cm_wit_declared::Declaration;
+use cm_types_arena::Types;
 use cm_wit_meanings::Meaning;
-use cm_wit_tables::{Table, TableFault};
+use cm_wit_tables::{Declaration, Table, TableFault};
 
 /// Writes the number and the name of a table's fault.
 pub fn write_table_fault(line: &mut Line, fault: TableFault) {

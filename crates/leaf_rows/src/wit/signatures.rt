@@ -3,7 +3,7 @@
 use crate::shown::write_shown;
 use crate::wit::worlds::write_world_fault;
 use cm_rows::Line;
-use cm_wit::Package;
+use cm_wit_package::Package;
 use cm_wit_signature::world_signature;
 use std::alloc::Global;
 

@@ -7,9 +7,8 @@ ghost use Rattle.cm_wit_worlds.specs.InterfaceViews.{files_of, placed_interface}
 use crate::wit::instances::read_instances;
 use crate::wit::showing::{write_table, write_table_fault};
 use cm_rows::{Line, RowFault};
-use cm_type_arena::Types;
-use cm_wit_declared::declarations_of;
-use cm_wit_tables::table_of;
+use cm_types_arena::Types;
+use cm_wit_tables::{declarations_of, table_of};
 use cm_wit_worlds::{Directory, PlacedInterface};
 use std::alloc::Global;
 

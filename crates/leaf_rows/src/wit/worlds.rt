@@ -1,7 +1,7 @@
 //! What worlds import and export, as rows show it.
 
 use cm_rows::{Line, RowFault};
-use cm_wit_text::{WorldExtern, WorldItem};
+use cm_wit_reading::{WorldExtern, WorldItem};
 use cm_wit_worlds::{PlacedInterface, PlacedWorld, WorldExterns, WorldFault, full_name};
 use std::alloc::Global;
 

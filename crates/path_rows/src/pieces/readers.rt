@@ -1,7 +1,7 @@
 //! Rows on files that are read from a reader.
 
 use crate::pieces::answers::{show_outcome, write_answers, write_outcome};
-use cm_pieces::decode_from;
+use cm_binary::decode_from;
 use cm_rows::{Line, word};
 use std::alloc::Global;
 use std::io;

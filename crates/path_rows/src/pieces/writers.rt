@@ -3,8 +3,7 @@
 use crate::files::read_component;
 use crate::pieces::answers::write_answers;
 use crate::pipes::{Full, Pipe};
-use cm_binary::Component;
-use cm_pieces::{WriteReason, write_to};
+use cm_binary::{Component, WriteReason, write_to};
 use cm_rows::{Line, RowFault, word, write_units};
 use std::alloc::Global;
 

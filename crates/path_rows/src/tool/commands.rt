@@ -6,7 +6,7 @@ use crate::tool::memory_files::MemoryFiles;
 use cm_machine::Set;
 use cm_rows::{Line, RowFault, word, words_from};
 use cm_tool::{Fault, LIMIT, Outcome, load_files, load_script, play, report, tool};
-use cm_words::{Request, USAGE, WordsFault};
+use cm_tool_words::{Request, USAGE, WordsFault};
 use std::alloc::Global;
 
 /// The answer to `run WORD..`, `cut WORD..`, `words WORD..`, `usage`, `limit`, `limited LIMIT

@@ -5,7 +5,7 @@ use crate::sets::write_found;
 use crate::tool::escapes::read_text;
 use cm_machine::Move;
 use cm_rows::{Line, RowFault, word, words_from, write_bytes};
-use cm_script::{
+use cm_tool_script::{
     LineFault, Script, ScriptFault, ScriptRefusal, form_of, read_u32, read_u64, script_bytes,
 };
 use std::alloc::Global;

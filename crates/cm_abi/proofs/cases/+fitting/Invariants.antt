@@ -1,6 +1,6 @@
 use Rattle.std.proofs.Common.{drop}
 use Rattle.cm_abi_model.specs.Parts.{AllCasesFit}
-use Rattle.cm_values.specs.ValueTrees.{values_of}
+use Rattle.cm_types.specs.ValueTrees.{values_of}
 use Rattle.cm_abi.proofs.cases.+fitting.Given as goal
 
 -- where the numbers of the cases in those left are of 32 bits, so are those in all

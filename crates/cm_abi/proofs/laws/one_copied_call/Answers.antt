@@ -3,10 +3,10 @@ use Rattle.cm_abi_model.specs.Denotes.{Denotes}
 use Rattle.cm_abi_model.specs.Requests.{call_parts}
 use Rattle.cm_abi_model.specs.Taken.{met}
 use Rattle.cm_abi_model.specs.Ways.{way_of}
-use Rattle.cm_giving.specs.Leaves.{leaves_of}
-use Rattle.cm_requesting.specs.RecordRequests.{requests_for}
-use Rattle.cm_scan.specs.Telling.{TellAll}
-use Rattle.cm_scan_call.specs.CallPlaces.{call_places}
+use Rattle.cm_abi_lower.specs.Leaves.{leaves_of}
+use Rattle.cm_abi_requests.specs.RecordRequests.{requests_for}
+use Rattle.cm_abi_lift.specs.Telling.{TellAll}
+use Rattle.cm_abi_copy.specs.CallPlaces.{call_places}
 use Rattle.cm_abi.specs.Calls.{owned_in}
 use Rattle.cm_abi.proofs.CopiedLaws.{told}
 use Rattle.cm_abi.proofs.OwnedLaws.{owned_are_taken}

@@ -1,7 +1,7 @@
 use Rattle.std.proofs.Common.{◌≡◌, ◌∙◌, ℕ, List, [], ◌∷◌, None, refl, arith}
 use Rattle.cm_abi_model.specs.declared.request.Request.{Request}
-use Rattle.cm_lowering.specs.Answering.{first_fault}
-use Rattle.cm_requesting.specs.Asking.{all_requests}
+use Rattle.cm_abi_requests.specs.Answering.{first_fault}
+use Rattle.cm_abi_requests.specs.RequestingAsking.{all_requests}
 use Rattle.cm_bench.proofs.copied.answer_all.Goals as goal
 
 none_yet : (n : ℕ) (rs : List Request) → first_fault n rs [] ≡ None

@@ -1,6 +1,6 @@
 use Rattle.std.proofs.Common.{◌≡◌, List, ℕ, None}
-use Rattle.cm_lowering.specs.Answering.{first_fault}
-use Rattle.cm_requesting.specs.Asking.{IsAnswered, all_requests}
+use Rattle.cm_abi_requests.specs.Answering.{first_fault}
+use Rattle.cm_abi_requests.specs.RequestingAsking.{IsAnswered, all_requests}
 use Rattle.cm_bench.proofs.copied.answer_all.Given as goal
 
 -- the answers so far are kept, and will do; the parts and encodings stay

@@ -4,9 +4,9 @@ use Rattle.cm_layout.specs.Layouts.{layout_of}
 use Rattle.cm_abi_model.specs.Receives.{call_kinds}
 use Rattle.cm_abi_model.specs.Views.{params}
 use Rattle.cm_abi_model.specs.Ways.{way_of}
-use Rattle.cm_copy.specs.declared.found.Found.{Found}
-use Rattle.cm_requesting.specs.declared.part_requests.PartRequests.{PartRequests}
-use Rattle.cm_scan_call.specs.Scans.{ScansCall}
+use Rattle.cm_abi_copy.specs.declared.found.Found.{Found}
+use Rattle.cm_abi_requests.specs.declared.part_requests.PartRequests.{PartRequests}
+use Rattle.cm_abi_copy.specs.Scans.{ScansCall}
 use Rattle.cm_bench.proofs.copied.copy_once.Goals as goal
 
 -- what was scanned goes on as it stood, with all requests answered

@@ -2,7 +2,7 @@ use Rattle.std.proofs.Common.{◌∙◌, refl, ap, subst}
 use Rattle.cm_layout.specs.Layouts.{layout_of}
 use Rattle.cm_abi_model.specs.Views.{View, params}
 use Rattle.cm_abi_model.specs.Ways.{way_of}
-use Rattle.cm_scan_call.specs.Scans.{ScansCall}
+use Rattle.cm_abi_copy.specs.Scans.{ScansCall}
 use Rattle.cm_bench.proofs.copied.scan_once.Goals as goal
 
 -- what the scan kept is that of the call, in the view of its giver

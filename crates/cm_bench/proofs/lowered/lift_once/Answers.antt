@@ -1,10 +1,10 @@
 use Rattle.std.proofs.Common.{◌∙◌, refl, ap, subst}
-use Rattle.cm_values.specs.ValueTrees.{values_of}
+use Rattle.cm_types.specs.ValueTrees.{values_of}
 use Rattle.cm_types.specs.Values.{parts}
 use Rattle.cm_layout.specs.Layouts.{layout_of}
 use Rattle.cm_abi_model.specs.Views.{View, params}
 use Rattle.cm_abi_model.specs.Ways.{way_of}
-use Rattle.cm_lift.specs.Lifts.{Lifts, handed_with}
+use Rattle.cm_abi_lift.specs.Lifts.{Lifts, handed_with}
 use Rattle.cm_bench.proofs.lowered.lift_once.Goals as goal
 
 -- what is lifted was lifted in a view of the giver's memory and table

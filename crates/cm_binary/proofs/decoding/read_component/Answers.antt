@@ -1,7 +1,7 @@
 use Rattle.std.proofs.Common.{arith, inr}
-use Rattle.cm_grammar.specs.declared.fault.End.TheVariants as end
-use Rattle.cm_reading_codes.specs.declared.fault.DecodeReason.TheVariants.{Truncated}
-use Rattle.cm_reading.proofs.LawfulFile.{file_lawful}
+use Rattle.cm_binary_grammar.specs.declared.fault.End.TheVariants as end
+use Rattle.cm_binary_forms.specs.declared.fault.DecodeReason.TheVariants.{Truncated}
+use Rattle.cm_binary_forms.proofs.LawfulFile.{file_lawful}
 use Rattle.cm_binary.proofs.File.{spelled_within}
 use Rattle.cm_binary.proofs.decoding.read_component.Goals as goal
 

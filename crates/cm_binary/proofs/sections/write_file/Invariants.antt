@@ -1,8 +1,8 @@
 use Rattle.std.proofs.Common.{◌≡◌, ◌++◌, map, take}
 use Rattle.std.specs.List.{flat_map}
-use Rattle.cm_component.specs.Trees.{section_tree}
-use Rattle.cm_component.specs.Spelling.{section_spelling}
-use Rattle.cm_component.specs.declared.limits.TheConstants.{COMPONENT_PREAMBLE}
+use Rattle.cm_binary_model.specs.Trees.{section_tree}
+use Rattle.cm_binary_model.specs.Spelling.{section_spelling}
+use Rattle.cm_binary_model.specs.declared.limits.TheConstants.{COMPONENT_PREAMBLE}
 use Rattle.cm_binary.proofs.sections.write_file.Given as goal
 
 abbrev pub invariant-loop-section : goal.invariant-loop-section

@@ -1,7 +1,7 @@
 use Rattle.std.proofs.Common.{◌≡◌, ◌∙◌, Some, sym, ap, subst, IfSome, length, true}
 use Rattle.std.specs.Option.{option_map}
-use Rattle.cm_serving.specs.cm_entries.Entries.{func_def, is_func_there}
-use Rattle.cm_serving.specs.cm_linker.Linkings.{components_in}
+use Rattle.cm_match_serving.specs.cm_validate_entries.Entries.{func_def, is_func_there}
+use Rattle.cm_match_serving.specs.Linkings.{components_in}
 use Rattle.cm_match.proofs.Follow.{exported_by, funcs_of_it, got, provider_at}
 use Rattle.cm_match.proofs.following.exported_func.Goals as goal
 

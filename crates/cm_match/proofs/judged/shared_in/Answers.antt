@@ -1,8 +1,8 @@
 use Rattle.std.proofs.Common.{◌+◌, sym, subst, take, arith}
-use Rattle.cm_validity.specs.Spaces.{spaces_of}
-use Rattle.cm_validity.specs.Valid.{IsValid}
-use Rattle.cm_instance_items.specs.Shared.{AreShared}
-use Rattle.cm_serving.specs.cm_validate.Checked.{spaces_in}
+use Rattle.cm_validate_model.specs.Spaces.{spaces_of}
+use Rattle.cm_validate_model.specs.Valid.{IsValid}
+use Rattle.cm_validate_items.specs.Shared.{AreShared}
+use Rattle.cm_match_serving.specs.cm_validate_spaces.Checked.{spaces_in}
 use Rattle.cm_match.specs.Pairs.{AreTables}
 use Rattle.cm_match.proofs.PairLaws.{all_tables, next_table, none_yet}
 use Rattle.cm_match.proofs.judged.shared_in.Goals as goal

@@ -1,8 +1,8 @@
 use Rattle.std.proofs.Common.{rules, ◌<◌, ◌≤◌, arith, length, subst, List}
-use Rattle.cm_links.specs.declared.plan.TheConstants.{MAX_COMPONENTS}
-use Rattle.cm_serving.specs.cm_validate.declared.checked.Checked.{Checked}
-use Rattle.cm_serving.specs.cm_linker.Choices.{AreChoices}
-use Rattle.cm_serving.specs.cm_linker.Sets.{set_of}
+use Rattle.cm_match_model.specs.declared.plan.TheConstants.{MAX_COMPONENTS}
+use Rattle.cm_match_serving.specs.cm_validate_spaces.declared.checked.Checked.{Checked}
+use Rattle.cm_match_serving.specs.Choices.{AreChoices}
+use Rattle.cm_match_serving.specs.Sets.{set_of}
 use Rattle.cm_match.proofs.Walking.{fault_set, linked_set, memory_set, plan_set}
 use Rattle.cm_match.proofs.linking.link.Goals as goal
 

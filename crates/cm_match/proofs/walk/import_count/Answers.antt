@@ -1,5 +1,5 @@
 use Rattle.std.proofs.Common.{◌∙◌, Some, None, sym, ap, length}
-use Rattle.cm_serving.specs.cm_linker.Linkings.{components_in}
+use Rattle.cm_match_serving.specs.Linkings.{components_in}
 use Rattle.cm_match.proofs.Follow.{got, none_at, provider_at}
 use Rattle.cm_match.proofs.Walking.{count_none, count_of, mapped_length}
 use Rattle.cm_match.proofs.walk.import_count.Goals as goal

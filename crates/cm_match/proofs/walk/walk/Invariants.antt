@@ -1,4 +1,4 @@
-use Rattle.cm_serving.specs.cm_linker.Linkings.{components_in, set_in}
+use Rattle.cm_match_serving.specs.Linkings.{components_in, set_in}
 use Rattle.cm_match.specs.Pairs.{AreJudged}
 use Rattle.cm_match.specs.Walks.{HasServed}
 use Rattle.cm_match.proofs.walk.walk.Given as goal

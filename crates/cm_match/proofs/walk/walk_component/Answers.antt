@@ -1,5 +1,5 @@
 use Rattle.std.proofs.Common.{◌<◌, arith, length}
-use Rattle.cm_serving.specs.cm_linker.Linkings.{components_in, set_in}
+use Rattle.cm_match_serving.specs.Linkings.{components_in, set_in}
 use Rattle.cm_match.proofs.Walking.{set_length, walk_ends, walk_goes_on, walk_stops}
 use Rattle.cm_match.proofs.walk.walk_component.Goals as goal
 

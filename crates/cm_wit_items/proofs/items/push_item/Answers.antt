@@ -1,5 +1,5 @@
 use Rattle.std.proofs.Common.{IfErr, sym, subst}
-use Rattle.cm_type_arena.specs.Places.{types_of}
+use Rattle.cm_types_arena.specs.Places.{types_of}
 use Rattle.cm_wit_meanings.specs.Places.{scope_in}
 use Rattle.cm_wit_items.specs.Members.{member_item}
 use Rattle.cm_wit_items.specs.declared.members.Member as code

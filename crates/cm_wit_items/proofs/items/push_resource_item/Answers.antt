@@ -1,9 +1,9 @@
 use Rattle.std.proofs.Common.{rules, refl}
-use Rattle.cm_type_arena.specs.Places.{types_of, funcs_of}
-use Rattle.cm_type_arena.specs.TypeDefs.{func_at}
+use Rattle.cm_types_arena.specs.Places.{types_of, funcs_of}
+use Rattle.cm_types_arena.specs.TypeDefs.{func_at}
 use Rattle.cm_types.specs.Types.{FuncTy}
 use Rattle.cm_types.specs.Signatures.{func_item}
-use Rattle.cm_wit_text.specs.Views.{resource_func_tree}
+use Rattle.cm_wit_reading.specs.Views.{resource_func_tree}
 use Rattle.cm_wit_meanings.specs.Places.{scope_in}
 use Rattle.cm_wit_items.specs.Members.{item_with, func_name, member_func}
 use Rattle.cm_wit_items.specs.ItemFaults.{IsItemFault}

@@ -1,5 +1,5 @@
 use Rattle.std.proofs.Common.{map}
-use Rattle.cm_wit_text.specs.Views.{resource_func_tree}
+use Rattle.cm_wit_reading.specs.Views.{resource_func_tree}
 use Rattle.cm_wit_items.specs.Members as spec
 use Rattle.cm_wit_items.specs.MemberViews.{member_view}
 use Rattle.cm_wit_items.proofs.ListLaws.{Makes}

@@ -1,6 +1,6 @@
 use Rattle.std.proofs.Common.{map}
-use Rattle.cm_wit_text.specs.Views.{used_name_tree}
-use Rattle.cm_wit_declared.specs.Worlds.{used_as}
+use Rattle.cm_wit_reading.specs.Views.{used_name_tree}
+use Rattle.cm_wit_tables.specs.Worlds.{used_as}
 use Rattle.cm_wit_items.specs.Members as spec
 use Rattle.cm_wit_items.specs.MemberViews.{member_view}
 use Rattle.cm_wit_items.proofs.ListLaws.{Makes}

@@ -1,6 +1,6 @@
 use Rattle.std.proofs.Common.{map, []}
 use Rattle.std.specs.List.{flat_map}
-use Rattle.cm_wit_text.specs.Views.{interface_item_tree}
+use Rattle.cm_wit_reading.specs.Views.{interface_item_tree}
 use Rattle.cm_wit_items.specs.Members.{members_of}
 use Rattle.cm_wit_items.specs.MemberViews.{member_view}
 use Rattle.cm_wit_items.proofs.ListLaws.{Makes}

@@ -1,4 +1,4 @@
-use Rattle.cm_wit_declared.specs.Worlds.{instances, declarations}
+use Rattle.cm_wit_tables.specs.Worlds.{instances, declarations}
 use Rattle.cm_wit_worlds.specs.Interfaces.{interfaces}
 use Rattle.std.proofs.Common.{length}
 use Rattle.cm_wit_items.proofs.WorldLaws.{signature_there}

@@ -1,5 +1,5 @@
-use Rattle.cm_type_arena.specs.Places.{types_of}
-use Rattle.cm_type_arena.specs.TypeDefs.{def_type}
+use Rattle.cm_types_arena.specs.Places.{types_of}
+use Rattle.cm_types_arena.specs.TypeDefs.{def_type}
 use Rattle.cm_wit_meanings.proofs.AddedLaws.{all_within, type_told}
 use Rattle.cm_wit_meanings.proofs.pushing.push.Goals as goal
 

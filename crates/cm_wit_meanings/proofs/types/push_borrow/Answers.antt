@@ -1,7 +1,7 @@
 use Rattle.std.proofs.Common.{ap, sym}
 use Rattle.std.specs.Option.{option_map, option_and_then}
 use Rattle.cm_types.specs.Types.{borrow}
-use Rattle.cm_type_arena.specs.Places.{types_of}
+use Rattle.cm_types_arena.specs.Places.{types_of}
 use Rattle.cm_wit_meanings.specs.Scopes.{as_resource}
 use Rattle.cm_wit_meanings.proofs.AddedLaws.{meant_so, refused_first}
 use Rattle.cm_wit_meanings.proofs.types.push_borrow.Goals as goal

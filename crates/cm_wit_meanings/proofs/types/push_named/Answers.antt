@@ -1,6 +1,6 @@
 use Rattle.std.proofs.Common.{ap, sym, length}
 use Rattle.std.specs.Option.{option_map}
-use Rattle.cm_type_arena.specs.Places.{types_of}
+use Rattle.cm_types_arena.specs.Places.{types_of}
 use Rattle.cm_wit_meanings.specs.Scopes.{as_type}
 use Rattle.cm_wit_meanings.proofs.AddedLaws.{meant_so, refused_first, stands}
 use Rattle.cm_wit_meanings.proofs.types.push_named.Goals as goal

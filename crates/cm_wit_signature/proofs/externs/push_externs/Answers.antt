@@ -1,5 +1,5 @@
 use Rattle.std.proofs.Common.{rules, arith, get_or, refl}
-use Rattle.cm_type_arena.specs.Places.{types_of}
+use Rattle.cm_types_arena.specs.Places.{types_of}
 use Rattle.cm_wit_signature.proofs.GrowthLaws.{extends_more}
 use Rattle.cm_wit_signature.proofs.LoopLaws.{made_own, made_next, made_fault, made_all}
 use Rattle.cm_wit_signature.proofs.externs.push_externs.Goals as goal

@@ -1,5 +1,5 @@
 use Rattle.std.proofs.Common.{rules, ◌∙◌}
-use Rattle.cm_type_arena.specs.Places.{types_of, funcs_of}
+use Rattle.cm_types_arena.specs.Places.{types_of, funcs_of}
 use Rattle.cm_wit_meanings.specs.Places.{scope_in}
 use Rattle.cm_wit_signature.specs.PartViews.{own_func_view, scopes_in}
 use Rattle.cm_wit_signature.proofs.OneLaws.{func_refused, func_made}

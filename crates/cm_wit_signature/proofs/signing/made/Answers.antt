@@ -1,7 +1,7 @@
 use Rattle.std.proofs.Common.{rules, ◌≡◌, ℕ, List, Option, IfOk, IfErr, Some, length, map}
-use Rattle.cm_keys.specs.Listed.{listed}
-use Rattle.cm_placed.specs.Signatures.{signature_of}
-use Rattle.cm_type_arena.specs.Places.{types_of}
+use Rattle.cm_wit_graph.specs.Listed.{listed}
+use Rattle.cm_types_placed.specs.Signatures.{signature_of}
+use Rattle.cm_types_arena.specs.Places.{types_of}
 use Rattle.cm_wit_worlds.specs.InterfaceViews.{placed_interface, placed_world}
 use Rattle.cm_wit_items.specs.ItemFaults.{IsFaultWith}
 use Rattle.cm_wit_meanings.specs.Places.{table_in}

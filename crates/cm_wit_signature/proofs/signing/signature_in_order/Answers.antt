@@ -1,11 +1,11 @@
 use Rattle.std.proofs.Common.{rules, ◌≡◌, ◌∙◌, List, length, map, ap, sym, subst}
 use Rattle.std.proofs.lemmas.List.{length-map}
-use Rattle.cm_wit_declared.specs.DeclaredViews.{declaration_view, instance_view}
+use Rattle.cm_wit_tables.specs.DeclaredViews.{declaration_view, instance_view}
 use Rattle.cm_wit_worlds.specs.Interfaces.{interfaces}
 use Rattle.cm_wit_worlds.specs.InterfaceViews.{files_of, placed_interface, placed_world}
-use Rattle.cm_wit_declared.specs.Worlds.{Instance, instances, declarations}
+use Rattle.cm_wit_tables.specs.Worlds.{Instance, instances, declarations}
 use Rattle.cm_wit_items.specs.Named.{HaveTypes, in_order}
-use Rattle.cm_wit_typing.specs.Typing.{IsTypingFault}
+use Rattle.cm_wit_signature.specs.Typing.{IsTypingFault}
 use Rattle.cm_wit_signature.proofs.OrderLaws.{instances_same, imported_same, is_typed, signed_in, fault_in}
 use Rattle.cm_wit_signature.proofs.signing.signature_in_order.Goals as goal
 

@@ -1,9 +1,9 @@
 use Rattle.std.proofs.Common.{length, map, sym, subst}
 use Rattle.std.proofs.lemmas.List.{length-map}
-use Rattle.cm_keys.specs.Listed.{listed}
-use Rattle.cm_placed.specs.Signatures.{signature_of}
-use Rattle.cm_type_arena.specs.Places.{types_of}
-use Rattle.cm_wit_declared.specs.DeclaredViews.{declaration_view, instance_view}
+use Rattle.cm_wit_graph.specs.Listed.{listed}
+use Rattle.cm_types_placed.specs.Signatures.{signature_of}
+use Rattle.cm_types_arena.specs.Places.{types_of}
+use Rattle.cm_wit_tables.specs.DeclaredViews.{declaration_view, instance_view}
 use Rattle.cm_wit_worlds.specs.InterfaceViews.{placed_interface, placed_world}
 use Rattle.cm_wit_meanings.specs.Places.{table_in}
 use Rattle.cm_wit_items.specs.Faults.{IsFaultIn}

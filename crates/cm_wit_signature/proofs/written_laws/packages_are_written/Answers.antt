@@ -1,5 +1,5 @@
 use Rattle.std.proofs.Math.Logic.{∥∥₁_elim, ∥∥₁_prop}
-use Rattle.cm_wit.specs.PackageViews.{package_tree}
+use Rattle.cm_wit_package.specs.PackageViews.{package_tree}
 use Rattle.cm_wit_signature.proofs.written_laws.packages_are_written.Goals as goal
 
 pub returns : goal.returns

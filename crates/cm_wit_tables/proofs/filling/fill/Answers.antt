@@ -1,10 +1,10 @@
 use Rattle.std.proofs.Common.{rules, ◌≡◌, ℕ, ◌+◌, List, Option, length, get_or, arith, sym, ap, subst, refl}
 use Rattle.std.proofs.lemmas.List.{length-map}
-use Rattle.cm_type_arena.specs.Places.{types_of}
-use Rattle.cm_type_arena.specs.declared.types.Types.{Types}
+use Rattle.cm_types_arena.specs.Places.{types_of}
+use Rattle.cm_types_arena.specs.declared.types.Types.{Types}
 use Rattle.cm_wit_meanings.specs.declared.scope.Meaning.{Meaning}
 use Rattle.cm_wit_meanings.specs.Places.{table_in}
-use Rattle.cm_wit_declared.specs.DeclaredViews.{declaration_view}
+use Rattle.cm_wit_tables.specs.DeclaredViews.{declaration_view}
 use Rattle.cm_wit_tables.specs.Listings.{declared}
 use Rattle.cm_wit_tables.proofs.FillLaws.{Table, Fills, fills_start, fills_slice, fills_skip, fault_in, filled_all}
 use Rattle.cm_wit_tables.proofs.filling.fill.Goals as goal

@@ -1,6 +1,6 @@
 use Rattle.std.proofs.Common.{◌≡◌, map, length, sym, ◌∙◌}
 use Rattle.std.proofs.lemmas.List.{length-map}
-use Rattle.cm_wit_declared.specs.DeclaredViews.{declaration_view}
+use Rattle.cm_wit_tables.specs.DeclaredViews.{declaration_view}
 use Rattle.cm_wit_tables.proofs.OrderLaws.{rows_fit, order_told}
 use Rattle.cm_wit_tables.proofs.making.declaration_order.Goals as goal
 

@@ -1,11 +1,11 @@
 use Rattle.std.proofs.Common.{rules, map, length}
 use Rattle.std.proofs.lemmas.Option.{MatchOption-at_some}
-use Rattle.cm_order.specs.Orders.{IsOrder}
-use Rattle.cm_type_arena.specs.Places.{types_of}
+use Rattle.cm_wit_graph.specs.Orders.{IsOrder}
+use Rattle.cm_types_arena.specs.Places.{types_of}
 use Rattle.cm_wit_meanings.specs.Places.{table_in}
-use Rattle.cm_wit_declared.specs.Declarations.{HasTypeCycle, uses}
-use Rattle.cm_wit_declared.specs.TypeFaults.{AllHaveTypes}
-use Rattle.cm_wit_declared.specs.DeclaredViews.{declaration_view}
+use Rattle.cm_wit_tables.specs.Declarations.{HasTypeCycle, uses}
+use Rattle.cm_wit_tables.specs.TypeFaults.{AllHaveTypes}
+use Rattle.cm_wit_tables.specs.DeclaredViews.{declaration_view}
 use Rattle.cm_wit_tables.proofs.FaultLaws.{within_each, fault_is}
 use Rattle.cm_wit_tables.proofs.making.table_of.Goals as goal
 

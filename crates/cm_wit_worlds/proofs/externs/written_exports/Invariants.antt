@@ -1,5 +1,5 @@
 use Rattle.std.proofs.Common.{[]}
-use Rattle.cm_wit_text.specs.Views.{world_item_tree}
+use Rattle.cm_wit_reading.specs.Views.{world_item_tree}
 use Rattle.cm_wit_worlds.specs.InterfaceViews.{files_of}
 use Rattle.cm_wit_worlds.specs.Externs.{exports_from}
 use Rattle.cm_wit_worlds.proofs.ListLaws.{Ends}

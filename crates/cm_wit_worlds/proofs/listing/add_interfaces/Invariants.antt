@@ -1,4 +1,4 @@
-use Rattle.cm_wit_text.specs.Views.{file_tree, file_item_tree}
+use Rattle.cm_wit_reading.specs.Views.{file_tree, file_item_tree}
 use Rattle.cm_wit_worlds.specs.Interfaces.{interface_in}
 use Rattle.cm_wit_worlds.specs.InterfaceViews.{placed_interface}
 use Rattle.cm_wit_worlds.proofs.ListingLaws.{Finds}

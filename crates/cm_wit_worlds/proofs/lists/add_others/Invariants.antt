@@ -1,6 +1,6 @@
 use Rattle.std.proofs.Common.{not}
 use Rattle.std.specs.Prelude.{filter}
-use Rattle.cm_order.specs.DepthFirst.{is_among}
+use Rattle.cm_wit_graph.specs.DepthFirst.{is_among}
 use Rattle.cm_wit_worlds.proofs.ListLaws.{Ends}
 use Rattle.cm_wit_worlds.proofs.lists.add_others.Given as goal
 

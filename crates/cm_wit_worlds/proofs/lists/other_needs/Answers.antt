@@ -1,5 +1,5 @@
 use Rattle.std.proofs.Common.{get_or, refl}
-use Rattle.cm_order.specs.DepthFirst.{needs_of}
+use Rattle.cm_wit_graph.specs.DepthFirst.{needs_of}
 use Rattle.cm_wit_worlds.proofs.ListLaws.{needs_next}
 use Rattle.cm_wit_worlds.proofs.lists.other_needs.Goals as goal
 

@@ -1,4 +1,4 @@
-use Rattle.cm_order.specs.DepthFirst.{needs_of}
+use Rattle.cm_wit_graph.specs.DepthFirst.{needs_of}
 use Rattle.cm_wit_worlds.proofs.ListLaws.{Needs}
 use Rattle.cm_wit_worlds.proofs.lists.other_needs.Given as goal
 

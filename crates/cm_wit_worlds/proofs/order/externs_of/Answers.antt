@@ -1,6 +1,6 @@
 use Rattle.std.proofs.Common.{rules, ◌≡◌, ◌++◌, List, Option, ℕ, map, length, sym, ap, subst, ◌∙◌}
 use Rattle.std.proofs.lemmas.List.{length-map}
-use Rattle.cm_wit_text.specs.Views.{world_item_tree}
+use Rattle.cm_wit_reading.specs.Views.{world_item_tree}
 use Rattle.cm_wit_worlds.specs.Interfaces as spec
 use Rattle.cm_wit_worlds.specs.Interfaces.{use_targets}
 use Rattle.cm_wit_worlds.specs.InterfaceViews.{files_of, placed_interface, placed_world}

@@ -1,8 +1,8 @@
 use Rattle.std.proofs.Common.{sym, subst}
 use Rattle.std.specs.List.{AllByRecursion}
-use Rattle.cm_links.specs.Imports.{import_at}
-use Rattle.cm_serving.specs.Answers.{JudgesImport}
-use Rattle.cm_serving.specs.cm_linker.Linkings.{components_in, set_in}
+use Rattle.cm_match_model.specs.Imports.{import_at}
+use Rattle.cm_match_serving.specs.Answers.{JudgesImport}
+use Rattle.cm_match_serving.specs.Linkings.{components_in, set_in}
 use Rattle.cm_match.specs.Pairs.{IsPairOf, IsServedPair}
 use Rattle.cm_match.proofs.PairLaws.{found, is_none, noted, now_served, put, served_again}
 use Rattle.cm_match.proofs.judged.Judged.import_fault.Goals as goal

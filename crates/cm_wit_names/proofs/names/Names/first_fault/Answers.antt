@@ -1,5 +1,5 @@
 use Rattle.std.proofs.Common.{map}
-use Rattle.cm_wit_mentions.specs.MentionViews.{mention_view}
+use Rattle.cm_wit_names.specs.MentionViews.{mention_view}
 use Rattle.cm_wit_names.proofs.FaultLaws.{cycle_of}
 use Rattle.cm_wit_names.proofs.names.Names.first_fault.Goals as goal
 

@@ -1,5 +1,5 @@
 use Rattle.std.proofs.Common.{arith}
-use Rattle.cm_wit_mentions.specs.MentionViews.{mention_view}
+use Rattle.cm_wit_names.specs.MentionViews.{mention_view}
 use Rattle.cm_wit_names.proofs.GraphLaws.{graph_within}
 use Rattle.cm_wit_names.proofs.names.Names.graph.Goals as goal
 

@@ -1,4 +1,4 @@
-use Rattle.cm_wit_mentions.specs.MentionViews.{mention_view}
+use Rattle.cm_wit_names.specs.MentionViews.{mention_view}
 use Rattle.cm_wit_names.proofs.GraphLaws.{holds_all}
 use Rattle.cm_wit_names.proofs.names.Names.holding.Goals as goal
 

@@ -1,5 +1,5 @@
 use Rattle.std.proofs.Common.{sym, ◌∙◌}
-use Rattle.cm_wit_mentions.specs.MentionViews.{mention_view, reference_view}
+use Rattle.cm_wit_names.specs.MentionViews.{mention_view, reference_view}
 use Rattle.cm_wit_names.proofs.GraphLaws.{leads_some}
 use Rattle.cm_wit_names.proofs.names.Names.leads_on.Goals as goal
 

@@ -1,5 +1,5 @@
 use Rattle.std.proofs.Common.{map}
-use Rattle.cm_wit_mentions.specs.MentionViews.{mention_view}
+use Rattle.cm_wit_names.specs.MentionViews.{mention_view}
 use Rattle.cm_wit_names.specs.Known.{using_edge}
 use Rattle.cm_wit_names.proofs.EdgeLaws.{Finds}
 use Rattle.cm_wit_names.proofs.names.Names.using_edges.Given as goal

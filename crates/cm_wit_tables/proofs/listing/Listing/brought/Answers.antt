@@ -1,9 +1,9 @@
 use Rattle.std.proofs.Common.{ap, ◌∙◌, sym}
 use Rattle.std.specs.Option.{option_map}
-use Rattle.cm_keys.specs.Keys.{key_view}
+use Rattle.cm_wit_graph.specs.Keys.{key_view}
 use Rattle.cm_wit_meanings.specs.Places.{table_in}
-use Rattle.cm_wit_declared.specs.Declarations.{brought}
-use Rattle.cm_wit_declared.specs.Tables.{declared_meaning}
+use Rattle.cm_wit_tables.specs.Declarations.{brought}
+use Rattle.cm_wit_tables.specs.Tables.{declared_meaning}
 use Rattle.cm_wit_tables.specs.Listings.{declared}
 use Rattle.cm_wit_tables.proofs.listing.Listing.brought.Goals as goal
 

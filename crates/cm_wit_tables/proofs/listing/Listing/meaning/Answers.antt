@@ -1,11 +1,11 @@
 use Rattle.std.proofs.Common.{rules, Some, length, ap, sym, ◌∙◌}
 use Rattle.std.specs.Option.{option_map}
-use Rattle.cm_keys.specs.Keys.{key_view}
-use Rattle.cm_type_arena.specs.Places.{types_of}
+use Rattle.cm_wit_graph.specs.Keys.{key_view}
+use Rattle.cm_types_arena.specs.Places.{types_of}
 use Rattle.cm_wit_meanings.specs.Places.{table_in}
-use Rattle.cm_wit_text.specs.Views.{type_def_tree}
-use Rattle.cm_wit_declared.specs.DeclaredViews.{declared_view}
-use Rattle.cm_wit_declared.specs.Declarations.{brought}
+use Rattle.cm_wit_reading.specs.Views.{type_def_tree}
+use Rattle.cm_wit_tables.specs.DeclaredViews.{declared_view}
+use Rattle.cm_wit_tables.specs.Declarations.{brought}
 use Rattle.cm_wit_tables.specs.Filled.{entry_at}
 use Rattle.cm_wit_tables.specs.Listings.{declared}
 use Rattle.cm_wit_tables.proofs.EntryLaws.{nth, entry_is, defined_is, entry_fault}

@@ -1,6 +1,6 @@
 use Rattle.std.proofs.Common.{map}
 use Rattle.std.specs.List.{filter_map}
-use Rattle.cm_wit_text.specs.Views.{interface_item_tree}
+use Rattle.cm_wit_reading.specs.Views.{interface_item_tree}
 use Rattle.cm_wit_worlds.specs.Interfaces.{target, use_path}
 use Rattle.cm_wit_worlds.specs.InterfaceViews.{files_of}
 use Rattle.cm_wit_worlds.proofs.KeyingLaws.{Ends}

@@ -1,5 +1,5 @@
 use Rattle.std.proofs.Common.{subst, sym}
-use Rattle.cm_lowering.specs.Answering.{AreAligned}
+use Rattle.cm_abi_requests.specs.Answering.{AreAligned}
 use Rattle.leaf_rows.proofs.RequestLemmas.{aligned_more}
 use Rattle.leaf_rows.proofs.calls.answers.read_requests.Goals as goal
 

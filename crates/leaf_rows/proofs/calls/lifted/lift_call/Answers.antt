@@ -1,10 +1,10 @@
 use Rattle.std.proofs.Common.{refl, subst}
 use Rattle.std.proofs.lemmas.Result.{IfOk-weaker}
-use Rattle.cm_values.specs.ValueTrees.{values_of}
+use Rattle.cm_types.specs.ValueTrees.{values_of}
 use Rattle.cm_types.specs.Values.{parts}
 use Rattle.cm_abi_model.specs.Views.{View}
 use Rattle.cm_abi_model.specs.Ways.{way_of}
-use Rattle.cm_lift.specs.Lifts.{Lifts, handed_with}
+use Rattle.cm_abi_lift.specs.Lifts.{Lifts, handed_with}
 use Rattle.leaf_rows.specs.Calls.{IsLifted}
 use Rattle.leaf_rows.proofs.calls.lifted.lift_call.Goals as goal
 

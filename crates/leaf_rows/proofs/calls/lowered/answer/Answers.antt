@@ -1,11 +1,11 @@
 use Rattle.std.proofs.Common.{sym, ap, subst, ◌∙◌}
-use Rattle.cm_values.specs.ValueTrees.{values_of}
+use Rattle.cm_types.specs.ValueTrees.{values_of}
 use Rattle.cm_types.specs.Values.{parts}
 use Rattle.cm_layout.specs.Layouts.{layout_of}
 use Rattle.cm_abi_model.specs.Receives.{call_kinds}
 use Rattle.cm_abi_model.specs.Requests.{IsStored}
 use Rattle.cm_abi_model.specs.Ways.{way_of}
-use Rattle.cm_lift.specs.Lifts.{Lifts}
+use Rattle.cm_abi_lift.specs.Lifts.{Lifts}
 use Rattle.leaf_rows.proofs.calls.lowered.answer.Goals as goal
 
 -- what was lifted from bytes goes on as it is, so it can be lowered

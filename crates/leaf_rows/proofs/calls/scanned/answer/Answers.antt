@@ -1,7 +1,7 @@
 use Rattle.std.proofs.Common.{refl, sym, subst}
 use Rattle.cm_abi_model.specs.Views.{View}
 use Rattle.cm_abi_model.specs.Ways.{way_of}
-use Rattle.cm_scan_call.specs.Scans.{ScansCall}
+use Rattle.cm_abi_copy.specs.Scans.{ScansCall}
 use Rattle.leaf_rows.proofs.calls.scanned.answer.Goals as goal
 
 -- what the scan kept is that of the call, in the view of its giver

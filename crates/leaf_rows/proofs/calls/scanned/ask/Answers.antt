@@ -1,7 +1,7 @@
 use Rattle.std.proofs.Common.{◌≡◌, ◌∙◌, ℕ, List, [], ◌∷◌, Option, Some, None, false, refl, sym, ap, arith, is_some}
 use Rattle.cm_abi_model.specs.declared.request.Request.{Request}
-use Rattle.cm_lowering.specs.Answering.{first_fault}
-use Rattle.cm_requesting.specs.Asking.{all_requests}
+use Rattle.cm_abi_requests.specs.Answering.{first_fault}
+use Rattle.cm_abi_requests.specs.RequestingAsking.{all_requests}
 use Rattle.leaf_rows.proofs.calls.scanned.ask.Goals as goal
 
 none_yet : (n : ℕ) (rs : List Request) → first_fault n rs [] ≡ None

@@ -1,5 +1,5 @@
-use Rattle.cm_wit_text.specs.Views.{file_tree}
-use Rattle.cm_wit.specs.PackageViews.{package_tree}
+use Rattle.cm_wit_reading.specs.Views.{file_tree}
+use Rattle.cm_wit_package.specs.PackageViews.{package_tree}
 use Rattle.leaf_rows.proofs.FileLaws.{Shows}
 use Rattle.leaf_rows.proofs.wit.files.package_files.Given as goal
 

@@ -1,0 +1,19 @@
+pub mod SeenLayouts
+pub mod FlatLemmas
+pub mod HandleLemmas
+pub mod FlatLaws
+pub mod CallLemmas
+mod CountLaws
+mod SettledLaws
+mod CopyLaws
+pub mod LeafLemmas
+pub mod CopyLemmas
+pub mod ReadLemmas
+pub mod StoredLemmas
+pub mod BulkLemmas
+pub mod SizeLaws
+pub mod LeafLaws
+pub mod FoundLaws
+pub mod FlatTells
+pub mod ScanCallCallLemmas
+pub mod NothingLaws

@@ -1,0 +1,15 @@
+pub mod FlatShown
+pub mod FlatReady
+pub mod PassingOn
+pub mod CallCopies
+pub mod Copies
+pub mod Settled
+pub mod SlotLaws
+pub mod Shown
+pub mod Copying
+pub mod Ready
+pub mod Known
+pub mod PartLaws
+pub mod MetLeaves
+pub mod CallPlaces
+pub mod Scans

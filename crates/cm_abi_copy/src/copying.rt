@@ -1,0 +1,135 @@
+//! The values of a call, copied to its receiver.
+
+ghost use Rattle.std.specs.Prelude.{◌≡◌, ◌^◌, ◌<◌, ℕ, IfErr, List, OnErr, OnOk, length, map};
+ghost use Rattle.std.specs.Prelude.{slice_index};
+ghost use Rattle.cm_types.specs.CoreValues.{kind_of};
+ghost use Rattle.cm_types.specs.Types.{Fields};
+ghost use Rattle.cm_types.specs.Values.{Val};
+ghost use Rattle.cm_abi_model.specs.Denotes.{Denotes};
+ghost use Rattle.cm_abi_model.specs.Receives.{NoneImplemented, Receives, call_bytes};
+ghost use Rattle.cm_abi_model.specs.Stores.{Framed};
+ghost use Rattle.cm_abi_model.specs.Views.{View};
+ghost use Rattle.cm_abi_model.specs.Ways.{way_of};
+ghost use Rattle.cm_abi_lower.specs.Giving.{Gives, numbers_given};
+ghost use Rattle.cm_abi_copy.specs.Copies.{FoundCanBeCopied, IsFaultOfCopying, IsReceivingIn};
+ghost use Rattle.cm_abi_copy.specs.Copies.{PartsAreApart, given_by, handles_of_values};
+
+use crate::copier::Copier;
+use crate::copy_call;
+use crate::found::Found;
+use crate::settled_laws::what_can_be_copied_is_settled;
+use cm_abi_lower::{Receiver, give};
+use cm_abi_model::AbiFault;
+use cm_abi_model::laws::{what_is_received_is_denoted, what_is_stored_stays};
+use cm_abi_requests::PartRequests;
+use cm_abi_store::laws::{what_is_passed_fits, what_is_passed_stays};
+use cm_abi_store::{Target, put_numbers};
+use cm_handles::Table;
+use cm_types::{CoreValue, MAX_FLAT_PARAMS};
+use std::alloc::Global;
+
+/// Copies the values that a scan found to their receiver: into its memory, and into the core values
+/// that pass them, with no tree made of them (CanonicalABI.md, "Lifting and Lowering Values",
+/// `lower_flat_values`). All requests for their parts are answered, each with an address that is
+/// aligned with its region in the memory, and the giver's memory and core values are as they were
+/// when they were scanned. The core values are of the kinds that pass the types; whatever numbers
+/// they have is written over. The memory is below 2^32 bytes.
+///
+/// Then the receiver has the values: each part at the answer to the last request for it, each
+/// handle in its table or, of a resource that it implements and is lent, as the representation.
+/// The bytes of the values are written, each at its address, and no other byte; exactly their
+/// handles are added to the table.
+///
+/// Else the answer is a fault, and memory, handles and core values are as they were: `Overlap`
+/// where the regions of two parts overlap, else `TableFull` where the table has fewer indices left
+/// than it is to get handles, else `EngineMemory` where there is no memory for their numbers or for
+/// the table; values without handles take none.
+pub fn copy(
+    alloc: Global,
+    memory: &mut [u8],
+    table: &mut Table,
+    slots: &mut [CoreValue],
+    to: Receiver,
+    found: &Found<'_>,
+    requests: &mut PartRequests,
+) -> Result<(), AbiFault>
+    requires copied { (giver : View) × (answers : List ℕ) × (types : Fields) × (v : Val)
+        × FoundCanBeCopied (length memory.old) (map kind_of slots.old) giver found.now requests.old
+        answers types v }
+    requires few { length memory.old < 2 ^ 32 }
+    ensures received { (giver w : View) (answers : List ℕ) (types : Fields) (v : Val)
+        → FoundCanBeCopied (length memory.old) (map kind_of slots.old) giver found.now requests.old
+        answers types v
+        → IsReceivingIn w requests.old.target to memory.new table.new.handles
+        → OnOk result (Receives w (way_of found.now.passed.way) types slots.new
+        (given_by requests.old answers types v to table.old.handles) v) }
+    ensures denoted { (giver w : View) (answers : List ℕ) (types : Fields) (v : Val)
+        → FoundCanBeCopied (length memory.old) (map kind_of slots.old) giver found.now requests.old
+        answers types v
+        → IsReceivingIn w requests.old.target to memory.new table.new.handles
+        → NoneImplemented w (handles_of_values types v)
+        → OnOk result (Denotes w (way_of found.now.passed.way) types slots.new v) }
+    ensures framed { (giver : View) (answers : List ℕ) (types : Fields) (v : Val)
+        → FoundCanBeCopied (length memory.old) (map kind_of slots.old) giver found.now requests.old
+        answers types v
+        → OnOk result (Framed memory.old memory.new
+        (call_bytes (given_by requests.old answers types v to table.old.handles)
+        (way_of found.now.passed.way) types v)) }
+    ensures handles { (giver : View) (answers : List ℕ) (types : Fields) (v : Val)
+        → FoundCanBeCopied (length memory.old) (map kind_of slots.old) giver found.now requests.old
+        answers types v
+        → OnOk result (Gives to table.old.handles table.new.handles (handles_of_values types v)
+        (numbers_given to table.old.handles (handles_of_values types v))) }
+    ensures apart { (giver : View) (answers : List ℕ) (types : Fields) (v : Val)
+        → FoundCanBeCopied (length memory.old) (map kind_of slots.old) giver found.now requests.old
+        answers types v → OnOk result (PartsAreApart requests.old answers) }
+    ensures err { (giver : View) (answers : List ℕ) (types : Fields) (v : Val)
+        → FoundCanBeCopied (length memory.old) (map kind_of slots.old) giver found.now requests.old
+        answers types v
+        → IfErr result (IsFaultOfCopying requests.old answers to table.old.handles
+        (handles_of_values types v)) }
+    ensures memory_stays { OnErr result (memory.new ≡ memory.old) }
+    ensures table_stays { OnErr result (table.new.handles ≡ table.old.handles) }
+    ensures slots_stay { OnErr result (slots.new ≡ slots.old) }
+{
+    what_can_be_copied_is_settled();
+    what_is_stored_stays();
+    what_is_passed_stays();
+    what_is_passed_fits();
+    what_is_received_is_denoted();
+    are_bytes(found.memory);
+    are_numbers(&requests.places);
+    if !requests.are_apart() {
+        return Err(AbiFault::Overlap);
+    }
+    let numbers = match give(alloc, table, to, found.handles) {
+        Ok(numbers) => numbers,
+        Err(fault) => return Err(fault),
+    };
+    are_numbers(&numbers);
+    let from = Copier {
+        memory: found.memory,
+        encoding: requests.source,
+        target: Target {
+            encoding: requests.target,
+            places: &requests.places,
+            numbers: &numbers,
+        },
+        records: &requests.records,
+    };
+    let mut zeros = [0; MAX_FLAT_PARAMS];
+    let passed = &mut zeros[..slots.len()];
+    copy_call(&from, &found.passed, memory, passed);
+    put_numbers(passed, slots);
+    Ok(())
+}
+
+/// A memory is one of bytes.
+fn are_bytes(memory: &[u8])
+    ensures { (i : ℕ) → slice_index memory.now i < 2 ^ 8 }
+{}
+
+/// Numbers of 32 bits are such.
+fn are_numbers(numbers: &[u32])
+    ensures { (i : ℕ) → slice_index numbers.now i < 2 ^ 32 }
+{}

@@ -1,0 +1,64 @@
+//! The handles that a reader met, each as the type of the value has it.
+
+ghost use Rattle.std.specs.Prelude.{◌≡◌, ◌∷◌, [], IfOk, IsOk};
+ghost use Rattle.cm_abi_load.specs.Meeting.{AreAsWanted, IsAsWanted};
+ghost use Rattle.cm_abi_load.specs.Reading.{resource_of};
+ghost use Rattle.cm_abi_lower.specs.Leaves.{leaf_of, leaves_of};
+ghost use Rattle.cm_abi_copy.specs.MetLeaves.{leaves_found};
+
+use cm_abi_load::MetHandle;
+use cm_abi_lower::{HandleLeaf, HandleValue};
+use cm_handles::Table;
+use cm_layout::HandleType;
+use cm_types::ResourceId;
+use std::alloc::{AllocError, Global};
+
+/// The resource of a handle.
+fn resource_of(wanted: HandleType) -> ResourceId
+    ensures { result ≡ resource_of wanted }
+{
+    match wanted {
+        HandleType::Own(resource) | HandleType::Borrow(resource) => resource,
+    }
+}
+
+/// A handle that was met, as the type of the value has it.
+fn leaf_met(table: &Table, met: MetHandle) -> HandleLeaf
+    requires wanted { IsAsWanted table.now.handles met }
+    ensures { leaf_of result ∷ [] ≡ leaves_found table.now.handles (met ∷ []) }
+{
+    let Ok(handle) = table.get(met.index, resource_of(met.wanted)) else {
+        unreachable!()
+    };
+    let value = HandleValue {
+        serial: handle.serial,
+        rep: handle.rep,
+        resource: handle.resource,
+    };
+    match met.wanted {
+        HandleType::Own(_) => HandleLeaf::Owned(value),
+        HandleType::Borrow(_) => HandleLeaf::Borrowed(value),
+    }
+}
+
+/// The handles that a reader met in a value, in reading order, each as the type of the value has
+/// it: to be owned, or to be borrowed. The table has each of them, of the resource and the kind
+/// that are wanted.
+///
+/// `AllocError` comes where there is no memory for them; where none was met, none is taken.
+pub fn handles_met(
+    alloc: Global,
+    table: &Table,
+    met: &[MetHandle],
+) -> Result<Vec<HandleLeaf>, AllocError>
+    requires wanted { AreAsWanted table.now.handles met.now }
+    ensures leaves { IfOk result (λ ls.
+        leaves_of ls.items ≡ leaves_found table.now.handles met.now) }
+    ensures nothing { met.now ≡ [] → IsOk result }
+{
+    let mut leaves = Vec::with_capacity(alloc, met.len())?;
+    for handle in met {
+        leaves.push_reserved(leaf_met(table, *handle));
+    }
+    Ok(leaves)
+}

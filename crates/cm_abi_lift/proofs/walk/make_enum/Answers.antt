@@ -1,0 +1,12 @@
+use Rattle.std.proofs.Common.{subst}
+use Rattle.cm_abi_lift.proofs.WalkLemmas.{enum_made, enum_past}
+use Rattle.cm_abi_lift.proofs.Seen.{seen_bare}
+use Rattle.cm_abi_lift.proofs.walk.make_enum.Goals as goal
+
+pub returns-then-index-count : goal.returns-then-index-count
+returns-then-index-count g c = λ w target slots s kept.
+    enum_made g.M.Maker.stands g.M.Maker.keeps w target c.args.count c.args.index slots c.make.result kept s c.if-index-count.true
+    (subst (λ v. g.M.Maker.stands c.make.result v) (seen_bare c.args.index) c.make.ensures) (g.met.M.Maker.keeps_nothing kept)
+
+pub returns-else-index-count : goal.returns-else-index-count
+returns-else-index-count g c = λ w target slots s kept. enum_past w c.args.count c.args.index c.args.index slots s c.if-index-count.false

@@ -1,0 +1,179 @@
+//! Values that core values denote.
+
+ghost use Rattle.std.specs.Prelude.{◌≡◌, ◌^◌, ◌<◌, ◌⊎◌, Err, IfErr, IfOk, IsOkUnless, Ok, OnErr};
+ghost use Rattle.std.specs.Prelude.{length};
+ghost use Rattle.cm_types.specs.Types.{Fields};
+ghost use Rattle.cm_types.specs.Values.{Val, Vals, parts};
+ghost use Rattle.cm_layout.specs.Layouts.{layout_of};
+ghost use Rattle.cm_layout.specs.Shapes.{layout_of_fields_at};
+ghost use Rattle.cm_types.specs.ValueTrees.{value_of, values_of};
+ghost use Rattle.cm_abi_model.specs.Denotes.{Denotes};
+ghost use Rattle.cm_abi_model.specs.Taken.{Transferable};
+ghost use Rattle.cm_abi_model.specs.Views.{View};
+ghost use Rattle.cm_abi_model.specs.Ways.{way_of};
+ghost use Rattle.cm_abi_load.specs.Outcomes.{State};
+ghost use Rattle.cm_abi_lift.specs.HandingOver.{LendsBelow, hand_over, handed, untouched};
+ghost use Rattle.cm_abi_lift.specs.Lifts.{IsGivenBy, Lifts, handed_with, lift_of};
+
+use crate::handing::hand_over;
+use crate::laws::lifting_is_exact;
+use crate::passed::{Passed, read_passed};
+use cm_abi_load::{Giver, MetHandle, Progress, Stop};
+use cm_abi_model::{AbiFault, StringEncoding};
+use cm_handles::{Handle, Table};
+use cm_types::Value;
+use std::alloc::Global;
+
+/// The most bytes of strings and lists in one direction of a call: of a list its length times the
+/// size of an element, and of a string its bytes as they stand in the giver's memory.
+const MAX_CONTENT: u32 = 16_777_216;
+
+/// Values that were lifted.
+#[derive(Drop)]
+pub struct Lifted {
+    /// The values, in order.
+    pub values: Vec<Value>,
+    /// The handles that were taken out of the giver's table, in reading order.
+    pub owns: Vec<Handle>,
+    /// The indices of the handles that were lent, in reading order.
+    pub lends: Vec<u32>,
+    /// Of each string of the values, in reading order, whether its length was tagged as UTF-16;
+    /// empty where strings are in UTF-8 or in UTF-16 alone, whose lengths have no tags.
+    pub tagged: Vec<bool>,
+}
+
+/// The fields of a tuple.
+fn fields_of(tuple: Value) -> Vec<Value>
+    requires { (vs : Vals) × (value_of tuple ≡ parts vs) }
+    ensures { value_of tuple ≡ parts (values_of result.items) }
+{
+    match tuple {
+        Value::Fields(values) => values,
+        _ => unreachable!(),
+    }
+}
+
+/// The values that core values denote, by the layout of the tuple of their types, in the view of an
+/// instance: its memory, its handle table and how its strings are encoded (CanonicalABI.md,
+/// "Lifting and Lowering Values").
+///
+/// It succeeds exactly where the core values denote values that can be handed over: no handle is
+/// owned twice, none that is to be owned is lent or borrowed as well, and strings and lists hold at
+/// most 16,777,216 bytes. Then each handle that is to be owned is taken out of the table, and each
+/// that is to be borrowed is lent once more, in reading order; nothing else is changed. The tags of
+/// strings are told as they stood. The caller gives a table whose handles are lent fewer than 2^100
+/// times.
+///
+/// Else the answer is the first fault in reading order, and the table is as it was. At a pointer it
+/// is `Misaligned`, else `PointerBounds`, else `TooLarge`, else `BadText`; at a char `BadChar`; at
+/// the number of a case `BadCase`; at a handle `NoHandle`, else `WrongResource`, else for one to be
+/// owned `StillLent`, else `NotOwned`. `EngineMemory` comes where there is no memory for the
+/// values.
+pub fn lift(
+    alloc: Global,
+    memory: &[u8],
+    table: &mut Table,
+    encoding: StringEncoding,
+    passed: &Passed<'_>,
+) -> Result<Lifted, AbiFault>
+    requires layout { (types : Fields)
+        × (layout_of passed.now.layout.now ≡ layout_of_fields_at types) }
+    requires few { length memory.now < 2 ^ 62 }
+    requires lends { LendsBelow (2 ^ 100) table.old.handles }
+    ensures ok { IfOk result (λ l.
+        lift_of memory.now table.old.handles encoding (way_of passed.now.way)
+        (layout_of passed.now.layout.now) passed.now.slots.now
+        ≡ Ok (
+          parts (values_of l.values.items),
+          l.tagged.items,
+          handed_with table.new.handles l,
+        )) }
+    ensures err { IfErr result (λ e. (e ≡ AbiFault.EngineMemory)
+        ⊎ (lift_of memory.now table.old.handles encoding (way_of passed.now.way)
+        (layout_of passed.now.layout.now) passed.now.slots.now ≡ Err e)) }
+    ensures lifts { (w : View) (types : Fields)
+        → IsGivenBy w memory.now table.old.handles encoding
+        → layout_of passed.now.layout.now ≡ layout_of_fields_at types
+        → IfOk result (λ l. Lifts w (way_of passed.now.way) types passed.now.slots.now
+        (parts (values_of l.values.items)) l.tagged.items
+        (handed_with table.new.handles l)) }
+    ensures only { (w : View) (types : Fields) (v : Val)
+        → IsGivenBy w memory.now table.old.handles encoding
+        → layout_of passed.now.layout.now ≡ layout_of_fields_at types
+        → Denotes w (way_of passed.now.way) types passed.now.slots.now v
+        → Transferable w (way_of passed.now.way) types passed.now.slots.now v
+        → IsOkUnless result AbiFault.EngineMemory }
+    ensures unchanged { OnErr result (table.new ≡ table.old) }
+{
+    lifting_is_exact();
+    lift_values(alloc, memory, table, encoding, passed)
+}
+
+/// The same, of which more is known.
+fn lift_values(
+    alloc: Global,
+    memory: &[u8],
+    table: &mut Table,
+    encoding: StringEncoding,
+    passed: &Passed<'_>,
+) -> Result<Lifted, AbiFault>
+    requires layout { (types : Fields)
+        × (layout_of passed.now.layout.now ≡ layout_of_fields_at types) }
+    requires few { length memory.now < 2 ^ 62 }
+    requires lends { LendsBelow (2 ^ 100) table.old.handles }
+    ensures ok { IfOk result (λ l.
+        lift_of memory.now table.old.handles encoding (way_of passed.now.way)
+        (layout_of passed.now.layout.now) passed.now.slots.now
+        ≡ Ok (
+          parts (values_of l.values.items),
+          l.tagged.items,
+          handed_with table.new.handles l,
+        )) }
+    ensures err { IfErr result (λ e. (e ≡ AbiFault.EngineMemory)
+        ⊎ (lift_of memory.now table.old.handles encoding (way_of passed.now.way)
+        (layout_of passed.now.layout.now) passed.now.slots.now ≡ Err e)) }
+    ensures unchanged { OnErr result (table.new ≡ table.old) }
+{
+    let mut progress = Progress {
+        left: MAX_CONTENT,
+        handles: Vec::new(alloc),
+        tags: Vec::new(alloc),
+    };
+    let giver = Giver {
+        alloc,
+        memory,
+        table: &*table,
+        encoding,
+    };
+    match read_passed(&giver, passed, &mut progress) {
+        Ok(tuple) => {
+            let handed = hand_over(alloc, table, &progress.handles)?;
+            Ok(Lifted {
+                values: fields_of(tuple),
+                owns: handed.owns,
+                lends: handed.lends,
+                tagged: progress.tags,
+            })
+        }
+        Err(Stop::Memory) => Err(AbiFault::EngineMemory),
+        Err(Stop::Fault(fault)) => Err(first_fault(alloc, table, &progress.handles, fault)),
+    }
+}
+
+/// The first fault, where reading stopped at one: that of a handle that was met before comes first.
+/// `EngineMemory` comes where there is no memory to hand those over. The table stays as it is.
+pub fn first_fault(alloc: Global, table: &mut Table, met: &[MetHandle], fault: AbiFault) -> AbiFault
+    requires lends { LendsBelow (2 ^ 100) table.old.handles }
+    ensures first { (result ≡ AbiFault.EngineMemory)
+        ⊎ ((s : State) → handed (Err (fault, s))
+        (hand_over (untouched table.old.handles) met.now) ≡ Err result) }
+    ensures unchanged { table.new ≡ table.old }
+{
+    match hand_over(alloc, table, met) {
+        Ok(mut handed) => {
+            handed.take_back(table, met);
+            fault
+        }
+        Err(earlier) => earlier,
+    }
+}

@@ -1,0 +1,6 @@
+use Rattle.std.proofs.Common.{◌∙◌}
+use Rattle.cm_abi_load.proofs.NumberLemmas.{little_is}
+use Rattle.cm_abi_load.proofs.numbers.number_64.Goals as goal
+
+pub returns : goal.returns
+returns c = c.read_u64.ensures ∙ little_is 8 c.args.at c.args.memory.now

@@ -1,0 +1,16 @@
+pub mod Making
+pub mod Meeting
+pub mod PartLaws
+pub mod Plain
+pub mod Reading
+pub mod Records
+pub mod Sized
+pub mod MakingLaws
+pub mod Decoded
+pub mod Leaves
+pub mod Outcomes
+pub mod Sizes
+pub mod TextReads
+pub mod TextSizes
+pub mod Texts
+pub mod Decoding

@@ -1,0 +1,36 @@
+//! Values of components, read from memory (CanonicalABI.md, "Loading").
+//!
+//! The leaves, the strings and the handles of values, and what their pointers lead to, read from
+//! memory (CanonicalABI.md, "Loading"); the numbers in core values; and how far a reader of values
+//! has come.
+#![tactic(auto)]
+
+mod giver;
+mod handles;
+pub mod laws;
+mod leaves;
+mod loading;
+mod maker;
+mod measures;
+mod numbers;
+mod progress;
+mod record;
+mod regions;
+pub mod slots;
+mod stop;
+mod texts;
+mod trees;
+
+pub use giver::Giver;
+pub use handles::load_handle;
+pub use leaves::{core_size, leaf_size, leaf_value};
+pub use loading::{is_plain_leaf, make_handle, make_list, make_value};
+pub use maker::{Maker, Reader};
+pub use measures::measure_text;
+pub use numbers::{number_32, number_at};
+pub use progress::{MetHandle, Progress};
+pub use record::{PartKind, PartRecord};
+pub use regions::check_region;
+pub use stop::Stop;
+pub use texts::load_text;
+pub use trees::Trees;

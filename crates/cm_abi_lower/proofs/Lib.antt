@@ -1,0 +1,5 @@
+pub mod SeenLayouts
+pub mod WalkLemmas
+pub mod LeafLemmas
+pub mod GivingSeenLayouts
+pub mod GivingLemmas

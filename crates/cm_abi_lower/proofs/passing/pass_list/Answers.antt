@@ -1,0 +1,23 @@
+use Rattle.std.proofs.Common.{refl}
+use Rattle.cm_abi_store.specs.Storing.{given_of}
+use Rattle.cm_abi_lower.proofs.passing.pass_list.Goals as goal
+
+pub store_row-requires-clause-inside : goal.store_row-requires-clause-inside
+store_row-requires-clause-inside g c =
+    let told = c.stored_elements-elements.ensures _ (given_of c.args.to.now) _ _ _ _ _ c.requires.ready.1 in
+    rw c.pass_pointer-place.ensures.place told.2.1
+
+pub store_row-requires-clause-ready : goal.store_row-requires-clause-ready
+store_row-requires-clause-ready g c =
+    let told = c.stored_elements-elements.ensures _ (given_of c.args.to.now) _ _ _ _ _ c.requires.ready.1 in
+    rw (c.pass_pointer-place.ensures.part, c.pass_pointer-place.ensures.handle) told.3
+
+pub returns-clause-slots : goal.returns-clause-slots
+returns-clause-slots g c =
+    let told = c.stored_elements-elements.ensures _ (given_of c.args.to.now) _ _ _ _ _ c.requires.ready.1 in
+    rw (told.0, c.pass_pointer-place.ensures.slots, told.1) refl
+
+pub returns-clause-stored : goal.returns-clause-stored
+returns-clause-stored g c =
+    let told = c.stored_elements-elements.ensures _ (given_of c.args.to.now) _ _ _ _ _ c.requires.ready.1 in
+    rw (told.0, c.store_row.ensures.stored, c.pass_pointer-place.ensures.place, c.pass_pointer-place.ensures.part, c.pass_pointer-place.ensures.handle) refl

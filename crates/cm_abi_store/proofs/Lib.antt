@@ -1,0 +1,13 @@
+pub mod SeenLayouts
+pub mod WalkLemmas
+pub mod BytesLemmas
+pub mod NumberLemmas
+pub mod TextLemmas
+pub mod LayoutLaws
+pub mod FittingLaws
+pub mod PassedLaws
+pub mod FlatLaws
+pub mod CallLemmas
+pub mod RisingLaws
+pub mod KindLaws
+pub mod CoreValueLemmas

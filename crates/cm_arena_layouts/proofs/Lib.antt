@@ -1,2 +1,0 @@
-mod FirstLaws
-mod PlacedLaws

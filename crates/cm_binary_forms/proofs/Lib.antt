@@ -1,0 +1,10 @@
+pub mod TextLaws
+pub mod LawfulTexts
+pub mod LawfulAliases
+pub mod LawfulTypes
+pub mod LawfulInstances
+pub mod LawfulCanons
+pub mod LawfulExterns
+pub mod LawfulSections
+pub mod LawfulFile
+pub mod SectionLoop

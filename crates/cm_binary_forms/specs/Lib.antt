@@ -1,0 +1,11 @@
+pub mod Reasons
+pub mod Codes
+pub mod Texts
+pub mod Aliases
+pub mod Types
+pub mod Instances
+pub mod Canons
+pub mod Externs
+pub mod Sections
+pub mod File
+pub mod Contents

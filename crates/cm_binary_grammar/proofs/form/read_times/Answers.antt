@@ -1,0 +1,15 @@
+use Rattle.std.proofs.Common.{◌∙◌, refl}
+use Rattle.std.proofs.lemmas.Result.{err_from_is_err_and}
+use Rattle.cm_binary_grammar.proofs.ReadingLaws.{chain_turn, chain_stops}
+use Rattle.cm_binary_grammar.proofs.form.read_times.Goals as goal
+
+pub returns-in_err-value-clause-read : goal.returns-in_err-value-clause-read
+returns-in_err-value-clause-read g c =
+    let p = err_from_is_err_and c.from_residual.result c.from_residual.ensures.1 in
+    rw (p.1, p.2) (chain_stops (λ (s : Unit {0}). g.T.Form.grammar) (λ s x. s) g.T.Form.tree c.loop.values.items c.args.count c.loop.counter tt c.loop.cursor.end c.loop.cursor.rest.now c.in_err-value.field-0.0 _ c.loop-test.true c.in_err-value.ensures.read c.loop.invariant.0)
+
+pub loop-preserved : goal.loop-preserved
+loop-preserved g c = (
+  chain_turn (λ (s : Unit {0}). g.T.Form.grammar) (λ s x. s) g.T.Form.tree c.loop.values.items c.push.new.self.items c.in_ok-value.value c.args.count c.loop.counter tt tt c.loop.cursor.end c.read.new.cursor.end c.loop.cursor.rest.now c.read.new.cursor.rest.now _ c.in_ok-push.ensures.items c.in_ok-value.ensures.end refl c.loop-test.true c.in_ok-value.ensures.read c.loop.invariant.0,
+  c.in_ok-value.ensures.end ∙ c.loop.invariant.1,
+)

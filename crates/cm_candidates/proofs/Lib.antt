@@ -1,9 +1,0 @@
-mod Orders
-mod GreatestLaws
-mod Rows
-mod Additions
-mod Carets
-mod Requirements
-mod Splits
-mod FitLaws
-mod RangeLaws

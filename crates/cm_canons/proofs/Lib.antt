@@ -1,3 +1,0 @@
-mod PassingLaws
-mod ReasonLaws
-mod AnswerLaws

@@ -1,9 +1,0 @@
-use Rattle.std.proofs.Common.{◌≡◌, drop, nat_le}
-use Rattle.cm_arena_layouts.specs.Placed.{layouts_in}
-use Rattle.cm_canons.specs.Passing.{widths_at}
-use Rattle.cm_canons.proofs.passing.pass_more.Given as goal
-
-abbrev pub invariant-loop-place : goal.invariant-loop-place
-invariant-loop-place l =
-    nat_le (widths_at (layouts_in l.layouts) (drop l.place-index l.places)) l.room
-    ≡ nat_le (widths_at (layouts_in l.layouts) l.places) l.most

@@ -1,3 +1,0 @@
-pub mod LeafLemmas
-pub mod SeenLayouts
-pub mod GivingLemmas

@@ -1,6 +1,0 @@
-use Rattle.std.proofs.Common.{length}
-use Rattle.cm_graph.proofs.EdgeLaws.{Joins}
-use Rattle.cm_graph.proofs.edges.used_by.Given as goal
-
-abbrev pub invariant-loop-number : goal.invariant-loop-number
-invariant-loop-number l = Joins (λ r. r.items) (length l.rows) l.rows l.number l.edges.items

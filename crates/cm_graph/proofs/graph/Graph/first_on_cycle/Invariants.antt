@@ -1,5 +1,0 @@
-use Rattle.cm_graph.specs.Graphs.{NoneBelow}
-use Rattle.cm_graph.proofs.graph.Graph.first_on_cycle.Given as goal
-
-abbrev pub invariant-loop-node : goal.invariant-loop-node
-invariant-loop-node l = NoneBelow l.self.edges l.node

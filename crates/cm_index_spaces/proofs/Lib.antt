@@ -1,6 +1,0 @@
-mod ResultLaws
-mod MadeLaws
-mod EntryLaws
-mod AnswerLaws
-mod TypeLaws
-mod CanonLaws

@@ -1,6 +1,0 @@
-mod LeafLemmas
-mod NumberLemmas
-mod Seen
-mod SlotLemmas
-pub mod TextLemmas
-mod MeasureLemmas

@@ -1,6 +1,0 @@
-use Rattle.std.proofs.Common.{◌∙◌}
-use Rattle.cm_leaf_reading.proofs.NumberLemmas.{little_is}
-use Rattle.cm_leaf_reading.proofs.numbers.number_32.Goals as goal
-
-pub returns : goal.returns
-returns c = c.read_u32.ensures ∙ little_is 4 c.args.at c.args.memory.now

@@ -1,7 +1,0 @@
-pub mod Seen
-pub mod MakingLemmas
-pub mod WalkLemmas
-pub mod FlatLaws
-pub mod HandLaws
-pub mod PassedLaws
-pub mod SpilledLemmas

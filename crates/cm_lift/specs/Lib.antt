@@ -1,4 +1,0 @@
-pub mod FlatReading
-pub mod FlatRecords
-pub mod HandingOver
-pub mod Lifts

@@ -1,5 +1,0 @@
-use Rattle.cm_lifting.proofs.FoundLaws.{shown_found}
-use Rattle.cm_lifting.proofs.laws.what_is_shown_is_read.Goals as goal
-
-pub returns : goal.returns
-returns c = λ w t p s v shown room. let found = shown_found w t p s v shown room in (found.after, found.is)

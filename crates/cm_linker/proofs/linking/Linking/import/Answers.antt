@@ -1,9 +1,0 @@
-use Rattle.std.proofs.Common.{◌≡◌, ◌∙◌, Some, sym, slice_get}
-use Rattle.cm_linker.specs.Linkings.{components_in}
-use Rattle.cm_linker.proofs.Found.{got, import_read}
-use Rattle.cm_linker.proofs.linking.Linking.import.Goals as goal
-
-pub returns : goal.returns
-returns c =
-    let cs = components_in c.args.self.now in
-    import_read cs c.args.component c.in_ok-get.field-0.now (sym (got cs c.args.component (Some c.in_ok-get.field-0) c.in_ok-get.ensures.lookup)) c.args.import c.imports.result.now c.get-2.result c.imports.ensures.are c.get-2.ensures.lookup

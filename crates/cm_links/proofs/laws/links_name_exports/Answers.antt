@@ -1,5 +1,0 @@
-use Rattle.cm_links.proofs.LinkLaws.{name_exports}
-use Rattle.cm_links.proofs.laws.links_name_exports.Goals as goal
-
-pub returns : goal.returns
-returns c = name_exports

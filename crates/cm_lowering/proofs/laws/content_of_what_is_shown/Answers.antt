@@ -1,5 +1,0 @@
-use Rattle.cm_lowering.proofs.ContentLaws.{shown_counts}
-use Rattle.cm_lowering.proofs.laws.content_of_what_is_shown.Goals as goal
-
-pub returns : goal.returns
-returns c = shown_counts

@@ -1,0 +1,15 @@
+pub mod Origins
+pub mod Components
+pub mod Sets
+pub mod Reasons
+pub mod Imports
+pub mod Serving
+pub mod Links
+pub mod Targets
+pub mod Brought
+pub mod Alike
+pub mod Fitting
+pub mod Ranges
+pub mod Readings
+pub mod Greatest
+pub mod Tables

@@ -1,0 +1,7 @@
+mod Known
+mod Same
+mod Judging
+mod Walks
+mod Rows
+mod Links
+mod Found

@@ -1,0 +1,28 @@
+use Rattle.std.proofs.Common.{refl, sym, ◌∙◌}
+use Rattle.cm_types_numbers.specs.Numbering.{numbering}
+use Rattle.cm_match_serving.specs.Sides.{standing_of, types_in}
+use Rattle.cm_match_serving.specs.Tables.{type_brought}
+use Rattle.cm_types_resources.specs.Replaced.{replaced}
+use Rattle.cm_match_serving.proofs.Same.{known_at, test_tells, type_stays, types_of_pair}
+use Rattle.cm_match_serving.proofs.tables.Tables.same_types.Goals as goal
+
+pub number_type-requires : goal.number_type-requires
+number_type-requires c = known_at c.args.pair.now.linking c.importer.result.linking c.args.self.now (sym c.importer.ensures.linking) c.requires
+
+pub number_type-requires-2 : goal.number_type-requires-2
+number_type-requires-2 c = known_at c.importer.result.linking c.provider.result.linking c.number_type.new.self (c.importer.ensures.linking ∙ sym c.provider.ensures.linking) c.number_type.ensures.known
+
+pub returns-clause-same : goal.returns-clause-same
+returns-clause-same c =
+    let before = numbering c.number_type.new.self.numbers in
+    let after = numbering c.number_type-2.new.self.numbers in
+    let s = c.importer.result in
+    let t = c.provider.result in
+    let x = type_brought (types_in s) c.args.wanted in
+    let y = type_brought (types_in t) c.args.have in
+    let left = type_stays before after (λ u ts ns. c.numbers_stay.ensures.types before after u ts ns c.number_type-2.ensures.kept) (standing_of s) x c.in_ok-left.left c.in_ok-left.ensures.number in
+    types_of_pair c.args.pair.now s t c.importer.ensures.linking c.importer.ensures.component c.provider.ensures.linking c.provider.ensures.component _ c.args.wanted c.args.have
+    (test_tells c.in_ok-left.left c.in_ok-right.right _ _ refl (c.tell_apart.ensures.types (replaced (standing_of s) x) (replaced (standing_of t) y) c.in_ok-left.left c.in_ok-right.right left c.in_ok-right.ensures.number))
+
+pub returns-clause-known : goal.returns-clause-known
+returns-clause-known c = known_at c.provider.result.linking c.args.pair.now.linking c.number_type-2.new.self c.provider.ensures.linking c.number_type-2.ensures.known

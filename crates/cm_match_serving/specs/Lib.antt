@@ -1,0 +1,9 @@
+pub mod Sides
+pub mod Knowing
+pub mod Tables
+pub mod Answers
+pub use Rattle.cm_validate_spaces.specs as cm_validate_spaces
+pub use Rattle.cm_validate_spaces.specs.cm_validate_entries
+pub mod Sets
+pub mod Choices
+pub mod Linkings

@@ -1,5 +1,0 @@
-use Rattle.cm_names.proofs.Cuts.{split_is_cut}
-use Rattle.cm_names.proofs.extern_names.cut.Goals as goal
-
-pub returns : goal.returns
-returns c = split_is_cut c.args.separator c.args.text.now c.split_once.result c.requires c.split_once.ensures.cases

@@ -1,5 +1,0 @@
-use Rattle.cm_names.proofs.Cuts.{strip_is_without}
-use Rattle.cm_names.proofs.extern_names.without_front.Goals as goal
-
-pub returns : goal.returns
-returns c = strip_is_without c.args.front.now c.args.text.now c.strip_prefix.result c.strip_prefix.ensures.cases

@@ -1,8 +1,0 @@
-use Rattle.std.proofs.Common.{ap, ◌∙◌}
-use Rattle.std.specs.String.{string_bytes}
-use Rattle.cm_names.specs.Names.{is_label}
-use Rattle.cm_names.proofs.Labels.{label_is}
-use Rattle.cm_names.proofs.names.Label.as_str.Goals as goal
-
-pub returns-clause-label : goal.returns-clause-label
-returns-clause-label c = label_is _ (ap is_label c.as_str.ensures.value ∙ ap (λ t. is_label (string_bytes t)) c.deref.ensures ∙ c.self.invariant)

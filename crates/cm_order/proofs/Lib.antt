@@ -1,4 +1,0 @@
-mod WalkLaws
-mod RankLaws
-mod WaitLaws
-mod StandLaws

@@ -1,7 +1,0 @@
-use Rattle.std.proofs.Common.{◌∷◌, []}
-use Rattle.cm_order.specs.DepthFirst.{Orders, needs_of}
-use Rattle.cm_order.specs.Paths.{Leaves}
-use Rattle.cm_order.proofs.depth_first.place.Given as goal
-
-abbrev pub invariant-loop-step : goal.invariant-loop-step
-invariant-loop-step l = Leaves (needs_of l.rows) l.path.items (Orders (needs_of l.rows) l.initial.order.keys (l.fn.node ∷ [])) l.order.keys

@@ -1,6 +1,0 @@
-use Rattle.std.proofs.Common.{◌≡◌, [], ℕ, vec_len}
-use Rattle.cm_order.specs.Walks.{entries_of}
-use Rattle.cm_order.proofs.ordering.empty_lists.Given as goal
-
-abbrev pub invariant-loop-list : goal.invariant-loop-list
-invariant-loop-list l = (vec_len l.lists ≡ l._list) × ((k : ℕ) → entries_of l.lists.items k ≡ [])

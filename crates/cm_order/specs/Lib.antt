@@ -1,4 +1,0 @@
-pub mod DepthFirst
-pub mod Paths
-pub mod Orders
-pub mod Walks

@@ -1,2 +1,0 @@
-pub mod SeenLayouts
-pub mod WalkLemmas

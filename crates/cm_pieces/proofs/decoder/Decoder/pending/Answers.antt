@@ -1,6 +1,0 @@
-use Rattle.cm_pieces.specs.Views.{progress}
-use Rattle.cm_pieces.proofs.PieceLaws.{few_kept}
-use Rattle.cm_pieces.proofs.decoder.Decoder.pending.Goals as goal
-
-pub returns-clause-few : goal.returns-clause-few
-returns-clause-few c = rw (c.len.ensures, c.self.inside.kept.ok.0, ← c.self.view_is) (few_kept c.self.inside.fault (progress c.self.inside.front) c.self.inside.kept.items c.self.invariant)

@@ -1,5 +1,0 @@
-use Rattle.cm_pieces.proofs.ComeLaws.{come_nothing}
-use Rattle.cm_pieces.proofs.gathered.Gathered.new.Goals as goal
-
-pub returns : goal.returns
-returns c = rw (c.new.ensures.empty, c.new-2.ensures.items) come_nothing

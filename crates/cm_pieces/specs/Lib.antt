@@ -1,5 +1,0 @@
-pub mod Progress
-pub mod Views
-pub mod After
-pub mod Pieces
-pub mod Streams

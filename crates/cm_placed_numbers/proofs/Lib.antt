@@ -1,3 +1,0 @@
-mod Orders
-mod Stays
-mod KnownLaws

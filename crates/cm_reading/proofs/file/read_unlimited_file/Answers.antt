@@ -1,9 +1,0 @@
-use Rattle.std.proofs.Common.{arith, map}
-use Rattle.cm_grammar.proofs.ReadingLaws.{inside_part}
-use Rattle.cm_component.specs.Trees.{section_tree}
-use Rattle.cm_reading.specs.File.{component}
-use Rattle.cm_reading.proofs.LawfulFile.{component_lawful}
-use Rattle.cm_reading.proofs.file.read_unlimited_file.Goals as goal
-
-pub returns-clause-inside : goal.returns-clause-inside
-returns-clause-inside c = inside_part component component_lawful (λ v. map section_tree v.items) c.args.end c.args.bytes.now c.read_preamble_and_sections.result _ (λ i. omega (arith, c.type_inv.bytes i)) (omega arith) c.read_preamble_and_sections.ensures

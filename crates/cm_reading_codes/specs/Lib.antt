@@ -1,3 +1,0 @@
-pub mod Reasons
-pub mod Codes
-pub mod Texts

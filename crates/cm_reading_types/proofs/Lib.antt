@@ -1,2 +1,0 @@
-pub mod LawfulAliases
-pub mod LawfulTypes

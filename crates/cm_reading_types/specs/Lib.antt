@@ -1,2 +1,0 @@
-pub mod Aliases
-pub mod Types

@@ -1,5 +1,0 @@
-pub mod TextUnits
-pub mod AskLaws
-pub mod StageLaws
-mod PlaceLaws
-mod FineLaws

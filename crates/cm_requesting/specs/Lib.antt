@@ -1,3 +1,0 @@
-pub mod RecordRequests
-pub mod Asking
-pub mod Placing

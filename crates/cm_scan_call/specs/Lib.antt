@@ -1,3 +1,0 @@
-pub mod MetLeaves
-pub mod CallPlaces
-pub mod Scans

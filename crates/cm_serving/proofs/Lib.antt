@@ -1,4 +1,0 @@
-mod Known
-mod Same
-mod Judging
-mod Walks

@@ -1,6 +1,0 @@
-pub mod Seen
-pub mod PageLaws
-pub mod JoinLaws
-pub mod ShownLaws
-pub mod ListLaws
-pub mod LineLaws

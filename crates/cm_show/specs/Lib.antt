@@ -1,5 +1,0 @@
-pub mod Lists
-pub mod ShownTypes
-pub mod Counted
-pub mod Written
-pub mod Shown

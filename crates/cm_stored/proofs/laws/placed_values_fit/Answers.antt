@@ -1,5 +1,0 @@
-use Rattle.cm_stored.proofs.FittingLaws.{value_fits}
-use Rattle.cm_stored.proofs.laws.placed_values_fit.Goals as goal
-
-pub returns : goal.returns
-returns c = λ target n g t v k h typed is placed parts handles. value_fits target n g is t v k h typed placed parts handles

@@ -1,5 +1,0 @@
-use Rattle.cm_stored.proofs.KindLaws.{call_fits}
-use Rattle.cm_stored.proofs.laws.what_is_passed_fits.Goals as goal
-
-pub returns : goal.returns
-returns c = λ w way types g v slots typed is serves places numbers fit. call_fits w way types g v slots typed is serves places numbers fit

@@ -1,0 +1,342 @@
+//! Extern names: the names of imports and exports, and of an instance's items.
+
+ghost use Rattle.std.specs.Prelude.{◌≡◌, IfOk, IfErr, ◌⊎◌, Some, None, ◌<◌, option_copied};
+ghost use Rattle.std.specs.Prelude.{IsTrue, [], Ok, Err};
+ghost use Rattle.cm_types.specs.declared.names.NameFault.{NameFault};
+ghost use Rattle.std.specs.Option.{option_map};
+ghost use Rattle.std.specs.List.{list_any};
+ghost use Rattle.semver.specs.Parse.{memory_error};
+ghost use Rattle.cm_types.specs.Names.{label_fault};
+ghost use Rattle.cm_types.specs.ExternNames.{cut, cut_or_all, extern_name_fault, form_of};
+ghost use Rattle.cm_types.specs.ExternNames.{interface_of, interface_parts, is_bracketed};
+ghost use Rattle.cm_types.specs.ExternNames.{is_interface_mark, is_version, labels_fault};
+ghost use Rattle.cm_types.specs.ExternNames.{least_fault, member, method, parts_fault, static};
+ghost use Rattle.cm_types.specs.ExternNames.{name_spelling, unannotated_form, version_fault};
+ghost use Rattle.cm_types.specs.ExternNames.{without_front};
+ghost use Rattle.cm_types.specs.ExternNames.{HasLabels, version_in, version_text};
+ghost use Rattle.cm_types.specs.ExternNameForms.{form_tree, pair_view};
+
+use crate::names::{NameFault, label_fault, shared};
+use semver::{Error, Version};
+use std::alloc::{AllocError, Global};
+use std::marker::Model;
+use std::rc::Rc;
+
+/// What an extern name says, part by part.
+#[derive(Clone, Copy)]
+pub enum ExternNameForm<'a> {
+    /// A plain label.
+    Label(&'a str),
+    /// `[method]resource.method`
+    Method {
+        resource: &'a str,
+        method: &'a str,
+    },
+    /// `[static]resource.function`
+    Static {
+        resource: &'a str,
+        function: &'a str,
+    },
+    /// `[constructor]resource`
+    Constructor {
+        resource: &'a str,
+    },
+    /// `namespace:package/interface`, and after it `@version` where there is one.
+    Interface {
+        namespace: &'a str,
+        package: &'a str,
+        interface: &'a str,
+        version: Option<&'a str>,
+    },
+}
+
+/// The name of an import, of an export or of an instance's item: a plain label, a method, a static
+/// function or the constructor of a resource, or an interface with or without a version.
+///
+/// Contracts see an extern name as the bytes of its text, which are an extern name by the grammar
+/// of Explainer.md, "Import and Export Definitions".
+#[derive(Drop)]
+pub struct ExternName {
+    text: Rc<String>,
+}
+
+impl Model for ExternName {
+    ghost use Rattle.std.specs.Prelude.{◌≡◌, ℕ, List, true};
+    ghost use Rattle.std.specs.String.{string_bytes};
+    ghost use Rattle.cm_types.specs.ExternNames.{is_extern_name};
+
+    ghost Value = { List ℕ };
+
+    ghost view = { λ name. string_bytes name.text.value };
+
+    ghost invariant = { λ name. is_extern_name (string_bytes name.text.value) ≡ true };
+}
+
+impl ExternName {
+    ghost use Rattle.std.specs.Prelude.{true};
+    ghost use Rattle.std.specs.Str.{is_utf8};
+    ghost use Rattle.cm_types.specs.ExternNames.{is_extern_name, IsExternName};
+    ghost use Rattle.cm_types.specs.declared.names.NameFault.TheVariants as name_fault;
+
+    /// The text as an extern name.
+    ///
+    /// A text that is none is refused with the fault of the smallest number: `Empty` where it or a
+    /// part that its form wants is empty or missing, `BadFragment` where a part is no label,
+    /// `BadAnnotation` where it begins with `[` and not with `[method]` or `[static]` and two parts
+    /// at a dot, or with `[constructor]`, and `BadVersion` where what follows `@` is no version.
+    /// A text with `:`, `/` or `@` is read as an interface name. `Memory` comes where the copy of
+    /// the text or the reading of its version finds no memory: so a faulty text that shows no
+    /// version is refused with its own fault.
+    pub fn parse(alloc: Global, text: &str) -> Result<ExternName, NameFault>
+        ensures text { IfOk result (λ name. name ≡ text.now) }
+        ensures accepted { IfOk result (λ _. IsExternName text.now) }
+        ensures complete { IsExternName text.now → IfErr result (λ e. e ≡ name_fault.Memory) }
+        ensures refused { IfErr result (λ e.
+            (e ≡ name_fault.Memory) ⊎ (extern_name_fault text.now ≡ Some e)) }
+        ensures faulty { (e : NameFault) → extern_name_fault text.now ≡ Some e
+            → version_in text.now ≡ [] → result ≡ Err e }
+    {
+        match extern_name_fault(alloc, text) {
+            Err(AllocError) => Err(NameFault::Memory),
+            Ok(Some(fault)) => Err(fault),
+            Ok(None) => match shared(alloc, text) {
+                Ok(text) => Ok(ExternName { text }),
+                Err(AllocError) => Err(NameFault::Memory),
+            },
+        }
+    }
+
+    /// The text of the name, as it was given.
+    pub fn as_str(&self) -> &str
+        ensures text { result.now ≡ self.now }
+        ensures name { IsExternName result.now }
+    {
+        self.text.as_str()
+    }
+
+    /// The bytes of the name's text.
+    pub fn as_bytes(&self) -> &[u8]
+        ensures bytes { result.now ≡ self.now }
+        ensures utf8 { is_utf8 result.now ≡ true }
+        ensures name { is_extern_name result.now ≡ true }
+    {
+        self.text.as_bytes()
+    }
+
+    /// The form of the name, with its parts: what is spelled as the name, and whose parts are
+    /// labels.
+    pub fn form(&self) -> ExternNameForm<'_>
+        ensures read { form_of self.now ≡ Some (form_tree result) }
+        ensures spelled { name_spelling (form_tree result) ≡ self.now }
+        ensures labels { HasLabels (form_tree result) }
+    {
+        match form_of(self.text.as_str()) {
+            Some(form) => form,
+            None => unreachable!(),
+        }
+    }
+}
+
+impl Clone for ExternName {
+    ghost is_clone = { λ name copy. copy ≡ name };
+
+    /// The same name once more; its text is shared. `AllocError` comes where it is shared too often
+    /// to be counted.
+    fn clone(&self) -> Result<ExternName, AllocError> {
+        let text = self.text.clone()?;
+        Ok(ExternName { text })
+    }
+}
+
+fn least_fault(a: Option<NameFault>, b: Option<NameFault>) -> Option<NameFault>
+    ensures { result ≡ least_fault a b }
+{
+    match (a, b) {
+        (None, other) => other,
+        (Some(fault), None) => Some(fault),
+        (Some(fault), Some(other)) => {
+            if fault.number() <= other.number() {
+                Some(fault)
+            } else {
+                Some(other)
+            }
+        }
+    }
+}
+
+fn is_want_of_memory(error: Error) -> bool
+    ensures { error ≡ memory_error → IsTrue result }
+{
+    error == Error::from(AllocError)
+}
+
+fn reads_as_version(alloc: Global, text: &str) -> Result<bool, AllocError>
+    ensures { IfOk result (λ b. b ≡ is_version text.now) }
+{
+    match Version::parse(alloc, text) {
+        Ok(_) => Ok(true),
+        Err(error) if is_want_of_memory(error) => Err(AllocError),
+        Err(_) => Ok(false),
+    }
+}
+
+fn version_fault(alloc: Global, text: &str) -> Result<Option<NameFault>, AllocError>
+    ensures value { IfOk result (λ f. f ≡ version_fault text.now) }
+    ensures exact { text.now ≡ [] → result ≡ Ok (version_fault text.now) }
+{
+    if text.is_empty() {
+        Ok(Some(NameFault::Empty))
+    } else if reads_as_version(alloc, text)? {
+        Ok(None)
+    } else {
+        Ok(Some(NameFault::BadVersion))
+    }
+}
+
+fn without_front<'a>(text: &'a str, front: &str) -> Option<&'a str>
+    ensures { option_copied result ≡ without_front front.now text.now }
+{
+    text.strip_prefix(front)
+}
+
+fn cut(text: &str, separator: char) -> Option<(&str, &str)>
+    requires { separator < 128 }
+    ensures { pair_view result ≡ cut separator text.now }
+{
+    text.split_once(separator)
+}
+
+fn cut_or_all(text: &str, separator: char) -> (&str, &str)
+    requires { separator < 128 }
+    ensures { (result.0.now, result.1.now) ≡ cut_or_all separator text.now }
+{
+    match cut(text, separator) {
+        Some(parts) => parts,
+        None => (text, ""),
+    }
+}
+
+fn has_interface_mark(text: &str) -> bool
+    ensures { result ≡ list_any is_interface_mark text.now }
+{
+    text.bytes().any(|b| b == b':' || b == b'/' || b == b'@')
+}
+
+fn is_bracketed(text: &str) -> bool
+    ensures { result ≡ is_bracketed text.now }
+{
+    text.starts_with('[')
+}
+
+fn interface_parts<'a>(text: &'a str, version: Option<&'a str>) -> ExternNameForm<'a>
+    ensures { form_tree result ≡ interface_parts (option_copied version.entry) text.now }
+{
+    let (namespace, rest) = cut_or_all(text, ':');
+    let (package, interface) = cut_or_all(rest, '/');
+    ExternNameForm::Interface {
+        namespace,
+        package,
+        interface,
+        version,
+    }
+}
+
+fn interface_of(text: &str) -> ExternNameForm<'_>
+    ensures { form_tree result ≡ interface_of text.now }
+{
+    match cut(text, '@') {
+        Some((name, version)) => interface_parts(name, Some(version)),
+        None => interface_parts(text, None),
+    }
+}
+
+fn unannotated_form(text: &str) -> Option<ExternNameForm<'_>>
+    ensures { option_map form_tree result ≡ unannotated_form text.now }
+{
+    if is_bracketed(text) {
+        None
+    } else if has_interface_mark(text) {
+        Some(interface_of(text))
+    } else {
+        Some(ExternNameForm::Label(text))
+    }
+}
+
+fn method_of(text: &str) -> Option<ExternNameForm<'_>>
+    ensures { option_map form_tree result ≡ member method text.now }
+{
+    let (resource, method) = cut(text, '.')?;
+    Some(ExternNameForm::Method { resource, method })
+}
+
+fn static_of(text: &str) -> Option<ExternNameForm<'_>>
+    ensures { option_map form_tree result ≡ member static text.now }
+{
+    let (resource, function) = cut(text, '.')?;
+    Some(ExternNameForm::Static { resource, function })
+}
+
+fn form_of(text: &str) -> Option<ExternNameForm<'_>>
+    ensures { option_map form_tree result ≡ form_of text.now }
+{
+    if let Some(rest) = without_front(text, "[method]") {
+        method_of(rest)
+    } else if let Some(rest) = without_front(text, "[static]") {
+        static_of(rest)
+    } else if let Some(resource) = without_front(text, "[constructor]") {
+        Some(ExternNameForm::Constructor { resource })
+    } else {
+        unannotated_form(text)
+    }
+}
+
+fn labels_fault(form: &ExternNameForm<'_>) -> Option<NameFault>
+    ensures { result ≡ labels_fault (form_tree form.now) }
+{
+    match form {
+        ExternNameForm::Label(label) => label_fault(label),
+        ExternNameForm::Method { resource, method } => least_fault(
+            label_fault(resource),
+            label_fault(method),
+        ),
+        ExternNameForm::Static { resource, function } => least_fault(
+            label_fault(resource),
+            label_fault(function),
+        ),
+        ExternNameForm::Constructor { resource } => label_fault(resource),
+        ExternNameForm::Interface {
+            namespace,
+            package,
+            interface,
+            ..
+        } => least_fault(
+            label_fault(namespace),
+            least_fault(label_fault(package), label_fault(interface)),
+        ),
+    }
+}
+
+fn parts_fault(alloc: Global, form: &ExternNameForm<'_>) -> Result<Option<NameFault>, AllocError>
+    ensures value { IfOk result (λ f. f ≡ parts_fault (form_tree form.now)) }
+    ensures exact { version_text (form_tree form.now) ≡ []
+        → result ≡ Ok (parts_fault (form_tree form.now)) }
+{
+    let labels = labels_fault(form);
+    match form {
+        ExternNameForm::Interface {
+            version: Some(version),
+            ..
+        } => Ok(least_fault(labels, version_fault(alloc, version)?)),
+        _ => Ok(labels),
+    }
+}
+
+fn extern_name_fault(alloc: Global, text: &str) -> Result<Option<NameFault>, AllocError>
+    ensures value { IfOk result (λ f. f ≡ extern_name_fault text.now) }
+    ensures exact { version_in text.now ≡ [] → result ≡ Ok (extern_name_fault text.now) }
+{
+    match form_of(text) {
+        Some(form) => parts_fault(alloc, &form),
+        None => Ok(Some(NameFault::BadAnnotation)),
+    }
+}

@@ -1,0 +1,9 @@
+use Rattle.std.proofs.Common.{◌≡◌, map}
+use Rattle.cm_types.specs.TypeTrees.{case_of}
+use Rattle.cm_types_arena.specs.Arena.{types_in}
+use Rattle.cm_types_arena.specs.TypeDefs.{case_def_type}
+use Rattle.cm_types_arena.proofs.building.build_cases.Given as goal
+
+-- those that are made so far are of the definitions so far
+abbrev pub invariant-loop-def : goal.invariant-loop-def
+invariant-loop-def l = map case_of l.cases.items ≡ map (case_def_type (types_in l.entries)) l.yielded

@@ -1,0 +1,72 @@
+-- What an insertion of a key without a number makes of a table.
+use Rattle.std.proofs.Common.{◌≡◌, ℕ, ◌+◌, ◌<◌, Bool, true, false, cond, List, Option, Some, None, Result, Ok, Err, refl, sym, ap, subst, ◌∙◌, arith}
+use Rattle.std.specs.Prelude.{OnOk, IfOk, OnErr, if◌then◌else◌, is_some, String, string_bytes}
+use Rattle.std.specs.String.{string_cmp}
+use Rattle.std.specs.Str.{bytes_eq}
+use Rattle.std.specs.Cmp.Lexicographic.{slice_cmp}
+use Rattle.std.specs.declared.cmp.Ordering.{Ordering}
+use Rattle.std.specs.declared.cmp.Ordering.TheVariants.{Less, Equal, Greater}
+use Rattle.std.specs.Ordering.{is_eq, nat_cmp}
+use Rattle.std.specs.declared.alloc.Global.{Global}
+use Rattle.std.specs.BTreeMap.{BTreeMap, get, get_by_text, btree_map_len, IsUnchanged, Updates, UpdatesBy}
+use Rattle.std.specs.Map.{lookup}
+use Rattle.std.proofs.Common.{length}
+use Rattle.std.proofs.lemmas.Map.Text.{btree_map_updates_text}
+use Rattle.std.proofs.lemmas.Slice.Eq.{bytes_eq-Decides}
+use Rattle.cm_types_numbers.specs.declared.key.Key.{Key}
+use Rattle.cm_types_numbers.specs.Tables.{key_order, IsOneToOne, KeepsNumbers}
+use Rattle.cm_types_numbers.proofs.Orders.{exact_key}
+use Rattle.cm_types_numbers.proofs.Additions.{one_to_one_more, keeps_more}
+
+-- a table with this lookup and count has one more key than one with that lookup
+pub record GoesOn {K : Type 0} (old new : K → Option ℕ) (count : ℕ) : Type 0 where
+  pub one_to_one : IsOneToOne new count
+  pub kept : KeepsNumbers old new
+
+same_entries : {K X : Type 0} (m n : BTreeMap K X) → IsUnchanged m n → btree_map_len n ≡ btree_map_len m
+same_entries m n e = ap length e
+
+is_equal : (o : Ordering) → is_eq o ≡ true → o ≡ Equal
+is_equal Less e = absurd cc
+is_equal Equal e = refl
+is_equal Greater e = absurd cc
+
+one_more : (n m : ℕ) (old : Option ℕ) (here : Option ℕ) → old ≡ here → here ≡ None → n ≡ m + (if is_some old then 0 else 1) → n ≡ m + 1
+one_more n m old here is none long = let same : old ≡ None = is ∙ none in long ∙ ap (λ (o : Option ℕ). m + (if is_some o then 0 else 1)) same
+
+pub node_inserted : {E : Type 0} (m n : BTreeMap Key ℕ) (key : Key) (next : ℕ) (r : Result (Option ℕ) E) → next ≡ btree_map_len m → get key_order m key ≡ None → IsOneToOne (get key_order m) (btree_map_len m)
+    → IfOk r (λ old. old ≡ get key_order m key)
+    → OnOk r (Updates key_order m n key (Some next))
+    → IfOk r (λ old. btree_map_len n ≡ btree_map_len m + (if is_some old then 0 else 1))
+    → OnErr r (IsUnchanged m n) → GoesOn (get key_order m) (get key_order n) (btree_map_len n)
+node_inserted m n key next (Ok v) is none was old updates long same =
+    let told = subst (λ (i : ℕ). Updates key_order m n key (Some i)) is updates in
+    let exact : (q : Key) → is_eq (key_order key q) ≡ true → key ≡ q = λ q e. exact_key key q (is_equal (key_order key q) e) in
+    let count = one_more (btree_map_len n) (btree_map_len m) v (get key_order m key) old none long in
+    record {
+      one_to_one = subst (λ (k : ℕ). IsOneToOne (get key_order n) k) (sym count) (one_to_one_more (get key_order m) (get key_order n) (btree_map_len m) key (λ q. is_eq (key_order key q)) exact told.0 none was);
+      kept = keeps_more (get key_order m) (get key_order n) (btree_map_len m) key (λ q. is_eq (key_order key q)) exact told.0 none was;
+    }
+node_inserted m n key next (Err e) is none was old updates long same = record {
+  one_to_one = subst (λ (es : List (Key × ℕ)). IsOneToOne (λ k. lookup (λ q. is_eq (key_order k q)) es) (length es)) (sym same) was;
+  kept = λ k i is. subst (λ (es : List (Key × ℕ)). lookup (λ q. is_eq (key_order k q)) es ≡ Some i) (sym same) is;
+}
+
+pub text_inserted : {E : Type 0} (m n : BTreeMap (String Global) ℕ) (text : List ℕ) (copy : String Global) (next : ℕ) (r : Result (Option ℕ) E) → next ≡ btree_map_len m → string_bytes copy ≡ text → get_by_text m text ≡ None → IsOneToOne (get_by_text m) (btree_map_len m)
+    → IfOk r (λ old. old ≡ get_by_text m (string_bytes copy))
+    → OnOk r (UpdatesBy string_cmp (λ k. slice_cmp nat_cmp (string_bytes copy) (string_bytes k)) m n (Some next))
+    → IfOk r (λ old. btree_map_len n ≡ btree_map_len m + (if is_some old then 0 else 1))
+    → OnErr r (IsUnchanged m n) → GoesOn (get_by_text m) (get_by_text n) (btree_map_len n)
+text_inserted m n text copy next (Ok v) is bytes none was old updates long same =
+    let here : get_by_text m (string_bytes copy) ≡ None = ap (get_by_text m) bytes ∙ none in
+    let exact : (q : List ℕ) → bytes_eq (string_bytes copy) q ≡ true → string_bytes copy ≡ q = λ q e. (bytes_eq-Decides (string_bytes copy) q).0 e in
+    let count = one_more (btree_map_len n) (btree_map_len m) v (get_by_text m (string_bytes copy)) old here long in
+    let changes = btree_map_updates_text (string_bytes copy) m n (Some (btree_map_len m)) (subst (λ (i : ℕ). UpdatesBy string_cmp (λ k. slice_cmp nat_cmp (string_bytes copy) (string_bytes k)) m n (Some i)) is updates) in
+    record {
+      one_to_one = subst (λ (k : ℕ). IsOneToOne (get_by_text n) k) (sym count) (one_to_one_more (get_by_text m) (get_by_text n) (btree_map_len m) (string_bytes copy) (bytes_eq (string_bytes copy)) exact changes here was);
+      kept = keeps_more (get_by_text m) (get_by_text n) (btree_map_len m) (string_bytes copy) (bytes_eq (string_bytes copy)) exact changes here was;
+    }
+text_inserted m n text copy next (Err e) is bytes none was old updates long same = record {
+  one_to_one = subst (λ (es : List (String Global × ℕ)). IsOneToOne (λ bs. lookup (λ k. is_eq (slice_cmp nat_cmp bs (string_bytes k))) es) (length es)) (sym same) was;
+  kept = λ bs i is. subst (λ (es : List (String Global × ℕ)). lookup (λ k. is_eq (slice_cmp nat_cmp bs (string_bytes k))) es ≡ Some i) (sym same) is;
+}

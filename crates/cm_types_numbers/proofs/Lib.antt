@@ -1,0 +1,17 @@
+mod Orders
+mod Additions
+mod Insertions
+mod Places
+mod Stays
+mod Tells
+mod Seen
+mod Steps
+mod ChainLemmas
+mod Blank
+mod NodeLemmas
+mod ArenaLemmas
+mod KnownLaws
+mod KnownFuncs
+mod PlacedNumbersOrders
+mod PlacedNumbersStays
+mod PlacedNumbersKnownLaws

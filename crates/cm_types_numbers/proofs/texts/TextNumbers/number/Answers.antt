@@ -1,0 +1,17 @@
+use Rattle.std.proofs.Common.{sym, ap, ◌∙◌, None, ◌≡◌}
+use Rattle.std.specs.Option.{option_copied}
+use Rattle.std.specs.BTreeMap.{get_by_text}
+use Rattle.cm_types_numbers.proofs.Insertions.{text_inserted}
+use Rattle.cm_types_numbers.proofs.texts.TextNumbers.number.Goals as goal
+
+pub invariant_of-self : goal.invariant_of-self
+invariant_of-self c =
+    let none : get_by_text c.args.self.now.numbers c.args.text.now ≡ None = sym c.get.ensures.value ∙ ap option_copied c.in_default.is in
+    let e = c.insert.ensures in
+    record { one_to_one = (text_inserted c.args.self.now.numbers c.insert.new.self c.args.text.now c.in_ok-copy.copy c.len-next.result c.insert.result c.len-next.ensures.len c.in_ok-copy.ensures.ok none c.args.self.now.one_to_one e.old e.updates e.len e.err).one_to_one }
+
+pub returns-clause-kept : goal.returns-clause-kept
+returns-clause-kept c =
+    let none : get_by_text c.args.self.now.numbers c.args.text.now ≡ None = sym c.get.ensures.value ∙ ap option_copied c.in_default.is in
+    let e = c.insert.ensures in
+    (text_inserted c.args.self.now.numbers c.insert.new.self c.args.text.now c.in_ok-copy.copy c.len-next.result c.insert.result c.len-next.ensures.len c.in_ok-copy.ensures.ok none c.args.self.now.one_to_one e.old e.updates e.len e.err).kept

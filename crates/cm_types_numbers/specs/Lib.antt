@@ -1,0 +1,5 @@
+pub mod Tables
+pub mod Numbering
+pub mod Knowing
+pub mod Moved
+pub mod PlacedNumbersTables

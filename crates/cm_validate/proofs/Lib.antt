@@ -1,3 +1,0 @@
-mod WalkLaws
-pub mod TySets
-pub mod SetLaws

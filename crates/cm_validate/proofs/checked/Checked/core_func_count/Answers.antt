@@ -1,6 +1,0 @@
-use Rattle.cm_validate.specs.Checked.{spaces_in}
-use Rattle.cm_validate.proofs.SetLaws.{held, number_set}
-use Rattle.cm_validate.proofs.checked.Checked.core_func_count.Goals as goal
-
-pub returns : goal.returns
-returns c = held number_set _ _ c.args.self.now.indexed (c.core_func_count.ensures (spaces_in c.args.self.now))

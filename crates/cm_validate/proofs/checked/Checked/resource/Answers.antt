@@ -1,6 +1,0 @@
-use Rattle.cm_validate.specs.Checked.{spaces_in}
-use Rattle.cm_validate.proofs.SetLaws.{held, resource_set}
-use Rattle.cm_validate.proofs.checked.Checked.resource.Goals as goal
-
-pub returns : goal.returns
-returns c = held resource_set _ _ c.args.self.now.indexed (c.resource.ensures (spaces_in c.args.self.now))

@@ -1,0 +1,5 @@
+mod PassingLaws
+mod ReasonLaws
+mod AnswerLaws
+mod FirstLaws
+mod PlacedLaws

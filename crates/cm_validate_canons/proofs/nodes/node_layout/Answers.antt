@@ -1,0 +1,71 @@
+use Rattle.std.proofs.Common.{◌≡◌, ◌≤◌, ◌∙◌, map, arith, ap, refl, sym, rules, Option, Some, None, is_some, Vec, Global}
+use Rattle.std.specs.declared.rc.Rc.{Rc}
+use Rattle.std.proofs.lemmas.Result.{IfOk-weaker}
+use Rattle.cm_types.specs.Limits.{nodes_of, nodes_of_fields}
+use Rattle.cm_types.specs.declared.limits.TheConstants.{MAX_NODES}
+use Rattle.cm_types.specs.TypeTrees.{type_of, fields_of, parts_of, shared_payload}
+use Rattle.cm_types.specs.Types.{Ty, Fields, FieldsKind, fields, record_type, tuple_type, cases, option_type, result_type}
+use Rattle.cm_types.specs.declared.type_trees.TypeNode.{TypeNode, the_lemmas}
+use Rattle.cm_types.specs.declared.type_trees.TypeNode.TheViews as node
+use Rattle.cm_types.specs.declared.type_trees.Field.{Field}
+use Rattle.cm_layout.specs.Layouts.{layout_of}
+use Rattle.cm_layout.specs.Shapes.{layout_at}
+use Rattle.cm_types_arena.specs.Arena.{field_types, payload_types}
+use Rattle.cm_validate_canons.specs.Placed.{AreOf, option_cases, result_cases}
+use Rattle.cm_validate_canons.proofs.nodes.node_layout.Goals as goal
+
+seen_Record : (v : Rc (Vec Field Global) Global) → type_of (node.Record v) ≡ fields record_type (fields_of v.value.items)
+seen_Record v = search (rules, the_lemmas)
+
+seen_Tuple : (v : Rc (Vec TypeNode Global) Global) → type_of (node.Tuple v) ≡ fields tuple_type (parts_of v.value.items)
+seen_Tuple v = search (rules, the_lemmas)
+
+seen_Option : (b : Rc TypeNode Global) → type_of (node.Option b) ≡ cases option_type (option_cases (type_of b.value))
+seen_Option b = search (rules, the_lemmas)
+
+seen_Result : (ok error : Option (Rc TypeNode Global)) → type_of (node.Result ok error) ≡ cases result_type (result_cases (shared_payload ok) (shared_payload error))
+seen_Result ok error = search (rules, the_lemmas)
+
+same_some : (o : Option (Rc TypeNode Global)) → is_some (shared_payload o) ≡ is_some o
+same_some None = refl
+same_some (Some b) = refl
+
+pub option_layout-requires : goal.option_layout-requires
+option_layout-requires c =
+    let is = ap type_of c.in-Option.is ∙ seen_Option c.in-Option.field-0 in
+    (type_of c.in-Option.field-0.value, rw is at c.requires.within, rw is at c.requires.parts)
+
+pub returns-in-Result : goal.returns-in-Result
+returns-in-Result c =
+    let ls = map layout_of c.args.layouts.now in
+    let ok = shared_payload c.in-Result.ok in
+    let error = shared_payload c.in-Result.error in
+    let is = ap type_of c.in-Result.is ∙ seen_Result c.in-Result.ok c.in-Result.error in
+    rw is (IfOk-weaker c.result_layout.result
+    (λ l. (p q : Option Ty) → nodes_of (cases result_type (result_cases p q)) ≤ MAX_NODES → is_some p ≡ c.is_some.result → is_some q ≡ c.is_some-in-Result.result
+    → AreOf ls c.args.places.now (payload_types (result_cases p q)) → layout_of l ≡ layout_at (cases result_type (result_cases p q)))
+    (λ l. layout_of l ≡ layout_at (cases result_type (result_cases ok error)))
+    (λ l f. f ok error (rw is at c.requires.within) (same_some c.in-Result.ok ∙ sym c.is_some.ensures) (same_some c.in-Result.error ∙ sym c.is_some-in-Result.ensures) (rw is at c.requires.parts))
+    c.result_layout.ensures)
+
+pub returns-in-Record : goal.returns-in-Record
+returns-in-Record c =
+    let ls = map layout_of c.args.layouts.now in
+    let all = fields_of c.in-Record._fields.value.items in
+    let is = ap type_of c.in-Record.is ∙ seen_Record c.in-Record._fields in
+    rw is (IfOk-weaker c.fields_layout.result
+    (λ l. (k : FieldsKind) (fs : Fields) → nodes_of_fields fs ≤ MAX_NODES → AreOf ls c.args.places.now (field_types fs) → layout_of l ≡ layout_at (fields k fs))
+    (λ l. layout_of l ≡ layout_at (fields record_type all))
+    (λ l f. f record_type all (omega (arith, rw is at c.requires.within)) (rw is at c.requires.parts))
+    c.fields_layout.ensures)
+
+pub returns-in-Tuple : goal.returns-in-Tuple
+returns-in-Tuple c =
+    let ls = map layout_of c.args.layouts.now in
+    let all = parts_of c.in-Tuple._parts.value.items in
+    let is = ap type_of c.in-Tuple.is ∙ seen_Tuple c.in-Tuple._parts in
+    rw is (IfOk-weaker c.fields_layout-in-Tuple.result
+    (λ l. (k : FieldsKind) (fs : Fields) → nodes_of_fields fs ≤ MAX_NODES → AreOf ls c.args.places.now (field_types fs) → layout_of l ≡ layout_at (fields k fs))
+    (λ l. layout_of l ≡ layout_at (fields tuple_type all))
+    (λ l f. f tuple_type all (omega (arith, rw is at c.requires.within)) (rw is at c.requires.parts))
+    c.fields_layout-in-Tuple.ensures)

@@ -1,0 +1,4 @@
+pub mod Passing
+pub mod Types
+pub mod Spaces
+pub mod Placed

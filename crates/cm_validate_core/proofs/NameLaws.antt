@@ -1,0 +1,40 @@
+-- What stands under a name, in a map and in the list of its entries.
+use Rattle.std.proofs.Common.{◌≡◌, ℕ, Bool, true, false, cond, List, [], ◌∷◌, map, Some, refl, sym, ◌∙◌, IfSome}
+use Rattle.std.proofs.lemmas.Slice.Eq.{bytes_eq-Decides}
+use Rattle.std.specs.Borrow.{Bor}
+use Rattle.std.specs.Map.{lookup}
+use Rattle.std.specs.Option.{option_map}
+use Rattle.std.specs.Str.{bytes_eq}
+use Rattle.cm_validate_model.specs.Definitions.{CoreFuncDef}
+use Rattle.cm_validate_model.specs.Spaces.{core_def_named}
+use Rattle.cm_validate_core.specs.declared.entries.CoreItem.{CoreItem}
+use Rattle.cm_validate_core.specs.Entries.{def_of, named_def}
+use Rattle.cm_validate_core.specs.CoreSpaces.{AreItemsNumbered, IsItemNumbered, MemoryNames}
+
+same_text : (x y : List ℕ) → bytes_eq x y ≡ true → bytes_eq y x ≡ true
+same_text x y e = (bytes_eq-Decides y x).1 (sym ((bytes_eq-Decides x y).0 e))
+
+pub texts_either_way : (x y : List ℕ) → bytes_eq x y ≡ bytes_eq y x
+texts_either_way x y = by (bytes_eq x y) (bytes_eq y x) refl refl
+  where
+    by : (a b : Bool) → bytes_eq x y ≡ a → bytes_eq y x ≡ b → a ≡ b
+    by true true e f = refl
+    by false false e f = refl
+    by true false e f = sym (same_text x y e) ∙ f
+    by false true e f = sym e ∙ same_text y x f
+
+pub named_law : (made : ℕ → CoreFuncDef) (name : List ℕ) (es : List (Bor (List ℕ) × CoreItem)) → option_map (def_of made) (lookup (λ k. bytes_eq name k.now) es) ≡ core_def_named (map (named_def made) es) name
+named_law made name [] = refl
+named_law made name (e ∷ es) = rw (texts_either_way e.0.now name) (here (named_law made name es) (bytes_eq name e.0.now))
+  where
+    here : option_map (def_of made) (lookup (λ k. bytes_eq name k.now) es) ≡ core_def_named (map (named_def made) es) name → (t : Bool) → option_map (def_of made) (cond t (Some e.1) (lookup (λ k. bytes_eq name k.now) es)) ≡ cond t (Some (def_of made e.1)) (core_def_named (map (named_def made) es) name)
+    here rest true = refl
+    here rest false = rest
+
+pub numbered_law : (names : MemoryNames) (name : List ℕ) (es : List (Bor (List ℕ) × CoreItem)) → AreItemsNumbered names es → IfSome (lookup (λ k. bytes_eq name k.now) es) (IsItemNumbered names)
+numbered_law names name [] a = tt
+numbered_law names name (e ∷ es) a = here (numbered_law names name es a.1) (bytes_eq name e.0.now)
+  where
+    here : IfSome (lookup (λ k. bytes_eq name k.now) es) (IsItemNumbered names) → (t : Bool) → IfSome (cond t (Some e.1) (lookup (λ k. bytes_eq name k.now) es)) (IsItemNumbered names)
+    here rest true = a.0
+    here rest false = rest

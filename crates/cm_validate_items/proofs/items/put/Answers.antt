@@ -1,0 +1,12 @@
+use Rattle.std.proofs.Common.{ap, cond, ◌∙◌, List, ℕ, Some}
+use Rattle.std.proofs.lemmas.Map.Text.{btree_map_updates_text}
+use Rattle.std.specs.BTreeMap.{get_by_text}
+use Rattle.std.specs.Str.{bytes_eq}
+use Rattle.std.specs.String.{string_bytes}
+use Rattle.cm_validate_items.proofs.items.put.Goals as goal
+
+pub returns : goal.returns
+returns c = λ q.
+    let e = c.in_ok-key.ensures.ok ∙ c.as_str.ensures.text in
+    btree_map_updates_text (string_bytes c.in_ok-key.key) c.args.named.now c.insert.new.self _ c.in_ok-insert.ensures.updates q
+    ∙ ap (λ (t : List ℕ). cond (bytes_eq t q) (Some (c.args.number, c.args.item.now.desc)) (get_by_text c.args.named.now q)) e

@@ -1,0 +1,55 @@
+//! The names of the imports, or of the exports, before a place in a component.
+
+use crate::forms::{ExternSort, form_fault};
+use crate::names::FoldedName;
+use cm_validate_model::ValidReason;
+use cm_validate_model::laws::least_of_both;
+use cm_validate_type_rules::{broken_unless, lesser};
+use std::alloc::{AllocError, Global};
+use std::collections::BTreeSet;
+
+/// Names without ASCII case. Each is found in a tree, so that no choice of names makes it slower
+/// than the logarithm of their number, with the time that it takes to compare two names.
+#[derive(Drop)]
+pub struct NameSet {
+    folded: BTreeSet<String>,
+}
+
+impl NameSet {
+    ghost use Rattle.std.specs.Prelude.{◌≡◌, ◌++◌, ◌∷◌, [], OnErr, OnOk};
+    ghost use Rattle.cm_validate_model.specs.Reasons.{least};
+    ghost use Rattle.cm_validate_names.specs.Forms.{form_broken};
+    ghost use Rattle.cm_validate_names.specs.NameSets.{Knows, KnowsMore, known_broken, name_of};
+
+    /// No names.
+    pub fn new(alloc: Global) -> NameSet
+        ensures { Knows result [] }
+    {
+        NameSet {
+            folded: BTreeSet::new(alloc),
+        }
+    }
+
+    /// What a name of a function, or of an instance, breaks after these: `DuplicateName` where one
+    /// of them is the same, ASCII case aside; else `BadAnnotatedName` where a function's is no
+    /// label, or an instance's neither a label nor the name of an interface (Explainer.md, "Import
+    /// and Export Definitions"). It costs one look-up.
+    pub fn fault(&self, name: &FoldedName, sort: ExternSort) -> Option<ValidReason>
+        ensures { result ≡ least (form_broken sort (name_of name.now)
+            ++ known_broken (name_of name.now) self.now) }
+    {
+        least_of_both();
+        let form = form_fault(&name.name, sort);
+        let is_new = !self.folded.contains(name.folded.as_str());
+        lesser(form, broken_unless(is_new, ValidReason::DuplicateName))
+    }
+
+    /// Adds a name. Refused only where there is no memory; nothing is changed then.
+    pub fn add(&mut self, name: FoldedName) -> Result<(), AllocError>
+        ensures added { OnOk result (KnowsMore self.old self.new (name_of name ∷ [])) }
+        ensures kept { OnErr result (KnowsMore self.old self.new []) }
+    {
+        self.folded.insert(name.folded)?;
+        Ok(())
+    }
+}

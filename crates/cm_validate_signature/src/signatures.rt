@@ -1,0 +1,31 @@
+//! Signatures of valid components.
+
+ghost use Rattle.std.specs.Prelude.{◌≡◌, IfOk};
+ghost use Rattle.cm_types_placed.specs.Signatures.{signature_of};
+ghost use Rattle.cm_validate_spaces.specs.Checked.{spaces_in};
+ghost use Rattle.cm_validate_signature.specs.Exports.{signature_in};
+
+use crate::externs::exported_externs;
+use cm_types_placed::Signature;
+use cm_validate_items::Shared;
+use cm_validate_spaces::{Checked, ComponentExterns};
+use std::alloc::{AllocError, Global};
+
+/// What a valid component imports and exports, in the order of its file (Explainer.md, "Import and
+/// Export Definitions"). The component is taken over: its arena and its imports are not copied.
+/// `AllocError` comes where there is no memory.
+///
+/// The items of an instance are made once, however many exports are that instance: these share
+/// them.
+pub fn signature(alloc: Global, checked: Checked<'_>) -> Result<Signature, AllocError>
+    ensures { IfOk result (λ s. signature_of s ≡ signature_in (spaces_in checked.entry)) }
+{
+    let shared = Shared::new(alloc, checked.component())?;
+    let ComponentExterns {
+        types,
+        imports,
+        exports,
+    } = checked.into_externs();
+    let exports = exported_externs(alloc, &shared, &exports)?;
+    Ok(Signature::new(types, imports, exports))
+}

@@ -1,0 +1,47 @@
+//! What definitions break besides the limits on expanded types.
+
+use crate::level::SketchLevel;
+use cm_types::{DefValType, FuncType};
+use cm_validate_model::ValidReason;
+use cm_validate_model::laws::least_of_both;
+use cm_validate_types::{broken_unless, lesser, params_fault, parts_fault, uses_fault};
+use std::alloc::{AllocError, Global};
+
+impl SketchLevel {
+    ghost use Rattle.std.specs.Prelude.{◌≡◌, IfOk};
+    ghost use Rattle.cm_types.specs.DefTypes.{def_val_type_tree, func_type_tree};
+    ghost use Rattle.cm_validate_model.specs.Reasons.{least};
+    ghost use Rattle.cm_validate_sketches.specs.Faults.{func_def_faults, value_def_faults};
+    ghost use Rattle.cm_validate_sketches.specs.Levels.{sketches_of};
+
+    /// What a definition of a value type breaks besides the limits: the reason with the smallest
+    /// number, or none. `AllocError` comes where there is no memory to compare labels; each is
+    /// folded and looked up once.
+    pub fn value_def_fault(
+        &self,
+        alloc: Global,
+        def: &DefValType,
+    ) -> Result<Option<ValidReason>, AllocError>
+        ensures { IfOk result (λ r. r ≡ least
+            (value_def_faults (sketches_of self.now) (def_val_type_tree def.now))) }
+    {
+        parts_fault(alloc, self.sorts(), def)
+    }
+
+    /// The same of the type of a function.
+    pub fn func_def_fault(
+        &self,
+        alloc: Global,
+        func: &FuncType,
+    ) -> Result<Option<ValidReason>, AllocError>
+        ensures { IfOk result (λ r. r ≡ least
+            (func_def_faults (sketches_of self.now) (func_type_tree func.now))) }
+    {
+        least_of_both();
+        let uses = uses_fault(self.sorts(), func);
+        let twice = params_fault(alloc, func)?;
+        let borrowed = self.are_used(func) && self.payload_holds(func.result);
+        let borrow = broken_unless(!borrowed, ValidReason::BorrowInResult);
+        Ok(lesser(lesser(uses, twice), borrow))
+    }
+}

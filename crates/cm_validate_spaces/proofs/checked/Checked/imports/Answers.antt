@@ -1,0 +1,9 @@
+use Rattle.cm_validate_spaces.specs.Checked.{spaces_in}
+use Rattle.cm_validate_spaces.proofs.SetLaws.{held, imports_set, test_set}
+use Rattle.cm_validate_spaces.proofs.checked.Checked.imports.Goals as goal
+
+pub returns-clause-are : goal.returns-clause-are
+returns-clause-are c = held imports_set _ _ c.args.self.now.indexed (c.imports.ensures.are (spaces_in c.args.self.now))
+
+pub returns-clause-there : goal.returns-clause-there
+returns-clause-there c = held test_set _ _ c.args.self.now.indexed (c.imports.ensures.there (spaces_in c.args.self.now))

@@ -1,0 +1,29 @@
+//! Valid components of every form: the index spaces of a whole component, and what each index
+//! stands for; or its first fault.
+//!
+//! All index spaces of a component of every form: what each item breaks, and the spaces after it.
+#![tactic(auto)]
+
+mod canons;
+mod checked;
+mod checking;
+mod core_items;
+mod entries;
+mod exported;
+mod index_spaces_items;
+mod items;
+mod made;
+mod parts;
+mod spaces;
+mod types;
+mod walk;
+
+pub use checked::Checked;
+pub use checking::validate;
+pub use cm_validate_core::GuestExport;
+pub use cm_validate_entries::{ExportEntry, ExportedEntry, FuncEntry, InstanceEntry, MemberEntry};
+pub use cm_validate_items::Resource;
+pub use cm_validate_model::{ValidFault, ValidReason};
+pub use entries::{ComponentEntries, ComponentExterns};
+pub use made::{CoreFuncEntry, MadeFunc};
+pub use spaces::IndexSpaces;

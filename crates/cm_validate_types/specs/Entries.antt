@@ -1,0 +1,55 @@
+-- What the entries of a scope stand for, among the types of an arena.
+use Rattle.std.specs.Prelude.{ℕ, Bool, true, List, length}
+use Rattle.std.specs.List.{list_all}
+use Rattle.cm_types.specs.Types.{Ty, FuncTy}
+use Rattle.cm_types_arena.specs.TypeDefs.{type_at}
+use Rattle.cm_types_placed.specs.Instances.{items_of, are_items_there}
+use Rattle.cm_types_placed.specs.Placed.{placed_type, placed_func, is_there}
+use Rattle.cm_types_placed.specs.declared.instances.InstanceType.{InstanceType}
+use Rattle.cm_validate_model.specs.Definitions.{TypeDef, value, func_type, resource, instance_type}
+use Rattle.cm_validate_model.specs.Definitions.{InstanceTy}
+use Rattle.cm_validate_model.specs.declared.sorts.TypeSort.{TypeSort}
+use Rattle.cm_validate_model.specs.declared.sorts.TypeSort.TheVariants as sort
+use Rattle.cm_validate_items.specs.InstanceTypes.{instance_type_of}
+use Rattle.cm_validate_types.specs.declared.entries.TypeEntry.{TypeEntry}
+use Rattle.cm_validate_types.specs.declared.entries.TypeEntry.TheVariants as entry
+
+-- ---- what they stand for
+
+-- the type of an instance (Explainer.md, "Instance Types")
+abbrev pub instance_of : List Ty → List FuncTy → InstanceType → InstanceTy
+instance_of types funcs i =
+    record { items = items_of types funcs i.items.items; first = i.first; fresh = i.fresh }
+
+-- what an index of a type stands for (Explainer.md, "Index Spaces")
+abbrev pub def_of : List Ty → List FuncTy → TypeEntry → TypeDef
+def_of types funcs (entry.Value p) = value (placed_type types p)
+def_of types funcs (entry.Func p) = func_type (placed_func funcs p)
+def_of types funcs (entry.Resource n) = resource n
+def_of types funcs (entry.Instance i) =
+    instance_type (instance_of types funcs (instance_type_of i.value))
+
+-- the same, but of a value type the one at its place, with no resource moved
+abbrev pub unmoved_def_of : List Ty → List FuncTy → TypeEntry → TypeDef
+unmoved_def_of types funcs (entry.Value p) = value (type_at types p.place)
+unmoved_def_of types funcs e = def_of types funcs e
+
+-- ---- their sorts
+
+abbrev pub entry_sort : TypeEntry → TypeSort
+entry_sort (entry.Value p) = sort.Value
+entry_sort (entry.Func p) = sort.Func
+entry_sort (entry.Resource n) = sort.Resource
+entry_sort (entry.Instance i) = sort.Instance
+
+-- ---- their places are among so many types, and so many types of functions
+
+abbrev pub is_entry_there : ℕ → ℕ → TypeEntry → Bool
+is_entry_there types funcs (entry.Value p) = is_there types p
+is_entry_there types funcs (entry.Func p) = is_there funcs p
+is_entry_there types funcs (entry.Resource n) = true
+is_entry_there types funcs (entry.Instance i) =
+    are_items_there types funcs (instance_type_of i.value).items.items
+
+abbrev pub in_arena : List Ty → List FuncTy → List TypeEntry → Bool
+in_arena types funcs es = list_all (is_entry_there (length types) (length funcs)) es

@@ -1,8 +1,0 @@
-use Rattle.cm_validity.proofs.SpaceLaws.{before_all, whole}
-use Rattle.cm_validity.proofs.counted_laws.resources_are_counted.Goals as goal
-
-pub returns-clause-before : goal.returns-clause-before
-returns-clause-before c = before_all
-
-pub returns-clause-whole : goal.returns-clause-whole
-returns-clause-whole c = whole

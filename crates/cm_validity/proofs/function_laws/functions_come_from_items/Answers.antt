@@ -1,5 +1,0 @@
-use Rattle.cm_validity.proofs.ItemLaws.{come_from_items}
-use Rattle.cm_validity.proofs.function_laws.functions_come_from_items.Goals as goal
-
-pub returns : goal.returns
-returns c = come_from_items

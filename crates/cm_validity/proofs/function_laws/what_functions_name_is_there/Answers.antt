@@ -1,5 +1,0 @@
-use Rattle.cm_validity.proofs.NamedLaws.{all_whole}
-use Rattle.cm_validity.proofs.function_laws.what_functions_name_is_there.Goals as goal
-
-pub returns : goal.returns
-returns c = λ sections valid. all_whole sections valid (c.functions_come_from_items.ensures sections)

@@ -1,4 +1,0 @@
-pub mod ResourceLaws
-pub mod Seen
-pub mod TypedValueLemmas
-pub mod TypedValueLaws

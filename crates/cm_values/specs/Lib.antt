@@ -1,2 +1,0 @@
-pub mod ValueTrees
-pub mod TypedValues

@@ -1,5 +1,0 @@
-use Rattle.cm_wit.proofs.MentionLaws.{mentions_fit}
-use Rattle.cm_wit.proofs.laws.mentions_are_of_names.Goals as goal
-
-pub returns : goal.returns
-returns c = λ f text e. mentions_fit f text (c.words_are_kept.ensures f text e)

@@ -1,8 +1,0 @@
-use Rattle.std.proofs.Common.{◌++◌}
-use Rattle.std.specs.Prelude.{codes}
-use Rattle.std.specs.String.{string_bytes}
-use Rattle.cm_wit.proofs.PrintLaws.{Prints}
-use Rattle.cm_wit.proofs.names.print_behind_commas.Given as goal
-
-abbrev pub invariant-loop-item : goal.invariant-loop-item
-invariant-loop-item g l = Prints (λ x. codes ", " ++ g.T.Printed.text x) l.items l.item-index (string_bytes l.fn.out) (string_bytes l.out)

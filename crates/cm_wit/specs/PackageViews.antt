@@ -1,7 +1,0 @@
--- The trees that the code's packages are.
-use Rattle.cm_wit_text.specs.Trees.{File}
-use Rattle.cm_wit_text.specs.Views.{file_tree}
-use Rattle.cm_wit.specs.declared.package.Package.{Package}
-
-abbrev pub package_tree : Package → File
-package_tree p = file_tree p.file

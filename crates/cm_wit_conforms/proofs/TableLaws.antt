@@ -1,0 +1,135 @@
+-- Tables of pairs, made entry by entry.
+use Rattle.std.proofs.Common.{◌≡◌, ◌==◌, ◌&&◌, ℕ, ◌+◌, ◌<◌, ◌≤◌, Bool, true, false, cond, if◌then◌else◌, List, ◌∷◌, length, map, drop, get_or, inl, inr, Option, Some, None, refl, sym, ap, ◌∙◌, arith, rules}
+use Rattle.std.specs.BTreeMap.{get}
+use Rattle.std.specs.List.{position_from}
+use Rattle.std.specs.Ordering.{is_eq}
+use Rattle.std.specs.declared.cmp.Ordering.{Ordering}
+use Rattle.std.specs.declared.cmp.Ordering.TheVariants.{Less, Equal, Greater}
+use Rattle.std.specs.Prelude.{is_some, not}
+use Rattle.std.proofs.lemmas.Bool.{cases_Bool}
+use Rattle.std.proofs.lemmas.Bool.Decides.{nat_tests}
+use Rattle.std.proofs.lemmas.List.{drop_all, drop_more}
+use Rattle.cm_types.specs.Resources.{same_resource}
+use Rattle.cm_types.specs.declared.resource.ResourceId.{ResourceId}
+use Rattle.cm_wit_conforms.specs.declared.pairs.Pairs.{Pairs}
+use Rattle.cm_wit_conforms.specs.declared.pairs.ResourceKey.{ResourceKey}
+use Rattle.cm_wit_conforms.specs.Pairs.{key_of, key_order, pair_in, or_else, Notes}
+
+next_element : {A B : Type 0} (view : A → B) (xs : List A) (i : ℕ) (x : A) → i < length xs → x ≡ get_or xs i x → map view (drop i xs) ≡ view x ∷ map view (drop (i + 1) xs)
+next_element {A} view xs i x lt is = ap (map view) (drop_more xs i x lt ∙ ap (λ (a : A). a ∷ drop (i + 1) xs) (sym is))
+
+or_none : (a : Option ℕ) → or_else a None ≡ a
+or_none None = refl
+or_none (Some x) = refl
+
+later : (a : Option ℕ) (t : Bool) (i : ℕ) (rest : Option ℕ) → or_else a (cond t (Some i) rest) ≡ or_else (or_else a (if t then Some i else None)) rest
+later None true i rest = refl
+later None false i rest = refl
+later (Some x) t i rest = refl
+
+-- ---- keys
+
+is_equal : (o : Ordering) → is_eq o ≡ true → o ≡ Equal
+is_equal Less e = absurd cc
+is_equal Equal e = refl
+is_equal Greater e = absurd cc
+
+exact_key : (j k : ResourceKey) → key_order j k ≡ Equal → j ≡ k
+exact_key j k e = search rules
+
+key_self : (k : ResourceKey) → key_order k k ≡ Equal
+key_self k = search rules
+
+both_true : (a b : Bool) → (a && b) ≡ true → (a ≡ true) × (b ≡ true)
+both_true true b e = (refl, e)
+both_true false b e = absurd cc
+
+same_number : (x y : ℕ) → (x == y) ≡ true → x ≡ y
+same_number x y e = grind (arith, nat_tests)
+
+eq_self : (x : ℕ) → (x == x) ≡ true
+eq_self x = grind (arith, nat_tests)
+
+same_is : (r s : ResourceId) → same_resource r s ≡ true → r ≡ s
+same_is r s e =
+    let p = both_true (r.component == s.component) (r.number == s.number) e in
+    ap (λ (c : ℕ). let x : ResourceId = record { component = c; number = r.number } in x) (same_number r.component s.component p.0)
+    ∙ ap (λ (n : ℕ). let x : ResourceId = record { component = s.component; number = n } in x) (same_number r.number s.number p.1)
+
+same_self : (r : ResourceId) → same_resource r r ≡ true
+same_self r = ap (λ (b : Bool). b && (r.number == r.number)) (eq_self r.component) ∙ eq_self r.number
+
+id_of : ResourceKey → ResourceId
+id_of k = record { component = k.component; number = k.number }
+
+key_is : (r s : ResourceId) → key_of r ≡ key_of s → r ≡ s
+unfolding id_of
+key_is r s e = ap id_of e
+
+true_not : true ≡ false → ⊥
+true_not e = cc
+
+other_key : (r s : ResourceId) → same_resource s r ≡ false → is_eq (key_order (key_of r) (key_of s)) ≡ false
+other_key r s n = elim (cases_Bool (is_eq (key_order (key_of r) (key_of s)))) [
+  | inl y ↦ absurd (true_not (sym (ap (λ (x : ResourceId). same_resource s x) (key_is r s (exact_key (key_of r) (key_of s) (is_equal (key_order (key_of r) (key_of s)) y))) ∙ same_self s) ∙ n))
+  | inr m ↦ m
+]
+
+-- ---- one pair
+
+pub notes_present : (place x : ℕ) (pairs : Pairs) (r : ResourceId) → pair_in pairs r ≡ Some x → Notes (λ s. same_resource s r) pairs pairs place
+notes_present place x pairs r has s = elim (cases_Bool (same_resource s r)) [
+  | inl y ↦
+      let here : pair_in pairs s ≡ Some x = ap (pair_in pairs) (same_is s r y) ∙ has in
+      here ∙ sym (ap (λ (o : Option ℕ). or_else o (if same_resource s r then Some place else None)) here)
+  | inr n ↦ sym (ap (λ (b : Bool). or_else (pair_in pairs s) (if b then Some place else None)) n ∙ or_none (pair_in pairs s))
+]
+
+pub notes_new : (place : ℕ) (old new : Pairs) (r : ResourceId) → pair_in old r ≡ None → ((q : ResourceKey) → get key_order new.table q ≡ cond (is_eq (key_order (key_of r) q)) (Some place) (get key_order old.table q)) → Notes (λ s. same_resource s r) old new place
+notes_new place old new r none at s = elim (cases_Bool (same_resource s r)) [
+  | inl y ↦
+      let same : s ≡ r = same_is s r y in
+      let here : pair_in old s ≡ None = ap (pair_in old) same ∙ none in
+      let equal : is_eq (key_order (key_of r) (key_of s)) ≡ true = ap (λ (x : ResourceId). is_eq (key_order (key_of r) (key_of x))) same ∙ ap is_eq (key_self (key_of r)) in
+      at (key_of s) ∙ ap (λ (b : Bool). cond b (Some place) (get key_order old.table (key_of s))) equal
+      ∙ sym (ap (λ (o : Option ℕ). or_else o (if same_resource s r then Some place else None)) here ∙ ap (λ (b : Bool). if b then Some place else None) y)
+  | inr n ↦
+      at (key_of s) ∙ ap (λ (b : Bool). cond b (Some place) (get key_order old.table (key_of s))) (other_key r s n)
+      ∙ sym (ap (λ (b : Bool). or_else (pair_in old s) (if b then Some place else None)) n ∙ or_none (pair_in old s))
+]
+
+pub notes_nothing : (place : ℕ) (pairs : Pairs) → Notes (λ r. false) pairs pairs place
+notes_nothing place pairs r = sym (or_none (pair_in pairs r))
+
+pub is_none_is : {A : Type 0} (o : Option A) (r : Bool) → is_some o ≡ not r → r ≡ true → o ≡ None
+is_none_is None r e t = refl
+is_none_is (Some x) true e t = absurd cc
+is_none_is (Some x) false e t = absurd cc
+
+pub is_some_is : (o : Option ℕ) (r : Bool) → is_some o ≡ not r → r ≡ false → (x : ℕ) × (o ≡ Some x)
+is_some_is None true e t = absurd cc
+is_some_is None false e t = absurd cc
+is_some_is (Some x) r e t = (x, refl)
+
+-- ---- all pairs
+
+-- The first entry that meets a resource is what the table has, or else the first among those to
+-- come.
+pub record Seeks {A E : Type 0} (view : A → E) (meets : ResourceId → E → Bool) (all : List A) (i : ℕ) (pairs : Pairs) : Type 0 where
+  pub is : (r : ResourceId) → position_from (meets r) 0 (map view all) ≡ or_else (pair_in pairs r) (position_from (meets r) i (map view (drop i all)))
+
+module _ {A E : Type 0} (view : A → E) (meets : ResourceId → E → Bool) (all : List A) where
+  pub seeks_start : (pairs : Pairs) → ((r : ResourceId) → pair_in pairs r ≡ None) → Seeks view meets all 0 pairs
+  seeks_start pairs none = record { is = λ r. sym (ap (λ (o : Option ℕ). or_else o (position_from (meets r) 0 (map view all))) (none r)) }
+
+  pub seeks_step : (i : ℕ) (x : A) (old new : Pairs) → i < length all → x ≡ get_or all i x → Seeks view meets all i old → Notes (λ r. meets r (view x)) old new i → Seeks view meets all (i + 1) new
+  seeks_step i x old new lt at s noted = record {
+    is = λ r.
+        s.is r
+        ∙ ap (λ (es : List E). or_else (pair_in old r) (position_from (meets r) i es)) (next_element view all i x lt at)
+        ∙ later (pair_in old r) (meets r (view x)) i (position_from (meets r) (i + 1) (map view (drop (i + 1) all)))
+        ∙ ap (λ (o : Option ℕ). or_else o (position_from (meets r) (i + 1) (map view (drop (i + 1) all)))) (sym (noted r));
+  }
+
+  pub seeks_all : (i : ℕ) (pairs : Pairs) → length all ≤ i → Seeks view meets all i pairs → (r : ResourceId) → pair_in pairs r ≡ position_from (meets r) 0 (map view all)
+  seeks_all i pairs le s r = sym (s.is r ∙ ap (λ (ys : List A). or_else (pair_in pairs r) (position_from (meets r) i (map view ys))) (drop_all i all le) ∙ or_none (pair_in pairs r))

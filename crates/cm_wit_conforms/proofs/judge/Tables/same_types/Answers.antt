@@ -1,0 +1,29 @@
+use Rattle.std.proofs.Common.{refl}
+use Rattle.cm_types_numbers.specs.Numbering.{numbering}
+use Rattle.cm_types_resources.specs.Replaced.{replaced}
+use Rattle.cm_types_numbers.specs.Moved.{brought_type}
+use Rattle.cm_wit_conforms.specs.Judging.{marks_of}
+use Rattle.cm_wit_conforms.proofs.JudgeLaws.{test_tells, type_stays}
+use Rattle.cm_wit_conforms.proofs.judge.Tables.same_types.Goals as goal
+
+pub number_type-requires-2 : goal.number_type-requires-2
+number_type-requires-2 c =
+    let start = numbering c.args.self.now.numbers in
+    let before = numbering c.number_type.new.numbers in
+    c.known_stays.ensures start before (marks_of c.args.world.now) c.args.world.now.types.now c.args.self.now.world c.number_type.ensures.kept c.requires.of_world
+
+pub returns-clause-same : goal.returns-clause-same
+returns-clause-same c =
+    let before = numbering c.number_type.new.numbers in
+    let after = numbering c.number_type-2.new.numbers in
+    let left = type_stays before after (λ s ts ns. c.numbers_stay.ensures.types before after s ts ns c.number_type-2.ensures.kept) (marks_of c.args.have.now) (brought_type c.args.have.now.types.now c.args.x) c.in_ok-left.left c.in_ok-left.ensures.number in
+    test_tells c.in_ok-left.left c.in_ok-right.right _ _ refl (c.tell_apart.ensures.types (replaced (marks_of c.args.have.now) (brought_type c.args.have.now.types.now c.args.x)) (replaced (marks_of c.args.world.now) (brought_type c.args.world.now.types.now c.args.y)) c.in_ok-left.left c.in_ok-right.right left c.in_ok-right.ensures.number)
+
+pub returns-clause-known : goal.returns-clause-known
+returns-clause-known c =
+    let before = numbering c.number_type.new.numbers in
+    let after = numbering c.number_type-2.new.numbers in
+    record {
+      of_have = c.known_stays.ensures before after (marks_of c.args.have.now) c.args.have.now.types.now c.number_type.new.self c.number_type-2.ensures.kept c.number_type.ensures.known;
+      of_world = c.number_type-2.ensures.known;
+    }

@@ -1,0 +1,78 @@
+//! Whether a signature fits a world.
+
+ghost use Rattle.std.specs.Prelude.{◌≡◌, ◌⊎◌, IfErr, List, OnOk, map};
+ghost use Rattle.cm_types_placed.specs.Signatures.{signature_of};
+ghost use Rattle.cm_wit_conforms.specs.Comparisons.{Entry};
+ghost use Rattle.cm_wit_conforms.specs.Conformance.{AllFit, Conforms, IsFirstFault, IsFirstIn};
+ghost use Rattle.cm_wit_conforms.specs.Judging.{AreSides};
+ghost use Rattle.cm_wit_conforms.specs.Views.{entry_of};
+
+use crate::comparisons::PlacedComparison;
+use crate::fault::{ConformFault, ConformReason};
+use crate::judge::{Side, Tables};
+use crate::pairs::Pairs;
+use crate::walk::entries;
+use cm_types_placed::Signature;
+use std::alloc::Global;
+
+/// Whether all that is compared fits, or the first fault.
+fn judge(
+    alloc: Global,
+    all: &[PlacedComparison],
+    have: &Side<'_>,
+    world: &Side<'_>,
+) -> Result<(), ConformFault>
+    requires { AreSides (map (entry_of have.now.types.now world.now.types.now) all.now)
+        have.now world.now }
+    ensures ok { OnOk result (let es = map (entry_of have.now.types.now world.now.types.now) all.now
+        in AllFit es es) }
+    ensures err { IfErr result (λ f. (f.reason ≡ ConformReason.Memory)
+        ⊎ IsFirstIn (map (entry_of have.now.types.now world.now.types.now) all.now)
+        f.item f.reason) }
+{
+    let mut tables = Tables::new(alloc);
+    for each in all {
+        if !tables.fits(alloc, have, world, each.what)? {
+            return Err(ConformFault {
+                item: each.item,
+                reason: each.reason(),
+            });
+        }
+    }
+    Ok(())
+}
+
+/// Whether a component's signature fits a world's (WIT.md, "Worlds"): it has each export of the
+/// world, under an equal name and with the items of each instance, and the world has each of its
+/// imports; what has one name is of one type, where resources correspond one to one by the names of
+/// the import or export and of the type that they have.
+///
+/// The fault is the first one, of the world's exports in order and then of the signature's imports:
+/// `Missing` where the signature lacks an export or an item of one, `NotInWorld` where the world
+/// lacks an import or an item of one, and `DifferentType` where types differ, where a resource
+/// corresponds to another one already, and where a function stands against an instance. A resource
+/// that no two items of one name pair corresponds to none. `Memory` comes where memory is refused.
+///
+/// It costs time linear in the items of the imports and exports of both, a shared instance counted
+/// for each of them, with a search for each name and resource; and in the types of both, each once
+/// for each way in which imports and exports move its resources.
+pub fn conforms(alloc: Global, have: &Signature, world: &Signature) -> Result<(), ConformFault>
+    ensures ok { OnOk result (Conforms (signature_of have.now) (signature_of world.now)) }
+    ensures err { IfErr result (λ f. (f.reason ≡ ConformReason.Memory)
+        ⊎ IsFirstFault (signature_of have.now) (signature_of world.now) f.item f.reason) }
+{
+    let all = entries(alloc, have, world)?;
+    let have_pairs = Pairs::of_have(alloc, &all)?;
+    let world_pairs = Pairs::of_world(alloc, &all)?;
+    let have = Side {
+        types: have.types(),
+        pairs: &have_pairs,
+        mark: 1,
+    };
+    let world = Side {
+        types: world.types(),
+        pairs: &world_pairs,
+        mark: 2,
+    };
+    judge(alloc, &all, &have, &world)
+}

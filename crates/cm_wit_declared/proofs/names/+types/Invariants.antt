@@ -1,8 +1,0 @@
-use Rattle.cm_wit_types.specs.TypeViews.{type_tree}
-use Rattle.cm_wit_declared.specs.Declarations.{names_in}
-use Rattle.cm_wit_declared.specs.TypeFaults.{borrowed_in}
-use Rattle.cm_wit_declared.proofs.AddLaws.{AddsEach}
-use Rattle.cm_wit_declared.proofs.names.+types.Given as goal
-
-abbrev pub invariant-add_types-loop-ty : goal.invariant-add_types-loop-ty
-invariant-add_types-loop-ty l = AddsEach names_in borrowed_in type_tree l.types l.ty-index l.initial.out l.out

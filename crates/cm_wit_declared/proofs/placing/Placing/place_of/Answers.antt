@@ -1,8 +1,0 @@
-use Rattle.std.proofs.Common.{refl}
-use Rattle.cm_keys.specs.Listed.{listed}
-use Rattle.cm_wit_declared.specs.Placings.{instances_in}
-use Rattle.cm_wit_declared.proofs.PlaceLaws.{place_found}
-use Rattle.cm_wit_declared.proofs.placing.Placing.place_of.Goals as goal
-
-pub returns : goal.returns
-returns c = place_found (instances_in c.args.self.now) (listed c.args.self.now.keys) c.args.exported c.args.interface c.side_word.result.now c.find.result c.args.self.now.are_keys c.side_word.ensures c.find.ensures

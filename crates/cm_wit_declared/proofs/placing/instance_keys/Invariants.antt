@@ -1,9 +1,0 @@
-use Rattle.std.proofs.Common.{map, []}
-use Rattle.cm_keys.specs.Keys.{key_view}
-use Rattle.cm_wit_declared.specs.DeclaredViews.{instance_view}
-use Rattle.cm_wit_declared.specs.InstanceKeys.{instance_key}
-use Rattle.cm_wit_declared.proofs.ListLaws.{Makes}
-use Rattle.cm_wit_declared.proofs.placing.instance_keys.Given as goal
-
-abbrev pub invariant-loop-instance : goal.invariant-loop-instance
-invariant-loop-instance l = Makes instance_view (λ i. map instance_key) key_view l.instances l.instance-index [] l.keys.items

@@ -1,9 +1,0 @@
-mod GrowthLaws
-mod ScopeLaws
-mod FaultLaws
-mod EachLaws
-mod PushLaws
-mod AddedLaws
-mod MemberLaws
-mod DefinitionLaws
-mod FuncLaws

@@ -1,8 +1,0 @@
-pub mod Tools
-pub mod Laws
-pub mod StepLaws
-pub mod ListLaws
-pub mod LoopLaws
-pub mod MostLaws
-pub mod WholeLaws
-pub mod TextLaws

@@ -1,0 +1,10 @@
+pub mod MarkLaws
+pub mod GraphLaws
+pub mod CycleLaws
+mod EdgeLaws
+mod ReachLaws
+mod KeyLaws
+mod WalkLaws
+mod RankLaws
+mod WaitLaws
+mod StandLaws

@@ -1,0 +1,29 @@
+//! Directed graphs: which nodes lead to others, the first one that lies on a cycle, and which are
+//! reached from some.
+//!
+//! Names, each in a list of names that has a number, and the first of each.
+//!
+//! Nodes in orders in which each stands behind those that it needs: by what waits, or depth first.
+#![tactic(auto)]
+
+mod components;
+mod cycles;
+mod depth_first;
+mod edges;
+mod graph;
+mod keys;
+pub mod laws;
+mod leading;
+mod ordering;
+mod reaching;
+mod rows;
+mod table;
+mod waiting;
+mod walk;
+
+pub use depth_first::{place, place_all};
+pub use graph::Graph;
+pub use keys::Keys;
+pub use ordering::order_of;
+pub use reaching::{Reach, reach_from};
+pub use table::{Table, look_up, note};

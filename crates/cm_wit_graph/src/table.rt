@@ -1,0 +1,51 @@
+//! The table of the first of each key.
+
+ghost use Rattle.std.specs.Prelude.{◌≡◌, IfOk, OnOk, map};
+ghost use Rattle.cm_wit_graph.specs.Keys.{key_view};
+ghost use Rattle.cm_wit_graph.specs.Table.{IsTableOf, Notes, look_up};
+
+use std::alloc::{AllocError, Global};
+use std::collections::BTreeMap;
+
+/// The places of names, under the numbers of their lists.
+pub type Table<'a> = BTreeMap<usize, BTreeMap<&'a str, usize>>;
+
+/// The place that stands for a number and a name, from 0, if one does.
+pub fn look_up(table: &Table<'_>, number: usize, name: &str) -> Option<usize>
+    ensures { result ≡ look_up table.now number name.now }
+{
+    table.get(&number)?.get(name).copied()
+}
+
+/// Puts the place of a key, a number and a name, into a table, where none stands for it yet.
+/// `AllocError` comes where there is no memory, and the table is to be dropped then.
+#[tactic(auto, using(crate::proofs::KeyLaws::note_laws))]
+pub fn note<'a>(
+    alloc: Global,
+    table: &mut Table<'a>,
+    key: (usize, &'a str),
+    place: usize,
+) -> Result<(), AllocError>
+    ensures { OnOk result (Notes (key_view key.entry) place table.old table.new) }
+{
+    let (number, name) = key;
+    if look_up(table, number, name).is_some() {
+        return Ok(());
+    }
+    let mut names = table.remove(&number).unwrap_or(BTreeMap::new(alloc));
+    names.insert(name, place)?;
+    table.insert(number, names)?;
+    Ok(())
+}
+
+/// The place of the first of each key.
+#[tactic(auto, using(crate::proofs::KeyLaws::table_laws))]
+pub fn key_table<'a>(alloc: Global, keys: &[(usize, &'a str)]) -> Result<Table<'a>, AllocError>
+    ensures { IfOk result (λ table. IsTableOf (map key_view keys.now) table) }
+{
+    let mut table = BTreeMap::new(alloc);
+    for (place, key) in keys.iter().enumerate() {
+        note(alloc, &mut table, *key, place)?;
+    }
+    Ok(table)
+}

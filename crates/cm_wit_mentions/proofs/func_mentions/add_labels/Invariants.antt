@@ -1,9 +1,0 @@
-use Rattle.std.proofs.Common.{◌++◌, map, drop, length, false}
-use Rattle.cm_wit_mentions.specs.FileMentions.{label, label_marks}
-use Rattle.cm_wit_mentions.specs.Marks.{each, one}
-use Rattle.cm_wit_mentions.specs.MentionViews.{mention_view}
-use Rattle.cm_wit_mentions.proofs.AddLaws.{MakesAll}
-use Rattle.cm_wit_mentions.proofs.func_mentions.add_labels.Given as goal
-
-abbrev pub invariant-loop-name : goal.invariant-loop-name
-invariant-loop-name l = MakesAll (each (λ text. one (label false l.in_list text)) (map (λ text. text) (drop l.name-index l.names))) l.out (map mention_view l.fn.out.items ++ label_marks l.names (length l.fn.out.items))

@@ -1,4 +1,0 @@
-pub mod Mentions
-pub mod MentionViews
-pub mod Marks
-pub mod FileMentions

@@ -1,0 +1,22 @@
+//! Packages of WIT, read and printed, and the text that prints a file; what is printed is read
+//! again as the same.
+#![tactic(auto)]
+
+mod file_text;
+mod interfaces;
+pub mod laws;
+mod names;
+mod package;
+mod parsing;
+mod places;
+mod printing;
+pub mod round_laws;
+mod signatures;
+mod types;
+mod worlds;
+
+pub use cm_wit_tokens::{WitFault, WitReason};
+pub use file_text::print_file;
+pub use package::Package;
+pub use parsing::parse;
+pub use printing::print;

@@ -1,0 +1,10 @@
+pub mod Trees
+pub mod Views
+pub mod Heads
+pub mod Interfaces
+pub mod Worlds
+pub mod Files
+pub mod Types
+pub mod TypeViews
+pub mod Signatures
+pub mod SignatureViews

@@ -1,0 +1,5 @@
+use Rattle.cm_wit_signature.proofs.MarkLaws.{Lists}
+use Rattle.cm_wit_signature.proofs.reaching.marked.Given as goal
+
+abbrev pub invariant-loop-number : goal.invariant-loop-number
+invariant-loop-number l = Lists l.marks l.number l.out.items

@@ -1,3 +1,0 @@
-pub mod InterfaceLaws
-pub mod WorldLaws
-pub mod FileLaws

@@ -1,0 +1,11 @@
+use Rattle.std.proofs.Common.{map, length}
+use Rattle.cm_wit_tokens.specs.Grammar.{steps, with_front}
+use Rattle.cm_wit_tokens.specs.Lists.{next_item}
+use Rattle.cm_wit_tokens.proofs.ListLaws.{StepsGo}
+use Rattle.cm_wit_tokens.proofs.lists.further_items.Given as goal
+
+abbrev pub invariant-loop-list : goal.invariant-loop-list
+invariant-loop-list g l = StepsGo (next_item l.closing g.T.Item.grammar) (map g.T.Item.tree l.list.items) l.cursor (with_front (map g.T.Item.tree l.initial.list.items) ((steps (next_item l.closing g.T.Item.grammar)).reads l.initial.cursor))
+
+abbrev pub decreases-loop-list : goal.decreases-loop-list
+decreases-loop-list g l = length l.cursor

@@ -1,3 +1,0 @@
-pub mod TypeLaws
-pub mod TypesSeen
-pub mod SignatureLaws

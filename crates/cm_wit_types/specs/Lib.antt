@@ -1,4 +1,0 @@
-pub mod Types
-pub mod TypeViews
-pub mod Signatures
-pub mod SignatureViews

@@ -1,6 +1,0 @@
-mod RestLaws
-mod LedLaws
-mod ListLaws
-mod MarkLaws
-mod TypedLaws
-mod ReachLaws

@@ -1,5 +1,0 @@
-use Rattle.cm_wit_typing.proofs.ListLaws.{Sides}
-use Rattle.cm_wit_typing.proofs.instances.add_instances.Given as goal
-
-abbrev pub invariant-loop-number : goal.invariant-loop-number
-invariant-loop-number l = Sides l.exported l.count l.numbers l.number-index l.fn.out.items l.out.items

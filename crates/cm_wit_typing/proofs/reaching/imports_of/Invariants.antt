@@ -1,7 +1,0 @@
-use Rattle.cm_wit_items.specs.Named.{imported}
-use Rattle.cm_wit_declared.specs.DeclaredViews.{instance_view}
-use Rattle.cm_wit_typing.proofs.ListLaws.{Shows}
-use Rattle.cm_wit_typing.proofs.reaching.imports_of.Given as goal
-
-abbrev pub invariant-loop-number : goal.invariant-loop-number
-invariant-loop-number l = Shows imported instance_view l.numbers l.number-index l.out.items

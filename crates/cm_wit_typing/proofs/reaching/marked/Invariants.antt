@@ -1,5 +1,0 @@
-use Rattle.cm_wit_typing.proofs.MarkLaws.{Lists}
-use Rattle.cm_wit_typing.proofs.reaching.marked.Given as goal
-
-abbrev pub invariant-loop-number : goal.invariant-loop-number
-invariant-loop-number l = Lists l.marks l.number l.out.items
