@@ -9,10 +9,10 @@ pub use Rattle.cm_machine_model.specs.Fresh
 pub use Rattle.cm_machine_model.specs.History
 pub use Rattle.cm_machine_model.specs.Values
 pub use Rattle.cm_machine_model.specs.Guarded
+pub use Rattle.cm_machine_model.specs.Exchange
 pub use Rattle.cm_machine_set.specs.cm_machine_plan.CoreFuncs
 pub mod Acting
 pub mod Doing
 pub mod Causes
 pub mod Headline
-pub mod Exchange
 pub mod Player

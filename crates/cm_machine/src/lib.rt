@@ -8,13 +8,13 @@ mod headline;
 mod player;
 
 pub use cm_machine_model::{
-    Event, Flat, MAX_FLAT_PARAMS, MAX_FRAMES, MAX_INSTANCES, MAX_MEMORY_SIZE, MAX_PAGES, Misuse,
+    Event, Flat, Guest, MAX_FLAT_PARAMS, MAX_FRAMES, MAX_INSTANCES, MAX_MEMORY_SIZE, MAX_PAGES, Misuse,
     Move, PAGE_SIZE, Trap,
 };
 pub use cm_machine_set::{
     Checked, ExportEntry, LinkFault, LinkReason, Linked, PlanLine, Set, link,
 };
-pub use player::{Guest, Player};
+pub use player::Player;
 
 /// What holds of every history of a set, and of every step.
 pub mod laws {

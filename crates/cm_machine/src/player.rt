@@ -6,7 +6,7 @@ ghost use Rattle.std.specs.Prelude.{IfErr, slice_get, true, List};
 ghost use Rattle.std.specs.Option.{option_map};
 ghost use Rattle.cm_machine_model.specs.declared.event.Event.{Event};
 ghost use Rattle.cm_machine_model.specs.declared.event.Misuse.{Misuse};
-ghost use Rattle.cm_machine.specs.Exchange.{Exchange};
+ghost use Rattle.cm_machine_model.specs.Exchange.{Exchange};
 ghost use Rattle.cm_machine_model.specs.Stack.{actor, top_of};
 ghost use Rattle.cm_machine_model.specs.Run.{is_last, after_begin, misuse_of_begin};
 ghost use Rattle.cm_machine.specs.Player.{Turn, Turns, last_of, exchanges_of, AreStops, SeatPlays};
@@ -14,22 +14,9 @@ ghost use Rattle.cm_machine.specs.Player.{StaysTaken, EndsAt, IsPlay, IsDrive, I
 ghost use Rattle.cm_machine.specs.Player.{closes_between};
 ghost use Rattle.cm_machine.specs.Player.{seat_after_close, is_taken};
 
-use cm_machine_model::{Event, Misuse, Move};
+use cm_machine_model::{Event, Guest, Misuse, Move};
 use cm_machine_set::Set;
 use std::alloc::Global;
-
-/// A guest: what the core module of an instance does, as a list of moves.
-///
-/// Its meaning is the exchanges that it may take part in from now on.
-pub trait Guest: Drop {
-    ghost plays: { Self → List Exchange → Type 0 };
-
-    /// The move that the guest makes where its instance acts and this was the last event.
-    fn next(&mut self, seen: &Event) -> Move
-        ensures goes_on { (rest : List Exchange) → plays self.new rest
-            → plays self.old (record { seen = seen.now; made = result } ∷ rest) }
-        ensures answers { plays self.old (record { seen = seen.now; made = result } ∷ []) };
-}
 
 /// Asks a guest.
 fn ask(guest: &mut Box<dyn Guest>, seen: &Event) -> Move

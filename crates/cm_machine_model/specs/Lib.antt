@@ -9,3 +9,4 @@ pub mod Fresh
 pub mod History
 pub mod Values
 pub mod Guarded
+pub mod Exchange

@@ -7,6 +7,7 @@
 mod event;
 mod flat;
 mod frame;
+mod guest;
 pub mod laws;
 mod limits;
 mod memories;
@@ -15,6 +16,7 @@ mod moves;
 pub use cm_types::{MAX_FLAT_PARAMS, MAX_FLAT_RESULTS};
 pub use event::{Event, Misuse, Trap};
 pub use flat::Flat;
+pub use guest::Guest;
 pub use limits::{MAX_FRAMES, MAX_INSTANCES, MAX_MEMORY_SIZE, MAX_PAGES, PAGE_SIZE};
 pub use memories::{Memories, Memory};
 pub use moves::Move;

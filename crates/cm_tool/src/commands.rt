@@ -4,11 +4,13 @@ use crate::fault::{Fault, report};
 use crate::loading::{load_files, load_script};
 use crate::outcome::Outcome;
 use crate::playing::play;
+use cm_machine::Set;
+use cm_match::Linked;
 use cm_tool_files::{
     BadFile, Checked, Files, Unfit, UnfitReason, checked_of, conform_component, load, read_file,
     show_component, text_of,
 };
-use cm_tool_lines::{Linked, Set, SetSize, write_plan};
+use cm_tool_lines::{SetSize, write_plan};
 use cm_tool_words::{Request, WordsFault};
 use std::alloc::Global;
 use std::io;

@@ -3,10 +3,12 @@
 ghost use Rattle.std.specs.Prelude.{◌≡◌};
 ghost use Rattle.cm_tool.specs.declared.fault.Fault.TheVariants as fault;
 
+use cm_machine::Misuse;
+use cm_match::LinkFault;
 use cm_tool_files::{BadFile, Unfit, write_show_fault};
 use cm_tool_lines::{
-    BadLine, Drive, LinkFault, Misuse, SetSize, SignatureNames, write_bad_line, write_begin_fault,
-    write_limit, write_link_fault, write_set_fault,
+    BadLine, Drive, SetSize, SignatureNames, write_bad_line, write_begin_fault, write_limit,
+    write_link_fault, write_set_fault,
 };
 use cm_tool_show::ShowFault;
 use cm_tool_words::USAGE;

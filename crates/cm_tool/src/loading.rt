@@ -2,8 +2,10 @@
 
 use crate::fault::Fault;
 use cm_binary::Component;
+use cm_match::{Linked, link};
 use cm_tool_files::{BadFile, Checked, Files, checked_of, load, read_file, text_of};
-use cm_tool_lines::{BadLine, Linked, Script, SignatureNames, link};
+use cm_tool_lines::{BadLine, SignatureNames};
+use cm_tool_script::Script;
 use std::alloc::{AllocError, Global};
 
 /// The components of some files, in order: those before the first file that cannot be read or is

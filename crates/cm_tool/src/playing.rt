@@ -2,7 +2,9 @@
 
 use crate::fault::{Fault, report};
 use crate::outcome::Outcome;
-use cm_tool_lines::{Drive, Event, Guest, Misuse, Player, Script, ScriptGuest, Set, write_event};
+use cm_machine::{Event, Guest, Misuse, Player, Set};
+use cm_tool_lines::{Drive, write_event};
+use cm_tool_script::{Script, ScriptGuest};
 use std::alloc::Global;
 use std::io;
 use std::io::Write;

@@ -1,6 +1,6 @@
 //! The line that each event prints.
 
-use cm_tool_script::{Event, Trap};
+use cm_machine_model::{Event, Trap};
 use cm_types::CoreValue;
 use std::io;
 use std::io::Write;

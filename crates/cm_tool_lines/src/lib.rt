@@ -7,9 +7,6 @@ mod plan;
 mod play_help;
 mod script_help;
 
-pub use cm_tool_script::{
-    Event, Guest, LinkFault, Linked, Misuse, Move, Player, Script, ScriptGuest, Set, link,
-};
 pub use events::write_event;
 pub use link_help::{SignatureNames, write_link_fault};
 pub use plan::write_plan;

@@ -1,6 +1,6 @@
 //! The line of components that do not link.
 
-use cm_tool_script::{Checked, ExportEntry, LinkFault, LinkReason};
+use cm_match::{Checked, ExportEntry, LinkFault, LinkReason};
 use cm_types_placed::Extern;
 use std::alloc::{AllocError, Global};
 use std::fmt;

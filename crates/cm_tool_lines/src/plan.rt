@@ -1,6 +1,6 @@
 //! The line that each link prints.
 
-use cm_tool_script::{Linked, PlanLine};
+use cm_match::{Linked, PlanLine};
 use std::io;
 use std::io::Write;
 

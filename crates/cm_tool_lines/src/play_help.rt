@@ -1,6 +1,6 @@
 //! The lines of faults of a set and its drives.
 
-use cm_tool_script::Misuse;
+use cm_machine_model::Misuse;
 use std::fmt;
 
 /// What a set is to be made of.

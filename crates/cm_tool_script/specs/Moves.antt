@@ -2,7 +2,7 @@
 use Rattle.std.specs.Prelude.{◌≡◌, List, [], ◌∷◌}
 use Rattle.cm_machine_model.specs.declared.moves.Move.{Move}
 use Rattle.cm_machine_model.specs.declared.moves.Move.TheVariants as move
-use Rattle.cm_machine.specs.Exchange.{Exchange}
+use Rattle.cm_machine_model.specs.Exchange.{Exchange}
 
 -- A guest with these moves makes them in order, whatever it sees, and then only stops.
 abbrev pub Makes : List Move → List Exchange → Type 0

@@ -2,7 +2,7 @@
 
 ghost use Rattle.cm_tool_script.specs.Moves.{Makes};
 
-use cm_machine::{Event, Guest, Move};
+use cm_machine_model::{Event, Guest, Move};
 use std::collections::VecDeque;
 
 /// A guest that makes these moves in order, whatever it sees, and then stops.

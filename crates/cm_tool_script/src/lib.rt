@@ -8,10 +8,6 @@ mod numbers;
 mod script;
 mod statement;
 
-pub use cm_machine::{
-    Checked, Event, ExportEntry, Guest, LinkFault, LinkReason, Linked, Misuse, Move, PlanLine,
-    Player, Set, Trap, link,
-};
 pub use forms::form_of;
 pub use guest::ScriptGuest;
 pub use hex_bytes::{ScriptFault, script_bytes};

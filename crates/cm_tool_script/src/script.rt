@@ -1,7 +1,7 @@
 //! Scripts: what the guests of a set do, and which of them begin.
 
 use crate::statement::{LineFault, Statement};
-use cm_machine::Move;
+use cm_machine_model::Move;
 use std::alloc::{AllocError, Global};
 use std::collections::VecDeque;
 

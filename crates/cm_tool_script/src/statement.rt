@@ -5,7 +5,7 @@ ghost use Rattle.cm_tool_script.specs.declared.statement.LineFault.TheVariants a
 
 use crate::hex_bytes::{ScriptFault, script_bytes};
 use crate::numbers::{read_u32, read_u64};
-use cm_machine::Move;
+use cm_machine_model::Move;
 use cm_types::CoreValue;
 use std::alloc::{AllocError, AllocFailed, Global};
 use std::fmt;
