@@ -8,8 +8,8 @@ mod headline;
 mod player;
 
 pub use cm_machine_model::{
-    Event, Flat, Guest, MAX_FLAT_PARAMS, MAX_FRAMES, MAX_INSTANCES, MAX_MEMORY_SIZE, MAX_PAGES, Misuse,
-    Move, PAGE_SIZE, Trap,
+    Event, Flat, Guest, MAX_FLAT_PARAMS, MAX_FRAMES, MAX_INSTANCES, MAX_MEMORY_SIZE, MAX_PAGES,
+    Misuse, Move, PAGE_SIZE, Trap,
 };
 pub use cm_machine_set::{
     Checked, ExportEntry, LinkFault, LinkReason, Linked, PlanLine, Set, link,
