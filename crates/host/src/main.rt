@@ -1,14 +1,10 @@
-//! A host: it links two components through the crates, and runs them with guests of its own.
+//! A host: it loads two components as one set, and runs them with guests of its own.
 #![tactic(auto)]
 
 use anyhow::Result;
-use cm_binary::Component;
-use cm_machine::{Event, Guest, Move, Player, Set};
-use cm_match::link;
-use cm_types::CoreValue;
-use cm_validate_spaces::{Checked, validate};
+use huxarte::{CoreValue, Event, Guest, Move, Player, Set, load};
 use std::alloc::Global;
-use std::{fs, rt};
+use std::fs;
 
 /// A guest that adds one: where it is entered with a number, it answers the next one. As the root
 /// it calls its core function 0 with 41, and then returns. Where it has no memory for a value, it
@@ -42,30 +38,6 @@ impl Guest for AddOne {
     }
 }
 
-fn load<R: rt::Files + AllocGlobal>(rt: &R, name: &str) -> Result<Component> {
-    let bytes = fs::read(rt, name)?;
-    Ok(cm_binary::decode(rt.alloc(), bytes.as_slice())?)
-}
-
-/// Two components, each of which is to be valid.
-fn validated<'a>(
-    alloc: Global,
-    provider: &'a Component,
-    user: &'a Component,
-) -> Result<Vec<Checked<'a>>> {
-    let mut components = Vec::new(alloc);
-    components.push(validate(alloc, provider)?)?;
-    components.push(validate(alloc, user)?)?;
-    Ok(components)
-}
-
-/// What happens where the user is the root and calls the provider, both with such a guest.
-fn play(alloc: Global, provider: &Component, user: &Component) -> Result<Vec<Event>> {
-    let linked = link(alloc, validated(alloc, provider, user)?)?;
-    let mut set = Set::new(alloc, &linked, &[0, 0])?;
-    drive(alloc, &mut set)
-}
-
 /// Drives instance 1 as the root, for a hundred moves at most.
 fn drive(alloc: Global, set: &mut Set) -> Result<Vec<Event>> {
     let adds: Box<dyn Guest> = Box::new(alloc, AddOne(alloc))?;
@@ -75,9 +47,10 @@ fn drive(alloc: Global, set: &mut Set) -> Result<Vec<Event>> {
 }
 
 fn main(rt: HostRuntime) -> Result<()> {
-    let provider = load(&rt, "provider.wasm")?;
-    let user = load(&rt, "user.wasm")?;
-    for event in &play(rt.alloc(), &provider, &user)? {
+    let provider = fs::read(&rt, "provider.wasm")?;
+    let user = fs::read(&rt, "user.wasm")?;
+    let mut set = load(rt.alloc(), &[&provider, &user], &[0, 0])?;
+    for event in &drive(rt.alloc(), &mut set)? {
         println!(rt; "{event:?}")?;
     }
     Ok(())

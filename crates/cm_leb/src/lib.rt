@@ -1,0 +1,5 @@
+//! Numbers in LEB128, as component files spell them (the core specification, "Integers"): `u32`,
+//! and `s33` for indices of types.
+#![tactic(auto)]
+
+pub use cm_binary_grammar::{LebFault, read_s33, read_u32, write_s33, write_u32};

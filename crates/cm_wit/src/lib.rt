@@ -1,0 +1,8 @@
+//! WIT texts: packages read and printed, the signatures of their worlds, and whether a component
+//! fits a world.
+#![tactic(auto)]
+
+pub use cm_wit_conforms::{ConformFault, ConformItem, ConformList, ConformReason, conforms};
+pub use cm_wit_package::{Package, WitFault, WitReason, parse, print};
+pub use cm_wit_signature::world_signature;
+pub use cm_wit_worlds::WorldFault;

@@ -1,0 +1,53 @@
+//! Why files do not come to a set that runs.
+
+use cm_binary::DecodeFault;
+use cm_machine::Misuse;
+use cm_match::LinkFault;
+use cm_validate::ValidFault;
+use std::alloc::{AllocError, AllocFailed};
+use thiserror::Error;
+
+/// Why files do not come to a set that runs. Files are counted from 0, in the order in which they
+/// were given.
+#[derive(Clone, Copy, Debug, PartialEq, Eq, Drop, Error)]
+pub enum LoadFault {
+    /// The bytes of a file spell no component.
+    #[error("file {file}: {fault}")]
+    File { file: usize, fault: DecodeFault },
+    /// The component of a file is not valid.
+    #[error("file {file}: {fault}")]
+    Component { file: usize, fault: ValidFault },
+    /// The components can't be linked; the fault counts them as the files.
+    #[error("{0}")]
+    Link(LinkFault),
+    /// The machine refuses the set.
+    #[error("{0}")]
+    Set(Misuse),
+    /// There was no memory for the lists of components.
+    #[error("no memory")]
+    Memory,
+}
+
+impl From<LinkFault> for LoadFault {
+    fn from(fault: LinkFault) -> LoadFault {
+        LoadFault::Link(fault)
+    }
+}
+
+impl From<Misuse> for LoadFault {
+    fn from(misuse: Misuse) -> LoadFault {
+        LoadFault::Set(misuse)
+    }
+}
+
+impl From<AllocError> for LoadFault {
+    fn from(_error: AllocError) -> LoadFault {
+        LoadFault::Memory
+    }
+}
+
+impl<T: Drop> From<AllocFailed<T>> for LoadFault {
+    fn from(_error: AllocFailed<T>) -> LoadFault {
+        LoadFault::Memory
+    }
+}

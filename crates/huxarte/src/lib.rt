@@ -1,0 +1,87 @@
+//! Huxarte in one crate: component files, WIT texts, linked sets, and the calls between components.
+//!
+//! A host depends on this crate alone. What it needs most stands at the root; the modules have all
+//! of it, each named after what it is about.
+#![tactic(auto)]
+
+mod fault;
+mod loading;
+
+pub use cm_binary::{Component, DecodeFault, decode, encode};
+pub use cm_machine::{Event, Guest, Misuse, Move, Player, Set, Trap};
+pub use cm_match::{LinkFault, Linked, link};
+pub use cm_types::{CoreKind, CoreValue};
+pub use cm_validate::{Checked, ValidFault, validate};
+pub use fault::LoadFault;
+pub use loading::load;
+
+/// Component files: their bytes, whole, in pieces or from readers, and the trees that they spell.
+pub mod files {
+    pub use cm_binary::{
+        Alias, Canon, CanonOption, Component, CoreInlineExport, CoreInstance, CoreInstantiationArg,
+        CoreSort, CustomSection, DecodeFault, DecodeReason, Decoder, Export, ExportSort,
+        ExternDesc, Feature, Import, InlineExport, Instance, InstanceExportSort, LimitFault,
+        Section, WriteFault, WriteReason, decode, decode_from, decode_pieces, encode, write_to,
+    };
+    pub use cm_leb::{LebFault, read_s33, read_u32, write_s33, write_u32};
+    pub use cm_types::{
+        CaseType, Declaration, DeclaredType, DefType, DefValType, ExportDecl, ExportDesc, FuncType,
+        LabeledValType, OuterType, PrimValType, TypeBound, ValType,
+    };
+}
+
+/// Valid components and linked sets: what is imported and exported, and which export serves which
+/// import.
+pub mod components {
+    pub use cm_match::{LinkFault, LinkReason, Linked, MAX_COMPONENTS, PlanLine, Target, link};
+    pub use cm_types::{ExternName, ExternNameForm, Label, NameFault, ResourceId, same_name};
+    pub use cm_types_placed::Signature;
+    pub use cm_validate::{
+        Checked, CoreFuncEntry, ExportEntry, ExportedEntry, FuncEntry, GuestExport, InstanceEntry,
+        MadeFunc, MemberEntry, Resource, ValidFault, ValidReason, signature, validate,
+    };
+}
+
+/// WIT texts and the worlds in them.
+pub mod wit {
+    pub use cm_wit::{
+        ConformFault, ConformItem, ConformList, ConformReason, Package, WitFault, WitReason,
+        WorldFault, conforms, parse, print, world_signature,
+    };
+}
+
+/// Values of components: their types, their place in memory, their texts and handles, and what
+/// lifts and lowers them.
+pub mod values {
+    pub use cm_abi::{
+        AbiFault, Encodings, Found, HandleLeaf, Lifted, PartKind, PartRecord, PartRequests, Passed,
+        Passing, Receiver, Request, ScanEncodings, Scanned, StringEncoding, Way, check_answer,
+        check_answers, copy, lift, lower, requests, scan,
+    };
+    pub use cm_handles::{Handle, HandleFault, HandleKind, MAX_HANDLES, Table};
+    pub use cm_layout::{
+        FlatFunc, Layout, Side, align, case_offset, field_offset, flatten, flatten_func, layout,
+        size,
+    };
+    pub use cm_text::{
+        Encoding, Latin1, Source, TextFault, Utf8, Utf16, ascii_run, ascii_units, narrow,
+        transcode, widen,
+    };
+    pub use cm_types::{
+        Case, CoreKind, CoreValue, Field, Func, ResourceId, TypeFault, TypeNode, TypeTree, Value,
+        has_type,
+    };
+}
+
+/// The machine that runs a linked set, and guests that play it.
+pub mod machine {
+    pub use cm_machine::{
+        Event, Flat, Guest, MAX_FRAMES, MAX_INSTANCES, MAX_MEMORY_SIZE, MAX_PAGES, Misuse, Move,
+        PAGE_SIZE, Player, Set, Trap,
+    };
+
+    /// What holds of every history of a set.
+    pub mod laws {
+        pub use cm_machine::laws::headline;
+    }
+}

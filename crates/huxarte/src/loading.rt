@@ -1,0 +1,51 @@
+//! Files, loaded into a set that runs.
+
+use crate::fault::LoadFault;
+use cm_binary::{Component, decode};
+use cm_machine::Set;
+use cm_match::link;
+use cm_validate::{Checked, validate};
+use std::alloc::Global;
+
+/// The components that files spell, in order.
+fn components_of(alloc: Global, files: &[&[u8]]) -> Result<Vec<Component>, LoadFault> {
+    let mut components = Vec::new(alloc);
+    for (file, bytes) in files.iter().enumerate() {
+        match decode(alloc, bytes) {
+            Ok(component) => components.push(component)?,
+            Err(fault) => return Err(LoadFault::File { file, fault }),
+        }
+    }
+    Ok(components)
+}
+
+/// The components as valid ones, in order.
+fn checked_of<'a>(
+    alloc: Global,
+    components: &'a [Component],
+) -> Result<Vec<Checked<'a>>, LoadFault> {
+    let mut checked = Vec::new(alloc);
+    for (file, component) in components.iter().enumerate() {
+        match validate(alloc, component) {
+            Ok(component) => checked.push(component)?,
+            Err(fault) => return Err(LoadFault::Component { file, fault }),
+        }
+    }
+    Ok(checked)
+}
+
+/// The set of the components that these files spell, which can run: each component has an instance
+/// under the number of its file, with so many pages of zeros as memory.
+///
+/// Files are decoded in order, then their components are validated in order, then they are linked,
+/// and then the set is made. The first of these that fails ends it: `File` has the first file that
+/// spells no component, `Component` the first one that is not valid, `Link` what can't be linked,
+/// `Set` why the machine makes no set of it, such as numbers of pages that do not fit. `Memory`
+/// comes where there is none for the lists of components; the faults have reasons of their own for
+/// want of memory.
+pub fn load(alloc: Global, files: &[&[u8]], pages: &[u32]) -> Result<Set, LoadFault> {
+    let components = components_of(alloc, files)?;
+    let checked = checked_of(alloc, &components)?;
+    let linked = link(alloc, checked)?;
+    Ok(Set::new(alloc, &linked, pages)?)
+}
