@@ -2,13 +2,13 @@
 
 use crate::disk::Disk;
 use cm_tool::{Fault, report, tool};
-use std::io::{BufWriter, Write};
+use std::io::{BufWriter, Input, Write};
 use std::rt::{Env, Files};
 use std::{env, io};
 
 /// Runs the command of the program's words, which come after its name, on the files of the disk,
 /// and answers its exit status.
-pub fn start<R: Env + Files + AllocGlobal, O: Write + Drop, E: Write>(
+pub fn start<R: Env + Files + Input + AllocGlobal, O: Write + Drop, E: Write>(
     rt: &R,
     out: O,
     err: &mut E,
@@ -23,7 +23,7 @@ pub fn start<R: Env + Files + AllocGlobal, O: Write + Drop, E: Write>(
     }
 }
 
-fn run<R: Env + Files + AllocGlobal, O: Write + Drop, E: Write>(
+fn run<R: Env + Files + Input + AllocGlobal, O: Write + Drop, E: Write>(
     rt: &R,
     out: O,
     err: &mut E,
@@ -41,7 +41,7 @@ fn after_name(words: &[String]) -> &[String] {
 }
 
 /// Runs the command of these words.
-fn run_words<R: Files + AllocGlobal, O: Write + Drop, E: Write>(
+fn run_words<R: Files + Input + AllocGlobal, O: Write + Drop, E: Write>(
     rt: &R,
     words: &[String],
     out: O,
