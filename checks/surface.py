@@ -392,3 +392,31 @@ def first_sentence(text):
     text = re.sub(r"\s+", " ", text.strip())
     found = re.search(r"\.(?= [A-Z`]|$)", text)
     return text[: found.end()] if found else text
+
+
+def cited(crate):
+    """The definitions that a crate's public clauses cite: crates, modules, names and files."""
+    of_file, surface = {}, Surface(crate)
+    for part in filter(surface.is_public, surface.parts):
+        if part.file not in of_file:
+            of_file[part.file] = imports(blanked(read(part.file)))
+        tokens = TOKEN.findall(part.text)
+        for at, token in enumerate(tokens):
+            if at > 0 and tokens[at - 1] == ".":
+                continue
+            for of, module, name in of_file[part.file].get(token, ()):
+                if name is None and tokens[at + 1 : at + 2] == ["."]:
+                    name = plain("".join(tokens[at + 2 : at + 3]))
+                if name:
+                    yield of, module, name, part.file
+
+
+def cited_definitions():
+    """The definitions that public contracts cite, where they are defined: crates, modules, names."""
+    specs, found = {it.name: Specs(it.name) for it in CRATES.iterdir() if it.is_dir()}, set()
+    for crate in libraries():
+        for of, module, name, _ in cited(crate):
+            if of in specs:
+                of, module = specs[of].passed.get(module, (of, module))
+                found.add(specs[of].place_of(module, name, specs))
+    return found - {None}
