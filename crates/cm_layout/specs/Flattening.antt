@@ -23,7 +23,7 @@ join_slots [] ys = ys
 join_slots (x ∷ xs) [] = x ∷ xs
 join_slots (x ∷ xs) (y ∷ ys) = join x y ∷ join_slots xs ys
 
--- the same from a slot on: the slots before it stay
+-- two lists of kinds, joined from a slot on: the slots before it stay
 abbrev pub join_from : ℕ → List CoreKind → List CoreKind → List CoreKind
 join_from zero xs ys = join_slots xs ys
 join_from (suc n) [] ys = ys

@@ -89,12 +89,12 @@ StaysAfter x =
 
 -- ---- what calls answer
 
--- the spaces after an item that breaks nothing; where it breaks a rule, those before it
+-- the spaces after an item that violates no rule; where it violates a rule, those before it
 abbrev pub after_answer : Option ValidReason → Spaces → Item → Spaces
 after_answer None s x = after_item s x
 after_answer (Some r) s x = s
 
--- A call answers for an item: with the least reason that it breaks, or else after it.
+-- A call answers for an item: with the least reason to refuse it, or else after it.
 pub record Answers (x : Item) (old : CoreSpaces) (r : Option ValidReason) (new : CoreSpaces)
     : Type 0 where
   pub fault : (made : ℕ → CoreFuncDef) (s : Spaces) → IsCoreOf made old s → r ≡ least (broken s x)

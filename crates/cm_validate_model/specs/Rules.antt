@@ -1,6 +1,6 @@
--- What an item of a component breaks, in the index spaces of what stands before it (Explainer.md,
--- "Component Definitions" and the sections after it; the numbers of the reasons are this project's
--- own choice).
+-- The rules that an item of a component violates, in the index spaces of what stands before it
+-- (Explainer.md, "Component Definitions" and the sections after it; the numbers of the reasons are
+-- this project's own choice).
 use Rattle.std.specs.Prelude.{Bool, true, false, not, ◌&&◌, ◌==◌, nat_lt, ℕ, List, [], ◌∷◌, ◌++◌}
 use Rattle.std.specs.Prelude.{map, Option, slice_get}
 use Rattle.std.specs.List.{flat_map, list_any}

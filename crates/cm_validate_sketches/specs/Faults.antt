@@ -1,5 +1,5 @@
--- What definitions break besides the limits on expanded types, by the sketches of the types before
--- them.
+-- Why definitions are refused, besides the limits on expanded types, by the sketches of the types
+-- before them.
 use Rattle.std.specs.Prelude.{Bool, true, false, not, ◌&&◌, nat_lt, List, [], ◌∷◌, ◌++◌, map}
 use Rattle.std.specs.Prelude.{Option, Some, None}
 use Rattle.std.specs.List.{filter}

@@ -28,8 +28,8 @@ pub fn definitions_are_sketched()
         → sketch_of (func_def_of types f) ≡ func_def_sketch (map sketch_of types) f }
 {}
 
-/// What a definition breaks besides the limits is told by the sketches of the types that it names,
-/// and each such reason has a smaller number than that of the limits.
+/// The sketches of the types that a definition names decide why it is refused, besides the limits;
+/// each such reason has a smaller number than that of the limits.
 pub fn faults_are_sketched()
     ensures value { (types : List TypeDef) (v : DefValTypeTree)
         → besides_limits (value_def_broken types v) ≡ value_def_faults (map sketch_of types) v }

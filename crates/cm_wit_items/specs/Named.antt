@@ -39,7 +39,7 @@ abbrev pub FuncHasTypes : List Declaration → ℕ → Func → Type 0
 FuncHasTypes ds l f = ParamsHaveTypes ds l f.params
     × Lead ds l (names_in_payload f.result) (borrowed_in_payload f.result)
 
--- the same of a function of a resource
+-- each name in a function of a resource leads to a type, and that of a borrow to a resource
 abbrev pub ResourceFuncHasTypes : List Declaration → ℕ → ResourceFunc → Type 0
 ResourceFuncHasTypes ds l (method n f) = FuncHasTypes ds l f
 ResourceFuncHasTypes ds l (static n f) = FuncHasTypes ds l f

@@ -13,7 +13,7 @@ pub struct Declared<'a> {
     pub after_self: bool,
 }
 
-/// What a name refers to. Interfaces and worlds are told by the numbers of their names.
+/// What a name refers to. Interfaces and worlds are given by the numbers of their names.
 #[derive(Clone, Copy)]
 pub enum Reference<'a> {
     Nothing,

@@ -19,13 +19,13 @@ AreWrittenParams ps = AllByRecursion (λ p. IsWritten p.1) ps
 abbrev pub IsWrittenFunc : Func → Type 0
 IsWrittenFunc f = AreWrittenParams f.params × IfSome f.result IsWritten
 
--- the same of a function of a resource
+-- so is each type in a function of a resource
 abbrev pub IsWrittenResourceFunc : ResourceFunc → Type 0
 IsWrittenResourceFunc (method name f) = IsWrittenFunc f
 IsWrittenResourceFunc (static name f) = IsWrittenFunc f
 IsWrittenResourceFunc (constructor ps) = AreWrittenParams ps
 
--- the same of the functions of what is defined, where that is a resource
+-- so is each type in the functions of what is defined, where that is a resource
 abbrev pub AreWrittenFuncsOf : TypeDef → Type 0
 AreWrittenFuncsOf (resource fs) = AllByRecursion IsWrittenResourceFunc fs
 AreWrittenFuncsOf _ = Unit {0}

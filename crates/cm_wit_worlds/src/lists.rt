@@ -22,7 +22,7 @@ pub fn found(alloc: Global, numbers: &[Option<usize>]) -> Result<Vec<usize>, All
     Ok(out)
 }
 
-/// The same of each row. Refused only where there is no memory.
+/// The numbers that are there, of each row. Refused only where there is no memory.
 #[tactic(auto, using(crate::proofs::ListLaws::map_laws))]
 pub fn found_rows(alloc: Global, rows: &[Vec<Option<usize>>]) -> Result<Vec<Vec<usize>>, AllocError>
     ensures { IfOk result (λ v.
