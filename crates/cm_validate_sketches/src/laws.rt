@@ -41,9 +41,9 @@ pub fn faults_are_sketched()
         → list_all is_before_limits (besides_limits (func_def_broken types f)) ≡ true }
 {}
 
-/// Reasons with smaller numbers than that of the limits are others. Where all others have smaller
-/// numbers, the least of all is the least of the others, and that of the limits where there are no
-/// others.
+/// A reason with a smaller number than that of the limits is another one. Where all others have
+/// smaller numbers, the least of all is the least of the others, and that of the limits where there
+/// are no others.
 pub fn limits_come_last()
     ensures others { (rs : List ValidReason) → list_all is_before_limits rs ≡ true
         → besides_limits rs ≡ rs }
