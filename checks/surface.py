@@ -6,7 +6,7 @@ member of a public trait, or what a type is seen as (`impl Model`, but for its i
 tests, programs and static libraries have none.
 
 A door is a crate for those who use Huxarte, and a room is a crate behind one: it is named after its
-door, as `cm_wit_graph` after `cm_wit`.
+door, as `cm_wit_graph` after `cm_wit`. A library that is neither is one of tests.
 """
 
 import re
@@ -137,10 +137,10 @@ class Specs:
 
 
 def libraries():
-    """The crates whose contracts other people's code can meet."""
+    """The doors and the rooms, whose contracts other people's code can meet."""
     for line in read(TOP / "crates.txt").splitlines():
         words = line.partition("#")[0].partition(":")[0].split()
-        if not words or "staticlib" in words or words[0].endswith(("_tests", "_samples")):
+        if not words or "staticlib" in words or not door_of(words[0]):
             continue
         if (CRATES / words[0] / "src" / "lib.rt").is_file():
             yield words[0]
