@@ -1,4 +1,4 @@
-//! What the programs of test rows share: a row is a line of words, and its answer is a line.
+//! What the drivers of test rows share: a row is a line of words, and is answered by a line.
 #![tactic(auto)]
 
 mod answering;
