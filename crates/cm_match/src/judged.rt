@@ -90,8 +90,8 @@ impl Judged {
         }
     }
 
-    /// Why the import of a number of a component is not served, if it is not, as
-    /// [`Tables::import_fault`] tells it. `AllocError` comes where there is no memory.
+    /// Why the import of a number of a component is not served, if it is not, by
+    /// [`Tables::import_fault`]. `AllocError` comes where there is no memory.
     ///
     /// An instance is compared, item by item, once for each pair of its type and the instance that
     /// is exported, however many imports and exports have them.

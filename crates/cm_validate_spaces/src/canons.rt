@@ -52,7 +52,7 @@ fn resource_at(types: &TypeScope, index: u32) -> Option<u64>
     }
 }
 
-/// What makes handles of the resource under an index of a type, if one stands there.
+/// The core function that makes handles of the resource under an index of a type, if one is there.
 fn making<'a>(types: &TypeScope, index: u32) -> Option<MadeFunc<'a>>
     ensures def { (funcs : List FuncTy) (s : Spaces) → s.types ≡ own_types types.now
         → option_map (made_def funcs) result ≡ canon_core_func s (resource_new index) }
@@ -61,7 +61,7 @@ fn making<'a>(types: &TypeScope, index: u32) -> Option<MadeFunc<'a>>
     Some(MadeFunc::Making(resource_at(types, index)?))
 }
 
-/// What drops them.
+/// The core function that drops handles of a resource.
 fn dropping<'a>(types: &TypeScope, index: u32) -> Option<MadeFunc<'a>>
     ensures def { (funcs : List FuncTy) (s : Spaces) → s.types ≡ own_types types.now
         → option_map (made_def funcs) result ≡ canon_core_func s (resource_drop index) }
@@ -70,7 +70,7 @@ fn dropping<'a>(types: &TypeScope, index: u32) -> Option<MadeFunc<'a>>
     Some(MadeFunc::Dropping(resource_at(types, index)?))
 }
 
-/// What tells what they represent.
+/// The core function that reads the representation behind a handle of a resource.
 fn reading<'a>(types: &TypeScope, index: u32) -> Option<MadeFunc<'a>>
     ensures def { (funcs : List FuncTy) (s : Spaces) → s.types ≡ own_types types.now
         → option_map (made_def funcs) result ≡ canon_core_func s (resource_rep index) }
@@ -186,7 +186,7 @@ impl<'a> IndexSpaces<'a> {
         self.make(canon, fault, made)
     }
 
-    /// Adds what makes handles of a resource.
+    /// Adds the core function that makes handles of a resource.
     fn resource_new(
         &mut self,
         canon: &Canon,
@@ -203,7 +203,7 @@ impl<'a> IndexSpaces<'a> {
         self.make(canon, fault, made)
     }
 
-    /// Adds what drops them.
+    /// Adds the core function that drops handles of a resource.
     fn resource_drop(
         &mut self,
         canon: &Canon,
@@ -219,7 +219,7 @@ impl<'a> IndexSpaces<'a> {
         self.make(canon, fault, made)
     }
 
-    /// Adds what tells what they represent.
+    /// Adds the core function that reads the representation behind a handle of a resource.
     fn resource_rep(
         &mut self,
         canon: &Canon,
