@@ -52,7 +52,7 @@ abbrev mutual
   flat_of (own r) = I32 ∷ []
   flat_of (borrow r) = I32 ∷ []
 
-  -- those of fields, one after another
+  -- the core values that fields are passed as, one field after another
   pub flat_of_fields : Fields → List CoreKind
   flat_of_fields no_fields = []
   flat_of_fields (field l t fs) = flat_of t ++ flat_of_fields fs

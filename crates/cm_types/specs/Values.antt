@@ -38,7 +38,7 @@ mutual
     no_vals : Vals
     val : Val → Vals → Vals
 
--- how many values
+-- how many values there are in a row
 abbrev pub count_of : Vals → ℕ
 count_of no_vals = 0
 count_of (val v vs) = 1 + count_of vs

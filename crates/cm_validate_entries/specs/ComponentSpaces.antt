@@ -68,14 +68,14 @@ pub record IsComponentOf (types : List Ty) (funcs : List FuncTy) (c : ComponentS
   pub exports_there :
       list_all (λ e. is_exported_there (length types) (length funcs) e.def) c.exports.items ≡ true
 
--- these are its types
+-- these are the types of a component
 pub record AreTypesOf (types : List Ty) (funcs : List FuncTy) (es : List TypeEntry) (s : Spaces)
     : Type 0 where
   pub types_are : s.types ≡ map (def_of types funcs) es
   pub types_there : list_all (is_entry_there (length types) (length funcs)) es ≡ true
   pub settled : AllByRecursion (IsEntrySettled types funcs) es
 
--- they stand for the same as before
+-- the entries stand for the same as before
 abbrev pub Stays : ComponentSpaces → ComponentSpaces → Type 0
 Stays old new =
     (types : List Ty) (funcs : List FuncTy) (s : Spaces) → IsComponentOf types funcs old s

@@ -410,6 +410,6 @@ abbrev pub after_items : Spaces → List Item → Spaces
 after_items s [] = s
 after_items s (x ∷ xs) = after_items (after_item s x) xs
 
--- those of a whole component
+-- the index spaces of a whole component
 abbrev pub spaces_of : List SectionTree → Spaces
 spaces_of sections = after_items empty_spaces (all_items sections)

@@ -41,7 +41,7 @@ pub record IsAt (w : IndexSpaces) (s : Spaces) : Type 0 where
   pub made_there : list_all (is_made_there (length (funcs_in w))) w.made.items ≡ true
   pub laid : AreOfFirst (layouts_in w.layouts) (types_in w)
 
--- they are those of some component, after some of its items
+-- the index spaces are those of some component, after some of its items
 abbrev pub Stands : IndexSpaces → Type 0
 Stands w = (s : Spaces) × IsAt w s
 

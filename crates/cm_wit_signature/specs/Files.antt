@@ -15,11 +15,11 @@ use Rattle.cm_wit_signature.specs.Written.{IsWritten, IsWrittenDef}
 abbrev pub AreWrittenParams : List Typed → Type 0
 AreWrittenParams ps = AllByRecursion (λ p. IsWritten p.1) ps
 
--- So is the type of each parameter of a function, and that of its result.
+-- The type of each parameter of a function, and that of its result, are written so.
 abbrev pub IsWrittenFunc : Func → Type 0
 IsWrittenFunc f = AreWrittenParams f.params × IfSome f.result IsWritten
 
--- so is each type in a function of a resource
+-- Each type in a function of a resource is written so.
 abbrev pub IsWrittenResourceFunc : ResourceFunc → Type 0
 IsWrittenResourceFunc (method name f) = IsWrittenFunc f
 IsWrittenResourceFunc (static name f) = IsWrittenFunc f
@@ -50,6 +50,6 @@ abbrev pub IsWrittenFileItem : FileItem → Type 0
 IsWrittenFileItem (interface i) = AllByRecursion IsWrittenItem i.items
 IsWrittenFileItem (world w) = AllByRecursion IsWrittenWorldItem w.items
 
--- So is each item of a file.
+-- Each item of a file is written so.
 abbrev pub IsWrittenFile : File → Type 0
 IsWrittenFile f = AllByRecursion IsWrittenFileItem f.items
