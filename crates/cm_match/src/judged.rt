@@ -58,7 +58,7 @@ impl Judged {
     ghost use Rattle.cm_match.specs.Pairs.{AreJudged, IsNoted, IsPairOf};
     ghost use Rattle.cm_match_serving.specs.Answers.{JudgesImport};
 
-    /// Nothing is judged yet of these components. `AllocError` comes where there is no memory.
+    /// No import of these components is judged yet. `AllocError` comes where there is no memory.
     pub fn new(alloc: Global, components: &[Checked<'_>]) -> Result<Judged, AllocError>
         ensures { IfOk result (AreJudged components.now) }
     {

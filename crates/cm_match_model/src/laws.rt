@@ -75,8 +75,8 @@ pub fn imported_functions_reach_lifts()
     functions_are_as_imported();
 }
 
-/// Where components are valid, what an imported function comes to is a lift of a guest's core
-/// function of its component, with options that name what is there and that its type needs.
+/// Where components are valid, an imported function comes to a lift of a guest's core function of
+/// its component, with options that name what is there and that its type needs.
 pub fn targets_are_lifts()
     ensures { (components : List (List SectionTree)) → AllByRecursion IsValid components
         → (c import : ℕ) (item : Option ℕ) (t : Target)

@@ -71,7 +71,7 @@ fn no_file_item(form: &Form) -> WitReason
 }
 
 impl Cursor {
-    /// Nothing read yet.
+    /// A cursor before the first token.
     pub fn new(tokens: VecDeque<Token>) -> Cursor
         ensures { result ≡ tokens.items }
     {

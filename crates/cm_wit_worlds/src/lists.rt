@@ -8,7 +8,7 @@ ghost use Rattle.cm_wit_worlds.specs.Externs.{found};
 use indexmap::IndexSet;
 use std::alloc::{AllocError, Global};
 
-/// Those numbers that are there. Refused only where there is no memory.
+/// The numbers that are there. Refused only where there is no memory.
 #[tactic(auto, using(crate::proofs::ListLaws::part_laws))]
 pub fn found(alloc: Global, numbers: &[Option<usize>]) -> Result<Vec<usize>, AllocError>
     ensures { IfOk result (λ v. v.items ≡ found numbers.now) }
