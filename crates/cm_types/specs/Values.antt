@@ -16,6 +16,8 @@ pub record HandleValue : Type 0 where
 
 -- Values.
 mutual
+  -- an interface value: a truth value, a number, a char, a text, the elements of a list, fields, a
+  -- case, a set of labels, or a handle
   pub data Val : Type 0 where
     truth : Bool → Val
     signed_number : ℤ → Val
@@ -34,6 +36,7 @@ mutual
     flag_set : ℕ → Val
     handle : HandleValue → Val
 
+  -- values one after another
   pub data Vals : Type 0 where
     no_vals : Vals
     val : Val → Vals → Vals
