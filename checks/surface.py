@@ -412,7 +412,7 @@ def cited(crate):
 
 
 def cited_definitions():
-    """The definitions that public contracts cite, where they are defined: crates, modules, names."""
+    """The definitions that public contracts cite, as they are defined: crates, modules, names."""
     specs, found = {it.name: Specs(it.name) for it in CRATES.iterdir() if it.is_dir()}, set()
     for crate in libraries():
         for of, module, name, _ in cited(crate):
