@@ -43,8 +43,8 @@ pub record AreSet (files : List (List ℕ)) (components : List (List SectionTree
   pub valid : AllByRecursion IsValid components
   pub linked : CanBeLinked (set_of components)
 
--- File k, from 0, spells no component: those before it do, and this is its first fault, or there was
--- no memory to read it.
+-- File k, from 0, spells no component: those before it do, and this is its first fault, or there
+-- was no memory to read it.
 pub record IsFileFault (files : List (List ℕ)) (k : ℕ) (f : DecodeFault) : Type 0 where
   pub before : List (List SectionTree)
   pub spelled : AreSpelled (take k files) before
@@ -52,8 +52,8 @@ pub record IsFileFault (files : List (List ℕ)) (k : ℕ) (f : DecodeFault) : T
   pub stands : slice_get files k ≡ Some file
   pub fails : (f.reason ≡ decode_reason.Memory) ⊎ FirstFault file f.at f.reason
 
--- Component k, from 0, is not valid: all files spell components, those before it are valid, and this
--- is its first fault; or there was no memory at an item before which nothing is wrong.
+-- Component k, from 0, is not valid: all files spell components, those before it are valid, and
+-- this is its first fault; or there was no memory at an item before which nothing is wrong.
 pub record IsComponentFault (files : List (List ℕ)) (k : ℕ) (f : ValidFault) : Type 0 where
   pub components : List (List SectionTree)
   pub spelled : AreSpelled files components
@@ -63,8 +63,8 @@ pub record IsComponentFault (files : List (List ℕ)) (k : ℕ) (f : ValidFault)
   pub fails : ((f.reason ≡ valid_reason.Memory) × IsFineBefore component f.section f.item)
       ⊎ IsFaultOf component f.section f.item f.reason
 
--- The components are valid and can't be linked, and this is the first fault; or there was no memory
--- at an import before which all are served.
+-- The components are valid and can't be linked, and this is the first fault; or there was no
+-- memory at an import before which all are served.
 pub record IsLinkingFault (files : List (List ℕ)) (f : LinkFault) : Type 0 where
   pub components : List (List SectionTree)
   pub spelled : AreSpelled files components
