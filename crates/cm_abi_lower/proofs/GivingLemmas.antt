@@ -1,17 +1,19 @@
 -- Giving handles, one after another.
 use Rattle.std.proofs.Common.{inl, inr, ◌≡◌, ℕ, zero, suc, ◌+◌, ◌^◌, ◌<◌, ◌≤◌, Bool, true, false, List, [], ◌∷◌, ◌++◌, length, take, drop, refl, sym, ap, subst, ◌∙◌, arith, get_or, drop-cons, add-one, Some, None}
-use Rattle.std.specs.Prelude.{slice_index, ◌==◌, if◌then◌else◌}
+use Rattle.std.specs.Prelude.{Contains, slice_get, slice_index, ◌==◌, if◌then◌else◌, ◌⊎◌, Option}
 use Rattle.std.specs.List.{All}
 use Rattle.std.specs.Option.{ForSome}
-use Rattle.std.proofs.lemmas.List.Elements.{Contains-append_left, Contains-append_right}
+use Rattle.std.proofs.lemmas.Option.{none-some}
 use Rattle.std.proofs.lemmas.List.{append_assoc, append-nil}
 use Rattle.cm_types.specs.Values.{HandleValue}
+use Rattle.cm_handles.specs.Borrows.{borrows_of}
 use Rattle.cm_handles.specs.Handles.{Handles, IsSoundHandles, handle_at, indices_left}
+use Rattle.cm_handles.specs.declared.handle.Handle.{Handle}
 use Rattle.cm_handles.specs.declared.handle.HandleKind.TheVariants.{Borrowed}
 use Rattle.cm_abi_model.specs.Receives.{AllStand, HandleLeaf, StandsFor, StandsForBorrow, owned_leaf, borrowed_leaf}
 use Rattle.cm_abi_model.specs.Stores.{Given, number_of}
 use Rattle.cm_abi_model.specs.Views.{View}
-use Rattle.cm_abi_lower.specs.Giving.{AllStay, Gives, IsViewOf, NoneElse, added_by, added_count, added_for, after_given, handle_to, number_with, numbers_given, rep_of, with_added}
+use Rattle.cm_abi_lower.specs.Giving.{AllGiven, AllStay, Gives, IsGivenAt, IsViewOf, NoneElse, added_by, added_count, added_for, after_given, borrowed_by, borrowed_count, handle_to, number_with, numbers_given, rep_of, with_added}
 use Rattle.cm_abi_lower.specs.Leaves.{leaf_of, leaves_of}
 use Rattle.cm_abi_lower.specs.declared.leaf.HandleLeaf.{HandleLeaf as CodedLeaf}
 use Rattle.cm_abi_lower.specs.declared.receiver.Receiver.{Receiver}
@@ -100,7 +102,8 @@ pub record SoFar (to : Receiver) (start : Handles) (leaves : List CodedLeaf) (t 
   pub table : after_given to t (leaves_of (drop i leaves)) ≡ after_given to start (leaves_of leaves)
   pub stand : (w : View) (g : Given) → IsViewOf w to t → g.numbers ≡ ns → AllStand w g 0 (leaves_of (take i leaves))
   pub stay : AllStay start t
-  pub none_else : NoneElse start t ns
+  pub added : AllGiven to start t (leaves_of (take i leaves)) ns
+  pub borrows : borrows_of to.call t ≡ borrows_of to.call start + borrowed_count to (leaves_of (take i leaves))
   pub left : indices_left t + added_count to (leaves_of leaves) ≡ indices_left start + added_count to (leaves_of (drop i leaves))
   pub sound : IsSoundHandles t
   pub counted : length ns ≡ i
@@ -113,7 +116,8 @@ none_yet to start leaves ns none sound =
       table = refl;
       stand = λ w g view is. tt;
       stay = λ index h st. st;
-      none_else = λ index h st. inl st;
+      added = λ index h st. inl st;
+      borrows = omega arith;
       left = refl;
       sound = sound;
       counted = rw none refl;
@@ -152,12 +156,48 @@ stand_next to old new w g ns n done leaf before stay count view is here =
     let number_is : number_of g (0 + length done) ≡ n = ap (λ xs. slice_index xs (0 + length done)) is ∙ last_is ns n (0 + length done) (omega (arith, count)) in
     one_behind w g 0 done leaf (all_still was w given g 0 done refl refl still same first) (subst (λ k. StandsFor w k leaf) (sym number_is) here)
 
-still_none_else : (start old new : Handles) (ns : List ℕ) (n : ℕ) → NoneElse start old ns → NoneElse old new (n ∷ []) → NoneElse start new (ns ++ n ∷ [])
-still_none_else start old new ns n before now index h st =
+-- ---- what stands was given
+
+get_front : {X : Type 0} (xs : List X) (y v : X) (j : ℕ) → slice_get xs j ≡ Some v → slice_get (xs ++ y ∷ []) j ≡ Some v
+get_front [] y v j e = absurd (none-some v e)
+get_front (x ∷ xs) y v zero e = e
+get_front (x ∷ xs) y v (suc j) e = get_front xs y v j e
+
+get_last : {X : Type 0} (xs : List X) (y : X) (j : ℕ) → j ≡ length xs → slice_get (xs ++ y ∷ []) j ≡ Some y
+get_last [] y zero is = refl
+get_last [] y (suc j) is = absurd (omega (arith, is))
+get_last (x ∷ xs) y zero is = absurd (omega (arith, is))
+get_last (x ∷ xs) y (suc j) is = get_last xs y j (omega (arith, is))
+
+only_one : (n index : ℕ) → Contains (n ∷ []) index → n ≡ index
+only_one n index (zero, lt, e) = e
+only_one n index (suc k, lt, e) = absurd (omega (arith, lt))
+
+still_given : (to : Receiver) (start : Handles) (done : List HandleLeaf) (leaf : HandleLeaf) (ns : List ℕ) (n index : ℕ) (h : Handle)
+    → (handle_at start index ≡ Some h) ⊎ IsGivenAt to done ns index h → (handle_at start index ≡ Some h) ⊎ IsGivenAt to (done ++ leaf ∷ []) (ns ++ n ∷ []) index h
+still_given to start done leaf ns n index h (inl was) = inl was
+still_given to start done leaf ns n index h (inr given) =
+    inr (given.0, given.1, get_front done leaf given.1 given.0 given.2, given.3, get_front ns n index given.0 given.4)
+
+-- one more handle is given, or none where its representation stands for it
+one_given : (to : Receiver) (start old new : Handles) (done : List HandleLeaf) (leaf : HandleLeaf) (ns : List ℕ) (n : ℕ) (o : Option Handle)
+    → added_for to leaf ≡ o → new ≡ with_added old o → ForSome o (λ x. handle_at new n ≡ Some x) → length ns ≡ length done
+    → AllGiven to start old done ns → NoneElse old new (n ∷ []) → AllGiven to start new (done ++ leaf ∷ []) (ns ++ n ∷ [])
+one_given to start old new done leaf ns n None adds table here count before now index h st =
+    still_given to start done leaf ns n index h (before index h (ap (λ t. handle_at t index) (sym table) ∙ st))
+one_given to start old new done leaf ns n (Some x) adds table here count before now index h st =
     elim (now index h st) [
-      | inl was ↦ elim (before index h was) [ inl first ↦ inl first | inr given ↦ inr (Contains-append_left ns (n ∷ []) index given) ]
-      | inr this ↦ inr (Contains-append_right ns (n ∷ []) index this)
+      | inl was ↦ still_given to start done leaf ns n index h (before index h was)
+      | inr this ↦ (let is : n ≡ index = only_one n index this in
+          let same : Some x ≡ Some h = sym (here x refl) ∙ (ap (λ k. handle_at new k) is ∙ st) in
+          inr (length done, leaf, get_last done leaf (length done) refl, adds ∙ same, get_last ns n (length done) (sym count) ∙ ap (λ k. Some k) is))
     ]
+
+-- ---- how many are borrowed
+
+borrowed_more : (to : Receiver) (done : List HandleLeaf) (leaf : HandleLeaf) → borrowed_count to (done ++ leaf ∷ []) ≡ borrowed_count to done + borrowed_by to leaf
+borrowed_more to [] leaf = omega arith
+borrowed_more to (l ∷ done) leaf = let rest = borrowed_more to done leaf in omega (arith, rest)
 
 pub one_more : (to : Receiver) (start old new : Handles) (leaves : List CodedLeaf) (ns behind : List ℕ) (n i : ℕ) (d : CodedLeaf) → i < length leaves
     → SoFar to start leaves old ns i → behind ≡ ns ++ n ∷ []
@@ -165,9 +205,10 @@ pub one_more : (to : Receiver) (start old new : Handles) (leaves : List CodedLea
     → new ≡ with_added old (added_for to (leaf_of (get_or leaves i d)))
     → ForSome (added_for to (leaf_of (get_or leaves i d))) (λ h. handle_at new n ≡ Some h)
     → AllStay old new → NoneElse old new (n ∷ [])
+    → borrows_of to.call new ≡ borrows_of to.call old + borrowed_by to (leaf_of (get_or leaves i d))
     → indices_left new + added_by (added_for to (leaf_of (get_or leaves i d))) ≡ indices_left old
     → IsSoundHandles new → n < 2 ^ 32 → SoFar to start leaves new behind (i + 1)
-one_more to start old new leaves ns behind n i d lt so is number table here stay others left sound small =
+one_more to start old new leaves ns behind n i d lt so is number table here stay others borrows left sound small =
     let next = next_leaf leaves i d lt in
     let counts = count_next to leaves i d lt in
     record {
@@ -180,7 +221,9 @@ one_more to start old new leaves ns behind n i d lt so is number table here stay
           rw (taken_more leaves i d lt) (stand_next to old new w g ns n (leaves_of (take i leaves)) (leaf_of (get_or leaves i d)) so.stand stay
           (so.counted ∙ sym (taken_length leaves i (omega (arith, lt)))) view (are ∙ is) (now_stands to old new w n (leaf_of (get_or leaves i d)) view number here));
       stay = λ index h st. stay index h (so.stay index h st);
-      none_else = λ index h st. rw is (still_none_else start old new ns n so.none_else others index h st);
+      added = λ index h st. rw (is, taken_more leaves i d lt) (one_given to start old new (leaves_of (take i leaves)) (leaf_of (get_or leaves i d)) ns n (added_for to (leaf_of (get_or leaves i d))) refl table here
+          (so.counted ∙ sym (taken_length leaves i (omega (arith, lt)))) so.added others index h st);
+      borrows = (let more = ap (borrowed_count to) (taken_more leaves i d lt) ∙ borrowed_more to (leaves_of (take i leaves)) (leaf_of (get_or leaves i d)) in omega (arith, so.borrows, borrows, more));
       left = omega (arith, so.left, left, counts);
       sound = sound;
       counted = rw is (length_one ns n ∙ ap (λ k. k + 1) so.counted);
@@ -197,7 +240,8 @@ all_given to start new leaves ns i past so =
       table = ap (λ ls. after_given to new (leaves_of ls)) (sym none) ∙ so.table;
       stand = λ w g view is. subst (λ ls. AllStand w g 0 (leaves_of ls)) all (so.stand w g view is);
       stay = so.stay;
-      none_else = so.none_else;
+      added = subst (λ ls. AllGiven to start new (leaves_of ls) ns) all so.added;
+      borrows = so.borrows ∙ ap (λ ls. borrows_of to.call start + borrowed_count to (leaves_of ls)) all;
       left = so.left ∙ (ap (λ ls. indices_left start + added_count to (leaves_of ls)) none ∙ omega arith);
       sound = so.sound;
       small = so.small;

@@ -1,9 +1,10 @@
 -- The handles that a receiver gets for those of a value (CanonicalABI.md, "Storing" of own and
 -- borrow, `lower_own` and `lower_borrow`).
 use Rattle.std.specs.Prelude.{◌≡◌, ℕ, ◌+◌, ◌<◌, ◌^◌, ◌==◌, ◌⊎◌, if◌then◌else◌, List, [], ◌∷◌}
-use Rattle.std.specs.Prelude.{Contains, Option, Some, None}
+use Rattle.std.specs.Prelude.{Contains, Option, Some, None, slice_get}
 use Rattle.std.specs.List.{All}
 use Rattle.cm_types.specs.Values.{HandleValue}
+use Rattle.cm_handles.specs.Borrows.{borrows_of}
 use Rattle.cm_handles.specs.Handles.{Handles, IsSoundHandles, after_add, handle_at}
 use Rattle.cm_handles.specs.Handles.{indices_left, next_index}
 use Rattle.cm_handles.specs.declared.handle.Handle.{Handle}
@@ -68,6 +69,16 @@ abbrev pub added_count : Receiver → List HandleLeaf → ℕ
 added_count to [] = 0
 added_count to (leaf ∷ leaves) = added_by (added_for to leaf) + added_count to leaves
 
+-- how many handles the table gets that are borrowed for the call: one for each borrow of a resource
+-- that the receiver does not implement
+abbrev pub borrowed_by : Receiver → HandleLeaf → ℕ
+borrowed_by to (owned_leaf h) = 0
+borrowed_by to (borrowed_leaf h) = if h.resource.component == to.instance then 0 else 1
+
+abbrev pub borrowed_count : Receiver → List HandleLeaf → ℕ
+borrowed_count to [] = 0
+borrowed_count to (leaf ∷ leaves) = borrowed_by to leaf + borrowed_count to leaves
+
 -- each handle that stood stands as it was
 abbrev pub AllStay : Handles → Handles → Type 0
 AllStay old new =
@@ -79,9 +90,23 @@ NoneElse old new ns =
     (index : ℕ) (h : Handle) → handle_at new index ≡ Some h
     → (handle_at old index ≡ Some h) ⊎ Contains ns index
 
+-- the handle is what the table gets for one of these handles of a value, and the number of that one
+-- is the index
+abbrev pub IsGivenAt : Receiver → List HandleLeaf → List ℕ → ℕ → Handle → Type 0
+IsGivenAt to leaves ns index h =
+    (j : ℕ) × (leaf : HandleLeaf) × (slice_get leaves j ≡ Some leaf)
+    × (added_for to leaf ≡ Some h) × (slice_get ns j ≡ Some index)
+
+-- each handle that stands now stood before, or was given at its index
+abbrev pub AllGiven : Receiver → Handles → Handles → List HandleLeaf → List ℕ → Type 0
+AllGiven to old new leaves ns =
+    (index : ℕ) (h : Handle) → handle_at new index ≡ Some h
+    → (handle_at old index ≡ Some h) ⊎ IsGivenAt to leaves ns index h
+
 -- The handles of a value were given: the table got what it is to get, each at the next index, and
 -- these numbers of 32 bits stand for them, also as the receiver sees them. No handle that stood is
--- changed, none stands at another index, and so many indices fewer are left.
+-- changed, each other one that stands was given at its index, and so many indices fewer are left,
+-- and so many handles more are borrowed for the call.
 pub record Gives (to : Receiver) (old new : Handles) (leaves : List HandleLeaf) (ns : List ℕ)
     : Type 0 where
   pub numbers : ns ≡ numbers_given to old leaves
@@ -89,6 +114,7 @@ pub record Gives (to : Receiver) (old new : Handles) (leaves : List HandleLeaf) 
   pub table : new ≡ after_given to old leaves
   pub stand : (w : View) (g : Given) → IsViewOf w to new → g.numbers ≡ ns → AllStand w g 0 leaves
   pub stay : AllStay old new
-  pub none_else : NoneElse old new ns
+  pub added : AllGiven to old new leaves ns
+  pub borrows : borrows_of to.call new ≡ borrows_of to.call old + borrowed_count to leaves
   pub left : indices_left new + added_count to leaves ≡ indices_left old
   pub sound : IsSoundHandles new

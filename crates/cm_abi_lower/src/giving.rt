@@ -1,10 +1,12 @@
 //! Giving handles to a receiver.
 
 ghost use Rattle.std.specs.Prelude.{◌≡◌, ◌↔◌, ◌+◌, ◌<◌, ◌≤◌, ◌⊎◌, ◌∷◌, [], IfErr, IfOk, IsErrOf};
-ghost use Rattle.std.specs.Prelude.{IsOk, OnErr, OnOk, Some, length, vec_capacity};
+ghost use Rattle.std.specs.Prelude.{IsOk, OnErr, OnOk, Some, length, vec_capacity, ℕ};
+ghost use Rattle.std.specs.Prelude.{if◌then◌else◌};
 ghost use Rattle.std.specs.Option.{ForSome};
 ghost use Rattle.cm_types.specs.Types.{Fields};
 ghost use Rattle.cm_types.specs.Values.{HasType, parts};
+ghost use Rattle.cm_handles.specs.Borrows.{borrows_by, borrows_of};
 ghost use Rattle.cm_handles.specs.Handles.{IsSoundHandles, after_add, handle_at, indices_left};
 ghost use Rattle.cm_handles.specs.Handles.{next_index};
 ghost use Rattle.cm_layout.specs.Layouts.{layout_of};
@@ -13,13 +15,15 @@ ghost use Rattle.cm_types.specs.ValueTrees.{values_of};
 ghost use Rattle.cm_abi_model.specs.Receives.{leaves_in};
 ghost use Rattle.cm_abi_model.specs.Requests.{tuple_of};
 ghost use Rattle.cm_abi_lower.specs.Giving.{AllStay, Gives, NoneElse, added_by, added_count};
-ghost use Rattle.cm_abi_lower.specs.Giving.{added_for, handle_to, number_with, rep_of, with_added};
+ghost use Rattle.cm_abi_lower.specs.Giving.{added_for, borrowed_by, borrowed_count, handle_to};
+ghost use Rattle.cm_abi_lower.specs.Giving.{number_with, rep_of, with_added};
 ghost use Rattle.cm_abi_lower.specs.Leaves.{leaf_of, leaves_of, value_in};
 
 use crate::leaf::{HandleLeaf, HandleValue};
 use crate::leaves::leaves;
 use crate::receiver::Receiver;
 use cm_abi_model::AbiFault;
+use cm_handles::laws::borrows_are_counted;
 use cm_handles::{Handle, HandleFault, HandleKind, Table};
 use cm_layout::Layout;
 use cm_types::Value;
@@ -54,6 +58,16 @@ fn added_for(to: Receiver, leaf: HandleLeaf) -> Option<Handle>
     }
 }
 
+/// Whether the receiver's table gets a handle that is borrowed for the call.
+fn is_borrowed(to: Receiver, leaf: HandleLeaf) -> bool
+    ensures { (if result then 1 else 0) ≡ borrowed_by to (leaf_of leaf) }
+{
+    match leaf {
+        HandleLeaf::Owned(_) => false,
+        HandleLeaf::Borrowed(value) => value.resource.component != to.instance,
+    }
+}
+
 /// The representation of the resource of a handle.
 fn rep_of(leaf: HandleLeaf) -> u32
     ensures { result ≡ rep_of (leaf_of leaf) }
@@ -76,6 +90,22 @@ fn added_count(to: Receiver, leaves: &[HandleLeaf]) -> usize
     count
 }
 
+/// How many handles are borrowed for the call among those that the receiver's table gets for the
+/// handles of a value: one for each borrow of a resource that the receiver does not implement
+/// (CanonicalABI.md, "Storing", `lower_borrow`).
+pub fn borrowed_count(to: Receiver, leaves: &[HandleLeaf]) -> usize
+    ensures count { result ≡ borrowed_count to (leaves_of leaves.now) }
+    ensures most { result ≤ length leaves.now }
+{
+    let mut count = 0;
+    for leaf in leaves {
+        if is_borrowed(to, *leaf) {
+            count += 1;
+        }
+    }
+    count
+}
+
 /// Adds a handle to a table that has room.
 fn add_handle(table: &mut Table, handle: Handle) -> u32
     requires { 0 < table.old.room }
@@ -84,10 +114,13 @@ fn add_handle(table: &mut Table, handle: Handle) -> u32
     ensures here { handle_at table.new.handles result ≡ Some handle }
     ensures stay { AllStay table.old.handles table.new.handles }
     ensures none_else { NoneElse table.old.handles table.new.handles (result ∷ []) }
+    ensures borrows { (call : ℕ) → borrows_of call table.new.handles
+        ≡ borrows_of call table.old.handles + borrows_by call handle }
     ensures left { indices_left table.new.handles + 1 ≡ indices_left table.old.handles }
     ensures room { table.old.room ≤ table.new.room + 1 }
     ensures sound { IsSoundHandles table.new.handles }
 {
+    borrows_are_counted();
     match table.add(handle) {
         Ok(index) => index,
         Err(_) => unreachable!(),
@@ -106,6 +139,8 @@ fn give_one(table: &mut Table, to: Receiver, leaf: HandleLeaf) -> u32
         handle_at table.new.handles result ≡ Some h) }
     ensures stay { AllStay table.old.handles table.new.handles }
     ensures none_else { NoneElse table.old.handles table.new.handles (result ∷ []) }
+    ensures borrows { borrows_of to.call table.new.handles
+        ≡ borrows_of to.call table.old.handles + borrowed_by to (leaf_of leaf) }
     ensures left { indices_left table.new.handles + added_by (added_for to (leaf_of leaf))
         ≡ indices_left table.old.handles }
     ensures room { table.old.room

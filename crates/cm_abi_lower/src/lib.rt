@@ -13,7 +13,7 @@ mod passing;
 mod receiver;
 
 pub use calls::store_call;
-pub use giving::{give, give_values};
+pub use giving::{borrowed_count, give, give_values};
 pub use leaf::{HandleLeaf, HandleValue};
 pub use passing::pass_value;
 pub use receiver::Receiver;

@@ -64,7 +64,7 @@ pub record IsSoundTable (s : TableState) : Type 0 where
   pub freed_room : length s.handles.freed ≤ s.room
   pub room_left : s.room ≤ indices_left s.handles
 
--- This stands at the index now, and what stood at each other index stands there still.
+-- the table has this at the index now, and at each other index what it had there
 pub record Changes (old new : Handles) (index : ℕ) (slot : Option Handle) : Type 0 where
   pub here : handle_at new index ≡ slot
   pub others : (other : ℕ) → (other ≡ index → ⊥) → handle_at new other ≡ handle_at old other

@@ -1,4 +1,5 @@
-//! Handle tables: which resource stands under which index of an instance.
+//! Handle tables: which resource each index of an instance stands for (CanonicalABI.md, "Table
+//! State").
 #![tactic(auto)]
 
 mod fault;

@@ -10,7 +10,7 @@ use cm_types::ResourceId;
 /// bytes where `Used(Handle)` would take 64.
 #[derive(Clone, Copy)]
 pub enum Slot {
-    /// Nothing, and the index that was freed last before this one.
+    /// No handle; the index is free, and this is the one that was freed last before it.
     Free(u32),
     /// An owned handle.
     Owned {

@@ -23,7 +23,7 @@ join_slots [] ys = ys
 join_slots (x ∷ xs) [] = x ∷ xs
 join_slots (x ∷ xs) (y ∷ ys) = join x y ∷ join_slots xs ys
 
--- the same from a slot on: the slots before it stay
+-- two lists of kinds, joined from a slot on: the slots before it stay
 abbrev pub join_from : ℕ → List CoreKind → List CoreKind → List CoreKind
 join_from zero xs ys = join_slots xs ys
 join_from (suc n) [] ys = ys
@@ -52,7 +52,7 @@ abbrev mutual
   flat_of (own r) = I32 ∷ []
   flat_of (borrow r) = I32 ∷ []
 
-  -- those of fields, one after another
+  -- the core values that fields are passed as, one field after another
   pub flat_of_fields : Fields → List CoreKind
   flat_of_fields no_fields = []
   flat_of_fields (field l t fs) = flat_of t ++ flat_of_fields fs

@@ -82,7 +82,7 @@ head_of t =
       is_bulk = is_bulk t;
     }
 
--- those of fields, as of the tuple of them
+-- what fields take, as the tuple of them does
 abbrev pub head_of_fields : Fields → Head
 head_of_fields fs = head_of (fields tuple_type fs)
 
@@ -122,6 +122,6 @@ abbrev mutual
 abbrev pub layout_at : Ty → LayoutTy
 layout_at t = record { head = head_of t; shape = shape_of_type t }
 
--- that of fields, as of the tuple of them
+-- the layout of fields, as that of the tuple of them
 abbrev pub layout_of_fields_at : Fields → LayoutTy
 layout_of_fields_at fs = layout_at (fields tuple_type fs)

@@ -9,7 +9,7 @@ use Rattle.cm_types.specs.Types.{list, fixed_list, fields, cases, flags, own, bo
 use Rattle.cm_types.specs.Types.{field, no_cases, plain, carrying}
 use Rattle.cm_layout.specs.Alignment.{IsLeastMultiple, align_to}
 
--- how many cases
+-- how many cases a type has
 abbrev pub case_count : Cases → ℕ
 case_count no_cases = 0
 case_count (plain l cs) = suc (case_count cs)
@@ -89,7 +89,7 @@ field_offset_from (field l t fs) at zero = align_to (align_of t) at
 field_offset_from (field l t fs) at (suc n) =
     field_offset_from fs (align_to (align_of t) at + size_of t) n
 
--- how many fields
+-- how many fields a record or a tuple has
 abbrev pub field_count : Fields → ℕ
 field_count no_fields = 0
 field_count (field l t fs) = suc (field_count fs)
@@ -141,7 +141,7 @@ abbrev pub discriminant_size_of : Ty → ℕ
 discriminant_size_of (cases k cs) = discriminant_size (case_count cs)
 discriminant_size_of _ = 0
 
--- where the payload stands in such a type
+-- where the payload stands in a type that has cases
 abbrev pub case_offset : Ty → ℕ
 case_offset (cases k cs) = payload_offset cs
 case_offset _ = 0

@@ -14,7 +14,7 @@ pub(crate) struct CasesSoFar {
 }
 
 impl CasesSoFar {
-    /// None.
+    /// What no cases take.
     pub(crate) fn none() -> CasesSoFar
         ensures { result ≡ record { size = 0; align = 1; width = 0 } }
     {

@@ -19,7 +19,7 @@ pub(crate) struct FieldsSoFar {
 }
 
 impl FieldsSoFar {
-    /// None.
+    /// What no fields take.
     pub(crate) fn none() -> FieldsSoFar
         ensures { result ≡ record { end = 0; align = 1; width = 0; is_bulk = true } }
     {

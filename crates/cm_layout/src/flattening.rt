@@ -111,7 +111,7 @@ fn join_copies(
     Ok(end)
 }
 
-/// The same of fields.
+/// Joins the core values of fields.
 #[cycle(flat)]
 #[tactic(auto, using(crate::proofs::FlatLemmas::flats))]
 pub(crate) fn join_fields(

@@ -19,7 +19,7 @@ pub struct Head {
 }
 
 impl Head {
-    /// That of a number of so many bytes.
+    /// What a number of so many bytes takes.
     pub(crate) fn number(bytes: u32) -> Head
         ensures { result ≡ record { size = bytes; align = bytes; width = 1; is_bulk = true } }
     {
@@ -31,7 +31,7 @@ impl Head {
         }
     }
 
-    /// That of so many bytes that are passed as one core value and are no number.
+    /// What so many bytes take that are passed as one core value and are no number.
     pub(crate) fn unit(bytes: u32) -> Head
         ensures { result ≡ record { size = bytes; align = bytes; width = 1; is_bulk = false } }
     {
@@ -43,7 +43,7 @@ impl Head {
         }
     }
 
-    /// That of a pointer and a length.
+    /// What a pointer and a length take.
     pub(crate) fn pointer_and_length() -> Head
         ensures { result ≡ record { size = 8; align = 4; width = 2; is_bulk = false } }
     {
@@ -55,7 +55,7 @@ impl Head {
         }
     }
 
-    /// That of so many of these, one behind the other.
+    /// What so many of these take, one behind the other.
     pub(crate) fn repeated(self, count: u32) -> Head
         requires fits { count * self.size < 2 ^ 32 }
         requires narrow { count * self.width < 2 ^ 32 }

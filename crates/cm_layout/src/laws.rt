@@ -15,7 +15,7 @@ pub fn sizes_of_numbers()
     ensures flags { (n : ℕ) → n ≤ 32 → IsLeastBytes (λ b. n ≤ 8 * b) (flags_size n) }
 {}
 
-/// In each layout what a type holds lies within it and does not meet, and what is marked as plain
+/// In each layout the parts of a type lie inside it and do not overlap, and what is marked as plain
 /// bytes is numbers, one behind the other.
 pub fn layouts()
     ensures laid { (t : Ty) → Laid (size_of t) (shape_of_type t) }

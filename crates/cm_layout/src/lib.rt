@@ -1,8 +1,8 @@
-//! How values of component types lie in memory, and how many core values pass them
-//! (CanonicalABI.md, "Alignment", "Element Size" and "Flattening").
+//! How values of component types lie in memory, and which core values pass them (CanonicalABI.md,
+//! "Alignment", "Element Size" and "Flattening").
 //!
-//! The core values that values of component types are passed as, and the core signatures of
-//! functions (CanonicalABI.md, "Flattening").
+//! Sizes, alignments and offsets are there one by one, and as one tree for a type and each type in
+//! it (`Layout`); `flatten` and `flatten_func` list core values and make core signatures.
 #![tactic(auto)]
 
 mod builders;

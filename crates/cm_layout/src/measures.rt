@@ -65,7 +65,7 @@ pub(crate) fn fields_so_far(row: &[Field]) -> FieldsSoFar
     so_far
 }
 
-/// The same of the parts of a tuple.
+/// What the fields of this tuple take, which have at most 10,000 nodes.
 #[cycle(heads)]
 #[tactic(auto, using(crate::proofs::HeadLaws::heads))]
 pub(crate) fn parts_so_far(row: &[TypeNode]) -> FieldsSoFar

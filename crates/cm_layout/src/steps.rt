@@ -99,8 +99,8 @@ impl Layout {
         })
     }
 
-    /// The same layout once more: what is below it is shared with this one. `AllocError` comes
-    /// where it is shared too often to be counted, which is 2^64 times.
+    /// This layout again: what is below it is shared. `AllocError` comes where it is shared too
+    /// often to be counted, which is 2^64 times.
     pub fn share(&self) -> Result<Layout, AllocError>
         ensures { IfOk result (λ l. layout_of l ≡ layout_of self.now) }
     {

@@ -6,7 +6,7 @@ use Rattle.cm_validate_model.specs.Spaces.{Spaces}
 use Rattle.cm_match_model.specs.Imports.{ImportAt, all_imports_from, imports_from}
 use Rattle.cm_match_model.specs.Links.{IsServed}
 
--- those of one component
+-- the imports of one component
 abbrev pub imports_at : List Spaces → ℕ → List ImportAt
 imports_at set component =
     option_map_or (λ s. imports_from component 0 s.imports) (slice_get set component) []
@@ -16,7 +16,7 @@ abbrev pub imports_before : List Spaces → ℕ → ℕ → List ImportAt
 imports_before set component number =
     all_imports_from 0 (take component set) ++ take number (imports_at set component)
 
--- all of these are served
+-- all imports before one are served
 abbrev pub AreServedBefore : List Spaces → ℕ → ℕ → Type 0
 AreServedBefore set component number =
     AllByRecursion (IsServed set) (imports_before set component number)

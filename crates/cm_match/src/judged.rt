@@ -58,7 +58,7 @@ impl Judged {
     ghost use Rattle.cm_match.specs.Pairs.{AreJudged, IsNoted, IsPairOf};
     ghost use Rattle.cm_match_serving.specs.Answers.{JudgesImport};
 
-    /// Nothing is judged yet of these components. `AllocError` comes where there is no memory.
+    /// No import of these components is judged yet. `AllocError` comes where there is no memory.
     pub fn new(alloc: Global, components: &[Checked<'_>]) -> Result<Judged, AllocError>
         ensures { IfOk result (AreJudged components.now) }
     {
@@ -90,8 +90,8 @@ impl Judged {
         }
     }
 
-    /// Why the import of a number of a component is not served, if it is not, as
-    /// [`Tables::import_fault`] tells it. `AllocError` comes where there is no memory.
+    /// Why the import of a number of a component is not served, if it is not, by
+    /// [`Tables::import_fault`]. `AllocError` comes where there is no memory.
     ///
     /// An instance is compared, item by item, once for each pair of its type and the instance that
     /// is exported, however many imports and exports have them.

@@ -1,6 +1,7 @@
-//! Linking: the imports of each component and the exports of those before it. Each pair of an
-//! instance's type and an exported instance is compared once, however many imports and exports
-//! have them.
+//! Linking: each import of a component is served by an export of a component before it.
+//!
+//! Each pair of an instance type and an exported instance is compared once, however many imports
+//! and exports have them.
 #![tactic(auto)]
 
 mod following;

@@ -46,7 +46,7 @@ IsBrought resources import number (fresh_resource r) =
     slice_get resources r.number ≡ Some (brought import number)
 IsBrought resources import number d = ⊤
 
--- the same of items that are numbered from one on
+-- items numbered from one on bring the resources of their numbers
 abbrev pub AreBrought : List ResourceDef → ℕ → ℕ → List NamedItem → Type 0
 AreBrought resources import number [] = ⊤
 AreBrought resources import number (i ∷ is) =

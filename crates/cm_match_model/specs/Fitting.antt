@@ -46,7 +46,7 @@ named_export component number name =
 abbrev pub candidates : List NamedExport → List ℕ → List NamedExport
 candidates exports wanted = filter (λ e. fits wanted e.name) exports
 
--- none of them, the only one, or more than one
+-- none of the candidates, the only one, or more than one
 abbrev pub only : List NamedExport → Candidate
 only [] = candidate.None
 only (e ∷ []) = candidate.One e.component e.number

@@ -31,7 +31,7 @@ from_greatest g least =
     else if has_from least g.next then candidate.Several
     else candidate.One g.component g.export
 
--- the same, where the row may have none
+-- the exports of a row, which may have none, whose versions are not before this one
 abbrev pub from_row : Option Greatest → Parts → Candidate
 from_row None least = candidate.None
 from_row (Some g) least = from_greatest g least

@@ -61,7 +61,7 @@ all_exports_from component (s ∷ ss) =
 abbrev pub exports_before : List Spaces → ℕ → List NamedExport
 exports_before set component = all_exports_from 0 (take component set)
 
--- those of them that may serve an import, by its name
+-- those exports that may serve an import, by its name
 abbrev pub candidates : List Spaces → ℕ → NamedExtern → List NamedExport
 candidates set component item = fitting.candidates (exports_before set component) item.name
 

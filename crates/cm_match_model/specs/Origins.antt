@@ -99,12 +99,12 @@ abbrev pub AreOrigins : List Spaces → Links → Table → Type 0
 AreOrigins set links table = (r : ResourceId)
     → table r ≡ option_map (origin_by set links table r) (definition_of set r)
 
--- the same, for the resources of so many components
+-- the table of what each resource of so many components is in the end
 abbrev pub origin_within : ℕ → List Spaces → Links → Table
 origin_within zero set links r = None
 origin_within (suc count) set links r =
     option_map (origin_by set links (origin_within count set links) r) (definition_of set r)
 
--- and of each component
+-- what each resource of each component is in the end
 abbrev pub origin_of : List Spaces → Links → Table
 origin_of set links r = origin_within (suc r.component) set links r

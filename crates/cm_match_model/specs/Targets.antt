@@ -55,7 +55,7 @@ serving_func set links component import item =
 abbrev pub Targets : Type 0
 Targets = ℕ → ℕ → Option ℕ → Option Target
 
--- the target of a function: a lift is one itself, and an import has that of what serves it
+-- the target of a function: a lift is its own target, and an import has the target of its provider
 abbrev pub target_by : Targets → ℕ → FuncDef → Option Target
 target_by targets component (lifted f ty os) =
     Some (record { component = component; core_func = f; ty = ty; options = os })
@@ -71,14 +71,14 @@ AreTargets set links targets =
     → targets component import item
     ≡ option_and_then (target_of targets) (serving_func set links component import item)
 
--- the same, for the imports of the components before this one
+-- the targets of the imports of the components before this one
 abbrev pub target_within : ℕ → List Spaces → Links → Targets
 target_within zero set links component import item = None
 target_within (suc count) set links component import item =
     option_and_then (target_of (target_within count set links))
     (serving_func set links component import item)
 
--- and of each component
+-- the targets of the imports of each component
 abbrev pub targets_of : List Spaces → Links → Targets
 targets_of set links component import item =
     target_within (suc component) set links component import item

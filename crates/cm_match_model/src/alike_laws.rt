@@ -82,8 +82,8 @@ pub fn items_are_alike()
     imports_bring_in_order();
 }
 
-/// What serves the one of two such imports serves the other; and where it does not serve the one,
-/// it does not serve the other, for the same reason.
+/// An export that serves one of two such imports serves the other; one that does not serve the one
+/// does not serve the other, for the same reason.
 pub fn what_serves_one_serves_both()
     ensures served { (components : List (List SectionTree)) (c j k d : ℕ) (t : InstanceTy)
         (a b : ℕ) (e : ExportDef) → OwnsWhatItBrings t

@@ -39,7 +39,7 @@ fn has_from(least: &Version, version: &Option<Version>) -> bool
 }
 
 impl Greatest {
-    /// One export alone.
+    /// A row of one export alone.
     pub fn new(version: Version, component: usize, export: usize) -> Greatest
         ensures { (least : Parts) → from_greatest result least
             ≡ if_not_below (is_below (parts_of version) least) (candidate.One component export) }

@@ -21,12 +21,12 @@ ghost use Rattle.cm_match_model.specs.Targets.{targets_of};
 
 use cm_validate_model::function_laws::{functions_are_as_imported, what_functions_name_is_there};
 
-/// What an import is linked to is an export of an earlier component.
+/// An import is linked to an export of an earlier component.
 pub fn links_lead_earlier()
     ensures { (set : List Spaces) → LeadEarlier (links_of set) }
 {}
 
-/// What an import is linked to is there.
+/// An import is linked to an export that is there.
 pub fn links_name_exports()
     ensures { (set : List Spaces) (c n : ℕ) (l : Link) → links_of set c n ≡ Some l
         → (e : ExportDef) × (export_in set l.component l.export ≡ Some e) }
@@ -75,8 +75,8 @@ pub fn imported_functions_reach_lifts()
     functions_are_as_imported();
 }
 
-/// Where components are valid, what an imported function comes to is a lift of a guest's core
-/// function of its component, with options that name what is there and that its type needs.
+/// Where components are valid, an imported function comes to a lift of a guest's core function of
+/// its component, with options that name what is there and that its type needs.
 pub fn targets_are_lifts()
     ensures { (components : List (List SectionTree)) → AllByRecursion IsValid components
         → (c import : ℕ) (item : Option ℕ) (t : Target)

@@ -1,7 +1,7 @@
-//! Which sets of components can be linked, of every form, as definitions with laws: the plan of a
-//! set, and why it can't be linked; what a resource is in the end; which imports are served alike.
+//! Which sets of components can be linked, and what a resource is in the end: definitions and laws.
 //!
-//! Which exports an import may be linked to, by their names and versions.
+//! They cover every form: the plan of a set, why a set cannot be linked, which exports fit an
+//! import by name and version, and which imports are served alike.
 #![tactic(auto)]
 
 pub mod alike_laws;

@@ -44,7 +44,7 @@ fn leading(version: &Version) -> (u64, u64, u64)
 }
 
 impl Series {
-    /// That of a name without a version.
+    /// The series of a name without a version.
     pub fn unversioned(name: String) -> Series
         ensures { series_view result ≡ unversioned_row (string_bytes name) }
     {
@@ -57,7 +57,7 @@ impl Series {
         }
     }
 
-    /// That of the releases that are compatible with a version.
+    /// The series of the releases that are compatible with a version.
     pub fn releases(name: String, version: &Version) -> Series
         ensures { series_view result
             ≡ releases_row (string_bytes name) (parts_of version.now) }
@@ -72,7 +72,7 @@ impl Series {
         }
     }
 
-    /// That of the pre-releases of the release that a version is, or leads to.
+    /// The series of the pre-releases of the release that a version is, or leads to.
     pub fn prereleases(name: String, version: &Version) -> Series
         ensures { series_view result
             ≡ prereleases_row (string_bytes name) (parts_of version.now) }

@@ -16,7 +16,8 @@ components_in l = l.components.now
 abbrev pub set_in : Linking → List Spaces
 set_in l = set_of (components_in l)
 
--- what they tell of their resources, with each import linked to its only candidate
+-- what the components of a set tell of their resources, with each import linked to its only
+-- candidate
 abbrev pub told_of : Linking → Told
 told_of l =
     record {

@@ -36,7 +36,7 @@ fn func_type(func: FuncEntry<'_>) -> Placed
     }
 }
 
-/// That a type is another one, where it is not the same.
+/// `DifferentType`, where a type is not the same.
 fn unless_same(same: bool) -> Option<LinkReason>
     ensures { result ≡ if same then None else Some reason.DifferentType }
 {

@@ -1,8 +1,6 @@
-//! Whether what a component exports serves what another imports: what is of the same type, once
-//! each resource is what it is in the end.
+//! Whether an export serves an import: the names that fit, and the types that are equal.
 //!
-//! What each import of a set of components may be linked to, by its name, and what follows for the
-//! resources of the set.
+//! Types are compared once each resource is replaced by what it is in the end.
 #![tactic(auto)]
 
 mod by_name;

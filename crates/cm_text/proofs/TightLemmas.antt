@@ -75,7 +75,7 @@ pub narrowed_text : (cs bytes new : List ℕ) → IsText IsScalar spell_utf16 cs
 narrowed_text cs bytes new text ascii is =
     is ∙ ap first_bytes (sym text.is ∙ ascii_utf16 cs ascii) ∙ first-wide cs ∙ sym (ascii_utf8 cs ascii)
 
--- bytes that are ASCII as a whole, and units
+-- the size in UTF-16 of bytes that are ASCII as a whole
 pub ascii_of_size : (bytes : List ℕ) → prefix_len is_ascii bytes ≡ length bytes → IsTextOfSize IsScalar spell_utf8 spell_utf16 bytes (2 * length bytes)
 ascii_of_size bytes whole =
     let all : AreAscii bytes = subst AreAscii (take_all (prefix_len is_ascii bytes) bytes (omega arith)) (ascii_in_run bytes) in
@@ -85,6 +85,13 @@ ascii_of_size bytes whole =
       size_is = ap length (ascii_utf16 bytes all) ∙ length-wide bytes;
     }
 
+-- their size in UTF-8, which is their own
+pub ascii_of_own_size : (bytes : List ℕ) → prefix_len is_ascii bytes ≡ length bytes → IsTextOfSize IsScalar spell_utf8 spell_utf8 bytes (length bytes)
+ascii_of_own_size bytes whole =
+    let wide = ascii_of_size bytes whole in
+    record { scalars = wide.scalars; text = wide.text; size_is = ap length wide.text.is }
+
+-- the size in UTF-8 of units that are ASCII as a whole
 pub ascii_units_of_size : (bytes : List ℕ) (n : ℕ) → n ≡ prefix_len is_ascii (units bytes) → 2 * n ≡ length bytes → IsTextOfSize IsScalar spell_utf16 spell_utf8 bytes n
 ascii_units_of_size bytes n is whole =
     let run = unit_run_of bytes n is in

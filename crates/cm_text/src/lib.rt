@@ -1,4 +1,4 @@
-//! Texts in UTF-8, UTF-16 and Latin-1.
+//! Texts in UTF-8, UTF-16 and Latin-1, and conversions between them.
 #![tactic(auto)]
 
 mod encoding;

@@ -40,7 +40,7 @@ fn units_begun(byte: u8) -> usize
     }
 }
 
-/// The same over the sixteen bytes from `at` on.
+/// How many units of UTF-16 the scalars take that begin in the sixteen bytes from `at` on.
 #[inline(always)]
 fn units_begun_in(bytes: &[u8], at: usize) -> usize
     requires { at + 16 ≤ length bytes.now }
@@ -87,7 +87,7 @@ fn bytes_taken(unit: u32) -> usize
     }
 }
 
-/// The same over the sixteen units of these first and second bytes.
+/// How many bytes of UTF-8 the sixteen units of these first and second bytes take.
 #[inline(always)]
 fn bytes_taken_of(low: u8x16, high: u8x16) -> usize
     ensures { result ≡ sum_by bytes_taken (zip2 unit low high) }
@@ -97,7 +97,7 @@ fn bytes_taken_of(low: u8x16, high: u8x16) -> usize
         - count_from(high, 0xD8)
 }
 
-/// The same over the sixteen units from `at` on.
+/// How many bytes of UTF-8 the sixteen units from `at` on take.
 #[inline(always)]
 fn bytes_taken_in(bytes: &[u8], at: usize) -> usize
     requires { at + 32 ≤ length bytes.now }
@@ -134,7 +134,7 @@ fn latin1_taken(byte: u8) -> usize
     if byte < 0x80 { 1 } else { 2 }
 }
 
-/// The same over the sixteen bytes from `at` on.
+/// How many bytes of UTF-8 the sixteen bytes of Latin-1 from `at` on take.
 #[inline(always)]
 fn latin1_taken_in(bytes: &[u8], at: usize) -> usize
     requires { at + 16 ≤ length bytes.now }

@@ -11,6 +11,10 @@ use crate::kernels::ascii_run;
 use crate::{Encoding, Source, TextFault, sizes, writes};
 use std::alloc::AllocError;
 
+/// The most bytes of a text that is first looked at for ASCII alone, which takes less time than the
+/// check of all spellings takes to begin.
+const SHORT: usize = 64;
+
 /// UTF-8.
 #[derive(Clone, Copy, Debug, PartialEq, Eq)]
 pub struct Utf8;
@@ -42,6 +46,9 @@ impl Source for Utf8 {
     }
 
     fn measure_utf8(bytes: &[u8]) -> Result<usize, TextFault> {
+        if bytes.len() <= SHORT && ascii_run(bytes) == bytes.len() {
+            return Ok(bytes.len());
+        }
         check_utf8(bytes)?;
         Ok(bytes.len())
     }

@@ -1,4 +1,4 @@
-//! The command: it checks, shows, links and plays components that a host's files hold.
+//! The command: it checks, shows, compares, links and plays the components in a host's files.
 #![tactic(auto)]
 
 mod commands;

@@ -46,7 +46,7 @@ pub fn load_files<'a, F: Files>(
 
 impl<'a> LoadedFiles<'a> {
     /// The linked set of the components, which borrows them. They are validated in order, and then
-    /// linked; the first fault in the order of the files is told, and else that of the links.
+    /// linked; the fault is the first in the order of the files, or else that of the links.
     pub fn link<'b>(&'b self, alloc: Global) -> Result<Linked<'b>, Fault<'a>> {
         let components = self.check(alloc)?;
         let names = self.names(alloc, &components)?;

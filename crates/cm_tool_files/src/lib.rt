@@ -1,6 +1,6 @@
-//! The files of a command: their bytes, the components and the texts in them, and the lines of what
-//! is wrong with them. A component is shown by what it imports and exports, and is held against a
-//! world of a text.
+//! The files of a command: the components and texts in them, and the lines that say what is wrong.
+//!
+//! A component is shown by its imports and exports, and compared with a world of a WIT text.
 #![tactic(auto)]
 
 mod bad_file;

@@ -1,4 +1,4 @@
-//! The lines that the command writes: events, plans, and what it says of faults.
+//! The lines that the command writes: events, plans, and explanations of faults.
 #![tactic(auto)]
 
 mod events;

@@ -1,5 +1,5 @@
--- Texts in which resources are told by numbers (this project's own choice): the resource that
--- appears first has the number 0, the next other one 1, and so on.
+-- Texts in which resources have numbers (this project's own choice): the resource that appears
+-- first has the number 0, the next other one 1, and so on.
 use Rattle.std.specs.Prelude.{ℕ, List, [], ◌∷◌, ◌++◌, if◌then◌else◌}
 use Rattle.std.specs.Fmt.{decimal}
 use Rattle.std.specs.List.{list_any, position_or_len}
@@ -20,7 +20,7 @@ number_behind seen r = position_or_len (same_resource r) seen
 abbrev pub appeared : List ResourceId → ResourceId → List ResourceId
 appeared seen r = if list_any (same_resource r) seen then seen else seen ++ r ∷ []
 
--- the same after pieces
+-- the resources that appeared, with those in pieces, each once
 abbrev pub seen_behind : List ResourceId → List Piece → List ResourceId
 seen_behind seen [] = seen
 seen_behind seen (chars text ∷ ps) = seen_behind seen ps

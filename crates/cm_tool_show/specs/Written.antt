@@ -6,7 +6,7 @@ use Rattle.cm_tool_show.specs.declared.fault.ShowFault.{ShowFault}
 use Rattle.cm_tool_show.specs.declared.fault.ShowFault.TheVariants as fault
 use Rattle.cm_tool_show.specs.declared.page.Page.{Page}
 
--- with these pieces behind what was there the one page became the other
+-- one page became the other by these pieces, put behind what it had
 pub record Wrote (ps : List Piece) (before after : Page) : Type 0 where
   pub text : text_on after ≡ text_on before ++ text_behind (seen_on before) ps
   pub seen : seen_on after ≡ seen_behind (seen_on before) ps

@@ -16,7 +16,8 @@ pub struct Counting {
 }
 
 impl Counting {
-    /// As its place moves them, and as what brings it does.
+    /// Counts resources as the place of a type moves them, and then as the import or export that
+    /// brings it does.
     pub fn new(place: Option<Move>, brought: Option<Move>) -> Counting
         ensures place { result.place ≡ place }
         ensures brought { result.brought ≡ brought }

@@ -16,8 +16,8 @@ pub fn pieces_join()
         → seen_behind seen (a ++ b) ≡ seen_behind (seen_behind seen a) b }
 {}
 
-/// What is written one behind the other is written; where it is too long with a part, it is with
-/// all.
+/// Writing pieces and then more is writing all of them; a text that is too long with some pieces is
+/// too long with more.
 pub fn pages_join()
     ensures none { (p : Page) → Wrote [] p p }
     ensures more { (a b : List Piece) (p q r : Page) → Wrote a p q → Wrote b q r

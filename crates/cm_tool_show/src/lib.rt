@@ -1,6 +1,6 @@
-//! The text that shows a type, and what a component, or a world, imports and exports.
+//! The text that shows a type, a component's imports and exports, or those of a world.
 //!
-//! Texts in which resources are told by numbers: each has that of its first appearance.
+//! Resources are numbered in such a text, each by its first appearance.
 #![tactic(auto)]
 
 mod counting;

@@ -26,7 +26,7 @@ pub struct Page {
 }
 
 impl Page {
-    /// Nothing yet.
+    /// An empty page.
     pub fn new(alloc: Global) -> Page
         ensures text { text_on result ≡ [] }
         ensures seen { seen_on result ≡ [] }

@@ -69,7 +69,7 @@ abbrev pub cut : ℕ → List ℕ → Option (List ℕ × List ℕ)
 cut c [] = None
 cut c (b ∷ bs) = if b == c then Some ([], bs) else option_map (λ p. (b ∷ p.0, p.1)) (cut c bs)
 
--- the same, where a part that is missing is empty
+-- a text cut at the first byte c; without one, the second part is empty
 abbrev pub cut_or_all : ℕ → List ℕ → List ℕ × List ℕ
 cut_or_all c text = option_map_or (λ p. p) (cut c text) (text, [])
 

@@ -47,7 +47,7 @@ abbrev mutual
 abbrev pub IsWithin : ℕ → ℕ → Ty → Type 0
 IsWithin most depth t = (nodes_of t ≤ most) × (depth_of t ≤ depth)
 
--- the same of fields and of cases together
+-- fields, and cases, have together at most so many nodes, and are at most so deep
 abbrev pub AreFieldsWithin : ℕ → ℕ → Fields → Type 0
 AreFieldsWithin most depth fs = (nodes_of_fields fs ≤ most) × (depth_of_fields fs ≤ depth)
 

@@ -37,7 +37,7 @@ pub record IsLabel (text : List ℕ) : Type 0 where
   pub each : AllByRecursion (λ f. IsTrue (is_fragment f)) fragments
   pub joined : join_with_byte 45 fragments ≡ text
 
--- the same as a test: each part between two hyphens is a fragment
+-- whether a text is a label: each part between two hyphens is a fragment
 abbrev pub is_label : List ℕ → Bool
 is_label text = list_all is_fragment (slice_split (λ b. b == 45) text)
 

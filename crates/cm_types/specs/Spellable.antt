@@ -26,18 +26,18 @@ abbrev mutual
   is_spellable (flags ls) = nat_lt 0 (length ls) && nat_le (length ls) MAX_FLAGS
   is_spellable _ = true
 
-  -- the same of the type of each field
+  -- a file can spell the type of each field
   pub are_spellable : Fields → Bool
   are_spellable no_fields = true
   are_spellable (field l t fs) = is_spellable t && are_spellable fs
 
-  -- the same of each payload
+  -- a file can spell each payload
   pub are_spellable_payloads : Cases → Bool
   are_spellable_payloads no_cases = true
   are_spellable_payloads (plain l cs) = are_spellable_payloads cs
   are_spellable_payloads (carrying l t cs) = is_spellable t && are_spellable_payloads cs
 
--- the same of a payload, if there is one
+-- a file can spell a payload, if there is one
 abbrev pub is_spellable_payload : Option Ty → Bool
 is_spellable_payload None = true
 is_spellable_payload (Some t) = is_spellable t

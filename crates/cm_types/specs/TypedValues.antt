@@ -69,7 +69,8 @@ abbrev mutual
   is_carried_case (carrying l t cs) zero v = has_type t v
   is_carried_case (carrying l t cs) (suc i) v = is_carried_case cs i v
 
--- the same of a payload: a case of this type, if it carries one, and what the value carries
+-- whether a payload has the type of its case: the case carries a type exactly if the value carries
+-- a value, which has it
 abbrev pub payload_has_type : Option Ty → Option Val → Bool
 payload_has_type None None = true
 payload_has_type (Some t) (Some v) = has_type t v

@@ -21,7 +21,7 @@ pub data Width : Type 0 where
   bits_32 : Width
   bits_64 : Width
 
--- the same in bytes
+-- how many bytes a number of this width has
 abbrev pub width_bytes : Width → ℕ
 width_bytes bits_8 = 1
 width_bytes bits_16 = 2

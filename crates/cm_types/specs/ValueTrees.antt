@@ -38,6 +38,7 @@ value_step (value.Handle serial rep resource) =
 abbrev pub value_of : Value → Val
 value_of = fold-Value Val value_step
 
+-- the values that several values of the code are
 abbrev pub values_of : List Value → Vals
 values_of vs = vals_from (map value_of vs)
 

@@ -16,6 +16,8 @@ pub record HandleValue : Type 0 where
 
 -- Values.
 mutual
+  -- an interface value: a truth value, a number, a char, a text, the elements of a list, fields, a
+  -- case, a set of labels, or a handle
   pub data Val : Type 0 where
     truth : Bool → Val
     signed_number : ℤ → Val
@@ -34,11 +36,12 @@ mutual
     flag_set : ℕ → Val
     handle : HandleValue → Val
 
+  -- values one after another
   pub data Vals : Type 0 where
     no_vals : Vals
     val : Val → Vals → Vals
 
--- how many values
+-- how many values there are in a row
 abbrev pub count_of : Vals → ℕ
 count_of no_vals = 0
 count_of (val v vs) = 1 + count_of vs

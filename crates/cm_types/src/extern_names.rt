@@ -140,8 +140,8 @@ impl ExternName {
 impl Clone for ExternName {
     ghost is_clone = { λ name copy. copy ≡ name };
 
-    /// The same name once more; its text is shared. `AllocError` comes where it is shared too often
-    /// to be counted.
+    /// This name again; its text is shared. `AllocError` comes where it is shared too often to be
+    /// counted.
     fn clone(&self) -> Result<ExternName, AllocError> {
         let text = self.text.clone()?;
         Ok(ExternName { text })

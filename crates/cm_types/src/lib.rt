@@ -1,8 +1,4 @@
-//! Types and signatures of components; names are passed on.
-//!
-//! Labels and extern names of components.
-//!
-//! Values of components, and whether one has a type.
+//! Names, types, values and signatures of components (Explainer.md, "Type Definitions").
 #![tactic(auto)]
 
 mod core_value;

@@ -121,8 +121,8 @@ pub(crate) fn shared(alloc: Global, text: &str) -> Result<Rc<String>, AllocError
 impl Clone for Label {
     ghost is_clone = { λ label copy. copy ≡ label };
 
-    /// The same label once more; its text is shared. `AllocError` comes where it is shared too
-    /// often to be counted.
+    /// This label again; its text is shared. `AllocError` comes where it is shared too often to be
+    /// counted.
     fn clone(&self) -> Result<Label, AllocError> {
         let text = self.text.clone()?;
         Ok(Label { text })

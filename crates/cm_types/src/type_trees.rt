@@ -55,8 +55,8 @@ pub enum TypeNode {
 }
 
 impl TypeNode {
-    /// The same type once more: what is below it is shared with this one. `AllocError` comes where
-    /// it is shared too often to be counted, which is 2^64 times.
+    /// This type again: what is below it is shared. `AllocError` comes where it is shared too often
+    /// to be counted, which is 2^64 times.
     pub fn share(&self) -> Result<TypeNode, AllocError>
         ensures { IfOk result (λ node. type_of node ≡ type_of self.now) }
     {
@@ -166,8 +166,7 @@ impl TypeTree {
         }
     }
 
-    /// The same type once more, shared with this one. `AllocError` comes where it is shared too
-    /// often to be counted.
+    /// This type again, shared. `AllocError` comes where it is shared too often to be counted.
     pub fn share(&self) -> Result<TypeTree, AllocError>
         ensures { IfOk result (λ tree. tree_type tree ≡ tree_type self.now) }
     {

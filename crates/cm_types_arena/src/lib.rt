@@ -1,5 +1,5 @@
-//! Types by places: each definition names its parts by earlier places, stands once and is shared by
-//! all that use it.
+//! Types by places: a definition names its parts by earlier places, and its node is shared by all
+//! uses.
 #![tactic(auto)]
 
 mod building;

@@ -25,7 +25,7 @@ pub struct Summary {
 }
 
 impl Summary {
-    /// Of nothing.
+    /// What is known of no parts.
     pub(crate) fn none() -> Summary
         ensures { result ≡ no_summary }
     {
@@ -39,7 +39,7 @@ impl Summary {
         }
     }
 
-    /// Of a type that holds no other, and is no string and no handle.
+    /// What is known of a type that holds no other, and is no string and no handle.
     pub(crate) fn leaf() -> Summary
         ensures { result ≡ above 1 no_summary }
     {
@@ -50,7 +50,7 @@ impl Summary {
         }
     }
 
-    /// Of both together, if that is within the limit on nodes.
+    /// What is known of both together, if that is within the limit on nodes.
     pub(crate) fn beside(self, other: Summary) -> Option<Summary>
         ensures { SomeIff result (self.nodes + other.nodes ≤ MAX_NODES) (beside self other) }
     {
@@ -68,7 +68,7 @@ impl Summary {
         })
     }
 
-    /// Of what has these parts, `times` times each, if that is within the limits.
+    /// What is known of a type with these parts, `times` times each, if that is within the limits.
     pub(crate) fn above(self, times: u32) -> Option<Summary>
         ensures { SomeIff result
             ((1 + times * self.nodes ≤ MAX_NODES) × (1 + self.depth ≤ MAX_DEPTH))

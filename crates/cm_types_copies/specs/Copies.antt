@@ -36,8 +36,8 @@ pub record AddsOnce (s : Standing) (old new : List Ty) (bound : ℕ) : Type 0 wh
   pub distinct : AreDistinct sources
   pub below : AllByRecursion (λ p. p < bound) sources
 
--- The same, where a table has had none of these places, and has them now beside those that it had;
--- those from the number on are as they were.
+-- These are such copies where a table had none of these places, and has them now beside those that
+-- it had; those from the number on are as they were.
 pub record CopiesOnce (s : Standing) (old new : List Ty) (before after : ℕ → Option ℕ) (bound : ℕ)
     : Type 0 where
   pub once : AddsOnce s old new bound

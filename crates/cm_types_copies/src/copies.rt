@@ -22,7 +22,7 @@ use cm_types_resources::laws::{replacing, what_stays};
 use std::alloc::{AllocError, Global};
 use std::collections::BTreeMap;
 
-/// A place at which an arena then has the type of another place with its resources replaced.
+/// Adds the type at a place with its resources replaced to the arena, and answers its place.
 ///
 /// A type that holds no handle is its own copy. Of the others each that is below the place is
 /// copied once, whatever its uses: it costs the lengths of these and a search for each of their

@@ -1,4 +1,4 @@
-//! Types of an arena, copied within it with their resources replaced.
+//! Copies of the types of an arena with their resources replaced, made within the arena.
 #![tactic(auto)]
 
 mod copies;

@@ -13,9 +13,11 @@ use Rattle.cm_types_numbers.specs.declared.moves.Moves.{Moves}
 abbrev pub brought_by : Brought → Standing
 brought_by b r = moved_by b.by (moved_by b.ty.by r)
 
+-- the type that an item brings, its resources replaced so
 abbrev pub brought_type : Types → Brought → Ty
 brought_type types b = replaced (brought_by b) (type_at (types_of types) b.ty.place)
 
+-- the type of a function that an item brings, its resources replaced so
 abbrev pub brought_func : Types → Brought → FuncTy
 brought_func types b = replaced_func (brought_by b) (func_at (funcs_of types) b.ty.place)
 

@@ -141,7 +141,8 @@ Agree left right xs ys ms ns = (i j : ℕ) → i < length xs → j < length ys
     → (slice_index ms i ≡ slice_index ns j)
     ↔ (replaced left (type_at xs i) ≡ replaced right (type_at ys j))
 
--- The same of the types of functions.
+-- Two of these numbers are equal exactly where the types of functions at their places are, in each
+-- list with the resources replaced.
 abbrev pub AgreeFuncs :
     Standing → Standing → List FuncTy → List FuncTy → List ℕ → List ℕ → Type 0
 AgreeFuncs left right xs ys ms ns = (i j : ℕ) → i < length xs → j < length ys

@@ -38,7 +38,7 @@ abbrev pub KnowsTypes : Numbering → Standing → List Ty → KnownTypes → Ty
 KnowsTypes t s ts known = (moves : Moves) (table : Known) → known_table known moves ≡ Some table
     → Knows t (λ r. s (moved_through moves r)) ts table
 
--- The same of types of functions.
+-- What is known are numbers of these functions' types, moved and each resource replaced.
 abbrev pub KnowsFuncs : Numbering → Standing → List FuncTy → KnownFuncs → Type 0
 KnowsFuncs t s fs known = (func : MovedFunc) (n : ℕ) → known_func known func ≡ Some n
     → number_func t

@@ -19,7 +19,7 @@ pub struct Known {
 }
 
 impl Known {
-    /// None is known yet.
+    /// No number is known yet.
     pub fn new(alloc: Global) -> Known
         ensures { (t : Numbering) (s : Standing) (ts : List Ty) → Knows t s ts result }
     {

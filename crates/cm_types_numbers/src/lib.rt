@@ -1,7 +1,7 @@
-//! Numbers for types: each type once, so that two types are equal exactly where their numbers are.
+//! Numbers for types: two types are equal exactly where their numbers are.
 //!
-//! Numbers of types as imports and exports bring them: each type is numbered once for each way in
-//! which its resources are moved.
+//! Each type is numbered once, and once for each way in which imports and exports move its
+//! resources.
 #![tactic(auto)]
 
 mod chains;

@@ -27,7 +27,7 @@ pub struct KnownPlaced {
 }
 
 impl KnownPlaced {
-    /// None is known yet.
+    /// No number is known yet.
     pub fn new(alloc: Global) -> KnownPlaced
         ensures { (t : Numbering) (s : Standing) (types : Types)
             → KnowsPlaced t s types result }

@@ -20,6 +20,6 @@ placed_type types p = replaced (moved_by p.by) (type_at types p.place)
 abbrev pub placed_func : List FuncTy → Placed → FuncTy
 placed_func funcs p = replaced_func (moved_by p.by) (func_at funcs p.place)
 
--- its place is one of so many
+-- the place of a type is one of so many
 abbrev pub is_there : ℕ → Placed → Bool
 is_there count p = nat_lt p.place count

@@ -1,5 +1,6 @@
-//! Types of an arena by place, with the resources in them counted as an import counts them; and
-//! what components import and export, with their types so.
+//! Types by their place in an arena, with the move that an import makes of their resources.
+//!
+//! Imports, exports and signatures are there in the same form.
 #![tactic(auto)]
 
 mod instances;

@@ -19,6 +19,7 @@ abbrev mutual
   replaced s (borrow r) = borrow (s r)
   replaced s t = t
 
+  -- fields with each resource in their types replaced
   pub replaced_fields : Standing → Fields → Fields
   replaced_fields s no_fields = no_fields
   replaced_fields s (field l t fs) = field l (replaced s t) (replaced_fields s fs)

@@ -19,8 +19,8 @@ pub fn rows()
         → replaced_func (resolve row) f ≡ resolved_func row f }
 {}
 
-/// A type without handles stays as it is, and to replace resources twice is to replace them by what
-/// stands for what stands for them.
+/// A type without handles stays as it is, and replacing resources twice is replacing them once, by
+/// both in turn.
 pub fn replacing()
     ensures without_handles { (s : Standing) (t : Ty)
         → holds is_handle t ≡ false → replaced s t ≡ t }

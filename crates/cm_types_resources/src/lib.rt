@@ -1,4 +1,4 @@
-//! Types with each resource replaced by what stands for it, and whether two such are equal.
+//! Types with each resource replaced by what stands for it, and whether two such types are equal.
 #![tactic(auto)]
 
 pub mod laws;

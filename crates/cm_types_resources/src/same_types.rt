@@ -27,7 +27,7 @@ pub fn same_type(a: &TypeNode, b: &TypeNode, left: &[ResourceId], right: &[Resou
 }
 
 /// Whether two functions have the same type: equal labels and types of parameters, in order, and
-/// equal results, as `same_type` tells it.
+/// equal results, by `same_type`.
 pub fn same_func(a: &Func, b: &Func, left: &[ResourceId], right: &[ResourceId]) -> bool
     ensures { IsTrue result
         ↔ (resolved_func left.now (func_of a.now) ≡ resolved_func right.now (func_of b.now)) }

@@ -1,4 +1,4 @@
-//! Valid components: which they are, what their indices stand for, and what they import and export.
+//! Valid components: which they are, what their indices stand for, what they import and export.
 #![tactic(auto)]
 
 pub use cm_validate_signature::signature;

@@ -10,7 +10,8 @@ use Rattle.cm_validate_canons.specs.Placed.{at_place}
 use Rattle.cm_validate_model.specs.Options.{is_pointer, params_hold, result_holds}
 use Rattle.cm_validate_canons.specs.declared.passing.Passed.{Passed}
 
--- its parameters
+-- how the parameters of a function are passed: whether they hold a string or a pointer, and whether
+-- they are spilled
 abbrev pub params_passed : FuncTy → Passed
 params_passed f =
     record {
@@ -19,7 +20,8 @@ params_passed f =
       is_spilled = (flat_func side.Lift f).spilled_params;
     }
 
--- its result
+-- how the result of a function is passed: whether it holds a string or a pointer, and whether it is
+-- spilled
 abbrev pub result_passed : FuncTy → Passed
 result_passed f =
     record {

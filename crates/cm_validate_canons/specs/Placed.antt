@@ -16,7 +16,7 @@ layouts_in ls = map layout_of ls.by_place.items
 abbrev pub at_place : List LayoutTy → ℕ → LayoutTy
 at_place ls place = slice_index_or ls place (layout_at bool)
 
--- they are those of the first of these types, in order
+-- the layouts are those of the first of these types, in order
 abbrev pub AreOfFirst : List LayoutTy → List Ty → Type 0
 AreOfFirst ls types = (more : List LayoutTy) × (map layout_at types ≡ ls ++ more)
 

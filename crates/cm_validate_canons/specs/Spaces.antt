@@ -23,18 +23,17 @@ pub record Stand (made : ℕ → CoreFuncDef) (types : LaidTypes) (core : CoreSp
   pub component_is : IsComponentOf (types_in types) (funcs_in types) component s
   pub types_are : AreTypesOf (types_in types) (funcs_in types) types.entries.now s
 
--- the core function that a canonical definition makes, if it makes one, is told by the next number
+-- the next number stands for the core function that a canonical definition makes, if it makes one
 abbrev pub TellsNext : (ℕ → CoreFuncDef) → CoreSpaces → Spaces → CanonTree → Type 0
 TellsNext made core s c = canon_core_func s c ≡ option_map made (number_made core c)
 
--- how many core functions were made after a canonical definition; after one that breaks a rule none
--- more
+-- how many core functions were made after a canonical definition; after one that violates a rule
+-- none more
 abbrev pub count_after : Option ValidReason → CoreSpaces → CanonTree → ℕ
 count_after None core c = made_count core + count_made c
 count_after (Some r) core c = made_count core
 
--- A call answers for a canonical definition: with the least reason that it breaks, or else after
--- it.
+-- A call answers for a canonical definition: with the least reason to refuse it, or else after it.
 pub record Answers (types : LaidTypes) (c : CanonTree) (old_core : CoreSpaces)
     (old : ComponentSpaces) (r : Option ValidReason) (new_core : CoreSpaces)
     (new : ComponentSpaces) : Type 0 where

@@ -6,7 +6,7 @@ ghost use Rattle.cm_types.specs.Types.{Ty};
 ghost use Rattle.cm_layout.specs.Shapes.{LayoutTy, layout_at};
 ghost use Rattle.cm_validate_canons.specs.Placed.{AreOfFirst};
 
-/// The layouts of an arena's first types are so while the arena grows.
+/// The layouts of an arena's first types stay theirs while the arena grows.
 pub fn first_layouts_stay()
     ensures none { (types : List Ty) → AreOfFirst [] types }
     ensures all { (ls : List LayoutTy) (types : List Ty)

@@ -1,9 +1,9 @@
-//! Lifts and lowers of a component, of every form: what they break, and the index spaces after
-//! them. What the types of functions pass decides which options one needs: it is told by what is
-//! known of them without a look below them (CanonicalABI.md, "Canonical Definitions").
+//! Lifts and lowers: the rules that one violates, and the index spaces after it.
 //!
-//! The layouts of the types of an arena, by place: each type is laid out once, over the layouts of
-//! what it holds, which it shares (CanonicalABI.md, "Alignment", "Element Size" and "Flattening").
+//! Which options a lift or a lower needs depends on what its function's type passes, which is known
+//! without a look below the type (CanonicalABI.md, "Canonical Definitions"). The layouts of the
+//! types of an arena are here too: each type is laid out once, over the layouts of its parts, which
+//! it shares ("Alignment", "Element Size" and "Flattening").
 #![tactic(auto)]
 
 pub mod arena_layouts_laws;

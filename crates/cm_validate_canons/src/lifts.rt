@@ -24,14 +24,14 @@ use cm_validate_model::laws::least_of_both;
 use cm_validate_type_rules::lesser;
 use std::alloc::AllocError;
 
-/// What a lift breaks: the reason with the smallest number, or none. `NoSuchIndex` comes where the
-/// core function, the type or what an option names is not there, `WrongSort` where the type is of
-/// another sort, `NeedsMemory` where values stand in memory or an allocator is named and no memory
-/// is, `NeedsRealloc` where parameters stand in memory and no allocator is named, `OptionTwice`
-/// where two options are of one kind, `NotGuestFunction` where a canonical definition made a core
-/// function that it names, `SecondMemory` where its memory is another than the first that an
-/// earlier item's option names, and `StoresLatin1` where a parameter holds a string whose encoding
-/// is read alone (Explainer.md, "Canonical Definitions").
+/// Why a lift is refused: the reason with the smallest number, or none. `NoSuchIndex` comes where
+/// the core function, the type or what an option names is not there, `WrongSort` where the type is
+/// of another sort, `NeedsMemory` where values stand in memory or an allocator is named and no
+/// memory is, `NeedsRealloc` where parameters stand in memory and no allocator is named,
+/// `OptionTwice` where two options are of one kind, `NotGuestFunction` where a canonical definition
+/// made a core function that it names, `SecondMemory` where its memory is another than the first
+/// that an earlier item's option names, and `StoresLatin1` where a parameter holds a string whose
+/// encoding is read alone (Explainer.md, "Canonical Definitions").
 ///
 /// It costs its options; of the type only what the arena knows of it is looked at.
 pub fn lift_fault(
@@ -59,8 +59,8 @@ pub fn lift_fault(
 }
 
 /// Adds a lift: the core function of an index as a function of the type of an index, with options,
-/// which are borrowed. Answers what it breaks, as `lift_fault` does; the spaces then stay as they
-/// are. So they do with `AllocError`, which comes where there is no memory.
+/// which are borrowed. Answers why it is refused, as `lift_fault` does; the spaces then stay as
+/// they are. So they do with `AllocError`, which comes where there is no memory.
 pub fn add_lift<'a>(
     core: &mut CoreSpaces<'a>,
     component: &mut ComponentSpaces<'a>,

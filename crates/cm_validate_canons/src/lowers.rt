@@ -36,7 +36,7 @@ fn type_fault(types: &LaidTypes<'_>, ty: Placed, options: &[CanonOption]) -> Opt
     lower_type_fault(FuncPassing::of(types.arena, types.layouts, ty), options)
 }
 
-/// What a function breaks that is lowered.
+/// Why a function that is lowered is refused.
 fn lowered_fault(
     types: &LaidTypes<'_>,
     func: FuncEntry<'_>,
@@ -58,7 +58,7 @@ fn lowered_fault(
     }
 }
 
-/// What an index of a function breaks that is lowered.
+/// Why the index of a function that is lowered is refused.
 fn func_fault(
     component: &ComponentSpaces<'_>,
     types: &LaidTypes<'_>,
@@ -81,9 +81,9 @@ fn post_return_fault(options: &[CanonOption]) -> Option<ValidReason>
     broken_unless(!have_post_return(options), ValidReason::OptionNotAllowed)
 }
 
-/// What a lower breaks: the reason with the smallest number, or none. `NoSuchIndex` comes where the
-/// function or what an option names is not there, `NeedsMemory` where values stand in memory or an
-/// allocator is named and no memory is, `NeedsRealloc` where the result holds a string or a list
+/// Why a lower is refused: the reason with the smallest number, or none. `NoSuchIndex` comes where
+/// the function or what an option names is not there, `NeedsMemory` where values stand in memory or
+/// an allocator is named and no memory is, `NeedsRealloc` where the result holds a string or a list
 /// and no allocator is named, `OptionTwice` where two options are of one kind, `OptionNotAllowed`
 /// where a function is named that is called when a result was read, `NotGuestFunction` where a
 /// canonical definition made a core function that an option names, `SecondMemory` where the memory
@@ -111,8 +111,8 @@ pub fn lower_fault(
 }
 
 /// Adds a lower: the function of an index as the core function of the next number, with options.
-/// Answers what it breaks, as `lower_fault` does; the spaces then stay as they are. So they do with
-/// `AllocError`, which comes where there is no memory.
+/// Answers why it is refused, as `lower_fault` does; the spaces then stay as they are. So they do
+/// with `AllocError`, which comes where there is no memory.
 pub fn add_lower(
     core: &mut CoreSpaces<'_>,
     component: &ComponentSpaces<'_>,

@@ -1,4 +1,4 @@
-//! What the type of a lift, or of a lower, breaks with the options that are there.
+//! Why the type of a lift, or of a lower, is refused with the options that are there.
 
 ghost use Rattle.std.specs.Prelude.{◌≡◌, ◌||◌};
 ghost use Rattle.cm_types.specs.Types.{FuncTy};
@@ -50,7 +50,7 @@ fn latin1_fault(stores: bool, options: &[CanonOption]) -> Option<ValidReason>
     broken_unless(!(stores && have_latin1(options)), ValidReason::StoresLatin1)
 }
 
-/// What the type of a lift breaks, by what a function of the type passes.
+/// Why the type of a lift is refused, by what a function of the type passes.
 pub(crate) fn lift_type_fault(passing: FuncPassing, options: &[CanonOption]) -> Option<ValidReason>
     ensures { (f : FuncTy) → Passes passing f → result ≡ least (lift_type_broken options.now f) }
 {
@@ -63,7 +63,7 @@ pub(crate) fn lift_type_fault(passing: FuncPassing, options: &[CanonOption]) -> 
     )
 }
 
-/// The same of a lower.
+/// Why the type of a lower is refused, by what a function of the type passes.
 pub(crate) fn lower_type_fault(passing: FuncPassing, options: &[CanonOption]) -> Option<ValidReason>
     ensures { (f : FuncTy) → Passes passing f → result ≡ least (lower_type_broken options.now f) }
 {

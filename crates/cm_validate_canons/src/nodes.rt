@@ -127,8 +127,7 @@ fn cases_layout(
     builder.finish(alloc)
 }
 
-/// The layout of an option of at most 10,000 nodes, of which that of what it may carry stands at
-/// the one place.
+/// The layout of an option of at most 10,000 nodes, whose payload has its layout at the one place.
 fn option_layout(alloc: Global, places: &[usize], layouts: &[Layout]) -> Result<Layout, AllocError>
     requires { (some : Ty) × (nodes_of (cases option_type (option_cases some)) ≤ MAX_NODES)
         × AreOf (map layout_of layouts.now) places.now (some ∷ []) }

@@ -38,7 +38,7 @@ pub struct FuncPassing {
 }
 
 impl Passed {
-    /// That of nothing.
+    /// How nothing is passed.
     fn nothing() -> Passed
         ensures { result
             ≡ record { holds_string = false; holds_pointer = false; is_spilled = false } }

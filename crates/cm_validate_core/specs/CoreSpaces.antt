@@ -72,12 +72,12 @@ pub record IsCoreOf (made : ℕ → CoreFuncDef) (c : CoreSpaces) (s : Spaces) :
   pub instances_numbered : AllByRecursion (IsInstanceNumbered (memory_names_of c)) c.instances.items
   pub memory_numbered : IsFirstNumbered (memory_names_of c) c.memory
 
--- after an item, whatever the spaces before it were
+-- the spaces are those after an item, whatever they were before it
 abbrev pub Becomes : Item → CoreSpaces → CoreSpaces → Type 0
 Becomes x old new =
     (made : ℕ → CoreFuncDef) (s : Spaces) → IsCoreOf made old s → IsCoreOf made new (after_item s x)
 
--- they stand for the same as before
+-- the spaces stand for the same as before
 abbrev pub Stays : CoreSpaces → CoreSpaces → Type 0
 Stays old new = (made : ℕ → CoreFuncDef) (s : Spaces) → IsCoreOf made old s → IsCoreOf made new s
 
@@ -89,12 +89,12 @@ StaysAfter x =
 
 -- ---- what calls answer
 
--- the spaces after an item that breaks nothing; where it breaks a rule, those before it
+-- the spaces after an item that violates no rule; where it violates a rule, those before it
 abbrev pub after_answer : Option ValidReason → Spaces → Item → Spaces
 after_answer None s x = after_item s x
 after_answer (Some r) s x = s
 
--- A call answers for an item: with the least reason that it breaks, or else after it.
+-- A call answers for an item: with the least reason to refuse it, or else after it.
 pub record Answers (x : Item) (old : CoreSpaces) (r : Option ValidReason) (new : CoreSpaces)
     : Type 0 where
   pub fault : (made : ℕ → CoreFuncDef) (s : Spaces) → IsCoreOf made old s → r ≡ least (broken s x)
@@ -103,7 +103,7 @@ pub record Answers (x : Item) (old : CoreSpaces) (r : Option ValidReason) (new :
 
 -- ---- what canonical definitions make
 
--- how many core functions they made so far, which have the numbers from 0 on
+-- how many core functions canonical definitions made so far, which have the numbers from 0 on
 abbrev pub made_count : CoreSpaces → ℕ
 made_count c = c.made
 
@@ -112,7 +112,7 @@ abbrev pub number_made : CoreSpaces → CanonTree → Option ℕ
 number_made c (lift f os ty) = None
 number_made c _ = Some (made_count c)
 
--- how many it makes
+-- how many core functions a canonical definition makes
 abbrev pub count_made : CanonTree → ℕ
 count_made (lift f os ty) = 0
 count_made _ = 1

@@ -1,5 +1,5 @@
--- What the entries of the core index spaces stand for; what the core functions are that canonical
--- definitions made is told by their numbers.
+-- What the entries of the core index spaces stand for; numbers stand for the core functions that
+-- canonical definitions made.
 use Rattle.std.specs.Prelude.{ℕ, List, map}
 use Rattle.std.specs.Borrow.{Bor}
 use Rattle.cm_validate_model.specs.Definitions.{CoreExport, CoreFuncDef, guest, CoreDef, core_func}

@@ -154,10 +154,10 @@ impl<'a> CoreSpaces<'a> {
 
     /// Adds an alias of what a core instance exports under a name. The name is looked up in a tree,
     /// and not copied: a look-up costs the logarithm of the number of names there, with the time
-    /// that it takes to compare two, whatever the names are. Answers what it breaks: `NoSuchIndex`
-    /// where there is no such instance or no such name in it, `WrongSort` where what is there is of
-    /// another sort; the spaces then stay as they are. So they do with `AllocError`, which comes
-    /// where there is no memory.
+    /// that it takes to compare two, whatever the names are. Answers why it is refused:
+    /// `NoSuchIndex` where there is no such instance or no such name in it, `WrongSort` where what
+    /// is there is of another sort; the spaces then stay as they are. So they do with `AllocError`,
+    /// which comes where there is no memory.
     pub fn alias(
         &mut self,
         sort: CoreSort,

@@ -75,7 +75,7 @@ impl<'a> CoreSpaces<'a> {
         Ok(())
     }
 
-    /// Adds a lift with these options, which breaks nothing: they may name the first memory.
+    /// Adds a lift with these options, which violates no rule: they may name the first memory.
     pub fn add_lift(&mut self, options: &[CanonOption])
         ensures added { (made : ℕ → CoreFuncDef) (s : Spaces) (f ty : ℕ) → IsCoreOf made self.old s
             → IsCoreOf made self.new (after_item s (canon_item (lift f options.now ty))) }
@@ -84,7 +84,7 @@ impl<'a> CoreSpaces<'a> {
         self.memory = self.memory_after(options);
     }
 
-    /// Adds a lower with these options, which breaks nothing: it makes the core function of the
+    /// Adds a lower with these options, which violates no rule: it makes the core function of the
     /// next number, and they may name the first memory. `AllocError` comes where there is no
     /// memory; nothing is changed then.
     pub fn add_lower(&mut self, options: &[CanonOption]) -> Result<(), AllocError>
@@ -102,7 +102,7 @@ impl<'a> CoreSpaces<'a> {
         Ok(())
     }
 
-    /// Adds a canonical definition that breaks nothing: a lower, or what makes, drops or reads
+    /// Adds a canonical definition that violates no rule: a lower, or what makes, drops or reads
     /// handles, makes the core function of the next number, and options may name the first memory.
     /// `AllocError` comes where there is no memory for it; nothing is changed then.
     pub fn add_canon(&mut self, canon: &Canon) -> Result<(), AllocError>

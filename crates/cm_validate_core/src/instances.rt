@@ -142,7 +142,7 @@ impl<'a> CoreSpaces<'a> {
         Ok(())
     }
 
-    /// What an instance of a module breaks.
+    /// Why an instance of a module is refused.
     fn instantiation_fault(
         &self,
         alloc: Global,
@@ -203,7 +203,7 @@ impl<'a> CoreSpaces<'a> {
         Ok(None)
     }
 
-    /// Adds a core instance. Answers what it breaks: `NoSuchIndex` where the module, the core
+    /// Adds a core instance. Answers why it is refused: `NoSuchIndex` where the module, the core
     /// instance of an argument or the definition of an export is not there, else `DuplicateName`
     /// where two arguments, or two exports, have the same name, as texts; the spaces then stay as
     /// they are (Explainer.md, "Instance Definitions"). So they do with `AllocError`, which comes

@@ -83,7 +83,7 @@ impl<'a> CoreSpaces<'a> {
     ghost use Rattle.cm_validate_model.specs.Spaces.{Spaces};
     ghost use Rattle.cm_validate_core.specs.CoreSpaces.{IsCoreOf};
 
-    /// What a memory breaks that an option names.
+    /// Why a memory that an option names is refused.
     fn memory_fault(&self, index: u32) -> Option<ValidReason>
         ensures { (made : ℕ → CoreFuncDef) (s : Spaces) → IsCoreOf made self.now s
             → result ≡ least (memory_broken s index) }
@@ -121,8 +121,8 @@ impl<'a> CoreSpaces<'a> {
         fault
     }
 
-    /// What the options of a lift or of a lower break, whatever its type is: the reason with the
-    /// smallest number, or none. `NoSuchIndex` comes where one of them names nothing,
+    /// Why the options of a lift or of a lower are refused, whatever its type is: the reason with
+    /// the smallest number, or none. `NoSuchIndex` comes where one of them names nothing,
     /// `OptionTwice` where two are of one kind, `NotGuestFunction` where a canonical definition
     /// made the function, and `SecondMemory` where the memory is another than the first that an
     /// earlier item's option names.

@@ -72,7 +72,7 @@ impl<'a> CoreSpaces<'a> {
         funcs
     }
 
-    /// What an index of a core function breaks that has to be a guest's: `NoSuchIndex` where it
+    /// Why an index of a core function that has to be a guest's is refused: `NoSuchIndex` where it
     /// names nothing, `NotGuestFunction` where a canonical definition made the function.
     pub fn guest_fault(&self, index: u32) -> Option<ValidReason>
         ensures { (made : ℕ → CoreFuncDef) (s : Spaces) → IsCoreOf made self.now s

@@ -5,6 +5,6 @@ use Rattle.cm_validate_model.specs.CountedSpaces.{IsDefCounted}
 use Rattle.cm_validate_types.specs.declared.scope.TypeScope.{TypeScope}
 use Rattle.cm_validate_types.specs.TypeScopes.{types_around}
 
--- each names only resources of a number before this one
+-- each type of the component around names only resources of a number before this one
 abbrev pub AreCountedAround : ℕ → TypeScope → Type 0
 AreCountedAround n s = AllByRecursion (IsDefCounted n) (types_around s)

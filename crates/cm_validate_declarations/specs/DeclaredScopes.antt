@@ -14,6 +14,8 @@ use Rattle.cm_validate_declarations.specs.declared.declarations.Declarations.{De
 abbrev pub items_so_far : Declarations → List NamedItem
 items_so_far d = items_of (arena_types d.scope) (arena_funcs d.scope) d.items.items
 
+-- the scope of the declarations so far: its types, those around, its items, and the next resource's
+-- number
 abbrev pub scope_so_far : Declarations → Scope
 scope_so_far d =
     record {

@@ -1,4 +1,4 @@
--- The first of several declarations that breaks anything.
+-- The first of several declarations that violates a rule.
 use Rattle.std.specs.Prelude.{List, [], ◌∷◌, Option, None}
 use Rattle.std.specs.Option.{option_or}
 use Rattle.cm_types.specs.DefTypes.{DeclarationTree}
@@ -6,7 +6,7 @@ use Rattle.cm_validate_model.specs.declared.fault.ValidReason.{ValidReason}
 use Rattle.cm_validate_model.specs.Declarations.{Scope, after_declaration, declaration_broken}
 use Rattle.cm_validate_model.specs.Reasons.{least}
 
--- the least reason that the first faulty declaration breaks, if one is faulty
+-- the least reason to refuse the first faulty declaration, if one is faulty
 abbrev pub first_reason : Scope → List DeclarationTree → Option ValidReason
 first_reason s [] = None
 first_reason s (d ∷ ds) =

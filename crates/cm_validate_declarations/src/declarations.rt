@@ -68,7 +68,7 @@ impl Declarations {
         }
     }
 
-    /// Reads a declaration, and answers none; or the least reason that it breaks, and then changes
+    /// Reads a declaration, and answers none; or the least reason to refuse it, and then changes
     /// nothing. It costs the declaration's own length and a look-up for each label.
     ///
     /// `AllocError` comes where there is no memory, or no number for a resource; what was declared
@@ -97,8 +97,8 @@ impl Declarations {
         }
     }
 
-    /// Reads declarations, one after another, up to the first that breaks anything: answers the
-    /// least reason that this one breaks; none where no one does, and then all are read.
+    /// Reads declarations, one after another, up to the first that violates a rule: answers the
+    /// least reason to refuse that one; none where no one does, and then all are read.
     ///
     /// `AllocError` comes where there is no memory, or no number for a resource. The types of the
     /// component around stay as they are, whatever comes.
@@ -128,7 +128,7 @@ impl Declarations {
         Ok(None)
     }
 
-    /// The same of a value type.
+    /// Reads the declaration of a value type, as `declare` does.
     fn declare_value(
         &mut self,
         alloc: Global,
@@ -150,7 +150,7 @@ impl Declarations {
         self.scope.define_value(alloc, def)
     }
 
-    /// The same of the type of a function.
+    /// Reads the declaration of the type of a function, as `declare` does.
     fn declare_func(
         &mut self,
         alloc: Global,
@@ -192,7 +192,8 @@ impl Declarations {
         }
     }
 
-    /// The same of an alias of a type of its own or of the component.
+    /// Reads the declaration of an alias of a type of its own or of the component, as `declare`
+    /// does.
     #[tactic(auto, using(crate::proofs::GrowLaws::unchanged))]
     fn alias(&mut self, outer: OuterType) -> Result<Option<ValidReason>, AllocError>
         ensures fault { IfOk result (λ r. r ≡ least

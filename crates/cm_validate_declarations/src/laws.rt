@@ -7,7 +7,7 @@ ghost use Rattle.cm_validate_model.specs.declared.fault.ValidReason.{ValidReason
 ghost use Rattle.cm_validate_model.specs.Declarations.{Scope, declarations_broken};
 ghost use Rattle.cm_validate_declarations.specs.FirstFaults.{first_reason};
 
-/// Declarations break nothing exactly where none is the first that does.
+/// Declarations violate no rule exactly where none is the first to violate one.
 pub fn first_reasons()
     ensures none { (s : Scope) (ds : List DeclarationTree)
         → first_reason s ds ≡ None → declarations_broken s ds ≡ [] }

@@ -68,14 +68,14 @@ pub record IsComponentOf (types : List Ty) (funcs : List FuncTy) (c : ComponentS
   pub exports_there :
       list_all (λ e. is_exported_there (length types) (length funcs) e.def) c.exports.items ≡ true
 
--- these are its types
+-- these are the types of a component
 pub record AreTypesOf (types : List Ty) (funcs : List FuncTy) (es : List TypeEntry) (s : Spaces)
     : Type 0 where
   pub types_are : s.types ≡ map (def_of types funcs) es
   pub types_there : list_all (is_entry_there (length types) (length funcs)) es ≡ true
   pub settled : AllByRecursion (IsEntrySettled types funcs) es
 
--- they stand for the same as before
+-- the entries stand for the same as before
 abbrev pub Stays : ComponentSpaces → ComponentSpaces → Type 0
 Stays old new =
     (types : List Ty) (funcs : List FuncTy) (s : Spaces) → IsComponentOf types funcs old s
@@ -89,12 +89,12 @@ StaysAfter x =
 
 -- ---- what calls answer
 
--- the spaces after an item that breaks nothing; where it breaks a rule, those before it
+-- the spaces after an item that violates no rule; where it violates a rule, those before it
 abbrev pub after_answer : Option ValidReason → Spaces → Item → Spaces
 after_answer None s x = after_item s x
 after_answer (Some r) s x = s
 
--- A call answers for an item, after types: with the least reason that it breaks, or else after it.
+-- A call answers for an item, after types: with the least reason to refuse it, or else after it.
 pub record Answers (es : List TypeEntry) (x : Item) (old : ComponentSpaces)
     (r : Option ValidReason) (new : ComponentSpaces) : Type 0 where
   pub fault : (types : List Ty) (funcs : List FuncTy) (s : Spaces)
@@ -103,7 +103,8 @@ pub record Answers (es : List TypeEntry) (x : Item) (old : ComponentSpaces)
       → IsComponentOf types funcs old s → AreTypesOf types funcs es s
       → IsComponentOf types funcs new (after_answer r s x)
 
--- the same for an item that names no types
+-- A call answers for an item that names no types: with the least reason to refuse it, or else after
+-- it.
 pub record AnswersAlone (x : Item) (old : ComponentSpaces) (r : Option ValidReason)
     (new : ComponentSpaces) : Type 0 where
   pub fault : (types : List Ty) (funcs : List FuncTy) (s : Spaces)
@@ -111,7 +112,7 @@ pub record AnswersAlone (x : Item) (old : ComponentSpaces) (r : Option ValidReas
   pub after : (types : List Ty) (funcs : List FuncTy) (s : Spaces)
       → IsComponentOf types funcs old s → IsComponentOf types funcs new (after_answer r s x)
 
--- what an alias breaks, and the type that it adds
+-- the rules that an alias violates, and the type that it adds
 abbrev pub alias_fault : Aliased → Option ValidReason
 alias_fault (aliased.Broken r) = Some r
 alias_fault aliased.Func = None
@@ -122,8 +123,8 @@ alias_type (aliased.Broken r) = None
 alias_type aliased.Func = None
 alias_type (aliased.Type t) = Some t
 
--- A call answers for an alias: with the least reason that it breaks, or else after it; the type
--- that it names, if it names one, is for the caller to add.
+-- A call answers for an alias: with the least reason to refuse it, or else after it; the type that
+-- it names, if it names one, is for the caller to add.
 pub record AnswersAlias (a : AliasTree) (old : ComponentSpaces) (r : Aliased)
     (new : ComponentSpaces) : Type 0 where
   pub fault : (types : List Ty) (funcs : List FuncTy) (s : Spaces)

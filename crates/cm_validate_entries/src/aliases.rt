@@ -21,7 +21,7 @@ use std::alloc::AllocError;
 /// What an alias of an instance's export comes to.
 #[derive(Drop)]
 pub enum Aliased {
-    /// It breaks this rule.
+    /// It violates this rule.
     Broken(ValidReason),
     /// A function, which was added.
     Func,
@@ -107,8 +107,8 @@ impl<'a> ComponentSpaces<'a> {
     }
 
     /// Adds an alias of what an instance exports under a name: by one look-up, whether the instance
-    /// was imported or made of definitions under names. Answers what it breaks: `NoSuchIndex` where
-    /// there is no such instance or no such name in it, `WrongSort` where what is there is of
+    /// was imported or made of definitions under names. Answers why it is refused: `NoSuchIndex`
+    /// where there is no such instance or no such name in it, `WrongSort` where what is there is of
     /// another sort; the spaces then stay as they are. So they do with `AllocError`, which comes
     /// where there is no memory. A type is answered, and not added (Explainer.md, "Alias
     /// Definitions").

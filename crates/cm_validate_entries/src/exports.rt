@@ -16,7 +16,7 @@ use std::alloc::{AllocError, Global};
 impl<'a> InstanceEntry<'a> {
     ghost use Rattle.cm_validate_entries.specs.Entries.{are_members_there, members_of};
 
-    /// The same instance once more. `AllocError` comes where it is shared too often to be counted.
+    /// This instance again, shared. `AllocError` comes where it is shared too often to be counted.
     pub fn share(&self) -> Result<InstanceEntry<'a>, AllocError>
         ensures same { IfOk result (λ i. (types : List Ty) (funcs : List FuncTy)
             → members_of types funcs i ≡ members_of types funcs self.now) }
@@ -108,7 +108,7 @@ impl<'a> ComponentSpaces<'a> {
         Ok(None)
     }
 
-    /// Adds an export. Answers what it breaks: the reason with the smallest number, or none.
+    /// Adds an export. Answers why it is refused: the reason with the smallest number, or none.
     /// `NoSuchIndex` comes where what it names is not there, `DuplicateName` where an export before
     /// it has its name, ASCII case aside, and `BadAnnotatedName` where its name is none that it may
     /// have; the spaces then stay as they are (Explainer.md, "Import and Export Definitions").

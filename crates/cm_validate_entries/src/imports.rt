@@ -19,7 +19,7 @@ use cm_validate_types::{TypeEntry, lesser};
 use std::alloc::{AllocError, Global};
 use std::rc::Rc;
 
-/// The same items once more.
+/// These items again, shared.
 fn share(items: &Rc<InstanceItems>) -> Result<Rc<InstanceItems>, AllocError>
     ensures { IfOk result (λ i. i.value ≡ items.now.value) }
 {
@@ -148,7 +148,7 @@ impl<'a> ComponentSpaces<'a> {
         Ok(None)
     }
 
-    /// Adds an import. Answers what it breaks: the reason with the smallest number, or none.
+    /// Adds an import. Answers why it is refused: the reason with the smallest number, or none.
     /// `NoSuchIndex` comes where its type is not there, `WrongSort` where that is of another sort,
     /// `DuplicateName` where an import before it has its name, ASCII case aside, and
     /// `BadAnnotatedName` where its name is none that it may have; the spaces then stay as they are

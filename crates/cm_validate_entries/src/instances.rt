@@ -33,9 +33,8 @@ impl<'a> ComponentSpaces<'a> {
         self.func_entry(index)
     }
 
-    /// Adds an instance that has these members, which are those of inline exports that break
-    /// nothing. `AllocError` comes where there is no memory for it; the spaces then stay as they
-    /// are.
+    /// Adds an instance that has these members, which are those of inline exports that violate no
+    /// rule. `AllocError` comes where there is no memory for it; the spaces then stay as they are.
     pub fn push_members(
         &mut self,
         alloc: Global,

@@ -1,5 +1,4 @@
-//! The index spaces of functions and of instances of a component, and its resources, imports and
-//! exports.
+//! The index spaces of functions and instances, with the resources, imports and exports.
 #![tactic(auto)]
 
 mod aliases;

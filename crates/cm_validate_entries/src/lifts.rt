@@ -21,8 +21,8 @@ use cm_validate_model::ValidReason;
 use cm_validate_types::TypeEntry;
 use std::alloc::AllocError;
 
-/// The type of a function under an index of a type, as a lift names it; or what the index breaks:
-/// `NoSuchIndex` where nothing is there, `WrongSort` where another type is (Explainer.md,
+/// The type of a function under an index of a type, as a lift names it; or why the index is
+/// refused: `NoSuchIndex` where nothing is there, `WrongSort` where another type is (Explainer.md,
 /// "Canonical Definitions").
 pub fn func_type_at(types: &[TypeEntry], index: u32) -> Result<Placed, ValidReason>
     ensures entry { IfOk result (λ p. slice_get types.now index ≡ Some (entry.Func p)) }
@@ -42,9 +42,9 @@ impl<'a> ComponentSpaces<'a> {
     ghost use Rattle.cm_validate_model.specs.Spaces.{after_item};
     ghost use Rattle.cm_validate_entries.specs.ComponentSpaces.{IsComponentOf, Stays};
 
-    /// Adds a lift that breaks nothing: the core function of an index as a function of a type, with
-    /// these options, which are borrowed. `AllocError` comes where there is no memory for it; the
-    /// spaces then stay as they are (Explainer.md, "Canonical Definitions").
+    /// Adds a lift that violates no rule: the core function of an index as a function of a type,
+    /// with these options, which are borrowed. `AllocError` comes where there is no memory for it;
+    /// the spaces then stay as they are (Explainer.md, "Canonical Definitions").
     pub fn add_lift(
         &mut self,
         core_func: u32,

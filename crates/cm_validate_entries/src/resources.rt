@@ -31,7 +31,7 @@ fn as_resource(ty: &TypeEntry) -> Option<u64>
     }
 }
 
-/// What a resource breaks where the component has to define it.
+/// Why a resource that the component has to define is refused.
 fn brought_fault(resource: Resource) -> Option<ValidReason>
     ensures { result
         ≡ least (unless (is_defined (resource_def resource)) reason.NotOwnResource) }
@@ -42,7 +42,7 @@ fn brought_fault(resource: Resource) -> Option<ValidReason>
     }
 }
 
-/// The number of the resource under an index of a type; or what the index breaks, `NoSuchIndex`
+/// The number of the resource under an index of a type; or why the index is refused: `NoSuchIndex`
 /// where nothing is there, `WrongSort` where another type is.
 pub(crate) fn resource_at(types: &[TypeEntry], index: u32) -> Result<u64, ValidReason>
     ensures there { IfOk result (λ n. slice_get types.now index ≡ Some (entry.Resource n)) }
@@ -58,7 +58,7 @@ pub(crate) fn resource_at(types: &[TypeEntry], index: u32) -> Result<u64, ValidR
     }
 }
 
-/// What an index of a type breaks that has to name a resource, as that of what drops a handle:
+/// Why an index of a type that has to name a resource is refused, as where a handle is dropped:
 /// `NoSuchIndex` where nothing is there, `WrongSort` where another type is (Explainer.md,
 /// "Canonical Built-ins").
 pub fn resource_fault(types: &[TypeEntry], index: u32) -> Option<ValidReason>
@@ -81,7 +81,7 @@ impl<'a> ComponentSpaces<'a> {
     ghost use Rattle.cm_validate_types.specs.Settled.{IsEntrySettled};
     ghost use Rattle.cm_validate_entries.specs.ComponentSpaces.{IsComponentOf, Stays};
 
-    /// What a resource of this number breaks that the component has to define.
+    /// Why a resource of this number that the component has to define is refused.
     fn own_fault(&self, number: u64) -> Option<ValidReason>
         ensures { (types : List Ty) (funcs : List FuncTy) (s : Spaces)
             → IsComponentOf types funcs self.now s
@@ -93,10 +93,10 @@ impl<'a> ComponentSpaces<'a> {
         }
     }
 
-    /// What an index of a type breaks that has to name a resource which the component defines, as
-    /// that of what makes a handle or tells what it represents: `NoSuchIndex` where nothing is
-    /// there, `WrongSort` where another type is, `NotOwnResource` where an import brings the
-    /// resource (Explainer.md, "Canonical Built-ins"). It costs a binary search.
+    /// Why an index of a type that has to name a resource of the component's own is refused, as
+    /// where a handle is made or its representation is read: `NoSuchIndex` where nothing is there,
+    /// `WrongSort` where another type is, `NotOwnResource` where an import brings the resource
+    /// (Explainer.md, "Canonical Built-ins"). It costs a binary search.
     pub fn own_resource_fault(&self, types: &[TypeEntry], index: u32) -> Option<ValidReason>
         ensures making { (tys : List Ty) (funcs : List FuncTy) (s : Spaces)
             → IsComponentOf tys funcs self.now s → AreTypesOf tys funcs types.now s
@@ -120,8 +120,8 @@ impl<'a> ComponentSpaces<'a> {
     }
 
     /// Adds a resource that the component defines, and answers its type, which is to be added to
-    /// those of the component. Its destructor is one that breaks no rule. `AllocError` comes where
-    /// there is no memory; the spaces then stay as they are (Binary.md, `resourcetype`).
+    /// those of the component. Its destructor is one that violates no rule. `AllocError` comes
+    /// where there is no memory; the spaces then stay as they are (Binary.md, `resourcetype`).
     pub fn define_resource(&mut self, destructor: Option<u32>) -> Result<TypeEntry, AllocError>
         ensures added { IfOk result (λ t. (types : List Ty) (funcs : List FuncTy) (s : Spaces)
             → IsComponentOf types funcs self.old s

@@ -35,8 +35,8 @@ fn as_instance(ty: &TypeEntry) -> Option<&Rc<InstanceItems>>
     }
 }
 
-/// The type of a function under an index; or what the index breaks, `NoSuchIndex` where nothing is
-/// there, `WrongSort` where another type is.
+/// The type of a function under an index; or why the index is refused: `NoSuchIndex` where nothing
+/// is there, `WrongSort` where another type is.
 pub(crate) fn func_at(types: &[TypeEntry], index: u32) -> Result<Placed, ValidReason>
     ensures there { IfOk result (λ p. slice_get types.now index ≡ Some (entry.Func p)) }
     ensures broken { IfErr result (λ r. Some r
@@ -51,7 +51,7 @@ pub(crate) fn func_at(types: &[TypeEntry], index: u32) -> Result<Placed, ValidRe
     }
 }
 
-/// The same of the type of an instance.
+/// The type of an instance under an index; or why the index is refused.
 pub(crate) fn instance_at(
     types: &[TypeEntry],
     index: u32,

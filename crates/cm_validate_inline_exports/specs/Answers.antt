@@ -10,7 +10,7 @@ use Rattle.cm_validate_types.specs.declared.entries.TypeEntry.{TypeEntry}
 use Rattle.cm_validate_entries.specs.ComponentSpaces.{AreTypesOf, IsComponentOf, after_answer}
 use Rattle.cm_validate_entries.specs.declared.spaces.ComponentSpaces.{ComponentSpaces}
 
--- with the least reason that it breaks, or else after it
+-- with the least reason to refuse it, or else after it
 pub record AnswersAmong (types : List Ty) (funcs : List FuncTy) (es : List TypeEntry) (x : Item)
     (old : ComponentSpaces) (r : Option ValidReason) (new : ComponentSpaces) : Type 0 where
   pub fault : (s : Spaces) → IsComponentOf types funcs old s → AreTypesOf types funcs es s

@@ -42,7 +42,7 @@ abbrev pub type_answer : Option TypeEntry → Result MemberEntry ValidReason
 type_answer None = Err reason.NoSuchIndex
 type_answer (Some e) = entry_answer e
 
--- an export names a member and breaks nothing, or breaks a rule and names none
+-- an export names a member and violates no rule, or violates a rule and names none
 pub record IsFine (types : List Ty) (funcs : List FuncTy) (s : Spaces) (e : InlineExport)
     (m : MemberEntry) : Type 0 where
   pub fine : member_broken s e ≡ []
@@ -69,7 +69,7 @@ sketch_member funcs (member.Resource n) = item_sketch.Resource (resource_id n)
 abbrev pub export_sketches : Spaces → InlineExport → List SketchedItem
 export_sketches s e = map named_sketch (items_of_members (member_of_export s e))
 
--- the members of exports that break nothing
+-- the members of exports that violate no rule
 pub record AreMembers (types : List Ty) (funcs : List FuncTy) (s : Spaces)
     (es : List InlineExport) (members : List (Bor (List ℕ) × MemberEntry)) : Type 0 where
   pub same : map (named_member types funcs) members ≡ flat_map (member_of_export s) es

@@ -19,7 +19,7 @@ use cm_validate_type_rules::lesser;
 use cm_validate_types::TypeEntry;
 use std::alloc::{AllocError, Global};
 
-/// Adds an instance of definitions under names. Answers what it breaks: the reason with the
+/// Adds an instance of definitions under names. Answers why it is refused: the reason with the
 /// smallest number, or none. `NoSuchIndex` comes where an export names nothing, `WrongSort` where
 /// it names a type that is neither a value type nor a resource, `DuplicateName` where two have the
 /// same name, ASCII case aside, and `BadAnnotatedName` where one has a name that it may not have

@@ -1,4 +1,4 @@
-//! Instances that are made of definitions under names: what they break, and what they add.
+//! Instances made of definitions under names: the rules that one violates, and what it adds.
 #![tactic(auto)]
 
 mod instances;

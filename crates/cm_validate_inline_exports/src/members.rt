@@ -48,7 +48,7 @@ fn type_at<'a>(types: &[TypeEntry], index: u32) -> Result<MemberEntry<'a>, Valid
     }
 }
 
-/// The member that an export names; or what it breaks, `NoSuchIndex` where it names nothing,
+/// The member that an export names; or why it is refused: `NoSuchIndex` where it names nothing,
 /// `WrongSort` where it names a type that is neither a value type nor a resource.
 pub(crate) fn member_at<'a>(
     spaces: &ComponentSpaces<'a>,
@@ -85,7 +85,7 @@ fn push_sketch(
     Ok(())
 }
 
-/// What an export breaks besides what was met, and the sketch of the item that it comes to.
+/// Why an export is refused, besides the fault that was found before, and the sketch of its item.
 fn examine_one(
     sketches: &mut Vec<NamedSketch>,
     fault: Option<ValidReason>,
@@ -111,7 +111,7 @@ fn examine_one(
     }
 }
 
-/// What exports break but for their names, and the sketches of the items that they come to.
+/// Why exports are refused, but for their names, and the sketches of their items.
 pub(crate) fn examine(
     sketches: &mut Vec<NamedSketch>,
     spaces: &ComponentSpaces<'_>,
@@ -135,7 +135,7 @@ pub(crate) fn examine(
     Ok(fault)
 }
 
-/// The members of exports that break nothing, under their names; each name is looked up once, in
+/// The members of exports that violate no rule, under their names; each name is looked up once, in
 /// a tree.
 pub(crate) fn gather<'a>(
     alloc: Global,

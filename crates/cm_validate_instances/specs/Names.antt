@@ -52,7 +52,7 @@ is_named_well items i = option_map_or (may_name items i.1) (form_of i.0) false
 abbrev pub are_all_well_named : List SketchedItem → Bool
 are_all_well_named items = list_all (is_named_well items) items
 
--- what the names of the items break
+-- the rules that the names of the items violate
 abbrev pub item_name_faults : List SketchedItem → List ValidReason
 item_name_faults items =
     unless (are_distinct_names (map (λ i. i.0) items)) reason.DuplicateName

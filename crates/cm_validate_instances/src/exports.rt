@@ -35,7 +35,7 @@ fn type_item(sketch: Sketch) -> Option<ItemSketch>
     }
 }
 
-/// What an index breaks that a type equality names.
+/// Why an index that a type equality names is refused.
 fn equal_fault(sorts: &[TypeSort], index: u32) -> Option<ValidReason>
     ensures { result ≡ least (index_broken is_value_or_resource sorts.now index) }
 {
@@ -129,7 +129,7 @@ impl Sketching {
         Ok(())
     }
 
-    /// Reads what is exported: the least reason that it breaks.
+    /// Reads what is exported: the least reason to refuse it.
     fn export_desc(
         &mut self,
         name: &ExternName,
@@ -150,7 +150,7 @@ impl Sketching {
         }
     }
 
-    /// Reads an export: the least reason that it breaks.
+    /// Reads an export: the least reason to refuse it.
     pub(crate) fn export(
         &mut self,
         component: &TypeScope,

@@ -1,4 +1,4 @@
-//! What the names of items break.
+//! Why the names of items are refused.
 
 ghost use Rattle.std.specs.Prelude.{◌≡◌, IfOk, map};
 ghost use Rattle.cm_validate_model.specs.Reasons.{least};
@@ -24,7 +24,7 @@ fn names<'a>(alloc: Global, items: &'a [NamedSketch]) -> Result<Vec<&'a str>, Al
     Ok(names)
 }
 
-/// What the names of the items of an instance break, by sketches of the items: `DuplicateName`
+/// Why the names of an instance's items are refused, by sketches of the items: `DuplicateName`
 /// where two are the same without ASCII case, else `BadAnnotatedName` where one is none that its
 /// item may have, else nothing (Explainer.md, "Import and Export Definitions").
 ///

@@ -54,7 +54,7 @@ fn add_instance(
     component.add(TypeEntry::Instance(Rc::new(alloc, items)?))
 }
 
-/// Reads the type of an instance that breaks nothing besides the limits.
+/// Reads the type of an instance that violates no rule but for the limits.
 #[tactic(auto, using(crate::proofs::GrowLaws::through))]
 fn defined(
     alloc: Global,
@@ -102,7 +102,7 @@ fn defined(
     }
 }
 
-/// The same, in place of the scope.
+/// Defines the type of an instance in a scope, which is changed in place.
 fn define_within(
     scope: &mut TypeScope,
     alloc: Global,
@@ -132,9 +132,9 @@ fn define_within(
 }
 
 /// Adds the type of an instance as its declarations say it, and answers none; or the least reason
-/// that any of them or the names of its items break, and then adds nothing (Explainer.md, "Instance
-/// Types"). `scope` has the types of the component, whose next resource has the number `next`:
-/// the resources of the instance's own are numbered from there on.
+/// to refuse any of them or the names of its items, and then adds nothing (Explainer.md, "Instance
+/// Types"). `scope` has the types of the component, whose next resource has the number `next`: the
+/// resources of the instance's own are numbered from there on.
 ///
 /// It costs the declarations' own length and a look-up for each label and name; of the types of the
 /// component those alone are looked at that a declaration names.

@@ -18,8 +18,8 @@ use crate::name_laws::names_are_sketched;
 use cm_validate_model::laws::least_of_both;
 use cm_validate_sketches::laws::{definitions_are_sketched, faults_are_sketched, limits_come_last};
 
-/// What declarations lead to, and what they and the names of their items break besides the limits,
-/// is told by sketches; the limits come last.
+/// Sketches decide what declarations lead to, and why they and the names of their items are
+/// refused, besides the limits, which come last.
 pub fn instances_are_sketched()
     ensures scope { (s : Scope) (ds : List DeclarationTree)
         → sketch_scope (after_declarations s ds)

@@ -1,5 +1,6 @@
-//! The types of instances, whole: what one breaks, and the type that it is; and which names the
-//! items of an instance may have, told by sketches of the items.
+//! The type of an instance as a whole: the rules that it violates, and the type that it is.
+//!
+//! Which names the items of an instance may have is decided here, from sketches of the items.
 #![tactic(auto)]
 
 mod exports;

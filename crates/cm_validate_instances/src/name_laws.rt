@@ -12,8 +12,8 @@ ghost use Rattle.cm_validate_instances.specs.Sketches.{named_sketch};
 
 use cm_validate_model::laws::least_of_both;
 
-/// What the names of items break is told by sketches of the items, and has a smaller number than
-/// the limits.
+/// Sketches of the items decide why their names are refused; each such reason has a smaller number
+/// than that of the limits.
 pub fn names_are_sketched()
     ensures least { (items : List NamedItem)
         → least (item_names_broken items) ≡ least (item_name_faults (map named_sketch items)) }

@@ -1,4 +1,4 @@
-//! What the type of an instance breaks besides the limits, in one pass over its declarations.
+//! Why the type of an instance is refused, besides the limits, in one pass over its declarations.
 
 ghost use Rattle.std.specs.Prelude.{◌≡◌, IfOk, OnOk, map};
 ghost use Rattle.cm_types.specs.DefTypes.{declaration_tree};
@@ -20,8 +20,8 @@ use cm_validate_types::TypeScope;
 use std::alloc::{AllocError, Global};
 
 impl Sketching {
-    /// Reads declarations, one after another, and answers the least reason that any of them breaks
-    /// besides the limits.
+    /// Reads declarations, one after another, and answers the least reason besides the limits to
+    /// refuse any of them.
     fn declare_all(
         &mut self,
         alloc: Global,
@@ -44,7 +44,7 @@ impl Sketching {
     }
 }
 
-/// The least reason besides the limits that the type of an instance breaks, in a component with the
+/// The least reason besides the limits to refuse the type of an instance, in a component with the
 /// types of this scope, whose next resource has this number.
 pub(crate) fn sketched_fault(
     alloc: Global,

@@ -41,7 +41,7 @@ impl Sketching {
         }
     }
 
-    /// A value type: the least reason that it breaks besides the limits.
+    /// A value type: the least reason to refuse it besides the limits.
     fn declare_value(
         &mut self,
         alloc: Global,
@@ -62,7 +62,7 @@ impl Sketching {
         Ok(fault)
     }
 
-    /// The type of a function: the least reason that it breaks besides the limits.
+    /// The type of a function: the least reason to refuse it besides the limits.
     fn declare_func(
         &mut self,
         alloc: Global,
@@ -123,8 +123,8 @@ impl Sketching {
         }
     }
 
-    /// Reads a declaration, and answers the least reason that it breaks besides the limits, if it
-    /// breaks any. It costs the declaration's own length and a look-up for each label.
+    /// Reads a declaration, and answers the least reason to refuse it besides the limits, if there
+    /// is one. It costs the declaration's own length and a look-up for each label.
     pub(crate) fn declare(
         &mut self,
         alloc: Global,

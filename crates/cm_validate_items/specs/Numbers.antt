@@ -81,6 +81,6 @@ abbrev pub numbers_after_all : Numbers → List Item → Numbers
 numbers_after_all n [] = n
 numbers_after_all n (x ∷ xs) = numbers_after_all (numbers_after n x) xs
 
--- those of a whole component
+-- the numbers of the types and instances of a whole component
 abbrev pub numbers_of : List SectionTree → Numbers
 numbers_of sections = numbers_after_all no_numbers (all_items sections)

@@ -4,6 +4,6 @@ use Rattle.cm_validate_model.specs.Definitions.{ResourceDef}
 use Rattle.cm_validate_items.specs.Ranges.{range_defs}
 use Rattle.cm_validate_items.specs.declared.ranges.Resources.{Resources}
 
--- in the order of their numbers
+-- the resources of a component in the order of their numbers
 abbrev pub resources_in : Resources → List ResourceDef
 resources_in r = range_defs r.ranges.items

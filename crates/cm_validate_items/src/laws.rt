@@ -23,8 +23,8 @@ pub fn equal_numbers_are_one()
         → export_at s j ≡ export_at s k }
 {}
 
-/// The type whose instances imports with one number are names the component's resources that were
-/// there before it, and its own, which it brings one after another.
+/// The type that imports with one number are instances of names only resources that the component
+/// had before it, and its own, which it brings one after another.
 pub fn types_of_imports_are_counted()
     ensures { (sections : List SectionTree) (w : Shared) (j k r : ℕ)
         → AreShared (spaces_of sections) w

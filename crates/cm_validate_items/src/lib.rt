@@ -1,6 +1,7 @@
-//! The items of the types of instances by their names; the resources of a component, where those
-//! that an import brings are a range; and which imports of a component are instances of one type,
-//! which exports one instance, by the index under which each stood first.
+//! The items of instance types by name, and the resources of a component by number.
+//!
+//! The resources that an import brings are one range. Imports that are instances of one type share
+//! a number, and so do exports that are one instance: the index under which each stood first.
 #![tactic(auto)]
 
 mod items;

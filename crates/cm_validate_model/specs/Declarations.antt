@@ -123,12 +123,14 @@ export_desc_broken sorts (desc.Func i) = index_broken (has_sort sort.Func) sorts
 export_desc_broken sorts (desc.Type (bound.Equal i)) = index_broken is_value_or_resource sorts i
 export_desc_broken sorts (desc.Type bound.SubResource) = []
 
+-- the rules that a declaration violates, by the sorts of the types in its scope
 abbrev pub declaration_broken : Scope → DeclarationTree → List ValidReason
 declaration_broken s (type_decl t) = declared_type_broken s.types t
 declaration_broken s (outer_type_decl o) =
     found (λ t. []) (outer_type_of s o.count o.index)
 declaration_broken s (export_decl e) = export_desc_broken (sorts_of s.types) e.desc
 
+-- the rules that declarations violate, each in the scope after those before it
 abbrev pub declarations_broken : Scope → List DeclarationTree → List ValidReason
 declarations_broken s [] = []
 declarations_broken s (d ∷ ds) =

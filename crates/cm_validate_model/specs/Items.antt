@@ -9,7 +9,7 @@ use Rattle.cm_binary_model.specs.declared.instances.InlineExport.{InlineExport}
 use Rattle.cm_binary_model.specs.declared.externs.Import.{Import}
 use Rattle.cm_binary_model.specs.declared.externs.Export.{Export}
 
--- one definition, of whatever section
+-- one definition of a component, of whatever section
 pub data Item : Type 0 where
   core_module_item : Item
   core_instance_item : CoreInstanceTree → Item

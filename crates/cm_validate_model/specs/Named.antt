@@ -31,7 +31,8 @@ IsLiftWhole s (lifted f ty os) =
     IsGuestAt s f × AreOptionsThere s os × (lift_type_broken os ty ≡ [])
 IsLiftWhole s (imported import item ty) = ⊤
 
--- The same of a core function that lowers an import.
+-- Of a core function that lowers an import, what its options name is there, and they are all that
+-- its type needs.
 abbrev pub IsLowerWhole : Spaces → CoreFuncDef → Type 0
 IsLowerWhole s (lowered import item ty os) =
     AreOptionsThere s os × (lower_type_broken os ty ≡ [])

@@ -80,7 +80,7 @@ option_broken s (option.Realloc i) = guest_broken s.core_funcs i
 option_broken s (option.PostReturn i) = guest_broken s.core_funcs i
 option_broken s _ = []
 
--- what the options of a lift, or of a lower, break whatever its type is
+-- the rules that the options of a lift, or of a lower, violate whatever its type is
 abbrev pub options_broken : Spaces → List CanonOption → List ValidReason
 options_broken s options =
     flat_map (option_broken s) options ++ unless (are_once options) reason.OptionTwice
@@ -129,7 +129,7 @@ abbrev pub latin1_broken : Bool → List CanonOption → List ValidReason
 latin1_broken stores options =
     unless (not (stores && list_any is_latin1 options)) reason.StoresLatin1
 
--- what the type of a lift breaks with these options, and that of a lower
+-- the rules that the type of a lift violates with these options, and that of a lower
 abbrev pub lift_type_broken : List CanonOption → FuncTy → List ValidReason
 lift_type_broken options f =
     memory_use_broken f options

@@ -1,4 +1,5 @@
--- What an item breaks: a list of reasons, and the least of them (this project's own choice).
+-- The reasons for which an item violates a rule, as a list, and the least of them (this project's
+-- own choice).
 use Rattle.std.specs.Prelude.{ℕ, Bool, List, [], ◌∷◌, Option, Some, None, nat_le}
 use Rattle.std.specs.Prelude.{if◌then◌else◌, true, false, slice_get}
 use Rattle.cm_validate_model.specs.declared.fault.ValidReason.{ValidReason}
@@ -7,17 +8,17 @@ use Rattle.cm_validate_model.specs.ReasonWords.{reason_number}
 
 -- ---- lists of reasons: an item breaks a list of them, and is valid where it breaks none
 
--- a rule is broken unless this holds
+-- a rule is violated, for this reason, unless this holds
 abbrev pub unless : Bool → ValidReason → List ValidReason
 unless true r = []
 unless false r = r ∷ []
 
--- what an index, or a name, breaks: it names nothing, or what it names breaks these
+-- the rules that an index, or a name, violates: it names nothing, or what it names violates these
 abbrev pub found : {A : Type 0} → (A → List ValidReason) → Option A → List ValidReason
 found broken None = reason.NoSuchIndex ∷ []
 found broken (Some d) = broken d
 
--- the same where another rule tells that it names nothing
+-- the rules that an index violates where another rule covers that it names nothing
 abbrev pub if_found : {A : Type 0} → (A → List ValidReason) → Option A → List ValidReason
 if_found broken None = []
 if_found broken (Some d) = broken d

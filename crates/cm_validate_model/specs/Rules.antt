@@ -1,6 +1,6 @@
--- What an item of a component breaks, in the index spaces of what stands before it (Explainer.md,
--- "Component Definitions" and the sections after it; the numbers of the reasons are this project's
--- own choice).
+-- The rules that an item of a component violates, in the index spaces of what stands before it
+-- (Explainer.md, "Component Definitions" and the sections after it; the numbers of the reasons are
+-- this project's own choice).
 use Rattle.std.specs.Prelude.{Bool, true, false, not, ◌&&◌, ◌==◌, nat_lt, ℕ, List, [], ◌∷◌, ◌++◌}
 use Rattle.std.specs.Prelude.{map, Option, slice_get}
 use Rattle.std.specs.List.{flat_map, list_any}
@@ -154,6 +154,7 @@ resource_broken s i = type_index_broken s (has_sort sort.Resource) i
 abbrev pub resource_at : Spaces → ℕ → Option ℕ
 resource_at s i = option_and_then resource_in (slice_get s.types i)
 
+-- the type of a function under an index, if one is there
 abbrev pub func_ty_at : Spaces → ℕ → Option FuncTy
 func_ty_at s i = option_and_then func_ty_in (slice_get s.types i)
 
@@ -161,6 +162,7 @@ abbrev pub lowered_broken : List CanonOption → FuncDef → List ValidReason
 lowered_broken options f =
     unless (is_imported f) reason.NotImported ++ lower_type_broken options (func_type_of f)
 
+-- the rules that a canonical definition violates
 abbrev pub canon_broken : Spaces → CanonTree → List ValidReason
 canon_broken s (lift f options ty) =
     guest_broken s.core_funcs f

@@ -68,7 +68,7 @@ abbrev pub OfExport : (FuncDef → Type 0) → ExportDef → Type 0
 OfExport P (exported_func f) = P f
 OfExport P (exported_instance ms) = OfMembers P ms
 
--- It holds of each function in index spaces, and what is said of core functions of each of those.
+-- A property holds of each function in index spaces, and another of each core function.
 pub record OfFunctions (P : FuncDef → Type 0) (Q : CoreFuncDef → Type 0) (s : Spaces) : Type 0 where
   pub funcs : AllByRecursion P s.funcs
   pub instances : AllByRecursion (OfMembers P) s.instances

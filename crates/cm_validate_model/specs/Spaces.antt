@@ -133,6 +133,7 @@ abbrev pub member_at : Spaces → InstanceExportSort → ℕ → Option MemberDe
 member_at s member_sort.Func i = option_map func_member (slice_get s.funcs i)
 member_at s member_sort.Type i = option_map type_member (slice_get s.types i)
 
+-- what an inline export names, under its name, if it names anything
 abbrev pub named_member : Spaces → InlineExport → List NamedMember
 named_member s e =
     option_to_list
@@ -224,6 +225,7 @@ lower_func options (imported import item ty) = Some (lowered import item ty opti
 abbrev pub resource_func : Spaces → (ℕ → CoreFuncDef) → ℕ → Option CoreFuncDef
 resource_func s make i = option_map make (option_and_then resource_in (slice_get s.types i))
 
+-- the core function that a canonical definition makes, if it makes one
 abbrev pub canon_core_func : Spaces → CanonTree → Option CoreFuncDef
 canon_core_func s (lift f os ty) = None
 canon_core_func s (lower f os) = option_and_then (lower_func os) (slice_get s.funcs f)
@@ -265,6 +267,7 @@ abbrev pub type_alias : Spaces → AliasTree → Option TypeDef
 type_alias s (outer_type o) = slice_get s.types o.index
 type_alias s a = option_and_then type_of_member (member_alias s a)
 
+-- the types that an item adds
 abbrev pub new_types : Spaces → Item → List TypeDef
 new_types s (type_item d) = def_of s d ∷ []
 new_types s (alias_item a) = option_to_list (type_alias s a)
@@ -410,6 +413,6 @@ abbrev pub after_items : Spaces → List Item → Spaces
 after_items s [] = s
 after_items s (x ∷ xs) = after_items (after_item s x) xs
 
--- those of a whole component
+-- the index spaces of a whole component
 abbrev pub spaces_of : List SectionTree → Spaces
 spaces_of sections = after_items empty_spaces (all_items sections)

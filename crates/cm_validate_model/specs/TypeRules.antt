@@ -1,5 +1,5 @@
--- What a definition of a type breaks (Explainer.md, "Type Definitions"; the limits and the numbers
--- of the reasons are this project's own choice).
+-- The rules that a definition of a type violates (Explainer.md, "Type Definitions"; the limits and
+-- the numbers of the reasons are this project's own choice).
 use Rattle.std.specs.Prelude.{Bool, true, false, not, ◌&&◌, nat_le, nat_lt, List, [], ◌∷◌, ◌++◌}
 use Rattle.std.specs.Prelude.{ℕ, length, map, Option, Some, None}
 use Rattle.std.specs.List.{flat_map, list_any}

@@ -1,6 +1,6 @@
 -- Valid components, and the fault of one that is not: its least section, the least item there, and
--- of the reasons that this item breaks the least (Explainer.md, "Component Definitions"; this order
--- is this project's own choice).
+-- the least of the reasons to refuse it (Explainer.md, "Component Definitions"; this order is this
+-- project's own choice).
 use Rattle.std.specs.Prelude.{◌≡◌, ◌≤◌, ℕ, List, [], ◌∷◌, ◌++◌, length, Contains}
 use Rattle.cm_binary_model.specs.Trees.{SectionTree}
 use Rattle.cm_validate_model.specs.declared.fault.ValidReason.{ValidReason}
@@ -9,7 +9,7 @@ use Rattle.cm_validate_model.specs.Items.{Item, items_of, all_items}
 use Rattle.cm_validate_model.specs.Spaces.{Spaces, empty_spaces, after_items}
 use Rattle.cm_validate_model.specs.Rules.{broken}
 
--- each of these items breaks nothing, in the spaces of those before it
+-- each of these items violates no rule, in the spaces of those before it
 abbrev pub IsValidFrom : Spaces → List Item → Type 0
 IsValidFrom s items =
     (front : List Item) (x : Item) (rest : List Item)
@@ -25,7 +25,7 @@ pub record IsLeast (reasons : List ValidReason) (r : ValidReason) : Type 0 where
   pub there : Contains reasons r
   pub least : (q : ValidReason) → Contains reasons q → reason_number r ≤ reason_number q
 
--- the first of these items that breaks anything is that of this number, for this reason
+-- the first of these items that violates a rule is that of this number, for this reason
 pub record IsFirstFault (s : Spaces) (items : List Item) (number : ℕ) (r : ValidReason)
     : Type 0 where
   pub front : List Item

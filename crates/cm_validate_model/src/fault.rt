@@ -6,7 +6,7 @@ ghost use Rattle.cm_validate_model.specs.ReasonWords.{reason_name, reason_number
 use std::error::Error;
 use std::fmt;
 
-/// The rule that an item of a component breaks. docs/RULES.md has the table of rules.
+/// The rule that an item of a component violates. docs/RULES.md has the table of rules.
 #[derive(Clone, Copy, PartialEq, Eq)]
 pub enum ValidReason {
     /// An index, or a name of an export, that nothing before the item has.

@@ -27,8 +27,8 @@ pub fn functions_are_as_imported()
     functions_come_from_items();
 }
 
-/// In a component that is valid, a lift is of a guest's core function, the options of lifts and
-/// lowers name memories and guests' core functions, and they are all that the types need.
+/// In a valid component, a lift is of a guest's core function, the options of lifts and lowers name
+/// memories and guests' core functions, and they are all that the types need.
 pub fn what_functions_name_is_there()
     ensures { (sections : List SectionTree) → IsValid sections
         → OfFunctions (IsLiftWhole (spaces_of sections)) (IsLowerWhole (spaces_of sections))

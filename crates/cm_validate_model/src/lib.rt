@@ -1,6 +1,7 @@
-//! What a valid component is, for every form of component files: index spaces, scopes of types, and
-//! what each definition breaks, as definitions, with laws. The rules by number and name, and where
-//! one is broken; which resources types may name; where functions come from.
+//! What a valid component is: index spaces, scopes of types and rules, as definitions with laws.
+//!
+//! They cover every form of component files: each rule with its number and name, where it is
+//! violated, which resources types may name, and where functions come from.
 #![tactic(auto)]
 
 pub mod counted_laws;

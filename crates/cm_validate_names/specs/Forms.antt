@@ -6,7 +6,7 @@ use Rattle.cm_validate_model.specs.Rules.{func_name_broken, instance_name_broken
 use Rattle.cm_validate_names.specs.declared.forms.ExternSort.{ExternSort}
 use Rattle.cm_validate_names.specs.declared.forms.ExternSort.TheVariants as sort
 
--- what the form of the name of an import, or of an export, of a sort breaks
+-- the rule that the form of the name of an import or an export violates, by its sort
 abbrev pub form_broken : ExternSort → List ℕ → List ValidReason
 form_broken sort.Func name = func_name_broken name
 form_broken sort.Instance name = instance_name_broken name

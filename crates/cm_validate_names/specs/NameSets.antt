@@ -18,7 +18,7 @@ name_of f = f.name
 abbrev pub is_known : NameSet → List ℕ → Bool
 is_known s name = contains_text s.folded (without_case name)
 
--- what a name breaks after those of a set
+-- the rules that a name violates after those of a set
 abbrev pub known_broken : List ℕ → NameSet → List ValidReason
 known_broken name s = unless (not (is_known s name)) reason.DuplicateName
 

@@ -37,7 +37,7 @@ fn is_label_or_interface(form: ExternNameForm<'_>) -> bool
     }
 }
 
-/// What the form of a name breaks: `BadAnnotatedName` where a function's is no label, or an
+/// Why the form of a name is refused: `BadAnnotatedName` where a function's is no label, or an
 /// instance's neither a label nor the name of an interface.
 pub(crate) fn form_fault(name: &ExternName, sort: ExternSort) -> Option<ValidReason>
     ensures { result ≡ least (form_broken sort name.now) }

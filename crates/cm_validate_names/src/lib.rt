@@ -1,5 +1,6 @@
-//! Names of a component, found by trees: which names its imports and exports may have, and values
-//! under names, in the order in which they came.
+//! The names of a component: which names imports and exports may have, and values by name.
+//!
+//! Names are found in trees, and keep the order in which they came.
 #![tactic(auto)]
 
 mod forms;

@@ -23,7 +23,7 @@ impl<'a, V> NameMap<'a, V> {
     ghost use Rattle.cm_validate_names.specs.NamedValues.{place_of, value_of};
     ghost use Rattle.cm_validate_names.specs.NameMaps.{entries_of};
 
-    /// Nothing.
+    /// A map without names.
     pub fn new(alloc: Global) -> NameMap<'a, V>
         ensures { entries_of result ≡ [] }
     {

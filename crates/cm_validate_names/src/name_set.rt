@@ -30,8 +30,8 @@ impl NameSet {
         }
     }
 
-    /// What a name of a function, or of an instance, breaks after these: `DuplicateName` where one
-    /// of them is the same, ASCII case aside; else `BadAnnotatedName` where a function's is no
+    /// Why a name of a function, or of an instance, is refused after these: `DuplicateName` where
+    /// one of them is the same, ASCII case aside; else `BadAnnotatedName` where a function's is no
     /// label, or an instance's neither a label nor the name of an interface (Explainer.md, "Import
     /// and Export Definitions"). It costs one look-up.
     pub fn fault(&self, name: &FoldedName, sort: ExternSort) -> Option<ValidReason>

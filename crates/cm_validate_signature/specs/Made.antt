@@ -71,7 +71,7 @@ pub record IsExternOf (types : List Ty) (funcs : List FuncTy) (export : ExportEn
   pub is : extern_of types funcs e ≡ exported_extern (export_def types funcs export)
   pub there : is_extern_there (length types) (length funcs) e.desc ≡ true
 
--- the same of several, in order
+-- what several exports are, in order, with their names and without, their places in the arena
 pub record AreExternsOf (types : List Ty) (funcs : List FuncTy) (exports : List ExportEntry)
     (es : List Extern) : Type 0 where
   pub are : map (extern_of types funcs) es

@@ -99,7 +99,7 @@ fn moved_desc(by: Move, desc: ItemDesc) -> ItemDesc
     }
 }
 
-/// The same of the items of such an instance.
+/// The items of such an instance, each as the component has it.
 fn moved_items(alloc: Global, by: Move, items: &[Item]) -> Result<Vec<Item>, AllocError>
     ensures { IfOk result (λ moved. moved.items ≡ map (moved_item by) items.now) }
 {

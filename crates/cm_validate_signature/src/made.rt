@@ -43,7 +43,7 @@ impl Made {
     ghost use Rattle.cm_validate_entries.specs.declared.spaces.ExportedEntry.TheVariants as export;
     ghost use Rattle.cm_validate_signature.specs.Made.{AreMade, InEachArena, IsTypeOf};
 
-    /// Nothing was made yet.
+    /// No items were made yet.
     pub(crate) fn new(alloc: Global) -> Made
         ensures { (types : List Ty) (funcs : List FuncTy) (s : Spaces)
             → AreMade types funcs s result }

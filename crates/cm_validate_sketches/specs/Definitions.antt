@@ -37,7 +37,7 @@ is_used ss t = option_map_or (λ v. true) (used ss t) false
 abbrev pub holds_used : List Sketch → ValType → Bool
 holds_used ss t = option_map_or holds_borrow (used ss t) false
 
--- the same of a payload or a result that may be left out
+-- whether a payload or a result names one, or is left out; whether one that is there holds a borrow
 abbrev pub is_payload_used : List Sketch → Option ValType → Bool
 is_payload_used ss p = option_map_or (is_used ss) p true
 

@@ -1,5 +1,5 @@
--- What definitions break besides the limits on expanded types, by the sketches of the types before
--- them.
+-- Why definitions are refused, besides the limits on expanded types, by the sketches of the types
+-- before them.
 use Rattle.std.specs.Prelude.{Bool, true, false, not, ◌&&◌, nat_lt, List, [], ◌∷◌, ◌++◌, map}
 use Rattle.std.specs.Prelude.{Option, Some, None}
 use Rattle.std.specs.List.{filter}
@@ -32,11 +32,11 @@ abbrev pub is_too_large : ValidReason → Bool
 is_too_large reason.TooLarge = true
 is_too_large _ = false
 
--- those of them that are others
+-- those of some reasons that are not `TooLarge`
 abbrev pub besides_limits : List ValidReason → List ValidReason
 besides_limits rs = filter (λ r. not (is_too_large r)) rs
 
--- each of them has a smaller number than `TooLarge`
+-- each of some reasons has a smaller number than `TooLarge`
 abbrev pub is_before_limits : ValidReason → Bool
 is_before_limits r = nat_lt (reason_number r) (reason_number reason.TooLarge)
 

@@ -3,6 +3,6 @@ use Rattle.std.specs.Prelude.{List}
 use Rattle.cm_validate_sketches.specs.declared.level.SketchLevel.{SketchLevel}
 use Rattle.cm_validate_sketches.specs.declared.sketches.Sketch.{Sketch}
 
--- by index from 0
+-- the sketches of a level, by index from 0
 abbrev pub sketches_of : SketchLevel → List Sketch
 sketches_of level = level.sketches.items

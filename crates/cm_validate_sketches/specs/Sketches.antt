@@ -24,7 +24,7 @@ abbrev pub sketch_holding : Bool → ValueSketch
 sketch_holding true = value_sketch.HoldsBorrow
 sketch_holding false = value_sketch.Plain
 
--- of a value type
+-- the sketch of a value type
 abbrev pub sketch_value : Ty → ValueSketch
 sketch_value (own r) = value_sketch.Own r
 sketch_value (borrow r) = value_sketch.Borrow r
@@ -96,7 +96,7 @@ sketch_of (resource n) = sketch.Resource (resource_id n)
 sketch_of (instance_type i) = sketch.Instance
 sketch_of faulty = sketch.Faulty
 
--- its sort
+-- the sort of a sketched type
 abbrev pub sketch_sort : Sketch → TypeSort
 sketch_sort (sketch.Value v) = sort.Value
 sketch_sort (sketch.Func f) = sort.Func

@@ -37,7 +37,7 @@ fn sketch_value(types: &Types, place: usize) -> ValueSketch
     }
 }
 
-/// The same, its resources moved.
+/// The sketch of the value type at a place, its resources moved.
 fn sketch_placed(types: &Types, placed: Placed) -> ValueSketch
     requires { is_there (length (types_of types.now)) placed ≡ true }
     ensures { result ≡ sketch_value (placed_type (types_of types.now) placed) }

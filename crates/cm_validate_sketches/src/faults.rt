@@ -1,4 +1,4 @@
-//! What definitions break besides the limits on expanded types.
+//! Why definitions are refused, besides the limits on expanded types.
 
 use crate::level::SketchLevel;
 use cm_types::{DefValType, FuncType};
@@ -14,9 +14,9 @@ impl SketchLevel {
     ghost use Rattle.cm_validate_sketches.specs.Faults.{func_def_faults, value_def_faults};
     ghost use Rattle.cm_validate_sketches.specs.Levels.{sketches_of};
 
-    /// What a definition of a value type breaks besides the limits: the reason with the smallest
-    /// number, or none. `AllocError` comes where there is no memory to compare labels; each is
-    /// folded and looked up once.
+    /// Why a definition of a value type is refused, besides the limits: the reason with the
+    /// smallest number, or none. `AllocError` comes where there is no memory to compare labels;
+    /// each is folded and looked up once.
     pub fn value_def_fault(
         &self,
         alloc: Global,
@@ -28,7 +28,8 @@ impl SketchLevel {
         parts_fault(alloc, self.sorts(), def)
     }
 
-    /// The same of the type of a function.
+    /// Why the type of a function is refused, besides the limits, as `value_def_fault` answers for
+    /// a value type.
     pub fn func_def_fault(
         &self,
         alloc: Global,

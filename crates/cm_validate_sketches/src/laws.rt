@@ -28,8 +28,8 @@ pub fn definitions_are_sketched()
         → sketch_of (func_def_of types f) ≡ func_def_sketch (map sketch_of types) f }
 {}
 
-/// What a definition breaks besides the limits is told by the sketches of the types that it names,
-/// and each such reason has a smaller number than that of the limits.
+/// The sketches of the types that a definition names decide why it is refused, besides the limits;
+/// each such reason has a smaller number than that of the limits.
 pub fn faults_are_sketched()
     ensures value { (types : List TypeDef) (v : DefValTypeTree)
         → besides_limits (value_def_broken types v) ≡ value_def_faults (map sketch_of types) v }
@@ -41,9 +41,9 @@ pub fn faults_are_sketched()
         → list_all is_before_limits (besides_limits (func_def_broken types f)) ≡ true }
 {}
 
-/// Reasons with smaller numbers than that of the limits are others. Where all others have smaller
-/// numbers, the least of all is the least of the others, and that of the limits where there are no
-/// others.
+/// A reason with a smaller number than that of the limits is another one. Where all others have
+/// smaller numbers, the least of all is the least of the others, and that of the limits where there
+/// are no others.
 pub fn limits_come_last()
     ensures others { (rs : List ValidReason) → list_all is_before_limits rs ≡ true
         → besides_limits rs ≡ rs }

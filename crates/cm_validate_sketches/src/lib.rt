@@ -1,6 +1,7 @@
-//! Types in sketches: what the rules on the types of instances need to know of a type, and what a
-//! definition breaks besides the limits on expanded types, told by the sketches of the types that
-//! it names.
+//! Sketches of types: what the rules on instance types need to know of a type.
+//!
+//! The sketches of the types that a definition names decide which rules it violates, but for the
+//! limits on expanded types.
 #![tactic(auto)]
 
 mod definitions;

@@ -68,7 +68,7 @@ fn moved_option(by: Option<Move>, resource: Option<ResourceId>) -> Option<Resour
 }
 
 impl FuncSketch {
-    /// The same where an import may have moved the resources.
+    /// This sketch, with its resources as an import may have moved them.
     pub(crate) fn moved(self, by: Option<Move>) -> FuncSketch
         ensures { result ≡ func_replaced (moved_by by) self }
     {
@@ -80,7 +80,7 @@ impl FuncSketch {
 }
 
 impl ValueSketch {
-    /// The same where an import may have moved the resources.
+    /// This sketch, with its resources as an import may have moved them.
     pub(crate) fn moved(self, by: Option<Move>) -> ValueSketch
         ensures { result ≡ value_replaced (moved_by by) self }
     {

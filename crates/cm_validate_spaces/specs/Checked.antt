@@ -6,7 +6,7 @@ use Rattle.cm_validate_model.specs.Spaces.{Spaces, spaces_of}
 use Rattle.cm_validate_spaces.specs.ComponentEntries as entries
 use Rattle.cm_validate_spaces.specs.declared.checked.Checked.{Checked}
 
--- its sections, and its index spaces
+-- the sections of a valid component, and its index spaces
 abbrev pub sections_in : Checked → List SectionTree
 sections_in c = c.component.now
 

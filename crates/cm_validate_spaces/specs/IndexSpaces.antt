@@ -41,12 +41,12 @@ pub record IsAt (w : IndexSpaces) (s : Spaces) : Type 0 where
   pub made_there : list_all (is_made_there (length (funcs_in w))) w.made.items ≡ true
   pub laid : AreOfFirst (layouts_in w.layouts) (types_in w)
 
--- they are those of some component, after some of its items
+-- the index spaces are those of some component, after some of its items
 abbrev pub Stands : IndexSpaces → Type 0
 Stands w = (s : Spaces) × IsAt w s
 
--- A call answers for an item: with the least reason that it breaks, or else after it. Where it
--- breaks a rule, the spaces stand for the same as before.
+-- A call answers for an item: with the least reason to refuse it, or else after it. Where it
+-- violates a rule, the spaces stand for the same as before.
 pub record Answers (x : Item) (old : IndexSpaces) (r : Option ValidReason) (new : IndexSpaces)
     : Type 0 where
   pub fault : (s : Spaces) → IsAt old s → r ≡ least (broken s x)

@@ -14,8 +14,8 @@ use Rattle.cm_validate_spaces.specs.Made.{made_def, is_made_there}
 use Rattle.cm_validate_spaces.specs.declared.made.MadeFunc.{MadeFunc}
 use Rattle.cm_validate_spaces.specs.declared.spaces.IndexSpaces.{IndexSpaces}
 
--- A canonical definition that makes a core function breaks this, at least; and this is what it
--- makes, if the function or the resource is there of which it is made. It adds nothing else.
+-- A canonical definition that makes a core function is refused for this, at least; and this is what
+-- it makes, if the function or the resource is there of which it is made. It adds nothing else.
 pub record Makes (w : IndexSpaces) (c : CanonTree) (fault : Option ValidReason)
     (made : Option MadeFunc) : Type 0 where
   pub fault_is : (s : Spaces) → IsAt w s → fault ≡ least (broken s (canon_item c))

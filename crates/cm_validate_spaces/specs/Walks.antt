@@ -14,13 +14,13 @@ use Rattle.cm_validate_spaces.specs.declared.spaces.IndexSpaces.{IndexSpaces}
 -- ---- a section
 
 -- there was no memory at the item of this number, before which nothing is faulty; or it is the
--- first that breaks a rule, for this reason
+-- first that violates a rule, for this reason
 abbrev pub IsMet : Spaces → List Item → ℕ → ValidReason → Type 0
 IsMet s items number r =
     ((r ≡ reason.Memory) × IsValidFrom s (take number items)) ⊎ IsFirstFault s items number r
 
--- none of these items breaks a rule, and the spaces are those after them; or the first that does is
--- that of this number, for this reason
+-- none of these items violates a rule, and the spaces are those after them; or the first that does
+-- is that of this number, for this reason
 abbrev pub Walks : List Item → IndexSpaces → Option (ℕ × ValidReason) → IndexSpaces → Type 0
 Walks items old r new =
     (s : Spaces) → IsAt old s
@@ -33,7 +33,7 @@ Walks items old r new =
 abbrev pub items_at : List SectionTree → ℕ → List Item
 items_at sections section = option_map_or items_of (slice_get sections section) []
 
--- The items of the sections before this one, and the first so many of its own, break nothing.
+-- The items of the sections before this one, and the first so many of its own, violate no rule.
 abbrev pub IsFineBefore : List SectionTree → ℕ → ℕ → Type 0
 IsFineBefore sections section item =
     IsValidFrom empty_spaces
@@ -46,7 +46,7 @@ IsFaultMet sections f =
     ((f.reason ≡ reason.Memory) × IsFineBefore sections f.section f.item)
     ⊎ IsFaultOf sections f.section f.item f.reason
 
--- the component is valid, and these are its spaces; or this is what was met
+-- the component is valid, and these are its spaces; or this is the fault that was found
 abbrev pub WalksThrough : List SectionTree → Option ValidFault → IndexSpaces → Type 0
 WalksThrough sections r new =
     MatchOption r (IsValid sections × IsAt new (spaces_of sections)) (IsFaultMet sections)

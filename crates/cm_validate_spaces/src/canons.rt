@@ -52,7 +52,7 @@ fn resource_at(types: &TypeScope, index: u32) -> Option<u64>
     }
 }
 
-/// What makes handles of the resource under an index of a type, if one stands there.
+/// The core function that makes handles of the resource under an index of a type, if one is there.
 fn making<'a>(types: &TypeScope, index: u32) -> Option<MadeFunc<'a>>
     ensures def { (funcs : List FuncTy) (s : Spaces) → s.types ≡ own_types types.now
         → option_map (made_def funcs) result ≡ canon_core_func s (resource_new index) }
@@ -61,7 +61,7 @@ fn making<'a>(types: &TypeScope, index: u32) -> Option<MadeFunc<'a>>
     Some(MadeFunc::Making(resource_at(types, index)?))
 }
 
-/// What drops them.
+/// The core function that drops handles of a resource.
 fn dropping<'a>(types: &TypeScope, index: u32) -> Option<MadeFunc<'a>>
     ensures def { (funcs : List FuncTy) (s : Spaces) → s.types ≡ own_types types.now
         → option_map (made_def funcs) result ≡ canon_core_func s (resource_drop index) }
@@ -70,7 +70,7 @@ fn dropping<'a>(types: &TypeScope, index: u32) -> Option<MadeFunc<'a>>
     Some(MadeFunc::Dropping(resource_at(types, index)?))
 }
 
-/// What tells what they represent.
+/// The core function that reads the representation behind a handle of a resource.
 fn reading<'a>(types: &TypeScope, index: u32) -> Option<MadeFunc<'a>>
     ensures def { (funcs : List FuncTy) (s : Spaces) → s.types ≡ own_types types.now
         → option_map (made_def funcs) result ≡ canon_core_func s (resource_rep index) }
@@ -131,7 +131,7 @@ impl<'a> IndexSpaces<'a> {
         )
     }
 
-    /// Adds the core function that a canonical definition makes which breaks nothing.
+    /// Adds the core function made by a canonical definition that violates no rule.
     fn push_made(&mut self, canon: &Canon, made: MadeFunc<'a>) -> Result<(), AllocError>
         requires { Makes self.old (canon_tree canon.now) None (Some made) }
         ensures { OnOk result (Answers (canon_item (canon_tree canon.now))
@@ -142,7 +142,7 @@ impl<'a> IndexSpaces<'a> {
         Ok(())
     }
 
-    /// Adds a canonical definition that makes a core function, unless it breaks a rule.
+    /// Adds a canonical definition that makes a core function, unless it violates a rule.
     fn make(
         &mut self,
         canon: &Canon,
@@ -186,7 +186,7 @@ impl<'a> IndexSpaces<'a> {
         self.make(canon, fault, made)
     }
 
-    /// Adds what makes handles of a resource.
+    /// Adds the core function that makes handles of a resource.
     fn resource_new(
         &mut self,
         canon: &Canon,
@@ -203,7 +203,7 @@ impl<'a> IndexSpaces<'a> {
         self.make(canon, fault, made)
     }
 
-    /// Adds what drops them.
+    /// Adds the core function that drops handles of a resource.
     fn resource_drop(
         &mut self,
         canon: &Canon,
@@ -219,7 +219,7 @@ impl<'a> IndexSpaces<'a> {
         self.make(canon, fault, made)
     }
 
-    /// Adds what tells what they represent.
+    /// Adds the core function that reads the representation behind a handle of a resource.
     fn resource_rep(
         &mut self,
         canon: &Canon,
@@ -236,14 +236,14 @@ impl<'a> IndexSpaces<'a> {
         self.make(canon, fault, made)
     }
 
-    /// Adds a canonical definition. Answers the reason with the smallest number that it breaks, or
-    /// none; nothing is added then (Explainer.md, "Canonical Definitions"). `NoSuchIndex` comes
-    /// where what it or an option of it names is not there, `WrongSort` where a type is of another
-    /// sort, `NotOwnResource` where handles are made, or what they represent is told, of a resource
-    /// that an import brings; of a lift and a lower `lift_fault` and `lower_fault` of `cm_canons`
-    /// say more. `AllocError` comes where there is no memory; the spaces are then to be dropped. It
-    /// costs its options, and the layouts of the types that were added since a lift or a lower
-    /// before it.
+    /// Adds a canonical definition. Answers the least reason to refuse it, or none; nothing is
+    /// added then (Explainer.md, "Canonical Definitions"). `NoSuchIndex` comes where what it or an
+    /// option of it names is not there, `WrongSort` where a type is of another sort,
+    /// `NotOwnResource` where handles are made, or their representations read, of a resource that
+    /// an import brings; of a lift and a lower `lift_fault` and `lower_fault` of
+    /// `cm_validate_canons` say more. `AllocError` comes where there is no memory; the spaces are
+    /// then to be dropped. It costs its options, and the layouts of the types that were added since
+    /// a lift or a lower before it.
     pub fn add_canon(
         &mut self,
         alloc: Global,

@@ -17,7 +17,7 @@ use std::alloc::Global;
 ///
 /// A component that is not valid is refused with its first fault (Explainer.md, "Component
 /// Definitions"; which fault is the first is this project's own choice): the first section with a
-/// faulty item, the first such item there, and of the reasons that it breaks the one with the
+/// faulty item, the first such item there, and of several reasons to refuse it the one with the
 /// smallest number. `Memory` comes where there is no memory, at an item before which nothing is
 /// wrong; it may come in the place of a fault there or behind. Takes time and memory in proportion
 /// to the component, but for a logarithm in names.

@@ -13,8 +13,8 @@ impl<'a> IndexSpaces<'a> {
     ghost use Rattle.cm_validate_model.specs.Items.{core_module_item};
     ghost use Rattle.cm_validate_spaces.specs.IndexSpaces.{Answers};
 
-    /// Adds a core module, which breaks nothing. `AllocError` comes where there are too many to be
-    /// counted; the spaces are then to be dropped.
+    /// Adds a core module, which violates no rule. `AllocError` comes where there are too many to
+    /// be counted; the spaces are then to be dropped.
     pub fn add_core_module(&mut self) -> Result<(), AllocError>
         ensures { OnOk result (Answers core_module_item self.old None self.new) }
     {
@@ -22,12 +22,11 @@ impl<'a> IndexSpaces<'a> {
         self.core.add_module()
     }
 
-    /// Adds a core instance. Answers the reason with the smallest number that it breaks, or none:
-    /// `NoSuchIndex` where the module, the core instance of an argument or the definition of an
-    /// export is not there, `DuplicateName` where two arguments, or two exports, have the same
-    /// name, as texts; nothing is added then (Explainer.md, "Instance Definitions"). `AllocError`
-    /// comes where there is no memory; the spaces are then to be dropped. Each name is looked up
-    /// once.
+    /// Adds a core instance. Answers the least reason to refuse it, or none: `NoSuchIndex` where
+    /// the module, the core instance of an argument or the definition of an export is not there,
+    /// `DuplicateName` where two arguments, or two exports, have the same name, as texts; nothing
+    /// is added then (Explainer.md, "Instance Definitions"). `AllocError` comes where there is no
+    /// memory; the spaces are then to be dropped. Each name is looked up once.
     pub fn add_core_instance(
         &mut self,
         alloc: Global,
@@ -40,9 +39,9 @@ impl<'a> IndexSpaces<'a> {
         self.core.add_instance(alloc, instance)
     }
 
-    /// Adds an alias of what a core instance exports under a name. Answers what it breaks, or none:
-    /// `NoSuchIndex` where there is no such instance or no such name in it, `WrongSort` where what
-    /// is there is of another sort; nothing is added then (Explainer.md, "Alias Definitions").
+    /// Adds an alias of what a core instance exports under a name. Answers why it is refused, or
+    /// none: `NoSuchIndex` where there is no such instance or no such name in it, `WrongSort` where
+    /// what is there is of another sort; nothing is added then (Explainer.md, "Alias Definitions").
     /// `AllocError` comes where there is no memory; the spaces are then to be dropped. It costs one
     /// look-up.
     pub fn alias_core_export(

@@ -24,12 +24,12 @@ impl<'a> IndexSpaces<'a> {
     ghost use Rattle.cm_validate_types.specs.TypeScopes.{own_types};
     ghost use Rattle.cm_validate_spaces.specs.IndexSpaces.{Answers, Stands, funcs_in, types_in};
 
-    /// Adds an instance of definitions under names. Answers the reason with the smallest number
-    /// that it breaks, or none: `NoSuchIndex` where an export names nothing, `WrongSort` where it
-    /// names a type that is neither a value type nor a resource, `DuplicateName` where two have the
-    /// same name, ASCII case aside, and `BadAnnotatedName` where one has a name that it may not
-    /// have among the others; nothing is added then (Explainer.md, "Instance Definitions").
-    /// `AllocError` comes where there is no memory; the spaces are then to be dropped.
+    /// Adds an instance of definitions under names. Answers the least reason to refuse it, or none:
+    /// `NoSuchIndex` where an export names nothing, `WrongSort` where it names a type that is
+    /// neither a value type nor a resource, `DuplicateName` where two have the same name, ASCII
+    /// case aside, and `BadAnnotatedName` where one has a name that it may not have among the
+    /// others; nothing is added then (Explainer.md, "Instance Definitions"). `AllocError` comes
+    /// where there is no memory; the spaces are then to be dropped.
     pub fn add_instance(
         &mut self,
         alloc: Global,
@@ -48,7 +48,7 @@ impl<'a> IndexSpaces<'a> {
         )
     }
 
-    /// Adds an alias of what an instance exports under a name. Answers what it breaks, or none:
+    /// Adds an alias of what an instance exports under a name. Answers why it is refused, or none:
     /// `NoSuchIndex` where there is no such instance or no such name in it, `WrongSort` where what
     /// is there is of another sort; nothing is added then (Explainer.md, "Alias Definitions").
     /// `AllocError` comes where there is no memory; the spaces are then to be dropped. It costs one
@@ -116,13 +116,12 @@ impl<'a> IndexSpaces<'a> {
         }
     }
 
-    /// Adds an import. Answers the reason with the smallest number that it breaks, or none:
-    /// `NoSuchIndex` where its type is not there, `WrongSort` where that is of another sort,
-    /// `DuplicateName` where an import before it has its name, ASCII case aside, and
-    /// `BadAnnotatedName` where its name is none that it may have; nothing is added then
-    /// (Explainer.md, "Import and Export Definitions"). `AllocError` comes where there is no
-    /// memory, or where the numbers of resources pass 2^64; the spaces are then to be dropped. It
-    /// costs its name.
+    /// Adds an import. Answers the least reason to refuse it, or none: `NoSuchIndex` where its type
+    /// is not there, `WrongSort` where that is of another sort, `DuplicateName` where an import
+    /// before it has its name, ASCII case aside, and `BadAnnotatedName` where its name is none that
+    /// it may have; nothing is added then (Explainer.md, "Import and Export Definitions").
+    /// `AllocError` comes where there is no memory, or where the numbers of resources pass 2^64;
+    /// the spaces are then to be dropped. It costs its name.
     pub fn add_import(
         &mut self,
         alloc: Global,
@@ -134,11 +133,11 @@ impl<'a> IndexSpaces<'a> {
         self.component.import(alloc, self.types.entries(), import)
     }
 
-    /// Adds an export. Answers the reason with the smallest number that it breaks, or none:
-    /// `NoSuchIndex` where what it names is not there, `DuplicateName` where an export before it
-    /// has its name, ASCII case aside, and `BadAnnotatedName` where its name is none that it may
-    /// have; nothing is added then (Explainer.md, "Import and Export Definitions"). `AllocError`
-    /// comes where there is no memory; the spaces are then to be dropped. It costs its name.
+    /// Adds an export. Answers the least reason to refuse it, or none: `NoSuchIndex` where what it
+    /// names is not there, `DuplicateName` where an export before it has its name, ASCII case
+    /// aside, and `BadAnnotatedName` where its name is none that it may have; nothing is added then
+    /// (Explainer.md, "Import and Export Definitions"). `AllocError` comes where there is no
+    /// memory; the spaces are then to be dropped. It costs its name.
     pub fn add_export(
         &mut self,
         alloc: Global,

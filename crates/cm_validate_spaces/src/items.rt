@@ -89,8 +89,8 @@ fn add_alias<'a>(
     }
 }
 
-/// Adds an item. Answers the reason with the smallest number that it breaks, or none; nothing is
-/// added then. `AllocError` comes where there is no memory; the spaces are then to be dropped.
+/// Adds an item. Answers the least reason to refuse it, or none; nothing is added then.
+/// `AllocError` comes where there is no memory; the spaces are then to be dropped.
 pub(crate) fn add_item<'a>(
     spaces: &mut IndexSpaces<'a>,
     alloc: Global,

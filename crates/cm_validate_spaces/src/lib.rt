@@ -1,7 +1,4 @@
-//! Valid components of every form: the index spaces of a whole component, and what each index
-//! stands for; or its first fault.
-//!
-//! All index spaces of a component of every form: what each item breaks, and the spaces after it.
+//! Whole components: all index spaces, what each index stands for, or the first fault.
 #![tactic(auto)]
 
 mod canons;

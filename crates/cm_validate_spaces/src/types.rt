@@ -55,7 +55,7 @@ impl<'a> IndexSpaces<'a> {
         self.types.define_func(alloc, def)
     }
 
-    /// What the destructor of a resource breaks.
+    /// Why the destructor of a resource is refused.
     fn destructor_fault(&self, destructor: Option<u32>) -> Option<ValidReason>
         ensures { (made : ℕ → CoreFuncDef) (s : Spaces) → IsCoreOf made self.now.core s
             → result ≡ least (if_found (guest_broken s.core_funcs) destructor) }
@@ -105,10 +105,10 @@ impl<'a> IndexSpaces<'a> {
         define_instance(&mut self.types, alloc, declarations, next)
     }
 
-    /// Adds a type. Answers the reason with the smallest number that its definition breaks, or
-    /// none; nothing is added then (Explainer.md, "Type Definitions"). `AllocError` comes where
-    /// there is no memory; the spaces are then to be dropped. It costs the definition's own length,
-    /// and a look-up for each of its labels and names.
+    /// Adds a type. Answers the least reason to refuse its definition, or none; nothing is added
+    /// then (Explainer.md, "Type Definitions"). `AllocError` comes where there is no memory; the
+    /// spaces are then to be dropped. It costs the definition's own length, and a look-up for each
+    /// of its labels and names.
     pub fn add_type(
         &mut self,
         alloc: Global,

@@ -74,7 +74,7 @@ fn walk<'a>(
 }
 
 /// The index spaces of a whole component; or its fault, where it is not valid: the first section
-/// with a faulty item, the first such item there, and of the reasons that it breaks the one with
+/// with a faulty item, the first such item there, and of several reasons to refuse it the one with
 /// the smallest number (Explainer.md, "Component Definitions"; this order is this project's own
 /// choice). `Memory` comes where there is no memory for an item, or where the numbers of core
 /// modules or resources pass what can be counted, and no item before that one is faulty; the item

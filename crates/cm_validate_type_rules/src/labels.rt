@@ -33,7 +33,7 @@ fn add_name(alloc: Global, seen: &mut BTreeSet<String>, name: &str) -> Result<bo
     Ok(seen.insert(key)?)
 }
 
-/// The same of a label.
+/// Adds a label, without ASCII case, to the names that were seen, and says whether it was new.
 fn add_label(alloc: Global, seen: &mut BTreeSet<String>, label: &Label) -> Result<bool, AllocError>
     ensures answer { IfOk result (λ new.
         new ≡ not (contains_text seen.old (map to_ascii_lowercase label.now))) }
@@ -72,7 +72,7 @@ pub(crate) fn are_distinct(alloc: Global, labels: &[Label]) -> Result<bool, Allo
     Ok(true)
 }
 
-/// The same of the labels of fields, or of parameters.
+/// Whether no two labels of fields, or of parameters, are the same without ASCII case.
 pub(crate) fn fields_are_distinct(
     alloc: Global,
     fields: &[LabeledValType],
@@ -88,7 +88,7 @@ pub(crate) fn fields_are_distinct(
     Ok(true)
 }
 
-/// The same of the labels of cases.
+/// Whether no two labels of cases are the same without ASCII case.
 pub(crate) fn cases_are_distinct(alloc: Global, cases: &[CaseType]) -> Result<bool, AllocError>
     ensures { IfOk result (λ b. b ≡ are_distinct_names (map (λ c. c.label) cases.now)) }
 {

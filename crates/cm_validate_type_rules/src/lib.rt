@@ -1,5 +1,4 @@
-//! What a definition of a type breaks by its own words and by the sorts of the types before it; its
-//! limits aside.
+//! The rules that a type definition violates by itself and by the sorts of types; limits aside.
 #![tactic(auto)]
 
 mod labels;

@@ -1,4 +1,4 @@
-//! What the parts of a value type break.
+//! Why the parts of a value type are refused.
 
 ghost use Rattle.std.specs.Prelude.{◌≡◌, ◌++◌, IfOk, map, nat_le, nat_lt, length};
 ghost use Rattle.std.specs.List.{flat_map};
@@ -15,7 +15,7 @@ use cm_validate_model::laws::least_of_both;
 use cm_validate_model::{TypeSort, ValidReason};
 use std::alloc::{AllocError, Global};
 
-/// What a value type breaks where it is used: an index has to name a value type.
+/// Why a value type is refused where it is used: an index has to name a value type.
 pub fn value_fault(sorts: &[TypeSort], ty: ValType) -> Option<ValidReason>
     ensures { result ≡ least (value_broken sorts.now ty) }
 {
@@ -25,7 +25,7 @@ pub fn value_fault(sorts: &[TypeSort], ty: ValType) -> Option<ValidReason>
     }
 }
 
-/// The same of a payload or a result that may be left out.
+/// Why a payload or a result, which may be left out, is refused where it is used.
 pub fn payload_fault(sorts: &[TypeSort], payload: Option<ValType>) -> Option<ValidReason>
     ensures { result ≡ least (payload_broken sorts.now payload) }
 {
@@ -35,7 +35,7 @@ pub fn payload_fault(sorts: &[TypeSort], payload: Option<ValType>) -> Option<Val
     }
 }
 
-/// What the types of fields, or of parameters, break.
+/// Why the types of fields, or of parameters, are refused.
 pub(crate) fn fields_fault(sorts: &[TypeSort], fields: &[LabeledValType]) -> Option<ValidReason>
     ensures { result ≡ least (flat_map (λ f. value_broken sorts.now f.ty) fields.now) }
 {
@@ -47,7 +47,7 @@ pub(crate) fn fields_fault(sorts: &[TypeSort], fields: &[LabeledValType]) -> Opt
     fault
 }
 
-/// What the payloads of cases break.
+/// Why the payloads of cases are refused.
 fn cases_fault(sorts: &[TypeSort], cases: &[CaseType]) -> Option<ValidReason>
     ensures { result ≡ least (flat_map (λ c. payload_broken sorts.now c.payload) cases.now) }
 {
@@ -59,7 +59,7 @@ fn cases_fault(sorts: &[TypeSort], cases: &[CaseType]) -> Option<ValidReason>
     fault
 }
 
-/// What the types of a tuple's fields break.
+/// Why the types of a tuple's fields are refused.
 fn types_fault(sorts: &[TypeSort], types: &[ValType]) -> Option<ValidReason>
     ensures { result ≡ least (flat_map (value_broken sorts.now) types.now) }
 {
@@ -162,7 +162,7 @@ fn result_fault(
     lesser(payload_fault(sorts, ok), payload_fault(sorts, error))
 }
 
-/// What a definition of a value type breaks, its limits aside, after types of these sorts: the
+/// Why a definition of a value type is refused, its limits aside, after types of these sorts: the
 /// reason with the smallest number, or none. `AllocError` comes where there is no memory to compare
 /// labels; each is folded and looked up once.
 pub fn parts_fault(

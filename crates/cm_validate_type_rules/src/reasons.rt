@@ -30,7 +30,7 @@ pub fn broken_unless(holds: bool, reason: ValidReason) -> Option<ValidReason>
     if holds { None } else { Some(reason) }
 }
 
-/// What an index breaks that has to name a type of a sort: `NoSuchIndex` where it names nothing,
+/// Why an index that has to name a type of a sort is refused: `NoSuchIndex` where it names nothing,
 /// `WrongSort` where the type is of another sort.
 pub fn index_fault(sorts: &[TypeSort], index: u32, wanted: TypeSort) -> Option<ValidReason>
     ensures { result ≡ least (index_broken (has_sort wanted) sorts.now index) }

@@ -1,4 +1,4 @@
-//! What the parameters and the result of a function break.
+//! Why the parameters and the result of a function are refused.
 
 ghost use Rattle.std.specs.Prelude.{◌≡◌, IfOk};
 ghost use Rattle.cm_types.specs.DefTypes.{func_type_tree};
@@ -13,8 +13,8 @@ use cm_validate_model::laws::least_of_both;
 use cm_validate_model::{TypeSort, ValidReason};
 use std::alloc::{AllocError, Global};
 
-/// What the types break that a function uses, after types of these sorts: `NoSuchIndex` where one
-/// of them is not there, else `WrongSort` where one is no value type.
+/// Why the types that a function uses are refused, after types of these sorts: `NoSuchIndex` where
+/// one of them is not there, else `WrongSort` where one is no value type.
 pub fn uses_fault(sorts: &[TypeSort], func: &FuncType) -> Option<ValidReason>
     ensures { result ≡ least (uses_broken sorts.now (func_type_tree func.now)) }
 {
@@ -23,8 +23,8 @@ pub fn uses_fault(sorts: &[TypeSort], func: &FuncType) -> Option<ValidReason>
     lesser(params, payload_fault(sorts, func.result))
 }
 
-/// What the labels of a function's parameters break: `DuplicateName` where two are the same without
-/// ASCII case. `AllocError` comes where there is no memory to compare them.
+/// Why the labels of a function's parameters are refused: `DuplicateName` where two are the same
+/// without ASCII case. `AllocError` comes where there is no memory to compare them.
 pub fn params_fault(alloc: Global, func: &FuncType) -> Result<Option<ValidReason>, AllocError>
     ensures { IfOk result (λ r. r ≡ least (params_broken (func_type_tree func.now))) }
 {

@@ -29,7 +29,7 @@ def_of types funcs (entry.Resource n) = resource n
 def_of types funcs (entry.Instance i) =
     instance_type (instance_of types funcs (instance_type_of i.value))
 
--- the same, but of a value type the one at its place, with no resource moved
+-- what an index of a type stands for, with no resource of a value type moved
 abbrev pub unmoved_def_of : List Ty → List FuncTy → TypeEntry → TypeDef
 unmoved_def_of types funcs (entry.Value p) = value (type_at types p.place)
 unmoved_def_of types funcs e = def_of types funcs e

@@ -27,12 +27,12 @@ IsMovedCounted types funcs n _ = ⊤
 abbrev pub AreSettled : TypeScope → Type 0
 AreSettled s = AllByRecursion (IsEntrySettled (arena_types s) (arena_funcs s)) (entries_of s)
 
--- each type of its own that was moved names only the first so many resources
+-- each type of a scope's own that an import moved names only the first so many resources
 abbrev pub AreMovedCounted : ℕ → TypeScope → Type 0
 AreMovedCounted n s =
     AllByRecursion (IsMovedCounted (arena_types s) (arena_funcs s) n) (entries_of s)
 
--- both stay true, and the entries around stay as they are
+-- both stay true of a scope, and the entries around stay as they are
 pub record StaysSettled (old new : TypeScope) : Type 0 where
   pub settled : AreSettled old → AreSettled new
   pub moved : (n : ℕ) → AreMovedCounted n old → AreMovedCounted n new

@@ -7,7 +7,7 @@ use Rattle.cm_validate_types.specs.declared.entries.TypeEntry.{TypeEntry}
 use Rattle.cm_validate_types.specs.declared.scope.TypeScope.{TypeScope}
 use Rattle.cm_validate_types.specs.Entries.{def_of, unmoved_def_of}
 
--- those of its arena
+-- the types of the scope's arena, and those of functions
 abbrev pub arena_types : TypeScope → List Ty
 arena_types s = types_of s.types
 

@@ -41,7 +41,7 @@ impl TypeEntry {
         }
     }
 
-    /// The same once more. `AllocError` comes where it is shared too often to be counted.
+    /// This entry again. `AllocError` comes where it is shared too often to be counted.
     pub fn share(&self) -> Result<TypeEntry, AllocError>
         ensures same { IfOk result (λ e. (types : List Ty) (funcs : List FuncTy)
             → def_of types funcs e ≡ def_of types funcs self.now) }

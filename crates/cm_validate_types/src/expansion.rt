@@ -171,7 +171,7 @@ impl TypeScope {
         })
     }
 
-    /// The same of the type of a function.
+    /// The definition of the type of a function with places in the arena, its labels copied once.
     pub(crate) fn arena_func(&self, alloc: Global, func: &FuncType) -> Result<FuncDef, AllocError>
         ensures parts { IfOk result (HasFuncParts (length (arena_types self.now))) }
         ensures ty { IfOk result (λ d. func_def_type (arena_types self.now) d

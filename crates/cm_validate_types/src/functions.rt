@@ -93,8 +93,7 @@ impl TypeScope {
         }
     }
 
-    /// The same as `define_func`, where the definition breaks nothing but a limit on its
-    /// parameters.
+    /// `define_func`, where the definition violates no rule but a limit on its parameters.
     fn define_known(
         &mut self,
         alloc: Global,
@@ -123,7 +122,7 @@ impl TypeScope {
         self.add_func(alloc, placed)
     }
 
-    /// The same as `define_func`, where each type that the definition uses is there.
+    /// `define_func`, where each type that the definition uses is there.
     fn define_used(
         &mut self,
         alloc: Global,
@@ -150,7 +149,7 @@ impl TypeScope {
     }
 
     /// Adds the type of a function as a definition says it, and answers none; or the least reason
-    /// that the definition breaks, and then adds nothing. What it names by index are types of this
+    /// to refuse the definition, and then adds nothing. What it names by index are types of this
     /// scope's own. It costs the definition's own length and a look-up for each of its labels; a
     /// type that an import moved is copied as `define_value` says, and the result beside the
     /// parameters.

@@ -25,8 +25,8 @@ pub fn items_stay()
         → are_items_there (length u) (length g) items ≡ true }
 {}
 
-/// What moves brought stays as it was counted while the arena grows. Where an index stands for a
-/// type that names only the first so many resources, so does what a move made of it.
+/// Types that moves brought count their resources as before while the arena grows. Where an index
+/// stands for a type that names only the first so many resources, so does what a move made of it.
 pub fn moves_stay()
     ensures items { (t u : List Ty) (f g : List FuncTy) (first : ℕ) (items : List Item)
         → Extends t u → Extends f g

@@ -1,5 +1,4 @@
-//! Types by index: what each index of a type stands for while a component, or the type of an
-//! instance, is read, over an arena in which each type stands once.
+//! Types by index, in a component and in the type of an instance, over one arena.
 #![tactic(auto)]
 
 mod entries;

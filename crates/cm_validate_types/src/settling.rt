@@ -79,7 +79,7 @@ impl TypeScope {
         }
     }
 
-    /// The same of each of these.
+    /// Gives each of these types a place of its own, with no resource moved.
     #[tactic(auto, using(crate::proofs::GrowLaws::grown_on, crate::proofs::GrowLaws::same))]
     pub(crate) fn settle_all(&mut self, alloc: Global, uses: &[ValType]) -> Result<(), AllocError>
         ensures settled { OnOk result

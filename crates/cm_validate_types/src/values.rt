@@ -77,7 +77,7 @@ impl TypeScope {
         Ok(None)
     }
 
-    /// The same as `define_value`, where the parts of the definition break nothing.
+    /// `define_value`, where the parts of the definition violate no rule.
     fn define_parts(
         &mut self,
         alloc: Global,
@@ -107,9 +107,8 @@ impl TypeScope {
         self.add_value(alloc, placed)
     }
 
-    /// Adds a value type as a definition says it, and answers none; or the least reason that the
-    /// definition breaks, and then adds nothing. What it names by index are types of this scope's
-    /// own.
+    /// Adds a value type as a definition says it, and answers none; or the least reason to refuse
+    /// the definition, and then adds nothing. What it names by index are types of this scope's own.
     ///
     /// It costs the definition's own length and a look-up for each of its labels: nothing below a
     /// part is walked. Only a type that an import moved is copied, where its handles are of

@@ -1,5 +1,4 @@
-//! WIT texts: packages read and printed, the signatures of their worlds, and whether a component
-//! fits a world.
+//! WIT texts: packages read and printed, signatures of worlds, and whether a component fits one.
 #![tactic(auto)]
 
 pub use cm_wit_conforms::{ConformFault, ConformItem, ConformList, ConformReason, conforms};

@@ -99,7 +99,8 @@ entries_from list others n [] = []
 entries_from list others n (x ∷ xs) =
     extern_entries list n (extern_named x.name others) x.desc ++ entries_from list others (n + 1) xs
 
--- all: the exports of the world in its order, then the imports of the signature in its own
+-- all that is compared: the exports of the world in its order, then the imports of the signature in
+-- its own
 abbrev pub entries : SignatureTy → SignatureTy → List Entry
 entries have world =
     entries_from walked.WorldExports have.exports 0 world.exports

@@ -28,7 +28,8 @@ pub(crate) struct Side<'a> {
     pub(crate) mark: u32,
 }
 
-/// In types that are compared a pair stands for each of its resources, or a mark of the side.
+/// Where types are compared, the pair that a resource belongs to stands for it, or else a mark of
+/// its side.
 impl<'a> Replacement for Side<'a> {
     ghost use Rattle.cm_wit_conforms.specs.Judging.{marks_of};
 

@@ -41,8 +41,8 @@ pub fn at_most_one_fault_is_the_first()
         → IsFirstFault have world i q → IsFirstFault have world j r → (i ≡ j) × (q ≡ r) }
 {}
 
-/// What a signature exports beside what the world asks for changes nothing: all that is compared
-/// stays the same, and with it whether the signature fits, and its first fault.
+/// Exports beside those that the world asks for change nothing: all that is compared stays the
+/// same, and with it whether the signature fits, and its first fault.
 pub fn exports_more_change_nothing()
     ensures { (imports front rest : List NamedExtern) (more : NamedExtern) (world : SignatureTy)
         → IsUnasked world more

@@ -1,5 +1,6 @@
-//! Whether a component's signature fits a world's: what is compared, which resources correspond,
-//! and the first fault, as definitions over signatures with laws; and the call that tells it.
+//! Whether a component's signature fits a world's: definitions, laws, and the call that decides it.
+//!
+//! They say what is compared, which resources correspond, and which fault is the first.
 #![tactic(auto)]
 
 mod comparisons;

@@ -21,7 +21,7 @@ pub(crate) struct ResourceKey {
     number: u64,
 }
 
-/// The pairs that the resources of one side belong to, each told by the place of the comparison in
+/// The pairs that the resources of one side belong to, each given by the place of the comparison in
 /// which the resource is first held against another.
 #[derive(Drop)]
 pub(crate) struct Pairs {

@@ -1,4 +1,4 @@
--- Keys: a name in a list of names that is told by its number.
+-- Keys: a name, in a list of names that has a number.
 use Rattle.std.specs.Prelude.{ℕ, ◌==◌, ◌&&◌, Bool, List, Option}
 use Rattle.std.specs.List.{position_from}
 use Rattle.std.specs.Borrow.{Bor}

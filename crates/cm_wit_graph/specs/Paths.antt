@@ -8,7 +8,8 @@ abbrev pub After : (ℕ → List ℕ) → ℕ × ℕ → (List ℕ → Type 0) �
 After needs f P placed = (before : List ℕ)
     → Orders needs placed (drop f.1 (needs f.0)) before → P (before ++ f.0 ∷ [])
 
--- the same of a path, the last node first
+-- P holds of what is placed once the nodes of a path, the last one first, have been, each behind
+-- the rest of its needs
 abbrev pub Leaves : (ℕ → List ℕ) → List (ℕ × ℕ) → (List ℕ → Type 0) → List ℕ → Type 0
 Leaves needs [] P placed = P placed
 Leaves needs (f ∷ fs) P placed = Leaves needs fs (After needs f P) placed

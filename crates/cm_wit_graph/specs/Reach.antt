@@ -1,4 +1,4 @@
--- Which interfaces a world reaches (WIT.md, "Item: `use`"). Interfaces are told by number. What an
+-- Which interfaces a world reaches (WIT.md, "Item: `use`"). Interfaces are given by number. What an
 -- interface uses is given in a row, by number, and as nothing where a path leads to no interface.
 use Rattle.std.specs.Prelude.{◌≡◌, ℕ, ◌+◌, ◌<◌, ◌⊎◌, true, is_none, nat_lt, List, [], ◌∷◌}
 use Rattle.std.specs.Prelude.{◌++◌, Option, Some, None}

@@ -24,13 +24,13 @@ fn put_least(list: &mut [usize], at: usize, number: usize) {
 #[derive(Drop)]
 struct Walk<'a> {
     rows: &'a [Vec<usize>],
-    /// For each node the turn in which it was met, from 1, or 0.
+    /// For each node the turn in which it was visited, from 1, or 0.
     met: Vec<usize>,
     /// For each node the least turn of a node that it is known to lead to.
     low: Vec<usize>,
     /// For each node the number of its component, from 1, or 0.
     ranks: Vec<usize>,
-    /// The nodes that were met and have no component yet.
+    /// The nodes that were visited and have no component yet.
     pending: Vec<usize>,
     /// The nodes that lead to the one in hand, each with how many of its edges were followed.
     path: Vec<(usize, usize)>,

@@ -46,9 +46,9 @@ fn step(
     Ok(true)
 }
 
-/// Places a node behind those that are placed, after those that it needs, each after those that it
-/// needs itself, and each once. Answers whether it could, as it can where none of them needs
-/// itself. Each need is looked at once. Refused only where there is no memory.
+/// Places a node behind those that are placed, after all nodes that it needs, by way of others or
+/// not, each once and after its own needs. Answers whether it could, as it can where none of them
+/// needs itself. Each need is looked at once. Refused only where there is no memory.
 #[tactic(auto, using(crate::proofs::WalkLaws::place_laws))]
 pub fn place(
     alloc: Global,

@@ -1,4 +1,4 @@
-//! Keys: a name in a list of names that is told by its number.
+//! Keys: a name, in a list of names that has a number.
 
 ghost use Rattle.std.specs.Prelude.{map};
 ghost use Rattle.cm_wit_graph.specs.Keys.{key_view};

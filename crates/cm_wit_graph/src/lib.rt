@@ -1,9 +1,7 @@
-//! Directed graphs: which nodes lead to others, the first one that lies on a cycle, and which are
-//! reached from some.
+//! Directed graphs: what leads to what, cycles, orders of dependencies, and names with numbers.
 //!
-//! Names, each in a list of names that has a number, and the first of each.
-//!
-//! Nodes in orders in which each stands behind those that it needs: by what waits, or depth first.
+//! A name stands in a list of names that has a number; the first entry with a name is found in a
+//! tree. An order puts each node behind those that it needs, by what waits or depth first.
 #![tactic(auto)]
 
 mod components;

@@ -54,8 +54,8 @@ fn either(a: bool, b: bool) -> bool
     a || b
 }
 
-/// The interfaces that a world reaches which names these, where each interface uses those of its
-/// row. It takes time linear in the rows. Refused only where there is no memory.
+/// The interfaces that are reached by a world that names these, where each interface uses those of
+/// its row. It takes time linear in the rows. Refused only where there is no memory.
 #[tactic(auto, using(crate::proofs::ReachLaws::reach_laws))]
 pub fn reach_from(
     alloc: Global,

@@ -16,7 +16,7 @@ desc_funcs (fresh_resource r) = []
 abbrev pub item_funcs : NamedItem → List FuncTy
 item_funcs i = desc_funcs i.desc
 
--- those of an import or an export, in the order of its items
+-- the functions of an import or an export, in the order of its items
 abbrev pub extern_desc_funcs : ExternTy → List FuncTy
 extern_desc_funcs (func f) = f ∷ []
 extern_desc_funcs (instance is) = flat_map item_funcs is
@@ -24,6 +24,6 @@ extern_desc_funcs (instance is) = flat_map item_funcs is
 abbrev pub extern_funcs : NamedExtern → List FuncTy
 extern_funcs e = extern_desc_funcs e.desc
 
--- all, those of imports first
+-- all functions of a signature, those of imports first
 abbrev pub funcs_in : SignatureTy → List FuncTy
 funcs_in s = flat_map extern_funcs s.imports ++ flat_map extern_funcs s.exports

@@ -19,7 +19,7 @@ are_spelled fs = list_all is_func_spellable fs
 abbrev pub IsFaultWith : {A : Type 0} → (A → List FuncTy) → Option A → MeaningFault → Type 0
 IsFaultWith funcs what f = IsFaultOf (λ x. AreWithin (funcs x)) (λ x. are_spelled (funcs x)) what f
 
--- the same of an item, and of several
+-- why an item, or several, cannot be had
 abbrev pub IsItemFault : Option NamedItem → MeaningFault → Type 0
 IsItemFault what f = IsFaultWith item_funcs what f
 

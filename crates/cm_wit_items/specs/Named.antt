@@ -39,7 +39,7 @@ abbrev pub FuncHasTypes : List Declaration → ℕ → Func → Type 0
 FuncHasTypes ds l f = ParamsHaveTypes ds l f.params
     × Lead ds l (names_in_payload f.result) (borrowed_in_payload f.result)
 
--- the same of a function of a resource
+-- each name in a function of a resource leads to a type, and that of a borrow to a resource
 abbrev pub ResourceFuncHasTypes : List Declaration → ℕ → ResourceFunc → Type 0
 ResourceFuncHasTypes ds l (method n f) = FuncHasTypes ds l f
 ResourceFuncHasTypes ds l (static n f) = FuncHasTypes ds l f
@@ -56,13 +56,15 @@ MemberHasTypes ds l (of_resource r f) =
     LeadsToResource ds (l, r) × ResourceFuncHasTypes ds l f
 MemberHasTypes ds l (function n f) = FuncHasTypes ds l f
 
--- Each member of each of these instances, the l-th of which has the l-th list of names, does.
+-- Each name in each member of these instances leads to a type, the l-th instance having the l-th
+-- list of names.
 abbrev pub InstancesHaveTypes : List File → List Declaration → List Instance → Type 0
 InstancesHaveTypes fs ds xs = (l : ℕ) (x : Instance) (i : PlacedInterface)
     → slice_get xs l ≡ Some x → slice_get (interfaces fs) x.interface ≡ Some i
     → AllByRecursion (MemberHasTypes ds l) (members i.interface)
 
--- Each function of the world itself does, whose names are those of the list `own`.
+-- Each name in the functions of the world itself leads to a type, where their names are those of
+-- the list `own`.
 abbrev pub OwnFuncsHaveTypes : PlacedWorld → List Declaration → ℕ → Type 0
 OwnFuncsHaveTypes w ds own = AllByRecursion (λ e.
     MatchOption (item_func e) (Unit {0}) (λ f. FuncHasTypes ds own f.1)) w.world.items

@@ -9,6 +9,6 @@ abbrev pub IsOwn : Meaning → Type 0
 IsOwn (value t) = Unit {0}
 IsOwn (resource r) = r.component ≡ 0
 
--- Each that names stand for does.
+-- Each resource that names stand for is the world's own.
 abbrev pub AreOwn : Scope → Type 0
 AreOwn s = (name : List ℕ) (m : Meaning) → s name ≡ Some m → IsOwn m

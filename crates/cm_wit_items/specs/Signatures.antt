@@ -34,7 +34,7 @@ func_at w j = option_and_then item_func (slice_get w.world.items j)
 
 -- ---- imports and exports
 
--- what a list of names has its names stand for, told by the list's number
+-- what a list of names has its names stand for, by the list's number
 abbrev pub Scopes : Type 0
 Scopes = ℕ → Scope
 

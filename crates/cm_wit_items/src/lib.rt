@@ -1,5 +1,4 @@
-//! What interfaces have under names of their own, and the items of the instances that they stand
-//! for; what the signature of a world is, as definitions with laws.
+//! The items of the instances that interfaces stand for, and what the signature of a world is.
 #![tactic(auto)]
 
 mod items;

@@ -9,7 +9,8 @@ use cm_types::{ExternName, Label};
 use cm_wit_reading::ResourceFunc;
 use std::alloc::{AllocError, Global};
 
-/// The name of this text, which is one. Refused only where there is no memory.
+/// The extern name that a text spells; the caller gives a text that spells one. Refused only where
+/// there is no memory.
 pub fn extern_name(alloc: Global, text: &str) -> Result<ExternName, AllocError>
     ensures { IfOk result (λ name. name ≡ text.now) }
 {

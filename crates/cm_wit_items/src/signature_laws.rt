@@ -32,7 +32,7 @@ pub fn typed_ones_have_signatures()
     each_stands_where_names_lead();
 }
 
-/// Where no declaration uses itself, each resource that a name stands for is of no other component.
+/// Where no declaration uses itself, each resource that a name stands for is the world's own.
 pub fn resources_are_own()
     ensures { (ds : List Declaration) (table : List (Option Meaning)) (l : ℕ)
         → (HasTypeCycle ds → ⊥) → Solves ds table → AreOwn (scope_of ds table l) }

@@ -24,21 +24,21 @@ IsFaultOf IsWithin spelled meant fault.TooLarge = IfSome meant (λ x. ¬ (IsWith
 IsFaultOf IsWithin spelled meant fault.NotSpellable = IfSome meant (λ x. spelled x ≡ false)
 IsFaultOf IsWithin spelled meant fault.Memory = Unit {0}
 
--- the same of a type
+-- why a type cannot be had
 abbrev pub IsTypeFault : Option Ty → MeaningFault → Type 0
 IsTypeFault meant f = IsFaultOf IsWithinLimits is_spellable meant f
 
--- the same of several things together, as the parts of the type that is made of them
+-- why several things cannot be had together, as the parts of the type that is made of them
 abbrev pub IsFaultIn : {A : Type 0} → (A → Ty) → Option A → MeaningFault → Type 0
 IsFaultIn made meant f =
     IsFaultOf (λ x. IsWithinLimits (made x)) (λ x. is_spellable (made x)) meant f
 
--- the same of fields, of which there may be none
+-- why fields cannot be had, of which there may be none
 abbrev pub AreFieldsFault : Option (List TypedLabel) → MeaningFault → Type 0
 AreFieldsFault meant f =
     IsFaultOf (λ fs. IsWithinLimits (record_of fs)) (λ fs. are_spellable (fields_from fs)) meant f
 
--- the same of a payload or a result, if there is one
+-- why a payload or a result cannot be had, if there is one
 abbrev pub IsPayloadFault : Option (Option Ty) → MeaningFault → Type 0
 IsPayloadFault meant f = IsFaultOf (λ p. IfSome p IsWithinLimits) is_spellable_payload meant f
 
@@ -51,6 +51,6 @@ IsFuncWithin f = IsWithinLimits (params_type f) × IfSome f.result IsWithinLimit
 abbrev pub is_func_spellable : FuncTy → Bool
 is_func_spellable f = are_spellable f.params && is_spellable_payload f.result
 
--- the same of the type of a function
+-- why the type of a function cannot be had
 abbrev pub IsFuncFault : Option FuncTy → MeaningFault → Type 0
 IsFuncFault meant f = IsFaultOf IsFuncWithin is_func_spellable meant f

@@ -77,7 +77,7 @@ abbrev mutual
       option_and_then (λ x. option_map (λ y. result_of (Some x) (Some y)) (meaning s u))
       (meaning s t)
 
-  -- the same of types one after the other
+  -- the types that type texts stand for, one after the other
   pub meanings : Scope → wit.Tys → Option (List Ty)
   meanings s wit.no_types = Some []
   meanings s (wit.types t ts) =

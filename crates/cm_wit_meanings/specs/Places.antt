@@ -22,7 +22,7 @@ table_in types table = map (option_map (meaning_in types)) table
 abbrev pub scope_in : List Ty → code_scope.Scope → Scope
 scope_in types s = scope_at (listed s.names.now) (table_in types s.table.now) s.list
 
--- what it stands for has a place among so many types
+-- what a name stands for has a place among so many types
 abbrev pub IsPlaced : ℕ → code.Meaning → Type 0
 IsPlaced count (meant.Value place) = place < count
 IsPlaced count (meant.Resource r) = Unit {0}

@@ -1,7 +1,4 @@
-//! What the types, definitions and functions of WIT texts stand for; and the types of type texts,
-//! put into an arena.
-//!
-//! The types that definitions, fields and functions of WIT texts stand for, put into an arena.
+//! What types, definitions and functions of WIT texts stand for, put into an arena of types.
 #![tactic(auto)]
 
 mod definitions;

@@ -1,5 +1,5 @@
 -- Mentions one after the other. What a mention says may name others by their numbers, counted from
--- 0 in reading order, so parts of a file are told by the number of their first name.
+-- 0 in reading order, so the number of its first name stands for a part of a file.
 use Rattle.std.specs.Prelude.{ℕ, ◌+◌, List, [], ◌∷◌, ◌++◌, length, Option, Some, None}
 use Rattle.cm_wit_names.specs.Mentions.{Mention}
 

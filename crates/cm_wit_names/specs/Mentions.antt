@@ -47,7 +47,7 @@ abbrev pub declaring : ℕ → NameTree → Mention
 declaring list name =
     record bare { declares = Some (record { in_list = list; name = name; after_self = false }) }
 
--- ---- the lists of distinct names have numbers: 0 is the file's; each other one is told by the
+-- ---- the lists of distinct names have numbers: 0 is the file's; each other one is given by the
 -- number of a name of the file
 
 -- the items of the interface, the imports of the world whose name is the n-th, and the labels of a

@@ -39,7 +39,7 @@ fn mark(marks: &mut Vec<bool>, node: Option<usize>)
     }
 }
 
-/// So many marks that are not set.
+/// A list of so many marks, none of them set.
 fn no_marks(alloc: Global, count: usize) -> Result<Vec<bool>, AllocError>
     ensures len { IfOk result (λ marks. vec_len marks ≡ count) }
     ensures none { IfOk result (λ marks. (k : ℕ) → IsMarked marks.items k → ⊥) }

@@ -1,6 +1,4 @@
-//! The rules on the names of WIT texts.
-//!
-//! What each name of a WIT text declares, and what it refers to.
+//! The rules on the names of WIT texts: what each name declares and refers to.
 #![tactic(auto)]
 
 mod adding;

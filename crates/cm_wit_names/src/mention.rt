@@ -13,7 +13,7 @@ pub struct Declared<'a> {
     pub after_self: bool,
 }
 
-/// What a name refers to. Interfaces and worlds are told by the numbers of their names.
+/// What a name refers to. Interfaces and worlds are given by the numbers of their names.
 #[derive(Clone, Copy)]
 pub enum Reference<'a> {
     Nothing,
@@ -31,7 +31,7 @@ pub enum Reference<'a> {
 #[derive(Clone, Copy)]
 pub struct Mention<'a> {
     pub declares: Option<Declared<'a>>,
-    /// As what it is known: an interface by 0 and its name, a type by the number of its interface's
+    /// What it is known as: an interface by 0 and its name, a type by the number of its interface's
     /// name and its own.
     pub known: Option<(usize, &'a str)>,
     pub refers: Reference<'a>,

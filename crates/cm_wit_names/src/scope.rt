@@ -1,11 +1,11 @@
-//! Interfaces and worlds, told by the numbers of their names.
+//! Interfaces and worlds, given by the numbers of their names.
 
 ghost use Rattle.std.specs.Prelude.{◌≡◌, ◌^◌, ◌<◌, length};
 ghost use Rattle.cm_wit_names.specs.Mentions.{exports_of, list_of};
 
 use crate::mention::Mention;
 
-/// An interface or a world, told by the number of its name.
+/// An interface or a world, given by the number of its name.
 #[derive(Clone, Copy)]
 pub struct Scope {
     pub number: usize,

@@ -1,4 +1,4 @@
--- Packages: files whose names break no rule.
+-- Packages: files whose names violate no rule.
 use Rattle.std.specs.Prelude.{◌≡◌, ◌⊎◌, ℕ, List, Some, Result, Ok, Err, MatchResult}
 use Rattle.cm_wit_tokens.specs.declared.fault.WitFault.{WitFault}
 use Rattle.cm_wit_tokens.specs.Whole.{IsMemory, text_reads}

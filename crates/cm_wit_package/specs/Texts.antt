@@ -6,7 +6,7 @@ use Rattle.cm_wit_names.specs.Rules.{IsFirstFault}
 use Rattle.cm_wit_reading.specs.Files.{file}
 use Rattle.cm_wit_reading.specs.Trees.{File}
 
--- A text is a package: it is this file, and the file's names break no rule.
+-- A text is a package: it is this file, and the file's names violate no rule.
 abbrev pub IsPackage : List ℕ → File → Type 0
 IsPackage text f = (text_reads file text ≡ Ok f) × IsFirstFault (mentions f) None
 

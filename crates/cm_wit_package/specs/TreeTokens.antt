@@ -204,6 +204,7 @@ abbrev pub file_item_tokens : FileItem → List Form
 file_item_tokens (interface x) = keyword word.Interface ++ interface_tokens x
 file_item_tokens (world x) = keyword word.World ++ world_tokens x
 
+-- the tokens of a file's tree
 abbrev pub file_tokens : File → List Form
 file_tokens f =
     keyword word.Package ++ (name_tokens f.namespace ++ (mark operator.Colon

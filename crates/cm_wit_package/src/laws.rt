@@ -15,8 +15,8 @@ ghost use Rattle.cm_wit_package.specs.Texts.{IsPackage};
 
 use crate::round_laws::{printed_file_is_read, words_are_kept};
 
-/// The text that prints a package is that package. So whatever a function answers to it that reads
-/// as `parse` does is that package, and no fault but want of memory.
+/// The printed text of a package is read as that package. So whatever a function answers to it that
+/// reads as `parse` does is that package, and no fault but want of memory.
 pub fn printed_and_parsed()
     ensures printed { (p : File) (text : List ℕ) → IsPackage text p → IsPackage (file_text p) p }
     ensures parsed { (p : File) (text : List ℕ) → IsPackage text p
@@ -26,8 +26,8 @@ pub fn printed_and_parsed()
     printed_file_is_read();
 }
 
-/// The mentions of a file are of the names of its text, one for one, in order: so the place of the
-/// n-th name is that of the n-th mention.
+/// The mentions of a file and the names of its text correspond one for one, in order: so the place
+/// of the n-th name is that of the n-th mention.
 pub fn mentions_are_of_names()
     ensures { (f : File) (text : List ℕ) → text_reads file text ≡ Ok f
         → AreOf (mentions f) (name_texts text) }

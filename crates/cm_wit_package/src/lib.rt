@@ -1,5 +1,4 @@
-//! Packages of WIT, read and printed, and the text that prints a file; what is printed is read
-//! again as the same.
+//! Packages of WIT, read and printed: a printed package is read again as the same one.
 #![tactic(auto)]
 
 mod file_text;

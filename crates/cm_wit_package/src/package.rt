@@ -6,8 +6,8 @@ ghost use Rattle.cm_wit_package.specs.Texts.{IsWritten};
 
 use cm_wit_reading::WitFile;
 
-/// The interfaces and worlds of a package, as some text writes them, whose names break no rule. It
-/// is made by `parse` alone.
+/// The interfaces and worlds of a package, as some text writes them, whose names violate no rule.
+/// It is made by `parse` alone.
 #[derive(Drop)]
 pub struct Package {
     pub(crate) file: WitFile,

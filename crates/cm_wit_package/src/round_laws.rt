@@ -9,9 +9,9 @@ ghost use Rattle.cm_wit_tokens.specs.Tokens.{lexed};
 ghost use Rattle.cm_wit_package.specs.TreeTokens.{file_tokens};
 ghost use Rattle.cm_wit_package.specs.Words.{words};
 
-/// The text that prints a file, where the file is what some text is read as, is read as that file
-/// again: its tokens, to its end, are those of the file's tree (WIT.md, "Lexical structure" and
-/// "Packages and Worlds").
+/// The printed text of a file that was read from some text is read as that file again: its tokens,
+/// to its end, are those of the file's tree (WIT.md, "Lexical structure" and "Packages and
+/// Worlds").
 pub fn printed_file_is_read()
     ensures tokens { (f : File) (text : List ℕ) → text_reads file text ≡ Ok f
         → map (λ t. t.form) (lexed (file_text f)).tokens ≡ file_tokens f }

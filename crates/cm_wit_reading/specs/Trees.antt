@@ -59,6 +59,7 @@ pub record World : Type 0 where
   pub name : List ℕ
   pub items : List WorldItem
 
+-- an item of a file: an interface or a world
 pub data FileItem : Type 0 where
   interface : Interface → FileItem
   world : World → FileItem

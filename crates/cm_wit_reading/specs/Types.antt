@@ -39,7 +39,7 @@ mutual
     no_types : Tys
     types : Ty → Tys → Tys
 
--- the same from a list
+-- types one after the other, from a list
 abbrev pub types_from : List Ty → Tys
 types_from [] = no_types
 types_from (x ∷ xs) = types x (types_from xs)
@@ -82,7 +82,7 @@ start_of (form.Identifier text) = Ok (whole (named text))
 start_of (form.Keyword k) = keyword_start (keyword_head k) k
 start_of f = Err (other_fault f)
 
--- the same where no borrow may stand
+-- what a keyword begins as a type where no borrow may stand
 abbrev pub no_borrow : Form → Start → Result Start WitReason
 no_borrow f (whole x) = Ok (whole x)
 no_borrow f borrow_of = Err (other_fault f)

@@ -1,6 +1,4 @@
-//! Packages, as WIT texts write them.
-//!
-//! Types, functions and paths of interfaces, as WIT texts write them.
+//! The grammar of WIT texts: packages, interfaces, worlds, types and functions, and their readers.
 #![tactic(auto)]
 
 mod file;

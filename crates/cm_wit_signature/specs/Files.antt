@@ -15,17 +15,17 @@ use Rattle.cm_wit_signature.specs.Written.{IsWritten, IsWrittenDef}
 abbrev pub AreWrittenParams : List Typed → Type 0
 AreWrittenParams ps = AllByRecursion (λ p. IsWritten p.1) ps
 
--- So is the type of each parameter of a function, and that of its result.
+-- The type of each parameter of a function, and that of its result, are written so.
 abbrev pub IsWrittenFunc : Func → Type 0
 IsWrittenFunc f = AreWrittenParams f.params × IfSome f.result IsWritten
 
--- the same of a function of a resource
+-- Each type in a function of a resource is written so.
 abbrev pub IsWrittenResourceFunc : ResourceFunc → Type 0
 IsWrittenResourceFunc (method name f) = IsWrittenFunc f
 IsWrittenResourceFunc (static name f) = IsWrittenFunc f
 IsWrittenResourceFunc (constructor ps) = AreWrittenParams ps
 
--- the same of the functions of what is defined, where that is a resource
+-- so is each type in the functions of what is defined, where that is a resource
 abbrev pub AreWrittenFuncsOf : TypeDef → Type 0
 AreWrittenFuncsOf (resource fs) = AllByRecursion IsWrittenResourceFunc fs
 AreWrittenFuncsOf _ = Unit {0}
@@ -50,6 +50,6 @@ abbrev pub IsWrittenFileItem : FileItem → Type 0
 IsWrittenFileItem (interface i) = AllByRecursion IsWrittenItem i.items
 IsWrittenFileItem (world w) = AllByRecursion IsWrittenWorldItem w.items
 
--- So is each item of a file.
+-- Each item of a file is written so.
 abbrev pub IsWrittenFile : File → Type 0
 IsWrittenFile f = AllByRecursion IsWrittenFileItem f.items

@@ -61,7 +61,7 @@ resource_func_led keys marks l (method n f) = func_led keys marks l f
 resource_func_led keys marks l (static n f) = func_led keys marks l f
 resource_func_led keys marks l (constructor ps) = params_led keys marks l ps
 
--- the same of a member
+-- whether each name in a member leads to a place, and that of a borrow to a marked one
 abbrev pub member_led : List Key → List Bool → ℕ → Member → Bool
 member_led keys marks l (used n) = is_led keys l n
 member_led keys marks l (declared n) = is_led keys l n
@@ -69,7 +69,7 @@ member_led keys marks l (of_resource r f) =
     is_resource_led keys marks l r && resource_func_led keys marks l f
 member_led keys marks l (function n f) = func_led keys marks l f
 
--- the same of the members of each of these instances, of which the first has the l-th list
+-- whether each name in the members of these instances does, the first of which has the l-th list
 abbrev pub interface_led : List Key → List Bool → ℕ → Option PlacedInterface → Bool
 interface_led keys marks l None = true
 interface_led keys marks l (Some i) = list_all (member_led keys marks l) (members i.interface)
@@ -80,7 +80,7 @@ instances_led all keys marks l (x ∷ xs) =
     interface_led keys marks l (slice_get all x.interface)
     && instances_led all keys marks (l + 1) xs
 
--- the same of a function of the world itself, if an item has one
+-- whether each name in a function of the world itself does, if an item has one
 abbrev pub extern_led : List Key → List Bool → ℕ → WorldExtern → Bool
 extern_led keys marks l (interface_at path) = true
 extern_led keys marks l (named_func n f) = func_led keys marks l f

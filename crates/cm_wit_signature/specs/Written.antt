@@ -21,7 +21,7 @@ abbrev mutual
   IsWritten (result t u) = IsWritten t × IsWritten u
   IsWritten t = Unit {0}
 
-  -- the same of each type
+  -- each of these types is written so
   pub AreWritten : Tys → Type 0
   AreWritten no_types = Unit {0}
   AreWritten (types t ts) = IsWritten t × AreWritten ts

@@ -216,7 +216,7 @@ fn add_number(
     }
 }
 
-/// Adds the types of imports or exports, and answers these, in order. They are told by numbers: an
+/// Adds the types of imports or exports, and answers these, in order. They are given by numbers: an
 /// interface by its own, and the function of the world's item j by j and the number of all
 /// interfaces. The names of the first instance are those of the list `first`.
 ///

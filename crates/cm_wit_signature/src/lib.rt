@@ -1,8 +1,7 @@
-//! The imports and exports of a world of packages, and its signature, whose types are put into an
-//! arena; and laws by which packages hold only types that a component file can spell.
+//! The signature of a world of packages, its types in one arena.
 //!
-//! The instances of a world, and whether the names in them, and in what the world reaches, lead to
-//! types.
+//! It is made from the instances of the world; whether the names in them lead to types is decided
+//! first. By the laws here, packages hold only types that a component file can spell.
 #![tactic(auto)]
 
 mod externs;

@@ -69,7 +69,7 @@ fn first_fault<'a>(
     Ok(())
 }
 
-/// Why a world has no signature that reaches an interface that uses itself: `NoSuchType` where a
+/// Why a world that reaches an interface which uses itself has no signature: `NoSuchType` where a
 /// name in what the world reaches leads to no type, or that of a borrow to no resource, else
 /// `Cycle`; or `Memory`. There is no order of imports here, so names are looked up in each
 /// interface that the world reaches.

@@ -77,7 +77,7 @@ fn types_led(names: Names<'_, '_>, types: &[WitType]) -> bool
     true
 }
 
-/// The same of parameters.
+/// Whether each name in parameters leads to a type, and that of a borrow to a resource.
 #[tactic(auto, using(crate::proofs::RestLaws::rest_laws))]
 pub fn params_led(names: Names<'_, '_>, params: &[Typed]) -> bool
     ensures { result ≡ test.params_led (listed names.entry.keys.now) names.entry.marks.now
@@ -91,7 +91,7 @@ pub fn params_led(names: Names<'_, '_>, params: &[Typed]) -> bool
     true
 }
 
-/// The same of a function.
+/// Whether each name in a function leads to a type, and that of a borrow to a resource.
 pub fn func_led(names: Names<'_, '_>, func: &Func) -> bool
     ensures { result ≡ test.func_led (listed names.entry.keys.now) names.entry.marks.now
         names.entry.list (func_tree func.now) }
@@ -103,7 +103,8 @@ pub fn func_led(names: Names<'_, '_>, func: &Func) -> bool
     }
 }
 
-/// The same of a function of a resource.
+/// Whether each name in a function of a resource leads to a type, and that of a borrow to a
+/// resource.
 pub fn resource_func_led(names: Names<'_, '_>, func: &ResourceFunc) -> bool
     ensures { result ≡ test.resource_func_led (listed names.entry.keys.now) names.entry.marks.now
         names.entry.list (resource_func_tree func.now) }

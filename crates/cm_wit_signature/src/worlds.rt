@@ -69,7 +69,7 @@ pub fn signature_of_world<'a>(
     }
 }
 
-/// The same of packages with these names.
+/// The signature of the world of a full name, among packages with these names.
 fn signature_of_named<'a>(
     alloc: Global,
     packages: &'a [Package],

@@ -14,7 +14,7 @@ use Rattle.cm_wit_tables.specs.Tables.{entry_meaning}
 abbrev pub entry_at : List Declaration → List (Option Meaning) → ℕ → Option (Option Meaning)
 entry_at ds table k = option_map (entry_meaning ds table k) (slice_get ds k)
 
--- what it stands for is within the limits, as a type
+-- what a declaration stands for is within the limits, as a type
 abbrev pub IsWithin : List Ty → code.Meaning → Type 0
 IsWithin types m = IsWithinLimits (as_type (meaning_in types m))
 

@@ -23,8 +23,8 @@ table_fault one.TooLarge = fault.TooLarge
 table_fault one.NotSpellable = fault.NotSpellable
 table_fault one.Memory = fault.Memory
 
--- Why declarations have no table, the smallest number first; of the two that are told of one
--- declaration, the first that is met. Where memory ran out nothing is said.
+-- Why declarations have no table, the smallest number first; of two faults of one declaration, the
+-- first that is found. Where memory ran out nothing is said.
 abbrev pub IsTableFault : List Declaration → TableFault → Type 0
 IsTableFault ds fault.NoSuchType = ¬ (AllHaveTypes ds)
 IsTableFault ds fault.Cycle = AllHaveTypes ds × HasTypeCycle ds

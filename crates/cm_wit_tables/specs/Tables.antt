@@ -53,7 +53,7 @@ abbrev pub Solves : List Declaration → List (Option Meaning) → Type 0
 Solves ds table =
     (k : ℕ) → slice_get table k ≡ option_map (entry_meaning ds table k) (slice_get ds k)
 
--- One table does, and no other.
+-- One table solves the equation, and no other.
 abbrev pub HasOneTable : List Declaration → Type 0
 HasOneTable ds =
     (table : List (Option Meaning)) × Solves ds table

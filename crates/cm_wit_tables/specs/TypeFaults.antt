@@ -71,7 +71,8 @@ HasTypes ds l (defined t) =
     AllByRecursion (λ n. LeadsToType ds (l, n)) (names_in_def t)
     × AllByRecursion (λ n. LeadsToResource ds (l, n)) (borrowed_in_def t)
 
--- Each does in each declaration: where not, a world has no such type.
+-- Each name in each declaration leads to a type, and that of a borrow to a resource; where one does
+-- not, a world has no such type.
 abbrev pub AllHaveTypes : List Declaration → Type 0
 AllHaveTypes ds =
     (k : ℕ) (d : Declaration) → slice_get ds k ≡ Some d → HasTypes ds d.in_list d.is

@@ -36,8 +36,8 @@ fn empty_table(alloc: Global, count: usize) -> Result<Vec<Option<Meaning>>, Allo
 ///
 /// `TooLarge` comes where a type would have more than 10,000 nodes or be more than 64 deep;
 /// `NotSpellable` where no file could spell one; and `Memory` where there is no memory. The first
-/// in the order is told. Then types may have been added; earlier types stay as they are. It takes
-/// time linear in the texts: nothing is copied into its users.
+/// in the order is answered. Then types may have been added; earlier types stay as they are. It
+/// takes time linear in the texts: nothing is copied into its users.
 pub fn fill(
     alloc: Global,
     types: &mut Types,

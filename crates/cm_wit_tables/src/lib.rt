@@ -1,9 +1,8 @@
-//! What the types that the interfaces of a world declare stand for, as one table, filled in an
-//! order in which each stands behind those that it uses.
+//! What the types declared by a world's interfaces stand for, as one table.
 //!
-//! The types that the interfaces of a world declare: what they stand for, as definitions with
-//! laws; their list; what each uses, which are of resources, and whether each name in their texts
-//! leads to a type.
+//! The table is filled in an order in which each declaration stands behind those that it uses. The
+//! definitions and laws of the table are here, with the list of declarations, what each uses, which
+//! are of resources, and whether each name in their texts leads to a type.
 #![tactic(auto)]
 
 mod declarations;

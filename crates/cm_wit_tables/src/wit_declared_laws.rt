@@ -29,7 +29,7 @@ pub fn one_table()
     ensures { (ds : List Declaration) (rank : ℕ → ℕ) → IsRanked ds rank → HasOneTable ds }
 {}
 
-/// Where declarations can be ranked, just those of resources stand for a resource.
+/// Where declarations can be ranked, exactly those of resources stand for a resource.
 pub fn resources_stand_for_resources()
     ensures { (ds : List Declaration) (rank : ℕ → ℕ) (table : List (Option Meaning)) (k : ℕ)
         → IsRanked ds rank → Solves ds table → IsResource ds k
@@ -43,8 +43,8 @@ pub fn acyclic_ones_have_one_table()
     acyclic_ones_can_be_ranked();
 }
 
-/// Where no declaration uses itself, each stands for something just where each name in their texts
-/// leads to a type, and that of a borrow to a resource.
+/// Where no declaration uses itself, each stands for something exactly where each name in their
+/// texts leads to a type, and that of a borrow to a resource.
 pub fn each_stands_where_names_lead()
     ensures { (ds : List Declaration) (table : List (Option Meaning)) → (HasTypeCycle ds → ⊥)
         → Solves ds table → AllHaveTypes ds ↔ IsWhole ds table }
@@ -52,7 +52,7 @@ pub fn each_stands_where_names_lead()
     acyclic_ones_can_be_ranked();
 }
 
-/// Tables that agree on those declarations that one uses agree on what that one stands for.
+/// Tables that agree on the declarations that one uses agree on what that one stands for.
 pub fn what_is_used_decides()
     ensures { (ds : List Declaration) (a b : List (Option Meaning)) (k : ℕ)
         → AllByRecursion (λ j. slice_index_or a j None ≡ slice_index_or b j None) (uses ds k)
@@ -60,7 +60,7 @@ pub fn what_is_used_decides()
         ≡ option_map (entry_meaning ds b k) (slice_get ds k) }
 {}
 
-/// What is used is declared.
+/// Each declaration that one uses is among the declarations.
 pub fn what_is_used_is_declared()
     ensures { (ds : List Declaration) → IsWithin (length ds) (uses ds) }
 {}

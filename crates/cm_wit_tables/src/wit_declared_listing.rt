@@ -71,7 +71,7 @@ fn add_used<'a>(
     Ok(())
 }
 
-/// Where the types are that a path leads to, which stands in an instance at this spot.
+/// Where the types are to which a path leads that stands in an instance at this spot.
 fn used_list<'a>(
     alloc: Global,
     directory: &Directory<'a>,

@@ -55,11 +55,11 @@ abbrev pub unexpected_file_item : List Token → ReadError
 unexpected_file_item [] = errors.Fault reason.Unexpected
 unexpected_file_item (t ∷ ts) = errors.Fault (no_file_item t.form)
 
--- this operator
+-- reads this operator
 abbrev pub expect : Operator → Grammar (Unit {0})
 expect o = token (λ f. if is_operator o f then Ok tt else Err (other_fault f))
 
--- this keyword
+-- reads this keyword
 abbrev pub expect_word : Keyword → Grammar (Unit {0})
 expect_word k = token (λ f. if is_keyword k f then Ok tt else Err (other_fault f))
 

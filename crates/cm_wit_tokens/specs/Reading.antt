@@ -11,7 +11,7 @@ abbrev pub next_form : List Token → Option Form
 next_form [] = None
 next_form (t ∷ ts) = Some t.form
 
--- how many bytes of the text are left from it on
+-- how many bytes of the text are left from the next token on
 abbrev pub next_left : List Token → Option ℕ
 next_left [] = None
 next_left (t ∷ ts) = Some t.left

@@ -71,7 +71,7 @@ fn no_file_item(form: &Form) -> WitReason
 }
 
 impl Cursor {
-    /// Nothing read yet.
+    /// A cursor before the first token.
     pub fn new(tokens: VecDeque<Token>) -> Cursor
         ensures { result ≡ tokens.items }
     {
@@ -136,7 +136,7 @@ impl Cursor {
         }
     }
 
-    /// The same where an item is wanted.
+    /// The fault of the next token where an item is wanted.
     pub fn unexpected_item(&self) -> ReadError
         ensures { result ≡ unexpected_item self.now }
     {
@@ -146,7 +146,7 @@ impl Cursor {
         }
     }
 
-    /// The same where an item of a file is wanted.
+    /// The fault of the next token where an item of a file is wanted.
     pub fn unexpected_file_item(&self) -> ReadError
         ensures { result ≡ unexpected_file_item self.now }
     {

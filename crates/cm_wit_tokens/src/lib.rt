@@ -1,7 +1,6 @@
-//! The tokens of WIT texts.
+//! The tokens of WIT texts, and the steps from which grammars of tokens are built.
 //!
-//! Grammars of the tokens of WIT texts: steps from which forms are built, with the laws that make
-//! reading exact.
+//! The laws of the steps make reading exact.
 #![tactic(auto)]
 
 mod comment;

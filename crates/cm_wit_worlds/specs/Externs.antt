@@ -10,8 +10,8 @@ use Rattle.cm_wit_worlds.specs.Interfaces as all
 use Rattle.cm_wit_worlds.specs.Interfaces.{target, use_targets, PlacedWorld}
 use Rattle.cm_wit_graph.specs.Reach.{Rows, row_at}
 
--- ---- what stands in a world is told by a number: an interface by its own, and the function of the
--- j-th item by j and the number of all interfaces
+-- ---- a number stands for each thing in a world: an interface has its own, and the function of the
+-- j-th item has j and the number of all interfaces
 
 -- the number of what an item is, where there is such an interface, in the package at a place
 abbrev pub extern_number : List File → ℕ → ℕ → ℕ → WorldExtern → Option ℕ

@@ -8,7 +8,7 @@ ghost use Rattle.cm_wit_worlds.specs.Externs.{found};
 use indexmap::IndexSet;
 use std::alloc::{AllocError, Global};
 
-/// Those numbers that are there. Refused only where there is no memory.
+/// The numbers that are there. Refused only where there is no memory.
 #[tactic(auto, using(crate::proofs::ListLaws::part_laws))]
 pub fn found(alloc: Global, numbers: &[Option<usize>]) -> Result<Vec<usize>, AllocError>
     ensures { IfOk result (λ v. v.items ≡ found numbers.now) }
@@ -22,7 +22,7 @@ pub fn found(alloc: Global, numbers: &[Option<usize>]) -> Result<Vec<usize>, All
     Ok(out)
 }
 
-/// The same of each row. Refused only where there is no memory.
+/// The numbers that are there, of each row. Refused only where there is no memory.
 #[tactic(auto, using(crate::proofs::ListLaws::map_laws))]
 pub fn found_rows(alloc: Global, rows: &[Vec<Option<usize>>]) -> Result<Vec<Vec<usize>>, AllocError>
     ensures { IfOk result (λ v.

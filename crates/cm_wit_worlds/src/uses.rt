@@ -30,7 +30,8 @@ impl<'a> Directory<'a> {
         Ok(targets)
     }
 
-    /// The same of each of these interfaces. Refused only where there is no memory.
+    /// The interfaces that each of these uses, in the order of its text. Refused only where there
+    /// is no memory.
     #[tactic(auto, using(crate::proofs::KeyingLaws::map_laws))]
     pub fn uses(
         &self,

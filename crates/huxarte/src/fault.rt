@@ -1,5 +1,8 @@
 //! Why files do not come to a set that runs.
 
+ghost use Rattle.std.specs.Prelude.{◌≡◌};
+ghost use Rattle.huxarte.specs.declared.fault.LoadFault.TheVariants as load_fault;
+
 use cm_binary::DecodeFault;
 use cm_machine::Misuse;
 use cm_match::LinkFault;
@@ -29,24 +32,32 @@ pub enum LoadFault {
 }
 
 impl From<LinkFault> for LoadFault {
+    ghost from_gives = { λ e f. f ≡ load_fault.Link e };
+
     fn from(fault: LinkFault) -> LoadFault {
         LoadFault::Link(fault)
     }
 }
 
 impl From<Misuse> for LoadFault {
+    ghost from_gives = { λ e f. f ≡ load_fault.Set e };
+
     fn from(misuse: Misuse) -> LoadFault {
         LoadFault::Set(misuse)
     }
 }
 
 impl From<AllocError> for LoadFault {
+    ghost from_gives = { λ _ f. f ≡ load_fault.Memory };
+
     fn from(_error: AllocError) -> LoadFault {
         LoadFault::Memory
     }
 }
 
 impl<T: Drop> From<AllocFailed<T>> for LoadFault {
+    ghost from_gives = { λ _ f. f ≡ load_fault.Memory };
+
     fn from(_error: AllocFailed<T>) -> LoadFault {
         LoadFault::Memory
     }
