@@ -17,7 +17,7 @@ use Rattle.cm_abi_model.specs.Parts.{CasesFit, Part, parts_in}
 use Rattle.cm_abi_model.specs.Taken.{MAX_CONTENT}
 use Rattle.cm_abi_model.specs.Receives.{AreNumbers, Receives, Serves, call_bytes, call_kinds, call_numbers}
 use Rattle.cm_abi_model.specs.Regions.{AreApart, ArePlaced}
-use Rattle.cm_abi_model.specs.Requests.{IsStored, call_parts, part_requests, stored_charset, tuple_of}
+use Rattle.cm_abi_model.specs.Requests.{CanStore, IsStored, call_parts, part_requests, stored_charset, tuple_of}
 use Rattle.cm_abi_model.specs.Stores.{Framed, Given, Holds, poke}
 use Rattle.cm_abi_model.specs.Views.{View, Way}
 use Rattle.cm_abi_model.specs.Ways.{way_of}
@@ -36,12 +36,12 @@ use Rattle.cm_abi.proofs.PokeLemmas.{PutsIn, are_numbers, poked_fit, zeros_fit}
 
 -- laws, as they are told
 abbrev pub ApartLaw : Type 0
-ApartLaw = (source target : StringEncoding) (tags : List Bool) (ps : List Part) (answers : List ℕ) (g : Given) → IsStored target → HaveScalars source tags ps
+ApartLaw = (source target : StringEncoding) (tags : List Bool) (ps : List Part) (answers : List ℕ) (g : Given) → HaveScalars source tags ps
     → length answers ≡ length (part_requests source target tags ps) → g.places ≡ places_of (part_requests source target tags ps) answers
     → AreDisjoint (regions_of (part_requests source target tags ps) answers) ↔ AreApart target g 0 ps
 
 abbrev pub PlacedLaw : Type 0
-PlacedLaw = (source target : StringEncoding) (tags : List Bool) (ps : List Part) (answers : List ℕ) (memory_length : ℕ) (g : Given) → IsStored target
+PlacedLaw = (source target : StringEncoding) (tags : List Bool) (ps : List Part) (answers : List ℕ) (memory_length : ℕ) (g : Given)
     → HaveScalars source tags ps → AreCounted ps → length answers ≡ length (part_requests source target tags ps)
     → first_fault memory_length (part_requests source target tags ps) answers ≡ None → g.places ≡ places_of (part_requests source target tags ps) answers
     → ArePlaced target memory_length g 0 ps
@@ -50,6 +50,13 @@ abbrev pub StaysLaw : Type 0
 StaysLaw = (way : Way) (types : Fields) (g : Given) (v : Val) (target : StringEncoding) (memory : List ℕ) → HasType (tuple_of types) v → g.charset ≡ stored_charset target
     → ArePlaced target (length memory) g 0 (call_parts way types v) → AreApart target g 0 (call_parts way types v)
     → Holds (poke (call_bytes g way types v) memory) (call_bytes g way types v) × Framed memory (poke (call_bytes g way types v) memory) (call_bytes g way types v)
+
+-- what encodings in which strings are stored alike place alike
+abbrev pub PlacedAlike : Type 0
+PlacedAlike = (e f : StringEncoding) (n m : ℕ) (g : Given) (k : ℕ) (parts : List Part) → stored_charset e ≡ stored_charset f → n ≤ m → ArePlaced e n g k parts → ArePlaced f m g k parts
+
+abbrev pub ApartAlike : Type 0
+ApartAlike = (e f : StringEncoding) (g : Given) (k : ℕ) (parts : List Part) → stored_charset e ≡ stored_charset f → AreApart e g k parts → AreApart f g k parts
 
 abbrev pub SpelledLaw : Type 0
 SpelledLaw = (t : Ty) (u : Val) (source : StringEncoding) (tags : List Bool) → IsStored source → HasType t u → HaveScalars source tags (parts_in t u)
@@ -64,7 +71,7 @@ pub record IsReady (p : Passing) (types : Fields) : Type 0 where
   pub spellable : are_spellable types ≡ true
   pub cases : CasesFit (tuple_in p)
   pub counted : AreCounted (parts_passed p types)
-  pub stores : IsStored p.encodings.target
+  pub stores : CanStore p.encodings.target types
   pub spelled : HaveScalars p.encodings.source p.encodings.tags.now (parts_passed p types)
 
 spelled_in : SpelledLaw → (e : StringEncoding) (tags : List Bool) (t : Ty) (u : Val) → HasType t u → (e ≡ encoding.Latin1OrUtf16 → HaveScalars e tags (parts_in t u)) → HaveScalars e tags (parts_in t u)
@@ -100,7 +107,7 @@ module _ (p : Passing) (types : Fields) (to : Receiver) (before after : Handles)
   pub placed : (n : ℕ) (rs : List Request) → PlacedLaw → rs ≡ asked_for p types → length answers ≡ length (asked_for p types) → first_fault n rs answers ≡ None
       → ArePlaced p.encodings.target n (given_for p types to before answers) 0 (call_parts (way_of p.way) types (tuple_in p))
   placed n rs law rs_is answered fine =
-      law p.encodings.source p.encodings.target p.encodings.tags.now (call_parts (way_of p.way) types (tuple_in p)) answers n (given_for p types to before answers) can.stores
+      law p.encodings.source p.encodings.target p.encodings.tags.now (call_parts (way_of p.way) types (tuple_in p)) answers n (given_for p types to before answers)
       (call_scalars p.encodings.source p.encodings.tags.now (way_of p.way) types (values_of p.values.now) can.spelled)
       (call_counted (way_of p.way) types (values_of p.values.now) can.counted) answered
       (subst (λ r. first_fault n r answers ≡ None) rs_is fine) refl
@@ -108,7 +115,7 @@ module _ (p : Passing) (types : Fields) (to : Receiver) (before after : Handles)
   pub apart : (rs : List Request) → ApartLaw → rs ≡ asked_for p types → length answers ≡ length (asked_for p types) → AreDisjoint (regions_of rs answers)
       → AreApart p.encodings.target (given_for p types to before answers) 0 (call_parts (way_of p.way) types (tuple_in p))
   apart rs law rs_is answered disjoint =
-      (law p.encodings.source p.encodings.target p.encodings.tags.now (call_parts (way_of p.way) types (tuple_in p)) answers (given_for p types to before answers) can.stores
+      (law p.encodings.source p.encodings.target p.encodings.tags.now (call_parts (way_of p.way) types (tuple_in p)) answers (given_for p types to before answers)
       (call_scalars p.encodings.source p.encodings.tags.now (way_of p.way) types (values_of p.values.now) can.spelled) answered refl).0
       (subst (λ r. AreDisjoint (regions_of r answers)) rs_is disjoint)
 
@@ -161,38 +168,40 @@ module _ (p : Passing) (types : Fields) (to : Receiver) (before after : Handles)
       rw is (poked_fit p.kinds.now 0 e (call_numbers (given_for p types to before answers) (way_of p.way) types (tuple_in p)) (replicate (length p.kinds.now) 0) (zeros_fit p.kinds.now) put)
 
   pub received : (w : View) (e : ℕ) (old new : List ℕ) (values : List CoreValue)
-      → StaysLaw → IsReceiving w p to new after
+      → StaysLaw → PlacedAlike → ApartAlike → IsReceiving w p to new after
       → ArePlaced p.encodings.target (length old) (given_for p types to before answers) 0 (call_parts (way_of p.way) types (tuple_in p))
       → AreApart p.encodings.target (given_for p types to before answers) 0 (call_parts (way_of p.way) types (tuple_in p))
       → PutsIn p.kinds.now 0 e (call_numbers (given_for p types to before answers) (way_of p.way) types (tuple_in p))
       → Gives to before after (handles_passed p types) (numbers_given to before (handles_passed p types))
+      → length new ≡ length old
       → new ≡ poke (call_bytes (given_for p types to before answers) (way_of p.way) types (tuple_in p)) old
       → map kind_of values ≡ p.kinds.now
       → map slot_number values ≡ poke (call_numbers (given_for p types to before answers) (way_of p.way) types (tuple_in p)) (replicate (length p.kinds.now) 0)
       → Receives w (way_of p.way) types values (given_for p types to before answers) (tuple_in p)
-  received w e old new values law view stand clear put gives new_is kinds numbers =
+  received w e old new values law placed_alike apart_alike view stand clear put gives long new_is kinds numbers =
       let is = given_for p types to before answers in
       record {
         typed = can.typed;
-        stored_in = ap stored_charset (sym view.encoding_is);
+        stored_in = sym view.stored_alike;
         numbers = subst (λ ks. AreNumbers ks values (call_numbers is (way_of p.way) types (tuple_in p))) can.kinds
             (are_numbers p.kinds.now e (call_numbers is (way_of p.way) types (tuple_in p)) values put kinds numbers);
+        placed = placed_alike p.encodings.target w.encoding (length old) (length w.memory) is 0 (call_parts (way_of p.way) types (tuple_in p)) (sym view.stored_alike) (omega (arith, long, ap length view.memory_is)) stand;
+        apart = apart_alike p.encodings.target w.encoding is 0 (call_parts (way_of p.way) types (tuple_in p)) (sym view.stored_alike) clear;
         bytes = rw (view.memory_is, new_is) (law (way_of p.way) types is (tuple_in p) p.encodings.target old can.typed refl stand clear).0;
         handles = gives.stand w is view.receiver refl;
       }
 
   pub served : (w : View) (old new : List ℕ)
-      → length old < 2 ^ 32 → IsReceiving w p to new after → length new ≡ length old
+      → length old < 2 ^ 32 → IsReceiving w p to new after → w.encoding ≡ p.encodings.target → length new ≡ length old
       → ArePlaced p.encodings.target (length old) (given_for p types to before answers) 0 (call_parts (way_of p.way) types (tuple_in p))
       → IsSoundHandles after
       → Serves w (way_of p.way) types (given_for p types to before answers) (tuple_in p)
-  served w old new few view long stand sound =
+  served w old new few view encoding long stand sound =
       let memory_long : length w.memory ≡ length old = ap length view.memory_is ∙ long in
       record {
-        stores = subst (λ x. IsStored x) (sym view.encoding_is) can.stores;
+        stores = subst (λ x. CanStore x types) (sym encoding) can.stores;
         memory = omega (arith, memory_long, few);
         table = subst (λ t. IsSoundHandles t) (sym view.receiver.table_is) sound;
         spellable = can.spellable;
         cases = can.cases;
-        places = rw (view.encoding_is, memory_long) stand;
       }

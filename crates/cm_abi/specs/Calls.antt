@@ -6,7 +6,7 @@ use Rattle.cm_types.specs.Values.{HandleValue}
 use Rattle.cm_layout.specs.Layouts.{layout_of}
 use Rattle.cm_layout.specs.Shapes.{layout_of_fields_at}
 use Rattle.cm_abi_model.specs.Receives.{HandleLeaf, call_kinds, owned_leaf, borrowed_leaf}
-use Rattle.cm_abi_model.specs.Requests.{IsStored}
+use Rattle.cm_abi_model.specs.Requests.{CanStore}
 use Rattle.cm_abi_model.specs.Views.{View}
 use Rattle.cm_abi_model.specs.Ways.{way_of}
 use Rattle.cm_abi_model.specs.declared.encoding.StringEncoding.{StringEncoding}
@@ -20,13 +20,13 @@ abbrev pub AreBytes : List ℕ → Type 0
 AreBytes memory = (i : ℕ) → slice_index memory i < 2 ^ 8
 
 -- Values go on as they were lifted in a view: by the layout and the kinds of their types, which a
--- file can spell, from the encoding of the view to one in which strings are stored.
+-- file can spell, from the encoding of the view to one in which values of them may be stored.
 pub record GoOn (giver : View) (p : Passing) (types : Fields) : Type 0 where
   pub layout : layout_of p.layout.now ≡ layout_of_fields_at types
   pub kinds : p.kinds.now ≡ call_kinds (way_of p.way) types
   pub spellable : are_spellable types ≡ true
   pub source : p.encodings.source ≡ giver.encoding
-  pub stores : IsStored p.encodings.target
+  pub stores : CanStore p.encodings.target types
 
 -- the handles to be owned among those of a value, in order
 abbrev pub owned_in : List HandleLeaf → List HandleValue
@@ -36,7 +36,7 @@ owned_in (borrowed_leaf h ∷ leaves) = owned_in leaves
 
 -- What a scan found in a view goes on as it stood: by the layout of the types, which a file can
 -- spell, from that memory, with the handles and the records that were kept, from the encoding of
--- the view to one in which strings are stored. The requests may be answered meanwhile.
+-- the view to one in which values of them may be stored. The requests may be answered meanwhile.
 pub record GoesOnAsFound (giver : View) (target : StringEncoding) (scanned : Scanned) (f : Found)
     (s : PartRequests) (types : Fields) : Type 0 where
   pub layout : layout_of f.passed.layout.now ≡ layout_of_fields_at types
@@ -46,4 +46,4 @@ pub record GoesOnAsFound (giver : View) (target : StringEncoding) (scanned : Sca
   pub records : s.records ≡ scanned.requests.records
   pub source : giver.encoding ≡ s.source
   pub goes_to : s.target ≡ target
-  pub stores : IsStored target
+  pub stores : CanStore target types

@@ -13,7 +13,7 @@ use Rattle.cm_abi_model.specs.declared.fault.AbiFault.TheVariants as fault
 use Rattle.cm_abi_model.specs.declared.request.Request.{Request}
 use Rattle.cm_abi_model.specs.Parts.{Part, parts_in}
 use Rattle.cm_abi_model.specs.Receives.{HandleLeaf, call_kinds, leaves_in}
-use Rattle.cm_abi_model.specs.Requests.{IsStored, requests, stored_charset, tuple_of}
+use Rattle.cm_abi_model.specs.Requests.{CanStore, requests, stored_charset, tuple_of}
 use Rattle.cm_abi_model.specs.Stores.{Given}
 use Rattle.cm_abi_model.specs.Taken.{MAX_CONTENT}
 use Rattle.cm_abi_model.specs.Views.{View}
@@ -43,15 +43,15 @@ asked_for p types =
     p.encodings.tags.now
 
 -- Values of these types can be lowered: their layout and the kinds of the core values that pass
--- them are those of the types, which a file can spell; strings can be stored in their target, and
--- with the lists are within the limit of one direction of a call. Where strings come in Latin-1 or
+-- them are those of the types, which a file can spell; values of these types may be stored in their
+-- target; strings and lists are within the limit of one direction of a call. Where strings come in Latin-1 or
 -- in UTF-16, each is spelled in the one that its tag says.
 pub record CanBeLowered (p : Passing) (types : Fields) : Type 0 where
   pub layout : layout_of p.layout.now ≡ layout_of_fields_at types
   pub kinds : p.kinds.now ≡ call_kinds (way_of p.way) types
   pub typed : HasType (tuple_of types) (tuple_in p)
   pub spellable : are_spellable types ≡ true
-  pub stores : IsStored p.encodings.target
+  pub stores : CanStore p.encodings.target types
   pub spelled : p.encodings.source ≡ encoding.Latin1OrUtf16
       → HaveScalars p.encodings.source p.encodings.tags.now (parts_passed p types)
   pub small :
@@ -73,12 +73,13 @@ given_for p types to table answers =
       charset = stored_charset p.encodings.target;
     }
 
--- a view of the receiver, with this memory and this table, that reads strings as they are stored
+-- a view of the receiver, with this memory and this table, in which strings are stored as they were
+-- written
 pub record IsReceiving (w : View) (p : Passing) (to : Receiver) (memory : List ℕ)
     (table : Handles) : Type 0 where
   pub receiver : IsViewOf w to table
   pub memory_is : w.memory ≡ memory
-  pub encoding_is : w.encoding ≡ p.encodings.target
+  pub stored_alike : stored_charset w.encoding ≡ stored_charset p.encodings.target
 
 -- Why values are not lowered: what is wrong with the answers; where they will do, that the table
 -- has fewer indices left than it is to get handles; or that there is no memory.

@@ -17,7 +17,9 @@ use crate::passing::Passing;
 use crate::slots::put_core_values;
 use cm_abi_lower::{Receiver, give_values, store_call};
 use cm_abi_model::AbiFault;
-use cm_abi_model::laws::{what_is_received_is_denoted, what_is_stored_stays};
+use cm_abi_model::laws::{
+    places_are_read_alike, what_is_received_is_denoted, what_is_stored_stays,
+};
 use cm_abi_requests::laws::{answers_place_parts, what_is_typed_can_be_lowered};
 use cm_abi_requests::{check_answers, requests};
 use cm_abi_store::Target;
@@ -84,6 +86,7 @@ pub fn lower(
         (given_for passing.now types to table.old.handles answers.now) (tuple_in passing.now)) }
     ensures denoted { (types : Fields) (w : View) → CanBeLowered passing.now types
         → IsReceiving w passing.now to memory.new table.new.handles
+        → w.encoding ≡ passing.now.encodings.target
         → NoneImplemented w (handles_passed passing.now types)
         → IfOk result (λ slots. Denotes w (way_of passing.now.way) types slots.items
         (tuple_in passing.now)) }
@@ -105,6 +108,7 @@ pub fn lower(
 {
     answers_place_parts();
     what_is_stored_stays();
+    places_are_read_alike();
     what_is_received_is_denoted();
     what_is_typed_can_be_lowered();
     cases_fit(passing.values);

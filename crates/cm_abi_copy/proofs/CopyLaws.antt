@@ -11,7 +11,8 @@ use Rattle.cm_handles.specs.Handles.{Handles, IsSoundHandles}
 use Rattle.cm_abi_model.specs.declared.encoding.StringEncoding.{StringEncoding}
 use Rattle.cm_abi_model.specs.Receives.{AreNumbers, HandleLeaf, Receives, Serves, call_bytes, call_kinds, call_numbers}
 use Rattle.cm_abi_model.specs.Regions.{AreApart, ArePlaced}
-use Rattle.cm_abi_model.specs.Requests.{IsStored, call_parts, stored_charset, tuple_of}
+use Rattle.cm_abi_model.specs.Requests.{CanStore, call_parts, stored_charset, tuple_of}
+use Rattle.cm_abi_model.specs.Parts.{Part}
 use Rattle.cm_abi_model.specs.Stores.{Framed, Given, Holds, IsBeside, Placed, number_of, place_of, poke}
 use Rattle.cm_abi_model.specs.Views.{View, Way}
 use Rattle.cm_abi_lower.specs.Giving.{Gives, added_for, numbers_given, with_added}
@@ -39,8 +40,16 @@ abbrev pub PassedLaw : Type 0
 PassedLaw = (way : Way) (types : Fields) (g : Given) (v : Val) (slots : List ℕ) → HasType (tuple_of types) v → length (call_kinds way types) ≤ length slots
     → Holds (poke (call_numbers g way types v) slots) (call_numbers g way types v) × Framed slots (poke (call_numbers g way types v) slots) (call_numbers g way types v)
 
+-- what encodings in which strings are stored alike place alike
+abbrev pub PlacedAlike : Type 0
+PlacedAlike = (e f : StringEncoding) (n m : ℕ) (g : Given) (k : ℕ) (parts : List Part) → stored_charset e ≡ stored_charset f → n ≤ m → ArePlaced e n g k parts → ArePlaced f m g k parts
+
+abbrev pub ApartAlike : Type 0
+ApartAlike = (e f : StringEncoding) (g : Given) (k : ℕ) (parts : List Part) → stored_charset e ≡ stored_charset f → AreApart e g k parts → AreApart f g k parts
+
 abbrev pub FitsLaw : Type 0
 FitsLaw = (w : View) (way : Way) (types : Fields) (g : Given) (v : Val) (slots : List ℕ) → HasType (tuple_of types) v → g.charset ≡ stored_charset w.encoding → Serves w way types g v
+    → ArePlaced w.encoding (length w.memory) g 0 (call_parts way types v)
     → ((k : ℕ) → place_of g k < 2 ^ 32) → ((h : ℕ) → number_of g h < 2 ^ 32) → FitKinds (call_kinds way types) slots → FitKinds (call_kinds way types) (poke (call_numbers g way types v) slots)
 
 -- what putting numbers into core values promises
@@ -166,12 +175,11 @@ module _ (n : ℕ) (kinds : List CoreKind) (giver : View) (f : Found) (s : PartR
   pub serves : (w : View) → w.encoding ≡ s.target → length w.memory ≡ n → n < 2 ^ 32 → IsSoundHandles w.table → Serves w (way_of f.passed.way) types (given_by s answers types v to before) v
   serves w encoding long few sound =
       record {
-        stores = subst IsStored (sym encoding) can.found.stores;
+        stores = subst (λ e. CanStore e types) (sym encoding) can.found.stores;
         memory = omega (arith, long, few);
         table = sound;
         spellable = can.found.spellable;
         cases = settled.cases;
-        places = rw (encoding, long) stand;
       }
 
   pub fits : FitsLaw → (memory zeros : List ℕ) → length memory ≡ n → n < 2 ^ 32 → IsSoundHandles after → ((k : ℕ) → slice_index zeros k ≡ 0)
@@ -179,7 +187,7 @@ module _ (n : ℕ) (kinds : List CoreKind) (giver : View) (f : Found) (s : PartR
       → (now : List ℕ) → now ≡ poke (call_numbers (given_by s answers types v to before) (way_of f.passed.way) types v) zeros → FitKinds kinds now
   fits law memory zeros long few sound none places numbers now is =
       let w : View = record { memory = memory; table = after; instance = 0; encoding = s.target; call = 0 } in
-      rw (can.kinds_are, is) (law w (way_of f.passed.way) types (given_by s answers types v to before) v zeros settled.typed refl (serves w refl long few sound) places numbers (zeros_fit (call_kinds (way_of f.passed.way) types) zeros none))
+      rw (can.kinds_are, is) (law w (way_of f.passed.way) types (given_by s answers types v to before) v zeros settled.typed refl (serves w refl long few sound) (rw long stand) places numbers (zeros_fit (call_kinds (way_of f.passed.way) types) zeros none))
 
   pub are_numbers : PassedLaw → (zeros numbers : List ℕ) (slots : List CoreValue) → ((k : ℕ) → slice_index zeros k ≡ 0) → length (call_kinds (way_of f.passed.way) types) ≤ length zeros
       → numbers ≡ poke (call_numbers (given_by s answers types v to before) (way_of f.passed.way) types v) zeros → Puts kinds numbers slots
@@ -197,22 +205,25 @@ module _ (n : ℕ) (kinds : List CoreKind) (giver : View) (f : Found) (s : PartR
       let stays = law (way_of f.passed.way) types g v s.target old settled.typed refl (rw long stand) (settled.apart g (sym settled.places) clear) in
       (rw is stays.0, rw is stays.1)
 
-  pub received : (w : View) (new : List ℕ) (slots : List CoreValue) → IsReceivingIn w s.target to new after
+  pub received : PlacedAlike → ApartAlike → (w : View) (new : List ℕ) (slots : List CoreValue) → IsReceivingIn w s.target to new after
       → Holds new (call_bytes (given_by s answers types v to before) (way_of f.passed.way) types v)
       → AreNumbers (call_kinds (way_of f.passed.way) types) slots (call_numbers (given_by s answers types v to before) (way_of f.passed.way) types v)
       → Gives to before after (handles_of_values types v) (numbers_given to before (handles_of_values types v))
+      → length new ≡ n → PartsAreApart s answers
       → Receives w (way_of f.passed.way) types slots (given_by s answers types v to before) v
-  received w new slots view holds numbers gives =
+  received placed_alike apart_alike w new slots view holds numbers gives long clear =
       let g = given_by s answers types v to before in
       record {
         typed = settled.typed;
-        stored_in = ap stored_charset (sym view.encoding_is);
+        stored_in = sym view.stored_alike;
         numbers = numbers;
+        placed = placed_alike s.target w.encoding n (length w.memory) g 0 (call_parts (way_of f.passed.way) types v) (sym view.stored_alike) (omega (arith, long, ap length view.memory_is)) stand;
+        apart = apart_alike s.target w.encoding g 0 (call_parts (way_of f.passed.way) types v) (sym view.stored_alike) (settled.apart g (sym settled.places) clear);
         bytes = rw view.memory_is holds;
         handles = gives.stand w g view.receiver refl;
       }
 
-  pub received_serves : (w : View) (old new : List ℕ) → IsReceivingIn w s.target to new after → length new ≡ length old → length old ≡ n → n < 2 ^ 32 → IsSoundHandles after
+  pub received_serves : (w : View) (old new : List ℕ) → IsReceivingIn w s.target to new after → w.encoding ≡ s.target → length new ≡ length old → length old ≡ n → n < 2 ^ 32 → IsSoundHandles after
       → Serves w (way_of f.passed.way) types (given_by s answers types v to before) v
-  received_serves w old new view stays long few sound =
-      serves w view.encoding_is (ap length view.memory_is ∙ (stays ∙ long)) few (subst IsSoundHandles (sym view.receiver.table_is) sound)
+  received_serves w old new view encoding stays long few sound =
+      serves w encoding (ap length view.memory_is ∙ (stays ∙ long)) few (subst IsSoundHandles (sym view.receiver.table_is) sound)

@@ -82,13 +82,13 @@ abbrev pub CountedLaw : Type 0
 CountedLaw = (w : View) (way : Way) (types : Fields) (slots : List CoreValue) (v : Val) (to : Way) → ((i : ℕ) → slice_index w.memory i < 2 ^ 8) → Denotes w way types slots v → AreCounted (call_parts to types v)
 
 abbrev pub PlacedLaw : Type 0
-PlacedLaw = (source target : StringEncoding) (tags : List Bool) (ps : List Part) (answers : List ℕ) (memory_length : ℕ) (g : Given) → IsStored target
+PlacedLaw = (source target : StringEncoding) (tags : List Bool) (ps : List Part) (answers : List ℕ) (memory_length : ℕ) (g : Given)
     → HaveScalars source tags ps → AreCounted ps → length answers ≡ length (part_requests source target tags ps)
     → first_fault memory_length (part_requests source target tags ps) answers ≡ None → g.places ≡ places_of (part_requests source target tags ps) answers
     → ArePlaced target memory_length g 0 ps
 
 abbrev pub ApartLaw : Type 0
-ApartLaw = (source target : StringEncoding) (tags : List Bool) (ps : List Part) (answers : List ℕ) (g : Given) → IsStored target → HaveScalars source tags ps
+ApartLaw = (source target : StringEncoding) (tags : List Bool) (ps : List Part) (answers : List ℕ) (g : Given) → HaveScalars source tags ps
     → length answers ≡ length (part_requests source target tags ps) → g.places ≡ places_of (part_requests source target tags ps) answers
     → AreDisjoint (regions_of (part_requests source target tags ps) answers) ↔ AreApart target g 0 ps
 
@@ -147,7 +147,7 @@ module _ (laws : Laws) (n : ℕ) (kinds : List CoreKind) (giver : View) (f : Fou
   by_regions : (g : Given) → g.places ≡ s.places.items → AreDisjoint (regions_of (all_requests s) answers) ↔ AreApart s.target g 0 (call_parts (way_of f.passed.way) types v)
   by_regions g is =
       subst (λ rs. AreDisjoint (regions_of rs answers) ↔ AreApart s.target g 0 (call_parts (way_of f.passed.way) types v)) (sym asked)
-      (laws.apart giver.encoding s.target (tags_of s.records.items) (call_parts (way_of f.passed.way) types v) answers g can.found.stores scalars answered (stand g is))
+      (laws.apart giver.encoding s.target (tags_of s.records.items) (call_parts (way_of f.passed.way) types v) answers g scalars answered (stand g is))
 
   by_records : (g : Given) → g.places ≡ s.places.items → AreDisjoint (regions_at s.records.items s.places.items) ↔ AreApart s.target g 0 (call_parts (way_of f.passed.way) types v)
   by_records g is =
@@ -169,7 +169,7 @@ module _ (laws : Laws) (n : ℕ) (kinds : List CoreKind) (giver : View) (f : Fou
         places = laws.places s answers can.answered;
         counted = laws.each s answers can.answered ∙ as_many giver s.target s.records.items (call_parts (way_of f.passed.way) types v) can.found.starts can.found.told;
         placed = λ h same.
-            laws.placed giver.encoding s.target (tags_of s.records.items) (call_parts (way_of f.passed.way) types v) answers n h can.found.stores scalars
+            laws.placed giver.encoding s.target (tags_of s.records.items) (call_parts (way_of f.passed.way) types v) answers n h scalars
             (laws.counts giver (way_of f.passed.way) types f.passed.slots.now v (way_of f.passed.way) giver_bytes can.found.denoted) answered
             (subst (λ rs. first_fault n rs answers ≡ None) asked can.fine) (stand h same);
         regions = (λ x. (by_regions g is).1 ((by_records g is).0 x), λ x. (by_records g is).1 ((by_regions g is).0 x));

@@ -12,7 +12,7 @@ use Rattle.cm_abi_model.specs.declared.fault.AbiFault.{AbiFault}
 use Rattle.cm_abi_model.specs.declared.fault.AbiFault.TheVariants as fault
 use Rattle.cm_abi_model.specs.Denotes.{Denotes}
 use Rattle.cm_abi_model.specs.Receives.{HandleLeaf, call_kinds, leaves_in}
-use Rattle.cm_abi_model.specs.Requests.{IsStored, call_parts, stored_charset, tuple_of}
+use Rattle.cm_abi_model.specs.Requests.{CanStore, call_parts, stored_charset, tuple_of}
 use Rattle.cm_abi_model.specs.Stores.{Given}
 use Rattle.cm_abi_model.specs.Views.{View}
 use Rattle.cm_abi_model.specs.Ways.{way_of}
@@ -28,15 +28,14 @@ use Rattle.cm_abi_copy.specs.declared.found.Found.{Found}
 
 -- What a scan found in a view of the giver goes on from there: the layout is that of the types,
 -- which a file can spell; the memory is the giver's; its core values denote the value; the records
--- tell its parts, and the handles are its; and strings are stored in an encoding in which they may
--- be.
+-- tell its parts, and the handles are its; and values of these types may be stored where they go.
 pub record GoesOn (giver : View) (f : Found) (s : PartRequests) (types : Fields) (v : Val)
     : Type 0 where
   pub layout : layout_of f.passed.layout.now ≡ layout_of_fields_at types
   pub spellable : are_spellable types ≡ true
   pub memory : giver.memory ≡ f.memory.now
   pub encoding : giver.encoding ≡ s.source
-  pub stores : IsStored s.target
+  pub stores : CanStore s.target types
   pub denoted : Denotes giver (way_of f.passed.way) types f.passed.slots.now v
   pub starts : List ℕ
   pub told : TellAll giver s.target s.records.items (call_parts (way_of f.passed.way) types v)
@@ -67,12 +66,13 @@ given_by s answers types v to table =
       charset = stored_charset s.target;
     }
 
--- a view of the receiver, with this memory and this table, that reads strings as they are stored
+-- a view of the receiver, with this memory and this table, in which strings are stored as they were
+-- written
 pub record IsReceivingIn (w : View) (target : StringEncoding) (to : Receiver) (memory : List ℕ)
     (table : Handles) : Type 0 where
   pub receiver : IsViewOf w to table
   pub memory_is : w.memory ≡ memory
-  pub encoding_is : w.encoding ≡ target
+  pub stored_alike : stored_charset w.encoding ≡ stored_charset target
 
 -- the regions of the parts have no address in common
 abbrev pub PartsAreApart : PartRequests → List ℕ → Type 0

@@ -20,7 +20,9 @@ use crate::found::Found;
 use crate::settled_laws::what_can_be_copied_is_settled;
 use cm_abi_lower::{Receiver, give};
 use cm_abi_model::AbiFault;
-use cm_abi_model::laws::{what_is_received_is_denoted, what_is_stored_stays};
+use cm_abi_model::laws::{
+    places_are_read_alike, what_is_received_is_denoted, what_is_stored_stays,
+};
 use cm_abi_requests::PartRequests;
 use cm_abi_store::laws::{what_is_passed_fits, what_is_passed_stays};
 use cm_abi_store::{Target, put_numbers};
@@ -67,6 +69,7 @@ pub fn copy(
         → FoundCanBeCopied (length memory.old) (map kind_of slots.old) giver found.now requests.old
         answers types v
         → IsReceivingIn w requests.old.target to memory.new table.new.handles
+        → w.encoding ≡ requests.old.target
         → NoneImplemented w (handles_of_values types v)
         → OnOk result (Denotes w (way_of found.now.passed.way) types slots.new v) }
     ensures framed { (giver : View) (answers : List ℕ) (types : Fields) (v : Val)
@@ -94,6 +97,7 @@ pub fn copy(
 {
     what_can_be_copied_is_settled();
     what_is_stored_stays();
+    places_are_read_alike();
     what_is_passed_stays();
     what_is_passed_fits();
     what_is_received_is_denoted();

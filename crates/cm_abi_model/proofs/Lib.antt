@@ -17,3 +17,6 @@ mod AskingLaws
 mod PassedLaws
 mod StoredLaws
 mod LoweredLaws
+pub mod ReceivedStays
+pub mod NoStrings
+pub mod NothingMet

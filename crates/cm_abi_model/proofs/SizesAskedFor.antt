@@ -99,12 +99,12 @@ text_ends latin1 utf8 cs kept all =
 text_ends latin1 utf16 cs kept all = refl
 text_ends source latin1 cs kept all = absurd kept
 
-kept_in : (target : StringEncoding) → IsStored target → IsKept (stored_charset target)
-kept_in encoding.Utf8 h = h
-kept_in encoding.Utf16 h = h
-kept_in encoding.Latin1OrUtf16 h = absurd h
+kept_in : (target : StringEncoding) → IsKept (stored_charset target)
+kept_in encoding.Utf8 = tt
+kept_in encoding.Utf16 = tt
+kept_in encoding.Latin1OrUtf16 = tt
 
-pub ends_exact : (source : Charset) (target : StringEncoding) (part : Part) → IsStored target → HasScalars source part
+pub ends_exact : (source : Charset) (target : StringEncoding) (part : Part) → HasScalars source part
     → last_size (part_sizes source (stored_charset target) part) ≡ part_size target part
-ends_exact source target (text_part cs) h all = text_ends source (stored_charset target) cs (kept_in target h) all
-ends_exact source target (element_part count size align) h all = refl
+ends_exact source target (text_part cs) all = text_ends source (stored_charset target) cs (kept_in target) all
+ends_exact source target (element_part count size align) all = refl

@@ -1,6 +1,12 @@
 -- What is stored of a value shows it.
 use Rattle.std.proofs.Common.{◌≡◌, ℕ, zero, suc, ℤ, pos, negsuc, ◌+◌, ◌-◌, ◌*◌, ◌%◌, ◌^◌, ◌<◌, ◌≤◌, Bool, true, false, List, [], ◌∷◌, ◌++◌, length, Some, None, slice_index, not, ◌==◌, refl, sym, ap, subst, ◌∙◌, arith, length-append}
-use Rattle.std.proofs.Common.{inl, inr}
+use Rattle.std.proofs.Common.{inl, inr, ◌⊎◌}
+use Rattle.cm_abi_model.specs.declared.encoding.StringEncoding.{StringEncoding}
+use Rattle.cm_abi_model.specs.declared.encoding.StringEncoding.TheVariants as encoding
+use Rattle.cm_abi_model.specs.Later.{IsLater}
+use Rattle.cm_abi_model.specs.Texts.{utf16}
+use Rattle.cm_abi_model.proofs.NoStrings.{denoted_alike, read_as}
+use Rattle.cm_abi_model.proofs.ReceivedStays.{received_stays}
 use Rattle.std.proofs.lemmas.Int.{ints}
 use Rattle.std.proofs.Math.Nat.{mod-eq_of_lt, pow-le-pow_right}
 use Rattle.std.specs.Prelude.{nat_lt, if◌then◌else◌, neg_ℤ, ◌≤ℤ◌, ◌<ℤ◌}
@@ -20,9 +26,9 @@ use Rattle.cm_abi_model.specs.Numbers.{number_at, as_signed, slot_at, wrapped_at
 use Rattle.cm_abi_model.specs.FlatShows.{FlatShows, FlatShowFields, FlatShowsPayload, width_of}
 use Rattle.cm_types.specs.declared.core_value.CoreValue.{CoreValue}
 use Rattle.cm_abi_model.specs.Parts.{Part, element_part, parts_in, parts_in_fields, parts_in_payload, parts_each, part_count, part_count_each, handle_count, handle_count_each, CasesFit, AllCasesFit}
-use Rattle.cm_abi_model.specs.Receives.{HandleLeaf, owned_leaf, borrowed_leaf, Receives, Serves, put, SlotsHold, slot_bytes, slots_of, slots_of_fields, slots_of_payload, behind, behind_each, behind_fields, behind_payload, leaves_in, leaves_in_fields, leaves_in_payload, leaves_each, AllStand, StandsForBorrow, NoneImplemented}
+use Rattle.cm_abi_model.specs.Receives.{HandleLeaf, owned_leaf, borrowed_leaf, Receives, Serves, put, SlotsHold, slot_bytes, slots_of, slots_of_fields, slots_of_payload, behind, behind_each, behind_fields, behind_payload, leaves_in, leaves_in_fields, leaves_in_payload, leaves_each, AllStand, StandsForBorrow, NoneImplemented, call_bytes}
 use Rattle.cm_abi_model.specs.Regions.{ArePlaced}
-use Rattle.cm_abi_model.specs.Requests.{IsStored, stored_charset, text_bytes, text_units, is_spilled, tuple_of}
+use Rattle.cm_abi_model.specs.Requests.{HaveNoString, IsStored, stored_charset, text_bytes, text_units, is_spilled, tuple_of}
 use Rattle.cm_abi_model.specs.Denotes.{Denotes}
 use Rattle.cm_abi_model.specs.Shows.{Shows, ShowFields, ShowsPayload, ShowEach, ShowsHandle, ShowsOwned}
 use Rattle.cm_abi_model.specs.Stores.{Placed, Given, place_of, number_of, placed, bytes_of, from_signed, pointer_bytes, store_each, stored, stored_fields, stored_payload, Holds}
@@ -447,16 +453,16 @@ module _ (w : View) (g : Given) (in_memory : length w.memory < 2 ^ 32) (is_store
 -- ---- a call
 
 denoted_by : (w : View) (way : Way) (types : Fields) (slots : List CoreValue) (g : Given) (v : Val) (spilled : Bool) → is_spilled way types ≡ spilled
-    → Receives w way types slots g v → Serves w way types g v → NoneImplemented w (leaves_in (tuple_of types) v)
+    → Receives w way types slots g v → Serves w way types g v → IsStored w.encoding → NoneImplemented w (leaves_in (tuple_of types) v)
     → Denotes w way types slots v
-denoted_by w way types slots g (parts vs) true e r s none =
+denoted_by w way types slots g (parts vs) true e r s kept none =
     let bytes : Holds w.memory (stored g (tuple_of types) (parts vs) (place_of g 0) 1 0) =
     subst (λ b. Holds w.memory (if b then stored g (tuple_of types) (parts vs) (place_of g 0) 1 0 else behind g (tuple_of types) (parts vs) 0 0)) e r.bytes in
     let puts : SlotsHold slots (put 0 (place_of g 0)) =
     subst (λ b. SlotsHold slots (if b then put 0 (place_of g 0) else slots_of g (tuple_of types) (parts vs) 0 0 0)) e r.numbers.numbers in
     let area = element_part 1 (size_of (tuple_of types)) (align_of (tuple_of types)) in
     let places : ArePlaced w.encoding (length w.memory) g 0 (area ∷ parts_in (tuple_of types) (parts vs)) =
-    subst (λ b. ArePlaced w.encoding (length w.memory) g 0 (if b then area ∷ parts_in (tuple_of types) (parts vs) else parts_in (tuple_of types) (parts vs))) e s.places in
+    subst (λ b. ArePlaced w.encoding (length w.memory) g 0 (if b then area ∷ parts_in (tuple_of types) (parts vs) else parts_in (tuple_of types) (parts vs))) e r.placed in
     let at : wrapped_at 4 slots 0 ≡ place_of g 0 = wrapped 4 (place_of g 0) slots 0 puts.0 (omega (arith, places.0.inside, s.memory)) in
     inr (record {
       spilled = ltb-true _ _ e;
@@ -464,26 +470,62 @@ denoted_by w way types slots g (parts vs) true e r s none =
       inside = omega (arith, at, places.0.inside);
       shown =
           rw at
-          (fields_shown w g s.memory s.stores r.stored_in s.table types s.spellable vs (place_of g 0) 0 1 0 r.typed s.cases
+          (fields_shown w g s.memory kept r.stored_in s.table types s.spellable vs (place_of g 0) 0 1 0 r.typed s.cases
           (record { held = bytes; placed = places.1; stand = r.handles; none = none }));
     })
-denoted_by w way types slots g (parts vs) false e r s none =
+denoted_by w way types slots g (parts vs) false e r s kept none =
     let bytes : Holds w.memory (behind g (tuple_of types) (parts vs) 0 0) =
     subst (λ b. Holds w.memory (if b then stored g (tuple_of types) (parts vs) (place_of g 0) 1 0 else behind g (tuple_of types) (parts vs) 0 0)) e r.bytes in
     let puts : SlotsHold slots (slots_of g (tuple_of types) (parts vs) 0 0 0) =
     subst (λ b. SlotsHold slots (if b then put 0 (place_of g 0) else slots_of g (tuple_of types) (parts vs) 0 0 0)) e r.numbers.numbers in
     let area = element_part 1 (size_of (tuple_of types)) (align_of (tuple_of types)) in
     let places : ArePlaced w.encoding (length w.memory) g 0 (parts_in (tuple_of types) (parts vs)) =
-    subst (λ b. ArePlaced w.encoding (length w.memory) g 0 (if b then area ∷ parts_in (tuple_of types) (parts vs) else parts_in (tuple_of types) (parts vs))) e s.places in
+    subst (λ b. ArePlaced w.encoding (length w.memory) g 0 (if b then area ∷ parts_in (tuple_of types) (parts vs) else parts_in (tuple_of types) (parts vs))) e r.placed in
     inl (record {
       fits = ltb-false _ _ e;
       shown =
-          flat_fields_shown w g s.memory s.stores r.stored_in s.table slots types s.spellable vs 0 0 0 r.typed s.cases
+          flat_fields_shown w g s.memory kept r.stored_in s.table slots types s.spellable vs 0 0 0 r.typed s.cases
           (puts, record { held = bytes; placed = places; stand = r.handles; none = none });
     })
-denoted_by w way types slots g v spilled e r s none = absurd r.typed
+denoted_by w way types slots g v spilled e r s kept none = absurd r.typed
+
+-- strings may be stored in an encoding, or it stores them as UTF-16
+stored_or_tagged : (e : StringEncoding) → IsStored e ⊎ (stored_charset e ≡ utf16)
+stored_or_tagged encoding.Utf8 = inl tt
+stored_or_tagged encoding.Utf16 = inl tt
+stored_or_tagged encoding.Latin1OrUtf16 = inr refl
+
+none_alike : (w : View) (e : StringEncoding) (leaves : List HandleLeaf) → NoneImplemented w leaves → NoneImplemented (read_as w e) leaves
+none_alike w e [] none = tt
+none_alike w e (owned_leaf h ∷ leaves) none = none_alike w e leaves none
+none_alike w e (borrowed_leaf h ∷ leaves) none = (none.0, none_alike w e leaves none.1)
+
+-- without strings, by the view that reads them in UTF-16
+denoted_without : (w : View) (way : Way) (types : Fields) (slots : List CoreValue) (g : Given) (v : Val) → stored_charset w.encoding ≡ utf16 → HaveNoString types
+    → Receives w way types slots g v → Serves w way types g v → NoneImplemented w (leaves_in (tuple_of types) v)
+    → Denotes w way types slots v
+denoted_without w way types slots g v tagged no_string r s none =
+    let u : View = read_as w encoding.Utf16 in
+    let later : IsLater w u (call_bytes g way types v) = record {
+      instance_is = refl;
+      call_is = refl;
+      stored_alike = tagged;
+      longer = omega arith;
+      stand = r.bytes;
+      unlent = λ index h at free. at;
+    } in
+    let serves : Serves u way types g v = record { stores = inl tt; memory = s.memory; table = s.table; spellable = s.spellable; cases = s.cases } in
+    denoted_alike w encoding.Utf16 way types slots v no_string
+    (denoted_by u way types slots g v (is_spilled way types) refl (received_stays w u way types slots g v r later) serves tt
+    (none_alike w encoding.Utf16 (leaves_in (tuple_of types) v) none))
 
 pub denoted : (w : View) (way : Way) (types : Fields) (slots : List CoreValue) (g : Given) (v : Val)
     → Receives w way types slots g v → Serves w way types g v → NoneImplemented w (leaves_in (tuple_of types) v)
     → Denotes w way types slots v
-denoted w way types slots g v = denoted_by w way types slots g v (is_spilled way types) refl
+denoted w way types slots g v r s none = elim s.stores [
+  | inl kept ↦ denoted_by w way types slots g v (is_spilled way types) refl r s kept none
+  | inr no_string ↦ elim (stored_or_tagged w.encoding) [
+    | inl kept ↦ denoted_by w way types slots g v (is_spilled way types) refl r s kept none
+    | inr tagged ↦ denoted_without w way types slots g v tagged no_string r s none
+  ]
+]

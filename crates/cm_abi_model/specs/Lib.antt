@@ -18,3 +18,4 @@ pub mod Leaves
 pub mod PartPlaces
 pub mod Passed
 pub mod Strings
+pub mod Later

@@ -20,10 +20,11 @@ use Rattle.cm_layout.specs.Sizes.{size_of}
 use Rattle.cm_layout.specs.Flattening.{flat_of_fields}
 use Rattle.cm_abi_model.specs.Views.{View, Way, implements}
 use Rattle.cm_abi_model.specs.FlatShows.{width_of}
+use Rattle.cm_abi_model.specs.Denotes.{Denotes}
 use Rattle.cm_abi_model.specs.Parts.{part_count, handle_count, CasesFit}
 use Rattle.cm_abi_model.specs.Requests.{text_bytes, text_units, stored_charset}
-use Rattle.cm_abi_model.specs.Requests.{IsStored, call_parts}
-use Rattle.cm_abi_model.specs.Regions.{ArePlaced}
+use Rattle.cm_abi_model.specs.Requests.{CanStore, call_parts}
+use Rattle.cm_abi_model.specs.Regions.{AreApart, ArePlaced}
 use Rattle.cm_types.specs.Spellable.{are_spellable}
 use Rattle.cm_abi_model.specs.Requests.{is_spilled, tuple_of}
 use Rattle.cm_abi_model.specs.Stores.{Placed, Given, place_of, number_of, Holds, placed}
@@ -201,23 +202,32 @@ abbrev pub call_numbers : Given → Way → Fields → Val → List Placed
 call_numbers g way types v =
     if is_spilled way types then put 0 (place_of g 0) else slots_of g (tuple_of types) v 0 0 0
 
+-- A call passes a value in a view: its core values are as many as pass the types, each of its kind,
+-- and denote the value.
+pub record Passes (w : View) (way : Way) (types : Fields) (slots : List CoreValue) (v : Val)
+    : Type 0 where
+  pub of_kinds : map kind_of slots ≡ call_kinds way types
+  pub denoted : Denotes w way types slots v
+
 -- In a view the core values are the least that denote a value, with every part of it at the place
--- that was given for it, and with its handles in the table.
+-- that was given for it, aligned and inside the memory, no two of them with an address in common,
+-- and with its handles in the table.
 pub record Receives (w : View) (way : Way) (types : Fields) (slots : List CoreValue) (g : Given)
     (v : Val) : Type 0 where
   pub typed : HasType (tuple_of types) v
   pub stored_in : g.charset ≡ stored_charset w.encoding
   pub numbers : AreNumbers (call_kinds way types) slots (call_numbers g way types v)
+  pub placed : ArePlaced w.encoding (length w.memory) g 0 (call_parts way types v)
+  pub apart : AreApart w.encoding g 0 (call_parts way types v)
   pub bytes : Holds w.memory (call_bytes g way types v)
   pub handles : AllStand w g 0 (leaves_in (tuple_of types) v)
 
--- What is given for a lowering serves it: the receiver stores strings in its encoding, its memory
--- is counted in 32 bits, its table is sound, the types can be spelled, the value's cases are
--- counted in 32 bits, and every part has a place in the memory.
+-- A receiver can read back what it is given: strings of these types may be stored in its encoding,
+-- its memory is counted in 32 bits, its table is sound, the types can be spelled, and the value's
+-- cases are counted in 32 bits.
 pub record Serves (w : View) (way : Way) (types : Fields) (g : Given) (v : Val) : Type 0 where
-  pub stores : IsStored w.encoding
+  pub stores : CanStore w.encoding types
   pub memory : length w.memory < 2 ^ 32
   pub table : IsSoundHandles w.table
   pub spellable : are_spellable types ≡ true
   pub cases : CasesFit v
-  pub places : ArePlaced w.encoding (length w.memory) g 0 (call_parts way types v)

@@ -1,10 +1,11 @@
 -- The memory that a lowering asks for (CanonicalABI.md, "Storing" of lists and strings; that all of
 -- it is asked for before anything is stored, in reading order and in these sizes, is this project's
 -- own choice).
-use Rattle.std.specs.Prelude.{ℕ, ◌*◌, ◌/◌, ⊤, Bool, true, false, List, [], ◌∷◌, ◌++◌}
+use Rattle.std.specs.Prelude.{ℕ, ◌*◌, ◌/◌, ◌⊎◌, ⊤, Bool, true, false, List, [], ◌∷◌, ◌++◌}
 use Rattle.std.specs.Prelude.{length, nat_lt, if◌then◌else◌}
 use Rattle.std.specs.List.{AllByRecursion, flat_map}
-use Rattle.cm_types.specs.Types.{Ty, Fields, fields, tuple_type}
+use Rattle.cm_types.specs.Types.{Ty, Fields, Cases, string, list, fixed_list, fields, cases}
+use Rattle.cm_types.specs.Types.{no_fields, field, no_cases, plain, carrying, tuple_type}
 use Rattle.cm_types.specs.Values.{Val}
 use Rattle.cm_layout.specs.Sizes.{align_of, size_of}
 use Rattle.cm_layout.specs.Flattening.{flat_of_fields}
@@ -37,6 +38,30 @@ abbrev pub IsStored : StringEncoding → Type 0
 IsStored encoding.Utf8 = ⊤
 IsStored encoding.Utf16 = ⊤
 IsStored encoding.Latin1OrUtf16 = ⊥
+
+abbrev mutual
+  -- no string stands in a type
+  pub HasNoString : Ty → Type 0
+  HasNoString string = ⊥
+  HasNoString (list t) = HasNoString t
+  HasNoString (fixed_list t n) = HasNoString t
+  HasNoString (fields k fs) = HaveNoString fs
+  HasNoString (cases k cs) = CarryNoString cs
+  HasNoString t = ⊤
+
+  pub HaveNoString : Fields → Type 0
+  HaveNoString no_fields = ⊤
+  HaveNoString (field l t fs) = HasNoString t × HaveNoString fs
+
+  pub CarryNoString : Cases → Type 0
+  CarryNoString no_cases = ⊤
+  CarryNoString (plain l cs) = CarryNoString cs
+  CarryNoString (carrying l t cs) = HasNoString t × CarryNoString cs
+
+-- values of these types may be stored where strings are in this encoding: strings may be, or there
+-- are none
+abbrev pub CanStore : StringEncoding → Fields → Type 0
+CanStore target types = IsStored target ⊎ HaveNoString types
 
 -- the bytes of a string, and how many units it has
 abbrev pub text_bytes : Charset → List ℕ → List ℕ

@@ -1,19 +1,20 @@
 //! What holds of the definitions, as laws: each function here does nothing, and its contract is the
 //! law.
 
-ghost use Rattle.std.specs.Prelude.{◌≡◌, ◌↔◌, ℕ, List, length};
+ghost use Rattle.std.specs.Prelude.{◌≡◌, ◌↔◌, ◌≤◌, ℕ, List, [], length};
 ghost use Rattle.cm_types.specs.declared.core_value.CoreValue.{CoreValue};
 ghost use Rattle.cm_handles.specs.Handles.{Handles};
 ghost use Rattle.cm_types.specs.Types.{Fields, Ty};
 ghost use Rattle.cm_types.specs.Values.{HasType, Val};
 ghost use Rattle.cm_abi_model.specs.Denotes.{Denotes};
+ghost use Rattle.cm_abi_model.specs.Later.{IsLater};
 ghost use Rattle.cm_abi_model.specs.Receives.{NoneImplemented, Receives, Serves};
 ghost use Rattle.cm_abi_model.specs.Receives.{call_bytes, leaves_in};
 ghost use Rattle.cm_abi_model.specs.Parts.{Part};
 ghost use Rattle.cm_abi_model.specs.Regions.{AllAt, AreApart, ArePlaced, IsInPart, part_size};
-ghost use Rattle.cm_abi_model.specs.Requests.{HasScalars, IsStored, last_size, part_sizes};
+ghost use Rattle.cm_abi_model.specs.Requests.{HasScalars, last_size, part_sizes};
 ghost use Rattle.cm_abi_model.specs.Requests.{call_parts, stored_charset, tuple_of};
-ghost use Rattle.cm_abi_model.specs.Taken.{AllThere, CanGo, GoesInTurn, Met};
+ghost use Rattle.cm_abi_model.specs.Taken.{AllThere, CanGo, GoesInTurn, Met, Transferable, met};
 ghost use Rattle.cm_abi_model.specs.Texts.{Charset};
 ghost use Rattle.cm_abi_model.specs.declared.encoding.StringEncoding.{StringEncoding};
 ghost use Rattle.cm_abi_model.specs.Shows.{Shows};
@@ -44,10 +45,27 @@ pub fn what_is_received_is_denoted()
         → NoneImplemented w (leaves_in (tuple_of types) v) → Denotes w way types slots v }
 {}
 
+/// What a receiver has of a value it still has while the value's bytes stand: its memory may grow,
+/// lends may end, and handles may come and go beside those of the value.
+pub fn what_is_received_stays()
+    ensures { (w u : View) (way : Way) (types : Fields) (slots : List CoreValue) (g : Given)
+        (v : Val) → Receives w way types slots g v → IsLater w u (call_bytes g way types v)
+        → Receives u way types slots g v }
+{}
+
+/// Encodings in which strings are stored alike place parts alike: what is aligned and inside a
+/// memory by one of them is so by the other, also in a longer memory, and what is apart is apart.
+pub fn places_are_read_alike()
+    ensures placed { (e f : StringEncoding) (n m : ℕ) (g : Given) (k : ℕ) (parts : List Part)
+        → stored_charset e ≡ stored_charset f → n ≤ m → ArePlaced e n g k parts
+        → ArePlaced f m g k parts }
+    ensures apart { (e f : StringEncoding) (g : Given) (k : ℕ) (parts : List Part)
+        → stored_charset e ≡ stored_charset f → AreApart e g k parts → AreApart f g k parts }
+{}
+
 /// The last size that is asked for a part is the size that it takes where it is stored.
 pub fn requests_end_exact()
-    ensures { (source : Charset) (target : StringEncoding) (part : Part) → IsStored target
-        → HasScalars source part
+    ensures { (source : Charset) (target : StringEncoding) (part : Part) → HasScalars source part
         → last_size (part_sizes source (stored_charset target) part) ≡ part_size target part }
 {}
 
@@ -68,6 +86,17 @@ pub fn what_is_stored_stays()
         → AreApart target g 0 (call_parts way types v)
         → Holds (poke (call_bytes g way types v) memory) (call_bytes g way types v)
         × Framed memory (poke (call_bytes g way types v) memory) (call_bytes g way types v) }
+{}
+
+/// A value with no part and no handle takes nothing from its giver: nothing is met in it, so it can
+/// always be handed over.
+pub fn nothing_is_met_without_parts()
+    ensures met { (w : View) (way : Way) (types : Fields) (slots : List CoreValue) (v : Val)
+        → call_parts way types v ≡ [] → leaves_in (tuple_of types) v ≡ []
+        → met w way types slots v ≡ [] }
+    ensures goes { (w : View) (way : Way) (types : Fields) (slots : List CoreValue) (v : Val)
+        → call_parts way types v ≡ [] → leaves_in (tuple_of types) v ≡ []
+        → Transferable w way types slots v }
 {}
 
 /// Where each handle that is met stands, all can be handed over exactly where one thing after

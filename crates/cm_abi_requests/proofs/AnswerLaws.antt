@@ -108,7 +108,7 @@ at_front (x ∷ xs) ys (suc k) a h = at_front xs ys k a h
 
 -- the last size that is asked for a part is its size
 abbrev Exact : Type 0
-Exact = (s : Charset) (t : StringEncoding) (p : Part) → IsStored t → HasScalars s p → last_size (part_sizes s (stored_charset t) p) ≡ part_size t p
+Exact = (s : Charset) (t : StringEncoding) (p : Part) → HasScalars s p → last_size (part_sizes s (stored_charset t) p) ≡ part_size t p
 
 -- the answers for the first part, and for the others
 record FirstAnswered (n align size : ℕ) (rest : List Request) (requests : List Request) (answers places : List ℕ) (k : ℕ) : Type 0 where
@@ -121,17 +121,17 @@ record FirstAnswered (n align size : ℕ) (rest : List Request) (requests : List
   pub later : drop (k + 1) places ≡ places_of rest behind
 
 first_part : Exact → (source target : StringEncoding) (tags : List Bool) (p : Part) (ps : List Part) (answers places : List ℕ) (n k : ℕ)
-    → IsStored target → HasScalars (charset source (first_tag tags)) p
+    → HasScalars (charset source (first_tag tags)) p
     → length answers ≡ length (part_requests source target tags (p ∷ ps))
     → drop k places ≡ places_of (part_requests source target tags (p ∷ ps)) answers
     → FirstAnswered n (part_align target p) (part_size target p) (part_requests source target (tags_behind p tags) ps) (part_requests source target tags (p ∷ ps)) answers places k
-first_part exact source target tags p ps answers places n k stored has len is =
+first_part exact source target tags p ps answers places n k has len is =
     let some = sizes_some (charset source (first_tag tags)) (stored_charset target) p in
     let rest = part_requests source target (tags_behind p tags) ps in
     let first_is : chain (part_align target p) (part_sizes (charset source (first_tag tags)) (stored_charset target) p) ≡ chain (part_align target p) (some.0 ∷ some.1.0) = ap (λ ss. chain (part_align target p) ss) some.1.1 in
     let one = one_part n (part_align target p) (record { chained = false; old_size = 0; align = part_align target p; size = some.0 }) some.1.0 rest answers refl
     (starts source target (tags_behind p tags) ps) (len ∙ ap (λ c. length (c ++ rest)) first_is) in
-    let size_is : last_size (some.0 ∷ some.1.0) ≡ part_size target p = ap last_size (sym some.1.1) ∙ exact (charset source (first_tag tags)) target p stored has in
+    let size_is : last_size (some.0 ∷ some.1.0) ≡ part_size target p = ap last_size (sym some.1.1) ∙ exact (charset source (first_tag tags)) target p has in
     let regions_are : regions_of (part_requests source target tags (p ∷ ps)) answers ≡ record { at = one.at; size = part_size target p } ∷ regions_of rest one.behind =
     ap (λ c. regions_of (c ++ rest) answers) first_is ∙ (one.are ∙ ap (λ size. record { at = one.at; size = size } ∷ regions_of rest one.behind) size_is) in
     let front = at_front places _ k one.at (is ∙ ap (λ rs. map (λ (r : Region). r.at) rs) regions_are) in
@@ -146,18 +146,18 @@ first_part exact source target tags p ps answers places n k stored has len is =
     }
 
 pub parts_placed : Exact → (source target : StringEncoding) (tags : List Bool) (parts : List Part) (answers : List ℕ) (n k : ℕ) (g : Given)
-    → IsStored target → HaveScalars source tags parts → AreCounted parts
+    → HaveScalars source tags parts → AreCounted parts
     → length answers ≡ length (part_requests source target tags parts)
     → first_fault n (part_requests source target tags parts) answers ≡ None
     → drop k g.places ≡ places_of (part_requests source target tags parts) answers
     → ArePlaced target n g k parts
-parts_placed exact source target tags [] answers n k g stored has counted len ok is = tt
-parts_placed exact source target tags (p ∷ ps) answers n k g stored has counted len ok is =
-    let one = first_part exact source target tags p ps answers g.places n k stored has.0 len is in
+parts_placed exact source target tags [] answers n k g has counted len ok is = tt
+parts_placed exact source target tags (p ∷ ps) answers n k g has counted len ok is =
+    let one = first_part exact source target tags p ps answers g.places n k has.0 len is in
     let good = one.fine ok in
     let fine = fine_is n (part_align target p) (part_size target p) one.at good.0 in (
       subst (λ at. IsPlaced target n at p) (sym one.here) (record { aligned = fine.0; inside = fine.1; counted = counted.0 }),
-      parts_placed exact source target (tags_behind p tags) ps one.behind n (k + 1) g stored has.1 counted.1 one.counted good.1 one.later,
+      parts_placed exact source target (tags_behind p tags) ps one.behind n (k + 1) g has.1 counted.1 one.counted good.1 one.later,
     )
 
 -- ---- regions
@@ -168,14 +168,14 @@ regions_at target g k [] = []
 regions_at target g k (p ∷ ps) = record { at = place_of g k; size = part_size target p } ∷ regions_at target g (k + 1) ps
 
 regions_are : Exact → (source target : StringEncoding) (tags : List Bool) (parts : List Part) (answers : List ℕ) (k : ℕ) (g : Given)
-    → IsStored target → HaveScalars source tags parts
+    → HaveScalars source tags parts
     → length answers ≡ length (part_requests source target tags parts)
     → drop k g.places ≡ places_of (part_requests source target tags parts) answers
     → regions_of (part_requests source target tags parts) answers ≡ regions_at target g k parts
-regions_are exact source target tags [] answers k g stored has len is = refl
-regions_are exact source target tags (p ∷ ps) answers k g stored has len is =
-    let one = first_part exact source target tags p ps answers g.places 0 k stored has.0 len is in
-    let rest = regions_are exact source target (tags_behind p tags) ps one.behind (k + 1) g stored has.1 one.counted one.later in
+regions_are exact source target tags [] answers k g has len is = refl
+regions_are exact source target tags (p ∷ ps) answers k g has len is =
+    let one = first_part exact source target tags p ps answers g.places 0 k has.0 len is in
+    let rest = regions_are exact source target (tags_behind p tags) ps one.behind (k + 1) g has.1 one.counted one.later in
     one.are ∙ (ap (λ at. record { at = at; size = part_size target p } ∷ regions_of (part_requests source target (tags_behind p tags) ps) one.behind) (sym one.here)
     ∙ ap (λ rs. record { at = place_of g k; size = part_size target p } ∷ rs) rest)
 
@@ -196,10 +196,10 @@ apart_to target g k [] h = tt
 apart_to target g k (p ∷ ps) h = ((λ a here later. h.0 a here (in_part target g (k + 1) ps a later)), apart_to target g (k + 1) ps h.1)
 
 pub parts_apart : Exact → (source target : StringEncoding) (tags : List Bool) (parts : List Part) (answers : List ℕ) (g : Given)
-    → IsStored target → HaveScalars source tags parts
+    → HaveScalars source tags parts
     → length answers ≡ length (part_requests source target tags parts)
     → g.places ≡ places_of (part_requests source target tags parts) answers
     → AreDisjoint (regions_of (part_requests source target tags parts) answers) ↔ AreApart target g 0 parts
-parts_apart exact source target tags parts answers g stored has len is =
-    let are = regions_are exact source target tags parts answers 0 g stored has len is in
+parts_apart exact source target tags parts answers g has len is =
+    let are = regions_are exact source target tags parts answers 0 g has len is in
     ((λ h. apart_from target g 0 parts (subst AreDisjoint are h)), (λ h. subst AreDisjoint (sym are) (apart_to target g 0 parts h)))

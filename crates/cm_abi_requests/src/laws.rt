@@ -28,14 +28,14 @@ use cm_abi_model::laws::requests_end_exact;
 /// memory as a whole; and the regions are disjoint exactly where the parts are apart.
 pub fn answers_place_parts()
     ensures placed { (source target : StringEncoding) (tags : List Bool) (parts : List Part)
-        (answers : List ℕ) (memory_length : ℕ) (g : Given) → IsStored target
+        (answers : List ℕ) (memory_length : ℕ) (g : Given)
         → HaveScalars source tags parts → AreCounted parts
         → length answers ≡ length (part_requests source target tags parts)
         → first_fault memory_length (part_requests source target tags parts) answers ≡ None
         → g.places ≡ places_of (part_requests source target tags parts) answers
         → ArePlaced target memory_length g 0 parts }
     ensures apart { (source target : StringEncoding) (tags : List Bool) (parts : List Part)
-        (answers : List ℕ) (g : Given) → IsStored target → HaveScalars source tags parts
+        (answers : List ℕ) (g : Given) → HaveScalars source tags parts
         → length answers ≡ length (part_requests source target tags parts)
         → g.places ≡ places_of (part_requests source target tags parts) answers
         → AreDisjoint (regions_of (part_requests source target tags parts) answers)

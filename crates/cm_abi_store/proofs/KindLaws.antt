@@ -16,7 +16,7 @@ use Rattle.cm_abi_model.specs.FlatShows.{width_of}
 use Rattle.cm_abi_model.specs.Parts.{AllCasesFit, CasesFit, element_part, handle_count, part_count, parts_each, parts_in, parts_in_fields, parts_in_payload}
 use Rattle.cm_abi_model.specs.Receives.{Serves, call_kinds, call_numbers, put, slot_bytes, slots_of, slots_of_fields, slots_of_payload}
 use Rattle.cm_abi_model.specs.Regions.{ArePlaced}
-use Rattle.cm_abi_model.specs.Requests.{is_spilled, stored_charset, text_bytes, text_units, tuple_of}
+use Rattle.cm_abi_model.specs.Requests.{call_parts, is_spilled, stored_charset, text_bytes, text_units, tuple_of}
 use Rattle.cm_abi_model.specs.Stores.{Given, Placed, from_signed, number_of, place_of, poke, store_each}
 use Rattle.cm_abi_model.specs.Texts.{Charset, latin1, utf16, utf8}
 use Rattle.cm_abi_model.specs.Views.{View, Way}
@@ -156,8 +156,9 @@ poke_fits B [] m fit all = all
 poke_fits B (x ∷ xs) m fit all = poke_fits B xs (slice_set m x.0 x.1) fit.1 (set_fits B m x.0 x.1 fit.0 all)
 
 pub call_fits : (w : View) (way : Way) (types : Fields) (g : Given) (v : Val) (slots : List ℕ) → HasType (tuple_of types) v → g.charset ≡ stored_charset w.encoding → Serves w way types g v
+    → ArePlaced w.encoding (length w.memory) g 0 (call_parts way types v)
     → ((k : ℕ) → place_of g k < 2 ^ 32) → ((h : ℕ) → number_of g h < 2 ^ 32) → FitKinds (call_kinds way types) slots → FitKinds (call_kinds way types) (poke (call_numbers g way types v) slots)
-call_fits w way types g v slots typed is s places numbers all = poke_fits (slot_limit (call_kinds way types)) (call_numbers g way types v) slots (one (is_spilled way types) s.places) all
+call_fits w way types g v slots typed is s stand places numbers all = poke_fits (slot_limit (call_kinds way types)) (call_numbers g way types v) slots (one (is_spilled way types) stand) all
   where
     one : (b : Bool) → ArePlaced w.encoding (length w.memory) g 0 (if b then element_part 1 (size_of (tuple_of types)) (align_of (tuple_of types)) ∷ parts_in (tuple_of types) v else parts_in (tuple_of types) v)
         → AllFit (slot_limit (if b then kind.I32 ∷ [] else flat_of_fields types)) (if b then put 0 (place_of g 0) else slots_of g (tuple_of types) v 0 0 0)

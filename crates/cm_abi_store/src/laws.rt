@@ -10,7 +10,7 @@ ghost use Rattle.cm_abi_model.specs.Parts.{handle_count, part_count, parts_in};
 ghost use Rattle.cm_abi_model.specs.Receives.{Serves, behind, call_bytes, call_kinds};
 ghost use Rattle.cm_abi_model.specs.Receives.{call_numbers, put, slots_of};
 ghost use Rattle.cm_abi_model.specs.Regions.{ArePlaced};
-ghost use Rattle.cm_abi_model.specs.Requests.{stored_charset, tuple_of};
+ghost use Rattle.cm_abi_model.specs.Requests.{call_parts, stored_charset, tuple_of};
 ghost use Rattle.cm_abi_model.specs.Stores.{Framed, Given, Holds, number_of, place_of};
 ghost use Rattle.cm_abi_model.specs.Stores.{poke, stored};
 ghost use Rattle.cm_abi_model.specs.Views.{View, Way, flat_limit};
@@ -114,6 +114,7 @@ pub fn what_is_passed_fits()
     ensures { (w : View) (way : Way) (types : Fields) (g : Given) (v : Val) (slots : List ℕ)
         → HasType (tuple_of types) v → g.charset ≡ stored_charset w.encoding
         → Serves w way types g v
+        → ArePlaced w.encoding (length w.memory) g 0 (call_parts way types v)
         → ((k : ℕ) → place_of g k < 2 ^ 32) → ((h : ℕ) → number_of g h < 2 ^ 32)
         → FitKinds (call_kinds way types) slots
         → FitKinds (call_kinds way types) (poke (call_numbers g way types v) slots) }

@@ -62,13 +62,13 @@ returns-clause-received c = λ types w can view.
     let bytes = call_stored c.args.passing.now types c.args.to c.args.table.now.handles c.give_values.new.table.handles c.args.answers.now all _ c.args.memory.now c.store_call.new.memory is
     (c.store_call.ensures.stored (way_of c.args.passing.now.way) types c.flat_limit.ensures can.layout can.typed) in
     let clear = apart c.args.passing.now types c.args.to c.args.table.now.handles c.give_values.new.table.handles c.args.answers.now all c.deref.result.now c.answers_place_parts.ensures.apart seen (c.requires.answered types can) c.in_ok-places.ensures.apart in
-    let has = received c.args.passing.now types c.args.to c.args.table.now.handles c.give_values.new.table.handles c.args.answers.now all w put.0 c.args.memory.now c.store_call.new.memory c.put_core_values.new.values.items c.what_is_stored_stays.ensures view stand clear put.1
+    let has = received c.args.passing.now types c.args.to c.args.table.now.handles c.give_values.new.table.handles c.args.answers.now all w put.0 c.args.memory.now c.store_call.new.memory c.put_core_values.new.values.items c.what_is_stored_stays.ensures c.places_are_read_alike.ensures.placed c.places_are_read_alike.ensures.apart view stand clear put.1
     (subst (λ ns. Gives c.args.to c.args.table.now.handles c.give_values.new.table.handles (handles_passed c.args.passing.now types) ns) gives.numbers gives)
-    bytes c.put_core_values.ensures.kinds (c.put_core_values.ensures.numbers ∙ slots) in
+    c.store_call.ensures.stays bytes c.put_core_values.ensures.kinds (c.put_core_values.ensures.numbers ∙ slots) in
     has
 
 pub returns-clause-denoted : goal.returns-clause-denoted
-returns-clause-denoted c = λ types w can view none.
+returns-clause-denoted c = λ types w can view encoding none.
     let all = ready c.args.passing.now types c.what_is_typed_can_be_lowered.ensures.spelled c.what_is_typed_can_be_lowered.ensures.counted c.cases_fit.ensures can in
     let seen = c.deref.ensures.value ∙ c.in-Ok.ensures.requests types can.layout can.typed in
     let gives = c.in_ok-numbers.ensures.gives types can.layout can.typed in
@@ -83,11 +83,11 @@ returns-clause-denoted c = λ types w can view none.
     let bytes = call_stored c.args.passing.now types c.args.to c.args.table.now.handles c.give_values.new.table.handles c.args.answers.now all _ c.args.memory.now c.store_call.new.memory is
     (c.store_call.ensures.stored (way_of c.args.passing.now.way) types c.flat_limit.ensures can.layout can.typed) in
     let clear = apart c.args.passing.now types c.args.to c.args.table.now.handles c.give_values.new.table.handles c.args.answers.now all c.deref.result.now c.answers_place_parts.ensures.apart seen (c.requires.answered types can) c.in_ok-places.ensures.apart in
-    let has = received c.args.passing.now types c.args.to c.args.table.now.handles c.give_values.new.table.handles c.args.answers.now all w put.0 c.args.memory.now c.store_call.new.memory c.put_core_values.new.values.items c.what_is_stored_stays.ensures view stand clear put.1
+    let has = received c.args.passing.now types c.args.to c.args.table.now.handles c.give_values.new.table.handles c.args.answers.now all w put.0 c.args.memory.now c.store_call.new.memory c.put_core_values.new.values.items c.what_is_stored_stays.ensures c.places_are_read_alike.ensures.placed c.places_are_read_alike.ensures.apart view stand clear put.1
     (subst (λ ns. Gives c.args.to c.args.table.now.handles c.give_values.new.table.handles (handles_passed c.args.passing.now types) ns) gives.numbers gives)
-    bytes c.put_core_values.ensures.kinds (c.put_core_values.ensures.numbers ∙ slots) in
+    c.store_call.ensures.stays bytes c.put_core_values.ensures.kinds (c.put_core_values.ensures.numbers ∙ slots) in
     c.what_is_received_is_denoted.ensures w (way_of c.args.passing.now.way) types c.put_core_values.new.values.items _ _ has
-    (served c.args.passing.now types c.args.to c.args.table.now.handles c.give_values.new.table.handles c.args.answers.now all w c.args.memory.now c.store_call.new.memory c.requires.few view c.store_call.ensures.stays stand gives.sound) none
+    (served c.args.passing.now types c.args.to c.args.table.now.handles c.give_values.new.table.handles c.args.answers.now all w c.args.memory.now c.store_call.new.memory c.requires.few view encoding c.store_call.ensures.stays stand gives.sound) none
 
 pub returns-clause-framed : goal.returns-clause-framed
 returns-clause-framed c = λ types can.

@@ -170,13 +170,14 @@ returns-clause-received c = λ giver w answers types v can view.
     c.copy_call.ensures.stored types v on ∙ ap (λ g. poke (call_bytes g (way_of c.args.found.now.passed.way) types v) c.args.memory.now) is in
     let clear = settled.regions.0 (c.are_apart.ensures.answer.0 apart_is) in
     let stored = framed (length c.args.memory.now) (map kind_of c.args.slots.now) giver c.args.found.now c.args.requests.now answers types v c.args.to c.args.table.now.handles c.give.new.table.handles c.in-Ok.numbers.items can settled c.in-Ok.ensures.gives c.what_is_stored_stays.ensures c.args.memory.now c.copy_call.new.memory refl clear bytes in
-    let has = received (length c.args.memory.now) (map kind_of c.args.slots.now) giver c.args.found.now c.args.requests.now answers types v c.args.to c.args.table.now.handles c.give.new.table.handles c.in-Ok.numbers.items can settled c.in-Ok.ensures.gives w c.copy_call.new.memory c.put_numbers.new.slots view stored.0
+    let has = received (length c.args.memory.now) (map kind_of c.args.slots.now) giver c.args.found.now c.args.requests.now answers types v c.args.to c.args.table.now.handles c.give.new.table.handles c.in-Ok.numbers.items can settled c.in-Ok.ensures.gives c.places_are_read_alike.ensures.placed c.places_are_read_alike.ensures.apart w c.copy_call.new.memory c.put_numbers.new.slots view stored.0
     (are_numbers (length c.args.memory.now) (map kind_of c.args.slots.now) giver c.args.found.now c.args.requests.now answers types v c.args.to c.args.table.now.handles c.give.new.table.handles c.in-Ok.numbers.items can settled c.in-Ok.ensures.gives c.what_is_passed_stays.ensures (take (length c.args.slots.now) all_zeros) c.copy_call.new.slots c.put_numbers.new.slots (none_there (length c.args.slots.now)) long numbers c.put_numbers.ensures)
-    (gives (length c.args.memory.now) (map kind_of c.args.slots.now) giver c.args.found.now c.args.requests.now answers types v c.args.to c.args.table.now.handles c.give.new.table.handles c.in-Ok.numbers.items can settled c.in-Ok.ensures.gives) in
+    (gives (length c.args.memory.now) (map kind_of c.args.slots.now) giver c.args.found.now c.args.requests.now answers types v c.args.to c.args.table.now.handles c.give.new.table.handles c.in-Ok.numbers.items can settled c.in-Ok.ensures.gives)
+    c.copy_call.ensures.stays clear in
     has
 
 pub returns-clause-denoted : goal.returns-clause-denoted
-returns-clause-denoted c = λ giver w answers types v can view none.
+returns-clause-denoted c = λ giver w answers types v can view encoding none.
     let settled = c.what_can_be_copied_is_settled.ensures (length c.args.memory.now) (map kind_of c.args.slots.now) giver c.args.found.now c.args.requests.now answers types v c.are_bytes.ensures can in
     let from : Copier = record { memory = c.args.found.now.memory; encoding = c.are_apart.new.self.source; target = record { encoding = c.are_apart.new.self.target; places = c.deref-3.result; numbers = c.deref-4.result }; records = c.deref-5.result } in
     let same = c.are_apart.ensures.same in
@@ -202,11 +203,12 @@ returns-clause-denoted c = λ giver w answers types v can view none.
     c.copy_call.ensures.stored types v on ∙ ap (λ g. poke (call_bytes g (way_of c.args.found.now.passed.way) types v) c.args.memory.now) is in
     let clear = settled.regions.0 (c.are_apart.ensures.answer.0 apart_is) in
     let stored = framed (length c.args.memory.now) (map kind_of c.args.slots.now) giver c.args.found.now c.args.requests.now answers types v c.args.to c.args.table.now.handles c.give.new.table.handles c.in-Ok.numbers.items can settled c.in-Ok.ensures.gives c.what_is_stored_stays.ensures c.args.memory.now c.copy_call.new.memory refl clear bytes in
-    let has = received (length c.args.memory.now) (map kind_of c.args.slots.now) giver c.args.found.now c.args.requests.now answers types v c.args.to c.args.table.now.handles c.give.new.table.handles c.in-Ok.numbers.items can settled c.in-Ok.ensures.gives w c.copy_call.new.memory c.put_numbers.new.slots view stored.0
+    let has = received (length c.args.memory.now) (map kind_of c.args.slots.now) giver c.args.found.now c.args.requests.now answers types v c.args.to c.args.table.now.handles c.give.new.table.handles c.in-Ok.numbers.items can settled c.in-Ok.ensures.gives c.places_are_read_alike.ensures.placed c.places_are_read_alike.ensures.apart w c.copy_call.new.memory c.put_numbers.new.slots view stored.0
     (are_numbers (length c.args.memory.now) (map kind_of c.args.slots.now) giver c.args.found.now c.args.requests.now answers types v c.args.to c.args.table.now.handles c.give.new.table.handles c.in-Ok.numbers.items can settled c.in-Ok.ensures.gives c.what_is_passed_stays.ensures (take (length c.args.slots.now) all_zeros) c.copy_call.new.slots c.put_numbers.new.slots (none_there (length c.args.slots.now)) long numbers c.put_numbers.ensures)
-    (gives (length c.args.memory.now) (map kind_of c.args.slots.now) giver c.args.found.now c.args.requests.now answers types v c.args.to c.args.table.now.handles c.give.new.table.handles c.in-Ok.numbers.items can settled c.in-Ok.ensures.gives) in
+    (gives (length c.args.memory.now) (map kind_of c.args.slots.now) giver c.args.found.now c.args.requests.now answers types v c.args.to c.args.table.now.handles c.give.new.table.handles c.in-Ok.numbers.items can settled c.in-Ok.ensures.gives)
+    c.copy_call.ensures.stays clear in
     c.what_is_received_is_denoted.ensures w (way_of c.args.found.now.passed.way) types c.put_numbers.new.slots _ v has
-    (received_serves (length c.args.memory.now) (map kind_of c.args.slots.now) giver c.args.found.now c.args.requests.now answers types v c.args.to c.args.table.now.handles c.give.new.table.handles c.in-Ok.numbers.items can settled c.in-Ok.ensures.gives w c.args.memory.now c.copy_call.new.memory view c.copy_call.ensures.stays refl c.requires.few c.in-Ok.ensures.gives.sound) none
+    (received_serves (length c.args.memory.now) (map kind_of c.args.slots.now) giver c.args.found.now c.args.requests.now answers types v c.args.to c.args.table.now.handles c.give.new.table.handles c.in-Ok.numbers.items can settled c.in-Ok.ensures.gives w c.args.memory.now c.copy_call.new.memory view encoding c.copy_call.ensures.stays refl c.requires.few c.in-Ok.ensures.gives.sound) none
 
 pub returns-clause-framed : goal.returns-clause-framed
 returns-clause-framed c = λ giver answers types v can.
