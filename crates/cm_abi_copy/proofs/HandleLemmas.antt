@@ -1,15 +1,15 @@
 -- What is passed of a value, and stored behind it, tells of its handles no more than their numbers.
 use Rattle.std.proofs.Common.{◌≡◌, ℕ, zero, suc, ◌+◌, ◌%◌, ◌^◌, List, [], ◌++◌, ◌==◌, refl, sym, ap, ◌∙◌}
 use Rattle.std.specs.Prelude.{if◌then◌else◌}
-use Rattle.cm_types.specs.Values.{HandleValue, Val, Vals, no_vals, val, truth, signed_number, number, scalar, text, elements, parts, bare, bearing, flag_set, handle, count_of}
+use Rattle.cm_types.specs.Values.{HandleValue, Val, Vals, no_vals, val, truth, signed_number, number, scalar, text, elements, parts, bare, bearing, flag_set, handle}
 use Rattle.cm_layout.specs.declared.layouts.Leaf.{Leaf}
 use Rattle.cm_layout.specs.declared.layouts.Leaf.TheVariants as leaf
 use Rattle.cm_layout.specs.Shapes.{Shape, Parts, Payloads, leaf_shape, string_shape, list_shape, fixed_list_shape, fields_shape, cases_shape, handle_shape, no_parts, part, no_payloads, nothing, carried}
 use Rattle.cm_abi_model.specs.Parts.{handle_count, part_count}
 use Rattle.cm_abi_model.specs.Receives.{behind_each, put}
-use Rattle.cm_abi_model.specs.Stores.{Given, Placed, Storing, place_of, store_each}
+use Rattle.cm_abi_model.specs.Stores.{Given, Placed, place_of}
 use Rattle.cm_abi_store.specs.FlatLowering.{behind_by, behind_by_case, behind_by_fields, flat_number, slots_by, slots_by_case, slots_by_fields}
-use Rattle.cm_abi_store.specs.Storing.{number_in, stored_by}
+use Rattle.cm_abi_store.specs.Storing.{stored_by}
 use Rattle.cm_abi_copy.specs.Shown.{all_without_handles, some_handle, without_handles}
 use Rattle.cm_abi_copy.proofs.ReadLemmas.{same_count}
 use Rattle.cm_abi_copy.proofs.StoredLemmas.{each_stays, number_stays}

@@ -7,6 +7,7 @@ ghost use Rattle.cm_types.specs.Values.{Val};
 ghost use Rattle.cm_layout.specs.Layouts.{layout_of};
 ghost use Rattle.cm_layout.specs.Shapes.{layout_of_fields_at};
 ghost use Rattle.cm_abi_model.specs.Denotes.{Denotes};
+ghost use Rattle.cm_abi_model.specs.LiftStops.{LiftStops};
 ghost use Rattle.cm_abi_model.specs.Taken.{Transferable};
 ghost use Rattle.cm_abi_model.specs.Views.{View, flat_limit};
 ghost use Rattle.cm_abi_model.specs.Ways.{way_of};
@@ -24,7 +25,7 @@ use crate::handles_met;
 use crate::met_laws::handles_that_are_met_are_the_values;
 use crate::passed::scan_passed;
 use crate::scan_call_laws::records_tell_what_is_passed;
-use cm_abi_lift::laws::{lifting_is_exact, what_is_passed_is_met};
+use cm_abi_lift::laws::{first_faults_are_told, lifting_is_exact, what_is_passed_is_met};
 use cm_abi_lift::{PartRecord, Passed, Scan, Scanner, first_fault, hand_over};
 use cm_abi_load::{Giver, MetHandle, Progress, Stop};
 use cm_abi_lower::HandleLeaf;
@@ -85,24 +86,22 @@ pub fn scan(
         × (layout_of passed.now.layout.now ≡ layout_of_fields_at types) }
     requires few { length memory.now < 2 ^ 62 }
     requires lends { LendsBelow (2 ^ 100) table.old.handles }
-    ensures ok { IfOk result (λ s. (v : Val) × (tags : List Bool)
-        × (lift_of memory.now table.old.handles encodings.source (way_of passed.now.way)
-        (layout_of passed.now.layout.now) passed.now.slots.now
-        ≡ Ok (v, tags, scanned_with table.new.handles s))
-        × IsKept (giver_of memory.now table.old.handles encodings.source) encodings.target
-        (flat_limit (way_of passed.now.way)) (layout_of passed.now.layout.now) passed.now.slots.now
-        v s) }
-    ensures err { IfErr result (λ e. (e ≡ AbiFault.EngineMemory)
-        ⊎ (lift_of memory.now table.old.handles encodings.source (way_of passed.now.way)
-        (layout_of passed.now.layout.now) passed.now.slots.now ≡ Err e)) }
-    ensures nothing { KeepsNothing (giver_of memory.now table.old.handles encodings.source)
-        encodings.target (flat_limit (way_of passed.now.way)) (layout_of passed.now.layout.now)
-        passed.now.slots.now → IsOk result }
     ensures scans { (w : View) (types : Fields)
         → IsGivenBy w memory.now table.old.handles encodings.source
         → layout_of passed.now.layout.now ≡ layout_of_fields_at types
         → IfOk result (λ s. (v : Val) × ScansCall w encodings.target (way_of passed.now.way) types
-        passed.now.slots.now v table.new.handles s) }
+        passed.now.slots.now v table.new.handles s
+        × IsKept (giver_of memory.now table.old.handles encodings.source) encodings.target
+        (flat_limit (way_of passed.now.way)) (layout_of passed.now.layout.now) passed.now.slots.now
+        v s) }
+    ensures stops { (w : View) (types : Fields)
+        → IsGivenBy w memory.now table.old.handles encodings.source
+        → layout_of passed.now.layout.now ≡ layout_of_fields_at types
+        → IfErr result (λ e. (e ≡ AbiFault.EngineMemory)
+        ⊎ LiftStops w (way_of passed.now.way) types passed.now.slots.now e) }
+    ensures nothing { KeepsNothing (giver_of memory.now table.old.handles encodings.source)
+        encodings.target (flat_limit (way_of passed.now.way)) (layout_of passed.now.layout.now)
+        passed.now.slots.now → IsOk result }
     ensures only { (w : View) (types : Fields) (v : Val)
         → IsGivenBy w memory.now table.old.handles encodings.source
         → layout_of passed.now.layout.now ≡ layout_of_fields_at types
@@ -112,6 +111,7 @@ pub fn scan(
     ensures unchanged { OnErr result (table.new ≡ table.old) }
 {
     lifting_is_exact();
+    first_faults_are_told();
     records_tell_what_is_passed();
     scan_values(alloc, memory, table, encodings, passed)
 }

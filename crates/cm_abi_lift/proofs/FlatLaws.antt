@@ -56,7 +56,7 @@ moved {A} P x y s t e h =
     let same : paired x s ≡ paired y t = cc in
     subst (λ u. P u t) (ap (λ (z : A × State). z.0) same) (subst (P x) (ap (λ (z : A × State). z.1) same) h)
 
-bind_ok : {A B : Type 0} (r : Outcome A) (f : A × State → Outcome B) (y : B × State) → (r >>= f) ≡ Ok y → (x : A × State) × (r ≡ Ok x) × (f x ≡ Ok y)
+pub bind_ok : {A B : Type 0} (r : Outcome A) (f : A × State → Outcome B) (y : B × State) → (r >>= f) ≡ Ok y → (x : A × State) × (r ≡ Ok x) × (f x ≡ Ok y)
 bind_ok (Ok x) f y e = (x, refl, e)
 bind_ok (Err z) f y e = absurd (cc)
 
@@ -69,7 +69,7 @@ pub record Found {A : Type 0} (r : Outcome A) (v : A) : Type 0 where
   pub after : State
   pub is : r ≡ Ok (v, after)
 
-bind_found : {A B : Type 0} (r : Outcome A) (f : A × State → Outcome B) (x : A × State) (y : Outcome B) → r ≡ Ok x → f x ≡ y → (r >>= f) ≡ y
+pub bind_found : {A B : Type 0} (r : Outcome A) (f : A × State → Outcome B) (x : A × State) (y : Outcome B) → r ≡ Ok x → f x ≡ y → (r >>= f) ≡ y
 bind_found r f x y is there = ap (λ q. q >>= f) is ∙ there
 
 mapped_found : {A B : Type 0} (f : A → B) (r : Outcome A) (v : A) → Found r v → Found (mapped f r) (f v)
@@ -85,10 +85,10 @@ at_first b s k =
 at_second : (s : List CoreValue) (k : ℕ) → wrapped_at 4 (drop k s) 1 ≡ wrapped_at 4 s (k + 1)
 at_second s k = ap (λ v. slot_number v % 2 ^ 32) (get_or-drop k s 1 (core_value.I32 0))
 
-two_slots : {X : Type 0} (F : ℕ → ℕ → X) (s : List CoreValue) (k : ℕ) → F (wrapped_at 4 (drop k s) 0) (wrapped_at 4 (drop k s) 1) ≡ F (wrapped_at 4 s k) (wrapped_at 4 s (k + 1))
+pub two_slots : {X : Type 0} (F : ℕ → ℕ → X) (s : List CoreValue) (k : ℕ) → F (wrapped_at 4 (drop k s) 0) (wrapped_at 4 (drop k s) 1) ≡ F (wrapped_at 4 s k) (wrapped_at 4 s (k + 1))
 two_slots F s k = ap (λ n. F n (wrapped_at 4 (drop k s) 1)) (at_first 4 s k) ∙ ap (F (wrapped_at 4 s k)) (at_second s k)
 
-drop_twice : (w k : ℕ) (s : List CoreValue) → drop w (drop k s) ≡ drop (k + w) s
+pub drop_twice : (w k : ℕ) (s : List CoreValue) → drop w (drop k s) ≡ drop (k + w) s
 drop_twice w zero s = let same : w ≡ 0 + w = omega arith in ap (λ n. drop n s) same
 drop_twice w (suc k) [] = drop-nil w ∙ sym (drop-nil (suc k + w))
 drop_twice w (suc k) (x ∷ s) =
@@ -97,7 +97,7 @@ drop_twice w (suc k) (x ∷ s) =
 
 -- ---- lists of what is met
 
-content_both : (xs ys : List Met) → content_of (xs ++ ys) ≡ content_of xs + content_of ys
+pub content_both : (xs ys : List Met) → content_of (xs ++ ys) ≡ content_of xs + content_of ys
 content_both [] ys = let e : content_of ys ≡ 0 + content_of ys = omega arith in e
 content_both (text_content tags n ∷ xs) ys = let e : content_of (xs ++ ys) ≡ content_of xs + content_of ys = content_both xs ys in omega (arith, e)
 content_both (content n ∷ xs) ys = let e : content_of (xs ++ ys) ≡ content_of xs + content_of ys = content_both xs ys in omega (arith, e)
@@ -106,7 +106,7 @@ content_both (lent i ∷ xs) ys = content_both xs ys
 
 -- ---- chars
 
-scalar_true : (c : ℕ) → is_scalar_value c ≡ true → IsScalarValue c
+pub scalar_true : (c : ℕ) → is_scalar_value c ≡ true → IsScalarValue c
 scalar_true c e =
     let both = and_parts (nat_lt c 0x110000) _ e in
     (ltb-true c 0x110000 both.0, sides (or_cases (nat_lt c 0xD800) (nat_lt 0xDFFF c) both.1))
@@ -120,7 +120,7 @@ char_is : (P : Val → State → Type 0) (b : Bool) (c : ℕ) (s t : State) (v :
 char_is P true c s t v e h = moved P (scalar c) v s t e (h refl)
 char_is P false c s t v e h = absurd (cc)
 
-some_side : (c : ℕ) → IsScalarValue c → is_scalar_value c ≡ true
+pub some_side : (c : ℕ) → IsScalarValue c → is_scalar_value c ≡ true
 some_side c is = grind (arith, is)
 
 char_found : (c : ℕ) (s : State) → IsScalarValue c → (if is_scalar_value c then read_ok (scalar c) s else read_err fault.BadChar s) ≡ read_ok (scalar c) s

@@ -59,10 +59,10 @@ pub record Still (first : Handles) (index : ℕ) (h : Handle) : Type 0 where
 abbrev pub Kept : Handles → Handles → Type 0
 Kept first t = (i : ℕ) (h : Handle) → handle_at t i ≡ Some h → Still first i h
 
-kept_first : (t : Handles) → Kept t t
+pub kept_first : (t : Handles) → Kept t t
 kept_first t i h e = record { entry = h; stood = e; same = refl; more = omega arith }
 
-kept_released : (first t : Handles) (j : ℕ) → Kept first t → Kept first (after_release t j)
+pub kept_released : (first t : Handles) (j : ℕ) → Kept first t → Kept first (after_release t j)
 kept_released first t j kept i h e = elim (cases_eq i j) [
   | inl same ↦ absurd (none_is (sym (released t j) ∙ (ap (handle_at (after_release t j)) (sym same) ∙ e)))
   | inr other ↦ kept i h (sym (beside_released t j i other) ∙ e)
@@ -73,7 +73,7 @@ lent_still first i x h still e =
     let one : with_lends (x.lends + 1) x ≡ with_lends (x.lends + 1) still.entry = ap (with_lends (x.lends + 1)) still.same in
     subst (λ y. Still first i y) e (record { entry = still.entry; stood = still.stood; same = one; more = omega (arith, still.more) })
 
-kept_lent : (first t : Handles) (j : ℕ) (x : Handle) → handle_at t j ≡ Some x → Kept first t → Kept first (after_lend t j)
+pub kept_lent : (first t : Handles) (j : ℕ) (x : Handle) → handle_at t j ≡ Some x → Kept first t → Kept first (after_lend t j)
 kept_lent first t j x there kept i h e = elim (cases_eq i j) [
   | inl same ↦ lent_still first i x h (kept i x (ap (handle_at t) same ∙ there)) (some_is (sym (lent_there t j x there) ∙ (ap (handle_at (after_lend t j)) (sym same) ∙ e)))
   | inr other ↦ kept i h (sym (beside_lent t j i other) ∙ e)
@@ -89,7 +89,7 @@ found_of (Some x) r h e = picked (is_same_resource x.resource r) refl e
     picked true is k = let same : x ≡ h = cc in (ap Some same, ap (λ (y : Handle). is_same_resource y.resource r) (sym same) ∙ is)
     picked false is k = absurd (cc)
 
-looked : (o : Option Handle) (r : ResourceId) (h : Handle) → o ≡ Some h → is_same_resource h.resource r ≡ true → of_resource o r ≡ Ok h
+pub looked : (o : Option Handle) (r : ResourceId) (h : Handle) → o ≡ Some h → is_same_resource h.resource r ≡ true → of_resource o r ≡ Ok h
 looked o r h stands of = ap (λ p. of_resource p r) stands ∙ (rw of refl)
 
 abbrev found_ok : Handle → Result Handle HandleFault
@@ -156,10 +156,10 @@ one_borrow h r index g e =
     let found = found_of (handle_at h.table index) r out.0 out.1 in
     record { entry = out.0; stands = found.0; is = out.2 }
 
-eq_true : (a b : ℕ) → a ≡ b → (a == b) ≡ true
+pub eq_true : (a b : ℕ) → a ≡ b → (a == b) ≡ true
 eq_true a b e = grind (arith, e)
 
-same_true : (a b : ResourceId) → a ≡ b → is_same_resource a b ≡ true
+pub same_true : (a b : ResourceId) → a ≡ b → is_same_resource a b ≡ true
 same_true a b e = and_from (a.component == b.component) (a.number == b.number)
     (eq_true a.component b.component (ap (λ (r : ResourceId). r.component) e)) (eq_true a.number b.number (ap (λ (r : ResourceId). r.number) e))
 
@@ -221,7 +221,7 @@ one_over first h g (handle_type.Borrow r) index ms kept later e =
       lends = behind.lends ∙ append_assoc h.lends (index ∷ []) (lent_of (map met_as ms));
     }
 
-all_over : (first : Handles) (h g : Hands) (ms : List MetHandle) → Kept first h.table → hand_over h ms ≡ Ok g → HandsOver first h (map met_as ms) g
+pub all_over : (first : Handles) (h g : Hands) (ms : List MetHandle) → Kept first h.table → hand_over h ms ≡ Ok g → HandsOver first h (map met_as ms) g
 all_over first h g [] kept e =
     let same : h ≡ g = cc in
     subst (HandsOver first h []) same (record { goes = tt; table = refl; owns = sym (append-nil (map Some h.owns)); lends = sym (append-nil h.lends) })
@@ -247,7 +247,7 @@ one_goes first h (handle_type.Borrow r) index ms x kept stood of kind later go =
     let behind = later (lending h index) (kept_lent first h.table index y go.0.1 kept) go.1 in
     (behind.0, ap (λ r. hand_next r (λ k. hand_over k ms)) next ∙ behind.1)
 
-all_go : (first : Handles) (h : Hands) (ms : List MetHandle) → Kept first h.table → AreAsWanted first ms → GoesInTurn h.table 0 (map met_as ms) → (g : Hands) × (hand_over h ms ≡ Ok g)
+pub all_go : (first : Handles) (h : Hands) (ms : List MetHandle) → Kept first h.table → AreAsWanted first ms → GoesInTurn h.table 0 (map met_as ms) → (g : Hands) × (hand_over h ms ≡ Ok g)
 all_go first h [] kept wanted go = (h, refl)
 all_go first h (m ∷ ms) kept wanted go =
     one_goes first h m.wanted m.index ms wanted.0.entry kept wanted.0.stands wanted.0.of_resource wanted.0.of_kind (λ k keeps goes. all_go first k ms keeps wanted.1 goes) go
@@ -275,7 +275,7 @@ no_content (content n ∷ ms) = no_content ms
 no_content (taken i ∷ ms) = no_content ms
 no_content (lent i ∷ ms) = no_content ms
 
-after_handles : (t : Handles) (ms : List Met) → after_met t (handles_in ms) ≡ after_met t ms
+pub after_handles : (t : Handles) (ms : List Met) → after_met t (handles_in ms) ≡ after_met t ms
 after_handles t [] = refl
 after_handles t (text_content tags n ∷ ms) = after_handles t ms
 after_handles t (content n ∷ ms) = after_handles t ms
@@ -440,7 +440,7 @@ over_next : (r : Result Hands AbiFault) (xs ys : List MetHandle) → ((k : Hands
 over_next (Err e) xs ys later = refl
 over_next (Ok k) xs ys later = later k
 
-over_append : (h : Hands) (xs ys : List MetHandle) → hand_over h (xs ++ ys) ≡ hand_next (hand_over h xs) (λ k. hand_over k ys)
+pub over_append : (h : Hands) (xs ys : List MetHandle) → hand_over h (xs ++ ys) ≡ hand_next (hand_over h xs) (λ k. hand_over k ys)
 over_append h [] ys = refl
 over_append h (m ∷ xs) ys = over_next (hand_one h m.wanted m.index) xs ys (λ k. over_append k xs ys)
 

@@ -6,3 +6,8 @@ pub mod HandLaws
 pub mod PassedLaws
 pub mod SpilledLemmas
 pub mod TellLaws
+pub mod Ends
+pub mod PartStops
+pub mod FaultLaws
+pub mod PassedFaults
+pub mod StopNumbers

@@ -41,12 +41,12 @@ mapped_ok f (Err z) y e = absurd (cc)
 
 -- ---- a tuple at a pointer
 
-aligned : (align at : ℕ) → (at % align == 0) ≡ true → IsAligned align at
+pub aligned : (align at : ℕ) → (at % align == 0) ≡ true → IsAligned align at
 aligned align at e =
     let z : at % align ≡ 0 = eqb-true (at % align) 0 e in
     (at / align, omega (arith, div-add-mod at align, mul_comm align (at / align)))
 
-multiple : (align at : ℕ) → IsAligned align at → (at % align == 0) ≡ true
+pub multiple : (align at : ℕ) → IsAligned align at → (at % align == 0) ≡ true
 multiple align at is = ap (λ n. n % align == 0) is.1 ∙ ap (λ n. n == 0) (mul-mod_left is.0 align)
 
 tests : (a b : Bool) (x y : AbiFault × State) (r : Outcome Val) (v : Val × State) → (if not a then Err x else (if b then Err y else r)) ≡ Ok v → (a ≡ true) × (b ≡ false) × (r ≡ Ok v)
@@ -65,7 +65,7 @@ spilled_ok w l at s v e =
     let t = tests (at % l.head.align == 0) (nat_lt (length w.memory) (at + l.head.size)) _ _ (read_at w l.shape at s) v e in
     record { aligned = aligned l.head.align at t.0; inside = ltb-false (length w.memory) (at + l.head.size) t.1; read = t.2 }
 
-spilled_there : (w : Source) (l : LayoutTy) (at : ℕ) (s : State) (r : Outcome Val) → IsAligned l.head.align at → at + l.head.size ≤ length w.memory → read_at w l.shape at s ≡ r → read_spilled w l at s ≡ r
+pub spilled_there : (w : Source) (l : LayoutTy) (at : ℕ) (s : State) (r : Outcome Val) → IsAligned l.head.align at → at + l.head.size ≤ length w.memory → read_at w l.shape at s ≡ r → read_spilled w l at s ≡ r
 unfolding read_spilled
 spilled_there w l at s r is inside e = rw (multiple l.head.align at is, le-ltb (length w.memory) (at + l.head.size) inside) e
 

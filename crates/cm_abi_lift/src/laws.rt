@@ -1,11 +1,14 @@
 //! What lifting means, as laws: each function here does nothing, and its contract is the law.
 
-ghost use Rattle.std.specs.Prelude.{◌≡◌, Bool, List, Ok};
+ghost use Rattle.std.specs.Prelude.{◌≡◌, ◌↔◌, ◌⊎◌, ◌≤◌, Bool, List, Ok, Err};
 ghost use Rattle.cm_types.specs.declared.core_value.CoreValue.{CoreValue};
 ghost use Rattle.cm_types.specs.Types.{Fields};
 ghost use Rattle.cm_types.specs.Values.{Val};
 ghost use Rattle.cm_layout.specs.Shapes.{layout_of_fields_at};
+ghost use Rattle.cm_abi_model.specs.declared.fault.AbiFault.{AbiFault};
 ghost use Rattle.cm_abi_model.specs.Denotes.{Denotes};
+ghost use Rattle.cm_abi_model.specs.Faults.{abi_fault_number};
+ghost use Rattle.cm_abi_model.specs.LiftStops.{LiftStops};
 ghost use Rattle.cm_abi_model.specs.Taken.{Transferable, met};
 ghost use Rattle.cm_abi_model.specs.Views.{View, Way, flat_limit};
 ghost use Rattle.cm_abi_load.specs.Meeting.{Meets};
@@ -33,6 +36,32 @@ pub fn lifting_is_exact()
         → Denotes w way types slots v → Transferable w way types slots v
         → (tags : List Bool) × (h : Hands) × (lift_of w.memory w.table w.encoding way
         (layout_of_fields_at types) slots ≡ Ok (v, tags, h)) }
+{
+    what_is_read_is_shown();
+    what_is_shown_is_read();
+    parts_that_are_read_are_shown();
+    parts_that_are_shown_are_read();
+    handing_over_goes_in_turn();
+}
+
+/// Lifting comes to a fault exactly where the first thing in reading order that is wrong, in the
+/// words of the types, is that one. It is one alone, and one of the traps 4 to 13. Either core
+/// values denote a value that can be handed over, or lifting stops, and never both.
+pub fn first_faults_are_told()
+    ensures told { (w : View) (way : Way) (types : Fields) (slots : List CoreValue) (f : AbiFault)
+        → lift_of w.memory w.table w.encoding way (layout_of_fields_at types) slots ≡ Err f
+        ↔ LiftStops w way types slots f }
+    ensures one { (w : View) (way : Way) (types : Fields) (slots : List CoreValue)
+        (f g : AbiFault) → LiftStops w way types slots f → LiftStops w way types slots g → f ≡ g }
+    ensures beside_no_value { (w : View) (way : Way) (types : Fields) (slots : List CoreValue)
+        (f : AbiFault) (v : Val) → LiftStops w way types slots f → Denotes w way types slots v
+        → Transferable w way types slots v → ⊥ }
+    ensures number { (w : View) (way : Way) (types : Fields) (slots : List CoreValue)
+        (f : AbiFault) → LiftStops w way types slots f
+        → (4 ≤ abi_fault_number f) × (abi_fault_number f ≤ 13) }
+    ensures either { (w : View) (way : Way) (types : Fields) (slots : List CoreValue)
+        → ((v : Val) × Denotes w way types slots v × Transferable w way types slots v)
+        ⊎ ((f : AbiFault) × LiftStops w way types slots f) }
 {
     what_is_read_is_shown();
     what_is_shown_is_read();

@@ -8,6 +8,7 @@ ghost use Rattle.cm_layout.specs.Layouts.{layout_of};
 ghost use Rattle.cm_layout.specs.Shapes.{layout_of_fields_at};
 ghost use Rattle.cm_types.specs.ValueTrees.{value_of, values_of};
 ghost use Rattle.cm_abi_model.specs.Denotes.{Denotes};
+ghost use Rattle.cm_abi_model.specs.LiftStops.{LiftStops};
 ghost use Rattle.cm_abi_model.specs.Taken.{Transferable};
 ghost use Rattle.cm_abi_model.specs.Views.{View};
 ghost use Rattle.cm_abi_model.specs.Ways.{way_of};
@@ -16,7 +17,7 @@ ghost use Rattle.cm_abi_lift.specs.HandingOver.{LendsBelow, hand_over, handed, u
 ghost use Rattle.cm_abi_lift.specs.Lifts.{IsGivenBy, Lifts, handed_with, lift_of};
 
 use crate::handing::hand_over;
-use crate::laws::lifting_is_exact;
+use crate::laws::{first_faults_are_told, lifting_is_exact};
 use crate::passed::{Passed, read_passed};
 use cm_abi_load::{Giver, MetHandle, Progress, Stop};
 use cm_abi_model::{AbiFault, StringEncoding};
@@ -80,23 +81,17 @@ pub fn lift(
         × (layout_of passed.now.layout.now ≡ layout_of_fields_at types) }
     requires few { length memory.now < 2 ^ 62 }
     requires lends { LendsBelow (2 ^ 100) table.old.handles }
-    ensures ok { IfOk result (λ l.
-        lift_of memory.now table.old.handles encoding (way_of passed.now.way)
-        (layout_of passed.now.layout.now) passed.now.slots.now
-        ≡ Ok (
-          parts (values_of l.values.items),
-          l.tagged.items,
-          handed_with table.new.handles l,
-        )) }
-    ensures err { IfErr result (λ e. (e ≡ AbiFault.EngineMemory)
-        ⊎ (lift_of memory.now table.old.handles encoding (way_of passed.now.way)
-        (layout_of passed.now.layout.now) passed.now.slots.now ≡ Err e)) }
     ensures lifts { (w : View) (types : Fields)
         → IsGivenBy w memory.now table.old.handles encoding
         → layout_of passed.now.layout.now ≡ layout_of_fields_at types
         → IfOk result (λ l. Lifts w (way_of passed.now.way) types passed.now.slots.now
         (parts (values_of l.values.items)) l.tagged.items
         (handed_with table.new.handles l)) }
+    ensures stops { (w : View) (types : Fields)
+        → IsGivenBy w memory.now table.old.handles encoding
+        → layout_of passed.now.layout.now ≡ layout_of_fields_at types
+        → IfErr result (λ e. (e ≡ AbiFault.EngineMemory)
+        ⊎ LiftStops w (way_of passed.now.way) types passed.now.slots.now e) }
     ensures only { (w : View) (types : Fields) (v : Val)
         → IsGivenBy w memory.now table.old.handles encoding
         → layout_of passed.now.layout.now ≡ layout_of_fields_at types
@@ -106,10 +101,11 @@ pub fn lift(
     ensures unchanged { OnErr result (table.new ≡ table.old) }
 {
     lifting_is_exact();
+    first_faults_are_told();
     lift_values(alloc, memory, table, encoding, passed)
 }
 
-/// The same, of which more is known.
+/// The same, by the definition of lifting that goes from part to part.
 fn lift_values(
     alloc: Global,
     memory: &[u8],

@@ -12,6 +12,7 @@ pub mod Stores
 pub mod Regions
 pub mod Receives
 pub mod Taken
+pub mod LiftStops
 pub mod Asking
 pub mod Bytes
 pub mod Leaves
