@@ -1,6 +1,6 @@
 //! Rows on validation, and on what the indices of a valid component stand for.
 
-use crate::components::component;
+use crate::components::read_component;
 use cm_rows::{Line, NamedFiles, word, words_from};
 use cm_types_arena::Types;
 use cm_types_placed::{Extern, ExternDesc, Placed};
@@ -14,7 +14,7 @@ use std::alloc::Global;
 /// ITEM`.
 pub fn answer(alloc: Global, files: &NamedFiles, words: &[&str], line: &mut Line) {
     let question = word(words, 0);
-    let Some(component) = component(alloc, files, word(words, 1), line) else {
+    let Some(component) = read_component(alloc, files, word(words, 1), line) else {
         return;
     };
     match validate(alloc, &component) {
@@ -26,7 +26,7 @@ pub fn answer(alloc: Global, files: &NamedFiles, words: &[&str], line: &mut Line
 
 /// The answer to `valid SOURCE`, where words behind it say what the component is.
 pub fn valid_answer(alloc: Global, files: &NamedFiles, source: &str, line: &mut Line) {
-    if let Some(component) = component(alloc, files, source, line) {
+    if let Some(component) = read_component(alloc, files, source, line) {
         match validate(alloc, &component) {
             Ok(_) => line.put("valid"),
             Err(fault) => write_fault(line, &fault),

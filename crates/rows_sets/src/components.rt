@@ -5,7 +5,7 @@ use cm_rows::{Line, NamedFiles};
 use std::alloc::Global;
 
 /// The component of a source, which is to have one.
-pub fn component(
+pub fn read_component(
     alloc: Global,
     files: &NamedFiles,
     source: &str,
@@ -22,7 +22,7 @@ pub fn component(
 }
 
 /// The components of the sources, each of which is to have one.
-pub fn components(
+pub fn read_components(
     alloc: Global,
     files: &NamedFiles,
     sources: &[&str],
@@ -30,7 +30,7 @@ pub fn components(
 ) -> Vec<Component> {
     let mut components = Vec::new(alloc);
     for source in sources {
-        if let Some(component) = component(alloc, files, source, line) {
+        if let Some(component) = read_component(alloc, files, source, line) {
             line.push(&mut components, component);
         }
     }

@@ -2,7 +2,7 @@
 //! and resources come to. Nothing is kept between them.
 
 use crate::checks::keep_invalid;
-use crate::components::components;
+use crate::components::read_components;
 use cm_binary::Component;
 use cm_match::{LinkFault, LinkReason, Linked, PlanLine, link};
 use cm_rows::{Line, NamedFiles, word, words_from};
@@ -59,7 +59,7 @@ pub fn write_link_fault(line: &mut Line, fault: LinkFault) {
 
 /// Writes the plan of the set, or its fault.
 fn write_plan_of(alloc: Global, files: &NamedFiles, sources: &[&str], line: &mut Line) {
-    let components = components(alloc, files, sources, line);
+    let components = read_components(alloc, files, sources, line);
     match link_components(alloc, &components, line) {
         Ok(linked) if linked.plan().is_empty() => line.put("nothing"),
         Ok(linked) => write_plan(line, linked.plan()),
@@ -72,7 +72,7 @@ fn answer_on_item(alloc: Global, files: &NamedFiles, call: &str, words: &[&str],
     let component = line.number(word(words, 1));
     let number = word(words, 2);
     let behind = if call == "target" { 4 } else { 3 };
-    let components = components(alloc, files, words_from(words, behind), line);
+    let components = read_components(alloc, files, words_from(words, behind), line);
     let Ok(linked) = link_components(alloc, &components, line) else {
         return line.refuse();
     };

@@ -1,7 +1,7 @@
 //! Rows on links and runs, each of which acts on what the earlier ones left.
 
 use crate::checks::write_shape;
-use crate::components::components;
+use crate::components::read_components;
 use crate::events::{write_event, write_events};
 use crate::links::{link_components, read_item, write_link_fault};
 use cm_binary::Component;
@@ -32,7 +32,7 @@ impl Sets {
 
     /// Links the components of the sources, in this order.
     pub fn link(&mut self, alloc: Global, files: &NamedFiles, sources: &[&str], line: &mut Line) {
-        let components = components(alloc, files, sources, line);
+        let components = read_components(alloc, files, sources, line);
         match link_components(alloc, &components, line) {
             Ok(linked) => write_plan(line, &linked),
             Err(fault) => return write_link_fault(line, fault),
