@@ -44,8 +44,8 @@ asked_for p types =
 
 -- Values of these types can be lowered: their layout and the kinds of the core values that pass
 -- them are those of the types, which a file can spell; values of these types may be stored in their
--- target; strings and lists are within the limit of one direction of a call. Where strings come in Latin-1 or
--- in UTF-16, each is spelled in the one that its tag says.
+-- target; strings and lists are within the limit of one direction of a call. Where strings come in
+-- Latin-1 or in UTF-16, each is spelled in the one that its tag says.
 pub record CanBeLowered (p : Passing) (types : Fields) : Type 0 where
   pub layout : layout_of p.layout.now ≡ layout_of_fields_at types
   pub kinds : p.kinds.now ≡ call_kinds (way_of p.way) types

@@ -1,42 +1,110 @@
-//! The loop of a driver: rows come from standard input, each goes to standard output with its
-//! answer.
+//! The families of a program of rows: files of rows, each of which holds what is asked and the
+//! answer that is wanted.
 
 use crate::fault::RowFault;
 use crate::line::Line;
 use std::alloc::Global;
-use std::io;
+use std::process::ExitCode;
+use std::rt::Files;
+use std::{fs, io};
 
-/// What answers rows, in their order.
-pub trait Driver {
+/// What stands between the two halves of a row.
+const MARK: &str = " => ";
+
+/// What answers the rows of a family, in their order.
+pub trait Driver: Drop {
+    /// The driver of the first row of a family.
+    fn new(alloc: Global) -> Self;
+
     /// Writes the answer to a row, whose words stand one space apart. Where the line keeps that
     /// something is wrong, what was written is let go.
     fn answer(&mut self, alloc: Global, words: &[&str], line: &mut Line);
 }
 
-/// Reads lines to the end of standard input, and prints each as `LINE -> ANSWER`. Empty lines and
-/// lines that begin with `#` are printed as they are.
-pub fn answer_rows<D: Driver>(
-    rt: &(impl Input + Print + AllocGlobal),
-    driver: &mut D,
-) -> io::Result<()> {
-    let alloc = rt.alloc();
-    for line in rt.lines(alloc) {
-        let line = line?;
-        let line = line.as_str();
-        if line.is_empty() || line.starts_with('#') {
-            println!(rt; "{line}")?;
-            continue;
-        }
-        match answer_line(driver, alloc, line) {
-            Ok(answer) => println!(rt; "{line} -> {answer}")?,
-            Err(fault) => println!(rt; "{line} -> {fault}")?,
-        }
-    }
-    Ok(())
+/// How many rows a family has, and how many of them were answered as wanted.
+#[derive(Clone, Copy)]
+struct Tally {
+    rows: u64,
+    passed: u64,
 }
 
-fn answer_line<D: Driver>(driver: &mut D, alloc: Global, line: &str) -> Result<String, RowFault> {
-    let words: Vec<&str> = line.split(' ').collect(alloc)?;
+impl Tally {
+    fn add(&mut self, passes: bool) {
+        self.rows = self.rows.saturating_add(1);
+        self.passed = self.passed.saturating_add(u64::from(passes));
+    }
+}
+
+/// Answers the rows of each of these families with a driver of its own. The rows of a family are
+/// the lines `INPUT => WANTED` of the file `FAMILY.rows` in the folder where the program runs,
+/// where a line that is empty or begins with `#` is none. Prints each row that is answered in
+/// another way than wanted, with its line, and for each family how many of its rows pass. The
+/// status is 0 where all do, else 1; the error is that of a file that cannot be read, or of what
+/// cannot be printed.
+pub fn answer_families<D: Driver, R: Files + Print + AllocGlobal>(
+    rt: &R,
+    families: &[&str],
+) -> io::Result<ExitCode> {
+    let mut all_pass = true;
+    for family in families {
+        let Tally { rows, passed } = answer_family::<D, R>(rt, family)?;
+        if rows == passed {
+            println!(rt; "{family}: {rows} rows pass")?;
+        } else {
+            println!(rt; "{family}: {passed} of {rows} rows pass")?;
+            all_pass = false;
+        }
+    }
+    Ok(if all_pass {
+        ExitCode::SUCCESS
+    } else {
+        ExitCode::FAILURE
+    })
+}
+
+fn answer_family<D: Driver, R: Files + Print + AllocGlobal>(
+    rt: &R,
+    family: &str,
+) -> io::Result<Tally> {
+    let alloc = rt.alloc();
+    let name = format!(in alloc; "{family}.rows")?;
+    let text = fs::read_to_string(rt, name.as_str())?;
+    let mut driver = D::new(alloc);
+    let mut tally = Tally { rows: 0, passed: 0 };
+    for (place, line) in text.as_str().lines().enumerate() {
+        if !line.is_empty() && !line.starts_with('#') {
+            let number = place.saturating_add(1);
+            tally.add(passes(rt, &mut driver, family, number, line)?);
+        }
+    }
+    Ok(tally)
+}
+
+/// Whether a row is answered as wanted; where it is not, it is printed.
+fn passes<D: Driver>(
+    rt: &(impl Print + AllocGlobal),
+    driver: &mut D,
+    family: &str,
+    number: usize,
+    row: &str,
+) -> io::Result<bool> {
+    let Some((input, wanted)) = row.split_once(MARK) else {
+        println!(rt; "{family}.rows:{number}: wanted `INPUT => WANTED`, got {row}")?;
+        return Ok(false);
+    };
+    let answer = answer_row(driver, rt.alloc(), input);
+    let answer = match &answer {
+        Ok(answer) => answer.as_str(),
+        Err(fault) => fault.text(),
+    };
+    if answer != wanted {
+        println!(rt; "{family}.rows:{number}: wanted {wanted}, got {answer}")?;
+    }
+    Ok(answer == wanted)
+}
+
+fn answer_row<D: Driver>(driver: &mut D, alloc: Global, row: &str) -> Result<String, RowFault> {
+    let words: Vec<&str> = row.split(' ').collect(alloc)?;
     let mut answer = Line::new(alloc);
     driver.answer(alloc, words.as_slice(), &mut answer);
     answer.done()

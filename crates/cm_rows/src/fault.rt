@@ -1,7 +1,6 @@
 //! Why a row has no answer.
 
 use std::alloc::{AllocError, AllocFailed};
-use std::fmt;
 
 /// Why a row has no answer.
 #[derive(Clone, Copy)]
@@ -12,11 +11,12 @@ pub enum RowFault {
     Memory,
 }
 
-impl fmt::Display for RowFault {
-    fn fmt<W: fmt::Write>(&self, f: &mut fmt::Formatter<W>) -> fmt::Result {
+impl RowFault {
+    /// What stands for the answer of such a row.
+    pub fn text(self) -> &'static str {
         match self {
-            RowFault::NotARow => write!(f, "no row"),
-            RowFault::Memory => write!(f, "no memory"),
+            RowFault::NotARow => "no row",
+            RowFault::Memory => "no memory",
         }
     }
 }

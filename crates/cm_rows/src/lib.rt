@@ -1,14 +1,21 @@
-//! What the drivers of test rows share: a row is a line of words, and is answered by a line.
+//! What the programs of test rows share: families of rows, each row a line of words that is
+//! answered by a line, and what rows of several programs spell: bytes, files, texts, writers.
 #![tactic(auto)]
 
 mod answering;
 mod bytes;
+mod escapes;
 mod fault;
 mod line;
+mod named_files;
+mod pipe;
 mod words;
 
-pub use answering::{Driver, answer_rows};
+pub use answering::{Driver, answer_families};
 pub use bytes::{write_bytes, write_units};
+pub use escapes::{read_text, write_text};
 pub use fault::RowFault;
 pub use line::Line;
+pub use named_files::NamedFiles;
+pub use pipe::{Full, Pipe};
 pub use words::{split_repeat, word, words_from};

@@ -50,11 +50,45 @@ impl Line {
         }
     }
 
+    /// Writes what was found, or `none`.
+    pub fn found<T: Display + Drop>(&mut self, found: Option<T>) {
+        match found {
+            Some(found) => self.show(found),
+            None => self.put("none"),
+        }
+    }
+
     /// Writes a value as it is displayed to those who write programs.
     pub fn debug<T: Debug>(&mut self, value: &T) {
         if write!(self.text, "{value:?}").is_err() {
             self.fail(RowFault::Memory);
         }
+    }
+
+    /// Writes `fault` and the value's own name.
+    pub fn fault<T: Debug>(&mut self, fault: &T) {
+        self.put("fault ");
+        self.debug(fault);
+    }
+
+    /// Writes a name and its number, behind those that were written before.
+    pub fn number_of(&mut self, name: &str, number: u8) {
+        if !self.text.is_empty() {
+            self.put(", ");
+        }
+        self.put(name);
+        self.put(" ");
+        self.show(number);
+    }
+
+    /// The same of a value, by its own name.
+    pub fn number_of_debug<T: Debug>(&mut self, value: &T, number: u8) {
+        if !self.text.is_empty() {
+            self.put(", ");
+        }
+        self.debug(value);
+        self.put(" ");
+        self.show(number);
     }
 
     /// Writes a byte as a pair of hexadecimal digits.
@@ -86,6 +120,19 @@ impl Line {
     /// Keeps that the row is none.
     pub fn refuse(&mut self) {
         self.fail(RowFault::NotARow);
+    }
+
+    /// Keeps that there was no memory, if that is so.
+    pub fn fail_if_memory(&mut self, is_memory: bool) {
+        if is_memory {
+            self.fail(RowFault::Memory);
+        }
+    }
+
+    /// Keeps that there was no memory, or else that the row is none.
+    pub fn refuse_for(&mut self, is_memory: bool) {
+        self.fail_if_memory(is_memory);
+        self.refuse();
     }
 
     /// What was made; where it was not, why is kept.

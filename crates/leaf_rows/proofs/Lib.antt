@@ -1,3 +1,0 @@
-mod FileLaws
-pub mod RequestLemmas
-mod TableLemmas

@@ -1,5 +1,0 @@
-use Rattle.cm_abi_requests.specs.Answering.{AreAligned}
-use Rattle.leaf_rows.proofs.calls.answers.read_requests.Given as goal
-
-abbrev pub invariant-loop-word : goal.invariant-loop-word
-invariant-loop-word l = AreAligned l.requests.items

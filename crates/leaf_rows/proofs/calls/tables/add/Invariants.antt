@@ -1,5 +1,0 @@
-use Rattle.cm_abi_lift.specs.HandingOver.{LendsBelow}
-use Rattle.leaf_rows.proofs.calls.tables.add.Given as goal
-
-abbrev pub invariant-loop : goal.invariant-loop
-invariant-loop l = LendsBelow 256 l.table.handles

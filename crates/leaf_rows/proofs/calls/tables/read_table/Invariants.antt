@@ -1,8 +1,0 @@
-use Rattle.cm_abi_lift.specs.HandingOver.{LendsBelow}
-use Rattle.leaf_rows.proofs.calls.tables.read_table.Given as goal
-
-abbrev pub invariant-loop-part : goal.invariant-loop-part
-invariant-loop-part l =
-    (goal.iterator-loop-part).can_next l.part-iterator ×
-    (goal.iterator-loop-part).is_finite l.part-iterator ×
-    LendsBelow 256 l.table.handles

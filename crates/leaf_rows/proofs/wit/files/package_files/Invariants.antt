@@ -1,7 +1,0 @@
-use Rattle.cm_wit_reading.specs.Views.{file_tree}
-use Rattle.cm_wit_package.specs.PackageViews.{package_tree}
-use Rattle.leaf_rows.proofs.FileLaws.{Shows}
-use Rattle.leaf_rows.proofs.wit.files.package_files.Given as goal
-
-abbrev pub invariant-loop-package : goal.invariant-loop-package
-invariant-loop-package l = Shows package_tree (λ f. file_tree f.now) l.packages l.package-index l.files.items

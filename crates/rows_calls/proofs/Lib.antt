@@ -1,0 +1,2 @@
+pub mod RequestLemmas
+mod TableLemmas

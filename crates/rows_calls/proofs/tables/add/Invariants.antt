@@ -1,0 +1,5 @@
+use Rattle.cm_abi_lift.specs.HandingOver.{LendsBelow}
+use Rattle.rows_calls.proofs.tables.add.Given as goal
+
+abbrev pub invariant-loop : goal.invariant-loop
+invariant-loop l = LendsBelow 256 l.table.handles

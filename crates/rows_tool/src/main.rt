@@ -1,0 +1,46 @@
+//! Answers rows by the command on files in memory, and by the public calls of the libraries of
+//! which it is made: its words, its scripts, the lines of events.
+#![tactic(auto)]
+
+mod commands;
+mod event_lines;
+mod memory_files;
+mod scripts;
+
+use cm_rows::{Driver, Line, answer_families, word, words_from};
+use memory_files::MemoryFiles;
+use std::alloc::Global;
+use std::io;
+use std::process::ExitCode;
+
+/// The families of rows, a file each.
+const FAMILIES: [&str; 4] = ["commands", "words", "scripts", "events"];
+
+/// The state between rows: the files of the command.
+#[derive(Drop)]
+struct ToolRows {
+    files: MemoryFiles,
+}
+
+impl Driver for ToolRows {
+    fn new(alloc: Global) -> ToolRows {
+        ToolRows {
+            files: MemoryFiles::new(alloc),
+        }
+    }
+
+    fn answer(&mut self, alloc: Global, words: &[&str], line: &mut Line) {
+        let rest = words_from(words, 1);
+        match word(words, 0) {
+            "file" => self.files.answer(alloc, rest, line),
+            "tool" => commands::answer(alloc, &mut self.files, rest, line),
+            "script" => scripts::answer(alloc, rest, line),
+            "event" => event_lines::answer(alloc, rest, line),
+            _ => line.refuse(),
+        }
+    }
+}
+
+fn main(rt: HostRuntime) -> io::Result<ExitCode> {
+    answer_families::<ToolRows, _>(&rt, &FAMILIES)
+}
