@@ -1,4 +1,4 @@
-use Rattle.std.proofs.Common.{◌∙◌, refl, sym, ap, subst, map}
+use Rattle.std.proofs.Common.{◌∙◌, refl, sym, ap, subst, map, inl}
 use Rattle.cm_types.specs.CoreValues.{kind_of}
 use Rattle.cm_layout.specs.Layouts.{layout_of}
 use Rattle.cm_abi_model.specs.Receives.{call_kinds}
@@ -29,7 +29,7 @@ copy-copied-requires-clause-copied c =
       records = c.answer_all.ensures.records ∙ sym (ap (λ (s : PartRequests). s.records) was.requests_are);
       source = sym was.scans.source ∙ (ap (λ (s : PartRequests). s.source) was.requests_are ∙ sym c.answer_all.ensures.source);
       goes_to = c.answer_all.ensures.target ∙ (sym (ap (λ (s : PartRequests). s.target) was.requests_are) ∙ was.scans.goes_to);
-      stores = is.stores;
+      stores = inl is.stores;
     }) in (
       was.giver,
       all.0,

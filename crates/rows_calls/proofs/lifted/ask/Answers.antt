@@ -1,4 +1,4 @@
-use Rattle.std.proofs.Common.{sym, ap, subst, ◌∙◌}
+use Rattle.std.proofs.Common.{sym, ap, subst, ◌∙◌, inl}
 use Rattle.cm_types.specs.ValueTrees.{values_of}
 use Rattle.cm_types.specs.Values.{parts}
 use Rattle.cm_layout.specs.Layouts.{layout_of}
@@ -23,6 +23,6 @@ asked_for-requires c =
         kinds = on.kinds ∙ (is.kinds ∙ ap (λ way. call_kinds (way_of way) done.types) (sym on.way));
         spellable = is.spellable;
         source = on.source ∙ sym done.encoding;
-        stores = subst IsStored (sym on.target) is.stores;
+        stores = inl (subst IsStored (sym on.target) is.stores);
       }),
     )
