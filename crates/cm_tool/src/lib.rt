@@ -7,6 +7,8 @@ mod loading;
 mod outcome;
 mod playing;
 
+pub use cm_tool_files::{FileFault, Files};
+pub use cm_tool_script::{ScriptFault, script_bytes};
 pub use commands::{LIMIT, tool};
 pub use fault::{Fault, report};
 pub use loading::{LoadedFiles, load_files, load_script};

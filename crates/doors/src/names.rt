@@ -1,0 +1,63 @@
+//! The names, a module a door.
+
+pub mod leb {
+    pub use cm_leb::{LebFault, read_s33, read_u32, write_s33, write_u32};
+}
+
+pub mod types {
+    pub use cm_types::{
+        CoreKind, CoreValue, DefType, ExternName, Func, FuncType, Label, NameFault, ResourceId,
+        Signature, TypeTree, ValType, Value,
+    };
+}
+
+pub mod binary {
+    pub use cm_binary::{
+        Component, DecodeFault, Decoder, LimitFault, Section, WriteFault, decode, decode_from,
+        decode_pieces, encode, write_to,
+    };
+}
+
+pub mod validity {
+    pub use cm_validate::{Checked, ValidFault, signature, validate};
+}
+
+pub mod wit {
+    pub use cm_wit::{
+        ConformFault, Package, WitFault, WorldFault, conforms, parse, print, world_signature,
+    };
+}
+
+pub mod links {
+    pub use cm_match::{LinkFault, Linked, PlanLine, Target, link};
+}
+
+pub mod layout {
+    pub use cm_layout::{Side, align, case_offset, field_offset, flatten, flatten_func, size};
+}
+
+pub mod text {
+    pub use cm_text::{
+        Encoding, TextFault, Utf8, Utf16, ascii_run, ascii_units, narrow, transcode, widen,
+    };
+}
+
+pub mod handles {
+    pub use cm_handles::{Handle, HandleFault, Table};
+}
+
+pub mod abi {
+    pub use cm_abi::{AbiFault, Lifted, Request, Way, copy, lift, lower, requests, scan};
+}
+
+pub mod machine {
+    pub use cm_machine::{Event, Guest, Misuse, Move, Player, Set, Trap};
+}
+
+pub mod tool {
+    pub use cm_tool::{FileFault, Files, ScriptFault, script_bytes, tool};
+}
+
+pub mod front {
+    pub use huxarte::{LoadFault, load};
+}
