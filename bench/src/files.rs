@@ -65,6 +65,19 @@ const KINDS: [Kind; 6] = [
     ("custom", true, samples::custom),
 ];
 
+/// Does a task on a file of a kind so many times on one side, `ours` or `plain`, for `bench/steps`,
+/// and prints how many bytes the file has.
+pub fn once(side: &str, kind: &str, task: &str, size: usize, rounds: usize) {
+    let (_, _, file_of) = KINDS.iter().find(|it| it.0 == kind).expect("the name of a kind");
+    let (_, ours, plain) = TASKS.iter().find(|it| it.0 == task).expect("the name of a task");
+    let file = file_of(size);
+    let work = if side == "ours" { ours } else { plain };
+    for _ in 0..rounds {
+        black_box(work(black_box(&file)));
+    }
+    println!("{}", file.len());
+}
+
 pub fn run() {
     println!("files (a ratio above 1: ours is faster)");
     println!(

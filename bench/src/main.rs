@@ -15,11 +15,7 @@ mod text;
 
 fn main() {
     let wanted: Vec<String> = std::env::args().skip(1).collect();
-    if let [part, shape, nodes, rounds] = &wanted[..]
-        && part == "layout-once"
-    {
-        let nodes = nodes.parse().expect("a number of nodes");
-        layout::once(shape, nodes, rounds.parse().expect("a number of rounds"));
+    if runs_once(&wanted) {
         return;
     }
     let parts: [(&str, fn()); 7] = [
@@ -35,5 +31,21 @@ fn main() {
         if wanted.is_empty() || wanted.iter().any(|word| word == name) {
             run();
         }
+    }
+}
+
+/// Whether the words name a task that is done so many times for `bench/steps`, which it then was.
+fn runs_once(words: &[String]) -> bool {
+    let number = |word: &String| word.parse().expect("a number");
+    match words {
+        [part, shape, nodes, rounds] if part == "layout-once" => {
+            layout::once(shape, number(nodes), number(rounds) as u32);
+            true
+        }
+        [part, side, kind, task, size, rounds] if part == "files-once" => {
+            files::once(side, kind, task, number(size), number(rounds));
+            true
+        }
+        _ => false,
     }
 }

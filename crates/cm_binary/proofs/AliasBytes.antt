@@ -1,5 +1,5 @@
 -- Aliases: what is written spells them, and nothing shorter does.
-use Rattle.std.proofs.Common.{◌≡◌, ℕ, ◌-◌, ◌++◌, ◌∷◌, [], length, true, refl, arith}
+use Rattle.std.proofs.Common.{◌≡◌, ℕ, ◌-◌, length, true, refl, arith}
 use Rattle.std.specs.Str.{is_utf8}
 use Rattle.std.proofs.lemmas.Bool.{and_parts}
 use Rattle.std.proofs.lemmas.List.{length-append}

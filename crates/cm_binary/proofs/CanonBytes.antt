@@ -1,5 +1,5 @@
 -- Canonical definitions: what is written spells them, and nothing shorter does.
-use Rattle.std.proofs.Common.{◌≡◌, ℕ, ◌-◌, ◌<◌, ◌^◌, ◌++◌, ◌∷◌, [], length, true, refl, arith}
+use Rattle.std.proofs.Common.{ℕ, ◌-◌, ◌++◌, length, refl, arith}
 use Rattle.std.specs.List.{list_all}
 use Rattle.std.proofs.lemmas.Bool.{and_parts}
 use Rattle.std.proofs.lemmas.List.{length-append}
@@ -7,7 +7,6 @@ use Rattle.cm_binary_grammar.specs.LebWriting.{shortest_unsigned}
 use Rattle.cm_binary_grammar.specs.Spelling.{vec_spelling}
 use Rattle.cm_binary_grammar.proofs.LeastLaws.{Least, done_least, bind_least, code_least, fixed_least, vec_least}
 use Rattle.cm_binary_grammar.proofs.WrittenLaws.{Writes, done_written, bind_written, last_written, code_written, fixed_written, vec_written}
-use Rattle.cm_binary_model.specs.declared.canons.CanonOption.{CanonOption}
 use Rattle.cm_binary_model.specs.declared.canons.CanonOption.TheVariants as options
 use Rattle.cm_binary_model.specs.Trees as trees
 use Rattle.cm_binary_model.specs.Trees.{CanonTree}

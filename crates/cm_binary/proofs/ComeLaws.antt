@@ -39,23 +39,33 @@ unfed_bytes d unfed before more h all = IsBytes-after (before ++ more) h.fed (un
 all_bytes : (d : Held) (unfed before more : List ℕ) → HasCome d unfed before → IsBytes (unfed ++ more) → IsBytes (before ++ more)
 all_bytes d unfed before more h fits = IsBytes-append before more h.are_bytes (IsBytes-after (unfed ++ more) unfed more refl fits)
 
-pub come_fed : (old new : Held) (unfed before : List ℕ) → old.fault ≡ None → Follows old unfed new → HasCome old unfed before → HasCome new [] before
-come_fed old new unfed before none f h = record {
-  fed = before;
-  parts = sym (append-nil before);
+-- Of what was not fed yet, a front is fed.
+pub come_front : (old new : Held) (front rest before : List ℕ) → old.fault ≡ None → Follows old front new → HasCome old (front ++ rest) before → HasCome new rest before
+come_front old new front rest before none f h = record {
+  fed = h.fed ++ front;
+  parts = h.parts ∙ sym (append_assoc h.fed front rest);
   are_bytes = h.are_bytes;
-  counted = λ unharmed. omega (arith, f.counted, h.counted none, ap length h.parts, length-append h.fed unfed);
+  counted = λ unharmed. omega (arith, f.counted, h.counted none, length-append h.fed front);
   answers = λ more answer all.
-      let first = f.answers more answer (unfed_bytes old unfed before more h all) in
-      let second = h.answers more answer all in
+      let fits = rw (append_assoc front rest more) at (unfed_bytes old (front ++ rest) before more h all) in
+      let first = f.answers (rest ++ more) answer fits in
+      let second = rw (append_assoc front rest more) at (h.answers more answer all) in
       (λ a. second.0 (first.0 a), λ a. first.1 (second.1 a));
 }
+
+pub come_fed : (old new : Held) (unfed before : List ℕ) → old.fault ≡ None → Follows old unfed new → HasCome old unfed before → HasCome new [] before
+come_fed old new unfed before none f h = come_front old new unfed [] before none f (rw (append-nil unfed) h)
 
 pub come_open : (d : Held) (unfed before : List ℕ) → ((f : DecodeFault) → IsSettled d unfed f → ⊥) → HasCome d unfed before → IsOpen before
 come_open d unfed before unsettled h f stays = unsettled f (λ more fits. let all = all_bytes d unfed before more h fits in (h.answers more (Err f) all).1 (stays more all))
 
+pub front_stays : (d : Held) (front rest before : List ℕ) (f : DecodeFault) → IsSettled d front f → HasCome d (front ++ rest) before → StaysFault before f
+front_stays d front rest before f settled h more all =
+    let fits = rw (append_assoc front rest more) at (unfed_bytes d (front ++ rest) before more h all) in
+    (h.answers more (Err f) all).0 (rw (append_assoc front rest more) (settled (rest ++ more) fits))
+
 pub come_stays : (d : Held) (unfed before : List ℕ) (f : DecodeFault) → IsSettled d unfed f → HasCome d unfed before → StaysFault before f
-come_stays d unfed before f settled h more all = (h.answers more (Err f) all).0 (settled more (unfed_bytes d unfed before more h all))
+come_stays d unfed before f settled h = front_stays d unfed [] before f settled (rw (append-nil unfed) h)
 
 pub come_end : (d : Held) (before : List ℕ) (answer : Answer) → After d [] answer → HasCome d [] before → IsAnswer before answer
 come_end d before answer a h = rw (append-nil before) at ((h.answers [] answer (rw (append-nil before) h.are_bytes)).0 a)
@@ -64,17 +74,20 @@ pub stays_first : (before : List ℕ) (f : DecodeFault) → IsBytes before → S
 stays_first before f fits h = rw (append-nil before) at (h [] (rw (append-nil before) fits))
 
 -- After a fault the answer is the fault.
-pub come_fault : (old new : Held) (unfed before : List ℕ) (f : DecodeFault) → IsSettled old unfed f → new.fault ≡ Some f → HasCome old unfed before → HasCome new [] before
-come_fault old new unfed before f settled is h = record {
-  fed = before;
-  parts = sym (append-nil before);
+pub front_fault : (old new : Held) (front rest before : List ℕ) (f : DecodeFault) → IsSettled old front f → new.fault ≡ Some f → HasCome old (front ++ rest) before → HasCome new rest before
+front_fault old new front rest before f settled is h = record {
+  fed = h.fed ++ front;
+  parts = h.parts ∙ sym (append_assoc h.fed front rest);
   are_bytes = h.are_bytes;
   counted = λ none. let none_is = is in absurd cc;
   answers = λ more answer all.
-      let fault = come_stays old unfed before f settled h more all in
+      let fault = front_stays old front rest before f settled h more all in
       let only = one_answer (before ++ more) all in
       rw is (λ a. rw a fault, λ a. only.1.1 answer a ∙ sym (only.1.1 (Err f) fault));
 }
+
+pub come_fault : (old new : Held) (unfed before : List ℕ) (f : DecodeFault) → IsSettled old unfed f → new.fault ≡ Some f → HasCome old unfed before → HasCome new [] before
+come_fault old new unfed before f settled is h = front_fault old new unfed [] before f settled is (rw (append-nil unfed) h)
 
 no_fault : {T : Type 0} (x : T) (fault : Option DecodeFault) → IfSome fault (λ f. ok_of DecodeFault x ≡ Err f) → fault ≡ None
 no_fault x None h = refl
@@ -91,12 +104,21 @@ pub fed_ok : {T : Type 0} (d d' : Held) (unfed : List ℕ) (r : Result T DecodeF
 fed_ok d d' unfed (Err f) again h k = tt {0}
 fed_ok d d' unfed (Ok x) again h k = λ before come. (come_fed d d' unfed before (no_fault x d.fault again) h come, come_open d unfed before k come)
 
+pub front_err : {T : Type 0} (d d' : Held) (front rest unfed : List ℕ) (r : Result T DecodeFault) → unfed ≡ front ++ rest → IfErr r (λ f. (f.reason ≡ Memory) ⊎ IsSettled d front f) → IfErr r (λ f. d'.fault ≡ Some f) → IfErr r (λ f. (f.reason ≡ Memory) ⊎ ((before : List ℕ) → HasCome d unfed before → HasCome d' rest before × StaysFault before f))
+front_err d d' front rest unfed (Ok x) is h k = tt {0}
+front_err d d' front rest unfed (Err f) is (inl m) k = inl m
+front_err d d' front rest unfed (Err f) is (inr s) k = inr (λ before come. let all = rw is at come in (front_fault d d' front rest before f s k all, front_stays d front rest before f s all))
+
+pub front_ok : {T : Type 0} (d d' : Held) (front rest unfed : List ℕ) (r : Result T DecodeFault) → unfed ≡ front ++ rest → IfSome d.fault (λ f. r ≡ Err f) → OnOk r (Follows d front d') → OnOk r ((before : List ℕ) → HasCome d unfed before → HasCome d' rest before)
+front_ok d d' front rest unfed (Err f) is again h = tt {0}
+front_ok d d' front rest unfed (Ok x) is again h = λ before come. come_front d d' front rest before (no_fault x d.fault again) h (rw is at come)
+
 pub fed_unharmed : {T : Type 0} (d d' : Held) (unfed : List ℕ) (r : Result T DecodeFault) → OnOk r (Follows d unfed d') → OnOk r (d'.fault ≡ None)
 fed_unharmed d d' unfed (Ok x) h = h.unharmed
 fed_unharmed d d' unfed (Err f) h = tt {0}
 
-pub taken_ok : {T : Type 0} (d d' : Held) (unfed unfed' grown bytes : List ℕ) (r : Result T DecodeFault) → grown ≡ unfed ++ bytes → IsBytes bytes → OnOk r ((before : List ℕ) → HasCome d grown before → HasCome d' unfed' before × IsOpen before) → OnOk r ((before : List ℕ) → HasCome d unfed before → HasCome d' unfed' (before ++ bytes))
-taken_ok d d' unfed unfed' grown bytes (Ok x) is fits h = λ before come. (h (before ++ bytes) (rw is (come_more d unfed before bytes fits come))).0
+pub taken_ok : {T : Type 0} (d d' : Held) (unfed unfed' grown bytes : List ℕ) (r : Result T DecodeFault) → grown ≡ unfed ++ bytes → IsBytes bytes → OnOk r ((before : List ℕ) → HasCome d grown before → HasCome d' unfed' before) → OnOk r ((before : List ℕ) → HasCome d unfed before → HasCome d' unfed' (before ++ bytes))
+taken_ok d d' unfed unfed' grown bytes (Ok x) is fits h = λ before come. h (before ++ bytes) (rw is (come_more d unfed before bytes fits come))
 taken_ok d d' unfed unfed' grown bytes (Err f) is fits h = tt {0}
 
 pub taken_err : {T : Type 0} (d d' : Held) (unfed unfed' grown bytes : List ℕ) (r : Result T DecodeFault) → grown ≡ unfed ++ bytes → IsBytes bytes → IfErr r (λ f. (f.reason ≡ Memory) ⊎ ((before : List ℕ) → HasCome d grown before → HasCome d' unfed' before × StaysFault before f)) → IfErr r (λ f. (f.reason ≡ Memory) ⊎ ((before : List ℕ) → HasCome d unfed before → HasCome d' unfed' (before ++ bytes) × StaysFault (before ++ bytes) f))

@@ -1,5 +1,5 @@
 -- Imports and exports: what is written spells them, and nothing shorter does.
-use Rattle.std.proofs.Common.{◌≡◌, ℕ, ◌-◌, ◌++◌, ◌∷◌, [], length, true, Ok, refl, arith}
+use Rattle.std.proofs.Common.{◌≡◌, ◌-◌, ◌++◌, ◌∷◌, [], length, true, Ok, refl, arith}
 use Rattle.std.proofs.lemmas.Bool.{and_parts}
 use Rattle.std.proofs.lemmas.List.{length-append}
 use Rattle.cm_binary_grammar.specs.LebWriting.{shortest_unsigned}
@@ -9,8 +9,6 @@ use Rattle.cm_binary_model.specs.declared.externs.ExternDesc.{ExternDesc}
 use Rattle.cm_binary_model.specs.declared.externs.ExternDesc.TheVariants as descs
 use Rattle.cm_binary_model.specs.declared.externs.ExportSort.{ExportSort}
 use Rattle.cm_binary_model.specs.declared.externs.ExportSort.TheVariants as export_sorts
-use Rattle.cm_binary_model.specs.declared.externs.Import.{Import}
-use Rattle.cm_binary_model.specs.declared.externs.Export.{Export}
 use Rattle.cm_binary_model.specs.Spelling.{extern_name_spelling, desc_spelling, import_spelling, export_sort_code, export_spelling}
 use Rattle.cm_binary_model.specs.Parts.{is_index, holds_desc, holds_name, holds_import, holds_export}
 use Rattle.cm_binary_forms.specs.declared.codes.DescForm.{DescForm}

@@ -1,5 +1,5 @@
 -- In each production want of a byte stands where the bytes end.
-use Rattle.std.proofs.Common.{◌≡◌, ℕ, zero, suc, Bool, true, false}
+use Rattle.std.proofs.Common.{◌≡◌, ℕ, Bool, true, false}
 use Rattle.cm_binary_grammar.specs.Grammar.{number}
 use Rattle.cm_binary_grammar.proofs.WantLaws.{Ends, EndsWhole, done_ends, bind_ends, ahead_ends, code_ends, number_ends, signed_ends, raw_ends, check_ends, fixed_ends, chain_ends, from_stock_ends, vec_ends, build_ends, remainder_ends, exactly_ends, join_ends, begins_with_ends, to_end_ends, of_size_ends, at_most_ends}
 use Rattle.cm_binary_model.specs.declared.limits.TheConstants.{MAX_TYPES}

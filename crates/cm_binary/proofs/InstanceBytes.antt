@@ -1,5 +1,5 @@
 -- Core instances and instances: what is written spells them, and nothing shorter does.
-use Rattle.std.proofs.Common.{◌≡◌, ℕ, ◌-◌, ◌∷◌, [], length, true, Ok, refl, arith, List}
+use Rattle.std.proofs.Common.{◌≡◌, ℕ, ◌-◌, ◌∷◌, length, Ok, refl, arith}
 use Rattle.std.specs.Str.{is_utf8}
 use Rattle.std.specs.List.{list_all}
 use Rattle.std.proofs.lemmas.Bool.{and_parts}
@@ -10,7 +10,6 @@ use Rattle.cm_binary_grammar.proofs.LeastLaws.{Least, done_least, bind_least, co
 use Rattle.cm_binary_grammar.proofs.WrittenLaws.{Writes, bind_written, last_written, code_written, fixed_written, vec_written}
 use Rattle.cm_binary_model.specs.declared.instances.CoreSort.{CoreSort}
 use Rattle.cm_binary_model.specs.declared.instances.CoreSort.TheVariants as core_sorts
-use Rattle.cm_binary_model.specs.declared.instances.InlineExport.{InlineExport}
 use Rattle.cm_binary_model.specs.declared.instances.InstanceExportSort.{InstanceExportSort}
 use Rattle.cm_binary_model.specs.declared.instances.InstanceExportSort.TheVariants as instance_sorts
 use Rattle.cm_binary_model.specs.Trees as trees

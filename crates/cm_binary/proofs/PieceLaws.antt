@@ -276,3 +276,8 @@ pub held_within : (d : Held) → d.fault ≡ None → IsHeld d.fault d.read d.ke
 held_within d none held next =
     let w = held_waits d.fault d.read d.kept none held in
     limits_by d.read.next d.read next w.read (omega (arith, w.few))
+
+-- ---- a piece where no bytes are kept
+
+pub goes_on_behind_none : (old new : Progress) (kept left piece rest : List ℕ) → kept ≡ [] → left ≡ kept ++ rest → GoesOn old piece rest new → GoesOn old (kept ++ piece) left new
+goes_on_behind_none old new kept left piece rest none is h = rw (is, none) h

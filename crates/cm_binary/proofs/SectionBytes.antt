@@ -1,17 +1,17 @@
 -- Sections: what is written spells them, nothing shorter does, and what is spelled keeps the limits.
-use Rattle.std.proofs.Common.{◌≡◌, ℕ, ◌-◌, ◌<◌, ◌≤◌, ◌^◌, List, [], ◌∷◌, ◌++◌, length, drop, true, Ok, nat_eq, refl, sym, ap, subst, ◌∙◌, arith}
+use Rattle.std.proofs.Common.{◌≡◌, ℕ, ◌<◌, ◌≤◌, ◌^◌, List, [], ◌∷◌, ◌++◌, length, drop, true, Ok, nat_eq, refl, sym, ap, subst, ◌∙◌, arith}
 use Rattle.std.specs.List.{flat_map, list_all, sum_by, starts_with}
 use Rattle.std.proofs.lemmas.Bool.{and_parts, and_from, eqb-true, eq-eqb}
 use Rattle.std.proofs.lemmas.List.{length-append}
 use Rattle.std.proofs.lemmas.List.Sums.{sum_by-cons}
 use Rattle.cm_binary_grammar.specs.LebWriting.{shortest_unsigned}
 use Rattle.cm_binary_grammar.specs.Whole.{remainder, SpellsEach, of_size}
-use Rattle.cm_binary_grammar.specs.Spelling.{vec_spelling, blob_spelling}
+use Rattle.cm_binary_grammar.specs.Spelling.{blob_spelling}
 use Rattle.cm_binary_grammar.proofs.LeastLaws.{Least, LeastWhole, bind_least, code_least, vec_least, build_least, remainder_least, begins_with_least, exactly_least, join_least, of_size_least, to_end_least}
 use Rattle.cm_binary_grammar.proofs.WrittenLaws.{Spelled, bind_written, code_written, number_written, vec_written, each_written, AreFine, fine_parts}
 use Rattle.cm_binary_model.specs.Trees as trees
 use Rattle.cm_binary_model.specs.Trees.{SectionTree}
-use Rattle.cm_binary_model.specs.Spelling.{core_instance_spelling, instance_spelling, alias_spelling, def_spelling, canon_spelling, import_spelling, export_spelling, contents_spelling, section_id, section_spelling}
+use Rattle.cm_binary_model.specs.Spelling.{core_instance_spelling, instance_spelling, alias_spelling, canon_spelling, import_spelling, export_spelling, contents_spelling, section_id, section_spelling}
 use Rattle.cm_binary_model.specs.Limits.{types_in, has_preamble}
 use Rattle.cm_binary_model.specs.Parts.{holds_core_instance, holds_instance, holds_alias, holds_canon, holds_import, holds_export, holds}
 use Rattle.cm_binary_model.specs.declared.limits.TheConstants.{MODULE_PREAMBLE}

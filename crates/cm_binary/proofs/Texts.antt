@@ -1,9 +1,8 @@
 -- Numbers, texts and names: what is written spells them, and nothing shorter does.
-use Rattle.std.proofs.Common.{◌≡◌, ℕ, ◌<◌, ◌^◌, List, ◌∷◌, [], length, Bool, true, refl, arith}
+use Rattle.std.proofs.Common.{◌≡◌, ℕ, ◌<◌, ◌^◌, List, length, true, refl, arith}
 use Rattle.std.specs.Str.{is_utf8}
 use Rattle.std.proofs.lemmas.Bool.{and_parts, ltb-true}
 use Rattle.cm_binary_grammar.specs.LebWriting.{shortest_unsigned}
-use Rattle.cm_binary_grammar.specs.Grammar.{raw, check}
 use Rattle.cm_binary_grammar.specs.Spelling.{blob_spelling}
 use Rattle.cm_binary_grammar.proofs.LeastLaws.{Least, bind_least, number_least, check_least, fixed_least, counted_least}
 use Rattle.cm_binary_grammar.proofs.WrittenLaws.{Spelled, Writes, bind_written, number_written, fixed_written, check_written, raw_written, text_written}
@@ -11,7 +10,7 @@ use Rattle.cm_types.specs.Names.{is_label}
 use Rattle.cm_types.specs.ExternNames.{is_extern_name}
 use Rattle.cm_binary_model.specs.Spelling.{extern_name_spelling}
 use Rattle.cm_binary_model.specs.Parts.{is_index, holds_name}
-use Rattle.cm_binary_forms.specs.declared.fault.DecodeReason.TheVariants.{BadNumber, BadUtf8, BadName, UnknownCode}
+use Rattle.cm_binary_forms.specs.declared.fault.DecodeReason.TheVariants.{BadUtf8, BadName}
 use Rattle.cm_binary_forms.specs.Texts.{index, text, label, plain_name, extern_name}
 
 pub index_least : Least index (λ n. length (shortest_unsigned n))

@@ -11,7 +11,7 @@ use Rattle.cm_binary_grammar.specs.Numbers.{IsWithin}
 use Rattle.cm_binary_grammar.specs.LebReading.{is_within}
 use Rattle.cm_binary_grammar.specs.LebWriting.{group_of, signed_length, to_two_complement, shortest_unsigned, shortest_signed}
 use Rattle.cm_binary_grammar.proofs.LebWritingLaws.{shortest_signed-apart}
-use Rattle.cm_binary_grammar.specs.Grammar.{code, from_stock, vec}
+use Rattle.cm_binary_grammar.specs.Grammar.{vec}
 use Rattle.cm_binary_grammar.specs.Spelling.{blob_spelling, vec_spelling}
 use Rattle.cm_binary_grammar.proofs.LeastLaws.{Least, done_least, bind_least, ahead_least, code_least, refuse_least, number_least, signed_least, check_least, fixed_least, vec_least, from_stock_least, stocked_least}
 use Rattle.cm_binary_grammar.proofs.WrittenLaws.{Spelled, Writes, WritesFrom, done_written, bind_written, last_written, ahead_written, code_written, number_written, signed_written, check_written, fixed_written, vec_written, from_stock_written, stocked_written, chain_costs, from_stock_costs}
@@ -20,14 +20,9 @@ use Rattle.cm_types.specs.declared.def_types.PrimValType.{PrimValType}
 use Rattle.cm_types.specs.declared.def_types.PrimValType.TheVariants as prims
 use Rattle.cm_types.specs.declared.def_types.ValType.{ValType}
 use Rattle.cm_types.specs.declared.def_types.ValType.TheVariants as val_types
-use Rattle.cm_types.specs.declared.def_types.LabeledValType.{LabeledValType}
-use Rattle.cm_types.specs.declared.def_types.CaseType.{CaseType}
 use Rattle.cm_types.specs.declared.def_types.OuterType.{OuterType}
-use Rattle.cm_types.specs.declared.def_types.TypeBound.{TypeBound}
 use Rattle.cm_types.specs.declared.def_types.TypeBound.TheVariants as bounds
-use Rattle.cm_types.specs.declared.def_types.ExportDesc.{ExportDesc}
 use Rattle.cm_types.specs.declared.def_types.ExportDesc.TheVariants as export_descs
-use Rattle.cm_types.specs.declared.def_types.ExportDecl.{ExportDecl}
 use Rattle.cm_types.specs.DefTypes as types
 use Rattle.cm_types.specs.DefTypes.{DefValTypeTree, FuncTypeTree, DeclaredTypeTree, DeclarationTree, DefTypeTree, value_def, func_def, resource_def, instance_def}
 use Rattle.cm_binary_model.specs.Spelling.{optional_spelling, prim_val_type_code, val_type_spelling, param_spelling, case_spelling, def_val_type_code, def_val_type_parts, result_spelling, func_spelling, declared_type_spelling, type_bound_spelling, extern_name_spelling, export_desc_spelling, export_decl_spelling, outer_type_spelling, declaration_spelling, def_spelling}

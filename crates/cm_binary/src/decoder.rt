@@ -16,6 +16,7 @@ ghost use Rattle.cm_binary.specs.declared.front.Next.TheVariants as nexts;
 ghost use Rattle.cm_binary_model.specs.declared.limits.TheConstants.{MAX_FILE_BYTES};
 
 use crate::front::{Front, Next};
+use crate::whole::drop_front;
 use cm_binary_forms::{DecodeFault, DecodeReason};
 use cm_binary_grammar::{End, ReadError};
 use cm_binary_model::{Component, MAX_FILE_BYTES, Section};
@@ -143,7 +144,8 @@ fn component_of(sections: Vec<Section>) -> Component
     }
 }
 
-/// Goes on with a further piece, behind the bytes that are kept.
+/// Goes on with a further piece, behind the bytes that are kept. Where none are, what is
+/// read of the piece is read where it stands.
 fn read_piece(
     alloc: Global,
     front: &mut Front,
@@ -156,11 +158,35 @@ fn read_piece(
     ensures err { IfErr result (λ f. (f.reason ≡ reasons.Memory)
         ⊎ HasFault (progress front.old) (kept.old.items ++ piece.now) f) }
 {
+    if kept.is_empty() {
+        return read_where_it_stands(alloc, front, kept, piece);
+    }
     if kept.extend_from_slice(piece).is_err() {
         return Err(memory_fault());
     }
     let taken = read_within_limit(alloc, front, kept)?;
-    kept.drain(..taken);
+    drop_front(kept, taken);
+    Ok(())
+}
+
+/// Goes on with a further piece where no bytes are kept, and keeps what is not read of it.
+fn read_where_it_stands(
+    alloc: Global,
+    front: &mut Front,
+    kept: &mut Vec<u8>,
+    piece: &[u8],
+) -> Result<(), DecodeFault>
+    requires waits { Waits (progress front.old) kept.old.items }
+    requires none { kept.old.items ≡ [] }
+    ensures ok { OnOk result (GoesOn (progress front.old) (kept.old.items ++ piece.now)
+        kept.new.items (progress front.new)) }
+    ensures err { IfErr result (λ f. (f.reason ≡ reasons.Memory)
+        ⊎ HasFault (progress front.old) (kept.old.items ++ piece.now) f) }
+{
+    let taken = read_within_limit(alloc, front, piece)?;
+    if kept.extend_from_slice(&piece[taken..]).is_err() {
+        return Err(memory_fault());
+    }
     Ok(())
 }
 

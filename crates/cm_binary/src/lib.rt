@@ -19,6 +19,7 @@ mod pieces;
 mod sections;
 mod streams;
 mod types;
+mod whole;
 mod written;
 
 pub use cm_binary_forms::{DecodeFault, DecodeReason, Feature};

@@ -23,8 +23,9 @@ use std::io::{ErrorKind, Read, Write};
 const READ_BYTES: usize = 4_096;
 
 /// Reads a component file from a reader, to the end of its bytes, or to a fault that they have
-/// however they go on. It takes time as the bytes do, and at most 4,096 bytes of a read. A read
-/// that was interrupted is tried again.
+/// however they go on. A section is read once it is whole, so that the reader may be asked for the
+/// rest of the one in which a fault stands. It takes time as the bytes do, and at most 4,096 bytes
+/// of a read. A read that was interrupted is tried again.
 ///
 /// Where the reader fails, the answer is the fault that the bytes read before have however they go
 /// on, else `Read` at their number.

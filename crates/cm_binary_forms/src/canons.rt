@@ -82,7 +82,7 @@ fn read_lift(
     ensures read { Reads (canon_of canon_forms.Lift) canon_tree bytes.old bytes.new result }
     ensures end { bytes.new.end ≡ bytes.old.end }
 {
-    bytes.fixed(&[0x00], DecodeReason::UnknownCode)?;
+    bytes.byte(0x00, DecodeReason::UnknownCode)?;
     let core_func = bytes.number(DecodeReason::BadNumber)?;
     let options = read_vec::<_, Items, _>(alloc, bytes, DecodeReason::BadNumber)?;
     let ty = bytes.number(DecodeReason::BadNumber)?;
@@ -102,7 +102,7 @@ fn read_lower(
     ensures read { Reads (canon_of canon_forms.Lower) canon_tree bytes.old bytes.new result }
     ensures end { bytes.new.end ≡ bytes.old.end }
 {
-    bytes.fixed(&[0x00], DecodeReason::UnknownCode)?;
+    bytes.byte(0x00, DecodeReason::UnknownCode)?;
     let func = bytes.number(DecodeReason::BadNumber)?;
     let options = read_vec::<_, Items, _>(alloc, bytes, DecodeReason::BadNumber)?;
     Ok(Canon::Lower { func, options })

@@ -31,7 +31,7 @@ impl Form<DecodeReason, Items> for CoreInstantiationArg {
         bytes: &mut Cursor<'_, DecodeReason>,
     ) -> Result<Self, ReadError<DecodeReason>> {
         let name = read_text(alloc, bytes)?;
-        bytes.fixed(&[0x12], DecodeReason::UnknownCode)?;
+        bytes.byte(0x12, DecodeReason::UnknownCode)?;
         let instance = bytes.number(DecodeReason::BadNumber)?;
         Ok(CoreInstantiationArg { name, instance })
     }

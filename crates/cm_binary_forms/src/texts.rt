@@ -111,7 +111,7 @@ pub fn read_extern_name(
     ensures read { Reads extern_name (λ x. x) bytes.old bytes.new result }
     ensures end { bytes.new.end ≡ bytes.old.end }
 {
-    bytes.fixed(&[0x00], DecodeReason::UnknownCode)?;
+    bytes.byte(0x00, DecodeReason::UnknownCode)?;
     read_plain_name(alloc, bytes)
 }
 

@@ -86,7 +86,7 @@ impl Form<DecodeReason, Types> for CaseType {
     ) -> Result<Self, ReadError<DecodeReason>> {
         let label = read_label(alloc, bytes)?;
         let payload = read_optional_val_type(bytes)?;
-        bytes.fixed(&[0x00], DecodeReason::UnknownCode)?;
+        bytes.byte(0x00, DecodeReason::UnknownCode)?;
         Ok(CaseType { label, payload })
     }
 }
@@ -186,7 +186,7 @@ fn read_def_type(
         TypeForm::Value(form) => Ok(DefType::Value(read_def_val_type(alloc, bytes, form)?)),
         TypeForm::Func => Ok(DefType::Func(read_func_type(alloc, bytes)?)),
         TypeForm::Resource => {
-            bytes.fixed(&[0x7f], DecodeReason::UnknownCode)?;
+            bytes.byte(0x7f, DecodeReason::UnknownCode)?;
             Ok(DefType::Resource(read_optional_index(bytes)?))
         }
         TypeForm::Instance => {
@@ -257,7 +257,7 @@ fn read_result(
     match bytes.code()? {
         ResultForm::One => Ok(Some(read_val_type(bytes)?)),
         ResultForm::Zero => {
-            bytes.fixed(&[0x00], DecodeReason::UnknownCode)?;
+            bytes.byte(0x00, DecodeReason::UnknownCode)?;
             Ok(None)
         }
     }

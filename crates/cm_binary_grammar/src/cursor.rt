@@ -1,7 +1,7 @@
 //! Bytes that are read from the front on.
 
-ghost use Rattle.std.specs.Prelude.{◌≡◌, ℕ, ◌<◌, List, [], length, take, drop, min, Result, OnOk};
-ghost use Rattle.std.specs.Prelude.{OnErr, IfErr};
+ghost use Rattle.std.specs.Prelude.{◌≡◌, ℕ, ◌<◌, List, [], ◌∷◌, length, take, drop, min, Result};
+ghost use Rattle.std.specs.Prelude.{OnOk, OnErr, IfErr};
 ghost use Rattle.cm_binary_grammar.specs.Reading.{Reads, ReadsAll, part_end, IsInside, behind_part};
 ghost use Rattle.cm_binary_grammar.specs.Faults.{Gives, flaw, want};
 ghost use Rattle.cm_binary_grammar.specs.Grammar.{number, signed, raw, code, fixed};
@@ -105,6 +105,23 @@ impl<'a, R: Copy> Cursor<'a, R> {
                 }
                 Err(reason) => Err(self.fault(reason)),
             },
+        }
+    }
+
+    /// Reads this byte. Another one is a fault of the reason, at its place.
+    pub fn byte(&mut self, expected: u8, reason: R) -> Result<(), ReadError<R>>
+        ensures read { Reads (fixed (expected ∷ []) reason) (λ x. x) self.old self.new result }
+        ensures end { self.new.end ≡ self.old.end }
+    {
+        match self.rest {
+            [] => Err(self.want()),
+            [byte, rest @ ..] => {
+                if *byte != expected {
+                    return Err(self.fault(reason));
+                }
+                self.rest = rest;
+                Ok(())
+            }
         }
     }
 

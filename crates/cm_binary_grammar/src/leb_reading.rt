@@ -59,8 +59,34 @@ pub fn front_u32(bytes: &[u8]) -> Result<(u32, &[u8]), LebFault>
     unsigned_front(bytes)
 }
 
-#[tactic(auto, unfolding(crate::specs::LebReading::unsigned_at))]
+/// The number in front. Most numbers are of one byte or of two, which are read first.
+#[tactic(auto, unfolding(crate::specs::LebReading::unsigned_at, crate::specs::LebReading::group_at))]
 fn unsigned_front(bytes: &[u8]) -> Result<(u32, &[u8]), LebFault>
+    ensures read { Finds (λ x. (x.0, x.1.now)) result (unsigned_at 32 bytes.now) }
+    ensures shorter { IfOk result (λ x. length x.1.now ≤ length bytes.now) }
+{
+    match bytes {
+        [byte, rest @ ..] => {
+            if *byte < 128 {
+                return Ok((*byte as u32, rest));
+            }
+            match rest {
+                [high, rest @ ..] => {
+                    if *high < 128 {
+                        return Ok(((*byte - 128) as u32 + 128 * *high as u32, rest));
+                    }
+                    long_unsigned_front(bytes)
+                }
+                [] => Err(LebFault::Truncated),
+            }
+        }
+        [] => Err(LebFault::Truncated),
+    }
+}
+
+/// The number in front, however many bytes it takes.
+#[tactic(auto, unfolding(crate::specs::LebReading::unsigned_at))]
+fn long_unsigned_front(bytes: &[u8]) -> Result<(u32, &[u8]), LebFault>
     ensures read { Finds (λ x. (x.0, x.1.now)) result (unsigned_at 32 bytes.now) }
     ensures shorter { IfOk result (λ x. length x.1.now ≤ length bytes.now) }
 {
