@@ -28,7 +28,7 @@ fn payload_fits(index: u32, payload: &Option<Box<Value>>)
     }
 }
 
-/// The same of each of some values.
+/// Whether the cases of each of some values are counted in 32 bits.
 #[cycle(fitting)]
 pub(crate) fn cases_fit(values: &[Value])
     ensures { AllCasesFit (values_of values.now) }

@@ -2,8 +2,7 @@
 //! (CanonicalABI.md, "Lifting and Lowering Values").
 //!
 //! The way of a call. Of each function a layout of the tuple of its parameters and one of its
-//! results is made once (`cm_layout`), and the kinds of the core values that pass them
-//! (`cm_flat`).
+//! results is made once, and the kinds of the core values that pass them (`cm_layout`).
 //!
 //! 1. `lift` reads the values that the giver's core values denote, takes the handles that are
 //!    owned out of the giver's table and lends those that are borrowed. The giver's memory may

@@ -50,7 +50,7 @@ pub record IsInSlots (slot_count s : ℕ) (l : LayoutTy) : Type 0 where
   pub passed : IsPassedIn l.head.width l.shape
   pub sound : IsSound l
 
--- the same of fields, one behind the other, and of what cases carry
+-- fields, one behind the other, and what cases carry lie in so many slots
 abbrev pub AreFieldsInSlots : ℕ → ℕ → Parts → Type 0
 AreFieldsInSlots n s no_parts = ⊤
 AreFieldsInSlots n s (part o e sh ps) =

@@ -25,6 +25,6 @@ leaves_met t (content n ∷ ms) = leaves_met t ms
 leaves_met t (taken i ∷ ms) = leaf_at owned_leaf (handle_at t i) ++ leaves_met t ms
 leaves_met t (lent i ∷ ms) = leaf_at borrowed_leaf (handle_at t i) ++ leaves_met t ms
 
--- the same of handles that the code met
+-- the handles of a table among those that the code met
 abbrev pub leaves_found : Handles → List MetHandle → List HandleLeaf
 leaves_found t ms = leaves_met t (map met_as ms)

@@ -16,7 +16,7 @@ use Rattle.cm_abi_model.specs.Numbers.{as_signed, number_at}
 use Rattle.cm_abi_model.specs.Texts.{bytes_from, charset_of, text_size}
 use Rattle.cm_abi_load.specs.Decoded.{decoded}
 
--- what is told of each handle
+-- the handle that stands for any: a copy does not look at handles
 abbrev pub some_handle : HandleValue
 some_handle =
     record { serial = 0; rep = 0; resource = record { component = 0; number = 0 } }

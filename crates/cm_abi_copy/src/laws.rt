@@ -43,7 +43,7 @@ pub fn handles_are_stored_as_numbers()
     ensures handles { (v : Val) → handle_count (without_handles v) ≡ handle_count v }
 {}
 
-/// The same of a string and of the elements of a list that are read at a pointer.
+/// A string, and the elements of a list, that are read at a pointer are copied.
 pub fn parts_that_are_read_are_copied()
     ensures text { TextIsCopied }
     ensures elements { ElementsAreCopied }

@@ -159,7 +159,7 @@ fn handles_of(alloc: Global, table: &Table, met: &[MetHandle]) -> Result<Vec<Han
     }
 }
 
-/// The same by the definitions of reading and of what is kept alone.
+/// `scan`, by the definitions of reading and of what is kept alone.
 fn scan_values(
     alloc: Global,
     memory: &[u8],

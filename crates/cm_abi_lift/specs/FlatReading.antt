@@ -96,6 +96,6 @@ abbrev mutual
   ArePayloadsReady (nothing ps) = ArePayloadsReady ps
   ArePayloadsReady (carried e sh ps) = IsReady sh × ArePayloadsReady ps
 
--- the same of a layout
+-- a layout holds nothing but what can be read from core values
 abbrev pub IsReadyLayout : LayoutTy → Type 0
 IsReadyLayout l = IsReady l.shape

@@ -52,7 +52,7 @@ TellAll w target (r ∷ rs) (part ∷ parts) (at ∷ places) =
     Tells w target r part at × TellAll w target rs parts places
 TellAll w target rs parts places = ⊥
 
--- a string that is shown at a pointer is told by its record
+-- the record of a string that is shown at a pointer describes it
 abbrev pub TextIsTold : Type 0
 TextIsTold =
     (w : View) (target : StringEncoding) (at n : ℕ) (scalars : List ℕ)

@@ -26,7 +26,7 @@ pub fn records_tell_parts()
     numbers_are_sized();
 }
 
-/// The same of a string and of the elements of a list that are shown at a pointer, wherever it
+/// The records of a string and of the elements of a list that are shown at a pointer, wherever it
 /// stands.
 pub fn parts_that_are_shown_are_told()
     ensures text { TextIsTold }

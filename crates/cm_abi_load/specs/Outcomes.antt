@@ -27,7 +27,7 @@ abbrev pub ◌>>=◌ : {A B : Type 0} → Outcome A → (A × State → Outcome 
 (Ok x) >>= f = f x
 (Err e) >>= f = Err e
 
--- the same with a function of the value
+-- what is read, with a function applied to the value
 abbrev pub mapped : {A B : Type 0} → (A → B) → Outcome A → Outcome B
 mapped f r = r >>= λ x. Ok (f x.0, x.1)
 

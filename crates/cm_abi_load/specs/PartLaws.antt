@@ -32,7 +32,7 @@ TextIsRead =
     → ShowsText e memory at n cs → text_size e n ≤ s.left
     → (after : State) × (read_text memory e at n s ≡ Ok (text cs, after))
 
--- elements that are read are shown, and what is met in them is told
+-- elements that are read are shown, and the state says what was met in them
 abbrev pub ElementsAreShown : Type 0
 ElementsAreShown =
     (w : View) (t : Ty) (at n : ℕ) (s after : State) (vs : Vals)
@@ -66,7 +66,7 @@ OwnIsRead =
     → ShowsOwned table index r h
     → (after : State) × (read_handle table (handle_type.Own r) index s ≡ Ok (handle h, after))
 
--- the same of one that is read as borrowed
+-- a handle that is read as borrowed is shown as borrowed
 abbrev pub BorrowIsShown : Type 0
 BorrowIsShown =
     (table : Handles) (index : ℕ) (r : ResourceId) (s after : State) (v : Val)

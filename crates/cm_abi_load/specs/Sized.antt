@@ -33,7 +33,7 @@ pub record IsReadable (limit at : ℕ) (l : LayoutTy) : Type 0 where
   pub laid : Laid l.head.size l.shape
   pub sized : IsSized l.shape
 
--- the same of fields, and of payloads at one address
+-- fields, and payloads at one address, can be read
 abbrev pub ArePartsReadable : ℕ → ℕ → Parts → Type 0
 ArePartsReadable limit at no_parts = ⊤
 ArePartsReadable limit at (part o e sh ps) =

@@ -48,8 +48,8 @@ pub fn what_is_shown_is_read()
         → (after : State) × (read_at (seen_by w) (shape_of_type t) p s ≡ Ok (v, after)) }
 {}
 
-/// The same of the parts of a value, which may be read one after another: what is read of each is
-/// shown, and what is met in it is told.
+/// Of the parts of a value, which may be read one after another, what is read of each is shown, and
+/// the reader's state says what was met in it.
 pub fn parts_that_are_read_are_shown()
     ensures text { TextIsShown }
     ensures elements { ElementsAreShown }

@@ -53,7 +53,7 @@ pub trait Maker: Copy {
     fn unread() -> Option<Self::Made>
         ensures { IfSome result (λ made. (v : Val) → stands made v) };
 
-    /// The same of values in a row.
+    /// What is made of any values in a row, if it is the same of all.
     fn unread_row() -> Option<Self::Row>
         ensures { IfSome result (λ row. (vs : Vals) → stand row vs) };
 

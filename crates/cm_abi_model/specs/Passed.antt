@@ -19,7 +19,7 @@ pub record IsCore (slots : List CoreValue) (k n : ℕ) : Type 0 where
   pub number : (slice_index_or slots k (core_value.I32 n) ≡ core_value.I32 n)
       ⊎ (slice_index_or slots k (core_value.I64 n) ≡ core_value.I64 n)
 
--- the same of a number of 32 bits
+-- core value k is this number, of 32 bits
 pub record IsCore32 (slots : List CoreValue) (k n : ℕ) : Type 0 where
   pub core : IsCore slots k n
   pub below : n < 2 ^ 32

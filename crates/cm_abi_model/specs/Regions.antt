@@ -24,7 +24,7 @@ pub record IsPlaced (target : StringEncoding) (memory_length at : ℕ) (part : P
   pub inside : at + part_size target part ≤ memory_length
   pub counted : element_count part < 2 ^ 32
 
--- the same of the places of parts, from the one of this number on
+-- parts, from the one of this number on, have places that are aligned and inside the memory
 abbrev pub ArePlaced : StringEncoding → ℕ → Given → ℕ → List Part → Type 0
 ArePlaced target memory_length g k [] = ⊤
 ArePlaced target memory_length g k (part ∷ parts) =

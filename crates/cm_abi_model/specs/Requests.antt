@@ -17,7 +17,7 @@ use Rattle.cm_abi_model.specs.Texts.{text_align}
 use Rattle.cm_abi_model.specs.Parts.{Part, text_part, element_part, parts_in}
 use Rattle.cm_abi_model.specs.Views.{Way, flat_limit}
 
--- what a string is in, where Latin-1 or UTF-16 is told by a tag: UTF-16 where it is set
+-- what a string is in, where a tag says whether it is Latin-1 or UTF-16: UTF-16 where it is set
 abbrev pub tagged_charset : Bool → Charset
 tagged_charset tag = if tag then utf16 else latin1
 

@@ -27,7 +27,7 @@ pub record ShowsHandle (table : Handles) (index : ℕ) (resource : ResourceId) (
   pub of_resource : entry.resource ≡ resource
   pub value : h ≡ record { serial = entry.serial; rep = entry.rep; resource = resource }
 
--- the same, and the handle owns its resource
+-- an index stands for a handle that owns its resource
 pub record ShowsOwned (table : Handles) (index : ℕ) (resource : ResourceId) (h : HandleValue)
     : Type 0 where
   pub handle : ShowsHandle table index resource h

@@ -89,7 +89,7 @@ abbrev pub ask_all : StringEncoding → StringEncoding → List Part → Asking 
 ask_all source target [] s = s
 ask_all source target (p ∷ ps) s = ask_all source target ps (ask_part source target p s)
 
--- the same by the encodings of the code
+-- requests by the encodings of the code
 abbrev pub ask_by : Encodings → List Part → Asking → Asking
 ask_by e ps s = ask_all e.source e.target ps s
 

@@ -63,7 +63,7 @@ pub record IsAskable (r : PartRecord) : Type 0 where
   pub small : r.size < 2 ^ 32
   pub aligned : 0 < r.align
 
--- the same of the parts of records
+-- the requests for the parts of records
 abbrev pub AreAskable : List PartRecord → Type 0
 AreAskable [] = ⊤
 AreAskable (r ∷ rs) = IsAskable r × AreAskable rs

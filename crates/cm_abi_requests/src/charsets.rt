@@ -18,7 +18,7 @@ pub enum Charset {
     Latin1,
 }
 
-/// What a string is in where Latin-1 or UTF-16 is told by its tag.
+/// What a string is in where its tag says whether it is Latin-1 or UTF-16.
 fn tagged_charset(tag: bool) -> Charset
     ensures { charset_seen result ≡ tagged_charset tag }
 {

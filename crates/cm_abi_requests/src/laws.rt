@@ -53,8 +53,8 @@ pub fn content_of_what_is_shown()
         ≡ content_of (met_at w t p v) }
 {}
 
-/// The same of a value that the core values of a call denote; and where strings are in UTF-8 or in
-/// UTF-16, which are stored, with the tags of any list.
+/// The content of a value that the core values of a call denote is that of its parts, with the tags
+/// that are met; and where strings are in UTF-8 or in UTF-16, which are stored, with any tags.
 pub fn content_of_what_is_denoted()
     ensures tagged { (w : View) (way : Way) (types : Fields) (slots : List CoreValue) (v : Val)
         → Denotes w way types slots v

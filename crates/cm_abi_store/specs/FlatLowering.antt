@@ -101,13 +101,13 @@ abbrev mutual
   IsPassedIn n (cases_shape d o ps) = (1 ≤ n) × PayloadsPassedIn n ps
   IsPassedIn n (handle_shape x) = 1 ≤ n
 
-  -- the same of fields, from a slot on
+  -- those of fields, from a slot on
   pub ArePassedIn : ℕ → ℕ → Parts → Type 0
   ArePassedIn n s no_parts = ⊤
   ArePassedIn n s (part o e x ps) =
       (s + e.width ≤ n) × IsPassedIn e.width x × ArePassedIn n (s + e.width) ps
 
-  -- the same of what cases carry, behind the slot of the case
+  -- those of what cases carry, behind the slot of the case
   pub PayloadsPassedIn : ℕ → Payloads → Type 0
   PayloadsPassedIn n no_payloads = ⊤
   PayloadsPassedIn n (nothing ps) = PayloadsPassedIn n ps

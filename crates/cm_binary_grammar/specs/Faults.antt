@@ -11,7 +11,7 @@ use Rattle.cm_binary_grammar.specs.declared.fault.ReadError.TheVariants as error
 abbrev pub flaw : {R : Type 0} → ℕ → R → Fault R
 flaw left reason = record { left = left; reason = reason }
 
--- The same fault, seen with so many bytes more at the end.
+-- A fault, where so many bytes more stand at the end.
 abbrev pub later : {R : Type 0} → Fault R → ℕ → Fault R
 later f more = flaw (f.left + more) f.reason
 

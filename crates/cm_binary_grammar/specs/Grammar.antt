@@ -90,7 +90,7 @@ ahead choice = record {
   reads = ahead_reads choice;
 }
 
--- What is wrong with bytes that begin with no number: want of a byte is told apart, all else is a
+-- What is wrong with bytes that begin with no number: want of a byte is a fault of its own, all else is a
 -- fault at the number's first byte.
 abbrev pub number_fault : {R : Type 0} → R → End R → List ℕ → LebFault → Fault R
 number_fault bad e bytes Truncated = want e

@@ -188,7 +188,7 @@ after_return back values event.Ended ds = below ds
 
 -- ---- a history
 
--- the same goes on, unless this event is the last
+-- what goes on stays, unless this event is the last
 abbrev pub unless_last : Event → List Doing → List Doing
 unless_last e ds = if is_last e then [] else ds
 

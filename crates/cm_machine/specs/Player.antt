@@ -111,7 +111,7 @@ seat_after_close true (Some seat) = Some None
 seat_after_close true None = None
 seat_after_close false seat = seat
 
--- The same before the seats are emptied.
+-- A drive before the seats of closed instances are emptied.
 pub record IsPlay {G : Type 0} (plays : G → List Exchange → Type 0) (start : State)
     (first : Event) (old_seats : List (Option G)) (limit : ℕ) (events : List Event) (new : State)
     (seats : List (Option G)) : Type 0 where

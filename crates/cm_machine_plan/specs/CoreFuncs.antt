@@ -38,7 +38,7 @@ core_func_of set component _ = core_function.Guest
 abbrev pub core_funcs_in : List Spaces → ℕ → Spaces → List CoreFunction
 core_funcs_in set component s = map (core_func_of set component) s.core_funcs
 
--- the same for these components of the set, numbered from here on
+-- what the core functions of these components stand for, numbered from here on
 abbrev pub core_funcs_from : List Spaces → ℕ → List Spaces → List (List CoreFunction)
 core_funcs_from set component [] = []
 core_funcs_from set component (s ∷ ss) =
@@ -49,7 +49,7 @@ abbrev pub core_funcs_of : List Spaces → List (List CoreFunction)
 core_funcs_of set = core_funcs_from set 0 set
 
 -- this core function stands for the lifted function, of an earlier component, that the imported one
--- comes to (which is of the same type: `imported_functions_reach_lifts` of `cm_links`)
+-- comes to (which is of the same type: `imported_functions_reach_lifts` of `cm_match_model`)
 pub record StandsFor (set : List Spaces) (component import : ℕ) (item : Option ℕ) (ty : FuncTy)
     (f : Option CoreFunction) : Type 0 where
   pub found : Target
