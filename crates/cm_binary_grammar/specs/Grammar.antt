@@ -90,8 +90,8 @@ ahead choice = record {
   reads = ahead_reads choice;
 }
 
--- What is wrong with bytes that begin with no number: want of a byte is a fault of its own, all else is a
--- fault at the number's first byte.
+-- What is wrong with bytes that begin with no number: want of a byte is a fault of its own, all
+-- else is a fault at the number's first byte.
 abbrev pub number_fault : {R : Type 0} → R → End R → List ℕ → LebFault → Fault R
 number_fault bad e bytes Truncated = want e
 number_fault bad e bytes TooLong = flaw (length bytes) bad
