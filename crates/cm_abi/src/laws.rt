@@ -7,6 +7,7 @@ ghost use Rattle.cm_types.specs.declared.core_value.CoreValue.{CoreValue};
 ghost use Rattle.cm_abi_model.specs.Denotes.{Denotes};
 ghost use Rattle.cm_abi_model.specs.Receives.{leaves_in};
 ghost use Rattle.cm_abi_model.specs.Requests.{requests, tuple_of};
+ghost use Rattle.cm_abi_model.specs.Taken.{met, tags_of};
 ghost use Rattle.cm_abi_model.specs.Views.{View, Way};
 ghost use Rattle.cm_abi_model.specs.Ways.{way_of};
 ghost use Rattle.cm_abi_lift.specs.HandingOver.{Hands};
@@ -17,7 +18,6 @@ ghost use Rattle.cm_handles.specs.Handles.{Handles};
 ghost use Rattle.cm_abi_model.specs.declared.encoding.StringEncoding.{StringEncoding};
 ghost use Rattle.cm_abi_copy.specs.MetLeaves.{stands_for};
 ghost use Rattle.cm_abi_requests.specs.RequestingAsking.{all_requests};
-ghost use Rattle.cm_abi_requests.specs.RecordRequests.{tags_of};
 ghost use Rattle.cm_abi_requests.specs.declared.part_requests.PartRequests.{PartRequests};
 ghost use Rattle.cm_abi_copy.specs.Scans.{ScansCall};
 ghost use Rattle.cm_abi_copy.specs.declared.scanned.Scanned.{Scanned};
@@ -67,9 +67,9 @@ pub fn one_call()
 ///
 /// Where `scan` found values, and these go on as they stood, they can be copied: what `copy` asks
 /// of its caller besides the answers holds, whichever of the requests are answered; and the
-/// requests are those of the values. Where `copy` then leaves core values that denote the values in
-/// the receiver's view, both sides denote them, and no other: what the giver's core values denoted
-/// when they were scanned is what the receiver's denote.
+/// requests are those of the values, with the tags of their strings. Where `copy` then leaves core
+/// values that denote the values in the receiver's view, both sides denote them, and no other: what
+/// the giver's core values denoted when they were scanned is what the receiver's denote.
 ///
 /// The handles that `scan` took out of the giver's table are, in reading order, those of the values
 /// that are to be owned, which `copy` adds to the receiver's.
@@ -83,7 +83,7 @@ pub fn one_copied_call()
         → ScansCall giver target (way_of f.passed.way) types f.passed.slots.now v t scanned
         → GoesOnAsFound giver target scanned f s types
         → all_requests s ≡ requests (way_of f.passed.way) types v giver.encoding target
-        (tags_of s.records.items) }
+        (tags_of (met giver (way_of f.passed.way) types f.passed.slots.now v)) }
     ensures same { (giver receiver : View) (target : StringEncoding) (way : Way) (types : Fields)
         (given received : List CoreValue) (v : Val) (t : Handles) (scanned : Scanned)
         → ScansCall giver target way types given v t scanned

@@ -2,13 +2,14 @@ use Rattle.std.proofs.Common.{◌∙◌, ap, subst, sym}
 use Rattle.cm_abi_model.specs.Denotes.{Denotes}
 use Rattle.cm_abi_model.specs.Requests.{call_parts}
 use Rattle.cm_abi_model.specs.Taken.{met}
+use Rattle.cm_abi_model.specs.Taken as taken
 use Rattle.cm_abi_model.specs.Ways.{way_of}
 use Rattle.cm_abi_lower.specs.Leaves.{leaves_of}
-use Rattle.cm_abi_requests.specs.RecordRequests.{requests_for}
+use Rattle.cm_abi_requests.specs.RecordRequests.{requests_for, tags_of}
 use Rattle.cm_abi_lift.specs.Telling.{TellAll}
 use Rattle.cm_abi_copy.specs.CallPlaces.{call_places}
 use Rattle.cm_abi.specs.Calls.{owned_in}
-use Rattle.cm_abi.proofs.CopiedLaws.{told}
+use Rattle.cm_abi.proofs.CopiedLaws.{same_requests, told}
 use Rattle.cm_abi.proofs.OwnedLaws.{owned_are_taken}
 use Rattle.cm_abi.proofs.laws.one_copied_call.Goals as goal
 
@@ -31,8 +32,10 @@ returns-clause-asked c = λ giver target types v t scanned f s scans on.
     let way = way_of f.passed.way in
     ap (λ e. requests_for e s.target s.records.items) (sym on.source)
     ∙ (ap (λ e. requests_for giver.encoding e s.records.items) on.goes_to
-    ∙ c.records_ask_for_parts.ensures.call giver target s.records.items way types v (call_places giver way types f.passed.slots.now v)
-    (subst (λ e. TellAll giver e s.records.items (call_parts way types v) (call_places giver way types f.passed.slots.now v)) on.goes_to (told giver target types v t scanned f s scans on)))
+    ∙ (c.records_ask_for_parts.ensures.call giver target s.records.items way types v (call_places giver way types f.passed.slots.now v)
+    (subst (λ e. TellAll giver e s.records.items (call_parts way types v) (call_places giver way types f.passed.slots.now v)) on.goes_to (told giver target types v t scanned f s scans on))
+    ∙ same_requests giver.encoding target (call_parts way types v) (tags_of s.records.items) (taken.tags_of (met giver way types f.passed.slots.now v))
+    (λ latin1. ap (λ rs. tags_of rs.items) on.records ∙ scans.tagged latin1)))
 
 pub returns-clause-same : goal.returns-clause-same
 returns-clause-same c = λ giver receiver target way types given received v t scanned scans denoted u.
