@@ -32,17 +32,13 @@ use cm_abi_lift::{PartRecord, Passed, Scan, Scanner, first_fault, hand_over};
 use cm_abi_load::{Giver, MetHandle, Progress, Stop};
 use cm_abi_lower::HandleLeaf;
 use cm_abi_model::laws::nothing_is_met_without_parts;
-use cm_abi_model::{AbiFault, StringEncoding};
+use cm_abi_model::{AbiFault, MAX_CONTENT, StringEncoding};
 use cm_abi_requests::PartRequests;
 use cm_abi_requests::laws::content_of_what_is_denoted;
 use cm_abi_requests::requesting_laws::small_parts_can_be_asked_for;
 use cm_handles::{Handle, Table};
 use cm_layout::Layout;
 use std::alloc::Global;
-
-/// The most bytes of strings and lists in one direction of a call: of a list its length times the
-/// size of an element, and of a string its bytes as they stand in the giver's memory.
-const MAX_CONTENT: u32 = 16_777_216;
 
 /// Values that were scanned.
 #[derive(Drop)]

@@ -20,3 +20,6 @@ mod LoweredLaws
 pub mod ReceivedStays
 pub mod NoStrings
 pub mod NothingMet
+pub mod MetThere
+pub mod OneAcross
+pub mod TakenLaws
