@@ -47,9 +47,9 @@ pub record IsKept (w : Source) (target : StringEncoding) (limit : ℕ) (l : Layo
       → leaves_of s.handles.items ≡ leaves_in (tuple_of types) v
 
 -- Values were scanned in a view, for strings to be stored in an encoding: the core values denote
--- one that can be handed over, its handles are, and are told as the value has them; and the records
--- tell its parts, each at its place, with the tags of its strings where they have tags, and with the
--- requests for them, none of them answered.
+-- one that can be handed over, its handles are, and are told as the value has them. The records
+-- tell its parts, each at its place, with the tags of its strings where these have tags; and the
+-- parts are asked for, with none of the requests answered.
 pub record ScansCall (w : View) (target : StringEncoding) (way : Way) (types : Fields)
     (slots : List CoreValue) (v : Val) (table : Handles) (s : Scanned) : Type 0 where
   pub lifts : (tags : List Bool) × Lifts w way types slots v tags (scanned_with table s)

@@ -23,3 +23,4 @@ pub mod NothingMet
 pub mod MetThere
 pub mod OneAcross
 pub mod TakenLaws
+pub mod AskedFor

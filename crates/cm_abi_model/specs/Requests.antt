@@ -169,3 +169,13 @@ abbrev pub requests : Way → Fields → Val → StringEncoding → StringEncodi
     → List Request
 requests way types v source target tags =
     part_requests source target tags (call_parts way types v)
+
+-- what is asked for the tuple of these types, where it is spilled
+abbrev pub spilled_request : Fields → Request
+spilled_request types =
+    record {
+      chained = false;
+      old_size = 0;
+      align = align_of (tuple_of types);
+      size = size_of (tuple_of types);
+    }

@@ -1,7 +1,8 @@
 //! What holds of the definitions, as laws: each function here does nothing, and its contract is the
 //! law.
 
-ghost use Rattle.std.specs.Prelude.{◌≡◌, ◌↔◌, ◌≤◌, ℕ, List, [], length};
+ghost use Rattle.std.specs.Prelude.{◌≡◌, ◌↔◌, ◌≤◌, ℕ, Bool, true, List, [], Some, length};
+ghost use Rattle.std.specs.Prelude.{slice_get};
 ghost use Rattle.cm_types.specs.declared.core_value.CoreValue.{CoreValue};
 ghost use Rattle.cm_handles.specs.Handles.{Handles, IsSoundHandles};
 ghost use Rattle.cm_types.specs.Types.{Fields, Ty};
@@ -14,7 +15,8 @@ ghost use Rattle.cm_abi_model.specs.Receives.{call_bytes, leaves_in};
 ghost use Rattle.cm_abi_model.specs.Parts.{Part};
 ghost use Rattle.cm_abi_model.specs.Regions.{AllAt, AreApart, ArePlaced, IsInPart, part_size};
 ghost use Rattle.cm_abi_model.specs.Requests.{HasScalars, last_size, part_sizes};
-ghost use Rattle.cm_abi_model.specs.Requests.{call_parts, stored_charset, tuple_of};
+ghost use Rattle.cm_abi_model.specs.Requests.{call_parts, is_spilled, requests, spilled_request};
+ghost use Rattle.cm_abi_model.specs.Requests.{stored_charset, tuple_of};
 ghost use Rattle.cm_abi_model.specs.Taken.{AllThere, CanGo, GoesInTurn, Met, Transferable};
 ghost use Rattle.cm_abi_model.specs.Taken.{after_met, met};
 ghost use Rattle.cm_abi_model.specs.Texts.{Charset};
@@ -78,6 +80,18 @@ pub fn places_are_read_alike()
         → ArePlaced f m g k parts }
     ensures apart { (e f : StringEncoding) (g : Given) (k : ℕ) (parts : List Part)
         → stored_charset e ≡ stored_charset f → AreApart e g k parts → AreApart f g k parts }
+{}
+
+/// Nothing is asked for exactly where a call passes no part. Where what it passes is spilled, the
+/// bytes of its tuple are asked for first, in their own size and alignment, and nothing is handed
+/// back for them.
+pub fn each_part_is_asked_for()
+    ensures none { (way : Way) (types : Fields) (v : Val) (source target : StringEncoding)
+        (tags : List Bool) → requests way types v source target tags ≡ []
+        ↔ call_parts way types v ≡ [] }
+    ensures tuple { (way : Way) (types : Fields) (v : Val) (source target : StringEncoding)
+        (tags : List Bool) → is_spilled way types ≡ true
+        → slice_get (requests way types v source target tags) 0 ≡ Some (spilled_request types) }
 {}
 
 /// The last size that is asked for a part is the size that it takes where it is stored.
