@@ -19,7 +19,7 @@ each_counted P Q no_vals one all = refl
 each_counted P Q (val v vs) one all = omega (arith, length-append (P v) (parts_each P vs), one v all.0, each_counted P Q vs one all.1)
 
 mutual
-  counted : (t : Ty) (v : Val) → HasType t v → length (parts_in t v) ≡ part_count v
+  pub counted : (t : Ty) (v : Val) → HasType t v → length (parts_in t v) ≡ part_count v
   counted bool (truth b) typed = refl
   counted (signed w) (signed_number z) typed = refl
   counted (unsigned w) (number n) typed = refl

@@ -8,3 +8,4 @@ mod SlotLemmas
 mod CountLemmas
 mod CallLemmas
 mod ReadyLemmas
+mod ScannedLaws

@@ -34,6 +34,12 @@ owned_in [] = []
 owned_in (owned_leaf h ∷ leaves) = h ∷ owned_in leaves
 owned_in (borrowed_leaf h ∷ leaves) = owned_in leaves
 
+-- and those to be borrowed
+abbrev pub borrowed_in : List HandleLeaf → List HandleValue
+borrowed_in [] = []
+borrowed_in (owned_leaf h ∷ leaves) = borrowed_in leaves
+borrowed_in (borrowed_leaf h ∷ leaves) = h ∷ borrowed_in leaves
+
 -- What a scan found in a view goes on as it stood: by the layout of the types, which a file can
 -- spell, from that memory, with the handles and the records that were kept, from the encoding of
 -- the view to one in which values of them may be stored. The requests may be answered meanwhile.

@@ -46,18 +46,18 @@ tell_both w target (r ∷ rs) qs (p ∷ ps) os [] ns h k = absurd h
 
 -- ---- slots
 
-at_first : (s : List CoreValue) (k : ℕ) → wrapped_at 4 (drop k s) 0 ≡ wrapped_at 4 s k
+pub at_first : (s : List CoreValue) (k : ℕ) → wrapped_at 4 (drop k s) 0 ≡ wrapped_at 4 s k
 at_first s k =
     let here : k + 0 ≡ k = omega arith in
     ap (λ v. slot_number v % 2 ^ 32) (get_or-drop k s 0 (core_value.I32 0) ∙ ap (λ n. get_or s n (core_value.I32 0)) here)
 
-at_second : (s : List CoreValue) (k : ℕ) → wrapped_at 4 (drop k s) 1 ≡ wrapped_at 4 s (k + 1)
+pub at_second : (s : List CoreValue) (k : ℕ) → wrapped_at 4 (drop k s) 1 ≡ wrapped_at 4 s (k + 1)
 at_second s k = ap (λ v. slot_number v % 2 ^ 32) (get_or-drop k s 1 (core_value.I32 0))
 
 two_slots : {X : Type 0} (F : ℕ → ℕ → X) (s : List CoreValue) (k : ℕ) → F (wrapped_at 4 s k) (wrapped_at 4 s (k + 1)) ≡ F (wrapped_at 4 (drop k s) 0) (wrapped_at 4 (drop k s) 1)
 two_slots F s k = sym (ap (λ n. F n (wrapped_at 4 (drop k s) 1)) (at_first s k) ∙ ap (F (wrapped_at 4 s k)) (at_second s k))
 
-drop_twice : (w k : ℕ) (s : List CoreValue) → drop w (drop k s) ≡ drop (k + w) s
+pub drop_twice : (w k : ℕ) (s : List CoreValue) → drop w (drop k s) ≡ drop (k + w) s
 drop_twice w zero s = let same : w ≡ 0 + w = omega arith in ap (λ n. drop n s) same
 drop_twice w (suc k) [] = drop-nil w ∙ sym (drop-nil (suc k + w))
 drop_twice w (suc k) (x ∷ s) =
@@ -142,7 +142,7 @@ by_way : Laws → (w : View) (target : StringEncoding) (way : Way) (types : Fiel
 by_way laws w target way types slots v true spilled flat = spilled_tells laws w target types (wrapped_at 4 slots 0) v (spilled refl)
 by_way laws w target way types slots v false spilled flat = flat_tells laws w target slots (tuple_of types) 0 v (flat refl)
 
-not_both : (b : Bool) → b ≡ true → b ≡ false → ⊥
+pub not_both : (b : Bool) → b ≡ true → b ≡ false → ⊥
 not_both b t f = cc
 
 pub passed_tells : Laws → (w : View) (target : StringEncoding) (way : Way) (types : Fields) (slots : List CoreValue) (v : Val) → Denotes w way types slots v

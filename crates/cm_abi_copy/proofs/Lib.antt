@@ -15,5 +15,6 @@ pub mod SizeLaws
 pub mod LeafLaws
 pub mod FoundLaws
 pub mod FlatTells
+mod TagLaws
 pub mod ScanCallCallLemmas
 pub mod NothingLaws

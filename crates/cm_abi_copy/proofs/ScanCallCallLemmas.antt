@@ -8,6 +8,7 @@ use Rattle.cm_handles.specs.Handles.{Handles}
 use Rattle.cm_layout.specs.Shapes.{LayoutTy, layout_of_fields_at}
 use Rattle.cm_layout.specs.Sizes.{align_of, size_of}
 use Rattle.cm_abi_model.specs.declared.encoding.StringEncoding.{StringEncoding}
+use Rattle.cm_abi_model.specs.declared.encoding.StringEncoding.TheVariants.{Latin1OrUtf16}
 use Rattle.cm_abi_model.specs.declared.fault.AbiFault.{AbiFault}
 use Rattle.cm_abi_model.specs.Denotes.{Denotes}
 use Rattle.cm_abi_model.specs.Parts.{Part, element_part, parts_in}
@@ -25,12 +26,13 @@ use Rattle.cm_abi_lift.specs.Lifts.{IsGivenBy, Lifts, fresh, lift_of}
 use Rattle.cm_abi_lift.specs.cm_abi_load.declared.record.PartRecord.{PartRecord}
 use Rattle.cm_abi_requests.specs.Asking.{content_of_parts}
 use Rattle.cm_abi_requests.specs.RecordRequests.{AreAskable, IsAskable, IsCounted, requests_for}
+use Rattle.cm_abi_requests.specs.RecordRequests as records
 use Rattle.cm_abi_lift.specs.cm_abi_load.declared.record.PartKind.{PartKind}
 use Rattle.cm_abi_lift.specs.cm_abi_load.declared.record.PartKind.TheVariants as kind
 use Rattle.cm_abi_lift.specs.Telling.{TellAll, Tells, TellsSource}
 use Rattle.cm_abi_copy.specs.CallPlaces.{call_places}
 use Rattle.cm_abi_lift.specs.FlatRecords.{passed_records}
-use Rattle.cm_abi_copy.specs.Scans.{IsKept, ScansCall, giver_of, scanned_with}
+use Rattle.cm_abi_copy.specs.Scans.{IsKept, KeepsNothing, ScansCall, giver_of, scanned_with}
 use Rattle.cm_abi_load.specs.Meeting.{AreAsWanted, Meets}
 use Rattle.cm_abi_model.specs.Receives.{HandleLeaf, leaves_in}
 use Rattle.cm_abi_copy.specs.MetLeaves.{leaves_found}
@@ -63,22 +65,36 @@ abbrev pub TellsLaw : Type 0
 TellsLaw = (w : View) (target : StringEncoding) (way : Way) (types : Fields) (slots : List CoreValue) (v : Val) → Denotes w way types slots v
     → TellAll w target (passed_records (seen_by w) target (flat_limit way) (layout_of_fields_at types) slots v) (call_parts way types v) (call_places w way types slots v)
 
-pub scans_given : LiftsLaw → TellsLaw → (w : View) (target : StringEncoding) (memory : List ℕ) (table after : Handles) (encoding : StringEncoding) (way : Way) (l : LayoutTy) (types : Fields) (slots : List CoreValue) (v : Val) (tags : List Bool) (s : Scanned)
+abbrev pub TagsLaw : Type 0
+TagsLaw = (w : View) (target : StringEncoding) (way : Way) (types : Fields) (slots : List CoreValue) (v : Val) → w.encoding ≡ Latin1OrUtf16 → Denotes w way types slots v
+    → records.tags_of (passed_records (seen_by w) target (flat_limit way) (layout_of_fields_at types) slots v) ≡ tags_of (met w way types slots v)
+
+pub scans_given : LiftsLaw → TellsLaw → TagsLaw → (w : View) (target : StringEncoding) (memory : List ℕ) (table after : Handles) (encoding : StringEncoding) (way : Way) (l : LayoutTy) (types : Fields) (slots : List CoreValue) (v : Val) (tags : List Bool) (s : Scanned)
     → IsGivenBy w memory table encoding → l ≡ layout_of_fields_at types → lift_of memory table encoding way l slots ≡ Ok (v, tags, scanned_with after s)
     → IsKept (giver_of memory table encoding) target (flat_limit way) l slots v s
     → ScansCall w target way types slots v after s
-scans_given lifts tells w target memory table after encoding way l types slots v tags s is same e keeps =
+scans_given lifts tells tags_law w target memory table after encoding way l types slots v tags s is same e keeps =
     let lifted = lifts w way types slots v tags (scanned_with after s) (sym (same_lift w memory table encoding way l (layout_of_fields_at types) slots is same) ∙ e) in
     let records_are = keeps.records ∙ same_records w target memory table encoding (flat_limit way) l (layout_of_fields_at types) slots v is same in
     record {
       lifts = (tags, lifted);
       tells = subst (λ rs. TellAll w target rs (call_parts way types v) (call_places w way types slots v)) (sym records_are) (tells w target way types slots v lifted.denoted);
+      tagged = λ latin1. ap records.tags_of records_are ∙ tags_law w target way types slots v latin1 lifted.denoted;
       asks = keeps.asks ∙ ap (λ x. requests_for x target s.requests.records.items) (sym is.encoding_is);
       unanswered = keeps.unanswered;
       source = keeps.source ∙ sym is.encoding_is;
       goes_to = keeps.goes_to;
       handles = keeps.handles types same;
     }
+
+-- nothing is kept of a view where nothing is kept of what it is a view of
+pub nothing_given : (w : View) (target : StringEncoding) (memory : List ℕ) (table : Handles) (encoding : StringEncoding) (way : Way) (l k : LayoutTy) (slots : List CoreValue) → IsGivenBy w memory table encoding → l ≡ k
+    → KeepsNothing (seen_by w) target (flat_limit way) k slots → KeepsNothing (giver_of memory table encoding) target (flat_limit way) l slots
+nothing_given w target memory table encoding way l k slots is same kept =
+    subst (λ m. KeepsNothing (giver_of m table encoding) target (flat_limit way) l slots) is.memory_is
+    (subst (λ t. KeepsNothing (giver_of w.memory t encoding) target (flat_limit way) l slots) is.table_is
+    (subst (λ e. KeepsNothing (giver_of w.memory w.table e) target (flat_limit way) l slots) is.encoding_is
+    (subst (λ x. KeepsNothing (seen_by w) target (flat_limit way) x slots) (sym same) kept)))
 
 not_both : (r : Result (Val × List Bool × Hands) AbiFault) (x : Val × List Bool × Hands) (f : AbiFault) → r ≡ Ok x → r ≡ Err f → ⊥
 not_both r x f a b = cc

@@ -1,6 +1,6 @@
 //! The values of a call, copied to its receiver.
 
-ghost use Rattle.std.specs.Prelude.{◌≡◌, ◌^◌, ◌<◌, ℕ, IfErr, List, OnErr, OnOk, length, map};
+ghost use Rattle.std.specs.Prelude.{◌≡◌, ◌^◌, ◌<◌, ℕ, IfErr, IfOk, List, OnErr, OnOk, length, map};
 ghost use Rattle.std.specs.Prelude.{slice_index};
 ghost use Rattle.cm_types.specs.CoreValues.{kind_of};
 ghost use Rattle.cm_types.specs.Types.{Fields};
@@ -42,10 +42,14 @@ use std::alloc::Global;
 /// The bytes of the values are written, each at its address, and no other byte; exactly their
 /// handles are added to the table.
 ///
-/// Else the answer is a fault, and memory, handles and core values are as they were: `Overlap`
+/// The answer is the number that stands for each handle, in reading order: its index in the table,
+/// or that representation.
+///
+/// Else there is a fault, and memory, handles and core values are as they were: `Overlap`
 /// where the regions of two parts overlap, else `TableFull` where the table has fewer indices left
 /// than it is to get handles, else `EngineMemory` where there is no memory for their numbers or for
-/// the table; values without handles take none.
+/// the table; values without handles take none. Of the requests nothing but the room for their
+/// regions is changed, also where there is a fault.
 pub fn copy(
     alloc: Global,
     memory: &mut [u8],
@@ -54,7 +58,7 @@ pub fn copy(
     to: Receiver,
     found: &Found<'_>,
     requests: &mut PartRequests,
-) -> Result<(), AbiFault>
+) -> Result<Vec<u32>, AbiFault>
     requires copied { (giver : View) × (answers : List ℕ) × (types : Fields) × (v : Val)
         × FoundCanBeCopied (length memory.old) (map kind_of slots.old) giver found.now requests.old
         answers types v }
@@ -83,6 +87,10 @@ pub fn copy(
         answers types v
         → OnOk result (Gives to table.old.handles table.new.handles (handles_of_values types v)
         (numbers_given to table.old.handles (handles_of_values types v))) }
+    ensures numbers { (giver : View) (answers : List ℕ) (types : Fields) (v : Val)
+        → FoundCanBeCopied (length memory.old) (map kind_of slots.old) giver found.now requests.old
+        answers types v → IfOk result (λ ns. ns.items
+        ≡ numbers_given to table.old.handles (handles_of_values types v)) }
     ensures apart { (giver : View) (answers : List ℕ) (types : Fields) (v : Val)
         → FoundCanBeCopied (length memory.old) (map kind_of slots.old) giver found.now requests.old
         answers types v → OnOk result (PartsAreApart requests.old answers) }
@@ -94,6 +102,8 @@ pub fn copy(
     ensures memory_stays { OnErr result (memory.new ≡ memory.old) }
     ensures table_stays { OnErr result (table.new.handles ≡ table.old.handles) }
     ensures slots_stay { OnErr result (slots.new ≡ slots.old) }
+    ensures requests_stay { requests.new
+        ≡ record requests.old { regions = requests.new.regions } }
 {
     what_can_be_copied_is_settled();
     what_is_stored_stays();
@@ -125,7 +135,7 @@ pub fn copy(
     let passed = &mut zeros[..slots.len()];
     copy_call(&from, &found.passed, memory, passed);
     put_numbers(passed, slots);
-    Ok(())
+    Ok(numbers)
 }
 
 /// A memory is one of bytes.

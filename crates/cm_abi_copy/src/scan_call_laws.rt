@@ -7,15 +7,18 @@ ghost use Rattle.cm_types.specs.Types.{Fields};
 ghost use Rattle.cm_types.specs.Values.{Val};
 ghost use Rattle.cm_layout.specs.Shapes.{layout_of_fields_at};
 ghost use Rattle.cm_abi_model.specs.declared.encoding.StringEncoding.{StringEncoding};
+ghost use Rattle.cm_abi_model.specs.declared.encoding.StringEncoding.TheVariants.{Latin1OrUtf16};
 ghost use Rattle.cm_abi_model.specs.Denotes.{Denotes};
 ghost use Rattle.cm_abi_model.specs.Receives.{leaves_in};
 ghost use Rattle.cm_abi_model.specs.Requests.{call_parts, tuple_of};
-ghost use Rattle.cm_abi_model.specs.Taken.{Transferable};
+ghost use Rattle.cm_abi_model.specs.Taken.{Transferable, met};
+ghost use Rattle.cm_abi_model.specs.Taken as taken;
 ghost use Rattle.cm_abi_model.specs.Views.{View, Way, flat_limit};
 ghost use Rattle.cm_abi_load.specs.Reading.{seen_by};
 ghost use Rattle.cm_abi_lift.specs.Telling.{TellAll};
 ghost use Rattle.cm_abi_copy.specs.CallPlaces.{call_places};
 ghost use Rattle.cm_abi_lift.specs.FlatRecords.{passed_records};
+ghost use Rattle.cm_abi_requests.specs.RecordRequests.{tags_of};
 ghost use Rattle.cm_abi_copy.specs.Scans.{KeepsNothing};
 
 use crate::met_laws::handles_that_are_met_are_the_values;
@@ -25,12 +28,18 @@ use cm_abi_load::laws::numbers_are_sized;
 
 /// The records of what core values denote tell its parts, one for one and in order, each at its
 /// place: where the values are behind a pointer their tuple first, then their strings and lists.
+/// Where the length of a string says by a tag what it is in, its record has that tag.
 pub fn records_tell_what_is_passed()
-    ensures { (w : View) (target : StringEncoding) (way : Way) (types : Fields)
+    ensures tells { (w : View) (target : StringEncoding) (way : Way) (types : Fields)
         (slots : List CoreValue) (v : Val) → Denotes w way types slots v
         → TellAll w target
         (passed_records (seen_by w) target (flat_limit way) (layout_of_fields_at types) slots v)
         (call_parts way types v) (call_places w way types slots v) }
+    ensures tags { (w : View) (target : StringEncoding) (way : Way) (types : Fields)
+        (slots : List CoreValue) (v : Val) → w.encoding ≡ Latin1OrUtf16
+        → Denotes w way types slots v → tags_of
+        (passed_records (seen_by w) target (flat_limit way) (layout_of_fields_at types) slots v)
+        ≡ taken.tags_of (met w way types slots v) }
 {
     numbers_are_sized();
     records_tell_parts();

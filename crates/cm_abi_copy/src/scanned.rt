@@ -8,6 +8,8 @@ ghost use Rattle.cm_layout.specs.Layouts.{layout_of};
 ghost use Rattle.cm_layout.specs.Shapes.{layout_of_fields_at};
 ghost use Rattle.cm_abi_model.specs.Denotes.{Denotes};
 ghost use Rattle.cm_abi_model.specs.LiftStops.{LiftStops};
+ghost use Rattle.cm_abi_model.specs.Receives.{leaves_in};
+ghost use Rattle.cm_abi_model.specs.Requests.{call_parts, tuple_of};
 ghost use Rattle.cm_abi_model.specs.Taken.{Transferable};
 ghost use Rattle.cm_abi_model.specs.Views.{View, flat_limit};
 ghost use Rattle.cm_abi_model.specs.Ways.{way_of};
@@ -24,22 +26,19 @@ ghost use Rattle.cm_abi_copy.specs.Scans.{scanned_with};
 use crate::handles_met;
 use crate::met_laws::handles_that_are_met_are_the_values;
 use crate::passed::scan_passed;
-use crate::scan_call_laws::records_tell_what_is_passed;
+use crate::scan_call_laws::{records_tell_what_is_passed, what_has_nothing_keeps_nothing};
 use cm_abi_lift::laws::{first_faults_are_told, lifting_is_exact, what_is_passed_is_met};
 use cm_abi_lift::{PartRecord, Passed, Scan, Scanner, first_fault, hand_over};
 use cm_abi_load::{Giver, MetHandle, Progress, Stop};
 use cm_abi_lower::HandleLeaf;
-use cm_abi_model::{AbiFault, StringEncoding};
+use cm_abi_model::laws::nothing_is_met_without_parts;
+use cm_abi_model::{AbiFault, MAX_CONTENT, StringEncoding};
 use cm_abi_requests::PartRequests;
 use cm_abi_requests::laws::content_of_what_is_denoted;
 use cm_abi_requests::requesting_laws::small_parts_can_be_asked_for;
 use cm_handles::{Handle, Table};
 use cm_layout::Layout;
 use std::alloc::Global;
-
-/// The most bytes of strings and lists in one direction of a call: of a list its length times the
-/// size of an element, and of a string its bytes as they stand in the giver's memory.
-const MAX_CONTENT: u32 = 16_777_216;
 
 /// Values that were scanned.
 #[derive(Drop)]
@@ -99,9 +98,12 @@ pub fn scan(
         → layout_of passed.now.layout.now ≡ layout_of_fields_at types
         → IfErr result (λ e. (e ≡ AbiFault.EngineMemory)
         ⊎ LiftStops w (way_of passed.now.way) types passed.now.slots.now e) }
-    ensures nothing { KeepsNothing (giver_of memory.now table.old.handles encodings.source)
-        encodings.target (flat_limit (way_of passed.now.way)) (layout_of passed.now.layout.now)
-        passed.now.slots.now → IsOk result }
+    ensures memory { (w : View) (types : Fields) (v : Val)
+        → IsGivenBy w memory.now table.old.handles encodings.source
+        → layout_of passed.now.layout.now ≡ layout_of_fields_at types
+        → Denotes w (way_of passed.now.way) types passed.now.slots.now v
+        → call_parts (way_of passed.now.way) types v ≡ [] → leaves_in (tuple_of types) v ≡ []
+        → IsOk result }
     ensures only { (w : View) (types : Fields) (v : Val)
         → IsGivenBy w memory.now table.old.handles encodings.source
         → layout_of passed.now.layout.now ≡ layout_of_fields_at types
@@ -113,6 +115,8 @@ pub fn scan(
     lifting_is_exact();
     first_faults_are_told();
     records_tell_what_is_passed();
+    nothing_is_met_without_parts();
+    what_has_nothing_keeps_nothing();
     scan_values(alloc, memory, table, encodings, passed)
 }
 

@@ -9,11 +9,8 @@ ghost use Rattle.cm_abi_copy.specs.Ready.{IsTextReady};
 ghost use Rattle.cm_abi_copy.specs.Shown.{scalars_at};
 
 use crate::copier::Copier;
-use cm_abi_model::StringEncoding;
+use cm_abi_model::{StringEncoding, UTF16_TAG};
 use cm_abi_store::write_text_of;
-
-/// The bit of a length that says UTF-16.
-const UTF16_TAG: u32 = 0x8000_0000;
 
 /// The bytes of a string at a pointer, of a tagged length.
 fn text_of(source: StringEncoding, memory: &[u8], at: u32, tagged: u32) -> &[u8]

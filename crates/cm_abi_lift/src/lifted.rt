@@ -20,14 +20,10 @@ use crate::handing::hand_over;
 use crate::laws::{first_faults_are_told, lifting_is_exact};
 use crate::passed::{Passed, read_passed};
 use cm_abi_load::{Giver, MetHandle, Progress, Stop};
-use cm_abi_model::{AbiFault, StringEncoding};
+use cm_abi_model::{AbiFault, MAX_CONTENT, StringEncoding};
 use cm_handles::{Handle, Table};
 use cm_types::Value;
 use std::alloc::Global;
-
-/// The most bytes of strings and lists in one direction of a call: of a list its length times the
-/// size of an element, and of a string its bytes as they stand in the giver's memory.
-const MAX_CONTENT: u32 = 16_777_216;
 
 /// Values that were lifted.
 #[derive(Drop)]

@@ -8,7 +8,7 @@ ghost use Rattle.std.proofs.lemmas.Grind.{common_steps};
 
 use cm_abi_load::laws::handles_stay_met;
 use cm_abi_load::{Giver, Maker, PartKind, PartRecord, Progress, Stop, measure_text};
-use cm_abi_model::StringEncoding;
+use cm_abi_model::{StringEncoding, UTF16_TAG};
 use cm_types::Value;
 use std::alloc::Global;
 
@@ -18,9 +18,6 @@ pub struct Recorder {
     /// How strings are encoded where the values go.
     pub target: StringEncoding,
 }
-
-/// The bit of a length that says UTF-16.
-const UTF16_TAG: u32 = 0x8000_0000;
 
 /// Whether a length says UTF-16 by its tag.
 fn is_tagged(encoding: StringEncoding, tagged: u32) -> bool

@@ -14,8 +14,8 @@ use crate::giver::Giver;
 use crate::progress::Progress;
 use crate::regions::check_region;
 use crate::stop::Stop;
-use crate::texts::{UTF16_TAG, keep_tag, text_align, text_size};
-use cm_abi_model::{AbiFault, StringEncoding};
+use crate::texts::{keep_tag, text_align, text_size};
+use cm_abi_model::{AbiFault, StringEncoding, UTF16_TAG};
 use cm_text::{Encoding, Latin1, Source, Utf8, Utf16, transcoded_size};
 
 /// How many bytes the text of an encoding takes in another.

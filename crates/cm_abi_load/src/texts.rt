@@ -15,13 +15,10 @@ use crate::giver::Giver;
 use crate::progress::Progress;
 use crate::regions::check_region;
 use crate::stop::Stop;
-use cm_abi_model::{AbiFault, StringEncoding};
+use cm_abi_model::{AbiFault, StringEncoding, UTF16_TAG};
 use cm_text::{Latin1, Source, TextFault, Utf8, Utf16, transcode};
 use cm_types::Value;
 use std::alloc::Global;
-
-/// The bit of a length that says UTF-16.
-pub(crate) const UTF16_TAG: u32 = 0x8000_0000;
 
 /// The alignment of a string's pointer, in bytes.
 pub(crate) fn text_align(encoding: StringEncoding) -> u32

@@ -20,3 +20,7 @@ mod LoweredLaws
 pub mod ReceivedStays
 pub mod NoStrings
 pub mod NothingMet
+pub mod MetThere
+pub mod OneAcross
+pub mod TakenLaws
+pub mod AskedFor

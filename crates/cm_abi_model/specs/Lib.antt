@@ -20,3 +20,4 @@ pub mod PartPlaces
 pub mod Passed
 pub mod Strings
 pub mod Later
+pub mod Handed

@@ -1,7 +1,7 @@
 -- The memory that a lowering asks for (CanonicalABI.md, "Storing" of lists and strings; that all of
 -- it is asked for before anything is stored, in reading order and in these sizes, is this project's
 -- own choice).
-use Rattle.std.specs.Prelude.{ℕ, ◌*◌, ◌/◌, ◌⊎◌, ⊤, Bool, true, false, List, [], ◌∷◌, ◌++◌}
+use Rattle.std.specs.Prelude.{ℕ, ◌+◌, ◌*◌, ◌/◌, ◌⊎◌, ⊤, Bool, true, false, List, [], ◌∷◌, ◌++◌}
 use Rattle.std.specs.Prelude.{length, nat_lt, if◌then◌else◌}
 use Rattle.std.specs.List.{AllByRecursion, flat_map}
 use Rattle.cm_types.specs.Types.{Ty, Fields, Cases, string, list, fixed_list, fields, cases}
@@ -14,7 +14,8 @@ use Rattle.cm_abi_model.specs.declared.encoding.StringEncoding.TheVariants as en
 use Rattle.cm_abi_model.specs.declared.request.Request.{Request}
 use Rattle.cm_abi_model.specs.Texts.{Charset, Has, utf8, utf16, latin1, spell, unit_size}
 use Rattle.cm_abi_model.specs.Texts.{text_align}
-use Rattle.cm_abi_model.specs.Parts.{Part, text_part, element_part, parts_in}
+use Rattle.cm_abi_model.specs.Parts.{Part, text_part, element_part, handle_count, part_count}
+use Rattle.cm_abi_model.specs.Parts.{parts_in}
 use Rattle.cm_abi_model.specs.Views.{Way, flat_limit}
 
 -- what a string is in, where a tag says whether it is Latin-1 or UTF-16: UTF-16 where it is set
@@ -156,9 +157,25 @@ call_parts way types v =
     ∷ parts_in (tuple_of types) v
     else parts_in (tuple_of types) v
 
+-- how many things are kept of a value while it is passed that way: its strings and its lists, its
+-- tuple where that is spilled, and its handles
+abbrev pub parts_of : Way → Fields → Val → ℕ
+parts_of way types v =
+    (if is_spilled way types then 1 else 0) + part_count v + handle_count v
+
 -- what lowering the tuple of these types asks for. The tuple of results is answered by the pointer
 -- that the caller gave.
 abbrev pub requests : Way → Fields → Val → StringEncoding → StringEncoding → List Bool
     → List Request
 requests way types v source target tags =
     part_requests source target tags (call_parts way types v)
+
+-- what is asked for the tuple of these types, where it is spilled
+abbrev pub spilled_request : Fields → Request
+spilled_request types =
+    record {
+      chained = false;
+      old_size = 0;
+      align = align_of (tuple_of types);
+      size = size_of (tuple_of types);
+    }

@@ -11,6 +11,7 @@ use Rattle.cm_handles.specs.Handles.{Handles, IsDistinct, after_lend, after_rele
 use Rattle.cm_handles.specs.declared.handle.Handle.{Handle}
 use Rattle.cm_layout.specs.Alignment.{align_to}
 use Rattle.cm_layout.specs.Sizes.{align_of, size_of, payload_offset}
+use Rattle.cm_abi_model.specs.declared.limits.TheConstants as constants
 use Rattle.cm_abi_model.specs.declared.encoding.StringEncoding.{StringEncoding}
 use Rattle.cm_abi_model.specs.Numbers.{number_at, wrapped_at}
 use Rattle.cm_abi_model.specs.Views.{View, Way}
@@ -130,7 +131,7 @@ lent_of (lent i ∷ ms) = i ∷ lent_of ms
 
 -- the most bytes of strings and lists in one direction of a call
 abbrev pub MAX_CONTENT : ℕ
-MAX_CONTENT = 16_777_216
+MAX_CONTENT = constants.MAX_CONTENT
 
 -- What was met can be handed over: no handle is owned twice, none that is to be owned is lent to a
 -- call, or to be borrowed as well, and the content is at most so much.

@@ -6,6 +6,7 @@ use Rattle.cm_text.specs.Text.{IsText}
 use Rattle.cm_text.specs.Utf8.{spell_utf8}
 use Rattle.cm_text.specs.Utf16.{spell_utf16}
 use Rattle.cm_text.specs.Latin1.{HasLatin1, spell_latin1}
+use Rattle.cm_abi_model.specs.declared.encoding.TheConstants as constants
 use Rattle.cm_abi_model.specs.declared.encoding.StringEncoding.{StringEncoding}
 use Rattle.cm_abi_model.specs.declared.encoding.StringEncoding.TheVariants as encoding
 
@@ -34,7 +35,7 @@ unit_size latin1 = 1
 
 -- the bit of a length that says UTF-16, where strings are in Latin-1 or in UTF-16
 abbrev pub UTF16_TAG : ℕ
-UTF16_TAG = 0x8000_0000
+UTF16_TAG = constants.UTF16_TAG
 
 -- what the string of this length is in
 abbrev pub charset_of : StringEncoding → ℕ → Charset

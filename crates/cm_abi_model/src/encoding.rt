@@ -1,5 +1,9 @@
 //! How a canonical definition says that strings are encoded.
 
+/// The bit of a length that says UTF-16, where strings are in Latin-1 or in UTF-16
+/// (CanonicalABI.md, `UTF16_TAG`).
+pub const UTF16_TAG: u32 = 0x8000_0000;
+
 /// The encoding of the strings of a canonical definition (CanonicalABI.md, the options
 /// `string-encoding`).
 #[derive(Clone, Copy, Debug, PartialEq, Eq)]

@@ -1,26 +1,31 @@
 //! What holds of the definitions, as laws: each function here does nothing, and its contract is the
 //! law.
 
-ghost use Rattle.std.specs.Prelude.{◌≡◌, ◌↔◌, ◌≤◌, ℕ, List, [], length};
+ghost use Rattle.std.specs.Prelude.{◌≡◌, ◌↔◌, ◌≤◌, ℕ, Bool, true, List, [], Some, length};
+ghost use Rattle.std.specs.Prelude.{slice_get};
 ghost use Rattle.cm_types.specs.declared.core_value.CoreValue.{CoreValue};
-ghost use Rattle.cm_handles.specs.Handles.{Handles};
+ghost use Rattle.cm_handles.specs.Handles.{Handles, IsSoundHandles};
 ghost use Rattle.cm_types.specs.Types.{Fields, Ty};
 ghost use Rattle.cm_types.specs.Values.{HasType, Val};
 ghost use Rattle.cm_abi_model.specs.Denotes.{Denotes};
+ghost use Rattle.cm_abi_model.specs.Handed.{IsHanded};
 ghost use Rattle.cm_abi_model.specs.Later.{IsLater};
 ghost use Rattle.cm_abi_model.specs.Receives.{NoneImplemented, Receives, Serves};
 ghost use Rattle.cm_abi_model.specs.Receives.{call_bytes, leaves_in};
 ghost use Rattle.cm_abi_model.specs.Parts.{Part};
 ghost use Rattle.cm_abi_model.specs.Regions.{AllAt, AreApart, ArePlaced, IsInPart, part_size};
 ghost use Rattle.cm_abi_model.specs.Requests.{HasScalars, last_size, part_sizes};
-ghost use Rattle.cm_abi_model.specs.Requests.{call_parts, stored_charset, tuple_of};
-ghost use Rattle.cm_abi_model.specs.Taken.{AllThere, CanGo, GoesInTurn, Met, Transferable, met};
+ghost use Rattle.cm_abi_model.specs.Requests.{call_parts, is_spilled, requests, spilled_request};
+ghost use Rattle.cm_abi_model.specs.Requests.{stored_charset, tuple_of};
+ghost use Rattle.cm_abi_model.specs.Taken.{AllThere, CanGo, GoesInTurn, Met, Transferable};
+ghost use Rattle.cm_abi_model.specs.Taken.{after_met, met};
 ghost use Rattle.cm_abi_model.specs.Texts.{Charset};
 ghost use Rattle.cm_abi_model.specs.declared.encoding.StringEncoding.{StringEncoding};
 ghost use Rattle.cm_abi_model.specs.Shows.{Shows};
 ghost use Rattle.cm_abi_model.specs.Stores.{Framed, Given, Holds, poke};
 ghost use Rattle.cm_abi_model.specs.Views.{View, Way};
 
+use cm_handles::laws::tables_change_in_one_place;
 use cm_text::laws::one_list_of_scalars;
 use cm_text::{Latin1, Utf8, Utf16};
 
@@ -31,6 +36,20 @@ pub fn denotations_are_unique()
         → u ≡ v }
     ensures denoted { (w : View) (way : Way) (types : Fields) (slots : List CoreValue) (u v : Val)
         → Denotes w way types slots u → Denotes w way types slots v → u ≡ v }
+{
+    one_list_of_scalars::<Utf8>();
+    one_list_of_scalars::<Utf16>();
+    one_list_of_scalars::<Latin1>();
+}
+
+/// Of a memory and of handles there is one value that core values denote: where the memory and the
+/// handles of the values are the same, so are the values, whatever the tables are by then. So one
+/// value is on its way, from the call to its entry.
+pub fn one_value_is_on_its_way()
+    ensures { (w u : View) (way : Way) (types : Fields) (slots : List CoreValue) (v x : Val)
+        → w.memory ≡ u.memory → w.encoding ≡ u.encoding → Denotes w way types slots v
+        → Denotes u way types slots x
+        → leaves_in (tuple_of types) v ≡ leaves_in (tuple_of types) x → v ≡ x }
 {
     one_list_of_scalars::<Utf8>();
     one_list_of_scalars::<Utf16>();
@@ -61,6 +80,18 @@ pub fn places_are_read_alike()
         → ArePlaced f m g k parts }
     ensures apart { (e f : StringEncoding) (g : Given) (k : ℕ) (parts : List Part)
         → stored_charset e ≡ stored_charset f → AreApart e g k parts → AreApart f g k parts }
+{}
+
+/// Nothing is asked for exactly where a call passes no part. Where what it passes is spilled, the
+/// bytes of its tuple are asked for first, in their own size and alignment, and nothing is handed
+/// back for them.
+pub fn each_part_is_asked_for()
+    ensures none { (way : Way) (types : Fields) (v : Val) (source target : StringEncoding)
+        (tags : List Bool) → requests way types v source target tags ≡ []
+        ↔ call_parts way types v ≡ [] }
+    ensures tuple { (way : Way) (types : Fields) (v : Val) (source target : StringEncoding)
+        (tags : List Bool) → is_spilled way types ≡ true
+        → slice_get (requests way types v source target tags) 0 ≡ Some (spilled_request types) }
 {}
 
 /// The last size that is asked for a part is the size that it takes where it is stored.
@@ -105,3 +136,19 @@ pub fn handing_over_goes_in_turn()
     ensures { (t : Handles) (most : ℕ) (ms : List Met) → AllThere t ms
         → CanGo t most ms ↔ GoesInTurn t most ms }
 {}
+
+/// Each handle that is met in what core values denote stands in the table, so what is lent or taken
+/// stood there.
+pub fn what_is_met_stands()
+    ensures { (w : View) (way : Way) (types : Fields) (slots : List CoreValue) (v : Val)
+        → Denotes w way types slots v → AllThere w.table (met w way types slots v) }
+{}
+
+/// What a sound table has once all that was met was handed over: nothing where a handle was to be
+/// owned, and each other handle where it stood, lent once more each time that it is borrowed.
+pub fn what_is_handed_over_is_counted()
+    ensures { (t : Handles) (most : ℕ) (ms : List Met) → AllThere t ms → CanGo t most ms
+        → IsSoundHandles t → IsHanded t ms (after_met t ms) }
+{
+    tables_change_in_one_place();
+}

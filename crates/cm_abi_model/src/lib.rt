@@ -8,11 +8,13 @@
 mod encoding;
 mod fault;
 pub mod laws;
+mod limits;
 mod request;
 pub mod standard_laws;
 mod way;
 
-pub use encoding::StringEncoding;
+pub use encoding::{StringEncoding, UTF16_TAG};
 pub use fault::AbiFault;
+pub use limits::MAX_CONTENT;
 pub use request::Request;
 pub use way::Way;

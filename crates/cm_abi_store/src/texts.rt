@@ -9,12 +9,9 @@ ghost use Rattle.cm_abi_model.specs.Texts.{Has, charset_of, latin1, spell, utf16
 ghost use Rattle.cm_text.specs.Text.{IsText, IsTextOfSize};
 
 use crate::bytes::write_bytes;
-use cm_abi_model::StringEncoding;
+use cm_abi_model::{StringEncoding, UTF16_TAG};
 use cm_text::laws::one_list_of_scalars;
 use cm_text::{Encoding, Latin1, Source, Utf8, Utf16, transcode_into, transcoded_size};
-
-/// The bit of a length that says UTF-16.
-const UTF16_TAG: u32 = 0x8000_0000;
 
 /// Writes a text of one encoding in another one, where it takes so many bytes.
 fn write_transcoded<S: Source, D: Encoding>(memory: &mut [u8], at: usize, size: usize, bytes: &[u8])

@@ -126,7 +126,7 @@ fn copy_values(
         &mut requests,
     );
     match copied {
-        Ok(()) => write_received(line, Ok(slots), &memory, &received),
+        Ok(_) => write_received(line, Ok(slots), &memory, &received),
         Err(fault) => write_received(line, Err(fault), &memory, &received),
     }
 }

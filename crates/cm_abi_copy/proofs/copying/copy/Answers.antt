@@ -237,6 +237,11 @@ returns-clause-framed c = λ giver answers types v can.
     let stored = framed (length c.args.memory.now) (map kind_of c.args.slots.now) giver c.args.found.now c.args.requests.now answers types v c.args.to c.args.table.now.handles c.give.new.table.handles c.in-Ok.numbers.items can settled c.in-Ok.ensures.gives c.what_is_stored_stays.ensures c.args.memory.now c.copy_call.new.memory refl clear bytes in
     stored.1
 
+pub returns-clause-numbers : goal.returns-clause-numbers
+returns-clause-numbers c = λ giver answers types v can.
+    let settled = c.what_can_be_copied_is_settled.ensures (length c.args.memory.now) (map kind_of c.args.slots.now) giver c.args.found.now c.args.requests.now answers types v c.are_bytes.ensures can in
+    numbers_are (length c.args.memory.now) (map kind_of c.args.slots.now) giver c.args.found.now c.args.requests.now answers types v c.args.to c.args.table.now.handles c.give.new.table.handles c.in-Ok.numbers.items can settled c.in-Ok.ensures.gives
+
 pub returns-clause-apart : goal.returns-clause-apart
 returns-clause-apart c = λ giver answers types v can.
     let settled = c.what_can_be_copied_is_settled.ensures (length c.args.memory.now) (map kind_of c.args.slots.now) giver c.args.found.now c.args.requests.now answers types v c.are_bytes.ensures can in

@@ -23,7 +23,7 @@ ask_for-requires c =
     record {
       askable = read_askable c.args.memory.now c.args.table.now.handles c.args.encodings.source c.args.encodings.target (way_of c.args.passed.now.way) (layout_of c.args.passed.now.layout.now) c.requires.layout.0 c.args.passed.now.slots.now
           c.scan_passed.new.scan.records.items (state_of c.scan_passed.new.scan.progress) c.requires.layout.1 (read c)
-          c.what_is_passed_is_met.ensures.denoted c.what_is_passed_is_met.ensures.met c.records_tell_what_is_passed.ensures c.content_of_what_is_denoted.ensures.tagged c.small_parts_can_be_asked_for.ensures c.size_fits.ensures;
+          c.what_is_passed_is_met.ensures.denoted c.what_is_passed_is_met.ensures.met c.records_tell_what_is_passed.ensures.tells c.content_of_what_is_denoted.ensures.tagged c.small_parts_can_be_asked_for.ensures c.size_fits.ensures;
     }
 
 pub handles_of-requires : goal.handles_of-requires
