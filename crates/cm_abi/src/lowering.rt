@@ -3,8 +3,7 @@
 ghost use Rattle.std.specs.Prelude.{◌≡◌, ◌^◌, ◌<◌, ◌≤◌, [], IfErr, IfOk, OnErr, OnOk};
 ghost use Rattle.std.specs.Prelude.{length, replicate, vec_capacity};
 ghost use Rattle.cm_types.specs.Types.{Fields};
-ghost use Rattle.cm_abi_model.specs.Denotes.{Denotes};
-ghost use Rattle.cm_abi_model.specs.Receives.{NoneImplemented, Receives, call_bytes};
+ghost use Rattle.cm_abi_model.specs.Receives.{NoneImplemented, Passes, Receives, call_bytes};
 ghost use Rattle.cm_abi_model.specs.Stores.{Framed};
 ghost use Rattle.cm_abi_model.specs.Views.{View};
 ghost use Rattle.cm_abi_model.specs.Ways.{way_of};
@@ -88,7 +87,7 @@ pub fn lower(
         → IsReceiving w passing.now to memory.new table.new.handles
         → w.encoding ≡ passing.now.encodings.target
         → NoneImplemented w (handles_passed passing.now types)
-        → IfOk result (λ slots. Denotes w (way_of passing.now.way) types slots.items
+        → IfOk result (λ slots. Passes w (way_of passing.now.way) types slots.items
         (tuple_in passing.now)) }
     ensures framed { (types : Fields) → CanBeLowered passing.now types
         → OnOk result (Framed memory.old memory.new

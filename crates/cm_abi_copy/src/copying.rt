@@ -5,8 +5,7 @@ ghost use Rattle.std.specs.Prelude.{slice_index};
 ghost use Rattle.cm_types.specs.CoreValues.{kind_of};
 ghost use Rattle.cm_types.specs.Types.{Fields};
 ghost use Rattle.cm_types.specs.Values.{Val};
-ghost use Rattle.cm_abi_model.specs.Denotes.{Denotes};
-ghost use Rattle.cm_abi_model.specs.Receives.{NoneImplemented, Receives, call_bytes};
+ghost use Rattle.cm_abi_model.specs.Receives.{NoneImplemented, Passes, Receives, call_bytes};
 ghost use Rattle.cm_abi_model.specs.Stores.{Framed};
 ghost use Rattle.cm_abi_model.specs.Views.{View};
 ghost use Rattle.cm_abi_model.specs.Ways.{way_of};
@@ -75,7 +74,7 @@ pub fn copy(
         → IsReceivingIn w requests.old.target to memory.new table.new.handles
         → w.encoding ≡ requests.old.target
         → NoneImplemented w (handles_of_values types v)
-        → OnOk result (Denotes w (way_of found.now.passed.way) types slots.new v) }
+        → OnOk result (Passes w (way_of found.now.passed.way) types slots.new v) }
     ensures framed { (giver : View) (answers : List ℕ) (types : Fields) (v : Val)
         → FoundCanBeCopied (length memory.old) (map kind_of slots.old) giver found.now requests.old
         answers types v

@@ -10,7 +10,7 @@ ghost use Rattle.cm_types.specs.Values.{HasType, Val};
 ghost use Rattle.cm_abi_model.specs.Denotes.{Denotes};
 ghost use Rattle.cm_abi_model.specs.Handed.{IsHanded};
 ghost use Rattle.cm_abi_model.specs.Later.{IsLater};
-ghost use Rattle.cm_abi_model.specs.Receives.{NoneImplemented, Receives, Serves};
+ghost use Rattle.cm_abi_model.specs.Receives.{NoneImplemented, Passes, Receives, Serves};
 ghost use Rattle.cm_abi_model.specs.Receives.{call_bytes, leaves_in};
 ghost use Rattle.cm_abi_model.specs.Parts.{Part};
 ghost use Rattle.cm_abi_model.specs.Regions.{AllAt, AreApart, ArePlaced, IsInPart, part_size};
@@ -56,12 +56,13 @@ pub fn one_value_is_on_its_way()
     one_list_of_scalars::<Latin1>();
 }
 
-/// What a receiver has once a value was lowered denotes that value, where no handle was passed as
-/// its representation. (Where one was, its number is no index of the receiver's table.)
+/// What a receiver has once a value was lowered passes that value, where no handle was passed as
+/// its representation: its core values are as many as pass the types, each of its kind, and denote
+/// the value. (Where a handle was, its number is no index of the receiver's table.)
 pub fn what_is_received_is_denoted()
     ensures { (w : View) (way : Way) (types : Fields) (slots : List CoreValue) (g : Given) (v : Val)
         → Receives w way types slots g v → Serves w way types g v
-        → NoneImplemented w (leaves_in (tuple_of types) v) → Denotes w way types slots v }
+        → NoneImplemented w (leaves_in (tuple_of types) v) → Passes w way types slots v }
 {}
 
 /// What a receiver has of a value it still has while the value's bytes stand: its memory may grow,

@@ -64,6 +64,25 @@ impl DecodeReason {
 }
 
 impl DecodeReason {
+    /// The word by which the reason is known, as `BadPreamble`.
+    fn name(self) -> &'static str {
+        match self {
+            DecodeReason::BadPreamble => "BadPreamble",
+            DecodeReason::Truncated => "Truncated",
+            DecodeReason::BadNumber => "BadNumber",
+            DecodeReason::SizeMismatch => "SizeMismatch",
+            DecodeReason::UnknownCode => "UnknownCode",
+            DecodeReason::Unsupported(_) => "Unsupported",
+            DecodeReason::BadUtf8 => "BadUtf8",
+            DecodeReason::BadName => "BadName",
+            DecodeReason::NotAModule => "NotAModule",
+            DecodeReason::TooMany => "TooMany",
+            DecodeReason::TooLong => "TooLong",
+            DecodeReason::Read => "Read",
+            DecodeReason::Memory => "Memory",
+        }
+    }
+
     /// What is wrong, in a few words.
     fn text(self) -> &'static str {
         match self {
@@ -140,7 +159,8 @@ impl fmt::Display for Feature {
     }
 }
 
-/// Why bytes are no component file, and the place of the fault, counted in bytes from 0.
+/// Why bytes are no component file, and the place of the fault, counted in bytes from 0. It is
+/// shown as `BadPreamble at 4: no preamble of a component`.
 #[derive(Clone, Copy, Debug, PartialEq, Eq)]
 pub struct DecodeFault {
     pub at: usize,
@@ -149,7 +169,11 @@ pub struct DecodeFault {
 
 impl fmt::Display for DecodeFault {
     fn fmt<W: fmt::Write>(&self, f: &mut fmt::Formatter<W>) -> fmt::Result {
-        write!(f, "{} at {}", self.reason, self.at)
+        write!(f, "{} at {}: ", self.reason.name(), self.at)?;
+        match self.reason {
+            DecodeReason::Unsupported(feature) => write!(f, "{feature}"),
+            reason => write!(f, "{reason}"),
+        }
     }
 }
 

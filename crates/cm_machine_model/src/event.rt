@@ -205,7 +205,7 @@ impl Misuse {
 
 impl fmt::Display for Misuse {
     fn fmt<W: fmt::Write>(&self, f: &mut fmt::Formatter<W>) -> fmt::Result {
-        f.write_str(self.text())
+        write!(f, "misuse {}: {}", self.number(), self.text())
     }
 }
 

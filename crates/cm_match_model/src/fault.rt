@@ -51,17 +51,16 @@ impl LinkReason {
         }
     }
 
-    /// What the reason means, in a few words.
+    /// What the reason means.
     fn text(self) -> &'static str {
         match self {
-            LinkReason::Empty => "no component",
-            LinkReason::TooMany => "too many components",
-            LinkReason::NoProvider => "no provider",
-            LinkReason::TwoProviders => "two providers",
-            LinkReason::MissingExport => "missing export",
-            LinkReason::DifferentType => "different type",
-            LinkReason::DifferentResource => "different resource",
-            LinkReason::Memory => "no memory",
+            LinkReason::Empty | LinkReason::TooMany => "expected 1 to 16 components",
+            LinkReason::NoProvider => "no component before it exports this name",
+            LinkReason::TwoProviders => "more than one component before it exports this name",
+            LinkReason::MissingExport => "the exported instance lacks an item of the imported one",
+            LinkReason::DifferentType => "its type is not that of the export",
+            LinkReason::DifferentResource => "a resource of it is not that of the export",
+            LinkReason::Memory => "there was no memory",
         }
     }
 }
@@ -80,9 +79,9 @@ impl fmt::Display for LinkReason {
 
 impl Error for LinkReason {}
 
-/// Why and at which import a set of components can't be linked.
-#[derive(Clone, Copy, Debug, PartialEq, Eq, thiserror::Error)]
-#[error("{reason} in component {component}, import {import}")]
+/// Why and at which import a set of components can't be linked. It is shown as
+/// `NoProvider in component 1, import 0:` and what the reason means.
+#[derive(Clone, Copy, Debug, PartialEq, Eq)]
 pub struct LinkFault {
     /// The place of the component in the set, from 0; 0 where the fault is the set's.
     pub component: usize,
@@ -90,3 +89,20 @@ pub struct LinkFault {
     pub import: usize,
     pub reason: LinkReason,
 }
+
+impl fmt::Display for LinkFault {
+    fn fmt<W: fmt::Write>(&self, f: &mut fmt::Formatter<W>) -> fmt::Result {
+        let LinkFault {
+            component,
+            import,
+            reason,
+        } = self;
+        let name = reason.name();
+        write!(
+            f,
+            "{name} in component {component}, import {import}: {reason}"
+        )
+    }
+}
+
+impl Error for LinkFault {}

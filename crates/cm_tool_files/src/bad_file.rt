@@ -4,7 +4,7 @@ ghost use Rattle.std.specs.Prelude.{◌≡◌};
 ghost use Rattle.cm_tool_files.specs.Numbers.{file_status};
 
 use crate::files::FileFault;
-use crate::words::{write_bad_utf8, write_decode_fault, write_file_fault, write_valid_fault};
+use crate::words::{write_bad_utf8, write_decode_fault, write_file_fault};
 use cm_binary::DecodeFault;
 use cm_validate_signature::ValidFault;
 use std::fmt;
@@ -54,7 +54,7 @@ impl fmt::Display for BadFile<'_> {
         match self.reason {
             FileReason::Unread(fault) => write_file_fault(f, name, fault),
             FileReason::NoComponent { fault, found } => write_decode_fault(f, name, fault, found),
-            FileReason::NotValid(fault) => write_valid_fault(f, name, fault),
+            FileReason::NotValid(fault) => write!(f, "{name}: {fault}"),
             FileReason::NoText { at } => write_bad_utf8(f, name, at),
         }
     }

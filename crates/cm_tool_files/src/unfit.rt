@@ -3,7 +3,7 @@
 ghost use Rattle.std.specs.Prelude.{◌≡◌};
 ghost use Rattle.cm_tool_files.specs.declared.unfit.UnfitReason.TheVariants as reason;
 
-use cm_wit_conforms::{ConformFault, ConformItem, ConformList, ConformReason};
+use cm_wit_conforms::ConformFault;
 use cm_wit_package::WitFault;
 use cm_wit_worlds::WorldFault;
 use std::alloc::AllocError;
@@ -67,9 +67,9 @@ pub struct Unfit<'a> {
 impl fmt::Display for Unfit<'_> {
     fn fmt<W: fmt::Write>(&self, f: &mut fmt::Formatter<W>) -> fmt::Result {
         match self.reason {
-            UnfitReason::Wit(fault) => write_wit_fault(f, self.wit, fault),
+            UnfitReason::Wit(fault) => write!(f, "{}: {fault}", self.wit),
             UnfitReason::World(fault) => write_world_fault(f, self.wit, self.world, fault),
-            UnfitReason::Signature(fault) => write_conform_fault(f, self.file, fault),
+            UnfitReason::Signature(fault) => write!(f, "{}: {fault}", self.file),
             UnfitReason::Memory => write_no_memory(f, self.file),
         }
     }
@@ -77,17 +77,6 @@ impl fmt::Display for Unfit<'_> {
 
 fn write_no_memory<W: fmt::Write>(f: &mut fmt::Formatter<W>, name: &str) -> fmt::Result {
     write!(f, "{name}: Memory: no memory")
-}
-
-/// Writes why a text is no package: the reason, the place, and what the reason says.
-fn write_wit_fault<W: fmt::Write>(
-    f: &mut fmt::Formatter<W>,
-    name: &str,
-    fault: WitFault,
-) -> fmt::Result {
-    let WitFault { at, reason } = fault;
-    let reason_name = reason.name();
-    write!(f, "{name}: {reason_name} at {at}: {reason}")
 }
 
 /// Writes why a world of a text has no signature.
@@ -109,51 +98,5 @@ fn world_fault_name(fault: WorldFault) -> &'static str {
         WorldFault::Cycle => "Cycle",
         WorldFault::TooLarge => "TooLarge",
         WorldFault::Memory => "Memory",
-    }
-}
-
-/// Writes why a component does not fit a world, and of which import or export this is said.
-fn write_conform_fault<W: fmt::Write>(
-    f: &mut fmt::Formatter<W>,
-    name: &str,
-    fault: ConformFault,
-) -> fmt::Result {
-    let ConformFault { item, reason } = fault;
-    let reason_name = conform_reason_name(reason);
-    write!(f, "{name}: {reason_name}")?;
-    write_place(f, item, reason)?;
-    write!(f, ": {reason}")
-}
-
-/// Writes the place of what does not fit; want of memory has none.
-fn write_place<W: fmt::Write>(
-    f: &mut fmt::Formatter<W>,
-    item: ConformItem,
-    reason: ConformReason,
-) -> fmt::Result {
-    if let ConformReason::Memory = reason {
-        return Ok(());
-    }
-    let list = list_name(item.list);
-    let place = item.place;
-    match item.item {
-        Some(number) => write!(f, " in {list} {place}, item {number}"),
-        None => write!(f, " in {list} {place}"),
-    }
-}
-
-fn list_name(list: ConformList) -> &'static str {
-    match list {
-        ConformList::WorldExports => "the world's export",
-        ConformList::HaveImports => "the component's import",
-    }
-}
-
-fn conform_reason_name(reason: ConformReason) -> &'static str {
-    match reason {
-        ConformReason::Missing => "Missing",
-        ConformReason::NotInWorld => "NotInWorld",
-        ConformReason::DifferentType => "DifferentType",
-        ConformReason::Memory => "Memory",
     }
 }

@@ -2,7 +2,6 @@
 
 use crate::files::FileFault;
 use cm_binary::{DecodeFault, DecodeReason};
-use cm_validate_signature::{ValidFault, ValidReason};
 use std::fmt;
 
 /// Writes why a file cannot be read.
@@ -32,15 +31,9 @@ pub(crate) fn write_decode_fault<W: fmt::Write>(
     fault: DecodeFault,
     found: Option<u8>,
 ) -> fmt::Result {
-    let DecodeFault { at, reason } = fault;
-    let reason_name = decode_reason_name(reason);
-    write!(f, "{name}: {reason_name} at {at}: ")?;
-    match reason {
-        DecodeReason::Unsupported(feature) => write!(f, "{feature}")?,
-        _ => write!(f, "{reason}")?,
-    }
+    write!(f, "{name}: {fault}")?;
     match found {
-        Some(byte) if is_of_a_byte(reason) => write_found(f, reason, byte),
+        Some(byte) if is_of_a_byte(fault.reason) => write_found(f, fault.reason, byte),
         _ => Ok(()),
     }
 }
@@ -69,71 +62,4 @@ fn is_of_a_byte(reason: DecodeReason) -> bool {
             | DecodeReason::UnknownCode
             | DecodeReason::Unsupported(_)
     )
-}
-
-fn decode_reason_name(reason: DecodeReason) -> &'static str {
-    match reason {
-        DecodeReason::BadPreamble => "BadPreamble",
-        DecodeReason::Truncated => "Truncated",
-        DecodeReason::BadNumber => "BadNumber",
-        DecodeReason::SizeMismatch => "SizeMismatch",
-        DecodeReason::UnknownCode => "UnknownCode",
-        DecodeReason::Unsupported(_) => "Unsupported",
-        DecodeReason::BadUtf8 => "BadUtf8",
-        DecodeReason::BadName => "BadName",
-        DecodeReason::NotAModule => "NotAModule",
-        DecodeReason::TooMany => "TooMany",
-        DecodeReason::TooLong => "TooLong",
-        DecodeReason::Read => "Read",
-        DecodeReason::Memory => "Memory",
-    }
-}
-
-/// Writes the fault of a component that is not valid: the reason, the place, and what the reason
-/// means.
-pub(crate) fn write_valid_fault<W: fmt::Write>(
-    f: &mut fmt::Formatter<W>,
-    name: &str,
-    fault: ValidFault,
-) -> fmt::Result {
-    let ValidFault {
-        section,
-        item,
-        reason,
-    } = fault;
-    let (reason_name, meaning) = (reason.name(), meaning_of(reason));
-    write!(
-        f,
-        "{name}: {reason_name} in section {section}, item {item}: {meaning}"
-    )
-}
-
-/// What a reason means.
-fn meaning_of(reason: ValidReason) -> &'static str {
-    match reason {
-        ValidReason::NoSuchIndex => "nothing before the item has this index, or exports this name",
-        ValidReason::WrongSort =>
-            "what stands under the index is of another sort or type than is wanted there",
-        ValidReason::EmptyType => "a record, variant, tuple, enum or flags type has nothing in it",
-        ValidReason::TooManyFlags => "a flags type has more than 32 labels",
-        ValidReason::BorrowInResult => "the result of a function holds a borrow",
-        ValidReason::DuplicateName =>
-            "two names that must differ are the same, whatever the case of their letters",
-        ValidReason::NeedsMemory =>
-            "the lift or lower has no memory option, and its type needs one",
-        ValidReason::NeedsRealloc =>
-            "the lift or lower has no realloc option, and its type needs one",
-        ValidReason::OptionTwice => "a canonical option is given twice",
-        ValidReason::OptionNotAllowed => "a canonical option stands where it may not",
-        ValidReason::NotGuestFunction => "the core function is none of a core instance's exports",
-        ValidReason::SecondMemory =>
-            "the memory is another one than that of the component's first memory option",
-        ValidReason::NotOwnResource => "the component itself does not define the resource",
-        ValidReason::BadAnnotatedName =>
-            "a name of this form may not stand here, or does not fit its type",
-        ValidReason::Memory => "there was no memory",
-        ValidReason::NotImported => "the function that is lowered does not come from an import",
-        ValidReason::TooLarge => "the type has more than 10,000 nodes or 64 levels",
-        ValidReason::StoresLatin1 => "strings are not stored in this encoding",
-    }
 }

@@ -33,11 +33,6 @@ pub struct Drive {
     pub components: usize,
 }
 
-fn write_misuse<W: fmt::Write>(f: &mut fmt::Formatter<W>, misuse: Misuse) -> fmt::Result {
-    let number = misuse.number();
-    write!(f, "misuse {number}: {misuse}")
-}
-
 fn write_drive<W: fmt::Write>(f: &mut fmt::Formatter<W>, drive: Drive) -> fmt::Result {
     let Drive { index, root, .. } = drive;
     write!(f, ": drive {index}, begin {root}")
@@ -49,7 +44,7 @@ pub fn write_set_fault<W: fmt::Write>(
     misuse: Misuse,
     size: SetSize,
 ) -> fmt::Result {
-    write_misuse(f, misuse)?;
+    write!(f, "{misuse}")?;
     write!(f, ": making the set")?;
     match misuse {
         Misuse::BadPages => write_bad_pages(f, size),
@@ -91,7 +86,7 @@ pub fn write_begin_fault<W: fmt::Write>(
     drive: Drive,
 ) -> fmt::Result {
     let components = drive.components;
-    write_misuse(f, misuse)?;
+    write!(f, "{misuse}")?;
     write_drive(f, drive)?;
     match misuse {
         Misuse::Busy => write!(f, ": a drive before it reached its limit"),

@@ -81,27 +81,36 @@ impl ValidReason {
         }
     }
 
-    /// What the reason means, in a few words.
+    /// What the reason means.
     fn text(self) -> &'static str {
         match self {
-            ValidReason::NoSuchIndex => "no such index",
-            ValidReason::WrongSort => "wrong sort",
-            ValidReason::EmptyType => "empty type",
-            ValidReason::TooManyFlags => "too many flags",
-            ValidReason::BorrowInResult => "a borrow in a result",
-            ValidReason::DuplicateName => "duplicate name",
-            ValidReason::NeedsMemory => "memory is needed",
-            ValidReason::NeedsRealloc => "realloc is needed",
-            ValidReason::OptionTwice => "option given twice",
-            ValidReason::OptionNotAllowed => "option not allowed",
-            ValidReason::NotGuestFunction => "not a guest's function",
-            ValidReason::SecondMemory => "a second memory",
-            ValidReason::NotOwnResource => "not a resource of its own",
-            ValidReason::BadAnnotatedName => "bad annotated name",
-            ValidReason::Memory => "no memory",
-            ValidReason::NotImported => "not imported",
-            ValidReason::TooLarge => "too large",
-            ValidReason::StoresLatin1 => "stores latin1",
+            ValidReason::NoSuchIndex =>
+                "nothing before the item has this index, or exports this name",
+            ValidReason::WrongSort =>
+                "what stands under the index is of another sort or type than is wanted there",
+            ValidReason::EmptyType =>
+                "a record, variant, tuple, enum or flags type has nothing in it",
+            ValidReason::TooManyFlags => "a flags type has more than 32 labels",
+            ValidReason::BorrowInResult => "the result of a function holds a borrow",
+            ValidReason::DuplicateName =>
+                "two names that must differ are the same, whatever the case of their letters",
+            ValidReason::NeedsMemory =>
+                "the lift or lower has no memory option, and its type needs one",
+            ValidReason::NeedsRealloc =>
+                "the lift or lower has no realloc option, and its type needs one",
+            ValidReason::OptionTwice => "a canonical option is given twice",
+            ValidReason::OptionNotAllowed => "a canonical option stands where it may not",
+            ValidReason::NotGuestFunction =>
+                "the core function is none of a core instance's exports",
+            ValidReason::SecondMemory =>
+                "the memory is another one than that of the component's first memory option",
+            ValidReason::NotOwnResource => "the component itself does not define the resource",
+            ValidReason::BadAnnotatedName =>
+                "a name of this form may not stand here, or does not fit its type",
+            ValidReason::Memory => "there was no memory",
+            ValidReason::NotImported => "the function that is lowered does not come from an import",
+            ValidReason::TooLarge => "the type has more than 10,000 nodes or 64 levels",
+            ValidReason::StoresLatin1 => "strings are not stored in this encoding",
         }
     }
 }
@@ -120,9 +129,9 @@ impl fmt::Display for ValidReason {
 
 impl Error for ValidReason {}
 
-/// Why and where a component is not valid.
-#[derive(Clone, Copy, Debug, PartialEq, Eq, thiserror::Error)]
-#[error("{reason} in section {section}, item {item}")]
+/// Why and where a component is not valid. It is shown as `NoSuchIndex in section 3, item 0:` and
+/// what the reason means.
+#[derive(Clone, Copy, Debug, PartialEq, Eq)]
 pub struct ValidFault {
     /// The section, from 0, custom sections counted.
     pub section: usize,
@@ -130,3 +139,17 @@ pub struct ValidFault {
     pub item: usize,
     pub reason: ValidReason,
 }
+
+impl fmt::Display for ValidFault {
+    fn fmt<W: fmt::Write>(&self, f: &mut fmt::Formatter<W>) -> fmt::Result {
+        let ValidFault {
+            section,
+            item,
+            reason,
+        } = self;
+        let name = reason.name();
+        write!(f, "{name} in section {section}, item {item}: {reason}")
+    }
+}
+
+impl Error for ValidFault {}

@@ -75,7 +75,8 @@ impl fmt::Display for WitReason {
 }
 
 /// Why a text is refused, and where: the byte, counted from 0, at which the fault's token stands,
-/// or the text's length. Where memory was refused the place says nothing.
+/// or the text's length. Where memory was refused the place says nothing. It is shown as
+/// `UnknownName at 36: nothing declares this name`.
 #[derive(Clone, Copy, PartialEq, Eq)]
 pub struct WitFault {
     pub at: usize,
@@ -101,7 +102,8 @@ impl From<AllocError> for WitFault {
 impl fmt::Display for WitFault {
     fn fmt<W: fmt::Write>(&self, f: &mut fmt::Formatter<W>) -> fmt::Result {
         let WitFault { at, reason } = self;
-        write!(f, "{reason} at {at}")
+        let name = reason.name();
+        write!(f, "{name} at {at}: {reason}")
     }
 }
 
