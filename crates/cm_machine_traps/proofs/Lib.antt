@@ -1,0 +1,9 @@
+mod Judging
+mod Resources
+mod Lifting
+mod LowerRows
+mod AnswerRows
+mod PlacedRows
+mod BodyRows
+mod SimpleRows
+mod Along

@@ -1,0 +1,20 @@
+use Rattle.cm_machine_traps.proofs.Along.{causes_trap, traps_by_cause}
+use Rattle.cm_machine_traps.proofs.laws.traps_have_their_causes.Goals as goal
+
+pub returns-clause-traps : goal.returns-clause-traps
+returns-clause-traps c = traps_by_cause (record {
+  one_stop = c.first_faults_are_told.ensures.one;
+  beside = c.first_faults_are_told.ensures.beside_no_value;
+  number = c.first_faults_are_told.ensures.number;
+  denoted = c.denotations_are_unique.ensures.denoted;
+  few = c.handles_are_counted.ensures;
+}) c.each_part_is_asked_for.ensures.tuple c.one_value_is_carried.ensures c.histories_are_valid.ensures c.histories_are_told.ensures c.values_are_followed.ensures
+
+pub returns-clause-refusals : goal.returns-clause-refusals
+returns-clause-refusals c = causes_trap (record {
+  one_stop = c.first_faults_are_told.ensures.one;
+  beside = c.first_faults_are_told.ensures.beside_no_value;
+  number = c.first_faults_are_told.ensures.number;
+  denoted = c.denotations_are_unique.ensures.denoted;
+  few = c.handles_are_counted.ensures;
+}) c.each_part_is_asked_for.ensures.tuple c.one_value_is_carried.ensures c.histories_are_valid.ensures c.histories_are_told.ensures c.values_are_followed.ensures
