@@ -78,7 +78,7 @@ func_marks after_self scope f =
 
 -- ---- interfaces
 
--- an item of the interface whose name is the i-th
+-- an item of the interface, or a function of the resource, whose name is the i-th
 abbrev pub item : ℕ → NameTree → Mention
 item i full = declaring (list_of i) full
 
@@ -86,21 +86,23 @@ item i full = declaring (list_of i) full
 abbrev pub type_item : ℕ → List ℕ → Mention
 type_item i text = record (item i (name.plain text)) { known = Some (i, text) }
 
--- a function of a resource r
-abbrev pub resource_func_marks : ℕ → List ℕ → ResourceFunc → Marks
-resource_func_marks i r (method m f) = one (item i (name.method r m)) then func_marks true i f
-resource_func_marks i r (static m f) = one (item i (name.static r m)) then func_marks false i f
+-- a function of the resource whose name is the r-th. Full names of functions differ within an
+-- interface where those of one resource do, since no two resources there have one name: so each is
+-- told apart among the functions of its resource, whose name is left out.
+abbrev pub resource_func_marks : ℕ → ℕ → ResourceFunc → Marks
+resource_func_marks i r (method m f) = one (item r (name.method [] m)) then func_marks true i f
+resource_func_marks i r (static m f) = one (item r (name.static [] m)) then func_marks false i f
 resource_func_marks i r (constructor ps) =
-    one (item i (name.constructor r)) then typed_marks false (as_param i) ps
+    one (item r (name.constructor [])) then typed_marks false (as_param i) ps
 
 -- what stands behind the name of a type, which is the n-th
-abbrev pub def_marks : ℕ → ℕ → List ℕ → TypeDef → Marks
-def_marks i n text (alias t) = type_marks (in_text_of i n) t
-def_marks i n text (record_of fs) = typed_marks false (in_text_of i n) fs
-def_marks i n text (variant cs) = case_marks (in_text_of i n) cs
-def_marks i n text (enum names) = label_marks names
-def_marks i n text (flags names) = label_marks names
-def_marks i n text (resource fs) = each (resource_func_marks i text) fs
+abbrev pub def_marks : ℕ → ℕ → TypeDef → Marks
+def_marks i n (alias t) = type_marks (in_text_of i n) t
+def_marks i n (record_of fs) = typed_marks false (in_text_of i n) fs
+def_marks i n (variant cs) = case_marks (in_text_of i n) cs
+def_marks i n (enum names) = label_marks names
+def_marks i n (flags names) = label_marks names
+def_marks i n (resource fs) = each (resource_func_marks i n) fs
 
 abbrev pub is_resource : TypeDef → Bool
 is_resource (alias t) = false
@@ -140,7 +142,7 @@ abbrev pub interface_item_marks : ℕ → InterfaceItem → Marks
 interface_item_marks i (uses u) =
     path_marks i u.path then each (λ x. used_marks i u.path x.name x.new_name) u.names
 interface_item_marks i (defines text t) = here λ n.
-    one (record (type_item i text) { may_be_resource = is_resource t }) then def_marks i n text t
+    one (record (type_item i text) { may_be_resource = is_resource t }) then def_marks i n t
 interface_item_marks i (has_func text f) = one (item i (name.plain text)) then func_marks false i f
 
 abbrev pub interface_marks : Interface → Marks

@@ -50,8 +50,8 @@ declaring list name =
 -- ---- the lists of distinct names have numbers: 0 is the file's; each other one is given by the
 -- number of a name of the file
 
--- the items of the interface, the imports of the world whose name is the n-th, and the labels of a
--- type or parameters of which the n-th is the first
+-- the items of the interface, the functions of the resource, the imports of the world whose name is
+-- the n-th, and the labels of a type or parameters of which the n-th is the first
 abbrev pub list_of : ℕ → ℕ
 list_of n = 2 * n
 

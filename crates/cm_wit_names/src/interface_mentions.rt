@@ -42,25 +42,30 @@ fn type_item<'a>(scope: Scope, name: &'a Label) -> Mention<'a>
     }
 }
 
-/// Adds a function of a resource.
+/// Adds a function of a resource, told apart among those of the resource.
 #[tactic(auto, using(crate::proofs::AddLaws::add_laws))]
 fn add_resource_func<'a>(
     out: &mut Vec<Mention<'a>>,
     scope: Scope,
-    resource: &'a Label,
+    resource: Scope,
     func: &'a ResourceFunc,
 ) -> Result<(), AllocError>
     ensures { OnOk result
-        (Adds (resource_func_marks scope.number resource.now (resource_func_tree func.now))
+        (Adds (resource_func_marks scope.number resource.number (resource_func_tree func.now))
         out.old out.new) }
 {
-    let resource = resource.as_str();
     match func {
         ResourceFunc::Method(name, func) => {
             let method = name.as_str();
             add(
                 out,
-                item(scope, ExternNameForm::Method { resource, method }),
+                item(
+                    resource,
+                    ExternNameForm::Method {
+                        resource: "",
+                        method,
+                    },
+                ),
             )?;
             add_func(out, true, scope.number, func)?;
             Ok(())
@@ -69,13 +74,22 @@ fn add_resource_func<'a>(
             let function = name.as_str();
             add(
                 out,
-                item(scope, ExternNameForm::Static { resource, function }),
+                item(
+                    resource,
+                    ExternNameForm::Static {
+                        resource: "",
+                        function,
+                    },
+                ),
             )?;
             add_func(out, false, scope.number, func)?;
             Ok(())
         }
         ResourceFunc::Constructor(params) => {
-            add(out, item(scope, ExternNameForm::Constructor { resource }))?;
+            add(
+                out,
+                item(resource, ExternNameForm::Constructor { resource: "" }),
+            )?;
             add_typed(out, false, as_param(scope), params)?;
             Ok(())
         }
@@ -98,11 +112,11 @@ fn as_param(scope: Scope) -> Place
 fn add_resource_funcs<'a>(
     out: &mut Vec<Mention<'a>>,
     scope: Scope,
-    resource: &'a Label,
+    resource: Scope,
     funcs: &'a [ResourceFunc],
 ) -> Result<(), AllocError>
     ensures { OnOk result (Adds
-        (each (resource_func_marks scope.number resource.now) (map resource_func_tree funcs.now))
+        (each (resource_func_marks scope.number resource.number) (map resource_func_tree funcs.now))
         out.old out.new) }
 {
     for func in funcs {
@@ -111,21 +125,20 @@ fn add_resource_funcs<'a>(
     Ok(())
 }
 
-/// Adds what stands behind the name of a type, which is the `owner`-th.
+/// Adds what stands behind the name of a type, given by the number of its name.
 #[tactic(auto, using(crate::proofs::AddLaws::add_laws))]
 fn add_def<'a>(
     out: &mut Vec<Mention<'a>>,
     scope: Scope,
-    owner: usize,
-    name: &'a Label,
+    owner: Scope,
     def: &'a TypeDef,
 ) -> Result<(), AllocError>
     ensures { OnOk result
-        (Adds (def_marks scope.number owner name.now (type_def_tree def.now)) out.old out.new) }
+        (Adds (def_marks scope.number owner.number (type_def_tree def.now)) out.old out.new) }
 {
     let place = Place {
         scope: scope.number,
-        owner: Some(owner),
+        owner: Some(owner.number),
         in_result: false,
     };
     match def {
@@ -133,7 +146,7 @@ fn add_def<'a>(
         TypeDef::Record(fields) => add_typed(out, false, place, fields),
         TypeDef::Variant(cases) => add_cases(out, place, cases),
         TypeDef::Enum(names) | TypeDef::Flags(names) => add_labels(out, names),
-        TypeDef::Resource(funcs) => add_resource_funcs(out, scope, name, funcs),
+        TypeDef::Resource(funcs) => add_resource_funcs(out, scope, owner, funcs),
     }
 }
 
@@ -258,13 +271,13 @@ fn add_item<'a>(
             Ok(())
         }
         InterfaceItem::Type(name, def) => {
-            let number = Scope::next(out).number;
+            let own = Scope::next(out);
             let mention = Mention {
                 may_be_resource: matches!(def, TypeDef::Resource(_)),
                 ..type_item(scope, name)
             };
             add(out, mention)?;
-            add_def(out, scope, number, name, def)?;
+            add_def(out, scope, own, def)?;
             Ok(())
         }
         InterfaceItem::Func(name, func) => {
