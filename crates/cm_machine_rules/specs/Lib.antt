@@ -1,0 +1,11 @@
+pub mod Plan
+pub mod Plans
+pub mod Stack
+pub mod State
+pub mod Passages
+pub mod Step
+pub mod Run
+pub mod History
+pub mod Owning
+pub mod Valid
+pub mod Work
