@@ -26,6 +26,19 @@ fn plain_link(provider: &[u8], user: &[u8]) -> Option<usize> {
     Some(plain::link(vec![checked(provider)?, checked(user)?])?.plan.len())
 }
 
+/// Links two files with so many imports so many times on one side, `ours` or `plain`, for
+/// `bench/steps`, and prints how many imports they are.
+pub fn once(side: &str, count: usize, rounds: usize) {
+    let [provider, user] = samples::pair(count);
+    for _ in 0..rounds {
+        match side {
+            "ours" => black_box(Some(ours(black_box(&provider), black_box(&user)))),
+            _ => black_box(plain_link(black_box(&provider), black_box(&user))),
+        };
+    }
+    println!("{count}");
+}
+
 pub fn run() {
     println!("decode, validate and link two files (a ratio above 1: ours is faster)");
     println!("{:>9} {:>9} {:>11} {:>11} {:>6}", "imports", "bytes", "ours µs", "plain µs", "ratio");

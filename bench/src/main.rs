@@ -46,6 +46,14 @@ fn runs_once(words: &[String]) -> bool {
             files::once(side, kind, task, number(size), number(rounds));
             true
         }
+        [part, side, count, rounds] if part == "link-once" => {
+            link::once(side, number(count), number(rounds));
+            true
+        }
+        [part, kind, count, rounds] if part == "sets-once" => {
+            sets::once(kind, number(count), number(rounds));
+            true
+        }
         _ => false,
     }
 }

@@ -2,6 +2,7 @@
 //! Rust reads the same packages (`plain.rs`), and splits the same texts into words, which is less
 //! than any reader does. It has a library of its own, since it needs the crates of WIT alone.
 
+#[allow(dead_code)] // bytes are counted for other parts
 #[path = "../../src/heap.rs"]
 mod heap;
 #[allow(dead_code)] // the names are for other parts
@@ -53,7 +54,32 @@ const KINDS: [Kind; 6] = [
     ("comments", true, samples::comments),
 ];
 
+/// One interface with so many bytes or some more.
+fn one_interface(size: usize) -> String {
+    samples::one_interface(size / 93)
+}
+
+/// Does a task on a text of a kind so many times on one side, `ours` or `plain`, for `bench/steps`,
+/// and prints how many bytes the text has.
+fn once(side: &str, kind: &str, task: &str, size: usize, rounds: usize) {
+    let text = match KINDS.iter().find(|it| it.0 == kind) {
+        Some((_, _, text_of)) => text_of(size),
+        None => one_interface(size),
+    };
+    let (_, ours, plain) = TASKS.iter().find(|it| it.0 == task).expect("the name of a task");
+    let work = if side == "ours" { ours } else { plain };
+    for _ in 0..rounds {
+        black_box(work(black_box(&text)));
+    }
+    println!("{}", text.len());
+}
+
 fn main() {
+    let words: Vec<String> = std::env::args().skip(1).collect();
+    if let [_, side, kind, task, size, rounds] = &words[..] {
+        let number = |word: &String| word.parse().expect("a number");
+        return once(side, kind, task, number(size), number(rounds));
+    }
     println!("WIT (a ratio above 1: ours is faster)");
     println!(
         "{:12} {:13} {:>9} {:>11} {:>11} {:>6} {:>11} {:>6} {:>9}",

@@ -1,10 +1,9 @@
 //! Labels, and why a text is no name.
 
-ghost use Rattle.std.specs.Prelude.{◌≡◌, IfOk, IfErr, ◌⊎◌, Some};
-ghost use Rattle.std.specs.List.{list_all};
+ghost use Rattle.std.specs.Prelude.{◌≡◌, ◌∷◌, IfOk, IfErr, ◌⊎◌, Some};
 ghost use Rattle.std.specs.String.{string_bytes};
-ghost use Rattle.cm_types.specs.Names.{is_in_word, is_in_acronym, is_fragment, is_label};
-ghost use Rattle.cm_types.specs.Names.{is_same_name, label_fault};
+ghost use Rattle.cm_types.specs.Names.{is_label, is_same_name, label_fault};
+ghost use Rattle.cm_types.specs.LabelSteps.{IsShorter, may_end};
 ghost use Rattle.cm_types.specs.NamesFaults.{fault_number};
 
 use std::alloc::{AllocError, Global};
@@ -137,36 +136,84 @@ pub fn same_name(a: &str, b: &str) -> bool
     a.eq_ignore_ascii_case(b)
 }
 
-fn goes_on_as_word(text: &[u8]) -> bool
-    ensures { result ≡ list_all is_in_word text.now }
-{
-    text.iter()
-        .all(|b| b.is_ascii_lowercase() || b.is_ascii_digit())
+/// What comes after the first fragment of a text.
+#[derive(Clone, Copy)]
+enum After<'a> {
+    /// Nothing, so that the text is a label.
+    End,
+    /// A hyphen and this: the text is a label where this is one.
+    Text(&'a [u8]),
+    /// The text has no first fragment, or something else comes, so that it is no label.
+    Other,
 }
 
-fn goes_on_as_acronym(text: &[u8]) -> bool
-    ensures { result ≡ list_all is_in_acronym text.now }
+/// What comes after a word of which a byte stands before the text.
+fn after_word(text: &[u8]) -> After<'_>
+    ensures label { is_label (97 ∷ text.now) ≡ may_end result }
+    ensures shorter { IsShorter result text.now }
 {
-    text.iter()
-        .all(|b| b.is_ascii_uppercase() || b.is_ascii_digit())
+    for at in 0..text.len() {
+        let byte = text[at];
+        if !(byte.is_ascii_lowercase() || byte.is_ascii_digit()) {
+            return if byte == b'-' {
+                After::Text(&text[at + 1..])
+            } else {
+                After::Other
+            };
+        }
+    }
+    After::End
 }
 
-fn is_fragment(text: &str) -> bool
-    ensures { result ≡ is_fragment text.now }
+/// What comes after an acronym of which a byte stands before the text.
+fn after_acronym(text: &[u8]) -> After<'_>
+    ensures label { is_label (65 ∷ text.now) ≡ may_end result }
+    ensures shorter { IsShorter result text.now }
 {
-    match text.as_bytes() {
-        [] => false,
-        [first, rest @ ..] => {
-            (first.is_ascii_lowercase() && goes_on_as_word(rest))
-                || (first.is_ascii_uppercase() && goes_on_as_acronym(rest))
+    for at in 0..text.len() {
+        let byte = text[at];
+        if !(byte.is_ascii_uppercase() || byte.is_ascii_digit()) {
+            return if byte == b'-' {
+                After::Text(&text[at + 1..])
+            } else {
+                After::Other
+            };
+        }
+    }
+    After::End
+}
+
+/// What comes after the first fragment of a text.
+fn after_fragment(text: &[u8]) -> After<'_>
+    ensures label { is_label text.now ≡ may_end result }
+    ensures shorter { IsShorter result text.now }
+{
+    match text {
+        [] => After::Other,
+        [first, more @ ..] => {
+            if first.is_ascii_lowercase() {
+                after_word(more)
+            } else if first.is_ascii_uppercase() {
+                after_acronym(more)
+            } else {
+                After::Other
+            }
         }
     }
 }
 
+/// Whether the text is a label. Each byte is looked at once.
 pub(crate) fn is_label(text: &str) -> bool
     ensures { result ≡ is_label text.now }
 {
-    text.split('-').all(is_fragment)
+    let mut rest = text.as_bytes();
+    loop {
+        match after_fragment(rest) {
+            After::End => return true,
+            After::Text(text) => rest = text,
+            After::Other => return false,
+        }
+    }
 }
 
 pub(crate) fn label_fault(text: &str) -> Option<NameFault>

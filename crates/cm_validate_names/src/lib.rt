@@ -1,6 +1,7 @@
 //! The names of a component: which names imports and exports may have, and values by name.
 //!
-//! Names are found in trees, and keep the order in which they came.
+//! The names of imports and exports are found at one of 16 places, or else in a tree. Values are
+//! found by name in a tree, and keep the order in which they came.
 #![tactic(auto)]
 
 mod forms;

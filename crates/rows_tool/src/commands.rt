@@ -2,7 +2,7 @@
 
 use crate::memory_files::MemoryFiles;
 use cm_machine::Set;
-use cm_rows::{Full, Line, Pipe, RowFault, word, words_from, write_text};
+use cm_rows::{Full, Line, Pipe, RowFault, read_text, word, words_from, write_text};
 use cm_tool::{Fault, LIMIT, Outcome, load_files, load_script, play, report, tool};
 use cm_tool_words::{Request, USAGE, WordsFault};
 use std::alloc::Global;
@@ -47,9 +47,8 @@ fn answer_on_words(
 fn read_words(alloc: Global, words: &[&str], line: &mut Line) -> Vec<String> {
     let mut given = Vec::new(alloc);
     for word in words {
-        if let Some(word) = line.kept(String::from_str(alloc, word)) {
-            line.push(&mut given, word);
-        }
+        let word = read_text(alloc, &[*word], line);
+        line.push(&mut given, word);
     }
     given
 }

@@ -1,0 +1,6 @@
+mod OnTheWay
+mod Borrowing
+mod Gone
+mod GoneCases
+mod Lending
+mod LendCases

@@ -1,0 +1,113 @@
+-- Lemmas: which call goes on where a frame is one of a call in some phase.
+use Rattle.std.proofs.Common.{◌≡◌, ℕ, List, [], ◌∷◌, length, Option, refl, subst}
+use Rattle.cm_types.specs.declared.core_value.CoreValue.{CoreValue}
+use Rattle.cm_machine_rules.specs.declared.frame.Call.{Call}
+use Rattle.cm_machine_rules.specs.declared.frame.Frame.{Frame}
+use Rattle.cm_machine_rules.specs.declared.frame.Phase.{Phase}
+use Rattle.cm_machine_rules.specs.declared.frame.Phase.TheVariants as phase
+use Rattle.cm_machine_rules.specs.declared.frame.Purpose.{Purpose}
+use Rattle.cm_machine_rules.specs.declared.frame.Purpose.TheVariants as purpose
+use Rattle.cm_machine_rules.specs.Plan.{Plan}
+use Rattle.cm_machine_told.specs.Doing.{Asked, BodyReturn, Doing, LoweredCall, body, handing}
+use Rattle.cm_machine_told.specs.Doing.{placing, tidying}
+use Rattle.cm_machine_told.specs.Matching.{AllMatch, IsCallOf, MatchIn, MatchOne}
+
+-- the latest that goes on is a call whose arguments are being placed, that of a frame
+pub record IsPlacingCall (plan : Plan) (i : ℕ) (call : Call) (n : ℕ) (ds : List Doing) : Type 0
+    where
+  pub x : LoweredCall
+  pub asked : List Asked
+  pub rest : List Doing
+  pub is : ds ≡ placing x asked ∷ rest
+  pub of : IsCallOf plan i call n x
+
+-- the same of one whose body runs
+pub record IsBodyCall (plan : Plan) (i : ℕ) (call : Call) (n : ℕ) (ds : List Doing) : Type 0 where
+  pub x : LoweredCall
+  pub asked : List Asked
+  pub rest : List Doing
+  pub is : ds ≡ body x asked ∷ rest
+  pub of : IsCallOf plan i call n x
+
+-- the same of one whose result is being placed
+pub record IsHandingCall (plan : Plan) (i : ℕ) (call : Call) (n : ℕ) (ds : List Doing) : Type 0
+    where
+  pub x : LoweredCall
+  pub asked : List Asked
+  pub back : BodyReturn
+  pub more : List Asked
+  pub rest : List Doing
+  pub is : ds ≡ handing x asked back more ∷ rest
+  pub of : IsCallOf plan i call n x
+
+-- the same of one that is tidied up
+pub record IsTidyingCall (plan : Plan) (i : ℕ) (call : Call) (n : ℕ) (ds : List Doing) : Type 0
+    where
+  pub x : LoweredCall
+  pub asked : List Asked
+  pub back : BodyReturn
+  pub more : List Asked
+  pub rest : List Doing
+  pub is : ds ≡ tidying x asked back more ∷ rest
+  pub of : IsCallOf plan i call n x
+
+tidying_one : (plan : Plan) (i : ℕ) (call : Call) (n : ℕ) (v : Option CoreValue) (d : Doing) (ds :
+    List Doing) → MatchIn (phase.PostReturn v) plan i call n d
+    → IsTidyingCall plan i call n (d ∷ ds)
+tidying_one plan i call n v (tidying x asked r more) ds m = record { x = x; asked = asked; back =
+    r; more = more; rest = ds; is = refl; of = m }
+tidying_one plan i call n v d ds m = absurd m
+
+placing_one : (plan : Plan) (i : ℕ) (call : Call) (n : ℕ) (d : Doing) (ds : List Doing)
+    → MatchIn phase.Arguments plan i call n d → IsPlacingCall plan i call n (d ∷ ds)
+placing_one plan i call n (placing x asked) ds m = record { x = x; asked = asked; rest = ds; is =
+    refl; of = m }
+placing_one plan i call n d ds m = absurd m
+
+body_one : (plan : Plan) (i : ℕ) (call : Call) (n : ℕ) (d : Doing) (ds : List Doing)
+    → MatchIn phase.Body plan i call n d → IsBodyCall plan i call n (d ∷ ds)
+body_one plan i call n (body x asked) ds m = record { x = x; asked = asked; rest = ds; is = refl;
+    of = m }
+body_one plan i call n d ds m = absurd m
+
+handing_one : (plan : Plan) (i : ℕ) (call : Call) (n : ℕ) (d : Doing) (ds : List Doing)
+    → MatchIn phase.Results plan i call n d → IsHandingCall plan i call n (d ∷ ds)
+handing_one plan i call n (handing x asked r more) ds m = record { x = x; asked = asked; back = r;
+    more = more; rest = ds; is = refl; of = m }
+handing_one plan i call n d ds m = absurd m
+
+matched_call : (plan : Plan) (top : Frame) (n : ℕ) (call : Call) (ph : Phase) (d : Doing)
+    → top.purpose ≡ purpose.Call call → call.phase ≡ ph
+    → MatchOne top.purpose plan top.instance n d → MatchIn ph plan top.instance call n d
+matched_call plan top n call ph d is phase_is m =
+    subst (λ (p : Phase). MatchIn p plan top.instance call n d) phase_is (subst (λ (pu : Purpose).
+        MatchOne pu plan top.instance n d) is m)
+
+pub placing_call : (plan : Plan) (top : Frame) (fs : List Frame) (ds : List Doing) (call : Call)
+    → top.purpose ≡ purpose.Call call → call.phase ≡ phase.Arguments
+    → AllMatch plan (top ∷ fs) ds → IsPlacingCall plan top.instance call (length fs) ds
+placing_call plan top fs [] call is phase_is m = absurd m
+placing_call plan top fs (d ∷ ds) call is phase_is m = placing_one plan top.instance call (length
+    fs) d ds (matched_call plan top (length fs) call phase.Arguments d is phase_is m.0)
+
+pub body_call : (plan : Plan) (top : Frame) (fs : List Frame) (ds : List Doing) (call : Call)
+    → top.purpose ≡ purpose.Call call → call.phase ≡ phase.Body → AllMatch plan (top ∷ fs) ds
+    → IsBodyCall plan top.instance call (length fs) ds
+body_call plan top fs [] call is phase_is m = absurd m
+body_call plan top fs (d ∷ ds) call is phase_is m = body_one plan top.instance call (length fs) d
+    ds (matched_call plan top (length fs) call phase.Body d is phase_is m.0)
+
+pub handing_call : (plan : Plan) (top : Frame) (fs : List Frame) (ds : List Doing) (call : Call)
+    → top.purpose ≡ purpose.Call call → call.phase ≡ phase.Results → AllMatch plan (top ∷ fs) ds
+    → IsHandingCall plan top.instance call (length fs) ds
+handing_call plan top fs [] call is phase_is m = absurd m
+handing_call plan top fs (d ∷ ds) call is phase_is m = handing_one plan top.instance call (length
+    fs) d ds (matched_call plan top (length fs) call phase.Results d is phase_is m.0)
+
+pub tidying_call : (plan : Plan) (top : Frame) (fs : List Frame) (ds : List Doing) (call : Call) (v
+    : Option CoreValue) → top.purpose ≡ purpose.Call call → call.phase ≡ phase.PostReturn v
+    → AllMatch plan (top ∷ fs) ds → IsTidyingCall plan top.instance call (length fs) ds
+tidying_call plan top fs [] call v is phase_is m = absurd m
+tidying_call plan top fs (d ∷ ds) call v is phase_is m = tidying_one plan top.instance call (length
+    fs) v d ds (matched_call plan top (length fs) call (phase.PostReturn v) d is phase_is m.0)
+
