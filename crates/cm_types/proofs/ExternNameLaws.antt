@@ -5,7 +5,7 @@ use Rattle.std.specs.Option.{option_map, option_map_or}
 use Rattle.std.proofs.lemmas.Bool.{eq-eqb, ne_eqb, cases_Bool, cases_eq, true≢false}
 use Rattle.cm_types.specs.declared.names.NameFault.{NameFault}
 use Rattle.cm_types.specs.declared.names.NameFault.TheVariants as fault
-use Rattle.cm_types.specs.Names.{IsLabel, label_fault}
+use Rattle.cm_types.specs.Names.{IsLabel, is_label, label_fault}
 use Rattle.cm_types.specs.NamesFaults.{fault_number}
 use Rattle.cm_types.specs.ExternNames.{NameTree, plain, method, static, constructor, interface, name_spelling, HasLabels, IsExternName, version_suffix, is_version, cut, cut_or_all, without_front, is_bracketed, is_interface_mark, member, interface_parts, interface_of, unannotated_form, form_of, least_fault, labels_fault, version_fault, version_of, parts_fault, extern_name_fault, is_extern_name}
 use Rattle.cm_types.proofs.Cuts.{Lacks, cut_at, cut_none}
@@ -269,3 +269,12 @@ pub form_fine : (text : List ℕ) (t : NameTree) → is_extern_name text ≡ tru
 form_fine text t h f =
     let p : parts_fault t ≡ None = sym (ap (λ o. option_map_or parts_fault o (Some fault.BadAnnotation)) f) ∙ test_fine text h in
     (form_spelled text t f p, parts_labels t p)
+
+-- a text that does not begin with a bracket shows a form without annotation
+pub no_bracket_is_unannotated : (text : List ℕ) → is_bracketed text ≡ false → form_of text ≡ unannotated_form text
+no_bracket_is_unannotated [] h = refl
+no_bracket_is_unannotated (b ∷ bs) h = rw h refl
+
+-- a label is an extern name
+pub label_has_no_fault : (text : List ℕ) → is_label text ≡ true → extern_name_fault text ≡ None
+label_has_no_fault text h = name_fine text (plain text, label_is text h, refl)

@@ -16,7 +16,7 @@ ghost use Rattle.cm_types.specs.ExternNames.{without_front};
 ghost use Rattle.cm_types.specs.ExternNames.{HasLabels, version_in, version_text};
 ghost use Rattle.cm_types.specs.ExternNameForms.{form_tree, pair_view};
 
-use crate::names::{NameFault, label_fault, shared};
+use crate::names::{NameFault, is_label, label_fault, shared};
 use semver::{Error, Version};
 use std::alloc::{AllocError, Global};
 use std::marker::Model;
@@ -276,7 +276,7 @@ fn static_of(text: &str) -> Option<ExternNameForm<'_>>
     Some(ExternNameForm::Static { resource, function })
 }
 
-fn form_of(text: &str) -> Option<ExternNameForm<'_>>
+fn annotated_form(text: &str) -> Option<ExternNameForm<'_>>
     ensures { option_map form_tree result ≡ form_of text.now }
 {
     if let Some(rest) = without_front(text, "[method]") {
@@ -285,6 +285,17 @@ fn form_of(text: &str) -> Option<ExternNameForm<'_>>
         static_of(rest)
     } else if let Some(resource) = without_front(text, "[constructor]") {
         Some(ExternNameForm::Constructor { resource })
+    } else {
+        unannotated_form(text)
+    }
+}
+
+#[tactic(auto, using(crate::proofs::ExternNameLaws::no_bracket_is_unannotated))]
+fn form_of(text: &str) -> Option<ExternNameForm<'_>>
+    ensures { option_map form_tree result ≡ form_of text.now }
+{
+    if is_bracketed(text) {
+        annotated_form(text)
     } else {
         unannotated_form(text)
     }
@@ -331,10 +342,15 @@ fn parts_fault(alloc: Global, form: &ExternNameForm<'_>) -> Result<Option<NameFa
     }
 }
 
+/// Why the text is no extern name, if it is none. Each byte of a label is looked at once.
+#[tactic(auto, using(crate::proofs::ExternNameLaws::label_has_no_fault))]
 fn extern_name_fault(alloc: Global, text: &str) -> Result<Option<NameFault>, AllocError>
     ensures value { IfOk result (λ f. f ≡ extern_name_fault text.now) }
     ensures exact { version_in text.now ≡ [] → result ≡ Ok (extern_name_fault text.now) }
 {
+    if is_label(text) {
+        return Ok(None);
+    }
     match form_of(text) {
         Some(form) => parts_fault(alloc, &form),
         None => Ok(Some(NameFault::BadAnnotation)),

@@ -1,10 +1,10 @@
 //! Labels, and why a text is no name.
 
 ghost use Rattle.std.specs.Prelude.{◌≡◌, IfOk, IfErr, ◌⊎◌, Some};
-ghost use Rattle.std.specs.List.{list_all};
 ghost use Rattle.std.specs.String.{string_bytes};
-ghost use Rattle.cm_types.specs.Names.{is_in_word, is_in_acronym, is_fragment, is_label};
-ghost use Rattle.cm_types.specs.Names.{is_same_name, label_fault};
+ghost use Rattle.cm_types.specs.Names.{is_label, is_same_name, label_fault};
+ghost use Rattle.cm_types.specs.LabelSteps.{LeadsTo, shortest};
+ghost use Rattle.cm_types.specs.declared.names.Reached.TheVariants as reached;
 ghost use Rattle.cm_types.specs.NamesFaults.{fault_number};
 
 use std::alloc::{AllocError, Global};
@@ -137,36 +137,88 @@ pub fn same_name(a: &str, b: &str) -> bool
     a.eq_ignore_ascii_case(b)
 }
 
-fn goes_on_as_word(text: &[u8]) -> bool
-    ensures { result ≡ list_all is_in_word text.now }
-{
-    text.iter()
-        .all(|b| b.is_ascii_lowercase() || b.is_ascii_digit())
+/// What the bytes of a text so far are, where they may begin a label.
+#[derive(Clone, Copy)]
+enum Reached {
+    /// None, or fragments and a hyphen behind each: a fragment has to come.
+    Start,
+    /// They end within a word.
+    Word,
+    /// They end within an acronym.
+    Acronym,
 }
 
-fn goes_on_as_acronym(text: &[u8]) -> bool
-    ensures { result ≡ list_all is_in_acronym text.now }
+/// What is reached by the first byte of a fragment, if it may be one.
+fn begun(byte: u8) -> Option<Reached>
+    ensures { LeadsTo reached.Start byte result }
 {
-    text.iter()
-        .all(|b| b.is_ascii_uppercase() || b.is_ascii_digit())
-}
-
-fn is_fragment(text: &str) -> bool
-    ensures { result ≡ is_fragment text.now }
-{
-    match text.as_bytes() {
-        [] => false,
-        [first, rest @ ..] => {
-            (first.is_ascii_lowercase() && goes_on_as_word(rest))
-                || (first.is_ascii_uppercase() && goes_on_as_acronym(rest))
-        }
+    if byte.is_ascii_lowercase() {
+        Some(Reached::Word)
+    } else if byte.is_ascii_uppercase() {
+        Some(Reached::Acronym)
+    } else {
+        None
     }
 }
 
+/// What is reached by a byte after a word's, if it may stand there.
+fn after_word(byte: u8) -> Option<Reached>
+    ensures { LeadsTo reached.Word byte result }
+{
+    if byte.is_ascii_lowercase() || byte.is_ascii_digit() {
+        Some(Reached::Word)
+    } else if byte == b'-' {
+        Some(Reached::Start)
+    } else {
+        None
+    }
+}
+
+/// What is reached by a byte after an acronym's, if it may stand there.
+fn after_acronym(byte: u8) -> Option<Reached>
+    ensures { LeadsTo reached.Acronym byte result }
+{
+    if byte.is_ascii_uppercase() || byte.is_ascii_digit() {
+        Some(Reached::Acronym)
+    } else if byte == b'-' {
+        Some(Reached::Start)
+    } else {
+        None
+    }
+}
+
+fn after(reached: Reached, byte: u8) -> Option<Reached>
+    ensures { LeadsTo reached byte result }
+{
+    match reached {
+        Reached::Start => begun(byte),
+        Reached::Word => after_word(byte),
+        Reached::Acronym => after_acronym(byte),
+    }
+}
+
+/// Whether what is reached is a label.
+fn is_whole(reached: Reached) -> bool
+    ensures { result ≡ is_label (shortest reached) }
+{
+    match reached {
+        Reached::Start => false,
+        Reached::Word | Reached::Acronym => true,
+    }
+}
+
+/// Whether the text is a label. Each byte is looked at once.
 pub(crate) fn is_label(text: &str) -> bool
     ensures { result ≡ is_label text.now }
 {
-    text.split('-').all(is_fragment)
+    let mut reached = Reached::Start;
+    for byte in text.as_bytes() {
+        match after(reached, *byte) {
+            Some(next) => reached = next,
+            None => return false,
+        }
+    }
+    is_whole(reached)
 }
 
 pub(crate) fn label_fault(text: &str) -> Option<NameFault>

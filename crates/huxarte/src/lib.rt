@@ -54,9 +54,9 @@ pub mod wit {
 /// lifts and lowers them.
 pub mod values {
     pub use cm_abi::{
-        AbiFault, Encodings, Found, HandleLeaf, Lifted, PartKind, PartRecord, PartRequests, Passed,
-        Passing, Receiver, Request, ScanEncodings, Scanned, StringEncoding, Way, check_answer,
-        check_answers, copy, lift, lower, requests, scan,
+        AbiFault, Encodings, Found, HandleLeaf, HandleValue, Lifted, PartKind, PartRecord, Passed,
+        Passing, Receiver, Request, Scan, StringEncoding, Way, check_answer, check_answers, copy,
+        lift, lower, requests, scan,
     };
     pub use cm_handles::{Handle, HandleFault, HandleKind, MAX_HANDLES, Table};
     pub use cm_layout::{

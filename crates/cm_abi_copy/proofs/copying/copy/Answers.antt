@@ -9,7 +9,7 @@ use Rattle.cm_abi_model.specs.Stores.{poke}
 use Rattle.cm_abi_model.specs.Ways.{way_of}
 use Rattle.cm_abi_copy.specs.declared.copier.Copier.{Copier}
 use Rattle.cm_abi_requests.specs.declared.part_requests.PartRequests.{PartRequests}
-use Rattle.cm_abi_lower.specs.Giving.{added_count}
+use Rattle.cm_abi_model.specs.Giving.{added_count}
 use Rattle.cm_handles.specs.Handles.{indices_left}
 use Rattle.cm_abi_copy.specs.Copies.{IsFaultOfCopying, given_by, handles_of_values}
 use Rattle.cm_abi_copy.proofs.CopyLaws.{IsFrom, all_zeros, are_numbers, as_many, few_slots, fits, framed, given_is, gives, none_there, none_told, numbers_are, passed_on, received, received_serves, taken_long}

@@ -2,10 +2,10 @@ use Rattle.std.proofs.Common.{Err, inl, inr, sym, ap, subst, ◌∙◌, ◌≡�
 use Rattle.cm_layout.specs.Layouts.{layout_of}
 use Rattle.cm_abi_model.specs.Views.{flat_limit}
 use Rattle.cm_abi_model.specs.Ways.{way_of}
-use Rattle.cm_abi_lower.specs.Leaves.{leaves_of}
+use Rattle.cm_abi_model.specs.HandleLeaves.{leaves_of}
 use Rattle.cm_abi_lift.specs.HandingOver.{hand_over, handed, untouched}
 use Rattle.cm_abi_load.specs.Outcomes.{State, state_of}
-use Rattle.cm_abi_requests.specs.RecordRequests.{requests_for}
+use Rattle.cm_abi_model.specs.RecordRequests.{requests_for}
 use Rattle.cm_abi_copy.specs.Scans.{giver_of}
 use Rattle.cm_abi_copy.proofs.ScanCallCallLemmas.{WasRead, read_askable, read_leaves, read_lifts, read_wanted, scan_stops, starts_fresh, was_read}
 use Rattle.cm_abi_copy.proofs.NothingLaws.{none_wants}

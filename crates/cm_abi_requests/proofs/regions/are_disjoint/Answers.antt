@@ -1,6 +1,6 @@
 use Rattle.std.proofs.Common.{rules}
 use Rattle.std.proofs.lemmas.List.Sorted.{IsNonDecreasingBy-from_sort, answers_always}
-use Rattle.cm_abi_requests.specs.declared.regions.Region.{Region}
+use Rattle.cm_abi_model.specs.declared.region.Region.{Region}
 use Rattle.cm_abi_requests.proofs.RegionLaws.{disjoint_back, disjoint_moved}
 use Rattle.cm_abi_requests.proofs.regions.are_disjoint.Goals as goal
 

@@ -1,5 +1,5 @@
 use Rattle.std.proofs.Common.{◌≡◌, None, Some, sym, ◌∙◌}
-use Rattle.cm_abi_requests.specs.Answering.{answer_fault}
+use Rattle.cm_abi_model.specs.Answering.{answer_fault}
 use Rattle.cm_abi_requests.proofs.StageLaws.{about_next, next_aligned, next_askable, next_part_there, stage_there}
 use Rattle.cm_abi_requests.proofs.part_requests.PartRequests.answer.Goals as goal
 

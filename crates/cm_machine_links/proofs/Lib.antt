@@ -1,0 +1,4 @@
+mod TypeFacts
+mod OptionFacts
+mod PlanFacts
+mod PlanLaws

@@ -1,0 +1,4 @@
+mod GoesOn
+mod Planned
+mod Runs
+mod Steps

@@ -1,0 +1,339 @@
+//! The running set: its steps, and whole runs.
+
+ghost use Rattle.std.specs.Prelude.{◌≡◌, ◌<◌, ◌≤◌, ◌↔◌, ◌⊎◌, List, [], ◌∷◌, length, slice_get};
+ghost use Rattle.std.specs.Prelude.{IfErr, IfOk, IsErrOf, OnErr, OnOk, Option, Some, None, ℕ};
+ghost use Rattle.std.specs.Prelude.{false, vec_capacity};
+ghost use Rattle.std.specs.Option.{option_copied, option_map};
+ghost use Rattle.std.specs.Result.{result_err};
+ghost use Rattle.cm_machine_model.specs.declared.event.Event.TheVariants as event;
+ghost use Rattle.cm_abi_model.specs.Bytes.{AreBytes};
+ghost use Rattle.cm_machine_rules.specs.History.{WritesBytes, begins, moves};
+ghost use Rattle.cm_machine_rules.specs.Plan.{Plan};
+ghost use Rattle.cm_machine_rules.specs.Run.{Run, after_begin, is_last, misuse_of_begin};
+ghost use Rattle.cm_machine_rules.specs.Stack.{actor, top_of};
+ghost use Rattle.cm_machine_rules.specs.Step.{Step};
+ghost use Rattle.cm_machine_rules.specs.Valid.{IsValidState};
+ghost use Rattle.cm_machine_links.specs.Planned.{ArePlanned};
+ghost use Rattle.cm_machine_parts.specs.Kept.{Runs};
+ghost use Rattle.cm_machine_parts.specs.Rows.{event_of};
+ghost use Rattle.cm_machine_parts.specs.States.{state_of};
+ghost use Rattle.cm_machine_running.specs.Running.{GoesOnFrom};
+
+use crate::advance::advance;
+use cm_machine_links::Links;
+use arrayvec::ArrayVec;
+use cm_machine_model::{Event, Flat, MAX_INSTANCES, Misuse, Move};
+use cm_machine_parts::laws::{frames_have_instances, what_is_kept_stays};
+use cm_machine_parts::{Outcome, State, actor, close_all};
+use cm_machine_rules::state::{Frame, Place, Purpose};
+use cm_machine_valid::laws::{
+    histories_are_valid, machine_starts_valid, machine_stays_valid,
+};
+use std::alloc::Global;
+use std::marker::Model;
+
+/// A linked set that runs: what each core function of its instances stands for, and its state.
+#[derive(Drop)]
+pub struct Set {
+    alloc: Global,
+    links: Links,
+    state: State,
+}
+
+impl Model for Set {
+    ghost use Rattle.cm_machine_running.specs.Running.{RunningSet};
+    ghost use Rattle.cm_machine_links.specs.contracts.links.Links as e;
+    ghost use Rattle.std.specs.Coded.{codes};
+
+    ghost Value = { RunningSet };
+
+    ghost coded = { Prim.hlevel (codes, e.the_row.coded) };
+
+    ghost use Rattle.cm_machine_rules.specs.Plan.{Plan};
+    ghost use Rattle.cm_machine_links.specs.Planned.{ArePlanned};
+    ghost use Rattle.cm_machine_parts.specs.Kept.{Runs};
+    ghost use Rattle.cm_machine_parts.specs.States.{state_of};
+
+    ghost view = { λ s. record { links = s.links; state = state_of s.state } };
+
+    ghost invariant = { λ s. (plan : Plan) × ArePlanned plan s.links × Runs plan s.state };
+}
+
+/// Puts the frame of a root on the empty stack.
+fn begin_root(state: &mut State, instance: u32)
+    requires runs { (plan : Plan) × Runs plan state.old }
+    requires empty { state.old.stack.frames ≡ [] }
+    requires opened { slice_get state.old.closed.items instance ≡ Some false }
+    ensures begun { state_of state.new ≡ after_begin (state_of state.old) instance }
+    ensures runs { (plan : Plan) → Runs plan state.old → Runs plan state.new }
+{
+    machine_starts_valid();
+    frames_have_instances();
+    what_is_kept_stays();
+    // Read first, so that the check knows how many numbers of borrows there are.
+    let _ = state.stack.len();
+    state.stack.push(Frame {
+        instance,
+        purpose: Purpose::Root,
+    });
+}
+
+/// What a move holds is what its type says: a move writes bytes.
+fn moves_write_bytes(made: &Move)
+    ensures { WritesBytes made.now }
+{
+    match made {
+        Move::Write { bytes, .. } => are_bytes(bytes),
+        Move::Grow { .. } | Move::Call { .. } | Move::Return { .. } | Move::Unreachable => {}
+    }
+}
+
+/// Bytes are numbers below 256.
+fn are_bytes(bytes: &[u8])
+    ensures { AreBytes bytes.now }
+{}
+
+/// One move of the instance that acts while this frame is on top. A trap empties the stack.
+fn step_at(
+    alloc: Global,
+    links: &Links,
+    state: &mut State,
+    top: &Frame,
+    made: &Move,
+    values: &mut Flat,
+) -> Outcome
+    requires runs { (plan : Plan) × ArePlanned plan links.now × Runs plan state.old }
+    requires top { top_of state.old.stack.frames ≡ Some top.now }
+    requires bytes { WritesBytes made.now }
+    ensures step { (plan : Plan) → ArePlanned plan links.now → Runs plan state.old
+        → Step plan (state_of state.old) made.now (event_of result values.new)
+        (state_of state.new) }
+    ensures runs { (plan : Plan) → ArePlanned plan links.now → Runs plan state.old
+        → Runs plan state.new }
+    ensures goes_on { is_last (event_of result values.new) ≡ false
+        → 0 < length state.new.stack.frames }
+{
+    machine_stays_valid();
+    match advance(alloc, links, state, top, made, values) {
+        Ok(outcome) => outcome,
+        Err(trap) => {
+            close_all(state);
+            Outcome::Trapped(trap)
+        }
+    }
+}
+
+/// The event of an outcome, with these core values.
+fn event(outcome: Outcome, values: Flat) -> Event
+    ensures { result ≡ event_of outcome values }
+{
+    match outcome {
+        Outcome::Done => Event::Done,
+        Outcome::Grown(pages) => Event::Grown(pages),
+        Outcome::Enter { instance, func } => Event::Enter {
+            instance,
+            func,
+            args: values,
+        },
+        Outcome::Realloc { instance, func } => Event::Realloc {
+            instance,
+            func,
+            args: values,
+        },
+        Outcome::Resume { instance } => Event::Resume { instance, values },
+        Outcome::PostReturn { instance, func } => Event::PostReturn {
+            instance,
+            func,
+            args: values,
+        },
+        Outcome::Dtor {
+            instance,
+            func,
+            rep,
+        } => Event::Dtor {
+            instance,
+            func,
+            rep,
+        },
+        Outcome::Trapped(trap) => Event::Trapped(trap),
+        Outcome::Ended => Event::Ended,
+    }
+}
+
+impl Set {
+    /// The instance whose move is next, or `None` where the stack is empty.
+    pub fn acting(&self) -> Option<u32>
+        ensures { result ≡ option_map actor (top_of self.now.state.stack) }
+    {
+        let top = self.state.stack.top()?;
+        Some(actor(&top))
+    }
+
+    /// The bytes of an instance's memory, or `None` where there is no such instance.
+    pub fn memory(&self, instance: u32) -> Option<&[u8]>
+        ensures { option_copied result ≡ slice_get self.now.state.memories instance }
+    {
+        self.state.memories.get(instance as usize)
+    }
+
+    /// Whether a trap has closed an instance, or `None` where there is no such instance.
+    pub fn is_closed(&self, instance: u32) -> Option<bool>
+        ensures { result ≡ slice_get self.now.state.closed instance }
+    {
+        self.state.closed.get(instance as usize).copied()
+    }
+
+    /// For each instance, in the order of the components, whether a trap has closed it. Takes no
+    /// memory.
+    pub fn closed_flags(&self) -> ArrayVec<bool, MAX_INSTANCES>
+        ensures { result.items ≡ self.now.state.closed }
+    {
+        let closed = &self.state.closed;
+        let mut flags = ArrayVec::new();
+        for flag in closed {
+            flags.push(*flag);
+        }
+        flags
+    }
+
+    /// Where the resource with this serial number is, or `None` where none was made with it.
+    pub fn place(&self, serial: u64) -> Option<Place>
+        ensures { result ≡ slice_get self.now.state.owners serial }
+    {
+        self.state.owners.get(serial as usize).copied()
+    }
+
+    /// Begins a root call of an instance: puts its frame on the empty stack. Takes no memory.
+    ///
+    /// Misuse: `Busy` where the stack is not empty, else `Closed` where the instance is closed,
+    /// else `NoInstance` where there is none. The state is then unchanged.
+    pub fn begin(&mut self, instance: u32) -> Result<Event, Misuse>
+        ensures event { IfOk result (λ e. e ≡ event.Resume instance []) }
+        ensures begins { OnOk result (self.new.state ≡ after_begin self.old.state instance) }
+        ensures history { IfOk result (λ e. GoesOnFrom self.old (begins instance) e self.new) }
+        ensures misuse { result_err result ≡ misuse_of_begin self.old.state instance }
+        ensures planned { self.new.links ≡ self.old.links }
+        ensures err { OnErr result (self.new ≡ self.old) }
+    {
+        if self.state.stack.len() > 0 {
+            return Err(Misuse::Busy);
+        }
+        match self.is_closed(instance) {
+            None => return Err(Misuse::NoInstance),
+            Some(true) => return Err(Misuse::Closed),
+            Some(false) => {}
+        }
+        begin_root(&mut self.state, instance);
+        Ok(Event::Resume {
+            instance,
+            values: Flat::new(),
+        })
+    }
+
+    /// One move of the acting instance: what it leads to, with its core values in place of those
+    /// that were there.
+    ///
+    /// Misuse: `Idle` where the stack is empty. State and values are then unchanged.
+    pub fn step_in(&mut self, made: &Move, values: &mut Flat) -> Result<Outcome, Misuse>
+        ensures step { (plan : Plan) → ArePlanned plan self.old.links
+            → IsValidState plan self.old.state → IfOk result (λ o.
+            Step plan self.old.state made.now (event_of o values.new) self.new.state) }
+        ensures valid { (plan : Plan) → ArePlanned plan self.old.links
+            → IsValidState plan self.old.state → IsValidState plan self.new.state }
+        ensures history { IfOk result (λ o.
+            GoesOnFrom self.old (moves made.now) (event_of o values.new) self.new) }
+        ensures goes_on { IfOk result (λ o. is_last (event_of o values.new) ≡ false
+            → 0 < length self.new.state.stack) }
+        ensures planned { self.new.links ≡ self.old.links }
+        ensures idle { IsErrOf result Misuse.Idle ↔ (self.old.state.stack ≡ []) }
+        ensures only { IfErr result (λ m. m ≡ Misuse.Idle) }
+        ensures err { OnErr result ((self.new ≡ self.old) × (values.new ≡ values.old)) }
+    {
+        let Some(top) = self.state.stack.top() else {
+            return Err(Misuse::Idle);
+        };
+        histories_are_valid();
+        moves_write_bytes(made);
+        Ok(step_at(self.alloc, &self.links, &mut self.state, &top, made, values))
+    }
+
+    /// One move of the acting instance, and the event that it leads to.
+    ///
+    /// Misuse: `Idle` where the stack is empty. The state is then unchanged.
+    pub fn step(&mut self, made: &Move) -> Result<Event, Misuse>
+        ensures step { (plan : Plan) → ArePlanned plan self.old.links
+            → IsValidState plan self.old.state → IfOk result (λ e.
+            Step plan self.old.state made.now e self.new.state) }
+        ensures valid { (plan : Plan) → ArePlanned plan self.old.links
+            → IsValidState plan self.old.state → IsValidState plan self.new.state }
+        ensures history { IfOk result (λ e. GoesOnFrom self.old (moves made.now) e self.new) }
+        ensures goes_on { IfOk result (λ e. is_last e ≡ false → 0 < length self.new.state.stack) }
+        ensures planned { self.new.links ≡ self.old.links }
+        ensures idle { IsErrOf result Misuse.Idle ↔ (self.old.state.stack ≡ []) }
+        ensures only { IfErr result (λ m. m ≡ Misuse.Idle) }
+        ensures err { OnErr result (self.new ≡ self.old) }
+    {
+        let mut values = Flat::new();
+        match self.step_in(made, &mut values) {
+            Ok(outcome) => Ok(event(outcome, values)),
+            Err(misuse) => Err(misuse),
+        }
+    }
+
+    /// Steps through these moves until they are used up or an event is `Ended` or `Trapped`, and
+    /// answers the events; later moves are not read. Room for the list of events is made first.
+    ///
+    /// Misuse: `Idle` where there is a move and the stack is empty, else `Memory` where there is no
+    /// room for the list. The state is then unchanged.
+    pub fn run(&mut self, alloc: Global, moves: &[Move]) -> Result<Vec<Event>, Misuse>
+        ensures run { (plan : Plan) → ArePlanned plan self.old.links
+            → IsValidState plan self.old.state → IfOk result (λ events.
+            Run plan self.old.state moves.now events.items self.new.state) }
+        ensures planned { self.new.links ≡ self.old.links }
+        ensures idle { IsErrOf result Misuse.Idle
+            ↔ ((0 < length moves.now) × (self.old.state.stack ≡ [])) }
+        ensures only { IfErr result (λ m. (m ≡ Misuse.Idle) ⊎ (m ≡ Misuse.Memory)) }
+        ensures err { OnErr result (self.new ≡ self.old) }
+    {
+        if !moves.is_empty() && self.depth() == 0 {
+            return Err(Misuse::Idle);
+        }
+        let Ok(mut events) = Vec::with_capacity(alloc, moves.len()) else {
+            return Err(Misuse::Memory);
+        };
+        self.run_into(moves, &mut events);
+        Ok(events)
+    }
+
+    /// How many frames stand on the stack.
+    fn depth(&self) -> usize
+        ensures { result ≡ length self.now.state.stack }
+    {
+        self.state.stack.len()
+    }
+
+    /// Steps through these moves as `run` does, and adds the events to a list with room for them.
+    fn run_into(&mut self, moves: &[Move], events: &mut Vec<Event>)
+        requires room { length moves.now ≤ vec_capacity events.old }
+        requires none { events.old.items ≡ [] }
+        requires acts { 0 < length moves.now → 0 < length self.old.state.stack }
+        ensures run { (plan : Plan) → ArePlanned plan self.old.links
+            → IsValidState plan self.old.state
+            → Run plan self.old.state moves.now events.new.items self.new.state }
+        ensures planned { self.new.links ≡ self.old.links }
+    {
+        for made in moves {
+            let Ok(event) = self.step(made) else {
+                unreachable!()
+            };
+            let last = event.is_last();
+            match events.push(event) {
+                Ok(()) => {}
+                Err(_) => unreachable!(),
+            }
+            if last {
+                return;
+            }
+        }
+    }
+}

@@ -1,0 +1,4 @@
+mod StepMatches
+mod StepAnswers
+mod Along
+mod Going

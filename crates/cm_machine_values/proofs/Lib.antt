@@ -1,0 +1,4 @@
+mod Follow
+mod Turns
+mod FollowCases
+mod FollowAlong
