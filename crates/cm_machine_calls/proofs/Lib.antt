@@ -1,0 +1,17 @@
+pub mod Results
+pub mod Pairs
+pub mod Borrows
+pub mod Counts
+pub mod KindLaws
+pub mod ArgumentLaws
+pub mod Scans
+pub mod Tables
+pub mod HandingLaws
+pub mod GivingLaws
+pub mod GoingLaws
+pub mod AnswerLaws
+pub mod HandLaws
+pub mod OwnerLaws
+pub mod AskLaws
+pub mod Rows
+pub mod RowLaws

@@ -1,0 +1,6 @@
+mod LendLists
+mod Mapping
+mod Closing
+mod Standing
+mod Ending
+mod Tables

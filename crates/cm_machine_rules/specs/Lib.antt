@@ -1,0 +1,13 @@
+pub mod Plan
+pub mod Plans
+pub mod Stack
+pub mod State
+pub mod Passages
+pub mod Step
+pub mod Rows
+pub mod Cases
+pub mod Run
+pub mod History
+pub mod Owning
+pub mod Valid
+pub mod Work

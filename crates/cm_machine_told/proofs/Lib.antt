@@ -1,0 +1,5 @@
+mod StepMatches
+mod StepAnswers
+mod Frames
+mod Along
+mod Going

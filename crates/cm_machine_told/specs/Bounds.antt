@@ -1,0 +1,45 @@
+-- How much is kept of a value that is on its way (this project's own choice).
+use Rattle.std.specs.Prelude.{◌≡◌, ℕ, ◌≤◌, ⊤, List, [], ◌∷◌, length, Option, Some, None}
+use Rattle.cm_types.specs.Values.{Val}
+use Rattle.cm_abi_model.specs.Taken.{lent_of}
+use Rattle.cm_abi_model.specs.Views.{params, results}
+use Rattle.cm_machine_told.specs.Doing.{Doing, LoweredCall, body, doing, handing, placing, tidying}
+use Rattle.cm_machine_rules.specs.History.{Occurrence}
+use Rattle.cm_abi_model.specs.Requests.{parts_of}
+use Rattle.cm_machine_rules.specs.Plan.{Plan, types_of}
+use Rattle.cm_machine_rules.specs.State.{Passage, State}
+use Rattle.cm_machine_told.specs.Told.{WasReturned, WasSent, met_at_call}
+
+-- what is kept of a value of so many parts and handles
+pub record IsBounded (o : Option Passage) (count : ℕ) : Type 0 where
+  pub records : (p : Passage) → o ≡ Some p → length p.records ≤ count
+  pub places : (p : Passage) → o ≡ Some p → length p.places ≤ count
+  pub handles : (p : Passage) → o ≡ Some p → length p.leaves ≤ count
+
+-- Of a value that is on its way no more is kept than it has parts and handles; of a call on which
+-- none is, nothing.
+abbrev pub IsBoundedBy : List Doing → State → Type 0
+IsBoundedBy (placing x asked ∷ ds) s =
+    (v : Val) × WasSent x v × IsBounded s.passage (parts_of params (types_of x.link params) v)
+IsBoundedBy (handing x asked r more ∷ ds) s =
+    (v : Val) × WasReturned x r v
+    × IsBounded s.passage (parts_of results (types_of x.link results) v)
+IsBoundedBy ds s = s.passage ≡ None
+
+-- a call that goes on borrows no more handles than its value has parts and handles
+abbrev pub BorrowsFew : LoweredCall → Type 0
+BorrowsFew x = (v : Val) → WasSent x v
+    → length (lent_of (met_at_call x v)) ≤ parts_of params (types_of x.link params) v
+
+-- each call that goes on borrows so few
+abbrev pub LendsFew : List Doing → Type 0
+LendsFew [] = ⊤
+LendsFew (placing x asked ∷ ds) = BorrowsFew x × LendsFew ds
+LendsFew (body x asked ∷ ds) = BorrowsFew x × LendsFew ds
+LendsFew (handing x asked r more ∷ ds) = BorrowsFew x × LendsFew ds
+LendsFew (tidying x asked r more ∷ ds) = BorrowsFew x × LendsFew ds
+LendsFew (d ∷ ds) = LendsFew ds
+
+-- No more is kept of a call than its value has parts and handles.
+abbrev pub KeepsFew : Plan → List Occurrence → State → Type 0
+KeepsFew plan h s = IsBoundedBy (doing plan h) s × LendsFew (doing plan h)

@@ -1,0 +1,16 @@
+pub mod Acting
+pub mod Doing
+pub mod Told
+pub mod Causes
+pub mod Always
+pub mod Answers
+pub mod Going
+pub mod Entries
+pub mod Asks
+pub mod MemoryChanges
+pub mod HandleChanges
+pub mod Placed
+pub mod Lent
+pub mod Bounds
+pub mod Closing
+pub mod Matching

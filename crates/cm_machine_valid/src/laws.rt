@@ -1,0 +1,61 @@
+//! What holds of the rules of the machine, as laws: each function here does nothing, and its
+//! contract is the law.
+
+ghost use Rattle.std.specs.Prelude.{◌≡◌, ℕ, true, false, List, [], Some, length, slice_get};
+ghost use Rattle.cm_types.specs.Values.{Val};
+ghost use Rattle.cm_abi_model.specs.Views.{Way};
+ghost use Rattle.cm_machine_model.specs.declared.event.Event.{Event};
+ghost use Rattle.cm_machine_model.specs.declared.moves.Move.{Move};
+ghost use Rattle.cm_machine_rules.specs.History.{IsHistoryOf, Occurrence, WritesBytes};
+ghost use Rattle.cm_machine_rules.specs.Owning.{NoneDangles};
+ghost use Rattle.cm_machine_rules.specs.Passages.{Carries};
+ghost use Rattle.cm_machine_rules.specs.Plan.{Link, Plan};
+ghost use Rattle.cm_machine_rules.specs.Plans.{IsPlan};
+ghost use Rattle.cm_machine_rules.specs.Run.{after_begin};
+ghost use Rattle.cm_machine_rules.specs.State.{Passage, State, are_page_counts, fresh_state};
+ghost use Rattle.cm_machine_rules.specs.Step.{Step};
+ghost use Rattle.cm_machine_rules.specs.Valid.{IsValidState};
+
+use cm_abi_model::laws::one_value_is_on_its_way;
+use cm_handles::laws::tables_change_in_one_place;
+
+/// The machine is valid before anything ran, and when a root call begins.
+pub fn machine_starts_valid()
+    ensures fresh { (plan : Plan) (pages : List ℕ) → IsPlan plan
+        → are_page_counts (length plan) pages ≡ true
+        → IsValidState plan (fresh_state (length plan) pages) }
+    ensures begun { (plan : Plan) (s : State) (i : ℕ) → IsValidState plan s → s.stack ≡ []
+        → slice_get s.closed i ≡ Some false → IsValidState plan (after_begin s i) }
+{}
+
+/// Each step keeps the machine valid, where a move writes bytes.
+pub fn machine_stays_valid()
+    ensures { (plan : Plan) (s : State) (m : Move) (e : Event) (new : State)
+        → IsValidState plan s → WritesBytes m → Step plan s m e new → IsValidState plan new }
+{
+    one_value_is_on_its_way();
+    tables_change_in_one_place();
+}
+
+/// The machine is valid in each state that a history leads to.
+pub fn histories_are_valid()
+    ensures { (plan : Plan) (pages : List ℕ) (h : List Occurrence) (s : State)
+        → IsHistoryOf plan pages h s → IsValidState plan s }
+{
+    machine_starts_valid();
+    machine_stays_valid();
+}
+
+/// No borrow dangles: where a handle is borrowed, its resource is in a table, owned by a handle
+/// that is lent.
+pub fn what_is_borrowed_is_backed()
+    ensures { (plan : Plan) (s : State) → IsValidState plan s → NoneDangles s }
+{}
+
+/// One passage carries one value: two that the same memory shows, with the same handles, are one.
+pub fn one_value_is_carried()
+    ensures { (memory : List ℕ) (l : Link) (way : Way) (p : Passage) (v u : Val)
+        → Carries memory l way p v → Carries memory l way p u → v ≡ u }
+{
+    one_value_is_on_its_way();
+}
