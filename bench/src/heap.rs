@@ -47,9 +47,22 @@ pub fn end() -> usize {
     MOST.load(Relaxed)
 }
 
+/// How many times memory was asked for while bytes were counted.
+static ASKED: AtomicUsize = AtomicUsize::new(0);
+
+/// How many times a task asks for memory.
+pub fn count(task: impl FnOnce()) -> usize {
+    ASKED.store(0, Relaxed);
+    begin();
+    task();
+    end();
+    ASKED.load(Relaxed)
+}
+
 fn took(block: *mut c_void) -> *mut c_void {
     if COUNTS.load(Relaxed) && !block.is_null() {
         let size = unsafe { malloc_usable_size(block) };
+        ASKED.fetch_add(1, Relaxed);
         let taken = TAKEN.fetch_add(size, Relaxed) + size;
         MOST.fetch_max(taken, Relaxed);
     }
