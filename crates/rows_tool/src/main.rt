@@ -14,7 +14,9 @@ use std::io;
 use std::process::ExitCode;
 
 /// The families of rows, a file each.
-const FAMILIES: [&str; 4] = ["commands", "words", "scripts", "events"];
+const FAMILIES: [&str; 6] = [
+    "commands", "words", "scripts", "events", "plays", "examples",
+];
 
 /// The state between rows: the files of the command.
 #[derive(Drop)]
