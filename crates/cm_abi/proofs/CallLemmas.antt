@@ -15,7 +15,7 @@ use Rattle.cm_abi_model.specs.Regions.{ArePlaced}
 use Rattle.cm_abi_model.specs.Requests.{call_parts, is_spilled, stored_charset, tuple_of}
 use Rattle.cm_abi_model.specs.Stores.{Given, number_of, place_of}
 use Rattle.cm_abi_model.specs.Views.{Way}
-use Rattle.cm_abi_requests.specs.Answering.{AreCounted, HaveScalars}
+use Rattle.cm_abi_model.specs.Answering.{AreCounted, HaveScalars}
 use Rattle.cm_abi.proofs.PokeLemmas.{PutsIn, covers_all, put_one}
 use Rattle.cm_abi.proofs.PutLemmas.{AreShort, fields_puts}
 

@@ -1,4 +1,4 @@
--- What was scanned is told by its records, also while the requests are answered.
+-- The requests for parts that were scanned: tags are read of strings that have them alone.
 use Rattle.std.proofs.Common.{◌≡◌, Bool, List, [], ◌∷◌, ◌++◌, ap, refl, subst, sym}
 use Rattle.cm_types.specs.Types.{Fields}
 use Rattle.cm_types.specs.Values.{Val}
@@ -10,23 +10,8 @@ use Rattle.cm_abi_model.specs.Requests.{call_parts, chain, part_align, part_requ
 use Rattle.cm_abi_model.specs.Texts.{utf8, utf16}
 use Rattle.cm_abi_model.specs.Views.{View}
 use Rattle.cm_abi_model.specs.Ways.{way_of}
-use Rattle.cm_abi_copy.specs.declared.found.Found.{Found}
-use Rattle.cm_abi_requests.specs.declared.part_requests.PartRequests.{PartRequests}
-use Rattle.cm_abi_lift.specs.Telling.{TellAll}
-use Rattle.cm_abi_copy.specs.CallPlaces.{call_places}
-use Rattle.cm_abi_copy.specs.Scans.{ScansCall}
-use Rattle.cm_abi_copy.specs.declared.scanned.Scanned.{Scanned}
-use Rattle.cm_abi.specs.Calls.{GoesOnAsFound}
-
-pub told : (giver : View) (target : StringEncoding) (types : Fields) (v : Val) (t : Handles) (scanned : Scanned) (f : Found) (s : PartRequests)
-    → ScansCall giver target (way_of f.passed.way) types f.passed.slots.now v t scanned → GoesOnAsFound giver target scanned f s types
-    → TellAll giver s.target s.records.items (call_parts (way_of f.passed.way) types v) (call_places giver (way_of f.passed.way) types f.passed.slots.now v)
-told giver target types v t scanned f s scans on =
-    let records_are : scanned.requests.records.items ≡ s.records.items = sym (ap (λ rs. rs.items) on.records) in
-    subst (λ e. TellAll giver e s.records.items (call_parts (way_of f.passed.way) types v) (call_places giver (way_of f.passed.way) types f.passed.slots.now v)) (sym on.goes_to)
-    (subst (λ rs. TellAll giver target rs (call_parts (way_of f.passed.way) types v) (call_places giver (way_of f.passed.way) types f.passed.slots.now v)) records_are scans.tells)
-
--- ---- tags are read of strings that have them alone
+use Rattle.cm_abi_model.specs.Telling.{TellAll}
+use Rattle.cm_abi_model.specs.CallPlaces.{call_places}
 
 utf8_tags : (target : StringEncoding) (parts : List Part) (xs ys : List Bool) → part_requests encoding.Utf8 target xs parts ≡ part_requests encoding.Utf8 target ys parts
 utf8_tags target [] xs ys = refl

@@ -9,12 +9,12 @@ use Rattle.cm_abi_model.specs.declared.encoding.StringEncoding.{StringEncoding}
 use Rattle.cm_abi_model.specs.declared.request.Request.{Request}
 use Rattle.cm_abi_model.specs.Parts.{Part, text_part, element_part, handle_count, handle_count_each}
 use Rattle.cm_abi_model.specs.Receives.{HandleLeaf, leaves_each, leaves_in, leaves_in_fields, leaves_in_payload}
-use Rattle.cm_abi_model.specs.Requests.{chain, charset, first_tag, growths, part_align, part_requests, part_sizes, shrunk, stored_charset, tags_behind, text_sizes}
+use Rattle.cm_abi_model.specs.Requests.{chain, read_charset, first_tag, growths, part_align, part_requests, part_sizes, shrunk, stored_charset, tags_behind, text_sizes}
 use Rattle.cm_abi_model.specs.Texts.{Charset, utf8, utf16, latin1}
-use Rattle.cm_abi_requests.specs.Answering.{begins_part, places_of, regions_of}
-use Rattle.cm_abi_requests.specs.declared.regions.Region.{Region}
-use Rattle.cm_abi_lower.specs.Giving.{added_for, numbers_given, with_added}
-use Rattle.cm_abi_lower.specs.declared.receiver.Receiver.{Receiver}
+use Rattle.cm_abi_model.specs.Answering.{begins_part, places_of, regions_of}
+use Rattle.cm_abi_model.specs.declared.region.Region.{Region}
+use Rattle.cm_abi_model.specs.Giving.{added_for, numbers_given, with_added}
+use Rattle.cm_abi_model.specs.declared.receiver.Receiver.{Receiver}
 
 -- ---- handles
 
@@ -110,7 +110,7 @@ begins align sizes rest some = rw some.1.1 refl
 
 starts : (source target : StringEncoding) (tags : List Bool) (ps : List Part) → begins_part (part_requests source target tags ps) ≡ true
 starts source target tags [] = refl
-starts source target tags (p ∷ ps) = begins (part_align target p) _ (part_requests source target (tags_behind p tags) ps) (sizes_some (charset source (first_tag tags)) (stored_charset target) p)
+starts source target tags (p ∷ ps) = begins (part_align target p) _ (part_requests source target (tags_behind p tags) ps) (sizes_some (read_charset source (first_tag tags)) (stored_charset target) p)
 
 one_chain : (align : ℕ) (sizes : List ℕ) (rest : List Request) (answers : List ℕ) → Some1 sizes → begins_part rest ≡ true
     → length answers ≡ length (chain align sizes ++ rest) → PartAnswered rest (regions_of (chain align sizes ++ rest) answers)
@@ -121,9 +121,9 @@ regions_counted : (source target : StringEncoding) (tags : List Bool) (ps : List
     → length (regions_of (part_requests source target tags ps) answers) ≡ length ps
 regions_counted source target tags [] answers len = refl
 regions_counted source target tags (p ∷ ps) answers len =
-    let sizes = part_sizes (charset source (first_tag tags)) (stored_charset target) p in
+    let sizes = part_sizes (read_charset source (first_tag tags)) (stored_charset target) p in
     let rest = part_requests source target (tags_behind p tags) ps in
-    let first = one_chain (part_align target p) sizes rest answers (sizes_some (charset source (first_tag tags)) (stored_charset target) p) (starts source target (tags_behind p tags) ps) len in
+    let first = one_chain (part_align target p) sizes rest answers (sizes_some (read_charset source (first_tag tags)) (stored_charset target) p) (starts source target (tags_behind p tags) ps) len in
     first.are ∙ ap suc (regions_counted source target (tags_behind p tags) ps first.behind first.counted)
 
 pub places_counted : (source target : StringEncoding) (tags : List Bool) (ps : List Part) (answers : List ℕ) → length answers ≡ length (part_requests source target tags ps)

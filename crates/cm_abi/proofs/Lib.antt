@@ -9,3 +9,5 @@ mod CountLemmas
 mod CallLemmas
 mod ReadyLemmas
 mod ScannedLaws
+mod HandleNumbers
+mod OneReceived

@@ -4,8 +4,9 @@ use Rattle.cm_handles.specs.Handles.{Handles, handle_at}
 use Rattle.cm_handles.specs.declared.handle.Handle.{Handle}
 use Rattle.cm_abi_model.specs.Receives.{HandleLeaf, owned_leaf, borrowed_leaf}
 use Rattle.cm_abi_model.specs.Taken.{Met, text_content, content, taken, lent, taken_of}
-use Rattle.cm_abi_copy.specs.MetLeaves.{leaf_at, leaves_met, stands_for}
-use Rattle.cm_abi.specs.Calls.{owned_in}
+use Rattle.cm_abi_copy.specs.MetLeaves.{leaf_at, leaves_met}
+use Rattle.cm_abi_model.specs.HandleLeaves.{stands_for}
+use Rattle.cm_abi_model.specs.HandleLeaves.{owned_in}
 
 some_is : {a b : Handle} → Some a ≡ Some b → a ≡ b
 some_is e = cc

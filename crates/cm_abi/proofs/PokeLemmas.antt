@@ -10,12 +10,12 @@ use Rattle.cm_layout.specs.Flattening.{join, join_slots}
 use Rattle.cm_abi_model.specs.Numbers.{slot_at, slot_number}
 use Rattle.cm_abi_model.specs.Receives.{AreNumbers, SlotsHold, put}
 use Rattle.cm_abi_model.specs.Stores.{Holds, IsBeside, Placed, poke}
-use Rattle.cm_abi.specs.Kinds.{FitKinds, FitsKind}
+use Rattle.cm_abi.specs.Kinds.{AreNumbersOf, IsNumberOf}
 
 -- a number fits the kind of a slot, which is there
 abbrev pub FitsAt : List CoreKind → ℕ → ℕ → Type 0
 FitsAt [] j n = ⊥
-FitsAt (k ∷ ks) zero n = FitsKind k n
+FitsAt (k ∷ ks) zero n = IsNumberOf k n
 FitsAt (k ∷ ks) (suc j) n = FitsAt ks j n
 
 -- numbers are put into slots from one on and below another, in order, each where it fits
@@ -48,12 +48,12 @@ fits_right : (xs ys : List CoreKind) (j n : ℕ) → FitsAt ys j n → FitsAt (x
 fits_right [] ys j n h = let e : j ≡ 0 + j = omega arith in subst (λ i. FitsAt ys i n) e h
 fits_right (x ∷ xs) ys j n h = let e : suc (length xs + j) ≡ length (x ∷ xs) + j = omega arith in subst (λ i. FitsAt (x ∷ (xs ++ ys)) i n) e (fits_right xs ys j n h)
 
-fits_join_left : (x y : CoreKind) (n : ℕ) → FitsKind x n → FitsKind (join x y) n
+fits_join_left : (x y : CoreKind) (n : ℕ) → IsNumberOf x n → IsNumberOf (join x y) n
 fits_join_left kind.I32 kind.I32 n h = h
 fits_join_left kind.I32 kind.I64 n h = tt {0}
 fits_join_left kind.I64 y n h = h
 
-fits_join_right : (x y : CoreKind) (n : ℕ) → FitsKind y n → FitsKind (join x y) n
+fits_join_right : (x y : CoreKind) (n : ℕ) → IsNumberOf y n → IsNumberOf (join x y) n
 fits_join_right kind.I32 y n h = h
 fits_join_right kind.I64 y n h = tt {0}
 
@@ -98,7 +98,7 @@ pub covers_join_right : (ks : List CoreKind) (s : ℕ) (xs ys : List CoreKind) �
 covers_join_right ks s xs ys c j n h = c j n (joined_right xs ys j n h)
 
 -- one number in the first slot
-pub put_one : (ks : List CoreKind) (s : ℕ) (x : CoreKind) (xs : List CoreKind) (n : ℕ) → Covers ks s (x ∷ xs) → FitsKind x n → PutsIn ks s (s + 1) (put s n)
+pub put_one : (ks : List CoreKind) (s : ℕ) (x : CoreKind) (xs : List CoreKind) (n : ℕ) → Covers ks s (x ∷ xs) → IsNumberOf x n → PutsIn ks s (s + 1) (put s n)
 put_one ks s x xs n c h = (omega arith, (subst (λ i. FitsAt ks i n) (omega arith) (c 0 n h), omega arith))
 
 -- ---- what slots have then
@@ -124,21 +124,21 @@ held ks s e (b ∷ ps) m long h = (
   held ks (b.0 + 1) e ps (slice_set m b.0 b.1) (length-set m b.0 b.1 ∙ long) h.1.1,
 )
 
-fit_set : (ks : List CoreKind) (ns : List ℕ) (j n : ℕ) → FitKinds ks ns → FitsAt ks j n → FitKinds ks (slice_set ns j n)
+fit_set : (ks : List CoreKind) (ns : List ℕ) (j n : ℕ) → AreNumbersOf ks ns → FitsAt ks j n → AreNumbersOf ks (slice_set ns j n)
 fit_set [] ns j n all h = absurd h
 fit_set (k ∷ ks) [] j n all h = absurd all
 fit_set (k ∷ ks) (m ∷ ns) zero n all h = (h, all.1)
 fit_set (k ∷ ks) (m ∷ ns) (suc j) n all h = (all.0, fit_set ks ns j n all.1 h)
 
-pub poked_fit : (ks : List CoreKind) (s e : ℕ) (ps : List Placed) (ns : List ℕ) → FitKinds ks ns → PutsIn ks s e ps → FitKinds ks (poke ps ns)
+pub poked_fit : (ks : List CoreKind) (s e : ℕ) (ps : List Placed) (ns : List ℕ) → AreNumbersOf ks ns → PutsIn ks s e ps → AreNumbersOf ks (poke ps ns)
 poked_fit ks s e [] ns all h = all
 poked_fit ks s e (p ∷ ps) ns all h = poked_fit ks (p.0 + 1) e ps (slice_set ns p.0 p.1) (fit_set ks ns p.0 p.1 all h.1.0) h.1.1
 
-zero_fits : (k : CoreKind) → FitsKind k 0
+zero_fits : (k : CoreKind) → IsNumberOf k 0
 zero_fits kind.I32 = omega arith
 zero_fits kind.I64 = tt {0}
 
-pub zeros_fit : (ks : List CoreKind) → FitKinds ks (replicate (length ks) 0)
+pub zeros_fit : (ks : List CoreKind) → AreNumbersOf ks (replicate (length ks) 0)
 zeros_fit [] = tt {0}
 zeros_fit (k ∷ ks) = (zero_fits k, zeros_fit ks)
 

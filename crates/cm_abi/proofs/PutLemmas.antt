@@ -17,14 +17,14 @@ use Rattle.cm_abi_model.specs.Receives.{put, slot_bytes, slots_of, slots_of_fiel
 use Rattle.cm_abi_model.specs.Requests.{text_bytes, text_units}
 use Rattle.cm_abi_model.specs.Stores.{Given, from_signed, number_of, place_of, store_each}
 use Rattle.cm_abi_model.specs.Texts.{Charset, unit_size, utf8, utf16, latin1}
-use Rattle.cm_abi.specs.Kinds.{FitsKind}
+use Rattle.cm_abi.specs.Kinds.{IsNumberOf}
 use Rattle.cm_abi.proofs.PokeLemmas.{Covers, PutsIn, covers_behind, covers_join_left, covers_join_right, covers_left, covers_right, longer_left, longer_right, put_one, puts_append, puts_upper}
 
 bool_small : (b : Bool) → (if b then 1 else 0) < 2 ^ 32
 bool_small true = omega arith
 bool_small false = omega arith
 
-signed_small : (w : Width) (z : ℤ) → FitsSignedWidth w z → FitsKind (number_kind w) (from_signed (slot_bytes w) z)
+signed_small : (w : Width) (z : ℤ) → FitsSignedWidth w z → IsNumberOf (number_kind w) (from_signed (slot_bytes w) z)
 signed_small bits_8 (pos n) fits = let small : n < 128 = grind (arith, ints, fits.1) in omega (arith, small)
 signed_small bits_8 (negsuc n) fits = omega arith
 signed_small bits_16 (pos n) fits = let small : n < 2 ^ 15 = grind (arith, ints, fits.1) in omega (arith, small)
@@ -33,7 +33,7 @@ signed_small bits_32 (pos n) fits = let small : n < 2 ^ 31 = grind (arith, ints,
 signed_small bits_32 (negsuc n) fits = omega arith
 signed_small bits_64 z fits = tt {0}
 
-unsigned_small : (w : Width) (n : ℕ) → FitsWidth w n → FitsKind (number_kind w) n
+unsigned_small : (w : Width) (n : ℕ) → FitsWidth w n → IsNumberOf (number_kind w) n
 unsigned_small bits_8 n fits = omega (arith, fits)
 unsigned_small bits_16 n fits = omega (arith, fits)
 unsigned_small bits_32 n fits = fits

@@ -21,13 +21,13 @@ use Rattle.cm_abi_model.specs.Requests.{CanStore, IsStored, call_parts, part_req
 use Rattle.cm_abi_model.specs.Stores.{Framed, Given, Holds, poke}
 use Rattle.cm_abi_model.specs.Views.{View, Way}
 use Rattle.cm_abi_model.specs.Ways.{way_of}
-use Rattle.cm_abi_requests.specs.Answering.{AreCounted, HaveScalars, first_fault, places_of, regions_of}
+use Rattle.cm_abi_model.specs.Answering.{AreCounted, HaveScalars, first_fault, places_of, regions_of}
 use Rattle.cm_abi_requests.specs.Asking.{content_of_parts}
-use Rattle.cm_abi_requests.specs.Overlap.{AreDisjoint}
-use Rattle.cm_abi_lower.specs.Giving.{Gives, numbers_given}
-use Rattle.cm_abi_lower.specs.declared.receiver.Receiver.{Receiver}
+use Rattle.cm_abi_model.specs.Overlap.{AreDisjoint}
+use Rattle.cm_abi_model.specs.Giving.{Gives, numbers_given}
+use Rattle.cm_abi_model.specs.declared.receiver.Receiver.{Receiver}
 use Rattle.cm_abi_store.specs.Calls.{IsProvided}
-use Rattle.cm_abi.specs.Kinds.{FitKinds}
+use Rattle.cm_abi.specs.Kinds.{AreNumbersOf}
 use Rattle.cm_abi.specs.Lowers.{CanBeLowered, IsReceiving, asked_for, given_for, handles_passed, parts_passed, tuple_in}
 use Rattle.cm_abi.specs.declared.passing.Passing.{Passing}
 use Rattle.cm_abi.proofs.CallLemmas.{call_counted, call_puts, call_scalars}
@@ -72,7 +72,7 @@ pub record IsReady (p : Passing) (types : Fields) : Type 0 where
   pub cases : CasesFit (tuple_in p)
   pub counted : AreCounted (parts_passed p types)
   pub stores : CanStore p.encodings.target types
-  pub spelled : HaveScalars p.encodings.source p.encodings.tags.now (parts_passed p types)
+  pub spelled : HaveScalars p.encodings.source p.tags.now (parts_passed p types)
 
 spelled_in : SpelledLaw → (e : StringEncoding) (tags : List Bool) (t : Ty) (u : Val) → HasType t u → (e ≡ encoding.Latin1OrUtf16 → HaveScalars e tags (parts_in t u)) → HaveScalars e tags (parts_in t u)
 spelled_in law encoding.Utf8 tags t u typed told = law t u encoding.Utf8 tags tt typed
@@ -85,9 +85,9 @@ ready p types spelled counted cases can = record {
   typed = can.typed;
   spellable = can.spellable;
   cases = cases;
-  counted = counted types (tuple_in p) p.encodings.source p.encodings.tags.now can.spellable can.small;
+  counted = counted types (tuple_in p) p.encodings.source p.tags.now can.spellable can.small;
   stores = can.stores;
-  spelled = spelled_in spelled p.encodings.source p.encodings.tags.now (tuple_of types) (tuple_in p) can.typed can.spelled;
+  spelled = spelled_in spelled p.encodings.source p.tags.now (tuple_of types) (tuple_in p) can.typed can.spelled;
 }
 
 module _ (p : Passing) (types : Fields) (to : Receiver) (before after : Handles) (answers : List ℕ) (can : IsReady p types) where
@@ -107,16 +107,16 @@ module _ (p : Passing) (types : Fields) (to : Receiver) (before after : Handles)
   pub placed : (n : ℕ) (rs : List Request) → PlacedLaw → rs ≡ asked_for p types → length answers ≡ length (asked_for p types) → first_fault n rs answers ≡ None
       → ArePlaced p.encodings.target n (given_for p types to before answers) 0 (call_parts (way_of p.way) types (tuple_in p))
   placed n rs law rs_is answered fine =
-      law p.encodings.source p.encodings.target p.encodings.tags.now (call_parts (way_of p.way) types (tuple_in p)) answers n (given_for p types to before answers)
-      (call_scalars p.encodings.source p.encodings.tags.now (way_of p.way) types (values_of p.values.now) can.spelled)
+      law p.encodings.source p.encodings.target p.tags.now (call_parts (way_of p.way) types (tuple_in p)) answers n (given_for p types to before answers)
+      (call_scalars p.encodings.source p.tags.now (way_of p.way) types (values_of p.values.now) can.spelled)
       (call_counted (way_of p.way) types (values_of p.values.now) can.counted) answered
       (subst (λ r. first_fault n r answers ≡ None) rs_is fine) refl
 
   pub apart : (rs : List Request) → ApartLaw → rs ≡ asked_for p types → length answers ≡ length (asked_for p types) → AreDisjoint (regions_of rs answers)
       → AreApart p.encodings.target (given_for p types to before answers) 0 (call_parts (way_of p.way) types (tuple_in p))
   apart rs law rs_is answered disjoint =
-      (law p.encodings.source p.encodings.target p.encodings.tags.now (call_parts (way_of p.way) types (tuple_in p)) answers (given_for p types to before answers)
-      (call_scalars p.encodings.source p.encodings.tags.now (way_of p.way) types (values_of p.values.now) can.spelled) answered refl).0
+      (law p.encodings.source p.encodings.target p.tags.now (call_parts (way_of p.way) types (tuple_in p)) answers (given_for p types to before answers)
+      (call_scalars p.encodings.source p.tags.now (way_of p.way) types (values_of p.values.now) can.spelled) answered refl).0
       (subst (λ r. AreDisjoint (regions_of r answers)) rs_is disjoint)
 
   pub final_slots : (h : Given) (zeros new : List ℕ) → h ≡ given_for p types to before answers → new ≡ poke (call_numbers h (way_of p.way) types (tuple_in p)) zeros
@@ -138,7 +138,7 @@ module _ (p : Passing) (types : Fields) (to : Receiver) (before after : Handles)
       rw new_is (law (way_of p.way) types (given_for p types to before answers) (tuple_in p) p.encodings.target old can.typed refl stand clear).1
 
   all_places : length answers ≡ length (asked_for p types) → length (places_of (asked_for p types) answers) ≡ length (call_parts (way_of p.way) types (tuple_in p))
-  all_places answered = places_counted p.encodings.source p.encodings.target p.encodings.tags.now (call_parts (way_of p.way) types (tuple_in p)) answers answered
+  all_places answered = places_counted p.encodings.source p.encodings.target p.tags.now (call_parts (way_of p.way) types (tuple_in p)) answers answered
 
   pub provided : (n slots : ℕ) → length answers ≡ length (asked_for p types)
       → ArePlaced p.encodings.target n (given_for p types to before answers) 0 (call_parts (way_of p.way) types (tuple_in p)) → slots ≡ length p.kinds.now
@@ -163,7 +163,7 @@ module _ (p : Passing) (types : Fields) (to : Receiver) (before after : Handles)
 
   pub slots_fit : (e : ℕ) (slots : List ℕ) → PutsIn p.kinds.now 0 e (call_numbers (given_for p types to before answers) (way_of p.way) types (tuple_in p))
       → slots ≡ poke (call_numbers (given_for p types to before answers) (way_of p.way) types (tuple_in p)) (replicate (length p.kinds.now) 0)
-      → FitKinds p.kinds.now slots
+      → AreNumbersOf p.kinds.now slots
   slots_fit e slots put is =
       rw is (poked_fit p.kinds.now 0 e (call_numbers (given_for p types to before answers) (way_of p.way) types (tuple_in p)) (replicate (length p.kinds.now) 0) (zeros_fit p.kinds.now) put)
 

@@ -15,10 +15,11 @@ use Rattle.cm_abi_model.specs.Receives.{HandleLeaf, owned_leaf, borrowed_leaf, l
 use Rattle.cm_abi_model.specs.Requests.{call_parts, is_spilled, parts_of, tuple_of}
 use Rattle.cm_abi_model.specs.Taken.{AllThere, Met, content, lent, lent_of, taken, taken_of, text_content}
 use Rattle.cm_abi_model.specs.Views.{View, Way}
-use Rattle.cm_abi_lift.specs.Telling.{TellAll}
-use Rattle.cm_abi_lift.specs.cm_abi_load.declared.record.PartRecord.{PartRecord}
-use Rattle.cm_abi_copy.specs.MetLeaves.{leaf_at, leaves_met, stands_for}
-use Rattle.cm_abi.specs.Calls.{borrowed_in}
+use Rattle.cm_abi_model.specs.Telling.{TellAll}
+use Rattle.cm_abi_model.specs.declared.record.PartRecord.{PartRecord}
+use Rattle.cm_abi_copy.specs.MetLeaves.{leaf_at, leaves_met}
+use Rattle.cm_abi_model.specs.HandleLeaves.{stands_for}
+use Rattle.cm_abi_model.specs.HandleLeaves.{borrowed_in}
 use Rattle.cm_abi.proofs.CountLemmas.{handles_counted}
 use Rattle.cm_abi.proofs.InsideLaws.{counted}
 

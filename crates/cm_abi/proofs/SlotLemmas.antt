@@ -2,19 +2,19 @@
 use Rattle.std.proofs.Common.{◌≡◌, ℕ, zero, suc, ◌+◌, ◌<◌, ◌≤◌, List, [], ◌∷◌, ◌++◌, drop, length, map, refl, sym, ap, ◌∙◌, arith, get_or, drop-cons, add-one}
 use Rattle.std.proofs.lemmas.List.{append_assoc, append-nil, map-append}
 use Rattle.cm_types.specs.declared.core_value.CoreKind.{CoreKind}
-use Rattle.cm_abi.specs.Kinds.{FitKinds, FitsKind}
+use Rattle.cm_abi.specs.Kinds.{AreNumbersOf, IsNumberOf}
 
 pub record NextFits (ks : List CoreKind) (ns : List ℕ) (i : ℕ) (k : CoreKind) : Type 0 where
   pub there : i < length ns
-  pub fits : (d : ℕ) → FitsKind k (get_or ns i d)
-  pub rest : FitKinds (drop (i + 1) ks) (drop (i + 1) ns)
+  pub fits : (d : ℕ) → IsNumberOf k (get_or ns i d)
+  pub rest : AreNumbersOf (drop (i + 1) ks) (drop (i + 1) ns)
 
-pub next_fits : (ks : List CoreKind) (ns : List ℕ) (i : ℕ) (d : CoreKind) → i < length ks → FitKinds (drop i ks) (drop i ns) → NextFits ks ns i (get_or ks i d)
+pub next_fits : (ks : List CoreKind) (ns : List ℕ) (i : ℕ) (d : CoreKind) → i < length ks → AreNumbersOf (drop i ks) (drop i ns) → NextFits ks ns i (get_or ks i d)
 next_fits [] ns i d lt all = absurd (omega (arith, lt))
 next_fits (k ∷ ks) [] zero d lt all = absurd all
 next_fits (k ∷ ks) [] (suc i) d lt all = absurd (no_more ks i (omega (arith, lt)) all)
   where
-    no_more : (xs : List CoreKind) (j : ℕ) → j < length xs → FitKinds (drop j xs) [] → ⊥
+    no_more : (xs : List CoreKind) (j : ℕ) → j < length xs → AreNumbersOf (drop j xs) [] → ⊥
     no_more [] j less h = absurd (omega (arith, less))
     no_more (x ∷ xs) zero less h = h
     no_more (x ∷ xs) (suc j) less h = no_more xs j (omega (arith, less)) h
@@ -41,7 +41,7 @@ past (x ∷ xs) (suc i) le = past xs i (omega (arith, le))
 pub all_there : {X Y : Type 0} (f : Y → X) (all : List X) (done : List Y) (i : ℕ) → length all ≤ i → map f done ++ drop i all ≡ all → map f done ≡ all
 all_there f all done i le so = sym (append-nil (map f done)) ∙ (ap (λ xs. map f done ++ xs) (sym (past all i le)) ∙ so)
 
-pub as_long : (ks : List CoreKind) (ns : List ℕ) → FitKinds ks ns → length ns ≡ length ks
+pub as_long : (ks : List CoreKind) (ns : List ℕ) → AreNumbersOf ks ns → length ns ≡ length ks
 as_long [] [] h = refl
 as_long [] (n ∷ ns) h = absurd h
 as_long (k ∷ ks) [] h = absurd h

@@ -7,13 +7,13 @@ use Rattle.cm_text.specs.Text.{IsText}
 use Rattle.cm_text.specs.Utf16.{bytes_of_unit, spell_utf16}
 use Rattle.cm_abi_model.specs.declared.encoding.StringEncoding.{StringEncoding}
 use Rattle.cm_abi_model.specs.Parts.{Part, text_part, element_part}
-use Rattle.cm_abi_model.specs.Requests.{charset, text_bytes, text_units}
+use Rattle.cm_abi_model.specs.Requests.{read_charset, text_bytes, text_units}
 use Rattle.cm_abi_model.specs.Texts.{Charset, Has, bytes_from, latin1, spell, utf8, utf16}
 use Rattle.cm_abi_model.specs.Views.{View}
-use Rattle.cm_abi_lift.specs.Telling.{TellAll, Tells, TellsSource, TellsText}
-use Rattle.cm_abi_lift.specs.cm_abi_load.declared.record.PartKind.{PartKind}
-use Rattle.cm_abi_lift.specs.cm_abi_load.declared.record.PartKind.TheVariants as kind
-use Rattle.cm_abi_lift.specs.cm_abi_load.declared.record.PartRecord.{PartRecord}
+use Rattle.cm_abi_model.specs.Telling.{TellAll, Tells, TellsSource, TellsText}
+use Rattle.cm_abi_model.specs.declared.record.PartKind.{PartKind}
+use Rattle.cm_abi_model.specs.declared.record.PartKind.TheVariants as kind
+use Rattle.cm_abi_model.specs.declared.record.PartRecord.{PartRecord}
 use Rattle.cm_abi.specs.Reads.{AreAlike, AreAllAlike, ReadsBytes}
 
 -- ---- what is told is read
@@ -25,13 +25,13 @@ text_reads : (w : View) (s : Charset) (r : PartRecord) (cs : List ℕ) → Tells
 text_reads w s r cs h i lt = sym (taken_at w.memory r.at (length (text_bytes s cs)) i lt) ∙ ap (λ bs. slice_index bs i) (sym h.text.is)
 
 pub told_reads : (w : View) (target : StringEncoding) (r : PartRecord) (tag : Bool) (cs : List ℕ) (at : ℕ) → r.kind ≡ kind.Text tag → Tells w target r (text_part cs) at
-    → ReadsBytes w.memory at (text_bytes (charset w.encoding tag) cs)
+    → ReadsBytes w.memory at (text_bytes (read_charset w.encoding tag) cs)
 told_reads w target r tag cs at is h =
-    subst (λ p. ReadsBytes w.memory p (text_bytes (charset w.encoding tag) cs)) h.place
-    (text_reads w (charset w.encoding tag) r cs (subst (λ k. TellsSource w r k (text_part cs)) is h.source))
+    subst (λ p. ReadsBytes w.memory p (text_bytes (read_charset w.encoding tag) cs)) h.place
+    (text_reads w (read_charset w.encoding tag) r cs (subst (λ k. TellsSource w r k (text_part cs)) is h.source))
 
 pub told_of_no_other : (w : View) (target : StringEncoding) (r : PartRecord) (tag : Bool) (cs : List ℕ) (at i : ℕ) → r.kind ≡ kind.Text tag
-    → i < length (text_bytes (charset w.encoding tag) cs) → (slice_index w.memory (at + i) ≡ slice_index (text_bytes (charset w.encoding tag) cs) i → ⊥)
+    → i < length (text_bytes (read_charset w.encoding tag) cs) → (slice_index w.memory (at + i) ≡ slice_index (text_bytes (read_charset w.encoding tag) cs) i → ⊥)
     → Tells w target r (text_part cs) at → ⊥
 told_of_no_other w target r tag cs at i is lt otherwise h = otherwise (told_reads w target r tag cs at is h i lt)
 
@@ -64,7 +64,7 @@ text_alike one w s r cs ds h k =
 
 alike : OneText → (w : View) (target : StringEncoding) (r : PartRecord) (x : PartKind) (p q : Part) (at to : ℕ) → TellsSource w r x p → TellsSource w r x q
     → Tells w target r p at → Tells w target r q to → AreAlike p q
-alike one w target r (kind.Text tag) (text_part cs) (text_part ds) at to a b h k = text_alike one w (charset w.encoding tag) r cs ds a b
+alike one w target r (kind.Text tag) (text_part cs) (text_part ds) at to a b h k = text_alike one w (read_charset w.encoding tag) r cs ds a b
 alike one w target r (kind.Text tag) (text_part cs) (element_part n s a') at to a b h k = absurd b
 alike one w target r (kind.Text tag) (element_part n s a') q at to a b h k = absurd a
 alike one w target r kind.Elements (text_part cs) q at to a b h k = absurd a

@@ -4,13 +4,13 @@ use Rattle.cm_types.specs.declared.core_value.CoreKind.{CoreKind}
 use Rattle.cm_types.specs.declared.core_value.CoreKind.TheVariants as kind
 
 -- a number, one of 64 bits, fits a core value of this kind
-abbrev pub FitsKind : CoreKind → ℕ → Type 0
-FitsKind kind.I32 n = n < 2 ^ 32
-FitsKind kind.I64 n = ⊤
+abbrev pub IsNumberOf : CoreKind → ℕ → Type 0
+IsNumberOf kind.I32 n = n < 2 ^ 32
+IsNumberOf kind.I64 n = ⊤
 
 -- numbers fit core values of these kinds, one for one
-abbrev pub FitKinds : List CoreKind → List ℕ → Type 0
-FitKinds [] [] = ⊤
-FitKinds [] (n ∷ ns) = ⊥
-FitKinds (k ∷ ks) [] = ⊥
-FitKinds (k ∷ ks) (n ∷ ns) = FitsKind k n × FitKinds ks ns
+abbrev pub AreNumbersOf : List CoreKind → List ℕ → Type 0
+AreNumbersOf [] [] = ⊤
+AreNumbersOf [] (n ∷ ns) = ⊥
+AreNumbersOf (k ∷ ks) [] = ⊥
+AreNumbersOf (k ∷ ks) (n ∷ ns) = IsNumberOf k n × AreNumbersOf ks ns

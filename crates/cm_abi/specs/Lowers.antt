@@ -18,12 +18,10 @@ use Rattle.cm_abi_model.specs.Stores.{Given}
 use Rattle.cm_abi_model.specs.Taken.{MAX_CONTENT}
 use Rattle.cm_abi_model.specs.Views.{View}
 use Rattle.cm_abi_model.specs.Ways.{way_of}
-use Rattle.cm_abi_requests.specs.Answering.{HaveScalars, IsFaultOfAnswers, first_fault}
-use Rattle.cm_abi_requests.specs.Answering.{places_of, regions_of}
+use Rattle.cm_abi_model.specs.Answering.{HaveScalars, IsFaultOfAnswers, IsGood, places_of}
 use Rattle.cm_abi_requests.specs.Asking.{content_of_parts}
-use Rattle.cm_abi_requests.specs.Overlap.{AreDisjoint}
-use Rattle.cm_abi_lower.specs.Giving.{IsViewOf, added_count, numbers_given}
-use Rattle.cm_abi_lower.specs.declared.receiver.Receiver.{Receiver}
+use Rattle.cm_abi_model.specs.Giving.{IsViewOf, added_count, numbers_given}
+use Rattle.cm_abi_model.specs.declared.receiver.Receiver.{Receiver}
 use Rattle.cm_abi.specs.declared.passing.Passing.{Passing}
 
 -- the tuple of the values of a call, its parts, and its handles, in reading order
@@ -40,7 +38,7 @@ handles_passed p types = leaves_in (tuple_of types) (tuple_in p)
 abbrev pub asked_for : Passing → Fields → List Request
 asked_for p types =
     requests (way_of p.way) types (tuple_in p) p.encodings.source p.encodings.target
-    p.encodings.tags.now
+    p.tags.now
 
 -- Values of these types can be lowered: their layout and the kinds of the core values that pass
 -- them are those of the types, which a file can spell; values of these types may be stored in their
@@ -53,15 +51,9 @@ pub record CanBeLowered (p : Passing) (types : Fields) : Type 0 where
   pub spellable : are_spellable types ≡ true
   pub stores : CanStore p.encodings.target types
   pub spelled : p.encodings.source ≡ encoding.Latin1OrUtf16
-      → HaveScalars p.encodings.source p.encodings.tags.now (parts_passed p types)
+      → HaveScalars p.encodings.source p.tags.now (parts_passed p types)
   pub small :
-      content_of_parts p.encodings.source p.encodings.tags.now (parts_passed p types) ≤ MAX_CONTENT
-
--- the answers to requests will do in a memory of so many bytes: each is aligned with its region in
--- the memory, and the regions of two parts have no address in common
-pub record WillDo (memory_length : ℕ) (rs : List Request) (answers : List ℕ) : Type 0 where
-  pub each : first_fault memory_length rs answers ≡ None
-  pub apart : AreDisjoint (regions_of rs answers)
+      content_of_parts p.encodings.source p.tags.now (parts_passed p types) ≤ MAX_CONTENT
 
 -- what the values are given: each part the answer to the last request for it, each handle its
 -- number, by the receiver's table as it was
@@ -87,6 +79,6 @@ abbrev pub IsFaultOfLowering : ℕ → Passing → Fields → Receiver → Handl
     → Type 0
 IsFaultOfLowering memory_length p types to table answers f =
     IsFaultOfAnswers memory_length (asked_for p types) answers f
-    ⊎ ((f ≡ fault.TableFull) × WillDo memory_length (asked_for p types) answers
+    ⊎ ((f ≡ fault.TableFull) × IsGood memory_length (asked_for p types) answers
     × (indices_left table < added_count to (handles_passed p types)))
     ⊎ (f ≡ fault.EngineMemory)

@@ -2,12 +2,12 @@
 
 ghost use Rattle.std.specs.Prelude.{◌≡◌, ◌+◌, ◌<◌, Bool, List, length, slice_index, ℕ};
 ghost use Rattle.cm_abi_model.specs.Parts.{Part, text_part};
-ghost use Rattle.cm_abi_model.specs.Requests.{charset, text_bytes};
+ghost use Rattle.cm_abi_model.specs.Requests.{read_charset, text_bytes};
 ghost use Rattle.cm_abi_model.specs.Views.{View};
 ghost use Rattle.cm_abi_model.specs.declared.encoding.StringEncoding.{StringEncoding};
-ghost use Rattle.cm_abi_lift.specs.Telling.{TellAll, Tells};
-ghost use Rattle.cm_abi_lift.specs.cm_abi_load.declared.record.PartKind.TheVariants.{Text};
-ghost use Rattle.cm_abi_lift.specs.cm_abi_load.declared.record.PartRecord.{PartRecord};
+ghost use Rattle.cm_abi_model.specs.Telling.{TellAll, Tells};
+ghost use Rattle.cm_abi_model.specs.declared.record.PartKind.TheVariants.{Text};
+ghost use Rattle.cm_abi_model.specs.declared.record.PartRecord.{PartRecord};
 ghost use Rattle.cm_abi.specs.Reads.{AreAllAlike, ReadsBytes};
 ghost use Rattle.cm_abi.specs.Inside.{AreInside};
 ghost use Rattle.cm_types.specs.Types.{Ty};
@@ -29,12 +29,12 @@ pub fn records_tell_the_memory()
     ensures shown { (w : View) (target : StringEncoding) (r : PartRecord) (tag : Bool)
         (scalars : List ℕ) (at : ℕ) → r.kind ≡ Text tag
         → Tells w target r (text_part scalars) at
-        → ReadsBytes w.memory at (text_bytes (charset w.encoding tag) scalars) }
+        → ReadsBytes w.memory at (text_bytes (read_charset w.encoding tag) scalars) }
     ensures other { (w : View) (target : StringEncoding) (r : PartRecord) (tag : Bool)
         (scalars : List ℕ) (at i : ℕ) → r.kind ≡ Text tag
-        → i < length (text_bytes (charset w.encoding tag) scalars)
+        → i < length (text_bytes (read_charset w.encoding tag) scalars)
         → (slice_index w.memory (at + i)
-        ≡ slice_index (text_bytes (charset w.encoding tag) scalars) i → ⊥)
+        ≡ slice_index (text_bytes (read_charset w.encoding tag) scalars) i → ⊥)
         → Tells w target r (text_part scalars) at → ⊥ }
     ensures parts { (w : View) (target : StringEncoding) (rs : List PartRecord)
         (parts others : List Part) (starts places : List ℕ) → TellAll w target rs parts starts

@@ -20,9 +20,11 @@
 //! With no tree made of the values, where the giver's memory stays as it is until they are copied:
 //!
 //! 1. `scan` looks at the values where they stand, with the same answer and the same handles as
-//!    `lift`, and keeps a record of each part.
-//! 2. `PartRequests` tells the same requests by these records, one after another, and keeps each
-//!    answer, which has no fault.
+//!    `lift`, and keeps in a `Scan` a record of each part, and the handles. A `Scan` is made once
+//!    and filled again for each call: where a call takes no more than one before it, no memory is
+//!    taken.
+//! 2. `Scan::next_request` tells the same requests by these records, one after another, and
+//!    `Scan::answer` keeps each answer, which has no fault.
 //! 3. `copy` looks whether the parts are apart, adds the handles to the receiver's table, and
 //!    copies the values from the giver's memory into the receiver's, and into the core values that
 //!    pass them.
@@ -39,10 +41,12 @@ mod lowering;
 mod passing;
 mod slots;
 
-pub use cm_abi_copy::{Encodings as ScanEncodings, Found, Scanned, copy, scan};
-pub use cm_abi_lift::{Lifted, PartKind, PartRecord, Passed, lift};
-pub use cm_abi_lower::{HandleLeaf, Receiver};
-pub use cm_abi_model::{AbiFault, Request, StringEncoding, Way};
-pub use cm_abi_requests::{Encodings, PartRequests, check_answer, check_answers, requests};
+pub use cm_abi_copy::{Found, Scan, copy, scan};
+pub use cm_abi_lift::{Lifted, Passed, lift};
+pub use cm_abi_model::{
+    AbiFault, Encodings, HandleLeaf, HandleValue, PartKind, PartRecord, Receiver, Request,
+    StringEncoding, Way,
+};
+pub use cm_abi_requests::{check_answer, check_answers, requests};
 pub use lowering::lower;
 pub use passing::Passing;

@@ -7,18 +7,19 @@ ghost use Rattle.cm_abi_model.specs.Receives.{NoneImplemented, Passes, Receives,
 ghost use Rattle.cm_abi_model.specs.Stores.{Framed};
 ghost use Rattle.cm_abi_model.specs.Views.{View};
 ghost use Rattle.cm_abi_model.specs.Ways.{way_of};
-ghost use Rattle.cm_abi_lower.specs.Giving.{Gives, numbers_given};
-ghost use Rattle.cm_abi.specs.Lowers.{CanBeLowered, IsFaultOfLowering, IsReceiving, WillDo};
+ghost use Rattle.cm_abi_model.specs.Giving.{Gives, numbers_given};
+ghost use Rattle.cm_abi.specs.Lowers.{CanBeLowered, IsFaultOfLowering, IsReceiving};
+ghost use Rattle.cm_abi_model.specs.Answering.{IsGood};
 ghost use Rattle.cm_abi.specs.Lowers.{asked_for, given_for, handles_passed, tuple_in};
 
 use crate::cases::cases_fit;
 use crate::passing::Passing;
 use crate::slots::put_core_values;
-use cm_abi_lower::{Receiver, give_values, store_call};
-use cm_abi_model::AbiFault;
+use cm_abi_lower::{give_values, store_call};
 use cm_abi_model::laws::{
     places_are_read_alike, what_is_received_is_denoted, what_is_stored_stays,
 };
+use cm_abi_model::{AbiFault, Receiver};
 use cm_abi_requests::laws::{answers_place_parts, what_is_typed_can_be_lowered};
 use cm_abi_requests::{check_answers, requests};
 use cm_abi_store::Target;
@@ -98,7 +99,7 @@ pub fn lower(
         (handles_passed passing.now types)
         (numbers_given to table.old.handles (handles_passed passing.now types))) }
     ensures answers { (types : Fields) → CanBeLowered passing.now types
-        → OnOk result (WillDo (length memory.old) (asked_for passing.now types) answers.now) }
+        → OnOk result (IsGood (length memory.old) (asked_for passing.now types) answers.now) }
     ensures err { (types : Fields) → CanBeLowered passing.now types
         → IfErr result (IsFaultOfLowering (length memory.old) passing.now types to
         table.old.handles answers.now) }
@@ -117,8 +118,9 @@ pub fn lower(
         kinds,
         values,
         encodings,
+        tags,
     } = *passing;
-    let Ok(requests) = requests(alloc, layout, way, values, &encodings) else {
+    let Ok(requests) = requests(alloc, layout, way, values, encodings, tags) else {
         return Err(AbiFault::EngineMemory);
     };
     let places = check_answers(alloc, &requests, answers, memory.len())?;

@@ -1,7 +1,6 @@
 //! What a call is to pass.
 
-use cm_abi_model::Way;
-use cm_abi_requests::Encodings;
+use cm_abi_model::{Encodings, Way};
 use cm_layout::Layout;
 use cm_types::{CoreKind, Value};
 
@@ -18,5 +17,8 @@ pub struct Passing<'a> {
     /// The values, one of each type.
     pub values: &'a [Value],
     /// How their strings are encoded where they were lifted, and where they are lowered.
-    pub encodings: Encodings<'a>,
+    pub encodings: Encodings,
+    /// Of each string, in reading order, whether its length was tagged as UTF-16 where it was
+    /// lifted. Only `Latin1OrUtf16` has tags; where there are too few, the others are not set.
+    pub tags: &'a [bool],
 }

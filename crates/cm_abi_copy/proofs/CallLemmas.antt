@@ -24,8 +24,8 @@ use Rattle.cm_abi_lift.specs.declared.passed.Passed.{Passed}
 use Rattle.cm_abi_load.specs.Outcomes.{State}
 use Rattle.cm_abi_load.specs.Reading.{read_at, seen_by}
 use Rattle.cm_abi_load.specs.Sized.{IsSized}
-use Rattle.cm_abi_lift.specs.cm_abi_load.declared.record.PartRecord.{PartRecord}
-use Rattle.cm_abi_lift.specs.Telling.{TellAll}
+use Rattle.cm_abi_model.specs.declared.record.PartRecord.{PartRecord}
+use Rattle.cm_abi_model.specs.Telling.{TellAll}
 use Rattle.cm_abi_store.specs.Calls.{IsFlatTuple, IsProvided, IsSpilledTuple}
 use Rattle.cm_abi_store.specs.Fitting.{Fits}
 use Rattle.cm_abi_store.specs.FlatLowering.{behind_by, slots_by}

@@ -15,18 +15,20 @@ use Rattle.cm_abi_model.specs.Requests.{CanStore, call_parts, stored_charset, tu
 use Rattle.cm_abi_model.specs.Parts.{Part}
 use Rattle.cm_abi_model.specs.Stores.{Framed, Given, Holds, IsBeside, Placed, number_of, place_of, poke}
 use Rattle.cm_abi_model.specs.Views.{View, Way}
-use Rattle.cm_abi_lower.specs.Giving.{Gives, added_for, numbers_given, with_added}
-use Rattle.cm_abi_lower.specs.declared.receiver.Receiver.{Receiver}
+use Rattle.cm_abi_model.specs.Giving.{Gives, added_for, numbers_given, with_added}
+use Rattle.cm_abi_model.specs.declared.receiver.Receiver.{Receiver}
 use Rattle.cm_abi_store.specs.Calls.{IsProvided}
 use Rattle.cm_abi_store.specs.Kinds.{FitKinds, kind_limit, slot_limit}
-use Rattle.cm_abi_requests.specs.declared.part_requests.PartRequests.{PartRequests}
+use Rattle.cm_abi_model.specs.Answered.{Requesting}
+use Rattle.cm_abi_model.specs.Scanned.{Scanned}
 use Rattle.cm_abi_model.specs.Ways.{way_of}
 use Rattle.cm_abi_copy.specs.declared.copier.Copier.{Copier}
 use Rattle.cm_abi_copy.specs.PassingOn.{CanBePassedOn}
-use Rattle.cm_abi_lower.specs.Leaves.{leaves_of}
-use Rattle.cm_abi_lower.specs.declared.leaf.HandleLeaf.{HandleLeaf as CodedLeaf}
+use Rattle.cm_abi_model.specs.HandleLeaves.{leaves_of}
+use Rattle.cm_abi_model.specs.declared.leaf.HandleLeaf.{HandleLeaf as CodedLeaf}
 use Rattle.cm_abi_store.specs.Storing.{given_of}
-use Rattle.cm_abi_copy.specs.Copies.{FoundCanBeCopied, IsReceivingIn, PartsAreApart, given_by, handles_of_values}
+use Rattle.cm_abi_model.specs.Copies.{IsReceivingIn, PartsAreApart, given_by, handles_of_values}
+use Rattle.cm_abi_copy.specs.Copies.{FoundCanBeCopied}
 use Rattle.cm_abi_copy.specs.Settled.{IsSettled}
 use Rattle.cm_abi_copy.specs.declared.found.Found.{Found}
 
@@ -109,16 +111,16 @@ pub none_there : (n k : ℕ) → slice_index (take n all_zeros) k ≡ 0
 none_there n k = zeros_taken n 16 all_zeros refl k
 
 -- what the code copies from is what was found, with what the requests and the handles were given
-pub record IsFrom (from : Copier) (f : Found) (s : PartRequests) (ns : List ℕ) : Type 0 where
+pub record IsFrom (from : Copier) (f : Found) (p : Requesting) (ns : List ℕ) : Type 0 where
   pub memory : from.memory.now ≡ f.memory.now
-  pub encoding : from.encoding ≡ s.source
-  pub target : from.target.encoding ≡ s.target
-  pub places : from.target.places.now ≡ s.places.items
+  pub encoding : from.encoding ≡ p.source
+  pub target : from.target.encoding ≡ p.target
+  pub places : from.target.places.now ≡ p.places
   pub numbers : from.target.numbers.now ≡ ns
-  pub records : from.records.now ≡ s.records.items
+  pub records : from.records.now ≡ p.records
 
-module _ (n : ℕ) (kinds : List CoreKind) (giver : View) (f : Found) (s : PartRequests) (answers : List ℕ) (types : Fields) (v : Val) (to : Receiver) (before after : Handles) (ns : List ℕ)
-    (can : FoundCanBeCopied n kinds giver f s answers types v) (settled : IsSettled n (way_of f.passed.way) s answers types v) (given : Gives to before after (leaves_of f.handles.now) ns) where
+module _ (n : ℕ) (kinds : List CoreKind) (giver : View) (f : Found) (s : Scanned) (answers : List ℕ) (types : Fields) (v : Val) (to : Receiver) (before after : Handles) (ns : List ℕ)
+    (can : FoundCanBeCopied n kinds giver f s answers types v) (settled : IsSettled n (way_of f.passed.way) s.parts answers types v) (given : Gives to before after s.handles ns) where
   abbrev way : Way
   way = way_of f.passed.way
 
@@ -137,14 +139,14 @@ module _ (n : ℕ) (kinds : List CoreKind) (giver : View) (f : Found) (s : PartR
   pub numbers_are : ns ≡ numbers_given to before (handles_of_values types v)
   numbers_are = (subst (λ ls. Gives to before after ls ns) can.found.handles given).numbers
 
-  pub given_is : (from : Copier) → IsFrom from f s ns → given_of from.target ≡ given_by s answers types v to before
+  pub given_is : (from : Copier) → IsFrom from f s.parts ns → given_of from.target ≡ given_by s.parts answers types v to before
   given_is from is =
       rw (is.places, is.numbers, is.target, settled.places, numbers_are) refl
 
-  stand : ArePlaced s.target n (given_by s answers types v to before) 0 (call_parts (way_of f.passed.way) types v)
-  stand = settled.placed (given_by s answers types v to before) (sym settled.places)
+  stand : ArePlaced s.parts.target n (given_by s.parts answers types v to before) 0 (call_parts (way_of f.passed.way) types v)
+  stand = settled.placed (given_by s.parts answers types v to before) (sym settled.places)
 
-  pub provided : (slots : ℕ) → length (call_kinds (way_of f.passed.way) types) ≤ slots → IsProvided (way_of f.passed.way) types v s.target (given_by s answers types v to before) n slots
+  pub provided : (slots : ℕ) → length (call_kinds (way_of f.passed.way) types) ≤ slots → IsProvided (way_of f.passed.way) types v s.parts.target (given_by s.parts answers types v to before) n slots
   provided slots long =
       let places = settled.counted in
       let same = ap length settled.places in
@@ -157,22 +159,22 @@ module _ (n : ℕ) (kinds : List CoreKind) (giver : View) (f : Found) (s : PartR
         slots = long;
       }
 
-  pub passed_on : (from : Copier) (slots : ℕ) → IsFrom from f s ns → length (call_kinds (way_of f.passed.way) types) ≤ slots → CanBePassedOn n slots from f.passed types v
+  pub passed_on : (from : Copier) (slots : ℕ) → IsFrom from f s.parts ns → length (call_kinds (way_of f.passed.way) types) ≤ slots → CanBePassedOn n slots from f.passed types v
   passed_on from slots is long =
       record {
-        layout = can.found.layout;
+        layout = can.layout;
         view = giver;
-        memory = can.found.memory ∙ sym is.memory;
+        memory = can.memory ∙ sym is.memory;
         encoding = can.found.encoding ∙ sym is.encoding;
         denoted = can.found.denoted;
         starts = can.found.starts;
         told = rw (is.target, is.records) can.found.told;
         provided =
             subst (λ g. IsProvided (way_of f.passed.way) types v from.target.encoding g n slots) (sym (given_is from is))
-            (subst (λ e. IsProvided (way_of f.passed.way) types v e (given_by s answers types v to before) n slots) (sym is.target) (provided slots long));
+            (subst (λ e. IsProvided (way_of f.passed.way) types v e (given_by s.parts answers types v to before) n slots) (sym is.target) (provided slots long));
       }
 
-  pub serves : (w : View) → w.encoding ≡ s.target → length w.memory ≡ n → n < 2 ^ 32 → IsSoundHandles w.table → Serves w (way_of f.passed.way) types (given_by s answers types v to before) v
+  pub serves : (w : View) → w.encoding ≡ s.parts.target → length w.memory ≡ n → n < 2 ^ 32 → IsSoundHandles w.table → Serves w (way_of f.passed.way) types (given_by s.parts answers types v to before) v
   serves w encoding long few sound =
       record {
         stores = subst (λ e. CanStore e types) (sym encoding) can.found.stores;
@@ -183,47 +185,47 @@ module _ (n : ℕ) (kinds : List CoreKind) (giver : View) (f : Found) (s : PartR
       }
 
   pub fits : FitsLaw → (memory zeros : List ℕ) → length memory ≡ n → n < 2 ^ 32 → IsSoundHandles after → ((k : ℕ) → slice_index zeros k ≡ 0)
-      → ((k : ℕ) → place_of (given_by s answers types v to before) k < 2 ^ 32) → ((h : ℕ) → number_of (given_by s answers types v to before) h < 2 ^ 32)
-      → (now : List ℕ) → now ≡ poke (call_numbers (given_by s answers types v to before) (way_of f.passed.way) types v) zeros → FitKinds kinds now
+      → ((k : ℕ) → place_of (given_by s.parts answers types v to before) k < 2 ^ 32) → ((h : ℕ) → number_of (given_by s.parts answers types v to before) h < 2 ^ 32)
+      → (now : List ℕ) → now ≡ poke (call_numbers (given_by s.parts answers types v to before) (way_of f.passed.way) types v) zeros → FitKinds kinds now
   fits law memory zeros long few sound none places numbers now is =
-      let w : View = record { memory = memory; table = after; instance = 0; encoding = s.target; call = 0 } in
-      rw (can.kinds_are, is) (law w (way_of f.passed.way) types (given_by s answers types v to before) v zeros settled.typed refl (serves w refl long few sound) (rw long stand) places numbers (zeros_fit (call_kinds (way_of f.passed.way) types) zeros none))
+      let w : View = record { memory = memory; table = after; instance = 0; encoding = s.parts.target; call = 0 } in
+      rw (can.kinds_are, is) (law w (way_of f.passed.way) types (given_by s.parts answers types v to before) v zeros settled.typed refl (serves w refl long few sound) (rw long stand) places numbers (zeros_fit (call_kinds (way_of f.passed.way) types) zeros none))
 
   pub are_numbers : PassedLaw → (zeros numbers : List ℕ) (slots : List CoreValue) → ((k : ℕ) → slice_index zeros k ≡ 0) → length (call_kinds (way_of f.passed.way) types) ≤ length zeros
-      → numbers ≡ poke (call_numbers (given_by s answers types v to before) (way_of f.passed.way) types v) zeros → Puts kinds numbers slots
-      → AreNumbers (call_kinds (way_of f.passed.way) types) slots (call_numbers (given_by s answers types v to before) (way_of f.passed.way) types v)
+      → numbers ≡ poke (call_numbers (given_by s.parts answers types v to before) (way_of f.passed.way) types v) zeros → Puts kinds numbers slots
+      → AreNumbers (call_kinds (way_of f.passed.way) types) slots (call_numbers (given_by s.parts answers types v to before) (way_of f.passed.way) types v)
   are_numbers law zeros numbers slots none long is put =
-      let g = given_by s answers types v to before in
+      let g = given_by s.parts answers types v to before in
       let stays = law (way_of f.passed.way) types g v zeros settled.typed long in
       subst (λ ks. AreNumbers ks slots (call_numbers g (way_of f.passed.way) types v)) can.kinds_are
       (put (call_numbers g (way_of f.passed.way) types v) (rw is stays.0) (λ k beside. ap (λ ns. slice_index ns k) is ∙ (stays.1.others_stay k beside ∙ none k)))
 
-  pub framed : StoredLaw → (old new : List ℕ) → length old ≡ n → PartsAreApart s answers → new ≡ poke (call_bytes (given_by s answers types v to before) (way_of f.passed.way) types v) old
-      → Holds new (call_bytes (given_by s answers types v to before) (way_of f.passed.way) types v) × Framed old new (call_bytes (given_by s answers types v to before) (way_of f.passed.way) types v)
+  pub framed : StoredLaw → (old new : List ℕ) → length old ≡ n → PartsAreApart s.parts answers → new ≡ poke (call_bytes (given_by s.parts answers types v to before) (way_of f.passed.way) types v) old
+      → Holds new (call_bytes (given_by s.parts answers types v to before) (way_of f.passed.way) types v) × Framed old new (call_bytes (given_by s.parts answers types v to before) (way_of f.passed.way) types v)
   framed law old new long clear is =
-      let g = given_by s answers types v to before in
-      let stays = law (way_of f.passed.way) types g v s.target old settled.typed refl (rw long stand) (settled.apart g (sym settled.places) clear) in
+      let g = given_by s.parts answers types v to before in
+      let stays = law (way_of f.passed.way) types g v s.parts.target old settled.typed refl (rw long stand) (settled.apart g (sym settled.places) clear) in
       (rw is stays.0, rw is stays.1)
 
-  pub received : PlacedAlike → ApartAlike → (w : View) (new : List ℕ) (slots : List CoreValue) → IsReceivingIn w s.target to new after
-      → Holds new (call_bytes (given_by s answers types v to before) (way_of f.passed.way) types v)
-      → AreNumbers (call_kinds (way_of f.passed.way) types) slots (call_numbers (given_by s answers types v to before) (way_of f.passed.way) types v)
+  pub received : PlacedAlike → ApartAlike → (w : View) (new : List ℕ) (slots : List CoreValue) → IsReceivingIn w s.parts.target to new after
+      → Holds new (call_bytes (given_by s.parts answers types v to before) (way_of f.passed.way) types v)
+      → AreNumbers (call_kinds (way_of f.passed.way) types) slots (call_numbers (given_by s.parts answers types v to before) (way_of f.passed.way) types v)
       → Gives to before after (handles_of_values types v) (numbers_given to before (handles_of_values types v))
-      → length new ≡ n → PartsAreApart s answers
-      → Receives w (way_of f.passed.way) types slots (given_by s answers types v to before) v
+      → length new ≡ n → PartsAreApart s.parts answers
+      → Receives w (way_of f.passed.way) types slots (given_by s.parts answers types v to before) v
   received placed_alike apart_alike w new slots view holds numbers gives long clear =
-      let g = given_by s answers types v to before in
+      let g = given_by s.parts answers types v to before in
       record {
         typed = settled.typed;
         stored_in = sym view.stored_alike;
         numbers = numbers;
-        placed = placed_alike s.target w.encoding n (length w.memory) g 0 (call_parts (way_of f.passed.way) types v) (sym view.stored_alike) (omega (arith, long, ap length view.memory_is)) stand;
-        apart = apart_alike s.target w.encoding g 0 (call_parts (way_of f.passed.way) types v) (sym view.stored_alike) (settled.apart g (sym settled.places) clear);
+        placed = placed_alike s.parts.target w.encoding n (length w.memory) g 0 (call_parts (way_of f.passed.way) types v) (sym view.stored_alike) (omega (arith, long, ap length view.memory_is)) stand;
+        apart = apart_alike s.parts.target w.encoding g 0 (call_parts (way_of f.passed.way) types v) (sym view.stored_alike) (settled.apart g (sym settled.places) clear);
         bytes = rw view.memory_is holds;
         handles = gives.stand w g view.receiver refl;
       }
 
-  pub received_serves : (w : View) (old new : List ℕ) → IsReceivingIn w s.target to new after → w.encoding ≡ s.target → length new ≡ length old → length old ≡ n → n < 2 ^ 32 → IsSoundHandles after
-      → Serves w (way_of f.passed.way) types (given_by s answers types v to before) v
+  pub received_serves : (w : View) (old new : List ℕ) → IsReceivingIn w s.parts.target to new after → w.encoding ≡ s.parts.target → length new ≡ length old → length old ≡ n → n < 2 ^ 32 → IsSoundHandles after
+      → Serves w (way_of f.passed.way) types (given_by s.parts answers types v to before) v
   received_serves w old new view encoding stays long few sound =
       serves w encoding (ap length view.memory_is ∙ (stays ∙ long)) few (subst IsSoundHandles (sym view.receiver.table_is) sound)

@@ -21,11 +21,12 @@ use Rattle.cm_abi_model.specs.Requests.{call_parts, is_spilled, tuple_of}
 use Rattle.cm_abi_model.specs.Shows.{ShowEach, Shows}
 use Rattle.cm_abi_model.specs.Views.{View, Way, flat_limit}
 use Rattle.cm_abi_load.specs.Reading.{seen_by}
-use Rattle.cm_abi_lift.specs.cm_abi_load.declared.record.PartRecord.{PartRecord}
-use Rattle.cm_abi_lift.specs.Places.{places_at, places_each}
+use Rattle.cm_abi_model.specs.declared.record.PartRecord.{PartRecord}
+use Rattle.cm_abi_model.specs.Places.{places_at, places_each}
 use Rattle.cm_abi_lift.specs.Records.{records_at, records_of_list, text_record}
-use Rattle.cm_abi_lift.specs.Telling.{ElementsAreTold, TellAll, TextIsTold}
-use Rattle.cm_abi_copy.specs.CallPlaces.{call_places, flat_places, flat_places_in_fields, flat_places_in_payload}
+use Rattle.cm_abi_lift.specs.Telling.{ElementsAreTold, TextIsTold}
+use Rattle.cm_abi_model.specs.Telling.{TellAll}
+use Rattle.cm_abi_model.specs.CallPlaces.{call_places, flat_places, flat_places_in_fields, flat_places_in_payload}
 use Rattle.cm_abi_lift.specs.FlatRecords.{flat_records, flat_records_each, flat_records_of_case, flat_records_of_fields, passed_records, spilled_records}
 
 -- what the laws of scanning in memory promise

@@ -19,7 +19,8 @@ use Rattle.cm_abi_model.specs.Requests.{is_spilled, tuple_of}
 use Rattle.cm_abi_model.specs.Shows.{ShowEach, ShowFields, Shows, ShowsHandle, ShowsOwned, ShowsPayload}
 use Rattle.cm_abi_model.specs.Taken.{Met, text_content, content, taken, lent, met, met_at, met_each, met_flat, met_flat_fields, met_flat_payload, met_in_fields, met_in_payload}
 use Rattle.cm_abi_model.specs.Views.{View, Way, flat_limit}
-use Rattle.cm_abi_copy.specs.MetLeaves.{leaf_at, leaves_met, stands_for}
+use Rattle.cm_abi_copy.specs.MetLeaves.{leaf_at, leaves_met}
+use Rattle.cm_abi_model.specs.HandleLeaves.{stands_for}
 
 pub met_both : (t : Handles) (xs ys : List Met) → leaves_met t (xs ++ ys) ≡ leaves_met t xs ++ leaves_met t ys
 met_both t [] ys = refl

@@ -14,10 +14,10 @@ use Rattle.cm_abi_load.specs.Reading.{Source}
 use Rattle.cm_abi_lift.specs.FlatReading.{read_passed}
 use Rattle.cm_abi_lift.specs.Lifts.{fresh}
 use Rattle.cm_abi_lift.specs.Keeping.{KeepsMore, WantsToKeep, count_kept}
-use Rattle.cm_abi_lift.specs.cm_abi_load.declared.record.PartRecord.{PartRecord}
+use Rattle.cm_abi_model.specs.declared.record.PartRecord.{PartRecord}
 use Rattle.cm_abi_lift.specs.FlatRecords.{passed_records}
 use Rattle.cm_abi_copy.specs.Scans.{KeepsNothing, giver_of}
-use Rattle.cm_abi_copy.specs.CallPlaces.{call_places}
+use Rattle.cm_abi_model.specs.CallPlaces.{call_places}
 use Rattle.cm_types.specs.Types.{Fields}
 use Rattle.cm_handles.specs.Handles.{handle_at}
 use Rattle.cm_handles.specs.declared.handle.Handle.{Handle}
@@ -32,10 +32,11 @@ use Rattle.cm_abi_model.specs.Views.{View}
 use Rattle.cm_abi_load.specs.declared.progress.MetHandle.{MetHandle}
 use Rattle.cm_abi_load.specs.Meeting.{AreAsWanted, met_as, met_index}
 use Rattle.cm_abi_load.specs.Reading.{seen_by}
-use Rattle.cm_abi_lift.specs.HandingOver.{Hands, handed}
+use Rattle.cm_abi_model.specs.Lifts.{Hands}
+use Rattle.cm_abi_lift.specs.HandingOver.{handed}
 use Rattle.cm_abi_lift.specs.Lifts.{lift_of}
 use Rattle.cm_abi_copy.specs.MetLeaves.{leaf_at, leaves_found, leaves_met}
-use Rattle.cm_abi_lift.specs.Telling.{TellAll}
+use Rattle.cm_abi_model.specs.Telling.{TellAll}
 use Rattle.cm_abi_copy.proofs.ScanCallCallLemmas.{FoundLaw, MetLaw, TellsLaw, WantedLaw, WasRead}
 
 abbrev answer : {A : Type 0} → A × State → Outcome A

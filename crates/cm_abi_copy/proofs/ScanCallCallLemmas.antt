@@ -1,6 +1,6 @@
 -- What is scanned is what is lifted.
 use Rattle.std.proofs.Common.{◌≡◌, ℕ, ◌^◌, ◌<◌, ◌≤◌, Bool, true, false, List, [], ◌∷◌, ◌++◌, Result, Ok, Err, refl, sym, ap, subst, ◌∙◌, arith}
-use Rattle.std.specs.Prelude.{if◌then◌else◌}
+use Rattle.std.specs.Prelude.{◌+◌, ◌-◌, if◌then◌else◌}
 use Rattle.cm_types.specs.declared.core_value.CoreValue.{CoreValue}
 use Rattle.cm_types.specs.Types.{Fields}
 use Rattle.cm_types.specs.Values.{Val}
@@ -21,22 +21,27 @@ use Rattle.cm_abi_load.specs.declared.stop.Stop.TheVariants as stop
 use Rattle.cm_abi_load.specs.Outcomes.{Outcome, State, Stops, mapped}
 use Rattle.cm_abi_load.specs.Reading.{Source, seen_by}
 use Rattle.cm_abi_lift.specs.FlatReading.{read_passed}
-use Rattle.cm_abi_lift.specs.HandingOver.{Hands, hand_over, handed, lifted, untouched}
-use Rattle.cm_abi_lift.specs.Lifts.{IsGivenBy, Lifts, fresh, lift_of}
-use Rattle.cm_abi_lift.specs.cm_abi_load.declared.record.PartRecord.{PartRecord}
+use Rattle.cm_abi_model.specs.Lifts.{Hands}
+use Rattle.cm_abi_lift.specs.HandingOver.{hand_over, handed, lifted, untouched}
+use Rattle.cm_abi_model.specs.Lifts.{IsGivenBy, Lifts}
+use Rattle.cm_abi_lift.specs.Lifts.{fresh, lift_of}
+use Rattle.cm_abi_model.specs.declared.record.PartRecord.{PartRecord}
 use Rattle.cm_abi_requests.specs.Asking.{content_of_parts}
-use Rattle.cm_abi_requests.specs.RecordRequests.{AreAskable, IsAskable, IsCounted, requests_for}
-use Rattle.cm_abi_requests.specs.RecordRequests as records
-use Rattle.cm_abi_lift.specs.cm_abi_load.declared.record.PartKind.{PartKind}
-use Rattle.cm_abi_lift.specs.cm_abi_load.declared.record.PartKind.TheVariants as kind
-use Rattle.cm_abi_lift.specs.Telling.{TellAll, Tells, TellsSource}
-use Rattle.cm_abi_copy.specs.CallPlaces.{call_places}
+use Rattle.cm_abi_model.specs.RecordRequests.{AreAskable, IsAskable, IsCounted, requests_for}
+use Rattle.cm_abi_model.specs.RecordRequests as records
+use Rattle.cm_abi_model.specs.declared.record.PartKind.{PartKind}
+use Rattle.cm_abi_model.specs.declared.record.PartKind.TheVariants as kind
+use Rattle.cm_abi_model.specs.Telling.{TellAll, Tells, TellsSource}
+use Rattle.cm_abi_model.specs.CallPlaces.{call_places}
 use Rattle.cm_abi_lift.specs.FlatRecords.{passed_records}
-use Rattle.cm_abi_copy.specs.Scans.{IsKept, KeepsNothing, ScansCall, giver_of, scanned_with}
+use Rattle.cm_abi_model.specs.declared.request.Request.{Request}
+use Rattle.cm_abi_model.specs.Answering.{places_of}
+use Rattle.cm_abi_model.specs.Answered.{IsAnswered, Requesting, unanswered}
+use Rattle.cm_abi_model.specs.Scanned.{Scanned, ScansCall, scanned_with}
+use Rattle.cm_abi_copy.specs.Scans.{IsKept, KeepsNothing, giver_of}
 use Rattle.cm_abi_load.specs.Meeting.{AreAsWanted, Meets}
 use Rattle.cm_abi_model.specs.Receives.{HandleLeaf, leaves_in}
 use Rattle.cm_abi_copy.specs.MetLeaves.{leaves_found}
-use Rattle.cm_abi_copy.specs.declared.scanned.Scanned.{Scanned}
 
 same_lift : (w : View) (memory : List ℕ) (table : Handles) (encoding : StringEncoding) (way : Way) (l k : LayoutTy) (slots : List CoreValue) → IsGivenBy w memory table encoding → l ≡ k
     → lift_of memory table encoding way l slots ≡ lift_of w.memory w.table w.encoding way k slots
@@ -69,22 +74,47 @@ abbrev pub TagsLaw : Type 0
 TagsLaw = (w : View) (target : StringEncoding) (way : Way) (types : Fields) (slots : List CoreValue) (v : Val) → w.encoding ≡ Latin1OrUtf16 → Denotes w way types slots v
     → records.tags_of (passed_records (seen_by w) target (flat_limit way) (layout_of_fields_at types) slots v) ≡ tags_of (met w way types slots v)
 
-pub scans_given : LiftsLaw → TellsLaw → TagsLaw → (w : View) (target : StringEncoding) (memory : List ℕ) (table after : Handles) (encoding : StringEncoding) (way : Way) (l : LayoutTy) (types : Fields) (slots : List CoreValue) (v : Val) (tags : List Bool) (s : Scanned)
+same_read : (w : View) (memory : List ℕ) (table : Handles) (encoding : StringEncoding) (limit : ℕ) (l k : LayoutTy) (slots : List CoreValue) (s : State) → IsGivenBy w memory table encoding → l ≡ k
+    → read_passed (giver_of memory table encoding) limit l slots s ≡ read_passed (seen_by w) limit k slots s
+same_read w memory table encoding limit l k slots s is same =
+    ap (λ m. read_passed (giver_of m table encoding) limit l slots s) (sym is.memory_is)
+    ∙ (ap (λ t. read_passed (giver_of w.memory t encoding) limit l slots s) (sym is.table_is)
+    ∙ (ap (λ e. read_passed (giver_of w.memory w.table e) limit l slots s) (sym is.encoding_is) ∙ ap (λ x. read_passed (seen_by w) limit x slots s) same))
+
+-- where nothing is answered yet, the first requests have no answers
+none_placed : (rs : List Request) → places_of rs [] ≡ []
+none_placed [] = refl
+none_placed (r ∷ rs) = refl
+
+pub none_answered : (records : List PartRecord) (source target : StringEncoding) → IsAnswered (unanswered records source target) []
+none_answered records source target =
+    record { few = omega arith; count = refl; places = sym (none_placed (requests_for source target records)); last = refl }
+
+abbrev pub MetLaw : Type 0
+MetLaw = (w : View) (way : Way) (types : Fields) (slots : List CoreValue) (s after : State) (v : Val)
+    → read_passed (seen_by w) (flat_limit way) (layout_of_fields_at types) slots s ≡ Ok (v, after) → Meets w.table s after (met w way types slots v)
+
+pub scans_given : LiftsLaw → MetLaw → TellsLaw → TagsLaw → (w : View) (target : StringEncoding) (memory : List ℕ) (table after : Handles) (encoding : StringEncoding) (way : Way) (l : LayoutTy) (types : Fields) (slots : List CoreValue) (v : Val) (tags : List Bool) (s : Scanned)
     → IsGivenBy w memory table encoding → l ≡ layout_of_fields_at types → lift_of memory table encoding way l slots ≡ Ok (v, tags, scanned_with after s)
     → IsKept (giver_of memory table encoding) target (flat_limit way) l slots v s
     → ScansCall w target way types slots v after s
-scans_given lifts tells tags_law w target memory table after encoding way l types slots v tags s is same e keeps =
+scans_given lifts meets tells tags_law w target memory table after encoding way l types slots v tags s is same e keeps =
     let lifted = lifts w way types slots v tags (scanned_with after s) (sym (same_lift w memory table encoding way l (layout_of_fields_at types) slots is same) ∙ e) in
-    let records_are = keeps.records ∙ same_records w target memory table encoding (flat_limit way) l (layout_of_fields_at types) slots v is same in
+    let kept = ap (λ (p : Requesting). p.records) keeps.parts in
+    let records_are = kept ∙ same_records w target memory table encoding (flat_limit way) l (layout_of_fields_at types) slots v is same in
+    let read = sym (same_read w memory table encoding (flat_limit way) l (layout_of_fields_at types) slots fresh is same) ∙ keeps.read in
+    let counted = (meets w way types slots fresh keeps.after v read).counted in
+    let left = keeps.content in
     record {
       lifts = (tags, lifted);
       tells = subst (λ rs. TellAll w target rs (call_parts way types v) (call_places w way types slots v)) (sym records_are) (tells w target way types slots v lifted.denoted);
       tagged = λ latin1. ap records.tags_of records_are ∙ tags_law w target way types slots v latin1 lifted.denoted;
-      asks = keeps.asks ∙ ap (λ x. requests_for x target s.requests.records.items) (sym is.encoding_is);
-      unanswered = keeps.unanswered;
-      source = keeps.source ∙ sym is.encoding_is;
-      goes_to = keeps.goes_to;
+      unanswered = subst (λ p. IsAnswered p []) (sym keeps.parts) (none_answered (passed_records (giver_of memory table encoding) target (flat_limit way) l slots v) encoding target);
+      source = ap (λ (p : Requesting). p.source) keeps.parts ∙ sym is.encoding_is;
+      goes_to = ap (λ (p : Requesting). p.target) keeps.parts;
       handles = keeps.handles types same;
+      content = omega (arith, counted, left);
+      not_given = keeps.not_given;
     }
 
 -- nothing is kept of a view where nothing is kept of what it is a view of
@@ -150,10 +180,6 @@ abbrev pub ReadLaw : Type 0
 ReadLaw = (w : View) (way : Way) (types : Fields) (slots : List CoreValue) (s after : State) (v : Val)
     → read_passed (seen_by w) (flat_limit way) (layout_of_fields_at types) slots s ≡ Ok (v, after) → Denotes w way types slots v
 
-abbrev pub MetLaw : Type 0
-MetLaw = (w : View) (way : Way) (types : Fields) (slots : List CoreValue) (s after : State) (v : Val)
-    → read_passed (seen_by w) (flat_limit way) (layout_of_fields_at types) slots s ≡ Ok (v, after) → Meets w.table s after (met w way types slots v)
-
 abbrev pub WantedLaw : Type 0
 WantedLaw = (w : View) (way : Way) (types : Fields) (slots : List CoreValue) (v : Val) (before after : State) → before.handles ≡ []
     → Meets w.table before after (met w way types slots v) → AreAsWanted w.table after.handles
@@ -190,6 +216,10 @@ module _ (memory : List ℕ) (table : Handles) (encoding target : StringEncoding
 
   is_met : MetLaw → Meets table fresh after (met (view_of memory table encoding) way types slots r.v)
   is_met law = law (view_of memory table encoding) way types slots fresh after r.v by_type
+
+  -- what is left and what is met are all
+  pub read_counted : MetLaw → (MAX_CONTENT - after.left) + after.left ≡ MAX_CONTENT
+  read_counted meets = let counted = (is_met meets).counted in omega (arith, counted)
 
   -- its handles are as wanted
   pub read_wanted : MetLaw → WantedLaw → (ms : List MetHandle) → ms ≡ after.handles → AreAsWanted table ms

@@ -18,17 +18,19 @@ use Rattle.cm_abi_model.specs.Requests.{IsStored, call_parts, part_requests, tup
 use Rattle.cm_abi_model.specs.Stores.{Given}
 use Rattle.cm_abi_model.specs.Views.{View, Way, flat_limit, params, results}
 use Rattle.cm_abi_model.specs.Ways.{way_of}
-use Rattle.cm_abi_requests.specs.Answering.{AreCounted, HaveScalars, first_fault, places_of, regions_of}
-use Rattle.cm_abi_requests.specs.Overlap.{AreDisjoint}
-use Rattle.cm_abi_requests.specs.RequestingAsking.{IsAllAnswered, all_requests}
-use Rattle.cm_abi_requests.specs.Placing.{regions_at}
-use Rattle.cm_abi_requests.specs.RecordRequests.{requests_for, tag_before, tags_of}
-use Rattle.cm_abi_requests.specs.declared.part_requests.PartRequests.{PartRequests}
-use Rattle.cm_abi_lift.specs.cm_abi_load.declared.record.PartRecord.{PartRecord}
-use Rattle.cm_abi_lift.specs.cm_abi_load.declared.record.PartKind.{PartKind}
-use Rattle.cm_abi_lift.specs.cm_abi_load.declared.record.PartKind.TheVariants as record_kind
-use Rattle.cm_abi_lift.specs.Telling.{TellAll, TellsSource}
-use Rattle.cm_abi_copy.specs.Copies.{FoundCanBeCopied, given_by}
+use Rattle.cm_abi_model.specs.Answering.{AreCounted, HaveScalars, first_fault, places_of, regions_of}
+use Rattle.cm_abi_model.specs.Overlap.{AreDisjoint}
+use Rattle.cm_abi_model.specs.Answered.{IsAllAnswered, all_requests}
+use Rattle.cm_abi_model.specs.Placing.{regions_at}
+use Rattle.cm_abi_model.specs.RecordRequests.{requests_for, tag_before, tags_of}
+use Rattle.cm_abi_model.specs.Answered.{Requesting}
+use Rattle.cm_abi_model.specs.Scanned.{Scanned}
+use Rattle.cm_abi_model.specs.declared.record.PartRecord.{PartRecord}
+use Rattle.cm_abi_model.specs.declared.record.PartKind.{PartKind}
+use Rattle.cm_abi_model.specs.declared.record.PartKind.TheVariants as record_kind
+use Rattle.cm_abi_model.specs.Telling.{TellAll, TellsSource}
+use Rattle.cm_abi_model.specs.Copies.{given_by}
+use Rattle.cm_abi_copy.specs.Copies.{FoundCanBeCopied}
 use Rattle.cm_abi_copy.specs.Settled.{IsSettled}
 use Rattle.cm_abi_copy.specs.declared.found.Found.{Found}
 use Rattle.cm_abi_copy.proofs.CountLaws.{counted}
@@ -101,13 +103,13 @@ RegionsLaw = (w : View) (target : StringEncoding) (rs : List PartRecord) (parts 
     → length rs ≤ length g.places → AreDisjoint (regions_at rs g.places) ↔ AreApart target g 0 parts
 
 abbrev pub CountLaw : Type 0
-CountLaw = (s : PartRequests) (answers : List ℕ) → IsAllAnswered s answers → length answers ≡ length (all_requests s)
+CountLaw = (p : Requesting) (answers : List ℕ) → IsAllAnswered p answers → length answers ≡ length (all_requests p)
 
 abbrev pub PlacesLaw : Type 0
-PlacesLaw = (s : PartRequests) (answers : List ℕ) → IsAllAnswered s answers → s.places.items ≡ places_of (all_requests s) answers
+PlacesLaw = (p : Requesting) (answers : List ℕ) → IsAllAnswered p answers → p.places ≡ places_of (all_requests p) answers
 
 abbrev pub EachLaw : Type 0
-EachLaw = (s : PartRequests) (answers : List ℕ) → IsAllAnswered s answers → length s.places.items ≡ length s.records.items
+EachLaw = (p : Requesting) (answers : List ℕ) → IsAllAnswered p answers → length p.places ≡ length p.records
 
 pub record Laws : Type 0 where
   pub typed : TypedLaw
@@ -120,7 +122,7 @@ pub record Laws : Type 0 where
   pub places : PlacesLaw
   pub each : EachLaw
 
-module _ (laws : Laws) (n : ℕ) (kinds : List CoreKind) (giver : View) (f : Found) (s : PartRequests) (answers : List ℕ) (types : Fields) (v : Val)
+module _ (laws : Laws) (n : ℕ) (kinds : List CoreKind) (giver : View) (f : Found) (s : Scanned) (answers : List ℕ) (types : Fields) (v : Val)
     (bytes : (i : ℕ) → slice_index f.memory.now i < 2 ^ 8) (can : FoundCanBeCopied n kinds giver f s answers types v) where
   abbrev way : Way
   way = way_of f.passed.way
@@ -129,47 +131,47 @@ module _ (laws : Laws) (n : ℕ) (kinds : List CoreKind) (giver : View) (f : Fou
   ps = call_parts way types v
 
   giver_bytes : (i : ℕ) → slice_index giver.memory i < 2 ^ 8
-  giver_bytes i = subst (λ m. slice_index m i < 2 ^ 8) (sym can.found.memory) (bytes i)
+  giver_bytes i = subst (λ m. slice_index m i < 2 ^ 8) (sym can.memory) (bytes i)
 
   -- what is asked for, by parts
-  asked : all_requests s ≡ part_requests giver.encoding s.target (tags_of s.records.items) (call_parts (way_of f.passed.way) types v)
-  asked = ap (λ e. requests_for e s.target s.records.items) (sym can.found.encoding) ∙ laws.asks giver s.target s.records.items (call_parts (way_of f.passed.way) types v) can.found.starts can.found.told
+  asked : all_requests s.parts ≡ part_requests giver.encoding s.parts.target (tags_of s.parts.records) (call_parts (way_of f.passed.way) types v)
+  asked = ap (λ e. requests_for e s.parts.target s.parts.records) (sym can.found.encoding) ∙ laws.asks giver s.parts.target s.parts.records (call_parts (way_of f.passed.way) types v) can.found.starts can.found.told
 
-  scalars : HaveScalars giver.encoding (tags_of s.records.items) (call_parts (way_of f.passed.way) types v)
-  scalars = spelled giver s.target s.records.items (call_parts (way_of f.passed.way) types v) can.found.starts can.found.told
+  scalars : HaveScalars giver.encoding (tags_of s.parts.records) (call_parts (way_of f.passed.way) types v)
+  scalars = spelled giver s.parts.target s.parts.records (call_parts (way_of f.passed.way) types v) can.found.starts can.found.told
 
-  answered : length answers ≡ length (part_requests giver.encoding s.target (tags_of s.records.items) (call_parts (way_of f.passed.way) types v))
-  answered = laws.count s answers can.answered ∙ ap length asked
+  answered : length answers ≡ length (part_requests giver.encoding s.parts.target (tags_of s.parts.records) (call_parts (way_of f.passed.way) types v))
+  answered = laws.count s.parts answers can.answered ∙ ap length asked
 
-  stand : (g : Given) → g.places ≡ s.places.items → g.places ≡ places_of (part_requests giver.encoding s.target (tags_of s.records.items) (call_parts (way_of f.passed.way) types v)) answers
-  stand g is = is ∙ (laws.places s answers can.answered ∙ ap (λ rs. places_of rs answers) asked)
+  stand : (g : Given) → g.places ≡ s.parts.places → g.places ≡ places_of (part_requests giver.encoding s.parts.target (tags_of s.parts.records) (call_parts (way_of f.passed.way) types v)) answers
+  stand g is = is ∙ (laws.places s.parts answers can.answered ∙ ap (λ rs. places_of rs answers) asked)
 
-  by_regions : (g : Given) → g.places ≡ s.places.items → AreDisjoint (regions_of (all_requests s) answers) ↔ AreApart s.target g 0 (call_parts (way_of f.passed.way) types v)
+  by_regions : (g : Given) → g.places ≡ s.parts.places → AreDisjoint (regions_of (all_requests s.parts) answers) ↔ AreApart s.parts.target g 0 (call_parts (way_of f.passed.way) types v)
   by_regions g is =
-      subst (λ rs. AreDisjoint (regions_of rs answers) ↔ AreApart s.target g 0 (call_parts (way_of f.passed.way) types v)) (sym asked)
-      (laws.apart giver.encoding s.target (tags_of s.records.items) (call_parts (way_of f.passed.way) types v) answers g scalars answered (stand g is))
+      subst (λ rs. AreDisjoint (regions_of rs answers) ↔ AreApart s.parts.target g 0 (call_parts (way_of f.passed.way) types v)) (sym asked)
+      (laws.apart giver.encoding s.parts.target (tags_of s.parts.records) (call_parts (way_of f.passed.way) types v) answers g scalars answered (stand g is))
 
-  by_records : (g : Given) → g.places ≡ s.places.items → AreDisjoint (regions_at s.records.items s.places.items) ↔ AreApart s.target g 0 (call_parts (way_of f.passed.way) types v)
+  by_records : (g : Given) → g.places ≡ s.parts.places → AreDisjoint (regions_at s.parts.records s.parts.places) ↔ AreApart s.parts.target g 0 (call_parts (way_of f.passed.way) types v)
   by_records g is =
-      let many = laws.each s answers can.answered in
+      let many = laws.each s.parts answers can.answered in
       let long = ap length is in
-      subst (λ xs. AreDisjoint (regions_at s.records.items xs) ↔ AreApart s.target g 0 (call_parts (way_of f.passed.way) types v)) is
-      (laws.regions giver s.target s.records.items (call_parts (way_of f.passed.way) types v) can.found.starts g can.found.told (omega (arith, many, long)))
+      subst (λ xs. AreDisjoint (regions_at s.parts.records xs) ↔ AreApart s.parts.target g 0 (call_parts (way_of f.passed.way) types v)) is
+      (laws.regions giver s.parts.target s.parts.records (call_parts (way_of f.passed.way) types v) can.found.starts g can.found.told (omega (arith, many, long)))
 
-  pub settled : IsSettled n (way_of f.passed.way) s answers types v
+  pub settled : IsSettled n (way_of f.passed.way) s.parts answers types v
   settled =
       let counts = counted giver (way_of f.passed.way) types f.passed.slots.now v giver_bytes can.found.denoted in
-      let g = given_by s answers types v (record { instance = 0; call = 0 }) (record { slots = []; freed = [] }) in
-      let is : g.places ≡ s.places.items = sym (laws.places s answers can.answered) in
+      let g = given_by s.parts answers types v (record { instance = 0; call = 0 }) (record { slots = []; freed = [] }) in
+      let is : g.places ≡ s.parts.places = sym (laws.places s.parts answers can.answered) in
       record {
         typed = laws.typed giver (way_of f.passed.way) types f.passed.slots.now v giver_bytes can.found.denoted;
         cases = counts.0;
         handles = counts.1;
         few = few_kinds (way_of f.passed.way) types;
-        places = laws.places s answers can.answered;
-        counted = laws.each s answers can.answered ∙ as_many giver s.target s.records.items (call_parts (way_of f.passed.way) types v) can.found.starts can.found.told;
+        places = laws.places s.parts answers can.answered;
+        counted = laws.each s.parts answers can.answered ∙ as_many giver s.parts.target s.parts.records (call_parts (way_of f.passed.way) types v) can.found.starts can.found.told;
         placed = λ h same.
-            laws.placed giver.encoding s.target (tags_of s.records.items) (call_parts (way_of f.passed.way) types v) answers n h scalars
+            laws.placed giver.encoding s.parts.target (tags_of s.parts.records) (call_parts (way_of f.passed.way) types v) answers n h scalars
             (laws.counts giver (way_of f.passed.way) types f.passed.slots.now v (way_of f.passed.way) giver_bytes can.found.denoted) answered
             (subst (λ rs. first_fault n rs answers ≡ None) asked can.fine) (stand h same);
         regions = (λ x. (by_regions g is).1 ((by_records g is).0 x), λ x. (by_records g is).1 ((by_regions g is).0 x));

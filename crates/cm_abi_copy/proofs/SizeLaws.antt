@@ -15,8 +15,8 @@ use Rattle.cm_abi_model.specs.Parts.{Part, element_part, part_count, part_count_
 use Rattle.cm_abi_model.specs.Regions.{part_size}
 use Rattle.cm_abi_model.specs.Requests.{call_parts, is_spilled, stored_charset, tuple_of}
 use Rattle.cm_abi_model.specs.Views.{View, Way}
-use Rattle.cm_abi_lift.specs.cm_abi_load.declared.record.PartRecord.{PartRecord}
-use Rattle.cm_abi_lift.specs.Telling.{TellAll}
+use Rattle.cm_abi_model.specs.declared.record.PartRecord.{PartRecord}
+use Rattle.cm_abi_model.specs.Telling.{TellAll}
 use Rattle.cm_abi_copy.specs.Copying.{size_kept}
 use Rattle.cm_abi_copy.specs.Known.{HasSizes, HaveSizes, first_part}
 

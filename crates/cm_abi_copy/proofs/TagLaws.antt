@@ -21,12 +21,12 @@ use Rattle.cm_abi_model.specs.Taken as model
 use Rattle.cm_abi_model.specs.Texts.{tag_of}
 use Rattle.cm_abi_model.specs.Views.{View, Way, flat_limit}
 use Rattle.cm_abi_load.specs.Reading.{seen_by}
-use Rattle.cm_abi_lift.specs.cm_abi_load.declared.record.PartRecord.{PartRecord}
-use Rattle.cm_abi_lift.specs.cm_abi_load.declared.record.PartKind.{PartKind}
-use Rattle.cm_abi_lift.specs.cm_abi_load.declared.record.PartKind.TheVariants as kind
+use Rattle.cm_abi_model.specs.declared.record.PartRecord.{PartRecord}
+use Rattle.cm_abi_model.specs.declared.record.PartKind.{PartKind}
+use Rattle.cm_abi_model.specs.declared.record.PartKind.TheVariants as kind
 use Rattle.cm_abi_lift.specs.Records.{is_tagged, records_at, records_each, records_of_case, records_of_fields}
 use Rattle.cm_abi_lift.specs.FlatRecords.{flat_records, flat_records_each, flat_records_of_case, flat_records_of_fields, passed_records, spilled_records}
-use Rattle.cm_abi_requests.specs.RecordRequests.{tag_before, tags_of}
+use Rattle.cm_abi_model.specs.RecordRequests.{tag_before, tags_of}
 use Rattle.cm_abi_copy.proofs.FlatTells.{at_first, at_second, drop_twice, not_both}
 
 -- records and what is met have the same tags

@@ -4,7 +4,7 @@ use Rattle.cm_types.specs.Values.{Val}
 use Rattle.cm_layout.specs.Shapes.{Shape}
 use Rattle.cm_abi_model.specs.declared.encoding.StringEncoding.{StringEncoding}
 use Rattle.cm_abi_model.specs.Stores.{Given}
-use Rattle.cm_abi_lift.specs.cm_abi_load.declared.record.PartRecord.{PartRecord}
+use Rattle.cm_abi_model.specs.declared.record.PartRecord.{PartRecord}
 use Rattle.cm_abi_store.specs.Storing.{given_of}
 use Rattle.cm_abi_copy.specs.declared.copier.Copier.{Copier}
 use Rattle.cm_abi_copy.specs.Shown.{value_at}

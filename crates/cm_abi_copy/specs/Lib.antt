@@ -11,5 +11,4 @@ pub mod Ready
 pub mod Known
 pub mod PartLaws
 pub mod MetLeaves
-pub mod CallPlaces
 pub mod Scans

@@ -3,14 +3,11 @@ use Rattle.std.specs.Prelude.{List, [], ◌∷◌, ◌++◌, map, Option, Some, 
 use Rattle.cm_types.specs.Values.{HandleValue}
 use Rattle.cm_handles.specs.Handles.{Handles, handle_at}
 use Rattle.cm_handles.specs.declared.handle.Handle.{Handle}
+use Rattle.cm_abi_model.specs.HandleLeaves.{stands_for}
 use Rattle.cm_abi_model.specs.Receives.{HandleLeaf, owned_leaf, borrowed_leaf}
 use Rattle.cm_abi_model.specs.Taken.{Met, text_content, content, taken, lent}
 use Rattle.cm_abi_load.specs.declared.progress.MetHandle.{MetHandle}
 use Rattle.cm_abi_load.specs.Meeting.{met_as}
-
--- what a handle stands for
-abbrev pub stands_for : Handle → HandleValue
-stands_for h = record { serial = h.serial; rep = h.rep; resource = h.resource }
 
 -- what stands at an index, as a handle of a value of this kind; none where nothing stands there
 abbrev pub leaf_at : (HandleValue → HandleLeaf) → Option Handle → List HandleLeaf

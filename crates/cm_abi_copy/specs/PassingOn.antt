@@ -10,7 +10,7 @@ use Rattle.cm_abi_model.specs.Requests.{call_parts}
 use Rattle.cm_abi_model.specs.Views.{View}
 use Rattle.cm_abi_model.specs.Ways.{way_of}
 use Rattle.cm_abi_lift.specs.declared.passed.Passed.{Passed}
-use Rattle.cm_abi_lift.specs.Telling.{TellAll}
+use Rattle.cm_abi_model.specs.Telling.{TellAll}
 use Rattle.cm_abi_store.specs.Calls.{IsProvided}
 use Rattle.cm_abi_store.specs.Storing.{given_of}
 use Rattle.cm_abi_copy.specs.declared.copier.Copier.{Copier}

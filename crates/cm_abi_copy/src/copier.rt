@@ -1,7 +1,6 @@
 //! What values are copied from, and what they are given where they go.
 
-use cm_abi_lift::PartRecord;
-use cm_abi_model::StringEncoding;
+use cm_abi_model::{PartRecord, StringEncoding};
 use cm_abi_store::Target;
 
 /// What values are copied from, and what they are given where they go.

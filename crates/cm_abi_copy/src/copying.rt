@@ -1,6 +1,6 @@
 //! The values of a call, copied to its receiver.
 
-ghost use Rattle.std.specs.Prelude.{◌≡◌, ◌^◌, ◌<◌, ℕ, IfErr, IfOk, List, OnErr, OnOk, length, map};
+ghost use Rattle.std.specs.Prelude.{◌≡◌, ◌^◌, ◌<◌, ℕ, [], IfErr, List, OnErr, OnOk, length, map};
 ghost use Rattle.std.specs.Prelude.{slice_index};
 ghost use Rattle.cm_types.specs.CoreValues.{kind_of};
 ghost use Rattle.cm_types.specs.Types.{Fields};
@@ -9,27 +9,27 @@ ghost use Rattle.cm_abi_model.specs.Receives.{NoneImplemented, Passes, Receives,
 ghost use Rattle.cm_abi_model.specs.Stores.{Framed};
 ghost use Rattle.cm_abi_model.specs.Views.{View};
 ghost use Rattle.cm_abi_model.specs.Ways.{way_of};
-ghost use Rattle.cm_abi_lower.specs.Giving.{Gives, numbers_given};
-ghost use Rattle.cm_abi_copy.specs.Copies.{FoundCanBeCopied, IsFaultOfCopying, IsReceivingIn};
-ghost use Rattle.cm_abi_copy.specs.Copies.{PartsAreApart, given_by, handles_of_values};
+ghost use Rattle.cm_abi_model.specs.Giving.{Gives};
+ghost use Rattle.cm_abi_model.specs.Copies.{IsFaultOfCopying, IsReceivingIn, PartsAreApart};
+ghost use Rattle.cm_abi_model.specs.Copies.{given_by, handles_of_values};
+ghost use Rattle.cm_abi_copy.specs.Copies.{FoundCanBeCopied};
 
 use crate::copier::Copier;
 use crate::copy_call;
 use crate::found::Found;
+use crate::kept::Scan;
 use crate::settled_laws::what_can_be_copied_is_settled;
-use cm_abi_lower::{Receiver, give};
-use cm_abi_model::AbiFault;
+use cm_abi_lower::give;
 use cm_abi_model::laws::{
     places_are_read_alike, what_is_received_is_denoted, what_is_stored_stays,
 };
-use cm_abi_requests::PartRequests;
+use cm_abi_model::{AbiFault, Encodings, PartRecord, Receiver};
 use cm_abi_store::laws::{what_is_passed_fits, what_is_passed_stays};
 use cm_abi_store::{Target, put_numbers};
 use cm_handles::Table;
 use cm_types::{CoreValue, MAX_FLAT_PARAMS};
-use std::alloc::Global;
 
-/// Copies the values that a scan found to their receiver: into its memory, and into the core values
+/// Copies the values that were scanned to their receiver: into its memory, and into the core values
 /// that pass them, with no tree made of them (CanonicalABI.md, "Lifting and Lowering Values",
 /// `lower_flat_values`). All requests for their parts are answered, each with an address that is
 /// aligned with its region in the memory, and the giver's memory and core values are as they were
@@ -41,68 +41,62 @@ use std::alloc::Global;
 /// The bytes of the values are written, each at its address, and no other byte; exactly their
 /// handles are added to the table.
 ///
-/// The answer is the number that stands for each handle, in reading order: its index in the table,
-/// or that representation.
+/// The number that stands for each handle, in reading order, is kept: its index in the table, or
+/// that representation. Nothing else is changed of what is kept of the values.
 ///
-/// Else there is a fault, and memory, handles and core values are as they were: `Overlap`
-/// where the regions of two parts overlap, else `TableFull` where the table has fewer indices left
-/// than it is to get handles, else `EngineMemory` where there is no memory for their numbers or for
-/// the table; values without handles take none. Of the requests nothing but the room for their
-/// regions is changed, also where there is a fault.
+/// Else there is a fault, and memory, handles and core values are as they were, and no number is
+/// kept: `Overlap` where the regions of two parts overlap, else `TableFull` where the table has
+/// fewer indices left than it is to get handles, else `EngineMemory` where there is no memory for
+/// their numbers or for the table; values without handles take none.
 pub fn copy(
-    alloc: Global,
+    kept: &mut Scan,
     memory: &mut [u8],
     table: &mut Table,
     slots: &mut [CoreValue],
     to: Receiver,
     found: &Found<'_>,
-    requests: &mut PartRequests,
-) -> Result<Vec<u32>, AbiFault>
+) -> Result<(), AbiFault>
     requires copied { (giver : View) × (answers : List ℕ) × (types : Fields) × (v : Val)
-        × FoundCanBeCopied (length memory.old) (map kind_of slots.old) giver found.now requests.old
+        × FoundCanBeCopied (length memory.old) (map kind_of slots.old) giver found.now kept.old
         answers types v }
     requires few { length memory.old < 2 ^ 32 }
     ensures received { (giver w : View) (answers : List ℕ) (types : Fields) (v : Val)
-        → FoundCanBeCopied (length memory.old) (map kind_of slots.old) giver found.now requests.old
+        → FoundCanBeCopied (length memory.old) (map kind_of slots.old) giver found.now kept.old
         answers types v
-        → IsReceivingIn w requests.old.target to memory.new table.new.handles
+        → IsReceivingIn w kept.old.parts.target to memory.new table.new.handles
         → OnOk result (Receives w (way_of found.now.passed.way) types slots.new
-        (given_by requests.old answers types v to table.old.handles) v) }
+        (given_by kept.old.parts answers types v to table.old.handles) v) }
     ensures denoted { (giver w : View) (answers : List ℕ) (types : Fields) (v : Val)
-        → FoundCanBeCopied (length memory.old) (map kind_of slots.old) giver found.now requests.old
+        → FoundCanBeCopied (length memory.old) (map kind_of slots.old) giver found.now kept.old
         answers types v
-        → IsReceivingIn w requests.old.target to memory.new table.new.handles
-        → w.encoding ≡ requests.old.target
+        → IsReceivingIn w kept.old.parts.target to memory.new table.new.handles
+        → w.encoding ≡ kept.old.parts.target
         → NoneImplemented w (handles_of_values types v)
         → OnOk result (Passes w (way_of found.now.passed.way) types slots.new v) }
     ensures framed { (giver : View) (answers : List ℕ) (types : Fields) (v : Val)
-        → FoundCanBeCopied (length memory.old) (map kind_of slots.old) giver found.now requests.old
+        → FoundCanBeCopied (length memory.old) (map kind_of slots.old) giver found.now kept.old
         answers types v
         → OnOk result (Framed memory.old memory.new
-        (call_bytes (given_by requests.old answers types v to table.old.handles)
+        (call_bytes (given_by kept.old.parts answers types v to table.old.handles)
         (way_of found.now.passed.way) types v)) }
     ensures handles { (giver : View) (answers : List ℕ) (types : Fields) (v : Val)
-        → FoundCanBeCopied (length memory.old) (map kind_of slots.old) giver found.now requests.old
+        → FoundCanBeCopied (length memory.old) (map kind_of slots.old) giver found.now kept.old
         answers types v
         → OnOk result (Gives to table.old.handles table.new.handles (handles_of_values types v)
-        (numbers_given to table.old.handles (handles_of_values types v))) }
-    ensures numbers { (giver : View) (answers : List ℕ) (types : Fields) (v : Val)
-        → FoundCanBeCopied (length memory.old) (map kind_of slots.old) giver found.now requests.old
-        answers types v → IfOk result (λ ns. ns.items
-        ≡ numbers_given to table.old.handles (handles_of_values types v)) }
+        kept.new.numbers) }
     ensures apart { (giver : View) (answers : List ℕ) (types : Fields) (v : Val)
-        → FoundCanBeCopied (length memory.old) (map kind_of slots.old) giver found.now requests.old
-        answers types v → OnOk result (PartsAreApart requests.old answers) }
+        → FoundCanBeCopied (length memory.old) (map kind_of slots.old) giver found.now kept.old
+        answers types v → OnOk result (PartsAreApart kept.old.parts answers) }
     ensures err { (giver : View) (answers : List ℕ) (types : Fields) (v : Val)
-        → FoundCanBeCopied (length memory.old) (map kind_of slots.old) giver found.now requests.old
+        → FoundCanBeCopied (length memory.old) (map kind_of slots.old) giver found.now kept.old
         answers types v
-        → IfErr result (IsFaultOfCopying requests.old answers to table.old.handles
+        → IfErr result (IsFaultOfCopying kept.old.parts answers to table.old.handles
         (handles_of_values types v)) }
     ensures memory_stays { OnErr result (memory.new ≡ memory.old) }
     ensures table_stays { OnErr result (table.new.handles ≡ table.old.handles) }
     ensures slots_stay { OnErr result (slots.new ≡ slots.old) }
-    ensures requests_stay { requests.new
-        ≡ record requests.old { regions = requests.new.regions } }
+    ensures kept_stays { kept.new ≡ record kept.old { numbers = kept.new.numbers } }
+    ensures no_numbers { OnErr result (kept.new.numbers ≡ []) }
 {
     what_can_be_copied_is_settled();
     what_is_stored_stays();
@@ -111,30 +105,54 @@ pub fn copy(
     what_is_passed_fits();
     what_is_received_is_denoted();
     are_bytes(found.memory);
-    are_numbers(&requests.places);
-    if !requests.are_apart() {
+    kept.numbers.clear();
+    if !kept.parts.are_apart() {
         return Err(AbiFault::Overlap);
     }
-    let numbers = match give(alloc, table, to, found.handles) {
-        Ok(numbers) => numbers,
+    match give(table, to, &kept.handles, &mut kept.numbers) {
+        Ok(()) => {}
         Err(fault) => return Err(fault),
-    };
-    are_numbers(&numbers);
-    let from = Copier {
-        memory: found.memory,
-        encoding: requests.source,
-        target: Target {
-            encoding: requests.target,
-            places: &requests.places,
-            numbers: &numbers,
-        },
-        records: &requests.records,
-    };
+    }
+    let encodings = kept.parts.encodings();
+    let places = kept.parts.places();
+    let numbers: &[u32] = &kept.numbers;
+    let records = kept.parts.records();
+    are_numbers(places);
+    are_numbers(numbers);
+    let from = copier(found.memory, encodings, places, numbers, records);
     let mut zeros = [0; MAX_FLAT_PARAMS];
     let passed = &mut zeros[..slots.len()];
     copy_call(&from, &found.passed, memory, passed);
     put_numbers(passed, slots);
-    Ok(numbers)
+    Ok(())
+}
+
+/// What is copied from a memory, by these records, to these places, with these numbers.
+fn copier<'a>(
+    memory: &'a [u8],
+    encodings: Encodings,
+    places: &'a [u32],
+    numbers: &'a [u32],
+    records: &'a [PartRecord],
+) -> Copier<'a>
+    ensures memory { result.memory.now ≡ memory.now }
+    ensures source { result.encoding ≡ encodings.source }
+    ensures target { result.target.encoding ≡ encodings.target }
+    ensures places { result.target.places.now ≡ places.now }
+    ensures numbers { result.target.numbers.now ≡ numbers.now }
+    ensures records { result.records.now ≡ records.now }
+{
+    let target = Target {
+        encoding: encodings.target,
+        places,
+        numbers,
+    };
+    Copier {
+        memory,
+        encoding: encodings.source,
+        target,
+        records,
+    }
 }
 
 /// A memory is one of bytes.

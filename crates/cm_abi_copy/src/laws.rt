@@ -17,8 +17,8 @@ ghost use Rattle.cm_abi_copy.specs.Known.{CanBeCopied, HasSizes, first_part};
 ghost use Rattle.cm_abi_copy.specs.PartLaws.{ElementsAreCopied, TextIsCopied};
 ghost use Rattle.cm_abi_copy.specs.Ready.{IsReady};
 ghost use Rattle.cm_abi_copy.specs.Shown.{without_handles};
-ghost use Rattle.cm_abi_lift.specs.cm_abi_load.declared.record.PartRecord.{PartRecord};
-ghost use Rattle.cm_abi_lift.specs.Telling.{TellAll};
+ghost use Rattle.cm_abi_model.specs.declared.record.PartRecord.{PartRecord};
+ghost use Rattle.cm_abi_model.specs.Telling.{TellAll};
 ghost use Rattle.cm_abi_store.specs.Storing.{stored_by};
 
 use cm_abi_load::laws::parts_that_are_read_are_shown;

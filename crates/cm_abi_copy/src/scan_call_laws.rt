@@ -15,10 +15,10 @@ ghost use Rattle.cm_abi_model.specs.Taken.{Transferable, met};
 ghost use Rattle.cm_abi_model.specs.Taken as taken;
 ghost use Rattle.cm_abi_model.specs.Views.{View, Way, flat_limit};
 ghost use Rattle.cm_abi_load.specs.Reading.{seen_by};
-ghost use Rattle.cm_abi_lift.specs.Telling.{TellAll};
-ghost use Rattle.cm_abi_copy.specs.CallPlaces.{call_places};
+ghost use Rattle.cm_abi_model.specs.Telling.{TellAll};
+ghost use Rattle.cm_abi_model.specs.CallPlaces.{call_places};
 ghost use Rattle.cm_abi_lift.specs.FlatRecords.{passed_records};
-ghost use Rattle.cm_abi_requests.specs.RecordRequests.{tags_of};
+ghost use Rattle.cm_abi_model.specs.RecordRequests.{tags_of};
 ghost use Rattle.cm_abi_copy.specs.Scans.{KeepsNothing};
 
 use crate::met_laws::handles_that_are_met_are_the_values;

@@ -1,17 +1,17 @@
 //! The handles that a reader met, each as the type of the value has it.
 
-ghost use Rattle.std.specs.Prelude.{◌≡◌, ◌∷◌, [], IfOk, IsOk};
+ghost use Rattle.std.specs.Prelude.{◌≡◌, ◌∷◌, [], IsOk, OnOk};
 ghost use Rattle.cm_abi_load.specs.Meeting.{AreAsWanted, IsAsWanted};
 ghost use Rattle.cm_abi_load.specs.Reading.{resource_of};
-ghost use Rattle.cm_abi_lower.specs.Leaves.{leaf_of, leaves_of};
+ghost use Rattle.cm_abi_model.specs.HandleLeaves.{leaf_of, leaves_of};
 ghost use Rattle.cm_abi_copy.specs.MetLeaves.{leaves_found};
 
 use cm_abi_load::MetHandle;
-use cm_abi_lower::{HandleLeaf, HandleValue};
+use cm_abi_model::{HandleLeaf, HandleValue};
 use cm_handles::Table;
 use cm_layout::HandleType;
 use cm_types::ResourceId;
-use std::alloc::{AllocError, Global};
+use std::alloc::AllocError;
 
 /// The resource of a handle.
 fn resource_of(wanted: HandleType) -> ResourceId
@@ -41,24 +41,25 @@ fn leaf_met(table: &Table, met: MetHandle) -> HandleLeaf
     }
 }
 
-/// The handles that a reader met in a value, in reading order, each as the type of the value has
-/// it: to be owned, or to be borrowed. The table has each of them, of the resource and the kind
-/// that are wanted.
+/// Lists the handles that a reader met in a value, in reading order, each as the type of the value
+/// has it: to be owned, or to be borrowed; in the place of what the list had, whose room it keeps.
+/// The table has each of them, of the resource and the kind that are wanted.
 ///
 /// `AllocError` comes where there is no memory for them; where none was met, none is taken.
 pub fn handles_met(
-    alloc: Global,
     table: &Table,
     met: &[MetHandle],
-) -> Result<Vec<HandleLeaf>, AllocError>
+    leaves: &mut Vec<HandleLeaf>,
+) -> Result<(), AllocError>
     requires wanted { AreAsWanted table.now.handles met.now }
-    ensures leaves { IfOk result (λ ls.
-        leaves_of ls.items ≡ leaves_found table.now.handles met.now) }
+    ensures leaves { OnOk result
+        (leaves_of leaves.new.items ≡ leaves_found table.now.handles met.now) }
     ensures nothing { met.now ≡ [] → IsOk result }
 {
-    let mut leaves = Vec::with_capacity(alloc, met.len())?;
+    leaves.clear();
+    leaves.reserve(met.len())?;
     for handle in met {
         leaves.push_reserved(leaf_met(table, *handle));
     }
-    Ok(leaves)
+    Ok(())
 }

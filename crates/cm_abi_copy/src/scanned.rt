@@ -1,98 +1,71 @@
 //! Values that core values denote, with no tree made of them.
 
-ghost use Rattle.std.specs.Prelude.{◌≡◌, ◌^◌, ◌<◌, ◌⊎◌, [], Err, IfErr, IfOk, IsOk, IsOkUnless, Ok};
-ghost use Rattle.std.specs.Prelude.{Bool, List, OnErr, length};
+ghost use Rattle.std.specs.Prelude.{◌≡◌, ◌^◌, ◌<◌, ◌⊎◌, [], Err, IfErr, IsOk, IsOkUnless, Ok, OnOk};
+ghost use Rattle.std.specs.Prelude.{Bool, List, OnErr};
 ghost use Rattle.cm_types.specs.Types.{Fields};
 ghost use Rattle.cm_types.specs.Values.{Val};
 ghost use Rattle.cm_layout.specs.Layouts.{layout_of};
 ghost use Rattle.cm_layout.specs.Shapes.{layout_of_fields_at};
+ghost use Rattle.cm_handles.specs.Handles.{IsSoundHandles};
 ghost use Rattle.cm_abi_model.specs.Denotes.{Denotes};
+ghost use Rattle.cm_abi_model.specs.HandleLeaves.{leaves_of};
 ghost use Rattle.cm_abi_model.specs.LiftStops.{LiftStops};
+ghost use Rattle.cm_abi_model.specs.Lifts.{IsGivenBy, LendsBelow};
 ghost use Rattle.cm_abi_model.specs.Receives.{leaves_in};
 ghost use Rattle.cm_abi_model.specs.Requests.{call_parts, tuple_of};
+ghost use Rattle.cm_abi_model.specs.Scanned.{ScansCall, nothing_kept, scanned_with};
 ghost use Rattle.cm_abi_model.specs.Taken.{Transferable};
 ghost use Rattle.cm_abi_model.specs.Views.{View, flat_limit};
 ghost use Rattle.cm_abi_model.specs.Ways.{way_of};
-ghost use Rattle.cm_abi_lift.specs.HandingOver.{LendsBelow};
-ghost use Rattle.cm_abi_lift.specs.Lifts.{IsGivenBy, lift_of};
 ghost use Rattle.cm_abi_load.specs.Meeting.{AreAsWanted};
-ghost use Rattle.cm_abi_lower.specs.Leaves.{leaves_of};
+ghost use Rattle.cm_abi_lift.specs.Lifts.{lift_of};
 ghost use Rattle.cm_abi_copy.specs.MetLeaves.{leaves_found};
-ghost use Rattle.cm_abi_requests.specs.RequestingAsking.{IsAnswered, all_requests};
-ghost use Rattle.cm_abi_requests.specs.RecordRequests.{AreAskable, requests_for};
-ghost use Rattle.cm_abi_copy.specs.Scans.{IsKept, KeepsNothing, ScansCall, giver_of};
-ghost use Rattle.cm_abi_copy.specs.Scans.{scanned_with};
+ghost use Rattle.cm_abi_copy.specs.Scans.{IsKept, KeepsNothing, giver_of};
 
 use crate::handles_met;
+use crate::kept::Scan;
 use crate::met_laws::handles_that_are_met_are_the_values;
 use crate::passed::scan_passed;
 use crate::scan_call_laws::{records_tell_what_is_passed, what_has_nothing_keeps_nothing};
 use cm_abi_lift::laws::{first_faults_are_told, lifting_is_exact, what_is_passed_is_met};
-use cm_abi_lift::{PartRecord, Passed, Scan, Scanner, first_fault, hand_over};
-use cm_abi_load::{Giver, MetHandle, Progress, Stop};
-use cm_abi_lower::HandleLeaf;
+use cm_abi_lift::{Passed, first_fault, hand_over, is_sound};
+use cm_abi_load::{Giver, MetHandle, Stop};
 use cm_abi_model::laws::nothing_is_met_without_parts;
-use cm_abi_model::{AbiFault, MAX_CONTENT, StringEncoding};
-use cm_abi_requests::PartRequests;
+use cm_abi_model::{AbiFault, Encodings, HandleLeaf, MAX_CONTENT};
 use cm_abi_requests::laws::content_of_what_is_denoted;
 use cm_abi_requests::requesting_laws::small_parts_can_be_asked_for;
-use cm_handles::{Handle, Table};
+use cm_handles::Table;
 use cm_layout::Layout;
 use std::alloc::Global;
 
-/// Values that were scanned.
-#[derive(Drop)]
-pub struct Scanned {
-    /// The requests for the parts of the values, none of them answered, with a record of each part,
-    /// in reading order, a list before its elements; where the values are behind a pointer, their
-    /// tuple is the first part.
-    pub requests: PartRequests,
-    /// The handles of the values, in reading order, each as its type has it: to be owned, or to be
-    /// borrowed. They are what the receiver is given.
-    pub handles: Vec<HandleLeaf>,
-    /// The handles that were taken out of the giver's table, in reading order.
-    pub owns: Vec<Handle>,
-    /// The indices of the handles that were lent, in reading order.
-    pub lends: Vec<u32>,
-}
-
-/// How strings are encoded in the source, and where the values go.
-#[derive(Clone, Copy)]
-pub struct Encodings {
-    pub source: StringEncoding,
-    pub target: StringEncoding,
-}
-
 /// Looks at the values that core values denote, by the layout of the tuple of their types, in the
 /// view of an instance: its memory, its handle table and how its strings are encoded
-/// (CanonicalABI.md, "Lifting and Lowering Values"). No tree is made of them: a record of each
-/// part is kept.
+/// (CanonicalABI.md, "Lifting and Lowering Values"). No tree is made of them: what is kept of them
+/// is put into `kept`, in the place of what stood there.
 ///
 /// It succeeds where `cm_abi_lift::lift` does, with the same handles taken out of the table and
-/// lent, and else answers the same first fault, with the table as it was. The caller gives a table
-/// whose handles are lent fewer than 2^100 times. The records tell the parts of the values, each at
-/// its place, and can be asked for; the handles are told as the values have them. Memory is taken
-/// for parts, tags of strings and handles alone; `EngineMemory` comes where there is none for them,
-/// and values that have no part and no handle are never refused for it.
+/// lent, and else answers the same first fault, with the table as it was, and then nothing is kept.
+/// The caller gives a table whose handles are lent fewer than 2^100 times. The records tell the
+/// parts of the values, each at its place, and can be asked for; the handles are told as the values
+/// have them. Memory is taken for parts, tags of strings and handles alone; `EngineMemory` comes
+/// where there is none for them, and values that have no part and no handle are never refused for
+/// it.
 pub fn scan(
     alloc: Global,
+    kept: &mut Scan,
     memory: &[u8],
     table: &mut Table,
     encodings: Encodings,
     passed: &Passed<'_>,
-) -> Result<Scanned, AbiFault>
+) -> Result<(), AbiFault>
     requires layout { (types : Fields)
         × (layout_of passed.now.layout.now ≡ layout_of_fields_at types) }
-    requires few { length memory.now < 2 ^ 62 }
     requires lends { LendsBelow (2 ^ 100) table.old.handles }
     ensures scans { (w : View) (types : Fields)
         → IsGivenBy w memory.now table.old.handles encodings.source
         → layout_of passed.now.layout.now ≡ layout_of_fields_at types
-        → IfOk result (λ s. (v : Val) × ScansCall w encodings.target (way_of passed.now.way) types
-        passed.now.slots.now v table.new.handles s
-        × IsKept (giver_of memory.now table.old.handles encodings.source) encodings.target
-        (flat_limit (way_of passed.now.way)) (layout_of passed.now.layout.now) passed.now.slots.now
-        v s) }
+        → OnOk result ((v : Val) × ScansCall w encodings.target (way_of passed.now.way) types
+        passed.now.slots.now v table.new.handles kept.new) }
     ensures stops { (w : View) (types : Fields)
         → IsGivenBy w memory.now table.old.handles encodings.source
         → layout_of passed.now.layout.now ≡ layout_of_fields_at types
@@ -110,14 +83,31 @@ pub fn scan(
         → Denotes w (way_of passed.now.way) types passed.now.slots.now v
         → Transferable w (way_of passed.now.way) types passed.now.slots.now v
         → IsOkUnless result AbiFault.EngineMemory }
+    ensures walked { OnOk result ((v : Val)
+        × IsKept (giver_of memory.now table.old.handles encodings.source) encodings.target
+        (flat_limit (way_of passed.now.way)) (layout_of passed.now.layout.now) passed.now.slots.now
+        v kept.new) }
+    ensures sound { IsSoundHandles table.new.handles }
     ensures unchanged { OnErr result (table.new ≡ table.old) }
+    ensures empty { OnErr result (kept.new ≡ nothing_kept) }
 {
     lifting_is_exact();
     first_faults_are_told();
     records_tell_what_is_passed();
     nothing_is_met_without_parts();
     what_has_nothing_keeps_nothing();
-    scan_values(alloc, memory, table, encodings, passed)
+    what_is_passed_is_met();
+    match scan_values(alloc, kept, memory, table, encodings, passed) {
+        Ok(()) => {
+            is_sound(table);
+            Ok(())
+        }
+        Err(fault) => {
+            kept.clear();
+            is_sound(table);
+            Err(fault)
+        }
+    }
 }
 
 /// The size of a layout fits 32 bits.
@@ -127,38 +117,20 @@ fn size_fits(layout: &Layout)
     let _size = layout.head.size;
 }
 
-/// The requests for the parts of records, none of them answered.
-fn ask_for(
-    alloc: Global,
-    records: Vec<PartRecord>,
-    encodings: Encodings,
-) -> Result<PartRequests, AbiFault>
-    requires askable { AreAskable records.items }
-    ensures answered { IfOk result (λ s. IsAnswered s []) }
-    ensures none { records.items ≡ [] → IsOk result }
-    ensures records { IfOk result (λ s. s.records ≡ records) }
-    ensures requests { IfOk result (λ s. all_requests s
-        ≡ requests_for encodings.source encodings.target records.items) }
-    ensures source { IfOk result (λ s. s.source ≡ encodings.source) }
-    ensures target { IfOk result (λ s. s.target ≡ encodings.target) }
-    ensures err { IfErr result (λ e. e ≡ AbiFault.EngineMemory) }
-{
-    match PartRequests::new(alloc, records, encodings.source, encodings.target) {
-        Ok(requests) => Ok(requests),
-        Err(_) => Err(AbiFault::EngineMemory),
-    }
-}
-
-/// The handles that were met, each as the type of the value has it.
-fn handles_of(alloc: Global, table: &Table, met: &[MetHandle]) -> Result<Vec<HandleLeaf>, AbiFault>
+/// Keeps the handles that were met, each as the type of the value has it.
+fn keep_handles(
+    table: &Table,
+    met: &[MetHandle],
+    handles: &mut Vec<HandleLeaf>,
+) -> Result<(), AbiFault>
     requires wanted { AreAsWanted table.now.handles met.now }
-    ensures leaves { IfOk result (λ ls.
-        leaves_of ls.items ≡ leaves_found table.now.handles met.now) }
+    ensures leaves { OnOk result
+        (leaves_of handles.new.items ≡ leaves_found table.now.handles met.now) }
     ensures none { met.now ≡ [] → IsOk result }
     ensures err { IfErr result (λ e. e ≡ AbiFault.EngineMemory) }
 {
-    match handles_met(alloc, table, met) {
-        Ok(handles) => Ok(handles),
+    match handles_met(table, met, handles) {
+        Ok(()) => Ok(()),
         Err(_) => Err(AbiFault::EngineMemory),
     }
 }
@@ -166,22 +138,22 @@ fn handles_of(alloc: Global, table: &Table, met: &[MetHandle]) -> Result<Vec<Han
 /// `scan`, by the definitions of reading and of what is kept alone.
 fn scan_values(
     alloc: Global,
+    kept: &mut Scan,
     memory: &[u8],
     table: &mut Table,
     encodings: Encodings,
     passed: &Passed<'_>,
-) -> Result<Scanned, AbiFault>
+) -> Result<(), AbiFault>
     requires layout { (types : Fields)
         × (layout_of passed.now.layout.now ≡ layout_of_fields_at types) }
-    requires few { length memory.now < 2 ^ 62 }
     requires lends { LendsBelow (2 ^ 100) table.old.handles }
-    ensures ok { IfOk result (λ s. (v : Val) × (tags : List Bool)
+    ensures ok { OnOk result ((v : Val) × (tags : List Bool)
         × (lift_of memory.now table.old.handles encodings.source (way_of passed.now.way)
         (layout_of passed.now.layout.now) passed.now.slots.now
-        ≡ Ok (v, tags, scanned_with table.new.handles s))
+        ≡ Ok (v, tags, scanned_with table.new.handles kept.new))
         × IsKept (giver_of memory.now table.old.handles encodings.source) encodings.target
         (flat_limit (way_of passed.now.way)) (layout_of passed.now.layout.now) passed.now.slots.now
-        v s) }
+        v kept.new) }
     ensures err { IfErr result (λ e. (e ≡ AbiFault.EngineMemory)
         ⊎ (lift_of memory.now table.old.handles encodings.source (way_of passed.now.way)
         (layout_of passed.now.layout.now) passed.now.slots.now ≡ Err e)) }
@@ -196,37 +168,34 @@ fn scan_values(
     content_of_what_is_denoted();
     small_parts_can_be_asked_for();
     size_fits(passed.layout);
-    let mut scan = Scan {
-        progress: Progress {
-            left: MAX_CONTENT,
-            handles: Vec::new(alloc),
-            tags: Vec::new(alloc),
-        },
-        records: Vec::new(alloc),
-    };
+    kept.numbers.clear();
+    kept.progress.left = MAX_CONTENT;
+    kept.progress.handles.clear();
+    kept.progress.tags.clear();
+    let mut records = kept.parts.take_records(alloc);
     let giver = Giver {
         alloc,
         memory,
         table: &*table,
         encoding: encodings.source,
     };
-    let scanner = Scanner {
-        giver,
-        target: encodings.target,
-    };
-    match scan_passed(&scanner, passed, &mut scan) {
+    match scan_passed(
+        &giver,
+        encodings.target,
+        passed,
+        &mut kept.progress,
+        &mut records,
+    ) {
         Ok(()) => {
-            let requests = ask_for(alloc, scan.records, encodings)?;
-            let handles = handles_of(alloc, table, &scan.progress.handles)?;
-            let handed = hand_over(alloc, table, &scan.progress.handles)?;
-            Ok(Scanned {
-                requests,
-                handles,
-                owns: handed.owns,
-                lends: handed.lends,
-            })
+            let Ok(()) = kept.parts.ask(records, encodings) else {
+                return Err(AbiFault::EngineMemory);
+            };
+            keep_handles(table, &kept.progress.handles, &mut kept.handles)?;
+            hand_over(table, &kept.progress.handles, &mut kept.handed)
         }
         Err(Stop::Memory) => Err(AbiFault::EngineMemory),
-        Err(Stop::Fault(fault)) => Err(first_fault(alloc, table, &scan.progress.handles, fault)),
+        Err(Stop::Fault(fault)) => {
+            Err(first_fault(table, &kept.progress.handles, fault, &mut kept.handed))
+        }
     }
 }

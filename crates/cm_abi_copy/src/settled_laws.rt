@@ -6,7 +6,7 @@ ghost use Rattle.cm_types.specs.Types.{Fields};
 ghost use Rattle.cm_types.specs.Values.{Val};
 ghost use Rattle.cm_abi_model.specs.Views.{View};
 ghost use Rattle.cm_abi_model.specs.Ways.{way_of};
-ghost use Rattle.cm_abi_requests.specs.declared.part_requests.PartRequests.{PartRequests};
+ghost use Rattle.cm_abi_model.specs.Scanned.{Scanned};
 ghost use Rattle.cm_abi_copy.specs.Copies.{FoundCanBeCopied};
 ghost use Rattle.cm_abi_copy.specs.Settled.{IsSettled};
 ghost use Rattle.cm_abi_copy.specs.declared.found.Found.{Found};
@@ -19,11 +19,11 @@ use cm_abi_requests::requesting_laws::{
 /// What can be copied from a memory of bytes is settled before any of it is: the value has its
 /// types, and its parts have their places, apart exactly where the regions of the answers are.
 pub(crate) fn what_can_be_copied_is_settled()
-    ensures { (n : ℕ) (kinds : List CoreKind) (giver : View) (f : Found) (s : PartRequests)
+    ensures { (n : ℕ) (kinds : List CoreKind) (giver : View) (f : Found) (s : Scanned)
         (answers : List ℕ) (types : Fields) (v : Val)
         → ((i : ℕ) → slice_index f.memory.now i < 2 ^ 8)
         → FoundCanBeCopied n kinds giver f s answers types v
-        → IsSettled n (way_of f.passed.way) s answers types v }
+        → IsSettled n (way_of f.passed.way) s.parts answers types v }
 {
     what_is_denoted_can_be_lowered();
     answers_place_parts();

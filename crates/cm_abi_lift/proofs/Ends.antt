@@ -28,7 +28,8 @@ use Rattle.cm_abi_load.specs.Outcomes.{Outcome, State, mapped, ◌>>=◌}
 use Rattle.cm_abi_load.specs.Decoded.{decoded}
 use Rattle.cm_abi_load.specs.Reading.{Source, after_meeting, after_text, handle_value, leaf_value, read_at, read_case, read_each, read_elements, read_handle, read_parts, read_text, region, resource_of, text_value}
 use Rattle.cm_abi_lift.specs.FlatReading.{read_flat, read_flat_case, read_flat_each, read_flat_parts}
-use Rattle.cm_abi_lift.specs.HandingOver.{Hands, hand_next, hand_one, hand_over, untouched}
+use Rattle.cm_abi_model.specs.Lifts.{Hands}
+use Rattle.cm_abi_lift.specs.HandingOver.{hand_next, hand_one, hand_over, untouched}
 use Rattle.cm_abi_load.specs.Sized.{core_size}
 use Rattle.cm_abi_model.specs.LiftStops.{GoesOnWith}
 use Rattle.cm_abi_lift.proofs.FlatLaws.{content_both}

@@ -20,7 +20,8 @@ use Rattle.cm_abi_model.specs.declared.fault.AbiFault.{AbiFault}
 use Rattle.cm_abi_load.specs.declared.progress.MetHandle.{MetHandle}
 use Rattle.cm_abi_load.specs.Meeting.{AreAsWanted, IsOfKind, handles_in, met_as, met_index}
 use Rattle.cm_abi_load.specs.Reading.{resource_of}
-use Rattle.cm_abi_lift.specs.HandingOver.{Hands, LendsBelow, hand_next, hand_one, hand_over, lent_out, taken_out, untouched}
+use Rattle.cm_abi_model.specs.Lifts.{Hands, LendsBelow}
+use Rattle.cm_abi_lift.specs.HandingOver.{hand_next, hand_one, hand_over, lent_out, taken_out, untouched}
 
 -- ---- tables
 

@@ -5,7 +5,7 @@ use Rattle.cm_types.specs.Values.{Val, Vals, parts}
 use Rattle.cm_abi_load.specs.declared.stop.Stop.{Stop}
 use Rattle.cm_abi_load.specs.declared.stop.Stop.TheVariants as stop
 use Rattle.cm_abi_load.specs.Outcomes.{Outcome, State, mapped}
-use Rattle.cm_abi_load.specs.declared.record.PartRecord.{PartRecord}
+use Rattle.cm_abi_model.specs.declared.record.PartRecord.{PartRecord}
 use Rattle.cm_abi_load.specs.Making.{HasMore, IsRead, Makes, StopsMaking}
 use Rattle.cm_abi_load.specs.MakingLaws.{read_of}
 use Rattle.cm_abi_load.specs.Records.{held}

@@ -25,7 +25,8 @@ use Rattle.cm_abi_load.specs.Outcomes.{Outcome, State}
 use Rattle.cm_abi_load.specs.Decoded.{decoded}
 use Rattle.cm_abi_load.specs.PartLaws.{TextIsRead, TextIsShown}
 use Rattle.cm_abi_load.specs.Reading.{after_text, leaf_value, read_each, read_elements, read_handle, read_text, region, text_value}
-use Rattle.cm_abi_lift.specs.HandingOver.{Hands, hand_next, hand_one, hand_over, lent_out, taken_out, untouched}
+use Rattle.cm_abi_model.specs.Lifts.{Hands}
+use Rattle.cm_abi_lift.specs.HandingOver.{hand_next, hand_one, hand_over, lent_out, taken_out, untouched}
 use Rattle.cm_abi_model.specs.LiftStops.{BorrowStops, CharStops, ContentStops, HasContent, OwnStops, TextStops}
 use Rattle.cm_abi_lift.proofs.FlatLaws.{Laws, bind_found, bind_ok, read_err, read_ok, scalar_true, some_side}
 use Rattle.cm_abi_lift.proofs.HandLaws.{eq_true, looked, same_true}

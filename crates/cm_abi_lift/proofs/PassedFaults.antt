@@ -21,7 +21,8 @@ use Rattle.cm_abi_model.specs.Views.{View, Way, flat_limit}
 use Rattle.cm_abi_load.specs.Outcomes.{Outcome, State, mapped, ◌>>=◌}
 use Rattle.cm_abi_load.specs.Reading.{leaf_value, read_at, read_elements, read_handle, read_text, seen_by}
 use Rattle.cm_abi_lift.specs.FlatReading.{read_flat, read_flat_case, read_flat_each, read_flat_parts, read_passed, read_spilled}
-use Rattle.cm_abi_lift.specs.HandingOver.{Hands, hand_over, handed, state_in, untouched}
+use Rattle.cm_abi_model.specs.Lifts.{Hands}
+use Rattle.cm_abi_lift.specs.HandingOver.{hand_over, handed, state_in, untouched}
 use Rattle.cm_abi_lift.specs.Lifts.{fresh, lift_of}
 use Rattle.cm_abi_model.specs.LiftStops.{EachStops, FlatCaseStops, FlatFieldsStop, FlatStopsAt, IsLiftedFlat, LiftStops, LiftStopsBy, PointerStops, SpilledStops}
 use Rattle.cm_abi_lift.proofs.FlatLaws.{at_first, drop_twice, flat_found, flat_shows, read_err, read_ok, two_slots}

@@ -22,8 +22,10 @@ use Rattle.cm_abi_load.specs.Meeting.{Meets}
 use Rattle.cm_abi_load.specs.Outcomes.{Outcome, State, mapped}
 use Rattle.cm_abi_load.specs.Reading.{Source, read_at, seen_by}
 use Rattle.cm_abi_lift.specs.FlatReading.{read_flat, read_passed, read_spilled}
-use Rattle.cm_abi_lift.specs.HandingOver.{Hands, hand_over, handed, lifted, state_in, untouched}
-use Rattle.cm_abi_lift.specs.Lifts.{IsGivenBy, Lifts, fresh, lift_of}
+use Rattle.cm_abi_model.specs.Lifts.{Hands}
+use Rattle.cm_abi_lift.specs.HandingOver.{hand_over, handed, lifted, state_in, untouched}
+use Rattle.cm_abi_model.specs.Lifts.{IsGivenBy, Lifts}
+use Rattle.cm_abi_lift.specs.Lifts.{fresh, lift_of}
 use Rattle.cm_abi_lift.proofs.FlatLaws.{Found, Laws, flat_found, flat_shows}
 use Rattle.cm_abi_lift.proofs.HandLaws.{TurnLaw, goes_over, over}
 

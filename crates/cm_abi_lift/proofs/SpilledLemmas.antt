@@ -11,7 +11,7 @@ use Rattle.cm_abi_load.specs.Making.{HasMore, IsRead, Makes, StopsMaking}
 use Rattle.cm_abi_load.specs.Outcomes.{Outcome, State}
 use Rattle.cm_abi_load.specs.Reading.{Source, read_at}
 use Rattle.cm_abi_load.specs.Records.{element_record, records_at}
-use Rattle.cm_abi_load.specs.declared.record.PartRecord.{PartRecord}
+use Rattle.cm_abi_model.specs.declared.record.PartRecord.{PartRecord}
 use Rattle.cm_abi_lift.specs.FlatReading.{read_spilled}
 use Rattle.cm_abi_lift.specs.FlatRecords.{spilled_records}
 

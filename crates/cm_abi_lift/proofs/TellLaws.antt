@@ -11,16 +11,16 @@ use Rattle.cm_abi_model.specs.declared.encoding.StringEncoding.{StringEncoding}
 use Rattle.cm_abi_model.specs.declared.encoding.StringEncoding.TheVariants as encoding
 use Rattle.cm_abi_model.specs.Numbers.{number_at}
 use Rattle.cm_abi_model.specs.Parts.{Part, text_part, element_part, parts_each, parts_in, parts_in_fields, parts_in_payload}
-use Rattle.cm_abi_model.specs.Requests.{charset, tagged_charset, text_bytes}
+use Rattle.cm_abi_model.specs.Requests.{read_charset, tagged_charset, text_bytes}
 use Rattle.cm_abi_model.specs.Shows.{ShowEach, ShowFields, Shows, ShowsElements, ShowsPayload}
 use Rattle.cm_abi_model.specs.Texts.{Charset, Has, ShowsText, UTF16_TAG, bytes_from, charset_of, latin1, spell, text_align, text_size, unit_size, units_of, utf16, utf8}
 use Rattle.cm_abi_model.specs.Views.{View}
 use Rattle.cm_text.specs.Text.{IsText}
 use Rattle.cm_abi_load.specs.Reading.{seen_by}
-use Rattle.cm_abi_load.specs.declared.record.PartRecord.{PartRecord}
-use Rattle.cm_abi_lift.specs.Places.{places_at, places_each, places_in_fields, places_in_payload}
+use Rattle.cm_abi_model.specs.declared.record.PartRecord.{PartRecord}
+use Rattle.cm_abi_model.specs.Places.{places_at, places_each, places_in_fields, places_in_payload}
 use Rattle.cm_abi_lift.specs.Records.{element_record, is_tagged, records_at, records_each, records_of_case, records_of_fields, records_of_list, text_record}
-use Rattle.cm_abi_lift.specs.Telling.{TellAll, Tells, TellsText}
+use Rattle.cm_abi_model.specs.Telling.{TellAll, Tells, TellsText}
 
 -- records that tell parts, and others that tell others
 pub tell_both : (w : View) (target : StringEncoding) (rs qs : List PartRecord) (ps os : List Part) (ms ns : List ℕ) → TellAll w target rs ps ms → TellAll w target qs os ns
@@ -38,7 +38,7 @@ by_tag : (b : Bool) → tagged_charset (not b) ≡ (if b then latin1 else utf16)
 by_tag true = refl
 by_tag false = refl
 
-same_charset : (e : StringEncoding) (n : ℕ) → charset e (is_tagged e n) ≡ charset_of e n
+same_charset : (e : StringEncoding) (n : ℕ) → read_charset e (is_tagged e n) ≡ charset_of e n
 same_charset encoding.Utf8 n = refl
 same_charset encoding.Utf16 n = refl
 same_charset encoding.Latin1OrUtf16 n = by_tag (nat_lt n UTF16_TAG)
@@ -69,7 +69,7 @@ pub text_tells : (w : View) (target : StringEncoding) (at n : ℕ) (cs : List �
 text_tells w target at n cs shown =
     record {
       place = refl;
-      source = text_as w target at n cs (charset w.encoding (is_tagged w.encoding n)) (sym (same_charset w.encoding n)) shown;
+      source = text_as w target at n cs (read_charset w.encoding (is_tagged w.encoding n)) (sym (same_charset w.encoding n)) shown;
       size = refl;
       align = refl;
       aligned = text_some target;

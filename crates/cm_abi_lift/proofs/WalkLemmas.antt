@@ -15,12 +15,12 @@ use Rattle.cm_abi_model.specs.declared.fault.AbiFault.TheVariants as fault
 use Rattle.cm_abi_model.specs.Numbers.{wrapped_at}
 use Rattle.cm_abi_load.specs.declared.stop.Stop.{Stop}
 use Rattle.cm_abi_load.specs.Outcomes.{Outcome, State, mapped, ◌>>=◌}
-use Rattle.cm_abi_load.specs.declared.record.PartRecord.{PartRecord}
+use Rattle.cm_abi_model.specs.declared.record.PartRecord.{PartRecord}
 use Rattle.cm_abi_load.specs.Making.{IsRead, KeepsHandles, Makes, StopsMaking, with_last}
 use Rattle.cm_abi_load.specs.Reading.{Source, leaf_value, read_at, read_elements, read_handle, read_text}
 use Rattle.cm_abi_load.specs.Records.{payload, records_at, records_of_list}
 use Rattle.cm_abi_load.specs.Sized.{ArePartsSized, ArePayloadsSized, IsSized, core_size}
-use Rattle.cm_abi_lift.specs.FlatReading.{ArePartsReady, ArePayloadsReady, IsReady, IsReadyLayout, read_flat, read_flat_case, read_flat_each, read_flat_parts, read_flat_payload}
+use Rattle.cm_abi_lift.specs.FlatReading.{ArePartsFlatReadable, ArePayloadsFlatReadable, IsFlatReadable, IsFlatReadableLayout, read_flat, read_flat_case, read_flat_each, read_flat_parts, read_flat_payload}
 use Rattle.cm_abi_lift.specs.FlatRecords.{flat_records, flat_records_each, flat_records_of_case, flat_records_of_cases, flat_records_of_fields, flat_records_of_payload}
 use Rattle.cm_abi_load.specs.MakingLaws.{Going, begins, ends, one_stops, read_is, turns}
 use Rattle.cm_abi_lift.proofs.MakingLemmas.{Agree, agreed}
@@ -192,13 +192,13 @@ fields_end stand keeps w target ps i slots all F row old now s t past far =
     (rw none refl) (rw none refl)
 
 pub ready_next : (ps : List Part) (i : ℕ) (p : Part) → i < length ps → p ≡ get_or ps i p
-    → ArePartsReady (parts_from (map part_of (drop i ps)))
-    → IsReady (part_of p).1.shape × ArePartsReady (parts_from (map part_of (drop (i + 1) ps)))
+    → ArePartsFlatReadable (parts_from (map part_of (drop i ps)))
+    → IsFlatReadable (part_of p).1.shape × ArePartsFlatReadable (parts_from (map part_of (drop (i + 1) ps)))
 ready_next ps i p lt there all = rw (parts_next ps i p lt there) at all
 
 -- what is laid out, with sized numbers, is ready
 mutual
-  pub laid_ready : (n : ℕ) (sh : Shape) → Laid n sh → IsSized sh → IsReady sh
+  pub laid_ready : (n : ℕ) (sh : Shape) → Laid n sh → IsSized sh → IsFlatReadable sh
   laid_ready n (leaf_shape k) laid sized = sized
   laid_ready n string_shape laid sized = tt
   laid_ready n (list_shape e sh) laid sized = (laid.1, sized.0, sized.1)
@@ -207,11 +207,11 @@ mutual
   laid_ready n (cases_shape d o ps) laid sized = payloads_ready n o ps laid.2 sized.2
   laid_ready n (handle_shape h) laid sized = tt
 
-  parts_ready : (n end : ℕ) (ps : Parts) → PartsLaid n end ps → ArePartsSized ps → ArePartsReady ps
+  parts_ready : (n end : ℕ) (ps : Parts) → PartsLaid n end ps → ArePartsSized ps → ArePartsFlatReadable ps
   parts_ready n end no_parts laid sized = tt
   parts_ready n end (part o e sh ps) laid sized = (laid_ready e.size sh laid.2 sized.0, parts_ready n (o + e.size) ps laid.3 sized.1)
 
-  payloads_ready : (n o : ℕ) (ps : Payloads) → PayloadsLaid n o ps → ArePayloadsSized ps → ArePayloadsReady ps
+  payloads_ready : (n o : ℕ) (ps : Payloads) → PayloadsLaid n o ps → ArePayloadsSized ps → ArePayloadsFlatReadable ps
   payloads_ready n o no_payloads laid sized = tt
   payloads_ready n o (nothing ps) laid sized = payloads_ready n o ps laid sized
   payloads_ready n o (carried e sh ps) laid sized = (laid_ready e.size sh laid.1 sized.0, payloads_ready n o ps laid.2 sized.1)
@@ -238,14 +238,14 @@ case_past f w [] i n slots s past = refl
 case_past f w (y ∷ xs) i zero slots s past = absurd (omega arith)
 case_past f w (y ∷ xs) i (suc n) slots s past = before_suc w (f y) (payloads_from (map f xs)) i n slots s ∙ case_past f w xs i n slots s (omega arith)
 
-ready_before : (o : Option LayoutTy) (ps : Payloads) → ArePayloadsReady (payload_before o ps) → IfSome o IsReadyLayout × ArePayloadsReady ps
+ready_before : (o : Option LayoutTy) (ps : Payloads) → ArePayloadsFlatReadable (payload_before o ps) → IfSome o IsFlatReadableLayout × ArePayloadsFlatReadable ps
 ready_before None ps all = (tt, all)
 ready_before (Some l) ps all = all
 
 pub case_ready : {X : Type 0} (f : X → Option LayoutTy) (xs : List X) (n : ℕ) (x : X) → n < length xs → x ≡ get_or xs n x
-    → ArePayloadsReady (payloads_from (map f xs)) → IfSome (f x) IsReadyLayout
+    → ArePayloadsFlatReadable (payloads_from (map f xs)) → IfSome (f x) IsFlatReadableLayout
 case_ready f [] n x lt is all = absurd (omega arith)
-case_ready f (y ∷ xs) zero x lt is all = subst (λ z. IfSome (f z) IsReadyLayout) (sym is) (ready_before (f y) (payloads_from (map f xs)) all).0
+case_ready f (y ∷ xs) zero x lt is all = subst (λ z. IfSome (f z) IsFlatReadableLayout) (sym is) (ready_before (f y) (payloads_from (map f xs)) all).0
 case_ready f (y ∷ xs) (suc n) x lt is all = case_ready f xs n x (omega arith) is (ready_before (f y) (payloads_from (map f xs)) all).1
 
 -- enums

@@ -78,24 +78,24 @@ read_passed w limit l slots s =
 abbrev mutual
   -- each number in a shape has a size that numbers have; and what the elements of a list hold lies
   -- within them
-  pub IsReady : Shape → Type 0
-  IsReady (leaf_shape k) = IsSizedLeaf k
-  IsReady string_shape = ⊤
-  IsReady (list_shape e sh) = Laid e.size sh × (0 < e.align) × IsSized sh
-  IsReady (fixed_list_shape e sh n) = IsReady sh
-  IsReady (fields_shape ps) = ArePartsReady ps
-  IsReady (cases_shape d o ps) = ArePayloadsReady ps
-  IsReady (handle_shape h) = ⊤
+  pub IsFlatReadable : Shape → Type 0
+  IsFlatReadable (leaf_shape k) = IsSizedLeaf k
+  IsFlatReadable string_shape = ⊤
+  IsFlatReadable (list_shape e sh) = Laid e.size sh × (0 < e.align) × IsSized sh
+  IsFlatReadable (fixed_list_shape e sh n) = IsFlatReadable sh
+  IsFlatReadable (fields_shape ps) = ArePartsFlatReadable ps
+  IsFlatReadable (cases_shape d o ps) = ArePayloadsFlatReadable ps
+  IsFlatReadable (handle_shape h) = ⊤
 
-  pub ArePartsReady : Parts → Type 0
-  ArePartsReady no_parts = ⊤
-  ArePartsReady (part o e sh ps) = IsReady sh × ArePartsReady ps
+  pub ArePartsFlatReadable : Parts → Type 0
+  ArePartsFlatReadable no_parts = ⊤
+  ArePartsFlatReadable (part o e sh ps) = IsFlatReadable sh × ArePartsFlatReadable ps
 
-  pub ArePayloadsReady : Payloads → Type 0
-  ArePayloadsReady no_payloads = ⊤
-  ArePayloadsReady (nothing ps) = ArePayloadsReady ps
-  ArePayloadsReady (carried e sh ps) = IsReady sh × ArePayloadsReady ps
+  pub ArePayloadsFlatReadable : Payloads → Type 0
+  ArePayloadsFlatReadable no_payloads = ⊤
+  ArePayloadsFlatReadable (nothing ps) = ArePayloadsFlatReadable ps
+  ArePayloadsFlatReadable (carried e sh ps) = IsFlatReadable sh × ArePayloadsFlatReadable ps
 
 -- a layout holds nothing but what can be read from core values
-abbrev pub IsReadyLayout : LayoutTy → Type 0
-IsReadyLayout l = IsReady l.shape
+abbrev pub IsFlatReadableLayout : LayoutTy → Type 0
+IsFlatReadableLayout l = IsFlatReadable l.shape

@@ -11,7 +11,7 @@ use Rattle.cm_layout.specs.Shapes.{no_parts, part, no_payloads, nothing, carried
 use Rattle.cm_abi_model.specs.declared.encoding.StringEncoding.{StringEncoding}
 use Rattle.cm_abi_model.specs.Numbers.{wrapped_at}
 use Rattle.cm_abi_load.specs.Reading.{Source}
-use Rattle.cm_abi_load.specs.declared.record.PartRecord.{PartRecord}
+use Rattle.cm_abi_model.specs.declared.record.PartRecord.{PartRecord}
 use Rattle.cm_abi_load.specs.Records.{case_number, element_record, held, payload, records_at}
 use Rattle.cm_abi_load.specs.Records.{records_of_list, text_record}
 

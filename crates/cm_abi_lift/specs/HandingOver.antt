@@ -12,13 +12,8 @@ use Rattle.cm_abi_model.specs.declared.fault.AbiFault.{AbiFault}
 use Rattle.cm_abi_model.specs.declared.fault.AbiFault.TheVariants as fault
 use Rattle.cm_abi_load.specs.declared.progress.MetHandle.{MetHandle}
 use Rattle.cm_abi_load.specs.Outcomes.{Outcome, State}
+use Rattle.cm_abi_model.specs.Lifts.{Hands}
 use Rattle.cm_abi_lift.specs.declared.handing.Handed.{Handed}
-
--- the handles of the giver, those taken out of its table and the indices lent, each in order
-pub record Hands : Type 0 where
-  pub table : Handles
-  pub owns : List Handle
-  pub lends : List ℕ
 
 -- those of the code
 abbrev pub hands_of : Handles → Handed → Hands
@@ -88,7 +83,3 @@ handed (Ok r) (Ok h) = Ok (r.0, r.1.tags, h)
 
 abbrev pub lifted : Handles → Outcome Val → Result (Val × List Bool × Hands) AbiFault
 lifted table r = handed r (hand_over (untouched table) (state_in r).handles)
-
--- each handle is lent fewer times
-abbrev pub LendsBelow : ℕ → Handles → Type 0
-LendsBelow n table = (index : ℕ) (h : Handle) → handle_at table index ≡ Some h → h.lends < n

@@ -13,15 +13,9 @@ use Rattle.cm_abi_model.specs.Taken.{taken_of}
 use Rattle.cm_abi_model.specs.Views.{View, Way, flat_limit}
 use Rattle.cm_abi_load.specs.Outcomes.{State}
 use Rattle.cm_abi_lift.specs.FlatReading.{read_passed}
-use Rattle.cm_abi_lift.specs.HandingOver.{Hands, lifted}
+use Rattle.cm_abi_model.specs.Lifts.{Hands}
+use Rattle.cm_abi_lift.specs.HandingOver.{lifted}
 use Rattle.cm_abi_lift.specs.declared.lifted.Lifted.{Lifted}
-
--- a view of this memory, this table and this encoding
-pub record IsGivenBy (w : View) (memory : List ℕ) (table : Handles) (encoding : StringEncoding)
-    : Type 0 where
-  pub memory_is : w.memory ≡ memory
-  pub table_is : w.table ≡ table
-  pub encoding_is : w.encoding ≡ encoding
 
 -- a reader that has met nothing
 abbrev pub fresh : State
@@ -38,15 +32,3 @@ lift_of memory table encoding way l slots =
 -- the handles after values were lifted
 abbrev pub handed_with : Handles → Lifted → Hands
 handed_with table l = record { table = table; owns = l.owns.items; lends = l.lends.items }
-
--- A value was lifted in a view: the core values denote it, and it can be handed over. The handles
--- that it owns are out of the table, and those that it borrows are lent once more, in reading
--- order; no other handle is changed. The tags are those of its strings, in reading order.
-pub record Lifts (w : View) (way : Way) (types : Fields) (slots : List CoreValue) (v : Val)
-    (tags : List Bool) (h : Hands) : Type 0 where
-  pub denoted : Denotes w way types slots v
-  pub transferable : Transferable w way types slots v
-  pub tagged : tags ≡ tags_of (met w way types slots v)
-  pub table : h.table ≡ after_met w.table (met w way types slots v)
-  pub owns : map Some h.owns ≡ map (handle_at w.table) (taken_of (met w way types slots v))
-  pub lends : h.lends ≡ lent_of (met w way types slots v)

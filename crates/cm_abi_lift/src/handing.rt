@@ -3,8 +3,11 @@
 ghost use Rattle.std.specs.Prelude.{◌≡◌, ◌+◌, ◌<◌, ◌^◌, ◌⊎◌, Err, IfErr, IfOk, Ok, OnErr, OnOk};
 ghost use Rattle.std.specs.Prelude.{[], IsOk, length};
 ghost use Rattle.std.specs.Option.{ForSome};
-ghost use Rattle.cm_handles.specs.Handles.{Handles, handle_at, if_not_lent, if_owned, look_up};
-ghost use Rattle.cm_abi_lift.specs.HandingOver.{Hands, LendsBelow, hand_fault, hand_one, hand_over};
+ghost use Rattle.cm_handles.specs.Handles.{Handles, IsSoundHandles, handle_at, if_not_lent};
+ghost use Rattle.cm_handles.specs.Handles.{if_owned};
+ghost use Rattle.cm_handles.specs.Handles.{look_up};
+ghost use Rattle.cm_abi_model.specs.Lifts.{Hands, LendsBelow};
+ghost use Rattle.cm_abi_lift.specs.HandingOver.{hand_fault, hand_one, hand_over};
 ghost use Rattle.cm_abi_lift.specs.HandingOver.{hands_of, lent_out, taken_out, untouched};
 
 use cm_abi_load::MetHandle;
@@ -13,6 +16,12 @@ use cm_handles::{Handle, HandleFault, Table};
 use cm_layout::HandleType;
 use cm_types::ResourceId;
 use std::alloc::Global;
+
+/// A resource, whichever.
+const NO_RESOURCE: ResourceId = ResourceId {
+    component: 0,
+    number: 0,
+};
 
 /// The handles that were handed over.
 #[derive(Drop)]
@@ -38,6 +47,26 @@ fn hand_fault(fault: HandleFault) -> AbiFault
 }
 
 impl Handed {
+    /// Nothing handed over. It takes no memory.
+    pub fn new(alloc: Global) -> Handed
+        ensures owns { result.owns.items ≡ [] }
+        ensures lends { result.lends.items ≡ [] }
+    {
+        Handed {
+            owns: Vec::new(alloc),
+            lends: Vec::new(alloc),
+        }
+    }
+
+    /// Empties the lists, which keep their room.
+    pub fn clear(&mut self)
+        ensures owns { self.new.owns.items ≡ [] }
+        ensures lends { self.new.lends.items ≡ [] }
+    {
+        self.owns.clear();
+        self.lends.clear();
+    }
+
     /// Takes the own handle at an index out of the table.
     fn take(&mut self, table: &mut Table, index: u32, resource: ResourceId) -> Result<(), AbiFault>
         ensures ok { OnOk result (taken_out (hands_of table.old.handles self.old) index
@@ -150,32 +179,39 @@ impl Handed {
     }
 }
 
+/// The handles of any table are sound.
+pub fn is_sound(table: &Table)
+    ensures { IsSoundHandles table.now.handles }
+{
+    let _handle = table.get(0, NO_RESOURCE);
+}
+
 /// Hands over the handles that were met, one after another: an own handle is taken out of the
 /// table, and one to be borrowed is lent once more.
+///
+/// What was handed over is listed in `handed`, in the place of what stood there; the lists keep
+/// their room.
 ///
 /// Refused at the first that cannot be handed over, with the table as it was: with `NoHandle`, else
 /// `WrongResource`, else for one to be owned `StillLent`, else `NotOwned`. `EngineMemory` comes
 /// where there is no memory for what is handed over; where nothing is, none is taken.
-pub fn hand_over(alloc: Global, table: &mut Table, met: &[MetHandle]) -> Result<Handed, AbiFault>
+pub fn hand_over(table: &mut Table, met: &[MetHandle], handed: &mut Handed) -> Result<(), AbiFault>
     requires lends { LendsBelow (2 ^ 100) table.old.handles }
-    ensures ok { IfOk result (λ h. hand_over (untouched table.old.handles) met.now
-        ≡ Ok (hands_of table.new.handles h)) }
-    ensures room { IfOk result (λ h. table.new.room
-        ≡ table.old.room + length h.owns.items) }
+    ensures ok { OnOk result (hand_over (untouched table.old.handles) met.now
+        ≡ Ok (hands_of table.new.handles handed.new)) }
+    ensures room { OnOk result (table.new.room
+        ≡ table.old.room + length handed.new.owns.items) }
     ensures err { IfErr result (λ e. (e ≡ AbiFault.EngineMemory)
         ⊎ (hand_over (untouched table.old.handles) met.now ≡ Err e)) }
     ensures nothing { met.now ≡ [] → IsOk result }
     ensures unchanged { OnErr result (table.new ≡ table.old) }
 {
-    let mut handed = Handed {
-        owns: Vec::new(alloc),
-        lends: Vec::new(alloc),
-    };
+    handed.clear();
     for i in 0..met.len() {
         if let Err(fault) = handed.add(table, met[i]) {
             handed.take_back(table, &met[..i]);
             return Err(fault);
         }
     }
-    Ok(handed)
+    Ok(())
 }

@@ -15,8 +15,9 @@ ghost use Rattle.cm_abi_load.specs.Meeting.{Meets};
 ghost use Rattle.cm_abi_load.specs.Outcomes.{State};
 ghost use Rattle.cm_abi_load.specs.Reading.{seen_by};
 ghost use Rattle.cm_abi_lift.specs.FlatReading.{read_passed};
-ghost use Rattle.cm_abi_lift.specs.HandingOver.{Hands};
-ghost use Rattle.cm_abi_lift.specs.Lifts.{Lifts, lift_of};
+ghost use Rattle.cm_abi_model.specs.Lifts.{Hands};
+ghost use Rattle.cm_abi_model.specs.Lifts.{Lifts};
+ghost use Rattle.cm_abi_lift.specs.Lifts.{lift_of};
 
 use cm_abi_load::laws::{
     parts_that_are_read_are_shown, parts_that_are_shown_are_read, what_is_read_is_shown,

@@ -11,13 +11,10 @@ mod lifted;
 mod passed;
 mod recorder;
 pub mod scan_laws;
-mod scanner;
 mod walk;
 
 pub use cm_abi_load::slots::{behind, number_32, wrapped_at};
-pub use cm_abi_load::{PartKind, PartRecord};
-pub use handing::{Handed, hand_over};
+pub use handing::{Handed, hand_over, is_sound};
 pub use lifted::{Lifted, first_fault, lift};
 pub use passed::{Passed, make_passed};
 pub use recorder::Recorder;
-pub use scanner::{Scan, Scanner};

@@ -7,16 +7,19 @@ ghost use Rattle.cm_types.specs.Values.{Val, Vals, parts};
 ghost use Rattle.cm_layout.specs.Layouts.{layout_of};
 ghost use Rattle.cm_layout.specs.Shapes.{layout_of_fields_at};
 ghost use Rattle.cm_types.specs.ValueTrees.{value_of, values_of};
+ghost use Rattle.cm_handles.specs.Handles.{IsSoundHandles};
 ghost use Rattle.cm_abi_model.specs.Denotes.{Denotes};
 ghost use Rattle.cm_abi_model.specs.LiftStops.{LiftStops};
 ghost use Rattle.cm_abi_model.specs.Taken.{Transferable};
 ghost use Rattle.cm_abi_model.specs.Views.{View};
 ghost use Rattle.cm_abi_model.specs.Ways.{way_of};
 ghost use Rattle.cm_abi_load.specs.Outcomes.{State};
-ghost use Rattle.cm_abi_lift.specs.HandingOver.{LendsBelow, hand_over, handed, untouched};
-ghost use Rattle.cm_abi_lift.specs.Lifts.{IsGivenBy, Lifts, handed_with, lift_of};
+ghost use Rattle.cm_abi_model.specs.Lifts.{LendsBelow};
+ghost use Rattle.cm_abi_lift.specs.HandingOver.{hand_over, handed, untouched};
+ghost use Rattle.cm_abi_model.specs.Lifts.{IsGivenBy, Lifts};
+ghost use Rattle.cm_abi_lift.specs.Lifts.{handed_with, lift_of};
 
-use crate::handing::hand_over;
+use crate::handing::{Handed, hand_over, is_sound};
 use crate::laws::{first_faults_are_told, lifting_is_exact};
 use crate::passed::{Passed, read_passed};
 use cm_abi_load::{Giver, MetHandle, Progress, Stop};
@@ -75,7 +78,6 @@ pub fn lift(
 ) -> Result<Lifted, AbiFault>
     requires layout { (types : Fields)
         × (layout_of passed.now.layout.now ≡ layout_of_fields_at types) }
-    requires few { length memory.now < 2 ^ 62 }
     requires lends { LendsBelow (2 ^ 100) table.old.handles }
     ensures lifts { (w : View) (types : Fields)
         → IsGivenBy w memory.now table.old.handles encoding
@@ -94,11 +96,14 @@ pub fn lift(
         → Denotes w (way_of passed.now.way) types passed.now.slots.now v
         → Transferable w (way_of passed.now.way) types passed.now.slots.now v
         → IsOkUnless result AbiFault.EngineMemory }
+    ensures sound { IsSoundHandles table.new.handles }
     ensures unchanged { OnErr result (table.new ≡ table.old) }
 {
     lifting_is_exact();
     first_faults_are_told();
-    lift_values(alloc, memory, table, encoding, passed)
+    let lifted = lift_values(alloc, memory, table, encoding, passed);
+    is_sound(table);
+    lifted
 }
 
 /// The same, by the definition of lifting that goes from part to part.
@@ -111,7 +116,6 @@ fn lift_values(
 ) -> Result<Lifted, AbiFault>
     requires layout { (types : Fields)
         × (layout_of passed.now.layout.now ≡ layout_of_fields_at types) }
-    requires few { length memory.now < 2 ^ 62 }
     requires lends { LendsBelow (2 ^ 100) table.old.handles }
     ensures ok { IfOk result (λ l.
         lift_of memory.now table.old.handles encoding (way_of passed.now.way)
@@ -137,9 +141,10 @@ fn lift_values(
         table: &*table,
         encoding,
     };
+    let mut handed = Handed::new(alloc);
     match read_passed(&giver, passed, &mut progress) {
         Ok(tuple) => {
-            let handed = hand_over(alloc, table, &progress.handles)?;
+            hand_over(table, &progress.handles, &mut handed)?;
             Ok(Lifted {
                 values: fields_of(tuple),
                 owns: handed.owns,
@@ -148,22 +153,30 @@ fn lift_values(
             })
         }
         Err(Stop::Memory) => Err(AbiFault::EngineMemory),
-        Err(Stop::Fault(fault)) => Err(first_fault(alloc, table, &progress.handles, fault)),
+        Err(Stop::Fault(fault)) => {
+            Err(first_fault(table, &progress.handles, fault, &mut handed))
+        }
     }
 }
 
 /// The first fault, where reading stopped at one: that of a handle that was met before comes first.
-/// `EngineMemory` comes where there is no memory to hand those over. The table stays as it is.
-pub fn first_fault(alloc: Global, table: &mut Table, met: &[MetHandle], fault: AbiFault) -> AbiFault
+/// `EngineMemory` comes where there is no memory to hand those over, which are listed in `kept`
+/// meanwhile. The table stays as it is.
+pub fn first_fault(
+    table: &mut Table,
+    met: &[MetHandle],
+    fault: AbiFault,
+    kept: &mut Handed,
+) -> AbiFault
     requires lends { LendsBelow (2 ^ 100) table.old.handles }
     ensures first { (result ≡ AbiFault.EngineMemory)
         ⊎ ((s : State) → handed (Err (fault, s))
         (hand_over (untouched table.old.handles) met.now) ≡ Err result) }
     ensures unchanged { table.new ≡ table.old }
 {
-    match hand_over(alloc, table, met) {
-        Ok(mut handed) => {
-            handed.take_back(table, met);
+    match hand_over(table, met, kept) {
+        Ok(()) => {
+            kept.take_back(table, met);
             fault
         }
         Err(earlier) => earlier,

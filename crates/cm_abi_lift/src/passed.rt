@@ -16,8 +16,8 @@ ghost use Rattle.cm_abi_lift.specs.FlatRecords.{passed_records, spilled_records}
 use crate::walk::make_flat;
 use cm_abi_load::laws::{handles_stay_met, numbers_are_sized};
 use cm_abi_load::slots::number_32;
-use cm_abi_load::{Giver, Maker, PartKind, PartRecord, Progress, Reader, Stop, Trees, make_value};
-use cm_abi_model::{AbiFault, Way};
+use cm_abi_load::{Giver, Maker, Progress, Reader, Stop, Trees, make_value};
+use cm_abi_model::{AbiFault, PartKind, PartRecord, Way};
 use cm_layout::Layout;
 use cm_layout::laws::layouts;
 use cm_types::{CoreValue, Value};
@@ -41,7 +41,6 @@ pub(crate) fn read_passed(
     progress: &mut Progress,
 ) -> Result<Value, Stop>
     requires layout { (t : Ty) × (layout_of passed.now.layout.now ≡ layout_at t) }
-    requires few { length giver.now.memory.now < 2 ^ 62 }
     ensures { Reads value_of result (state_of progress.new)
         (read_passed (source_of giver.now) (flat_limit (way_of passed.now.way))
         (layout_of passed.now.layout.now) passed.now.slots.now (state_of progress.old)) }
@@ -67,7 +66,6 @@ pub fn make_passed<M: Maker>(
     kept: &mut M::Kept,
 ) -> Result<M::Made, Stop>
     requires layout { (t : Ty) × (layout_of passed.now.layout.now ≡ layout_at t) }
-    requires few { length reader.now.giver.memory.now < 2 ^ 62 }
     ensures { Makes M.stands M.keeps M.allocates
         (passed_records (source_of reader.now.giver) (M.target reader.now.maker)
         (flat_limit (way_of passed.now.way)) (layout_of passed.now.layout.now) passed.now.slots.now)
@@ -100,7 +98,6 @@ fn make_spilled<M: Maker>(
     kept: &mut M::Kept,
 ) -> Result<M::Made, Stop>
     requires layout { (t : Ty) × (layout_of layout.now ≡ layout_at t) }
-    requires few { length reader.now.giver.memory.now < 2 ^ 62 }
     ensures { Makes M.stands M.keeps M.allocates
         (spilled_records (source_of reader.now.giver) (M.target reader.now.maker)
         (layout_of layout.now) pointer)

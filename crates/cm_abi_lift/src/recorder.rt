@@ -7,8 +7,8 @@ ghost use Rattle.std.proofs.Common.{rules};
 ghost use Rattle.std.proofs.lemmas.Grind.{common_steps};
 
 use cm_abi_load::laws::handles_stay_met;
-use cm_abi_load::{Giver, Maker, PartKind, PartRecord, Progress, Stop, measure_text};
-use cm_abi_model::{StringEncoding, UTF16_TAG};
+use cm_abi_load::{Giver, Maker, Progress, Stop, measure_text};
+use cm_abi_model::{PartKind, PartRecord, StringEncoding, UTF16_TAG};
 use cm_types::Value;
 use std::alloc::Global;
 

@@ -9,9 +9,10 @@ ghost use Rattle.cm_abi_model.specs.Parts.{parts_in};
 ghost use Rattle.cm_abi_model.specs.Shows.{Shows};
 ghost use Rattle.cm_abi_model.specs.Views.{View};
 ghost use Rattle.cm_abi_load.specs.Reading.{seen_by};
-ghost use Rattle.cm_abi_lift.specs.Places.{places_at};
+ghost use Rattle.cm_abi_model.specs.Places.{places_at};
 ghost use Rattle.cm_abi_lift.specs.Records.{records_at};
-ghost use Rattle.cm_abi_lift.specs.Telling.{ElementsAreTold, TellAll, TextIsTold};
+ghost use Rattle.cm_abi_lift.specs.Telling.{ElementsAreTold, TextIsTold};
+ghost use Rattle.cm_abi_model.specs.Telling.{TellAll};
 
 use cm_abi_load::laws::numbers_are_sized;
 

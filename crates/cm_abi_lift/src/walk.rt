@@ -13,8 +13,9 @@ ghost use Rattle.cm_abi_load.specs.Outcomes.{State, mapped, state_of};
 ghost use Rattle.cm_abi_load.specs.Reading.{Source, leaf_value as value_of_leaf, source_of};
 ghost use Rattle.cm_abi_load.specs.Records.{held, payload as payload_in};
 ghost use Rattle.cm_abi_load.specs.Sized.{IsSizedLeaf, core_size as size_of_core};
-ghost use Rattle.cm_abi_lift.specs.FlatReading.{ArePartsReady, ArePayloadsReady, IsReady};
-ghost use Rattle.cm_abi_lift.specs.FlatReading.{IsReadyLayout, read_flat, read_flat_case};
+ghost use Rattle.cm_abi_lift.specs.FlatReading.{ArePartsFlatReadable};
+ghost use Rattle.cm_abi_lift.specs.FlatReading.{ArePayloadsFlatReadable, IsFlatReadable};
+ghost use Rattle.cm_abi_lift.specs.FlatReading.{IsFlatReadableLayout, read_flat, read_flat_case};
 ghost use Rattle.cm_abi_lift.specs.FlatReading.{read_flat_each, read_flat_parts, read_flat_payload};
 ghost use Rattle.cm_abi_lift.specs.FlatRecords.{flat_records, flat_records_each};
 ghost use Rattle.cm_abi_lift.specs.FlatRecords.{flat_records_of_cases, flat_records_of_fields};
@@ -44,8 +45,7 @@ pub(crate) fn make_flat<M: Maker>(
     progress: &mut Progress,
     kept: &mut M::Kept,
 ) -> Result<M::Made, Stop>
-    requires ready { IsReady (layout_of layout.now).shape }
-    requires few { length reader.now.giver.memory.now < 2 ^ 62 }
+    requires ready { IsFlatReadable (layout_of layout.now).shape }
     ensures { Makes M.stands M.keeps M.allocates
         (flat_records (source_of reader.now.giver) (M.target reader.now.maker)
         (layout_of layout.now).shape slots.now)
@@ -128,8 +128,7 @@ fn make_fixed_list<M: Maker>(
     progress: &mut Progress,
     kept: &mut M::Kept,
 ) -> Result<M::Made, Stop>
-    requires ready { IsReady (layout_of element.now).shape }
-    requires few { length reader.now.giver.memory.now < 2 ^ 62 }
+    requires ready { IsFlatReadable (layout_of element.now).shape }
     ensures { Makes M.stands M.keeps M.allocates
         (λ v. flat_records_each
         (flat_records (source_of reader.now.giver) (M.target reader.now.maker)
@@ -153,8 +152,7 @@ fn make_each<M: Maker>(
     progress: &mut Progress,
     kept: &mut M::Kept,
 ) -> Result<M::Row, Stop>
-    requires ready { IsReady (layout_of element.now).shape }
-    requires few { length reader.now.giver.memory.now < 2 ^ 62 }
+    requires ready { IsFlatReadable (layout_of element.now).shape }
     ensures { Makes M.stand M.keeps M.allocates
         (flat_records_each
         (flat_records (source_of reader.now.giver) (M.target reader.now.maker)
@@ -183,8 +181,7 @@ fn make_fields<M: Maker>(
     progress: &mut Progress,
     kept: &mut M::Kept,
 ) -> Result<M::Made, Stop>
-    requires ready { ArePartsReady (parts_from (map part_of parts.now)) }
-    requires few { length reader.now.giver.memory.now < 2 ^ 62 }
+    requires ready { ArePartsFlatReadable (parts_from (map part_of parts.now)) }
     ensures { Makes M.stands M.keeps M.allocates
         (λ v. flat_records_of_fields (source_of reader.now.giver) (M.target reader.now.maker)
         (parts_from (map part_of parts.now)) slots.now (held v))
@@ -213,8 +210,7 @@ fn make_field<M: Maker>(
     progress: &mut Progress,
     kept: &mut M::Kept,
 ) -> Result<M::Made, Stop>
-    requires ready { IsReady (part_of part.now).1.shape }
-    requires few { length reader.now.giver.memory.now < 2 ^ 62 }
+    requires ready { IsFlatReadable (part_of part.now).1.shape }
     ensures { Makes M.stands M.keeps M.allocates
         (flat_records (source_of reader.now.giver) (M.target reader.now.maker)
         (part_of part.now).1.shape slots.now)
@@ -237,8 +233,7 @@ fn make_case<M: Maker>(
     progress: &mut Progress,
     kept: &mut M::Kept,
 ) -> Result<M::Made, Stop>
-    requires ready { ArePayloadsReady (payloads_from (map payload_of payloads.now)) }
-    requires few { length reader.now.giver.memory.now < 2 ^ 62 }
+    requires ready { ArePayloadsFlatReadable (payloads_from (map payload_of payloads.now)) }
     ensures { Makes M.stands M.keeps M.allocates
         (flat_records_of_cases (source_of reader.now.giver) (M.target reader.now.maker)
         (payloads_from (map payload_of payloads.now)) slots.now)
@@ -263,8 +258,7 @@ fn make_payload<M: Maker>(
     progress: &mut Progress,
     kept: &mut M::Kept,
 ) -> Result<M::Made, Stop>
-    requires ready { IfSome (payload_of payload.now) IsReadyLayout }
-    requires few { length reader.now.giver.memory.now < 2 ^ 62 }
+    requires ready { IfSome (payload_of payload.now) IsFlatReadableLayout }
     ensures { Makes M.stands M.keeps M.allocates
         (λ v. flat_records_of_payload (source_of reader.now.giver) (M.target reader.now.maker)
         (payload_of payload.now) slots.now (payload_in v))

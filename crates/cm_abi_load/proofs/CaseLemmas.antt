@@ -15,7 +15,7 @@ use Rattle.cm_abi_model.specs.declared.encoding.StringEncoding.{StringEncoding}
 use Rattle.cm_abi_load.specs.declared.stop.Stop.{Stop}
 use Rattle.cm_abi_load.specs.declared.stop.Stop.TheVariants as stop
 use Rattle.cm_abi_load.specs.Outcomes.{Outcome, State, Stops, mapped, ◌>>=◌}
-use Rattle.cm_abi_load.specs.declared.record.PartRecord.{PartRecord}
+use Rattle.cm_abi_model.specs.declared.record.PartRecord.{PartRecord}
 use Rattle.cm_abi_load.specs.Making.{HasMore, IsRead, KeepsHandles, Makes, StopsMaking}
 use Rattle.cm_abi_load.specs.Plain.{IsPlain, IsPlainLeaf}
 use Rattle.cm_abi_load.specs.Reading.{Source, after_meeting, leaf_value, read_at, read_case, read_each, read_elements, read_handle, read_payload, region, resource_of}

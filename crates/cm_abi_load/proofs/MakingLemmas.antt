@@ -8,7 +8,7 @@ use Rattle.cm_abi_model.specs.declared.encoding.StringEncoding.{StringEncoding}
 use Rattle.cm_abi_load.specs.declared.stop.Stop.{Stop}
 use Rattle.cm_abi_load.specs.declared.stop.Stop.TheVariants as stop
 use Rattle.cm_abi_load.specs.Outcomes.{Outcome, State, Stops}
-use Rattle.cm_abi_load.specs.declared.record.PartRecord.{PartRecord}
+use Rattle.cm_abi_model.specs.declared.record.PartRecord.{PartRecord}
 use Rattle.cm_abi_load.specs.Making.{HasMore, IsRead, KeepsHandles, StopsMaking, with_last}
 use Rattle.cm_abi_load.specs.MakingLaws.{Going, begins, ends, one_stops, turns}
 use Rattle.cm_abi_load.specs.Reading.{Source, read_at, read_each, read_parts}

@@ -5,7 +5,7 @@ use Rattle.cm_types.specs.Values.{Val, Vals, no_vals, val}
 use Rattle.cm_abi_load.specs.declared.stop.Stop.{Stop}
 use Rattle.cm_abi_load.specs.declared.stop.Stop.TheVariants as stop
 use Rattle.cm_abi_load.specs.Outcomes.{Outcome, State}
-use Rattle.cm_abi_load.specs.declared.record.PartRecord.{PartRecord}
+use Rattle.cm_abi_model.specs.declared.record.PartRecord.{PartRecord}
 
 -- values with one more behind them
 abbrev pub with_last : Vals → Val → Vals

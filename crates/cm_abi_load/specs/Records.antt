@@ -15,8 +15,8 @@ use Rattle.cm_abi_model.specs.Requests.{stored_charset}
 use Rattle.cm_abi_model.specs.Texts.{UTF16_TAG, text_align, units_of}
 use Rattle.cm_abi_load.specs.Reading.{Source}
 use Rattle.cm_abi_load.specs.TextSizes.{text_length}
-use Rattle.cm_abi_load.specs.declared.record.PartRecord.{PartRecord}
-use Rattle.cm_abi_load.specs.declared.record.PartKind.TheVariants as kind
+use Rattle.cm_abi_model.specs.declared.record.PartRecord.{PartRecord}
+use Rattle.cm_abi_model.specs.declared.record.PartKind.TheVariants as kind
 
 -- a length says UTF-16 by its tag
 abbrev pub is_tagged : StringEncoding → ℕ → Bool

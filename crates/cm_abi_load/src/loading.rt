@@ -22,11 +22,11 @@ ghost use Rattle.cm_abi_load.specs.Sized.{ArePartsSized, ArePayloadsReadable, Is
 ghost use Rattle.cm_abi_load.specs.Sized.{IsSized, IsSizedLeaf};
 
 use crate::maker::{Maker, Reader};
-use crate::record::{PartKind, PartRecord};
+use crate::regions::fits_a_slice;
 use crate::{
     Progress, Stop, check_region, leaf_size, leaf_value, load_handle, number_32, number_at,
 };
-use cm_abi_model::AbiFault;
+use cm_abi_model::{AbiFault, PartKind, PartRecord};
 use cm_handles::Table;
 use cm_layout::{Form, HandleType, Layout, Leaf, Part, Payload};
 use cm_types::Value;
@@ -51,7 +51,6 @@ pub fn make_value<M: Maker>(
     requires sized { IsSized (layout_of layout.now).shape }
     requires within { at + (layout_of layout.now).head.size
         ≤ length reader.now.giver.memory.now }
-    requires few { length reader.now.giver.memory.now < 2 ^ 62 }
     ensures { Makes M.stands M.keeps M.allocates
         (records_at (source_of reader.now.giver) (M.target reader.now.maker)
         (layout_of layout.now).shape at)
@@ -84,6 +83,7 @@ pub fn make_value<M: Maker>(
             payloads,
         } => {
             let index = number_at(memory, *discriminant, at) as u32;
+            fits_a_slice(memory);
             let start = at + *offset as usize;
             make_case(reader, payloads, index, start, progress, kept)
         }
@@ -191,7 +191,6 @@ pub fn make_list<M: Maker>(
     requires laid { Laid (layout_of element.now).head.size (layout_of element.now).shape }
     requires aligned { 0 < (layout_of element.now).head.align }
     requires sized { IsSized (layout_of element.now).shape }
-    requires few { length reader.now.giver.memory.now < 2 ^ 62 }
     ensures { Makes M.stands M.keeps M.allocates
         (records_of_list
         (records_at (source_of reader.now.giver) (M.target reader.now.maker)
@@ -232,7 +231,6 @@ fn make_fixed_list<M: Maker>(
     requires sized { IsSized (layout_of element.now).shape }
     requires within { at + count * (layout_of element.now).head.size
         ≤ length reader.now.giver.memory.now }
-    requires few { length reader.now.giver.memory.now < 2 ^ 62 }
     ensures { Makes M.stands M.keeps M.allocates
         (λ v. records_each
         (records_at (source_of reader.now.giver) (M.target reader.now.maker)
@@ -261,7 +259,6 @@ fn make_each<M: Maker>(
     requires sized { IsSized (layout_of element.now).shape }
     requires within { at + count * (layout_of element.now).head.size
         ≤ length reader.now.giver.memory.now }
-    requires few { length reader.now.giver.memory.now < 2 ^ 62 }
     ensures { Makes M.stand M.keeps M.allocates
         (records_each
         (records_at (source_of reader.now.giver) (M.target reader.now.maker)
@@ -275,6 +272,7 @@ fn make_each<M: Maker>(
             return Ok(row);
         }
     }
+    fits_a_slice(reader.giver.memory);
     let mut row = M::row(reader.giver.alloc);
     let mut next = at;
     for _ in 0..count {
@@ -298,7 +296,6 @@ fn make_fields<M: Maker>(
     requires laid { PartsLaid size 0 (parts_from (map part_of parts.now)) }
     requires sized { ArePartsSized (parts_from (map part_of parts.now)) }
     requires within { at + size ≤ length reader.now.giver.memory.now }
-    requires few { length reader.now.giver.memory.now < 2 ^ 62 }
     ensures { Makes M.stands M.keeps M.allocates
         (λ v. records_of_fields (source_of reader.now.giver) (M.target reader.now.maker)
         (parts_from (map part_of parts.now)) at (held v))
@@ -326,7 +323,6 @@ fn make_field<M: Maker>(
 ) -> Result<M::Made, Stop>
     requires readable { IsReadable (length reader.now.giver.memory.now)
         (at + (part_of part.now).0) (part_of part.now).1 }
-    requires few { length reader.now.giver.memory.now < 2 ^ 62 }
     ensures { Makes M.stands M.keeps M.allocates
         (records_at (source_of reader.now.giver) (M.target reader.now.maker)
         (part_of part.now).1.shape (at + (part_of part.now).0))
@@ -334,6 +330,7 @@ fn make_field<M: Maker>(
         (at + (part_of part.now).0) (state_of progress.old))
         kept.old kept.new (state_of progress.old) (state_of progress.new) result }
 {
+    fits_a_slice(reader.giver.memory);
     let at = at + part.offset as usize;
     make_value(reader, &part.layout, at, progress, kept)
 }
@@ -352,7 +349,6 @@ fn make_case<M: Maker>(
 ) -> Result<M::Made, Stop>
     requires readable { ArePayloadsReadable (length reader.now.giver.memory.now) at
         (payloads_from (map payload_of payloads.now)) }
-    requires few { length reader.now.giver.memory.now < 2 ^ 62 }
     ensures { Makes M.stands M.keeps M.allocates
         (records_of_cases (source_of reader.now.giver) (M.target reader.now.maker)
         (payloads_from (map payload_of payloads.now)) at)
@@ -378,7 +374,6 @@ fn make_payload<M: Maker>(
 ) -> Result<M::Made, Stop>
     requires readable { IfSome (payload_of payload.now)
         (IsReadable (length reader.now.giver.memory.now) at) }
-    requires few { length reader.now.giver.memory.now < 2 ^ 62 }
     ensures { Makes M.stands M.keeps M.allocates
         (λ v. records_of_payload (source_of reader.now.giver) (M.target reader.now.maker)
         (payload_of payload.now) at (payload_in v))

@@ -9,10 +9,10 @@ ghost use Rattle.cm_abi_load.specs.declared.stop.Stop.TheVariants.{Memory};
 ghost use Rattle.cm_abi_load.specs.Making.{Makes, with_last};
 ghost use Rattle.cm_abi_load.specs.Reading.{read_text};
 ghost use Rattle.cm_abi_load.specs.Records.{text_record};
-ghost use Rattle.cm_abi_load.specs.declared.record.PartRecord.{PartRecord as Told};
+ghost use Rattle.cm_abi_model.specs.declared.record.PartRecord.{PartRecord as Told};
 
-use crate::record::PartRecord;
 use crate::{Giver, Progress, Stop};
+use cm_abi_model::PartRecord;
 use cm_types::Value;
 use std::alloc::Global;
 

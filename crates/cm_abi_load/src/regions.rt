@@ -1,12 +1,19 @@
 //! What a pointer leads to.
 
-ghost use Rattle.std.specs.Prelude.{◌≡◌, ◌+◌, ◌<◌, ◌≤◌, length, OnOk};
+ghost use Rattle.std.specs.Prelude.{◌≡◌, ◌+◌, ◌<◌, ◌≤◌, ◌^◌, length, OnOk};
 ghost use Rattle.cm_abi_load.specs.Outcomes.{Reads, state_of};
 ghost use Rattle.cm_abi_load.specs.Leaves.{region};
 
 use crate::progress::Progress;
 use crate::stop::Stop;
 use cm_abi_model::AbiFault;
+
+/// A slice of bytes is shorter than 2^63, so an address in it and an offset fit 64 bits together.
+pub(crate) fn fits_a_slice(bytes: &[u8])
+    ensures { length bytes.now < 2 ^ 63 }
+{
+    let _length = bytes.len();
+}
 
 /// Looks at so many bytes at a pointer, and counts them as content: they are aligned, lie in the
 /// memory, and are no more than may still come.

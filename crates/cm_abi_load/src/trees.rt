@@ -5,8 +5,8 @@ ghost use Rattle.cm_types.specs.ValueTrees.{value_of, values_of};
 ghost use Rattle.cm_abi_model.specs.declared.encoding.StringEncoding.TheVariants.{Utf8 as utf8};
 
 use crate::maker::Maker;
-use crate::record::PartRecord;
 use crate::{Giver, Progress, Stop, load_text};
+use cm_abi_model::PartRecord;
 use cm_types::Value;
 use std::alloc::Global;
 

@@ -13,10 +13,10 @@ use Rattle.cm_handles.specs.declared.handle.HandleKind.TheVariants.{Borrowed}
 use Rattle.cm_abi_model.specs.Receives.{AllStand, HandleLeaf, StandsFor, StandsForBorrow, owned_leaf, borrowed_leaf}
 use Rattle.cm_abi_model.specs.Stores.{Given, number_of}
 use Rattle.cm_abi_model.specs.Views.{View}
-use Rattle.cm_abi_lower.specs.Giving.{AllGiven, AllStay, Gives, IsGivenAt, IsViewOf, NoneElse, added_by, added_count, added_for, after_given, borrowed_by, borrowed_count, handle_to, number_with, numbers_given, rep_of, with_added}
-use Rattle.cm_abi_lower.specs.Leaves.{leaf_of, leaves_of}
-use Rattle.cm_abi_lower.specs.declared.leaf.HandleLeaf.{HandleLeaf as CodedLeaf}
-use Rattle.cm_abi_lower.specs.declared.receiver.Receiver.{Receiver}
+use Rattle.cm_abi_model.specs.Giving.{AllGiven, AllStay, Gives, IsGivenAt, IsViewOf, NoneElse, added_by, added_count, added_for, after_given, borrowed_by, borrowed_count, handle_to, number_with, numbers_given, rep_of, with_added}
+use Rattle.cm_abi_model.specs.HandleLeaves.{leaf_of, leaves_of}
+use Rattle.cm_abi_model.specs.declared.leaf.HandleLeaf.{HandleLeaf as CodedLeaf}
+use Rattle.cm_abi_model.specs.declared.receiver.Receiver.{Receiver}
 
 pub next_leaf : (ls : List CodedLeaf) (i : ℕ) (d : CodedLeaf) → i < length ls → leaves_of (drop i ls) ≡ leaf_of (get_or ls i d) ∷ leaves_of (drop (i + 1) ls)
 next_leaf ls i d lt = rw (add-one, drop-cons ls i d lt) refl

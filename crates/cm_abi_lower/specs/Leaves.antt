@@ -1,33 +1,12 @@
 -- The handles of a value by its layout (CanonicalABI.md, "Storing" of own and borrow).
-use Rattle.std.specs.Prelude.{ℕ, zero, suc, List, [], ◌∷◌, ◌++◌, map, Option, Some, None}
-use Rattle.cm_types.specs.Values.{Val, Vals, HandleValue, no_vals, val, elements, parts, bearing}
+use Rattle.std.specs.Prelude.{ℕ, zero, suc, List, [], ◌∷◌, ◌++◌, Option, Some, None}
+use Rattle.cm_types.specs.Values.{Val, Vals, no_vals, val, elements, parts, bearing}
 use Rattle.cm_types.specs.Values.{handle}
 use Rattle.cm_layout.specs.Shapes.{Shape, Parts, Payloads, LayoutTy, list_shape, fixed_list_shape}
 use Rattle.cm_layout.specs.Shapes.{fields_shape, cases_shape, handle_shape, no_parts, part}
 use Rattle.cm_layout.specs.Shapes.{no_payloads, nothing, carried}
-use Rattle.cm_layout.specs.declared.layouts.HandleType.{HandleType}
-use Rattle.cm_layout.specs.declared.layouts.HandleType.TheVariants as handle_type
-use Rattle.cm_abi_model.specs.Receives.{HandleLeaf, owned_leaf, borrowed_leaf, leaves_each}
-use Rattle.cm_abi_lower.specs.declared.leaf.HandleLeaf.{HandleLeaf as CodedLeaf}
-use Rattle.cm_abi_lower.specs.declared.leaf.HandleLeaf.TheVariants as coded
-use Rattle.cm_abi_lower.specs.declared.leaf.HandleValue.{HandleValue as CodedValue}
-
--- what a handle of the code stands for
-abbrev pub value_in : CodedValue → HandleValue
-value_in h = record { serial = h.serial; rep = h.rep; resource = h.resource }
-
--- the handle that a leaf of the code is
-abbrev pub leaf_of : CodedLeaf → HandleLeaf
-leaf_of (coded.Owned h) = owned_leaf (value_in h)
-leaf_of (coded.Borrowed h) = borrowed_leaf (value_in h)
-
-abbrev pub leaves_of : List CodedLeaf → List HandleLeaf
-leaves_of leaves = map leaf_of leaves
-
--- a handle whose type is this
-abbrev pub leaf_by : HandleType → HandleValue → HandleLeaf
-leaf_by (handle_type.Own r) h = owned_leaf h
-leaf_by (handle_type.Borrow r) h = borrowed_leaf h
+use Rattle.cm_abi_model.specs.Receives.{HandleLeaf, leaves_each}
+use Rattle.cm_abi_model.specs.HandleLeaves.{leaf_by}
 
 abbrev mutual
   -- the handles of a value whose type has this shape, in reading order

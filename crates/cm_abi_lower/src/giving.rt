@@ -14,15 +14,13 @@ ghost use Rattle.cm_layout.specs.Shapes.{layout_of_fields_at};
 ghost use Rattle.cm_types.specs.ValueTrees.{values_of};
 ghost use Rattle.cm_abi_model.specs.Receives.{leaves_in};
 ghost use Rattle.cm_abi_model.specs.Requests.{tuple_of};
-ghost use Rattle.cm_abi_lower.specs.Giving.{AllStay, Gives, NoneElse, added_by, added_count};
-ghost use Rattle.cm_abi_lower.specs.Giving.{added_for, borrowed_by, borrowed_count, handle_to};
-ghost use Rattle.cm_abi_lower.specs.Giving.{number_with, rep_of, with_added};
-ghost use Rattle.cm_abi_lower.specs.Leaves.{leaf_of, leaves_of, value_in};
+ghost use Rattle.cm_abi_model.specs.Giving.{AllStay, Gives, NoneElse, added_by, added_count};
+ghost use Rattle.cm_abi_model.specs.Giving.{added_for, borrowed_by, borrowed_count, handle_to};
+ghost use Rattle.cm_abi_model.specs.Giving.{number_with, rep_of, with_added};
+ghost use Rattle.cm_abi_model.specs.HandleLeaves.{leaf_of, leaves_of, value_in};
 
-use crate::leaf::{HandleLeaf, HandleValue};
 use crate::leaves::leaves;
-use crate::receiver::Receiver;
-use cm_abi_model::AbiFault;
+use cm_abi_model::{AbiFault, HandleLeaf, HandleValue, Receiver};
 use cm_handles::laws::borrows_are_counted;
 use cm_handles::{Handle, HandleFault, HandleKind, Table};
 use cm_layout::Layout;
@@ -169,39 +167,41 @@ fn give_each(table: &mut Table, to: Receiver, leaves: &[HandleLeaf], numbers: &m
 }
 
 /// Gives the handles of a value to the receiver of a call, in order (CanonicalABI.md, "Storing",
-/// `lower_own` and `lower_borrow`). The answer is the number that stands for each: the index in
-/// the receiver's table of the handle that is added there, one that owns its resource or one that
-/// is borrowed for the call; or, for a borrow of a resource that the receiver implements, its
-/// representation, and then nothing is added.
+/// `lower_own` and `lower_borrow`). The number that stands for each is put into `numbers`, in the
+/// place of what stood there; the list keeps its room. It is the index in the receiver's table of
+/// the handle that is added there, one that owns its resource or one that is borrowed for the call;
+/// or, for a borrow of a resource that the receiver implements, its representation, and then
+/// nothing is added.
 ///
 /// Refused with `TableFull` exactly where the table has fewer indices left than it is to get
 /// handles, else with `EngineMemory` where there is no memory; the handles of the table are then
-/// as they were. No memory is taken where there is nothing to give.
+/// as they were, and no number is told. No memory is taken where there is nothing to give.
 pub fn give(
-    alloc: Global,
     table: &mut Table,
     to: Receiver,
     leaves: &[HandleLeaf],
-) -> Result<Vec<u32>, AbiFault>
-    ensures gives { IfOk result (λ ns. Gives to table.old.handles table.new.handles
-        (leaves_of leaves.now) ns.items) }
+    numbers: &mut Vec<u32>,
+) -> Result<(), AbiFault>
+    ensures gives { OnOk result (Gives to table.old.handles table.new.handles
+        (leaves_of leaves.now) numbers.new.items) }
     ensures full { IsErrOf result AbiFault.TableFull
         ↔ (indices_left table.old.handles < added_count to (leaves_of leaves.now)) }
     ensures err { IfErr result (λ e. (e ≡ AbiFault.TableFull) ⊎ (e ≡ AbiFault.EngineMemory)) }
     ensures nothing { leaves.now ≡ [] → IsOk result }
     ensures unchanged { OnErr result (table.new.handles ≡ table.old.handles) }
+    ensures none { OnErr result (numbers.new.items ≡ []) }
 {
+    numbers.clear();
     match table.reserve(added_count(to, leaves)) {
         Ok(()) => {}
         Err(HandleFault::Full) => return Err(AbiFault::TableFull),
         Err(_) => return Err(AbiFault::EngineMemory),
     }
-    let mut numbers = Vec::new(alloc);
     let Ok(()) = numbers.reserve(leaves.len()) else {
         return Err(AbiFault::EngineMemory);
     };
-    give_each(table, to, leaves, &mut numbers);
-    Ok(numbers)
+    give_each(table, to, leaves, numbers);
+    Ok(())
 }
 
 /// Gives the handles of values to the receiver of a call, in reading order, by the layout of the
@@ -235,5 +235,7 @@ pub fn give_values(
     let Ok(leaves) = leaves(alloc, layout, values) else {
         return Err(AbiFault::EngineMemory);
     };
-    give(alloc, table, to, &leaves)
+    let mut numbers = Vec::new(alloc);
+    give(table, to, &leaves, &mut numbers)?;
+    Ok(numbers)
 }

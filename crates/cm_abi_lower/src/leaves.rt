@@ -8,14 +8,26 @@ ghost use Rattle.cm_layout.specs.Shapes.{layout_of_fields_at, parts_from, payloa
 ghost use Rattle.cm_types.specs.ValueTrees.{value_of, values_of};
 ghost use Rattle.cm_abi_model.specs.Receives.{leaves_each, leaves_in};
 ghost use Rattle.cm_abi_model.specs.Requests.{tuple_of};
-ghost use Rattle.cm_abi_lower.specs.Leaves.{leaf_by, leaf_of, leaves_by, leaves_by_case};
-ghost use Rattle.cm_abi_lower.specs.Leaves.{leaves_by_fields, leaves_by_payload, leaves_of};
-ghost use Rattle.cm_abi_lower.specs.Leaves.{value_in};
+ghost use Rattle.cm_abi_model.specs.HandleLeaves.{leaf_by, leaf_of};
+ghost use Rattle.cm_abi_lower.specs.Leaves.{leaves_by, leaves_by_case};
+ghost use Rattle.cm_abi_lower.specs.Leaves.{leaves_by_fields, leaves_by_payload};
+ghost use Rattle.cm_abi_model.specs.HandleLeaves.{leaves_of};
+ghost use Rattle.cm_abi_model.specs.HandleLeaves.{value_in};
 
-use crate::leaf::{HandleLeaf, HandleValue};
+use cm_abi_model::{HandleLeaf, HandleValue};
 use cm_layout::{Form, HandleType, Layout, Part, Payload};
 use cm_types::Value;
 use std::alloc::{AllocError, Global};
+
+/// The leaf of a handle whose type is this.
+fn leaf_by(wanted: HandleType, value: HandleValue) -> HandleLeaf
+    ensures { leaf_of result ≡ leaf_by wanted (value_in value) }
+{
+    match wanted {
+        HandleType::Own(_) => HandleLeaf::Owned(value),
+        HandleType::Borrow(_) => HandleLeaf::Borrowed(value),
+    }
+}
 
 /// Adds a handle.
 fn collect_handle(
@@ -26,7 +38,7 @@ fn collect_handle(
     ensures { OnOk result (leaves_of leaves.new.items
         ≡ leaves_of leaves.old.items ++ leaf_by wanted (value_in value) ∷ []) }
 {
-    leaves.push(HandleLeaf::new(wanted, value))?;
+    leaves.push(leaf_by(wanted, value))?;
     Ok(())
 }
 

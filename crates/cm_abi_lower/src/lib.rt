@@ -7,13 +7,9 @@
 
 mod calls;
 mod giving;
-mod leaf;
 mod leaves;
 mod passing;
-mod receiver;
 
 pub use calls::store_call;
 pub use giving::{borrowed_count, give, give_values};
-pub use leaf::{HandleLeaf, HandleValue};
 pub use passing::pass_value;
-pub use receiver::Receiver;

@@ -1,5 +1,5 @@
 -- Each part of what a call passes is asked for; where that is spilled, its tuple first.
-use Rattle.std.proofs.Common.{◌≡◌, ℕ, ◌*◌, ◌↔◌, Bool, true, false, List, [], ◌∷◌, ◌++◌, Some, refl, sym, ap, subst, ◌∙◌, arith}
+use Rattle.std.proofs.Common.{◌≡◌, ℕ, ◌*◌, ◌<◌, ◌↔◌, Bool, true, false, List, [], ◌∷◌, ◌++◌, length, Some, refl, sym, ap, subst, ◌∙◌, arith}
 use Rattle.std.specs.Prelude.{nat_lt, if◌then◌else◌, slice_get}
 use Rattle.cm_types.specs.Types.{Fields}
 use Rattle.cm_types.specs.Values.{Val}
@@ -7,7 +7,7 @@ use Rattle.cm_layout.specs.Sizes.{align_of, size_of}
 use Rattle.cm_abi_model.specs.declared.encoding.StringEncoding.{StringEncoding}
 use Rattle.cm_abi_model.specs.declared.request.Request.{Request}
 use Rattle.cm_abi_model.specs.Parts.{Part, text_part, element_part, parts_in}
-use Rattle.cm_abi_model.specs.Requests.{call_parts, chain, charset, first_tag, growths, is_spilled, part_align, part_requests, part_sizes, requests, shrunk, stored_charset, tags_behind, text_bytes, text_sizes, text_units, tuple_of}
+use Rattle.cm_abi_model.specs.Requests.{call_parts, chain, read_charset, first_tag, growths, is_spilled, part_align, part_requests, part_sizes, requests, shrunk, stored_charset, tags_behind, text_bytes, text_sizes, text_units, tuple_of}
 use Rattle.cm_abi_model.specs.Texts.{Charset, utf8, utf16, latin1}
 use Rattle.cm_abi_model.specs.Views.{Way}
 
@@ -51,7 +51,7 @@ not_nothing align xs rest b e = not_first align b.size b.rest rest (subst (λ ys
 none_asked : (source target : StringEncoding) (tags : List Bool) (parts : List Part) → part_requests source target tags parts ≡ [] → parts ≡ []
 none_asked source target tags [] e = refl
 none_asked source target tags (p ∷ ps) e =
-    absurd (not_nothing (part_align target p) (part_sizes (charset source (first_tag tags)) (stored_charset target) p) (part_requests source target (tags_behind p tags) ps) (some_size (charset source (first_tag tags)) (stored_charset target) p) e)
+    absurd (not_nothing (part_align target p) (part_sizes (read_charset source (first_tag tags)) (stored_charset target) p) (part_requests source target (tags_behind p tags) ps) (some_size (read_charset source (first_tag tags)) (stored_charset target) p) e)
 
 pub asked : (way : Way) (types : Fields) (v : Val) (source target : StringEncoding) (tags : List Bool) → requests way types v source target tags ≡ [] ↔ call_parts way types v ≡ []
 asked way types v source target tags = (
@@ -70,3 +70,7 @@ tuple_first true types v source target tags is =
 pub tuple_asked : (way : Way) (types : Fields) (v : Val) (source target : StringEncoding) (tags : List Bool) → is_spilled way types ≡ true
     → slice_get (requests way types v source target tags) 0 ≡ Some (record { chained = false; old_size = 0; align = align_of (tuple_of types); size = size_of (tuple_of types) })
 tuple_asked way types v source target tags is = tuple_first (is_spilled way types) types v source target tags is
+
+-- some size is asked for each part
+pub some_asked : (s t : Charset) (p : Part) → 0 < length (part_sizes s t p)
+some_asked s t p = let b = some_size s t p in subst (λ xs. 0 < length xs) (sym b.is) (omega arith)

@@ -24,3 +24,4 @@ pub mod MetThere
 pub mod OneAcross
 pub mod TakenLaws
 pub mod AskedFor
+pub mod AskedStays

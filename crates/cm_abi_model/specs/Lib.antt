@@ -21,3 +21,16 @@ pub mod Passed
 pub mod Strings
 pub mod Later
 pub mod Handed
+pub mod Lifts
+pub mod Places
+pub mod CallPlaces
+pub mod Telling
+pub mod HandleLeaves
+pub mod Overlap
+pub mod Answering
+pub mod RecordRequests
+pub mod Placing
+pub mod Answered
+pub mod Giving
+pub mod Scanned
+pub mod Copies

@@ -23,10 +23,10 @@ abbrev pub tagged_charset : Bool → Charset
 tagged_charset tag = if tag then utf16 else latin1
 
 -- what strings are in, one after another, where so many have a tag and the others none
-abbrev pub charset : StringEncoding → Bool → Charset
-charset encoding.Utf8 tag = utf8
-charset encoding.Utf16 tag = utf16
-charset encoding.Latin1OrUtf16 tag = tagged_charset tag
+abbrev pub read_charset : StringEncoding → Bool → Charset
+read_charset encoding.Utf8 tag = utf8
+read_charset encoding.Utf16 tag = utf16
+read_charset encoding.Latin1OrUtf16 tag = tagged_charset tag
 
 -- what a stored string is in; Latin-1 is never stored
 abbrev pub stored_charset : StringEncoding → Charset
@@ -138,7 +138,7 @@ abbrev pub part_requests : StringEncoding → StringEncoding → List Bool → L
 part_requests source target tags [] = []
 part_requests source target tags (part ∷ parts) =
     chain (part_align target part)
-    (part_sizes (charset source (first_tag tags)) (stored_charset target) part)
+    (part_sizes (read_charset source (first_tag tags)) (stored_charset target) part)
     ++ part_requests source target (tags_behind part tags) parts
 
 -- the types take more core values than are passed flat that way

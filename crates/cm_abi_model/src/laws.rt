@@ -1,7 +1,7 @@
 //! What holds of the definitions, as laws: each function here does nothing, and its contract is the
 //! law.
 
-ghost use Rattle.std.specs.Prelude.{◌≡◌, ◌↔◌, ◌≤◌, ℕ, Bool, true, List, [], Some, length};
+ghost use Rattle.std.specs.Prelude.{◌≡◌, ◌↔◌, ◌<◌, ◌≤◌, ℕ, Bool, true, List, [], Some, length};
 ghost use Rattle.std.specs.Prelude.{slice_get};
 ghost use Rattle.cm_types.specs.declared.core_value.CoreValue.{CoreValue};
 ghost use Rattle.cm_handles.specs.Handles.{Handles, IsSoundHandles};
@@ -24,6 +24,7 @@ ghost use Rattle.cm_abi_model.specs.declared.encoding.StringEncoding.{StringEnco
 ghost use Rattle.cm_abi_model.specs.Shows.{Shows};
 ghost use Rattle.cm_abi_model.specs.Stores.{Framed, Given, Holds, poke};
 ghost use Rattle.cm_abi_model.specs.Views.{View, Way};
+ghost use Rattle.cm_abi_model.specs.Scanned.{GoesOn, OnlyAsked, Scanned};
 
 use cm_handles::laws::tables_change_in_one_place;
 use cm_text::laws::one_list_of_scalars;
@@ -83,10 +84,12 @@ pub fn places_are_read_alike()
         → stored_charset e ≡ stored_charset f → AreApart e g k parts → AreApart f g k parts }
 {}
 
-/// Nothing is asked for exactly where a call passes no part. Where what it passes is spilled, the
-/// bytes of its tuple are asked for first, in their own size and alignment, and nothing is handed
-/// back for them.
+/// Nothing is asked for exactly where a call passes no part, since some size is asked for each of
+/// them. Where what it passes is spilled, the bytes of its tuple are asked for first, in their own
+/// size and alignment, and nothing is handed back for them.
 pub fn each_part_is_asked_for()
+    ensures each { (source target : Charset) (part : Part)
+        → 0 < length (part_sizes source target part) }
     ensures none { (way : Way) (types : Fields) (v : Val) (source target : StringEncoding)
         (tags : List Bool) → requests way types v source target tags ≡ []
         ↔ call_parts way types v ≡ [] }
@@ -153,3 +156,13 @@ pub fn what_is_handed_over_is_counted()
 {
     tables_change_in_one_place();
 }
+
+/// A value that goes on still does once answers to its requests were kept, one or more: its giver's
+/// memory is as it was, and the receiver's may be written and may grow.
+pub fn what_goes_on_stays()
+    ensures none { (s : Scanned) → OnlyAsked s s }
+    ensures more { (r s t : Scanned) → OnlyAsked r s → OnlyAsked s t → OnlyAsked r t }
+    ensures goes { (giver : View) (way : Way) (types : Fields) (slots : List CoreValue) (v : Val)
+        (s t : Scanned) → GoesOn giver way types slots v s → OnlyAsked s t
+        → GoesOn giver way types slots v t }
+{}

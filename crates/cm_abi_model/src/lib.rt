@@ -6,15 +6,25 @@
 #![tactic(auto)]
 
 mod encoding;
+mod encodings;
 mod fault;
 pub mod laws;
+mod leaf;
 mod limits;
+mod receiver;
+mod record;
+mod region;
 mod request;
 pub mod standard_laws;
 mod way;
 
 pub use encoding::{StringEncoding, UTF16_TAG};
+pub use encodings::Encodings;
 pub use fault::AbiFault;
+pub use leaf::{HandleLeaf, HandleValue};
 pub use limits::MAX_CONTENT;
+pub use receiver::Receiver;
+pub use record::{PartKind, PartRecord};
+pub use region::Region;
 pub use request::Request;
 pub use way::Way;

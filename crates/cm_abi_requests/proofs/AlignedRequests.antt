@@ -8,10 +8,10 @@ use Rattle.cm_abi_model.specs.declared.encoding.StringEncoding.{StringEncoding}
 use Rattle.cm_abi_model.specs.declared.encoding.StringEncoding.TheVariants as encoding
 use Rattle.cm_abi_model.specs.declared.request.Request.{Request}
 use Rattle.cm_abi_model.specs.Parts.{Part, element_part, parts_each, parts_in, parts_in_fields, parts_in_payload}
-use Rattle.cm_abi_model.specs.Requests.{call_parts, chain, charset, first_tag, growths, is_spilled, part_align, part_requests, part_sizes, requests, stored_charset, tags_behind, tuple_of}
+use Rattle.cm_abi_model.specs.Requests.{call_parts, chain, read_charset, first_tag, growths, is_spilled, part_align, part_requests, part_sizes, requests, stored_charset, tags_behind, tuple_of}
 use Rattle.cm_abi_model.specs.Texts.{text_align}
 use Rattle.cm_abi_model.specs.Views.{Way}
-use Rattle.cm_abi_requests.specs.Answering.{AreAligned}
+use Rattle.cm_abi_model.specs.Answering.{AreAligned}
 
 -- ---- types
 
@@ -117,8 +117,8 @@ aligned_both (r ∷ rs) qs h k = (h.0, aligned_both rs qs h.1 k)
 parts_aligned : (source target : StringEncoding) (tags : List Bool) (ps : List Part) → HaveAlignments target ps → AreAligned (part_requests source target tags ps)
 parts_aligned source target tags [] h = tt
 parts_aligned source target tags (p ∷ ps) h =
-    aligned_both (chain (part_align target p) (part_sizes (charset source (first_tag tags)) (stored_charset target) p)) (part_requests source target (tags_behind p tags) ps)
-    (chain_aligned (part_align target p) (part_sizes (charset source (first_tag tags)) (stored_charset target) p) h.0) (parts_aligned source target (tags_behind p tags) ps h.1)
+    aligned_both (chain (part_align target p) (part_sizes (read_charset source (first_tag tags)) (stored_charset target) p)) (part_requests source target (tags_behind p tags) ps)
+    (chain_aligned (part_align target p) (part_sizes (read_charset source (first_tag tags)) (stored_charset target) p) h.0) (parts_aligned source target (tags_behind p tags) ps h.1)
 
 -- those of a call
 pub requests_aligned : (way : Way) (types : Fields) (v : Val) (source target : StringEncoding) (tags : List Bool) (rs : List Request)

@@ -9,12 +9,12 @@ use Rattle.cm_abi_model.specs.declared.fault.AbiFault.TheVariants as fault
 use Rattle.cm_abi_model.specs.declared.request.Request.{Request}
 use Rattle.cm_abi_model.specs.Parts.{Part, text_part, element_part}
 use Rattle.cm_abi_model.specs.Regions.{AreApart, ArePlaced, IsInPart, IsPlaced, part_size}
-use Rattle.cm_abi_model.specs.Requests.{HasScalars, IsStored, chain, charset, first_tag, growths, last_size, part_align, part_requests, part_sizes, shrunk, stored_charset, tags_behind, text_sizes}
+use Rattle.cm_abi_model.specs.Requests.{HasScalars, IsStored, chain, read_charset, first_tag, growths, last_size, part_align, part_requests, part_sizes, shrunk, stored_charset, tags_behind, text_sizes}
 use Rattle.cm_abi_model.specs.Stores.{Given, place_of}
 use Rattle.cm_abi_model.specs.Texts.{Charset, IsAligned, utf8, utf16, latin1}
-use Rattle.cm_abi_requests.specs.Answering.{AreCounted, HaveScalars, begins_part, fault_before, first_fault, places_of, regions_of}
-use Rattle.cm_abi_requests.specs.Overlap.{AreDisjoint, IsInOne}
-use Rattle.cm_abi_requests.specs.declared.regions.Region.{Region}
+use Rattle.cm_abi_model.specs.Answering.{AreCounted, HaveScalars, begins_part, fault_before, first_fault, places_of, regions_of}
+use Rattle.cm_abi_model.specs.Overlap.{AreDisjoint, IsInOne}
+use Rattle.cm_abi_model.specs.declared.region.Region.{Region}
 
 -- ---- one answer
 
@@ -96,7 +96,7 @@ begins align sizes rest some = rw some.1.1 refl
 
 starts : (source target : StringEncoding) (tags : List Bool) (parts : List Part) → begins_part (part_requests source target tags parts) ≡ true
 starts source target tags [] = refl
-starts source target tags (p ∷ ps) = begins (part_align target p) _ (part_requests source target (tags_behind p tags) ps) (sizes_some (charset source (first_tag tags)) (stored_charset target) p)
+starts source target tags (p ∷ ps) = begins (part_align target p) _ (part_requests source target (tags_behind p tags) ps) (sizes_some (read_charset source (first_tag tags)) (stored_charset target) p)
 
 -- ---- all parts
 
@@ -121,17 +121,17 @@ record FirstAnswered (n align size : ℕ) (rest : List Request) (requests : List
   pub later : drop (k + 1) places ≡ places_of rest behind
 
 first_part : Exact → (source target : StringEncoding) (tags : List Bool) (p : Part) (ps : List Part) (answers places : List ℕ) (n k : ℕ)
-    → HasScalars (charset source (first_tag tags)) p
+    → HasScalars (read_charset source (first_tag tags)) p
     → length answers ≡ length (part_requests source target tags (p ∷ ps))
     → drop k places ≡ places_of (part_requests source target tags (p ∷ ps)) answers
     → FirstAnswered n (part_align target p) (part_size target p) (part_requests source target (tags_behind p tags) ps) (part_requests source target tags (p ∷ ps)) answers places k
 first_part exact source target tags p ps answers places n k has len is =
-    let some = sizes_some (charset source (first_tag tags)) (stored_charset target) p in
+    let some = sizes_some (read_charset source (first_tag tags)) (stored_charset target) p in
     let rest = part_requests source target (tags_behind p tags) ps in
-    let first_is : chain (part_align target p) (part_sizes (charset source (first_tag tags)) (stored_charset target) p) ≡ chain (part_align target p) (some.0 ∷ some.1.0) = ap (λ ss. chain (part_align target p) ss) some.1.1 in
+    let first_is : chain (part_align target p) (part_sizes (read_charset source (first_tag tags)) (stored_charset target) p) ≡ chain (part_align target p) (some.0 ∷ some.1.0) = ap (λ ss. chain (part_align target p) ss) some.1.1 in
     let one = one_part n (part_align target p) (record { chained = false; old_size = 0; align = part_align target p; size = some.0 }) some.1.0 rest answers refl
     (starts source target (tags_behind p tags) ps) (len ∙ ap (λ c. length (c ++ rest)) first_is) in
-    let size_is : last_size (some.0 ∷ some.1.0) ≡ part_size target p = ap last_size (sym some.1.1) ∙ exact (charset source (first_tag tags)) target p has in
+    let size_is : last_size (some.0 ∷ some.1.0) ≡ part_size target p = ap last_size (sym some.1.1) ∙ exact (read_charset source (first_tag tags)) target p has in
     let regions_are : regions_of (part_requests source target tags (p ∷ ps)) answers ≡ record { at = one.at; size = part_size target p } ∷ regions_of rest one.behind =
     ap (λ c. regions_of (c ++ rest) answers) first_is ∙ (one.are ∙ ap (λ size. record { at = one.at; size = size } ∷ regions_of rest one.behind) size_is) in
     let front = at_front places _ k one.at (is ∙ ap (λ rs. map (λ (r : Region). r.at) rs) regions_are) in

@@ -16,11 +16,12 @@ use Rattle.cm_types.specs.declared.values.Value.{Value}
 use Rattle.cm_abi_model.specs.declared.encoding.StringEncoding.{StringEncoding}
 use Rattle.cm_abi_model.specs.declared.request.Request.{Request}
 use Rattle.cm_abi_model.specs.Parts.{Part, text_part, element_part, parts_each, parts_in, parts_in_fields, parts_in_payload}
-use Rattle.cm_abi_model.specs.Requests.{chain, charset, first_tag, part_align, part_requests, part_sizes, requests, stored_charset, tags_behind, text_bytes, text_sizes, text_units, tuple_of}
+use Rattle.cm_abi_model.specs.Requests.{chain, read_charset, first_tag, part_align, part_requests, part_sizes, requests, stored_charset, tags_behind, text_bytes, text_sizes, text_units, tuple_of}
 use Rattle.cm_abi_model.specs.Taken.{MAX_CONTENT}
 use Rattle.cm_abi_model.specs.Texts.{Charset, text_align}
 use Rattle.cm_abi_model.specs.Views.{Way, flat_limit}
-use Rattle.cm_abi_requests.specs.Asking.{AreSmall, Asking, ask_all, ask_part, content_of_parts, first_request, parts_by, parts_by_case, parts_by_fields, parts_by_payload, tuple_request}
+use Rattle.cm_abi_model.specs.RecordRequests.{first_request}
+use Rattle.cm_abi_requests.specs.Asking.{AreSmall, Asking, ask_all, ask_part, content_of_parts, parts_by, parts_by_case, parts_by_fields, parts_by_payload, tuple_request}
 
 abbrev pub asking : List Request → List Bool → Asking
 asking rs tags = record { requests = rs; tags = tags }
@@ -43,7 +44,7 @@ pub requests_asked : (source target : StringEncoding) (ps : List Part) (s : Aski
 requests_asked source target [] s = sym (append-nil s.requests)
 requests_asked source target (p ∷ ps) s =
     requests_asked source target ps (ask_part source target p s)
-    ∙ append_assoc s.requests (chain (part_align target p) (part_sizes (charset source (first_tag s.tags)) (stored_charset target) p)) (part_requests source target (tags_behind p s.tags) ps)
+    ∙ append_assoc s.requests (chain (part_align target p) (part_sizes (read_charset source (first_tag s.tags)) (stored_charset target) p)) (part_requests source target (tags_behind p s.tags) ps)
 
 pub small_content : (source : StringEncoding) (tags : List Bool) (ps : List Part) → content_of_parts source tags ps ≤ MAX_CONTENT → AreSmall source tags ps
 small_content source tags [] le = tt
@@ -148,7 +149,7 @@ tag_behind tags n cs lt = rw (add-one, drop-cons tags n false lt) refl
 -- ---- one part
 
 pub text_asked : (before after : List Request) (tags behind : List Bool) (source target : StringEncoding) (cs : List ℕ) (align units exact : ℕ) (s t : Charset)
-    → align ≡ text_align target → s ≡ charset source (first_tag tags) → t ≡ stored_charset target
+    → align ≡ text_align target → s ≡ read_charset source (first_tag tags) → t ≡ stored_charset target
     → units ≡ text_units s cs → exact ≡ length (text_bytes t cs)
     → behind ≡ tags_behind (text_part cs) tags → after ≡ before ++ chain align (text_sizes s t units exact)
     → asking after behind ≡ ask_part source target (text_part cs) (asking before tags)
@@ -198,7 +199,7 @@ one_of : (size : ℕ) → 1 * size ≡ size
 one_of size = omega arith
 
 spilled_or_not : (source target : StringEncoding) (tags : List Bool) (size align : ℕ) (ps : List Part) (b : Bool)
-    → (if b then first_request align size else []) ++ part_requests source target tags ps ≡ part_requests source target tags (if b then element_part 1 size align ∷ ps else ps)
+    → (if b then first_request align size ∷ [] else []) ++ part_requests source target tags ps ≡ part_requests source target tags (if b then element_part 1 size align ∷ ps else ps)
 spilled_or_not source target tags size align ps true = rw (one_of size) refl
 spilled_or_not source target tags size align ps false = refl
 

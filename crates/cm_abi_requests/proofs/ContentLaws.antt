@@ -12,17 +12,17 @@ use Rattle.cm_abi_model.specs.declared.encoding.StringEncoding.{StringEncoding}
 use Rattle.cm_abi_model.specs.declared.encoding.StringEncoding.TheVariants as encoding
 use Rattle.cm_abi_model.specs.Numbers.{number_at}
 use Rattle.cm_abi_model.specs.Parts.{Part, text_part, element_part, parts_each, parts_in, parts_in_fields, parts_in_payload}
-use Rattle.cm_abi_model.specs.Requests.{HasScalars, IsStored, charset, first_tag, tagged_charset, tags_behind, text_bytes}
+use Rattle.cm_abi_model.specs.Requests.{HasScalars, IsStored, read_charset, first_tag, tagged_charset, tags_behind, text_bytes}
 use Rattle.cm_abi_model.specs.Shows.{ShowEach, ShowFields, Shows, ShowsPayload}
 use Rattle.cm_abi_model.specs.Taken.{Met, text_content, content, taken, lent, content_of, tags_of, met_at, met_each, met_in_fields, met_in_payload, met_text}
 use Rattle.cm_abi_model.specs.Texts.{Has, ShowsText, UTF16_TAG, charset_of, latin1, tag_of, text_size, utf16}
 use Rattle.cm_abi_model.specs.Views.{View}
-use Rattle.cm_abi_requests.specs.Answering.{HaveScalars}
+use Rattle.cm_abi_model.specs.Answering.{HaveScalars}
 use Rattle.cm_abi_requests.specs.Asking.{content_of_parts, part_content}
 
 -- ---- tags say nothing of what is stored
 
-untagged : (e : StringEncoding) (a b : Bool) → IsStored e → charset e a ≡ charset e b
+untagged : (e : StringEncoding) (a b : Bool) → IsStored e → read_charset e a ≡ read_charset e b
 untagged encoding.Utf8 a b stored = refl
 untagged encoding.Utf16 a b stored = refl
 untagged encoding.Latin1OrUtf16 a b stored = absurd stored
@@ -31,7 +31,7 @@ pub same_content : (e : StringEncoding) (ts us : List Bool) (ps : List Part) →
 same_content e ts us [] stored = refl
 same_content e ts us (p ∷ ps) stored =
     ap (λ s. part_content s p + content_of_parts e (tags_behind p ts) ps) (untagged e (first_tag ts) (first_tag us) stored)
-    ∙ ap (λ n. part_content (charset e (first_tag us)) p + n) (same_content e (tags_behind p ts) (tags_behind p us) ps stored)
+    ∙ ap (λ n. part_content (read_charset e (first_tag us)) p + n) (same_content e (tags_behind p ts) (tags_behind p us) ps stored)
 
 same_scalars : (e : StringEncoding) (ts us : List Bool) (ps : List Part) → IsStored e → HaveScalars e ts ps → HaveScalars e us ps
 same_scalars e ts us [] stored h = tt

@@ -12,9 +12,9 @@ use Rattle.cm_layout.specs.Alignment.{align_to}
 use Rattle.cm_layout.specs.Sizes.{align_of, align_of_fields, align_of_payloads, case_count, discriminant_size, end_of, flags_size, greatest_payload, payload_offset, size_of}
 use Rattle.cm_abi_model.specs.declared.encoding.StringEncoding.{StringEncoding}
 use Rattle.cm_abi_model.specs.Parts.{Part, text_part, element_part, parts_each, parts_in, parts_in_fields, parts_in_payload}
-use Rattle.cm_abi_model.specs.Requests.{IsStored, first_tag, charset, tags_behind, tuple_of}
+use Rattle.cm_abi_model.specs.Requests.{IsStored, first_tag, read_charset, tags_behind, tuple_of}
 use Rattle.cm_abi_model.specs.Taken.{MAX_CONTENT}
-use Rattle.cm_abi_requests.specs.Answering.{AreCounted, HaveScalars}
+use Rattle.cm_abi_model.specs.Answering.{AreCounted, HaveScalars}
 use Rattle.cm_abi_requests.specs.Asking.{content_of_parts, part_content}
 use Rattle.cm_abi_requests.proofs.AlignedRequests.{choice_some, fields_some, type_some, width_some}
 

@@ -6,8 +6,8 @@ use Rattle.std.proofs.lemmas.Bool.{le-ltb, ltb-false}
 use Rattle.cm_abi_model.specs.declared.fault.AbiFault.{AbiFault}
 use Rattle.cm_abi_model.specs.declared.fault.AbiFault.TheVariants as fault
 use Rattle.cm_abi_model.specs.declared.request.Request.{Request}
-use Rattle.cm_abi_requests.specs.Answering.{answer_fault, fault_before, first_fault}
-use Rattle.cm_abi_requests.specs.RequestingAsking.{next_of, with_old}
+use Rattle.cm_abi_model.specs.Answering.{answer_fault, fault_before, first_fault}
+use Rattle.cm_abi_model.specs.Answered.{next_of, with_old}
 
 some_fault : (f : AbiFault) → Some f ≡ None → ⊥
 some_fault f is = cc

@@ -12,5 +12,6 @@ mod CountedParts
 pub mod TextUnits
 pub mod AskLaws
 pub mod StageLaws
+pub mod StageSeen
 mod PlaceLaws
 mod FineLaws

@@ -15,7 +15,7 @@ use Rattle.cm_abi_model.specs.Requests.{IsStored, is_spilled, tuple_of}
 use Rattle.cm_abi_model.specs.Shows.{Shows}
 use Rattle.cm_abi_model.specs.Taken.{content_of, tags_of, met, met_at, met_each, met_flat, met_flat_fields, met_flat_payload}
 use Rattle.cm_abi_model.specs.Views.{View, Way, flat_limit}
-use Rattle.cm_abi_requests.specs.Answering.{HaveScalars}
+use Rattle.cm_abi_model.specs.Answering.{HaveScalars}
 use Rattle.cm_abi_requests.specs.Asking.{content_of_parts}
 use Rattle.cm_abi_requests.proofs.ContentLaws.{Counts, both, counts, counts_alone, each_counts, list_counts, none, same_content, text_counts}
 

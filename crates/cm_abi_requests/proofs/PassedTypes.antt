@@ -17,8 +17,8 @@ use Rattle.cm_abi_model.specs.Denotes.{Denotes}
 use Rattle.cm_abi_model.specs.FlatShows.{FlatShowFields, FlatShows, FlatShowsPayload, width_of}
 use Rattle.cm_abi_model.specs.Numbers.{as_signed, number_at, slot_at, wrapped_at}
 use Rattle.cm_abi_model.specs.Parts.{Part, text_part, element_part, parts_each, parts_in, parts_in_fields, parts_in_payload}
-use Rattle.cm_abi_model.specs.Requests.{HasScalars, IsStored, call_parts, charset, first_tag, is_spilled, tags_behind, tuple_of}
-use Rattle.cm_abi_requests.specs.Answering.{AreCounted, HaveScalars}
+use Rattle.cm_abi_model.specs.Requests.{HasScalars, IsStored, call_parts, read_charset, first_tag, is_spilled, tags_behind, tuple_of}
+use Rattle.cm_abi_model.specs.Answering.{AreCounted, HaveScalars}
 use Rattle.cm_abi_model.specs.Shows.{ShowEach, ShowFields, Shows, ShowsPayload}
 use Rattle.cm_abi_model.specs.Texts.{Charset, Has, charset_of, latin1, utf16, utf8}
 use Rattle.cm_abi_model.specs.Views.{View, Way}
@@ -199,7 +199,7 @@ scalars_back : (cs : List ℕ) → AllByRecursion IsScalarValue cs → AllByRecu
 scalars_back [] all = tt
 scalars_back (c ∷ cs) all = (scalar_back c all.0, scalars_back cs all.1)
 
-text_back : (e : StringEncoding) (tag : Bool) (cs : List ℕ) → IsStored e → AllByRecursion IsScalarValue cs → HasScalars (charset e tag) (text_part cs)
+text_back : (e : StringEncoding) (tag : Bool) (cs : List ℕ) → IsStored e → AllByRecursion IsScalarValue cs → HasScalars (read_charset e tag) (text_part cs)
 text_back encoding.Utf8 tag cs stored all = scalars_back cs all
 text_back encoding.Utf16 tag cs stored all = scalars_back cs all
 text_back encoding.Latin1OrUtf16 tag cs stored all = absurd stored

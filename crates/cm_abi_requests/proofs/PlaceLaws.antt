@@ -6,12 +6,12 @@ use Rattle.cm_abi_model.specs.Parts.{Part}
 use Rattle.cm_abi_model.specs.Regions.{AreApart, IsInPart}
 use Rattle.cm_abi_model.specs.Stores.{Given, place_of}
 use Rattle.cm_abi_model.specs.Views.{View}
-use Rattle.cm_abi_requests.specs.declared.regions.Region.{Region}
-use Rattle.cm_abi_requests.specs.Overlap.{AreDisjoint, IsInOne}
-use Rattle.cm_abi_lift.specs.cm_abi_load.declared.record.PartRecord.{PartRecord}
-use Rattle.cm_abi_lift.specs.Telling.{TellAll}
-use Rattle.cm_abi_requests.specs.Placing.{regions_at}
-use Rattle.cm_abi_requests.specs.RecordRequests.{AreAskable, IsAskable}
+use Rattle.cm_abi_model.specs.declared.region.Region.{Region}
+use Rattle.cm_abi_model.specs.Overlap.{AreDisjoint, IsInOne}
+use Rattle.cm_abi_model.specs.declared.record.PartRecord.{PartRecord}
+use Rattle.cm_abi_model.specs.Telling.{TellAll}
+use Rattle.cm_abi_model.specs.Placing.{regions_at}
+use Rattle.cm_abi_model.specs.RecordRequests.{AreAskable, IsAskable}
 
 -- ---- one after another
 

@@ -7,8 +7,8 @@ use Rattle.std.proofs.lemmas.Bool.{and_parts, and_from, cases_Bool, le-leb, leb-
 use Rattle.std.proofs.lemmas.List.Sorted.{sum_by-IsPermutation}
 use Rattle.std.proofs.lemmas.List.Sums.{sum_by-cons}
 use Rattle.cm_abi_model.specs.Regions.{IsIn}
-use Rattle.cm_abi_requests.specs.Overlap.{AreDisjoint, IsInOne}
-use Rattle.cm_abi_requests.specs.declared.regions.Region.{Region}
+use Rattle.cm_abi_model.specs.Overlap.{AreDisjoint, IsInOne}
+use Rattle.cm_abi_model.specs.declared.region.Region.{Region}
 
 -- ---- in whatever order
 

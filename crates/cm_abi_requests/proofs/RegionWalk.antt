@@ -2,8 +2,8 @@
 use Rattle.std.proofs.Common.{◌≡◌, ℕ, ◌+◌, ◌<◌, true, false, List, [], ◌∷◌, ◌++◌, length, drop, arith, refl, sym, ap, ◌∙◌, get_or, add-one, drop-cons, append_assoc}
 use Rattle.std.specs.Prelude.{if◌then◌else◌}
 use Rattle.cm_abi_model.specs.declared.request.Request.{Request}
-use Rattle.cm_abi_requests.specs.Answering.{begins_part, regions_of}
-use Rattle.cm_abi_requests.specs.declared.regions.Region.{Region}
+use Rattle.cm_abi_model.specs.Answering.{begins_part, regions_of}
+use Rattle.cm_abi_model.specs.declared.region.Region.{Region}
 
 next_answer : (requests : List Request) (answers : List ℕ) (i : ℕ) (d : Request) → i < length requests → length answers ≡ length requests
     → regions_of (drop i requests) (drop i answers)

@@ -1,22 +1,52 @@
 -- Requests that are answered one after another, part by part.
 use Rattle.std.proofs.Common.{◌≡◌, ℕ, Global, zero, suc, ◌+◌, ◌*◌, ◌<◌, ◌≤◌, Bool, true, false, List, [], ◌∷◌, ◌++◌, length, Option, Some, None, refl, sym, ap, subst, ◌∙◌, arith, append-nil, append_assoc, length-append, map}
 use Rattle.std.specs.Prelude.{if◌then◌else◌, nat_lt, slice_get, vec_capacity, IsSome}
-use Rattle.std.specs.declared.vec.Vec.{Vec}
 use Rattle.std.specs.Option.{option_map, IsSomeAnd}
 use Rattle.std.proofs.lemmas.Option.{slice_get_within}
 use Rattle.std.proofs.lemmas.List.{map-append}
 use Rattle.cm_abi_model.specs.declared.encoding.StringEncoding.{StringEncoding}
 use Rattle.cm_abi_model.specs.declared.request.Request.{Request}
-use Rattle.cm_abi_model.specs.Requests.{chain, charset, growths, stored_charset, text_sizes}
+use Rattle.cm_abi_model.specs.Requests.{chain, read_charset, growths, stored_charset, text_sizes}
 use Rattle.cm_abi_model.specs.Texts.{Charset, utf8, utf16, latin1}
-use Rattle.cm_abi_requests.specs.Answering.{begins_part, places_of, regions_of}
-use Rattle.cm_abi_requests.specs.declared.regions.Region.{Region}
-use Rattle.cm_abi_lift.specs.cm_abi_load.declared.record.PartKind.{PartKind}
-use Rattle.cm_abi_lift.specs.cm_abi_load.declared.record.PartKind.TheVariants as kind
-use Rattle.cm_abi_lift.specs.cm_abi_load.declared.record.PartRecord.{PartRecord}
-use Rattle.cm_abi_requests.specs.RequestingAsking.{IsAnswered, IsPlacedLast, IsStage, all_requests, last_answer, next_of, with_last, with_old}
-use Rattle.cm_abi_requests.specs.RecordRequests.{AreAskable, IsAskable, kind_sizes, record_requests, requests_for}
-use Rattle.cm_abi_requests.specs.declared.part_requests.PartRequests.{PartRequests}
+use Rattle.cm_abi_model.specs.Answering.{begins_part, places_of, regions_of}
+use Rattle.cm_abi_model.specs.declared.region.Region.{Region}
+use Rattle.cm_abi_model.specs.declared.record.PartKind.{PartKind}
+use Rattle.cm_abi_model.specs.declared.record.PartKind.TheVariants as kind
+use Rattle.cm_abi_model.specs.declared.record.PartRecord.{PartRecord}
+use Rattle.cm_abi_model.specs.Answered.{IsAllAnswered, IsAnswered, Requesting, all_requests, last_answer, next_of, unanswered, with_last, with_old}
+use Rattle.cm_abi_model.specs.RecordRequests.{AreAskable, IsAskable, kind_sizes, record_requests, requests_for}
+use Rattle.cm_abi_requests.specs.Stages.{AreSizesOfFirst, IsAtStage, IsStage, answered_count, requesting_of}
+
+-- how far the requests are answered
+pub record Stage : Type 0 where
+  pub records : List PartRecord
+  pub source : StringEncoding
+  pub target : StringEncoding
+  pub places : List ℕ
+  pub stage : ℕ
+  pub last : ℕ
+
+abbrev pub asked_by : Stage → List Request
+asked_by s = requests_for s.source s.target s.records
+
+abbrev pub seen_as : Stage → Requesting
+seen_as s = requesting_of s.records s.source s.target s.places s.stage s.last
+
+-- these answers are those of parts that have all of theirs, each with its place, then those to some
+-- of the requests for one more
+pub record IsSplit (s : Stage) (answers : List ℕ) : Type 0 where
+  pub done : List PartRecord
+  pub rest : List PartRecord
+  pub parts : s.records ≡ done ++ rest
+  pub whole : List ℕ
+  pub begun : List ℕ
+  pub given : answers ≡ whole ++ begun
+  pub counted : length whole ≡ length (requests_for s.source s.target done)
+  pub placed : s.places ≡ places_of (requests_for s.source s.target done) whole
+  pub as_many : length s.places ≡ length done
+  pub stage : length begun ≡ s.stage
+  pub within : IsStage s.source s.target rest s.stage
+  pub last : s.last ≡ last_answer answers
 
 -- ---- how many requests a part has
 
@@ -47,15 +77,15 @@ text_few latin1 utf8 units exact = grown_few units (2 * units) exact (nat_lt uni
 text_few latin1 utf16 units exact = one_few exact
 text_few latin1 latin1 units exact = one_few exact
 
-kind_few : (source target : StringEncoding) (k : PartKind) (count size : ℕ) → AreFew (kind_sizes source target k count size)
-kind_few source target (kind.Text tag) count size = text_few (charset source tag) (stored_charset target) count size
+pub kind_few : (source target : StringEncoding) (k : PartKind) (count size : ℕ) → AreFew (kind_sizes source target k count size)
+kind_few source target (kind.Text tag) count size = text_few (read_charset source tag) (stored_charset target) count size
 kind_few source target kind.Elements count size = one_few size
 
 growths_length : (align old : ℕ) (sizes : List ℕ) → length (growths align old sizes) ≡ length sizes
 growths_length align old [] = refl
 growths_length align old (size ∷ sizes) = ap suc (growths_length align size sizes)
 
-chain_length : (align : ℕ) (sizes : List ℕ) → length (chain align sizes) ≡ length sizes
+pub chain_length : (align : ℕ) (sizes : List ℕ) → length (chain align sizes) ≡ length sizes
 chain_length align [] = refl
 chain_length align (size ∷ sizes) = ap suc (growths_length align size sizes)
 
@@ -95,7 +125,7 @@ regions_both (r ∷ rs) qs (a ∷ as') bs st len =
 abbrev at_of : Region → ℕ
 at_of r = r.at
 
-places_both : (rs qs : List Request) (as' bs : List ℕ) → begins_part qs ≡ true → length as' ≡ length rs → places_of (rs ++ qs) (as' ++ bs) ≡ places_of rs as' ++ places_of qs bs
+pub places_both : (rs qs : List Request) (as' bs : List ℕ) → begins_part qs ≡ true → length as' ≡ length rs → places_of (rs ++ qs) (as' ++ bs) ≡ places_of rs as' ++ places_of qs bs
 places_both rs qs as' bs st len = ap (map at_of) (regions_both rs qs as' bs st len) ∙ map-append at_of (regions_of rs as') (regions_of qs bs)
 
 growths_last : (r : Request) (align old a : ℕ) (sizes bs : List ℕ) → length bs ≡ length sizes → places_of (r ∷ growths align old sizes) (a ∷ bs) ≡ last_answer (a ∷ bs) ∷ []
@@ -104,7 +134,7 @@ growths_last r align old a [] (b ∷ bs) len = absurd (omega (arith, len))
 growths_last r align old a (size ∷ sizes) [] len = absurd (omega (arith, len))
 growths_last r align old a (size ∷ sizes) (b ∷ bs) len = growths_last (record { chained = true; old_size = old; align = align; size = size }) align size b sizes bs (omega (arith, len))
 
-chain_place : (align : ℕ) (sizes bs : List ℕ) → 0 < length sizes → length bs ≡ length sizes → places_of (chain align sizes) bs ≡ last_answer bs ∷ []
+pub chain_place : (align : ℕ) (sizes bs : List ℕ) → 0 < length sizes → length bs ≡ length sizes → places_of (chain align sizes) bs ≡ last_answer bs ∷ []
 chain_place align [] bs some len = absurd (omega (arith, some))
 chain_place align (size ∷ sizes) [] some len = absurd (omega (arith, len))
 chain_place align (size ∷ sizes) (b ∷ bs) some len = growths_last (record { chained = false; old_size = 0; align = align; size = size }) align size b sizes bs (omega (arith, len))
@@ -120,7 +150,7 @@ last_push (b ∷ c ∷ answers) a = last_push (c ∷ answers) a
 
 -- ---- requests for more parts
 
-requests_both : (source target : StringEncoding) (rs qs : List PartRecord) → requests_for source target (rs ++ qs) ≡ requests_for source target rs ++ requests_for source target qs
+pub requests_both : (source target : StringEncoding) (rs qs : List PartRecord) → requests_for source target (rs ++ qs) ≡ requests_for source target rs ++ requests_for source target qs
 requests_both source target [] qs = refl
 requests_both source target (r ∷ rs) qs =
     ap (λ xs. record_requests source target r ++ xs) (requests_both source target rs qs)
@@ -142,10 +172,10 @@ get_front (x ∷ xs) ys zero lt = refl
 get_front (x ∷ xs) ys (suc k) lt = get_front xs ys k (omega (arith, lt))
 
 -- the record of the next part
-pub next_record : (s : PartRequests) (answers : List ℕ) (h : IsAnswered s answers) → slice_get s.records.items (length s.places.items) ≡ slice_get h.rest 0
+pub next_record : (s : Stage) (answers : List ℕ) (h : IsSplit s answers) → slice_get s.records (length s.places) ≡ slice_get h.rest 0
 next_record s answers h =
-    let here : length s.places.items ≡ length h.done + 0 = omega (arith, h.as_many) in
-    ap (λ xs. slice_get xs (length s.places.items)) h.parts ∙ (ap (slice_get (h.done ++ h.rest)) here ∙ get_behind h.done h.rest 0)
+    let here : length s.places ≡ length h.done + 0 = omega (arith, h.as_many) in
+    ap (λ xs. slice_get xs (length s.places)) h.parts ∙ (ap (slice_get (h.done ++ h.rest)) here ∙ get_behind h.done h.rest 0)
 
 asked_in : (source target : StringEncoding) (done rest : List PartRecord) (whole begun : List ℕ) (stage : ℕ) → length whole ≡ length (requests_for source target done) → length begun ≡ stage
     → slice_get (requests_for source target (done ++ rest)) (length (whole ++ begun)) ≡ slice_get (requests_for source target rest) stage
@@ -155,7 +185,7 @@ asked_in source target done rest whole begun stage counted is =
     ∙ (ap (λ xs. slice_get xs (length (requests_for source target done) + stage)) (requests_both source target done rest)
     ∙ get_behind (requests_for source target done) (requests_for source target rest) stage)
 
-asked : (s : PartRequests) (answers : List ℕ) (h : IsAnswered s answers) → slice_get (all_requests s) (length answers) ≡ slice_get (requests_for s.source s.target h.rest) s.stage
+asked : (s : Stage) (answers : List ℕ) (h : IsSplit s answers) → slice_get (asked_by s) (length answers) ≡ slice_get (requests_for s.source s.target h.rest) s.stage
 asked s answers h =
     ap (λ xs. slice_get (requests_for s.source s.target xs) (length answers)) h.parts
     ∙ (ap (λ as'. slice_get (requests_for s.source s.target (h.done ++ h.rest)) (length as')) h.given
@@ -173,13 +203,13 @@ some_there source target (q ∷ rs) stage r is within =
     get_front (record_requests source target q) (requests_for source target rs) stage within ∙ ap (λ x. slice_get (record_requests source target x) stage) same
 
 -- behind the last part there is no request
-pub next_none : (s : PartRequests) (answers : List ℕ) → IsAnswered s answers → slice_get s.records.items (length s.places.items) ≡ None → next_of (all_requests s) answers ≡ None
+pub next_none : (s : Stage) (answers : List ℕ) → IsSplit s answers → slice_get s.records (length s.places) ≡ None → next_of (asked_by s) answers ≡ None
 next_none s answers h is =
     ap (option_map (with_old answers)) (asked s answers h ∙ none_there s.source s.target h.rest s.stage (sym (next_record s answers h) ∙ is))
 
 -- else it is one for the next part
-pub next_some : (s : PartRequests) (answers : List ℕ) (r : PartRecord) → IsAnswered s answers → slice_get s.records.items (length s.places.items) ≡ Some r
-    → next_of (all_requests s) answers ≡ option_map (with_old answers) (slice_get (record_requests s.source s.target r) s.stage)
+pub next_some : (s : Stage) (answers : List ℕ) (r : PartRecord) → IsSplit s answers → slice_get s.records (length s.places) ≡ Some r
+    → next_of (asked_by s) answers ≡ option_map (with_old answers) (slice_get (record_requests s.source s.target r) s.stage)
 next_some s answers r h is =
     ap (option_map (with_old answers)) (asked s answers h ∙ some_there s.source s.target h.rest s.stage r (sym (next_record s answers h) ∙ is) h.within)
 
@@ -188,11 +218,11 @@ stage_of source target [] stage r is within = absurd (cc)
 stage_of source target (q ∷ rs) stage r is within = let same : q ≡ r = cc in subst (λ x. stage < length (record_requests source target x)) same within
 
 -- the stage is one of the part's
-pub stage_within : (s : PartRequests) (answers : List ℕ) (r : PartRecord) → IsAnswered s answers → slice_get s.records.items (length s.places.items) ≡ Some r
+pub stage_within : (s : Stage) (answers : List ℕ) (r : PartRecord) → IsSplit s answers → slice_get s.records (length s.places) ≡ Some r
     → s.stage < length (record_requests s.source s.target r)
 stage_within s answers r h is = stage_of s.source s.target h.rest s.stage r (sym (next_record s answers h) ∙ is) h.within
 
-pub stage_small : (s : PartRequests) (answers : List ℕ) (r : PartRecord) → IsAnswered s answers → slice_get s.records.items (length s.places.items) ≡ Some r → s.stage < 3
+pub stage_small : (s : Stage) (answers : List ℕ) (r : PartRecord) → IsSplit s answers → slice_get s.records (length s.places) ≡ Some r → s.stage < 3
 stage_small s answers r h is =
     let lt = stage_within s answers r h is in
     let few = (record_few s.source s.target r).1 in
@@ -205,13 +235,10 @@ stage_up source target [] n r is lt = absurd (cc)
 stage_up source target (q ∷ rs) n r is lt = let same : r ≡ q = cc in subst (λ x. n < length (record_requests source target x)) same lt
 
 -- more requests for the part are to be answered
-pub kept_more : (s : PartRequests) (answers : List ℕ) (a n : ℕ) (r : PartRecord) → IsAnswered s answers → slice_get s.records.items (length s.places.items) ≡ Some r
-    → n ≡ s.stage + 1 → n < length (record_requests s.source s.target r) → IsAnswered (record s { stage = n; last = a }) (answers ++ a ∷ [])
+pub kept_more : (s : Stage) (answers : List ℕ) (a n : ℕ) (r : PartRecord) → IsSplit s answers → slice_get s.records (length s.places) ≡ Some r
+    → n ≡ s.stage + 1 → n < length (record_requests s.source s.target r) → IsSplit (record s { stage = n; last = a }) (answers ++ a ∷ [])
 kept_more s answers a n r h is next lt =
     record {
-      askable = h.askable;
-      room = h.room;
-      space = h.space;
       done = h.done;
       rest = h.rest;
       parts = h.parts;
@@ -235,10 +262,10 @@ behind_first [] r is = absurd (cc)
 behind_first (q ∷ rs) r is = let same : q ≡ r = cc in record { others = rs; are = ap (λ x. x ∷ rs) same }
 
 -- the part has all its answers
-pub kept_last : (s : PartRequests) (answers : List ℕ) (a : ℕ) (r : PartRecord) (places : Vec ℕ Global) → IsAnswered s answers → slice_get s.records.items (length s.places.items) ≡ Some r
-    → length (record_requests s.source s.target r) ≤ s.stage + 1 → places.items ≡ s.places.items ++ a ∷ [] → vec_capacity places ≡ vec_capacity s.places
-    → IsAnswered (record s { places = places; stage = 0; last = a }) (answers ++ a ∷ [])
-kept_last s answers a r places h is past pushed room =
+pub kept_last : (s : Stage) (answers : List ℕ) (a : ℕ) (r : PartRecord) (places : List ℕ) → IsSplit s answers → slice_get s.records (length s.places) ≡ Some r
+    → length (record_requests s.source s.target r) ≤ s.stage + 1 → places ≡ s.places ++ a ∷ []
+    → IsSplit (record s { places = places; stage = 0; last = a }) (answers ++ a ∷ [])
+kept_last s answers a r places h is past pushed =
     let of = record_requests s.source s.target r in
     let lt = stage_within s answers r h is in
     let rest = behind_first h.rest r (sym (next_record s answers h) ∙ is) in
@@ -247,12 +274,8 @@ kept_last s answers a r places h is past pushed room =
     let more : length begun ≡ length of = omega (arith, begun_is, past, lt, length-append h.begun (a ∷ [])) in
     let requests_are = requests_more s.source s.target h.done r in
     let whole_is = h.counted in
-    let room_was = h.room in
     let many = h.as_many in
     record {
-      askable = h.askable;
-      room = omega (arith, room_was, room);
-      space = h.space;
       done = h.done ++ r ∷ [];
       rest = rest.others;
       parts = h.parts ∙ (ap (λ xs. h.done ++ xs) rest.are ∙ sym (append_assoc h.done (r ∷ []) rest.others));
@@ -268,7 +291,7 @@ kept_last s answers a r places h is past pushed room =
           ∙ ap (λ xs. places_of (requests_for s.source s.target h.done) h.whole ++ xs)
           (chain_place r.align (kind_sizes s.source s.target r.kind r.count r.size) begun (kind_few s.source s.target r.kind r.count r.size).0 (more ∙ chain_length r.align (kind_sizes s.source s.target r.kind r.count r.size))
           ∙ ap (λ x. x ∷ []) (last_push h.begun a)))));
-      as_many = ap length pushed ∙ omega (arith, many, length-append s.places.items (a ∷ []), length-append h.done (r ∷ []));
+      as_many = ap length pushed ∙ omega (arith, many, length-append s.places (a ∷ []), length-append h.done (r ∷ []));
       stage = refl;
       within = stage_begins s.source s.target rest.others;
       last = sym (last_push answers a);
@@ -281,84 +304,7 @@ past_end [] k is = omega arith
 past_end (x ∷ xs) zero is = absurd (cc)
 past_end (x ∷ xs) (suc k) is = let rest = past_end xs k is in omega (arith, rest)
 
-option_none : {X Y : Type 0} (f : X → Y) (o : Option X) → option_map f o ≡ None → o ≡ None
-option_none f None is = refl
-option_none f (Some x) is = absurd (cc)
-
-nothing_left : (source target : StringEncoding) (rest : List PartRecord) (stage : ℕ) → IsStage source target rest stage → length (requests_for source target rest) ≤ stage → rest ≡ []
-nothing_left source target [] stage within past = refl
-nothing_left source target (r ∷ rs) stage within past =
-    absurd (omega (arith, within, past, length-append (record_requests source target r) (requests_for source target rs)))
-
-stage_zero : (source target : StringEncoding) (rest : List PartRecord) (stage : ℕ) → IsStage source target rest stage → rest ≡ [] → stage ≡ 0
-stage_zero source target [] stage within is = within
-stage_zero source target (r ∷ rs) stage within is = absurd (cc)
-
-no_more : (xs : List ℕ) → length xs ≡ 0 → xs ≡ []
-no_more [] is = refl
-no_more (x ∷ xs) is = absurd (omega (arith, is))
-
--- all answers are those of whole parts
-record Ended (s : PartRequests) (answers : List ℕ) (h : IsAnswered s answers) : Type 0 where
-  none : h.rest ≡ []
-  records_are : h.done ≡ s.records.items
-  answers_are : h.whole ≡ answers
-
-ended : (s : PartRequests) (answers : List ℕ) (h : IsAnswered s answers) → next_of (all_requests s) answers ≡ None → Ended s answers h
-ended s answers h is =
-    let past : length (requests_for s.source s.target h.rest) ≤ s.stage = past_end (requests_for s.source s.target h.rest) s.stage (sym (asked s answers h) ∙ option_none (with_old answers) (slice_get (all_requests s) (length answers)) is) in
-    let none = nothing_left s.source s.target h.rest s.stage h.within past in
-    let begun = no_more h.begun (h.stage ∙ stage_zero s.source s.target h.rest s.stage h.within none) in
-    record {
-      none = none;
-      records_are = sym (append-nil h.done) ∙ (ap (λ xs. h.done ++ xs) (sym none) ∙ sym h.parts);
-      answers_are = sym (append-nil h.whole) ∙ (ap (λ xs. h.whole ++ xs) (sym begun) ∙ sym h.given);
-    }
-
-pub all_placed : (s : PartRequests) (answers : List ℕ) → IsAnswered s answers → next_of (all_requests s) answers ≡ None → s.places.items ≡ places_of (all_requests s) answers
-all_placed s answers h is =
-    let end = ended s answers h is in
-    h.placed ∙ (ap (λ xs. places_of (requests_for s.source s.target xs) h.whole) end.records_are ∙ ap (places_of (all_requests s)) end.answers_are)
-
--- each part has a place then, and each request an answer
-pub as_many_placed : (s : PartRequests) (answers : List ℕ) → IsAnswered s answers → next_of (all_requests s) answers ≡ None → length s.places.items ≡ length s.records.items
-as_many_placed s answers h is = h.as_many ∙ ap length (ended s answers h is).records_are
-
-pub as_many_answered : (s : PartRequests) (answers : List ℕ) → IsAnswered s answers → next_of (all_requests s) answers ≡ None → length answers ≡ length (all_requests s)
-as_many_answered s answers h is =
-    let end = ended s answers h is in
-    sym (ap length end.answers_are) ∙ (h.counted ∙ ap (λ xs. length (requests_for s.source s.target xs)) end.records_are)
-
-pub none_answered : (records : List PartRecord) (s : PartRequests) → s.records.items ≡ records → AreAskable records → length records ≤ vec_capacity s.places → length records ≤ vec_capacity s.regions → s.places.items ≡ [] → s.stage ≡ 0 → s.last ≡ 0
-    → IsAnswered s []
-none_answered records s are askable room space places stage last =
-    record {
-      askable = subst AreAskable (sym are) askable;
-      room = let same = ap length are in omega (arith, same, room);
-      space = let same = ap length are in omega (arith, same, space);
-      done = [];
-      rest = s.records.items;
-      parts = refl;
-      whole = [];
-      begun = [];
-      given = refl;
-      counted = refl;
-      placed = places;
-      as_many = ap length places;
-      stage = sym stage;
-      within = subst (IsStage s.source s.target s.records.items) (sym stage) (stage_begins s.source s.target s.records.items);
-      last = last;
-    }
-
 -- ---- the next request
-
-askable_in : (records : List PartRecord) (k : ℕ) (r : PartRecord) → AreAskable records → slice_get records k ≡ Some r → IsAskable r
-askable_in [] k r all is = absurd (cc)
-askable_in (q ∷ rs) zero r all is = let same : q ≡ r = cc in subst IsAskable same all.0
-askable_in (q ∷ rs) (suc k) r all is = askable_in rs k r all.1 is
-
-pub next_askable : (s : PartRequests) (answers : List ℕ) (r : PartRecord) → IsAnswered s answers → slice_get s.records.items (length s.places.items) ≡ Some r → IsAskable r
-next_askable s answers r h is = askable_in s.records.items (length s.places.items) r h.askable is
 
 growths_align : (align old : ℕ) (sizes : List ℕ) (k : ℕ) (q : Request) → slice_get (growths align old sizes) k ≡ Some q → q.align ≡ align
 growths_align align old [] k q is = absurd (cc)
@@ -374,44 +320,13 @@ chain_align align (size ∷ sizes) (suc k) q is = growths_align align size sizes
 pub next_aligned : (source target : StringEncoding) (r : PartRecord) (k : ℕ) (q : Request) → IsAskable r → slice_get (record_requests source target r) k ≡ Some q → 0 < q.align
 next_aligned source target r k q can is = subst (λ n. 0 < n) (sym (chain_align r.align (kind_sizes source target r.kind r.count r.size) k q is)) can.aligned
 
-pub next_is : (s : PartRequests) (answers : List ℕ) (r : PartRecord) → IsAnswered s answers → slice_get s.records.items (length s.places.items) ≡ Some r
-    → option_map (with_last s.last) (slice_get (record_requests s.source s.target r) s.stage) ≡ next_of (all_requests s) answers
+pub next_is : (s : Stage) (answers : List ℕ) (r : PartRecord) → IsSplit s answers → slice_get s.records (length s.places) ≡ Some r
+    → option_map (with_last s.last) (slice_get (record_requests s.source s.target r) s.stage) ≡ next_of (asked_by s) answers
 next_is s answers r h is = ap (λ n. option_map (with_last n) (slice_get (record_requests s.source s.target r) s.stage)) h.last ∙ sym (next_some s answers r h is)
 
 -- there is a request at the stage
-pub stage_there : (s : PartRequests) (answers : List ℕ) (r : PartRecord) → IsAnswered s answers → slice_get s.records.items (length s.places.items) ≡ Some r → slice_get (record_requests s.source s.target r) s.stage ≡ None → ⊥
+pub stage_there : (s : Stage) (answers : List ℕ) (r : PartRecord) → IsSplit s answers → slice_get s.records (length s.places) ≡ Some r → slice_get (record_requests s.source s.target r) s.stage ≡ None → ⊥
 stage_there s answers r h is none =
     let lt = stage_within s answers r h is in
     let past = past_end (record_requests s.source s.target r) s.stage none in
     omega (arith, lt, past)
-
-none_some : IsSome {T = Request × ℕ} None → ⊥
-none_some h = cc
-
-pub next_part_there : (s : PartRequests) (answers : List ℕ) → IsAnswered s answers → IsSome (next_of (all_requests s) answers) → slice_get s.records.items (length s.places.items) ≡ None → ⊥
-next_part_there s answers h some none = none_some (subst IsSome (next_none s answers h none) some)
-
-pub about_next : (P : Request → Type 0) (s : PartRequests) (answers : List ℕ) (r : PartRecord) (q : Request) → IsAnswered s answers → slice_get s.records.items (length s.places.items) ≡ Some r
-    → slice_get (record_requests s.source s.target r) s.stage ≡ Some q → P q → IsSomeAnd (next_of (all_requests s) answers) (λ x. P x.0)
-about_next P s answers r q h is there p =
-    let same : next_of (all_requests s) answers ≡ Some (with_old answers q) = next_some s answers r h is ∙ ap (option_map (with_old answers)) there in
-    subst (λ o. IsSomeAnd o (λ x. P x.0)) (sym same) p
-
-pub room_left : (s : PartRequests) (answers : List ℕ) (r : PartRecord) → IsAnswered s answers → slice_get s.records.items (length s.places.items) ≡ Some r → length s.places.items < vec_capacity s.places
-room_left s answers r h is =
-    let lt = slice_get_within s.records.items (length s.places.items) r is in
-    let room = h.room in
-    omega (arith, lt, room)
-
--- ---- answers that are kept
-
-pub more_kept : (s t : PartRequests) (answers : List ℕ) (a n : ℕ) (r : PartRecord) (q : Request) → t ≡ record s { stage = n; last = a } → IsAnswered s answers → slice_get s.records.items (length s.places.items) ≡ Some r
-    → n ≡ s.stage + 1 → slice_get (record_requests s.source s.target r) n ≡ Some q → IsAnswered t (answers ++ a ∷ [])
-more_kept s t answers a n r q same h is next there =
-    subst (λ x. IsAnswered x (answers ++ a ∷ [])) (sym same) (kept_more s answers a n r h is next (slice_get_within (record_requests s.source s.target r) n q there))
-
-pub last_kept : (s t : PartRequests) (answers : List ℕ) (a n : ℕ) (r : PartRecord) → IsPlacedLast s a t → IsAnswered s answers → slice_get s.records.items (length s.places.items) ≡ Some r
-    → n ≡ s.stage + 1 → slice_get (record_requests s.source s.target r) n ≡ None → IsAnswered t (answers ++ a ∷ [])
-last_kept s t answers a n r same h is next none =
-    let past = past_end (record_requests s.source s.target r) n none in
-    subst (λ x. IsAnswered x (answers ++ a ∷ [])) (sym same.is) (kept_last s answers a r same.places h is (omega (arith, past, next)) same.placed same.room)

@@ -10,14 +10,15 @@ use Rattle.cm_abi_model.specs.declared.encoding.StringEncoding.{StringEncoding}
 use Rattle.cm_abi_model.specs.declared.request.Request.{Request}
 use Rattle.cm_abi_model.specs.Texts.{Charset, utf8, utf16, latin1}
 use Rattle.cm_abi_model.specs.Parts.{Part, text_part, element_part, parts_each}
-use Rattle.cm_abi_model.specs.Requests.{chain, charset, first_tag, part_align, part_sizes}
+use Rattle.cm_abi_model.specs.Requests.{chain, read_charset, first_tag, part_align, part_sizes}
 use Rattle.cm_abi_model.specs.Requests.{shrunk, stored_charset, tags_behind, text_bytes}
 use Rattle.cm_abi_model.specs.Taken.{MAX_CONTENT}
+use Rattle.cm_abi_model.specs.RecordRequests.{first_request}
 use Rattle.cm_layout.specs.declared.heads.Head.{Head}
 use Rattle.cm_abi_requests.specs.declared.asked.Asked.{Asked}
 use Rattle.cm_abi_requests.specs.declared.charsets.Charset.{Charset as CodedCharset}
 use Rattle.cm_abi_requests.specs.declared.charsets.Charset.TheVariants as coded
-use Rattle.cm_abi_requests.specs.declared.encodings.Encodings.{Encodings}
+use Rattle.cm_abi_requests.specs.declared.strings.Strings.{Strings}
 
 -- what a charset of the code is
 abbrev pub charset_seen : CodedCharset → Charset
@@ -36,26 +37,17 @@ part_content source (element_part count size align) = count * size
 abbrev pub content_of_parts : StringEncoding → List Bool → List Part → ℕ
 content_of_parts source tags [] = 0
 content_of_parts source tags (p ∷ ps) =
-    part_content (charset source (first_tag tags)) p
+    part_content (read_charset source (first_tag tags)) p
     + content_of_parts source (tags_behind p tags) ps
 
 -- each of the parts is within the limit
 abbrev pub AreSmall : StringEncoding → List Bool → List Part → Type 0
 AreSmall source tags [] = ⊤
 AreSmall source tags (p ∷ ps) =
-    (part_content (charset source (first_tag tags)) p ≤ MAX_CONTENT)
+    (part_content (read_charset source (first_tag tags)) p ≤ MAX_CONTENT)
     × AreSmall source (tags_behind p tags) ps
 
 -- ---- requests
-
--- the first request for a part, and a further one
-abbrev pub first_request : ℕ → ℕ → List Request
-first_request align size =
-    record { chained = false; old_size = 0; align = align; size = size } ∷ []
-
-abbrev pub next_request : ℕ → ℕ → ℕ → List Request
-next_request align old size =
-    record { chained = true; old_size = old; align = align; size = size } ∷ []
 
 -- the sizes that are asked for where a byte a unit may be too little
 abbrev pub grown : ℕ → ℕ → ℕ → List ℕ
@@ -64,7 +56,7 @@ grown units most exact = if nat_lt units exact then units ∷ shrunk most exact 
 -- that for a tuple of values, where more core values pass it than this
 abbrev pub tuple_request : Head → ℕ → List Request
 tuple_request head limit =
-    if nat_lt limit head.width then first_request head.align head.size else []
+    if nat_lt limit head.width then first_request head.align head.size ∷ [] else []
 
 -- the requests so far, and the tags of the strings that are still to come
 pub record Asking : Type 0 where
@@ -72,7 +64,7 @@ pub record Asking : Type 0 where
   pub tags : List Bool
 
 -- those of the code
-abbrev pub asking_of : Encodings → Asked → Asking
+abbrev pub asking_of : Strings → Asked → Asking
 asking_of e a = record { requests = a.requests.items; tags = drop a.next e.tags.now }
 
 -- one more part is asked for
@@ -80,7 +72,7 @@ abbrev pub ask_part : StringEncoding → StringEncoding → Part → Asking → 
 ask_part source target p s =
     record {
       requests = s.requests ++ chain (part_align target p)
-          (part_sizes (charset source (first_tag s.tags)) (stored_charset target) p);
+          (part_sizes (read_charset source (first_tag s.tags)) (stored_charset target) p);
       tags = tags_behind p s.tags;
     }
 
@@ -90,7 +82,7 @@ ask_all source target [] s = s
 ask_all source target (p ∷ ps) s = ask_all source target ps (ask_part source target p s)
 
 -- requests by the encodings of the code
-abbrev pub ask_by : Encodings → List Part → Asking → Asking
+abbrev pub ask_by : Strings → List Part → Asking → Asking
 ask_by e ps s = ask_all e.source e.target ps s
 
 -- ---- parts by a layout

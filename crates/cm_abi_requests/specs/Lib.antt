@@ -1,6 +1,3 @@
 pub mod Asking
-pub mod Answering
-pub mod Overlap
-pub mod RecordRequests
-pub mod RequestingAsking
-pub mod Placing
+pub mod Sizes
+pub mod Stages

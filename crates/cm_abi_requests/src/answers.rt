@@ -2,12 +2,12 @@
 
 ghost use Rattle.std.specs.Prelude.{◌≡◌, ◌+◌, ◌<◌, IfErr, IfOk, OnOk, Some};
 ghost use Rattle.std.specs.Prelude.{None, drop, length, map};
-ghost use Rattle.cm_abi_requests.specs.Answering.{AreAligned, IsFaultOfAnswers, answer_fault};
-ghost use Rattle.cm_abi_requests.specs.Answering.{begins_part, first_fault, places_of, regions_of};
-ghost use Rattle.cm_abi_requests.specs.Overlap.{AreDisjoint};
+ghost use Rattle.cm_abi_model.specs.Answering.{AreAligned, IsFaultOfAnswers, answer_fault};
+ghost use Rattle.cm_abi_model.specs.Answering.{begins_part, first_fault, places_of, regions_of};
+ghost use Rattle.cm_abi_model.specs.Overlap.{AreDisjoint};
 
-use crate::regions::{Region, are_disjoint};
-use cm_abi_model::{AbiFault, Request};
+use crate::regions::are_disjoint;
+use cm_abi_model::{AbiFault, Region, Request};
 use std::alloc::{AllocError, Global};
 
 /// Looks at one answer: it is aligned, else `Misaligned`, and what was asked for lies in a memory

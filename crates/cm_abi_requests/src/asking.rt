@@ -7,7 +7,7 @@ ghost use Rattle.cm_layout.specs.Layouts.{layout_of, part_of, payload_of};
 ghost use Rattle.cm_layout.specs.Shapes.{parts_from, payloads_from};
 ghost use Rattle.cm_types.specs.ValueTrees.{value_of, values_of};
 ghost use Rattle.cm_abi_model.specs.Parts.{element_part, parts_each, text_part};
-ghost use Rattle.cm_abi_model.specs.Requests.{charset, first_tag, tags_behind, text_bytes};
+ghost use Rattle.cm_abi_model.specs.Requests.{read_charset, first_tag, tags_behind, text_bytes};
 ghost use Rattle.cm_abi_model.specs.Taken.{MAX_CONTENT};
 ghost use Rattle.cm_abi_requests.specs.Asking.{AreSmall, ask_by, ask_part, asking_of, parts_by};
 ghost use Rattle.cm_abi_requests.specs.Asking.{parts_by_case, parts_by_fields, parts_by_list};
@@ -16,7 +16,7 @@ ghost use Rattle.cm_abi_requests.specs.Asking.{parts_by_payload};
 use crate::asked::Asked;
 use crate::chains::{ask_first, ask_sizes};
 use crate::charsets::{read_charset, stored_charset, text_align, text_size, text_units};
-use crate::encodings::Encodings;
+use crate::strings::Strings;
 use cm_layout::{Form, Head, Layout, Part, Payload};
 use cm_types::Value;
 use std::alloc::AllocError;
@@ -38,9 +38,9 @@ fn next_tag(tags: &[bool], asked: &mut Asked) -> bool
 }
 
 /// Asks for a string.
-fn ask_text(to: &Encodings<'_>, text: &str, asked: &mut Asked) -> Result<(), AllocError>
+fn ask_text(to: &Strings<'_>, text: &str, asked: &mut Asked) -> Result<(), AllocError>
     requires small { length (text_bytes
-        (charset to.now.source (first_tag (drop asked.old.next to.now.tags.now)))
+        (read_charset to.now.source (first_tag (drop asked.old.next to.now.tags.now)))
         (chars text.now)) ≤ MAX_CONTENT }
     ensures { OnOk result (asking_of to.now asked.new
         ≡ ask_part to.now.source to.now.target (text_part (chars text.now))
@@ -56,7 +56,7 @@ fn ask_text(to: &Encodings<'_>, text: &str, asked: &mut Asked) -> Result<(), All
 
 /// Asks for so many elements of a list.
 fn ask_elements(
-    to: &Encodings<'_>,
+    to: &Strings<'_>,
     head: Head,
     count: usize,
     asked: &mut Asked,
@@ -73,7 +73,7 @@ fn ask_elements(
 /// Asks for the parts of a value.
 #[cycle(asking)]
 pub(crate) fn ask(
-    to: &Encodings<'_>,
+    to: &Strings<'_>,
     layout: &Layout,
     value: &Value,
     asked: &mut Asked,
@@ -103,7 +103,7 @@ pub(crate) fn ask(
 /// Asks for the elements of a list, then for their parts.
 #[cycle(asking)]
 fn ask_list(
-    to: &Encodings<'_>,
+    to: &Strings<'_>,
     element: &Layout,
     values: &[Value],
     asked: &mut Asked,
@@ -121,7 +121,7 @@ fn ask_list(
 /// Asks for the parts of values of one layout, one after another.
 #[cycle(asking)]
 pub(crate) fn ask_each(
-    to: &Encodings<'_>,
+    to: &Strings<'_>,
     element: &Layout,
     values: &[Value],
     asked: &mut Asked,
@@ -142,7 +142,7 @@ pub(crate) fn ask_each(
 /// Asks for the parts of the fields of a record or a tuple.
 #[cycle(asking)]
 pub(crate) fn ask_fields(
-    to: &Encodings<'_>,
+    to: &Strings<'_>,
     parts: &[Part],
     values: &[Value],
     asked: &mut Asked,
@@ -166,7 +166,7 @@ pub(crate) fn ask_fields(
 /// Asks for the parts of a field.
 #[cycle(asking)]
 fn ask_field(
-    to: &Encodings<'_>,
+    to: &Strings<'_>,
     part: &Part,
     value: &Value,
     asked: &mut Asked,
@@ -183,7 +183,7 @@ fn ask_field(
 /// Asks for the parts of what the case of this number carries.
 #[cycle(asking)]
 fn ask_case(
-    to: &Encodings<'_>,
+    to: &Strings<'_>,
     payloads: &[Payload],
     index: u32,
     value: &Value,
@@ -207,7 +207,7 @@ fn ask_case(
 /// Asks for the parts of what a case carries.
 #[cycle(asking)]
 fn ask_payload(
-    to: &Encodings<'_>,
+    to: &Strings<'_>,
     payload: &Payload,
     value: &Value,
     asked: &mut Asked,

@@ -1,8 +1,9 @@
 //! The requests for one part.
 
-ghost use Rattle.std.specs.Prelude.{◌≡◌, ◌*◌, ◌<◌, ◌^◌, ◌++◌, OnOk};
+ghost use Rattle.std.specs.Prelude.{◌≡◌, ◌*◌, ◌<◌, ◌^◌, ◌++◌, ◌∷◌, [], OnOk};
 ghost use Rattle.cm_abi_model.specs.Requests.{chain, shrunk, text_sizes};
-ghost use Rattle.cm_abi_requests.specs.Asking.{charset_seen, first_request, grown, next_request};
+ghost use Rattle.cm_abi_model.specs.RecordRequests.{first_request, further_request};
+ghost use Rattle.cm_abi_requests.specs.Asking.{charset_seen, grown};
 
 use crate::charsets::Charset;
 use cm_abi_model::Request;
@@ -15,7 +16,7 @@ pub(crate) fn ask_first(
     size: u32,
 ) -> Result<(), AllocError>
     ensures { OnOk result
-        (requests.new.items ≡ requests.old.items ++ first_request align size) }
+        (requests.new.items ≡ requests.old.items ++ first_request align size ∷ []) }
 {
     requests.push(Request {
         chained: false,
@@ -34,7 +35,7 @@ fn ask_again(
     size: u32,
 ) -> Result<(), AllocError>
     ensures { OnOk result
-        (requests.new.items ≡ requests.old.items ++ next_request align old_size size) }
+        (requests.new.items ≡ requests.old.items ++ further_request align old_size size ∷ []) }
 {
     requests.push(Request {
         chained: true,

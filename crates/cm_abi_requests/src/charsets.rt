@@ -3,7 +3,8 @@
 ghost use Rattle.std.specs.Prelude.{◌≡◌, length};
 ghost use Rattle.std.specs.Str.{chars};
 ghost use Rattle.cm_abi_model.specs.Texts.{text_align, utf16};
-ghost use Rattle.cm_abi_model.specs.Requests.{charset, stored_charset, tagged_charset, text_bytes};
+ghost use Rattle.cm_abi_model.specs.Requests.{read_charset, stored_charset, tagged_charset};
+ghost use Rattle.cm_abi_model.specs.Requests.{text_bytes};
 ghost use Rattle.cm_abi_model.specs.Requests.{text_units};
 ghost use Rattle.cm_abi_requests.specs.Asking.{charset_seen};
 
@@ -27,7 +28,7 @@ fn tagged_charset(tag: bool) -> Charset
 
 /// What a string is in where it was read, with this tag.
 pub(crate) fn read_charset(encoding: StringEncoding, tag: bool) -> Charset
-    ensures { charset_seen result ≡ charset encoding tag }
+    ensures { charset_seen result ≡ read_charset encoding tag }
 {
     match encoding {
         StringEncoding::Utf8 => Charset::Utf8,

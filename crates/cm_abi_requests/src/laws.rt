@@ -16,10 +16,10 @@ ghost use Rattle.cm_abi_model.specs.Stores.{Given};
 ghost use Rattle.cm_abi_model.specs.Taken.{MAX_CONTENT, content_of, met, met_at, tags_of};
 ghost use Rattle.cm_abi_model.specs.Views.{View, Way};
 ghost use Rattle.cm_abi_model.specs.declared.encoding.StringEncoding.{StringEncoding};
-ghost use Rattle.cm_abi_requests.specs.Answering.{AreCounted, HaveScalars, first_fault, places_of};
-ghost use Rattle.cm_abi_requests.specs.Answering.{regions_of};
+ghost use Rattle.cm_abi_model.specs.Answering.{AreCounted, HaveScalars, first_fault, places_of};
+ghost use Rattle.cm_abi_model.specs.Answering.{regions_of};
 ghost use Rattle.cm_abi_requests.specs.Asking.{content_of_parts};
-ghost use Rattle.cm_abi_requests.specs.Overlap.{AreDisjoint};
+ghost use Rattle.cm_abi_model.specs.Overlap.{AreDisjoint};
 
 use cm_abi_model::laws::requests_end_exact;
 

@@ -1,112 +1,177 @@
 //! Requests for the parts of a value, answered one after another.
 
-ghost use Rattle.std.specs.Prelude.{◌≡◌, ◌↔◌, ◌<◌, ◌++◌, ◌∷◌, [], IfErr, IfOk, IsOk, IsSome, List};
-ghost use Rattle.std.specs.Prelude.{IsTrue, None, OnErr, OnOk, Some, ℕ, length, slice_get};
-ghost use Rattle.std.specs.Prelude.{vec_capacity};
-ghost use Rattle.std.specs.Option.{IsSomeAnd, option_map};
-ghost use Rattle.cm_abi_requests.specs.Answering.{answer_fault, places_of};
-ghost use Rattle.cm_abi_requests.specs.Overlap.{AreDisjoint};
-ghost use Rattle.cm_abi_requests.specs.RequestingAsking.{IsAllAnswered, IsAnswered, IsPlacedLast};
-ghost use Rattle.cm_abi_requests.specs.RequestingAsking.{all_requests, next_of, with_last};
-ghost use Rattle.cm_abi_requests.specs.Placing.{regions_at};
-ghost use Rattle.cm_abi_requests.specs.RecordRequests.{AreAskable, IsAskable, record_requests};
-ghost use Rattle.cm_abi_requests.specs.RecordRequests.{requests_for};
+ghost use Rattle.std.specs.Prelude.{◌≡◌, ◌↔◌, ◌<◌, ◌++◌, ◌∷◌, [], IfErr, IfSome, IsOk, IsSome};
+ghost use Rattle.std.specs.Prelude.{IsTrue, List, None, OnErr, OnOk, Some, drop, length, ℕ};
+ghost use Rattle.std.specs.Prelude.{slice_get};
+ghost use Rattle.std.specs.Option.{IsSomeAnd};
+ghost use Rattle.cm_abi_model.specs.Answered.{IsAllAnswered, IsAnswered, OnlyAnswered};
+ghost use Rattle.cm_abi_model.specs.Answered.{all_requests, next_of, nothing_asked, unanswered};
+ghost use Rattle.cm_abi_model.specs.Answered.{with_last};
+ghost use Rattle.cm_abi_model.specs.Answering.{answer_fault};
+ghost use Rattle.cm_abi_model.specs.Overlap.{AreDisjoint};
+ghost use Rattle.cm_abi_model.specs.Placing.{regions_at};
+ghost use Rattle.cm_abi_model.specs.RecordRequests.{AreAskable};
+ghost use Rattle.cm_abi_requests.specs.Sizes.{sizes_seen};
+ghost use Rattle.cm_abi_requests.specs.Stages.{AreSizesOfFirst};
 
 use crate::placing::put_regions;
-use crate::record_requests::request_at;
-use crate::{Region, are_disjoint, check_answer};
-use cm_abi_lift::PartRecord;
-use cm_abi_model::{AbiFault, Request, StringEncoding};
+use crate::record_requests::{request_at, sizes_for};
+use crate::sizes::Sizes;
+use crate::{are_disjoint, check_answer};
+use cm_abi_model::{AbiFault, Encodings, PartRecord, Region, Request, StringEncoding};
 use std::alloc::{AllocError, Global};
+use std::marker::Model;
 
 /// The requests for the parts of a value, by their records, and how far they are answered.
 #[derive(Drop)]
 pub struct PartRequests {
-    /// The records of the parts, in order.
-    pub records: Vec<PartRecord>,
-    /// Where the parts stand that have all their answers, in order: each at the last one.
-    pub places: Vec<u32>,
-    /// Room for a region of each part, to look at when all have their places.
-    pub regions: Vec<Region>,
-    /// How strings are encoded in the source.
-    pub source: StringEncoding,
-    /// How they are encoded where they are stored.
-    pub target: StringEncoding,
-    /// How many requests for the next part are answered.
-    pub stage: usize,
-    /// The answer that came last; 0 before the first one.
-    pub last: u32,
+    // The records of the parts, in order.
+    records: Vec<PartRecord>,
+    // Where the parts stand that have all their answers, in order: each at the last one.
+    places: Vec<u32>,
+    // Room for a region of each part, to look at when all have their places.
+    regions: Vec<Region>,
+    source: StringEncoding,
+    target: StringEncoding,
+    // The sizes that are asked for the next part.
+    sizes: Sizes,
+    // How many requests for it are answered.
+    stage: usize,
+    // The answer that came last; 0 before the first one.
+    last: u32,
+}
+
+impl Model for PartRequests {
+    ghost use Rattle.std.specs.Prelude.{length, vec_capacity};
+    ghost use Rattle.cm_abi_model.specs.Answered.{Requesting};
+
+    ghost Value = { Requesting };
+
+    ghost use Rattle.cm_abi_requests.specs.Sizes.{sizes_seen};
+    ghost use Rattle.cm_abi_requests.specs.Stages.{IsAtStage, requesting_of};
+
+    ghost view = { λ s.
+        requesting_of s.records.items s.source s.target s.places.items s.stage s.last };
+
+    ghost invariant = { λ s. IsAtStage s.records.items s.source s.target (length s.places.items)
+        s.stage (sizes_seen s.sizes) (vec_capacity s.places) (vec_capacity s.regions) };
+}
+
+/// The record of the part of this number, from 0.
+fn part_at(records: &[PartRecord], at: usize) -> Option<PartRecord>
+    ensures { result ≡ slice_get records.now at }
+{
+    records.get(at).copied()
+}
+
+/// The sizes that are asked for the part of this number, from 0; those of no part are not looked
+/// at.
+fn sizes_at(records: &[PartRecord], at: usize, encodings: Encodings) -> Sizes
+    requires askable { AreAskable records.now }
+    ensures { AreSizesOfFirst encodings.source encodings.target (drop at records.now)
+        (sizes_seen result) }
+{
+    match part_at(records, at) {
+        Some(part) => sizes_for(part, encodings.source, encodings.target),
+        None => Sizes::One(0),
+    }
+}
+
+/// A request with its old pointer: where it is chained the answer to the request before it, else 0.
+fn with_old(request: Request, last: u32) -> (Request, u32)
+    ensures { result ≡ with_last last request }
+{
+    let old = if request.chained { last } else { 0 };
+    (request, old)
 }
 
 impl PartRequests {
-    /// The requests for the parts of these records, none of them answered. `AllocError` comes where
-    /// there is no memory for the places and regions of the parts; where there is no part none is
-    /// taken.
-    pub fn new(
-        alloc: Global,
-        records: Vec<PartRecord>,
-        source: StringEncoding,
-        target: StringEncoding,
-    ) -> Result<PartRequests, AllocError>
-        requires askable { AreAskable records.items }
-        ensures answered { IfOk result (λ s. IsAnswered s []) }
-        ensures none { records.items ≡ [] → IsOk result }
-        ensures records { IfOk result (λ s. s.records ≡ records) }
-        ensures requests { IfOk result (λ s.
-            all_requests s ≡ requests_for source target records.items) }
-        ensures source { IfOk result (λ s. s.source ≡ source) }
-        ensures target { IfOk result (λ s. s.target ≡ target) }
+    /// Requests for no parts. It takes no memory.
+    pub fn new(alloc: Global) -> PartRequests
+        ensures { result ≡ nothing_asked }
     {
-        let places = Vec::with_capacity(alloc, records.len())?;
-        let regions = Vec::with_capacity(alloc, records.len())?;
-        Ok(PartRequests {
-            records,
-            places,
-            regions,
-            source,
-            target,
+        PartRequests {
+            records: Vec::new(alloc),
+            places: Vec::new(alloc),
+            regions: Vec::new(alloc),
+            source: StringEncoding::Utf8,
+            target: StringEncoding::Utf8,
+            sizes: Sizes::One(0),
             stage: 0,
             last: 0,
-        })
+        }
     }
 
-    /// The record of the part that is asked for next.
-    fn next_part(&self) -> Option<PartRecord>
-        ensures { result ≡ slice_get self.now.records.items (length self.now.places.items) }
+    /// Takes the list of the records out, empty, with the room that it had; then nothing is asked
+    /// for. It takes no memory.
+    pub fn take_records(&mut self, alloc: Global) -> Vec<PartRecord>
+        ensures none { result.items ≡ [] }
+        ensures empty { self.new ≡ nothing_asked }
     {
-        self.records.get(self.places.len()).copied()
+        self.places.clear();
+        self.stage = 0;
+        self.last = 0;
+        self.source = StringEncoding::Utf8;
+        self.target = StringEncoding::Utf8;
+        let mut records = std::mem::replace(&mut self.records, Vec::new(alloc));
+        records.clear();
+        records
+    }
+
+    /// Asks for nothing; the lists keep their room.
+    pub fn clear(&mut self)
+        ensures { self.new ≡ nothing_asked }
+    {
+        self.records.clear();
+        self.places.clear();
+        self.stage = 0;
+        self.last = 0;
+        self.source = StringEncoding::Utf8;
+        self.target = StringEncoding::Utf8;
+    }
+
+    /// Asks for the parts of these records, with none of the requests answered. `AllocError` comes
+    /// where there is no memory for the places and the regions of the parts, and then nothing is
+    /// asked for; where there is no part, or as much room as there are parts, none is taken.
+    pub fn ask(&mut self, records: Vec<PartRecord>, encodings: Encodings) -> Result<(), AllocError>
+        requires askable { AreAskable records.items }
+        ensures asked { OnOk result
+            (self.new ≡ unanswered records.items encodings.source encodings.target) }
+        ensures none { records.items ≡ [] → IsOk result }
+        ensures empty { OnErr result (self.new ≡ nothing_asked) }
+    {
+        let count = records.len();
+        self.records.clear();
+        self.places.clear();
+        self.regions.clear();
+        self.stage = 0;
+        self.last = 0;
+        self.source = StringEncoding::Utf8;
+        self.target = StringEncoding::Utf8;
+        self.places.reserve(count)?;
+        self.regions.reserve(count)?;
+        self.sizes = sizes_at(&records, 0, encodings);
+        self.source = encodings.source;
+        self.target = encodings.target;
+        self.records = records;
+        Ok(())
     }
 
     /// The request behind those that were answered, with its old pointer: where it is chained the
     /// answer to the request before it, else 0. `None` comes behind the last request.
     pub fn next_request(&self) -> Option<(Request, u32)>
         requires answered { (answers : List ℕ) × IsAnswered self.now answers }
-        ensures { (answers : List ℕ) → IsAnswered self.now answers
+        ensures next { (answers : List ℕ) → IsAnswered self.now answers
             → result ≡ next_of (all_requests self.now) answers }
+        ensures aligned { IfSome result (λ r. 0 < r.0.align) }
     {
-        match self.next_part() {
-            Some(part) => self.request_of(part),
-            None => None,
-        }
-    }
-
-    /// The next request, which is one for this part, with its old pointer.
-    fn request_of(&self, part: PartRecord) -> Option<(Request, u32)>
-        requires askable { IsAskable part }
-        ensures { result ≡ option_map (with_last self.now.last)
-            (slice_get (record_requests self.now.source self.now.target part) self.now.stage) }
-    {
-        match request_at(part, self.source, self.target, self.stage) {
-            Some(request) => Some((request, self.old_pointer(request))),
-            None => None,
-        }
-    }
-
-    /// The old pointer of the next request.
-    fn old_pointer(&self, request: Request) -> u32
-        ensures { result ≡ (with_last self.now.last request).1 }
-    {
-        if request.chained { self.last } else { 0 }
+        let Some(part) = part_at(&self.records, self.places.len()) else {
+            return None;
+        };
+        let Some(request) = request_at(self.sizes, part.align, self.stage) else {
+            return None;
+        };
+        Some(with_old(request, self.last))
     }
 
     /// Keeps the answer to the next request, in a memory of so many bytes. An answer that is not
@@ -125,81 +190,75 @@ impl PartRequests {
             → IsSomeAnd (next_of (all_requests self.old) answers)
             (λ r. answer_fault memory_length r.0 at ≡ Some e)) }
         ensures unchanged { OnErr result (self.new ≡ self.old) }
-        ensures records { self.new.records ≡ self.old.records }
-        ensures requests { all_requests self.new ≡ all_requests self.old }
-        ensures source { self.new.source ≡ self.old.source }
-        ensures target { self.new.target ≡ self.old.target }
+        ensures only { OnlyAnswered self.old self.new }
     {
-        let Some(part) = self.next_part() else {
-            unreachable!()
-        };
-        let Some(request) = request_at(part, self.source, self.target, self.stage) else {
+        let Some((request, _)) = self.next_request() else {
             unreachable!()
         };
         match check_answer(request, at, memory_length) {
             Ok(()) => {
-                self.keep(part, at);
+                self.keep(at);
                 Ok(())
             }
             Err(fault) => Err(fault),
         }
     }
 
-    /// Keeps an answer to a request for this part, which is the next one.
-    fn keep(&mut self, part: PartRecord, at: u32)
-        requires answered { (answers : List ℕ) × IsAnswered self.old answers }
-        requires next { slice_get self.old.records.items (length self.old.places.items)
-            ≡ Some part }
+    /// Keeps the answer to the next request, which there is.
+    fn keep(&mut self, at: u32)
+        requires answered { (answers : List ℕ) × IsAnswered self.old answers
+            × IsSome (next_of (all_requests self.old) answers) }
         ensures kept { (answers : List ℕ) → IsAnswered self.old answers
             → IsAnswered self.new (answers ++ at ∷ []) }
-        ensures records { self.new.records ≡ self.old.records }
-        ensures requests { all_requests self.new ≡ all_requests self.old }
-        ensures source { self.new.source ≡ self.old.source }
-        ensures target { self.new.target ≡ self.old.target }
+        ensures only { OnlyAnswered self.old self.new }
     {
-        let next = self.stage + 1;
-        match request_at(part, self.source, self.target, next) {
-            Some(_) => self.keep_more(next, at),
-            None => self.keep_last(at),
+        if self.stage + 1 < self.sizes.count() {
+            self.stage += 1;
+            self.last = at;
+        } else {
+            let encodings = Encodings {
+                source: self.source,
+                target: self.target,
+            };
+            self.sizes = sizes_at(&self.records, self.places.len() + 1, encodings);
+            self.stage = 0;
+            self.places.push_reserved(at);
+            self.last = at;
         }
     }
 
-    /// Keeps an answer behind which another request for the part comes.
-    fn keep_more(&mut self, next: usize, at: u32)
-        ensures { self.new ≡ record self.old { stage = next; last = at } }
+    /// The records of the parts, in order.
+    pub fn records(&self) -> &[PartRecord]
+        ensures { result.now ≡ self.now.records }
     {
-        self.stage = next;
-        self.last = at;
+        &self.records
     }
 
-    /// Keeps the answer to the last request for the part: the part stands there.
-    fn keep_last(&mut self, at: u32)
-        requires room { length self.old.places.items < vec_capacity self.old.places }
-        ensures { IsPlacedLast self.old at self.new }
-    {
-        self.places.push_reserved(at);
-        self.stage = 0;
-        self.last = at;
-    }
-
-    /// Where the parts stand, once all requests are answered: each at the answer to the last
+    /// Where the parts stand that have all their answers, in order: each at the answer to the last
     /// request for it.
     pub fn places(&self) -> &[u32]
-        requires answered { (answers : List ℕ) × IsAnswered self.now answers }
-        ensures { (answers : List ℕ) → IsAnswered self.now answers
-            → next_of (all_requests self.now) answers ≡ None
-            → result.now ≡ places_of (all_requests self.now) answers }
+        ensures { result.now ≡ self.now.places }
     {
         &self.places
     }
 
+    /// How strings are encoded in the source, and where they are stored.
+    pub fn encodings(&self) -> Encodings
+        ensures { result ≡ record { source = self.now.source; target = self.now.target } }
+    {
+        Encodings {
+            source: self.source,
+            target: self.target,
+        }
+    }
+
     /// Whether no address is in the regions of two parts, once all requests are answered; a part of
-    /// no bytes has no region. Nothing else is changed, and no memory is taken.
+    /// no bytes has no region. Nothing is changed, and no memory is taken.
     pub fn are_apart(&mut self) -> bool
         requires answered { (answers : List ℕ) × IsAllAnswered self.old answers }
         ensures answer { IsTrue result
-            ↔ AreDisjoint (regions_at self.old.records.items self.old.places.items) }
-        ensures same { self.new ≡ record self.old { regions = self.new.regions } }
+            ↔ AreDisjoint (regions_at self.old.records self.old.places) }
+        ensures same { self.new ≡ self.old }
     {
         self.regions.clear();
         put_regions(&self.records, &self.places, &mut self.regions);

@@ -1,11 +1,10 @@
 //! The regions of parts.
 
 ghost use Rattle.std.specs.Prelude.{◌≡◌, ◌≤◌, [], length, vec_capacity};
-ghost use Rattle.cm_abi_requests.specs.Placing.{regions_at};
-ghost use Rattle.cm_abi_requests.specs.RecordRequests.{AreAskable};
+ghost use Rattle.cm_abi_model.specs.Placing.{regions_at};
+ghost use Rattle.cm_abi_model.specs.RecordRequests.{AreAskable};
 
-use crate::Region;
-use cm_abi_lift::PartRecord;
+use cm_abi_model::{PartRecord, Region};
 
 /// Puts the regions of parts, each at its place, where there is room for them.
 pub(crate) fn put_regions(records: &[PartRecord], places: &[u32], regions: &mut Vec<Region>)
@@ -13,7 +12,8 @@ pub(crate) fn put_regions(records: &[PartRecord], places: &[u32], regions: &mut 
     requires placed { length records.now ≤ length places.now }
     requires none { regions.old.items ≡ [] }
     requires space { length records.now ≤ vec_capacity regions.old }
-    ensures { regions.new.items ≡ regions_at records.now places.now }
+    ensures regions { regions.new.items ≡ regions_at records.now places.now }
+    ensures room { vec_capacity regions.new ≡ vec_capacity regions.old }
 {
     for (i, record) in records.iter().enumerate() {
         regions.push_reserved(Region {

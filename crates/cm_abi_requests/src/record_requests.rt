@@ -2,15 +2,16 @@
 
 ghost use Rattle.std.specs.Prelude.{◌≡◌, ◌∷◌, [], Some, None, slice_get};
 ghost use Rattle.cm_abi_model.specs.Requests.{chain};
-ghost use Rattle.cm_abi_requests.specs.RecordRequests.{IsAskable, first_request, further_request};
-ghost use Rattle.cm_abi_requests.specs.RecordRequests.{kind_sizes, record_requests, sizes_seen};
+ghost use Rattle.cm_abi_model.specs.RecordRequests.{IsAskable, first_request, further_request};
+ghost use Rattle.cm_abi_model.specs.RecordRequests.{kind_sizes, record_requests};
+ghost use Rattle.cm_abi_requests.specs.Sizes.{sizes_seen};
 
 use crate::sizes::{Sizes, text_sizes};
-use cm_abi_lift::{PartKind, PartRecord};
-use cm_abi_model::{Request, StringEncoding};
+use cm_abi_model::{PartKind, PartRecord, Request, StringEncoding};
 
-/// The sizes that are asked for the part of a record.
-fn sizes_for(part: PartRecord, source: StringEncoding, target: StringEncoding) -> Sizes
+/// The sizes that are asked for the part of a record, where its strings are read and stored in
+/// these encodings. The record is of a value whose strings and lists are at most 16,777,216 bytes.
+pub(crate) fn sizes_for(part: PartRecord, source: StringEncoding, target: StringEncoding) -> Sizes
     requires askable { IsAskable part }
     ensures { sizes_seen result
         ≡ kind_sizes source target part.kind part.count part.size }
@@ -79,8 +80,8 @@ fn of_three(align: u32, least: u32, most: u32, exact: u32, stage: usize) -> Opti
     }
 }
 
-/// The request of this number, from 0, of those for these sizes.
-fn member(sizes: Sizes, align: u32, stage: usize) -> Option<Request>
+/// The request of this number, from 0, of those for these sizes; `None` behind the last.
+pub(crate) fn request_at(sizes: Sizes, align: u32, stage: usize) -> Option<Request>
     ensures { result ≡ slice_get (chain align (sizes_seen sizes)) stage }
 {
     match sizes {
@@ -88,19 +89,4 @@ fn member(sizes: Sizes, align: u32, stage: usize) -> Option<Request>
         Sizes::Two(old, size) => of_two(align, old, size, stage),
         Sizes::Three(least, most, exact) => of_three(align, least, most, exact, stage),
     }
-}
-
-/// The request of this number, from 0, of those that lowering the part of a record makes, where its
-/// strings are read and stored in these encodings; `None` behind the last. The record is of a value
-/// whose strings and lists are at most 16,777,216 bytes.
-pub fn request_at(
-    part: PartRecord,
-    source: StringEncoding,
-    target: StringEncoding,
-    stage: usize,
-) -> Option<Request>
-    requires askable { IsAskable part }
-    ensures { result ≡ slice_get (record_requests source target part) stage }
-{
-    member(sizes_for(part, source, target), part.align, stage)
 }

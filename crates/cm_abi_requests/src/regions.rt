@@ -1,22 +1,18 @@
 //! Regions of a memory, and whether they overlap.
 
-ghost use Rattle.std.specs.Prelude.{◌≡◌, ◌↔◌, IsTrue};
+ghost use Rattle.std.specs.Prelude.{◌↔◌, IsTrue};
 ghost use Rattle.std.specs.List.Sorted.{IsNonDecreasingBy, IsPermutation};
-ghost use Rattle.cm_abi_requests.specs.Overlap.{AreDisjoint};
+ghost use Rattle.cm_abi_model.specs.Overlap.{AreDisjoint};
 
-/// So many bytes of a memory, from an address on.
-#[derive(Clone, Copy)]
-pub struct Region {
-    /// The address of its first byte.
-    pub at: u32,
-    /// How many bytes it has.
-    pub size: u32,
-}
+use cm_abi_model::Region;
 
-/// Whether no address is in two of the regions, which stand in the order of their addresses.
-fn are_apart(regions: &[Region]) -> bool
-    requires ascending { IsNonDecreasingBy (λ (r : Region). r.at) regions.now }
-    ensures { IsTrue result ↔ AreDisjoint regions.now }
+/// Whether each region begins where those before it have ended, or behind that; an empty one may
+/// begin anywhere. Then no address is in two of them; and where they stand in the order of their
+/// addresses, else one is.
+fn are_in_turn(regions: &[Region]) -> bool
+    ensures apart { IsTrue result → AreDisjoint regions.now }
+    ensures ascending { IsNonDecreasingBy (λ (r : Region). r.at) regions.now
+        → AreDisjoint regions.now → IsTrue result }
 {
     let mut end: u64 = 0;
     for region in regions {
@@ -30,13 +26,16 @@ fn are_apart(regions: &[Region]) -> bool
     true
 }
 
-/// Whether no address is in two of the regions; an empty one has no address. The regions are then
-/// in the order of their addresses. It takes no memory, and time by their number, but for a
-/// logarithm.
+/// Whether no address is in two of the regions; an empty one has no address. They are looked at as
+/// they stand first, and put into the order of their addresses only where that does not tell. It
+/// takes no memory, and time by their number, but for a logarithm.
 pub fn are_disjoint(regions: &mut [Region]) -> bool
     ensures answer { IsTrue result ↔ AreDisjoint regions.old }
     ensures moved { IsPermutation regions.old regions.new }
 {
+    if are_in_turn(regions) {
+        return true;
+    }
     regions.sort_unstable_by_key(|region| region.at);
-    are_apart(regions)
+    are_in_turn(regions)
 }

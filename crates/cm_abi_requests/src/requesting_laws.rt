@@ -14,15 +14,14 @@ ghost use Rattle.cm_abi_model.specs.Requests.{requests as requests_of};
 ghost use Rattle.cm_abi_model.specs.Stores.{Given};
 ghost use Rattle.cm_abi_model.specs.Taken.{MAX_CONTENT};
 ghost use Rattle.cm_abi_model.specs.Views.{View, Way};
-ghost use Rattle.cm_abi_requests.specs.Answering.{answer_fault, first_fault, places_of};
+ghost use Rattle.cm_abi_model.specs.Answering.{answer_fault, first_fault, places_of};
 ghost use Rattle.cm_abi_requests.specs.Asking.{content_of_parts};
-ghost use Rattle.cm_abi_requests.specs.Overlap.{AreDisjoint};
-ghost use Rattle.cm_abi_lift.specs.cm_abi_load.declared.record.PartRecord.{PartRecord};
-ghost use Rattle.cm_abi_lift.specs.Telling.{TellAll};
-ghost use Rattle.cm_abi_requests.specs.declared.part_requests.PartRequests.{PartRequests};
-ghost use Rattle.cm_abi_requests.specs.RequestingAsking.{IsAllAnswered, all_requests, next_of};
-ghost use Rattle.cm_abi_requests.specs.Placing.{regions_at};
-ghost use Rattle.cm_abi_requests.specs.RecordRequests.{AreAskable, requests_for, tags_of};
+ghost use Rattle.cm_abi_model.specs.Overlap.{AreDisjoint};
+ghost use Rattle.cm_abi_model.specs.declared.record.PartRecord.{PartRecord};
+ghost use Rattle.cm_abi_model.specs.Telling.{TellAll};
+ghost use Rattle.cm_abi_model.specs.Answered.{IsAllAnswered, Requesting, all_requests, next_of};
+ghost use Rattle.cm_abi_model.specs.Placing.{regions_at};
+ghost use Rattle.cm_abi_model.specs.RecordRequests.{AreAskable, requests_for, tags_of};
 
 /// The requests by records are those for the parts that the records tell, with the tags of their
 /// strings; where strings are read in UTF-8 or in UTF-16, with any tags. So records that tell what
@@ -62,12 +61,12 @@ pub fn regions_of_records_are_those_of_parts()
 /// Once all requests are answered there are as many answers as requests, and each part stands at
 /// the answer to the last request for it.
 pub fn all_answers_place_parts()
-    ensures count { (s : PartRequests) (answers : List ℕ) → IsAllAnswered s answers
-        → length answers ≡ length (all_requests s) }
-    ensures places { (s : PartRequests) (answers : List ℕ) → IsAllAnswered s answers
-        → s.places.items ≡ places_of (all_requests s) answers }
-    ensures each { (s : PartRequests) (answers : List ℕ) → IsAllAnswered s answers
-        → length s.places.items ≡ length s.records.items }
+    ensures count { (p : Requesting) (answers : List ℕ) → IsAllAnswered p answers
+        → length answers ≡ length (all_requests p) }
+    ensures places { (p : Requesting) (answers : List ℕ) → IsAllAnswered p answers
+        → p.places ≡ places_of (all_requests p) answers }
+    ensures each { (p : Requesting) (answers : List ℕ) → IsAllAnswered p answers
+        → length p.places ≡ length p.records }
 {}
 
 /// Where no answer so far has a fault in a memory, and the next one has none in a memory that is as

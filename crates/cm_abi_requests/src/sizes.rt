@@ -1,20 +1,33 @@
 //! The sizes that are asked for a part.
 
-ghost use Rattle.std.specs.Prelude.{◌≡◌, ◌*◌, ◌^◌, ◌<◌};
-ghost use Rattle.cm_abi_model.specs.Requests.{charset, shrunk, stored_charset, tagged_charset};
+ghost use Rattle.std.specs.Prelude.{◌≡◌, ◌*◌, ◌^◌, ◌<◌, length};
+ghost use Rattle.cm_abi_model.specs.Requests.{read_charset, shrunk, stored_charset, tagged_charset};
 ghost use Rattle.cm_abi_model.specs.Requests.{text_sizes};
 ghost use Rattle.cm_abi_model.specs.Texts.{latin1, utf16, utf8};
 ghost use Rattle.cm_abi_requests.specs.Asking.{grown};
-ghost use Rattle.cm_abi_requests.specs.RecordRequests.{sizes_seen};
+ghost use Rattle.cm_abi_requests.specs.Sizes.{sizes_seen};
 
 use cm_abi_model::StringEncoding;
 
 /// The sizes that are asked for one after another for a part, in bytes.
-#[derive(Clone, Copy, Debug, PartialEq, Eq)]
+#[derive(Clone, Copy, Debug, PartialEq, Eq, Drop)]
 pub enum Sizes {
     One(u32),
     Two(u32, u32),
     Three(u32, u32, u32),
+}
+
+impl Sizes {
+    /// How many they are: one, two or three.
+    pub(crate) fn count(self) -> usize
+        ensures { result ≡ length (sizes_seen self) }
+    {
+        match self {
+            Sizes::One(_) => 1,
+            Sizes::Two(_, _) => 2,
+            Sizes::Three(_, _, _) => 3,
+        }
+    }
 }
 
 /// What is asked for first; where less is kept, then that.
@@ -99,7 +112,7 @@ pub(crate) fn text_sizes(
 ) -> Sizes
     requires fits { 3 * units < 2 ^ 32 }
     ensures { sizes_seen result
-        ≡ text_sizes (charset source is_tagged) (stored_charset target) units exact }
+        ≡ text_sizes (read_charset source is_tagged) (stored_charset target) units exact }
 {
     match source {
         StringEncoding::Utf8 => utf8_sizes(target, units, exact),

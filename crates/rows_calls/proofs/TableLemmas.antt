@@ -3,7 +3,7 @@ use Rattle.std.proofs.Common.{◌≡◌, ℕ, zero, suc, ◌^◌, ◌<◌, inl, 
 use Rattle.std.proofs.lemmas.Bool.{cases_eq}
 use Rattle.cm_handles.specs.Handles.{Changes, Handles, handle_at, no_handles}
 use Rattle.cm_handles.specs.declared.handle.Handle.{Handle}
-use Rattle.cm_abi_lift.specs.HandingOver.{LendsBelow}
+use Rattle.cm_abi_model.specs.Lifts.{LendsBelow}
 
 some_is : {a b : Handle} → Some a ≡ Some b → a ≡ b
 some_is e = cc

@@ -1,5 +1,5 @@
 -- The calls of rows (CanonicalABI.md, "Lifting and Lowering Values").
-use Rattle.std.specs.Prelude.{◌≡◌, ◌<◌, ◌^◌, true, List, length}
+use Rattle.std.specs.Prelude.{◌≡◌, true}
 use Rattle.cm_types.specs.Spellable.{are_spellable}
 use Rattle.cm_types.specs.Types.{Fields}
 use Rattle.cm_layout.specs.Layouts.{layout_of}
@@ -7,18 +7,15 @@ use Rattle.cm_layout.specs.Shapes.{layout_of_fields_at}
 use Rattle.cm_abi_model.specs.Receives.{call_kinds}
 use Rattle.cm_abi_model.specs.Requests.{IsStored}
 use Rattle.cm_abi_model.specs.Ways.{way_of}
-use Rattle.cm_abi_lower.specs.declared.leaf.HandleLeaf.{HandleLeaf}
 use Rattle.cm_handles.specs.Handles.{Handles}
 use Rattle.cm_types.specs.Values.{Val, parts}
 use Rattle.cm_types.specs.ValueTrees.{values_of}
 use Rattle.cm_abi_model.specs.Views.{View}
-use Rattle.cm_abi.specs.Calls.{AreBytes}
-use Rattle.cm_abi_lift.specs.HandingOver.{Hands}
-use Rattle.cm_abi_lift.specs.Lifts.{Lifts}
+use Rattle.cm_abi_model.specs.Bytes.{AreBytes}
+use Rattle.cm_abi_model.specs.Lifts.{Hands}
+use Rattle.cm_abi_model.specs.Lifts.{Lifts}
 use Rattle.cm_abi_lift.specs.declared.lifted.Lifted.{Lifted}
-use Rattle.cm_abi_requests.specs.declared.part_requests.PartRequests.{PartRequests}
-use Rattle.cm_abi_copy.specs.Scans.{ScansCall}
-use Rattle.cm_abi_copy.specs.declared.scanned.Scanned.{Scanned}
+use Rattle.cm_abi_model.specs.Scanned.{Scanned, ScansCall}
 use Rattle.rows_calls.specs.declared.call.Call.{Call}
 
 -- A call passes values of these types, which a file can spell: its layout and the kinds of its core
@@ -28,7 +25,6 @@ pub record IsOf (c : Call) (types : Fields) : Type 0 where
   pub kinds : c.kinds.items ≡ call_kinds (way_of c.way) types
   pub spellable : are_spellable types ≡ true
   pub stores : IsStored c.sides.target
-  pub few : length c.memory.items < 2 ^ 62
 
 -- These values were lifted in a view of the giver of the call, with the tags of their strings.
 pub record IsLifted (c : Call) (l : Lifted) : Type 0 where
@@ -41,14 +37,10 @@ pub record IsLifted (c : Call) (l : Lifted) : Type 0 where
   pub lifts : Lifts giver (way_of c.way) types c.slots.items (parts (values_of l.values.items))
       l.tagged.items hands
 
--- These requests and handles are what a scan of the call kept, in a view of its giver.
-pub record IsScanned (c : Call) (types : Fields) (requests : PartRequests)
-    (handles : List HandleLeaf) : Type 0 where
+-- This is what a scan of the call kept, in a view of its giver.
+pub record IsScanned (c : Call) (types : Fields) (s : Scanned) : Type 0 where
   pub giver : View
   pub value : Val
   pub table : Handles
-  pub scanned : Scanned
   pub memory : giver.memory ≡ c.memory.items
-  pub scans : ScansCall giver c.sides.target (way_of c.way) types c.slots.items value table scanned
-  pub requests_are : scanned.requests ≡ requests
-  pub handles_are : scanned.handles.items ≡ handles
+  pub scans : ScansCall giver c.sides.target (way_of c.way) types c.slots.items value table s

@@ -4,7 +4,7 @@
 //! the request before it got has a `>` before it.
 
 ghost use Rattle.std.specs.Prelude.{◌<◌, IfOk};
-ghost use Rattle.cm_abi_requests.specs.Answering.{AreAligned};
+ghost use Rattle.cm_abi_model.specs.Answering.{AreAligned};
 
 use crate::call::read_answers;
 use crate::passing::write_fault;

@@ -11,8 +11,7 @@ ghost use Rattle.rows_calls.specs.Calls.{IsOf};
 
 use crate::giving::read_receiver;
 use crate::passing::{read_encoding, read_way};
-use cm_abi_lower::Receiver;
-use cm_abi_model::{Request, StringEncoding, Way};
+use cm_abi_model::{Receiver, Request, StringEncoding, Way};
 use cm_layout::{FlatFunc, Layout, Side, flatten_func, layout_of_params};
 use cm_rows::{Line, RowFault};
 use cm_rows_types::{make_func, read_core_values};

@@ -6,8 +6,8 @@
 
 use crate::passing::write_fault;
 use crate::tables::{read_handle, read_table, write_table};
-use cm_abi_lower::{HandleLeaf, HandleValue, Receiver, give};
-use cm_abi_model::AbiFault;
+use cm_abi_lower::give;
+use cm_abi_model::{AbiFault, HandleLeaf, HandleValue, Receiver};
 use cm_handles::{Handle, HandleKind, Table};
 use cm_rows::{Line, word, words_from};
 use std::alloc::Global;
@@ -29,8 +29,11 @@ pub fn answer(alloc: Global, words: &[&str], line: &mut Line) {
         let handle = read_handle(word, line);
         line.push(&mut leaves, leaf_of(handle));
     }
-    let given = give(alloc, &mut table, to, &leaves);
-    write_given(line, given, &table);
+    let mut numbers = Vec::new(alloc);
+    match give(&mut table, to, &leaves, &mut numbers) {
+        Ok(()) => write_given(line, Ok(numbers), &table),
+        Err(fault) => write_given(line, Err(fault), &table),
+    }
 }
 
 fn leaf_of(handle: Handle) -> HandleLeaf {

@@ -2,7 +2,7 @@
 //! asks for.
 
 ghost use Rattle.std.specs.Prelude.{◌≡◌, ◌^◌, ◌<◌, slice_index, IfOk, ℕ};
-ghost use Rattle.cm_abi_lift.specs.HandingOver.{LendsBelow};
+ghost use Rattle.cm_abi_model.specs.Lifts.{LendsBelow};
 ghost use Rattle.cm_abi.specs.Lowers.{CanBeLowered};
 ghost use Rattle.cm_types.specs.Types.{Fields};
 ghost use Rattle.rows_calls.specs.Calls.{IsLifted, IsOf};
@@ -48,13 +48,11 @@ pub fn passed_on<'a>(call: &'a Call, lifted: &'a Lifted) -> Passing<'a>
     ensures values { result.values.now ≡ lifted.now.values.items }
     ensures source { result.encodings.source ≡ call.now.sides.source }
     ensures target { result.encodings.target ≡ call.now.sides.target }
-    ensures tags { result.encodings.tags.now ≡ lifted.now.tagged.items }
+    ensures tags { result.tags.now ≡ lifted.now.tagged.items }
 {
-    let tags: &'a [bool] = &lifted.tagged;
-    let encodings: Encodings<'a> = Encodings {
+    let encodings = Encodings {
         source: call.sides.source,
         target: call.sides.target,
-        tags,
     };
     Passing {
         way: call.way,
@@ -62,6 +60,7 @@ pub fn passed_on<'a>(call: &'a Call, lifted: &'a Lifted) -> Passing<'a>
         kinds: &call.kinds,
         values: &lifted.values,
         encodings,
+        tags: &lifted.tagged,
     }
 }
 
@@ -127,9 +126,10 @@ fn asked_for(alloc: Global, passing: &Passing<'_>) -> Result<Vec<Request>, Alloc
         layout,
         values,
         encodings,
+        tags,
         ..
     } = *passing;
-    requests(alloc, layout, way, values, &encodings)
+    requests(alloc, layout, way, values, encodings, tags)
 }
 
 /// Writes requests, one after another.

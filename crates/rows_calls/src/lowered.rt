@@ -49,10 +49,11 @@ fn lower_values(alloc: Global, call: &Call, passing: &Passing<'_>, received: Tab
         layout,
         values,
         encodings,
+        tags,
         ..
     } = *passing;
     let mut received = received;
-    let Ok(asked) = requests(alloc, layout, way, values, &encodings) else {
+    let Ok(asked) = requests(alloc, layout, way, values, encodings, tags) else {
         return line.fail(RowFault::Memory);
     };
     if asked.len() != call.answers.len() {

@@ -1,11 +1,12 @@
 //! Values of calls by the records of their parts: looked at, asked for and copied, with no tree.
 
 ghost use Rattle.std.specs.Prelude.{◌≡◌, [], IfOk, IsSome, List, None, map, true, ℕ};
-ghost use Rattle.cm_abi_requests.specs.Answering.{first_fault};
-ghost use Rattle.cm_abi_requests.specs.RequestingAsking.{IsAllAnswered, IsAnswered, all_requests};
-ghost use Rattle.cm_abi_requests.specs.RequestingAsking.{next_of};
+ghost use Rattle.cm_abi_model.specs.Answering.{first_fault};
+ghost use Rattle.cm_abi_model.specs.Answered.{IsAllAnswered, IsAnswered, all_requests};
+ghost use Rattle.cm_abi_model.specs.Answered.{next_of};
 ghost use Rattle.cm_types.specs.CoreValues.{kind_of};
 ghost use Rattle.cm_types.specs.Types.{Fields};
+ghost use Rattle.cm_abi_model.specs.Scanned.{OnlyAsked};
 ghost use Rattle.rows_calls.specs.Calls.{IsOf, IsScanned};
 
 use crate::call::{Call, write_request};
@@ -13,10 +14,8 @@ use crate::lowered::{FILL, write_received};
 use crate::passing::{write_fault, write_hands};
 use crate::tables::{read_table, write_table};
 use cm_abi::laws::one_copied_call;
-use cm_abi::{
-    Found, HandleLeaf, PartKind, PartRecord, PartRequests, Passed, ScanEncodings, Scanned, copy,
-    scan,
-};
+use cm_abi::{Encodings, Found, PartKind, PartRecord, Passed, Scan, copy, scan};
+use cm_abi_model::laws::what_goes_on_stays;
 use cm_abi_requests::requesting_laws::answers_stay_fine;
 use cm_handles::Table;
 use cm_rows::{Line, RowFault};
@@ -24,30 +23,42 @@ use cm_types::{CoreKind, CoreValue};
 use std::alloc::{AllocError, Global};
 
 /// Writes the records of the parts of a call, the giver's table then, what they ask for, and what
-/// copying the values comes to.
+/// copying the values comes to. What is kept of the values was filled by the same call before.
 pub fn answer(alloc: Global, call: &Call, table: &str, received: &str, line: &mut Line)
     requires { (types : Fields) × IsOf call.now types }
 {
+    let mut before = read_table(alloc, table, line);
     let mut table = read_table(alloc, table, line);
     let passed = Passed {
         way: call.way,
         layout: &call.layout,
         slots: &call.slots,
     };
-    let encodings = ScanEncodings {
+    let encodings = Encodings {
         source: call.sides.source,
         target: call.sides.target,
     };
-    match scan(alloc, &call.memory, &mut table, encodings, &passed) {
-        Ok(scanned) => {
-            write_scanned(line, &scanned, &table);
-            let Scanned {
-                requests,
-                handles,
-                ..
-            } = scanned;
+    let mut kept = Scan::new(alloc);
+    let _before = scan(
+        alloc,
+        &mut kept,
+        &call.memory,
+        &mut before,
+        encodings,
+        &passed,
+    );
+    match scan(
+        alloc,
+        &mut kept,
+        &call.memory,
+        &mut table,
+        encodings,
+        &passed,
+    ) {
+        Ok(()) => {
+            write_scanned(line, &kept, &table);
             let received = read_table(alloc, received, line);
-            copy_values(alloc, call, requests, &handles, received, line);
+            copy_values(alloc, call, &mut kept, received, line);
         }
         Err(fault) => {
             write_fault(line, fault);
@@ -56,9 +67,9 @@ pub fn answer(alloc: Global, call: &Call, table: &str, received: &str, line: &mu
     }
 }
 
-fn write_scanned(line: &mut Line, scanned: &Scanned, table: &Table) {
-    write_records(line, &scanned.requests.records);
-    write_hands(line, &scanned.owns, &scanned.lends);
+fn write_scanned(line: &mut Line, kept: &Scan, table: &Table) {
+    write_records(line, kept.records());
+    write_hands(line, kept.owns(), kept.lends());
     write_table(line, table);
 }
 
@@ -77,25 +88,12 @@ fn zeros(alloc: Global, kinds: &[CoreKind]) -> Result<Vec<CoreValue>, AllocError
 }
 
 /// Writes what parts ask for and, where all answers will do, what copying the values comes to.
-fn copy_values(
-    alloc: Global,
-    call: &Call,
-    requests: PartRequests,
-    handles: &[HandleLeaf],
-    received: Table,
-    line: &mut Line,
-)
-    requires { (types : Fields) × IsOf call.now types
-        × IsScanned call.now types requests handles.now }
+fn copy_values(alloc: Global, call: &Call, kept: &mut Scan, received: Table, line: &mut Line)
+    requires { (types : Fields) × IsOf call.now types × IsScanned call.now types kept.old }
 {
     one_copied_call();
-    let mut requests = requests;
-    if !ask(
-        &mut requests,
-        &call.answers,
-        call.sides.length as usize,
-        line,
-    ) {
+    what_goes_on_stays();
+    if !ask(kept, &call.answers, call.sides.length as usize, line) {
         return;
     }
     let passed = Passed {
@@ -106,7 +104,6 @@ fn copy_values(
     let found = Found {
         memory: &call.memory,
         passed,
-        handles,
     };
     let mut received = received;
     let Ok(mut memory) = Vec::from_elem(alloc, FILL, call.sides.length as usize) else {
@@ -116,17 +113,8 @@ fn copy_values(
         return line.fail(RowFault::Memory);
     };
     let to = call.sides.to;
-    let copied = copy(
-        alloc,
-        &mut memory,
-        &mut received,
-        &mut slots,
-        to,
-        &found,
-        &mut requests,
-    );
-    match copied {
-        Ok(_) => write_received(line, Ok(slots), &memory, &received),
+    match copy(kept, &mut memory, &mut received, &mut slots, to, &found) {
+        Ok(()) => write_received(line, Ok(slots), &memory, &received),
         Err(fault) => write_received(line, Err(fault), &memory, &received),
     }
 }
@@ -152,12 +140,12 @@ fn write_records(line: &mut Line, records: &[PartRecord]) {
 }
 
 /// Writes the next request that is not answered; whether there was one.
-fn write_next(parts: &PartRequests, line: &mut Line) -> bool
-    requires { (answers : List ℕ) × IsAnswered parts.now answers }
-    ensures { (answers : List ℕ) → IsAnswered parts.now answers
-        → result ≡ true → IsSome (next_of (all_requests parts.now) answers) }
+fn write_next(kept: &Scan, line: &mut Line) -> bool
+    requires { (answers : List ℕ) × IsAnswered kept.now.parts answers }
+    ensures { (answers : List ℕ) → IsAnswered kept.now.parts answers
+        → result ≡ true → IsSome (next_of (all_requests kept.now.parts) answers) }
 {
-    match parts.next_request() {
+    match kept.next_request() {
         Some((request, old)) => {
             write_request(line, request, old);
             true
@@ -169,36 +157,35 @@ fn write_next(parts: &PartRequests, line: &mut Line) -> bool
 /// Writes what parts ask for, each request answered before the next one, and where the parts then
 /// stand; or, at the first answer that will not do, its fault and what is asked for again. Whether
 /// all answers will do.
-fn ask(parts: &mut PartRequests, answers: &[u32], length: usize, line: &mut Line) -> bool
-    requires { IsAnswered parts.old [] }
+fn ask(kept: &mut Scan, answers: &[u32], length: usize, line: &mut Line) -> bool
+    requires { IsAnswered kept.old.parts [] }
     ensures answered { result ≡ true → (given : List ℕ)
-        × IsAllAnswered parts.new given
-        × (first_fault length (all_requests parts.new) given ≡ None) }
-    ensures records { parts.new.records ≡ parts.old.records }
-    ensures source { parts.new.source ≡ parts.old.source }
-    ensures target { parts.new.target ≡ parts.old.target }
+        × IsAllAnswered kept.new.parts given
+        × (first_fault length (all_requests kept.new.parts) given ≡ None) }
+    ensures only { OnlyAsked kept.old kept.new }
 {
     answers_stay_fine();
+    what_goes_on_stays();
     line.put(" asks");
     for answer in answers {
-        if !write_next(parts, line) {
+        if !write_next(kept, line) {
             line.refuse();
             return false;
         }
-        if let Err(fault) = parts.answer(*answer, length) {
+        if let Err(fault) = kept.answer(*answer, length) {
             line.put(" ");
             write_fault(line, fault);
             line.put(" again");
-            write_next(parts, line);
+            write_next(kept, line);
             return false;
         }
     }
-    if parts.next_request().is_some() {
+    if kept.next_request().is_some() {
         line.refuse();
         return false;
     }
     line.put(" places");
-    for place in parts.places() {
+    for place in kept.places() {
         line.put(" ");
         line.show(*place);
     }

@@ -6,7 +6,7 @@
 //! before a handle stands for N of it.
 
 ghost use Rattle.std.specs.Prelude.{◌<◌, ◌^◌};
-ghost use Rattle.cm_abi_lift.specs.HandingOver.{LendsBelow};
+ghost use Rattle.cm_abi_model.specs.Lifts.{LendsBelow};
 
 use cm_handles::{Handle, HandleFault, HandleKind, Table};
 use cm_rows::{Line, RowFault, split_repeat};

@@ -3,7 +3,7 @@ use Rattle.cm_abi_model.specs.Denotes.{Denotes}
 use Rattle.cm_abi_model.specs.Ways.{way_of}
 use Rattle.cm_abi.specs.Lowers.{tuple_in}
 use Rattle.cm_abi_model.specs.Taken.{met}
-use Rattle.cm_abi.specs.Calls.{owned_in}
+use Rattle.cm_abi_model.specs.HandleLeaves.{owned_in}
 use Rattle.cm_abi.proofs.OwnedLaws.{owned_are_taken}
 use Rattle.cm_abi.proofs.laws.one_call.Goals as goal
 

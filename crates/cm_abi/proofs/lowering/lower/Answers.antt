@@ -2,7 +2,7 @@ use Rattle.std.proofs.Common.{◌≡◌, ◌∙◌, ◌^◌, ◌<◌, length, ap
 use Rattle.std.specs.List.{All}
 use Rattle.std.specs.Prelude.{replicate}
 use Rattle.cm_abi_model.specs.Ways.{way_of}
-use Rattle.cm_abi_lower.specs.Giving.{Gives}
+use Rattle.cm_abi_model.specs.Giving.{Gives}
 use Rattle.cm_abi.specs.Lowers.{handles_passed}
 use Rattle.cm_abi.proofs.PokeLemmas.{zeros_length}
 use Rattle.cm_abi.proofs.ReadyLemmas.{apart, call_stored, final_slots, framed, given_is, placed, provided, puts, ready, received, served, slots_fit}

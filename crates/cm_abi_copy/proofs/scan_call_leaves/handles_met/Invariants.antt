@@ -1,6 +1,6 @@
 use Rattle.std.proofs.Common.{◌≡◌, ◌≤◌, ◌++◌, drop, length, vec_capacity}
 use Rattle.cm_abi_load.specs.Meeting.{AreAsWanted}
-use Rattle.cm_abi_lower.specs.Leaves.{leaves_of}
+use Rattle.cm_abi_model.specs.HandleLeaves.{leaves_of}
 use Rattle.cm_abi_copy.specs.MetLeaves.{leaves_found}
 use Rattle.cm_abi_copy.proofs.scan_call_leaves.handles_met.Given as goal
 

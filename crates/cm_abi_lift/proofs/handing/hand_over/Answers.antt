@@ -1,5 +1,6 @@
 use Rattle.std.proofs.Common.{inl, inr, ◌≡◌, ◌+◌, ◌^◌, arith, subst, Err}
-use Rattle.cm_abi_lift.specs.HandingOver.{LendsBelow, hands_of, untouched}
+use Rattle.cm_abi_model.specs.Lifts.{LendsBelow}
+use Rattle.cm_abi_lift.specs.HandingOver.{hands_of, untouched}
 use Rattle.cm_abi_lift.proofs.HandLaws.{all_fail, below_next, first_more}
 use Rattle.cm_abi_lift.proofs.handing.hand_over.Goals as goal
 

@@ -1,5 +1,6 @@
 use Rattle.std.proofs.Common.{◌≡◌, ◌+◌, ◌^◌, Ok, length, take}
-use Rattle.cm_abi_lift.specs.HandingOver.{LendsBelow, hand_over, hands_of, untouched}
+use Rattle.cm_abi_model.specs.Lifts.{LendsBelow}
+use Rattle.cm_abi_lift.specs.HandingOver.{hand_over, hands_of, untouched}
 use Rattle.cm_abi_lift.proofs.handing.hand_over.Given as goal
 
 -- the first of them are handed over

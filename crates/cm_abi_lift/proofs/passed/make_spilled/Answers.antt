@@ -5,7 +5,7 @@ use Rattle.cm_layout.specs.declared.heads.Head.{Head}
 use Rattle.cm_abi_load.specs.Outcomes.{state_of}
 use Rattle.cm_abi_load.specs.Reading.{source_of}
 use Rattle.cm_abi_load.specs.Records.{element_record}
-use Rattle.cm_abi_load.specs.declared.record.PartRecord.{PartRecord}
+use Rattle.cm_abi_model.specs.declared.record.PartRecord.{PartRecord}
 use Rattle.cm_abi_lift.proofs.Seen.{seen_size}
 use Rattle.cm_abi_lift.proofs.SpilledLemmas.{spilled_makes}
 use Rattle.cm_abi_lift.proofs.passed.make_spilled.Goals as goal

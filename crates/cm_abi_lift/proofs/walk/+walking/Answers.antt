@@ -8,7 +8,7 @@ use Rattle.cm_layout.specs.declared.layouts.Form.{the_lemmas}
 use Rattle.cm_abi_load.specs.Outcomes.{state_of}
 use Rattle.cm_abi_load.specs.Reading.{source_of}
 use Rattle.cm_abi_load.specs.Records.{held}
-use Rattle.cm_abi_lift.specs.FlatReading.{IsReadyLayout, read_flat}
+use Rattle.cm_abi_lift.specs.FlatReading.{IsFlatReadableLayout, read_flat}
 use Rattle.cm_abi_lift.specs.FlatRecords.{flat_records, flat_records_of_fields}
 use Rattle.cm_abi_load.specs.MakingLaws.{begins, stops_of}
 use Rattle.cm_abi_lift.proofs.MakingLemmas.{fields_made}
@@ -19,9 +19,8 @@ use Rattle.cm_abi_lift.proofs.walk.+walking.Goals as goal
 pub make_case-make_payload-requires : goal.make_case-make_payload-requires
 make_case-make_payload-requires g t c κs within =
     let lt : c.args.index < length c.args.payloads.now = c.in-Some.ensures.lookup.3.0 in
-    let can : IfSome (payload_of c.in-Some.payload.now) IsReadyLayout = case_ready payload_of c.args.payloads.now c.args.index c.in-Some.payload.now lt c.in-Some.ensures.lookup.1 c.requires.ready in
-    let few = c.requires.few in
-    (search (rules, the_lemmas, lt), search (rules, the_lemmas, can, few))
+    let can : IfSome (payload_of c.in-Some.payload.now) IsFlatReadableLayout = case_ready payload_of c.args.payloads.now c.args.index c.in-Some.payload.now lt c.in-Some.ensures.lookup.1 c.requires.ready in
+    (search (rules, the_lemmas, lt), search (rules, the_lemmas, can))
 
 pub make_case-returns-in-Some : goal.make_case-returns-in-Some
 make_case-returns-in-Some g t c =

@@ -3,7 +3,7 @@ use Rattle.cm_layout.specs.Layouts.{layout_of, part_of}
 use Rattle.cm_layout.specs.Shapes.{parts_from}
 use Rattle.cm_abi_load.specs.Outcomes.{state_of}
 use Rattle.cm_abi_load.specs.Reading.{source_of}
-use Rattle.cm_abi_lift.specs.FlatReading.{ArePartsReady, read_flat, read_flat_each, read_flat_parts}
+use Rattle.cm_abi_lift.specs.FlatReading.{ArePartsFlatReadable, read_flat, read_flat_each, read_flat_parts}
 use Rattle.cm_abi_lift.specs.FlatRecords.{flat_records, flat_records_each, flat_records_of_fields}
 use Rattle.cm_abi_load.specs.MakingLaws.{Going}
 use Rattle.cm_abi_lift.proofs.walk.+walking.Given as goal
@@ -19,7 +19,7 @@ invariant-make_each-loop g l =
 
 abbrev pub invariant-make_fields-loop-part : goal.invariant-make_fields-loop-part
 invariant-make_fields-loop-part g l =
-    ArePartsReady (parts_from (map part_of (drop l.part-index l.parts)))
+    ArePartsFlatReadable (parts_from (map part_of (drop l.part-index l.parts)))
     × Going g.M.Maker.stand g.M.Maker.keeps l.row l.initial.kept l.kept (state_of l.initial.progress) (state_of l.progress)
     (read_flat_parts (source_of l.reader.giver) (parts_from (map part_of l.parts)) l.slots (state_of l.initial.progress))
     (read_flat_parts (source_of l.reader.giver) (parts_from (map part_of (drop l.part-index l.parts))) l.rest (state_of l.progress))

@@ -22,8 +22,7 @@ make_case-make_payload-requires g t c κs within =
     let lt : c.args.index < length c.args.payloads.now = c.in-Some.ensures.lookup.3.0 in
     let can : IfSome (payload_of c.in-Some.payload.now) (IsReadable (length c.args.reader.now.giver.memory.now) c.args.at) =
     case_readable payload_of (length c.args.reader.now.giver.memory.now) c.args.at c.args.payloads.now c.args.index c.in-Some.payload.now lt c.in-Some.ensures.lookup.1 c.requires.readable in
-    let few = c.requires.few in
-    (search (rules, the_lemmas, lt), search (rules, the_lemmas, can, few))
+    (search (rules, the_lemmas, lt), search (rules, the_lemmas, can))
 
 pub make_case-returns-in-Some : goal.make_case-returns-in-Some
 make_case-returns-in-Some g t c =
@@ -128,8 +127,7 @@ make_value-make_case-requires g t c κs within =
     seen_shape c.args.layout.now ∙ (ap shape_of c.in-Cases.is ∙ (seen_Cases c.in-Cases.discriminant c.in-Cases.offset c.in-Cases.payloads ∙ ap (λ ps. cases_shape c.in-Cases.discriminant c.in-Cases.offset (payloads_from (map payload_of ps))) (sym there))) in
     let can : ArePayloadsReadable (length c.args.reader.now.giver.memory.now) (c.args.at + c.in-Cases.offset) (payloads_from (map payload_of c.deref-in-Cases-2.result.now)) =
     cases_readable (length c.args.reader.now.giver.memory.now) c.args.at c.in-Cases.discriminant c.in-Cases.offset (layout_of c.args.layout.now) (payloads_from (map payload_of c.deref-in-Cases-2.result.now)) shape_is c.requires.within c.requires.laid c.requires.sized in
-    let few = c.requires.few in
-    (search (rules, the_lemmas), search (rules, the_lemmas, can, few))
+    (search (rules, the_lemmas), search (rules, the_lemmas, can))
 
 pub make_value-returns-in-Leaf : goal.make_value-returns-in-Leaf
 make_value-returns-in-Leaf g t c =

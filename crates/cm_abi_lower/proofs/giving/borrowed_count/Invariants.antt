@@ -1,6 +1,6 @@
 use Rattle.std.proofs.Common.{◌≡◌, ◌+◌, ◌≤◌, drop}
-use Rattle.cm_abi_lower.specs.Giving.{borrowed_count}
-use Rattle.cm_abi_lower.specs.Leaves.{leaves_of}
+use Rattle.cm_abi_model.specs.Giving.{borrowed_count}
+use Rattle.cm_abi_model.specs.HandleLeaves.{leaves_of}
 use Rattle.cm_abi_lower.proofs.giving.borrowed_count.Given as goal
 
 -- those counted and those left are all of them

@@ -1,6 +1,6 @@
 use Rattle.std.proofs.Common.{◌≤◌, drop, length, vec_capacity}
-use Rattle.cm_abi_lower.specs.Giving.{added_count}
-use Rattle.cm_abi_lower.specs.Leaves.{leaves_of}
+use Rattle.cm_abi_model.specs.Giving.{added_count}
+use Rattle.cm_abi_model.specs.HandleLeaves.{leaves_of}
 use Rattle.cm_abi_lower.proofs.GivingLemmas.{SoFar}
 use Rattle.cm_abi_lower.proofs.giving.give_each.Given as goal
 

@@ -2,7 +2,7 @@ use Rattle.std.proofs.Common.{sym}
 use Rattle.std.proofs.lemmas.List.{append-nil}
 use Rattle.cm_layout.specs.Layouts.{payload_of}
 use Rattle.cm_types.specs.ValueTrees.{value_of}
-use Rattle.cm_abi_lower.specs.Leaves.{leaves_of}
+use Rattle.cm_abi_model.specs.HandleLeaves.{leaves_of}
 use Rattle.cm_abi_lower.proofs.LeafLemmas.{case_past, case_there}
 use Rattle.cm_abi_lower.proofs.GivingSeenLayouts.{enum_has_none}
 use Rattle.cm_abi_lower.proofs.leaves.+collecting.Goals as goal

@@ -3,7 +3,8 @@ use Rattle.cm_layout.specs.Layouts.{layout_of, part_of}
 use Rattle.cm_layout.specs.Shapes.{parts_from}
 use Rattle.cm_types.specs.ValueTrees.{values_of}
 use Rattle.cm_abi_model.specs.Receives.{leaves_each}
-use Rattle.cm_abi_lower.specs.Leaves.{leaves_by, leaves_by_fields, leaves_of}
+use Rattle.cm_abi_lower.specs.Leaves.{leaves_by, leaves_by_fields}
+use Rattle.cm_abi_model.specs.HandleLeaves.{leaves_of}
 use Rattle.cm_abi_lower.proofs.leaves.+collecting.Given as goal
 
 -- the handles so far, and those of what is left, are all of them

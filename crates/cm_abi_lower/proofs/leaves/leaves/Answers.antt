@@ -4,7 +4,8 @@ use Rattle.cm_layout.specs.Layouts.{layout_of}
 use Rattle.cm_layout.specs.Shapes.{LayoutTy}
 use Rattle.cm_types.specs.ValueTrees.{values_of}
 use Rattle.cm_abi_model.specs.Requests.{tuple_of}
-use Rattle.cm_abi_lower.specs.Leaves.{leaves_by, leaves_of}
+use Rattle.cm_abi_lower.specs.Leaves.{leaves_by}
+use Rattle.cm_abi_model.specs.HandleLeaves.{leaves_of}
 use Rattle.cm_abi_lower.proofs.LeafLemmas.{same_leaves}
 use Rattle.cm_abi_lower.proofs.leaves.leaves.Goals as goal
 

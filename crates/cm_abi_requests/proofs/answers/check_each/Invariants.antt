@@ -1,5 +1,5 @@
 use Rattle.std.proofs.Common.{◌≡◌, drop}
-use Rattle.cm_abi_requests.specs.Answering.{AreAligned, first_fault}
+use Rattle.cm_abi_model.specs.Answering.{AreAligned, first_fault}
 use Rattle.cm_abi_requests.proofs.answers.check_each.Given as goal
 
 -- the first fault stands among the answers that are left

@@ -1,6 +1,6 @@
 use Rattle.std.proofs.Common.{Global, Vec, false, ap, sym, ◌∙◌}
 use Rattle.cm_abi_model.specs.declared.request.Request.{Request}
-use Rattle.cm_abi_requests.specs.declared.regions.Region.{Region}
+use Rattle.cm_abi_model.specs.declared.region.Region.{Region}
 use Rattle.cm_abi_requests.proofs.RegionWalk.{last_one, not_last}
 use Rattle.cm_abi_requests.proofs.answers.part_regions.Goals as goal
 use Rattle.cm_abi_requests.proofs.answers.part_regions.Goals.{then-is_last+in_ok-push, else-is_last}

@@ -1,5 +1,5 @@
 use Rattle.std.proofs.Common.{◌≡◌, ◌++◌, drop}
-use Rattle.cm_abi_requests.specs.Answering.{regions_of}
+use Rattle.cm_abi_model.specs.Answering.{regions_of}
 use Rattle.cm_abi_requests.proofs.answers.part_regions.Given as goal
 
 -- the regions so far and those of what is left are all of them

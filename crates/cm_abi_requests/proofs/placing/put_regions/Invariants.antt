@@ -1,6 +1,6 @@
 use Rattle.std.proofs.Common.{◌≡◌, ◌≤◌, ◌++◌, drop, length, vec_capacity}
-use Rattle.cm_abi_requests.specs.Placing.{regions_at}
-use Rattle.cm_abi_requests.specs.RecordRequests.{AreAskable}
+use Rattle.cm_abi_model.specs.Placing.{regions_at}
+use Rattle.cm_abi_model.specs.RecordRequests.{AreAskable}
 use Rattle.cm_abi_requests.proofs.placing.put_regions.Given as goal
 
 -- the regions so far, and those of what is left, are all; what is left can be asked for, and there is room for it
@@ -10,3 +10,4 @@ invariant-loop-i l =
     × AreAskable (drop l.i l.records)
     × (length l.regions.items ≡ l.i)
     × (length l.records ≤ vec_capacity l.regions)
+    × (vec_capacity l.regions ≡ vec_capacity l.fn.regions)

@@ -1,5 +1,5 @@
 use Rattle.std.proofs.Common.{subst, sym}
-use Rattle.cm_abi_requests.specs.Answering.{AreAligned}
+use Rattle.cm_abi_model.specs.Answering.{AreAligned}
 use Rattle.rows_calls.proofs.RequestLemmas.{aligned_more}
 use Rattle.rows_calls.proofs.answers.read_requests.Goals as goal
 

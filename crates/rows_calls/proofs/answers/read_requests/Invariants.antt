@@ -1,4 +1,4 @@
-use Rattle.cm_abi_requests.specs.Answering.{AreAligned}
+use Rattle.cm_abi_model.specs.Answering.{AreAligned}
 use Rattle.rows_calls.proofs.answers.read_requests.Given as goal
 
 abbrev pub invariant-loop-word : goal.invariant-loop-word

@@ -4,7 +4,8 @@ use Rattle.cm_types.specs.ValueTrees.{values_of}
 use Rattle.cm_types.specs.Values.{parts}
 use Rattle.cm_abi_model.specs.Views.{View}
 use Rattle.cm_abi_model.specs.Ways.{way_of}
-use Rattle.cm_abi_lift.specs.Lifts.{Lifts, handed_with}
+use Rattle.cm_abi_model.specs.Lifts.{Lifts}
+use Rattle.cm_abi_lift.specs.Lifts.{handed_with}
 use Rattle.rows_calls.specs.Calls.{IsLifted}
 use Rattle.rows_calls.proofs.lifted.lift_call.Goals as goal
 

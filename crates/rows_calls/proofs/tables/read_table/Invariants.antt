@@ -1,4 +1,4 @@
-use Rattle.cm_abi_lift.specs.HandingOver.{LendsBelow}
+use Rattle.cm_abi_model.specs.Lifts.{LendsBelow}
 use Rattle.rows_calls.proofs.tables.read_table.Given as goal
 
 abbrev pub invariant-loop-part : goal.invariant-loop-part

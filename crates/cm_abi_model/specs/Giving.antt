@@ -13,7 +13,7 @@ use Rattle.cm_handles.specs.declared.handle.HandleKind.TheVariants.{Owned, Borro
 use Rattle.cm_abi_model.specs.Receives.{AllStand, HandleLeaf, owned_leaf, borrowed_leaf}
 use Rattle.cm_abi_model.specs.Stores.{Given}
 use Rattle.cm_abi_model.specs.Views.{View}
-use Rattle.cm_abi_lower.specs.declared.receiver.Receiver.{Receiver}
+use Rattle.cm_abi_model.specs.declared.receiver.Receiver.{Receiver}
 
 -- a view of the receiver of a call, with this handle table
 pub record IsViewOf (w : View) (to : Receiver) (table : Handles) : Type 0 where

@@ -1,7 +1,7 @@
 -- Where the parts of records stand (CanonicalABI.md, "Storing" of lists and strings).
 use Rattle.std.specs.Prelude.{ℕ, List, [], ◌∷◌}
-use Rattle.cm_abi_requests.specs.declared.regions.Region.{Region}
-use Rattle.cm_abi_lift.specs.cm_abi_load.declared.record.PartRecord.{PartRecord}
+use Rattle.cm_abi_model.specs.declared.region.Region.{Region}
+use Rattle.cm_abi_model.specs.declared.record.PartRecord.{PartRecord}
 
 -- the regions of the parts of records, each at its place
 abbrev pub regions_at : List PartRecord → List ℕ → List Region

@@ -1,18 +1,16 @@
 use Rattle.std.proofs.Common.{arith}
-use Rattle.cm_abi_requests.specs.declared.regions.Region.{Region}
+use Rattle.cm_abi_model.specs.declared.region.Region.{Region}
 use Rattle.cm_abi_requests.proofs.RegionLaws.{meets, past_empty, past_one}
-use Rattle.cm_abi_requests.proofs.regions.are_apart.Goals as goal
-use Rattle.cm_abi_requests.proofs.regions.are_apart.Goals.{then-region-gt0+else-from-end, else-region-gt0}
+use Rattle.cm_abi_requests.proofs.regions.are_in_turn.Goals as goal
+use Rattle.cm_abi_requests.proofs.regions.are_in_turn.Goals.{then-region-gt0+else-from-end, else-region-gt0}
 
 abbrev none : Region
 none = record { at = 0; size = 0 }
 
-pub returns-then-from-end : goal.returns-then-from-end
-returns-then-from-end c = (
-  (λ told. absurd (cc)),
-  (λ h. absurd (meets c.args.regions.now c.loop-region.end c.loop-region.region-index none c.requires.ascending c.loop-region.invariant.1 c.loop-region-test.true c.if-region-gt0.true
-      (omega (arith, c.from.ensures, c.if-from-end.true)) h)),
-)
+pub returns-then-from-end-clause-ascending : goal.returns-then-from-end-clause-ascending
+returns-then-from-end-clause-ascending c = λ up h.
+    absurd (meets c.args.regions.now c.loop-region.end c.loop-region.region-index none up c.loop-region.invariant.1 c.loop-region-test.true c.if-region-gt0.true
+    (omega (arith, c.from.ensures, c.if-from-end.true)) h)
 
 pub loop-region-preserved : goal.loop-region-preserved
 loop-region-preserved c =

@@ -1,9 +1,5 @@
 //! The handles of a value, each as its type has it.
 
-ghost use Rattle.std.specs.Prelude.{◌≡◌};
-ghost use Rattle.cm_abi_lower.specs.Leaves.{leaf_by, leaf_of};
-
-use cm_layout::HandleType;
 use cm_types::ResourceId;
 
 /// A handle on its way (Explainer.md, "Handle Types").
@@ -23,18 +19,4 @@ pub enum HandleLeaf {
     Owned(HandleValue),
     /// To be borrowed while the call runs.
     Borrowed(HandleValue),
-}
-
-impl HandleLeaf {
-    ghost use Rattle.cm_abi_lower.specs.Leaves.{value_in};
-
-    /// The leaf of a handle whose type is this.
-    pub(crate) fn new(wanted: HandleType, value: HandleValue) -> HandleLeaf
-        ensures { leaf_of result ≡ leaf_by wanted (value_in value) }
-    {
-        match wanted {
-            HandleType::Own(_) => HandleLeaf::Owned(value),
-            HandleType::Borrow(_) => HandleLeaf::Borrowed(value),
-        }
-    }
 }

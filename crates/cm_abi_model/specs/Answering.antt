@@ -7,9 +7,9 @@ use Rattle.cm_abi_model.specs.declared.fault.AbiFault.TheVariants as fault
 use Rattle.cm_abi_model.specs.declared.request.Request.{Request}
 use Rattle.cm_abi_model.specs.Parts.{Part}
 use Rattle.cm_abi_model.specs.Regions.{element_count}
-use Rattle.cm_abi_model.specs.Requests.{HasScalars, charset, first_tag, tags_behind}
-use Rattle.cm_abi_requests.specs.declared.regions.Region.{Region}
-use Rattle.cm_abi_requests.specs.Overlap.{AreDisjoint}
+use Rattle.cm_abi_model.specs.Requests.{HasScalars, read_charset, first_tag, tags_behind}
+use Rattle.cm_abi_model.specs.declared.region.Region.{Region}
+use Rattle.cm_abi_model.specs.Overlap.{AreDisjoint}
 
 -- what is wrong with one answer: it is not aligned, else what was asked for passes the end of the
 -- memory
@@ -66,11 +66,17 @@ IsFaultOfAnswers memory_length rs answers f =
     (first_fault memory_length rs answers ≡ Some f)
     ⊎ ((first_fault memory_length rs answers ≡ None) × IsFaultTogether (regions_of rs answers) f)
 
+-- The answers to requests will do in a memory of so many bytes: each is aligned with its region in
+-- the memory, and the regions of two parts have no address in common.
+pub record IsGood (memory_length : ℕ) (rs : List Request) (answers : List ℕ) : Type 0 where
+  pub each : first_fault memory_length rs answers ≡ None
+  pub apart : AreDisjoint (regions_of rs answers)
+
 -- parts can come from a source: the scalars of each string are spelled there, by its tag
 abbrev pub HaveScalars : StringEncoding → List Bool → List Part → Type 0
 HaveScalars source tags [] = ⊤
 HaveScalars source tags (p ∷ ps) =
-    HasScalars (charset source (first_tag tags)) p × HaveScalars source (tags_behind p tags) ps
+    HasScalars (read_charset source (first_tag tags)) p × HaveScalars source (tags_behind p tags) ps
 
 -- the elements of each list are counted in 32 bits
 abbrev pub AreCounted : List Part → Type 0

@@ -2,7 +2,7 @@
 -- choice).
 use Rattle.std.specs.Prelude.{ℕ, ⊤, ◌⊎◌, List, [], ◌∷◌}
 use Rattle.cm_abi_model.specs.Regions.{IsIn}
-use Rattle.cm_abi_requests.specs.declared.regions.Region.{Region}
+use Rattle.cm_abi_model.specs.declared.region.Region.{Region}
 
 -- an address is in one of the regions
 abbrev pub IsInOne : List Region → ℕ → Type 0

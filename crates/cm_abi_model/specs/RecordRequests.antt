@@ -3,12 +3,10 @@
 use Rattle.std.specs.Prelude.{ℕ, ◌*◌, ◌^◌, ◌<◌, ⊤, Bool, true, false, List, [], ◌∷◌, ◌++◌}
 use Rattle.cm_abi_model.specs.declared.encoding.StringEncoding.{StringEncoding}
 use Rattle.cm_abi_model.specs.declared.request.Request.{Request}
-use Rattle.cm_abi_model.specs.Requests.{chain, charset, stored_charset, text_sizes}
-use Rattle.cm_abi_lift.specs.cm_abi_load.declared.record.PartKind.{PartKind}
-use Rattle.cm_abi_lift.specs.cm_abi_load.declared.record.PartKind.TheVariants as kind
-use Rattle.cm_abi_lift.specs.cm_abi_load.declared.record.PartRecord.{PartRecord}
-use Rattle.cm_abi_requests.specs.declared.sizes.Sizes.{Sizes}
-use Rattle.cm_abi_requests.specs.declared.sizes.Sizes.TheVariants as sizes
+use Rattle.cm_abi_model.specs.Requests.{chain, read_charset, stored_charset, text_sizes}
+use Rattle.cm_abi_model.specs.declared.record.PartKind.{PartKind}
+use Rattle.cm_abi_model.specs.declared.record.PartKind.TheVariants as kind
+use Rattle.cm_abi_model.specs.declared.record.PartRecord.{PartRecord}
 
 -- a request that hands nothing back, and one in the place of the one before it
 abbrev pub first_request : ℕ → ℕ → Request
@@ -19,16 +17,10 @@ abbrev pub further_request : ℕ → ℕ → ℕ → Request
 further_request align old size =
     record { chained = true; old_size = old; align = align; size = size }
 
--- the sizes that are asked for one after another, as a list
-abbrev pub sizes_seen : Sizes → List ℕ
-sizes_seen (sizes.One a) = a ∷ []
-sizes_seen (sizes.Two a b) = a ∷ b ∷ []
-sizes_seen (sizes.Three a b c) = a ∷ b ∷ c ∷ []
-
 -- those for a part of this kind, which has so many units in its source and takes so many bytes
 abbrev pub kind_sizes : StringEncoding → StringEncoding → PartKind → ℕ → ℕ → List ℕ
 kind_sizes source target (kind.Text tag) count size =
-    text_sizes (charset source tag) (stored_charset target) count size
+    text_sizes (read_charset source tag) (stored_charset target) count size
 kind_sizes source target kind.Elements count size = size ∷ []
 
 -- the requests for the part of a record, one after another

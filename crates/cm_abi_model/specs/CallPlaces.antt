@@ -10,7 +10,7 @@ use Rattle.cm_abi_model.specs.FlatShows.{width_of}
 use Rattle.cm_abi_model.specs.Numbers.{wrapped_at}
 use Rattle.cm_abi_model.specs.Requests.{is_spilled, tuple_of}
 use Rattle.cm_abi_model.specs.Views.{View, Way}
-use Rattle.cm_abi_lift.specs.Places.{places_at, places_each}
+use Rattle.cm_abi_model.specs.Places.{places_at, places_each}
 
 abbrev mutual
   -- where the parts of the value that slots show begin, in reading order
