@@ -1,6 +1,6 @@
 //! From an imported function to the lifted one that it comes to.
 
-ghost use Rattle.std.specs.Prelude.{◌≡◌, IfSome, Some, length, slice_get, true};
+ghost use Rattle.std.specs.Prelude.{◌≡◌, IfSome, None, Some, length, slice_get, true};
 ghost use Rattle.std.specs.Option.{option_and_then, option_map};
 ghost use Rattle.cm_validate_model.specs.Spaces.{Spaces};
 ghost use Rattle.cm_types_placed.specs.Placed.{is_there};
@@ -112,6 +112,7 @@ pub(crate) fn target_within<'a>(
         component import item }
     ensures there { IfSome result (λ t. is_there
         (length (funcs_at (components_in linking.now) t.component)) t.ty ≡ true) }
+    ensures unmoved { IfSome result (λ t. t.ty.by ≡ None) }
 {
     let count = count.checked_sub(1)?;
     let serving = serving_func(linking, component, import, item)?;

@@ -8,7 +8,7 @@ use cm_match_serving::{Checked, Linking};
 use cm_types::ResourceId;
 
 impl<'a> Linked<'a> {
-    ghost use Rattle.std.specs.Prelude.{◌≡◌, IfSome, length, true};
+    ghost use Rattle.std.specs.Prelude.{◌≡◌, IfSome, None, length, true};
     ghost use Rattle.std.specs.Option.{option_map};
     ghost use Rattle.cm_types_placed.specs.Placed.{is_there};
     ghost use Rattle.cm_match_model.specs.Origins.{origin_of, resource_of};
@@ -47,12 +47,14 @@ impl<'a> Linked<'a> {
     /// it again. `component` is the place of the importing component in the set and `import` the
     /// number of the import; `item` is the number of an item of an imported instance, and None for
     /// a function that is an import of its own, all from 0. None is the answer where there is no
-    /// such function. At most 15 links are followed, and no memory is taken.
+    /// such function. The type of the lift is the one at its place: no import moved its resources.
+    /// At most 15 links are followed, and no memory is taken.
     pub fn target(&self, component: u32, import: usize, item: Option<usize>) -> Option<Target<'a>>
         ensures target { option_map (target_def (components_in self.now)) result
             ≡ targets_of (set_in self.now) (links_of (set_in self.now)) component import item }
         ensures there { IfSome result (λ t.
             is_there (length (funcs_at (components_in self.now) t.component)) t.ty ≡ true) }
+        ensures unmoved { IfSome result (λ t. t.ty.by ≡ None) }
     {
         let count = component as usize + 1;
         target_within(&self.linking(), count, component, import, item)

@@ -1,5 +1,5 @@
 -- One table alone has the origins.
-use Rattle.std.proofs.Common.{◌≡◌, ◌∙◌, ℕ, zero, suc, ◌<◌, List, Option, Some, None, refl, sym, ap, subst, arith, option_and_then, slice_get}
+use Rattle.std.proofs.Common.{◌≡◌, ◌∙◌, ℕ, zero, suc, ◌<◌, ◌≤◌, true, List, Option, Some, None, is_some, refl, sym, ap, subst, arith, option_and_then, slice_get}
 use Rattle.std.specs.Prelude.{unwrap_or}
 use Rattle.std.specs.Option.{option_map}
 use Rattle.cm_types.specs.declared.resource.ResourceId.{ResourceId}
@@ -81,3 +81,44 @@ pub brought_follows : (set : List Spaces) (links : Links) (table : Table) → Ar
     → definition_of set r ≡ Some (brought i k) → served set links r.component i k ≡ Some provided → table provided ≡ Some origin → table r ≡ Some origin
 brought_follows set links table a r provided origin i k h s t =
     a r ∙ ap (option_map (origin_by set links table r)) h ∙ ap (λ o. Some (unwrap_or (option_and_then table o) r)) s ∙ ap (λ o. Some (unwrap_or o r)) t
+
+-- ---- origins are of earlier components
+
+option_in : {A : Type 0} {x y : A} → Some x ≡ Some y → x ≡ y
+option_in {x = x} e = ap (λ o. unwrap_or o x) e
+
+mapped_by : {A B : Type 0} (f : A → B) (o : Option A) (y : B) → option_map f o ≡ Some y → (x : A) × (f x ≡ y)
+mapped_by f None y h = cc h
+mapped_by f (Some x) y h = (x, option_in h)
+
+-- a table leads to no later component
+abbrev LeadsBack : Table → Type 0
+LeadsBack table = (q z : ResourceId) → table q ≡ Some z → z.component ≤ q.component
+
+by_origin : (r q : ResourceId) (o : Option ResourceId) → ((z : ResourceId) → o ≡ Some z → z.component ≤ q.component) → q.component < r.component → (unwrap_or o r).component ≤ r.component
+by_origin r q None back lt = omega arith
+by_origin r q (Some z) back lt = omega (arith, back z refl, lt)
+
+by_served : (table : Table) (r : ResourceId) (o : Option ResourceId) → LeadsBack table → ((q : ResourceId) → o ≡ Some q → q.component < r.component) → (unwrap_or (option_and_then table o) r).component ≤ r.component
+by_served table r None back lt = omega arith
+by_served table r (Some q) back lt = by_origin r q (table q) (back q) (lt q refl)
+
+by_definition : (set : List Spaces) (links : Links) → LeadEarlier links → (table : Table) (r : ResourceId) (d : ResourceDef) → LeadsBack table → (origin_by set links table r d).component ≤ r.component
+by_definition set links early table r (defined x) back = omega arith
+by_definition set links early table r (brought i k) back = by_served table r (served set links r.component i k) back (λ q e. served_earlier set links r.component i k q early e)
+
+not_later : (set : List Spaces) (links : Links) → LeadEarlier links → (n : ℕ) → LeadsBack (origin_within n set links)
+not_later set links early zero r origin h = cc h
+not_later set links early (suc n) r origin h =
+    let d = mapped_by (origin_by set links (origin_within n set links) r) (definition_of set r) origin h in
+    subst (λ (q : ResourceId). q.component ≤ r.component) d.1 (by_definition set links early (origin_within n set links) r d.0 (not_later set links early n))
+
+pub earlier_origin : (set : List Spaces) (links : Links) → LeadEarlier links → (r origin : ResourceId) → origin_of set links r ≡ Some origin → origin.component ≤ r.component
+earlier_origin set links early r origin h = not_later set links early (suc r.component) r origin h
+
+still_some : {A B : Type 0} (f : A → B) (o : Option A) → is_some o ≡ true → is_some (option_map f o) ≡ true
+still_some f None h = cc h
+still_some f (Some x) h = refl
+
+pub origin_there : (set : List Spaces) (links : Links) (r : ResourceId) → is_some (definition_of set r) ≡ true → is_some (origin_of set links r) ≡ true
+origin_there set links r h = still_some (origin_by set links (origin_within r.component set links) r) (definition_of set r) h

@@ -1,7 +1,7 @@
 //! What holds of the definitions, as laws: each function here does nothing, and its contract is the
 //! law.
 
-ghost use Rattle.std.specs.Prelude.{◌≡◌, ℕ, List, Option, Some};
+ghost use Rattle.std.specs.Prelude.{◌≡◌, ◌≤◌, ℕ, List, Option, Some, is_some, true};
 ghost use Rattle.cm_types.specs.declared.resource.ResourceId.{ResourceId};
 ghost use Rattle.cm_validate_model.specs.Definitions.{brought, defined};
 ghost use Rattle.cm_validate_model.specs.Spaces.{Spaces};
@@ -28,4 +28,14 @@ pub fn origins_follow_links()
         → definition_of set r ≡ Some (brought import item)
         → served set links r.component import item ≡ Some provided
         → table provided ≡ Some origin → table r ≡ Some origin }
+{}
+
+/// Where imports are linked to earlier components, a resource is in the end one of its own
+/// component or of an earlier one; and each resource that is there is one in the end.
+pub fn origins_lead_earlier()
+    ensures earlier { (set : List Spaces) (links : Links) → LeadEarlier links
+        → (r origin : ResourceId) → origin_of set links r ≡ Some origin
+        → origin.component ≤ r.component }
+    ensures there { (set : List Spaces) (links : Links) (r : ResourceId)
+        → is_some (definition_of set r) ≡ true → is_some (origin_of set links r) ≡ true }
 {}

@@ -1,5 +1,3 @@
 mod PassingLaws
 mod ReasonLaws
 mod AnswerLaws
-mod FirstLaws
-mod PlacedLaws

@@ -16,7 +16,7 @@ use Rattle.cm_layout.specs.declared.layouts.Layout.{Layout, out-Layout}
 use Rattle.cm_types_arena.specs.Summaries.{summary_of}
 use Rattle.cm_types_arena.specs.TypeDefs.{params_type}
 use Rattle.cm_types_arena.specs.declared.summaries.Summary.{Summary}
-use Rattle.cm_validate_canons.specs.Placed.{at_place}
+use Rattle.cm_layout_placed.specs.Placed.{at_place}
 use Rattle.cm_validate_canons.specs.declared.passing.Passed.{Passed}
 use Rattle.cm_types_resources.specs.Replaced.{Standing, replaced, replaced_fields, replaced_cases, replaced_func}
 use Rattle.cm_types_arena.specs.Arena.{field_types}

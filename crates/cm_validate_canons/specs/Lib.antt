@@ -1,4 +1,3 @@
 pub mod Passing
 pub mod Types
 pub mod Spaces
-pub mod Placed

@@ -6,7 +6,7 @@ use Rattle.cm_types.specs.Types.{FuncTy}
 use Rattle.cm_layout.specs.Shapes.{LayoutTy}
 use Rattle.cm_layout.specs.FlatFuncs.{flat_func}
 use Rattle.cm_layout.specs.declared.flat_funcs.Side.TheVariants as side
-use Rattle.cm_validate_canons.specs.Placed.{at_place}
+use Rattle.cm_layout_placed.specs.Placed.{at_place}
 use Rattle.cm_validate_model.specs.Options.{is_pointer, params_hold, result_holds}
 use Rattle.cm_validate_canons.specs.declared.passing.Passed.{Passed}
 

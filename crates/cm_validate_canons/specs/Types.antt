@@ -3,7 +3,7 @@ use Rattle.std.specs.Prelude.{◌≡◌, List, map}
 use Rattle.cm_types.specs.Types.{Ty, FuncTy}
 use Rattle.cm_layout.specs.Shapes.{layout_at}
 use Rattle.cm_types_arena.specs.Places.{types_of, funcs_of}
-use Rattle.cm_validate_canons.specs.Placed.{layouts_in}
+use Rattle.cm_layout_placed.specs.Placed.{layouts_in}
 use Rattle.cm_validate_canons.specs.Passing.{params_passed, result_passed}
 use Rattle.cm_validate_canons.specs.declared.passing.FuncPassing.{FuncPassing}
 use Rattle.cm_validate_canons.specs.declared.types.LaidTypes.{LaidTypes}

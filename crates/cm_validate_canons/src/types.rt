@@ -1,6 +1,6 @@
 //! The types of a component, laid out.
 
-use crate::Layouts;
+use cm_layout_placed::Layouts;
 use cm_types_arena::Types;
 use cm_validate_entries::TypeEntry;
 

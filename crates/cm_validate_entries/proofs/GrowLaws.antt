@@ -1,5 +1,6 @@
 -- Entries among more types stand for what they stood for.
 use Rattle.std.proofs.Common.{◌≡◌, ℕ, ◌+◌, ◌<◌, ◌≤◌, Bool, true, false, ◌&&◌, List, [], ◌∷◌, ◌++◌, length, map, nat_lt, Option, Some, None, refl, sym, ap, ◌∙◌, arith, subst, length-append}
+use Rattle.std.specs.Prelude.{is_none}
 use Rattle.std.proofs.lemmas.Bool.{ltb-true, lt-ltb}
 use Rattle.std.proofs.lemmas.List.{get_or_append_left}
 use Rattle.std.specs.Borrow.{Bor}
@@ -23,7 +24,7 @@ use Rattle.cm_types_placed.specs.declared.signatures.ExternDesc.TheVariants as e
 use Rattle.cm_validate_model.specs.Definitions.{ExportDef, MemberDef, NamedMember, exported_func, exported_instance, func_member, func_type, imported, instance_type, lifted, type_member, value}
 use Rattle.cm_validate_model.specs.Counted.{IsCounted, IsFuncCounted}
 use Rattle.cm_validate_items.specs.InstanceTypes.{instance_type_of}
-use Rattle.cm_validate_types.specs.Entries.{def_of, is_entry_there}
+use Rattle.cm_validate_types.specs.Entries.{def_of, is_entry_there, is_at_place}
 use Rattle.cm_validate_types.specs.Settled.{AreItemsSettled, IsDescSettled, IsEntrySettled, WhereMoved}
 use Rattle.cm_validate_types.specs.declared.entries.TypeEntry.{TypeEntry}
 use Rattle.cm_validate_types.specs.declared.entries.TypeEntry.TheVariants as entry
@@ -80,7 +81,7 @@ module _ (types more : List Ty) (funcs others : List FuncTy) where
   func_kept p h = ap (replaced_func (moved_by p.by)) (get_or_append_left funcs others _ p.place (ltb-true p.place (length funcs) h))
 
   pub func_def_kept : (f : FuncEntry) → is_func_there (length funcs) f ≡ true → func_def G f ≡ func_def funcs f
-  func_def_kept (func.Lifted core_func p options) h = ap (λ (t : FuncTy). lifted core_func t options.now) (func_kept p h)
+  func_def_kept (func.Lifted core_func p options) h = ap (λ (t : FuncTy). lifted core_func t options.now) (func_kept p (left (is_there (length funcs) p) (is_none p.by) h))
   func_def_kept (func.Imported import number p) h = ap (imported import number) (func_kept p h)
 
   member_kept : (m : MemberEntry) → is_member_there (length types) (length funcs) m ≡ true → member_def U G m ≡ member_def types funcs m
@@ -137,7 +138,7 @@ module _ (types more : List Ty) (funcs others : List FuncTy) where
 
   pub type_def_kept : (e : TypeEntry) → is_entry_there (length types) (length funcs) e ≡ true → def_of U G e ≡ def_of types funcs e
   type_def_kept (entry.Value p) h = ap value (type_kept p h)
-  type_def_kept (entry.Func p) h = ap func_type (func_kept p h)
+  type_def_kept (entry.Func p) h = ap func_type (func_kept p (left (is_there (length funcs) p) (is_none p.by) h))
   type_def_kept (entry.Resource n) h = refl
   type_def_kept (entry.Instance i) h =
       ap (λ (is : List NamedItem). instance_type (record { items = is; first = (instance_type_of i.value).first; fresh = (instance_type_of i.value).fresh })) (items_kept (instance_type_of i.value).items.items h)
@@ -180,8 +181,12 @@ module _ (t u f g : ℕ) (types : t ≤ u) (funcs : f ≤ g) where
   below_more : (p m n : ℕ) → m ≤ n → nat_lt p m ≡ true → nat_lt p n ≡ true
   below_more p m n le h = let lt : p < m = ltb-true p m h in lt-ltb p n (omega arith)
 
+  at_place_more : (p : Placed) → is_at_place f p ≡ true → is_at_place g p ≡ true
+  at_place_more p h =
+      rw (below_more p.place f g funcs (left (is_there f p) (is_none p.by) h), right (is_there f p) (is_none p.by) h) refl
+
   pub func_there_more : (e : FuncEntry) → is_func_there f e ≡ true → is_func_there g e ≡ true
-  func_there_more (func.Lifted core_func p options) h = below_more p.place f g funcs h
+  func_there_more (func.Lifted core_func p options) h = at_place_more p h
   func_there_more (func.Imported import number p) h = below_more p.place f g funcs h
 
   member_there_more : (m : MemberEntry) → is_member_there t f m ≡ true → is_member_there u g m ≡ true
@@ -212,7 +217,7 @@ module _ (t u f g : ℕ) (types : t ≤ u) (funcs : f ≤ g) where
 
   pub type_there_more : (e : TypeEntry) → is_entry_there t f e ≡ true → is_entry_there u g e ≡ true
   type_there_more (entry.Value p) h = below_more p.place t u types h
-  type_there_more (entry.Func p) h = below_more p.place f g funcs h
+  type_there_more (entry.Func p) h = at_place_more p h
   type_there_more (entry.Resource n) h = refl
   type_there_more (entry.Instance i) h = items_there_more (instance_type_of i.value).items.items h
 

@@ -2,7 +2,7 @@
 use Rattle.std.proofs.Common.{◌≡◌, ℕ, zero, suc, ◌+◌, true, false, Bool, List, [], ◌∷◌, ◌++◌, length, map, Option, Some, None, refl, sym, ap, ◌∙◌, subst, append_assoc, not}
 use Rattle.std.proofs.lemmas.Option.{slice_get-map}
 use Rattle.std.specs.List.{AllByRecursion, slice_get}
-use Rattle.std.specs.Prelude.{option_to_list, is_some, nat_le, if◌then◌else◌}
+use Rattle.std.specs.Prelude.{option_to_list, is_none, is_some, nat_le, if◌then◌else◌}
 use Rattle.std.specs.Option.{option_map, option_map_or, option_and_then}
 use Rattle.std.specs.declared.alloc.Global.{Global}
 use Rattle.std.specs.declared.rc.Rc.{Rc}
@@ -11,7 +11,7 @@ use Rattle.cm_types.specs.Signatures.{NamedItem, NamedExtern}
 use Rattle.cm_types.specs.Signatures as externs
 use Rattle.cm_binary_model.specs.declared.externs.ExternDesc.TheVariants as desc
 use Rattle.cm_types_resources.specs.declared.moves.Move.{Move}
-use Rattle.cm_types_placed.specs.Placed.{moved_by, placed_func}
+use Rattle.cm_types_placed.specs.Placed.{is_there, moved_by, placed_func}
 use Rattle.cm_types_placed.specs.Instances.{are_items_there, items_of, replaced_item}
 use Rattle.cm_types_placed.specs.declared.instances.InstanceType.{InstanceType}
 use Rattle.cm_types_placed.specs.declared.placed.Placed.{Placed}
@@ -49,6 +49,7 @@ use Rattle.cm_validate_entries.specs.declared.entries.InstanceEntry.TheVariants 
 use Rattle.cm_validate_items.specs.declared.items.InstanceItems.{InstanceItems}
 use Rattle.cm_validate_items.specs.declared.ranges.Resources.{Resources}
 use Rattle.cm_validate_entries.specs.declared.spaces.ComponentSpaces.{ComponentSpaces}
+use Rattle.cm_validate_entries.proofs.MemberLaws.{both_left}
 use Rattle.cm_validate_entries.proofs.MoveLaws.{Laws, all_brought, items_told, members_told}
 use Rattle.cm_validate_entries.proofs.StepLaws.{all_found, all_more, all_same, grown, known_after, known_same, mapped_more, mapped_same, none_more}
 
@@ -148,9 +149,11 @@ module _ (types : List Ty) (funcs : List FuncTy) (old mid new : ComponentSpaces)
       let func_is : new_funcs s x ≡ imported (length old.imports.items) None (placed_func funcs p) ∷ [] =
       ap (λ (o : Option FuncTy). option_to_list (option_map (imported (next_import s) None) o)) at ∙ ap (λ n. imported n None (placed_func funcs p) ∷ []) number in
       let import_is : new_imports s x ≡ record { name = name; desc = externs.func (placed_func funcs p) } ∷ [] = ap (λ (o : Option FuncTy). option_to_list (option_map (λ d. record { name = name; desc = d }) (option_map externs.func o))) at in
+      let there : is_there (length funcs) p ≡ true =
+      both_left (is_there (length funcs) p) (is_none p.by) (all_found (is_entry_there (length types) (length funcs)) es i (entry.Func p) t.types_there is) in
       grown types funcs old new s x r (record {
         funcs_added = mapped_more (func_def funcs) old.funcs.items new.funcs.items (func.Imported (length old.imports.items) None p) now_funcs ∙ ap (λ v. map (func_def funcs) old.funcs.items ++ v) (sym func_is);
-        funcs_there = all_more (is_func_there (length funcs)) old.funcs.items new.funcs.items (func.Imported (length old.imports.items) None p) now_funcs r.funcs_there (all_found (is_entry_there (length types) (length funcs)) es i (entry.Func p) t.types_there is);
+        funcs_there = all_more (is_func_there (length funcs)) old.funcs.items new.funcs.items (func.Imported (length old.imports.items) None p) now_funcs r.funcs_there there;
         instances_added = mapped_same (members_of types funcs) old.instances.items new.instances.items (ap (λ v. v.items) (b.instances ∙ a.instances));
         instances_there = all_same (are_members_there (length types) (length funcs)) old.instances.items new.instances.items (ap (λ v. v.items) (b.instances ∙ a.instances)) r.instances_there;
         resources_added = none_more (resources_in old.resources) (resources_in new.resources) (ap resources_in (b.resources ∙ a.resources));
@@ -158,7 +161,7 @@ module _ (types : List Ty) (funcs : List FuncTy) (old mid new : ComponentSpaces)
         import_names_added = known_after old.import_names mid.import_names new.import_names name (map (λ (y : NamedExtern). y.name) (new_imports s x)) a.import_names b.named (ap (map (λ (y : NamedExtern). y.name)) import_is);
         exports_added = mapped_same (export_def types funcs) old.exports.items new.exports.items (ap (λ v. v.items) (b.exports ∙ a.exports));
         export_names_added = known_same old.export_names new.export_names [] (b.export_names ∙ a.export_names) refl;
-        imports_there = all_more (λ (e : Extern). is_extern_there (length types) (length funcs) e.desc) old.imports.items new.imports.items (record { name = name; desc = extern.Func p }) now_imports r.imports_there (all_found (is_entry_there (length types) (length funcs)) es i (entry.Func p) t.types_there is);
+        imports_there = all_more (λ (e : Extern). is_extern_there (length types) (length funcs) e.desc) old.imports.items new.imports.items (record { name = name; desc = extern.Func p }) now_imports r.imports_there there;
         exports_there = all_same (λ (e : ExportEntry). is_exported_there (length types) (length funcs) e.def) old.exports.items new.exports.items (ap (λ v. v.items) (b.exports ∙ a.exports)) r.exports_there;
       })
 

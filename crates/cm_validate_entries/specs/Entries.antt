@@ -21,6 +21,7 @@ use Rattle.cm_validate_model.specs.Definitions.{MemberDef}
 use Rattle.cm_validate_model.specs.Definitions.{func_member, type_member, NamedMember}
 use Rattle.cm_validate_items.specs.InstanceTypes.{instance_type_of}
 use Rattle.cm_validate_items.specs.declared.items.InstanceItems.{InstanceItems}
+use Rattle.cm_validate_types.specs.Entries.{is_at_place}
 use Rattle.cm_validate_types.specs.declared.entries.TypeEntry.{TypeEntry}
 use Rattle.cm_validate_types.specs.declared.entries.TypeEntry.TheVariants as entry
 use Rattle.cm_validate_entries.specs.declared.entries.FuncEntry.{FuncEntry}
@@ -97,7 +98,7 @@ members_of types funcs (instance.Exporting members) =
 -- ---- their places are among so many types, and so many types of functions
 
 abbrev pub is_func_there : ℕ → FuncEntry → Bool
-is_func_there funcs (func.Lifted core_func ty options) = is_there funcs ty
+is_func_there funcs (func.Lifted core_func ty options) = is_at_place funcs ty
 is_func_there funcs (func.Imported import number ty) = is_there funcs ty
 
 abbrev pub is_member_there : ℕ → ℕ → MemberEntry → Bool

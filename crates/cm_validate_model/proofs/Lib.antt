@@ -6,4 +6,6 @@ pub mod SpaceLaws
 mod ListLemmas
 mod ItemLaws
 mod ImportedLaws
+mod Stepping
+mod BorrowLaws
 mod NamedLaws

@@ -106,7 +106,7 @@ value_of_def n (Some (resource k)) h = tt {0}
 value_of_def n (Some (instance_type i)) h = tt {0}
 value_of_def n (Some faulty) h = tt {0}
 
-resource_of_def : (n : ℕ) (o : Option TypeDef) → IfSome o (IsDefCounted n) → IfSome (option_and_then resource_in o) (λ k. k < n)
+pub resource_of_def : (n : ℕ) (o : Option TypeDef) → IfSome o (IsDefCounted n) → IfSome (option_and_then resource_in o) (λ k. k < n)
 resource_of_def n None h = tt {0}
 resource_of_def n (Some (value t)) h = tt {0}
 resource_of_def n (Some (func_type f)) h = tt {0}

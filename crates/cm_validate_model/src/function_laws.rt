@@ -2,12 +2,13 @@
 //! contract is the law.
 
 ghost use Rattle.std.specs.Prelude.{List};
+ghost use Rattle.std.specs.List.{AllByRecursion};
 ghost use Rattle.cm_binary_model.specs.Trees.{SectionTree};
 ghost use Rattle.cm_validate_model.specs.Items.{all_items};
 ghost use Rattle.cm_validate_model.specs.Spaces.{spaces_of};
 ghost use Rattle.cm_validate_model.specs.Valid.{IsValid};
 ghost use Rattle.cm_validate_model.specs.Imported.{IsAsImported, IsLoweredAsImported};
-ghost use Rattle.cm_validate_model.specs.Named.{IsLiftWhole, IsLowerWhole};
+ghost use Rattle.cm_validate_model.specs.Named.{IsCoreWhole, IsLiftWhole, IsResourceWhole};
 ghost use Rattle.cm_validate_model.specs.Sources.{IsAdded, IsCoreAdded, OfFunctions};
 
 /// Wherever in the index spaces of a component, valid or not, a function is one that a lift or an
@@ -27,12 +28,19 @@ pub fn functions_are_as_imported()
     functions_come_from_items();
 }
 
-/// In a valid component, a lift is of a guest's core function, the options of lifts and lowers name
-/// memories and guests' core functions, and they are all that the types need.
+/// In a valid component, a lift is of a guest's core function, and its result holds no borrow; the
+/// options of lifts and lowers name memories and guests' core functions, and they are all that the
+/// types need; handles are made, and read, of the component's own resources.
 pub fn what_functions_name_is_there()
     ensures { (sections : List SectionTree) → IsValid sections
-        → OfFunctions (IsLiftWhole (spaces_of sections)) (IsLowerWhole (spaces_of sections))
+        → OfFunctions (IsLiftWhole (spaces_of sections)) (IsCoreWhole (spaces_of sections))
         (spaces_of sections) }
 {
     functions_come_from_items();
 }
+
+/// In a valid component, a destructor is a guest's core function.
+pub fn destructors_are_guests()
+    ensures { (sections : List SectionTree) → IsValid sections
+        → AllByRecursion (IsResourceWhole (spaces_of sections)) (spaces_of sections).resources }
+{}

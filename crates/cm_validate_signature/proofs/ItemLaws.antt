@@ -1,14 +1,16 @@
 -- The items that members are.
-use Rattle.std.proofs.Common.{◌≡◌, ℕ, zero, suc, add-one, ◌+◌, ◌<◌, ◌≤◌, Bool, ◌&&◌, List, [], ◌∷◌, ◌++◌, length, map, take, get_or, Some, None, refl, sym, ap, ◌∙◌, slice_get, arith, subst, Result, Ok, Err, IfOk}
+use Rattle.std.proofs.Common.{◌≡◌, ℕ, zero, suc, add-one, ◌+◌, ◌<◌, ◌≤◌, Bool, true, false, ◌&&◌, List, [], ◌∷◌, ◌++◌, length, map, take, get_or, Some, None, refl, sym, ap, ◌∙◌, slice_get, arith, subst, Result, Ok, Err, IfOk}
 use Rattle.std.proofs.lemmas.List.{map-append, take_all, take_more}
 use Rattle.std.specs.Borrow.{Bor}
 use Rattle.std.specs.List.{list_all}
+use Rattle.std.specs.Option.{is_some}
+use Rattle.std.specs.Prelude.{not}
 use Rattle.cm_types.specs.Signatures.{NamedItem}
 use Rattle.cm_types.specs.Types.{Ty, FuncTy}
 use Rattle.cm_types_resources.specs.Replaced.{replaced, replaced_func}
 use Rattle.cm_types_resources.specs.declared.moves.Move.{Move}
 use Rattle.cm_types_placed.specs.Instances.{are_items_there, is_desc_there, item_of, items_of, replaced_item}
-use Rattle.cm_types_placed.specs.Placed.{moved_by}
+use Rattle.cm_types_placed.specs.Placed.{is_there, moved_by}
 use Rattle.cm_types_placed.specs.declared.instances.Item.{Item}
 use Rattle.cm_types_placed.specs.declared.instances.ItemDesc.{ItemDesc}
 use Rattle.cm_types_placed.specs.declared.instances.ItemDesc.TheVariants as item
@@ -73,17 +75,30 @@ members_are types funcs (m ∷ ms) =
     ap (λ (is : List NamedItem). item_of types funcs (member_item m) ∷ is) (members_are types funcs ms)
     ∙ ap (λ (is : List NamedItem). is ++ items_of_members (map (named_member types funcs) ms)) (desc_is types funcs m.0.now m.1)
 
-desc_there : (types funcs : ℕ) (m : MemberEntry) → is_desc_there types funcs (member_desc m) ≡ is_member_there types funcs m
-desc_there types funcs (member.Func (func.Lifted core_func ty options)) = refl
-desc_there types funcs (member.Func (func.Imported import number ty)) = refl
-desc_there types funcs (member.Value p) = refl
-desc_there types funcs (member.Resource n) = refl
+and_left : (a b : Bool) → (a && b) ≡ true → a ≡ true
+and_left true b e = refl
+and_left false b e = e
 
-pub members_there : (types funcs : ℕ) (ms : List (Bor (List ℕ) × MemberEntry)) → are_items_there types funcs (map member_item ms) ≡ list_all (λ e. is_member_there types funcs e.1) ms
-members_there types funcs [] = refl
-members_there types funcs (m ∷ ms) =
-    ap (λ (b : Bool). b && are_items_there types funcs (map member_item ms)) (desc_there types funcs m.1)
-    ∙ ap (λ (b : Bool). is_member_there types funcs m.1 && b) (members_there types funcs ms)
+and_right : (a b : Bool) → (a && b) ≡ true → b ≡ true
+and_right true b e = e
+and_right false b e = absurd cc
+
+both : (a b : Bool) → a ≡ true → b ≡ true → (a && b) ≡ true
+both true b is e = e
+both false b is e = is
+
+desc_there : (types funcs : ℕ) (m : MemberEntry) → is_member_there types funcs m ≡ true → is_desc_there types funcs (member_desc m) ≡ true
+desc_there types funcs (member.Func (func.Lifted core_func ty options)) h = and_left (is_there funcs ty) (not (is_some ty.by)) h
+desc_there types funcs (member.Func (func.Imported import number ty)) h = h
+desc_there types funcs (member.Value p) h = h
+desc_there types funcs (member.Resource n) h = h
+
+pub members_there : (types funcs : ℕ) (ms : List (Bor (List ℕ) × MemberEntry)) → list_all (λ e. is_member_there types funcs e.1) ms ≡ true → are_items_there types funcs (map member_item ms) ≡ true
+members_there types funcs [] h = refl
+members_there types funcs (m ∷ ms) h =
+    both (is_desc_there types funcs (member_desc m.1)) (are_items_there types funcs (map member_item ms))
+    (desc_there types funcs m.1 (and_left (is_member_there types funcs m.1) (list_all (λ e. is_member_there types funcs e.1) ms) h))
+    (members_there types funcs ms (and_right (is_member_there types funcs m.1) (list_all (λ e. is_member_there types funcs e.1) ms) h))
 
 -- ---- an instance that is imported
 

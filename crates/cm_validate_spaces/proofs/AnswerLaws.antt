@@ -3,7 +3,7 @@ use Rattle.std.specs.List.{AllByRecursion}
 use Rattle.std.specs.Prelude.{is_some}
 use Rattle.std.proofs.Common.{◌≡◌, ℕ, true, false, List, [], ◌++◌, map, Option, Some, None, refl, sym, ap, ◌∙◌, subst, append-nil, MatchOption}
 use Rattle.cm_types.specs.Types.{Ty, FuncTy}
-use Rattle.cm_validate_canons.specs.Placed.{AreOfFirst, layouts_in}
+use Rattle.cm_layout_placed.specs.Placed.{AreOfFirst, layouts_in}
 use Rattle.cm_layout.specs.Shapes.{LayoutTy}
 use Rattle.cm_validate_model.specs.declared.fault.ValidReason.{ValidReason}
 use Rattle.cm_validate_model.specs.Definitions.{CoreFuncDef, TypeDef}

@@ -8,8 +8,8 @@ use Rattle.std.specs.Option.{option_and_then, option_map}
 use Rattle.cm_types.specs.Types.{Ty, FuncTy}
 use Rattle.cm_binary_model.specs.Trees.{CanonTree, lift, lower, resource_drop, resource_new, resource_rep}
 use Rattle.cm_binary_model.specs.declared.canons.CanonOption.{CanonOption}
-use Rattle.cm_validate_canons.specs.Placed.{AreOfFirst, layouts_in}
-use Rattle.cm_validate_canons.specs.declared.layouts.Layouts.{Layouts}
+use Rattle.cm_layout_placed.specs.Placed.{AreOfFirst, layouts_in}
+use Rattle.cm_layout_placed.specs.declared.layouts.Layouts.{Layouts}
 use Rattle.cm_validate_model.specs.declared.fault.ValidReason.{ValidReason}
 use Rattle.cm_validate_model.specs.declared.fault.ValidReason.TheVariants as reason
 use Rattle.cm_validate_model.specs.Definitions.{CoreFuncDef, FuncDef, TypeDef, dropping, faulty, func_type, imported, instance_type, lifted, making, reading, resource, sort_of, value}

@@ -3,7 +3,7 @@
 use Rattle.std.specs.Prelude.{◌≡◌, ℕ, true, List, length, map, Option}
 use Rattle.std.specs.List.{list_all}
 use Rattle.cm_types.specs.Types.{Ty, FuncTy}
-use Rattle.cm_validate_canons.specs.Placed.{AreOfFirst, layouts_in}
+use Rattle.cm_layout_placed.specs.Placed.{AreOfFirst, layouts_in}
 use Rattle.cm_validate_model.specs.declared.fault.ValidReason.{ValidReason}
 use Rattle.cm_validate_model.specs.Definitions.{CoreFuncDef}
 use Rattle.cm_validate_model.specs.Items.{Item}

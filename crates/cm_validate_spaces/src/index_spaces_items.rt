@@ -2,8 +2,8 @@
 
 use crate::spaces::IndexSpaces;
 use cm_binary_model::{Export, Import, Instance, InstanceExportSort};
+use cm_layout_placed::laws::first_layouts_stay;
 use cm_types::OuterType;
-use cm_validate_canons::arena_layouts_laws::first_layouts_stay;
 use cm_validate_core::laws::others_add_nothing as core_stays;
 use cm_validate_entries::Aliased;
 use cm_validate_entries::laws::{entries_stay, others_add_nothing as component_stays};

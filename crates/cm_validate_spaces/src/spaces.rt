@@ -1,8 +1,8 @@
 //! The index spaces of a component.
 
 use crate::made::MadeFunc;
-use cm_validate_canons::Layouts;
-use cm_validate_canons::arena_layouts_laws::first_layouts_stay;
+use cm_layout_placed::Layouts;
+use cm_layout_placed::laws::first_layouts_stay;
 use cm_validate_core::CoreSpaces;
 use cm_validate_entries::ComponentSpaces;
 use cm_validate_types::TypeScope;

@@ -1,8 +1,8 @@
 //! Definitions of types.
 
 use crate::spaces::IndexSpaces;
+use cm_layout_placed::laws::first_layouts_stay;
 use cm_types::{Declaration, DefType, DefValType, FuncType};
-use cm_validate_canons::arena_layouts_laws::first_layouts_stay;
 use cm_validate_core::laws::others_add_nothing as core_stays;
 use cm_validate_entries::laws::{entries_stay, others_add_nothing as component_stays};
 use cm_validate_inline_exports::define_instance;

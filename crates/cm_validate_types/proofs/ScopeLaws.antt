@@ -1,5 +1,6 @@
 -- What entries stand for, also among more types.
 use Rattle.std.proofs.Common.{inl, inr, ◌≡◌, ℕ, zero, suc, ◌<◌, ◌≤◌, Bool, true, false, ◌&&◌, List, [], ◌∷◌, ◌++◌, length, map, get_or, nat_lt, Option, Some, None, refl, sym, ap, ◌∙◌, arith, slice_get, unwrap_or, append-nil, length-append, Result, Ok, Err, OnOk, OnErr}
+use Rattle.std.specs.Prelude.{is_none}
 use Rattle.std.specs.List.{list_all}
 use Rattle.std.specs.Option.{option_map, option_and_then}
 use Rattle.std.proofs.lemmas.Bool.{ltb-true, lt-ltb, cases_lt}
@@ -83,7 +84,7 @@ module _ (types more : List Ty) (funcs others : List FuncTy) where
 
   def_kept : (e : TypeEntry) → is_entry_there (length types) (length funcs) e ≡ true → def_of (types ++ more) (funcs ++ others) e ≡ def_of types funcs e
   def_kept (entry.Value p) h = ap (λ t. value (replaced (moved_by p.by) t)) (type_kept p.place h)
-  def_kept (entry.Func p) h = ap (λ f. func_type (replaced_func (moved_by p.by) f)) (func_kept p.place h)
+  def_kept (entry.Func p) h = ap (λ f. func_type (replaced_func (moved_by p.by) f)) (func_kept p.place (both_left (nat_lt p.place (length funcs)) (is_none p.by) h))
   def_kept (entry.Resource n) h = refl
   def_kept (entry.Instance i) h = ap (λ is. instance_type (record { items = is; first = i.value.ty.value.first; fresh = i.value.ty.value.fresh })) (items_kept i.value.ty.value.items.items h)
 
@@ -113,7 +114,8 @@ module _ (t u f g : ℕ) (types : t ≤ u) (funcs : f ≤ g) where
 
   placed_more : (e : TypeEntry) → is_entry_there t f e ≡ true → is_entry_there u g e ≡ true
   placed_more (entry.Value p) h = below_more p.place t u types h
-  placed_more (entry.Func p) h = below_more p.place f g funcs h
+  placed_more (entry.Func p) h =
+      rw (below_more p.place f g funcs (both_left (nat_lt p.place f) (is_none p.by) h), both_right (nat_lt p.place f) (is_none p.by) h) refl
   placed_more (entry.Resource n) h = refl
   placed_more (entry.Instance i) h = items_more i.value.ty.value.items.items h
 

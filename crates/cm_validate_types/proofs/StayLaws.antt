@@ -1,6 +1,6 @@
 -- What moves brought into the types of a scope, while they are read.
-use Rattle.std.proofs.Common.{◌≡◌, ℕ, zero, suc, Bool, true, false, ◌&&◌, List, [], ◌∷◌, ◌++◌, length, Option, Some, None, Result, Ok, Err, OnOk, OnErr, refl, sym, ap, subst, ◌∙◌}
-use Rattle.std.specs.Prelude.{slice_set}
+use Rattle.std.proofs.Common.{◌≡◌, ℕ, zero, suc, Bool, true, false, ◌&&◌, List, [], ◌∷◌, ◌++◌, length, nat_lt, Option, Some, None, Result, Ok, Err, OnOk, OnErr, refl, sym, ap, subst, ◌∙◌}
+use Rattle.std.specs.Prelude.{is_none, slice_set}
 use Rattle.std.specs.List.{AllByRecursion, list_all}
 use Rattle.cm_types.specs.Types.{Ty, FuncTy}
 use Rattle.cm_types_resources.specs.Replaced.{replaced, replaced_func}
@@ -92,7 +92,7 @@ module _ (t u : List Ty) (f g : List FuncTy) (p : Extends t u) (q : Extends f g)
 
   entry_moved : (n : ℕ) (e : TypeEntry) → is_entry_there (length t) (length f) e ≡ true → IsMovedCounted t f n e → IsMovedCounted u g n e
   entry_moved n (entry.Value x) h w = type_stays x n h w
-  entry_moved n (entry.Func x) h w = func_stays x n h w
+  entry_moved n (entry.Func x) h w = func_stays x n (both_left (nat_lt x.place (length f)) (is_none x.by) h) w
   entry_moved n (entry.Resource r) h w = tt
   entry_moved n (entry.Instance i) h w = tt
 

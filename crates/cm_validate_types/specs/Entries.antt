@@ -1,11 +1,12 @@
 -- What the entries of a scope stand for, among the types of an arena.
-use Rattle.std.specs.Prelude.{ℕ, Bool, true, List, length}
+use Rattle.std.specs.Prelude.{ℕ, Bool, true, ◌&&◌, is_none, List, length}
 use Rattle.std.specs.List.{list_all}
 use Rattle.cm_types.specs.Types.{Ty, FuncTy}
 use Rattle.cm_types_arena.specs.TypeDefs.{type_at}
 use Rattle.cm_types_placed.specs.Instances.{items_of, are_items_there}
 use Rattle.cm_types_placed.specs.Placed.{placed_type, placed_func, is_there}
 use Rattle.cm_types_placed.specs.declared.instances.InstanceType.{InstanceType}
+use Rattle.cm_types_placed.specs.declared.placed.Placed.{Placed}
 use Rattle.cm_validate_model.specs.Definitions.{TypeDef, value, func_type, resource, instance_type}
 use Rattle.cm_validate_model.specs.Definitions.{InstanceTy}
 use Rattle.cm_validate_model.specs.declared.sorts.TypeSort.{TypeSort}
@@ -44,9 +45,13 @@ entry_sort (entry.Instance i) = sort.Instance
 
 -- ---- their places are among so many types, and so many types of functions
 
+-- the place of a function's type is one of so many, and no import moved it
+abbrev pub is_at_place : ℕ → Placed → Bool
+is_at_place count p = is_there count p && is_none p.by
+
 abbrev pub is_entry_there : ℕ → ℕ → TypeEntry → Bool
 is_entry_there types funcs (entry.Value p) = is_there types p
-is_entry_there types funcs (entry.Func p) = is_there funcs p
+is_entry_there types funcs (entry.Func p) = is_at_place funcs p
 is_entry_there types funcs (entry.Resource n) = true
 is_entry_there types funcs (entry.Instance i) =
     are_items_there types funcs (instance_type_of i.value).items.items

@@ -1,5 +1,5 @@
 use Rattle.std.proofs.Common.{arith, nat_le, refl, slice_index_or}
-use Rattle.cm_validate_canons.specs.Placed.{at_place, layouts_in}
+use Rattle.cm_layout_placed.specs.Placed.{at_place, layouts_in}
 use Rattle.cm_validate_canons.specs.Passing.{widths_at}
 use Rattle.cm_validate_canons.proofs.PassingLaws.{ended, goes_on, seen_width, too_many}
 use Rattle.cm_validate_canons.proofs.passing.pass_more.Goals as goal

@@ -1,5 +1,5 @@
 use Rattle.std.proofs.Common.{◌≡◌, drop, nat_le}
-use Rattle.cm_validate_canons.specs.Placed.{layouts_in}
+use Rattle.cm_layout_placed.specs.Placed.{layouts_in}
 use Rattle.cm_validate_canons.specs.Passing.{widths_at}
 use Rattle.cm_validate_canons.proofs.passing.pass_more.Given as goal
 

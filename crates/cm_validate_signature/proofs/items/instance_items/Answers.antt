@@ -52,6 +52,6 @@ returns-in-Exporting-clause-there c =
     (λ (is : List Item). (types funcs : ℕ) → are_members_there types funcs c.args.instance.now ≡ true → are_items_there types funcs is ≡ true)
     (λ types funcs h.
     members_there types funcs es
-    ∙ ap (λ m. list_all (λ e. is_member_there types funcs e.1) (entries_of m)) c.deref-in-Exporting.ensures
-    ∙ sym (ap (are_members_there types funcs) c.in-Exporting.is) ∙ h)
+    (ap (λ m. list_all (λ e. is_member_there types funcs e.1) (entries_of m)) c.deref-in-Exporting.ensures
+    ∙ sym (ap (are_members_there types funcs) c.in-Exporting.is) ∙ h))
     c.member_items.ensures

@@ -1,7 +1,7 @@
 use Rattle.std.proofs.Common.{List, subst}
 use Rattle.cm_binary_model.specs.Trees.{lift}
 use Rattle.cm_types.specs.Types.{Ty}
-use Rattle.cm_validate_canons.specs.Placed.{AreOfFirst, layouts_in}
+use Rattle.cm_layout_placed.specs.Placed.{AreOfFirst, layouts_in}
 use Rattle.cm_validate_canons.specs.Spaces.{Answers as CanonAnswers}
 use Rattle.cm_validate_spaces.proofs.AnswerLaws.{types_at}
 use Rattle.cm_validate_spaces.proofs.CanonLaws.{lift_answer, placed_in}

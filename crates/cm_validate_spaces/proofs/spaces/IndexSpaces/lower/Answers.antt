@@ -1,7 +1,7 @@
 use Rattle.std.proofs.Common.{List, subst, sym, refl}
 use Rattle.cm_binary_model.specs.Trees.{CanonTree, canon_tree}
 use Rattle.cm_types.specs.Types.{Ty}
-use Rattle.cm_validate_canons.specs.Placed.{AreOfFirst, layouts_in}
+use Rattle.cm_layout_placed.specs.Placed.{AreOfFirst, layouts_in}
 use Rattle.cm_validate_model.specs.Items.{canon_item}
 use Rattle.cm_validate_spaces.specs.IndexSpaces.{Answers, funcs_in, types_in}
 use Rattle.cm_validate_spaces.specs.Making.{Makes}

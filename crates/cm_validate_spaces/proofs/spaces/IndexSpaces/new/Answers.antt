@@ -1,6 +1,6 @@
 use Rattle.std.proofs.Common.{ap, length, sym, subst, ◌∙◌, List}
 use Rattle.std.specs.List.{AllByRecursion, list_all}
-use Rattle.cm_validate_canons.specs.Placed.{AreOfFirst}
+use Rattle.cm_layout_placed.specs.Placed.{AreOfFirst}
 use Rattle.cm_layout.specs.Shapes.{LayoutTy}
 use Rattle.cm_validate_types.specs.Settled.{IsEntrySettled}
 use Rattle.cm_validate_types.specs.TypeScopes.{arena_funcs, arena_types}

@@ -1,0 +1,4 @@
+mod FirstLaws
+mod PlacedLaws
+mod ReplacedLaws
+mod KindLaws

@@ -1,0 +1,7 @@
+use Rattle.std.proofs.Common.{◌≡◌, map, take}
+use Rattle.cm_layout_placed.specs.Kinds.{in_turn, kinds_at}
+use Rattle.cm_layout_placed.proofs.kinds.kinds_in_turn.Given as goal
+
+abbrev pub invariant-loop-place : goal.invariant-loop-place
+invariant-loop-place l =
+    l.all.items ≡ take 16 (in_turn (map (kinds_at (map (λ v. v.items) l.kinds)) (take l.place-index l.places)))
