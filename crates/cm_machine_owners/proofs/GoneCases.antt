@@ -13,7 +13,7 @@ use Rattle.cm_handles.specs.declared.fault.HandleFault.{HandleFault}
 use Rattle.cm_handles.specs.declared.fault.HandleFault.TheVariants as handle_fault
 use Rattle.cm_handles.specs.declared.handle.Handle.{Handle}
 use Rattle.cm_handles.specs.declared.handle.HandleKind.TheVariants as handle
-use Rattle.cm_abi.specs.Calls.{owned_in}
+use Rattle.cm_abi_model.specs.HandleLeaves.{owned_in}
 use Rattle.cm_abi_model.specs.Denotes.{Denotes}
 use Rattle.cm_abi_model.specs.Numbers.{slot_at}
 use Rattle.cm_abi_model.specs.Receives.{HandleLeaf, borrowed_leaf, leaves_in, owned_leaf}

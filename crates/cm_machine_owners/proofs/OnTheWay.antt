@@ -1,7 +1,7 @@
 -- Why each resource has one place, and why those on their way are the sent value's.
 use Rattle.std.proofs.Common.{◌≡◌, ℕ, List, [], ◌∷◌, length, Some, None, ap, ◌∙◌}
 use Rattle.std.specs.Prelude.{⊤}
-use Rattle.cm_abi.specs.Calls.{owned_in}
+use Rattle.cm_abi_model.specs.HandleLeaves.{owned_in}
 use Rattle.cm_abi_model.specs.Receives.{HandleLeaf}
 use Rattle.cm_machine_rules.specs.declared.frame.Call.{Call}
 use Rattle.cm_machine_rules.specs.declared.frame.Frame.{Frame}

@@ -23,11 +23,11 @@ use Rattle.cm_abi_model.specs.Numbers.{slot_at}
 use Rattle.cm_abi_model.specs.Requests.{is_spilled}
 use Rattle.cm_abi_model.specs.Taken.{Transferable}
 use Rattle.cm_abi_model.specs.Views.{Way, params, results}
-use Rattle.cm_abi_lower.specs.Giving.{added_count}
-use Rattle.cm_abi_lower.specs.declared.receiver.Receiver.{Receiver}
-use Rattle.cm_abi_requests.specs.Answering.{answer_fault, regions_of}
-use Rattle.cm_abi_requests.specs.Overlap.{AreDisjoint}
-use Rattle.cm_abi_requests.specs.RequestingAsking.{last_answer}
+use Rattle.cm_abi_model.specs.Giving.{added_count}
+use Rattle.cm_abi_model.specs.declared.receiver.Receiver.{Receiver}
+use Rattle.cm_abi_model.specs.Answering.{answer_fault, regions_of}
+use Rattle.cm_abi_model.specs.Overlap.{AreDisjoint}
+use Rattle.cm_abi_model.specs.Answered.{last_answer}
 use Rattle.cm_machine_model.specs.declared.event.Event.{Event}
 use Rattle.cm_machine_model.specs.declared.event.Event.TheVariants as event
 use Rattle.cm_machine_model.specs.declared.event.Trap.{Trap}

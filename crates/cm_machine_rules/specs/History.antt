@@ -1,7 +1,7 @@
 -- Whole histories of a set: what was done, and what the machine answered (this project's own
 -- choice).
 use Rattle.std.specs.Prelude.{◌≡◌, ℕ, ⊤, Bool, true, false, List, [], ◌∷◌, None, length}
-use Rattle.cm_abi.specs.Calls.{AreBytes}
+use Rattle.cm_abi_model.specs.Bytes.{AreBytes}
 use Rattle.cm_machine_model.specs.declared.event.Event.{Event}
 use Rattle.cm_machine_model.specs.declared.event.Event.TheVariants as event
 use Rattle.cm_machine_model.specs.declared.moves.Move.{Move}
@@ -10,7 +10,8 @@ use Rattle.cm_machine_rules.specs.Plan.{Plan}
 use Rattle.cm_machine_rules.specs.Plans.{IsPlan}
 use Rattle.cm_machine_rules.specs.State.{State, are_page_counts, fresh_state}
 use Rattle.cm_machine_rules.specs.Step.{Step}
-use Rattle.cm_machine_rules.specs.Run.{is_last, after_begin, misuse_of_begin}
+use Rattle.cm_machine_model.specs.Events.{is_last}
+use Rattle.cm_machine_rules.specs.Run.{after_begin, misuse_of_begin}
 
 -- a host begins a root call of an instance, or the acting guest makes a move
 pub data Action : Type 0 where

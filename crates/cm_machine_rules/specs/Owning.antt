@@ -11,7 +11,7 @@ use Rattle.cm_handles.specs.declared.handle.HandleKind.TheVariants as handle
 use Rattle.cm_machine_rules.specs.declared.frame.Lend.{Lend}
 use Rattle.cm_machine_rules.specs.declared.frame.Place.{Place}
 use Rattle.cm_machine_rules.specs.declared.frame.Place.TheVariants as place
-use Rattle.cm_abi.specs.Calls.{owned_in}
+use Rattle.cm_abi_model.specs.HandleLeaves.{owned_in}
 use Rattle.cm_machine_rules.specs.State.{Passage, State, table_at}
 
 -- what stands at each index of each instance

@@ -14,10 +14,10 @@ use Rattle.cm_abi_model.specs.Receives.{leaves_in}
 use Rattle.cm_abi_model.specs.Requests.{call_parts, requests, tuple_of}
 use Rattle.cm_abi_model.specs.Taken.{met, tags_of as tags_met}
 use Rattle.cm_abi_model.specs.Views.{View, Way}
-use Rattle.cm_abi_requests.specs.Answering.{places_of}
-use Rattle.cm_abi_requests.specs.RecordRequests.{tags_of}
-use Rattle.cm_abi_requests.specs.RequestingAsking.{last_answer}
-use Rattle.cm_abi_lift.specs.Telling.{TellAll}
+use Rattle.cm_abi_model.specs.Answering.{places_of}
+use Rattle.cm_abi_model.specs.RecordRequests.{tags_of}
+use Rattle.cm_abi_model.specs.Answered.{last_answer}
+use Rattle.cm_abi_model.specs.Telling.{TellAll}
 use Rattle.cm_machine_rules.specs.Plan.{Link, types_of, giver_side, receiver_side}
 use Rattle.cm_machine_rules.specs.State.{Passage}
 

@@ -9,7 +9,7 @@ use Rattle.cm_types.specs.Values.{Val}
 use Rattle.cm_abi_model.specs.declared.fault.AbiFault.{AbiFault}
 use Rattle.cm_abi_model.specs.declared.request.Request.{Request}
 use Rattle.cm_abi_model.specs.Views.{Way}
-use Rattle.cm_abi_requests.specs.RequestingAsking.{last_answer}
+use Rattle.cm_abi_model.specs.Answered.{last_answer}
 use Rattle.cm_machine_model.specs.declared.event.Event.{Event}
 use Rattle.cm_machine_model.specs.declared.event.Event.TheVariants as event
 use Rattle.cm_machine_model.specs.declared.event.Trap.{Trap}

@@ -4,25 +4,13 @@ use Rattle.std.specs.Prelude.{slice_get}
 use Rattle.cm_machine_rules.specs.declared.frame.Purpose.TheVariants as purpose
 use Rattle.cm_machine_rules.specs.declared.frame.Frame.{Frame}
 use Rattle.cm_machine_model.specs.declared.event.Event.{Event}
-use Rattle.cm_machine_model.specs.declared.event.Event.TheVariants as event
 use Rattle.cm_machine_model.specs.declared.event.Misuse.{Misuse}
 use Rattle.cm_machine_model.specs.declared.event.Misuse.TheVariants as misuse
 use Rattle.cm_machine_model.specs.declared.moves.Move.{Move}
+use Rattle.cm_machine_model.specs.Events.{is_last}
 use Rattle.cm_machine_rules.specs.Plan.{Plan}
 use Rattle.cm_machine_rules.specs.State.{State}
 use Rattle.cm_machine_rules.specs.Step.{Step}
-
--- whether a run stops after this event
-abbrev pub is_last : Event → Bool
-is_last event.Ended = true
-is_last (event.Trapped t) = true
-is_last event.Done = false
-is_last (event.Grown pages) = false
-is_last (event.Enter instance func args) = false
-is_last (event.Realloc instance func args) = false
-is_last (event.Resume instance values) = false
-is_last (event.PostReturn instance func args) = false
-is_last (event.Dtor instance func rep) = false
 
 -- From s these moves may lead to these events and this new state: one step after another, until the
 -- moves are used up or an event is the last. Later moves are not read.

@@ -12,7 +12,7 @@ use Rattle.cm_handles.specs.Handles.{Handles, no_handles, after_close, after_unl
 use Rattle.cm_abi_model.specs.declared.encoding.StringEncoding.{StringEncoding}
 use Rattle.cm_abi_model.specs.Receives.{HandleLeaf}
 use Rattle.cm_abi_model.specs.Views.{View}
-use Rattle.cm_abi_load.specs.declared.record.PartRecord.{PartRecord}
+use Rattle.cm_abi_model.specs.declared.record.PartRecord.{PartRecord}
 use Rattle.cm_machine_rules.specs.declared.frame.Frame.{Frame}
 use Rattle.cm_machine_rules.specs.declared.frame.Lend.{Lend}
 use Rattle.cm_machine_rules.specs.declared.frame.Place.{Place}

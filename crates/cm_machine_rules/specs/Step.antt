@@ -31,12 +31,12 @@ use Rattle.cm_abi_model.specs.Requests.{is_spilled, parts_of, stored_charset}
 use Rattle.cm_abi_model.specs.Stores.{Framed, Given}
 use Rattle.cm_abi_model.specs.Taken.{Met, Transferable, met, after_met, lent_of}
 use Rattle.cm_abi_model.specs.Views.{View, Way, params, results}
-use Rattle.cm_abi_lower.specs.Giving.{added_count, after_given, numbers_given}
-use Rattle.cm_abi_lower.specs.declared.receiver.Receiver.{Receiver}
-use Rattle.cm_abi_requests.specs.Answering.{answer_fault, regions_of}
-use Rattle.cm_abi_requests.specs.Overlap.{AreDisjoint}
-use Rattle.cm_abi_requests.specs.RequestingAsking.{last_answer}
-use Rattle.cm_abi.specs.Calls.{owned_in}
+use Rattle.cm_abi_model.specs.Giving.{added_count, after_given, numbers_given}
+use Rattle.cm_abi_model.specs.declared.receiver.Receiver.{Receiver}
+use Rattle.cm_abi_model.specs.Answering.{answer_fault, regions_of}
+use Rattle.cm_abi_model.specs.Overlap.{AreDisjoint}
+use Rattle.cm_abi_model.specs.Answered.{last_answer}
+use Rattle.cm_abi_model.specs.HandleLeaves.{owned_in}
 use Rattle.cm_machine_model.specs.declared.event.Event.{Event}
 use Rattle.cm_machine_model.specs.declared.event.Event.TheVariants as event
 use Rattle.cm_machine_model.specs.declared.event.Trap.{Trap}

@@ -9,7 +9,7 @@ use Rattle.cm_handles.specs.declared.handle.Handle.{Handle}
 use Rattle.cm_handles.specs.declared.handle.HandleKind.TheVariants as handle
 use Rattle.cm_abi_model.specs.declared.request.Request.{Request}
 use Rattle.cm_abi_model.specs.Views.{Way, params, results}
-use Rattle.cm_abi_requests.specs.Answering.{first_fault}
+use Rattle.cm_abi_model.specs.Answering.{first_fault}
 use Rattle.cm_machine_rules.specs.declared.frame.Call.{Call}
 use Rattle.cm_machine_rules.specs.declared.frame.Frame.{Frame}
 use Rattle.cm_machine_rules.specs.declared.frame.Lend.{Lend}
@@ -18,7 +18,7 @@ use Rattle.cm_machine_rules.specs.declared.frame.Phase.TheVariants as phase
 use Rattle.cm_machine_rules.specs.declared.frame.Purpose.{Purpose}
 use Rattle.cm_machine_rules.specs.declared.frame.Purpose.TheVariants as purpose
 use Rattle.cm_machine_model.specs.declared.limits.TheConstants.{MAX_FRAMES, MAX_MEMORY_SIZE}
-use Rattle.cm_abi.specs.Calls.{AreBytes}
+use Rattle.cm_abi_model.specs.Bytes.{AreBytes}
 use Rattle.cm_machine_model.specs.Memories.{memory_at}
 use Rattle.cm_machine_rules.specs.Owning.{OnePlace, AreCounted, StandsIn}
 use Rattle.cm_machine_rules.specs.Passages.{Carries, HasAnswers, asked_for}

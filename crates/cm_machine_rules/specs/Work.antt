@@ -2,9 +2,10 @@
 use Rattle.std.specs.Prelude.{ℕ, ◌==◌, List, [], ◌∷◌, length, filter, Option, Some, None}
 use Rattle.cm_machine_rules.specs.declared.frame.Frame.{Frame}
 use Rattle.cm_machine_rules.specs.declared.frame.Lend.{Lend}
+use Rattle.cm_machine_rules.specs.declared.frame.Work.{Work}
 use Rattle.cm_machine_rules.specs.declared.frame.Purpose.{Purpose}
 use Rattle.cm_machine_rules.specs.declared.frame.Purpose.TheVariants as purpose
-use Rattle.cm_abi.specs.Calls.{owned_in}
+use Rattle.cm_abi_model.specs.HandleLeaves.{owned_in}
 use Rattle.cm_machine_rules.specs.State.{Passage, State}
 
 -- this place where the frame is one of a call, else the other
@@ -17,13 +18,6 @@ place_if_call (purpose.Destructor dropper) place otherwise = otherwise
 abbrev pub top_call : List Frame → Option ℕ
 top_call [] = None
 top_call (f ∷ fs) = place_if_call f.purpose (length fs) (top_call fs)
-
--- The lengths of the lists of the topmost call: the records of parts, the resources on their way,
--- and the handles that are lent to it.
-pub record WorkOf : Type 0 where
-  pub records : ℕ
-  pub handles : ℕ
-  pub lends : ℕ
 
 -- the records of parts that a passage has
 abbrev pub records_kept : Option Passage → ℕ
@@ -40,8 +34,9 @@ abbrev pub lends_kept : Option ℕ → List Lend → ℕ
 lends_kept None lends = 0
 lends_kept (Some place) lends = length (filter (λ l. l.frame == place) lends)
 
--- those of a state
-abbrev pub work_of : State → WorkOf
+-- The lengths of the lists of the topmost call of a state: the records of parts, the resources on
+-- their way, and the handles that are lent to it.
+abbrev pub work_of : State → Work
 work_of s = record {
   records = records_kept s.passage;
   handles = handles_kept s.passage;

@@ -9,5 +9,5 @@ mod frame;
 
 /// What a state is made of: types that only contracts name.
 pub mod state {
-    pub use crate::frame::{Call, Frame, Lend, Phase, Place, Purpose};
+    pub use crate::frame::{Call, Frame, Lend, Phase, Place, Purpose, Work};
 }

@@ -20,7 +20,8 @@ use Rattle.cm_machine_rules.specs.Step.{after_lift_of_result, HasRoom, IsOpen, M
 use Rattle.cm_machine_rules.specs.Cases.{HasPlace, place_changes, Cases, answer_asks, answer_ends, answer_enters, answer_tidies, call_asks, call_enters, case_of, destroyed, destructor_ended, dropped, given_back, grew, made, represented, return_asks, return_ends, return_tidies, root_ended, stayed, tidied, trapped, wrote}
 use Rattle.cm_machine_rules.specs.History.{Action, GoesOnBy, Happens, IsHistory, IsHistoryOf, Occurrence, WritesBytes, begins, moves}
 use Rattle.cm_machine_rules.specs.Plan.{Link, Plan}
-use Rattle.cm_machine_rules.specs.Run.{Run, is_last, misuse_by_closed, misuse_by_stack}
+use Rattle.cm_machine_model.specs.Events.{is_last}
+use Rattle.cm_machine_rules.specs.Run.{Run, misuse_by_closed, misuse_by_stack}
 use Rattle.cm_machine_rules.specs.Stack.{actor, below_top, top_of}
 use Rattle.cm_machine_rules.specs.State.{Passage, State, fresh_state, table_at, zeros}
 use Rattle.cm_machine_rules.specs.Valid.{IsStack, IsValidState}

@@ -11,7 +11,7 @@ use Rattle.cm_handles.specs.declared.handle.Handle.{Handle}
 use Rattle.cm_handles.specs.declared.handle.HandleKind.{HandleKind}
 use Rattle.cm_handles.specs.declared.handle.HandleKind.TheVariants as handle
 use Rattle.cm_handles.specs.declared.fault.HandleFault.{HandleFault}
-use Rattle.cm_abi_requests.specs.Answering.{answer_fault}
+use Rattle.cm_abi_model.specs.Answering.{answer_fault}
 use Rattle.cm_abi_model.specs.declared.request.Request.{Request}
 use Rattle.cm_abi_model.specs.Numbers.{slot_at}
 use Rattle.cm_abi_model.specs.Requests.{is_spilled}
@@ -31,7 +31,7 @@ use Rattle.cm_machine_told.specs.Doing.{Doing, body, destroys, handing, placing,
 use Rattle.cm_machine_told.specs.Matching.{AllMatch, AreTold, MatchIn, MatchOne}
 use Rattle.cm_machine_model.specs.Memories.{memory_at, pages_of}
 use Rattle.cm_machine_rules.specs.Passages.{IsAnswered, as_args, asked_for}
-use Rattle.cm_abi_requests.specs.RequestingAsking.{last_answer}
+use Rattle.cm_abi_model.specs.Answered.{last_answer}
 use Rattle.cm_machine_rules.specs.Plan.{Plan, CoreFunc, Link, Reaches, core_func_at, drops, guest}
 use Rattle.cm_machine_rules.specs.Plan.{lowered, makes, receiver_side, represents, types_of}
 use Rattle.cm_machine_rules.specs.Stack.{actor, top_of}

@@ -14,7 +14,7 @@ use Rattle.cm_handles.specs.declared.handle.Handle.{Handle}
 use Rattle.cm_handles.specs.declared.handle.HandleKind.{HandleKind}
 use Rattle.cm_handles.specs.declared.handle.HandleKind.TheVariants as handle
 use Rattle.cm_handles.specs.declared.fault.HandleFault.{HandleFault}
-use Rattle.cm_abi_requests.specs.Answering.{answer_fault}
+use Rattle.cm_abi_model.specs.Answering.{answer_fault}
 use Rattle.cm_abi_model.specs.Numbers.{slot_at}
 use Rattle.cm_abi_model.specs.Requests.{is_spilled}
 use Rattle.cm_abi_model.specs.Views.{params, results}

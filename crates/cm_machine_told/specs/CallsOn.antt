@@ -1,5 +1,9 @@
--- Lemmas: which call goes on where a frame is one of a call in some phase.
-use Rattle.std.proofs.Common.{◌≡◌, ℕ, List, [], ◌∷◌, length, Option, refl, subst}
+-- Lemmas: which call goes on where a frame is one of a call in some phase, and where it leads.
+use Rattle.std.proofs.Common.{◌≡◌, ℕ, ◌<◌, inl, inr, List, [], ◌∷◌, length, Option, refl, sym, ap}
+use Rattle.std.proofs.Common.{subst, ◌∙◌, arith}
+use Rattle.std.specs.Prelude.{slice_get, unwrap_or}
+use Rattle.std.proofs.lemmas.Bool.{cases_lt}
+use Rattle.std.proofs.lemmas.Option.{none-some, slice_get_past}
 use Rattle.cm_types.specs.declared.core_value.CoreValue.{CoreValue}
 use Rattle.cm_machine_rules.specs.declared.frame.Call.{Call}
 use Rattle.cm_machine_rules.specs.declared.frame.Frame.{Frame}
@@ -7,7 +11,9 @@ use Rattle.cm_machine_rules.specs.declared.frame.Phase.{Phase}
 use Rattle.cm_machine_rules.specs.declared.frame.Phase.TheVariants as phase
 use Rattle.cm_machine_rules.specs.declared.frame.Purpose.{Purpose}
 use Rattle.cm_machine_rules.specs.declared.frame.Purpose.TheVariants as purpose
-use Rattle.cm_machine_rules.specs.Plan.{Plan}
+use Rattle.cm_machine_rules.specs.Plan.{CoreFunc, Link, Plan, Reaches, lowered}
+use Rattle.cm_machine_rules.specs.Plans.{IsPlan}
+use Rattle.cm_machine_rules.specs.Rows.{same_link}
 use Rattle.cm_machine_told.specs.Doing.{Asked, BodyReturn, Doing, LoweredCall, body, handing}
 use Rattle.cm_machine_told.specs.Doing.{placing, tidying}
 use Rattle.cm_machine_told.specs.Matching.{AllMatch, IsCallOf, MatchIn, MatchOne}
@@ -136,3 +142,44 @@ pub tidying_call : (plan : Plan) (top : Frame) (fs : List Frame) (ds : List Doin
 tidying_call plan top fs [] call v is phase_is m = absurd m
 tidying_call plan top fs (d ∷ ds) call v is phase_is m = tidying_one plan top.instance call (length
     fs) v d ds (matched_call plan top (length fs) call (phase.PostReturn v) d is phase_is m.0)
+
+-- ---- the call of a frame, as it is told
+
+-- a call that goes on, with this caller, link and place
+abbrev pub framed : ℕ → Link → LoweredCall → ℕ → LoweredCall
+framed caller l x place =
+    record { caller = caller; link = l; args = x.args; state = x.state; place = place }
+
+-- it is the one that its frame says
+pub as_framed : (plan : Plan) (i : ℕ) (call : Call) (n k : ℕ) (x : LoweredCall) (l : Link)
+    → IsCallOf plan i call n x → Reaches plan call.caller call.func l → k ≡ n
+    → x ≡ framed call.caller l x k
+as_framed plan i call n k x l of reach place =
+    ap (λ (c : ℕ). framed c x.link x x.place) of.caller
+    ∙ (ap (λ (j : Link). framed call.caller j x x.place)
+    (same_link plan call.caller call.func x.link l of.link reach)
+    ∙ ap (λ (m : ℕ). framed call.caller l x m) (of.placed ∙ sym place))
+
+-- an instance that has a lowered function is there
+pub caller_there : (plan : Plan) (c func : ℕ) (l : Link) → Reaches plan c func l → c < length plan
+caller_there plan c func l reach = elim (cases_lt c (length plan)) [
+  | inl lt ↦ lt
+  | inr le ↦ absurd (none-some (lowered l)
+      (sym (ap (λ (o : Option (List CoreFunc)). slice_get (unwrap_or o []) func)
+      (slice_get_past plan c le)) ∙ reach))
+]
+
+-- and so is the one that the function reaches, which is another
+pub callee_there : (plan : Plan) → IsPlan plan → (c func : ℕ) (l : Link) → Reaches plan c func l
+    → l.instance < length plan
+callee_there plan linked c func l reach =
+    omega (
+      arith,
+      caller_there plan c func l reach,
+      (linked.core_funcs c func (lowered l) reach).earlier,
+    )
+
+pub callee_apart : (plan : Plan) → IsPlan plan → (c func : ℕ) (l : Link) → Reaches plan c func l
+    → l.instance ≡ c → ⊥
+callee_apart plan linked c func l reach same =
+    omega (arith, same, (linked.core_funcs c func (lowered l) reach).earlier)

@@ -3,24 +3,30 @@
 -- lift", "canon lower" and the resource built-ins; the order of the traps, their numbers and the
 -- limits are this project's own choice).
 use Rattle.std.specs.Prelude.{◌≡◌, ◌≢◌, ℕ, ◌+◌, ◌*◌, ◌<◌, ◌≤◌, ◌⊎◌, ⊤, true, List, [], ◌∷◌, ◌++◌}
-use Rattle.std.specs.Prelude.{length, Option, Some, None, slice_get}
+use Rattle.std.specs.Prelude.{length, map, if◌then◌else◌, Option, Some, None, slice_get}
 use Rattle.std.specs.List.{AllByRecursion}
+use Rattle.cm_types.specs.CoreValues.{kind_of}
+use Rattle.cm_types.specs.Types.{Fields}
+use Rattle.cm_types.specs.declared.core_value.CoreKind.{CoreKind}
+use Rattle.cm_types.specs.declared.core_value.CoreKind.TheVariants as kind
 use Rattle.cm_types.specs.declared.core_value.CoreValue.{CoreValue}
 use Rattle.cm_types.specs.declared.resource.ResourceId.{ResourceId}
 use Rattle.cm_types.specs.Values.{Val}
-use Rattle.cm_handles.specs.Handles.{Handles, indices_left}
+use Rattle.cm_handles.specs.Handles.{Handles, handle_at, indices_left}
 use Rattle.cm_handles.specs.declared.handle.Handle.{Handle}
 use Rattle.cm_handles.specs.declared.handle.HandleKind.TheVariants as handle
 use Rattle.cm_abi_model.specs.declared.fault.AbiFault.{AbiFault}
 use Rattle.cm_abi_model.specs.declared.fault.AbiFault.TheVariants as fault
 use Rattle.cm_abi_model.specs.Numbers.{slot_at}
-use Rattle.cm_abi_model.specs.Requests.{tuple_of}
+use Rattle.cm_abi_model.specs.Denotes.{Denotes}
+use Rattle.cm_abi_model.specs.Requests.{is_spilled, parts_of, tuple_of}
+use Rattle.cm_abi_model.specs.Receives.{call_kinds}
 use Rattle.cm_abi_model.specs.Texts.{IsAligned}
 use Rattle.cm_layout.specs.Sizes.{align_of, size_of}
-use Rattle.cm_abi_model.specs.Views.{params, results}
-use Rattle.cm_abi_lower.specs.Giving.{added_count}
-use Rattle.cm_abi_requests.specs.Answering.{regions_of}
-use Rattle.cm_abi_requests.specs.Overlap.{AreDisjoint}
+use Rattle.cm_abi_model.specs.Views.{View, Way, params, results}
+use Rattle.cm_abi_model.specs.Giving.{added_count}
+use Rattle.cm_abi_model.specs.Answering.{regions_of}
+use Rattle.cm_abi_model.specs.Overlap.{AreDisjoint}
 use Rattle.cm_machine_model.specs.declared.event.Trap.{Trap}
 use Rattle.cm_machine_model.specs.declared.event.Trap.TheVariants as trap
 use Rattle.cm_machine_model.specs.declared.moves.Move.{Move}
@@ -28,16 +34,15 @@ use Rattle.cm_machine_model.specs.declared.moves.Move.TheVariants as move
 use Rattle.cm_machine_model.specs.declared.limits.TheConstants.{MAX_FRAMES, MAX_PAGES, PAGE_SIZE}
 use Rattle.cm_machine_model.specs.Memories.{memory_at}
 use Rattle.cm_machine_rules.specs.Plan.{Plan, CoreFunc, Link, guest, lowered, makes, drops}
-use Rattle.cm_machine_rules.specs.Plan.{represents, core_func_at, taken_kinds, returned_kinds}
+use Rattle.cm_machine_rules.specs.Plan.{represents, core_func_at}
 use Rattle.cm_machine_rules.specs.Plan.{types_of}
 use Rattle.cm_machine_rules.specs.State.{State, table_at}
-use Rattle.cm_machine_rules.specs.Step.{AreOf, CanMake, HasNoBorrows, MayWantMemory, one_i32}
 use Rattle.cm_machine_rules.specs.Step.{trap_of}
 use Rattle.cm_abi_model.specs.LiftStops.{BorrowStops, LiftStops, HandleStands}
 use Rattle.cm_machine_told.specs.Doing.{Asked, BodyReturn, Doing, LoweredCall, root, placing, body}
 use Rattle.cm_machine_told.specs.Doing.{handing, tidying, destroys}
 use Rattle.cm_machine_told.specs.Told.{WasReturned, WasSent, answers_back, answers_in}
-use Rattle.cm_machine_told.specs.Told.{args_receiver, is_by_memory, result_place_of}
+use Rattle.cm_machine_told.specs.Told.{args_kinds, args_receiver, is_by_memory, result_place_of}
 use Rattle.cm_machine_told.specs.Told.{result_receiver, returned_leaves, returned_requests}
 use Rattle.cm_machine_told.specs.Told.{returner_view, sender_view, sent_leaves, sent_requests}
 use Rattle.cm_machine_told.specs.Told.{sent_slots}
@@ -56,6 +61,39 @@ MayCall (destroys dropper i ∷ ds) = ⊤
 abbrev pub IsClosed : State → ℕ → Type 0
 IsClosed s i = slice_get s.closed i ≡ Some true
 
+-- core values are of these kinds, one for one
+abbrev pub HaveKinds : List CoreKind → List CoreValue → Type 0
+HaveKinds kinds values = map kind_of values ≡ kinds
+
+-- the kinds of what a caller passes: the arguments, and where the result goes by memory, its place
+abbrev pub passed_kinds : Link → List CoreKind
+passed_kinds l =
+    args_kinds l ++ (if is_spilled results (types_of l results) then kind.I32 ∷ [] else [])
+
+-- the kinds of what a body returns
+abbrev pub result_kinds : Link → List CoreKind
+result_kinds l = call_kinds results (types_of l results)
+
+-- the kinds of one number of 32 bits
+abbrev pub one_number : List CoreKind
+one_number = kind.I32 ∷ []
+
+-- To look at what core values denote takes memory, unless it is a value with neither parts nor
+-- handles.
+abbrev pub TakesMemory : View → Way → Fields → List CoreValue → Type 0
+TakesMemory w way types slots =
+    (v : Val) → Denotes w way types slots v → parts_of way types v ≡ 0 → ⊥
+
+-- no handle of a table is borrowed for this call
+abbrev pub NoneIsBorrowed : Handles → ℕ → Type 0
+NoneIsBorrowed t call =
+    (index : ℕ) (h : Handle) → handle_at t index ≡ Some h → h.kind ≡ handle.Borrowed call → ⊥
+
+-- A resource can be made: fewer than 2^64 - 1 were, and the table has an index for its handle.
+abbrev pub IsRoomForOne : State → ℕ → Type 0
+IsRoomForOne s i =
+    (length s.owners < 18_446_744_073_709_551_615) × (0 < indices_left (table_at s.tables i))
+
 -- ---- calls
 
 -- a call that would be made of a lowered function now
@@ -73,22 +111,22 @@ pub record HasNoIndices (x : LoweredCall) : Type 0 where
 
 -- the causes at a call of a lowered function
 abbrev pub LowerCause : State → List Doing → LoweredCall → Trap → Type 0
-LowerCause s ds x trap.CoreShape = AreOf (taken_kinds x.link) x.args → ⊥
+LowerCause s ds x trap.CoreShape = HaveKinds (passed_kinds x.link) x.args → ⊥
 LowerCause s ds x trap.MayNotLeave = MayCall ds → ⊥
 LowerCause s ds x trap.CalleeClosed = IsClosed s x.link.instance
 LowerCause s ds x trap.StackFull = MAX_FRAMES ≤ length ds
 LowerCause s ds x trap.TableFull = HasNoIndices x
 LowerCause s ds x trap.EngineMemory =
-    MayWantMemory (sender_view x) params (types_of x.link params) (sent_slots x)
+    TakesMemory (sender_view x) params (types_of x.link params) (sent_slots x)
 LowerCause s ds x t =
     (f : AbiFault) × (trap_of f ≡ t)
     × LiftStops (sender_view x) params (types_of x.link params) (sent_slots x) f
 
 -- the causes at a call that makes a resource
 abbrev pub MakeCause : State → List Doing → ℕ → List CoreValue → Trap → Type 0
-MakeCause s ds i args trap.CoreShape = AreOf one_i32 args → ⊥
+MakeCause s ds i args trap.CoreShape = HaveKinds one_number args → ⊥
 MakeCause s ds i args trap.MayNotLeave = MayCall ds → ⊥
-MakeCause s ds i args trap.TableFull = CanMake s i → ⊥
+MakeCause s ds i args trap.TableFull = IsRoomForOne s i → ⊥
 MakeCause s ds i args trap.EngineMemory = ⊤
 MakeCause s ds i args t = ⊥
 
@@ -116,7 +154,7 @@ HandleCause t r index u = ⊥
 -- the causes at a call that drops a handle
 abbrev pub DropCause : State → List Doing → ℕ → ResourceId → Option ℕ → List CoreValue → Trap
     → Type 0
-DropCause s ds i r d args trap.CoreShape = AreOf one_i32 args → ⊥
+DropCause s ds i r d args trap.CoreShape = HaveKinds one_number args → ⊥
 DropCause s ds i r d args trap.MayNotLeave = MayCall ds → ⊥
 DropCause s ds i r d args trap.StillLent = IsLent (table_at s.tables i) r (slot_at args 0)
 DropCause s ds i r d args trap.CalleeClosed =
@@ -127,7 +165,7 @@ DropCause s ds i r d args t = HandleCause (table_at s.tables i) r (slot_at args 
 
 -- the causes at a call that tells a representation
 abbrev pub TellCause : State → ℕ → ResourceId → List CoreValue → Trap → Type 0
-TellCause s i r args trap.CoreShape = AreOf one_i32 args → ⊥
+TellCause s i r args trap.CoreShape = HaveKinds one_number args → ⊥
 TellCause s i r args t = HandleCause (table_at s.tables i) r (slot_at args 0) t
 
 -- no canonical definition made the function
@@ -170,7 +208,7 @@ pub record IsLastAnswer (x : LoweredCall) (asked : List Asked) (at : ℕ) (v : V
 
 -- the causes where an allocator answers while arguments are placed
 abbrev pub PlacedCause : State → LoweredCall → List Asked → List CoreValue → Trap → Type 0
-PlacedCause s x asked values trap.CoreShape = AreOf one_i32 values → ⊥
+PlacedCause s x asked values trap.CoreShape = HaveKinds one_number values → ⊥
 PlacedCause s x asked values trap.Overlap =
     (v : Val) × IsLastAnswer x asked (slot_at values 0) v
     × (AreDisjoint (regions_of (sent_requests x v) (answers_in asked ++ slot_at values 0 ∷ [])) → ⊥)
@@ -192,7 +230,7 @@ pub record IsLastBack (x : LoweredCall) (r : BodyReturn) (more : List Asked) (at
 -- the causes where an allocator answers while a result is placed
 abbrev pub HandedCause : State → LoweredCall → BodyReturn → List Asked → List CoreValue → Trap
     → Type 0
-HandedCause s x r more values trap.CoreShape = AreOf one_i32 values → ⊥
+HandedCause s x r more values trap.CoreShape = HaveKinds one_number values → ⊥
 HandedCause s x r more values trap.Overlap =
     (v : Val) × IsLastBack x r more (slot_at values 0) v
     × (AreDisjoint
@@ -227,16 +265,16 @@ ResultCause s x r t =
 
 -- the causes where a body returns
 abbrev pub BodyCause : State → LoweredCall → BodyReturn → Trap → Type 0
-BodyCause s x r trap.CoreShape = AreOf (returned_kinds x.link) r.values → ⊥
+BodyCause s x r trap.CoreShape = HaveKinds (result_kinds x.link) r.values → ⊥
 BodyCause s x r trap.BorrowsLeft =
-    HasNoBorrows (table_at s.tables x.link.instance) x.place → ⊥
+    NoneIsBorrowed (table_at s.tables x.link.instance) x.place → ⊥
 BodyCause s x r trap.TableFull =
     (v : Val) × WasReturned x r v
     × (length (returned_requests x r v) ≡ length (answers_back x []))
     × (indices_left (table_at s.tables x.caller)
     < added_count (result_receiver x) (returned_leaves x v))
 BodyCause s x r trap.EngineMemory =
-    MayWantMemory (returner_view x r) results (types_of x.link results) r.values
+    TakesMemory (returner_view x r) results (types_of x.link results) r.values
 BodyCause s x r t = ResultCause s x r t
 
 -- a function that gives nothing back gave something

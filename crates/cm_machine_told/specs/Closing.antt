@@ -7,6 +7,7 @@ use Rattle.cm_handles.specs.Handles.{handle_at}
 use Rattle.cm_handles.specs.declared.handle.Handle.{Handle}
 use Rattle.cm_handles.specs.declared.handle.HandleKind.{HandleKind}
 use Rattle.cm_handles.specs.declared.handle.HandleKind.TheVariants as handle
+use Rattle.cm_abi_model.specs.declared.fault.AbiFault.TheVariants as fault
 use Rattle.cm_abi_model.specs.Taken.{taken_of}
 use Rattle.cm_machine_model.specs.declared.event.Event.TheVariants as event
 use Rattle.cm_machine_model.specs.declared.event.Trap.{Trap}
@@ -21,9 +22,10 @@ use Rattle.cm_machine_told.specs.Doing.{BodyReturn, Doing, LoweredCall, body, co
 use Rattle.cm_machine_told.specs.Doing.{doing, instance_of}
 use Rattle.cm_machine_rules.specs.History.{Occurrence, moves}
 use Rattle.cm_machine_rules.specs.Owning.{IsAmong, IsAt}
-use Rattle.cm_abi.specs.Calls.{owned_in}
+use Rattle.cm_abi_model.specs.HandleLeaves.{owned_in}
 use Rattle.cm_machine_rules.specs.Plan.{CoreFunc, Plan, lowered}
 use Rattle.cm_machine_rules.specs.State.{State, table_at}
+use Rattle.cm_machine_rules.specs.Step.{trap_of}
 use Rattle.cm_machine_told.specs.Told.{WasReturned, WasSent, met_at_call, met_at_return}
 use Rattle.cm_machine_told.specs.Told.{returned_leaves, sent_leaves}
 use Rattle.cm_machine_told.specs.HandleChanges.{unlent}
@@ -34,6 +36,23 @@ abbrev pub NamesItsCause : Plan → State → List Doing → ℕ → Move → Tr
 NamesItsCause plan s ds i m t =
     IsFirst (order plan ds i m) (Cause plan s ds i m) t
     ⊎ ((t ≡ trap.EngineMemory) × MayFindNoMemory plan s ds i m)
+
+-- What is wrong with a value, or with an answer of an allocator, is named by the trap of its own
+-- name.
+pub record NamesFaults : Type 0 where
+  pub pointer_bounds : trap_of fault.PointerBounds ≡ trap.PointerBounds
+  pub misaligned : trap_of fault.Misaligned ≡ trap.Misaligned
+  pub bad_char : trap_of fault.BadChar ≡ trap.BadChar
+  pub bad_case : trap_of fault.BadCase ≡ trap.BadCase
+  pub bad_text : trap_of fault.BadText ≡ trap.BadText
+  pub too_large : trap_of fault.TooLarge ≡ trap.TooLarge
+  pub no_handle : trap_of fault.NoHandle ≡ trap.NoHandle
+  pub wrong_resource : trap_of fault.WrongResource ≡ trap.WrongResource
+  pub still_lent : trap_of fault.StillLent ≡ trap.StillLent
+  pub not_owned : trap_of fault.NotOwned ≡ trap.NotOwned
+  pub table_full : trap_of fault.TableFull ≡ trap.TableFull
+  pub overlap : trap_of fault.Overlap ≡ trap.Overlap
+  pub engine_memory : trap_of fault.EngineMemory ≡ trap.EngineMemory
 
 -- what a trap leaves of a handle: an owned one, lent to nobody
 abbrev pub left_by : HandleKind → Handle → Option Handle

@@ -8,7 +8,7 @@ use Rattle.cm_machine_model.specs.declared.event.Event.{Event}
 use Rattle.cm_machine_model.specs.declared.event.Event.TheVariants as event
 use Rattle.cm_machine_model.specs.declared.moves.Move.{Move}
 use Rattle.cm_machine_model.specs.declared.moves.Move.TheVariants as move
-use Rattle.cm_machine_rules.specs.Run.{is_last}
+use Rattle.cm_machine_model.specs.Events.{is_last}
 use Rattle.cm_machine_rules.specs.State.{State}
 use Rattle.cm_machine_rules.specs.History.{Action, begins, moves, Occurrence}
 use Rattle.cm_machine_told.specs.Acting.{acts}

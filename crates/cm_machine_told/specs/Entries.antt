@@ -9,7 +9,7 @@ use Rattle.cm_abi_model.specs.Numbers.{slot_at}
 use Rattle.cm_abi_model.specs.Receives.{Receives}
 use Rattle.cm_abi_model.specs.Stores.{Given}
 use Rattle.cm_abi_model.specs.Views.{params, results}
-use Rattle.cm_abi_requests.specs.Answering.{places_of}
+use Rattle.cm_abi_model.specs.Answering.{places_of}
 use Rattle.cm_machine_model.specs.declared.event.Event.TheVariants as event
 use Rattle.cm_machine_model.specs.declared.moves.Move.TheVariants as move
 use Rattle.cm_machine_told.specs.Acting.{acts}

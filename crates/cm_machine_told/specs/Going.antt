@@ -18,7 +18,8 @@ use Rattle.cm_machine_told.specs.Doing.{Doing, doing, instance_of}
 use Rattle.cm_machine_rules.specs.History.{IsHistoryOf, Occurrence, RunsOn, WritesBytes, begins}
 use Rattle.cm_machine_model.specs.Memories.{memory_at}
 use Rattle.cm_machine_rules.specs.Plan.{Plan}
-use Rattle.cm_machine_rules.specs.Run.{Run, is_last, misuse_of_begin}
+use Rattle.cm_machine_model.specs.Events.{is_last}
+use Rattle.cm_machine_rules.specs.Run.{Run, misuse_of_begin}
 use Rattle.cm_machine_rules.specs.Stack.{actor, top_of}
 use Rattle.cm_machine_rules.specs.State.{State, fresh_state, table_at}
 use Rattle.cm_machine_told.specs.Answers.{Traps}

@@ -14,8 +14,8 @@ use Rattle.cm_handles.specs.declared.handle.HandleKind.TheVariants as handle
 use Rattle.cm_abi_model.specs.Numbers.{slot_at}
 use Rattle.cm_abi_model.specs.Receives.{HandleLeaf}
 use Rattle.cm_abi_model.specs.Taken.{taken_of}
-use Rattle.cm_abi_lower.specs.Giving.{added_for, with_added}
-use Rattle.cm_abi_lower.specs.declared.receiver.Receiver.{Receiver}
+use Rattle.cm_abi_model.specs.Giving.{added_for, with_added}
+use Rattle.cm_abi_model.specs.declared.receiver.Receiver.{Receiver}
 use Rattle.cm_machine_model.specs.declared.event.Event.{Event}
 use Rattle.cm_machine_model.specs.declared.event.Event.TheVariants as event
 use Rattle.cm_machine_rules.specs.declared.frame.Place.TheVariants as place
@@ -42,11 +42,15 @@ pub record StayBut (old new : Handles) (indices : List ℕ) : Type 0 where
   pub stay : (index : ℕ) → (Contains indices index → ⊥)
       → option_map unlent (handle_at new index) ≡ option_map unlent (handle_at old index)
 
+-- nobody's handles change but this instance's
+abbrev pub OtherHandlesStay : State → ℕ → State → Type 0
+OtherHandlesStay old i new =
+    (j : ℕ) → j ≢ i → StayBut (table_at old.tables j) (table_at new.tables j) []
+
 -- nobody's handles change but this instance's, at these indices
 abbrev pub HandlesStayBut : State → ℕ → List ℕ → State → Type 0
 HandlesStayBut old i indices new =
-    StayBut (table_at old.tables i) (table_at new.tables i) indices
-    × ((j : ℕ) → j ≢ i → StayBut (table_at old.tables j) (table_at new.tables j) [])
+    StayBut (table_at old.tables i) (table_at new.tables i) indices × OtherHandlesStay old i new
 
 -- nothing stands at these indices
 abbrev pub AreGone : Handles → List ℕ → Type 0
@@ -68,26 +72,46 @@ indices_given to t (leaf ∷ leaves) =
     index_of_added (added_for to leaf) (next_index t)
     ++ indices_given to (with_added t (added_for to leaf)) leaves
 
--- those at which the callee gets the handles of arguments
-abbrev pub args_indices : State → LoweredCall → Val → List ℕ
-args_indices s x v =
-    indices_given (args_receiver x) (table_at s.tables x.link.instance) (sent_leaves x v)
+-- a handle that was added stands at an index
+abbrev pub StandsAdded : Option Handle → ℕ → Handles → Type 0
+StandsAdded None index new = ⊤
+StandsAdded (Some h) index new = option_map unlent (handle_at new index) ≡ Some (unlent h)
 
--- those at which the caller gets the handles of a result
-abbrev pub result_indices : State → LoweredCall → Val → List ℕ
-result_indices s x v =
-    indices_given (result_receiver x) (table_at s.tables x.caller) (returned_leaves x v)
+-- what a receiver's table was given, one after another, stands where it was added
+abbrev pub AreAdded : Receiver → Handles → List HandleLeaf → Handles → Type 0
+AreAdded to t [] new = ⊤
+AreAdded to t (leaf ∷ leaves) new =
+    StandsAdded (added_for to leaf) (next_index t) new
+    × AreAdded to (with_added t (added_for to leaf)) leaves new
+
+-- A receiver's table gets the handles of a value, each at the next index, and its other handles are
+-- as they were.
+pub record GetsHandles (to : Receiver) (old : Handles) (leaves : List HandleLeaf) (new : Handles)
+    : Type 0 where
+  pub added : AreAdded to old leaves new
+  pub others : StayBut old new (indices_given to old leaves)
+
+-- the callee's table gets the handles of arguments
+abbrev pub GetsArgs : State → LoweredCall → Val → State → Type 0
+GetsArgs old x v new =
+    GetsHandles (args_receiver x) (table_at old.tables x.link.instance) (sent_leaves x v)
+    (table_at new.tables x.link.instance)
+
+-- the caller's table gets the handles of a result
+abbrev pub GetsResult : State → LoweredCall → Val → State → Type 0
+GetsResult old x v new =
+    GetsHandles (result_receiver x) (table_at old.tables x.caller) (returned_leaves x v)
+    (table_at new.tables x.caller)
 
 -- A call takes what it owns out of the caller's table; where a body begins, the callee's table gets
--- the value's handles (that each stands there says `Receives`).
+-- the value's handles.
 abbrev pub HandlesAtCall : LoweredCall → Event → State → State → Type 0
 HandlesAtCall x (event.Enter i f args) old new =
     (v : Val) × WasSent x v
     × StayBut (table_at old.tables x.caller) (table_at new.tables x.caller)
     (taken_of (met_at_call x v))
     × AreGone (table_at new.tables x.caller) (taken_of (met_at_call x v))
-    × StayBut (table_at old.tables x.link.instance) (table_at new.tables x.link.instance)
-    (args_indices old x v)
+    × GetsArgs old x v new
     × ((j : ℕ) → j ≢ x.caller → j ≢ x.link.instance
     → StayBut (table_at old.tables j) (table_at new.tables j) [])
 HandlesAtCall x e old new =
@@ -105,8 +129,7 @@ HandlesAtReturn x r e old new =
     × StayBut (table_at old.tables x.link.instance) (table_at new.tables x.link.instance)
     (taken_of (met_at_return x r v))
     × AreGone (table_at new.tables x.link.instance) (taken_of (met_at_return x r v))
-    × StayBut (table_at old.tables x.caller) (table_at new.tables x.caller)
-    (result_indices old x v)
+    × GetsResult old x v new
     × ((j : ℕ) → j ≢ x.caller → j ≢ x.link.instance
     → StayBut (table_at old.tables j) (table_at new.tables j) [])
 
@@ -114,11 +137,11 @@ HandlesAtReturn x r e old new =
 abbrev pub HandlesByReturn : List Doing → BodyReturn → Event → State → State → Type 0
 HandlesByReturn (body x asked ∷ ds) r e old new = HandlesAtReturn x r e old new
 HandlesByReturn (placing x asked ∷ ds) r (event.Enter i f args) old new =
-    (v : Val) × WasSent x v × HandlesStayBut old x.link.instance (args_indices old x v) new
+    (v : Val) × WasSent x v × GetsArgs old x v new × OtherHandlesStay old x.link.instance new
 HandlesByReturn (handing x asked back more ∷ ds) r (event.Realloc i f args) old new =
     HandlesStay old new
 HandlesByReturn (handing x asked back more ∷ ds) r e old new =
-    (v : Val) × WasReturned x back v × HandlesStayBut old x.caller (result_indices old x v) new
+    (v : Val) × WasReturned x back v × GetsResult old x v new × OtherHandlesStay old x.caller new
 HandlesByReturn ds r e old new = HandlesStay old new
 
 -- A resource is made: the next serial number, never issued before, stands for it, at the next

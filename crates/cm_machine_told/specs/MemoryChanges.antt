@@ -7,8 +7,8 @@ use Rattle.cm_abi_model.specs.declared.request.Request.{Request}
 use Rattle.cm_abi_model.specs.Receives.{call_bytes}
 use Rattle.cm_abi_model.specs.Stores.{Framed, Given}
 use Rattle.cm_abi_model.specs.Views.{Way, params, results}
-use Rattle.cm_abi_requests.specs.Answering.{places_of, regions_of}
-use Rattle.cm_abi_requests.specs.Overlap.{IsInOne}
+use Rattle.cm_abi_model.specs.Answering.{places_of, regions_of}
+use Rattle.cm_abi_model.specs.Overlap.{IsInOne}
 use Rattle.cm_machine_model.specs.declared.event.Event.{Event}
 use Rattle.cm_machine_model.specs.declared.event.Event.TheVariants as event
 use Rattle.cm_machine_model.specs.declared.limits.TheConstants.{MAX_PAGES, PAGE_SIZE}

@@ -6,7 +6,7 @@ use Rattle.cm_machine_rules.specs.declared.frame.Place.TheVariants as place
 use Rattle.cm_machine_told.specs.Doing.{Doing, doing, handing, placing}
 use Rattle.cm_machine_rules.specs.History.{Occurrence}
 use Rattle.cm_machine_rules.specs.Owning.{IsAt, OnePlace, serials, travelling}
-use Rattle.cm_abi.specs.Calls.{owned_in}
+use Rattle.cm_abi_model.specs.HandleLeaves.{owned_in}
 use Rattle.cm_machine_rules.specs.Plan.{Plan}
 use Rattle.cm_machine_rules.specs.State.{State}
 use Rattle.cm_machine_told.specs.Told.{WasReturned, WasSent, returned_leaves, sent_leaves}

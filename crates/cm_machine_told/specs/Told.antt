@@ -2,23 +2,28 @@
 -- memories of the past: no frame and no passage is read here.
 use Rattle.std.specs.Prelude.{◌≡◌, ℕ, ◌+◌, ⊤, Bool, List, [], ◌∷◌, ◌++◌, length, take, Option, Some}
 use Rattle.std.specs.Prelude.{None, if◌then◌else◌, slice_get}
+use Rattle.cm_types.specs.declared.core_value.CoreKind.{CoreKind}
 use Rattle.cm_types.specs.declared.core_value.CoreValue.{CoreValue}
+use Rattle.cm_types.specs.declared.core_value.CoreValue.TheVariants as core_value
 use Rattle.cm_types.specs.Values.{Val}
 use Rattle.cm_abi_model.specs.declared.request.Request.{Request}
 use Rattle.cm_abi_model.specs.Denotes.{Denotes}
 use Rattle.cm_abi_model.specs.Numbers.{slot_at}
-use Rattle.cm_abi_model.specs.Receives.{HandleLeaf, leaves_in}
+use Rattle.cm_abi_model.specs.Receives.{HandleLeaf, call_kinds, leaves_in}
 use Rattle.cm_abi_model.specs.Requests.{is_spilled, requests, tuple_of}
 use Rattle.cm_abi_model.specs.Taken.{Met, Transferable, met, tags_of}
 use Rattle.cm_abi_model.specs.Views.{View, params, results}
-use Rattle.cm_abi_lower.specs.declared.receiver.Receiver.{Receiver}
+use Rattle.cm_abi_model.specs.declared.receiver.Receiver.{Receiver}
 use Rattle.cm_machine_told.specs.Doing.{Asked, BodyReturn, LoweredCall}
-use Rattle.cm_machine_rules.specs.Passages.{as_args}
-use Rattle.cm_abi_requests.specs.RequestingAsking.{last_answer}
-use Rattle.cm_machine_rules.specs.Plan.{entered_kinds, types_of}
+use Rattle.cm_abi_model.specs.Answered.{last_answer}
+use Rattle.cm_machine_rules.specs.Plan.{Link, types_of}
 use Rattle.cm_machine_rules.specs.State.{view_of}
 
 -- ---- the arguments of a call
+
+-- the kinds of the core values that pass the arguments
+abbrev pub args_kinds : Link → List CoreKind
+args_kinds l = call_kinds params (types_of l params)
 
 -- the caller's view at the call
 abbrev pub sender_view : LoweredCall → View
@@ -26,7 +31,7 @@ sender_view x = view_of x.state x.caller x.link.caller.encoding x.place
 
 -- the core values that pass the arguments
 abbrev pub sent_slots : LoweredCall → List CoreValue
-sent_slots x = take (length (entered_kinds x.link)) x.args
+sent_slots x = take (length (args_kinds x.link)) x.args
 
 -- This value, the tuple of the arguments, was denoted in the caller's view at the call, and can be
 -- handed over.
@@ -79,7 +84,7 @@ is_by_memory x = is_spilled results (types_of x.link results)
 
 -- to where the last core value of the call says
 abbrev pub result_place_of : LoweredCall → ℕ
-result_place_of x = slot_at x.args (length (entered_kinds x.link))
+result_place_of x = slot_at x.args (length (args_kinds x.link))
 
 -- ---- what allocators were asked, and answered
 
@@ -93,10 +98,17 @@ abbrev pub answers_in : List Asked → List ℕ
 answers_in [] = []
 answers_in (a ∷ earlier) = answers_in earlier ++ one_answer a.answer
 
+-- What an allocator gets for a request: the old pointer, which is the last answer where the request
+-- goes on from an earlier one, and else 0; the old size, the alignment, and the size.
+abbrev pub realloc_values : ℕ → Request → List CoreValue
+realloc_values last r =
+    core_value.I32 (if r.chained then last else 0) ∷ core_value.I32 r.old_size
+    ∷ core_value.I32 r.align ∷ core_value.I32 r.size ∷ []
+
 -- one more was asked, behind so many and with this answer the last: the next of these requests
 abbrev pub AsksOne : List Request → ℕ → ℕ → Asked → Type 0
 AsksOne rs n last a =
-    (r : Request) × (slice_get rs n ≡ Some r) × (a.request ≡ as_args last r)
+    (r : Request) × (slice_get rs n ≡ Some r) × (a.request ≡ realloc_values last r)
 
 -- what was asked is a beginning of these requests, each with the answer to the one before it, where
 -- these answers came before the first

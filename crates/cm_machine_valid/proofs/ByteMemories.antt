@@ -2,7 +2,7 @@
 use Rattle.std.proofs.Common.{◌≡◌, ℕ, zero, suc, ◌+◌, ◌*◌, ◌<◌, ◌⊎◌, inl, inr, List, [], ◌∷◌, ◌++◌, take, drop, length, refl, sym, subst, ◌∙◌, arith}
 use Rattle.std.specs.Prelude.{◌^◌, replicate, slice_index}
 use Rattle.std.proofs.lemmas.Bool.{cases_eq}
-use Rattle.cm_abi.specs.Calls.{AreBytes}
+use Rattle.cm_abi_model.specs.Bytes.{AreBytes}
 use Rattle.cm_abi_model.specs.Stores.{Framed, Holds, IsBeside, Placed}
 use Rattle.cm_machine_model.specs.declared.limits.TheConstants.{PAGE_SIZE}
 use Rattle.cm_machine_model.specs.Memories.{after_growth, after_write}

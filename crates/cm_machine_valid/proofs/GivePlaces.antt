@@ -9,15 +9,15 @@ use Rattle.cm_handles.specs.Handles.{next_index}
 use Rattle.cm_handles.specs.declared.handle.Handle.{Handle}
 use Rattle.cm_handles.specs.declared.handle.HandleKind.TheVariants as handle
 use Rattle.cm_abi_model.specs.Receives.{HandleLeaf, owned_leaf, borrowed_leaf}
-use Rattle.cm_abi_lower.specs.Giving.{added_by, added_count, after_given, handle_to, numbers_given}
-use Rattle.cm_abi_lower.specs.Giving.{with_added}
-use Rattle.cm_abi_lower.specs.declared.receiver.Receiver.{Receiver}
+use Rattle.cm_abi_model.specs.Giving.{added_by, added_count, after_given, handle_to, numbers_given}
+use Rattle.cm_abi_model.specs.Giving.{with_added}
+use Rattle.cm_abi_model.specs.declared.receiver.Receiver.{Receiver}
 use Rattle.cm_machine_rules.specs.declared.frame.Place.{Place}
 use Rattle.cm_machine_rules.specs.declared.frame.Place.TheVariants as place
 use Rattle.cm_machine_rules.specs.Owning.{HaveOnePlace, Owners, Standing, owners_of, serials}
 use Rattle.cm_machine_rules.specs.Owning.{standing}
 use Rattle.cm_machine_valid.proofs.OwningLaws.{AddingIsFine, ChangesAt}
-use Rattle.cm_abi.specs.Calls.{owned_in}
+use Rattle.cm_abi_model.specs.HandleLeaves.{owned_in}
 use Rattle.cm_machine_rules.specs.State.{table_at}
 use Rattle.cm_machine_rules.specs.Step.{owners_given}
 use Rattle.cm_machine_valid.proofs.OnePlaces.{giving}

@@ -14,8 +14,8 @@ use Rattle.cm_handles.specs.declared.handle.Handle.{Handle}
 use Rattle.cm_handles.specs.declared.handle.HandleKind.TheVariants as handle
 use Rattle.cm_abi_model.specs.Receives.{HandleLeaf, borrowed_leaf, owned_leaf}
 use Rattle.cm_abi_model.specs.Taken.{Met, after_met, content, lent, taken, text_content}
-use Rattle.cm_abi_lower.specs.Giving.{added_by, added_count, after_given, handle_to, with_added}
-use Rattle.cm_abi_lower.specs.declared.receiver.Receiver.{Receiver}
+use Rattle.cm_abi_model.specs.Giving.{added_by, added_count, after_given, handle_to, with_added}
+use Rattle.cm_abi_model.specs.declared.receiver.Receiver.{Receiver}
 use Rattle.cm_machine_rules.specs.declared.frame.Frame.{Frame}
 use Rattle.cm_machine_rules.specs.declared.frame.Lend.{Lend}
 use Rattle.cm_machine_rules.specs.declared.frame.Place.{Place}

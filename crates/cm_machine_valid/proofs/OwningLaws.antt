@@ -23,9 +23,9 @@ use Rattle.cm_machine_rules.specs.declared.frame.Place.TheVariants as place
 use Rattle.cm_machine_rules.specs.Owning.{HaveOnePlace, OnePlace, Owners, Standing, StandsIn}
 use Rattle.cm_machine_rules.specs.Owning.{owners_of, serials, standing}
 use Rattle.cm_abi_model.specs.Receives.{HandleLeaf, leaves_in}
-use Rattle.cm_abi_lower.specs.Giving.{added_count, after_given, numbers_given}
-use Rattle.cm_abi_lower.specs.declared.receiver.Receiver.{Receiver}
-use Rattle.cm_abi.specs.Calls.{owned_in}
+use Rattle.cm_abi_model.specs.Giving.{added_count, after_given, numbers_given}
+use Rattle.cm_abi_model.specs.declared.receiver.Receiver.{Receiver}
+use Rattle.cm_abi_model.specs.HandleLeaves.{owned_in}
 use Rattle.cm_machine_rules.specs.State.{State, after_trap, table_at, with_places}
 use Rattle.cm_machine_rules.specs.Step.{CanMake, Step, after_call, after_drop, after_new}
 use Rattle.cm_machine_rules.specs.Step.{owners_given}

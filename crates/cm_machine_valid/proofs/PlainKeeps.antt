@@ -7,7 +7,7 @@ use Rattle.cm_handles.specs.Handles.{Handles, IsSoundHandles, after_close, after
 use Rattle.cm_machine_rules.specs.declared.frame.Frame.{Frame}
 use Rattle.cm_machine_rules.specs.declared.frame.Lend.{Lend}
 use Rattle.cm_machine_model.specs.declared.limits.TheConstants.{MAX_FRAMES, MAX_MEMORY_SIZE}
-use Rattle.cm_abi.specs.Calls.{AreBytes}
+use Rattle.cm_abi_model.specs.Bytes.{AreBytes}
 use Rattle.cm_machine_model.specs.Memories.{memory_at}
 use Rattle.cm_machine_rules.specs.Plan.{Plan}
 use Rattle.cm_machine_rules.specs.State.{closed_after_trap, table_at, tables_after_call}

@@ -7,8 +7,8 @@ use Rattle.std.proofs.lemmas.List.{set-get_or}
 use Rattle.cm_types.specs.Values.{HandleValue}
 use Rattle.cm_abi_model.specs.Receives.{HandleLeaf, borrowed_leaf, owned_leaf}
 use Rattle.cm_abi_model.specs.Taken.{Met, after_met, content, lent, taken, text_content}
-use Rattle.cm_abi_lower.specs.Giving.{added_by, added_count, after_given, handle_to, with_added}
-use Rattle.cm_abi_lower.specs.declared.receiver.Receiver.{Receiver}
+use Rattle.cm_abi_model.specs.Giving.{added_by, added_count, after_given, handle_to, with_added}
+use Rattle.cm_abi_model.specs.declared.receiver.Receiver.{Receiver}
 use Rattle.cm_handles.specs.declared.handle.Handle.{Handle}
 use Rattle.cm_handles.specs.declared.handle.HandleKind.TheVariants as handle
 use Rattle.cm_handles.specs.Handles.{Handles, handle_at, IsSoundHandles, after_add, after_lend}

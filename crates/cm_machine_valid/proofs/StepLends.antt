@@ -14,7 +14,7 @@ use Rattle.cm_handles.specs.declared.fault.HandleFault.TheVariants as handle_fau
 use Rattle.cm_handles.specs.declared.handle.Handle.{Handle}
 use Rattle.cm_handles.specs.declared.handle.HandleKind.{HandleKind}
 use Rattle.cm_handles.specs.declared.handle.HandleKind.TheVariants as handle
-use Rattle.cm_abi_requests.specs.Answering.{answer_fault}
+use Rattle.cm_abi_model.specs.Answering.{answer_fault}
 use Rattle.cm_abi_model.specs.declared.fault.AbiFault.{AbiFault}
 use Rattle.cm_abi_model.specs.declared.request.Request.{Request}
 use Rattle.cm_abi_model.specs.Denotes.{Denotes}
@@ -23,8 +23,8 @@ use Rattle.cm_abi_model.specs.Receives.{HandleLeaf}
 use Rattle.cm_abi_model.specs.Requests.{is_spilled}
 use Rattle.cm_abi_model.specs.Taken.{MAX_CONTENT, Met, after_met, lent_of, met}
 use Rattle.cm_abi_model.specs.Views.{View, Way, params, results}
-use Rattle.cm_abi_lower.specs.Giving.{added_count, after_given}
-use Rattle.cm_abi_lower.specs.declared.receiver.Receiver.{Receiver}
+use Rattle.cm_abi_model.specs.Giving.{added_count, after_given}
+use Rattle.cm_abi_model.specs.declared.receiver.Receiver.{Receiver}
 use Rattle.cm_machine_model.specs.declared.event.Event.{Event}
 use Rattle.cm_machine_model.specs.declared.event.Trap.{Trap}
 use Rattle.cm_machine_model.specs.declared.event.Trap.TheVariants as trap
@@ -40,7 +40,7 @@ use Rattle.cm_machine_model.specs.Memories.{memory_at}
 use Rattle.cm_machine_rules.specs.Owning.{IsAmong, standing}
 use Rattle.cm_machine_valid.proofs.OwningLaws.{AddingIsFine}
 use Rattle.cm_machine_rules.specs.Passages.{Carries, IsAnswered, IsScanned, as_args, asked_for}
-use Rattle.cm_abi_requests.specs.RequestingAsking.{last_answer}
+use Rattle.cm_abi_model.specs.Answered.{last_answer}
 use Rattle.cm_machine_rules.specs.Plan.{Plan, CoreFunc, Link, Reaches, core_func_at, drops, guest}
 use Rattle.cm_machine_rules.specs.Plan.{lowered, makes, represents, receiver_side, types_of}
 use Rattle.cm_machine_rules.specs.Plans.{IsLink, IsPlan, IsResourceOf, NoneBorrowed}

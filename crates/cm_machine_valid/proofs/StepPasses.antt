@@ -18,7 +18,7 @@ use Rattle.cm_handles.specs.declared.handle.Handle.{Handle}
 use Rattle.cm_handles.specs.declared.handle.HandleKind.{HandleKind}
 use Rattle.cm_handles.specs.declared.handle.HandleKind.TheVariants as handle
 use Rattle.cm_handles.specs.declared.fault.HandleFault.{HandleFault}
-use Rattle.cm_abi_requests.specs.Answering.{answer_fault, fault_before, first_fault, places_of}
+use Rattle.cm_abi_model.specs.Answering.{answer_fault, fault_before, first_fault, places_of}
 use Rattle.cm_abi_model.specs.declared.fault.AbiFault.{AbiFault}
 use Rattle.cm_abi_model.specs.declared.request.Request.{Request}
 use Rattle.cm_abi_model.specs.Numbers.{slot_at}
@@ -37,7 +37,7 @@ use Rattle.cm_machine_model.specs.declared.moves.Move.TheVariants as move
 use Rattle.cm_machine_model.specs.Memories.{after_growth, after_write, memory_at}
 use Rattle.cm_machine_rules.specs.Passages.{IsAnswered, as_args, asked_for, Carries, HasAnswers}
 use Rattle.cm_machine_rules.specs.Passages.{IsScanned}
-use Rattle.cm_abi_requests.specs.RequestingAsking.{last_answer}
+use Rattle.cm_abi_model.specs.Answered.{last_answer}
 use Rattle.cm_machine_rules.specs.Plan.{Plan, CoreFunc, Link, Reaches, core_func_at, drops, guest}
 use Rattle.cm_machine_rules.specs.Plan.{lowered, makes, receiver_side, represents, types_of}
 use Rattle.cm_machine_rules.specs.Plan.{giver_side}
@@ -57,9 +57,9 @@ use Rattle.cm_machine_rules.specs.Plans.{IsLink, IsPlan}
 use Rattle.cm_machine_rules.specs.Rows.{OfTraps, by_check, by_memory, by_trap, finish, same_link}
 use Rattle.cm_machine_valid.proofs.StepPlaces.{none_for}
 use Rattle.cm_machine_valid.proofs.OneCarried.{OneCarried}
-use Rattle.cm_abi_requests.specs.RecordRequests.{tags_of}
-use Rattle.cm_abi_lift.specs.Telling.{TellAll}
-use Rattle.cm_abi_load.specs.declared.record.PartRecord.{PartRecord}
+use Rattle.cm_abi_model.specs.RecordRequests.{tags_of}
+use Rattle.cm_abi_model.specs.Telling.{TellAll}
+use Rattle.cm_abi_model.specs.declared.record.PartRecord.{PartRecord}
 use Rattle.cm_abi_model.specs.Denotes.{Denotes}
 
 abbrev Q : Plan → Event → State → Type 0

@@ -10,7 +10,7 @@ use Rattle.cm_types.specs.Values.{Val}
 use Rattle.cm_handles.specs.Handles.{Handles, IsSoundHandles, after_release, handle_at, if_not_lent}
 use Rattle.cm_handles.specs.Handles.{is_same_resource, look_up, of_resource}
 use Rattle.cm_handles.specs.declared.fault.HandleFault.TheVariants as handle_fault
-use Rattle.cm_abi_requests.specs.Answering.{answer_fault}
+use Rattle.cm_abi_model.specs.Answering.{answer_fault}
 use Rattle.cm_machine_model.specs.Memories.{memory_at}
 use Rattle.std.proofs.lemmas.Bool.{cases_eq}
 use Rattle.cm_handles.specs.declared.handle.Handle.{Handle}
@@ -41,8 +41,8 @@ use Rattle.cm_machine_rules.specs.Owning.{standing, travelling}
 use Rattle.cm_machine_valid.proofs.OwningLaws.{AddingIsFine, LiftTakes}
 use Rattle.cm_machine_valid.specs.Taking.{AreTaken}
 use Rattle.cm_machine_rules.specs.Passages.{IsAnswered, IsScanned, as_args, asked_for}
-use Rattle.cm_abi_requests.specs.RequestingAsking.{last_answer}
-use Rattle.cm_abi.specs.Calls.{owned_in}
+use Rattle.cm_abi_model.specs.Answered.{last_answer}
+use Rattle.cm_abi_model.specs.HandleLeaves.{owned_in}
 use Rattle.cm_machine_rules.specs.Plan.{Plan, CoreFunc, Link, Reaches, core_func_at, drops}
 use Rattle.cm_machine_rules.specs.Plan.{entered_kinds, guest, lowered, makes, represents}
 use Rattle.cm_machine_rules.specs.Plan.{receiver_side, types_of}

@@ -14,7 +14,7 @@ use Rattle.cm_handles.specs.declared.fault.HandleFault.{HandleFault}
 use Rattle.cm_handles.specs.declared.handle.Handle.{Handle}
 use Rattle.cm_handles.specs.declared.handle.HandleKind.{HandleKind}
 use Rattle.cm_handles.specs.declared.handle.HandleKind.TheVariants as handle
-use Rattle.cm_abi_requests.specs.Answering.{answer_fault}
+use Rattle.cm_abi_model.specs.Answering.{answer_fault}
 use Rattle.cm_abi_model.specs.declared.fault.AbiFault.{AbiFault}
 use Rattle.cm_abi_model.specs.declared.request.Request.{Request}
 use Rattle.cm_abi_model.specs.Denotes.{Denotes}
@@ -23,12 +23,13 @@ use Rattle.cm_abi_model.specs.Receives.{HandleLeaf, leaves_in, call_bytes}
 use Rattle.cm_abi_model.specs.Requests.{is_spilled, tuple_of}
 use Rattle.cm_abi_model.specs.Taken.{Met, Transferable, after_met, met}
 use Rattle.cm_abi_model.specs.Views.{View, Way, params, results}
-use Rattle.cm_abi_lower.specs.Giving.{added_count, after_given, numbers_given}
-use Rattle.cm_abi_lower.specs.declared.receiver.Receiver.{Receiver}
+use Rattle.cm_abi_model.specs.Giving.{added_count, after_given, numbers_given}
+use Rattle.cm_abi_model.specs.declared.receiver.Receiver.{Receiver}
 use Rattle.cm_machine_model.specs.declared.event.Event.{Event}
 use Rattle.cm_machine_model.specs.declared.event.Trap.{Trap}
 use Rattle.cm_machine_model.specs.declared.event.Trap.TheVariants as trap
-use Rattle.cm_abi.specs.Calls.{AreBytes, owned_in}
+use Rattle.cm_abi_model.specs.Bytes.{AreBytes}
+use Rattle.cm_abi_model.specs.HandleLeaves.{owned_in}
 use Rattle.cm_abi_model.specs.Stores.{Holds}
 use Rattle.cm_machine_rules.specs.History.{WritesBytes}
 use Rattle.cm_machine_rules.specs.Step.{IsHanded, given_to, Traps, UnlessWrong, Asks, Answers}
@@ -59,7 +60,7 @@ use Rattle.cm_machine_model.specs.Memories.{after_growth, after_write, memory_at
 use Rattle.cm_machine_valid.proofs.OwningLaws.{AddingIsFine}
 use Rattle.cm_machine_valid.specs.Taking.{AreTaken}
 use Rattle.cm_machine_rules.specs.Passages.{IsAnswered, as_args, asked_for}
-use Rattle.cm_abi_requests.specs.RequestingAsking.{last_answer}
+use Rattle.cm_abi_model.specs.Answered.{last_answer}
 use Rattle.cm_machine_rules.specs.Stack.{actor, below_top}
 use Rattle.cm_machine_rules.specs.State.{Passage, State, after_trap, is_closed, place_after_trap}
 use Rattle.cm_machine_rules.specs.State.{table_at, tables_after_trap, with_places}

@@ -18,12 +18,15 @@ use Rattle.cm_abi_model.specs.Views.{View, Way}
 use Rattle.cm_abi_model.specs.Requests.{is_spilled, tuple_of}
 use Rattle.cm_abi_model.specs.Shows.{Shows, ShowFields, ShowsPayload, ShowEach}
 use Rattle.cm_abi_model.specs.FlatShows.{FlatShows, FlatShowFields, FlatShowsPayload, width_of}
-use Rattle.cm_abi_model.specs.Receives.{HandleLeaf, borrowed_leaf, leaves_each, leaves_in, leaves_in_fields, leaves_in_payload, owned_leaf}
-use Rattle.cm_abi_model.specs.Taken.{Met, content, lent, lent_of, met, met_at, met_each, met_flat, met_flat_fields, met_flat_payload, met_in_fields, met_in_payload, taken, taken_of, text_content}
+use Rattle.cm_abi_model.specs.Receives.{HandleLeaf, borrowed_leaf, leaves_each, leaves_in}
+use Rattle.cm_abi_model.specs.Receives.{leaves_in_fields, leaves_in_payload, owned_leaf}
+use Rattle.cm_abi_model.specs.Taken.{Met, content, lent, lent_of, met, met_at, met_each, met_flat}
+use Rattle.cm_abi_model.specs.Taken.{met_flat_fields, met_flat_payload, met_in_fields}
+use Rattle.cm_abi_model.specs.Taken.{met_in_payload, taken, taken_of, text_content}
 use Rattle.cm_abi_model.specs.Denotes.{Denotes}
 use Rattle.cm_machine_valid.proofs.OwningLaws.{LiftTakes}
 use Rattle.cm_machine_valid.specs.Taking.{AreTaken}
-use Rattle.cm_abi.specs.Calls.{owned_in}
+use Rattle.cm_abi_model.specs.HandleLeaves.{owned_in}
 use Rattle.cm_machine_valid.proofs.LiftPlaces.{lent_there}
 use Rattle.cm_machine_valid.specs.Taking.{AreThere}
 use Rattle.cm_machine_valid.proofs.Lists.{Contains-first, Contains-rest}

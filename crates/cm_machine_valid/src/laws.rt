@@ -8,7 +8,7 @@ ghost use Rattle.cm_types.specs.declared.core_value.CoreValue.{CoreValue};
 ghost use Rattle.cm_abi_model.specs.Denotes.{Denotes};
 ghost use Rattle.cm_abi_model.specs.Receives.{leaves_in};
 ghost use Rattle.cm_abi_model.specs.Requests.{tuple_of};
-ghost use Rattle.cm_abi.specs.Calls.{owned_in};
+ghost use Rattle.cm_abi_model.specs.HandleLeaves.{owned_in};
 ghost use Rattle.cm_abi_model.specs.Taken.{Transferable, met};
 ghost use Rattle.cm_abi_model.specs.Views.{View, Way};
 ghost use Rattle.cm_machine_valid.specs.Taking.{AreTaken, AreThere};

@@ -19,17 +19,18 @@ use Rattle.cm_abi_model.specs.Parts.{part_count, part_count_each, parts_each, pa
 use Rattle.cm_abi_model.specs.Parts.{parts_in_fields, parts_in_payload}
 use Rattle.cm_abi_model.specs.Receives.{HandleLeaf, leaves_each, leaves_in, leaves_in_fields}
 use Rattle.cm_abi_model.specs.Receives.{leaves_in_payload}
-use Rattle.cm_abi_model.specs.Requests.{call_parts, chain, charset, first_tag, growths, is_spilled}
-use Rattle.cm_abi_model.specs.Requests.{part_align, part_requests, part_sizes, parts_of, requests}
+use Rattle.cm_abi_model.specs.Requests.{call_parts, chain, first_tag, growths, is_spilled}
+use Rattle.cm_abi_model.specs.Requests.{part_align, part_requests, part_sizes, parts_of}
+use Rattle.cm_abi_model.specs.Requests.{read_charset, requests}
 use Rattle.cm_abi_model.specs.Requests.{stored_charset, tags_behind, tuple_of}
 use Rattle.cm_abi_model.specs.Taken.{Met, content, lent, lent_of, met, met_at, met_each, met_flat}
 use Rattle.cm_abi_model.specs.Taken.{met_flat_fields, met_flat_payload, met_in_fields}
 use Rattle.cm_abi_model.specs.Taken.{met_in_payload, taken, text_content}
 use Rattle.cm_abi_model.specs.Views.{View, Way}
-use Rattle.cm_abi_lift.specs.Telling.{TellAll}
-use Rattle.cm_abi_lift.specs.cm_abi_load.declared.record.PartRecord.{PartRecord}
-use Rattle.cm_abi_requests.specs.Answering.{begins_part, places_of, regions_of}
-use Rattle.cm_abi_requests.specs.declared.regions.Region.{Region}
+use Rattle.cm_abi_model.specs.Telling.{TellAll}
+use Rattle.cm_abi_model.specs.declared.record.PartRecord.{PartRecord}
+use Rattle.cm_abi_model.specs.Answering.{begins_part, places_of, regions_of}
+use Rattle.cm_abi_model.specs.declared.region.Region.{Region}
 
 -- ---- parts
 
@@ -205,8 +206,8 @@ part_begins source target tags [] = omega arith
 part_begins source target tags (p ∷ ps) =
     omega (
       arith,
-      begins_append (chain (part_align target p) (part_sizes (charset source (first_tag tags)) (stored_charset target) p)) (part_requests source target (tags_behind p tags) ps),
-      chain_begins (part_align target p) (part_sizes (charset source (first_tag tags)) (stored_charset target) p),
+      begins_append (chain (part_align target p) (part_sizes (read_charset source (first_tag tags)) (stored_charset target) p)) (part_requests source target (tags_behind p tags) ps),
+      chain_begins (part_align target p) (part_sizes (read_charset source (first_tag tags)) (stored_charset target) p),
       part_begins source target (tags_behind p tags) ps,
     )
 
@@ -230,7 +231,7 @@ chain_first align (size ∷ sizes) rest first = refl
 pub part_first : (source target : StringEncoding) (tags : List Bool) (ps : List Part) → begins_part (part_requests source target tags ps) ≡ true
 part_first source target tags [] = refl
 part_first source target tags (p ∷ ps) =
-    chain_first (part_align target p) (part_sizes (charset source (first_tag tags)) (stored_charset target) p) (part_requests source target (tags_behind p tags) ps) (part_first source target (tags_behind p tags) ps)
+    chain_first (part_align target p) (part_sizes (read_charset source (first_tag tags)) (stored_charset target) p) (part_requests source target (tags_behind p tags) ps) (part_first source target (tags_behind p tags) ps)
 
 pub places_few : (way : Way) (types : Fields) (v : Val) (source target : StringEncoding) (tags : List Bool) (answers : List ℕ)
     → length (places_of (requests way types v source target tags) answers) ≤ length (call_parts way types v)

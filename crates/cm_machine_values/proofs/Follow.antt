@@ -9,8 +9,8 @@ use Rattle.cm_types.specs.declared.core_value.CoreValue.{CoreValue}
 use Rattle.cm_types.specs.declared.core_value.CoreValue.TheVariants as core_value
 use Rattle.cm_abi_model.specs.declared.request.Request.{Request}
 use Rattle.cm_abi_model.specs.Numbers.{slot_at}
-use Rattle.cm_abi_requests.specs.Answering.{places_of}
-use Rattle.cm_abi_requests.specs.RequestingAsking.{last_answer}
+use Rattle.cm_abi_model.specs.Answering.{places_of}
+use Rattle.cm_abi_model.specs.Answered.{last_answer}
 use Rattle.cm_machine_model.specs.Memories.{memory_at}
 use Rattle.cm_machine_rules.specs.declared.frame.Frame.{Frame}
 use Rattle.cm_machine_rules.specs.Plan.{Plan}

@@ -14,8 +14,8 @@ use Rattle.cm_abi_model.specs.Requests.{is_spilled, requests}
 use Rattle.cm_abi_model.specs.Stores.{Given}
 use Rattle.cm_abi_model.specs.Taken.{Transferable, met, tags_of}
 use Rattle.cm_abi_model.specs.Views.{View, params, results}
-use Rattle.cm_abi_requests.specs.Answering.{places_of}
-use Rattle.cm_abi_requests.specs.RequestingAsking.{last_answer}
+use Rattle.cm_abi_model.specs.Answering.{places_of}
+use Rattle.cm_abi_model.specs.Answered.{last_answer}
 use Rattle.cm_machine_model.specs.declared.event.Event.{Event}
 use Rattle.cm_machine_model.specs.declared.event.Event.TheVariants as event
 use Rattle.cm_machine_model.specs.declared.event.Trap.{Trap}

@@ -27,8 +27,8 @@ use Rattle.cm_abi_model.specs.Receives.{Receives, SlotsHold, call_bytes, put, sl
 use Rattle.cm_abi_model.specs.Requests.{is_spilled, part_requests, requests, tuple_of}
 use Rattle.cm_abi_model.specs.Stores.{Given, Holds, place_of}
 use Rattle.cm_abi_model.specs.Views.{View, Way, results}
-use Rattle.cm_abi_requests.specs.Answering.{begins_part, places_of, regions_of}
-use Rattle.cm_abi_requests.specs.declared.regions.Region.{Region}
+use Rattle.cm_abi_model.specs.Answering.{begins_part, places_of, regions_of}
+use Rattle.cm_abi_model.specs.declared.region.Region.{Region}
 use Rattle.cm_machine_model.specs.Memories.{memory_at}
 use Rattle.cm_machine_rules.specs.declared.frame.Lend.{Lend}
 use Rattle.cm_machine_rules.specs.State.{State, table_at, tables_after_call, tables_after_unlend}

@@ -8,8 +8,8 @@ use Rattle.cm_abi_model.specs.declared.request.Request.{Request}
 use Rattle.cm_abi_model.specs.Receives.{HandleLeaf, leaves_in}
 use Rattle.cm_abi_model.specs.Requests.{call_parts, parts_of, tuple_of}
 use Rattle.cm_abi_model.specs.Views.{Way, params, results}
-use Rattle.cm_abi_requests.specs.Answering.{places_of}
-use Rattle.cm_abi_requests.specs.RecordRequests.{tags_of}
+use Rattle.cm_abi_model.specs.Answering.{places_of}
+use Rattle.cm_abi_model.specs.RecordRequests.{tags_of}
 use Rattle.cm_machine_rules.specs.declared.frame.Call.{Call}
 use Rattle.cm_machine_rules.specs.declared.frame.Frame.{Frame}
 use Rattle.cm_machine_rules.specs.declared.frame.Phase.{Phase}

@@ -10,9 +10,9 @@ use Rattle.cm_abi_model.specs.Denotes.{Denotes}
 use Rattle.cm_abi_model.specs.Numbers.{slot_at}
 use Rattle.cm_abi_model.specs.Requests.{call_parts, is_spilled, requests}
 use Rattle.cm_abi_model.specs.Views.{Way, results}
-use Rattle.cm_abi_lift.specs.Telling.{TellAll}
-use Rattle.cm_abi_lift.specs.cm_abi_load.declared.record.PartRecord.{PartRecord}
-use Rattle.cm_abi_requests.specs.RecordRequests.{tags_of}
+use Rattle.cm_abi_model.specs.Telling.{TellAll}
+use Rattle.cm_abi_model.specs.declared.record.PartRecord.{PartRecord}
+use Rattle.cm_abi_model.specs.RecordRequests.{tags_of}
 use Rattle.cm_machine_model.specs.Memories.{memory_at}
 use Rattle.cm_machine_rules.specs.declared.frame.Call.{Call}
 use Rattle.cm_machine_rules.specs.declared.frame.Frame.{Frame}

@@ -1,7 +1,11 @@
 //! What becomes of the values of calls, as laws: each function here does nothing, and its contract
 //! is the law.
 
-ghost use Rattle.std.specs.Prelude.{List, ℕ};
+ghost use Rattle.std.specs.Prelude.{◌≤◌, List, length, ℕ};
+ghost use Rattle.cm_types.specs.Types.{Ty};
+ghost use Rattle.cm_types.specs.Values.{Val};
+ghost use Rattle.cm_abi_model.specs.Parts.{handle_count};
+ghost use Rattle.cm_abi_model.specs.Receives.{leaves_in};
 ghost use Rattle.cm_machine_rules.specs.History.{IsHistoryOf, Occurrence};
 ghost use Rattle.cm_machine_rules.specs.Plan.{Plan};
 ghost use Rattle.cm_machine_rules.specs.State.{State};
@@ -15,6 +19,11 @@ ghost use Rattle.cm_machine_values.specs.Following.{AreFollowed};
 use cm_abi_model::laws::what_is_received_stays;
 use cm_machine_told::laws::histories_are_told;
 use cm_machine_valid::laws::{histories_are_valid, one_value_is_carried};
+
+/// A value of a type has no more handles than are counted in it.
+pub fn handles_are_counted()
+    ensures { (t : Ty) (v : Val) → length (leaves_in t v) ≤ handle_count v }
+{}
 
 /// What goes on is followed along each history: of each call one value was sent, which is on its
 /// way while arguments are placed, and so is the one that was returned while a result is.

@@ -1,0 +1,5 @@
+mod Tables
+mod Calls
+mod Found
+mod Cases
+mod Along

@@ -1,0 +1,5 @@
+mod Bytes
+mod Regions
+mod Turns
+mod Cases
+mod Along

@@ -1,0 +1,12 @@
+mod Judging
+mod Resources
+mod Lifting
+mod LowerRows
+mod AnswerRows
+mod PlacedRows
+mod BodyRows
+mod SimpleRows
+mod ClosedTables
+mod ClosedStates
+mod ClosingRows
+mod Along
