@@ -4,17 +4,18 @@ use Rattle.std.specs.Prelude.{slice_get, not}
 use Rattle.std.specs.Option.{option_map}
 use Rattle.std.proofs.lemmas.Bool.{eqb-true, eqb-false}
 use Rattle.std.proofs.lemmas.List.{append-nil, length-append}
-use Rattle.cm_machine_model.specs.declared.frame.Frame.{Frame}
+use Rattle.cm_machine_rules.specs.declared.frame.Frame.{Frame}
 use Rattle.cm_machine_model.specs.declared.event.Event.{Event}
 use Rattle.cm_machine_model.specs.declared.event.Event.TheVariants as event
 use Rattle.cm_machine_model.specs.declared.moves.Move.{Move}
 use Rattle.cm_machine_model.specs.Exchange.{Exchange}
-use Rattle.cm_machine_model.specs.Stack.{actor, top_of}
-use Rattle.cm_machine_model.specs.State.{State}
-use Rattle.cm_machine_model.specs.Step.{Step}
+use Rattle.cm_machine_rules.specs.Stack.{actor, top_of}
+use Rattle.cm_machine_rules.specs.State.{State}
+use Rattle.cm_machine_set.specs.Running.{RunningSet, SetSteps}
 use Rattle.cm_machine_model.specs.declared.event.Misuse.{Misuse}
 use Rattle.cm_machine_model.specs.declared.event.Misuse.TheVariants as misuse
-use Rattle.cm_machine_model.specs.Run.{is_last, misuse_by_closed, misuse_by_stack, misuse_of_begin}
+use Rattle.cm_machine_model.specs.Events.{is_last}
+use Rattle.cm_machine_rules.specs.Run.{misuse_by_closed, misuse_by_stack, misuse_of_begin}
 use Rattle.cm_machine.specs.Player.{Turn, Turns, last_of, exchanges_of, AreStops, TookPart, GoesOnAs, SeatPlays, is_taken, StaysTaken, EndsAt, IsPlay, IsHalt, IsDrive, closes_between, seat_after_close}
 
 stops_join : (xs ys : List Exchange) → AreStops xs → AreStops ys → AreStops (xs ++ ys)
@@ -80,16 +81,16 @@ exchanges_more i (t ∷ ts) us = by_test (t.by == i) (exchanges_more i ts us)
     by_test false e = e
 
 -- what holds in mid-drive
-pub record Playing {G : Type 0} (plays : G → List Exchange → Type 0) (start : State) (first : Event) (old_seats : List (Option G)) (events : List Event) (s : State) (seats : List (Option G)) (count : ℕ) : Type 0 where
+pub record Playing {G : Type 0} (plays : G → List Exchange → Type 0) (start : RunningSet) (first : Event) (old_seats : List (Option G)) (events : List Event) (s : RunningSet) (seats : List (Option G)) (count : ℕ) : Type 0 where
   pub turns : List Turn
   pub told : List Event
   pub events_are : events ≡ first ∷ told
   pub counted : length turns ≡ count
-  pub went : (ts : List Turn) (es : List Event) (new : State) → Turns s (last_of first told) ts es new → Turns start first (turns ++ ts) (told ++ es) new
+  pub went : (ts : List Turn) (es : List Event) (new : RunningSet) → Turns s (last_of first told) ts es new → Turns start first (turns ++ ts) (told ++ es) new
   pub seats_play : (i : ℕ) → SeatPlays plays (slice_get old_seats i) (slice_get seats i) (exchanges_of i turns)
   pub seats_stay : (i : ℕ) → StaysTaken (slice_get old_seats i) (slice_get seats i)
 
-pub begins_playing : {G : Type 0} (plays : G → List Exchange → Type 0) (start : State) (first : Event) (seats : List (Option G)) (events : List Event) → events ≡ first ∷ [] → Playing plays start first seats events start seats 0
+pub begins_playing : {G : Type 0} (plays : G → List Exchange → Type 0) (start : RunningSet) (first : Event) (seats : List (Option G)) (events : List Event) → events ≡ first ∷ [] → Playing plays start first seats events start seats 0
 begins_playing plays start first seats events is = record {
   turns = [];
   told = [];
@@ -126,10 +127,10 @@ module _ {G : Type 0} (plays : G → List Exchange → Type 0) (old mid new : Li
   pub stay_after : (i : ℕ) → StaysTaken (slice_get old i) (slice_get new i)
   stay_after i = stays_one i (t.by == i) refl ∙ kept i
 
-pub plays_on : {G : Type 0} (plays : G → List Exchange → Type 0) (start : State) (first : Event) (old : List (Option G)) (events : List Event) (s : State) (seats : List (Option G)) (count : ℕ)
+pub plays_on : {G : Type 0} (plays : G → List Exchange → Type 0) (start : RunningSet) (first : Event) (old : List (Option G)) (events : List Event) (s : RunningSet) (seats : List (Option G)) (count : ℕ)
     → Playing plays start first old events s seats count
-    → (by : ℕ) (seen : Event) (made : Move) (e : Event) (mid : State) (after : List (Option G)) (list : List Event)
-    → ((told : List Event) → events ≡ first ∷ told → last_of first told ≡ seen) → is_last seen ≡ false → option_map actor (top_of s.stack) ≡ Some by → Step s made e mid
+    → (by : ℕ) (seen : Event) (made : Move) (e : Event) (mid : RunningSet) (after : List (Option G)) (list : List Event)
+    → ((told : List Event) → events ≡ first ∷ told → last_of first told ≡ seen) → is_last seen ≡ false → option_map actor (top_of s.state.stack) ≡ Some by → SetSteps s made e mid
     → SeatPlays plays (slice_get seats by) (slice_get after by) (record { seen = seen; made = made } ∷ []) → StaysTaken (slice_get seats by) (slice_get after by)
     → ((i : ℕ) → i ≢ by → slice_get after i ≡ slice_get seats i) → list ≡ events ++ e ∷ []
     → Playing plays start first old list mid after (count + 1)
@@ -176,7 +177,7 @@ by_limit : (b : Bool) (limit moves : ℕ) → moves ≡ limit → (b ≡ true) �
 by_limit true limit moves is = inl refl
 by_limit false limit moves is = inr (refl, is)
 
-module _ {G : Type 0} (plays : G → List Exchange → Type 0) (start : State) (first : Event) (old : List (Option G)) (limit : ℕ) (events : List Event) (s : State) (seats : List (Option G)) (count : ℕ) (p : Playing plays start first old events s seats count) where
+module _ {G : Type 0} (plays : G → List Exchange → Type 0) (start : RunningSet) (first : Event) (old : List (Option G)) (limit : ℕ) (events : List Event) (s : RunningSet) (seats : List (Option G)) (count : ℕ) (p : Playing plays start first old events s seats count) where
   ended_at : EndsAt limit (last_of first p.told) (length p.turns) → IsPlay plays start first old limit events s seats
   ended_at ends = record {
     turns = p.turns;
@@ -216,7 +217,7 @@ last_is_seen events seen there first told is = let here = last_at events first t
 
 -- ---- the whole drive
 
-module _ {G : Type 0} (plays : G → List Exchange → Type 0) (start : State) (root limit : ℕ) (old : List (Option G)) (events : List Event) (s : State) (seats : List (Option G)) (p : IsPlay plays start (event.Resume root []) old limit events s seats) (f : ℕ → Bool) (left : List (Option G)) (emptied : (i : ℕ) → slice_get left i ≡ seat_after_close (f i) (slice_get seats i)) where
+module _ {G : Type 0} (plays : G → List Exchange → Type 0) (start : RunningSet) (root limit : ℕ) (old : List (Option G)) (events : List Event) (s : RunningSet) (seats : List (Option G)) (p : IsPlay plays start (event.Resume root []) old limit events s seats) (f : ℕ → Bool) (left : List (Option G)) (emptied : (i : ℕ) → slice_get left i ≡ seat_after_close (f i) (slice_get seats i)) where
   pub whole_drive : IsDrive plays root limit start old events s left
   whole_drive = record {
     turns = p.turns;
@@ -235,7 +236,7 @@ closed_same a b c d p q i = ap (λ (x : List Bool). closes_between x c i) p ∙ 
 
 -- ---- a drive that finds no memory
 
-pub halts_at : {G : Type 0} (plays : G → List Exchange → Type 0) (start : State) (first : Event) (old : List (Option G)) (limit : ℕ) (events : List Event) (s : State) (seats : List (Option G)) (count : ℕ) → (p : Playing plays start first old events s seats count) → is_last (last_of first p.told) ≡ false → count ≤ limit → IsHalt plays start first old limit s seats
+pub halts_at : {G : Type 0} (plays : G → List Exchange → Type 0) (start : RunningSet) (first : Event) (old : List (Option G)) (limit : ℕ) (events : List Event) (s : RunningSet) (seats : List (Option G)) (count : ℕ) → (p : Playing plays start first old events s seats count) → is_last (last_of first p.told) ≡ false → count ≤ limit → IsHalt plays start first old limit s seats
 halts_at plays start first old limit events s seats count p more within = record {
   turns = p.turns;
   told = p.told;
@@ -246,7 +247,7 @@ halts_at plays start first old limit events s seats count p more within = record
   seats_stay = p.seats_stay;
 }
 
-pub halts_first : {G : Type 0} (plays : G → List Exchange → Type 0) (start : State) (first : Event) (old : List (Option G)) (limit : ℕ) → is_last first ≡ false → IsHalt plays start first old limit start old
+pub halts_first : {G : Type 0} (plays : G → List Exchange → Type 0) (start : RunningSet) (first : Event) (old : List (Option G)) (limit : ℕ) → is_last first ≡ false → IsHalt plays start first old limit start old
 halts_first plays start first old limit more = record {
   turns = [];
   told = [];

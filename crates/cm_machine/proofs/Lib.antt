@@ -1,9 +1,2 @@
-pub mod Carried
-pub mod Calls
-pub mod MemoryLaws
-pub mod TrapLaws
-pub mod HistoryLaws
-pub mod Ending
-pub mod Starting
 pub mod Drives
 pub mod Seats

@@ -1,18 +1,5 @@
-pub use Rattle.cm_machine_model.specs.Numbers
-pub use Rattle.cm_machine_model.specs.Memories
-pub use Rattle.cm_machine_model.specs.Stack
-pub use Rattle.cm_machine_model.specs.State
-pub use Rattle.cm_machine_model.specs.Checks
-pub use Rattle.cm_machine_model.specs.Step
-pub use Rattle.cm_machine_model.specs.Run
-pub use Rattle.cm_machine_model.specs.Fresh
-pub use Rattle.cm_machine_model.specs.History
-pub use Rattle.cm_machine_model.specs.Values
-pub use Rattle.cm_machine_model.specs.Guarded
-pub use Rattle.cm_machine_model.specs.Exchange
-pub use Rattle.cm_machine_set.specs.cm_machine_plan.CoreFuncs
-pub mod Acting
-pub mod Doing
-pub mod Causes
-pub mod Headline
+pub use Rattle.cm_machine_model.specs as cm_machine_model
+pub use Rattle.cm_machine_rules.specs as cm_machine_rules
+pub use Rattle.cm_machine_told.specs as cm_machine_told
+pub use Rattle.cm_machine_set.specs as cm_machine_set
 pub mod Player

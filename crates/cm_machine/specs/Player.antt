@@ -9,10 +9,9 @@ use Rattle.cm_machine_model.specs.declared.event.Event.TheVariants as event
 use Rattle.cm_machine_model.specs.declared.moves.Move.{Move}
 use Rattle.cm_machine_model.specs.declared.moves.Move.TheVariants as move
 use Rattle.cm_machine_model.specs.Exchange.{Exchange}
-use Rattle.cm_machine_model.specs.Stack.{actor, top_of}
-use Rattle.cm_machine_model.specs.State.{State}
-use Rattle.cm_machine_model.specs.Step.{Step}
-use Rattle.cm_machine_model.specs.Run.{is_last}
+use Rattle.cm_machine_model.specs.Events.{is_last}
+use Rattle.cm_machine_rules.specs.Stack.{actor, top_of}
+use Rattle.cm_machine_set.specs.Running.{RunningSet, SetSteps}
 
 -- one turn of a drive: the instance that acted, the event that it saw, the move that was made
 pub record Turn : Type 0 where
@@ -20,16 +19,16 @@ pub record Turn : Type 0 where
   pub seen : Event
   pub made : Move
 
--- From the state s, where this event was seen last, these turns lead to these events and this new
--- state. Each turn is the acting instance's; it sees the event before it, which was not the last.
-abbrev pub Turns : State → Event → List Turn → List Event → State → Type 0
+-- From the set s, where this event was seen last, these turns lead to these events and this new
+-- set. Each turn is the acting instance's; it sees the event before it, which was not the last.
+abbrev pub Turns : RunningSet → Event → List Turn → List Event → RunningSet → Type 0
 Turns s seen [] [] new = new ≡ s
 Turns s seen [] (e ∷ es) new = ⊥
 Turns s seen (t ∷ ts) [] new = ⊥
 Turns s seen (t ∷ ts) (e ∷ es) new =
     (t.seen ≡ seen) × (is_last seen ≡ false)
-    × (option_map actor (top_of s.stack) ≡ Some t.by)
-    × ((mid : State) × Step s t.made e mid × Turns mid e ts es new)
+    × (option_map actor (top_of s.state.stack) ≡ Some t.by)
+    × ((mid : RunningSet) × SetSteps s t.made e mid × Turns mid e ts es new)
 
 -- the last of these events, the first one where no others are
 abbrev pub last_of : Event → List Event → Event
@@ -86,11 +85,11 @@ EndsAt limit last moves = (is_last last ≡ true) ⊎ ((is_last last ≡ false) 
 
 -- ---- a whole drive
 
--- From the state after `begin`, with these seats, these events, this new state and these new seats
--- are a drive: some turns, each of the acting instance and each answered by its guest, whose events
--- follow the first one, and which end where a drive ends.
+-- From the set after `begin`, with these seats, these events, this new set and these new seats
+-- are a drive: some turns, each of the acting instance and each answered by its guest, whose
+-- events follow the first one, and which end where a drive ends.
 pub record IsDrive {G : Type 0} (plays : G → List Exchange → Type 0) (root limit : ℕ)
-    (start : State) (old_seats : List (Option G)) (events : List Event) (new : State)
+    (start : RunningSet) (old_seats : List (Option G)) (events : List Event) (new : RunningSet)
     (seats : List (Option G)) : Type 0 where
   pub turns : List Turn
   pub told : List Event
@@ -100,7 +99,7 @@ pub record IsDrive {G : Type 0} (plays : G → List Exchange → Type 0) (root l
   pub seats_play : (i : ℕ)
       → SeatPlays plays (slice_get old_seats i) (slice_get seats i) (exchanges_of i turns)
 
--- whether an instance is closed in the new state and was not in the old one
+-- whether an instance is closed by the new flags and was not by the old ones
 abbrev pub closes_between : List Bool → List Bool → ℕ → Bool
 closes_between old new i =
     unwrap_or (slice_get new i) false && not (unwrap_or (slice_get old i) false)
@@ -112,9 +111,9 @@ seat_after_close true None = None
 seat_after_close false seat = seat
 
 -- A drive before the seats of closed instances are emptied.
-pub record IsPlay {G : Type 0} (plays : G → List Exchange → Type 0) (start : State)
-    (first : Event) (old_seats : List (Option G)) (limit : ℕ) (events : List Event) (new : State)
-    (seats : List (Option G)) : Type 0 where
+pub record IsPlay {G : Type 0} (plays : G → List Exchange → Type 0) (start : RunningSet)
+    (first : Event) (old_seats : List (Option G)) (limit : ℕ) (events : List Event)
+    (new : RunningSet) (seats : List (Option G)) : Type 0 where
   pub turns : List Turn
   pub told : List Event
   pub events_are : events ≡ first ∷ told
@@ -126,8 +125,8 @@ pub record IsPlay {G : Type 0} (plays : G → List Exchange → Type 0) (start :
 
 -- A drive that found no memory for an event has made some turns, fewer than it may or as many; its
 -- last event is no last one, and each seat holds what those turns left there.
-pub record IsHalt {G : Type 0} (plays : G → List Exchange → Type 0) (start : State)
-    (first : Event) (old_seats : List (Option G)) (limit : ℕ) (new : State)
+pub record IsHalt {G : Type 0} (plays : G → List Exchange → Type 0) (start : RunningSet)
+    (first : Event) (old_seats : List (Option G)) (limit : ℕ) (new : RunningSet)
     (seats : List (Option G)) : Type 0 where
   pub turns : List Turn
   pub told : List Event

@@ -1,68 +1,92 @@
 //! What holds of every history of a linked set.
 
-ghost use Rattle.std.specs.Prelude.{◌≡◌, ℕ, List, [], Some, slice_get};
-ghost use Rattle.cm_machine_model.specs.declared.event.Event.{Event};
-ghost use Rattle.cm_machine_model.specs.declared.frame.CoreFunction.{CoreFunction};
-ghost use Rattle.cm_machine_model.specs.declared.moves.Move.{Move};
-ghost use Rattle.cm_machine_model.specs.State.{State};
-ghost use Rattle.cm_machine_model.specs.Run.{Run};
-ghost use Rattle.cm_machine_model.specs.Fresh.{fresh_state};
-ghost use Rattle.cm_machine_model.specs.History.{Occurrence, IsHistoryOf, RunsOn};
-ghost use Rattle.cm_machine.specs.Headline.{Always, ActsAsTold, StandsAsTold, BeginsRightly};
-ghost use Rattle.cm_machine.specs.Headline.{AnswersRightly, ClosesByTraps, NoneClosedActs};
-ghost use Rattle.cm_machine.specs.Headline.{EntersRightly, ResumesRightly, ChangesMemoryRightly};
-ghost use Rattle.cm_machine.specs.Headline.{TrapsRightly, TrapsAtACause, BeginsByCall};
-ghost use Rattle.cm_machine.specs.Headline.{RefusesBegins, EndsRightly, StartsWith, HasNoHandles};
+ghost use Rattle.cm_machine_told.specs.Always.{Always};
+ghost use Rattle.cm_machine_told.specs.Answers.{AnswersRightly};
+ghost use Rattle.cm_machine_told.specs.Asks.{AsksRightly};
+ghost use Rattle.cm_machine_told.specs.Bounds.{KeepsFew};
+ghost use Rattle.cm_machine_told.specs.Closing.{NamesFaults, TrapsAtACause, TrapsRightly};
+ghost use Rattle.cm_machine_told.specs.Entries.{EntersRightly, ResumesRightly, TidiesRightly};
+ghost use Rattle.cm_machine_told.specs.Going.{ActsAsTold, BeginsByCall, BeginsRightly};
+ghost use Rattle.cm_machine_told.specs.Going.{ClosesByTraps, EndsRightly, NoneClosedActs};
+ghost use Rattle.cm_machine_told.specs.Going.{RefusesBegins, RunsExtend, StandsAsTold};
+ghost use Rattle.cm_machine_told.specs.Going.{StartsAlways};
+ghost use Rattle.cm_machine_told.specs.HandleChanges.{ChangesHandlesRightly};
+ghost use Rattle.cm_machine_told.specs.Lent.{BorrowsStand, LendsStand};
+ghost use Rattle.cm_machine_told.specs.MemoryChanges.{ChangesMemoryRightly};
+ghost use Rattle.cm_machine_told.specs.Placed.{KeepsGone, OwnsRightly};
+
+use cm_machine_changes::laws::handles_change_as_told;
+use cm_machine_memory::laws::memory_changes_as_told;
+use cm_machine_owners::laws::owners_are_told;
+use cm_machine_told::laws::what_goes_on;
+use cm_machine_traps::laws::traps_have_their_causes;
+use cm_machine_values::laws::values_are_passed;
 
 /// The headline, a clause a sentence: for each set that can be linked, and each history of it from
-/// `Set::new` on, whatever the guests did. The clauses of `Set::new`, `Set::begin`, `Set::step` and
-/// `Set::run` say by the same definitions that what the program does is such a history.
+/// `Set::new` on, whatever the guests did. The clauses of `Set::new`, `Set::begin`, `Set::step`,
+/// `Set::run` and `Player::drive` say by the same definitions that what the program does is such a
+/// history.
 pub fn headline()
     // The instance that acts is the one that the last event named.
     ensures acting { Always ActsAsTold }
     // The frames that stand are what goes on by the events.
     ensures standing { Always StandsAsTold }
-    // The set's functions are the linked ones for good.
-    ensures keeps { (core_funcs : List (List CoreFunction)) (pages : List ℕ)
-        (h : List Occurrence) (s : State)
-        → IsHistoryOf core_funcs pages h s → s.core_funcs ≡ core_funcs }
-    // A set starts with the memories of zeros that were asked for, and with open instances.
-    ensures starts { (core_funcs : List (List CoreFunction)) (pages : List ℕ) (s : State)
-        → IsHistoryOf core_funcs pages [] s
-        → (i count : ℕ) → slice_get pages i ≡ Some count → StartsWith s i count }
+    // A set starts with the memories of zeros that were asked for, with no handles, and open.
+    ensures starts { StartsAlways }
     // A host begins a root call where nothing goes on, in an instance that is there and open.
-    ensures begins { Always (λ h s. BeginsRightly h) }
+    ensures begins { Always BeginsRightly }
     // It is refused for its reason, and for none where there is none.
     ensures begin_refusals { Always RefusesBegins }
     // Each move is answered by its own event, or traps.
-    ensures answers { Always (λ h s. AnswersRightly h) }
+    ensures answers { Always AnswersRightly }
     // An event is a last one exactly where nothing goes on after it.
-    ensures ends { Always (λ h s. EndsRightly h) }
+    ensures ends { Always EndsRightly }
     // No instance closes but by a trap, and none opens again.
-    ensures closes { Always (λ h s. ClosesByTraps h) }
+    ensures closes { Always ClosesByTraps }
     // The instance that acts is there and open.
     ensures none_closed_acts { Always NoneClosedActs }
     // More goes on only where the instance that acts may call, in an open instance, and where there
     // is room.
-    ensures begins_by_call { Always (λ h s. BeginsByCall h) }
+    ensures begins_by_call { Always BeginsByCall }
     // Where a body begins, the callee's state denotes the value that the caller's denoted at the
     // call.
-    ensures entries { Always (λ h s. EntersRightly h) }
+    ensures entries { Always EntersRightly }
     // Where a call ends, the caller's state denotes the result that the callee's denoted at its
     // return.
-    ensures resumptions { Always (λ h s. ResumesRightly h) }
-    // No step but a write or a growth changes a memory, and it changes exactly what it says.
-    ensures memory { Always (λ h s. ChangesMemoryRightly h) }
-    // No instance has a handle, so far.
-    ensures handles { Always (λ h s. HasNoHandles s) }
-    // A trap has its named cause, empties the stack, closes exactly the instances of what went on,
-    // and leaves memories alone.
-    ensures traps { Always (λ h s. TrapsRightly h) }
-    // A move for which a cause is there ends in the trap of the first one.
-    ensures refusals { Always (λ h s. TrapsAtACause h) }
+    ensures resumptions { Always ResumesRightly }
+    // What tidies up behind a call gets the core values that the body returned.
+    ensures tidies { Always TidiesRightly }
+    // Allocators are asked for exactly what the value asks for, in order.
+    ensures asks { Always AsksRightly }
+    // Of a value on its way no more is kept than it has parts and handles.
+    ensures bounded { Always KeepsFew }
+    // A memory changes by writes and growths of its own instance, and where a value is handed over:
+    // there inside the regions that were answered, by the bytes of the value alone.
+    ensures memory { Always ChangesMemoryRightly }
+    // Handles come, go and come back by the moves that say so, and by no others.
+    ensures handles { Always ChangesHandlesRightly }
+    // Each resource has exactly one place.
+    ensures one_place { Always OwnsRightly }
+    // What was dropped or lost stays so, and no serial number is issued twice.
+    ensures stays_gone { Always KeepsGone }
+    // What is lent is lent to a call that goes on, as it borrowed it.
+    ensures lends_stand { Always LendsStand }
+    // Each borrowed handle is of a call whose body runs, and none dangles.
+    ensures borrows_stand { Always BorrowsStand }
+    // A trap has its named cause, the first one; it closes exactly the instances of what went on,
+    // loses what was on its way, and leaves memories and all other handles alone.
+    ensures traps { Always TrapsRightly }
+    // A move for which a cause is there ends in the trap of the first one, or finds no memory.
+    ensures refusals { Always TrapsAtACause }
+    // What is wrong with a value is named by the trap of its own name.
+    ensures names { NamesFaults }
     // What a run did extends the history by its moves and events.
-    ensures runs { (core_funcs : List (List CoreFunction)) (pages : List ℕ)
-        (h : List Occurrence) (s : State) (ms : List Move) (es : List Event) (new : State)
-        → IsHistoryOf core_funcs pages h s → Run s ms es new
-        → RunsOn (fresh_state core_funcs pages) h ms es new }
-{}
+    ensures runs { RunsExtend }
+{
+    what_goes_on();
+    values_are_passed();
+    memory_changes_as_told();
+    handles_change_as_told();
+    owners_are_told();
+    traps_have_their_causes();
+}

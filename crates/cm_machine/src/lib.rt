@@ -11,20 +11,18 @@ pub use cm_machine_model::{
     Event, Flat, Guest, MAX_FLAT_PARAMS, MAX_FRAMES, MAX_INSTANCES, MAX_MEMORY_SIZE, MAX_PAGES,
     Misuse, Move, PAGE_SIZE, Trap,
 };
-pub use cm_machine_set::{
-    Checked, ExportEntry, LinkFault, LinkReason, Linked, PlanLine, Set, link,
-};
+pub use cm_machine_parts::Outcome;
+pub use cm_machine_rules::state::{Place, Work};
+pub use cm_machine_set::Set;
+pub use cm_match::{Checked, ExportEntry, LinkFault, LinkReason, Linked, PlanLine, link};
 pub use player::Player;
 
-/// What holds of every history of a set, and of every step.
+/// What holds of every history of a set.
 pub mod laws {
     pub use crate::headline::headline;
-    pub use cm_machine_model::laws::{denotations_are_unique, entries_are_guarded};
 }
 
 /// What a state is made of: types that only contracts name.
 pub mod state {
-    pub use cm_machine_model::state::{
-        Call, CoreFunction, Frame, Lend, LoweredFunc, Phase, Place, Purpose,
-    };
+    pub use cm_machine_rules::state::{Call, Frame, Lend, Phase, Purpose};
 }

@@ -7,8 +7,9 @@ ghost use Rattle.std.specs.Option.{option_map};
 ghost use Rattle.cm_machine_model.specs.declared.event.Event.{Event};
 ghost use Rattle.cm_machine_model.specs.declared.event.Misuse.{Misuse};
 ghost use Rattle.cm_machine_model.specs.Exchange.{Exchange};
-ghost use Rattle.cm_machine_model.specs.Stack.{actor, top_of};
-ghost use Rattle.cm_machine_model.specs.Run.{is_last, after_begin, misuse_of_begin};
+ghost use Rattle.cm_machine_model.specs.Events.{is_last};
+ghost use Rattle.cm_machine_rules.specs.Run.{misuse_of_begin};
+ghost use Rattle.cm_machine_set.specs.Running.{begun};
 ghost use Rattle.cm_machine.specs.Player.{Turn, Turns, last_of, exchanges_of, AreStops, SeatPlays};
 ghost use Rattle.cm_machine.specs.Player.{StaysTaken, EndsAt, IsPlay, IsDrive, IsHalt};
 ghost use Rattle.cm_machine.specs.Player.{closes_between};
@@ -75,7 +76,7 @@ fn play_on(
     limit: u64,
 ) -> Result<(), Misuse>
     requires one { (e : Event) × (events.old.items ≡ e ∷ []) × (is_last e ≡ false) }
-    requires stands { 0 < length set.old.stack }
+    requires stands { 0 < length set.old.state.stack }
     ensures ok { OnOk result ((first : Event) → events.old.items ≡ first ∷ []
         → IsPlay (λ g rest. plays g rest)
         set.old first seats.old.items limit events.new.items set.new seats.new.items) }
@@ -160,19 +161,20 @@ impl Player {
         limit: u64,
     ) -> Result<Vec<Event>, Misuse>
         ensures drive { IfOk result (λ events.
-            IsDrive (λ g rest. plays g rest) root limit (after_begin set.old root)
+            IsDrive (λ g rest. plays g rest) root limit (begun set.old root)
             seats.old.items events.items set.new seats.new.items) }
         ensures emptied { OnOk result ((i : ℕ) → is_taken (slice_get seats.new.items i)
             ≡ (is_taken (slice_get seats.old.items i)
-            && not (closes_between set.old.closed set.new.closed i))) }
-        ensures begins { OnOk result (misuse_of_begin set.old root ≡ None) }
-        ensures misuse { (m : Misuse) → misuse_of_begin set.old root ≡ Some m → result ≡ Err m }
+            && not (closes_between set.old.state.closed set.new.state.closed i))) }
+        ensures begins { OnOk result (misuse_of_begin set.old.state root ≡ None) }
+        ensures misuse { (m : Misuse) → misuse_of_begin set.old.state root ≡ Some m
+            → result ≡ Err m }
         ensures only { IfErr result (λ m.
-            (m ≡ Misuse.Memory) ⊎ (misuse_of_begin set.old root ≡ Some m)) }
+            (m ≡ Misuse.Memory) ⊎ (misuse_of_begin set.old.state root ≡ Some m)) }
         ensures unchanged { IfErr result (λ m. m ≢ Misuse.Memory
             → (set.new ≡ set.old) × (seats.new.items ≡ seats.old.items)) }
         ensures halt { IfErr result (λ m. m ≡ Misuse.Memory
-            → IsHalt (λ g rest. plays g rest) (after_begin set.old root) (Event.Resume root [])
+            → IsHalt (λ g rest. plays g rest) (begun set.old root) (Event.Resume root [])
             seats.old.items limit set.new seats.new.items) }
     {
         let first = set.begin(root)?;

@@ -1,12 +1,4 @@
 pub mod Numbers
+pub mod Events
 pub mod Memories
-pub mod Stack
-pub mod State
-pub mod Checks
-pub mod Step
-pub mod Run
-pub mod Fresh
-pub mod History
-pub mod Values
-pub mod Guarded
 pub mod Exchange

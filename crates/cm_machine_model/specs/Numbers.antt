@@ -35,4 +35,3 @@ misuse_number misuse.Closed = 3
 misuse_number misuse.NoInstance = 4
 misuse_number misuse.BadPages = 5
 misuse_number misuse.Memory = 6
-misuse_number (misuse.NotYet component core_func) = 7

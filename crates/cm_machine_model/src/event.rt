@@ -50,7 +50,7 @@ pub enum Event {
 }
 
 impl Event {
-    ghost use Rattle.cm_machine_model.specs.Run.{is_last};
+    ghost use Rattle.cm_machine_model.specs.Events.{is_last};
 
     /// Whether a run stops after this event: the stack is empty then.
     pub fn is_last(&self) -> bool
@@ -155,7 +155,7 @@ impl fmt::Display for Trap {
 #[derive(Clone, Copy, Debug, PartialEq, Eq)]
 pub enum Misuse {
     /// No frame stands on the stack, so no instance acts.
-    Idle,
+    Idle = 1,
     /// A frame stands on the stack already.
     Busy,
     /// The instance is closed.
@@ -166,27 +166,16 @@ pub enum Misuse {
     BadPages,
     /// No memory for the set or for the list of events.
     Memory,
-    /// The first core function, components in order and core functions of each in order, that the
-    /// machine does not carry so far: its component and its index there, both from 0.
-    NotYet { component: u32, core_func: u32 },
 }
 
 impl Misuse {
     ghost use Rattle.cm_machine_model.specs.Numbers.{misuse_number};
 
-    /// The number by which the misuse is known, from 1 for `Idle` to 7 for `NotYet`.
+    /// The number by which the misuse is known, from 1 for `Idle` to 6 for `Memory`.
     pub fn number(self) -> u8
         ensures { result ≡ misuse_number self }
     {
-        match self {
-            Misuse::Idle => 1,
-            Misuse::Busy => 2,
-            Misuse::Closed => 3,
-            Misuse::NoInstance => 4,
-            Misuse::BadPages => 5,
-            Misuse::Memory => 6,
-            Misuse::NotYet { .. } => 7,
-        }
+        self as u8
     }
 
     /// What was wrong, in a few words.
@@ -198,7 +187,6 @@ impl Misuse {
             Misuse::NoInstance => "there is no such instance",
             Misuse::BadPages => "wrong numbers of pages",
             Misuse::Memory => "out of memory",
-            Misuse::NotYet { .. } => "a core function that is not carried so far",
         }
     }
 }

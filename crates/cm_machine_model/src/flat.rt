@@ -58,6 +58,13 @@ impl Flat {
         Flat { values }
     }
 
+    /// The same values. It takes no memory.
+    pub fn copied(&self) -> Flat
+        ensures { result ≡ self.now }
+    {
+        Flat::from_slice(self.values.as_slice())
+    }
+
     /// The values, in order.
     pub fn as_slice(&self) -> &[CoreValue]
         ensures { result.now ≡ self.now }

@@ -9,6 +9,7 @@ ghost use Rattle.cm_machine_model.specs.Memories.{after_write, after_growth, mem
 use crate::{MAX_MEMORY_SIZE, MAX_PAGES, PAGE_SIZE};
 use std::alloc::{AllocError, Global};
 use std::marker::Model;
+use std::mem;
 
 /// One instance's linear memory, seen as its bytes.
 #[derive(Drop)]
@@ -43,6 +44,23 @@ impl Memory {
         ensures most { length self.now ≤ MAX_MEMORY_SIZE }
     {
         &self.bytes
+    }
+
+    /// The bytes, by value: no byte is copied, no memory is taken, and an empty memory is left.
+    fn take(&mut self, alloc: Global) -> Vec<u8>
+        ensures bytes { result.items ≡ self.old }
+        ensures left { self.new ≡ [] }
+        ensures most { length self.old ≤ MAX_MEMORY_SIZE }
+    {
+        mem::replace(&mut self.bytes, Vec::new(alloc))
+    }
+
+    /// Has these bytes from now on, in the place of those that it had.
+    fn put(&mut self, bytes: Vec<u8>)
+        requires { length bytes.items ≤ MAX_MEMORY_SIZE }
+        ensures { self.new ≡ bytes.items }
+    {
+        self.bytes = bytes;
     }
 
     /// Writes bytes that lie inside.
@@ -122,6 +140,29 @@ impl Memories {
             Some(memory) => memory.as_slice().len(),
             None => 0,
         }
+    }
+
+    /// The bytes of an instance's memory, by value, so that another memory can be read while they
+    /// are written: no byte is copied, no memory is taken, and an empty memory is left, until
+    /// `put` puts them back.
+    pub fn take(&mut self, alloc: Global, instance: usize) -> Vec<u8>
+        requires { instance < length self.old }
+        ensures bytes { result.items ≡ memory_at self.old instance }
+        ensures left { self.new ≡ slice_set self.old instance [] }
+        ensures most { length (memory_at self.old instance) ≤ MAX_MEMORY_SIZE }
+    {
+        let memory = &mut self.memories[instance];
+        memory.take(alloc)
+    }
+
+    /// An instance's memory has these bytes from now on, in the place of those that it had.
+    pub fn put(&mut self, instance: usize, bytes: Vec<u8>)
+        requires there { instance < length self.old }
+        requires small { length bytes.items ≤ MAX_MEMORY_SIZE }
+        ensures { self.new ≡ slice_set self.old instance bytes.items }
+    {
+        let memory = &mut self.memories[instance];
+        memory.put(bytes);
     }
 
     /// Writes bytes that lie inside the instance's memory.

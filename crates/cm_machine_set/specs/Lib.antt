@@ -1,1 +1,2 @@
-pub use Rattle.cm_machine_plan.specs as cm_machine_plan
+pub mod Running
+pub use Rattle.cm_machine_parts.specs as cm_machine_parts

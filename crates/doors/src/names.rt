@@ -47,7 +47,7 @@ pub mod handles {
 }
 
 pub mod abi {
-    pub use cm_abi::{AbiFault, Lifted, Request, Way, copy, lift, lower, requests, scan};
+    pub use cm_abi::{AbiFault, Lifted, Request, Scan, Way, copy, lift, lower, requests, scan};
 }
 
 pub mod machine {

@@ -9,8 +9,7 @@ use Rattle.cm_binary_forms.specs.File.{Spells}
 use Rattle.cm_validate_model.specs.Spaces.{Spaces}
 use Rattle.cm_machine_model.specs.declared.event.Misuse.{Misuse}
 use Rattle.cm_machine_model.specs.declared.event.Misuse.TheVariants as misuse
-use Rattle.cm_machine_model.specs.Fresh.{are_page_counts}
-use Rattle.cm_machine_plan.specs.Carried.{IsFirstNotCarried}
+use Rattle.cm_machine_rules.specs.State.{are_page_counts}
 use Rattle.huxarte.specs.Loading.{AreSpelled, IsMisuse}
 
 same : {A : Type 0} (x y : A) → Some x ≡ Some y → x ≡ y
@@ -42,14 +41,10 @@ take_next (y ∷ xs) (suc i) x at = ap (λ zs. y ∷ zs) (take_next xs i x at)
 
 -- why a set is not made, by what making it says
 pub misuse_of : (set : List Spaces) (pages : List ℕ) (m : Misuse)
-    → (m ≡ misuse.BadPages) ⊎ ((component core_func : ℕ) × (m ≡ misuse.NotYet component core_func)) ⊎ (m ≡ misuse.Memory)
+    → (m ≡ misuse.BadPages) ⊎ (m ≡ misuse.Memory)
     → (m ≡ misuse.BadPages → are_page_counts (length set) pages ≡ false)
-    → ((component core_func : ℕ) → m ≡ misuse.NotYet component core_func → IsFirstNotCarried set component core_func)
     → IsMisuse set pages m
-misuse_of set pages m only bad not_yet = elim only [
+misuse_of set pages m only bad = elim only [
   | inl is ↦ subst (IsMisuse set pages) (sym is) (bad is)
-  | inr others ↦ elim others [
-    | inl at ↦ subst (IsMisuse set pages) (sym at.2) (not_yet at.0 at.1 at.2)
-    | inr is ↦ subst (IsMisuse set pages) (sym is) tt
-  ]
+  | inr is ↦ subst (IsMisuse set pages) (sym is) tt
 ]

@@ -18,11 +18,8 @@ use Rattle.cm_match_model.specs.Links.{CanBeLinked, IsLinkFault}
 use Rattle.cm_match.specs.Before.{AreServedBefore}
 use Rattle.cm_machine_model.specs.declared.event.Misuse.{Misuse}
 use Rattle.cm_machine_model.specs.declared.event.Misuse.TheVariants as misuse
-use Rattle.cm_machine_model.specs.State.{State}
-use Rattle.cm_machine_model.specs.History.{IsHistoryOf}
-use Rattle.cm_machine_plan.specs.CoreFuncs.{core_funcs_of}
-use Rattle.cm_machine_plan.specs.Carried.{IsFirstNotCarried}
-use Rattle.cm_machine_model.specs.Fresh.{are_page_counts}
+use Rattle.cm_machine_rules.specs.State.{are_page_counts}
+use Rattle.cm_machine_set.specs.Running.{IsNew, RunningSet}
 use Rattle.huxarte.specs.declared.fault.LoadFault.{LoadFault}
 use Rattle.huxarte.specs.declared.fault.LoadFault.TheVariants as fault
 
@@ -73,12 +70,10 @@ pub record IsLinkingFault (files : List (List ℕ)) (f : LinkFault) : Type 0 whe
       × AreServedBefore (set_of components) f.component f.import)
       ⊎ IsLinkFault (set_of components) f.component f.import f.reason
 
--- why the machine makes no set of components: the numbers of pages do not fit them, else a core
--- function is not carried, and this one is the first; or there is no memory
+-- why the machine makes no set of components: the numbers of pages do not fit them, or there is no
+-- memory
 abbrev pub IsMisuse : List Spaces → List ℕ → Misuse → Type 0
 IsMisuse set pages misuse.BadPages = are_page_counts (length set) pages ≡ false
-IsMisuse set pages (misuse.NotYet component core_func) =
-    IsFirstNotCarried set component core_func
 IsMisuse set pages misuse.Memory = ⊤
 IsMisuse set pages m = ⊥
 
@@ -98,7 +93,7 @@ IsLoadFault files pages fault.Memory = ⊤
 
 -- a set was made of files: they spell components that are valid and can be linked, and it is one of
 -- these with such pages, with which nothing has happened so far
-pub record IsLoaded (files : List (List ℕ)) (pages : List ℕ) (s : State) : Type 0 where
+pub record IsLoaded (files : List (List ℕ)) (pages : List ℕ) (s : RunningSet) : Type 0 where
   pub components : List (List SectionTree)
   pub are : AreSet files components
-  pub history : IsHistoryOf (core_funcs_of (set_of components)) pages [] s
+  pub new_set : IsNew (set_of components) pages s

@@ -54,9 +54,9 @@ pub mod wit {
 /// lifts and lowers them.
 pub mod values {
     pub use cm_abi::{
-        AbiFault, Encodings, Found, HandleLeaf, Lifted, PartKind, PartRecord, PartRequests, Passed,
-        Passing, Receiver, Request, ScanEncodings, Scanned, StringEncoding, Way, check_answer,
-        check_answers, copy, lift, lower, requests, scan,
+        AbiFault, Encodings, Found, HandleLeaf, HandleValue, Lifted, PartKind, PartRecord, Passed,
+        Passing, Receiver, Request, Scan, StringEncoding, Way, check_answer, check_answers, copy,
+        lift, lower, requests, scan,
     };
     pub use cm_handles::{Handle, HandleFault, HandleKind, MAX_HANDLES, Table};
     pub use cm_layout::{
@@ -77,7 +77,7 @@ pub mod values {
 pub mod machine {
     pub use cm_machine::{
         Event, Flat, Guest, MAX_FRAMES, MAX_INSTANCES, MAX_MEMORY_SIZE, MAX_PAGES, Misuse, Move,
-        PAGE_SIZE, Player, Set, Trap,
+        Outcome, PAGE_SIZE, Place, Player, Set, Trap, Work,
     };
 
     /// What holds of every history of a set.

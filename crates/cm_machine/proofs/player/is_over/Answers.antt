@@ -1,5 +1,5 @@
 use Rattle.std.proofs.Common.{Some, sym, ap, ◌∙◌}
-use Rattle.cm_machine_model.specs.Run.{is_last}
+use Rattle.cm_machine_model.specs.Events.{is_last}
 use Rattle.cm_machine.proofs.Drives.{last_seen, last_is_seen}
 use Rattle.cm_machine.proofs.player.is_over.Goals as goal
 

@@ -29,6 +29,6 @@ returns-in_err-new-clause-fault c =
       are = record { spelled = spelled; valid = c.in_ok-checked.ensures.valid; linked = subst CanBeLinked (sym is) c.in_ok-linked.ensures.accepted };
       fails = subst (λ s. IsMisuse s c.args.pages.now c.in_err-new.field-0.0) (sym set)
           (misuse_of _ c.args.pages.now c.in_err-new.field-0.0 c.in_err-new.ensures.only
-          (λ at. c.in_err-new.ensures.bad_pages.0 (ap Err at)) (λ component core_func at. ((c.in_err-new.ensures.not_yet component core_func).0 (ap Err at)).1));
+          (λ at. c.in_err-new.ensures.bad_pages.0 (ap Err at)));
     } in
     rw (p.1, p.2) fault

@@ -1,0 +1,40 @@
+-- The handle tables of a running set, as the rules see them.
+use Rattle.std.proofs.Common.{◌≡◌, ℕ, zero, suc, ◌<◌, List, [], ◌∷◌, length, get_or, Option, refl, sym, ap, ◌∙◌, arith}
+use Rattle.std.specs.Prelude.{slice_set}
+use Rattle.cm_handles.specs.Handles.{Handles, TableState, no_handles}
+use Rattle.cm_abi_model.specs.Scanned.{Scanned}
+use Rattle.cm_machine_rules.specs.State.{Passage, State, table_at}
+use Rattle.cm_machine_parts.specs.States.{handles_in, passage_of, state_of}
+use Rattle.cm_machine_parts.specs.declared.state.State.{State as CodedState}
+use Rattle.cm_machine_calls.proofs.Pairs.{set_back}
+
+pub handles_at : (ts : List TableState) (i : ℕ) (t : TableState) → i < length ts → t ≡ get_or ts i t → table_at (handles_in ts) i ≡ t.handles
+handles_at [] i t lt is = absurd (omega (arith, lt))
+handles_at (x ∷ xs) zero t lt is = ap (λ (y : TableState). y.handles) (sym is)
+handles_at (x ∷ xs) (suc i) t lt is = handles_at xs i t (omega (arith, lt)) is
+
+pub set_handles : (ts : List TableState) (i : ℕ) (t : TableState) → handles_in (slice_set ts i t) ≡ slice_set (handles_in ts) i t.handles
+set_handles [] i t = refl
+set_handles (x ∷ xs) zero t = refl
+set_handles (x ∷ xs) (suc i) t = ap (λ (l : List Handles). x.handles ∷ l) (set_handles xs i t)
+
+pub handles_length : (ts : List TableState) → length (handles_in ts) ≡ length ts
+handles_length [] = refl
+handles_length (x ∷ xs) = ap suc (handles_length xs)
+
+same_state : (s : State) (ms : List (List ℕ)) (ts : List Handles) (o : Option Passage) → ms ≡ s.memories → ts ≡ s.tables → o ≡ s.passage
+    → ◌≡◌ {A = State} (record s { memories = ms; tables = ts; passage = o }) s
+same_state s ms ts o memories tables passage =
+    ap {B = State} (λ (x : List (List ℕ)). record s { memories = x; tables = ts; passage = o }) memories
+    ∙ ap {B = State} (λ (x : List Handles). record s { tables = x; passage = o }) tables
+    ∙ ap {B = State} (λ (x : Option Passage). record s { passage = x }) passage
+
+-- the state is as it was where memories and handles are, and numbers alone may have changed of what
+-- is on its way
+pub unchanged_by : (s : CodedState) (ms : List (List ℕ)) (i : ℕ) (t : TableState) (k : Scanned) (ns : List ℕ) → ms ≡ s.memories → t.handles ≡ table_at (handles_in s.tables.items) i
+    → k ≡ record s.passing.scan { numbers = ns }
+    → ◌≡◌ {A = State} (record (state_of s) { memories = ms; tables = handles_in (slice_set s.tables.items i t); passage = passage_of (record s.passing { scan = k }) }) (state_of s)
+unchanged_by s ms i t k ns memories handles kept =
+    same_state (state_of s) ms (handles_in (slice_set s.tables.items i t)) (passage_of (record s.passing { scan = k })) memories
+    (set_handles s.tables.items i t ∙ ap (slice_set (handles_in s.tables.items) i) handles ∙ set_back (handles_in s.tables.items) i no_handles)
+    (ap (λ (x : Scanned). passage_of (record s.passing { scan = x })) kept)

@@ -1,0 +1,11 @@
+mod TypeFacts
+mod OptionFacts
+mod SeenLayouts
+mod PassingFacts
+mod TypesAt
+mod Counts
+mod MadeFacts
+mod Lookups
+mod PlanFacts
+mod PlanLaws
+mod KnownLaws

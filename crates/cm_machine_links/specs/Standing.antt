@@ -1,0 +1,77 @@
+-- What is made of the types and the core functions of a set, one for one.
+use Rattle.std.specs.Prelude.{◌≡◌, ⊤, ℕ, ◌+◌, true, List, [], ◌∷◌, Some, is_some}
+use Rattle.std.specs.List.{AllByRecursion}
+use Rattle.std.specs.Option.{option_map}
+use Rattle.std.specs.declared.alloc.Global.{Global}
+use Rattle.std.specs.declared.rc.Rc.{Rc}
+use Rattle.cm_types.specs.Spellable.{are_spellable, is_spellable_payload}
+use Rattle.cm_types.specs.Types.{FuncTy}
+use Rattle.cm_types_resources.specs.Replaced.{Standing, replaced, replaced_fields}
+use Rattle.cm_abi_model.specs.Requests.{is_spilled}
+use Rattle.cm_abi_model.specs.Views.{params, results}
+use Rattle.cm_validate_model.specs.Definitions.{CoreFuncDef}
+use Rattle.cm_validate_model.specs.Spaces.{Spaces}
+use Rattle.cm_validate_spaces.specs.Checked.{funcs_in}
+use Rattle.cm_validate_spaces.specs.declared.checked.Checked.{Checked}
+use Rattle.cm_match_model.specs.Serving.{standing}
+use Rattle.cm_machine_rules.specs.Plan as plan
+use Rattle.cm_machine_rules.specs.Plan.{one_field}
+use Rattle.cm_machine_links.specs.Planned.{IsCoreFuncOf, IsPassing}
+use Rattle.cm_machine_links.specs.Planning.{core_func_of}
+use Rattle.cm_machine_links.specs.declared.core_funcs.CoreFunc.{CoreFunc}
+use Rattle.cm_machine_links.specs.declared.passing.CallTypes.{CallTypes}
+
+-- ---- types of functions
+
+-- what a function passes, its resources replaced, and whether its result goes by memory
+pub record IsCallTypes (s : Standing) (f : FuncTy) (t : CallTypes) : Type 0 where
+  pub params_are : IsPassing params (replaced_fields s f.params) t.params
+  pub results_are : IsPassing results (one_field (option_map (replaced s) f.result)) t.results
+  pub pointer_is : t.has_pointer ≡ is_spilled results (one_field (option_map (replaced s) f.result))
+
+-- a file can spell the types in it
+abbrev pub IsSpelled : FuncTy → Type 0
+IsSpelled f = (are_spellable f.params ≡ true) × (is_spellable_payload f.result ≡ true)
+
+-- those of an arena, each at its place
+abbrev pub AreCallTypes : Standing → List FuncTy → List (Rc CallTypes Global) → Type 0
+AreCallTypes s [] [] = ⊤
+AreCallTypes s (f ∷ fs) (t ∷ ts) = IsCallTypes s f t.value × IsSpelled f × AreCallTypes s fs ts
+AreCallTypes s fs ts = ⊥
+
+-- those of components, numbered from here on
+abbrev pub AreTypesOf : List Spaces → ℕ → List Checked → List (List (Rc CallTypes Global)) → Type 0
+AreTypesOf set c [] [] = ⊤
+AreTypesOf set c (x ∷ xs) (ts ∷ rows) =
+    AreCallTypes (standing set c) (funcs_in x) ts × AreTypesOf set (c + 1) xs rows
+AreTypesOf set c xs rows = ⊥
+
+-- ---- core functions
+
+abbrev pub IsCoreSpelled : plan.CoreFunc → Type 0
+IsCoreSpelled (plan.lowered l) = IsSpelled l.type
+IsCoreSpelled c = ⊤
+
+-- each core function of these components, numbered from here on, stands for something
+abbrev pub EachStands : List Spaces → ℕ → List Spaces → Type 0
+EachStands set c [] = ⊤
+EachStands set c (s ∷ ss) =
+    AllByRecursion (λ d. is_some (core_func_of set c d) ≡ true) s.core_funcs
+    × EachStands set (c + 1) ss
+
+-- what is made stands for what a core function does
+abbrev pub Stands : List Spaces → ℕ → CoreFuncDef → CoreFunc → Type 0
+Stands set c d f =
+    (p : plan.CoreFunc) → core_func_of set c d ≡ Some p → IsCoreFuncOf p f × IsCoreSpelled p
+
+abbrev pub AllStand : List Spaces → ℕ → List CoreFuncDef → List CoreFunc → Type 0
+AllStand set c [] [] = ⊤
+AllStand set c (d ∷ ds) (f ∷ fs) = Stands set c d f × AllStand set c ds fs
+AllStand set c ds fs = ⊥
+
+-- those of components, numbered from here on
+abbrev pub RowsStand : List Spaces → ℕ → List Spaces → List (List CoreFunc) → Type 0
+RowsStand set c [] [] = ⊤
+RowsStand set c (s ∷ ss) (fs ∷ rows) =
+    AllStand set c s.core_funcs fs × RowsStand set (c + 1) ss rows
+RowsStand set c ss rows = ⊥

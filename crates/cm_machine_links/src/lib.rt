@@ -1,0 +1,19 @@
+//! What each core function of a linked set needs while it runs: made once, of the set.
+//!
+//! The layouts and core kinds of what a function passes are made once for each type of a function,
+//! with each resource what it is in the end, and shared by all links of the type.
+#![tactic(auto)]
+
+mod core_funcs;
+pub mod laws;
+mod links;
+mod making;
+mod options;
+mod origins;
+mod passing;
+
+pub use core_funcs::{CoreFunc, Link};
+pub use links::Links;
+pub use making::links_of;
+pub use options::Side;
+pub use passing::{CallTypes, Passing};

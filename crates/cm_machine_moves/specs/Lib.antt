@@ -1,0 +1,1 @@
+pub use Rattle.cm_machine_parts.specs as cm_machine_parts

@@ -1,0 +1,7 @@
+mod LendLists
+mod TopCalls
+mod Mapping
+mod Closing
+mod Standing
+mod Ending
+mod Tables

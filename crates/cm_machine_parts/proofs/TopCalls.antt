@@ -1,0 +1,17 @@
+-- The topmost call among the frames from the bottom up.
+use Rattle.std.proofs.Common.{◌≡◌, ℕ, suc, ◌+◌, ◌<◌, ◌≤◌, List, [], ◌∷◌, ◌++◌, length, Option, Some, None, refl, sym, ap, subst, ◌∙◌, arith, get_or}
+use Rattle.std.specs.Prelude.{reverse, take}
+use Rattle.std.proofs.Math.Seq.{take-suc}
+use Rattle.std.proofs.lemmas.List.{reverse-append, length-reverse, length-take-le}
+use Rattle.cm_machine_rules.specs.declared.frame.Frame.{Frame}
+use Rattle.cm_machine_rules.specs.Work.{place_if_call, top_call}
+
+one_more : (fs : List Frame) (k : ℕ) (f : Frame) → k < length fs → f ≡ get_or fs k f → reverse (take (suc k) fs) ≡ f ∷ reverse (take k fs)
+one_more fs k f lt is = ap reverse (take-suc fs k f lt ∙ ap (λ (x : Frame). take k fs ++ (x ∷ [])) (sym is)) ∙ reverse-append (take k fs) (f ∷ [])
+
+counted : (fs : List Frame) (k : ℕ) → k < length fs → length (reverse (take k fs)) ≡ k
+counted fs k lt = length-reverse (take k fs) ∙ length-take-le k fs (omega arith)
+
+-- the topmost call of one frame more
+pub top_one : (fs : List Frame) (k : ℕ) (f : Frame) → k < length fs → f ≡ get_or fs k f → top_call (reverse (take (suc k) fs)) ≡ place_if_call f.purpose k (top_call (reverse (take k fs)))
+top_one fs k f lt is = ap top_call (one_more fs k f lt is) ∙ ap (λ (n : ℕ). place_if_call f.purpose n (top_call (reverse (take k fs)))) (counted fs k lt)

@@ -1,3 +1,0 @@
-pub mod U32s
-pub mod Counts
-pub mod CoreFuncs

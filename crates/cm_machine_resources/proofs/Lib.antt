@@ -1,0 +1,4 @@
+mod Making
+mod Telling
+mod DroppingRows
+mod Finding
