@@ -10,14 +10,11 @@ use Rattle.cm_handles.specs.Handles.{Handles}
 use Rattle.cm_abi_model.specs.Receives.{call_kinds}
 use Rattle.cm_abi_model.specs.Requests.{IsStored}
 use Rattle.cm_abi_model.specs.Views.{View, params}
-use Rattle.cm_abi_lower.specs.declared.leaf.HandleLeaf.{HandleLeaf}
-use Rattle.cm_abi_lift.specs.HandingOver.{Hands}
-use Rattle.cm_abi_lift.specs.Lifts.{Lifts}
+use Rattle.cm_abi_model.specs.Lifts.{Hands}
+use Rattle.cm_abi_model.specs.Lifts.{Lifts}
 use Rattle.cm_abi_lift.specs.declared.lifted.Lifted.{Lifted}
-use Rattle.cm_abi_requests.specs.declared.part_requests.PartRequests.{PartRequests}
-use Rattle.cm_abi_copy.specs.Scans.{ScansCall}
-use Rattle.cm_abi_copy.specs.declared.scanned.Scanned.{Scanned}
-use Rattle.cm_abi.specs.Calls.{AreBytes}
+use Rattle.cm_abi_model.specs.Scanned.{Scanned, ScansCall}
+use Rattle.cm_abi_model.specs.Bytes.{AreBytes}
 use Rattle.cm_bench.specs.declared.call.Call.{Call}
 
 -- A call passes parameters of these types, which a file can spell: its layout and the kinds of its
@@ -39,14 +36,10 @@ pub record IsLifted (c : Call) (l : Lifted) : Type 0 where
   pub lifts : Lifts giver params types c.slots.items (parts (values_of l.values.items))
       l.tagged.items hands
 
--- These requests and handles are what a scan of the call kept, in a view of its giver.
-pub record IsScanned (c : Call) (memory : List ℕ) (types : Fields) (requests : PartRequests)
-    (handles : List HandleLeaf) : Type 0 where
+-- This is what a scan of the call kept, in a view of its giver.
+pub record IsScanned (c : Call) (memory : List ℕ) (types : Fields) (s : Scanned) : Type 0 where
   pub giver : View
   pub value : Val
   pub table : Handles
-  pub scanned : Scanned
   pub memory_is : giver.memory ≡ memory
-  pub scans : ScansCall giver c.target params types c.slots.items value table scanned
-  pub requests_are : scanned.requests ≡ requests
-  pub handles_are : scanned.handles.items ≡ handles
+  pub scans : ScansCall giver c.target params types c.slots.items value table s

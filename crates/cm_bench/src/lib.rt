@@ -12,5 +12,6 @@ mod many;
 mod room;
 mod sets;
 mod text;
+mod turns;
 mod types;
 mod wit;

@@ -52,12 +52,11 @@ fn passed_on<'a>(call: &'a Call, lifted: &'a Lifted) -> Passing<'a>
     ensures values { result.values.now ≡ lifted.now.values.items }
     ensures source { result.encodings.source ≡ call.now.source }
     ensures target { result.encodings.target ≡ call.now.target }
-    ensures tags { result.encodings.tags.now ≡ lifted.now.tagged.items }
+    ensures tags { result.tags.now ≡ lifted.now.tagged.items }
 {
     let encodings = Encodings {
         source: call.source,
         target: call.target,
-        tags: &lifted.tagged,
     };
     Passing {
         way: Way::Params,
@@ -65,6 +64,7 @@ fn passed_on<'a>(call: &'a Call, lifted: &'a Lifted) -> Passing<'a>
         kinds: &call.kinds,
         values: &lifted.values,
         encodings,
+        tags: &lifted.tagged,
     }
 }
 
@@ -110,9 +110,10 @@ fn lower_once(alloc: Global, passing: &Passing<'_>, receiver: &mut [u8]) -> Opti
         layout,
         values,
         encodings,
+        tags,
         ..
     } = *passing;
-    let asked = requests(alloc, layout, way, values, &encodings).ok()?;
+    let asked = requests(alloc, layout, way, values, encodings, tags).ok()?;
     let answers = answers_to(alloc, &asked).ok()?;
     let mut table = Table::new(alloc);
     let slots = lower(alloc, receiver, &mut table, RECEIVER, passing, &answers).ok()?;

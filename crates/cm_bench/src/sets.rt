@@ -8,7 +8,7 @@ use cm_types::CoreValue;
 use std::alloc::Global;
 
 /// The components of two files, none where one is refused.
-fn both(alloc: Global, provider: &[u8], user: &[u8]) -> Option<Vec<Component>> {
+pub fn both(alloc: Global, provider: &[u8], user: &[u8]) -> Option<Vec<Component>> {
     let mut components = Vec::new(alloc);
     components.push(component(alloc, provider)?).ok()?;
     components.push(component(alloc, user)?).ok()?;

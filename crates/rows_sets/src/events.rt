@@ -33,9 +33,21 @@ fn write_what(line: &mut Line, event: &Event) {
             line.show(*instance);
             write_core_values(line, values.as_slice());
         }
-        Event::Realloc { instance, func, .. } => write_call(line, "realloc ", *instance, *func),
-        Event::PostReturn { instance, func, .. } => {
+        Event::Realloc {
+            instance,
+            func,
+            args,
+        } => {
+            write_call(line, "realloc ", *instance, *func);
+            write_core_values(line, args.as_slice());
+        }
+        Event::PostReturn {
+            instance,
+            func,
+            args,
+        } => {
             write_call(line, "postreturn ", *instance, *func);
+            write_core_values(line, args.as_slice());
         }
         Event::Dtor {
             instance,

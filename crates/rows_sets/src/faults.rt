@@ -1,6 +1,5 @@
 //! The numbers of reasons, traps and misuses.
 
-use crate::sets::write_misuse_name;
 use cm_machine::{Misuse, Trap};
 use cm_match::LinkReason;
 use cm_rows::Line;
@@ -64,17 +63,13 @@ const TRAPS: [Trap; 21] = [
     Trap::CalleeClosed,
 ];
 
-const MISUSES: [Misuse; 7] = [
+const MISUSES: [Misuse; 6] = [
     Misuse::Idle,
     Misuse::Busy,
     Misuse::Closed,
     Misuse::NoInstance,
     Misuse::BadPages,
     Misuse::Memory,
-    Misuse::NotYet {
-        component: 0,
-        core_func: 0,
-    },
 ];
 
 /// Writes each reason of validity (`valid`) or of links (`link`), each trap (`trap`) or each misuse
@@ -108,12 +103,7 @@ fn write_traps(line: &mut Line) {
 }
 
 fn write_misuses(line: &mut Line) {
-    for (i, misuse) in MISUSES.iter().enumerate() {
-        if i > 0 {
-            line.put(", ");
-        }
-        write_misuse_name(line, *misuse);
-        line.put(" ");
-        line.show(misuse.number());
+    for misuse in &MISUSES {
+        line.number_of_debug(misuse, misuse.number());
     }
 }

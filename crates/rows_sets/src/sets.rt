@@ -121,29 +121,11 @@ fn write_plan(line: &mut Line, linked: &Linked<'_>) {
     }
 }
 
-/// Writes a misuse, and the core function that is not carried; want of memory is that of the row.
+/// Writes a misuse; want of memory is that of the row.
 fn write_misuse(line: &mut Line, misuse: Misuse) {
     line.fail_if_memory(misuse == Misuse::Memory);
     line.put("misuse ");
-    write_misuse_name(line, misuse);
-    if let Misuse::NotYet {
-        component,
-        core_func,
-    } = misuse
-    {
-        line.put(" at core function ");
-        line.show(core_func);
-        line.put(" of ");
-        line.show(component);
-    }
-}
-
-/// Writes the name of a misuse.
-pub fn write_misuse_name(line: &mut Line, misuse: Misuse) {
-    match misuse {
-        Misuse::NotYet { .. } => line.put("NotYet"),
-        misuse => line.debug(&misuse),
-    }
+    line.debug(&misuse);
 }
 
 fn answer_of_set(alloc: Global, set: &mut Set, call: &str, words: &[&str], line: &mut Line) {

@@ -2,12 +2,12 @@ use Rattle.std.proofs.Common.{◌∙◌, refl, ap, subst}
 use Rattle.cm_layout.specs.Layouts.{layout_of}
 use Rattle.cm_abi_model.specs.Views.{View, params}
 use Rattle.cm_abi_model.specs.Ways.{way_of}
-use Rattle.cm_abi_copy.specs.Scans.{ScansCall}
+use Rattle.cm_abi_model.specs.Scanned.{ScansCall}
 use Rattle.cm_bench.proofs.copied.scan_once.Goals as goal
 
 -- what the scan kept is that of the call, in the view of its giver
 pub returns-in-Ok : goal.returns-in-Ok
-returns-in-Ok c =
+returns-in-Ok c = λ _.
     let types = c.requires.0 in
     let is = c.requires.1 in
     let on = c.passed_by.ensures in
@@ -19,11 +19,8 @@ returns-in-Ok c =
         giver = w;
         value = scans.0;
         table = c.scan.new.table.handles;
-        scanned = c.in-Ok.scanned;
         memory_is = refl;
-        scans = subst (λ slots. ScansCall w c.args.call.now.target params types slots scans.0 c.scan.new.table.handles c.in-Ok.scanned) on.slots
-            (subst (λ way. ScansCall w c.args.call.now.target (way_of way) types c.passed_by.result.slots.now scans.0 c.scan.new.table.handles c.in-Ok.scanned) on.way scans.1);
-        requests_are = refl;
-        handles_are = refl;
+        scans = subst (λ slots. ScansCall w c.args.call.now.target params types slots scans.0 c.scan.new.table.handles c.scan.new.kept) on.slots
+            (subst (λ way. ScansCall w c.args.call.now.target (way_of way) types c.passed_by.result.slots.now scans.0 c.scan.new.table.handles c.scan.new.kept) on.way scans.1);
       },
     )

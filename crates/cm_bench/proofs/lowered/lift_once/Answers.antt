@@ -4,7 +4,8 @@ use Rattle.cm_types.specs.Values.{parts}
 use Rattle.cm_layout.specs.Layouts.{layout_of}
 use Rattle.cm_abi_model.specs.Views.{View, params}
 use Rattle.cm_abi_model.specs.Ways.{way_of}
-use Rattle.cm_abi_lift.specs.Lifts.{Lifts, handed_with}
+use Rattle.cm_abi_model.specs.Lifts.{Lifts}
+use Rattle.cm_abi_lift.specs.Lifts.{handed_with}
 use Rattle.cm_bench.proofs.lowered.lift_once.Goals as goal
 
 -- what is lifted was lifted in a view of the giver's memory and table

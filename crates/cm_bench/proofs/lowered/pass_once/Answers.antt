@@ -5,7 +5,7 @@ use Rattle.cm_layout.specs.Layouts.{layout_of}
 use Rattle.cm_abi_model.specs.Receives.{call_kinds}
 use Rattle.cm_abi_model.specs.Requests.{IsStored}
 use Rattle.cm_abi_model.specs.Ways.{way_of}
-use Rattle.cm_abi_lift.specs.Lifts.{Lifts}
+use Rattle.cm_abi_model.specs.Lifts.{Lifts}
 use Rattle.cm_bench.proofs.lowered.pass_once.Goals as goal
 
 -- what was lifted from bytes goes on as it is, so it can be lowered
@@ -15,7 +15,7 @@ lower_once-requires c =
     let is = done.is_of in
     let on = c.passed_on-passing.ensures in
     let p = c.passed_on-passing.result in
-    let passed : Lifts done.giver (way_of p.way) done.types c.args.call.now.slots.items (parts (values_of p.values.now)) p.encodings.tags.now done.hands =
+    let passed : Lifts done.giver (way_of p.way) done.types c.args.call.now.slots.items (parts (values_of p.values.now)) p.tags.now done.hands =
     rw on.way (rw on.values (rw on.tags done.lifts)) in (
       done.types,
       c.one_call.ensures.lowerable done.giver done.types c.args.call.now.slots.items done.hands p done.bytes passed (record {

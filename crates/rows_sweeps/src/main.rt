@@ -1,0 +1,35 @@
+//! Answers rows by the machine beside a plain interpreter of its rules: all lists of so many moves
+//! on a set of components.
+#![tactic(auto)]
+
+mod calls;
+mod handles;
+mod passing;
+mod plain;
+mod reading;
+mod rules;
+mod sweeps;
+mod texts;
+
+use cm_rows::{Driver, Line, answer_families};
+use reading::Told;
+use std::alloc::Global;
+use std::io;
+use std::process::ExitCode;
+
+/// The families of rows, a file each.
+const FAMILIES: [&str; 4] = ["numbers", "strings", "handles", "borrows"];
+
+impl Driver for Told {
+    fn new(alloc: Global) -> Told {
+        Told::new(alloc)
+    }
+
+    fn answer(&mut self, alloc: Global, words: &[&str], line: &mut Line) {
+        self.answer_row(alloc, words, line);
+    }
+}
+
+fn main(rt: HostRuntime) -> io::Result<ExitCode> {
+    answer_families::<Told, _>(&rt, &FAMILIES)
+}
