@@ -1,17 +1,15 @@
 //! The commands.
 
+use crate::conforming::{Asked, conform};
 use crate::fault::{Fault, report};
-use crate::loading::{load_files, load_script};
+use crate::loading::{check, load_file, load_files, load_script};
 use crate::outcome::Outcome;
 use crate::playing::play;
 use cm_machine::Set;
 use cm_match::Linked;
-use cm_tool_files::{
-    BadFile, Checked, Files, Unfit, UnfitReason, checked_of, conform_component, load, read_file,
-    show_component, text_of,
-};
+use cm_tool_files::{Files, show_component};
 use cm_tool_lines::{SetSize, write_plan};
-use cm_tool_words::{Request, WordsFault};
+use cm_tool_words::{Request, Usage, WordsFault};
 use std::alloc::Global;
 use std::io;
 use std::io::Write;
@@ -55,7 +53,9 @@ fn run<'a, F: Files, O: Write, E: Write>(
     match read_words(alloc, words)? {
         Request::Check { file } => run_check(alloc, file, files, out),
         Request::Show { file } => run_show(alloc, file, files, out),
-        Request::Conform { wit, world, file } => run_conform(alloc, wit, world, file, files, out),
+        Request::Conform { wit, world, file } => {
+            run_conform(alloc, Asked { wit, world, file }, files, out)
+        }
         Request::Link { files: names } => run_link(alloc, names.as_slice(), files, out),
         Request::Play {
             script,
@@ -67,7 +67,7 @@ fn run<'a, F: Files, O: Write, E: Write>(
 fn read_words<'a>(alloc: Global, words: &'a [String]) -> Result<Request<'a>, Fault<'a>> {
     match Request::read(alloc, words) {
         Ok(request) => Ok(request),
-        Err(WordsFault::NoCommand) => Err(Fault::Usage),
+        Err(WordsFault::NoCommand) => Err(Fault::Usage(Usage::Words(words))),
         Err(WordsFault::Memory) => Err(Fault::Memory),
     }
 }
@@ -89,9 +89,9 @@ fn counts_of<'a, F: Files>(
     alloc: Global,
     name: &'a str,
     files: &mut F,
-) -> Result<(usize, usize), BadFile<'a>> {
-    let component = load(alloc, files, name)?;
-    let checked = checked_of(alloc, name, &component)?;
+) -> Result<(usize, usize), Fault<'a>> {
+    let component = load_file(alloc, files, name)?;
+    let checked = check(alloc, name, &component)?;
     Ok((checked.imports().len(), checked.exports().len()))
 }
 
@@ -112,57 +112,20 @@ fn shown_text<'a, F: Files>(
     name: &'a str,
     files: &mut F,
 ) -> Result<String, Fault<'a>> {
-    let component = load(alloc, files, name)?;
-    let checked = checked_of(alloc, name, &component)?;
+    let component = load_file(alloc, files, name)?;
+    let checked = check(alloc, name, &component)?;
     show_component(alloc, checked).map_err(|fault| Fault::Show { name, fault })
 }
 
 fn run_conform<'a, F: Files, O: Write>(
     alloc: Global,
-    wit: &'a str,
-    world: &'a str,
-    file: &'a str,
+    asked: Asked<'a>,
     files: &mut F,
     out: &mut O,
 ) -> Result<Outcome, Fault<'a>> {
-    match unfit_reason(alloc, wit, world, file, files)? {
-        None => {
-            write_text(out, "ok\n")?;
-            Ok(Outcome::Done)
-        }
-        Some(reason) => Err(Fault::Unfit(Unfit {
-            wit,
-            world,
-            file,
-            reason,
-        })),
-    }
-}
-
-/// Why the component of a file does not fit a world of the text of a file; `None` where it does.
-fn unfit_reason<'a, F: Files>(
-    alloc: Global,
-    wit: &'a str,
-    world: &str,
-    file: &'a str,
-    files: &mut F,
-) -> Result<Option<UnfitReason>, BadFile<'a>> {
-    let component = load(alloc, files, file)?;
-    let checked = checked_of(alloc, file, &component)?;
-    unfit_checked(alloc, wit, world, checked, files)
-}
-
-/// Why a component does not fit a world of the text of a file; `None` where it does.
-fn unfit_checked<'a, F: Files>(
-    alloc: Global,
-    wit: &'a str,
-    world: &str,
-    component: Checked<'_>,
-    files: &mut F,
-) -> Result<Option<UnfitReason>, BadFile<'a>> {
-    let bytes = read_file(alloc, files, wit)?;
-    let text = text_of(wit, bytes.as_slice())?;
-    Ok(conform_component(alloc, text, world, component).err())
+    conform(alloc, asked, files)?;
+    write_text(out, "ok\n")?;
+    Ok(Outcome::Done)
 }
 
 fn write_text<O: Write>(out: &mut O, text: &str) -> io::Result<()> {

@@ -4,14 +4,13 @@ ghost use Rattle.std.specs.Prelude.{◌≡◌};
 ghost use Rattle.cm_tool.specs.declared.fault.Fault.TheVariants as fault;
 
 use cm_machine::Misuse;
-use cm_match::LinkFault;
+use cm_match::{LinkFault, LinkReason};
 use cm_tool_files::{BadFile, Unfit, write_show_fault};
 use cm_tool_lines::{
-    BadLine, Drive, SetSize, SignatureNames, write_bad_line, write_begin_fault, write_limit,
-    write_link_fault, write_set_fault,
+    BadLine, Drive, SetSize, write_bad_line, write_begin_fault, write_limit, write_set_fault,
 };
 use cm_tool_show::ShowFault;
-use cm_tool_words::USAGE;
+use cm_tool_words::Usage;
 use std::alloc::{AllocError, AllocFailed};
 use std::io::Write;
 use std::{fmt, io};
@@ -20,22 +19,29 @@ use std::{fmt, io};
 #[derive(Drop)]
 pub enum Fault<'a> {
     /// The words are no command, or ask for help.
-    Usage,
+    Usage(Usage<'a>),
     /// There was no memory.
     Memory,
-    /// A file is not what the command wants.
-    File(BadFile<'a>),
+    /// A file is not what the command wants. The tail says what stands there.
+    File {
+        bad: BadFile<'a>,
+        tail: String,
+    },
     /// The component of a file is not shown.
     Show {
         name: &'a str,
         fault: ShowFault,
     },
-    /// The component of a file does not fit a world.
-    Unfit(Unfit<'a>),
-    /// Components do not link, whose names are these.
+    /// The component of a file does not fit a world. The tail says what each of them has.
+    Unfit {
+        unfit: Unfit<'a>,
+        tail: String,
+    },
+    /// So many components do not link. The tail says what they have.
     Link {
         fault: LinkFault,
-        names: Vec<SignatureNames<'a>>,
+        count: usize,
+        tail: String,
     },
     /// A script has a line at fault.
     Script(BadLine),
@@ -62,12 +68,12 @@ impl Fault<'_> {
     /// The exit status of a command that ends by this fault.
     pub fn status(&self) -> u8 {
         match self {
-            Fault::Usage => 2,
+            Fault::Usage(_) => 2,
             Fault::Output => 4,
-            Fault::File(bad) => bad.status(),
+            Fault::File { bad, .. } => bad.status(),
             Fault::Memory
             | Fault::Show { .. }
-            | Fault::Unfit(_)
+            | Fault::Unfit { .. }
             | Fault::Link { .. }
             | Fault::Script(_)
             | Fault::Set { .. }
@@ -93,14 +99,6 @@ impl<T: Drop> From<AllocFailed<T>> for Fault<'_> {
     }
 }
 
-impl<'a> From<BadFile<'a>> for Fault<'a> {
-    ghost from_gives = { λ bad f. f ≡ fault.File bad };
-
-    fn from(bad: BadFile<'a>) -> Self {
-        Fault::File(bad)
-    }
-}
-
 impl From<io::Error> for Fault<'_> {
     ghost from_gives = { λ _ f. f ≡ fault.Output };
 
@@ -112,18 +110,40 @@ impl From<io::Error> for Fault<'_> {
 impl fmt::Display for Fault<'_> {
     fn fmt<W: fmt::Write>(&self, f: &mut fmt::Formatter<W>) -> fmt::Result {
         match self {
-            Fault::Usage => write!(f, "usage: {USAGE}"),
+            Fault::Usage(usage) => write!(f, "{usage}"),
             Fault::Memory => f.write_str("Memory"),
-            Fault::File(bad) => write!(f, "{bad}"),
+            Fault::File { bad, tail } => write!(f, "{bad}{tail}"),
             Fault::Show { name, fault } => write_show_fault(f, name, *fault),
-            Fault::Unfit(unfit) => write!(f, "{unfit}"),
-            Fault::Link { fault, names } => write_link_fault(f, *fault, names.as_slice()),
+            Fault::Unfit { unfit, tail } => write!(f, "{unfit}{tail}"),
+            Fault::Link { fault, count, tail } => write_link_fault(f, *fault, *count, tail),
             Fault::Script(bad) => write_bad_line(f, bad),
             Fault::Set { misuse, size } => write_set_fault(f, *misuse, *size),
             Fault::Begin { misuse, drive } => write_begin_fault(f, *misuse, *drive),
             Fault::Limit { limit, drive } => write_limit(f, *limit, *drive),
             Fault::Output => f.write_str("standard output: Write: it cannot be written"),
         }
+    }
+}
+
+/// Writes the line of components that do not link: the reason, the place, and what is of the import
+/// there, or how many components there are.
+fn write_link_fault<W: fmt::Write>(
+    f: &mut fmt::Formatter<W>,
+    fault: LinkFault,
+    count: usize,
+    tail: &str,
+) -> fmt::Result {
+    let LinkFault {
+        component,
+        import,
+        reason,
+    } = fault;
+    let name = reason.name();
+    write!(f, "{name} in component {component}, import {import}")?;
+    match reason {
+        LinkReason::Empty | LinkReason::TooMany => write!(f, ": {reason}, found {count}"),
+        LinkReason::Memory => write!(f, ": {reason}"),
+        _ => f.write_str(tail),
     }
 }
 

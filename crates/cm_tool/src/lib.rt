@@ -2,6 +2,7 @@
 #![tactic(auto)]
 
 mod commands;
+mod conforming;
 mod fault;
 mod loading;
 mod outcome;
@@ -9,6 +10,7 @@ mod playing;
 
 pub use cm_tool_files::{FileFault, Files};
 pub use cm_tool_script::{ScriptFault, script_bytes};
+pub use cm_tool_words::Usage;
 pub use commands::{LIMIT, tool};
 pub use fault::{Fault, report};
 pub use loading::{LoadedFiles, load_files, load_script};

@@ -4,8 +4,10 @@ ghost use Rattle.std.specs.Prelude.{◌≡◌};
 ghost use Rattle.cm_tool_files.specs.Numbers.{file_status};
 
 use crate::files::FileFault;
-use crate::words::{write_bad_utf8, write_decode_fault, write_file_fault};
+use crate::text_fault::TextFileFault;
+use crate::words::{write_decode_fault, write_file_fault};
 use cm_binary::DecodeFault;
+use cm_tool_text::Escaped;
 use cm_validate_signature::ValidFault;
 use std::fmt;
 
@@ -21,10 +23,8 @@ pub enum FileReason {
     },
     /// Its component is not valid.
     NotValid(ValidFault),
-    /// It is no text: not UTF-8, from the byte `at` on.
-    NoText {
-        at: usize,
-    },
+    /// It is no text that is read.
+    NoText(TextFileFault),
 }
 
 /// A file that is not what a command wants: its name, which is the word of the command line, and
@@ -42,20 +42,19 @@ impl BadFile<'_> {
     {
         match self.reason {
             FileReason::Unread(_) => 4,
-            FileReason::NoComponent { .. } | FileReason::NotValid(_) | FileReason::NoText { .. } =>
-                1,
+            FileReason::NoComponent { .. } | FileReason::NotValid(_) | FileReason::NoText(_) => 1,
         }
     }
 }
 
 impl fmt::Display for BadFile<'_> {
     fn fmt<W: fmt::Write>(&self, f: &mut fmt::Formatter<W>) -> fmt::Result {
-        let name = self.name;
+        let name = Escaped(self.name);
         match self.reason {
             FileReason::Unread(fault) => write_file_fault(f, name, fault),
             FileReason::NoComponent { fault, found } => write_decode_fault(f, name, fault, found),
             FileReason::NotValid(fault) => write!(f, "{name}: {fault}"),
-            FileReason::NoText { at } => write_bad_utf8(f, name, at),
+            FileReason::NoText(fault) => write!(f, "{name}: {fault}"),
         }
     }
 }

@@ -68,8 +68,13 @@ impl From<io::Error> for FileFault {
     }
 }
 
+/// The most bytes of a file that matter (this project's own choice): 16,777,216, and one more, by
+/// which a component file, a script or a WIT text is refused, whatever stands behind it.
+pub const MAX_READ: u64 = 16_777_217;
+
 /// What the command reads its files from.
 pub trait Files {
-    /// All bytes of the file of this name.
+    /// The bytes of the file of this name: all, or its first ones where it has more than
+    /// `MAX_READ`, of which it is enough to give so many.
     fn read(&mut self, alloc: Global, name: &str) -> Result<Vec<u8>, FileFault>;
 }

@@ -1,17 +1,18 @@
 //! Reading the files of a command.
 
-ghost use Rattle.std.specs.Prelude.{◌≡◌, IfOk, IfErr, OnOk, List};
+ghost use Rattle.std.specs.Prelude.{◌≡◌, ◌≤◌, IfOk, IfErr, List, length};
 ghost use Rattle.std.specs.Str.{IsUtf8};
-ghost use Rattle.std.specs.Str.Lossy.{utf8_valid_len};
 ghost use Rattle.cm_binary_model.specs.Trees.{SectionTree};
 ghost use Rattle.cm_binary_forms.specs.File.{Spells};
 ghost use Rattle.cm_validate_model.specs.Valid.{IsValid};
 ghost use Rattle.cm_validate_signature.specs.cm_validate_spaces.Checked.{sections_in};
 ghost use Rattle.cm_tool_files.specs.Refusals.{IsNoComponent, IsNoText, IsNotValid};
 ghost use Rattle.cm_tool_files.specs.Refusals.{IsWantOfMemory};
+ghost use Rattle.cm_tool_files.specs.declared.text_fault.TheConstants.{MAX_TEXT};
 
 use crate::bad_file::{BadFile, FileReason};
 use crate::files::Files;
+use crate::text_fault::{MAX_TEXT, TextFileFault};
 use cm_binary::{Component, decode};
 use cm_validate_signature::{Checked, validate};
 use std::alloc::Global;
@@ -87,21 +88,28 @@ pub fn load<'a, F: Files>(
     component_of(alloc, name, bytes.as_slice())
 }
 
-/// The text whose file has these bytes. They are refused where they are not UTF-8, at the first
-/// byte of what is ill-formed.
+/// The text whose file has these bytes. They are refused where there are more than `MAX_TEXT`, and
+/// else where they are not UTF-8, at the first byte of what is ill-formed.
 pub fn text_of<'a, 'b>(name: &'a str, bytes: &'b [u8]) -> Result<&'b str, BadFile<'a>>
     ensures text { IfOk result (λ text. text.now ≡ bytes.now) }
-    ensures utf8 { IsUtf8 bytes.now → IfErr result (λ e. ⊥) }
-    ensures place { IfErr result (λ e. IsNoText (utf8_valid_len bytes.now) e.reason) }
+    ensures short { IfOk result (λ _. length bytes.now ≤ MAX_TEXT) }
+    ensures utf8 { length bytes.now ≤ MAX_TEXT → IsUtf8 bytes.now → IfErr result (λ e. ⊥) }
+    ensures refused { IfErr result (λ e. IsNoText bytes.now e.reason) }
     ensures name { IfErr result (λ e. e.name ≡ name.entry) }
 {
+    if bytes.len() > MAX_TEXT {
+        return Err(BadFile {
+            name,
+            reason: FileReason::NoText(TextFileFault::TooLong),
+        });
+    }
     match str::from_utf8(bytes) {
         Ok(text) => Ok(text),
         Err(error) => Err(BadFile {
             name,
-            reason: FileReason::NoText {
+            reason: FileReason::NoText(TextFileFault::BadUtf8 {
                 at: error.valid_up_to(),
-            },
+            }),
         }),
     }
 }

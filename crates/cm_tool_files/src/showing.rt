@@ -9,6 +9,7 @@ ghost use Rattle.cm_tool_show.specs.declared.fault.ShowFault.TheVariants as faul
 ghost use Rattle.cm_tool_show.specs.declared.page.TheConstants.{MAX_SHOWN};
 
 use cm_tool_show::{ShowFault, show};
+use cm_tool_text::Escaped;
 use cm_validate_signature::{Checked, signature};
 use std::alloc::Global;
 use std::fmt;
@@ -38,5 +39,5 @@ pub fn write_show_fault<W: fmt::Write>(
         ShowFault::TooLong => "TooLong",
         ShowFault::Memory => "Memory",
     };
-    write!(f, "{name}: {reason_name}: {fault}")
+    write!(f, "{}: {reason_name}: {fault}", Escaped(name))
 }

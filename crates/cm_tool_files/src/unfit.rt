@@ -3,6 +3,7 @@
 ghost use Rattle.std.specs.Prelude.{◌≡◌};
 ghost use Rattle.cm_tool_files.specs.declared.unfit.UnfitReason.TheVariants as reason;
 
+use cm_tool_text::Escaped;
 use cm_wit_conforms::ConformFault;
 use cm_wit_package::WitFault;
 use cm_wit_worlds::WorldFault;
@@ -67,16 +68,16 @@ pub struct Unfit<'a> {
 impl fmt::Display for Unfit<'_> {
     fn fmt<W: fmt::Write>(&self, f: &mut fmt::Formatter<W>) -> fmt::Result {
         match self.reason {
-            UnfitReason::Wit(fault) => write!(f, "{}: {fault}", self.wit),
+            UnfitReason::Wit(fault) => write!(f, "{}: {fault}", Escaped(self.wit)),
             UnfitReason::World(fault) => write_world_fault(f, self.wit, self.world, fault),
-            UnfitReason::Signature(fault) => write!(f, "{}: {fault}", self.file),
+            UnfitReason::Signature(fault) => write!(f, "{}: {fault}", Escaped(self.file)),
             UnfitReason::Memory => write_no_memory(f, self.file),
         }
     }
 }
 
 fn write_no_memory<W: fmt::Write>(f: &mut fmt::Formatter<W>, name: &str) -> fmt::Result {
-    write!(f, "{name}: Memory: no memory")
+    write!(f, "{}: Memory: no memory", Escaped(name))
 }
 
 /// Writes why a world of a text has no signature.
@@ -87,6 +88,7 @@ fn write_world_fault<W: fmt::Write>(
     fault: WorldFault,
 ) -> fmt::Result {
     let fault_name = world_fault_name(fault);
+    let (name, world) = (Escaped(name), Escaped(world));
     write!(f, "{name}: {fault_name} in world {world}: {fault}")
 }
 

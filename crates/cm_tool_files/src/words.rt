@@ -2,32 +2,24 @@
 
 use crate::files::FileFault;
 use cm_binary::{DecodeFault, DecodeReason};
+use cm_tool_text::Escaped;
 use std::fmt;
 
 /// Writes why a file cannot be read.
 pub(crate) fn write_file_fault<W: fmt::Write>(
     f: &mut fmt::Formatter<W>,
-    name: &str,
+    name: Escaped<'_>,
     fault: FileFault,
 ) -> fmt::Result {
     let reason_name = fault.name();
     write!(f, "{name}: {reason_name}: {fault}")
 }
 
-/// Writes from which byte on a file is not UTF-8.
-pub(crate) fn write_bad_utf8<W: fmt::Write>(
-    f: &mut fmt::Formatter<W>,
-    name: &str,
-    at: usize,
-) -> fmt::Result {
-    write!(f, "{name}: BadUtf8 at {at}: expected a text in UTF-8")
-}
-
 /// Writes the fault of a file that is no component file: the reason, the place, what the reason
 /// says, and the byte that stands there where the byte itself is at fault.
 pub(crate) fn write_decode_fault<W: fmt::Write>(
     f: &mut fmt::Formatter<W>,
-    name: &str,
+    name: Escaped<'_>,
     fault: DecodeFault,
     found: Option<u8>,
 ) -> fmt::Result {

@@ -2,13 +2,11 @@
 #![tactic(auto)]
 
 mod events;
-mod link_help;
 mod plan;
 mod play_help;
 mod script_help;
 
 pub use events::write_event;
-pub use link_help::{SignatureNames, write_link_fault};
 pub use plan::write_plan;
 pub use play_help::{Drive, SetSize, write_begin_fault, write_limit, write_set_fault};
 pub use script_help::{BadLine, write_bad_line};

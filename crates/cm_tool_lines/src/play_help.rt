@@ -48,14 +48,6 @@ pub fn write_set_fault<W: fmt::Write>(
     write!(f, ": making the set")?;
     match misuse {
         Misuse::BadPages => write_bad_pages(f, size),
-        Misuse::NotYet {
-            component,
-            core_func,
-        } => write!(
-            f,
-            ": component {component}, core function {core_func}: expected a guest's, or a lowered \
-             one that passes u32 alone to a lift without post-return"
-        ),
         _ => Ok(()),
     }
 }

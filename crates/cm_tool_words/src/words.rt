@@ -5,11 +5,6 @@ use clap::{Arg, ArgAction, ArgMatches, Command};
 use std::alloc::{AllocError, Global};
 use std::fmt;
 
-/// The commands, as a line of standard error names them.
-pub const USAGE: &str = "component_tool check FILE | component_tool show FILE \
-    | component_tool conform --wit W --world N FILE | component_tool link FILE.. \
-    | component_tool play --script S FILE..";
-
 /// Why words are no command.
 #[derive(Clone, Copy)]
 pub enum WordsFault {

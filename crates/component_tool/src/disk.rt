@@ -1,6 +1,6 @@
 //! The files of the machine that the program runs on, and its standard input.
 
-use cm_tool_files::{FileFault, Files};
+use cm_tool_files::{FileFault, Files, MAX_READ};
 use std::alloc::Global;
 use std::io::{Input, Read};
 use std::{fs, io, rt};
@@ -21,18 +21,20 @@ impl<'r, R> Disk<'r, R> {
 }
 
 impl<R: rt::Files + Input + AllocGlobal> Files for Disk<'_, R> {
-    // The bytes of a file come from the allocator of `rt`, which is the same one.
+    /// Reads no more than `MAX_READ` bytes, so that a file, a device or a pipe without end is read
+    /// to its end in no time.
     fn read(&mut self, alloc: Global, name: &str) -> Result<Vec<u8>, FileFault> {
         if name == STANDARD_INPUT {
-            return Ok(read_to_end(alloc, self.rt.reader())?);
+            return Ok(read_front(alloc, self.rt.reader())?);
         }
-        Ok(fs::read(self.rt, name)?)
+        let file = fs::open(self.rt, name)?;
+        Ok(read_front(alloc, file)?)
     }
 }
 
-/// What a reader holds, to its end.
-fn read_to_end<T: Read + Drop>(alloc: Global, reader: T) -> io::Result<Vec<u8>> {
-    let mut reader = reader;
+/// What a reader holds, to its end, or its first `MAX_READ` bytes.
+fn read_front<T: Read + Drop>(alloc: Global, reader: T) -> io::Result<Vec<u8>> {
+    let mut reader = reader.take(MAX_READ);
     let mut bytes = Vec::new(alloc);
     reader.read_to_end(&mut bytes)?;
     Ok(bytes)

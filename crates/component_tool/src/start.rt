@@ -1,7 +1,7 @@
 //! The program on the machine that it runs on.
 
 use crate::disk::Disk;
-use cm_tool::{Fault, report, tool};
+use cm_tool::{Fault, Usage, report, tool};
 use std::io::{BufWriter, Input, Write};
 use std::rt::{Env, Files};
 use std::{env, io};
@@ -56,6 +56,6 @@ fn fault_of(error: &io::Error) -> Fault<'static> {
     if error.kind() == io::ErrorKind::OutOfMemory {
         Fault::Memory
     } else {
-        Fault::Usage
+        Fault::Usage(Usage::NoText)
     }
 }

@@ -1,29 +1,16 @@
 //! Rows on the command and its parts.
 
 use crate::memory_files::MemoryFiles;
-use cm_machine::Set;
-use cm_rows::{Full, Line, Pipe, RowFault, word, words_from, write_text};
-use cm_tool::{Fault, LIMIT, Outcome, load_files, load_script, play, report, tool};
+use cm_rows::{Full, Line, Pipe, RowFault, read_text, word, words_from, write_text};
+use cm_tool::{LIMIT, tool};
 use cm_tool_words::{Request, USAGE, WordsFault};
 use std::alloc::Global;
 
-/// The answer to `run WORD..`, `cut WORD..`, `words WORD..`, `usage`, `limit`, `limited LIMIT
-/// SCRIPT FILE..`.
+/// The answer to `run WORD..`, `cut WORD..`, `words WORD..`, `usage` or `limit`.
 pub fn answer(alloc: Global, files: &mut MemoryFiles, words: &[&str], line: &mut Line) {
     match word(words, 0) {
         "usage" => line.put(USAGE),
         "limit" => line.show(LIMIT),
-        "limited" => {
-            let limit = line.number(word(words, 1));
-            play_limited(
-                alloc,
-                files,
-                limit,
-                word(words, 2),
-                words_from(words, 3),
-                line,
-            );
-        }
         call => answer_on_words(alloc, files, call, words_from(words, 1), line),
     }
 }
@@ -47,19 +34,18 @@ fn answer_on_words(
 fn read_words(alloc: Global, words: &[&str], line: &mut Line) -> Vec<String> {
     let mut given = Vec::new(alloc);
     for word in words {
-        if let Some(word) = line.kept(String::from_str(alloc, word)) {
-            line.push(&mut given, word);
-        }
+        let word = read_text(alloc, &[*word], line);
+        line.push(&mut given, word);
     }
     given
 }
 
 /// What a command printed, and its exit status.
 #[derive(Drop)]
-struct Ran {
-    status: u8,
-    out: Vec<u8>,
-    err: Vec<u8>,
+pub struct Ran {
+    pub status: u8,
+    pub out: Vec<u8>,
+    pub err: Vec<u8>,
 }
 
 /// Runs the command of these words, with a standard output that takes so many bytes.
@@ -74,7 +60,7 @@ fn run(alloc: Global, words: &[String], files: &mut MemoryFiles, room: usize) ->
     }
 }
 
-fn write_ran(line: &mut Line, ran: &Ran) {
+pub fn write_ran(line: &mut Line, ran: &Ran) {
     line.put("status ");
     line.show(ran.status);
     line.put(", out ");
@@ -152,44 +138,5 @@ fn write_names(line: &mut Line, names: &[&str]) {
     for name in names {
         line.put(" ");
         line.put(name);
-    }
-}
-
-/// Plays a script with another limit of moves than the command has.
-fn play_limited(
-    alloc: Global,
-    files: &mut MemoryFiles,
-    limit: u64,
-    script: &str,
-    names: &[&str],
-    line: &mut Line,
-) {
-    let mut out = Vec::new(alloc);
-    let mut err = Vec::new(alloc);
-    let status = match play_files(alloc, files, limit, script, names, &mut out, &mut err) {
-        Ok(outcome) => outcome.status(),
-        Err(fault) => {
-            report(&mut err, &fault);
-            fault.status()
-        }
-    };
-    write_ran(line, &Ran { status, out, err });
-}
-
-fn play_files<'a>(
-    alloc: Global,
-    files: &mut MemoryFiles,
-    limit: u64,
-    script: &'a str,
-    names: &[&'a str],
-    out: &mut Vec<u8>,
-    err: &mut Vec<u8>,
-) -> Result<Outcome, Fault<'a>> {
-    let loaded = load_files(alloc, files, names)?;
-    let linked = loaded.link(alloc)?;
-    let script = load_script(alloc, files, script, names.len())?;
-    match Set::new(alloc, &linked, script.pages.as_slice()) {
-        Ok(mut set) => play(alloc, &mut set, script, limit, out, err),
-        Err(_) => Err(Fault::Memory),
     }
 }

@@ -5,27 +5,44 @@
 mod commands;
 mod event_lines;
 mod memory_files;
+mod plays;
 mod scripts;
 
 use cm_rows::{Driver, Line, answer_families, word, words_from};
 use memory_files::MemoryFiles;
+use plays::Plays;
 use std::alloc::Global;
 use std::io;
 use std::process::ExitCode;
 
 /// The families of rows, a file each.
-const FAMILIES: [&str; 4] = ["commands", "words", "scripts", "events"];
+const FAMILIES: [&str; 12] = [
+    "commands",
+    "words",
+    "scripts",
+    "events",
+    "helps",
+    "real",
+    "plays",
+    "values",
+    "texts",
+    "resources",
+    "attacks",
+    "examples",
+];
 
-/// The state between rows: the files of the command.
+/// The state between rows: the files of the command, and the set of the last play.
 #[derive(Drop)]
 struct ToolRows {
     files: MemoryFiles,
+    plays: Plays,
 }
 
 impl Driver for ToolRows {
     fn new(alloc: Global) -> ToolRows {
         ToolRows {
             files: MemoryFiles::new(alloc),
+            plays: Plays::new(),
         }
     }
 
@@ -34,6 +51,8 @@ impl Driver for ToolRows {
         match word(words, 0) {
             "file" => self.files.answer(alloc, rest, line),
             "tool" => commands::answer(alloc, &mut self.files, rest, line),
+            "play" => self.plays.play(alloc, &mut self.files, rest, line),
+            "set" => self.plays.answer(rest, line),
             "script" => scripts::answer(alloc, rest, line),
             "event" => event_lines::answer(alloc, rest, line),
             _ => line.refuse(),

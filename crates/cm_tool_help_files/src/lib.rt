@@ -1,0 +1,15 @@
+//! What stood where a component file has its fault, and what was wanted there: the tails of the
+//! command's lines.
+//!
+//! Each call takes what a fault was found in, and answers the words behind its line, which begin
+//! with `: ` or are none. A tail stays in one line, and names no more than a few things.
+#![tactic(auto)]
+
+mod bytes;
+mod counts;
+mod index_help;
+mod items;
+mod names_help;
+
+pub use bytes::bytes_help;
+pub use items::valid_help;

@@ -1,0 +1,13 @@
+//! What stood where signatures do not fit, and what was wanted there: the tails of the command's
+//! lines.
+//!
+//! Each call takes what a fault was found in, and answers the words behind its line, which begin
+//! with `: ` or are none. A tail stays in one line, and names no more than a few things.
+#![tactic(auto)]
+
+mod blocks;
+mod links;
+mod signatures;
+
+pub use links::link_help;
+pub use signatures::conform_help;

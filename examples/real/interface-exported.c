@@ -1,0 +1,3 @@
+__attribute__((export_name("example:exported/sums#add"))) unsigned add(unsigned a, unsigned b) {
+    return a + b;
+}

@@ -1,0 +1,1 @@
+__attribute__((export_name("inc"))) unsigned inc(unsigned x) { return x + 1; }

@@ -1,0 +1,1 @@
+__attribute__((export_name("run"))) int run(int x, int y) { return x + y; }
