@@ -29,8 +29,9 @@ fn size_of_block(size: usize, align: usize) -> usize {
     if size == 0 { align } else { size }
 }
 
-/// Whether bytes are counted, how many are taken, and how many at most.
+/// Whether bytes are counted, how many are taken, how many at most, and how often some were taken.
 static COUNTS: AtomicBool = AtomicBool::new(false);
+static TIMES: AtomicUsize = AtomicUsize::new(0);
 static TAKEN: AtomicUsize = AtomicUsize::new(0);
 static MOST: AtomicUsize = AtomicUsize::new(0);
 
@@ -38,6 +39,7 @@ static MOST: AtomicUsize = AtomicUsize::new(0);
 pub fn begin() {
     TAKEN.store(0, Relaxed);
     MOST.store(0, Relaxed);
+    TIMES.store(0, Relaxed);
     COUNTS.store(true, Relaxed);
 }
 
@@ -47,8 +49,23 @@ pub fn end() -> usize {
     MOST.load(Relaxed)
 }
 
+/// How many times a task asks for memory.
+pub fn count(task: impl FnOnce()) -> usize {
+    begin();
+    task();
+    end();
+    times()
+}
+
+/// How often bytes were taken since the count began.
+#[allow(dead_code)] // of the part `abi` alone
+pub fn times() -> usize {
+    TIMES.load(Relaxed)
+}
+
 fn took(block: *mut c_void) -> *mut c_void {
     if COUNTS.load(Relaxed) && !block.is_null() {
+        TIMES.fetch_add(1, Relaxed);
         let size = unsafe { malloc_usable_size(block) };
         let taken = TAKEN.fetch_add(size, Relaxed) + size;
         MOST.fetch_max(taken, Relaxed);

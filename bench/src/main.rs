@@ -9,9 +9,11 @@ mod link;
 mod machine;
 mod measure;
 mod plain;
+mod plain_machine;
 mod samples;
 mod sets;
 mod text;
+mod turns;
 
 fn main() {
     let wanted: Vec<String> = std::env::args().skip(1).collect();
@@ -25,7 +27,10 @@ fn main() {
         ("layout", layout::run),
         ("link", link::run),
         ("sets", sets::run),
-        ("machine", machine::run),
+        ("machine", || {
+            machine::run();
+            turns::run();
+        }),
     ];
     for (name, run) in parts {
         if wanted.is_empty() || wanted.iter().any(|word| word == name) {
@@ -44,6 +49,14 @@ fn runs_once(words: &[String]) -> bool {
         }
         [part, side, kind, task, size, rounds] if part == "files-once" => {
             files::once(side, kind, task, number(size), number(rounds));
+            true
+        }
+        [part, side, name, rounds] if part == "turns-once" => {
+            turns::once(side, name, number(rounds) as u32);
+            true
+        }
+        [part] if part == "turns-names" => {
+            turns::names().iter().for_each(|name| println!("{name}"));
             true
         }
         _ => false,

@@ -16,6 +16,7 @@ mod samples;
 
 use measure::{Rival, nanoseconds};
 use ours::{Call, REFUSED, UTF8, UTF16};
+use plain::Hand;
 use std::hint::black_box;
 
 /// What the texts are cut from.
@@ -43,7 +44,85 @@ const SIZES: [usize; 5] = [16, 256, 1 << 10, 64 << 10, 1 << 20];
 /// What the memory of a receiver holds before a call.
 const FILL: u8 = 0xaa;
 
+/// A value that is passed: what it is called, the call, the room that it takes, the adapter in one
+/// pass and the one in the phases of the library.
+struct Passing {
+    name: &'static str,
+    call: Call,
+    room: usize,
+    plain: fn(&Call, &mut [u8]) -> Result<u64, plain::Fault>,
+    hand: for<'a> fn(&mut Hand<'a>, &'a Call, &mut [u8]) -> Result<u64, plain::Fault>,
+}
+
+/// How many strings the list has.
+const STRINGS: usize = 1_000;
+
+fn passings() -> [Passing; 3] {
+    [
+        Passing {
+            name: "string",
+            call: samples::text(&text_of(TEXTS[0].1, 16), UTF8, UTF8),
+            room: 16,
+            plain: |call, to| plain::text(&call.giver, call.slots[0], call.slots[1], to),
+            hand: |hand, call, to| hand.text(&call.giver, call.slots[0], call.slots[1], to),
+        },
+        Passing {
+            name: "record",
+            call: samples::record(false),
+            room: 256,
+            plain: |call, to| plain::record(&call.giver, call.slots[0], to),
+            hand: |hand, call, to| hand.record(&call.giver, call.slots[0], to),
+        },
+        Passing {
+            name: "list",
+            call: samples::strings(STRINGS, 16, false),
+            room: room_for_strings(STRINGS, 16),
+            plain: |call, to| plain::strings(&call.giver, call.slots[0], call.slots[1], to),
+            hand: |hand, call, to| hand.strings(&call.giver, call.slots[0], call.slots[1], to),
+        },
+    ]
+}
+
+/// Passes a value so many times, for `bench/steps`: by `scan`, `copy`, `lift` or `lower` of the
+/// library, in one pass (`plain`) or by hand in the library's phases (`hand`). Prints how many
+/// strings it has, and how often the second call took memory.
+fn once(who: &str, what: &str, rounds: u32) {
+    let all = passings();
+    let passing = all.iter().find(|it| it.name == what).expect("the name of a value");
+    let call = &passing.call;
+    let (wanted, bytes) = passed(call, passing.room);
+    let mut to = vec![FILL; passing.room];
+    let mut hand = Hand::default();
+    let mut go = |rounds: u32| match who {
+        "scan" => call.scan(rounds),
+        "copy" => call.copy(black_box(&mut to), rounds),
+        "lift" => call.lift(rounds),
+        "lower" => call.lower(black_box(&mut to), rounds),
+        "plain" => (0..rounds).fold(0, |_, _| {
+            (passing.plain)(black_box(call), black_box(&mut to)).expect("a value")
+        }),
+        _ => (0..rounds).fold(0, |_, _| {
+            (passing.hand)(&mut hand, black_box(call), black_box(&mut to)).expect("a value")
+        }),
+    };
+    let taken = [1, 2].map(|rounds| {
+        heap::begin();
+        let answer = go(rounds);
+        heap::end();
+        assert!(answer == wanted || matches!(who, "scan" | "lift"));
+        heap::times()
+    });
+    black_box(go(rounds));
+    assert!(to == bytes || matches!(who, "scan" | "lift"));
+    let strings = if what == "list" { STRINGS } else { 1 };
+    println!("{strings} {}", taken[1] - taken[0]);
+}
+
 fn main() {
+    let words: Vec<String> = std::env::args().skip(1).collect();
+    if let [_, who, what, rounds] = &words[..] {
+        return once(who, what, rounds.parse().expect("a number"));
+    }
     println!("Adapters (a ratio above 1: ours is faster); nanoseconds of one call");
     println!(
         "{:26} {:>8} {:>10} {:>10} {:>10} {:>6} {:>10} {:>11} {:>6}",

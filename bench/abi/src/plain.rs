@@ -1,5 +1,7 @@
 //! Adapters written by hand for one type each, without `unsafe`: in one pass they check what the
-//! Canonical ABI checks, ask for the same memory in the same order, and copy.
+//! Canonical ABI checks, ask for the same memory in the same order, and copy. Those of `Hand` do so
+//! in the phases of the library: a scan that checks the value and keeps a record of each part,
+//! the answers to the requests of these parts, and a copy.
 
 /// Why a value is refused.
 #[derive(Debug, PartialEq)]
@@ -195,4 +197,133 @@ fn cases(from: &[u8], to: u32, receiver: &mut Receiver) -> Result<(), Fault> {
         }
         _ => Err(Fault::BadCase),
     }
+}
+
+/// A string or a list of a value: its bytes, and where they come to stand.
+struct Part<'a> {
+    bytes: &'a [u8],
+    align: u32,
+    place: u32,
+}
+
+/// Adapters in the phases of the library, with one list of records for all calls.
+#[derive(Default)]
+pub struct Hand<'a> {
+    parts: Vec<Part<'a>>,
+}
+
+impl<'a> Hand<'a> {
+    fn keep(&mut self, bytes: &'a [u8], align: u32) {
+        self.parts.push(Part {
+            bytes,
+            align,
+            place: 0,
+        });
+    }
+
+    /// Answers the request of each part in order, and looks at the answers: they are behind those
+    /// that came before.
+    fn answer(&mut self, receiver: &mut Receiver) -> Result<(), Fault> {
+        let mut behind = 0;
+        for part in &mut self.parts {
+            part.place = receiver.ask(part.align, part.bytes.len() as u32)?;
+            if part.place < behind {
+                return Err(Fault::PointerBounds);
+            }
+            behind = part.place + part.bytes.len() as u32;
+        }
+        Ok(())
+    }
+
+    /// Passes a string in UTF-8.
+    pub fn text(
+        &mut self,
+        memory: &'a [u8],
+        at: u32,
+        size: u32,
+        receiver: &mut [u8],
+    ) -> Result<u64, Fault> {
+        self.parts.clear();
+        self.keep(Giver::new(memory).text(at, size)?, 1);
+        let mut receiver = Receiver::new(receiver);
+        self.answer(&mut receiver)?;
+        let Part { bytes, place, .. } = self.parts[0];
+        receiver.write(place, bytes);
+        Ok(joined(place, size))
+    }
+
+    /// Passes a list of strings in UTF-8.
+    pub fn strings(
+        &mut self,
+        memory: &'a [u8],
+        at: u32,
+        count: u32,
+        receiver: &mut [u8],
+    ) -> Result<u64, Fault> {
+        self.parts.clear();
+        let mut giver = Giver::new(memory);
+        let list = giver.content(at, 4, u64::from(count) * 8)?;
+        self.keep(list, 4);
+        for pair in list.chunks_exact(8) {
+            let text = giver.text(u32_at(pair, 0), u32_at(pair, 4))?;
+            self.keep(text, 1);
+        }
+        let mut receiver = Receiver::new(receiver);
+        self.answer(&mut receiver)?;
+        let place = self.parts[0].place;
+        let mut next = place;
+        for text in &self.parts[1..] {
+            receiver.write(text.place, text.bytes);
+            receiver.write_pair(next, text.place, text.bytes.len() as u32);
+            next += 8;
+        }
+        Ok(joined(place, count))
+    }
+
+    /// Passes the record of 16 fields.
+    pub fn record(
+        &mut self,
+        memory: &'a [u8],
+        at: u32,
+        receiver: &mut [u8],
+    ) -> Result<u64, Fault> {
+        self.parts.clear();
+        let mut giver = Giver::new(memory);
+        let from = giver.region(at, 8, RECORD)?;
+        check_cases(from)?;
+        self.keep(from, 8);
+        let text = giver.text(u32_at(from, 48), u32_at(from, 52))?;
+        self.keep(text, 1);
+        for (offset, element) in [(56, 1), (64, 4)] {
+            let size = u64::from(u32_at(from, offset + 4)) * u64::from(element);
+            let bytes = giver.content(u32_at(from, offset), element, size)?;
+            self.keep(bytes, element);
+        }
+        let mut receiver = Receiver::new(receiver);
+        self.answer(&mut receiver)?;
+        let to = self.parts[0].place;
+        numbers(from, to, &mut receiver);
+        cases(from, to, &mut receiver)?;
+        for (part, offset) in self.parts[1..].iter().zip([48, 56, 64]) {
+            receiver.write(part.place, part.bytes);
+            receiver.write_pair(to + offset, part.place, u32_at(from, offset as usize + 4));
+        }
+        Ok(u64::from(to))
+    }
+}
+
+/// Whether the char, the enum and the option show values.
+fn check_cases(from: &[u8]) -> Result<(), Fault> {
+    char::from_u32(u32_at(from, 32)).ok_or(Fault::BadChar)?;
+    if from[36] >= 5 || from[40] >= 2 {
+        return Err(Fault::BadCase);
+    }
+    Ok(())
+}
+
+/// Passes a string in UTF-8.
+pub fn text(memory: &[u8], at: u32, size: u32, receiver: &mut [u8]) -> Result<u64, Fault> {
+    let text = Giver::new(memory).text(at, size)?;
+    let place = Receiver::new(receiver).place(1, text)?;
+    Ok(joined(place, size))
 }
