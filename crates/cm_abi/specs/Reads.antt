@@ -15,7 +15,7 @@ AreAlike (element_part n size align) (element_part m size_2 align_2) =
     (n ≡ m) × (n * size ≡ m * size_2) × (align ≡ align_2)
 AreAlike part other = ⊥
 
--- the same of parts one for one
+-- two lists have as many parts, and each part is told alike the other list's at its place
 abbrev pub AreAllAlike : List Part → List Part → Type 0
 AreAllAlike [] [] = ⊤
 AreAllAlike (part ∷ parts) (other ∷ others) = AreAlike part other × AreAllAlike parts others

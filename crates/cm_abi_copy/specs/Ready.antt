@@ -89,7 +89,7 @@ pub record LiesIn (length at : ℕ) (l : LayoutTy) : Type 0 where
   pub within : at + l.head.size ≤ length
   pub sound : IsSound l
 
--- the same of fields, and of what cases carry
+-- fields, or what cases carry, lie within so many bytes, each at its offset, and are sound
 abbrev pub FieldsLieIn : ℕ → ℕ → Parts → Type 0
 FieldsLieIn length at no_parts = ⊤
 FieldsLieIn length at (part o e sh ps) =

@@ -35,7 +35,7 @@ StopsMaking allocates R outcome s after stop.Memory = allocates ⊎ HasMore R s 
 StopsMaking allocates R outcome s after (stop.Fault f) = outcome ≡ Err (f, after)
 
 -- what is made stands for the value that is read from one state to another, and its records were
--- kept; or it is told why not
+-- kept; or the answer says why not
 abbrev pub Makes : {A V K : Type 0} → (A → V → Type 0) → (K → List PartRecord → K → Type 0) → Type 0
     → (V → List PartRecord) → Outcome V → K → K → State → State → Result A Stop → Type 0
 Makes stands keeps allocates R outcome old new s after (Ok made) =

@@ -19,7 +19,7 @@ met_index (handle_type.Borrow r) index = lent index
 abbrev pub met_as : MetHandle → Met
 met_as m = met_index m.wanted m.index
 
--- the handles among what is met
+-- the handles that were met
 abbrev pub handles_in : List Met → List Met
 handles_in [] = []
 handles_in (text_content tags n ∷ ms) = handles_in ms

@@ -84,7 +84,7 @@ BorrowIsRead =
 abbrev pub NothingIsMet : Type 0
 NothingIsMet = (table : Handles) (s : State) → Meets table s s []
 
--- what is met in two parts is met in the whole
+-- a walk meets in the whole what it meets in its two parts, one behind the other
 abbrev pub MeetingsJoin : Type 0
 MeetingsJoin =
     (table : Handles) (s between after : State) (xs ys : List Met)

@@ -48,12 +48,12 @@ pub trait Maker: Copy {
     fn make(value: Value) -> Self::Made
         ensures { stands result (value_of value) };
 
-    /// What is made of any value, if it is the same of all: then a value that cannot be at fault
-    /// need not be looked at.
+    /// What is made of any value, if all values make one thing: then a value that cannot be at
+    /// fault need not be looked at.
     fn unread() -> Option<Self::Made>
         ensures { IfSome result (λ made. (v : Val) → stands made v) };
 
-    /// What is made of any values in a row, if it is the same of all.
+    /// What is made of any values in a row, if all of them make one thing.
     fn unread_row() -> Option<Self::Row>
         ensures { IfSome result (λ row. (vs : Vals) → stand row vs) };
 

@@ -175,7 +175,7 @@ fn give_each(table: &mut Table, to: Receiver, leaves: &[HandleLeaf], numbers: &m
 ///
 /// Refused with `TableFull` exactly where the table has fewer indices left than it is to get
 /// handles, else with `EngineMemory` where there is no memory; the handles of the table are then
-/// as they were, and no number is told. No memory is taken where there is nothing to give.
+/// as they were, and the answer has no number. No memory is taken where there is nothing to give.
 pub fn give(
     table: &mut Table,
     to: Receiver,

@@ -107,14 +107,14 @@ abbrev pub GoesOnWith : View → List Met → List Met → Type 0
 GoesOnWith w ms more =
     GoesInTurn (after_met w.table ms) (MAX_CONTENT - content_of ms) more
 
--- A value is shown at an address, and what is met in it can be handed over behind what was met
+-- A value is shown at an address, and its handles and texts can be handed over behind those met
 -- before (CanonicalABI.md, "Loading").
 pub record IsLiftedAt (w : View) (t : Ty) (p : ℕ) (ms : List Met) (v : Val) : Type 0 where
   pub shown : Shows w t p v
   pub goes : GoesOnWith w ms (met_at w t p v)
 
--- A value is shown in the core values from a place on, and what is met in it can be handed over
--- behind what was met before (CanonicalABI.md, "Flat Lifting").
+-- A value is shown in the core values from a place on, and its handles and texts can be handed over
+-- behind those met before (CanonicalABI.md, "Flat Lifting").
 pub record IsLiftedFlat (w : View) (slots : List CoreValue) (t : Ty) (k : ℕ) (ms : List Met)
     (v : Val) : Type 0 where
   pub shown : FlatShows w slots t k v

@@ -32,13 +32,13 @@ pub data Met : Type 0 where
 abbrev pub met_text : StringEncoding → ℕ → Met
 met_text e n = text_content (tag_of e n) (text_size e n)
 
--- what is met in each of some values in a row
+-- the content and the handles of each of some values in a row
 abbrev pub met_each : (ℕ → Val → List Met) → ℕ → ℕ → Vals → List Met
 met_each M size at no_vals = []
 met_each M size at (val v vs) = M at v ++ met_each M size (at + size) vs
 
 abbrev mutual
-  -- what is met in the value that bytes at an address show, in reading order
+  -- the content and the handles of the value that bytes at an address show, in reading order
   pub met_at : View → Ty → ℕ → Val → List Met
   met_at w string p (text cs) = met_text w.encoding (number_at 4 w.memory (p + 4)) ∷ []
   met_at w (list t) p (elements vs) =
@@ -66,7 +66,7 @@ abbrev mutual
   met_in_payload w (carrying l t cs) p (suc i) v = met_in_payload w cs p i v
 
 abbrev mutual
-  -- what is met in the value that slots show
+  -- the content and the handles of the value that slots show
   pub met_flat : View → List CoreValue → Ty → ℕ → Val → List Met
   met_flat w s string k (text cs) = met_text w.encoding (wrapped_at 4 s (k + 1)) ∷ []
   met_flat w s (list t) k (elements vs) =
@@ -92,7 +92,7 @@ abbrev mutual
   met_flat_payload w s (carrying l t cs) k zero v = met_flat w s t k v
   met_flat_payload w s (carrying l t cs) k (suc i) v = met_flat_payload w s cs k i v
 
--- what is met in the value that a call's core values denote
+-- the content and the handles of the value that a call's core values denote
 abbrev pub met : View → Way → Fields → List CoreValue → Val → List Met
 met w way types slots v =
     if is_spilled way types

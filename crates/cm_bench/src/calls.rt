@@ -8,7 +8,7 @@ use crate::lowered::{lift_all, lower_all};
 use std::alloc::Global;
 
 /// Scans the value so many times: how many parts it has, or the greatest number where it is
-/// refused. Its type is told by words (`types`); it stands in the memory and the core values of
+/// refused. Its type is given by words (`types`); it stands in the memory and the core values of
 /// its giver; `source` and `target` tell how many bytes a unit of a string has on each side, 1 in
 /// UTF-8 and 2 in UTF-16.
 #[unsafe(no_mangle)]

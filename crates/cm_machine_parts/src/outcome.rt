@@ -1,4 +1,4 @@
-//! What a move led to, before its event is told.
+//! What a move led to, before its event is made.
 
 use cm_machine_model::Trap;
 

@@ -447,7 +447,7 @@ abbrev pub without_handle : State → ℕ → ℕ → State
 without_handle s i index =
     record s { tables = slice_set s.tables i (after_release (table_at s.tables i) index) }
 
--- the same of one that owned its resource, which is dropped with it
+-- an owned handle is gone from a table, and its resource is dropped with it
 abbrev pub after_drop : State → ℕ → ℕ → Handle → State
 after_drop s i index h =
     record (without_handle s i index) { owners = slice_set s.owners h.serial place.Dropped }
@@ -485,12 +485,12 @@ Drops s top r d args =
     (DropsFound (if_not_lent (look_up (table_at s.tables (actor top)) (slot_at args 0) r))
     s (actor top) r d (slot_at args 0)))
 
--- The representation of what was looked up is told, or it is no handle of the resource.
+-- The caller gets the representation of the handle that was looked up, or traps.
 abbrev pub TellsFound : Result Handle HandleFault → State → ℕ → Event → State → Type 0
 TellsFound (Err f) s i e new = Traps s (trap_of_handle f) e new
 TellsFound (Ok h) s i e new = (e ≡ event.Resume i (core_value.I32 h.rep ∷ [])) × (new ≡ s)
 
--- The representation behind a handle is told (CanonicalABI.md, "canon resource.rep").
+-- The caller gets the representation behind a handle (CanonicalABI.md, "canon resource.rep").
 abbrev pub Represents : State → Frame → ResourceId → List CoreValue → Event → State → Type 0
 Represents s top r args =
     Unless s (AreOf one_i32 args) trap.CoreShape

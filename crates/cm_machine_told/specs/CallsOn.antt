@@ -27,7 +27,7 @@ pub record IsPlacingCall (plan : Plan) (i : ℕ) (call : Call) (n : ℕ) (ds : L
     pub is : ds ≡ placing x asked ∷ rest
     pub of : IsCallOf plan i call n x
 
--- the same of one whose body runs
+-- the call of a frame is one whose body runs
 pub record IsBodyCall (plan : Plan) (i : ℕ) (call : Call) (n : ℕ) (ds : List Doing) : Type 0 where
   pub x : LoweredCall
   pub asked : List Asked
@@ -35,7 +35,7 @@ pub record IsBodyCall (plan : Plan) (i : ℕ) (call : Call) (n : ℕ) (ds : List
   pub is : ds ≡ body x asked ∷ rest
   pub of : IsCallOf plan i call n x
 
--- the same of one whose result is being placed
+-- the call of a frame is one whose result is being placed
 pub record IsHandingCall (plan : Plan) (i : ℕ) (call : Call) (n : ℕ) (ds : List Doing) : Type 0
   where
     pub x : LoweredCall
@@ -46,7 +46,7 @@ pub record IsHandingCall (plan : Plan) (i : ℕ) (call : Call) (n : ℕ) (ds : L
     pub is : ds ≡ handing x asked back more ∷ rest
     pub of : IsCallOf plan i call n x
 
--- the same of one that is tidied up
+-- the call of a frame is one that is tidied up
 pub record IsTidyingCall (plan : Plan) (i : ℕ) (call : Call) (n : ℕ) (ds : List Doing) : Type 0
   where
     pub x : LoweredCall
@@ -143,7 +143,7 @@ tidying_call plan top fs [] call v is phase_is m = absurd m
 tidying_call plan top fs (d ∷ ds) call v is phase_is m = tidying_one plan top.instance call (length
     fs) v d ds (matched_call plan top (length fs) call (phase.PostReturn v) d is phase_is m.0)
 
--- ---- the call of a frame, as it is told
+-- ---- the call of a frame, as the events have it
 
 -- a call that goes on, with this caller, link and place
 abbrev pub framed : ℕ → Link → LoweredCall → ℕ → LoweredCall

@@ -346,7 +346,7 @@ abbrev pub call_order_behind : Option CoreFunc → List Trap
 call_order_behind (Some (lowered l)) = lift_traps ++ trap.TableFull ∷ []
 call_order_behind f = []
 
--- the same of a return
+-- the order in which the causes of a return are looked for
 abbrev pub return_order : List Doing → List Trap
 return_order [] = []
 return_order (placing x asked ∷ ds) =

@@ -59,7 +59,7 @@ abbrev pub left_by : HandleKind → Handle → Option Handle
 left_by handle.Owned h = Some (unlent h)
 left_by (handle.Borrowed call) h = None
 
--- the same of what stands at an index
+-- what a trap leaves at an index of a closed instance's table
 abbrev pub left_of : Option Handle → Option Handle
 left_of None = None
 left_of (Some h) = left_by h.kind h
@@ -116,7 +116,7 @@ ClosesWithCall old ds x new =
     × ClosesExactly old (x.link.instance ∷ map instance_of ds) x.caller
     (taken_of (met_at_call x v)) (owned_in (sent_leaves x v)) new
 
--- The same of a body's return.
+-- A trap at a body's return behind its lift: what the lift took is lost.
 abbrev pub ClosesWithReturn : State → List Doing → LoweredCall → BodyReturn → State → Type 0
 ClosesWithReturn old ds x r new =
     (v : Val) × WasReturned x r v

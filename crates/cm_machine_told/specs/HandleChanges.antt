@@ -118,7 +118,7 @@ HandlesAtCall x e old new =
     (v : Val) × WasSent x v × HandlesStayBut old x.caller (taken_of (met_at_call x v)) new
     × AreGone (table_at new.tables x.caller) (taken_of (met_at_call x v))
 
--- The same of a body's return.
+-- Which handles a body's return changes.
 abbrev pub HandlesAtReturn : LoweredCall → BodyReturn → Event → State → State → Type 0
 HandlesAtReturn x r (event.Realloc i f args) old new =
     (v : Val) × WasReturned x r v
@@ -182,7 +182,7 @@ pub record DropsResource (old : State) (i : ℕ) (r : ResourceId) (d : Option �
   pub dropped : DropsAs entry.kind d r i entry e new
   pub others : HandlesStayBut old i (index ∷ []) new
 
--- A handle's representation is told: nothing changes.
+-- An instance gets a handle's representation: nothing changes.
 pub record TellsResource (old : State) (i : ℕ) (r : ResourceId) (index : ℕ) (e : Event)
     (new : State) : Type 0 where
   pub entry : Handle

@@ -77,7 +77,7 @@ pub record HandsArgs (old : State) (x : LoweredCall) (asked : List Asked) (new :
       (places_of (sent_requests x v) (answers_in asked))
   pub others : OthersStay old x.link.instance new
 
--- The same of a result, whose place the caller may have given.
+-- A result is handed over to the caller, who may have given its place.
 pub record HandsResult (old : State) (x : LoweredCall) (r : BodyReturn) (more : List Asked)
     (new : State) : Type 0 where
   pub v : Val

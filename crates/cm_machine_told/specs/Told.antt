@@ -59,7 +59,8 @@ sent_leaves x v = leaves_in (tuple_of (types_of x.link params)) v
 abbrev pub returner_view : LoweredCall → BodyReturn → View
 returner_view x r = view_of r.state r.callee x.link.callee.encoding x.place
 
--- The same of the tuple of the result, in the callee's view at its body's return.
+-- This value, the tuple of the result, was denoted in the callee's view at its body's return, and
+-- can be handed over.
 pub record WasReturned (x : LoweredCall) (r : BodyReturn) (v : Val) : Type 0 where
   pub denoted : Denotes (returner_view x r) results (types_of x.link results) r.values v
   pub transferable : Transferable (returner_view x r) results (types_of x.link results) r.values v

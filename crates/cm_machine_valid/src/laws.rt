@@ -68,7 +68,7 @@ pub fn one_value_is_carried()
     one_value_is_on_its_way();
 }
 
-/// What is met in what core values denote is the handles of the value, one for one: those that it
+/// The handles that a lift meets are those of the value that it lifts, one for one: those that it
 /// owns are taken where a handle owns them, and those that it borrows are lent where one stands for
 /// them.
 pub fn what_is_met_is_the_values_handles()

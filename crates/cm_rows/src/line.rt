@@ -81,7 +81,7 @@ impl Line {
         self.show(number);
     }
 
-    /// The same of a value, by its own name.
+    /// Puts a value by its own name, and the number behind it.
     pub fn number_of_debug<T: Debug>(&mut self, value: &T, number: u8) {
         if !self.text.is_empty() {
             self.put(", ");

@@ -125,7 +125,7 @@ impl Counts {
 }
 
 impl<'a> Place<'a> {
-    /// The first index of the item that nothing before it has; of types none is told.
+    /// The first index that the item names and nothing before it has; none where it is of a type.
     fn missing_index(self, counts: Counts) -> Named {
         let item = self.item;
         match self.sections.get(self.section)? {

@@ -156,7 +156,7 @@ pub(crate) fn names_help(
     }
 }
 
-/// The most names that are told.
+/// The most names that a line shows.
 const MAX_NAMES: usize = 3;
 
 /// The names of an item that have brackets, the first ones where there are many: one of them is at

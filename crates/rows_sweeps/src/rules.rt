@@ -1,4 +1,4 @@
-//! What a plain interpreter of the machine's rules is told of a set, and what it keeps.
+//! What a plain interpreter of the machine's rules knows of a set, and what it keeps.
 
 use cm_machine::Trap;
 use std::alloc::{AllocError, AllocFailed, Global};

@@ -24,7 +24,7 @@ use std::alloc::Global;
 pub enum Question<'a> {
     /// What the world of a full name imports and exports.
     WorldOfName(&'a str),
-    /// The same of the world of a number, among those of all packages.
+    /// What the world of a number, among those of all packages, imports and exports.
     WorldOfNumber(usize),
     /// What the declarations of instances stand for.
     Table(&'a str),
@@ -105,7 +105,7 @@ fn answer_worlds<'a>(
     }
 }
 
-/// The same of a world.
+/// Answers a row on a world.
 fn answer_world<'a>(
     alloc: Global,
     directory: &Directory<'a>,

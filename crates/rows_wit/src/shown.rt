@@ -6,7 +6,7 @@ use cm_tool_show::{ShowFault, show};
 use cm_types_placed::Signature;
 use std::alloc::Global;
 
-/// Texts of more bytes are told by their length.
+/// Texts of more bytes are shown by their length alone.
 const MAX_WRITTEN: usize = 1000;
 
 /// The answer to a signature.
