@@ -48,10 +48,10 @@ pub fn headline()
     // More goes on only where the instance that acts may call, in an open instance, and where there
     // is room.
     ensures begins_by_call { Always BeginsByCall }
-    // Where a body begins, the callee's state denotes the value that the caller's denoted at the
-    // call.
+    // Where a body begins, the callee has received the value that the caller's state denoted at the
+    // call: its state denotes it too, but for borrows that it gets as representations.
     ensures entries { Always EntersRightly }
-    // Where a call ends, the caller's state denotes the result that the callee's denoted at its
+    // Where a call ends, the caller has received the result that the callee's state denoted at its
     // return.
     ensures resumptions { Always ResumesRightly }
     // What tidies up behind a call gets the core values that the body returned.

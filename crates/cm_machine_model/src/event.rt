@@ -20,7 +20,8 @@ pub enum Event {
         func: u32,
         args: Flat,
     },
-    /// This instance's allocator is called.
+    /// This core function of this instance, the allocator of the call, is called with these
+    /// arguments.
     Realloc {
         instance: u32,
         func: u32,
@@ -31,13 +32,15 @@ pub enum Event {
         instance: u32,
         values: Flat,
     },
-    /// The call's results have been taken over: this core function of this instance may tidy up.
+    /// The call's results have been taken over: this core function of this instance may tidy up,
+    /// and gets the core values that the call returned.
     PostReturn {
         instance: u32,
         func: u32,
         args: Flat,
     },
-    /// The destructor of a dropped resource begins, with its representation.
+    /// This core function of this instance, the destructor of a dropped resource, begins with its
+    /// representation.
     Dtor {
         instance: u32,
         func: u32,
@@ -79,7 +82,7 @@ pub enum Trap {
     BadCase,
     /// The bytes of a string are not text of its encoding.
     BadText,
-    /// The strings and lists of a call hold more than 16,777,216 bytes.
+    /// The strings and lists in one direction of a call hold more than 16,777,216 bytes.
     TooLarge,
     /// No handle stands at an index.
     NoHandle,

@@ -32,7 +32,7 @@ pub fn links_name_exports()
         → (e : ExportDef) × (export_in set l.component l.export ≡ Some e) }
 {}
 
-/// A set that can be linked has no fault, and one that can't has one fault alone.
+/// A set that can be linked has no fault, and no set has two.
 pub fn sets_have_one_answer()
     ensures never_both { (set : List Spaces) (c n : ℕ) (r : LinkReason)
         → CanBeLinked set → IsLinkFault set c n r → ⊥ }

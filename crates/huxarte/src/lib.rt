@@ -1,7 +1,7 @@
 //! Huxarte in one crate: component files, WIT texts, linked sets, and the calls between components.
 //!
-//! A host depends on this crate alone. What it needs most stands at the root; the modules have all
-//! of it, each named after what it is about.
+//! A host depends on this crate alone. What it needs most stands at the root; each module
+//! has all of one door, and is named after what it is about.
 #![tactic(auto)]
 
 mod fault;
