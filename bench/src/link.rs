@@ -26,6 +26,19 @@ fn plain_link(provider: &[u8], user: &[u8]) -> Option<usize> {
     Some(plain::link(vec![checked(provider)?, checked(user)?])?.plan.len())
 }
 
+/// Links two files so many times, on one side, and prints how many bytes they have.
+pub fn once(side: &str, count: usize, rounds: usize) {
+    let [provider, user] = samples::pair(count);
+    for _ in 0..rounds {
+        let linked = match side {
+            "ours" => Some(ours(black_box(&provider), black_box(&user))),
+            _ => plain_link(black_box(&provider), black_box(&user)),
+        };
+        assert_eq!(linked, Some(count));
+    }
+    println!("{}", provider.len() + user.len());
+}
+
 pub fn run() {
     println!("decode, validate and link two files (a ratio above 1: ours is faster)");
     println!("{:>9} {:>9} {:>11} {:>11} {:>6}", "imports", "bytes", "ours µs", "plain µs", "ratio");

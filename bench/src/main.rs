@@ -51,6 +51,14 @@ fn runs_once(words: &[String]) -> bool {
             files::once(side, kind, task, number(size), number(rounds));
             true
         }
+        [part, side, count, rounds] if part == "link-once" => {
+            link::once(side, number(count), number(rounds));
+            true
+        }
+        [part, side, kind, count, rounds] if part == "sets-once" => {
+            sets::once(side, kind, number(count), number(rounds));
+            true
+        }
         [part, side, name, rounds] if part == "turns-once" => {
             turns::once(side, name, number(rounds) as u32);
             true

@@ -1,7 +1,7 @@
 //! Components and sets that strangers may send: what validating and linking them costs a byte of
 //! their files, in time and in memory, at two sizes each.
 
-use crate::heap;
+use crate::{heap, plain};
 use crate::samples::{file, list, number, section, text};
 use std::hint::black_box;
 use std::time::Instant;
@@ -235,6 +235,40 @@ fn versions(components: usize, count: usize) -> Vec<Vec<u8>> {
     all
 }
 
+/// So many imports of one function, with other names as long as the crafted ones.
+fn other_imports(count: usize) -> Vec<u8> {
+    file(&[types(&[func_type("x", U32)]), imports(1, 0, plain_names(count))])
+}
+
+/// A kind of file, and the one of so many names.
+type Kind = (&'static str, fn(usize) -> Vec<u8>);
+
+/// The kinds of files that are counted once; behind each that has crafted names stands the one with
+/// other names as long.
+const KINDS: [Kind; 7] = [
+    ("imports", many_imports),
+    ("crafted imports", crafted_imports),
+    ("other imports", other_imports),
+    ("crafted inline exports", |count| inline_exports(crafted_names(count))),
+    ("other inline exports", |count| inline_exports(plain_names(count))),
+    ("crafted core exports", |count| core_exports(crafted_names(count))),
+    ("other core exports", |count| core_exports(plain_names(count))),
+];
+
+/// Decodes and validates a file so many times, on one side, and prints how many bytes it has. Plain
+/// Rust keeps names in hash maps, and does no more than imports need.
+pub fn once(side: &str, kind: &str, count: usize, rounds: usize) {
+    let (_, file_of) = KINDS.iter().find(|it| it.0 == kind).expect("the name of a kind");
+    let file = file_of(count);
+    for _ in 0..rounds {
+        match side {
+            "ours" => assert_ne!(validate(black_box(&file)), usize::MAX),
+            _ => assert!(plain::decode(black_box(&file)).and_then(plain::validate).is_some()),
+        }
+    }
+    println!("{}", file.len());
+}
+
 /// How many imports are linked.
 fn link(files: &[Vec<u8>]) -> usize {
     let bytes = files.concat();
@@ -277,8 +311,7 @@ pub fn run() {
     }
     for count in [25_000, 100_000] {
         of_file(&format!("{count} imports with crafted names"), &crafted_imports(count), count);
-        let benign = file(&[types(&[func_type("x", U32)]), imports(1, 0, plain_names(count))]);
-        of_file(&format!("{count} imports with other names as long"), &benign, count);
+        of_file(&format!("{count} imports with other names as long"), &other_imports(count), count);
         let (crafted, plain) = (inline_exports(crafted_names(count)), inline_exports(plain_names(count)));
         of_file(&format!("{count} inline exports with crafted names"), &crafted, 1);
         of_file(&format!("{count} inline exports with other names"), &plain, 1);

@@ -53,7 +53,27 @@ const KINDS: [Kind; 6] = [
     ("comments", true, samples::comments),
 ];
 
+/// Does a task so many times on the text of a kind and a size, on one side, and prints how many
+/// bytes the text has.
+fn once(side: &str, kind: &str, task: &str, size: usize, rounds: usize) {
+    let (_, _, text_of) = KINDS.iter().find(|it| it.0 == kind).expect("the name of a kind");
+    let (_, ours, plain) = TASKS.iter().find(|it| it.0 == task).expect("the name of a task");
+    let text = text_of(size);
+    let work = if side == "ours" { ours } else { plain };
+    for _ in 0..rounds {
+        black_box(work(black_box(&text)));
+    }
+    println!("{}", text.len());
+}
+
 fn main() {
+    let words: Vec<String> = std::env::args().skip(1).collect();
+    if let [part, side, kind, task, size, rounds] = words.as_slice()
+        && part == "once"
+    {
+        let number = |word: &String| word.parse().expect("a number");
+        return once(side, kind, task, number(size), number(rounds));
+    }
     println!("WIT (a ratio above 1: ours is faster)");
     println!(
         "{:12} {:13} {:>9} {:>11} {:>11} {:>6} {:>11} {:>6} {:>9}",
