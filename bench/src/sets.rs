@@ -84,26 +84,53 @@ fn short_names(count: usize) -> impl Iterator<Item = String> {
     (1..).flat_map(of_length).take(count)
 }
 
-/// Names of eight letters that all begin their search in one place of a hash map of up to 147,456
-/// of them: what std's hash maps, whose hash has a fixed seed, make of a text.
+/// The factor of the library's hash of a text, by which each byte is added and multiplied.
+const FACTOR: u64 = 0x9e37_79b9_7f4a_7c15;
+
+/// The places that a table of 131,072 texts has: fewer texts have a power of two, too.
+const PLACES: u64 = 1 << 20;
+
+/// The letters of a number below 26^4.
+fn four_letters(at: u32) -> [u8; 4] {
+    [0, 1, 2, 3].map(|digit| b'a' + (at / 26u32.pow(digit) % 26) as u8)
+}
+
+/// What four letters add to the hash, where these many follow them.
+fn added(letters: [u8; 4], behind: u32) -> u64 {
+    let hash = letters.iter().fold(0u64, |hash, letter| {
+        hash.wrapping_add(u64::from(*letter)).wrapping_mul(FACTOR)
+    });
+    (0..behind).fold(hash, |hash, _| hash.wrapping_mul(FACTOR))
+}
+
+/// The place at which a text of this hash is looked for first.
+fn place(hash: u64) -> u64 {
+    (hash >> 32) % PLACES
+}
+
+/// Names of eight letters that the library looks for first at one place, the first, of each of its
+/// tables of up to 131,072 texts.
 fn crafted_names(count: usize) -> impl Iterator<Item = String> + Clone {
-    const MULTIPLIER: u64 = 0x9e37_79b9_7f4a_7c15;
-    const PLACES: u32 = 1 << 14;
-    fn fold(a: u64, b: u64) -> u64 {
-        let product = u128::from(a) * u128::from(b);
-        product as u64 ^ (product >> 64) as u64
-    }
-    fn place(name: [u8; 8]) -> u32 {
-        let state = fold(0x243f_6a88_85a3_08d3 ^ u64::from_le_bytes(name), MULTIPLIER ^ 16);
-        let hash = fold(state ^ 0xff_ffff, MULTIPLIER ^ 2);
-        (hash ^ (hash >> 32)) as u32 % PLACES
-    }
-    let name = |at: u64| std::array::from_fn(|digit| b'a' + (at / 26u64.pow(digit as u32) % 26) as u8);
-    (0..)
-        .map(name)
-        .filter(|name| place(*name) == 0)
-        .map(|name: [u8; 8]| String::from_utf8_lossy(&name).into_owned())
+    let mut ends: Vec<(u64, u32)> =
+        (0..26u32.pow(4)).map(|at| (added(four_letters(at), 0), at)).collect();
+    ends.sort_by_key(|(hash, _)| place(*hash));
+    let fits = |front: u32| {
+        let hash = added(four_letters(front), 4);
+        let wanted = [0, 1].map(|carry| (2 * PLACES - place(hash) - carry) % PLACES);
+        let found = wanted.map(|wanted| {
+            let from = ends.partition_point(|(end, _)| place(*end) < wanted);
+            let to = ends.partition_point(|(end, _)| place(*end) <= wanted);
+            ends[from..to].to_vec()
+        });
+        found.concat().into_iter().filter(move |(end, _)| place(hash.wrapping_add(*end)) == 0)
+    };
+    let names: Vec<String> = (0..26u32.pow(4))
+        .flat_map(|front| fits(front).map(move |(_, end)| [front, end].map(four_letters).concat()))
+        .map(|name| String::from_utf8(name).expect("letters"))
         .take(count)
+        .collect();
+    assert_eq!(names.len(), count);
+    names.into_iter()
 }
 
 const U8: &[u8] = &[0x7D];
@@ -112,11 +139,6 @@ const U32: &[u8] = &[0x79];
 /// So many imports of one function.
 fn many_imports(count: usize) -> Vec<u8> {
     file(&[types(&[func_type("x", U32)]), imports(1, 0, short_names(count))])
-}
-
-/// So many imports of one function, whose names were chosen to be hard to find.
-fn crafted_imports(count: usize) -> Vec<u8> {
-    file(&[types(&[func_type("x", U32)]), imports(1, 0, crafted_names(count))])
 }
 
 /// An instance of so many exports, each a function that is imported, under these names.
@@ -235,11 +257,6 @@ fn versions(components: usize, count: usize) -> Vec<Vec<u8>> {
     all
 }
 
-/// So many imports of one function, with other names as long as the crafted ones.
-fn other_imports(count: usize) -> Vec<u8> {
-    file(&[types(&[func_type("x", U32)]), imports(1, 0, plain_names(count))])
-}
-
 /// A kind of file, and the one of so many names.
 type Kind = (&'static str, fn(usize) -> Vec<u8>);
 
@@ -247,8 +264,8 @@ type Kind = (&'static str, fn(usize) -> Vec<u8>);
 /// other names as long.
 const KINDS: [Kind; 7] = [
     ("imports", many_imports),
-    ("crafted imports", crafted_imports),
-    ("other imports", other_imports),
+    ("crafted imports", |count| named_imports(crafted_names(count))),
+    ("other imports", |count| named_imports(plain_names(count))),
     ("crafted inline exports", |count| inline_exports(crafted_names(count))),
     ("other inline exports", |count| inline_exports(plain_names(count))),
     ("crafted core exports", |count| core_exports(crafted_names(count))),
@@ -269,6 +286,28 @@ pub fn once(side: &str, kind: &str, count: usize, rounds: usize) {
     println!("{}", file.len());
 }
 
+/// A component that exports a function under these names, and one that imports them.
+fn named_pair(names: impl Iterator<Item = String> + Clone) -> Vec<Vec<u8>> {
+    let ty = types(&[func_type("x", U32)]);
+    let exported = names.clone().map(|name| (name, 0));
+    vec![
+        file(&[ty.clone(), guest(), lift(0), exports(1, exported)]),
+        file(&[ty, imports(1, 0, names)]),
+    ]
+}
+
+/// A component that exports an empty instance so many times, and one that imports it under the last
+/// of the names.
+fn many_exports(count: usize) -> Vec<Vec<u8>> {
+    let instance = section(5, &list(&[vec![0x01, 0x00]]));
+    let named = short_names(count).map(|name| (name, 0));
+    let wanted = short_names(count).skip(count - 1);
+    vec![
+        file(&[instance, exports(5, named)]),
+        file(&[types(&[vec![0x42, 0x00]]), imports(5, 0, wanted)]),
+    ]
+}
+
 /// How many imports are linked.
 fn link(files: &[Vec<u8>]) -> usize {
     let bytes = files.concat();
@@ -278,6 +317,11 @@ fn link(files: &[Vec<u8>]) -> usize {
 
 fn validate(file: &[u8]) -> usize {
     unsafe { cm_bench_validate(file.as_ptr(), file.len()) }
+}
+
+/// Imports of one function under these names.
+fn named_imports(names: impl Iterator<Item = String>) -> Vec<u8> {
+    file(&[types(&[func_type("x", U32)]), imports(1, 0, names)])
 }
 
 /// Measures one go: seconds, and the greatest number of bytes that were taken at a time.
@@ -310,14 +354,19 @@ pub fn run() {
         of_file(&format!("{count} imports of one function"), &many_imports(count), count);
     }
     for count in [25_000, 100_000] {
-        of_file(&format!("{count} imports with crafted names"), &crafted_imports(count), count);
-        of_file(&format!("{count} imports with other names as long"), &other_imports(count), count);
+        let crafted = named_imports(crafted_names(count));
+        of_file(&format!("{count} imports with crafted names"), &crafted, count);
+        let benign = named_imports(plain_names(count));
+        of_file(&format!("{count} imports with other names as long"), &benign, count);
         let (crafted, plain) = (inline_exports(crafted_names(count)), inline_exports(plain_names(count)));
         of_file(&format!("{count} inline exports with crafted names"), &crafted, 1);
         of_file(&format!("{count} inline exports with other names"), &plain, 1);
         let (crafted, plain) = (core_exports(crafted_names(count)), core_exports(plain_names(count)));
         of_file(&format!("{count} core exports with crafted names"), &crafted, 0);
         of_file(&format!("{count} core exports with other names"), &plain, 0);
+        let (crafted, plain) = (named_pair(crafted_names(count)), named_pair(plain_names(count)));
+        of_set(&format!("{count} crafted names, linked"), &crafted, count);
+        of_set(&format!("{count} other names, linked"), &plain, count);
     }
     for count in [1_024, 4_083] {
         of_file(&format!("{count} types, each with 8,191 nodes below it"), &large_types(count), 0);
@@ -328,6 +377,9 @@ pub fn run() {
     }
     for count in [1_000, 4_000] {
         of_set(&format!("16 components of {count} exports, each imported"), &chain(16, count), 15 * count);
+    }
+    for count in [430_000, 1_700_000] {
+        of_set(&format!("{count} exports, one of them imported"), &many_exports(count), 1);
     }
     for (size, count) in [(1_000_000, 87_500), (8_000_000, 700_000)] {
         let what = format!("{count} imports of a type with a label of {size} bytes");

@@ -12,7 +12,7 @@ use Rattle.cm_match_model.specs.declared.greatest.Greatest.{Greatest}
 use Rattle.cm_match_model.specs.declared.series.Series.{Series}
 use Rattle.cm_match_model.specs.Fitting.{NamedExport, only}
 use Rattle.cm_match_model.specs.Greatest.{and_also, from_greatest, from_row, if_not_below}
-use Rattle.cm_match_model.specs.Readings.{HasForm, Row, is_below, is_in_row, name_read, row_cmp, row_of, series_order, series_view, version_or_zero}
+use Rattle.cm_match_model.specs.Readings.{HasForm, Row, is_below, is_in_row, is_versioned, name_read, row_cmp, row_of, series_order, series_view, version_or_zero}
 use Rattle.cm_match_model.specs.Tables.{Answers}
 use Rattle.cm_match_model.proofs.GreatestLaws.{and_none}
 use Rattle.cm_match_model.proofs.Rows.{row_apart, row_exact, row_itself}
@@ -23,7 +23,7 @@ only_more (a ∷ []) e = refl
 only_more (a ∷ b ∷ es) e = refl
 
 -- one more export among those of a kind
-only_filtered : (p : NamedExport → Bool) (es : List NamedExport) (e : NamedExport)
+pub only_filtered : (p : NamedExport → Bool) (es : List NamedExport) (e : NamedExport)
     → only (filter p (es ++ e ∷ [])) ≡ and_also (only (filter p es)) (if_not_below (not (p e)) (candidate.One e.component e.number))
 only_filtered p es e = ap only (filter-append p es (e ∷ [])) ∙ elim (cases_Bool (p e)) [
   | inl y ↦ rw y (only_more (filter p es) e)
@@ -38,8 +38,8 @@ pub answers_more : (old new : BTreeMap Series Greatest) (k : Series) (g : Greate
     → ((q : Series) → get series_order new q ≡ cond (is_at (series_order k) q) (Some g) (get series_order old q))
     → series_view k ≡ row_of (name_read e.name).0 (name_read e.name).1 → v ≡ version_or_zero (name_read e.name).1
     → ((w : Parts) → from_greatest g w ≡ and_also (from_row (get series_order old k) w) (if_not_below (is_below v w) (candidate.One e.component e.number)))
-    → Answers old es → Answers new (es ++ e ∷ [])
-answers_more old new k g v es e updates row version grows before = λ s w.
+    → is_versioned k.kind ≡ true → Answers old es → Answers new (es ++ e ∷ [])
+answers_more old new k g v es e updates row version grows versioned before = λ s w t.
     let held : Row → NamedExport → Bool = λ r x. is_in_row r w (name_read x.name) in
     let one = candidate.One e.component e.number in
     elim (cases_Bool (is_eq (row_cmp (series_view k) (series_view s)))) [
@@ -49,14 +49,14 @@ answers_more old new k g v es e updates row version grows before = λ s w.
           let told : not (held (series_view s) e) ≡ is_below v w = ap (λ b. not (b && not (is_below (version_or_zero (name_read e.name).1) w))) mine ∙ not_not _ ∙ ap (λ x. is_below x w) (sym version) in
           ap (λ o. from_row o w) (updates s ∙ ap (λ b. cond b (Some g) (get series_order old s)) h)
           ∙ grows w
-          ∙ ap (λ c. and_also c (if_not_below (is_below v w) one)) (before k w ∙ ap (λ r. only (filter (held r) es)) same)
+          ∙ ap (λ c. and_also c (if_not_below (is_below v w) one)) (before k w versioned ∙ ap (λ r. only (filter (held r) es)) same)
           ∙ ap (λ b. and_also (only (filter (held (series_view s)) es)) (if_not_below b one)) (sym told)
           ∙ sym (only_filtered (held (series_view s)) es e)
       | inr h ↦
           let other : is_eq (row_cmp (series_view s) (row_of (name_read e.name).0 (name_read e.name).1)) ≡ false = ap (λ r. is_eq (row_cmp (series_view s) r)) (sym row) ∙ row_apart (series_view k) (series_view s) h in
           let told : held (series_view s) e ≡ false = ap (λ b. b && not (is_below (version_or_zero (name_read e.name).1) w)) other in
           ap (λ o. from_row o w) (updates s ∙ ap (λ b. cond b (Some g) (get series_order old s)) h)
-          ∙ before s w
+          ∙ before s w t
           ∙ sym (and_none (only (filter (held (series_view s)) es)))
           ∙ ap (λ b. and_also (only (filter (held (series_view s)) es)) (if_not_below (not b) one)) (sym told)
           ∙ sym (only_filtered (held (series_view s)) es e)

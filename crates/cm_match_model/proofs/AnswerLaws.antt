@@ -10,7 +10,7 @@ use Rattle.cm_match_model.specs.declared.component.Link.{Link}
 use Rattle.cm_match_model.specs.declared.fault.LinkReason.{LinkReason}
 use Rattle.cm_match_model.specs.declared.fault.LinkReason.TheVariants as reason
 use Rattle.cm_match_model.specs.declared.plan.TheConstants.{MAX_COMPONENTS}
-use Rattle.cm_match_model.specs.Imports.{ImportAt, candidates, export_in, imports_of, link_of, only_link}
+use Rattle.cm_match_model.specs.Imports.{ImportAt, candidates, export_in, imports_of, only_link}
 use Rattle.cm_match_model.specs.Serving.{IsExternUnserved, IsFirst, IsItemServed, IsItemUnserved, IsUnserved, Serves, ServesExtern, are_known_resources, item_under}
 use Rattle.cm_match_model.specs.Links.{CanBeLinked, IsFirstNotServed, IsLinkFault, IsNotServed, IsNotServedBy, IsServed}
 use Rattle.cm_match_model.proofs.ListLemmas.{all_rest, one_first, some_same}

@@ -17,6 +17,7 @@ mod Orders
 mod GreatestLaws
 mod Rows
 mod Additions
+pub mod NameTableLaws
 mod Carets
 mod Requirements
 mod Splits

@@ -1,5 +1,5 @@
 -- Each function that is imported is served by one of the same type.
-use Rattle.std.proofs.Common.{◌≡◌, ℕ, zero, suc, ◌+◌, ◌<◌, List, [], ◌∷◌, ◌++◌, Option, Some, None, refl, sym, ap, subst, ◌∙◌, arith, option_and_then, slice_get}
+use Rattle.std.proofs.Common.{◌≡◌, ℕ, zero, suc, ◌+◌, ◌<◌, List, [], ◌∷◌, Option, Some, None, refl, sym, ap, subst, ◌∙◌, arith, option_and_then, slice_get}
 use Rattle.std.specs.List.{AllByRecursion}
 use Rattle.std.specs.Option.{option_map}
 use Rattle.cm_types.specs.Types.{FuncTy}
@@ -10,7 +10,7 @@ use Rattle.cm_validate_model.specs.Declarations.{type_in}
 use Rattle.cm_validate_model.specs.Spaces.{Spaces, func_of_member, item_of_member, member_named}
 use Rattle.cm_match_model.specs.Origins.{item_name}
 use Rattle.cm_match_model.specs.declared.component.Link.{Link}
-use Rattle.cm_match_model.specs.Imports.{ImportAt, all_imports_from, export_in, import_at, import_in, imports_from, imports_of, link_of, links_of}
+use Rattle.cm_match_model.specs.Imports.{ImportAt, all_imports_from, export_in, import_at, imports_from, link_of, links_of}
 use Rattle.cm_match_model.specs.Links.{CanBeLinked, IsServed}
 use Rattle.cm_match_model.specs.Serving.{IsItemServed, IsSameFunc, Serves, ServesExtern, item_under}
 use Rattle.cm_validate_model.specs.Imported.{func_item_of, wanted_func, wanted_of}

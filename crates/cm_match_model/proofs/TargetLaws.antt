@@ -1,6 +1,5 @@
 -- One answer to what each imported function comes to.
 use Rattle.std.proofs.Common.{◌≡◌, ◌∙◌, ℕ, zero, suc, ◌<◌, List, Option, Some, None, refl, sym, ap, subst, arith, option_and_then, slice_get}
-use Rattle.std.specs.Option.{option_map}
 use Rattle.cm_validate_model.specs.Definitions.{FuncDef, lifted, imported}
 use Rattle.cm_validate_model.specs.Spaces.{Spaces}
 use Rattle.cm_match_model.specs.Origins.{LeadEarlier, Links}

@@ -12,4 +12,6 @@ pub mod Fitting
 pub mod Ranges
 pub mod Readings
 pub mod Greatest
+pub mod Distinct
+pub mod NameTables
 pub mod Tables

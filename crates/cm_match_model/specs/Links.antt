@@ -1,6 +1,6 @@
 -- Sets of components that can be linked, and the first fault of one that can't (how components are
 -- linked is this project's own choice).
-use Rattle.std.specs.Prelude.{◌≡◌, ℕ, ◌<◌, ◌≤◌, List, [], length, Option, Some, option_to_list}
+use Rattle.std.specs.Prelude.{◌≡◌, ℕ, ◌<◌, ◌≤◌, List, [], length, Some, option_to_list}
 use Rattle.std.specs.List.{AllByRecursion, flat_map}
 use Rattle.std.specs.Option.{option_map}
 use Rattle.cm_validate_model.specs.Definitions.{ExportDef}

@@ -1,6 +1,7 @@
 -- What a name is read as to find what fits it, and the series that an export belongs to.
-use Rattle.std.specs.Prelude.{◌≡◌, ℕ, Bool, false, ◌&&◌, ◌==◌, List, [], ◌∷◌, Option, Some, None}
-use Rattle.std.specs.Prelude.{if◌then◌else◌, length, nat_lt, not}
+use Rattle.std.specs.Prelude.{◌≡◌, ℕ, Bool, true, false, ◌&&◌, ◌==◌, List, [], ◌∷◌}
+use Rattle.std.specs.Prelude.{Option, Some, None}
+use Rattle.std.specs.Prelude.{filter, if◌then◌else◌, length, nat_lt, not}
 use Rattle.semver.specs.EvalViews.{matches_views}
 use Rattle.semver.specs.declared.Op.TheVariants as op
 use Rattle.std.specs.Option.{option_map, option_map_or}
@@ -16,6 +17,8 @@ use Rattle.semver.specs.Parse.{Parts, version_parts}
 use Rattle.cm_types.specs.ExternNames.{HasLabels, NameTree, form_of, interface, name_spelling}
 use Rattle.cm_match_model.specs.contracts.series.KindOrd.TheImpl as kind_ord
 use Rattle.cm_match_model.specs.contracts.series.SeriesOrd.TheImpl as series_ord
+use Rattle.cm_match_model.specs.Fitting.{NamedExport, only}
+use Rattle.cm_match_model.specs.declared.candidates.Candidate.{Candidate}
 use Rattle.cm_match_model.specs.declared.readings.Reading.{Reading}
 use Rattle.cm_match_model.specs.declared.series.Kind.{Kind}
 use Rattle.cm_match_model.specs.declared.series.Kind.TheVariants as kind
@@ -71,6 +74,11 @@ abbrev pub leading : Parts → ℕ × ℕ × ℕ
 leading v =
     if nat_lt 0 v.0 then (v.0, 0, 0) else if nat_lt 0 v.1 then (0, v.1, 0) else (0, 0, v.2)
 
+-- whether names of a kind have versions
+abbrev pub is_versioned : Kind → Bool
+is_versioned kind.Unversioned = false
+is_versioned _ = true
+
 -- the name without a version
 abbrev pub unversioned_row : List ℕ → Row
 unversioned_row name = (name, kind.Unversioned, 0, 0, 0)
@@ -122,3 +130,7 @@ abbrev pub fits_read : List ℕ × Option Parts → List ℕ × Option Parts →
 fits_read (n, None) (m, None) = bytes_eq n m
 fits_read (n, Some v) (m, Some w) = bytes_eq n m && allows v w
 fits_read _ _ = false
+
+-- those of these exports that have a name, which has no version
+abbrev pub only_named : List ℕ → List NamedExport → Candidate
+only_named name exports = only (filter (λ e. fits_read (name, None) (name_read e.name)) exports)

@@ -1,5 +1,5 @@
 -- The exports that a table has been given.
-use Rattle.std.specs.Prelude.{◌≡◌, ℕ, List, Option, filter}
+use Rattle.std.specs.Prelude.{◌≡◌, ℕ, true, List, Option, filter}
 use Rattle.std.specs.BTreeMap.{BTreeMap, get}
 use Rattle.std.specs.List.{AllByRecursion}
 use Rattle.semver.specs.Parse.{Parts}
@@ -9,17 +9,20 @@ use Rattle.cm_match_model.specs.declared.greatest.Greatest.{Greatest}
 use Rattle.cm_match_model.specs.declared.series.Series.{Series}
 use Rattle.cm_match_model.specs.Fitting.{NamedExport, only}
 use Rattle.cm_match_model.specs.Greatest.{from_row}
-use Rattle.cm_match_model.specs.Readings.{HasForm, fits_read, is_in_row, name_read}
+use Rattle.cm_match_model.specs.Readings.{HasForm, fits_read, is_in_row, is_versioned, name_read}
+use Rattle.cm_match_model.specs.NameTables.{TellNames}
 use Rattle.cm_match_model.specs.Readings.{series_order, series_view}
 
--- each row answers for those of the exports that are in it
+-- each row of names with versions answers for those of the exports that are in it
 abbrev pub Answers : BTreeMap Series Greatest → List NamedExport → Type 0
-Answers rows exports = (s : Series) (least : Parts) → from_row (get series_order rows s) least
+Answers rows exports = (s : Series) (least : Parts) → is_versioned s.kind ≡ true
+    → from_row (get series_order rows s) least
     ≡ only (filter (λ e. is_in_row (series_view s) least (name_read e.name)) exports)
 
 -- the table has been given these exports, in this order
 pub record HasExports (table : Exports) (exports : List NamedExport) : Type 0 where
   pub names : AllByRecursion (λ e. HasForm e.name) exports
+  pub unversioned : TellNames table.names exports
   pub answers : Answers table.rows exports
 
 -- what a table answers for a name that was read: none, the only one, or more than one of those that

@@ -6,10 +6,10 @@ ghost use Rattle.std.specs.String.{string_bytes};
 ghost use Rattle.semver.specs.Identifiers.{parts_of};
 ghost use Rattle.cm_match_model.specs.Fitting.{NamedExport, candidates, named_export, only};
 ghost use Rattle.cm_match_model.specs.Greatest.{from_row};
-ghost use Rattle.cm_match_model.specs.Readings.{reading_view, row_of, series_order, series_view};
-ghost use Rattle.cm_match_model.specs.Readings.{version_or_zero};
-ghost use Rattle.cm_match_model.specs.Tables.{HasExports, IsAnswer};
+ghost use Rattle.cm_match_model.specs.Readings.{name_read, row_of, series_order, series_view};
+ghost use Rattle.cm_match_model.specs.Tables.{Answers, HasExports, IsAnswer};
 
+use crate::by_name::NameTable;
 use crate::candidates::Candidate;
 use crate::greatest::Greatest;
 use crate::readings::{Reading, read};
@@ -27,21 +27,46 @@ use std::collections::BTreeMap;
 #[derive(Drop)]
 pub struct Exports {
     alloc: Global,
+    /// Those without a version.
+    names: NameTable,
+    /// Those with one.
     rows: BTreeMap<Series, Greatest>,
 }
 
-/// The series that an export belongs to, and its version in it.
-fn place(reading: Reading) -> (Series, Version)
-    ensures series { series_view result.0
-        ≡ row_of (reading_view reading).0 (reading_view reading).1 }
-    ensures version { parts_of result.1 ≡ version_or_zero (reading_view reading).1 }
+/// The series of an export with a version.
+fn series_of(name: String, version: &Version) -> Series
+    ensures { series_view result ≡ row_of (string_bytes name) (Some (parts_of version.now)) }
 {
-    let Reading { name, version } = reading;
-    match version {
-        None => (Series::unversioned(name), Version::new(0, 0, 0)),
-        Some(version) if version.pre.is_empty() => (Series::releases(name, &version), version),
-        Some(version) => (Series::prereleases(name, &version), version),
+    if version.pre.is_empty() {
+        Series::releases(name, version)
+    } else {
+        Series::prereleases(name, version)
     }
+}
+
+/// Adds an export with a version to the rows.
+fn add_versioned(
+    rows: &mut BTreeMap<Series, Greatest>,
+    series: Series,
+    version: Version,
+    component: usize,
+    export: usize,
+) -> Result<(), AllocError>
+    ensures ok { OnOk result ((es : List NamedExport) (e : NamedExport)
+        → (name_read e.name).1 ≡ Some (parts_of version)
+        → series_view series ≡ row_of (name_read e.name).0 (name_read e.name).1
+        → e.component ≡ component → e.number ≡ export
+        → Answers rows.old es → Answers rows.new (es ++ e ∷ [])) }
+    ensures err { OnErr result ((es : List NamedExport) → Answers rows.old es
+        → Answers rows.new es) }
+{
+    if let Some(greatest) = rows.get_mut(&series) {
+        greatest.add(version, component, export);
+    } else {
+        let greatest = Greatest::new(version, component, export);
+        rows.insert(series, greatest)?;
+    }
+    Ok(())
 }
 
 impl Exports {
@@ -51,6 +76,7 @@ impl Exports {
     {
         Exports {
             alloc,
+            names: NameTable::new(alloc),
             rows: BTreeMap::new(alloc),
         }
     }
@@ -68,14 +94,14 @@ impl Exports {
         ensures err { OnErr result ((exports : List NamedExport) → HasExports self.old exports
             → HasExports self.new exports) }
     {
-        let (series, version) = place(read(self.alloc, name)?);
-        if let Some(greatest) = self.rows.get_mut(&series) {
-            greatest.add(version, component, export);
-        } else {
-            let greatest = Greatest::new(version, component, export);
-            self.rows.insert(series, greatest)?;
+        let Reading { name, version } = read(self.alloc, name)?;
+        match version {
+            None => self.names.add(name, component, export),
+            Some(version) => {
+                let series = series_of(name, &version);
+                add_versioned(&mut self.rows, series, version, component, export)
+            }
         }
-        Ok(())
     }
 
     fn from_series(&self, series: &Series, least: &Version) -> Candidate
@@ -103,14 +129,6 @@ impl Exports {
         candidate.and_also(self.from_series(&prereleases, version))
     }
 
-    /// The exports that may serve an import of a name without a version: those of that name.
-    fn unversioned(&self, name: String) -> Candidate
-        ensures { IsAnswer self.now (string_bytes name, None) result }
-    {
-        let series = Series::unversioned(name);
-        self.from_series(&series, &Version::new(0, 0, 0))
-    }
-
     /// The exports that may serve an import of this name: those of the same name, and those of the
     /// same interface in a version that meets the requirement `^` and the import's version, as
     /// Cargo reads it: build metadata does not count, and a pre-release serves only an import of a
@@ -123,7 +141,7 @@ impl Exports {
         let Reading { name, version } = read(alloc, wanted)?;
         match version {
             Some(version) => Ok(self.versioned(name, &version)),
-            None => Ok(self.unversioned(name)),
+            None => Ok(self.names.candidate(name.as_str())),
         }
     }
 }

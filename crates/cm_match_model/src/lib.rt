@@ -5,6 +5,7 @@
 #![tactic(auto)]
 
 pub mod alike_laws;
+mod by_name;
 mod candidates;
 pub mod candidates_laws;
 mod component;

@@ -4,14 +4,14 @@ ghost use Rattle.std.specs.Prelude.{◌≡◌};
 ghost use Rattle.std.specs.String.{string_bytes};
 ghost use Rattle.semver.specs.Identifiers.{parts_of};
 ghost use Rattle.cm_match_model.specs.Readings.{leading, prereleases_row, releases_row};
-ghost use Rattle.cm_match_model.specs.Readings.{series_view, unversioned_row};
+ghost use Rattle.cm_match_model.specs.Readings.{series_view};
 
 use semver::Version;
 
 /// What kind of names a series has.
 #[derive(Clone, Copy, PartialEq, Eq, PartialOrd, Ord)]
 pub(crate) enum Kind {
-    /// One name without a version.
+    /// One name without a version; a `NameTable` has such names, and no row of `Exports` does.
     Unversioned,
     /// The releases of an interface that are compatible with one another.
     Releases,
@@ -44,19 +44,6 @@ fn leading(version: &Version) -> (u64, u64, u64)
 }
 
 impl Series {
-    /// The series of a name without a version.
-    pub fn unversioned(name: String) -> Series
-        ensures { series_view result ≡ unversioned_row (string_bytes name) }
-    {
-        Series {
-            name,
-            kind: Kind::Unversioned,
-            major: 0,
-            minor: 0,
-            patch: 0,
-        }
-    }
-
     /// The series of the releases that are compatible with a version.
     pub fn releases(name: String, version: &Version) -> Series
         ensures { series_view result

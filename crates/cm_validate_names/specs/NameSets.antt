@@ -1,8 +1,9 @@
 -- Sets of names, ASCII case aside.
 use Rattle.std.specs.Prelude.{◌≡◌, ◌||◌, Bool, ℕ, List, not}
-use Rattle.std.specs.BTreeSet.{contains_text}
 use Rattle.std.specs.List.{list_any}
+use Rattle.std.specs.Str.{bytes_eq}
 use Rattle.cm_types.specs.Names.{is_same_name}
+use Rattle.cm_types_texts.specs.TextTables.{texts_of}
 use Rattle.cm_validate_model.specs.declared.fault.ValidReason.{ValidReason}
 use Rattle.cm_validate_model.specs.declared.fault.ValidReason.TheVariants as reason
 use Rattle.cm_validate_model.specs.Reasons.{unless}
@@ -16,7 +17,7 @@ name_of f = f.name
 
 -- whether a set has a name
 abbrev pub is_known : NameSet → List ℕ → Bool
-is_known s name = contains_text s.folded (without_case name)
+is_known s name = list_any (bytes_eq (without_case name)) (texts_of s.folded)
 
 -- the rules that a name violates after those of a set
 abbrev pub known_broken : List ℕ → NameSet → List ValidReason

@@ -1,6 +1,7 @@
 //! The names of a component: which names imports and exports may have, and values by name.
 //!
-//! Names are found in trees, and keep the order in which they came.
+//! Values under names are found in trees, and keep the order in which they came; the names of
+//! imports and of exports are found by a hash (`cm_types_texts`).
 #![tactic(auto)]
 
 mod forms;

@@ -2,17 +2,17 @@
 
 use crate::forms::{ExternSort, form_fault};
 use crate::names::FoldedName;
+use cm_types_texts::TextTable;
 use cm_validate_model::ValidReason;
 use cm_validate_model::laws::least_of_both;
 use cm_validate_type_rules::{broken_unless, lesser};
 use std::alloc::{AllocError, Global};
-use std::collections::BTreeSet;
 
-/// Names without ASCII case. Each is found in a tree, so that no choice of names makes it slower
-/// than the logarithm of their number, with the time that it takes to compare two names.
+/// Names without ASCII case. Each is found at one of 16 places, or else in a tree, so that no
+/// choice of names makes it slower than 16 comparisons and the logarithm of their number.
 #[derive(Drop)]
 pub struct NameSet {
-    folded: BTreeSet<String>,
+    folded: TextTable,
 }
 
 impl NameSet {
@@ -26,7 +26,7 @@ impl NameSet {
         ensures { Knows result [] }
     {
         NameSet {
-            folded: BTreeSet::new(alloc),
+            folded: TextTable::new(alloc),
         }
     }
 
@@ -40,8 +40,8 @@ impl NameSet {
     {
         least_of_both();
         let form = form_fault(&name.name, sort);
-        let is_new = !self.folded.contains(name.folded.as_str());
-        lesser(form, broken_unless(is_new, ValidReason::DuplicateName))
+        let is_known = self.folded.number(name.folded.as_str()).is_some();
+        lesser(form, broken_unless(!is_known, ValidReason::DuplicateName))
     }
 
     /// Adds a name. Refused only where there is no memory; nothing is changed then.
@@ -49,7 +49,6 @@ impl NameSet {
         ensures added { OnOk result (KnowsMore self.old self.new (name_of name ∷ [])) }
         ensures kept { OnErr result (KnowsMore self.old self.new []) }
     {
-        self.folded.insert(name.folded)?;
-        Ok(())
+        self.folded.add(name.folded)
     }
 }

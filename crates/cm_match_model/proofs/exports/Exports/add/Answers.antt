@@ -1,35 +1,43 @@
-use Rattle.std.proofs.Common.{◌≡◌, cond, Some, None, rules, sym, ap, ◌∙◌}
-use Rattle.std.specs.BTreeMap.{get, is_at}
-use Rattle.cm_match_model.specs.Fitting.{named_export}
+use Rattle.std.proofs.Common.{◌≡◌, Some, None, refl, sym, ap, ◌∙◌}
+use Rattle.std.proofs.lemmas.Result.{on_err_weaker, on_ok_weaker}
+use Rattle.std.specs.Option.{option_map}
+use Rattle.std.specs.String.{string_bytes}
 use Rattle.semver.specs.Identifiers.{parts_of}
-use Rattle.cm_match_model.specs.declared.candidates.Candidate.TheVariants as candidate
-use Rattle.cm_match_model.specs.Greatest.{and_also, from_row, if_not_below}
-use Rattle.cm_match_model.specs.Readings.{is_below, row_of, series_order, version_or_zero}
-use Rattle.cm_match_model.proofs.Additions.{answers_more, names_more}
+use Rattle.cm_match_model.specs.Fitting.{named_export}
+use Rattle.cm_match_model.specs.Readings.{name_read, row_of}
+use Rattle.cm_match_model.proofs.Additions.{names_more}
+use Rattle.cm_match_model.proofs.NameTableLaws.{answers_stay, names_stay}
 use Rattle.cm_match_model.proofs.exports.Exports.add.Goals as goal
 
-pub returns-in-Some-clause-ok : goal.returns-in-Some-clause-ok
-returns-in-Some-clause-ok c = λ es has.
-    let key = c.place-series.result.0 in
+pub returns-in-None-clause-ok : goal.returns-in-None-clause-ok
+returns-in-None-clause-ok c =
     let e = named_export c.args.component c.args.export c.args.name.now in
-    let found : get series_order c.args.self.now.rows key ≡ Some c.in-Some.greatest.now = search rules in
-    record {
+    let m = string_bytes c.in_ok-name.field-0.name in
+    let read : name_read c.args.name.now ≡ (m, None) =
+    sym (ap (λ o. (m, option_map parts_of o)) (sym c.in-None.is) ∙ c.in_ok-name.ensures.read) in
+    on_ok_weaker c.add.result (λ h es has. record {
       names = names_more es e has.names c.read.ensures.form;
-      answers = answers_more c.args.self.now.rows (c.get_mut.follows.lender c.add.new.self) key c.add.new.self _ es e ((c.get_mut.follows.holds c.add.new.self).3 (search rules)).0
-          (c.place-series.ensures.series ∙ ap (λ n. row_of n.0 n.1) c.in_ok-read.ensures.read)
-          (c.place-series.ensures.version ∙ ap (λ n. version_or_zero n.1) c.in_ok-read.ensures.read)
-          (λ w. c.add.ensures w ∙ ap (λ o. and_also (from_row o w) (if_not_below (is_below (parts_of c.place-series.result.1) w) (candidate.One e.component e.number))) (sym found)) has.answers;
-    }
+      unversioned = h es e read refl refl has.unversioned;
+      answers = answers_stay c.args.self.now.rows es e m read has.answers;
+    }) c.add.ensures.ok
 
-pub returns-in_ok-insert-clause-ok : goal.returns-in_ok-insert-clause-ok
-returns-in_ok-insert-clause-ok c = λ es has.
-    let key = c.place-series.result.0 in
+pub returns-in-None-clause-err : goal.returns-in-None-clause-err
+returns-in-None-clause-err c =
+    on_err_weaker c.add.result (λ h es has. record { names = has.names; unversioned = h es has.unversioned; answers = has.answers }) c.add.ensures.err
+
+pub returns-in-Some-clause-ok : goal.returns-in-Some-clause-ok
+returns-in-Some-clause-ok c =
     let e = named_export c.args.component c.args.export c.args.name.now in
-    let none : get series_order c.args.self.now.rows key ≡ None = search rules in
-    record {
+    let m = string_bytes c.in_ok-name.field-0.name in
+    let v = parts_of c.in-Some.version in
+    let read : name_read c.args.name.now ≡ (m, Some v) =
+    sym (ap (λ o. (m, option_map parts_of o)) (sym c.in-Some.is) ∙ c.in_ok-name.ensures.read) in
+    on_ok_weaker c.add_versioned.result (λ h es has. record {
       names = names_more es e has.names c.read.ensures.form;
-      answers = answers_more c.args.self.now.rows c.insert.new.self key c.new-greatest.result _ es e (λ q. c.in_ok-insert.ensures.updates.0 q ∙ ap (λ m. cond (is_at (series_order key) q) (Some c.new-greatest.result) (get series_order m q)) c.get_mut.follows.holds-at-none)
-          (c.place-series.ensures.series ∙ ap (λ n. row_of n.0 n.1) c.in_ok-read.ensures.read)
-          (c.place-series.ensures.version ∙ ap (λ n. version_or_zero n.1) c.in_ok-read.ensures.read)
-          (λ w. c.new-greatest.ensures w ∙ ap (λ o. and_also (from_row o w) (if_not_below (is_below (parts_of c.place-series.result.1) w) (candidate.One e.component e.number))) (sym none)) has.answers;
-    }
+      unversioned = names_stay c.args.self.now.names es e m v read has.unversioned;
+      answers = h es e (ap (λ n. n.1) read) (c.series_of-series.ensures ∙ ap (λ n. row_of n.0 n.1) (sym read)) refl refl has.answers;
+    }) c.add_versioned.ensures.ok
+
+pub returns-in-Some-clause-err : goal.returns-in-Some-clause-err
+returns-in-Some-clause-err c =
+    on_err_weaker c.add_versioned.result (λ h es has. record { names = has.names; unversioned = has.unversioned; answers = h es has.answers }) c.add_versioned.ensures.err

@@ -1,5 +1,7 @@
 use Rattle.std.proofs.Common.{not, ap, sym, ◌∙◌}
-use Rattle.std.specs.BTreeSet.{contains_text}
+use Rattle.std.specs.List.{list_any}
+use Rattle.std.specs.Str.{bytes_eq}
+use Rattle.cm_types_texts.specs.TextTables.{texts_of}
 use Rattle.cm_validate_model.specs.declared.fault.ValidReason.TheVariants as reason
 use Rattle.cm_validate_model.specs.Reasons.{least, lesser, unless}
 use Rattle.cm_validate_names.specs.Forms.{form_broken}
@@ -9,7 +11,8 @@ use Rattle.cm_validate_names.proofs.name_set.NameSet.fault.Goals as goal
 pub returns : goal.returns
 returns c =
     let form = form_broken c.args.sort (name_of c.args.name.now) in
-    let there = c.contains-is_new.ensures ∙ ap (contains_text c.args.self.now.folded) (c.as_str.ensures.value ∙ c.args.name.now.is_folded) in
+    let texts = texts_of c.args.self.now.folded in
+    let there = c.is_some-is_known.ensures ∙ c.number.ensures.known ∙ ap (λ t. list_any (bytes_eq t) texts) (c.as_str.ensures.value ∙ c.args.name.now.is_folded) in
     c.lesser.ensures
     ∙ ap (λ v. lesser v c.broken_unless.result) c.form_fault-form.ensures
     ∙ ap (lesser (least form)) (c.broken_unless.ensures ∙ ap (λ b. least (unless (not b) reason.DuplicateName)) there)

@@ -1,0 +1,5 @@
+pub mod Hash
+pub mod Finding
+pub mod Places
+pub mod Tables
+pub mod TextTables
