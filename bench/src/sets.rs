@@ -272,7 +272,7 @@ const KINDS: [Kind; 7] = [
     ("other core exports", |count| core_exports(plain_names(count))),
 ];
 
-/// Decodes and validates a file so many times, on one side, and prints how many bytes it has. Plain
+/// Decodes and validates a file so many times, on one side, and prints how many names it has. Plain
 /// Rust keeps names in hash maps, and does no more than imports need.
 pub fn once(side: &str, kind: &str, count: usize, rounds: usize) {
     let (_, file_of) = KINDS.iter().find(|it| it.0 == kind).expect("the name of a kind");
@@ -283,7 +283,7 @@ pub fn once(side: &str, kind: &str, count: usize, rounds: usize) {
             _ => assert!(plain::decode(black_box(&file)).and_then(plain::validate).is_some()),
         }
     }
-    println!("{}", file.len());
+    println!("{count}");
 }
 
 /// A component that exports a function under these names, and one that imports them.

@@ -28,6 +28,7 @@ fn as_text(bytes: &[u8]) -> Option<&str>
 }
 
 /// Reads a text of so many bytes.
+#[inline(always)]
 fn read_utf8<'a>(
     bytes: &mut Cursor<'a, DecodeReason>,
     length: u32,

@@ -118,6 +118,7 @@ impl StockedForm<DecodeReason, Types> for DefType {
 }
 
 /// Reads a value type.
+#[inline(always)]
 #[tactic(auto, unfolding(crate::specs::Types::val_type, crate::specs::Types::val_type_of))]
 fn read_val_type(bytes: &mut Cursor<'_, DecodeReason>) -> Result<ValType, ReadError<DecodeReason>>
     ensures read { Reads val_type (λ t. t) bytes.old bytes.new result }
@@ -131,6 +132,7 @@ fn read_val_type(bytes: &mut Cursor<'_, DecodeReason>) -> Result<ValType, ReadEr
 }
 
 /// Reads the index of a type as a number with a sign.
+#[inline(never)]
 #[tactic(auto, unfolding(crate::specs::Types::type_index))]
 fn read_type_index(bytes: &mut Cursor<'_, DecodeReason>) -> Result<u32, ReadError<DecodeReason>>
     ensures read { Reads type_index (λ i. pos i) bytes.old bytes.new result }

@@ -141,8 +141,21 @@ pub fn front_s33(bytes: &[u8]) -> Result<(i64, &[u8]), LebFault>
     signed_front(bytes)
 }
 
-#[tactic(auto, unfolding(crate::specs::LebReading::signed_at))]
+/// The number in front. Most numbers are of one byte and have no sign, and are read first.
+#[tactic(auto, unfolding(crate::specs::LebReading::signed_at, crate::specs::LebReading::group_at))]
 fn signed_front(bytes: &[u8]) -> Result<(i64, &[u8]), LebFault>
+    ensures read { Finds (λ x. (x.0, x.1.now)) result (signed_at 33 bytes.now) }
+    ensures shorter { IfOk result (λ x. length x.1.now ≤ length bytes.now) }
+{
+    match bytes {
+        [byte, rest @ ..] if *byte < 64 => Ok((*byte as i64, rest)),
+        _ => long_signed_front(bytes),
+    }
+}
+
+/// The number in front, however many bytes it takes.
+#[tactic(auto, unfolding(crate::specs::LebReading::signed_at))]
+fn long_signed_front(bytes: &[u8]) -> Result<(i64, &[u8]), LebFault>
     ensures read { Finds (λ x. (x.0, x.1.now)) result (signed_at 33 bytes.now) }
     ensures shorter { IfOk result (λ x. length x.1.now ≤ length bytes.now) }
 {

@@ -61,6 +61,16 @@ impl Component {
     }
 }
 
+/// The component of sections that keep the limits, and whose parts hold theirs, as what was read of
+/// a file does. Nothing is looked at again.
+pub fn component_within_limits(sections: Vec<Section>) -> Component
+    requires limits { limit_fault (map section_tree sections.items) ≡ None }
+    requires parts { list_all holds (map section_tree sections.items) ≡ true }
+    ensures { result ≡ map section_tree sections.items }
+{
+    Component { sections }
+}
+
 /// The first limit that the sections do not keep.
 fn limit_fault(sections: &[Section]) -> Option<LimitFault>
     ensures fault { result ≡ limit_fault (map section_tree sections.now) }

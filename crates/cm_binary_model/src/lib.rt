@@ -14,7 +14,7 @@ mod types;
 
 pub use aliases::Alias;
 pub use canons::{Canon, CanonOption};
-pub use component::Component;
+pub use component::{Component, component_within_limits};
 pub use externs::{Export, ExportSort, ExternDesc, Import};
 pub use instances::{
     CoreInlineExport, CoreInstance, CoreInstantiationArg, CoreSort, InlineExport, Instance,
