@@ -7,6 +7,8 @@ pub mod CanonBytes
 pub mod ExternBytes
 pub mod SectionBytes
 pub mod File
+pub mod PassLaws
+pub mod PartPasses
 pub mod EncodeLaws
 pub mod CodeWants
 pub mod FileWants

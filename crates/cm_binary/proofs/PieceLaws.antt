@@ -1,6 +1,7 @@
 -- A decoder and its pieces.
-use Rattle.std.proofs.Common.{◌≡◌, ℕ, zero, suc, ◌+◌, ◌-◌, ◌<◌, ◌≤◌, List, [], ◌∷◌, ◌++◌, length, take, drop, Option, Some, None, Result, Ok, Err, refl, sym, ap, ◌∙◌, subst, append_assoc, append-nil, arith, inl, inr, ◌⊎◌}
+use Rattle.std.proofs.Common.{◌≡◌, ℕ, zero, suc, ◌+◌, ◌-◌, ◌<◌, ◌≤◌, List, [], ◌∷◌, ◌++◌, length, take, drop, Option, Some, None, Result, Ok, Err, refl, sym, ap, ◌∙◌, subst, append_assoc, append-nil, arith, inl, inr, ◌⊎◌, true}
 use Rattle.std.specs.Prelude.{◌↔◌, IfOk, IfErr}
+use Rattle.std.specs.List.{list_all}
 use Rattle.std.proofs.lemmas.Bool.{cases_lt}
 use Rattle.std.proofs.lemmas.List.{length-append, length-take, drop_at, get_or_append_left, get_or-append-add, get_or_past}
 use Rattle.cm_binary_grammar.specs.declared.fault.Fault.{Fault}
@@ -23,7 +24,9 @@ use Rattle.cm_binary_forms.specs.File.{file}
 use Rattle.cm_binary.specs.Answers.{IsAnswer}
 use Rattle.cm_binary_forms.proofs.LawfulSections.{section_lawful}
 use Rattle.cm_binary_model.specs.Limits.{limit_fault}
+use Rattle.cm_binary_model.specs.Parts.{holds}
 use Rattle.cm_binary.proofs.File.{spelled_within}
+use Rattle.cm_binary.proofs.PartPasses.{component_holds}
 use Rattle.cm_binary.proofs.FileWants.{section_ends, contents_ends, bad_preamble, bad_number, size_mismatch}
 use Rattle.cm_binary.specs.declared.front.Next.{Next}
 use Rattle.cm_binary.specs.declared.front.Next.TheVariants as nexts
@@ -276,6 +279,14 @@ pub held_within : (d : Held) → d.fault ≡ None → IsHeld d.fault d.read d.ke
 held_within d none held next =
     let w = held_waits d.fault d.read d.kept none held in
     limits_by d.read.next d.read next w.read (omega (arith, w.few))
+
+holds_by : (n : Next) (p : Progress) → n ≡ nexts.Section → HasReadBy n p → list_all holds p.sections ≡ true
+holds_by nexts.Preamble p next h = absurd cc
+holds_by nexts.Section p next h = component_holds p.sections h.0 h.1
+
+-- The sections that were read hold theirs.
+pub held_holds : (d : Held) → d.fault ≡ None → IsHeld d.fault d.read d.kept → d.read.next ≡ nexts.Section → list_all holds d.read.sections ≡ true
+held_holds d none held next = holds_by d.read.next d.read next (held_waits d.fault d.read d.kept none held).read
 
 -- ---- a piece where no bytes are kept
 

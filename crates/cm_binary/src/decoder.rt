@@ -1,10 +1,8 @@
 //! A decoder of component files that come in pieces.
 
 ghost use Rattle.std.specs.Prelude.{◌≡◌, ℕ, ◌+◌, ◌^◌, ◌⊎◌, ◌↔◌, ◌<◌, ◌≤◌, ◌++◌, List, []};
-ghost use Rattle.std.specs.Prelude.{length, map, drop};
+ghost use Rattle.std.specs.Prelude.{length, drop};
 ghost use Rattle.std.specs.Prelude.{IsTrue, OnOk, IfOk, IfErr, IfSome, Some, None};
-ghost use Rattle.cm_binary_model.specs.Trees.{section_tree};
-ghost use Rattle.cm_binary_model.specs.Limits.{limit_fault};
 ghost use Rattle.cm_binary_forms.specs.declared.fault.DecodeFault.{DecodeFault};
 ghost use Rattle.cm_binary_forms.specs.declared.fault.DecodeReason.TheVariants as reasons;
 ghost use Rattle.cm_binary.specs.Answers.{IsAnswer};
@@ -19,7 +17,7 @@ use crate::front::{Front, Next};
 use crate::whole::drop_front;
 use cm_binary_forms::{DecodeFault, DecodeReason};
 use cm_binary_grammar::{End, ReadError};
-use cm_binary_model::{Component, MAX_FILE_BYTES, Section};
+use cm_binary_model::{Component, MAX_FILE_BYTES, component_within_limits};
 use std::alloc::Global;
 use std::marker::Model;
 
@@ -114,7 +112,7 @@ impl Decoder {
             return Err(fault);
         }
         if may_end(front.next, &kept) {
-            return Ok(component_of(front.sections));
+            return Ok(component_within_limits(front.sections));
         }
         Err(DecodeFault {
             at: front.offset + kept.len(),
@@ -130,17 +128,6 @@ fn may_end(next: Next, kept: &[u8]) -> bool
     match next {
         Next::Preamble => false,
         Next::Section => kept.is_empty(),
-    }
-}
-
-/// The component of sections that keep the limits.
-fn component_of(sections: Vec<Section>) -> Component
-    requires { limit_fault (map section_tree sections.items) ≡ None }
-    ensures { result ≡ map section_tree sections.items }
-{
-    match Component::new(sections) {
-        Ok(component) => component,
-        Err(_) => unreachable!(),
     }
 }
 

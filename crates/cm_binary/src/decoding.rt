@@ -1,9 +1,8 @@
 //! Reading component files.
 
-ghost use Rattle.std.specs.Prelude.{◌≡◌, ℕ, ◌⊎◌, List, length, map, IfOk, IfErr, None};
+ghost use Rattle.std.specs.Prelude.{◌≡◌, ℕ, ◌⊎◌, List, IfOk, IfErr};
 ghost use Rattle.cm_binary_grammar.specs.declared.fault.End.TheVariants as end;
-ghost use Rattle.cm_binary_model.specs.Trees.{SectionTree, section_tree};
-ghost use Rattle.cm_binary_model.specs.Limits.{limit_fault};
+ghost use Rattle.cm_binary_model.specs.Trees.{SectionTree};
 ghost use Rattle.cm_binary_forms.specs.declared.fault.DecodeReason.{DecodeReason};
 ghost use Rattle.cm_binary_forms.specs.declared.fault.DecodeReason.TheVariants as reasons;
 ghost use Rattle.cm_binary_forms.specs.File.{file, Spells, FirstFault};
@@ -11,7 +10,7 @@ ghost use Rattle.cm_binary.specs.Answers.{Accepts, Refuses, Answers};
 
 use cm_binary_forms::{DecodeFault, DecodeReason, read_file};
 use cm_binary_grammar::ReadError;
-use cm_binary_model::{Component, Section};
+use cm_binary_model::{Component, component_within_limits};
 use std::alloc::Global;
 
 /// Reads a component file (Binary.md), whose bytes these are, all of them.
@@ -48,16 +47,5 @@ fn read_component(alloc: Global, bytes: &[u8]) -> Result<Component, DecodeFault>
             at: 0,
             reason: DecodeReason::Memory,
         }),
-    }
-}
-
-/// The component of sections that keep the limits.
-fn component_within_limits(sections: Vec<Section>) -> Component
-    requires { limit_fault (map section_tree sections.items) ≡ None }
-    ensures { result ≡ map section_tree sections.items }
-{
-    match Component::new(sections) {
-        Ok(component) => component,
-        Err(_) => unreachable!(),
     }
 }
