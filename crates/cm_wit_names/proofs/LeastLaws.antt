@@ -47,6 +47,10 @@ least_none P mentions i le n k here =
 pub element_at : {A : Type 0} (xs ys : List A) (i : ℕ) (d : A) → i < length xs → ys ≡ xs → get_or ys i d ≡ get_or xs i (get_or ys i d)
 element_at {A} xs ys i d lt e = ap (λ (zs : List A). get_or zs i d) e ∙ get_or_default xs i d (get_or ys i d) lt
 
+-- an element of one list is that of an equal one
+pub item_at : {A : Type 0} (xs ys : List A) (i : ℕ) (x : A) → x ≡ get_or ys i x → ys ≡ xs → x ≡ get_or xs i x
+item_at {A} xs ys i x is e = is ∙ ap (λ (zs : List A). get_or zs i x) e
+
 -- the mention that is read past the end
 abbrev pub blank : code.Mention
 blank = record {
