@@ -1,6 +1,6 @@
 -- What each name of a file declares and refers to, in reading order (WIT.md, "Packages and Worlds";
 -- Binary.md, "Import and Export Definitions", for the full names).
-use Rattle.std.specs.Prelude.{ℕ, ◌+◌, Bool, true, false, ◌&&◌, List, [], ◌∷◌, ◌++◌, Option, Some}
+use Rattle.std.specs.Prelude.{ℕ, ◌+◌, Bool, true, false, ◌&&◌, List, [], Option, Some}
 use Rattle.std.specs.Prelude.{None}
 use Rattle.cm_types.specs.ExternNames as name
 use Rattle.cm_types.specs.ExternNames.{NameTree}
@@ -9,7 +9,7 @@ use Rattle.cm_wit_reading.specs.Types.{Ty, Tys, primitive, named, borrow, list, 
 use Rattle.cm_wit_reading.specs.Types.{tuple, plain_result, ok_result, error_result, result}
 use Rattle.cm_wit_reading.specs.Types.{no_types, types}
 use Rattle.cm_wit_reading.specs.Signatures.{Typed, Func, Path, local, foreign}
-use Rattle.cm_wit_reading.specs.Trees.{UsedName, Use, Case, ResourceFunc, method, static}
+use Rattle.cm_wit_reading.specs.Trees.{Case, ResourceFunc, method, static}
 use Rattle.cm_wit_reading.specs.Trees.{constructor}
 use Rattle.cm_wit_reading.specs.Trees.{TypeDef, alias, record_of, variant, enum, flags, resource}
 use Rattle.cm_wit_reading.specs.Trees.{InterfaceItem, uses, defines, has_func, Interface}

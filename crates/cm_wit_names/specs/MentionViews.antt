@@ -1,5 +1,5 @@
 -- The mentions that the code's are.
-use Rattle.std.specs.Prelude.{◌≡◌, ◌++◌, List, [], Option, length, map}
+use Rattle.std.specs.Prelude.{◌≡◌, ◌++◌, [], length, map}
 use Rattle.std.specs.Option.{option_map}
 use Rattle.std.specs.Global.{Vec}
 use Rattle.cm_types.specs.ExternNames as name
