@@ -9,7 +9,7 @@ use Rattle.cm_wit_names.specs.declared.mention.Mention as code
 use Rattle.cm_wit_names.specs.Mentions.{Mention}
 use Rattle.cm_wit_names.specs.MentionViews.{mention_view}
 use Rattle.cm_wit_names.specs.Known.{HasBorrow, IsAt, borrow_owner}
-use Rattle.cm_wit_names.proofs.LeastLaws.{element_at, at_view, is_here}
+use Rattle.cm_wit_names.proofs.LeastLaws.{at_view, is_here}
 
 -- ---- one mark
 
@@ -76,6 +76,3 @@ marks_all mentions i marks le s k lt b =
     s.all b.0 k (omega (arith, within, le, length-map mentions mention_view)) lt b.1
 
 pub ruleset borrow_laws = (marks_none, marks_more, marks_all)
-
-pub marks_at : (mentions ys : List code.Mention) (i : ℕ) (d : code.Mention) (o : Option ℕ) (before after : List Bool) → i < length mentions → ys ≡ mentions → o ≡ borrow_owner (mention_view (get_or ys i d)) → length after ≡ length before → ((k : ℕ) → IsMarked before k → IsMarked after k) → ((k : ℕ) → o ≡ Some k → k < length before → IsMarked after k) → ((k : ℕ) → IsMarked after k → IsMarked before k ⊎ (o ≡ Some k)) → Marks mentions i before → Marks mentions (i + 1) after
-marks_at mentions ys i d o before after lt e own size kept marked only s = marks_more mentions i (get_or ys i d) o before after lt (element_at mentions ys i d lt e) own size kept marked only s

@@ -22,7 +22,7 @@ use Rattle.cm_wit_names.specs.Distinct.{key_view, Adds, HaveSame, Notes}
 use Rattle.cm_wit_names.specs.Known.{IsAt}
 use Rattle.cm_wit_names.specs.Rules.{IsAmong, IsLeast, IsTaken, key_of, is_self}
 use Rattle.cm_wit_names.proofs.TableLaws.{both_true, same_of, eq_self, same_text, text_self}
-use Rattle.cm_wit_names.proofs.LeastLaws.{element_at, NoneAt, none_at_first, none_at_next, least_here, least_none}
+use Rattle.cm_wit_names.proofs.LeastLaws.{NoneAt, none_at_first, none_at_next, least_here, least_none}
 
 -- ---- keys
 
@@ -240,9 +240,3 @@ pub seen_all : (mentions : List code.Mention) (i : ℕ) (keys : List (ℕ × Vec
 seen_all mentions i keys le s = least_none (TakenAt mentions) mentions i le s.none
 
 pub ruleset distinct_laws = (seen_none, seen_more, seen_taken, seen_all)
-
-pub seen_at : (mentions ys : List code.Mention) (i : ℕ) (d : code.Mention) (before after : List (ℕ × Vec ℕ)) → i < length mentions → ys ≡ mentions → Notes (mention_view (get_or ys i d)) (map key_view before) (map key_view after) → Seen mentions i before → Seen mentions (i + 1) after
-seen_at mentions ys i d before after lt e n s = seen_more mentions i (get_or ys i d) before after lt (element_at mentions ys i d lt e) n s
-
-pub taken_at : (mentions ys : List code.Mention) (i : ℕ) (d : code.Mention) (keys : List (ℕ × Vec ℕ)) → i < length mentions → ys ≡ mentions → IsAmong (map key_view keys) (mention_view (get_or ys i d)) → Seen mentions i keys → IsLeast (λ n. IsAt (map mention_view mentions) n (IsTaken (take n (map mention_view mentions)))) (Some i)
-taken_at mentions ys i d keys lt e t s = seen_taken mentions i (get_or ys i d) keys lt (element_at mentions ys i d lt e) t s

@@ -1,11 +1,10 @@
 -- The first mention of which a predicate holds.
-use Rattle.std.proofs.Common.{◌≡◌, ℕ, ◌+◌, ◌<◌, ◌≤◌, inl, inr, List, length, map, get_or, slice_get, Some, None, false, refl, sym, ap, subst, ◌∙◌, arith}
+use Rattle.std.proofs.Common.{◌≡◌, ℕ, ◌+◌, ◌<◌, ◌≤◌, inl, inr, List, length, map, get_or, slice_get, Some, None, refl, sym, ap, subst, ◌∙◌, arith}
 use Rattle.std.specs.Option.{option_map}
 use Rattle.std.proofs.lemmas.Option.{slice_get-map, slice_get_read, slice_get_within}
-use Rattle.std.proofs.lemmas.List.{length-map, get_or_default}
+use Rattle.std.proofs.lemmas.List.{length-map}
 use Rattle.std.proofs.lemmas.Bool.{cases_eq}
 use Rattle.cm_wit_names.specs.declared.mention.Mention as code
-use Rattle.cm_wit_names.specs.declared.mention.Reference.TheVariants as refers
 use Rattle.cm_wit_names.specs.Mentions.{Mention}
 use Rattle.cm_wit_names.specs.MentionViews.{mention_view}
 use Rattle.cm_wit_names.specs.Known.{IsAt}
@@ -43,17 +42,6 @@ least_none P mentions i le n k here =
     let within = slice_get_within (map mention_view mentions) k here.0 here.1 in
     n.none k (omega (arith, le, within, length-map mentions mention_view)) here
 
--- an element that a reader has, with a default
-pub element_at : {A : Type 0} (xs ys : List A) (i : ℕ) (d : A) → i < length xs → ys ≡ xs → get_or ys i d ≡ get_or xs i (get_or ys i d)
-element_at {A} xs ys i d lt e = ap (λ (zs : List A). get_or zs i d) e ∙ get_or_default xs i d (get_or ys i d) lt
-
--- the mention that is read past the end
-abbrev pub blank : code.Mention
-blank = record {
-  declares = None;
-  known = None;
-  refers = refers.Nothing;
-  owner = None;
-  in_result = false;
-  may_be_resource = false;
-}
+-- an element of one list is that of an equal one
+pub item_at : {A : Type 0} (xs ys : List A) (i : ℕ) (x : A) → x ≡ get_or ys i x → ys ≡ xs → x ≡ get_or xs i x
+item_at {A} xs ys i x is e = is ∙ ap (λ (zs : List A). get_or zs i x) e

@@ -7,7 +7,7 @@ use Rattle.cm_wit_names.specs.Mentions.{Mention, to_used, to_resource}
 use Rattle.cm_wit_names.specs.MentionViews.{mention_view, reference_view}
 use Rattle.cm_wit_names.specs.Known.{IsAt, IsResource, known_at}
 use Rattle.cm_wit_names.specs.Rules.{IsLeast, IsUnknown, LeadsToBorrow}
-use Rattle.cm_wit_names.proofs.LeastLaws.{element_at, NoneAt, none_at_first, none_at_next, least_here, least_none}
+use Rattle.cm_wit_names.proofs.LeastLaws.{NoneAt, none_at_first, none_at_next, least_here, least_none}
 
 false_not : (b : Bool) → b ≡ false → b ≡ true → ⊥
 false_not b p q = cc
@@ -130,17 +130,3 @@ pub borrow_nowhere : (mentions : List code.Mention) (i : ℕ) → length mention
 borrow_nowhere mentions i le s = least_none (λ n. LeadsToBorrow (map mention_view mentions)) mentions i le s.none
 
 pub ruleset borrow_laws = (no_borrow_first, no_borrow_next, borrow_here, borrow_nowhere)
-
--- ---- the same, where the mention is read with a default
-
-pub unknown_at : (mentions ys : List code.Mention) (i : ℕ) (d : code.Mention) (b : Bool) → i < length mentions → ys ≡ mentions → b ≡ true → (IsTrue b ↔ IsUnknown (map mention_view mentions) (reference_view (get_or ys i d).refers)) → NoUnknown mentions i → IsLeast (λ n. IsAt (map mention_view mentions) n (λ m. IsUnknown (map mention_view mentions) m.refers)) (Some i)
-unknown_at mentions ys i d b lt e is h s = unknown_here mentions i (get_or ys i d) b lt (element_at mentions ys i d lt e) is h s
-
-pub no_unknown_at : (mentions ys : List code.Mention) (i : ℕ) (d : code.Mention) (b : Bool) → i < length mentions → ys ≡ mentions → b ≡ false → (IsTrue b ↔ IsUnknown (map mention_view mentions) (reference_view (get_or ys i d).refers)) → NoUnknown mentions i → NoUnknown mentions (i + 1)
-no_unknown_at mentions ys i d b lt e isnt h s = no_unknown_next mentions i (get_or ys i d) b lt (element_at mentions ys i d lt e) isnt h s
-
-pub borrow_at : (mentions ys : List code.Mention) (i : ℕ) (d : code.Mention) (b : Bool) → i < length mentions → ys ≡ mentions → b ≡ true → (IsTrue b ↔ LeadsToBorrow (map mention_view mentions) (mention_view (get_or ys i d))) → NoBorrow mentions i → IsLeast (λ n. IsAt (map mention_view mentions) n (LeadsToBorrow (map mention_view mentions))) (Some i)
-borrow_at mentions ys i d b lt e is h s = borrow_here mentions i (get_or ys i d) b lt (element_at mentions ys i d lt e) is h s
-
-pub no_borrow_at : (mentions ys : List code.Mention) (i : ℕ) (d : code.Mention) (b : Bool) → i < length mentions → ys ≡ mentions → b ≡ false → (IsTrue b ↔ LeadsToBorrow (map mention_view mentions) (mention_view (get_or ys i d))) → NoBorrow mentions i → NoBorrow mentions (i + 1)
-no_borrow_at mentions ys i d b lt e isnt h s = no_borrow_next mentions i (get_or ys i d) b lt (element_at mentions ys i d lt e) isnt h s

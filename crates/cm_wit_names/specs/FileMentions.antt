@@ -1,13 +1,15 @@
 -- What each name of a file declares and refers to, in reading order (WIT.md, "Packages and Worlds";
 -- Binary.md, "Import and Export Definitions", for the full names).
-use Rattle.std.specs.Prelude.{ℕ, ◌+◌, Bool, true, false, List, [], ◌∷◌, ◌++◌, Option, Some, None}
+use Rattle.std.specs.Prelude.{ℕ, ◌+◌, Bool, true, false, ◌&&◌, List, [], Option, Some}
+use Rattle.std.specs.Prelude.{None}
 use Rattle.cm_types.specs.ExternNames as name
 use Rattle.cm_types.specs.ExternNames.{NameTree}
+use Rattle.cm_types.specs.Names.{is_same_name}
 use Rattle.cm_wit_reading.specs.Types.{Ty, Tys, primitive, named, borrow, list, fixed_list, option}
 use Rattle.cm_wit_reading.specs.Types.{tuple, plain_result, ok_result, error_result, result}
 use Rattle.cm_wit_reading.specs.Types.{no_types, types}
 use Rattle.cm_wit_reading.specs.Signatures.{Typed, Func, Path, local, foreign}
-use Rattle.cm_wit_reading.specs.Trees.{UsedName, Use, Case, ResourceFunc, method, static}
+use Rattle.cm_wit_reading.specs.Trees.{Case, ResourceFunc, method, static}
 use Rattle.cm_wit_reading.specs.Trees.{constructor}
 use Rattle.cm_wit_reading.specs.Trees.{TypeDef, alias, record_of, variant, enum, flags, resource}
 use Rattle.cm_wit_reading.specs.Trees.{InterfaceItem, uses, defines, has_func, Interface}
@@ -16,7 +18,7 @@ use Rattle.cm_wit_reading.specs.Trees.{exports, World, FileItem, interface, worl
 use Rattle.cm_wit_names.specs.declared.mention.Place.{Place}
 use Rattle.cm_wit_names.specs.Mentions.{Mention, Reference, no_reference, to_interface, to_used}
 use Rattle.cm_wit_names.specs.Mentions.{to_type, to_resource, bare, declaring, list_of}
-use Rattle.cm_wit_names.specs.Mentions.{exports_of}
+use Rattle.cm_wit_names.specs.Mentions.{exports_of, listed_as}
 use Rattle.cm_wit_names.specs.Marks.{Marks, none, one, ◌then◌, here, each, optional}
 
 -- ---- types, by where they are written
@@ -57,7 +59,7 @@ abbrev mutual
 -- a label in a list of distinct names, behind an implied `self` or not
 abbrev pub label : Bool → ℕ → List ℕ → Mention
 label after_self names text = record bare {
-  declares = Some (record { in_list = names; name = name.plain text; after_self = after_self });
+  declares = Some (record (listed_as names (name.plain text)) { after_self = after_self });
 }
 
 abbrev pub typed_marks : Bool → Place → List Typed → Marks
@@ -78,7 +80,7 @@ func_marks after_self scope f =
 
 -- ---- interfaces
 
--- an item of the interface whose name is the i-th
+-- an item of the interface, or a function of the resource, whose name is the i-th
 abbrev pub item : ℕ → NameTree → Mention
 item i full = declaring (list_of i) full
 
@@ -86,21 +88,23 @@ item i full = declaring (list_of i) full
 abbrev pub type_item : ℕ → List ℕ → Mention
 type_item i text = record (item i (name.plain text)) { known = Some (i, text) }
 
--- a function of a resource r
-abbrev pub resource_func_marks : ℕ → List ℕ → ResourceFunc → Marks
-resource_func_marks i r (method m f) = one (item i (name.method r m)) then func_marks true i f
-resource_func_marks i r (static m f) = one (item i (name.static r m)) then func_marks false i f
+-- a function of the resource whose name is the r-th. Full names of functions differ within an
+-- interface where those of one resource do, since no two resources there have one name: so each is
+-- told apart among the functions of its resource, whose name is left out.
+abbrev pub resource_func_marks : ℕ → ℕ → ResourceFunc → Marks
+resource_func_marks i r (method m f) = one (item r (name.method [] m)) then func_marks true i f
+resource_func_marks i r (static m f) = one (item r (name.static [] m)) then func_marks false i f
 resource_func_marks i r (constructor ps) =
-    one (item i (name.constructor r)) then typed_marks false (as_param i) ps
+    one (item r (name.constructor [])) then typed_marks false (as_param i) ps
 
 -- what stands behind the name of a type, which is the n-th
-abbrev pub def_marks : ℕ → ℕ → List ℕ → TypeDef → Marks
-def_marks i n text (alias t) = type_marks (in_text_of i n) t
-def_marks i n text (record_of fs) = typed_marks false (in_text_of i n) fs
-def_marks i n text (variant cs) = case_marks (in_text_of i n) cs
-def_marks i n text (enum names) = label_marks names
-def_marks i n text (flags names) = label_marks names
-def_marks i n text (resource fs) = each (resource_func_marks i text) fs
+abbrev pub def_marks : ℕ → ℕ → TypeDef → Marks
+def_marks i n (alias t) = type_marks (in_text_of i n) t
+def_marks i n (record_of fs) = typed_marks false (in_text_of i n) fs
+def_marks i n (variant cs) = case_marks (in_text_of i n) cs
+def_marks i n (enum names) = label_marks names
+def_marks i n (flags names) = label_marks names
+def_marks i n (resource fs) = each (resource_func_marks i n) fs
 
 abbrev pub is_resource : TypeDef → Bool
 is_resource (alias t) = false
@@ -140,7 +144,7 @@ abbrev pub interface_item_marks : ℕ → InterfaceItem → Marks
 interface_item_marks i (uses u) =
     path_marks i u.path then each (λ x. used_marks i u.path x.name x.new_name) u.names
 interface_item_marks i (defines text t) = here λ n.
-    one (record (type_item i text) { may_be_resource = is_resource t }) then def_marks i n text t
+    one (record (type_item i text) { may_be_resource = is_resource t }) then def_marks i n t
 interface_item_marks i (has_func text f) = one (item i (name.plain text)) then func_marks false i f
 
 abbrev pub interface_marks : Interface → Marks
@@ -154,12 +158,40 @@ interface_marks x = here λ i.
 abbrev pub own_name : File → List ℕ → NameTree
 own_name f text = name.interface f.namespace f.pkg text f.version
 
+-- two versions are the same where they differ at most in the case of ASCII letters
+abbrev pub is_same_version : Option (List ℕ) → Option (List ℕ) → Bool
+is_same_version None None = true
+is_same_version None (Some w) = false
+is_same_version (Some v) None = false
+is_same_version (Some v) (Some w) = is_same_name v w
+
+-- a package of this name and version is the file's own
+abbrev pub is_own_package : File → List ℕ → List ℕ → Option (List ℕ) → Bool
+is_own_package f ns pkg version =
+    is_same_name ns f.namespace && is_same_name pkg f.pkg && is_same_version version f.version
+
+-- an interface in a list of distinct names, of the file's own package or not
+abbrev pub placed_at : ℕ → NameTree → Bool → Mention
+placed_at in_list full is_own =
+    record bare { declares = Some (record (listed_as in_list full) { is_own = is_own }) }
+
+-- the full name of the interface to which a path in the file leads
+abbrev pub path_name : File → Path → NameTree
+path_name f (local text) = own_name f text
+path_name f (foreign ns pkg text version) = name.interface ns pkg text version
+
+-- an interface that is imported or exported, in this list
+abbrev pub path_extern_marks : File → ℕ → Path → Marks
+path_extern_marks f in_list (local text) =
+    one (record (placed_at in_list (own_name f text) true) { refers = to_interface text })
+path_extern_marks f in_list (foreign ns pkg text version) =
+    one (placed_at in_list (name.interface ns pkg text version) (is_own_package f ns pkg version))
+    then one bare
+    then one bare
+
 -- an import or an export, in this list, of the world whose name is the w-th
 abbrev pub extern_marks : File → ℕ → ℕ → WorldExtern → Marks
-extern_marks f in_list w (interface_at (local text)) =
-    one (record (declaring in_list (own_name f text)) { refers = to_interface text })
-extern_marks f in_list w (interface_at (foreign ns pkg text version)) =
-    one (declaring in_list (name.interface ns pkg text version)) then one bare then one bare
+extern_marks f in_list w (interface_at p) = path_extern_marks f in_list p
 extern_marks f in_list w (named_func text g) =
     one (declaring in_list (name.plain text)) then func_marks false w g
 

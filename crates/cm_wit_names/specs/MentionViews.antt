@@ -1,19 +1,39 @@
 -- The mentions that the code's are.
-use Rattle.std.specs.Prelude.{◌≡◌, ◌++◌, List, Option, length, map}
+use Rattle.std.specs.Prelude.{◌≡◌, ◌++◌, [], length, map}
 use Rattle.std.specs.Option.{option_map}
 use Rattle.std.specs.Global.{Vec}
-use Rattle.cm_types.specs.ExternNameForms.{form_tree}
+use Rattle.cm_types.specs.ExternNames as name
+use Rattle.cm_types.specs.ExternNames.{NameTree}
+use Rattle.cm_wit_reading.specs.SignatureViews.{path_tree}
+use Rattle.cm_wit_reading.specs.Views.{file_tree}
 use Rattle.cm_wit_names.specs.declared.mention.Declared as declared
+use Rattle.cm_wit_names.specs.declared.mention.FullName as mention_name
+use Rattle.cm_wit_names.specs.declared.mention.FullName.TheVariants as full
 use Rattle.cm_wit_names.specs.declared.mention.Mention as mention
 use Rattle.cm_wit_names.specs.declared.mention.Reference as reference
 use Rattle.cm_wit_names.specs.declared.mention.Reference.TheVariants as refers
 use Rattle.cm_wit_names.specs.Mentions as spec
+use Rattle.cm_wit_names.specs.FileMentions.{path_name}
 use Rattle.cm_wit_names.specs.Marks.{Marks}
+
+-- the full name that one of the code is
+abbrev pub full_name : mention_name.FullName → NameTree
+full_name (full.Label l) = name.plain l.now
+full_name (full.Method m) = name.method [] m.now
+full_name (full.Static m) = name.static [] m.now
+full_name full.Constructor = name.constructor []
+full_name (full.Interface file path) = path_name (file_tree file.now) (path_tree path.now)
 
 abbrev pub declared_view : declared.Declared → spec.Declared
 declared_view d =
-    record { in_list = d.in_list; name = form_tree d.name; after_self = d.after_self }
+    record {
+      in_list = d.in_list;
+      name = full_name d.name;
+      is_own = d.is_own;
+      after_self = d.after_self;
+    }
 
+-- the references and mentions that the code's are
 abbrev pub reference_view : reference.Reference → spec.Reference
 reference_view refers.Nothing = spec.no_reference
 reference_view (refers.Interface text) = spec.to_interface text.now

@@ -13,11 +13,12 @@ pub data Reference : Type 0 where
   to_type : ℕ → List ℕ → Reference
   to_resource : ℕ → List ℕ → Reference
 
--- a name in a list of names that are distinct: the number of the list, the full name, and whether
--- an implied `self` stands before it
+-- a name in a list of names that are distinct: the number of the list, the full name, whether that
+-- is an interface's of the file's own package, and whether an implied `self` stands before it
 pub record Declared : Type 0 where
   pub in_list : ℕ
   pub name : NameTree
+  pub is_own : Bool
   pub after_self : Bool
 
 -- a mention: what it declares, as what it is known (an interface by 0 and its name, a type by the
@@ -43,15 +44,18 @@ bare = record {
 }
 
 -- a name in a list of distinct names
+abbrev pub listed_as : ℕ → NameTree → Declared
+listed_as list name =
+    record { in_list = list; name = name; is_own = false; after_self = false }
+
 abbrev pub declaring : ℕ → NameTree → Mention
-declaring list name =
-    record bare { declares = Some (record { in_list = list; name = name; after_self = false }) }
+declaring list name = record bare { declares = Some (listed_as list name) }
 
 -- ---- the lists of distinct names have numbers: 0 is the file's; each other one is given by the
 -- number of a name of the file
 
--- the items of the interface, the imports of the world whose name is the n-th, and the labels of a
--- type or parameters of which the n-th is the first
+-- the items of the interface, the functions of the resource, the imports of the world whose name is
+-- the n-th, and the labels of a type or parameters of which the n-th is the first
 abbrev pub list_of : ℕ → ℕ
 list_of n = 2 * n
 

@@ -1,16 +1,17 @@
 -- The rules on the names of a file (WIT.md, "Packages and Worlds"; that names are distinct without
 -- ASCII case, and the order of faults, are this project's own choice).
 use Rattle.std.specs.Prelude.{◌≡◌, ℕ, ◌<◌, ◌&&◌, ◌⊎◌, Bool, true, false, List, Option, Some, None}
-use Rattle.std.specs.Prelude.{map, take, codes, MatchOption}
+use Rattle.std.specs.Prelude.{map, take, codes, MatchOption, [], if◌then◌else◌}
 use Rattle.std.specs.List.{filter_map, Contains}
 use Rattle.std.specs.Option.{option_map, option_map_or}
 use Rattle.std.specs.Char.{to_ascii_lowercase}
 use Rattle.std.specs.Str.{bytes_eq}
+use Rattle.cm_types.specs.ExternNames as full
 use Rattle.cm_types.specs.ExternNames.{NameTree, name_spelling}
 use Rattle.cm_wit_tokens.specs.declared.fault.WitReason.{WitReason}
 use Rattle.cm_wit_tokens.specs.declared.fault.WitReason.TheVariants as reason
 use Rattle.cm_wit_tokens.specs.Reasons.{reason_number}
-use Rattle.cm_wit_names.specs.Mentions.{Mention, Reference, no_reference}
+use Rattle.cm_wit_names.specs.Mentions.{Declared, Mention, Reference, no_reference}
 use Rattle.cm_wit_names.specs.Mentions.{to_interface, to_used, to_type, to_resource}
 use Rattle.cm_wit_graph.specs.Graphs.{ReachesItself}
 use Rattle.cm_wit_names.specs.Known.{known_at, target, edges, IsAt, IsResource, HoldsBorrow}
@@ -21,9 +22,24 @@ use Rattle.cm_wit_names.specs.Known.{known_at, target, edges, IsAt, IsResource, 
 abbrev pub folded : NameTree → List ℕ
 folded name = map to_ascii_lowercase (name_spelling name)
 
+-- an interface's name without its package
+abbrev pub own_part : NameTree → NameTree
+own_part (full.interface ns pkg text version) = full.interface [] [] text None
+own_part (full.plain l) = full.plain l
+own_part (full.method r m) = full.method r m
+own_part (full.static r m) = full.static r m
+own_part (full.constructor r) = full.constructor r
+
+-- What tells a declared name from others: its full name, but of an interface of the file's own
+-- package what stands behind the package. Nothing is lost: full names of one package differ exactly
+-- where these parts do, and since no label is empty, the full name of another package is no such
+-- part.
+abbrev pub told_by : Declared → NameTree
+told_by d = if d.is_own then own_part d.name else d.name
+
 -- the list in which a mention has to be distinct, and its name there
 abbrev pub key_of : Mention → Option (ℕ × List ℕ)
-key_of m = option_map (λ d. (d.in_list, folded d.name)) m.declares
+key_of m = option_map (λ d. (d.in_list, folded (told_by d))) m.declares
 
 -- a name that an implied `self` has
 abbrev pub is_self : Mention → Bool

@@ -2,14 +2,13 @@
 
 ghost use Rattle.std.specs.Prelude.{◌≡◌, OnOk};
 ghost use Rattle.std.specs.Option.{option_map};
-ghost use Rattle.cm_types.specs.ExternNameForms.{form_tree};
 ghost use Rattle.cm_wit_names.specs.FileMentions.{label};
 ghost use Rattle.cm_wit_names.specs.Marks.{one};
 ghost use Rattle.cm_wit_names.specs.Mentions.{bare, declaring};
-ghost use Rattle.cm_wit_names.specs.MentionViews.{Adds, mention_view};
+ghost use Rattle.cm_wit_names.specs.MentionViews.{Adds, full_name, mention_view};
 
-use crate::mention::{Declared, Mention, Reference};
-use cm_types::{ExternNameForm, Label};
+use crate::mention::{Declared, FullName, Mention, Reference};
+use cm_types::Label;
 use std::alloc::AllocError;
 
 /// A name to which no rule applies.
@@ -27,12 +26,13 @@ pub fn bare<'a>() -> Mention<'a>
 }
 
 /// A name in a list of distinct names.
-pub fn declaring<'a>(in_list: usize, name: ExternNameForm<'a>) -> Mention<'a>
-    ensures { mention_view result ≡ declaring in_list (form_tree name.entry) }
+pub fn declaring<'a>(in_list: usize, name: FullName<'a>) -> Mention<'a>
+    ensures { mention_view result ≡ declaring in_list (full_name name.entry) }
 {
     let declares = Some(Declared {
         in_list,
         name,
+        is_own: false,
         after_self: false,
     });
     Mention { declares, ..bare() }
@@ -57,7 +57,8 @@ pub fn add_label<'a>(
 {
     let declares = Some(Declared {
         in_list,
-        name: ExternNameForm::Label(name.as_str()),
+        name: FullName::Label(name),
+        is_own: false,
         after_self,
     });
     add(out, Mention { declares, ..bare() })

@@ -3,16 +3,49 @@
 ghost use Rattle.std.specs.Prelude.{◌≡◌, IfOk, IsFalse, IsTrue, map, take};
 ghost use Rattle.std.specs.List.{Contains};
 ghost use Rattle.std.specs.Option.{option_map};
-ghost use Rattle.cm_wit_names.specs.MentionViews.{mention_view};
+ghost use Rattle.cm_types.specs.ExternNameForms.{form_tree};
+ghost use Rattle.cm_wit_names.specs.MentionViews.{declared_view, mention_view};
 ghost use Rattle.cm_wit_names.specs.Distinct.{Adds, Notes, key_view};
 ghost use Rattle.cm_wit_names.specs.Known.{IsAt};
-ghost use Rattle.cm_wit_names.specs.Rules.{IsAmong, IsLeast, IsTaken, is_self, key_of};
+ghost use Rattle.cm_wit_names.specs.Rules.{IsAmong, IsLeast, IsTaken, is_self, key_of, own_part};
+ghost use Rattle.cm_wit_names.specs.Rules.{told_by};
 
-use crate::Mention;
 use crate::full_names::folded;
 use crate::names::Names;
+use crate::{Declared, Mention};
+use cm_types::ExternNameForm;
 use std::alloc::{AllocError, Global};
 use std::collections::BTreeSet;
+
+/// An interface's name without its package.
+fn own_part<'a>(name: ExternNameForm<'a>) -> ExternNameForm<'a>
+    ensures { form_tree result ≡ own_part (form_tree name.entry) }
+{
+    match name {
+        ExternNameForm::Interface { interface, .. } => ExternNameForm::Interface {
+            namespace: "",
+            package: "",
+            interface,
+            version: None,
+        },
+        ExternNameForm::Label(_)
+        | ExternNameForm::Method { .. }
+        | ExternNameForm::Static { .. }
+        | ExternNameForm::Constructor { .. } => name,
+    }
+}
+
+/// What tells a declared name from others.
+fn told_by<'a>(declared: Declared<'a>) -> ExternNameForm<'a>
+    ensures { form_tree result ≡ told_by (declared_view declared.entry) }
+{
+    let name = declared.name.form();
+    if declared.is_own {
+        own_part(name)
+    } else {
+        name
+    }
+}
 
 /// The list in which a mention has to be distinct, and its name there.
 fn key_of(alloc: Global, mention: &Mention<'_>) -> Result<Option<(usize, Vec<u8>)>, AllocError>
@@ -20,7 +53,7 @@ fn key_of(alloc: Global, mention: &Mention<'_>) -> Result<Option<(usize, Vec<u8>
 {
     match mention.declares {
         None => Ok(None),
-        Some(declared) => Ok(Some((declared.in_list, folded(alloc, declared.name)?))),
+        Some(declared) => Ok(Some((declared.in_list, folded(alloc, told_by(declared))?))),
     }
 }
 
@@ -30,7 +63,7 @@ fn is_self(alloc: Global, mention: &Mention<'_>) -> Result<bool, AllocError>
 {
     match mention.declares {
         Some(declared) if declared.after_self => {
-            Ok(folded(alloc, declared.name)?.as_slice() == b"self".as_slice())
+            Ok(folded(alloc, declared.name.form())?.as_slice() == b"self".as_slice())
         }
         _ => Ok(false),
     }

@@ -74,10 +74,10 @@ impl Names<'_> {
     pub fn first_fault(&self, alloc: Global) -> Result<Option<(usize, WitReason)>, AllocError>
         ensures { IfOk result (IsFirstFault (map mention_view self.now.mentions.items)) }
     {
-        let graph = self.graph(alloc)?;
-        let borrow = self.first_borrow(alloc, &graph)?;
         let duplicate = self.first_duplicate(alloc)?;
         let unknown = self.first_unknown(alloc)?;
+        let graph = self.graph(alloc)?;
+        let borrow = self.first_borrow(alloc, &graph)?;
         let cycle = graph.first_on_cycle(alloc)?;
         Ok(first_of(borrow, duplicate, unknown, cycle))
     }

@@ -27,12 +27,33 @@ fn add_behind(out: &mut Vec<u8>, mark: u8, text: &str) -> Result<(), AllocError>
     add_folded(out, text)
 }
 
+/// How many bytes spell a full name, or a few more.
+fn spelled_len(name: ExternNameForm<'_>) -> usize {
+    let parts = match name {
+        ExternNameForm::Label(text) => [text, "", "", ""],
+        ExternNameForm::Method { resource, method } => ["[method].", resource, method, ""],
+        ExternNameForm::Static { resource, function } => ["[static].", resource, function, ""],
+        ExternNameForm::Constructor { resource } => ["[constructor]", resource, "", ""],
+        ExternNameForm::Interface {
+            namespace,
+            package,
+            interface,
+            version,
+        } => [namespace, package, interface, version.unwrap_or("")],
+    };
+    let mut length = ":/@".len();
+    for part in parts {
+        length = length.saturating_add(part.len());
+    }
+    length
+}
+
 /// A full name without ASCII case. Refused only where there is no memory.
 #[tactic(auto, using(crate::proofs::NameLaws::fold_laws))]
 pub fn folded(alloc: Global, name: ExternNameForm<'_>) -> Result<Vec<u8>, AllocError>
     ensures { IfOk result (λ v. v.items ≡ folded (form_tree name.entry)) }
 {
-    let mut out = Vec::new(alloc);
+    let mut out = Vec::with_capacity(alloc, spelled_len(name))?;
     match name {
         ExternNameForm::Label(text) => add_folded(&mut out, text)?,
         ExternNameForm::Method { resource, method } => {

@@ -1,7 +1,6 @@
 //! The mentions in interfaces.
 
 ghost use Rattle.std.specs.Prelude.{◌≡◌, OnOk, map};
-ghost use Rattle.cm_types.specs.ExternNameForms.{form_tree};
 ghost use Rattle.cm_wit_reading.specs.Views.{interface_item_tree, interface_tree};
 ghost use Rattle.cm_wit_reading.specs.Views.{resource_func_tree};
 ghost use Rattle.cm_wit_reading.specs.Views.{type_def_tree, use_tree, used_name_tree};
@@ -12,20 +11,21 @@ ghost use Rattle.cm_wit_names.specs.FileMentions.{item};
 ghost use Rattle.cm_wit_names.specs.FileMentions.{path_marks, resource_func_marks, type_item};
 ghost use Rattle.cm_wit_names.specs.FileMentions.{as_param, used_from, used_marks};
 ghost use Rattle.cm_wit_names.specs.Marks.{each, one};
-ghost use Rattle.cm_wit_names.specs.MentionViews.{Adds, mention_view, reference_view};
+ghost use Rattle.cm_wit_names.specs.MentionViews.{Adds, full_name, mention_view};
+ghost use Rattle.cm_wit_names.specs.MentionViews.{reference_view};
 
 use crate::adding::{add, bare, declaring};
 use crate::func_mentions::{add_cases, add_func, add_labels, add_typed};
-use crate::mention::{Mention, Place, Reference};
+use crate::mention::{FullName, Mention, Place, Reference};
 use crate::scope::Scope;
 use crate::type_mentions::add_type;
-use cm_types::{ExternNameForm, Label};
+use cm_types::Label;
 use cm_wit_reading::{Interface, InterfaceItem, Path, ResourceFunc, TypeDef, Use, UsedName};
 use std::alloc::AllocError;
 
 /// An item of an interface.
-fn item<'a>(scope: Scope, name: ExternNameForm<'a>) -> Mention<'a>
-    ensures { mention_view result ≡ item scope.number (form_tree name.entry) }
+fn item<'a>(scope: Scope, name: FullName<'a>) -> Mention<'a>
+    ensures { mention_view result ≡ item scope.number (full_name name.entry) }
 {
     declaring(scope.list(), name)
 }
@@ -34,48 +34,38 @@ fn item<'a>(scope: Scope, name: ExternNameForm<'a>) -> Mention<'a>
 fn type_item<'a>(scope: Scope, name: &'a Label) -> Mention<'a>
     ensures { mention_view result ≡ type_item scope.number name.now }
 {
-    let name = name.as_str();
     let known = Some((scope.number, name));
     Mention {
         known,
-        ..item(scope, ExternNameForm::Label(name))
+        ..item(scope, FullName::Label(name))
     }
 }
 
-/// Adds a function of a resource.
+/// Adds a function of a resource, told apart among those of the resource.
 #[tactic(auto, using(crate::proofs::AddLaws::add_laws))]
 fn add_resource_func<'a>(
     out: &mut Vec<Mention<'a>>,
     scope: Scope,
-    resource: &'a Label,
+    resource: Scope,
     func: &'a ResourceFunc,
 ) -> Result<(), AllocError>
     ensures { OnOk result
-        (Adds (resource_func_marks scope.number resource.now (resource_func_tree func.now))
+        (Adds (resource_func_marks scope.number resource.number (resource_func_tree func.now))
         out.old out.new) }
 {
-    let resource = resource.as_str();
     match func {
         ResourceFunc::Method(name, func) => {
-            let method = name.as_str();
-            add(
-                out,
-                item(scope, ExternNameForm::Method { resource, method }),
-            )?;
+            add(out, item(resource, FullName::Method(name)))?;
             add_func(out, true, scope.number, func)?;
             Ok(())
         }
         ResourceFunc::Static(name, func) => {
-            let function = name.as_str();
-            add(
-                out,
-                item(scope, ExternNameForm::Static { resource, function }),
-            )?;
+            add(out, item(resource, FullName::Static(name)))?;
             add_func(out, false, scope.number, func)?;
             Ok(())
         }
         ResourceFunc::Constructor(params) => {
-            add(out, item(scope, ExternNameForm::Constructor { resource }))?;
+            add(out, item(resource, FullName::Constructor))?;
             add_typed(out, false, as_param(scope), params)?;
             Ok(())
         }
@@ -98,11 +88,11 @@ fn as_param(scope: Scope) -> Place
 fn add_resource_funcs<'a>(
     out: &mut Vec<Mention<'a>>,
     scope: Scope,
-    resource: &'a Label,
+    resource: Scope,
     funcs: &'a [ResourceFunc],
 ) -> Result<(), AllocError>
     ensures { OnOk result (Adds
-        (each (resource_func_marks scope.number resource.now) (map resource_func_tree funcs.now))
+        (each (resource_func_marks scope.number resource.number) (map resource_func_tree funcs.now))
         out.old out.new) }
 {
     for func in funcs {
@@ -111,21 +101,20 @@ fn add_resource_funcs<'a>(
     Ok(())
 }
 
-/// Adds what stands behind the name of a type, which is the `owner`-th.
+/// Adds what stands behind the name of a type, given by the number of its name.
 #[tactic(auto, using(crate::proofs::AddLaws::add_laws))]
 fn add_def<'a>(
     out: &mut Vec<Mention<'a>>,
     scope: Scope,
-    owner: usize,
-    name: &'a Label,
+    owner: Scope,
     def: &'a TypeDef,
 ) -> Result<(), AllocError>
     ensures { OnOk result
-        (Adds (def_marks scope.number owner name.now (type_def_tree def.now)) out.old out.new) }
+        (Adds (def_marks scope.number owner.number (type_def_tree def.now)) out.old out.new) }
 {
     let place = Place {
         scope: scope.number,
-        owner: Some(owner),
+        owner: Some(owner.number),
         in_result: false,
     };
     match def {
@@ -133,7 +122,7 @@ fn add_def<'a>(
         TypeDef::Record(fields) => add_typed(out, false, place, fields),
         TypeDef::Variant(cases) => add_cases(out, place, cases),
         TypeDef::Enum(names) | TypeDef::Flags(names) => add_labels(out, names),
-        TypeDef::Resource(funcs) => add_resource_funcs(out, scope, name, funcs),
+        TypeDef::Resource(funcs) => add_resource_funcs(out, scope, owner, funcs),
     }
 }
 
@@ -145,7 +134,7 @@ fn add_path<'a>(out: &mut Vec<Mention<'a>>, scope: Scope, path: &'a Path) -> Res
     match path {
         Path::Local(name) => {
             let mention = Mention {
-                refers: Reference::Interface(name.as_str()),
+                refers: Reference::Interface(name),
                 owner: Some(scope.number),
                 ..bare()
             };
@@ -166,10 +155,7 @@ fn used_from<'a>(path: &'a Path, name: &'a Label) -> Reference<'a>
     ensures { reference_view result ≡ used_from (path_tree path.now) name.now }
 {
     match path {
-        Path::Local(interface) => Reference::Used {
-            interface: interface.as_str(),
-            name: name.as_str(),
-        },
+        Path::Local(interface) => Reference::Used { interface, name },
         Path::Foreign { .. } => Reference::Nothing,
     }
 }
@@ -258,17 +244,17 @@ fn add_item<'a>(
             Ok(())
         }
         InterfaceItem::Type(name, def) => {
-            let number = Scope::next(out).number;
+            let own = Scope::next(out);
             let mention = Mention {
                 may_be_resource: matches!(def, TypeDef::Resource(_)),
                 ..type_item(scope, name)
             };
             add(out, mention)?;
-            add_def(out, scope, number, name, def)?;
+            add_def(out, scope, own, def)?;
             Ok(())
         }
         InterfaceItem::Func(name, func) => {
-            let mention = self::item(scope, ExternNameForm::Label(name.as_str()));
+            let mention = self::item(scope, FullName::Label(name));
             add(out, mention)?;
             add_func(out, false, scope.number, func)?;
             Ok(())
@@ -303,10 +289,10 @@ pub fn add_interface<'a>(
         (Adds (interface_marks (interface_tree interface.now)) out.old out.new) }
 {
     let scope = Scope::next(out);
-    let name = interface.name.as_str();
+    let name = &interface.name;
     let mention = Mention {
         known: Some((0, name)),
-        ..declaring(0, ExternNameForm::Label(name))
+        ..declaring(0, FullName::Label(name))
     };
     add(out, mention)?;
     add_items(out, scope, &interface.items)?;

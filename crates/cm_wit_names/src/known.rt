@@ -6,6 +6,7 @@ ghost use Rattle.cm_wit_names.specs.MentionViews.{mention_view};
 ghost use Rattle.cm_wit_names.specs.Table.{IsTableOf, Notes};
 
 use crate::Mention;
+use cm_types::Label;
 use cm_wit_graph::{Table, note};
 use std::alloc::{AllocError, Global};
 use std::collections::BTreeMap;
@@ -16,14 +17,14 @@ use std::collections::BTreeMap;
 fn note_known<'a>(
     alloc: Global,
     table: &mut Table<'a>,
-    known: Option<(usize, &'a str)>,
+    known: Option<(usize, &'a Label)>,
     index: usize,
 ) -> Result<(), AllocError>
     ensures { OnOk result (Notes (option_map (λ k. (k.0, k.1.now)) known.entry) index
         table.old table.new) }
 {
     match known {
-        Some(key) => note(alloc, table, key, index),
+        Some((number, name)) => note(alloc, table, (number, name.as_str()), index),
         None => Ok(()),
     }
 }

@@ -41,13 +41,13 @@ impl<'a> Names<'a> {
     {
         match refers {
             Reference::Nothing => None,
-            Reference::Interface(name) => self.known_at(0, name),
+            Reference::Interface(name) => self.known_at(0, name.as_str()),
             Reference::Used { interface, name } => {
-                let number = self.known_at(0, interface)?;
-                self.known_at(number, name)
+                let number = self.known_at(0, interface.as_str())?;
+                self.known_at(number, name.as_str())
             }
             Reference::Type { scope, name } | Reference::Resource { scope, name } => {
-                self.known_at(scope, name)
+                self.known_at(scope, name.as_str())
             }
         }
     }

@@ -1,11 +1,11 @@
-//! Interfaces and worlds, given by the numbers of their names.
+//! Interfaces, worlds and resources, given by the numbers of their names.
 
 ghost use Rattle.std.specs.Prelude.{◌≡◌, ◌^◌, ◌<◌, length};
 ghost use Rattle.cm_wit_names.specs.Mentions.{exports_of, list_of};
 
 use crate::mention::Mention;
 
-/// An interface or a world, given by the number of its name.
+/// An interface, a world or a resource, given by the number of its name.
 #[derive(Clone, Copy)]
 pub struct Scope {
     pub number: usize,
@@ -13,7 +13,7 @@ pub struct Scope {
 }
 
 impl Scope {
-    /// The interface or world whose name is the next one.
+    /// The interface, world or resource whose name is the next one.
     pub fn next(mentions: &Vec<Mention<'_>>) -> Scope
         ensures { result.number ≡ length mentions.now.items }
     {
@@ -22,7 +22,7 @@ impl Scope {
         }
     }
 
-    /// The number of the list of an interface's items, or of a world's imports.
+    /// The number of the list of an interface's items, a resource's functions or a world's imports.
     pub fn list(self) -> usize
         ensures { result ≡ list_of self.number }
     {

@@ -43,14 +43,8 @@ pub fn add_type<'a>(
     let scope = place.scope;
     match ty {
         WitType::Primitive(_) => Ok(()),
-        WitType::Named(name) => {
-            let name = name.as_str();
-            add_reference(out, place, Reference::Type { scope, name })
-        }
-        WitType::Borrow(name) => {
-            let name = name.as_str();
-            add_reference(out, place, Reference::Resource { scope, name })
-        }
+        WitType::Named(name) => { add_reference(out, place, Reference::Type { scope, name }) }
+        WitType::Borrow(name) => { add_reference(out, place, Reference::Resource { scope, name }) }
         WitType::List(element) | WitType::FixedList { element, .. } => {
             add_type(out, place, element)
         }

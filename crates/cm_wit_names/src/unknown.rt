@@ -44,13 +44,13 @@ impl<'a> Names<'a> {
     {
         match refers {
             Reference::Nothing => false,
-            Reference::Interface(name) => self.known_at(0, name).is_none(),
-            Reference::Used { interface, name } => match self.known_at(0, interface) {
-                Some(number) => self.known_at(number, name).is_none(),
+            Reference::Interface(name) => self.known_at(0, name.as_str()).is_none(),
+            Reference::Used { interface, name } => match self.known_at(0, interface.as_str()) {
+                Some(number) => self.known_at(number, name.as_str()).is_none(),
                 None => false,
             },
-            Reference::Type { scope, name } => self.known_at(scope, name).is_none(),
-            Reference::Resource { scope, name } => match self.known_at(scope, name) {
+            Reference::Type { scope, name } => self.known_at(scope, name.as_str()).is_none(),
+            Reference::Resource { scope, name } => match self.known_at(scope, name.as_str()) {
                 Some(number) => !is_marked(resources, number),
                 None => true,
             },

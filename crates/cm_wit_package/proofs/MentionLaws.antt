@@ -153,22 +153,22 @@ label_part k text n = ((refl, tt), tt)
 label_fits : (labels : List (List ℕ)) → Fits (marks.label_marks labels) (tokens.with_commas tokens.name_tokens labels)
 label_fits labels n = commas (λ text. one (marks.label false (list_of n) text)) tokens.name_tokens (label_part (list_of n)) labels n
 
-resource_func_fits : (i : ℕ) (r : List ℕ) (f : ResourceFunc) → Fits (marks.resource_func_marks i r f) (tokens.resource_func_tokens f)
+resource_func_fits : (i : ℕ) (r : ℕ) (f : ResourceFunc) → Fits (marks.resource_func_marks i r f) (tokens.resource_func_tokens f)
 resource_func_fits i r (method m f) n = ((refl, tt), func_line true i f _)
 resource_func_fits i r (static m f) n = ((refl, tt), func_line false i f _)
 resource_func_fits i r (constructor ps) n = ((refl, tt), before (marks.typed_marks false (marks.as_param i) ps) (tokens.params_tokens ps) (tokens.mark operator.Semicolon) refl (params_fits false (marks.as_param i) ps) _)
 
-resource_fits : (i : ℕ) (r : List ℕ) (fs : List ResourceFunc) → Fits (each (marks.resource_func_marks i r) fs) (tokens.resource_rest fs)
+resource_fits : (i : ℕ) (r : ℕ) (fs : List ResourceFunc) → Fits (each (marks.resource_func_marks i r) fs) (tokens.resource_rest fs)
 resource_fits i r [] n = tt
 resource_fits i r (f ∷ fs) n = before (each (marks.resource_func_marks i r) (f ∷ fs)) (flat_map tokens.resource_func_tokens (f ∷ fs)) (tokens.mark operator.RightBrace) refl (repeated (marks.resource_func_marks i r) tokens.resource_func_tokens (resource_func_fits i r) (f ∷ fs)) n
 
-def_fits : (i k : ℕ) (text : List ℕ) (t : TypeDef) → Fits (marks.def_marks i k text t) (tokens.def_tokens t)
-def_fits i k text (alias t) n = before (marks.type_marks (marks.in_text_of i k) t) (tokens.type_tokens t) (tokens.mark operator.Semicolon) refl (type_fits (marks.in_text_of i k) t) n
-def_fits i k text (record_of fs) n = before (marks.typed_marks false (marks.in_text_of i k) fs) (tokens.with_commas tokens.typed_tokens fs) (tokens.mark operator.RightBrace) refl (typed_fits false (marks.in_text_of i k) fs) n
-def_fits i k text (variant cs) n = before (marks.case_marks (marks.in_text_of i k) cs) (tokens.with_commas tokens.case_tokens cs) (tokens.mark operator.RightBrace) refl (case_fits (marks.in_text_of i k) cs) n
-def_fits i k text (enum labels) n = before (marks.label_marks labels) (tokens.with_commas tokens.name_tokens labels) (tokens.mark operator.RightBrace) refl (label_fits labels) n
-def_fits i k text (flags labels) n = before (marks.label_marks labels) (tokens.with_commas tokens.name_tokens labels) (tokens.mark operator.RightBrace) refl (label_fits labels) n
-def_fits i k text (resource fs) n = resource_fits i text fs n
+def_fits : (i k : ℕ) (t : TypeDef) → Fits (marks.def_marks i k t) (tokens.def_tokens t)
+def_fits i k (alias t) n = before (marks.type_marks (marks.in_text_of i k) t) (tokens.type_tokens t) (tokens.mark operator.Semicolon) refl (type_fits (marks.in_text_of i k) t) n
+def_fits i k (record_of fs) n = before (marks.typed_marks false (marks.in_text_of i k) fs) (tokens.with_commas tokens.typed_tokens fs) (tokens.mark operator.RightBrace) refl (typed_fits false (marks.in_text_of i k) fs) n
+def_fits i k (variant cs) n = before (marks.case_marks (marks.in_text_of i k) cs) (tokens.with_commas tokens.case_tokens cs) (tokens.mark operator.RightBrace) refl (case_fits (marks.in_text_of i k) cs) n
+def_fits i k (enum labels) n = before (marks.label_marks labels) (tokens.with_commas tokens.name_tokens labels) (tokens.mark operator.RightBrace) refl (label_fits labels) n
+def_fits i k (flags labels) n = before (marks.label_marks labels) (tokens.with_commas tokens.name_tokens labels) (tokens.mark operator.RightBrace) refl (label_fits labels) n
+def_fits i k (resource fs) n = resource_fits i k fs n
 
 -- ---- items of interfaces
 
@@ -198,7 +198,7 @@ type_keyword_names (resource parts) fs = refl
 
 item_fits : (i : ℕ) (x : InterfaceItem) → Fits (marks.interface_item_marks i x) (tokens.interface_item_tokens x)
 item_fits i (uses u) n = both (marks.path_marks i u.path) (each (λ (x : UsedName). marks.used_marks i u.path x.name x.new_name) u.names) (tokens.path_tokens u.path) (tokens.mark operator.Period ++ (tokens.mark operator.LeftBrace ++ (tokens.with_commas tokens.used_tokens u.names ++ (tokens.mark operator.RightBrace ++ tokens.mark operator.Semicolon)))) (path_fits i u.path) (before (each (λ (x : UsedName). marks.used_marks i u.path x.name x.new_name) u.names) (tokens.with_commas tokens.used_tokens u.names) (tokens.mark operator.RightBrace ++ tokens.mark operator.Semicolon) refl (uses_fits i u)) n
-item_fits i (defines text t) n = subst (λ (ws : List (List ℕ)). AreOf (marks.interface_item_marks i (defines text t) n) ws) (sym (type_keyword_names t (tokens.name_tokens text ++ tokens.def_tokens t))) ((refl, tt), def_fits i n text t _)
+item_fits i (defines text t) n = subst (λ (ws : List (List ℕ)). AreOf (marks.interface_item_marks i (defines text t) n) ws) (sym (type_keyword_names t (tokens.name_tokens text ++ tokens.def_tokens t))) ((refl, tt), def_fits i n t _)
 item_fits i (has_func text f) n = ((refl, tt), func_line false i f _)
 
 interface_fits : (x : Interface) → Fits (marks.interface_marks x) (tokens.interface_tokens x)

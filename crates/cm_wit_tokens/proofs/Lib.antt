@@ -11,3 +11,4 @@ pub mod LoopLaws
 pub mod MostLaws
 pub mod WholeLaws
 pub mod TextLaws
+mod KeywordLaws

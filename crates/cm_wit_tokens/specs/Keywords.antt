@@ -1,5 +1,5 @@
 -- The keywords of WIT texts (WIT.md, "Keywords").
-use Rattle.std.specs.Prelude.{ℕ, List, [], ◌∷◌, Option, codes, find}
+use Rattle.std.specs.Prelude.{ℕ, ◌==◌, List, [], ◌∷◌, Option, codes, filter, find, length}
 use Rattle.std.specs.Str.{bytes_eq}
 use Rattle.cm_wit_tokens.specs.declared.keyword.Keyword.{Keyword}
 use Rattle.cm_wit_tokens.specs.declared.keyword.Keyword.TheVariants as word
@@ -56,6 +56,10 @@ keywords =
     word.Result ∷ word.Tuple ∷ word.Own ∷ word.Borrow ∷ word.Bool ∷ word.S8 ∷ word.S16 ∷
     word.S32 ∷ word.S64 ∷ word.U8 ∷ word.U16 ∷ word.U32 ∷ word.U64 ∷ word.F32 ∷ word.F64 ∷
     word.Char ∷ word.String ∷ word.Stream ∷ word.Future ∷ word.Async ∷ word.From ∷ []
+
+-- those with so many letters
+abbrev pub keywords_of_length : ℕ → List Keyword
+keywords_of_length n = filter (λ k. length (spelling k) == n) keywords
 
 -- the keyword that a word is, if it is one
 unfoldable pub keyword_of : List ℕ → Option Keyword

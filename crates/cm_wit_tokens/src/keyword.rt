@@ -1,7 +1,7 @@
 //! The keywords of WIT texts.
 
 ghost use Rattle.std.specs.Prelude.{◌≡◌, option_copied};
-ghost use Rattle.cm_wit_tokens.specs.Keywords.{spelling, keyword_of};
+ghost use Rattle.cm_wit_tokens.specs.Keywords.{spelling, keyword_of, keywords_of_length};
 
 /// A word that is no identifier, unless `%` stands before it (WIT.md, "Keywords"). Those of forms
 /// that are not read are keywords too.
@@ -49,49 +49,58 @@ pub enum Keyword {
     From,
 }
 
-/// Every keyword.
-const KEYWORDS: [Keyword; 40] = [
-    Keyword::Package,
-    Keyword::Interface,
-    Keyword::World,
-    Keyword::Use,
-    Keyword::As,
-    Keyword::Type,
-    Keyword::Record,
-    Keyword::Variant,
-    Keyword::Enum,
-    Keyword::Flags,
-    Keyword::Resource,
-    Keyword::Func,
-    Keyword::Static,
-    Keyword::Constructor,
-    Keyword::Import,
-    Keyword::Export,
-    Keyword::Include,
-    Keyword::List,
-    Keyword::Option,
-    Keyword::Result,
-    Keyword::Tuple,
-    Keyword::Own,
-    Keyword::Borrow,
-    Keyword::Bool,
-    Keyword::S8,
-    Keyword::S16,
-    Keyword::S32,
-    Keyword::S64,
-    Keyword::U8,
-    Keyword::U16,
-    Keyword::U32,
-    Keyword::U64,
-    Keyword::F32,
-    Keyword::F64,
-    Keyword::Char,
-    Keyword::String,
-    Keyword::Stream,
-    Keyword::Future,
-    Keyword::Async,
-    Keyword::From,
-];
+/// The keywords with so many letters, in the order in which the standard names them.
+fn of_length(length: usize) -> &'static [Keyword]
+    ensures { result.now ≡ keywords_of_length length }
+{
+    match length {
+        2 => &[Keyword::As, Keyword::S8, Keyword::U8],
+        3 => &[
+            Keyword::Use,
+            Keyword::Own,
+            Keyword::S16,
+            Keyword::S32,
+            Keyword::S64,
+            Keyword::U16,
+            Keyword::U32,
+            Keyword::U64,
+            Keyword::F32,
+            Keyword::F64,
+        ],
+        4 => &[
+            Keyword::Type,
+            Keyword::Enum,
+            Keyword::Func,
+            Keyword::List,
+            Keyword::Bool,
+            Keyword::Char,
+            Keyword::From,
+        ],
+        5 => &[
+            Keyword::World,
+            Keyword::Flags,
+            Keyword::Tuple,
+            Keyword::Async,
+        ],
+        6 => &[
+            Keyword::Record,
+            Keyword::Static,
+            Keyword::Import,
+            Keyword::Export,
+            Keyword::Option,
+            Keyword::Result,
+            Keyword::Borrow,
+            Keyword::String,
+            Keyword::Stream,
+            Keyword::Future,
+        ],
+        7 => &[Keyword::Package, Keyword::Variant, Keyword::Include],
+        8 => &[Keyword::Resource],
+        9 => &[Keyword::Interface],
+        11 => &[Keyword::Constructor],
+        _ => &[],
+    }
+}
 
 impl Keyword {
     /// The word in a text.
@@ -147,7 +156,7 @@ impl Keyword {
     pub fn of_word(word: &[u8]) -> Option<Keyword>
         ensures { result ≡ keyword_of word.now }
     {
-        KEYWORDS
+        of_length(word.len())
             .iter()
             .find(|keyword| keyword.as_str().as_bytes() == word)
             .copied()

@@ -8,7 +8,7 @@ pub loop-func-init : goal.loop-func-init
 loop-func-init c = refl
 
 pub loop-func-preserved : goal.loop-func-preserved
-loop-func-preserved c = each_step (resource_func_marks c.args.scope.number c.args.resource.now) resource_func_tree c.args.funcs.now c.loop-func.func-index c.func-item.result c.loop-func.out c.add_resource_func.new.out _ c.loop-func-test.true c.func-item.is c.in_ok-add_resource_func.ensures c.loop-func.invariant
+loop-func-preserved c = each_step (resource_func_marks c.args.scope.number c.args.resource.number) resource_func_tree c.args.funcs.now c.loop-func.func-index c.func-item.result c.loop-func.out c.add_resource_func.new.out _ c.loop-func-test.true c.func-item.is c.in_ok-add_resource_func.ensures c.loop-func.invariant
 
 pub returns : goal.returns
-returns c = each_end (resource_func_marks c.args.scope.number c.args.resource.now) resource_func_tree c.args.funcs.now c.loop-func.func-index c.loop-func.out _ c.loop-func-test.false c.loop-func.invariant
+returns c = each_end (resource_func_marks c.args.scope.number c.args.resource.number) resource_func_tree c.args.funcs.now c.loop-func.func-index c.loop-func.out _ c.loop-func-test.false c.loop-func.invariant

@@ -7,4 +7,4 @@ use Rattle.cm_wit_names.proofs.AddLaws.{MakesAll}
 use Rattle.cm_wit_names.proofs.interface_mentions.add_resource_funcs.Given as goal
 
 abbrev pub invariant-loop-func : goal.invariant-loop-func
-invariant-loop-func l = MakesAll (each (resource_func_marks l.scope.number l.resource) (map resource_func_tree (drop l.func-index l.funcs))) l.out (map mention_view l.fn.out.items ++ each (resource_func_marks l.scope.number l.resource) (map resource_func_tree l.funcs) (length l.fn.out.items))
+invariant-loop-func l = MakesAll (each (resource_func_marks l.scope.number l.resource.number) (map resource_func_tree (drop l.func-index l.funcs))) l.out (map mention_view l.fn.out.items ++ each (resource_func_marks l.scope.number l.resource.number) (map resource_func_tree l.funcs) (length l.fn.out.items))

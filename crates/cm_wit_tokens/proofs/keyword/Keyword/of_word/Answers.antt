@@ -1,10 +1,11 @@
-use Rattle.std.proofs.Common.{rules, tests, ◌∙◌}
+use Rattle.std.proofs.Common.{rules, tests, ◌∙◌, length}
 use Rattle.std.specs.Str.{bytes_eq}
 use Rattle.std.proofs.lemmas.Iterator.{YieldsList-from_slice}
 use Rattle.std.proofs.lemmas.Iterator.Search.{find_from_yields_List}
-use Rattle.cm_wit_tokens.specs.Keywords.{spelling, keywords, keyword_of}
+use Rattle.cm_wit_tokens.specs.Keywords.{spelling, keyword_of, keywords_of_length}
+use Rattle.cm_wit_tokens.proofs.KeywordLaws.{among_as_long}
 use Rattle.cm_wit_tokens.proofs.keyword.Keyword.of_word.Goals as goal
 
 pub returns : goal.returns
 unfolding keyword_of
-returns c = c.copied.ensures ∙ find_from_yields_List (λ k. bytes_eq (spelling k) c.args.word.now) _ _ c.find.result c.find.ensures.ran (YieldsList-from_slice keywords cc) (λ x b q k. search (rules, tests))
+returns c = c.copied.ensures ∙ find_from_yields_List (λ k. bytes_eq (spelling k) c.args.word.now) _ _ c.find.result c.find.ensures.ran (YieldsList-from_slice (keywords_of_length (length c.args.word.now)) (search (rules, tests))) (λ x b q k. search (rules, tests)) ∙ among_as_long c.args.word.now
