@@ -1,6 +1,8 @@
 //! WIT texts: packages read and printed, signatures of worlds, and whether a component fits one.
 #![tactic(auto)]
 
+pub mod laws;
+
 pub use cm_wit_conforms::{ConformFault, ConformItem, ConformList, ConformReason, conforms};
 pub use cm_wit_package::{Package, WitFault, WitReason, parse, print};
 pub use cm_wit_signature::world_signature;
