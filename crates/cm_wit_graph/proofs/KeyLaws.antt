@@ -2,13 +2,12 @@
 use Rattle.std.proofs.Common.{◌≡◌, ◌==◌, ◌&&◌, ℕ, ◌+◌, ◌<◌, ◌≤◌, Bool, true, false, cond, if◌then◌else◌, List, [], ◌∷◌, length, map, drop, get_or, Option, Some, None, refl, sym, ap, ◌∙◌, arith}
 use Rattle.std.specs.Borrow.{Bor}
 use Rattle.std.specs.List.{position_from}
-use Rattle.std.specs.Prelude.{is_some}
 use Rattle.std.proofs.lemmas.List.{drop_all, drop_more}
 use Rattle.std.proofs.lemmas.Bool.Decides.{nat_tests}
 use Rattle.std.proofs.lemmas.Slice.Eq.{bytes_eq-Decides}
 use Rattle.std.specs.Str.{bytes_eq}
 use Rattle.cm_wit_graph.specs.Keys.{Key, is_key, first_key, key_view}
-use Rattle.cm_wit_graph.specs.Table.{Names, Table, look_up, under, IsTableOf, or_else, Notes}
+use Rattle.cm_wit_graph.specs.Table.{Names, Table, look_up, under, IsTableOf, or_else, Notes, NotesName}
 use Rattle.std.specs.BTreeMap.{UpdatesBy, get_by, is_at}
 use Rattle.std.specs.Cmp.Lexicographic.{slice_cmp}
 use Rattle.std.specs.Map.{lookup}
@@ -38,34 +37,14 @@ later None true i rest = refl
 later None false i rest = refl
 later (Some x) t i rest = refl
 
-both_true : (a b : Bool) → (a && b) ≡ true → (a ≡ true) × (b ≡ true)
-both_true true b e = (refl, e)
-both_true false b e = absurd cc
-
 same_of : (x y : ℕ) → (x == y) ≡ true → x ≡ y
 same_of x y e = grind (arith, nat_tests)
-
-eq_self : (x : ℕ) → (x == x) ≡ true
-eq_self x = grind (arith, nat_tests)
 
 same_text : (x y : List ℕ) → bytes_eq x y ≡ true → x ≡ y
 same_text x y e = (bytes_eq-Decides x y).0 e
 
-text_self : (x : List ℕ) → bytes_eq x x ≡ true
-text_self x = (bytes_eq-Decides x x).1 refl
-
 true_not : true ≡ false → ⊥
 true_not e = cc
-
-key_self : (n : ℕ) (name : List ℕ) → ((n == n) && bytes_eq name name) ≡ true
-key_self n name = rw (eq_self n) (text_self name)
-
-not_key : (n : ℕ) (name : List ℕ) (k : Name) → ((n == k.0) && bytes_eq name k.1.now) ≡ false → ((k.0 == n) && bytes_eq k.1.now name) ≡ false
-not_key n name k e = not_by ((k.0 == n) && bytes_eq k.1.now name) refl
-  where
-    not_by : (t : Bool) → ((k.0 == n) && bytes_eq k.1.now name) ≡ t → t ≡ false
-    not_by false f = refl
-    not_by true f = let p = both_true (k.0 == n) (bytes_eq k.1.now name) f in absurd (true_not (sym (key_self n name) ∙ (rw (← (same_of k.0 n p.0), ← (same_text k.1.now name p.1)) refl ∙ e)))
 
 next_rest : (keys : List Name) (i : ℕ) (k : Name) → i < length keys → k ≡ get_or keys i k → map key_view (drop i keys) ≡ key_view k ∷ map key_view (drop (i + 1) keys)
 next_rest keys i k lt is = ap (map key_view) (drop_more keys i k lt ∙ ap (λ (y : Name). y ∷ drop (i + 1) keys) (sym is))
@@ -87,55 +66,69 @@ pub ruleset table_laws = (seeks_none, seeks_step, seeks_all)
 
 -- ---- one key
 
-is_same_key : (n : ℕ) (name : List ℕ) (k : Name) → ((n == k.0) && bytes_eq name k.1.now) ≡ true → (n ≡ k.0) × (name ≡ k.1.now)
-is_same_key n name k e = let p = both_true (n == k.0) (bytes_eq name k.1.now) e in (same_of n k.0 p.0, same_text name k.1.now p.1)
-
-pub notes_present : (place x : ℕ) (table : Table) (k : Name) → look_up table k.0 k.1.now ≡ Some x → Notes (key_view k) place table table
-notes_present place x table k has n name = present_by ((n == k.0) && bytes_eq name k.1.now) refl
-  where
-    present_by : (t : Bool) → ((n == k.0) && bytes_eq name k.1.now) ≡ t → look_up table n name ≡ or_else (look_up table n name) (if t then Some place else None)
-    present_by true e = let p = is_same_key n name k e in rw (p.0, p.1, has) refl
-    present_by false e = sym (or_none (look_up table n name))
-
-pub notes_new : (place : ℕ) (before after : Table) (k : Name) → look_up before k.0 k.1.now ≡ None → ((n : ℕ) (name : List ℕ) → look_up after n name ≡ cond ((k.0 == n) && bytes_eq k.1.now name) (Some place) (look_up before n name)) → Notes (key_view k) place before after
-notes_new place before after k none h n name = h n name ∙ new_by ((n == k.0) && bytes_eq name k.1.now) refl
-  where
-    new_by : (t : Bool) → ((n == k.0) && bytes_eq name k.1.now) ≡ t → cond ((k.0 == n) && bytes_eq k.1.now name) (Some place) (look_up before n name) ≡ or_else (look_up before n name) (if t then Some place else None)
-    new_by true e = let p = is_same_key n name k e in rw (p.0, p.1, none, key_self k.0 k.1.now) refl
-    new_by false e = rw (not_key n name k e) (sym (or_none (look_up before n name)))
-
 same_number : (m n : ℕ) → is_eq (nat_cmp m n) ≡ (m == n)
 same_number m n = grind (arith, common_steps)
 
--- the names under a number are taken out, one more is put to them, and they are put back
-module _ (place : ℕ) (old cut : Table) (names none more : Names) (new : Table) (k : Name)
-    (empty : none.entries ≡ [])
-    (taken : UpdatesBy nat_cmp (nat_cmp k.0) old cut None)
-    (held : names ≡ unwrap_or (get_by (nat_cmp k.0) old) none)
-    (named : UpdatesBy (λ x y. slice_cmp nat_cmp x.now y.now) (λ q. slice_cmp nat_cmp k.1.now q.now) names more (Some place))
-    (given : UpdatesBy nat_cmp (nat_cmp k.0) cut new (Some more)) where
-  held_names : (name : List ℕ) → under name names ≡ look_up old k.0 name
-  held_names name = ap (under name) held ∙ by (get_by (nat_cmp k.0) old)
-    where
-      by : (o : Option Names) → under name (unwrap_or o none) ≡ option_and_then (under name) o
-      by None = ap (λ es. lookup (is_at (λ q. slice_cmp nat_cmp name q.now)) es) empty
-      by (Some x) = refl
+-- ---- the names under a number
 
-  pub put_back : (n : ℕ) (name : List ℕ) → look_up new n name ≡ cond ((k.0 == n) && bytes_eq k.1.now name) (Some place) (look_up old n name)
-  put_back n name = by (k.0 == n) refl
+placed_or : (o : Option ℕ) (place : ℕ) → Some (unwrap_or o place) ≡ or_else o (Some place)
+placed_or None place = refl
+placed_or (Some x) place = refl
+
+not_text : (x y : List ℕ) → bytes_eq x y ≡ false → bytes_eq y x ≡ false
+not_text x y e = by (bytes_eq y x) refl
+  where
+    by : (t : Bool) → bytes_eq y x ≡ t → t ≡ false
+    by false f = refl
+    by true f = absurd (true_not (sym ((bytes_eq-Decides x y).1 (sym (same_text y x f))) ∙ e))
+
+-- a name has what it had, or else the place
+pub name_noted : (name m : List ℕ) (names : Names) (place w : ℕ) → w ≡ unwrap_or (under name names) place → cond (bytes_eq name m) (Some w) (under m names) ≡ or_else (under m names) (if bytes_eq m name then Some place else None)
+name_noted name m names place w had = by (bytes_eq name m) refl
+  where
+    by : (t : Bool) → bytes_eq name m ≡ t → cond t (Some w) (under m names) ≡ or_else (under m names) (if bytes_eq m name then Some place else None)
+    by true e =
+        let same : name ≡ m = same_text name m e in
+        ap (λ (x : ℕ). Some x) had
+        ∙ ap (λ n. Some (unwrap_or (under n names) place)) same
+        ∙ placed_or (under m names) place
+        ∙ ap (λ b. or_else (under m names) (if b then Some place else None)) (sym ((bytes_eq-Decides m name).1 (sym same)))
+    by false e =
+        sym (or_none (under m names))
+        ∙ ap (λ b. or_else (under m names) (if b then Some place else None)) (sym (not_text name m e))
+
+-- one name more, among none
+pub first_noted : (name : List ℕ) (place : ℕ) (none more : Names) → none.entries ≡ [] → UpdatesBy (λ x y. slice_cmp nat_cmp x.now y.now) (λ q. slice_cmp nat_cmp name q.now) none more (Some place) → NotesName name place none more
+first_noted name place none more empty named = λ m.
+    let nothing : (k : List ℕ) → under k none ≡ None = λ k. ap (λ es. lookup (is_at (λ q. slice_cmp nat_cmp k q.now)) es) empty in
+    btree_map_updates_str name none more (Some place) named m
+    ∙ name_noted name m none place place (sym (ap (λ o. unwrap_or o place) (nothing name)))
+
+pub none_held : (old : Table) (k : Name) (none : Names) → none.entries ≡ [] → get_by (nat_cmp k.0) old ≡ None → (name : List ℕ) → under name none ≡ look_up old k.0 name
+none_held old k none empty has = λ name.
+    ap (λ es. lookup (is_at (λ q. slice_cmp nat_cmp name q.now)) es) empty ∙ sym (ap (option_and_then (under name)) has)
+
+pub some_held : (old : Table) (k : Name) (names : Names) → get_by (nat_cmp k.0) old ≡ Some names → (name : List ℕ) → under name names ≡ look_up old k.0 name
+some_held old k names has = λ name. sym (ap (option_and_then (under name)) has)
+
+-- the names under a number become these, with one more
+module _ (place : ℕ) (old new : Table) (names more : Names) (k : Name)
+    (held : (name : List ℕ) → under name names ≡ look_up old k.0 name)
+    (given : (q : ℕ) → get_by (nat_cmp q) new ≡ cond (is_eq (nat_cmp k.0 q)) (Some more) (get_by (nat_cmp q) old))
+    (noted : NotesName k.1.now place names more) where
+  pub notes_under : Notes (key_view k) place old new
+  notes_under n name = by (k.0 == n) refl
     where
-      by : (t : Bool) → (k.0 == n) ≡ t → look_up new n name ≡ cond (t && bytes_eq k.1.now name) (Some place) (look_up old n name)
+      turned : (t : Bool) → (k.0 == n) ≡ t → (n == k.0) ≡ t
+      turned t e = grind (arith, nat_tests, e)
+
+      by : (t : Bool) → (k.0 == n) ≡ t → look_up new n name ≡ or_else (look_up old n name) (if (n == k.0) && bytes_eq name k.1.now then Some place else None)
       by true e =
-          let is : is_eq (nat_cmp k.0 n) ≡ true = same_number k.0 n ∙ e in
-          ap (option_and_then (under name)) (given.0 n ∙ ap (λ b. cond b (Some more) (get_by (nat_cmp n) cut)) is)
-          ∙ btree_map_updates_str k.1.now names more (Some place) named name
-          ∙ ap (cond (bytes_eq k.1.now name) (Some place)) (held_names name ∙ ap (λ m. look_up old m name) (same_of k.0 n e))
+          ap (option_and_then (under name)) (given n ∙ ap (λ b. cond b (Some more) (get_by (nat_cmp n) old)) (same_number k.0 n ∙ e))
+          ∙ noted name
+          ∙ ap (λ o. or_else o (if bytes_eq name k.1.now then Some place else None)) (held name ∙ ap (λ m. look_up old m name) (same_of k.0 n e))
+          ∙ ap (λ b. or_else (look_up old n name) (if b && bytes_eq name k.1.now then Some place else None)) (sym (turned true e))
       by false e =
-          let is : is_eq (nat_cmp k.0 n) ≡ false = same_number k.0 n ∙ e in
-          ap (option_and_then (under name)) (given.0 n ∙ ap (λ b. cond b (Some more) (get_by (nat_cmp n) cut)) is ∙ taken.0 n ∙ ap (λ b. cond b None (get_by (nat_cmp n) old)) is)
-
-pub ruleset note_laws = (notes_present, notes_new)
-
-pub none_is : {A : Type 0} (o : Option A) → is_some o ≡ false → o ≡ None
-none_is None e = refl
-none_is (Some x) e = absurd cc
+          ap (option_and_then (under name)) (given n ∙ ap (λ b. cond b (Some more) (get_by (nat_cmp n) old)) (same_number k.0 n ∙ e))
+          ∙ sym (or_none (look_up old n name))
+          ∙ ap (λ b. or_else (look_up old n name) (if b && bytes_eq name k.1.now then Some place else None)) (sym (turned false e))

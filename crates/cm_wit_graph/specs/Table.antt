@@ -6,6 +6,7 @@ use Rattle.std.specs.BTreeMap.{BTreeMap, get_by}
 use Rattle.std.specs.Cmp.Lexicographic.{slice_cmp}
 use Rattle.std.specs.Option.{option_and_then}
 use Rattle.std.specs.Ordering.{nat_cmp}
+use Rattle.std.specs.Str.{bytes_eq}
 use Rattle.cm_wit_graph.specs.Keys.{Key, is_key, first_key}
 
 abbrev pub Names : Type 0
@@ -29,6 +30,11 @@ IsTableOf keys table = (n : ℕ) (name : List ℕ) → look_up table n name ≡ 
 abbrev pub or_else : Option ℕ → Option ℕ → Option ℕ
 or_else None b = b
 or_else (Some a) b = Some a
+
+-- the place was put among the names for this one, unless one stood there
+abbrev pub NotesName : List ℕ → ℕ → Names → Names → Type 0
+NotesName name place old new = (m : List ℕ) → under m new
+    ≡ or_else (under m old) (if bytes_eq m name then Some place else None)
 
 -- The place was put into the table for this key, unless one stood there.
 abbrev pub Notes : Key → ℕ → Table → Table → Type 0

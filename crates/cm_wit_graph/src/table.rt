@@ -2,7 +2,7 @@
 
 ghost use Rattle.std.specs.Prelude.{◌≡◌, IfOk, OnOk, map};
 ghost use Rattle.cm_wit_graph.specs.Keys.{key_view};
-ghost use Rattle.cm_wit_graph.specs.Table.{IsTableOf, Notes, look_up};
+ghost use Rattle.cm_wit_graph.specs.Table.{IsTableOf, Notes, NotesName, look_up};
 
 use std::alloc::{AllocError, Global};
 use std::collections::BTreeMap;
@@ -17,9 +17,22 @@ pub fn look_up(table: &Table<'_>, number: usize, name: &str) -> Option<usize>
     table.get(&number)?.get(name).copied()
 }
 
+/// Puts the place of a name among names, where none stands for it yet.
+fn note_name<'a>(
+    names: &mut BTreeMap<&'a str, usize>,
+    name: &'a str,
+    place: usize,
+) -> Result<(), AllocError>
+    ensures { OnOk result (NotesName name.now place names.old names.new) }
+{
+    if names.get(name).is_none() {
+        names.insert(name, place)?;
+    }
+    Ok(())
+}
+
 /// Puts the place of a key, a number and a name, into a table, where none stands for it yet.
 /// `AllocError` comes where there is no memory, and the table is to be dropped then.
-#[tactic(auto, using(crate::proofs::KeyLaws::note_laws))]
 pub fn note<'a>(
     alloc: Global,
     table: &mut Table<'a>,
@@ -29,10 +42,10 @@ pub fn note<'a>(
     ensures { OnOk result (Notes (key_view key.entry) place table.old table.new) }
 {
     let (number, name) = key;
-    if look_up(table, number, name).is_some() {
-        return Ok(());
+    if let Some(names) = table.get_mut(&number) {
+        return note_name(names, name, place);
     }
-    let mut names = table.remove(&number).unwrap_or(BTreeMap::new(alloc));
+    let mut names = BTreeMap::new(alloc);
     names.insert(name, place)?;
     table.insert(number, names)?;
     Ok(())
