@@ -14,8 +14,8 @@ use Rattle.cm_types_placed.specs.Instances as instances
 use Rattle.cm_types_placed.specs.declared.instances.Item.{Item}
 use Rattle.cm_types_placed.specs.declared.instances.InstanceType.{InstanceType}
 use Rattle.cm_types_placed.specs.Externs.{extern_desc_of, extern_of}
-use Rattle.cm_types_placed.specs.declared.signatures.ExternDesc.TheVariants as extern
-use Rattle.cm_types_placed.specs.declared.signatures.Extern.{Extern}
+use Rattle.cm_types_placed.specs.declared.externs.ExternDesc.TheVariants as extern
+use Rattle.cm_types_placed.specs.declared.externs.Extern.{Extern}
 use Rattle.cm_validate_model.specs.Definitions.{NamedExport}
 use Rattle.cm_validate_model.specs.Spaces.{Spaces, member_named}
 use Rattle.cm_validate_items.specs.Ranges.{resource_def}

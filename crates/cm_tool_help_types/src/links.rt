@@ -4,7 +4,7 @@ use crate::blocks::{Block, Side, first_changed, first_missing, first_named, numb
 use cm_match_model::{LinkFault, LinkReason};
 use cm_tool_show::{ShowFault, show};
 use cm_tool_text::Escaped;
-use cm_types_placed::Signature;
+use cm_types_signatures::Signature;
 use std::alloc::{AllocError, Global};
 use std::fmt::Write;
 

@@ -2,7 +2,7 @@
 
 use crate::blocks::{Side, first_named, numbered};
 use cm_tool_show::{ShowFault, show};
-use cm_types_placed::Signature;
+use cm_types_signatures::Signature;
 use cm_wit_conforms::{ConformFault, ConformItem, ConformList, ConformReason};
 use std::alloc::{AllocError, Global};
 use std::fmt::Write;

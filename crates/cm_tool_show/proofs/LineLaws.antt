@@ -19,9 +19,9 @@ use Rattle.cm_types_placed.specs.declared.instances.Item.{Item}
 use Rattle.cm_types_placed.specs.declared.instances.ItemDesc.{ItemDesc}
 use Rattle.cm_types_placed.specs.declared.instances.ItemDesc.TheVariants as item
 use Rattle.cm_types_placed.specs.Externs.{are_externs_in, extern_desc_of, externs_in, is_extern_there}
-use Rattle.cm_types_placed.specs.declared.signatures.Extern.{Extern}
-use Rattle.cm_types_placed.specs.declared.signatures.ExternDesc.{ExternDesc}
-use Rattle.cm_types_placed.specs.declared.signatures.ExternDesc.TheVariants as extern
+use Rattle.cm_types_placed.specs.declared.externs.Extern.{Extern}
+use Rattle.cm_types_placed.specs.declared.externs.ExternDesc.{ExternDesc}
+use Rattle.cm_types_placed.specs.declared.externs.ExternDesc.TheVariants as extern
 use Rattle.cm_tool_show.specs.Pages.{IsOver, seen_on, text_on}
 use Rattle.cm_tool_show.specs.Pieces.{Piece, chars, seen_behind, text_behind}
 use Rattle.cm_tool_show.specs.declared.page.Page.{Page}

@@ -7,9 +7,9 @@ use Rattle.cm_types_arena.specs.Places.{types_of, funcs_of}
 use Rattle.cm_types_arena.specs.declared.types.Types.{Types}
 use Rattle.cm_types_placed.specs.Placed.{moved_by, placed_func, is_there}
 use Rattle.cm_types_placed.specs.Instances.{items_of, replaced_item, are_items_there}
-use Rattle.cm_types_placed.specs.declared.signatures.Extern.{Extern}
-use Rattle.cm_types_placed.specs.declared.signatures.ExternDesc.{ExternDesc}
-use Rattle.cm_types_placed.specs.declared.signatures.ExternDesc.TheVariants as extern
+use Rattle.cm_types_placed.specs.declared.externs.Extern.{Extern}
+use Rattle.cm_types_placed.specs.declared.externs.ExternDesc.{ExternDesc}
+use Rattle.cm_types_placed.specs.declared.externs.ExternDesc.TheVariants as extern
 
 -- ---- what they are, among the types at these places
 

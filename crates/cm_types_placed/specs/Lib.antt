@@ -1,4 +1,3 @@
 pub mod Placed
 pub mod Instances
 pub mod Externs
-pub mod Signatures

@@ -18,9 +18,9 @@ use Rattle.cm_types_placed.specs.declared.instances.Item.{Item}
 use Rattle.cm_types_placed.specs.declared.instances.ItemDesc.{ItemDesc}
 use Rattle.cm_types_placed.specs.declared.instances.ItemDesc.TheVariants as item
 use Rattle.cm_types_placed.specs.Externs.{extern_of, extern_desc_of, is_extern_there}
-use Rattle.cm_types_placed.specs.declared.signatures.Extern.{Extern}
-use Rattle.cm_types_placed.specs.declared.signatures.ExternDesc.{ExternDesc}
-use Rattle.cm_types_placed.specs.declared.signatures.ExternDesc.TheVariants as extern
+use Rattle.cm_types_placed.specs.declared.externs.Extern.{Extern}
+use Rattle.cm_types_placed.specs.declared.externs.ExternDesc.{ExternDesc}
+use Rattle.cm_types_placed.specs.declared.externs.ExternDesc.TheVariants as extern
 use Rattle.cm_validate_model.specs.Definitions.{ExportDef, MemberDef, NamedMember, exported_func, exported_instance, func_member, func_type, imported, instance_type, lifted, type_member, value}
 use Rattle.cm_validate_model.specs.Counted.{IsCounted, IsFuncCounted}
 use Rattle.cm_validate_items.specs.InstanceTypes.{instance_type_of}

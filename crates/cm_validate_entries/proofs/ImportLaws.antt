@@ -21,8 +21,8 @@ use Rattle.cm_validate_types.specs.Settled.{AreItemsSettled, IsEntrySettled}
 use Rattle.cm_validate_types.specs.declared.entries.TypeEntry.{TypeEntry}
 use Rattle.cm_validate_types.specs.declared.entries.TypeEntry.TheVariants as entry
 use Rattle.cm_validate_entries.specs.declared.spaces.ExportEntry.{ExportEntry}
-use Rattle.cm_types_placed.specs.declared.signatures.Extern.{Extern}
-use Rattle.cm_types_placed.specs.declared.signatures.ExternDesc.TheVariants as extern
+use Rattle.cm_types_placed.specs.declared.externs.Extern.{Extern}
+use Rattle.cm_types_placed.specs.declared.externs.ExternDesc.TheVariants as extern
 use Rattle.cm_validate_model.specs.declared.fault.ValidReason.{ValidReason}
 use Rattle.cm_validate_model.specs.Definitions.{InstanceTy, TypeDef, NamedMember, brought, imported, sort_of, sorts_of}
 use Rattle.cm_validate_model.specs.Items.{Item, import_item}

@@ -13,8 +13,8 @@ use Rattle.cm_types_placed.specs.Instances.{items_of}
 use Rattle.cm_types_placed.specs.Placed.{moved_by}
 use Rattle.cm_types_placed.specs.declared.instances.InstanceType.{InstanceType}
 use Rattle.cm_types_placed.specs.Externs.{extern_of, is_extern_there}
-use Rattle.cm_types_placed.specs.declared.signatures.Extern.{Extern}
-use Rattle.cm_types_placed.specs.declared.signatures.ExternDesc.TheVariants as desc
+use Rattle.cm_types_placed.specs.declared.externs.Extern.{Extern}
+use Rattle.cm_types_placed.specs.declared.externs.ExternDesc.TheVariants as desc
 use Rattle.cm_validate_model.specs.Spaces.{Spaces, spaces_of}
 use Rattle.cm_validate_model.specs.Valid.{IsValid}
 use Rattle.cm_validate_items.specs.Shared.{AreShared}

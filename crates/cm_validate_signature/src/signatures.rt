@@ -1,12 +1,12 @@
 //! Signatures of valid components.
 
 ghost use Rattle.std.specs.Prelude.{◌≡◌, IfOk};
-ghost use Rattle.cm_types_placed.specs.Signatures.{signature_of};
+ghost use Rattle.cm_types_signatures.specs.Signatures.{signature_of};
 ghost use Rattle.cm_validate_spaces.specs.Checked.{spaces_in};
 ghost use Rattle.cm_validate_signature.specs.Exports.{signature_in};
 
 use crate::externs::exported_externs;
-use cm_types_placed::Signature;
+use cm_types_signatures::Signature;
 use cm_validate_items::Shared;
 use cm_validate_spaces::{Checked, ComponentExterns};
 use std::alloc::{AllocError, Global};

@@ -14,8 +14,8 @@ use Rattle.cm_types_placed.specs.Instances.{items_of, replaced_item}
 use Rattle.cm_types_placed.specs.Placed.{moved_by}
 use Rattle.cm_types_placed.specs.declared.instances.InstanceType.{InstanceType}
 use Rattle.cm_types_placed.specs.declared.instances.Item.{Item}
-use Rattle.cm_types_placed.specs.declared.signatures.ExternDesc.{ExternDesc}
-use Rattle.cm_types_placed.specs.declared.signatures.ExternDesc.TheVariants as extern
+use Rattle.cm_types_placed.specs.declared.externs.ExternDesc.{ExternDesc}
+use Rattle.cm_types_placed.specs.declared.externs.ExternDesc.TheVariants as extern
 use Rattle.cm_wit_conforms.specs.Comparisons.{extern_entries, item_entries, named}
 use Rattle.cm_wit_conforms.specs.declared.fault.ConformList.{ConformList}
 use Rattle.cm_wit_conforms.specs.Views.{brought_item, desc_in}

@@ -10,7 +10,7 @@ use Rattle.cm_types_placed.specs.declared.instances.Item.{Item}
 use Rattle.cm_types_placed.specs.declared.instances.ItemDesc.{ItemDesc}
 use Rattle.cm_types_numbers.specs.Moved.{brought_func, brought_type}
 use Rattle.cm_types_placed.specs.Externs.{extern_desc_of}
-use Rattle.cm_types_placed.specs.declared.signatures.ExternDesc.{ExternDesc}
+use Rattle.cm_types_placed.specs.declared.externs.ExternDesc.{ExternDesc}
 use Rattle.cm_wit_conforms.specs.Comparisons as all
 use Rattle.cm_wit_conforms.specs.Comparisons.{Entry, nothing, two_sorts, two_funcs, two_types}
 use Rattle.cm_wit_conforms.specs.Comparisons.{two_resources}

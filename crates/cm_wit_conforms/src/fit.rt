@@ -1,7 +1,7 @@
 //! Whether a signature fits a world.
 
 ghost use Rattle.std.specs.Prelude.{◌≡◌, ◌⊎◌, IfErr, List, OnOk, map};
-ghost use Rattle.cm_types_placed.specs.Signatures.{signature_of};
+ghost use Rattle.cm_types_signatures.specs.Signatures.{signature_of};
 ghost use Rattle.cm_wit_conforms.specs.Comparisons.{Entry};
 ghost use Rattle.cm_wit_conforms.specs.Conformance.{AllFit, Conforms, IsFirstFault, IsFirstIn};
 ghost use Rattle.cm_wit_conforms.specs.Judging.{AreSides};
@@ -12,7 +12,7 @@ use crate::fault::{ConformFault, ConformReason};
 use crate::judge::{Side, Tables};
 use crate::pairs::Pairs;
 use crate::walk::entries;
-use cm_types_placed::Signature;
+use cm_types_signatures::Signature;
 use std::alloc::Global;
 
 /// Whether all that is compared fits, or the first fault.

@@ -13,9 +13,9 @@ use Rattle.cm_types_placed.specs.Placed.{moved_by}
 use Rattle.cm_types_placed.specs.Instances.{items_of, replaced_item, are_items_there}
 use Rattle.cm_types_placed.specs.declared.instances.Item.{Item}
 use Rattle.cm_types_placed.specs.Externs.{extern_desc_of, extern_of, externs_in, is_extern_there, are_externs_in}
-use Rattle.cm_types_placed.specs.declared.signatures.Extern.{Extern}
-use Rattle.cm_types_placed.specs.declared.signatures.ExternDesc.{ExternDesc}
-use Rattle.cm_types_placed.specs.declared.signatures.ExternDesc.TheVariants as extern
+use Rattle.cm_types_placed.specs.declared.externs.Extern.{Extern}
+use Rattle.cm_types_placed.specs.declared.externs.ExternDesc.{ExternDesc}
+use Rattle.cm_types_placed.specs.declared.externs.ExternDesc.TheVariants as extern
 use Rattle.cm_wit_worlds.specs.Interfaces.{PlacedInterface, PlacedWorld}
 use Rattle.cm_wit_meanings.specs.declared.fault.MeaningFault.{MeaningFault}
 use Rattle.cm_wit_meanings.specs.declared.fault.MeaningFault.TheVariants as fault

@@ -3,7 +3,7 @@ use Rattle.std.proofs.Common.{◌≡◌, ◌∙◌, ◌<◌, ◌≤◌, ℕ, Lis
 use Rattle.std.specs.Option.{option_map, option_and_then}
 use Rattle.std.specs.List.{position_from}
 use Rattle.std.proofs.lemmas.Option.{slice_get-map, slice_get_past, slice_get-get_or}
-use Rattle.cm_types_placed.specs.declared.signatures.Signature.{Signature}
+use Rattle.cm_types_signatures.specs.declared.signatures.Signature.{Signature}
 use Rattle.cm_wit_reading.specs.Trees.{File}
 use Rattle.cm_wit_worlds.specs.Interfaces.{PlacedWorld, worlds, is_world}
 use Rattle.cm_wit_worlds.specs.InterfaceViews.{placed_world}

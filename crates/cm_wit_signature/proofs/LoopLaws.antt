@@ -9,7 +9,7 @@ use Rattle.cm_wit_graph.specs.Listed.{listed}
 use Rattle.cm_types_arena.specs.Places.{types_of, funcs_of}
 use Rattle.cm_types_arena.specs.declared.types.Types.{Types}
 use Rattle.cm_types_placed.specs.Externs.{externs_in, are_externs_in}
-use Rattle.cm_types_placed.specs.declared.signatures.Extern.{Extern}
+use Rattle.cm_types_placed.specs.declared.externs.Extern.{Extern}
 use Rattle.cm_wit_meanings.specs.declared.fault.MeaningFault.{MeaningFault}
 use Rattle.cm_wit_meanings.specs.declared.scope.Meaning.{Meaning}
 use Rattle.cm_wit_meanings.specs.Scopes as meant

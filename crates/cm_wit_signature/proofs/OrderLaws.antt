@@ -1,7 +1,7 @@
 -- What a world imports and exports, and what is known of its instances.
 use Rattle.std.proofs.Common.{◌≡◌, ℕ, List, Result, Ok, Err, IfOk, IfErr, Some, length, subst}
-use Rattle.cm_types_placed.specs.Signatures.{signature_of}
-use Rattle.cm_types_placed.specs.declared.signatures.Signature.{Signature}
+use Rattle.cm_types_signatures.specs.Signatures.{signature_of}
+use Rattle.cm_types_signatures.specs.declared.signatures.Signature.{Signature}
 use Rattle.cm_wit_reading.specs.Trees.{File}
 use Rattle.cm_wit_worlds.specs.Interfaces.{PlacedInterface, PlacedWorld, interfaces}
 use Rattle.cm_wit_tables.specs.Declarations.{Declaration}

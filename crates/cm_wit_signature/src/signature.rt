@@ -2,7 +2,7 @@
 
 ghost use Rattle.std.specs.Prelude.{◌≡◌, ◌<◌, ◌^◌, ℕ, Some, IfOk, IfErr, length};
 ghost use Rattle.cm_types_arena.specs.Places.{types_of};
-ghost use Rattle.cm_types_placed.specs.Signatures.{signature_of};
+ghost use Rattle.cm_types_signatures.specs.Signatures.{signature_of};
 ghost use Rattle.cm_wit_meanings.specs.Places.{ArePlaced};
 ghost use Rattle.cm_wit_items.specs.ItemFaults.{AreWithin, IsFaultWith};
 ghost use Rattle.cm_wit_items.specs.Functions.{funcs_in};
@@ -13,7 +13,7 @@ ghost use Rattle.cm_wit_signature.specs.PartViews.{interfaces_in, scopes_in, wor
 use crate::externs::push_externs;
 use crate::parts::Parts;
 use cm_types_arena::Types;
-use cm_types_placed::Signature;
+use cm_types_signatures::Signature;
 use cm_wit_items::laws::{items_stay, tables_stay};
 use cm_wit_meanings::MeaningFault;
 use std::alloc::Global;

@@ -2,7 +2,7 @@
 
 ghost use Rattle.std.specs.Prelude.{◌≡◌, ◌<◌, ◌^◌, ℕ, List, Some, IfOk, IfErr, length, map};
 ghost use Rattle.cm_wit_graph.specs.Listed.{listed};
-ghost use Rattle.cm_types_placed.specs.Signatures.{signature_of};
+ghost use Rattle.cm_types_signatures.specs.Signatures.{signature_of};
 ghost use Rattle.cm_types_arena.specs.Places.{types_of};
 ghost use Rattle.cm_wit_tables.specs.DeclaredViews.{declaration_view, instance_view};
 ghost use Rattle.cm_wit_worlds.specs.Interfaces as spec;
@@ -22,7 +22,7 @@ use crate::faults::{fault_of_meaning, fault_of_table};
 use crate::laws::typing_faults_are_of_worlds;
 use crate::{Parts, WorldInstances, instances_of, signature_with, typed_declarations};
 use cm_types_arena::Types;
-use cm_types_placed::Signature;
+use cm_types_signatures::Signature;
 use cm_wit_items::signature_laws::{resources_are_own, typed_ones_have_signatures};
 use cm_wit_meanings::MeaningFault;
 use cm_wit_tables::{Declaration, Table, table_of};

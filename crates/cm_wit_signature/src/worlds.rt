@@ -2,7 +2,7 @@
 
 ghost use Rattle.std.specs.Prelude.{◌≡◌, ℕ, List, Some, IfOk, IfErr, map};
 ghost use Rattle.std.specs.String.{string_bytes};
-ghost use Rattle.cm_types_placed.specs.Signatures.{signature_of};
+ghost use Rattle.cm_types_signatures.specs.Signatures.{signature_of};
 ghost use Rattle.cm_wit_package.specs.PackageViews.{package_tree};
 ghost use Rattle.cm_wit_worlds.specs.Interfaces as spec;
 ghost use Rattle.cm_wit_worlds.specs.Interfaces.{package_name};
@@ -12,7 +12,7 @@ ghost use Rattle.cm_wit_items.specs.Faults.{IsWorldSignature, world_of};
 
 use crate::signing::signature_in_order;
 use crate::{cycle_fault, package_files};
-use cm_types_placed::Signature;
+use cm_types_signatures::Signature;
 use cm_wit_package::Package;
 use cm_wit_worlds::{
     Directory, PlacedInterface, PlacedWorld, WorldFault, externs_of, interfaces, package_names,

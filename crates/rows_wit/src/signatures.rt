@@ -15,8 +15,9 @@ ghost use Rattle.cm_types_placed.specs.Externs.{are_externs_in, is_extern_there}
 use cm_rows::{Line, split_repeat, word, words_from};
 use cm_rows_types::{Arena, Places, read_move, read_name};
 use cm_types_arena::Types;
-use cm_types_placed::{Extern, ExternDesc, InstanceType, Item, ItemDesc, Placed, Signature};
+use cm_types_placed::{Extern, ExternDesc, InstanceType, Item, ItemDesc, Placed};
 use cm_types_resources::Move;
+use cm_types_signatures::Signature;
 use std::alloc::Global;
 use std::rc::Rc;
 

@@ -4,7 +4,7 @@ use Rattle.std.specs.Option.{option_map}
 use Rattle.std.proofs.lemmas.List.{length-map}
 use Rattle.cm_types_arena.specs.Places.{types_of, funcs_of}
 use Rattle.cm_types_placed.specs.Externs.{are_externs_in, extern_of, externs_in}
-use Rattle.cm_types_placed.specs.declared.signatures.Extern.{Extern}
+use Rattle.cm_types_placed.specs.declared.externs.Extern.{Extern}
 use Rattle.cm_wit_worlds.specs.InterfaceViews.{placed_interface}
 use Rattle.cm_wit_items.specs.ItemFaults.{AreWithin}
 use Rattle.cm_wit_items.specs.Functions.{extern_funcs}

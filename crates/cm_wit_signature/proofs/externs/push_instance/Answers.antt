@@ -5,7 +5,7 @@ use Rattle.cm_types_placed.specs.declared.instances.InstanceType.{InstanceType}
 use Rattle.cm_types_placed.specs.declared.instances.Item.{Item}
 use Rattle.cm_types_placed.specs.Placed.{moved_by}
 use Rattle.cm_types_placed.specs.Instances.{items_of, replaced_item}
-use Rattle.cm_types_placed.specs.declared.signatures.ExternDesc.TheVariants as extern
+use Rattle.cm_types_placed.specs.declared.externs.ExternDesc.TheVariants as extern
 use Rattle.cm_types_arena.specs.Places.{types_of, funcs_of}
 use Rattle.cm_wit_worlds.specs.InterfaceViews.{placed_interface}
 use Rattle.cm_wit_items.specs.ItemFaults.{AreWithin}

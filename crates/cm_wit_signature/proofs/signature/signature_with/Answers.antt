@@ -2,7 +2,7 @@ use Rattle.std.proofs.Common.{rules, List, Option, sym, subst, ◌∙◌}
 use Rattle.cm_types_arena.specs.Places.{types_of}
 use Rattle.cm_types.specs.Signatures.{NamedExtern}
 use Rattle.cm_types_placed.specs.Externs.{externs_in}
-use Rattle.cm_types_placed.specs.Signatures.{signature_of}
+use Rattle.cm_types_signatures.specs.Signatures.{signature_of}
 use Rattle.cm_wit_items.specs.Signatures.{externs_from}
 use Rattle.cm_wit_signature.specs.Adding.{AreExternsFault}
 use Rattle.cm_wit_signature.specs.PartViews.{interfaces_in, world_in, scopes_in}

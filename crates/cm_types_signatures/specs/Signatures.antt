@@ -2,7 +2,7 @@
 use Rattle.std.specs.Prelude.{List}
 use Rattle.cm_types.specs.Signatures.{NamedExtern, SignatureTy}
 use Rattle.cm_types_placed.specs.Externs.{externs_in}
-use Rattle.cm_types_placed.specs.declared.signatures.Signature.{Signature}
+use Rattle.cm_types_signatures.specs.declared.signatures.Signature.{Signature}
 
 abbrev pub imports_in : Signature → List NamedExtern
 imports_in s = externs_in s.types s.imports.items

@@ -1,13 +1,10 @@
-//! Imports and exports.
+//! Signatures.
 
 ghost use Rattle.std.specs.Prelude.{◌≡◌, true};
 ghost use Rattle.cm_types_placed.specs.Externs.{are_externs_in};
 
-use crate::{InstanceType, Placed};
-use cm_types::ExternName;
 use cm_types_arena::Types;
-use cm_types_resources::Move;
-use std::rc::Rc;
+use cm_types_placed::Extern;
 
 /// What a component, or a world, imports and exports, each in its order (Binary.md, "Import and
 /// Export Definitions"; WIT.md, "Worlds"). Their types stand in one arena, each once; the items of
@@ -21,28 +18,9 @@ pub struct Signature {
     ghost exports_there: { are_externs_in types exports.items ≡ true },
 }
 
-/// An import or an export.
-#[derive(Drop)]
-pub struct Extern {
-    pub name: ExternName,
-    pub desc: ExternDesc,
-}
-
-/// What an import or an export is.
-#[derive(Drop)]
-pub enum ExternDesc {
-    /// A function, by its type among those of functions.
-    Func(Placed),
-    /// An instance: its items, with the resources counted as the import counts them.
-    Instance {
-        ty: Rc<InstanceType>,
-        by: Option<Move>,
-    },
-}
-
 impl Signature {
     ghost use Rattle.cm_types_placed.specs.Externs.{externs_in};
-    ghost use Rattle.cm_types_placed.specs.Signatures.{exports_in, imports_in};
+    ghost use Rattle.cm_types_signatures.specs.Signatures.{exports_in, imports_in};
 
     /// These imports and exports, whose places are of this arena.
     pub fn new(types: Types, imports: Vec<Extern>, exports: Vec<Extern>) -> Signature
