@@ -1,1 +1,4 @@
+pub mod SharedNames
+pub mod Shared
+pub mod Listed
 pub mod Signatures
