@@ -1,0 +1,5 @@
+pub mod MapLaws
+pub mod ListingLaws
+pub mod ListLaws
+pub mod NumberLaws
+pub mod PlaceLaws

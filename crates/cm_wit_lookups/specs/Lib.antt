@@ -1,0 +1,5 @@
+pub mod Parts
+pub mod Views
+pub mod Numbers
+pub mod Listings
+pub mod Places
