@@ -1,5 +1,5 @@
-mod KeyLaws
 mod WalkLaws
+mod PlacedLaws
 mod TableLaws
 mod FaultLaws
 mod JudgeLaws

@@ -1,24 +1,13 @@
 -- Entries added one by one.
-use Rattle.std.proofs.Common.{◌≡◌, ℕ, ◌+◌, ◌<◌, ◌≤◌, Bool, true, false, if◌then◌else◌, Option, Some, List, [], ◌∷◌, ◌++◌, length, map, drop, get_or, refl, sym, ap, ◌∙◌, append_assoc, append-nil}
-use Rattle.std.specs.Option.{option_map}
+use Rattle.std.proofs.Common.{◌≡◌, ℕ, zero, suc, ◌+◌, ◌<◌, ◌≤◌, Bool, cond, Option, Some, None, List, [], ◌∷◌, ◌++◌, length, map, drop, get_or, inl, inr, refl, sym, ap, ◌∙◌, arith, append_assoc, append-nil}
+use Rattle.std.specs.List.{position_from, slice_get}
+use Rattle.std.specs.Option.{option_and_then, option_map}
 use Rattle.std.specs.Str.{bytes_eq}
-use Rattle.std.proofs.lemmas.List.{drop_all, drop_more, map-append}
+use Rattle.std.proofs.lemmas.Bool.{cases_Bool}
+use Rattle.std.proofs.lemmas.List.{drop_all, drop_more, length-map, map-append}
 use Rattle.std.specs.Prelude.{Result, Ok, Err, OnOk}
-use Rattle.std.specs.declared.rc.Rc.{Rc}
-use Rattle.std.specs.declared.alloc.Global.{Global}
-use Rattle.cm_types.specs.Signatures.{NamedItem}
-use Rattle.cm_types_resources.specs.declared.moves.Move.{Move}
-use Rattle.cm_types_arena.specs.Places.{funcs_of, types_of}
-use Rattle.cm_types_arena.specs.declared.types.Types.{Types}
-use Rattle.cm_types_placed.specs.Instances.{items_of, replaced_item}
-use Rattle.cm_types_placed.specs.Placed.{moved_by}
-use Rattle.cm_types_placed.specs.declared.instances.InstanceType.{InstanceType}
-use Rattle.cm_types_placed.specs.declared.instances.Item.{Item}
-use Rattle.cm_types_placed.specs.declared.externs.ExternDesc.{ExternDesc}
-use Rattle.cm_types_placed.specs.declared.externs.ExternDesc.TheVariants as extern
-use Rattle.cm_wit_conforms.specs.Comparisons.{extern_entries, item_entries, named}
-use Rattle.cm_wit_conforms.specs.declared.fault.ConformList.{ConformList}
-use Rattle.cm_wit_conforms.specs.Views.{brought_item, desc_in}
+use Rattle.cm_wit_lookups.specs.Places.{place_in}
+use Rattle.cm_wit_conforms.specs.Comparisons.{named}
 
 next_element : {A B : Type 0} (view : A → B) (xs : List A) (i : ℕ) (x : A) → i < length xs → x ≡ get_or xs i x → map view (drop i xs) ≡ view x ∷ map view (drop (i + 1) xs)
 next_element {A} view xs i x lt is = ap (map view) (drop_more xs i x lt ∙ ap (λ (a : A). a ∷ drop (i + 1) xs) (sym is))
@@ -46,38 +35,55 @@ module _ {A B C D : Type 0} (view : A → B) (F : ℕ → List B → List D) (sh
 pub one_pushed : {C D : Type 0} (shown : C → D) (out next : List C) (c : C) (d : D) → next ≡ out ++ c ∷ [] → shown c ≡ d → map shown next ≡ map shown out ++ d ∷ []
 one_pushed {C} {D} shown out next c d n e = ap (map shown) n ∙ map-append shown out (c ∷ []) ∙ ap (λ (y : D). map shown out ++ y ∷ []) e
 
--- ---- what is found, as what it is
+-- ---- what stands at a place
 
-module _ {A B C : Type 0} (name_of : A → List ℕ) (what : A → B) (view : B → C) (name : List ℕ) where
-  pub named_view : {D : Type 0} (shown : A → D) (shown_name : D → List ℕ) (shown_what : D → C) → ((x : A) → shown_name (shown x) ≡ name_of x) → ((x : A) → shown_what (shown x) ≡ view (what x)) → (xs : List A) → named shown_name shown_what name (map shown xs) ≡ option_map view (named name_of what name xs)
-  named_view shown shown_name shown_what n e [] = refl
-  named_view {D} shown shown_name shown_what n e (x ∷ xs) =
-      ap (λ (m : List ℕ). if bytes_eq name m then Some (shown_what (shown x)) else named shown_name shown_what name (map shown xs)) (n x)
-      ∙ ap (λ (y : C). if bytes_eq name (name_of x) then Some y else named shown_name shown_what name (map shown xs)) (e x)
-      ∙ ap (λ (o : Option C). if bytes_eq name (name_of x) then Some (view (what x)) else o) (named_view shown shown_name shown_what n e xs)
-      ∙ mapped (bytes_eq name (name_of x)) (what x) (named name_of what name xs)
-    where
-      mapped : (b : Bool) (y : B) (o : Option B) → (if b then Some (view y) else option_map view o) ≡ option_map view (if b then Some y else o)
-      mapped true y o = refl
-      mapped false y o = refl
+shift : {K : Type 0} (P : K → Bool) (i : ℕ) (xs : List K) → position_from P (i + 1) xs ≡ option_map suc (position_from P i xs)
+shift P i [] = refl
+shift P i (x ∷ xs) = elim (cases_Bool (P x)) [
+  | inl h ↦
+      ap (λ (b : Bool). cond b (Some (i + 1)) (position_from P (i + 1 + 1) xs)) h
+      ∙ (ap (λ (n : ℕ). let o : Option ℕ = Some n in o) (omega arith)
+      ∙ sym (ap (λ (b : Bool). option_map suc (cond b (Some i) (position_from P (i + 1) xs))) h))
+  | inr h ↦
+      ap (λ (b : Bool). cond b (Some (i + 1)) (position_from P (i + 1 + 1) xs)) h
+      ∙ (shift P (i + 1) xs
+      ∙ sym (ap (λ (b : Bool). option_map suc (cond b (Some i) (position_from P (i + 1) xs))) h))
+]
 
--- ---- instances
+later : {A : Type 0} (x : A) (xs : List A) (o : Option ℕ) → option_and_then (slice_get (x ∷ xs)) (option_map suc o) ≡ option_and_then (slice_get xs) o
+later x xs None = refl
+later x xs (Some i) = refl
 
-pub mapped : (types : Types) (by : Option Move) (items : List Item) → map (brought_item types by) items ≡ map (replaced_item (moved_by by)) (items_of (types_of types) (funcs_of types) items)
-mapped types by [] = refl
-mapped types by (i ∷ is) = ap (λ (l : List NamedItem). brought_item types by i ∷ l) (mapped types by is)
+-- what has a name is what stands at its place
+pub named_placed : {A B D : Type 0} (name_of : A → List ℕ) (shown : A → D) (shown_name : D → List ℕ) (what : D → B) → ((x : A) → shown_name (shown x) ≡ name_of x) → (name : List ℕ) (xs : List A) → named shown_name what name (map shown xs) ≡ option_map (λ x. what (shown x)) (option_and_then (slice_get xs) (place_in (map name_of xs) name))
+named_placed name_of shown shown_name what same name [] = refl
+named_placed {A} {B} {D} name_of shown shown_name what same name (x ∷ xs) = elim (cases_Bool (bytes_eq name (name_of x))) [
+  | inl h ↦
+      ap (λ (b : Bool). cond b (Some (what (shown x))) (named shown_name what name (map shown xs))) (ap (bytes_eq name) (same x) ∙ h)
+      ∙ sym (ap (λ (b : Bool). option_map (λ y. what (shown y)) (option_and_then (slice_get (x ∷ xs)) (cond b (Some 0) (position_from (bytes_eq name) (0 + 1) (map name_of xs))))) h)
+  | inr h ↦
+      ap (λ (b : Bool). cond b (Some (what (shown x))) (named shown_name what name (map shown xs))) (ap (bytes_eq name) (same x) ∙ h)
+      ∙ (named_placed name_of shown shown_name what same name xs
+      ∙ (sym (ap (option_map (λ y. what (shown y))) (later x xs (place_in (map name_of xs) name)))
+      ∙ (sym (ap (λ (o : Option ℕ). option_map (λ y. what (shown y)) (option_and_then (slice_get (x ∷ xs)) o)) (shift (bytes_eq name) 0 (map name_of xs)))
+      ∙ sym (ap (λ (b : Bool). option_map (λ y. what (shown y)) (option_and_then (slice_get (x ∷ xs)) (cond b (Some 0) (position_from (bytes_eq name) (0 + 1) (map name_of xs))))) h))))
+]
+
+-- the place of the i-th name is the i-th of all places
+pub place_at : {A : Type 0} (name_of : A → List ℕ) (f : List ℕ → Option ℕ) (xs : List A) (i : ℕ) (d : Option ℕ) → i < length (map f (map name_of xs)) → (x : A) × (slice_get xs i ≡ Some x) × (x ≡ get_or xs i x) × (get_or (map f (map name_of xs)) i d ≡ f (name_of x)) × (i < length xs)
+place_at name_of f [] i d lt = absurd (omega (arith, lt))
+place_at name_of f (x ∷ xs) zero d lt = (x, refl, refl, refl, omega arith)
+place_at name_of f (x ∷ xs) (suc i) d lt =
+    let h = place_at name_of f xs i d (omega (arith, lt)) in
+    (h.0, h.1, h.2, h.3, omega (arith, h.4))
+
+pub all_placed : {A : Type 0} (name_of : A → List ℕ) (f : List ℕ → Option ℕ) (xs : List A) (places : List (Option ℕ)) → places ≡ map f (map name_of xs) → length places ≡ length xs
+all_placed name_of f xs places e = ap (λ (l : List (Option ℕ)). length l) e ∙ (length-map (map name_of xs) f ∙ length-map xs name_of)
 
 pub on_ok_more : {T E : Type 0} (r : Result T E) (P Q : Type 0) → OnOk r P → (P → Q) → OnOk r Q
 on_ok_more (Ok v) P Q h f = f h
 on_ok_more (Err e) P Q h f = tt
 
--- the entries of two instances, by their items as they lie in memory
-pub instance_entries : (mine theirs : Types) (list : ConformList) (place : ℕ) (desc found : ExternDesc) (ty others : Rc InstanceType Global) (by others_by : Option Move) (items other_items : List Item)
-    → found ≡ extern.Instance others others_by → desc ≡ extern.Instance ty by → items ≡ ty.value.items.items → other_items ≡ others.value.items.items
-    → item_entries list place (map (brought_item theirs others_by) other_items) 0 (map (brought_item mine by) items) ≡ extern_entries list place (Some (desc_in theirs found)) (desc_in mine desc)
-instance_entries mine theirs list place desc found ty others by others_by items other_items f d i o =
-    ap (λ (xs : List Item). item_entries list place (map (brought_item theirs others_by) xs) 0 (map (brought_item mine by) items)) o
-    ∙ ap (λ (xs : List Item). item_entries list place (map (brought_item theirs others_by) others.value.items.items) 0 (map (brought_item mine by) xs)) i
-    ∙ ap (λ (xs : List NamedItem). item_entries list place xs 0 (map (brought_item mine by) ty.value.items.items)) (mapped theirs others_by others.value.items.items)
-    ∙ ap (λ (xs : List NamedItem). item_entries list place (map (replaced_item (moved_by others_by)) (items_of (types_of theirs) (funcs_of theirs) others.value.items.items)) 0 xs) (mapped mine by ty.value.items.items)
-    ∙ sym (ap (λ (e : ExternDesc). extern_entries list place (Some (desc_in theirs e)) (desc_in mine desc)) f ∙ ap (λ (e : ExternDesc). extern_entries list place (Some (desc_in theirs (extern.Instance others others_by))) (desc_in mine e)) d)
+pub map_same : {A : Type 0} (xs : List A) → map (λ x. x) xs ≡ xs
+map_same [] = refl
+map_same {A} (x ∷ xs) = ap (λ (l : List A). x ∷ l) (map_same xs)

@@ -1,5 +1,4 @@
 pub mod Judging
-pub mod Keys
 pub mod Pairs
 pub mod Views
 pub mod Comparisons

@@ -1,19 +1,22 @@
 -- What the code compares, among the types of the signature's arena and of the world's.
-use Rattle.std.specs.Prelude.{Option}
-use Rattle.cm_types.specs.Signatures.{ItemTy, NamedItem, ExternTy}
+use Rattle.std.specs.Prelude.{ℕ, List, [], ◌∷◌, Option, Some, None, slice_get}
+use Rattle.std.specs.Option.{option_and_then, option_map}
+use Rattle.cm_types.specs.Signatures.{ItemTy, ExternTy}
 use Rattle.cm_types_resources.specs.declared.moves.Move.{Move}
 use Rattle.cm_types_arena.specs.Places.{types_of, funcs_of}
 use Rattle.cm_types_arena.specs.declared.types.Types.{Types}
 use Rattle.cm_types_placed.specs.Placed.{moved_by}
-use Rattle.cm_types_placed.specs.Instances.{desc_of, item_of, replaced_desc, replaced_item}
-use Rattle.cm_types_placed.specs.declared.instances.Item.{Item}
+use Rattle.cm_types_placed.specs.Instances.{desc_of, replaced_desc}
 use Rattle.cm_types_placed.specs.declared.instances.ItemDesc.{ItemDesc}
 use Rattle.cm_types_numbers.specs.Moved.{brought_func, brought_type}
-use Rattle.cm_types_placed.specs.Externs.{extern_desc_of}
-use Rattle.cm_types_placed.specs.declared.externs.ExternDesc.{ExternDesc}
+use Rattle.cm_types_signatures.specs.Listed.{by_of, externs_listed, items_listed}
+use Rattle.cm_types_signatures.specs.declared.externs.Externs.{Externs}
+use Rattle.cm_types_signatures.specs.declared.externs.Items.{Items}
 use Rattle.cm_wit_conforms.specs.Comparisons as all
 use Rattle.cm_wit_conforms.specs.Comparisons.{Entry, nothing, two_sorts, two_funcs, two_types}
+use Rattle.cm_wit_conforms.specs.Comparisons.{extern_entries, facing, or_nothing, two_items}
 use Rattle.cm_wit_conforms.specs.Comparisons.{two_resources}
+use Rattle.cm_wit_conforms.specs.declared.fault.ConformItem.{ConformItem}
 use Rattle.cm_wit_conforms.specs.declared.fault.ConformList.{ConformList}
 use Rattle.cm_wit_conforms.specs.declared.fault.ConformList.TheVariants as walked
 use Rattle.cm_wit_conforms.specs.declared.comparisons.Comparison.{Comparison}
@@ -36,10 +39,6 @@ abbrev pub brought_desc : Types → Option Move → ItemDesc → ItemTy
 brought_desc types by desc =
     replaced_desc (moved_by by) (desc_of (types_of types) (funcs_of types) desc)
 
-abbrev pub brought_item : Types → Option Move → Item → NamedItem
-brought_item types by i =
-    replaced_item (moved_by by) (item_of (types_of types) (funcs_of types) i)
-
 -- that of the two which a list is of, and the other
 abbrev pub own : {A : Type 0} → ConformList → A → A → A
 own walked.WorldExports have world = world
@@ -49,6 +48,29 @@ abbrev pub other : {A : Type 0} → ConformList → A → A → A
 other walked.WorldExports have world = have
 other walked.HaveImports have world = world
 
--- what an import or export is, among the types of an arena
-abbrev pub desc_in : Types → ExternDesc → ExternTy
-desc_in types desc = extern_desc_of (types_of types) (funcs_of types) desc
+-- what the item is that stands at a place, as it stands, if one does
+abbrev pub item_stands : Types → Items → Option ℕ → Option ItemTy
+item_stands t others place =
+    option_map (λ i. i.desc) (option_and_then (slice_get (items_listed t others)) place)
+
+-- the same as an import or export counts its resources
+abbrev pub item_found : Types → Items → Option ℕ → Option ItemTy
+item_found t others place =
+    option_map (replaced_desc (moved_by (by_of others))) (item_stands t others place)
+
+-- what the import or export is that stands at a place, if one does
+abbrev pub extern_found : Types → Externs → Option ℕ → Option ExternTy
+extern_found t others place =
+    option_map (λ e. e.desc) (option_and_then (slice_get (externs_listed t others)) place)
+
+-- what is compared of an item, if there is one, and of an import or export, if there is one
+abbrev pub entries_at : ConformItem → Types → Items → Option ℕ → Option ItemTy → List Entry
+entries_at at t others place None = []
+entries_at at t others place (Some x) = record {
+  item = at;
+  what = or_nothing (option_map (facing two_items at.list x) (item_found t others place));
+} ∷ []
+
+abbrev pub entries_of : ConformList → ℕ → Option ExternTy → Option ExternTy → List Entry
+entries_of list place found None = []
+entries_of list place found (Some x) = extern_entries list place found x

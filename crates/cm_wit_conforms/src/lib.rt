@@ -7,7 +7,6 @@ mod comparisons;
 mod fault;
 mod fit;
 mod judge;
-mod keys;
 pub mod laws;
 mod pairs;
 mod walk;
