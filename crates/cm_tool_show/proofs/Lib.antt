@@ -2,6 +2,7 @@ pub mod Seen
 pub mod PageLaws
 pub mod JoinLaws
 pub mod ShownLaws
+pub mod NameLaws
 pub mod ListLaws
 pub mod LineLaws
 pub mod KeyLaws

@@ -40,8 +40,11 @@ answers {ps} {p} {q} {r} {x} e h = subst (λ (y : Result (Unit {0}) ShowFault). 
 
 -- ---- nothing, and pieces behind others
 
+pub all_shown : {ps : List Piece} {p q : Page} {u : Unit {0}} → Wrote ps p q → Shows ps p q (Ok u)
+all_shown w = record { wrote = w; over = λ e. absurd cc }
+
 pub none_shown : (p : Page) (u : Unit {0}) → Shows [] p p (Ok u)
-none_shown p u = record { wrote = wrote_none p; over = λ e. absurd cc }
+none_shown p u = all_shown (wrote_none p)
 
 wrote_then : (a b : List Piece) (p q s : Page) (r : Result (Unit {0}) ShowFault) → Wrote a p q → OnOk r (Wrote b q s) → OnOk r (Wrote (a ++ b) p s)
 wrote_then a b p q s (Ok u) v w = wrote_more a b p q s v w

@@ -8,6 +8,7 @@ mod fault;
 mod items;
 pub mod laws;
 mod lists;
+mod names;
 mod page;
 pub mod pages_laws;
 mod putting;

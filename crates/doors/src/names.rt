@@ -59,5 +59,8 @@ pub mod tool {
 }
 
 pub mod front {
+    pub use huxarte::components::{
+        Desc, Externs, ItemDesc, Items, NamedDesc, NamedItem, Placed, Signature,
+    };
     pub use huxarte::{LoadFault, load};
 }

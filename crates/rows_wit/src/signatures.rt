@@ -17,7 +17,7 @@ use cm_rows_types::{Arena, Places, read_move, read_name};
 use cm_types_arena::Types;
 use cm_types_placed::{Extern, ExternDesc, InstanceType, Item, ItemDesc, Placed};
 use cm_types_resources::Move;
-use cm_types_signatures::Signature;
+use cm_types_signatures::{Externs, Signature};
 use std::alloc::Global;
 use std::rc::Rc;
 
@@ -32,7 +32,11 @@ pub fn read_signature(alloc: Global, words: &[&str], line: &mut Line) -> Option<
         line.refuse();
         return None;
     }
-    Some(Signature::new(types, imports, exports))
+    Some(Signature::new(
+        types,
+        Externs::OfComponent(imports),
+        Externs::OfComponent(exports),
+    ))
 }
 
 fn read_types(alloc: Global, words: &[&str], line: &mut Line) -> Option<Types> {

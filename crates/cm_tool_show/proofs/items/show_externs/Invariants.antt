@@ -1,6 +1,7 @@
+use Rattle.cm_types_signatures.specs.Listed.{externs_listed}
 use Rattle.cm_tool_show.specs.Written.{Wrote}
-use Rattle.cm_tool_show.proofs.LineLaws.{first_lines, placed_lines}
+use Rattle.cm_tool_show.proofs.LineLaws.{first_lines, word_lines}
 use Rattle.cm_tool_show.proofs.items.show_externs.Given as goal
 
-abbrev pub invariant-loop-each : goal.invariant-loop-each
-invariant-loop-each l = Wrote (first_lines (placed_lines l.types l.word) l.externs l.each-index) l.fn.page l.page
+abbrev pub invariant-loop-place : goal.invariant-loop-place
+invariant-loop-place l = Wrote (first_lines (word_lines l.word) (externs_listed l.types l.externs) l.place) l.fn.page l.page
