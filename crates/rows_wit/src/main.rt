@@ -57,6 +57,7 @@ impl Driver for WitRows {
         let rest = words_from(words, 1);
         match word(words, 0) {
             "conforms" => conforming::answer(alloc, rest, line),
+            "against" => conforming::answer_text(alloc, rest, line),
             "shows" => shown::answer(alloc, rest, line),
             "wit" => answer_on_texts(alloc, &mut self.texts, rest, line),
             _ => line.refuse(),
@@ -66,8 +67,8 @@ impl Driver for WitRows {
 
 /// Writes the answer to `text NAME` or `line WORD..`, which make texts; to `read WORD..`, `parse
 /// WORD..` or `printed WORD..`, on the text that the words are; to `print NAME NAME` or `faults
-/// KIND`; or to `world NAME`, `number NUMBER`, `table INSTANCES` or `signature NAME`, each with the
-/// texts of packages behind it.
+/// KIND`; or to `world NAME`, `number NUMBER`, `table INSTANCES`, `signature NAME` or `fits NAME
+/// NAME`, each with the texts of packages behind it.
 fn answer_on_texts(alloc: Global, texts: &mut Texts, words: &[&str], line: &mut Line) {
     let rest = words_from(words, 1);
     match word(words, 0) {
@@ -86,6 +87,10 @@ fn answer_on_texts(alloc: Global, texts: &mut Texts, words: &[&str], line: &mut 
             printing::answer(alloc, text.as_str(), line);
         }
         "print" => printing::compare(alloc, texts, word(rest, 0), word(rest, 1), line),
+        "fits" => {
+            let question = Question::Fits(word(rest, 0), word(rest, 1));
+            ask_texts(alloc, texts, question, words_from(rest, 2), line);
+        }
         "faults" => faults::answer(word(rest, 0), line),
         call => ask(alloc, texts, call, rest, line),
     }
@@ -100,7 +105,12 @@ fn ask(alloc: Global, texts: &Texts, call: &str, words: &[&str], line: &mut Line
         "signature" => Question::Signature(asked),
         _ => return line.refuse(),
     };
-    let texts = texts.texts(alloc, words_from(words, 1), line);
+    ask_texts(alloc, texts, question, words_from(words, 1), line);
+}
+
+/// Writes the answer to a question of the packages whose texts these words are.
+fn ask_texts(alloc: Global, texts: &Texts, question: Question, words: &[&str], line: &mut Line) {
+    let texts = texts.texts(alloc, words, line);
     packages::answer(alloc, &texts, question, line);
 }
 

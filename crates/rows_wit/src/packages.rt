@@ -30,6 +30,8 @@ pub enum Question<'a> {
     Table(&'a str),
     /// The signature of the world of a full name.
     Signature(&'a str),
+    /// Whether the signature of the first of two worlds fits the second.
+    Fits(&'a str, &'a str),
 }
 
 /// Writes the answer to a question of the packages of texts, or the first fault.
@@ -43,6 +45,9 @@ pub fn answer(alloc: Global, texts: &[String], question: Question, line: &mut Li
     }
     match question {
         Question::Signature(name) => world_signatures::answer(alloc, &packages, name, line),
+        Question::Fits(have, world) => {
+            world_signatures::compare(alloc, &packages, have, world, line);
+        }
         _ => answer_named(alloc, &packages, question, line),
     }
 }
