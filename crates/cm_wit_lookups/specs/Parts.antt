@@ -1,5 +1,5 @@
--- A name as what stands in front of its last label, and this label (Explainer.md, "Import and Export
--- Definitions").
+-- A name as what stands in front of its last label, and this label (Explainer.md, "Import and
+-- Export Definitions").
 use Rattle.std.specs.Prelude.{ℕ, List, [], Option, Some, None}
 use Rattle.cm_types.specs.ExternNames.{NameTree, constructor, interface, method, plain, static}
 
