@@ -12,7 +12,7 @@ use Rattle.cm_types_arena.specs.declared.type_defs.FieldDef.{FieldDef}
 use Rattle.cm_types_arena.specs.declared.type_defs.CaseDef.{CaseDef}
 use Rattle.cm_wit_reading.specs.declared.signatures.Typed as typed_code
 use Rattle.cm_wit_reading.specs.declared.types.WitType.{WitType}
-use Rattle.cm_wit_reading.specs.TypeViews.{type_tree}
+use Rattle.cm_wit_reading.specs.TypeViews.{payload_tree, type_tree}
 use Rattle.cm_wit_reading.specs.SignatureViews.{typed_tree}
 use Rattle.cm_wit_reading.specs.declared.interfaces.Case as case_code
 use Rattle.cm_wit_reading.specs.Views.{case_tree}
@@ -78,11 +78,11 @@ payload_refused s t f h = mapped_fault Some IsPayloadIn is_spellable_payload (me
 
 pub ruleset payload_laws = (payload_made, payload_refused, extends_same)
 
-pub case_made : (s : Scope) (c : case_code.Case) (p : Option Ty) (types : List Ty) (d : CaseDef) → payload_meaning s (option_map type_tree c.ty) ≡ Some p → d.label ≡ c.name → option_map (type_at types) d.payload ≡ p → case_meaning s (case_tree c) ≡ Some (case_def_type types d)
+pub case_made : (s : Scope) (c : case_code.Case) (p : Option Ty) (types : List Ty) (d : CaseDef) → payload_meaning s (payload_tree c.ty) ≡ Some p → d.label ≡ c.name → option_map (type_at types) d.payload ≡ p → case_meaning s (case_tree c) ≡ Some (case_def_type types d)
 case_made s c p types d m l e = ap (option_map (λ (u : Option Ty). (c.name, u))) m ∙ rw (l, e) refl
 
-pub case_refused : (s : Scope) (c : case_code.Case) (f : MeaningFault) → IsFaultOf IsPayloadIn is_spellable_payload (payload_meaning s (option_map type_tree c.ty)) f → IsFaultOf IsCaseWithin is_case_spelled (case_meaning s (case_tree c)) f
-case_refused s c f h = mapped_fault (λ (u : Option Ty). (c.name, u)) IsCaseWithin is_case_spelled (payload_meaning s (option_map type_tree c.ty)) f h
+pub case_refused : (s : Scope) (c : case_code.Case) (f : MeaningFault) → IsFaultOf IsPayloadIn is_spellable_payload (payload_meaning s (payload_tree c.ty)) f → IsFaultOf IsCaseWithin is_case_spelled (case_meaning s (case_tree c)) f
+case_refused s c f h = mapped_fault (λ (u : Option Ty). (c.name, u)) IsCaseWithin is_case_spelled (payload_meaning s (payload_tree c.ty)) f h
 
 -- ---- several
 

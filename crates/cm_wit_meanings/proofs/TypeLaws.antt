@@ -11,12 +11,12 @@ use Rattle.cm_wit_reading.specs.declared.types.WitType.{WitType, the_lemmas}
 use Rattle.cm_wit_reading.specs.declared.types.WitType.TheViews as node
 use Rattle.cm_wit_reading.specs.Types as spec
 use Rattle.cm_wit_reading.specs.Types.{types_from}
-use Rattle.cm_wit_reading.specs.TypeViews.{type_tree}
+use Rattle.cm_wit_reading.specs.TypeViews.{payload_tree, type_tree}
 use Rattle.cm_wit_meanings.specs.declared.fault.MeaningFault.{MeaningFault}
 use Rattle.cm_wit_meanings.specs.declared.fault.MeaningFault.TheVariants as fault
 use Rattle.cm_wit_meanings.specs.declared.scope.Scope as code_scope
 use Rattle.cm_wit_meanings.specs.Scopes.{Scope}
-use Rattle.cm_wit_meanings.specs.Added.{AddedParts, AddedType, is_place, payload_tree}
+use Rattle.cm_wit_meanings.specs.Added.{AddedParts, AddedType, is_place}
 use Rattle.cm_wit_meanings.specs.Meanings.{meaning, meanings, option_of, payload_meaning, result_of, tuple_of}
 use Rattle.cm_wit_meanings.specs.Faults.{IsTypeFault, IsFaultIn}
 use Rattle.cm_wit_meanings.specs.Places.{scope_in, ArePlaced}

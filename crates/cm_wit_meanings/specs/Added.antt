@@ -1,15 +1,12 @@
 -- What comes of adding what a text stands for to the types of an arena.
 use Rattle.std.specs.Prelude.{◌≡◌, ℕ, ◌<◌, List, Option, Some, Result, IfOk, IfErr, length, map}
-use Rattle.std.specs.Global.{Box, Vec}
+use Rattle.std.specs.Global.{Vec}
 use Rattle.std.specs.List.{AllByRecursion}
 use Rattle.std.specs.Option.{option_map}
 use Rattle.cm_types.specs.Types.{Ty}
 use Rattle.cm_types_arena.specs.Places.{funcs_of, types_of}
 use Rattle.cm_types_arena.specs.TypeDefs.{IsBelow, type_at}
 use Rattle.cm_types_arena.specs.declared.types.Types.{Types}
-use Rattle.cm_wit_reading.specs.Types as wit
-use Rattle.cm_wit_reading.specs.TypeViews.{type_tree}
-use Rattle.cm_wit_reading.specs.declared.types.WitType.{WitType}
 use Rattle.cm_wit_meanings.specs.declared.fault.MeaningFault.{MeaningFault}
 use Rattle.cm_wit_meanings.specs.Meanings.{tuple_of}
 use Rattle.cm_wit_meanings.specs.Places.{Extends}
@@ -41,10 +38,6 @@ payload_at types p = option_map (type_at types) p
 abbrev pub AddedPayload : Types → Types → Option (Option Ty) → Result (Option ℕ) MeaningFault
     → Type 0
 AddedPayload old new meant r = Added payload_at IsBelow IsPayloadFault old new meant r
-
--- the type of a payload of the code, if there is one
-abbrev pub payload_tree : Option (Box WitType) → Option wit.Ty
-payload_tree payload = option_map (λ b. type_tree b.value) payload
 
 -- the parts of a tuple
 abbrev pub parts_at : List Ty → Vec ℕ → List Ty

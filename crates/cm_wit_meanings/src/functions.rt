@@ -12,7 +12,7 @@ ghost use Rattle.cm_wit_meanings.specs.Meanings.{func_meaning, resource_func_mea
 ghost use Rattle.cm_wit_meanings.specs.Places.{ArePlaced, Extends, scope_in};
 ghost use Rattle.cm_wit_meanings.specs.WitDefinitionsAdded.{AddedFunc};
 
-use crate::members::{add_fields, push_payload};
+use crate::members::{add_fields, push_result};
 use crate::{MeaningFault, Scope, push};
 use cm_types::{Label, ResourceId};
 use cm_types_arena::{DefFault, FieldDef, FuncDef, TypeDef, Types};
@@ -52,7 +52,7 @@ fn func_def(
         (func_meaning (scope_in (types_of types.old) scope.now) (func_tree text.now)) result }
 {
     let params = add_fields(alloc, types, scope, &text.params)?;
-    let answer = push_payload(alloc, types, scope, &text.result)?;
+    let answer = push_result(alloc, types, scope, &text.result)?;
     Ok(FuncDef {
         params,
         result: answer,

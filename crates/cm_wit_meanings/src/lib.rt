@@ -13,7 +13,7 @@ mod types;
 pub use definitions::push_def;
 pub use fault::MeaningFault;
 pub use functions::{push_func, push_resource_func};
-pub use members::{push_fields, push_payload};
+pub use members::{push_fields, push_result};
 pub use pushing::push;
 pub use scope::{Meaning, Scope};
 pub use types::push_type;

@@ -15,6 +15,7 @@ ghost use Rattle.cm_wit_meanings.specs.Places.{ArePlaced, Extends, scope_in};
 ghost use Rattle.cm_wit_meanings.specs.WitDefinitionsAdded.{AddedCase, AddedCases, AddedField};
 ghost use Rattle.cm_wit_meanings.specs.WitDefinitionsAdded.{AddedFields};
 
+use crate::types::push_payload;
 use crate::{MeaningFault, Scope, push_type};
 use cm_types_arena::{CaseDef, FieldDef, Types};
 use cm_wit_reading::{Case, Typed, WitType};
@@ -87,13 +88,12 @@ pub fn push_fields(
     add_fields(alloc, types, scope, texts)
 }
 
-/// Adds the type of a payload or a result, if there is one, and answers its place; none is added
-/// for none.
+/// Adds the type of a result, if there is one, and answers its place; none is added for none.
 ///
 /// Faults come as those of `push_type`; then some of the types in it may have been added. Earlier
-/// types stay as they are. (WIT.md, "Item: `variant`", "Item: `func`")
+/// types stay as they are. (WIT.md, "Item: `func`")
 #[tactic(auto, using(crate::proofs::MemberLaws::payload_laws))]
-pub fn push_payload(
+pub fn push_result(
     alloc: Global,
     types: &mut Types,
     scope: &Scope<'_, '_>,

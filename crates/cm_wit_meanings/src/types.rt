@@ -5,9 +5,8 @@ ghost use Rattle.cm_types.specs.Limits.{IsWithinLimits};
 ghost use Rattle.cm_types_arena.specs.Places.{funcs_of, types_of};
 ghost use Rattle.cm_types_arena.specs.TypeDefs.{type_at};
 ghost use Rattle.cm_wit_reading.specs.Types.{borrow, named, types_from};
-ghost use Rattle.cm_wit_reading.specs.TypeViews.{type_tree};
+ghost use Rattle.cm_wit_reading.specs.TypeViews.{payload_tree, type_tree};
 ghost use Rattle.cm_wit_meanings.specs.Added.{AddedParts, AddedPayload, AddedType};
-ghost use Rattle.cm_wit_meanings.specs.Added.{payload_tree};
 ghost use Rattle.cm_wit_meanings.specs.Faults.{IsTypeFault};
 ghost use Rattle.cm_wit_meanings.specs.Meanings.{meaning, meanings, payload_meaning};
 ghost use Rattle.cm_wit_meanings.specs.Places.{ArePlaced, Extends, scope_in};
@@ -123,9 +122,10 @@ fn push_text(
     }
 }
 
-/// Adds the type of a result's payload, if there is one, and answers its place.
+/// Adds the type of a payload, if there is one, and answers its place; its faults are those of
+/// `push_type`.
 #[cycle(types)]
-fn push_payload(
+pub fn push_payload(
     alloc: Global,
     types: &mut Types,
     scope: &Scope<'_, '_>,

@@ -1,5 +1,6 @@
 -- The types that the code's trees are.
 use Rattle.std.specs.Prelude.{Option, Some, None}
+use Rattle.std.specs.Option.{option_map}
 use Rattle.std.specs.declared.alloc.Global.{Global}
 use Rattle.std.specs.declared.boxed.Box.{Box}
 use Rattle.cm_wit_reading.specs.declared.types.WitType as declared
@@ -30,6 +31,10 @@ type_step (node.Result ok error) = result_from ok error
 -- the type that a tree is
 abbrev pub type_tree : declared.WitType → Ty
 type_tree = fold-WitType Ty type_step
+
+-- the type that a boxed tree is, if there is one
+abbrev pub payload_tree : Option (Box declared.WitType Global) → Option Ty
+payload_tree payload = option_map (λ b. type_tree b.value) payload
 
 -- what the code's first token says
 abbrev pub head_tree : Head → Start

@@ -1,7 +1,6 @@
 -- The trees that the code's are.
 use Rattle.std.specs.Prelude.{map}
-use Rattle.std.specs.Option.{option_map}
-use Rattle.cm_wit_reading.specs.TypeViews.{type_tree}
+use Rattle.cm_wit_reading.specs.TypeViews.{payload_tree, type_tree}
 use Rattle.cm_wit_reading.specs.SignatureViews.{typed_tree, func_tree, path_tree}
 use Rattle.cm_wit_reading.specs.declared.interfaces.UsedName as used_name
 use Rattle.cm_wit_reading.specs.declared.interfaces.Use as use_item
@@ -30,7 +29,7 @@ abbrev pub use_tree : use_item.Use → Trees.Use
 use_tree u = record { path = path_tree u.path; names = map used_name_tree u.names.items }
 
 abbrev pub case_tree : case_item.Case → Trees.Case
-case_tree c = record { name = c.name; ty = option_map type_tree c.ty }
+case_tree c = record { name = c.name; ty = payload_tree c.ty }
 
 abbrev pub resource_func_tree : func_item.ResourceFunc → Trees.ResourceFunc
 resource_func_tree (func_is.Method name f) = Trees.method name (func_tree f)

@@ -1,7 +1,6 @@
 //! Reading interfaces.
 
 ghost use Rattle.std.specs.Prelude.{◌≡◌, map};
-ghost use Rattle.std.specs.Option.{option_map};
 ghost use Rattle.cm_wit_tokens.specs.declared.operator.Operator.TheVariants as operator;
 ghost use Rattle.cm_wit_tokens.specs.Exact.{Lawful};
 ghost use Rattle.cm_wit_tokens.specs.Lists.{items, items_and};
@@ -14,7 +13,7 @@ ghost use Rattle.cm_wit_reading.specs.Interfaces.{more_flags, resource_rest, use
 ghost use Rattle.cm_wit_reading.specs.Views.{interface_item_tree, interface_tree};
 ghost use Rattle.cm_wit_reading.specs.Views.{resource_func_tree, type_def_tree, use_tree};
 ghost use Rattle.cm_wit_reading.specs.SignatureViews.{func_tree};
-ghost use Rattle.cm_wit_reading.specs.TypeViews.{type_tree};
+ghost use Rattle.cm_wit_reading.specs.TypeViews.{payload_tree};
 
 use crate::heads::{ItemHead, MethodHead, TypeHead, read_item_head, read_method_head};
 use crate::interfaces::{Case, Interface, InterfaceItem, ResourceFunc, TypeDef, Use, UsedName};
@@ -70,14 +69,14 @@ fn read_use(alloc: Global, cursor: &mut Cursor) -> Result<Use, ReadError>
 }
 
 /// Reads the type of a case in parentheses, where it stands.
-fn read_case_type(alloc: Global, cursor: &mut Cursor) -> Result<Option<WitType>, ReadError>
-    ensures { Reads case_type (λ t. option_map type_tree t) cursor.old cursor.new result }
+fn read_case_type(alloc: Global, cursor: &mut Cursor) -> Result<Option<Box<WitType>>, ReadError>
+    ensures { Reads case_type payload_tree cursor.old cursor.new result }
 {
     if !cursor.next_is(Operator::LeftParenthesis) {
         return Ok(None);
     }
     cursor.expect(Operator::LeftParenthesis)?;
-    let ty = read_type(alloc, cursor, true, MAX_DEPTH)?;
+    let ty = Box::new(alloc, read_type(alloc, cursor, true, MAX_DEPTH)?)?;
     cursor.expect(Operator::RightParenthesis)?;
     Ok(Some(ty))
 }

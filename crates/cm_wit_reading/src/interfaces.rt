@@ -17,11 +17,12 @@ pub struct Use {
     pub names: Vec<UsedName>,
 }
 
-/// A case of a variant: its name, and its type, if it has one.
+/// A case of a variant: its name, and its type, if it has one. The type is boxed, so that a case
+/// without one takes no room for it.
 #[derive(Drop)]
 pub struct Case {
     pub name: Label,
-    pub ty: Option<WitType>,
+    pub ty: Option<Box<WitType>>,
 }
 
 /// A function of a resource (WIT.md, `resource-method`).

@@ -1,17 +1,17 @@
 -- Just the declarations of resources stand for resources.
-use Rattle.std.proofs.Common.{◌≡◌, ◌↔◌, ℕ, zero, suc, ◌+◌, ◌<◌, ◌≤◌, true, false, List, [], ◌∷◌, ◌++◌, length, map, Option, Some, None, unwrap_or, slice_get, slice_index_or, refl, sym, ap, subst, ◌∙◌, arith}
+use Rattle.std.proofs.Common.{◌≡◌, ◌↔◌, ℕ, zero, suc, ◌<◌, true, List, [], Option, Some, None, unwrap_or, slice_get, refl, sym, ap, subst, ◌∙◌, arith}
 use Rattle.std.specs.List.{AllByRecursion, filter_map, cons_option}
 use Rattle.std.specs.Option.{option_map, option_and_then, option_map_or}
 use Rattle.std.proofs.lemmas.Option.{unwrap_or-slice_get}
 use Rattle.cm_types.specs.declared.resource.ResourceId.{ResourceId}
-use Rattle.cm_wit_graph.specs.Keys.{Key, first_key}
+use Rattle.cm_wit_graph.specs.Keys.{Key}
 use Rattle.cm_wit_reading.specs.Trees.{TypeDef, alias, record_of, variant, enum, flags}
 use Rattle.cm_wit_reading.specs.Trees as trees
 use Rattle.cm_wit_meanings.specs.Scopes.{Meaning, Scope, value, resource}
 use Rattle.cm_wit_meanings.specs.Meanings.{def_meaning}
-use Rattle.cm_wit_tables.specs.Declarations.{Declared, Declaration, brought, defined, keys_of, referred, refers, target, uses, IsRanked}
+use Rattle.cm_wit_tables.specs.Declarations.{Declared, Declaration, brought, defined, referred, refers, target, IsRanked}
 use Rattle.cm_wit_tables.specs.Tables.{resource_of, scope_of, declared_meaning, entry_meaning, Solves, is_resource}
-use Rattle.cm_wit_tables.specs.TypeFaults.{IsResource, own_one, brought_one, Declares}
+use Rattle.cm_wit_tables.specs.TypeFaults.{IsResource, own_one, brought_one}
 use Rattle.cm_wit_tables.proofs.TableLaws.{Table, at}
 
 defines_one : (s : Scope) (r : ResourceId) (t : TypeDef) → is_resource t ≡ true → def_meaning s r t ≡ Some (resource r)

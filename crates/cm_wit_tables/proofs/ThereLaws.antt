@@ -1,6 +1,6 @@
 -- Where each name leads to a type, and that of a borrow to a resource, each declaration stands for
 -- something; and the other way round.
-use Rattle.std.proofs.Common.{◌≡◌, ℕ, zero, suc, ◌<◌, ◌≤◌, List, [], ◌∷◌, ◌++◌, length, map, Option, Some, None, unwrap_or, slice_get, slice_index_or, refl, sym, ap, subst, ◌∙◌, arith}
+use Rattle.std.proofs.Common.{◌≡◌, ℕ, zero, suc, ◌<◌, List, [], ◌∷◌, ◌++◌, length, map, Option, Some, None, unwrap_or, slice_get, refl, sym, ap, subst, ◌∙◌, arith}
 use Rattle.std.specs.List.{AllByRecursion, flat_map, filter_map, cons_option}
 use Rattle.std.specs.Option.{option_map, option_and_then, option_map_or}
 use Rattle.std.proofs.lemmas.Option.{unwrap_or-slice_get, slice_get_within}
@@ -14,9 +14,9 @@ use Rattle.cm_wit_reading.specs.Trees as trees
 use Rattle.cm_wit_meanings.specs.Scopes.{Meaning, Scope, value, resource, as_type, as_resource}
 use Rattle.cm_wit_meanings.specs.Meanings as meant
 use Rattle.cm_wit_meanings.specs.Meanings.{meaning, meanings, each_meaning, typed_meaning, case_meaning, payload_meaning, def_meaning}
-use Rattle.cm_wit_tables.specs.Declarations.{Declared, Declaration, brought, defined, referred, refers, target, uses, IsRanked, names_in, names_in_all, names_in_payload, names_in_def}
+use Rattle.cm_wit_tables.specs.Declarations.{Declared, Declaration, brought, defined, referred, refers, target, IsRanked, names_in, names_in_all, names_in_payload, names_in_def}
 use Rattle.cm_wit_tables.specs.Tables.{resource_of, scope_of, declared_meaning, entry_meaning, Solves, IsWhole}
-use Rattle.cm_wit_tables.specs.TypeFaults.{IsResource, LeadsToType, LeadsToResource, HasTypes, AllHaveTypes, borrowed_in, borrowed_in_all, borrowed_in_payload, borrowed_in_def}
+use Rattle.cm_wit_tables.specs.TypeFaults.{LeadsToType, LeadsToResource, HasTypes, AllHaveTypes, borrowed_in, borrowed_in_all, borrowed_in_payload, borrowed_in_def}
 use Rattle.cm_wit_tables.proofs.AgreeLaws.{all_left, all_right}
 use Rattle.cm_wit_tables.proofs.TableLaws.{Table, at}
 use Rattle.cm_wit_tables.proofs.RankLaws.{found_below}

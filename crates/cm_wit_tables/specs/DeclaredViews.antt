@@ -1,5 +1,4 @@
 -- The declarations and instances that the code's are.
-use Rattle.std.specs.Prelude.{List, map}
 use Rattle.std.specs.Option.{option_map}
 use Rattle.cm_wit_graph.specs.Keys.{key_view}
 use Rattle.cm_wit_reading.specs.Views.{type_def_tree}

@@ -1,5 +1,5 @@
 -- The keys by which the instances of a world are found, and what they use.
-use Rattle.std.specs.Prelude.{ℕ, Bool, true, false, List, Option, map, codes}
+use Rattle.std.specs.Prelude.{ℕ, Bool, true, false, List, Option, codes}
 use Rattle.std.specs.Option.{option_map}
 use Rattle.cm_wit_graph.specs.Keys.{Key}
 use Rattle.cm_wit_reading.specs.Trees.{UsedName}

@@ -1,4 +1,5 @@
 mod KeyingLaws
+mod LabelLaws
 mod ListingLaws
 mod ListLaws
 mod NamedLaws

@@ -1,11 +1,11 @@
 -- Imports in order.
-use Rattle.std.proofs.Common.{◌≡◌, ◌↔◌, ℕ, Bool, true, false, List, Option, [], not, map, get_or, refl, sym, subst}
+use Rattle.std.proofs.Common.{◌≡◌, ◌↔◌, ℕ, Bool, true, false, List, Option, [], not, map, get_or, subst}
 use Rattle.std.specs.Prelude.{filter}
 use Rattle.std.specs.Global.{Vec}
 use Rattle.std.specs.List.{flat_map}
 use Rattle.cm_wit_graph.specs.DepthFirst.{Orders, is_among, needs_of}
 use Rattle.cm_wit_graph.specs.Reach.{Rows, HasMissing, HasCycle}
-use Rattle.cm_wit_worlds.specs.Externs.{AreImports, found, uses}
+use Rattle.cm_wit_worlds.specs.Externs.{AreImports, found}
 
 pub imports_are : (needs : List (Vec ℕ)) (rows : Rows) (written out first others order : List ℕ) → map (λ r. r.items) needs ≡ map found rows → Orders (needs_of needs) [] written first → others ≡ flat_map (λ k. filter (λ j. not (is_among j out)) (needs_of needs k)) out → Orders (needs_of needs) first others order → AreImports rows written out order
 imports_are needs rows written out first others order e p q r = record {

@@ -1,14 +1,13 @@
 -- What a world imports and exports, in order (WIT.md, "Worlds" and "Item: `use`"; which imports a
 -- `use` brings in, and where, is this project's own choice).
-use Rattle.std.specs.Prelude.{ℕ, ◌+◌, List, [], ◌∷◌, Option, Some, None, map, filter, not}
+use Rattle.std.specs.Prelude.{ℕ, ◌+◌, List, [], ◌∷◌, Option, Some, map, filter, not}
 use Rattle.std.specs.Prelude.{slice_index_or}
 use Rattle.std.specs.List.{filter_map, flat_map}
 use Rattle.cm_wit_graph.specs.DepthFirst.{Orders, is_among}
 use Rattle.cm_wit_reading.specs.Trees.{File, WorldExtern, interface_at, named_func, WorldItem}
 use Rattle.cm_wit_reading.specs.Trees.{imports, exports}
-use Rattle.cm_wit_worlds.specs.Interfaces as all
-use Rattle.cm_wit_worlds.specs.Interfaces.{target, use_targets, PlacedWorld}
-use Rattle.cm_wit_graph.specs.Reach.{Rows, row_at}
+use Rattle.cm_wit_worlds.specs.Interfaces.{target}
+use Rattle.cm_wit_graph.specs.Reach.{Rows}
 
 -- ---- a number stands for each thing in a world: an interface has its own, and the function of the
 -- j-th item has j and the number of all interfaces

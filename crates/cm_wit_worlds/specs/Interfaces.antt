@@ -1,7 +1,7 @@
 -- The interfaces and worlds of packages, and what paths lead to (WIT.md, "Package Names",
 -- "Interfaces" and "Worlds").
 use Rattle.std.specs.Prelude.{ℕ, ◌+◌, ◌==◌, ◌&&◌, Bool, false, List, [], ◌∷◌, ◌++◌, Option, Some}
-use Rattle.std.specs.Prelude.{None, map}
+use Rattle.std.specs.Prelude.{◌≡◌, None, map, slice_get, slice_index_or}
 use Rattle.std.specs.List.{filter_map, position_from}
 use Rattle.std.specs.Option.{option_and_then, option_map_or}
 use Rattle.std.specs.Str.{bytes_eq}
@@ -88,6 +88,16 @@ abbrev pub is_world : List File → List ℕ → PlacedWorld → Bool
 is_world fs text w =
     bytes_eq (full_name w.file w.world.name) text
     && option_map_or (λ p. p == w.place) (package_at fs (package_name w.file)) false
+
+-- whether a world has this label, where there is one
+abbrev pub has_label : Option (List ℕ) → World → Bool
+has_label label w = option_map_or (λ text. bytes_eq text w.name) label false
+
+-- for each package the label by which a world of it is the one of a full name, if one is
+abbrev pub AreLabels : List File → List ℕ → List (Option (List ℕ)) → Type 0
+AreLabels fs text labels =
+    (w : PlacedWorld) → slice_get fs w.place ≡ Some w.file
+    → is_world fs text w ≡ has_label (slice_index_or labels w.place None) w.world
 
 -- the world of a full name, by its number among all worlds
 abbrev pub world_at : List File → List ℕ → Option ℕ

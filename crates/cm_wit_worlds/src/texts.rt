@@ -1,6 +1,6 @@
 //! The names of packages, interfaces and worlds.
 
-ghost use Rattle.std.specs.Prelude.{◌≡◌, ◌++◌, IfOk, OnOk};
+ghost use Rattle.std.specs.Prelude.{◌≡◌, ◌≢◌, ◌++◌, ℕ, List, IfOk, MatchOption, OnOk};
 ghost use Rattle.std.specs.Option.{option_copied};
 ghost use Rattle.std.specs.String.{string_bytes};
 ghost use Rattle.cm_types.specs.ExternNames.{version_suffix};
@@ -57,4 +57,36 @@ pub fn full_name(alloc: Global, file: &WitFile, name: &Label) -> Result<String, 
     out.push_str(name.as_str())?;
     add_version(&mut out, &file.version)?;
     Ok(out)
+}
+
+/// What follows a label and a separator in a text, where they begin it.
+fn behind<'n>(text: &'n str, label: &Label, separator: &str) -> Option<&'n str>
+    ensures { MatchOption result
+        ((rest : List ℕ) → text.now ≢ label.now ++ (separator.now ++ rest))
+        (λ rest. text.now ≡ label.now ++ (separator.now ++ rest.now)) }
+{
+    text.strip_prefix(label.as_str())?.strip_prefix(separator)
+}
+
+/// What stands before `@` and a version in a text, where they end it; without a version all of it.
+fn before_version<'n>(text: &'n str, version: &Option<Version>) -> Option<&'n str>
+    ensures { MatchOption result
+        ((rest : List ℕ) → text.now ≢ rest ++ version_suffix version.now)
+        (λ rest. text.now ≡ rest.now ++ version_suffix version.now) }
+{
+    match version {
+        Some(version) => text.strip_suffix(version.as_str())?.strip_suffix("@"),
+        None => Some(text),
+    }
+}
+
+/// The label with which a text is the full name of an interface or a world of a package, if there
+/// is one.
+pub fn label_in<'n>(file: &WitFile, text: &'n str) -> Option<&'n str>
+    ensures { MatchOption result
+        ((label : List ℕ) → text.now ≢ full_name (file_tree file.now) label)
+        (λ label. text.now ≡ full_name (file_tree file.now) label.now) }
+{
+    let rest = behind(text, &file.namespace, ":")?;
+    before_version(behind(rest, &file.package, "/")?, &file.version)
 }

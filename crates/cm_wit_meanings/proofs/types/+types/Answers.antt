@@ -2,7 +2,7 @@ use Rattle.std.proofs.Common.{ap, arith, None, refl, rules, sym}
 use Rattle.cm_types.specs.Types.{fixed_list, list}
 use Rattle.cm_types_arena.specs.Places.{types_of}
 use Rattle.cm_wit_reading.specs.declared.types.WitType.{the_lemmas}
-use Rattle.cm_wit_meanings.specs.Added.{payload_tree}
+use Rattle.cm_wit_reading.specs.TypeViews.{payload_tree}
 use Rattle.cm_wit_meanings.specs.Meanings.{option_of, payload_meaning, tuple_of}
 use Rattle.cm_wit_meanings.specs.Places.{scope_in}
 use Rattle.cm_wit_meanings.proofs.AddedLaws.{answers_so, behind, both_made, made, meant_so, payload_added, refused, stands, still_there}

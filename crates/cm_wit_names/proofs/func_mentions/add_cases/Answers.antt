@@ -1,8 +1,7 @@
-use Rattle.std.proofs.Common.{◌≡◌, ◌++◌, ◌∙◌, ℕ, List, Option, Some, None, ap, false, length, map, refl}
+use Rattle.std.proofs.Common.{Box, Global, ◌≡◌, ◌++◌, ◌∙◌, ℕ, List, Option, Some, None, ap, false, length, map, refl, sym}
 use Rattle.std.specs.Global.{Vec}
-use Rattle.std.specs.Option.{option_map}
 use Rattle.cm_wit_reading.specs.declared.types.WitType.{WitType}
-use Rattle.cm_wit_reading.specs.TypeViews.{type_tree}
+use Rattle.cm_wit_reading.specs.TypeViews.{payload_tree, type_tree}
 use Rattle.cm_wit_reading.specs.Trees.{Case}
 use Rattle.cm_wit_reading.specs.Views.{case_tree}
 use Rattle.cm_wit_names.specs.declared.mention.Mention.{Mention}
@@ -21,10 +20,10 @@ part n place x = one (label false n x.name) then optional (type_marks place) x.t
 starts : (place : Place) (xs : List Case) (n : ℕ) (out : Vec Mention) → n ≡ list_of (length out.items) → MakesAll (each (part n place) xs) out (map mention_view out.items ++ case_marks place xs (length out.items))
 starts place xs n out e = rw e refl
 
-with_type : (n : ℕ) (place : Place) (text : List ℕ) (o : Option WitType) (ty : WitType) (before mid after out : Vec Mention) → o ≡ Some ty → out ≡ after → Adds (one (label false n text)) before mid → Adds (type_marks place (type_tree ty)) mid after → Adds (one (label false n text) then optional (type_marks place) (option_map type_tree o)) before out
-with_type n place text o ty before mid after out is same p q = rw (is, same) (adds_then (one (label false n text)) (type_marks place (type_tree ty)) before mid after p q)
+with_type : (n : ℕ) (place : Place) (text : List ℕ) (o : Option (Box WitType Global)) (boxed : Box WitType Global) (ty : WitType) (before mid after out : Vec Mention) → o ≡ Some boxed → ty ≡ boxed.value → out ≡ after → Adds (one (label false n text)) before mid → Adds (type_marks place (type_tree ty)) mid after → Adds (one (label false n text) then optional (type_marks place) (payload_tree o)) before out
+with_type n place text o boxed ty before mid after out is in_box same p q = rw (is, same, sym in_box) (adds_then (one (label false n text)) (type_marks place (type_tree ty)) before mid after p q)
 
-without_type : (n : ℕ) (place : Place) (text : List ℕ) (o : Option WitType) (before mid out : Vec Mention) → o ≡ None → out ≡ mid → Adds (one (label false n text)) before mid → Adds (one (label false n text) then optional (type_marks place) (option_map type_tree o)) before out
+without_type : (n : ℕ) (place : Place) (text : List ℕ) (o : Option (Box WitType Global)) (before mid out : Vec Mention) → o ≡ None → out ≡ mid → Adds (one (label false n text)) before mid → Adds (one (label false n text) then optional (type_marks place) (payload_tree o)) before out
 without_type n place text o before mid out is same p = rw (is, same) (adds_then (one (label false n text)) none before mid mid p (adds_none mid))
 
 pub loop-case-init : goal.loop-case-init
@@ -35,7 +34,7 @@ loop-case-preserved c =
     let x = c.case-item.result in
     let n = c.list-in_list.result in
     let p : Adds (part n c.args.place (case_tree x)) c.loop-case.out c.match-case.out = elim c.match-case.branch [
-      | in-Some+in_ok-add_type w ↦ with_type n c.args.place x.name x.ty _ c.loop-case.out c.add_label.new.out w.add_type.new.out c.match-case.out w.in-Some.is w.out-is c.in_ok-add_label.ensures w.in_ok-add_type.ensures
+      | in-Some+in_ok-add_type w ↦ with_type n c.args.place x.name x.ty _ _ c.loop-case.out c.add_label.new.out w.add_type.new.out c.match-case.out w.in-Some.is w.deref.ensures w.out-is c.in_ok-add_label.ensures w.in_ok-add_type.ensures
       | in_default w ↦ without_type n c.args.place x.name x.ty c.loop-case.out c.add_label.new.out c.match-case.out w.in_default.is w.out-is c.in_ok-add_label.ensures
     ] in
     each_step (part n c.args.place) case_tree c.args.cases.now c.loop-case.case-index x c.loop-case.out c.match-case.out _ c.loop-case-test.true c.case-item.is p c.loop-case.invariant

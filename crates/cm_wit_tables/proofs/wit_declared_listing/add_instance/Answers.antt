@@ -1,7 +1,6 @@
-use Rattle.std.proofs.Common.{◌≡◌, ◌≤◌, ◌∙◌, inl, inr, map, length, ap, arith}
+use Rattle.std.proofs.Common.{◌≤◌, inl, inr, map, length, ap, arith}
 use Rattle.std.proofs.lemmas.Bool.{cases_lt}
 use Rattle.std.proofs.lemmas.List.{length-map}
-use Rattle.cm_wit_worlds.specs.Interfaces as spec
 use Rattle.cm_wit_worlds.specs.InterfaceViews.{files_of, placed_interface}
 use Rattle.cm_wit_tables.specs.DeclaredViews.{declaration_view, instance_view}
 use Rattle.cm_wit_tables.specs.Placings.{instances_in}

@@ -1,4 +1,4 @@
-use Rattle.std.proofs.Common.{rules, ◌≡◌, ◌∙◌, map, ap}
+use Rattle.std.proofs.Common.{◌≡◌, ◌∙◌, map, ap}
 use Rattle.cm_wit_worlds.specs.Interfaces.{use_targets}
 use Rattle.cm_wit_worlds.specs.InterfaceViews.{files_of, placed_world}
 use Rattle.cm_wit_worlds.specs.Worlds.{named, rows_of}

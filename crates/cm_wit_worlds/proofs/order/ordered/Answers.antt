@@ -1,7 +1,6 @@
-use Rattle.std.proofs.Common.{rules, ◌≡◌, ◌∷◌, [], List, ℕ, map, sym, ap, subst, ◌∙◌, Bool, true, false, not, IsTrue, refl}
+use Rattle.std.proofs.Common.{[], List, ℕ, map, subst}
 use Rattle.std.specs.Global.{Vec}
 use Rattle.cm_wit_graph.specs.DepthFirst.{Orders, needs_of}
-use Rattle.cm_wit_worlds.specs.Externs.{AreImports, found}
 use Rattle.cm_wit_worlds.proofs.OrderLaws.{imports_are}
 use Rattle.cm_wit_worlds.proofs.order.ordered.Goals as goal
 

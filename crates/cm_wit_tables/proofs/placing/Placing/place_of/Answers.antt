@@ -1,4 +1,3 @@
-use Rattle.std.proofs.Common.{refl}
 use Rattle.cm_wit_graph.specs.Listed.{listed}
 use Rattle.cm_wit_tables.specs.Placings.{instances_in}
 use Rattle.cm_wit_tables.proofs.PlaceLaws.{place_found}
