@@ -5,7 +5,7 @@ ghost use Rattle.std.specs.String.{string_bytes};
 ghost use Rattle.cm_wit_package.specs.PackageViews.{package_tree};
 ghost use Rattle.cm_wit_worlds.specs.Interfaces as spec;
 ghost use Rattle.cm_wit_worlds.specs.Interfaces.{package_name};
-ghost use Rattle.cm_wit_worlds.specs.InterfaceViews.{files_of, placed_interface};
+ghost use Rattle.cm_wit_worlds.specs.InterfaceViews.{files_of, placed_interface, placed_world};
 
 use crate::files::package_files;
 use crate::reading::write_fault;
@@ -133,13 +133,15 @@ fn find_world<'a>(
     worlds: &[PlacedWorld<'a>],
     question: Question,
     line: &mut Line,
-) -> Option<PlacedWorld<'a>> {
+) -> Option<PlacedWorld<'a>>
+    requires { map placed_world worlds.now ≡ spec.worlds (files_of directory.now.files.items) }
+{
     let number = match question {
         Question::WorldOfName(name) => {
             line.kept(directory.world_at(alloc, worlds, name)).flatten()
         }
         Question::WorldOfNumber(number) => Some(number),
-        Question::Table(_) | Question::Signature(_) => None,
+        Question::Table(_) | Question::Signature(_) | Question::Fits(..) => None,
     };
     worlds.get(number?).copied()
 }
