@@ -2,7 +2,7 @@
 
 ghost use Rattle.std.specs.Prelude.{◌≡◌, ◌+◌, ◌<◌, ◌^◌, ◌++◌, ◌∷◌, ℕ, List, Some, IfOk, OnOk};
 ghost use Rattle.std.specs.Prelude.{length, map, slice_get};
-ghost use Rattle.std.specs.List.{AllByRecursion, flat_map};
+ghost use Rattle.std.specs.List.{AllByRecursion};
 ghost use Rattle.cm_types_signatures.specs.declared.names.Front.{Front};
 ghost use Rattle.cm_wit_reading.specs.Views.{interface_item_tree, interface_tree};
 ghost use Rattle.cm_wit_reading.specs.Views.{resource_func_tree, type_def_tree, used_name_tree};
@@ -33,7 +33,7 @@ pub enum Member<'a> {
     Function(&'a Label, &'a Func),
 }
 
-/// What an interface has, in the order of its text, and the fronts of the names of that.
+/// What an interface has, in the order of its text, and the fronts of its items' names.
 #[derive(Drop)]
 pub struct Members<'a> {
     pub list: Vec<Member<'a>>,
