@@ -1,18 +1,24 @@
 -- What items are.
-use Rattle.std.proofs.Common.{◌≡◌, ℕ, ◌<◌, ◌≤◌, ◌+◌, Bool, true, false, ◌&&◌, nat_lt, List, [], ◌∷◌, ◌++◌, length, map, get_or, Option, Some, None, refl, sym, ap, subst, ◌∙◌}
-use Rattle.std.specs.List.{AllByRecursion, flat_map, list_all}
+use Rattle.std.proofs.Common.{◌≡◌, ℕ, zero, suc, arith, slice_get, ◌<◌, ◌≤◌, ◌+◌, Bool, true, false, ◌&&◌, nat_lt, List, [], ◌∷◌, ◌++◌, length, map, get_or, Option, Some, None, refl, sym, ap, subst, ◌∙◌}
+use Rattle.std.specs.List.{AllByRecursion, flat_map}
 use Rattle.std.specs.Option.{option_map, option_and_then}
+use Rattle.std.proofs.lemmas.Option.{get_or_from_slice_get}
+use Rattle.cm_types.specs.ExternNames.{name_spelling}
 use Rattle.cm_types.specs.Types.{Ty, FuncTy}
 use Rattle.cm_types.specs.Signatures.{ItemTy, NamedItem, func_item, equal_type}
 use Rattle.cm_types.specs.declared.resource.ResourceId.{ResourceId}
 use Rattle.cm_types_arena.specs.Places.{types_of, funcs_of}
-use Rattle.cm_types_arena.specs.TypeDefs.{type_at, func_at}
+use Rattle.cm_types_arena.specs.TypeDefs.{func_at}
 use Rattle.cm_types_arena.specs.declared.types.Types.{Types}
 use Rattle.cm_types_resources.specs.Replaced.{replaced, replaced_func}
 use Rattle.cm_types_placed.specs.Placed.{moved_by}
-use Rattle.cm_types_placed.specs.Instances.{numbered, desc_of, item_of, items_of, is_desc_there, are_items_there}
+use Rattle.cm_types_placed.specs.Instances.{desc_of, is_desc_there}
 use Rattle.cm_types_placed.specs.declared.placed.Placed.{Placed}
-use Rattle.cm_types_placed.specs.declared.instances.Item.{Item}
+use Rattle.cm_types_signatures.specs.Shared.{are_shared_items_there, shared_item_of}
+use Rattle.cm_types_signatures.specs.SharedNames.{text_in, name_with}
+use Rattle.cm_types_signatures.specs.declared.names.Front.{Front}
+use Rattle.cm_types_signatures.specs.declared.names.Front.TheVariants as front
+use Rattle.cm_types_signatures.specs.declared.shared.SharedItem.{SharedItem}
 use Rattle.cm_types_placed.specs.declared.instances.ItemDesc.{ItemDesc}
 use Rattle.cm_types_placed.specs.declared.instances.ItemDesc.TheVariants as desc
 use Rattle.cm_wit_meanings.specs.declared.fault.MeaningFault.{MeaningFault}
@@ -21,13 +27,14 @@ use Rattle.cm_wit_meanings.specs.declared.scope.Scope as code_scope
 use Rattle.cm_wit_meanings.specs.Scopes.{Scope, Meaning, resource, as_resource}
 use Rattle.cm_wit_meanings.specs.Meanings.{each_meaning, resource_func_meaning}
 use Rattle.cm_wit_meanings.specs.Places.{Extends, ArePlaced, scope_in}
-use Rattle.cm_wit_meanings.specs.Faults.{IsFaultOf, IsFuncWithin, is_func_spellable}
-use Rattle.cm_wit_items.specs.Functions.{item_funcs}
-use Rattle.cm_wit_items.specs.Members.{Member, member_item, member_func, item_with, items_in}
+use Rattle.cm_wit_meanings.specs.Faults.{is_func_spellable}
+use Rattle.cm_wit_items.specs.Fronts.{AreFronted, IsFronted}
+use Rattle.cm_wit_items.specs.Functions.{desc_funcs, item_funcs}
+use Rattle.cm_wit_items.specs.Members.{member_item, member_func, item_with}
 use Rattle.cm_wit_reading.specs.Trees.{ResourceFunc}
 use Rattle.cm_wit_items.specs.declared.members.Member as code
 use Rattle.cm_wit_items.specs.MemberViews.{member_view}
-use Rattle.cm_wit_items.specs.ItemFaults.{AreWithin, are_spelled, IsFaultWith, IsItemFault, AreItemsFault}
+use Rattle.cm_wit_items.specs.ItemFaults.{AreWithin, are_spelled, IsItemFault, AreItemsFault}
 use Rattle.cm_wit_items.specs.Own.{AreOwn}
 use Rattle.cm_wit_items.proofs.GrowthLaws.{place_kept, func_kept, less_of, test_of, extends_length, below_more}
 use Rattle.cm_wit_items.proofs.ScopeLaws.{scope_kept, scope_placed}
@@ -37,12 +44,15 @@ use Rattle.cm_wit_items.proofs.PushLaws.{Grown, Pushed, pushed_next, pushed_all}
 -- ---- one item
 
 -- its places are there, and its function is within the limits
-pub record IsItemThere (t : Types) (i : Item) : Type 0 where
+pub record IsItemThere (t : Types) (i : SharedItem) : Type 0 where
   pub there : is_desc_there (length (types_of t)) (length (funcs_of t)) i.desc ≡ true
-  pub within : AreWithin (item_funcs (item_of (types_of t) (funcs_of t) i))
+  pub within : AreWithin (desc_funcs (desc_of (types_of t) (funcs_of t) i.desc))
 
-abbrev pub item_view : Types → Item → NamedItem
-item_view t i = item_of (types_of t) (funcs_of t) i
+abbrev pub item_view : List Front → Types → SharedItem → NamedItem
+item_view fronts t i = shared_item_of (types_of t) (funcs_of t) fronts i
+
+abbrev items_made : List Front → List Ty → List FuncTy → List SharedItem → List NamedItem
+items_made fronts types funcs is = map (shared_item_of types funcs fronts) is
 
 test_more : (m n p : ℕ) → m ≤ n → nat_lt p m ≡ true → nat_lt p n ≡ true
 test_more m n p le e = test_of p n (below_more m n p le (less_of p m e))
@@ -60,8 +70,8 @@ module _ (types more : List Ty) (funcs further : List FuncTy) (e : Extends types
   desc_kept (desc.EqualResource n) h = refl
   desc_kept (desc.FreshResource n) h = refl
 
-  one_kept : (i : Item) → is_desc_there (length types) (length funcs) i.desc ≡ true → item_of more further i ≡ item_of types funcs i
-  one_kept i h = ap (λ (d : ItemTy). record { name = i.name; desc = d }) (desc_kept i.desc h)
+  one_kept : (fronts : List Front) (i : SharedItem) → is_desc_there (length types) (length funcs) i.desc ≡ true → shared_item_of more further fronts i ≡ shared_item_of types funcs fronts i
+  one_kept fronts i h = ap (λ (d : ItemTy). record { name = text_in fronts i.name; desc = d }) (desc_kept i.desc h)
 
   first_true : (a b : Bool) → (a && b) ≡ true → a ≡ true
   first_true true b h = refl
@@ -71,26 +81,26 @@ module _ (types more : List Ty) (funcs further : List FuncTy) (e : Extends types
   second_true true b h = h
   second_true false b h = absurd cc
 
-  pub items_stay : (is : List Item) → are_items_there (length types) (length funcs) is ≡ true → items_of more further is ≡ items_of types funcs is
-  items_stay [] h = refl
-  items_stay (i ∷ is) h =
-      let p = first_true (is_desc_there (length types) (length funcs) i.desc) (are_items_there (length types) (length funcs) is) h in
-      let q = second_true (is_desc_there (length types) (length funcs) i.desc) (are_items_there (length types) (length funcs) is) h in
-      rw (one_kept i p, items_stay is q) refl
+  pub items_stay : (fronts : List Front) (is : List SharedItem) → are_shared_items_there (length types) (length funcs) is ≡ true → items_made fronts more further is ≡ items_made fronts types funcs is
+  items_stay fronts [] h = refl
+  items_stay fronts (i ∷ is) h =
+      let p = first_true (is_desc_there (length types) (length funcs) i.desc) (are_shared_items_there (length types) (length funcs) is) h in
+      let q = second_true (is_desc_there (length types) (length funcs) i.desc) (are_shared_items_there (length types) (length funcs) is) h in
+      rw (one_kept fronts i p, items_stay fronts is q) refl
 
-  pub items_stay_there : (is : List Item) → are_items_there (length types) (length funcs) is ≡ true → are_items_there (length more) (length further) is ≡ true
+  pub items_stay_there : (is : List SharedItem) → are_shared_items_there (length types) (length funcs) is ≡ true → are_shared_items_there (length more) (length further) is ≡ true
   items_stay_there [] h = refl
   items_stay_there (i ∷ is) h =
-      let p = first_true (is_desc_there (length types) (length funcs) i.desc) (are_items_there (length types) (length funcs) is) h in
-      let q = second_true (is_desc_there (length types) (length funcs) i.desc) (are_items_there (length types) (length funcs) is) h in
-      ap (λ (x : Bool). x && are_items_there (length more) (length further) is) (desc_more i.desc p) ∙ items_stay_there is q
+      let p = first_true (is_desc_there (length types) (length funcs) i.desc) (are_shared_items_there (length types) (length funcs) is) h in
+      let q = second_true (is_desc_there (length types) (length funcs) i.desc) (are_shared_items_there (length types) (length funcs) is) h in
+      ap (λ (x : Bool). x && are_shared_items_there (length more) (length further) is) (desc_more i.desc p) ∙ items_stay_there is q
 
 module _ (old new : Types) (g : Grown old new) where
-  pub item_kept : (i : Item) → is_desc_there (length (types_of old)) (length (funcs_of old)) i.desc ≡ true → item_view new i ≡ item_view old i
-  item_kept i e = one_kept (types_of old) (types_of new) (funcs_of old) (funcs_of new) g.types g.funcs i e
+  pub item_kept : (fronts : List Front) (i : SharedItem) → is_desc_there (length (types_of old)) (length (funcs_of old)) i.desc ≡ true → item_view fronts new i ≡ item_view fronts old i
+  item_kept fronts i e = one_kept (types_of old) (types_of new) (funcs_of old) (funcs_of new) g.types g.funcs fronts i e
 
-  pub item_more : (i : Item) → IsItemThere old i → IsItemThere new i
-  item_more i h = record { there = desc_more (types_of old) (types_of new) (funcs_of old) (funcs_of new) g.types g.funcs i.desc h.there; within = subst (λ (x : NamedItem). AreWithin (item_funcs x)) (sym (item_kept i h.there)) h.within }
+  pub item_more : (i : SharedItem) → IsItemThere old i → IsItemThere new i
+  item_more i h = record { there = desc_more (types_of old) (types_of new) (funcs_of old) (funcs_of new) g.types g.funcs i.desc h.there; within = subst (λ (x : ItemTy). AreWithin (desc_funcs x)) (sym (desc_kept (types_of old) (types_of new) (funcs_of old) (funcs_of new) g.types g.funcs i.desc h.there)) h.within }
 
 -- ---- several
 
@@ -136,18 +146,23 @@ module _ {B : Type 0} (funcs : B → List FuncTy) where
   part_unspelled [] y rest h = first_unspelled (funcs y) (flat_map funcs rest) h
   part_unspelled (x ∷ xs) y rest h = second_unspelled (funcs x) (flat_map funcs (xs ++ y ∷ rest)) (part_unspelled xs y rest h)
 
-items_there : (t : Types) (is : List Item) → AllByRecursion (IsItemThere t) is → are_items_there (length (types_of t)) (length (funcs_of t)) is ≡ true
+items_there : (t : Types) (is : List SharedItem) → AllByRecursion (IsItemThere t) is → are_shared_items_there (length (types_of t)) (length (funcs_of t)) is ≡ true
 items_there t [] h = refl
-items_there t (i ∷ is) h = both (is_desc_there (length (types_of t)) (length (funcs_of t)) i.desc) (are_items_there (length (types_of t)) (length (funcs_of t)) is) h.0.there (items_there t is h.1)
+items_there t (i ∷ is) h = both (is_desc_there (length (types_of t)) (length (funcs_of t)) i.desc) (are_shared_items_there (length (types_of t)) (length (funcs_of t)) is) h.0.there (items_there t is h.1)
   where
     both : (a b : Bool) → a ≡ true → b ≡ true → (a && b) ≡ true
     both a b e f = ap (λ (x : Bool). x && b) e ∙ f
 
-items_within : (t : Types) (is : List Item) → AllByRecursion (IsItemThere t) is → AreWithin (flat_map item_funcs (items_of (types_of t) (funcs_of t) is))
-items_within t [] h = tt
-items_within t (i ∷ is) h = all_both (item_funcs (item_view t i)) (flat_map item_funcs (items_of (types_of t) (funcs_of t) is)) h.0.within (items_within t is h.1)
+items_within : (fronts : List Front) (t : Types) (is : List SharedItem) → AllByRecursion (IsItemThere t) is → AreWithin (flat_map item_funcs (items_made fronts (types_of t) (funcs_of t) is))
+items_within fronts t [] h = tt
+items_within fronts t (i ∷ is) h = all_both (item_funcs (item_view fronts t i)) (flat_map item_funcs (items_made fronts (types_of t) (funcs_of t) is)) h.0.within (items_within fronts t is h.1)
 
 -- ---- adding them
+
+all_at : {A : Type 0} (P : A → Type 0) (xs : List A) (k : ℕ) (x : A) → k < length xs → x ≡ get_or xs k x → AllByRecursion P xs → P x
+all_at P [] k x lt e h = absurd (omega (arith, lt))
+all_at P (y ∷ ys) zero x lt e h = subst P (sym e) h.0
+all_at P (y ∷ ys) (suc k) x lt e h = all_at P ys k x (omega (arith, lt)) e h.1
 
 each_view : {A B C : Type 0} (meant : B → Option C) (view : A → B) (xs : List A) → each_meaning (λ x. meant (view x)) xs ≡ each_meaning meant (map view xs)
 each_view meant view [] = refl
@@ -156,10 +171,10 @@ each_view meant view (x ∷ xs) = rw (each_view meant view xs) refl
 abbrev pub meant_in : code_scope.Scope → Types → code.Member → Option NamedItem
 meant_in sc t m = member_item (scope_in (types_of t) sc) (member_view m)
 
-abbrev pub PushedItems : code_scope.Scope → List code.Member → Types → ℕ → Types → List Item → Type 0
-PushedItems sc ms first i now done = Pushed (meant_in sc first) item_view IsItemThere ms first i now done
+abbrev pub PushedItems : code_scope.Scope → List Front → List code.Member → Types → ℕ → Types → List SharedItem → Type 0
+PushedItems sc fronts ms first i now done = Pushed (meant_in sc first) (item_view fronts) IsItemThere ms first i now done
 
-module _ (sc : code_scope.Scope) (ms : List code.Member) (first now : Types) (placed : ArePlaced (length (types_of first)) sc.table.now) (i : ℕ) (done : List Item) (h : PushedItems sc ms first i now done) where
+module _ (sc : code_scope.Scope) (fronts : List Front) (ms : List code.Member) (first now : Types) (placed : ArePlaced (length (types_of first)) sc.table.now) (i : ℕ) (done : List SharedItem) (h : PushedItems sc fronts ms first i now done) where
   pub items_placed : ArePlaced (length (types_of now)) sc.table.now
   items_placed = scope_placed (types_of first) (types_of now) sc h.types placed
 
@@ -169,23 +184,23 @@ module _ (sc : code_scope.Scope) (ms : List code.Member) (first now : Types) (pl
   pub items_own : AreOwn (scope_in (types_of first) sc) → AreOwn (scope_in (types_of now) sc)
   items_own o = subst AreOwn (sym same) o
 
-  pub items_next : (next : Types) (x : code.Member) (d : Item) (new : List Item) → i < length ms → x ≡ get_or ms i x → meant_in sc now x ≡ Some (item_view next d) → is_desc_there (length (types_of next)) (length (funcs_of next)) d.desc ≡ true → AreWithin (item_funcs (item_view next d)) → Extends (types_of now) (types_of next) → Extends (funcs_of now) (funcs_of next) → new ≡ done ++ d ∷ [] → PushedItems sc ms first (i + 1) next new
-  items_next next x d new lt is e q w g f n =
-      pushed_next (meant_in sc first) item_view IsItemThere ms first (λ a b k grown t. item_kept a b grown k t.there) (λ a b k grown t. item_more a b grown k t) now next i x d done new lt is (ap (λ (s : Scope). member_item s (member_view x)) (sym same) ∙ e) (record { there = q; within = w }) (record { types = g; funcs = f }) n h
+  pub items_next : (next : Types) (x : code.Member) (d : SharedItem) (new : List SharedItem) → i < length ms → x ≡ get_or ms i x → AreFronted fronts ms → (slice_get fronts 0 ≡ Some front.Plain → IsFronted fronts x → meant_in sc now x ≡ Some (item_view fronts next d)) → is_desc_there (length (types_of next)) (length (funcs_of next)) d.desc ≡ true → AreWithin (desc_funcs (desc_of (types_of next) (funcs_of next) d.desc)) → Extends (types_of now) (types_of next) → Extends (funcs_of now) (funcs_of next) → new ≡ done ++ d ∷ [] → PushedItems sc fronts ms first (i + 1) next new
+  items_next next x d new lt is fronted e q w g f n =
+      pushed_next (meant_in sc first) (item_view fronts) IsItemThere ms first (λ a b k grown t. item_kept a b grown fronts k t.there) (λ a b k grown t. item_more a b grown k t) now next i x d done new lt is (ap (λ (s : Scope). member_item s (member_view x)) (sym same) ∙ e fronted.plain (all_at (IsFronted fronts) ms i x lt is fronted.each)) (record { there = q; within = w }) (record { types = g; funcs = f }) n h
 
   pub items_fault : (x : code.Member) (f : MeaningFault) → i < length ms → x ≡ get_or ms i x → IsItemFault (meant_in sc now x) f → AreItemsFault (each_meaning (member_item (scope_in (types_of first) sc)) (map member_view ms)) f
   items_fault x f lt is e =
       subst (λ (o : Option (List NamedItem)). AreItemsFault o f) (each_view (member_item (scope_in (types_of first) sc)) member_view ms)
-      (makes_fault (meant_in sc first) ms (λ is. AreWithin (flat_map item_funcs is)) (λ is. are_spelled (flat_map item_funcs is)) (λ k. AreWithin (item_funcs k)) (λ k. are_spelled (item_funcs k)) (part_within item_funcs) (part_unspelled item_funcs) i x (map (item_view now) done) f lt is (subst (λ (s : Scope). IsItemFault (member_item s (member_view x)) f) same e) h.makes)
+      (makes_fault (meant_in sc first) ms (λ is. AreWithin (flat_map item_funcs is)) (λ is. are_spelled (flat_map item_funcs is)) (λ k. AreWithin (item_funcs k)) (λ k. are_spelled (item_funcs k)) (part_within item_funcs) (part_unspelled item_funcs) i x (map (item_view fronts now) done) f lt is (subst (λ (s : Scope). IsItemFault (member_item s (member_view x)) f) same e) h.makes)
 
-  pub items_all : length ms ≤ i → each_meaning (member_item (scope_in (types_of first) sc)) (map member_view ms) ≡ Some (items_of (types_of now) (funcs_of now) done)
-  items_all le = sym (each_view (member_item (scope_in (types_of first) sc)) member_view ms) ∙ pushed_all (meant_in sc first) item_view IsItemThere ms first now i done le h
+  pub items_all : length ms ≤ i → each_meaning (member_item (scope_in (types_of first) sc)) (map member_view ms) ≡ Some (items_made fronts (types_of now) (funcs_of now) done)
+  items_all le = sym (each_view (member_item (scope_in (types_of first) sc)) member_view ms) ∙ pushed_all (meant_in sc first) (item_view fronts) IsItemThere ms first now i done le h
 
-  pub all_there : are_items_there (length (types_of now)) (length (funcs_of now)) done ≡ true
+  pub all_there : are_shared_items_there (length (types_of now)) (length (funcs_of now)) done ≡ true
   all_there = items_there now done h.there
 
-  pub all_within : AreWithin (flat_map item_funcs (items_of (types_of now) (funcs_of now) done))
-  all_within = items_within now done h.there
+  pub all_within : AreWithin (flat_map item_funcs (items_made fronts (types_of now) (funcs_of now) done))
+  all_within = items_within fronts now done h.there
 
 -- ---- one of them
 
@@ -201,6 +216,10 @@ no_resource s n f e = ap (option_and_then (λ x. resource_func_meaning s x f)) e
 pub of_resource_made : (s : Scope) (n : List ℕ) (f : ResourceFunc) (r : ResourceId) (t : FuncTy) → s n ≡ Some (resource r) → resource_func_meaning s r f ≡ Some t → member_func s n f ≡ Some t
 of_resource_made s n f r t e q = ap (λ (o : Option Meaning). option_and_then (λ x. resource_func_meaning s x f) (option_and_then as_resource o)) e ∙ q
 
-pub item_made : (name n : List ℕ) (types : List Ty) (funcs : List FuncTy) (p : Placed) (place : ℕ) (o : Option FuncTy) → ((f : FuncTy) → replaced_func (moved_by None) f ≡ f) → name ≡ n → p.place ≡ place → p.by ≡ None → o ≡ Some (func_at funcs place) → option_map (λ t. item_with n (func_item t)) o ≡ Some (item_of types funcs (record { name = name; desc = desc.Func p }))
-item_made name n types funcs p place o stays a b d e =
+-- the name that a front of a list makes
+pub name_made : (fronts : List Front) (k : ℕ) (f : Front) (back : List ℕ) → slice_get fronts k ≡ Some f → text_in fronts (record { front = k; back = back }) ≡ name_spelling (name_with f back)
+name_made fronts k f back e = ap (λ (x : Front). name_spelling (name_with x back)) (get_or_from_slice_get fronts k f front.Plain e)
+
+pub func_item_made : (name n : List ℕ) (types : List Ty) (funcs : List FuncTy) (p : Placed) (place : ℕ) (o : Option FuncTy) → ((f : FuncTy) → replaced_func (moved_by None) f ≡ f) → name ≡ n → p.place ≡ place → p.by ≡ None → o ≡ Some (func_at funcs place) → option_map (λ t. item_with n (func_item t)) o ≡ Some (record { name = name; desc = desc_of types funcs (desc.Func p) })
+func_item_made name n types funcs p place o stays a b d e =
     ap (option_map (λ t. item_with n (func_item t))) e ∙ sym (rw (a, b, d, stays (func_at funcs place)) refl)

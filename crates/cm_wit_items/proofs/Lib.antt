@@ -7,3 +7,4 @@ mod ScopeLaws
 mod EachLaws
 mod PushLaws
 mod ItemLaws
+mod FrontLaws

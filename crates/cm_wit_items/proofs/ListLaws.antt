@@ -1,5 +1,5 @@
 -- Lists made element by element.
-use Rattle.std.proofs.Common.{◌≡◌, ℕ, ◌+◌, ◌<◌, ◌≤◌, List, [], ◌∷◌, ◌++◌, length, map, drop, get_or, refl, sym, ap, ◌∙◌, append_assoc, append-nil}
+use Rattle.std.proofs.Common.{◌≡◌, ℕ, ◌+◌, ◌<◌, ◌≤◌, List, [], ◌∷◌, ◌++◌, length, map, drop, get_or, refl, sym, ap, subst, ◌∙◌, append_assoc, append-nil}
 use Rattle.std.proofs.lemmas.List.{drop_all, drop_more, map-append}
 
 next_element : {A B : Type 0} (view : A → B) (xs : List A) (i : ℕ) (x : A) → i < length xs → x ≡ get_or xs i x → map view (drop i xs) ≡ view x ∷ map view (drop (i + 1) xs)
@@ -22,6 +22,9 @@ makes_join {A} {B} {C} {D} view F shown xs i start out next part x lt e n s f = 
 
 pub makes_push : {A B C D : Type 0} (view : A → B) (F : ℕ → List B → List D) (shown : C → D) (xs : List A) (i : ℕ) (start out : List C) (x : A) (c : C) → i < length xs → x ≡ get_or xs i x → ((ys : List B) → F i (view x ∷ ys) ≡ shown c ∷ F (i + 1) ys) → Makes view F shown xs i start out → Makes view F shown xs (i + 1) start (out ++ c ∷ [])
 makes_push view F shown xs i start out x c lt e s f = makes_join view F shown xs i start out (out ++ c ∷ []) (shown c ∷ []) x lt e (map-append shown out (c ∷ [])) s f
+
+pub makes_grown : {A B C D : Type 0} (view : A → B) (F : ℕ → List B → List D) (shown : C → D) (xs : List A) (i : ℕ) (start out new : List C) (x : A) (c : C) → new ≡ out ++ c ∷ [] → i < length xs → x ≡ get_or xs i x → ((ys : List B) → F i (view x ∷ ys) ≡ shown c ∷ F (i + 1) ys) → Makes view F shown xs i start out → Makes view F shown xs (i + 1) start new
+makes_grown {A} {B} {C} {D} view F shown xs i start out new x c n lt e s f = subst (λ (l : List C). Makes view F shown xs (i + 1) start l) (sym n) (makes_push view F shown xs i start out x c lt e s f)
 
 pub makes_all : {A B C D : Type 0} (view : A → B) (F : ℕ → List B → List D) (shown : C → D) (xs : List A) (i : ℕ) (start out : List C) → length xs ≤ i → F i [] ≡ [] → Makes view F shown xs i start out → map shown out ≡ map shown start ++ F 0 (map view xs)
 makes_all {A} {B} {C} {D} view F shown xs i start out le none f = sym (append-nil (map shown out)) ∙ (sym (ap (λ (l : List D). map shown out ++ l) none) ∙ (sym (ap (λ (ys : List A). map shown out ++ F i (map view ys)) (drop_all i xs le)) ∙ f.is))

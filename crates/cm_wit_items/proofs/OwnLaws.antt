@@ -1,5 +1,5 @@
 -- Each resource that a declaration stands for is one of the world itself.
-use Rattle.std.proofs.Common.{◌≡◌, ℕ, zero, suc, ◌+◌, ◌<◌, ◌≤◌, true, false, List, [], ◌∷◌, Option, Some, None, unwrap_or, slice_get, slice_index_or, refl, sym, ap, subst, ◌∙◌, arith}
+use Rattle.std.proofs.Common.{◌≡◌, ℕ, zero, suc, ◌<◌, List, [], Option, Some, None, unwrap_or, slice_get, slice_index_or, refl, sym, ap, subst, ◌∙◌, arith}
 use Rattle.std.specs.List.{AllByRecursion, filter_map, cons_option}
 use Rattle.std.specs.Option.{option_map, option_and_then, option_map_or}
 use Rattle.std.proofs.lemmas.Option.{unwrap_or-slice_get}
@@ -9,7 +9,7 @@ use Rattle.cm_wit_reading.specs.Trees.{TypeDef, alias, record_of, variant, enum,
 use Rattle.cm_wit_reading.specs.Trees as trees
 use Rattle.cm_wit_meanings.specs.Scopes.{Meaning, Scope, value, resource}
 use Rattle.cm_wit_meanings.specs.Meanings.{def_meaning}
-use Rattle.cm_wit_tables.specs.Declarations.{Declared, Declaration, brought, defined, referred, refers, target, uses, IsRanked}
+use Rattle.cm_wit_tables.specs.Declarations.{Declared, Declaration, brought, defined, referred, refers, target, IsRanked}
 use Rattle.cm_wit_tables.specs.Tables.{resource_of, scope_of, declared_meaning, entry_meaning, Solves}
 use Rattle.cm_wit_items.specs.Own.{IsOwn, AreOwn}
 

@@ -1,6 +1,6 @@
 -- Where each name leads to a type, and that of a borrow to a resource, texts stand for something.
-use Rattle.std.proofs.Common.{◌≡◌, ℕ, zero, suc, ◌+◌, ◌<◌, Bool, true, false, cond, List, [], ◌∷◌, ◌++◌, length, map, Option, Some, None, unwrap_or, slice_get, slice_index_or, refl, ap, subst, ◌∙◌, sym, arith}
-use Rattle.std.specs.List.{AllByRecursion, flat_map, position_from}
+use Rattle.std.proofs.Common.{◌≡◌, ℕ, suc, ◌+◌, ◌<◌, Bool, true, false, cond, List, [], ◌∷◌, ◌++◌, length, Option, Some, None, unwrap_or, slice_get, slice_index_or, refl, ap, ◌∙◌, sym, arith}
+use Rattle.std.specs.List.{AllByRecursion, position_from}
 use Rattle.std.specs.Option.{option_map, option_and_then}
 use Rattle.std.proofs.lemmas.Option.{unwrap_or-slice_get}
 use Rattle.std.proofs.lemmas.List.{length-map}
@@ -15,11 +15,11 @@ use Rattle.cm_wit_meanings.specs.Scopes.{Meaning, Scope, resource, as_type, as_r
 use Rattle.cm_wit_meanings.specs.Meanings as meant
 use Rattle.cm_wit_meanings.specs.Meanings.{meaning, meanings, each_meaning, typed_meaning, payload_meaning, func_meaning, resource_func_meaning}
 use Rattle.cm_wit_tables.specs.Declarations.{Declaration, names_in, names_in_all, names_in_payload, target, keys_of, key_of}
-use Rattle.cm_wit_tables.specs.Tables.{scope_of, Solves, IsWhole}
+use Rattle.cm_wit_tables.specs.Tables.{scope_of, IsWhole}
 use Rattle.cm_wit_tables.specs.TypeFaults.{IsResource, LeadsToType, LeadsToResource, borrowed_in, borrowed_in_all, borrowed_in_payload}
 use Rattle.cm_wit_items.specs.Members.{Member, used, declared, of_resource, function, used_type, own_type, member_func, member_item, item_with, func_name}
-use Rattle.cm_wit_items.specs.Named.{Lead, ParamsHaveTypes, FuncHasTypes, ResourceFuncHasTypes, MemberHasTypes, names_in_params, borrowed_in_params}
-use Rattle.cm_types.specs.Signatures.{func_item, NamedItem}
+use Rattle.cm_wit_items.specs.Named.{Lead, FuncHasTypes, ResourceFuncHasTypes, MemberHasTypes, names_in_params, borrowed_in_params}
+use Rattle.cm_types.specs.Signatures.{func_item}
 
 abbrev pub Has : {A : Type 0} → Option A → Type 0
 Has {A} o = (x : A) × (o ≡ Some x)

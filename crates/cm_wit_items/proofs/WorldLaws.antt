@@ -1,11 +1,10 @@
 -- Where each name leads to a type, a world has a signature.
-use Rattle.std.proofs.Common.{◌≡◌, ℕ, zero, suc, ◌+◌, ◌-◌, ◌<◌, ◌≤◌, nat_lt, Bool, true, false, cond, if◌then◌else◌, List, [], ◌∷◌, ◌++◌, length, map, Option, Some, None, MatchOption, slice_get, refl, sym, ap, subst, ◌∙◌, arith}
-use Rattle.std.specs.Prelude.{filter}
+use Rattle.std.proofs.Common.{◌≡◌, ℕ, zero, suc, ◌+◌, ◌-◌, ◌<◌, nat_lt, Bool, true, false, cond, if◌then◌else◌, List, [], ◌∷◌, ◌++◌, length, map, Option, Some, None, MatchOption, slice_get, refl, ap, subst, ◌∙◌, arith}
 use Rattle.std.specs.List.{AllByRecursion}
-use Rattle.std.specs.Option.{option_map, option_and_then}
+use Rattle.std.specs.Option.{option_and_then}
 use Rattle.std.proofs.lemmas.Bool.Decides.{nat_tests}
 use Rattle.cm_types.specs.declared.resource.ResourceId.{ResourceId}
-use Rattle.cm_types.specs.Signatures.{NamedExtern, SignatureTy, func, instance}
+use Rattle.cm_types.specs.Signatures.{NamedExtern, func, instance}
 use Rattle.cm_wit_reading.specs.Trees.{File, WorldItem}
 use Rattle.cm_wit_worlds.specs.Interfaces.{PlacedInterface, PlacedWorld, interfaces, full_name}
 use Rattle.cm_wit_meanings.specs.Scopes.{Meaning, resource}
@@ -15,7 +14,7 @@ use Rattle.cm_wit_tables.specs.TypeFaults.{IsResource}
 use Rattle.cm_wit_tables.specs.Worlds.{Instance, instances, declarations}
 use Rattle.cm_wit_items.specs.Members.{members, items_in}
 use Rattle.cm_wit_items.specs.Signatures.{NamedFunc, item_func, func_at, func_extern, interface_extern, instance_extern, in_front, func_in_front, externs_from, interfaces_among, signature_in}
-use Rattle.cm_wit_items.specs.Named.{FuncHasTypes, MemberHasTypes, InstancesHaveTypes, OwnFuncsHaveTypes, HaveTypes, imported}
+use Rattle.cm_wit_items.specs.Named.{FuncHasTypes, MemberHasTypes, OwnFuncsHaveTypes, HaveTypes, imported}
 use Rattle.cm_wit_items.proofs.ThereLaws.{Has, mapped, typed_func, typed_members}
 use Rattle.cm_wit_meanings.specs.Meanings.{func_meaning}
 

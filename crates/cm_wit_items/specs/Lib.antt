@@ -6,3 +6,4 @@ pub mod Faults
 pub mod Own
 pub mod MemberViews
 pub mod ItemFaults
+pub mod Fronts

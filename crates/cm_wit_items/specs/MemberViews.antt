@@ -8,5 +8,5 @@ use Rattle.cm_wit_items.specs.declared.members.Member.TheVariants as member
 abbrev pub member_view : Member → spec.Member
 member_view (member.Used name) = spec.used name.now
 member_view (member.Declared name) = spec.declared name.now
-member_view (member.OfResource name f) = spec.of_resource name.now (resource_func_tree f.now)
+member_view (member.OfResource r f k) = spec.of_resource r.now (resource_func_tree f.now)
 member_view (member.Function name f) = spec.function name.now (func_tree f.now)

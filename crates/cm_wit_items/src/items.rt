@@ -1,17 +1,24 @@
 //! The items of instances, whose types are put into an arena.
 
 ghost use Rattle.std.specs.Prelude.{◌≡◌, ℕ, List, None, Some, [], true, IfOk, IfErr, length, map};
+ghost use Rattle.std.specs.Prelude.{slice_get};
 ghost use Rattle.cm_types.specs.Types.{FuncTy, Ty};
 ghost use Rattle.cm_types_arena.specs.Places.{funcs_of, types_of};
-ghost use Rattle.cm_types_placed.specs.Instances.{are_items_there, desc_of, is_desc_there, item_of};
-ghost use Rattle.cm_types_placed.specs.Instances.{items_of};
+ghost use Rattle.cm_types.specs.ExternNames.{name_spelling};
+ghost use Rattle.cm_types_placed.specs.Instances.{desc_of, is_desc_there};
+ghost use Rattle.cm_types_signatures.specs.Shared.{are_shared_items_there, shared_item_of};
+ghost use Rattle.cm_types_signatures.specs.Shared.{shared_items_of};
+ghost use Rattle.cm_types_signatures.specs.SharedNames.{name_with};
+ghost use Rattle.cm_types_signatures.specs.declared.names.Front.{Front};
+ghost use Rattle.cm_types_signatures.specs.declared.names.Front.TheVariants as front;
 ghost use Rattle.cm_wit_reading.specs.SignatureViews.{func_tree};
 ghost use Rattle.cm_wit_reading.specs.Views.{interface_tree, resource_func_tree};
 ghost use Rattle.cm_wit_meanings.specs.Places.{ArePlaced, Extends, IsPlaced, meaning_in, scope_in};
 ghost use Rattle.cm_wit_meanings.specs.declared.fault.MeaningFault.TheVariants as fault;
 ghost use Rattle.cm_wit_meanings.specs.Scopes as meant;
+ghost use Rattle.cm_wit_items.specs.Fronts.{AreFronted, IsFronted, func_front};
 ghost use Rattle.cm_wit_items.specs.Functions.{desc_funcs, item_funcs};
-ghost use Rattle.cm_wit_items.specs.Members.{items_in, member_item, own_type};
+ghost use Rattle.cm_wit_items.specs.Members.{func_name, items_in, member_item, own_type};
 ghost use Rattle.cm_wit_meanings.specs.Meanings.{each_meaning};
 ghost use Rattle.cm_wit_items.specs.Members.{used_type};
 ghost use Rattle.cm_wit_items.specs.Members as spec;
@@ -21,14 +28,15 @@ ghost use Rattle.cm_wit_items.specs.ItemFaults.{AreItemsFault, AreWithin, IsItem
 ghost use Rattle.cm_wit_items.specs.MemberViews.{member_view};
 ghost use Rattle.cm_wit_items.specs.Own.{AreOwn, IsOwn};
 
-use crate::{Member, extern_name, func_name, interface_members};
+use crate::{Member, Members, interface_members};
 use cm_types::{Label, ResourceId};
 use cm_types_arena::Types;
 use cm_types_placed::laws::unmoved;
-use cm_types_placed::{Item, ItemDesc, Placed};
+use cm_types_placed::{ItemDesc, Placed};
+use cm_types_signatures::{SharedItem, SharedItems, SharedName};
 use cm_wit_meanings::{Meaning, MeaningFault, Scope, push_func, push_resource_func};
 use cm_wit_reading::{Func, Interface, ResourceFunc};
-use std::alloc::Global;
+use std::alloc::{AllocError, Global};
 
 /// What a name stands for.
 fn found(scope: &Scope<'_, '_>, name: &Label) -> Result<Meaning, MeaningFault>
@@ -93,33 +101,63 @@ fn own_desc(meaning: Meaning) -> ItemDesc
     }
 }
 
-/// Adds the type of a function of a resource, and answers the item.
+/// The name that is a label alone, whose front is the first.
+fn plain_name(label: &Label) -> Result<SharedName, AllocError>
+    ensures front { IfOk result (λ n. n.front ≡ 0) }
+    ensures back { IfOk result (λ n. n.back ≡ label.now) }
+{
+    Ok(SharedName {
+        front: 0,
+        back: label.clone()?,
+    })
+}
+
+/// The label behind the front of the name of a function of a resource. A constructor has none: the
+/// resource's stands for it.
+fn back_of<'a>(resource: &'a Label, func: &'a ResourceFunc) -> &'a Label
+    ensures { name_spelling
+        (name_with (func_front resource.now (resource_func_tree func.now)) result.now)
+        ≡ func_name resource.now (resource_func_tree func.now) }
+{
+    match func {
+        ResourceFunc::Method(name, _) => name,
+        ResourceFunc::Static(name, _) => name,
+        ResourceFunc::Constructor(_) => resource,
+    }
+}
+
+/// Adds the type of a function of a resource, and answers the item. The front of its name has this
+/// number.
 fn push_resource_item(
     alloc: Global,
     types: &mut Types,
     scope: &Scope<'_, '_>,
-    name: &Label,
+    resource: &Label,
     func: &ResourceFunc,
-) -> Result<Item, MeaningFault>
+    front: usize,
+) -> Result<SharedItem, MeaningFault>
     requires placed { ArePlaced (length (types_of types.old)) scope.now.table.now }
-    ensures item { IfOk result (λ i. member_item (scope_in (types_of types.old) scope.now)
-        (spec.of_resource name.now (resource_func_tree func.now))
-        ≡ Some (item_of (types_of types.new) (funcs_of types.new) i)) }
+    ensures item { IfOk result (λ i. (fronts : List Front)
+        → slice_get fronts front ≡ Some (func_front resource.now (resource_func_tree func.now))
+        → member_item (scope_in (types_of types.old) scope.now)
+        (spec.of_resource resource.now (resource_func_tree func.now))
+        ≡ Some (shared_item_of (types_of types.new) (funcs_of types.new) fronts i)) }
     ensures there { IfOk result (λ i. is_desc_there (length (types_of types.new))
         (length (funcs_of types.new)) i.desc ≡ true) }
     ensures within { IfOk result (λ i. AreWithin
-        (item_funcs (item_of (types_of types.new) (funcs_of types.new) i))) }
+        (desc_funcs (desc_of (types_of types.new) (funcs_of types.new) i.desc))) }
     ensures fault { IfErr result (IsItemFault
         (member_item (scope_in (types_of types.old) scope.now)
-        (spec.of_resource name.now (resource_func_tree func.now)))) }
+        (spec.of_resource resource.now (resource_func_tree func.now)))) }
     ensures grown { Extends (types_of types.old) (types_of types.new) }
     ensures funcs { Extends (funcs_of types.old) (funcs_of types.new) }
 {
     unmoved();
-    let resource = found_resource(scope, name)?;
-    let place = push_resource_func(alloc, types, scope, resource, func)?;
-    Ok(Item {
-        name: func_name(alloc, name, func)?,
+    let numbered = found_resource(scope, resource)?;
+    let place = push_resource_func(alloc, types, scope, numbered, func)?;
+    let back = back_of(resource, func).clone()?;
+    Ok(SharedItem {
+        name: SharedName { front, back },
         desc: ItemDesc::Func(Placed::at(place)),
     })
 }
@@ -131,15 +169,17 @@ fn push_func_item(
     scope: &Scope<'_, '_>,
     name: &Label,
     func: &Func,
-) -> Result<Item, MeaningFault>
+) -> Result<SharedItem, MeaningFault>
     requires placed { ArePlaced (length (types_of types.old)) scope.now.table.now }
-    ensures item { IfOk result (λ i. member_item (scope_in (types_of types.old) scope.now)
+    ensures item { IfOk result (λ i. (fronts : List Front)
+        → slice_get fronts 0 ≡ Some front.Plain
+        → member_item (scope_in (types_of types.old) scope.now)
         (spec.function name.now (func_tree func.now))
-        ≡ Some (item_of (types_of types.new) (funcs_of types.new) i)) }
+        ≡ Some (shared_item_of (types_of types.new) (funcs_of types.new) fronts i)) }
     ensures there { IfOk result (λ i. is_desc_there (length (types_of types.new))
         (length (funcs_of types.new)) i.desc ≡ true) }
     ensures within { IfOk result (λ i. AreWithin
-        (item_funcs (item_of (types_of types.new) (funcs_of types.new) i))) }
+        (desc_funcs (desc_of (types_of types.new) (funcs_of types.new) i.desc))) }
     ensures fault { IfErr result (IsItemFault
         (member_item (scope_in (types_of types.old) scope.now)
         (spec.function name.now (func_tree func.now)))) }
@@ -148,46 +188,48 @@ fn push_func_item(
 {
     unmoved();
     let place = push_func(alloc, types, scope, func)?;
-    Ok(Item {
-        name: extern_name(alloc, name.as_str())?,
+    Ok(SharedItem {
+        name: plain_name(name)?,
         desc: ItemDesc::Func(Placed::at(place)),
     })
 }
 
 /// The item that a used type is.
-fn used_item(alloc: Global, scope: &Scope<'_, '_>, name: &Label) -> Result<Item, MeaningFault>
-    ensures item { IfOk result (λ i. (types : List Ty) (funcs : List FuncTy)
-        → AreOwn (scope_in types scope.now) → member_item (scope_in types scope.now)
-        (spec.used name.now) ≡ Some (item_of types funcs i)) }
+fn used_item(scope: &Scope<'_, '_>, name: &Label) -> Result<SharedItem, MeaningFault>
+    ensures item { IfOk result (λ i. (types : List Ty) (funcs : List FuncTy) (fronts : List Front)
+        → AreOwn (scope_in types scope.now) → slice_get fronts 0 ≡ Some front.Plain
+        → member_item (scope_in types scope.now) (spec.used name.now)
+        ≡ Some (shared_item_of types funcs fronts i)) }
     ensures there { IfOk result (λ i. (types funcs : ℕ) → ArePlaced types scope.now.table.now
         → is_desc_there types funcs i.desc ≡ true) }
     ensures no_func { IfOk result (λ i. (types : List Ty) (funcs : List FuncTy) →
-        item_funcs (item_of types funcs i) ≡ []) }
+        desc_funcs (desc_of types funcs i.desc) ≡ []) }
     ensures fault { (types : List Ty) → IfErr result
         (IsItemFault (member_item (scope_in types scope.now) (spec.used name.now))) }
 {
     let meaning = found(scope, name)?;
-    Ok(Item {
-        name: extern_name(alloc, name.as_str())?,
+    Ok(SharedItem {
+        name: plain_name(name)?,
         desc: used_desc(meaning),
     })
 }
 
 /// The item that a type is that is defined.
-fn own_item(alloc: Global, scope: &Scope<'_, '_>, name: &Label) -> Result<Item, MeaningFault>
-    ensures item { IfOk result (λ i. (types : List Ty) (funcs : List FuncTy)
-        → AreOwn (scope_in types scope.now) → member_item (scope_in types scope.now)
-        (spec.declared name.now) ≡ Some (item_of types funcs i)) }
+fn own_item(scope: &Scope<'_, '_>, name: &Label) -> Result<SharedItem, MeaningFault>
+    ensures item { IfOk result (λ i. (types : List Ty) (funcs : List FuncTy) (fronts : List Front)
+        → AreOwn (scope_in types scope.now) → slice_get fronts 0 ≡ Some front.Plain
+        → member_item (scope_in types scope.now) (spec.declared name.now)
+        ≡ Some (shared_item_of types funcs fronts i)) }
     ensures there { IfOk result (λ i. (types funcs : ℕ) → ArePlaced types scope.now.table.now
         → is_desc_there types funcs i.desc ≡ true) }
     ensures no_func { IfOk result (λ i. (types : List Ty) (funcs : List FuncTy) →
-        item_funcs (item_of types funcs i) ≡ []) }
+        desc_funcs (desc_of types funcs i.desc) ≡ []) }
     ensures fault { (types : List Ty) → IfErr result
         (IsItemFault (member_item (scope_in types scope.now) (spec.declared name.now))) }
 {
     let meaning = found(scope, name)?;
-    Ok(Item {
-        name: extern_name(alloc, name.as_str())?,
+    Ok(SharedItem {
+        name: plain_name(name)?,
         desc: own_desc(meaning),
     })
 }
@@ -198,25 +240,30 @@ fn push_item(
     types: &mut Types,
     scope: &Scope<'_, '_>,
     member: &Member<'_>,
-) -> Result<Item, MeaningFault>
+) -> Result<SharedItem, MeaningFault>
     requires placed { ArePlaced (length (types_of types.old)) scope.now.table.now }
     requires own { AreOwn (scope_in (types_of types.old) scope.now) }
-    ensures item { IfOk result (λ i. member_item (scope_in (types_of types.old) scope.now)
-        (member_view member.now)
-        ≡ Some (item_of (types_of types.new) (funcs_of types.new) i)) }
+    ensures item { IfOk result (λ i. (fronts : List Front)
+        → slice_get fronts 0 ≡ Some front.Plain → IsFronted fronts member.now
+        → member_item (scope_in (types_of types.old) scope.now) (member_view member.now)
+        ≡ Some (shared_item_of (types_of types.new) (funcs_of types.new) fronts i)) }
     ensures there { IfOk result (λ i. is_desc_there (length (types_of types.new))
         (length (funcs_of types.new)) i.desc ≡ true) }
     ensures within { IfOk result (λ i. AreWithin
-        (item_funcs (item_of (types_of types.new) (funcs_of types.new) i))) }
+        (desc_funcs (desc_of (types_of types.new) (funcs_of types.new) i.desc))) }
     ensures fault { IfErr result (IsItemFault
         (member_item (scope_in (types_of types.old) scope.now) (member_view member.now))) }
     ensures grown { Extends (types_of types.old) (types_of types.new) }
     ensures funcs { Extends (funcs_of types.old) (funcs_of types.new) }
 {
     match *member {
-        Member::Used(name) => used_item(alloc, scope, name),
-        Member::Declared(name) => own_item(alloc, scope, name),
-        Member::OfResource(name, func) => push_resource_item(alloc, types, scope, name, func),
+        Member::Used(name) => used_item(scope, name),
+        Member::Declared(name) => own_item(scope, name),
+        Member::OfResource {
+            resource,
+            func,
+            front,
+        } => push_resource_item(alloc, types, scope, resource, func, front),
         Member::Function(name, func) => push_func_item(alloc, types, scope, name, func),
     }
 }
@@ -227,32 +274,34 @@ fn push_members(
     alloc: Global,
     types: &mut Types,
     scope: &Scope<'_, '_>,
-    members: &[Member<'_>],
-) -> Result<Vec<Item>, MeaningFault>
+    members: Members<'_>,
+) -> Result<SharedItems, MeaningFault>
     requires placed { ArePlaced (length (types_of types.old)) scope.now.table.now }
     requires own { AreOwn (scope_in (types_of types.old) scope.now) }
+    requires fronted { AreFronted members.fronts.items members.list.items }
     ensures items { IfOk result (λ v.
         each_meaning (member_item (scope_in (types_of types.old) scope.now))
-        (map member_view members.now)
-        ≡ Some (items_of (types_of types.new) (funcs_of types.new) v.items)) }
-    ensures there { IfOk result (λ v. are_items_there (length (types_of types.new))
-        (length (funcs_of types.new)) v.items ≡ true) }
+        (map member_view members.entry.list.items)
+        ≡ Some (shared_items_of (types_of types.new) (funcs_of types.new) v)) }
+    ensures there { IfOk result (λ v. are_shared_items_there (length (types_of types.new))
+        (length (funcs_of types.new)) v.items.items ≡ true) }
     ensures within { IfOk result (λ v. AreWithin (flat_map item_funcs
-        (items_of (types_of types.new) (funcs_of types.new) v.items))) }
+        (shared_items_of (types_of types.new) (funcs_of types.new) v))) }
     ensures fault { IfErr result (AreItemsFault
         (each_meaning (member_item (scope_in (types_of types.old) scope.now))
-        (map member_view members.now))) }
+        (map member_view members.entry.list.items))) }
     ensures grown { Extends (types_of types.old) (types_of types.new) }
     ensures funcs { Extends (funcs_of types.old) (funcs_of types.new) }
 {
     let mut items = Vec::new(alloc);
-    for member in members {
+    for member in &members.list {
         let item = push_item(alloc, types, scope, member)?;
         if items.push(item).is_err() {
             return Err(MeaningFault::Memory);
         }
     }
-    Ok(items)
+    let Members { fronts, .. } = members;
+    Ok(SharedItems { fronts, items })
 }
 
 /// Adds the types of the functions of an interface, and the types in them, and answers the items of
@@ -262,28 +311,28 @@ fn push_members(
 /// that of a borrow or of a resource for no resource; `TooLarge` where the type of a function is
 /// not within the limits; `NotSpellable` where no file could spell a type in one; and `Memory`
 /// where there is no memory. Then some of the types in it may have been added; earlier types, and
-/// those of functions, stay as they are. It costs the text's own length and a look-up for each of
-/// its names.
+/// those of functions, stay as they are. The names of a resource's functions share what stands in
+/// front of their labels. It costs the text's own length and a look-up for each of its names.
 pub fn push_items(
     alloc: Global,
     types: &mut Types,
     scope: &Scope<'_, '_>,
     interface: &Interface,
-) -> Result<Vec<Item>, MeaningFault>
+) -> Result<SharedItems, MeaningFault>
     requires placed { ArePlaced (length (types_of types.old)) scope.now.table.now }
     requires own { AreOwn (scope_in (types_of types.old) scope.now) }
     ensures items { IfOk result (λ v. items_in (scope_in (types_of types.old) scope.now)
         (interface_tree interface.now)
-        ≡ Some (items_of (types_of types.new) (funcs_of types.new) v.items)) }
-    ensures there { IfOk result (λ v. are_items_there (length (types_of types.new))
-        (length (funcs_of types.new)) v.items ≡ true) }
+        ≡ Some (shared_items_of (types_of types.new) (funcs_of types.new) v)) }
+    ensures there { IfOk result (λ v. are_shared_items_there (length (types_of types.new))
+        (length (funcs_of types.new)) v.items.items ≡ true) }
     ensures within { IfOk result (λ v. AreWithin (flat_map item_funcs
-        (items_of (types_of types.new) (funcs_of types.new) v.items))) }
+        (shared_items_of (types_of types.new) (funcs_of types.new) v))) }
     ensures fault { IfErr result (AreItemsFault
         (items_in (scope_in (types_of types.old) scope.now) (interface_tree interface.now))) }
     ensures grown { Extends (types_of types.old) (types_of types.new) }
     ensures funcs { Extends (funcs_of types.old) (funcs_of types.new) }
 {
     let members = interface_members(alloc, interface)?;
-    push_members(alloc, types, scope, &members)
+    push_members(alloc, types, scope, members)
 }

@@ -2,22 +2,22 @@
 //! its contract is the law.
 
 ghost use Rattle.std.specs.Prelude.{◌≡◌, List, Option, true, length};
-ghost use Rattle.cm_types_placed.specs.Instances.{are_items_there, items_of};
-ghost use Rattle.cm_types_placed.specs.declared.instances.Item.{Item};
+ghost use Rattle.cm_types_signatures.specs.Shared.{are_shared_items_there, shared_items_of};
+ghost use Rattle.cm_types_signatures.specs.declared.shared.SharedItems.{SharedItems};
 ghost use Rattle.cm_types.specs.Types.{FuncTy, Ty};
 ghost use Rattle.cm_wit_meanings.specs.Places.{ArePlaced, Extends, table_in};
 ghost use Rattle.cm_wit_meanings.specs.declared.scope.Meaning.{Meaning};
 
 /// Items stay what they are where types, and those of functions, are added to the arena.
 pub fn items_stay()
-    ensures same { (types more : List Ty) (funcs further : List FuncTy) (is : List Item)
+    ensures same { (types more : List Ty) (funcs further : List FuncTy) (is : SharedItems)
         → Extends types more → Extends funcs further
-        → are_items_there (length types) (length funcs) is ≡ true
-        → items_of more further is ≡ items_of types funcs is }
-    ensures there { (types more : List Ty) (funcs further : List FuncTy) (is : List Item)
+        → are_shared_items_there (length types) (length funcs) is.items.items ≡ true
+        → shared_items_of more further is ≡ shared_items_of types funcs is }
+    ensures there { (types more : List Ty) (funcs further : List FuncTy) (is : SharedItems)
         → Extends types more → Extends funcs further
-        → are_items_there (length types) (length funcs) is ≡ true
-        → are_items_there (length more) (length further) is ≡ true }
+        → are_shared_items_there (length types) (length funcs) is.items.items ≡ true
+        → are_shared_items_there (length more) (length further) is.items.items ≡ true }
 {}
 
 /// What names stand for stays what it is where types are added to the arena.

@@ -4,9 +4,7 @@
 mod items;
 pub mod laws;
 mod members;
-mod names;
 pub mod signature_laws;
 
 pub use items::push_items;
-pub use members::{Member, interface_members};
-pub use names::{extern_name, func_name};
+pub use members::{Member, Members, interface_members};

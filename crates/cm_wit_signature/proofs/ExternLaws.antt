@@ -1,8 +1,8 @@
 -- Imports and exports that are added one after another.
-use Rattle.std.proofs.Common.{◌≡◌, ℕ, suc, ◌+◌, ◌-◌, ◌<◌, ◌≤◌, nat_lt, Bool, true, false, ◌&&◌, if◌then◌else◌, List, [], ◌∷◌, ◌++◌, length, map, drop, get_or, Option, Some, None, slice_get, slice_index_or, zero, refl, sym, ap, subst, ◌∙◌, arith, append_assoc, append-nil, drop-cons, add-one}
-use Rattle.std.specs.List.{AllByRecursion, flat_map, list_all}
-use Rattle.std.specs.Option.{option_map, option_and_then}
-use Rattle.std.proofs.lemmas.List.{drop_all, map-append}
+use Rattle.std.proofs.Common.{◌≡◌, ℕ, suc, ◌+◌, ◌-◌, ◌<◌, ◌≤◌, nat_lt, Bool, true, false, ◌&&◌, if◌then◌else◌, List, [], ◌∷◌, ◌++◌, length, map, Option, Some, None, slice_get, slice_index_or, zero, refl, sym, ap, subst, ◌∙◌, arith, append_assoc, append-nil}
+use Rattle.std.specs.List.{flat_map, list_all}
+use Rattle.std.specs.Option.{option_and_then}
+use Rattle.std.proofs.lemmas.List.{map-append}
 use Rattle.std.proofs.lemmas.Bool.Decides.{nat_tests}
 use Rattle.cm_types.specs.Types.{Ty, FuncTy}
 use Rattle.cm_types.specs.Signatures.{NamedItem, NamedExtern, ExternTy, SignatureTy, func, instance}
@@ -10,37 +10,41 @@ use Rattle.cm_types_resources.specs.Replaced.{replaced_func}
 use Rattle.cm_types_arena.specs.Places.{types_of, funcs_of}
 use Rattle.cm_types_arena.specs.declared.types.Types.{Types}
 use Rattle.cm_types_placed.specs.Placed.{moved_by}
-use Rattle.cm_types_placed.specs.Instances.{items_of, replaced_item, are_items_there}
-use Rattle.cm_types_placed.specs.declared.instances.Item.{Item}
-use Rattle.cm_types_placed.specs.Externs.{extern_desc_of, extern_of, externs_in, is_extern_there, are_externs_in}
-use Rattle.cm_types_placed.specs.declared.externs.Extern.{Extern}
-use Rattle.cm_types_placed.specs.declared.externs.ExternDesc.{ExternDesc}
-use Rattle.cm_types_placed.specs.declared.externs.ExternDesc.TheVariants as extern
+use Rattle.cm_types_placed.specs.Instances.{replaced_item}
+use Rattle.cm_types_signatures.specs.Shared.{shared_items_of, are_shared_items_there, shared_desc_of, shared_extern_of, shared_externs_of, is_shared_there}
+use Rattle.cm_types_signatures.specs.SharedNames.{text_in}
+use Rattle.cm_types_signatures.specs.declared.names.Front.{Front}
+use Rattle.cm_types_signatures.specs.declared.shared.SharedDesc.{SharedDesc}
+use Rattle.cm_types_signatures.specs.declared.shared.SharedDesc.TheVariants as shared
+use Rattle.cm_types_signatures.specs.declared.shared.SharedExtern.{SharedExtern}
+use Rattle.cm_types_signatures.specs.declared.shared.SharedExterns.{SharedExterns}
+use Rattle.cm_types_signatures.specs.declared.shared.SharedItems.{SharedItems}
 use Rattle.cm_wit_worlds.specs.Interfaces.{PlacedInterface, PlacedWorld}
 use Rattle.cm_wit_meanings.specs.declared.fault.MeaningFault.{MeaningFault}
 use Rattle.cm_wit_meanings.specs.declared.fault.MeaningFault.TheVariants as fault
 use Rattle.cm_wit_meanings.specs.Places.{Extends}
-use Rattle.cm_wit_meanings.specs.Faults.{IsFaultOf, is_func_spellable}
+use Rattle.cm_wit_meanings.specs.Faults.{is_func_spellable}
 use Rattle.cm_wit_items.specs.ItemFaults.{AreWithin, are_spelled, IsFaultWith}
 use Rattle.cm_wit_items.specs.Functions.{extern_funcs, funcs_in}
 use Rattle.cm_wit_items.specs.Signatures.{NamedFunc, Scopes, interface_extern, instance_extern, func_extern, func_at, in_front, func_in_front, externs_from, with_exports}
 use Rattle.cm_wit_signature.specs.Adding.{behind, AreExternsFault, Adds}
+use Rattle.cm_wit_signature.specs.PartViews.{are_made_there}
 use Rattle.cm_wit_signature.proofs.GrowthLaws.{extends_length, func_kept, less_of, test_of, below_more}
 
 -- ---- imports and exports stay what they are
 
 -- items stay what they are, and their places stay there
 abbrev pub ItemsStay : Type 0
-ItemsStay = (types more : List Ty) (funcs further : List FuncTy) (is : List Item)
+ItemsStay = (types more : List Ty) (funcs further : List FuncTy) (is : SharedItems)
     → Extends types more → Extends funcs further
-    → are_items_there (length types) (length funcs) is ≡ true
-    → items_of more further is ≡ items_of types funcs is
+    → are_shared_items_there (length types) (length funcs) is.items.items ≡ true
+    → shared_items_of more further is ≡ shared_items_of types funcs is
 
 abbrev pub ItemsStayThere : Type 0
-ItemsStayThere = (types more : List Ty) (funcs further : List FuncTy) (is : List Item)
+ItemsStayThere = (types more : List Ty) (funcs further : List FuncTy) (is : SharedItems)
     → Extends types more → Extends funcs further
-    → are_items_there (length types) (length funcs) is ≡ true
-    → are_items_there (length more) (length further) is ≡ true
+    → are_shared_items_there (length types) (length funcs) is.items.items ≡ true
+    → are_shared_items_there (length more) (length further) is.items.items ≡ true
 
 first_true : (a b : Bool) → (a && b) ≡ true → a ≡ true
 first_true true b h = refl
@@ -53,40 +57,40 @@ second_true false b h = absurd cc
 both_true : (a b : Bool) → a ≡ true → b ≡ true → (a && b) ≡ true
 both_true a b e f = ap (λ (x : Bool). x && b) e ∙ f
 
-module _ (stay : ItemsStay) (there : ItemsStayThere) (types more : List Ty) (funcs further : List FuncTy) (e : Extends types more) (g : Extends funcs further) where
-  desc_kept : (d : ExternDesc) → is_extern_there (length types) (length funcs) d ≡ true → extern_desc_of more further d ≡ extern_desc_of types funcs d
-  desc_kept (extern.Func p) h = ap (λ (f : FuncTy). func (replaced_func (moved_by p.by) f)) (func_kept funcs further p.place g (less_of p.place (length funcs) h))
-  desc_kept (extern.Instance ty by) h = ap (λ (is : List NamedItem). instance (map (replaced_item (moved_by by)) is)) (stay types more funcs further ty.value.items.items e g h)
+module _ (fronts : List Front) (stay : ItemsStay) (there : ItemsStayThere) (types more : List Ty) (funcs further : List FuncTy) (e : Extends types more) (g : Extends funcs further) where
+  desc_kept : (d : SharedDesc) → is_shared_there (length types) (length funcs) d ≡ true → shared_desc_of more further d ≡ shared_desc_of types funcs d
+  desc_kept (shared.Func p) h = ap (λ (f : FuncTy). func (replaced_func (moved_by p.by) f)) (func_kept funcs further p.place g (less_of p.place (length funcs) h))
+  desc_kept (shared.Instance is) h = ap (λ (items : List NamedItem). instance (map (replaced_item (moved_by None)) items)) (stay types more funcs further is e g h)
 
-  desc_more : (d : ExternDesc) → is_extern_there (length types) (length funcs) d ≡ true → is_extern_there (length more) (length further) d ≡ true
-  desc_more (extern.Func p) h = test_of p.place (length further) (below_more (length funcs) (length further) p.place (extends_length funcs further g) (less_of p.place (length funcs) h))
-  desc_more (extern.Instance ty by) h = there types more funcs further ty.value.items.items e g h
+  desc_more : (d : SharedDesc) → is_shared_there (length types) (length funcs) d ≡ true → is_shared_there (length more) (length further) d ≡ true
+  desc_more (shared.Func p) h = test_of p.place (length further) (below_more (length funcs) (length further) p.place (extends_length funcs further g) (less_of p.place (length funcs) h))
+  desc_more (shared.Instance is) h = there types more funcs further is e g h
 
-  one_kept : (x : Extern) → is_extern_there (length types) (length funcs) x.desc ≡ true → extern_of more further x ≡ extern_of types funcs x
-  one_kept x h = ap (λ (d : ExternTy). record { name = x.name; desc = d }) (desc_kept x.desc h)
+  one_kept : (x : SharedExtern) → is_shared_there (length types) (length funcs) x.desc ≡ true → shared_extern_of more further fronts x ≡ shared_extern_of types funcs fronts x
+  one_kept x h = ap (λ (d : ExternTy). record { name = text_in fronts x.name; desc = d }) (desc_kept x.desc h)
 
-  abbrev are_there : List Ty → List FuncTy → List Extern → Bool
-  are_there ts fs es = list_all (λ x. is_extern_there (length ts) (length fs) x.desc) es
+  abbrev are_there : List Ty → List FuncTy → List SharedExtern → Bool
+  are_there ts fs es = list_all (λ x. is_shared_there (length ts) (length fs) x.desc) es
 
-  all_kept : (es : List Extern) → are_there types funcs es ≡ true → map (extern_of more further) es ≡ map (extern_of types funcs) es
+  all_kept : (es : List SharedExtern) → are_there types funcs es ≡ true → map (shared_extern_of more further fronts) es ≡ map (shared_extern_of types funcs fronts) es
   all_kept [] h = refl
   all_kept (x ∷ es) h =
-      let p = first_true (is_extern_there (length types) (length funcs) x.desc) (are_there types funcs es) h in
-      let q = second_true (is_extern_there (length types) (length funcs) x.desc) (are_there types funcs es) h in
+      let p = first_true (is_shared_there (length types) (length funcs) x.desc) (are_there types funcs es) h in
+      let q = second_true (is_shared_there (length types) (length funcs) x.desc) (are_there types funcs es) h in
       rw (one_kept x p, all_kept es q) refl
 
-  all_more : (es : List Extern) (x : Extern) → are_there types funcs es ≡ true → is_extern_there (length more) (length further) x.desc ≡ true → are_there more further (es ++ x ∷ []) ≡ true
-  all_more [] x h p = both_true (is_extern_there (length more) (length further) x.desc) true p refl
+  all_more : (es : List SharedExtern) (x : SharedExtern) → are_there types funcs es ≡ true → is_shared_there (length more) (length further) x.desc ≡ true → are_there more further (es ++ x ∷ []) ≡ true
+  all_more [] x h p = both_true (is_shared_there (length more) (length further) x.desc) true p refl
   all_more (y ∷ es) x h p =
-      let a = first_true (is_extern_there (length types) (length funcs) y.desc) (are_there types funcs es) h in
-      let b = second_true (is_extern_there (length types) (length funcs) y.desc) (are_there types funcs es) h in
-      both_true (is_extern_there (length more) (length further) y.desc) (are_there more further (es ++ x ∷ [])) (desc_more y.desc a) (all_more es x b p)
+      let a = first_true (is_shared_there (length types) (length funcs) y.desc) (are_there types funcs es) h in
+      let b = second_true (is_shared_there (length types) (length funcs) y.desc) (are_there types funcs es) h in
+      both_true (is_shared_there (length more) (length further) y.desc) (are_there more further (es ++ x ∷ [])) (desc_more y.desc a) (all_more es x b p)
 
 -- ---- one more
 
 -- what is made in an arena
-abbrev pub made : Types → List Extern → List NamedExtern
-made t es = externs_in t es
+abbrev pub made : List Front → Types → List SharedExtern → List NamedExtern
+made fronts t es = map (shared_extern_of (types_of t) (funcs_of t) fronts) es
 
 funcs_joined : (xs ys : List NamedExtern) → AreWithin (flat_map extern_funcs xs) → AreWithin (flat_map extern_funcs ys) → AreWithin (flat_map extern_funcs (xs ++ ys))
 funcs_joined [] ys h g = g
@@ -104,20 +108,20 @@ funcs_joined (x ∷ xs) ys h g = all_both (extern_funcs x) (flat_map extern_func
     all_both [] gs w v = v
     all_both (a ∷ fs) gs w v = (w.0, all_both fs gs w.1 v)
 
-module _ (stay : ItemsStay) (there : ItemsStayThere) (old new : Types) (e : Extends (types_of old) (types_of new)) (g : Extends (funcs_of old) (funcs_of new)) (es : List Extern) (h : are_externs_in old es ≡ true) where
-  pub made_kept : made new es ≡ made old es
-  made_kept = all_kept stay there (types_of old) (types_of new) (funcs_of old) (funcs_of new) e g es h
+module _ (fronts : List Front) (stay : ItemsStay) (there : ItemsStayThere) (old new : Types) (e : Extends (types_of old) (types_of new)) (g : Extends (funcs_of old) (funcs_of new)) (es : List SharedExtern) (h : are_made_there old es ≡ true) where
+  pub made_kept : made fronts new es ≡ made fronts old es
+  made_kept = all_kept fronts stay there (types_of old) (types_of new) (funcs_of old) (funcs_of new) e g es h
 
-  pub made_more : (x : Extern) → made new (es ++ x ∷ []) ≡ made old es ++ extern_of (types_of new) (funcs_of new) x ∷ []
-  made_more x = map-append (extern_of (types_of new) (funcs_of new)) es (x ∷ []) ∙ ap (λ (l : List NamedExtern). l ++ extern_of (types_of new) (funcs_of new) x ∷ []) made_kept
+  pub made_more : (x : SharedExtern) → made fronts new (es ++ x ∷ []) ≡ made fronts old es ++ shared_extern_of (types_of new) (funcs_of new) fronts x ∷ []
+  made_more x = map-append (shared_extern_of (types_of new) (funcs_of new) fronts) es (x ∷ []) ∙ ap (λ (l : List NamedExtern). l ++ shared_extern_of (types_of new) (funcs_of new) fronts x ∷ []) made_kept
 
-  pub more_there : (x : Extern) → is_extern_there (length (types_of new)) (length (funcs_of new)) x.desc ≡ true → are_externs_in new (es ++ x ∷ []) ≡ true
-  more_there x p = all_more stay there (types_of old) (types_of new) (funcs_of old) (funcs_of new) e g es x h p
+  pub more_there : (x : SharedExtern) → is_shared_there (length (types_of new)) (length (funcs_of new)) x.desc ≡ true → are_made_there new (es ++ x ∷ []) ≡ true
+  more_there x p = all_more fronts stay there (types_of old) (types_of new) (funcs_of old) (funcs_of new) e g es x h p
 
-  pub more_within : (x : Extern) → AreWithin (flat_map extern_funcs (made old es)) → AreWithin (extern_funcs (extern_of (types_of new) (funcs_of new) x)) → AreWithin (flat_map extern_funcs (made new (es ++ x ∷ [])))
+  pub more_within : (x : SharedExtern) → AreWithin (flat_map extern_funcs (made fronts old es)) → AreWithin (extern_funcs (shared_extern_of (types_of new) (funcs_of new) fronts x)) → AreWithin (flat_map extern_funcs (made fronts new (es ++ x ∷ [])))
   more_within x w v =
       subst (λ (l : List NamedExtern). AreWithin (flat_map extern_funcs l)) (sym (made_more x))
-      (funcs_joined (made old es) (extern_of (types_of new) (funcs_of new) x ∷ []) w (subst AreWithin (sym (append-nil (extern_funcs (extern_of (types_of new) (funcs_of new) x)))) v))
+      (funcs_joined (made fronts old es) (shared_extern_of (types_of new) (funcs_of new) fronts x ∷ []) w (subst AreWithin (sym (append-nil (extern_funcs (shared_extern_of (types_of new) (funcs_of new) fronts x)))) v))
 
 -- ---- what a number stands for
 
@@ -263,18 +267,22 @@ pub signature_within : (xs ys : List NamedExtern) (s : SignatureTy) → AreWithi
 signature_within xs ys s w v p q = all_joined (flat_map extern_funcs s.imports) (flat_map extern_funcs s.exports) (subst (λ (l : List NamedExtern). AreWithin (flat_map extern_funcs l)) (sym p) w) (subst (λ (l : List NamedExtern). AreWithin (flat_map extern_funcs l)) (sym q) v)
 
 -- what was made stays among more types
-pub made_stays : (stay : ItemsStay) (there : ItemsStayThere) (old new : Types) (es : List Extern) → Extends (types_of old) (types_of new) → Extends (funcs_of old) (funcs_of new) → are_externs_in old es ≡ true → made new es ≡ made old es
-made_stays stay there old new es e g h = made_kept stay there old new e g es h
+pub made_stays : (fronts : List Front) (stay : ItemsStay) (there : ItemsStayThere) (old new : Types) (es : List SharedExtern) → Extends (types_of old) (types_of new) → Extends (funcs_of old) (funcs_of new) → are_made_there old es ≡ true → made fronts new es ≡ made fronts old es
+made_stays fronts stay there old new es e g h = made_kept fronts stay there old new e g es h
 
-all_stay_there : (stay : ItemsStay) (there : ItemsStayThere) (types more : List Ty) (funcs further : List FuncTy) (e : Extends types more) (g : Extends funcs further) (es : List Extern) → are_there stay there types more funcs further e g types funcs es ≡ true → are_there stay there types more funcs further e g more further es ≡ true
-all_stay_there stay there types more funcs further e g [] h = refl
-all_stay_there stay there types more funcs further e g (x ∷ es) h =
-    let a = first_true (is_extern_there (length types) (length funcs) x.desc) (are_there stay there types more funcs further e g types funcs es) h in
-    let b = second_true (is_extern_there (length types) (length funcs) x.desc) (are_there stay there types more funcs further e g types funcs es) h in
-    both_true (is_extern_there (length more) (length further) x.desc) (are_there stay there types more funcs further e g more further es) (desc_more stay there types more funcs further e g x.desc a) (all_stay_there stay there types more funcs further e g es b)
+all_stay_there : (fronts : List Front) (stay : ItemsStay) (there : ItemsStayThere) (types more : List Ty) (funcs further : List FuncTy) (e : Extends types more) (g : Extends funcs further) (es : List SharedExtern) → are_there fronts stay there types more funcs further e g types funcs es ≡ true → are_there fronts stay there types more funcs further e g more further es ≡ true
+all_stay_there fronts stay there types more funcs further e g [] h = refl
+all_stay_there fronts stay there types more funcs further e g (x ∷ es) h =
+    let a = first_true (is_shared_there (length types) (length funcs) x.desc) (are_there fronts stay there types more funcs further e g types funcs es) h in
+    let b = second_true (is_shared_there (length types) (length funcs) x.desc) (are_there fronts stay there types more funcs further e g types funcs es) h in
+    both_true (is_shared_there (length more) (length further) x.desc) (are_there fronts stay there types more funcs further e g more further es) (desc_more fronts stay there types more funcs further e g x.desc a) (all_stay_there fronts stay there types more funcs further e g es b)
 
-pub made_there : (stay : ItemsStay) (there : ItemsStayThere) (old new : Types) (es : List Extern) → Extends (types_of old) (types_of new) → Extends (funcs_of old) (funcs_of new) → are_externs_in old es ≡ true → are_externs_in new es ≡ true
-made_there stay there old new es e g h = all_stay_there stay there (types_of old) (types_of new) (funcs_of old) (funcs_of new) e g es h
+pub made_there : (fronts : List Front) (stay : ItemsStay) (there : ItemsStayThere) (old new : Types) (es : List SharedExtern) → Extends (types_of old) (types_of new) → Extends (funcs_of old) (funcs_of new) → are_made_there old es ≡ true → are_made_there new es ≡ true
+made_there fronts stay there old new es e g h = all_stay_there fronts stay there (types_of old) (types_of new) (funcs_of old) (funcs_of new) e g es h
+
+-- imports or exports whose names have these fronts
+pub listed_of : (fronts : List Front) (t : Types) (x : SharedExterns) → x.fronts.items ≡ fronts → shared_externs_of (types_of t) (funcs_of t) x ≡ made fronts t x.externs.items
+listed_of fronts t x e = ap (λ (fs : List Front). made fs t x.externs.items) e
 
 pub at_index : {A B : Type 0} (view : A → B) (xs : List A) (n : ℕ) (d : A) → n < length xs → slice_get (map view xs) n ≡ Some (view (slice_index_or xs n d))
 at_index view [] n d lt = absurd (omega (arith, lt))

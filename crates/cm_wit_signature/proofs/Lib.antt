@@ -16,3 +16,4 @@ mod ListLaws
 mod MarkLaws
 mod TypedLaws
 mod ReachLaws
+mod PackageLaws

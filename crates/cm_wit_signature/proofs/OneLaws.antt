@@ -1,27 +1,23 @@
 -- One import or export.
-use Rattle.std.proofs.Common.{◌≡◌, ℕ, Bool, true, false, ◌&&◌, List, [], ◌∷◌, map, Option, Some, None, refl, sym, ap, subst, ◌∙◌}
+use Rattle.std.proofs.Common.{◌≡◌, ℕ, Bool, true, ◌&&◌, List, [], ◌∷◌, map, Option, Some, None, refl, sym, ap, subst, ◌∙◌}
 use Rattle.std.specs.List.{flat_map}
 use Rattle.std.specs.Option.{option_map}
 use Rattle.cm_types.specs.Types.{Ty, FuncTy}
-use Rattle.cm_types.specs.Signatures.{ItemTy, NamedItem, NamedExtern, func_item, equal_type, equal_resource, fresh_resource, func, instance}
+use Rattle.cm_types.specs.Signatures.{ItemTy, NamedItem, func_item, equal_type, equal_resource, fresh_resource, func, instance}
 use Rattle.cm_types_arena.specs.TypeDefs.{func_at}
 use Rattle.cm_types_resources.specs.Replaced.{replaced, replaced_func}
 use Rattle.cm_types_placed.specs.Placed.{moved_by}
-use Rattle.cm_types_placed.specs.Instances.{items_of, replaced_desc, replaced_item}
+use Rattle.cm_types_placed.specs.Instances.{replaced_desc, replaced_item}
 use Rattle.cm_types_placed.specs.declared.placed.Placed.{Placed}
-use Rattle.cm_types_placed.specs.declared.instances.Item.{Item}
-use Rattle.cm_types_placed.specs.declared.instances.InstanceType.{InstanceType}
-use Rattle.cm_types_placed.specs.Externs.{extern_of}
-use Rattle.cm_types_placed.specs.declared.externs.Extern.{Extern}
-use Rattle.cm_types_placed.specs.declared.externs.ExternDesc.{ExternDesc}
-use Rattle.cm_types_placed.specs.declared.externs.ExternDesc.TheVariants as extern
+use Rattle.cm_types_signatures.specs.Shared.{shared_desc_of}
+use Rattle.cm_types_signatures.specs.declared.shared.SharedDesc.TheVariants as shared
 use Rattle.cm_wit_worlds.specs.Interfaces.{PlacedInterface, full_name}
 use Rattle.cm_wit_meanings.specs.declared.fault.MeaningFault.{MeaningFault}
 use Rattle.cm_wit_meanings.specs.declared.fault.MeaningFault.TheVariants as fault
-use Rattle.cm_wit_meanings.specs.Faults.{IsFuncFault, IsFuncWithin, is_func_spellable}
+use Rattle.cm_wit_meanings.specs.Faults.{IsFuncFault}
 use Rattle.cm_wit_meanings.specs.Meanings.{func_meaning}
 use Rattle.cm_wit_meanings.specs.Scopes.{Scope}
-use Rattle.cm_wit_items.specs.ItemFaults.{AreWithin, are_spelled, IsFaultWith, AreItemsFault}
+use Rattle.cm_wit_items.specs.ItemFaults.{AreWithin, IsFaultWith, AreItemsFault}
 use Rattle.cm_wit_items.specs.Functions.{item_funcs, extern_funcs}
 use Rattle.cm_wit_items.specs.Members.{items_in}
 use Rattle.cm_wit_items.specs.Signatures.{NamedFunc, func_extern, interface_extern}
@@ -40,7 +36,7 @@ one_func_fault name o fault.Memory h = tt
 pub func_refused : (s t : Scope) (n : NamedFunc) (f : MeaningFault) → s ≡ t → IsFuncFault (func_meaning s n.1) f → IsFaultWith extern_funcs (func_extern t n) f
 func_refused s t n f e h = subst (λ (x : Scope). IsFaultWith extern_funcs (func_extern x n) f) e (one_func_fault n.0 (func_meaning s n.1) f h)
 
-pub func_made : (s t : Scope) (n : NamedFunc) (name : List ℕ) (types : List Ty) (funcs : List FuncTy) (p : Placed) (place : ℕ) → s ≡ t → ((f : FuncTy) → replaced_func (moved_by None) f ≡ f) → name ≡ n.0 → p.place ≡ place → p.by ≡ None → func_meaning s n.1 ≡ Some (func_at funcs place) → func_extern t n ≡ Some (extern_of types funcs (record { name = name; desc = extern.Func p }))
+pub func_made : (s t : Scope) (n : NamedFunc) (name : List ℕ) (types : List Ty) (funcs : List FuncTy) (p : Placed) (place : ℕ) → s ≡ t → ((f : FuncTy) → replaced_func (moved_by None) f ≡ f) → name ≡ n.0 → p.place ≡ place → p.by ≡ None → func_meaning s n.1 ≡ Some (func_at funcs place) → func_extern t n ≡ Some (record { name = name; desc = shared_desc_of types funcs (shared.Func p) })
 func_made s t n name types funcs p place same stays a b d e =
     ap (λ (x : Scope). func_extern x n) (sym same) ∙ (ap (option_map (λ u. record { name = n.0; desc = func u })) e ∙ sym (rw (a, b, d, stays (func_at funcs place)) refl))
 
@@ -69,11 +65,11 @@ module _ (stay : (t : Ty) → replaced (moved_by None) t ≡ t) (stays : (f : Fu
   items_unmoved [] = refl
   items_unmoved (i ∷ is) = rw (desc_unmoved i.desc, items_unmoved is) refl
 
-  pub instance_made : (s t : Scope) (i : PlacedInterface) (name : List ℕ) (types : List Ty) (funcs : List FuncTy) (x : Extern) (items : List Item) (ty : InstanceType) → s ≡ t → name ≡ full_name i.file i.interface.name → extern_of types funcs x ≡ record { name = name; desc = instance (map (replaced_item (moved_by None)) (items_of types funcs ty.items.items)) } → ty.items.items ≡ items → items_in s i.interface ≡ Some (items_of types funcs items) → interface_extern t i ≡ Some (extern_of types funcs x)
-  instance_made s t i name types funcs x items ty same a e q p =
+  pub instance_made : (s t : Scope) (i : PlacedInterface) (name : List ℕ) (items : List NamedItem) → s ≡ t → name ≡ full_name i.file i.interface.name → items_in s i.interface ≡ Some items → interface_extern t i ≡ Some (record { name = name; desc = instance (map (replaced_item (moved_by None)) items) })
+  instance_made s t i name items same a p =
       ap (λ (y : Scope). interface_extern y i) (sym same)
       ∙ (ap (option_map (λ is. record { name = full_name i.file i.interface.name; desc = instance is })) p
-      ∙ sym (ap Some (e ∙ (ap (λ (n : List ℕ). record { name = n; desc = instance (map (replaced_item (moved_by None)) (items_of types funcs ty.items.items)) }) a ∙ ap (λ (is : List NamedItem). record { name = full_name i.file i.interface.name; desc = instance is }) (items_unmoved (items_of types funcs ty.items.items) ∙ ap (items_of types funcs) q)))))
+      ∙ sym (ap Some (ap (λ (n : List ℕ). record { name = n; desc = instance (map (replaced_item (moved_by None)) items) }) a ∙ ap (λ (is : List NamedItem). record { name = full_name i.file i.interface.name; desc = instance is }) (items_unmoved items))))
 
-  pub instance_within : (name : List ℕ) (types : List Ty) (funcs : List FuncTy) (items : List Item) → AreWithin (flat_map item_funcs (items_of types funcs items)) → AreWithin (flat_map item_funcs (map (replaced_item (moved_by None)) (items_of types funcs items)))
-  instance_within name types funcs items w = subst (λ (is : List NamedItem). AreWithin (flat_map item_funcs is)) (sym (items_unmoved (items_of types funcs items))) w
+  pub instance_within : (items : List NamedItem) → AreWithin (flat_map item_funcs items) → AreWithin (flat_map item_funcs (map (replaced_item (moved_by None)) items))
+  instance_within items w = subst (λ (is : List NamedItem). AreWithin (flat_map item_funcs is)) (sym (items_unmoved items)) w

@@ -1,4 +1,5 @@
 pub use Rattle.cm_wit_items.specs as cm_wit_items
+pub mod PackageFronts
 pub mod PartViews
 pub mod Adding
 pub mod Faults

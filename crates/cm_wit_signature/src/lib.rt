@@ -7,6 +7,7 @@
 mod externs;
 mod faults;
 mod files;
+mod fronts;
 mod instances;
 pub mod laws;
 mod members;
@@ -24,8 +25,9 @@ pub mod written_laws;
 pub use cm_wit_tables::all_have_types;
 pub use externs::push_externs;
 pub use files::package_files;
+pub use fronts::package_fronts;
 pub use instances::{WorldInstances, instances_of};
-pub use parts::Parts;
+pub use parts::{Parts, Sources};
 pub use reaching::cycle_fault;
 pub use signature::signature_with;
 pub use typing::typed_declarations;

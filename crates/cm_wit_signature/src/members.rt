@@ -20,8 +20,8 @@ fn member_led(names: Names<'_, '_>, member: &Member<'_>) -> bool
     match *member {
         Member::Used(name) => is_led(names, name.as_str()),
         Member::Declared(name) => is_led(names, name.as_str()),
-        Member::OfResource(name, func) => {
-            is_resource_led(names, name.as_str()) && resource_func_led(names, func)
+        Member::OfResource { resource, func, .. } => {
+            is_resource_led(names, resource.as_str()) && resource_func_led(names, func)
         }
         Member::Function(_, func) => func_led(names, func),
     }
@@ -51,5 +51,5 @@ pub fn interface_led(
         names.entry.marks.now names.entry.list) (spec.members (interface_tree interface.now))) }
 {
     let members = interface_members(alloc, interface)?;
-    Ok(members_led(names, &members))
+    Ok(members_led(names, &members.list))
 }

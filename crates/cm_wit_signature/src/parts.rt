@@ -1,6 +1,6 @@
 //! What the imports and exports of a world are made of.
 
-ghost use Rattle.std.specs.Prelude.{◌≡◌, List};
+ghost use Rattle.std.specs.Prelude.{◌≡◌, ◌+◌, ◌<◌, List, length};
 ghost use Rattle.std.specs.Option.{option_map};
 ghost use Rattle.cm_types.specs.Types.{Ty};
 ghost use Rattle.cm_wit_worlds.specs.InterfaceViews.{placed_world};
@@ -11,16 +11,23 @@ ghost use Rattle.cm_wit_reading.specs.Views.{extern_tree, world_item_tree};
 use cm_types::Label;
 use cm_wit_graph::Keys;
 use cm_wit_meanings::{Meaning, Scope};
-use cm_wit_reading::{Func, WorldExtern, WorldItem};
+use cm_wit_reading::{Func, WitFile, WorldExtern, WorldItem};
 use cm_wit_worlds::{PlacedInterface, PlacedWorld};
 
-/// What the imports and exports of a world are made of: the interfaces of all packages, the world,
-/// and what the names of types stand for. The functions of the world itself have the list of names
-/// of number `own`.
+/// Packages, their interfaces, and a world of them.
 #[derive(Clone, Copy)]
-pub struct Parts<'p, 'a> {
+pub struct Sources<'p, 'a> {
+    pub files: &'p [&'a WitFile],
     pub interfaces: &'p [PlacedInterface<'a>],
     pub world: &'p PlacedWorld<'a>,
+}
+
+/// What the imports and exports of a world are made of: the packages and the world, and what the
+/// names of types stand for. The functions of the world itself have the list of names of number
+/// `own`.
+#[derive(Clone, Copy)]
+pub struct Parts<'p, 'a> {
+    pub sources: Sources<'p, 'a>,
     pub names: &'p Keys<'a>,
     pub table: &'p [Option<Meaning>],
     pub own: usize,
@@ -68,11 +75,21 @@ impl<'p, 'a> Parts<'p, 'a> {
         }
     }
 
+    /// The number of the front of the names of a package's interfaces, by the package's place.
+    pub fn front_at(&self, place: usize) -> usize
+        requires { place < length self.now.sources.files.now }
+        ensures { result ≡ place + 1 }
+    {
+        prove!(place < self.sources.files.len());
+        place + 1
+    }
+
     /// The function that an item of the world has, by its place in the text.
     pub fn func_at(&self, item: usize) -> Option<OwnFunc<'a>>
-        ensures { option_map own_func_view result ≡ func_at (placed_world self.now.world.now) item }
+        ensures { option_map own_func_view result
+            ≡ func_at (placed_world self.now.sources.world.now) item }
     {
-        let items: &'a [WorldItem] = &self.world.world.items;
+        let items: &'a [WorldItem] = &self.sources.world.world.items;
         item_func(items.get(item)?)
     }
 }

@@ -8,12 +8,13 @@ ghost use Rattle.cm_wit_items.specs.ItemFaults.{AreWithin, IsFaultWith};
 ghost use Rattle.cm_wit_items.specs.Functions.{funcs_in};
 ghost use Rattle.cm_wit_items.specs.Own.{AreOwn};
 ghost use Rattle.cm_wit_items.specs.Signatures.{externs_from, with_exports};
-ghost use Rattle.cm_wit_signature.specs.PartViews.{interfaces_in, scopes_in, world_in};
+ghost use Rattle.cm_wit_signature.specs.PackageFronts.{HavePackages};
+ghost use Rattle.cm_wit_signature.specs.PartViews.{files_in, interfaces_in, scopes_in, world_in};
 
 use crate::externs::push_externs;
 use crate::parts::Parts;
 use cm_types_arena::Types;
-use cm_types_signatures::Signature;
+use cm_types_signatures::{Externs, Signature};
 use cm_wit_items::laws::{items_stay, tables_stay};
 use cm_wit_meanings::MeaningFault;
 use std::alloc::Global;
@@ -33,6 +34,7 @@ pub fn signature_with(
 ) -> Result<Signature, MeaningFault>
     requires placed { ArePlaced (length (types_of types)) parts.now.table.now }
     requires own { (l : ℕ) → AreOwn (scopes_in (types_of types) parts.now l) }
+    requires packages { HavePackages (files_in parts.now) (interfaces_in parts.now) }
     requires first { first < 2 ^ 63 }
     ensures signature { IfOk result (λ s. with_exports
         (externs_from (interfaces_in parts.now) (world_in parts.now)
@@ -52,5 +54,5 @@ pub fn signature_with(
     let mut types = types;
     let imports = push_externs(alloc, &mut types, parts, 0, into)?;
     let exports = push_externs(alloc, &mut types, parts, first, out)?;
-    Ok(Signature::new(types, imports, exports))
+    Ok(Signature::new(types, Externs::OfWorld(imports), Externs::OfWorld(exports)))
 }

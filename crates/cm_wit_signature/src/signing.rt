@@ -16,11 +16,12 @@ ghost use Rattle.cm_wit_items.specs.Own.{AreOwn};
 ghost use Rattle.cm_wit_reading.specs.Trees.{File};
 ghost use Rattle.cm_wit_worlds.specs.Worlds.{AreWorldExterns};
 ghost use Rattle.cm_wit_signature.specs.Made.{signature_made};
+ghost use Rattle.cm_wit_signature.specs.PackageFronts.{HavePackages};
 ghost use Rattle.cm_wit_signature.specs.Typed.{IsTyped};
 
 use crate::faults::{fault_of_meaning, fault_of_table};
 use crate::laws::typing_faults_are_of_worlds;
-use crate::{Parts, WorldInstances, instances_of, signature_with, typed_declarations};
+use crate::{Parts, Sources, WorldInstances, instances_of, signature_with, typed_declarations};
 use cm_types_arena::Types;
 use cm_types_signatures::Signature;
 use cm_wit_items::signature_laws::{resources_are_own, typed_ones_have_signatures};
@@ -32,8 +33,7 @@ use std::alloc::Global;
 /// The signature of a world with these instances, where names stand for what a table has.
 fn made<'a>(
     alloc: Global,
-    interfaces: &[PlacedInterface<'a>],
-    world: &PlacedWorld<'a>,
+    sources: &Sources<'_, 'a>,
     externs: &WorldExterns,
     instances: &WorldInstances,
     types: Types,
@@ -42,22 +42,24 @@ fn made<'a>(
     requires placed { ArePlaced (length (types_of types)) table.now.meanings.items }
     requires own { (l : ℕ) → AreOwn (scope_at (listed table.now.names)
         (table_in (types_of types) table.now.meanings.items) l) }
+    requires packages { HavePackages (files_of sources.now.files.now)
+        (map placed_interface sources.now.interfaces.now) }
     requires few { instances.now.imported < 2 ^ 63 }
-    ensures signature { IfOk result (λ s. signature_made (map placed_interface interfaces.now)
-        (placed_world world.now) (listed table.now.names)
+    ensures signature { IfOk result (λ s. signature_made
+        (map placed_interface sources.now.interfaces.now) (placed_world sources.now.world.now)
+        (listed table.now.names)
         (table_in (types_of types) table.now.meanings.items) (length instances.now.list.items)
         instances.now.imported externs.now.imports.items externs.now.exports.items
         ≡ Some (signature_of s)) }
     ensures within { IfOk result (λ s. AreWithin (funcs_in (signature_of s))) }
     ensures fault { IfErr result (IsFaultWith funcs_in
-        (signature_made (map placed_interface interfaces.now)
-        (placed_world world.now) (listed table.now.names)
+        (signature_made (map placed_interface sources.now.interfaces.now)
+        (placed_world sources.now.world.now) (listed table.now.names)
         (table_in (types_of types) table.now.meanings.items) (length instances.now.list.items)
         instances.now.imported externs.now.imports.items externs.now.exports.items)) }
 {
     let parts = Parts {
-        interfaces,
-        world,
+        sources: *sources,
         names: &table.names,
         table: &table.meanings,
         own: instances.list.len(),
@@ -76,33 +78,36 @@ fn made<'a>(
 /// The signature of a world whose instances declare this, where each name leads to a type.
 fn tabled<'a>(
     alloc: Global,
-    interfaces: &[PlacedInterface<'a>],
-    world: &PlacedWorld<'a>,
+    sources: &Sources<'_, 'a>,
     externs: &WorldExterns,
     instances: &WorldInstances,
     declarations: &[Declaration<'a>],
 ) -> Result<Signature, WorldFault>
+    requires packages { HavePackages (files_of sources.now.files.now)
+        (map placed_interface sources.now.interfaces.now) }
     requires few { instances.now.imported < 2 ^ 63 }
     ensures signature { IfOk result (λ s. (fs : List File) (name : List ℕ)
-        → world_of fs name ≡ Some (placed_world world.now)
-        → IsTyped fs (placed_world world.now) (map placed_interface interfaces.now)
+        → world_of fs name ≡ Some (placed_world sources.now.world.now)
+        → IsTyped fs (placed_world sources.now.world.now)
+        (map placed_interface sources.now.interfaces.now)
         externs.now.imports.items externs.now.exports.items
         (map instance_view instances.now.list.items) instances.now.imported
         (map declaration_view declarations.now)
         → IsWorldSignature fs name (signature_of s)) }
     ensures fault { IfErr result (λ f. (fs : List File)
-        → IsTyped fs (placed_world world.now) (map placed_interface interfaces.now)
+        → IsTyped fs (placed_world sources.now.world.now)
+        (map placed_interface sources.now.interfaces.now)
         externs.now.imports.items externs.now.exports.items
         (map instance_view instances.now.list.items) instances.now.imported
         (map declaration_view declarations.now)
-        → IsFaultIn fs (placed_world world.now) f) }
+        → IsFaultIn fs (placed_world sources.now.world.now) f) }
 {
     resources_are_own();
     typed_ones_have_signatures();
     let mut types = Types::new(alloc)?;
     match table_of(alloc, &mut types, declarations) {
         Err(fault) => Err(fault_of_table(fault)),
-        Ok(table) => match made(alloc, interfaces, world, externs, instances, types, &table) {
+        Ok(table) => match made(alloc, sources, externs, instances, types, &table) {
             Ok(signature) => Ok(signature),
             Err(fault) => Err(fault_of_meaning(fault)),
         },
@@ -133,5 +138,10 @@ pub fn signature_in_order<'a>(
     let count = interfaces.len();
     let instances = instances_of(alloc, count, &externs.imports, &externs.exports)?;
     let declarations = typed_declarations(alloc, directory, interfaces, world, &instances.list)?;
-    tabled(alloc, interfaces, world, externs, &instances, &declarations)
+    let sources = Sources {
+        files: &directory.files,
+        interfaces,
+        world,
+    };
+    tabled(alloc, &sources, externs, &instances, &declarations)
 }

@@ -98,8 +98,7 @@ fn signature_of_named<'a>(
 /// that of a borrow to no resource, else `Cycle` where a type or an interface that it reaches uses
 /// itself, else `TooLarge` where a type, or the parameters or the result of a function, would have
 /// more than 10,000 nodes or be more than 64 deep; and `Memory` where memory is refused. It takes
-/// time linear in the packages and in the full names that it spells: those of all worlds up to the
-/// one that is found, and those of the signature.
+/// time and memory linear in the packages, with a look-up for each name.
 pub fn world_signature(
     alloc: Global,
     packages: &[Package],

@@ -3,7 +3,7 @@ use Rattle.std.specs.Option.{option_and_then}
 use Rattle.cm_types.specs.Types.{Ty}
 use Rattle.cm_wit_meanings.specs.declared.scope.Meaning as code
 use Rattle.cm_wit_meanings.specs.Places.{meaning_in, scope_in}
-use Rattle.cm_wit_meanings.specs.Scopes.{Meaning, as_resource}
+use Rattle.cm_wit_meanings.specs.Scopes.{as_resource}
 use Rattle.cm_wit_items.proofs.items.found_resource.Goals as goal
 
 pub returns-in_err-resource-clause-nothing : goal.returns-in_err-resource-clause-nothing

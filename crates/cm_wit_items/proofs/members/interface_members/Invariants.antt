@@ -1,10 +1,14 @@
-use Rattle.std.proofs.Common.{map, []}
+use Rattle.std.proofs.Common.{[]}
 use Rattle.std.specs.List.{flat_map}
 use Rattle.cm_wit_reading.specs.Views.{interface_item_tree}
+use Rattle.cm_wit_items.specs.Fronts.{AreFronted}
 use Rattle.cm_wit_items.specs.Members.{members_of}
 use Rattle.cm_wit_items.specs.MemberViews.{member_view}
 use Rattle.cm_wit_items.proofs.ListLaws.{Makes}
 use Rattle.cm_wit_items.proofs.members.interface_members.Given as goal
 
 abbrev pub invariant-loop-item : goal.invariant-loop-item
-invariant-loop-item l = Makes interface_item_tree (λ i. flat_map members_of) member_view l.interface.items.items l.item-index [] l.out.items
+invariant-loop-item l = record {
+  members : Makes interface_item_tree (λ i. flat_map members_of) member_view l.interface.items.items l.item-index [] l.out.list.items;
+  fronted : AreFronted l.out.fronts.items l.out.list.items;
+}

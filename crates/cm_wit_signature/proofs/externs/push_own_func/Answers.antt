@@ -1,4 +1,4 @@
-use Rattle.std.proofs.Common.{rules, ◌∙◌}
+use Rattle.std.proofs.Common.{rules}
 use Rattle.cm_types_arena.specs.Places.{types_of, funcs_of}
 use Rattle.cm_wit_meanings.specs.Places.{scope_in}
 use Rattle.cm_wit_signature.specs.PartViews.{own_func_view, scopes_in}
@@ -14,4 +14,4 @@ returns-in_err-place-clause-fault c =
 pub returns-clause-is : goal.returns-clause-is
 returns-clause-is c =
     let old = types_of c.args.types.now in
-    func_made (scope_in old c.scope-scope.result) (scopes_in old c.args.parts.now c.args.parts.now.own) (own_func_view c.args.own) c.in_ok-extern_name.field-0 (types_of c.push_func.new.types) (funcs_of c.push_func.new.types) c.at.result c.in_ok-place.place (c.scope-scope.ensures.names old) c.unmoved.ensures.funcs (c.in_ok-extern_name.ensures ∙ c.as_str.ensures.text) c.at.ensures.place c.at.ensures.by c.in_ok-place.ensures.meaning
+    func_made (scope_in old c.scope-scope.result) (scopes_in old c.args.parts.now c.args.parts.now.own) (own_func_view c.args.own) c.in_ok-back.back (types_of c.push_func.new.types) (funcs_of c.push_func.new.types) c.at.result c.in_ok-place.place (c.scope-scope.ensures.names old) c.unmoved.ensures.funcs c.in_ok-back.ensures.cases c.at.ensures.place c.at.ensures.by c.in_ok-place.ensures.meaning

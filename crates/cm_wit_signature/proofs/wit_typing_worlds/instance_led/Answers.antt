@@ -1,4 +1,4 @@
-use Rattle.std.proofs.Common.{◌≤◌, inl, inr, length, arith}
+use Rattle.std.proofs.Common.{◌≤◌, inl, inr, length}
 use Rattle.std.proofs.lemmas.Bool.{cases_lt}
 use Rattle.cm_wit_graph.specs.Listed.{listed}
 use Rattle.cm_wit_worlds.specs.InterfaceViews.{placed_interface}
