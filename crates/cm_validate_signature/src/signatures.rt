@@ -6,7 +6,7 @@ ghost use Rattle.cm_validate_spaces.specs.Checked.{spaces_in};
 ghost use Rattle.cm_validate_signature.specs.Exports.{signature_in};
 
 use crate::externs::exported_externs;
-use cm_types_signatures::Signature;
+use cm_types_signatures::{Externs, Signature};
 use cm_validate_items::Shared;
 use cm_validate_spaces::{Checked, ComponentExterns};
 use std::alloc::{AllocError, Global};
@@ -27,5 +27,9 @@ pub fn signature(alloc: Global, checked: Checked<'_>) -> Result<Signature, Alloc
         exports,
     } = checked.into_externs();
     let exports = exported_externs(alloc, &shared, &exports)?;
-    Ok(Signature::new(types, imports, exports))
+    Ok(Signature::new(
+        types,
+        Externs::OfComponent(imports),
+        Externs::OfComponent(exports),
+    ))
 }
