@@ -12,7 +12,7 @@ pub(crate) enum Side {
 
 impl Side {
     /// What the first line of an import or an export begins with.
-    fn front(self) -> &'static str {
+    pub(crate) fn front(self) -> &'static str {
         match self {
             Side::Imports => "import ",
             Side::Exports => "export ",
@@ -36,7 +36,7 @@ pub(crate) struct ItemLine<'a> {
 }
 
 /// The import or the export that begins at the front of a text.
-fn block_at<'a>(text: &'a str, side: Side) -> Option<Block<'a>> {
+pub(crate) fn block_at<'a>(text: &'a str, side: Side) -> Option<Block<'a>> {
     let behind = text.strip_prefix(side.front())?;
     let (line, items) = behind.split_once('\n')?;
     let (name, what) = line.split_once(' ')?;
@@ -91,28 +91,10 @@ fn item_of(line: &str) -> Option<ItemLine<'_>> {
     })
 }
 
-impl<'a> Block<'a> {
-    /// The item of this number.
-    pub fn item(self, number: usize) -> Option<ItemLine<'a>> {
-        for (n, line) in self.items.split('\n').enumerate() {
-            let item = item_of(line)?;
-            if n == number {
-                return Some(item);
-            }
-        }
-        None
-    }
-
-    /// The item of this name.
-    pub fn item_named(self, name: &str) -> Option<ItemLine<'a>> {
-        for line in self.items.split('\n') {
-            let item = item_of(line)?;
-            if item.name == name {
-                return Some(item);
-            }
-        }
-        None
-    }
+/// The item that the line at the front of a text is.
+pub(crate) fn item_at(text: &str) -> Option<ItemLine<'_>> {
+    let (line, _) = text.split_once('\n')?;
+    item_of(line)
 }
 
 /// What each item of an instance is, by its name.

@@ -6,8 +6,11 @@
 #![tactic(auto)]
 
 mod blocks;
+mod counted;
+mod lines;
 mod links;
 mod signatures;
+mod spots;
 
 pub use links::link_help;
 pub use signatures::conform_help;

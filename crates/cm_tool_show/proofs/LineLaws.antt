@@ -8,7 +8,7 @@ use Rattle.std.specs.Prelude.{codes}
 use Rattle.std.specs.List.{flat_map}
 use Rattle.cm_types.specs.ExternNames.{name_spelling}
 use Rattle.cm_types.specs.ExternNameForms.{form_tree}
-use Rattle.cm_types.specs.Signatures.{NamedExtern, NamedItem}
+use Rattle.cm_types.specs.Signatures.{ExternTy, NamedExtern, NamedItem, func, instance}
 use Rattle.cm_types.specs.Types.{Ty, FuncTy}
 use Rattle.cm_types_resources.specs.Replaced.{Standing, replaced, replaced_func}
 use Rattle.cm_types_resources.specs.declared.moves.Move.{Move}
@@ -20,7 +20,7 @@ use Rattle.cm_types_placed.specs.Instances.{desc_of, replaced_desc, replaced_ite
 use Rattle.cm_types_placed.specs.declared.placed.Placed.{Placed}
 use Rattle.cm_types_placed.specs.declared.instances.ItemDesc.{ItemDesc}
 use Rattle.cm_types_placed.specs.declared.instances.ItemDesc.TheVariants as item
-use Rattle.cm_types_signatures.specs.Listed.{desc_in, extern_in, item_in}
+use Rattle.cm_types_signatures.specs.Listed.{desc_in, item_in}
 use Rattle.cm_types_signatures.specs.declared.externs.Desc.{Desc}
 use Rattle.cm_types_signatures.specs.declared.externs.Desc.TheVariants as is
 use Rattle.cm_types_signatures.specs.declared.externs.NamedDesc.{NamedDesc}
@@ -34,7 +34,7 @@ use Rattle.cm_tool_show.specs.Written.{Shows, Wrote}
 use Rattle.cm_tool_show.specs.declared.fault.ShowFault.{ShowFault}
 use Rattle.cm_tool_show.proofs.ShownLaws.{told}
 use Rattle.cm_tool_show.specs.declared.counting.Counting.{Counting}
-use Rattle.cm_tool_show.specs.Shown.{extern_lines, func_pieces, item_line, line}
+use Rattle.cm_tool_show.specs.Shown.{extern_lines, extern_pieces, func_pieces, item_line, line}
 
 pub ruleset page_laws = (append_assoc, append-nil, length-append)
 
@@ -117,17 +117,26 @@ type_line types by i p c t d place brought at twice =
 abbrev pub word_lines : List ℕ → NamedExtern → List Piece
 word_lines word e = extern_lines word e.name e.desc
 
--- the lines of an import or an export by what it is
-pub lines_as : (types : Types) (word : List ℕ) (e : NamedDesc) (d : Desc) → e.desc ≡ d → word_lines word (extern_in types e) ≡ extern_lines word (name_spelling (form_tree e.name)) (desc_in types d)
-lines_as types word e d q = ap (λ (x : Desc). extern_lines word (name_spelling (form_tree e.name)) (desc_in types x)) q
+-- the first line of an import or an export by what it is
+pub front_as : (types : Types) (word : List ℕ) (e : NamedDesc) (d : Desc) → e.desc ≡ d → line word (name_spelling (form_tree e.name)) (extern_pieces (desc_in types e.desc)) ≡ line word (name_spelling (form_tree e.name)) (extern_pieces (desc_in types d))
+front_as types word e d q = ap (λ (x : Desc). line word (name_spelling (form_tree e.name)) (extern_pieces (desc_in types x))) q
 
-pub extern_func_line : (types : Types) (word : List ℕ) (e : NamedDesc) (p : Placed) (c : Counting) (f : FuncTy) → e.desc ≡ is.Func p → c.place ≡ p.by → c.brought ≡ None → f ≡ func_at (funcs_of types) p.place → word_lines word (extern_in types e) ≡ line word (name_spelling (form_tree e.name)) (chars (codes "func ") ∷ func_pieces (replaced_func (counted c) f))
-extern_func_line types word e p c f d place brought at =
-    lines_as types word e (is.Func p) d
+pub func_front : (types : Types) (word : List ℕ) (e : NamedDesc) (p : Placed) (c : Counting) (f : FuncTy) → e.desc ≡ is.Func p → c.place ≡ p.by → c.brought ≡ None → f ≡ func_at (funcs_of types) p.place → line word (name_spelling (form_tree e.name)) (extern_pieces (desc_in types e.desc)) ≡ line word (name_spelling (form_tree e.name)) (chars (codes "func ") ∷ func_pieces (replaced_func (counted c) f))
+func_front types word e p c f d place brought at =
+    front_as types word e (is.Func p) d
     ∙ ap (λ (g : FuncTy). line word (name_spelling (form_tree e.name)) (chars (codes "func ") ∷ func_pieces g)) (
     ap (λ (a : Option Move). replaced_func (λ r. moved_by None (moved_by a r)) (func_at (funcs_of types) p.place)) (sym place)
     ∙ (ap (λ (b : Option Move). replaced_func (λ r. moved_by b (moved_by c.place r)) (func_at (funcs_of types) p.place)) (sym brought)
     ∙ ap (replaced_func (counted c)) (sym at)))
+
+-- the lines behind the first one
+abbrev pub behind_front : ExternTy → List Piece
+behind_front (func f) = []
+behind_front (instance items) = flat_map (λ i. item_line i.name i.desc) items
+
+pub lines_split : (word name : List ℕ) (d : ExternTy) → extern_lines word name d ≡ line word name (extern_pieces d) ++ behind_front d
+lines_split word name (func f) = sym (append-nil (line word name (extern_pieces (func f))))
+lines_split word name (instance items) = refl
 
 -- ---- the pieces of a line, from its front to its end
 

@@ -38,6 +38,11 @@ item_line name (equal_type t) = line (codes "  type ") name (type_pieces t)
 item_line name (equal_resource r) = line (codes "  type ") name (resource_pieces r)
 item_line name (fresh_resource r) = line (codes "  type ") name (resource_pieces r)
 
+-- what an import or an export is, as its own line says
+abbrev pub extern_pieces : ExternTy → List Piece
+extern_pieces (func f) = chars (codes "func ") ∷ func_pieces f
+extern_pieces (instance items) = chars (codes "instance") ∷ []
+
 -- the lines of an import or an export, which begin with this word
 abbrev pub extern_lines : List ℕ → List ℕ → ExternTy → List Piece
 extern_lines word name (func f) = line word name (chars (codes "func ") ∷ func_pieces f)

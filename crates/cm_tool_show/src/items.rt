@@ -16,7 +16,8 @@ ghost use Rattle.cm_tool_show.specs.Counted.{counted};
 ghost use Rattle.cm_tool_show.specs.Pages.{IsOver, seen_on, text_on};
 ghost use Rattle.cm_tool_show.specs.Pieces.{chars, seen_behind, text_behind};
 ghost use Rattle.cm_tool_show.specs.declared.fault.ShowFault.TheVariants as fault;
-ghost use Rattle.cm_tool_show.specs.Shown.{answer_pieces, extern_lines, externs_lines, func_pieces};
+ghost use Rattle.cm_tool_show.specs.Shown.{answer_pieces, extern_lines, extern_pieces, externs_lines};
+ghost use Rattle.cm_tool_show.specs.Shown.{func_pieces};
 ghost use Rattle.cm_tool_show.specs.ShownTypes.{type_pieces};
 ghost use Rattle.cm_tool_show.specs.Shown.{item_line, line, resource_pieces};
 ghost use Rattle.cm_tool_show.specs.Written.{Shows};
@@ -87,8 +88,12 @@ fn end_with_resource(page: &mut Page, id: ResourceId) -> Result<(), ShowFault>
     put(page, "\n")
 }
 
-/// Adds the line of an item that an import or an export brings so.
-fn show_item(
+/// Adds the line of an item that an import or an export brings so, as `show` has it: two blanks, a
+/// word for its sort, its name, and what it is.
+///
+/// `TooLong` comes only where the text is too long with the line, and `Memory` where there is no
+/// memory; what is then on the page is left open.
+pub fn show_item(
     page: &mut Page,
     types: &Types,
     item: NamedItem<'_>,
@@ -162,6 +167,38 @@ fn show_items(page: &mut Page, types: &Types, items: Items<'_>) -> Result<(), Sh
     Ok(())
 }
 
+/// Adds the first line of an import or an export, as `show` has it: a word for its side, its name,
+/// and the type of a function, or that it is an instance.
+///
+/// `TooLong` comes only where the text is too long with the line, and `Memory` where there is no
+/// memory; what is then on the page is left open.
+pub fn show_extern_line(
+    page: &mut Page,
+    types: &Types,
+    word: &str,
+    each: NamedDesc<'_>,
+) -> Result<(), ShowFault>
+    requires { is_desc_in types.now each.desc ≡ true }
+    ensures { let e = extern_in types.now each.entry in
+        Shows (line word.now e.name (extern_pieces e.desc)) page.old page.new result }
+{
+    begin_line(page, word, each.name)?;
+    match each.desc {
+        Desc::Func(placed) => {
+            put(page, "func ")?;
+            end_with_func(
+                page,
+                types.func(placed.place),
+                Counting::new(placed.by, None),
+            )
+        }
+        Desc::Instance(_) => {
+            put(page, "instance")?;
+            put(page, "\n")
+        }
+    }
+}
+
 /// Adds the lines of an import or an export.
 fn show_extern(
     page: &mut Page,
@@ -173,22 +210,10 @@ fn show_extern(
     ensures { let e = extern_in types.now each.entry in
         Shows (extern_lines word.now e.name e.desc) page.old page.new result }
 {
+    show_extern_line(page, types, word, each)?;
     match each.desc {
-        Desc::Func(placed) => {
-            begin_line(page, word, each.name)?;
-            put(page, "func ")?;
-            end_with_func(
-                page,
-                types.func(placed.place),
-                Counting::new(placed.by, None),
-            )
-        }
-        Desc::Instance(items) => {
-            begin_line(page, word, each.name)?;
-            put(page, "instance")?;
-            put(page, "\n")?;
-            show_items(page, types, items)
-        }
+        Desc::Func(_) => Ok(()),
+        Desc::Instance(items) => show_items(page, types, items),
     }
 }
 

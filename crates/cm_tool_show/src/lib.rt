@@ -17,6 +17,7 @@ mod types;
 
 pub use counting::Counting;
 pub use fault::ShowFault;
+pub use items::{show_extern_line, show_item};
 pub use page::{MAX_SHOWN, Page};
 pub use signatures::show;
 pub use types::{show_fields, show_type};

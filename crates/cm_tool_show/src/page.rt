@@ -1,10 +1,10 @@
 //! What is written so far.
 
-ghost use Rattle.std.specs.Prelude.{◌≡◌, ◌≤◌, ◌++◌, ◌∷◌, [], IfOk, OnOk, IsErrOf, length};
+ghost use Rattle.std.specs.Prelude.{◌≡◌, ◌≤◌, ◌++◌, ◌∷◌, [], IfErr, IfOk, OnOk, IsErrOf, length};
 ghost use Rattle.std.specs.Fmt.{decimal};
 ghost use Rattle.std.specs.String.{string_bytes};
 ghost use Rattle.cm_tool_show.specs.Pages.{IsOver, seen_on, text_on};
-ghost use Rattle.cm_tool_show.specs.Pieces.{chars, number_of, seen_behind, text_behind};
+ghost use Rattle.cm_tool_show.specs.Pieces.{appeared, chars, number_of, seen_behind, text_behind};
 ghost use Rattle.cm_tool_show.specs.declared.fault.ShowFault.TheVariants as fault;
 
 use crate::fault::ShowFault;
@@ -63,6 +63,16 @@ impl Page {
         if self.text.len() > MAX_SHOWN {
             return Err(ShowFault::TooLong);
         }
+        Ok(())
+    }
+
+    /// Counts a resource among those that appeared, and adds nothing. Only memory is refused.
+    pub fn count_resource(&mut self, id: ResourceId) -> Result<(), ShowFault>
+        ensures text { text_on self.new ≡ text_on self.old }
+        ensures seen { OnOk result (seen_on self.new ≡ appeared (seen_on self.old) id) }
+        ensures fault { IfErr result (λ f. f ≡ fault.Memory) }
+    {
+        self.seen.insert((id.component, id.number))?;
         Ok(())
     }
 
