@@ -2,7 +2,7 @@
 use Rattle.std.proofs.Common.{◌≡◌, ℕ, zero, suc, arith, slice_get, ◌<◌, ◌≤◌, ◌+◌, Bool, true, false, ◌&&◌, nat_lt, List, [], ◌∷◌, ◌++◌, length, map, get_or, Option, Some, None, refl, sym, ap, subst, ◌∙◌}
 use Rattle.std.specs.List.{AllByRecursion, flat_map}
 use Rattle.std.specs.Option.{option_map, option_and_then}
-use Rattle.std.proofs.lemmas.Option.{get_or_from_slice_get}
+use Rattle.std.proofs.lemmas.Option.{get_or_from_slice_get, slice_get-map}
 use Rattle.cm_types.specs.ExternNames.{name_spelling}
 use Rattle.cm_types.specs.Types.{Ty, FuncTy}
 use Rattle.cm_types.specs.Signatures.{ItemTy, NamedItem, func_item, equal_type}
@@ -24,15 +24,17 @@ use Rattle.cm_types_placed.specs.declared.instances.ItemDesc.TheVariants as desc
 use Rattle.cm_wit_meanings.specs.declared.fault.MeaningFault.{MeaningFault}
 use Rattle.cm_wit_meanings.specs.declared.fault.MeaningFault.TheVariants as fault
 use Rattle.cm_wit_meanings.specs.declared.scope.Scope as code_scope
-use Rattle.cm_wit_meanings.specs.Scopes.{Scope, Meaning, resource, as_resource}
+use Rattle.cm_wit_meanings.specs.Scopes.{Scope, Meaning, as_resource}
 use Rattle.cm_wit_meanings.specs.Meanings.{each_meaning, resource_func_meaning}
 use Rattle.cm_wit_meanings.specs.Places.{Extends, ArePlaced, scope_in}
 use Rattle.cm_wit_meanings.specs.Faults.{is_func_spellable}
-use Rattle.cm_wit_items.specs.Fronts.{AreFronted, IsFronted}
+use Rattle.cm_wit_items.specs.Fronts.{AreFronted, HasResource, IsFronted, front_resource, func_front}
 use Rattle.cm_wit_items.specs.Functions.{desc_funcs, item_funcs}
 use Rattle.cm_wit_items.specs.Members.{member_item, member_func, item_with}
-use Rattle.cm_wit_reading.specs.Trees.{ResourceFunc}
+use Rattle.cm_wit_reading.specs.Trees.{ResourceFunc, method, static, constructor}
+use Rattle.cm_wit_reading.specs.Views.{resource_func_tree}
 use Rattle.cm_wit_items.specs.declared.members.Member as code
+use Rattle.cm_wit_items.specs.declared.members.Member.TheVariants as member
 use Rattle.cm_wit_items.specs.MemberViews.{member_view}
 use Rattle.cm_wit_items.specs.ItemFaults.{AreWithin, are_spelled, IsItemFault, AreItemsFault}
 use Rattle.cm_wit_items.specs.Own.{AreOwn}
@@ -164,6 +166,23 @@ all_at P [] k x lt e h = absurd (omega (arith, lt))
 all_at P (y ∷ ys) zero x lt e h = subst P (sym e) h.0
 all_at P (y ∷ ys) (suc k) x lt e h = all_at P ys k x (omega (arith, lt)) e h.1
 
+front_of : (s : Scope) (r : List ℕ) (f : ResourceFunc) → front_resource s (func_front r f) ≡ option_and_then as_resource (s r)
+front_of s r (method m f) = refl
+front_of s r (static m f) = refl
+front_of s r (constructor ps) = refl
+
+has_resource : (s : Scope) (fronts : List Front) (resources : List (Option ResourceId)) (m : code.Member) → resources ≡ map (front_resource s) fronts → IsFronted fronts m → HasResource s resources m
+has_resource s fronts resources (member.Used name) e h = tt
+has_resource s fronts resources (member.Declared name) e h = tt
+has_resource s fronts resources (member.OfResource r f k) e h =
+    ap (λ (l : List (Option ResourceId)). slice_get l k) e
+    ∙ (slice_get-map (front_resource s) fronts k ∙ (ap (option_map (front_resource s)) h ∙ ap (λ (o : Option ResourceId). Some o) (front_of s r.now (resource_func_tree f.now))))
+has_resource s fronts resources (member.Function name f) e h = tt
+
+-- a member has its resource where these are those of the fronts
+pub member_resource : (s : Scope) (fronts : List Front) (resources : List (Option ResourceId)) (ms : List code.Member) (i : ℕ) (x : code.Member) → i < length ms → x ≡ get_or ms i x → AreFronted fronts ms → resources ≡ map (front_resource s) fronts → HasResource s resources x
+member_resource s fronts resources ms i x lt is a e = has_resource s fronts resources x e (all_at (IsFronted fronts) ms i x lt is a.each)
+
 each_view : {A B C : Type 0} (meant : B → Option C) (view : A → B) (xs : List A) → each_meaning (λ x. meant (view x)) xs ≡ each_meaning meant (map view xs)
 each_view meant view [] = refl
 each_view meant view (x ∷ xs) = rw (each_view meant view xs) refl
@@ -213,8 +232,8 @@ func_refused g o f e n = subst (λ (w : MeaningFault). IsItemFault (option_map g
 pub no_resource : (s : Scope) (n : List ℕ) (f : ResourceFunc) → option_and_then as_resource (s n) ≡ None → member_func s n f ≡ None
 no_resource s n f e = ap (option_and_then (λ x. resource_func_meaning s x f)) e
 
-pub of_resource_made : (s : Scope) (n : List ℕ) (f : ResourceFunc) (r : ResourceId) (t : FuncTy) → s n ≡ Some (resource r) → resource_func_meaning s r f ≡ Some t → member_func s n f ≡ Some t
-of_resource_made s n f r t e q = ap (λ (o : Option Meaning). option_and_then (λ x. resource_func_meaning s x f) (option_and_then as_resource o)) e ∙ q
+pub of_resource_made : (s : Scope) (n : List ℕ) (f : ResourceFunc) (r : ResourceId) (t : FuncTy) → option_and_then as_resource (s n) ≡ Some r → resource_func_meaning s r f ≡ Some t → member_func s n f ≡ Some t
+of_resource_made s n f r t e q = ap (λ (o : Option ResourceId). option_and_then (λ x. resource_func_meaning s x f) o) e ∙ q
 
 -- the name that a front of a list makes
 pub name_made : (fronts : List Front) (k : ℕ) (f : Front) (back : List ℕ) → slice_get fronts k ≡ Some f → text_in fronts (record { front = k; back = back }) ≡ name_spelling (name_with f back)

@@ -11,7 +11,7 @@ use Rattle.cm_wit_reading.specs.Trees.{File}
 use Rattle.cm_wit_worlds.specs.Interfaces.{PlacedWorld, world_at, worlds, interfaces}
 use Rattle.cm_wit_meanings.specs.Faults.{IsFuncWithin, is_func_spellable}
 use Rattle.cm_wit_meanings.specs.Scopes.{Meaning, as_type}
-use Rattle.cm_wit_tables.specs.Declarations.{Declaration, HasTypeCycle}
+use Rattle.cm_wit_tables.specs.Declarations.{HasTypeCycle}
 use Rattle.cm_wit_tables.specs.Tables.{Solves}
 use Rattle.cm_wit_tables.specs.Worlds.{Instance, instances, declarations}
 use Rattle.cm_wit_worlds.specs.declared.fault.WorldFault.{WorldFault}

@@ -1,6 +1,6 @@
 -- Whether the names in what a world reaches lead to types (WIT.md, "Item: `ty`" and "Item:
 -- `func`"; which fault comes of which is this project's own choice).
-use Rattle.std.specs.Prelude.{◌≡◌, ◌↔◌, ℕ, List, [], ◌∷◌, ◌++◌, Option, Some, MatchOption, length}
+use Rattle.std.specs.Prelude.{◌≡◌, ◌↔◌, ℕ, List, Some, MatchOption, length}
 use Rattle.std.specs.Prelude.{map, false}
 use Rattle.std.specs.Prelude.{slice_get}
 use Rattle.std.specs.List.{AllByRecursion, Contains, flat_map}

@@ -1,6 +1,5 @@
 -- Resources of the world itself.
 use Rattle.std.specs.Prelude.{◌≡◌, ℕ, List, Some}
-use Rattle.cm_types.specs.declared.resource.ResourceId.{ResourceId}
 use Rattle.cm_wit_meanings.specs.Scopes.{Meaning, Scope, value, resource}
 
 -- A resource that a name stands for has a number of its own in the world: it is of no other

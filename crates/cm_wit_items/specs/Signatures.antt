@@ -1,5 +1,5 @@
 -- The signature of a world: what it imports and exports, each with its type (WIT.md, "Worlds").
-use Rattle.std.specs.Prelude.{◌≡◌, ℕ, ◌+◌, ◌-◌, nat_lt, Bool, List, [], ◌∷◌, Option, Some, None}
+use Rattle.std.specs.Prelude.{ℕ, ◌+◌, ◌-◌, nat_lt, List, [], ◌∷◌, Option, Some, None}
 use Rattle.std.specs.Prelude.{filter, length, slice_get, if◌then◌else◌}
 use Rattle.std.specs.Option.{option_map, option_and_then}
 use Rattle.cm_types.specs.Signatures.{NamedExtern, SignatureTy, func, instance}
@@ -9,7 +9,6 @@ use Rattle.cm_wit_reading.specs.Trees.{imports, exports}
 use Rattle.cm_wit_worlds.specs.Interfaces.{PlacedInterface, PlacedWorld, full_name, interfaces}
 use Rattle.cm_wit_meanings.specs.Scopes.{Meaning, Scope}
 use Rattle.cm_wit_meanings.specs.Meanings.{func_meaning}
-use Rattle.cm_wit_tables.specs.Declarations.{Declaration}
 use Rattle.cm_wit_tables.specs.Tables.{scope_of}
 use Rattle.cm_wit_tables.specs.Worlds.{instances, declarations}
 use Rattle.cm_wit_items.specs.Members.{items_in}

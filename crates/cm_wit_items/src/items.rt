@@ -15,8 +15,8 @@ ghost use Rattle.cm_wit_reading.specs.SignatureViews.{func_tree};
 ghost use Rattle.cm_wit_reading.specs.Views.{interface_tree, resource_func_tree};
 ghost use Rattle.cm_wit_meanings.specs.Places.{ArePlaced, Extends, IsPlaced, meaning_in, scope_in};
 ghost use Rattle.cm_wit_meanings.specs.declared.fault.MeaningFault.TheVariants as fault;
-ghost use Rattle.cm_wit_meanings.specs.Scopes as meant;
-ghost use Rattle.cm_wit_items.specs.Fronts.{AreFronted, IsFronted, func_front};
+ghost use Rattle.cm_wit_meanings.specs.Scopes.{as_resource};
+ghost use Rattle.cm_wit_items.specs.Fronts.{AreFronted, HasResource, IsFronted, func_front};
 ghost use Rattle.cm_wit_items.specs.Functions.{desc_funcs, item_funcs};
 ghost use Rattle.cm_wit_items.specs.Members.{func_name, items_in, member_item, own_type};
 ghost use Rattle.cm_wit_meanings.specs.Meanings.{each_meaning};
@@ -28,6 +28,7 @@ ghost use Rattle.cm_wit_items.specs.ItemFaults.{AreItemsFault, AreWithin, IsItem
 ghost use Rattle.cm_wit_items.specs.MemberViews.{member_view};
 ghost use Rattle.cm_wit_items.specs.Own.{AreOwn, IsOwn};
 
+use crate::resources::{front_resources, resource_at};
 use crate::{Member, Members, interface_members};
 use cm_types::{Label, ResourceId};
 use cm_types_arena::Types;
@@ -51,20 +52,6 @@ fn found(scope: &Scope<'_, '_>, name: &Label) -> Result<Meaning, MeaningFault>
     match scope.find(name.as_str()) {
         Some(meaning) => Ok(meaning),
         None => Err(MeaningFault::NoSuchType),
-    }
-}
-
-/// The resource that a name stands for.
-fn found_resource(scope: &Scope<'_, '_>, name: &Label) -> Result<ResourceId, MeaningFault>
-    ensures resource { IfOk result (λ r. (types : List Ty) →
-        scope_in types scope.now name.now ≡ Some (meant.resource r)) }
-    ensures fault { IfErr result (λ f. f ≡ fault.NoSuchType) }
-    ensures nothing { IfErr result (λ f. (types : List Ty) →
-        option_and_then meant.as_resource (scope_in types scope.now name.now) ≡ None) }
-{
-    match found(scope, name)? {
-        Meaning::Resource(resource) => Ok(resource),
-        Meaning::Value(_) => Err(MeaningFault::NoSuchType),
     }
 }
 
@@ -127,16 +114,19 @@ fn back_of<'a>(resource: &'a Label, func: &'a ResourceFunc) -> &'a Label
 }
 
 /// Adds the type of a function of a resource, and answers the item. The front of its name has this
-/// number.
+/// number, at which its resource is found.
 fn push_resource_item(
     alloc: Global,
     types: &mut Types,
     scope: &Scope<'_, '_>,
+    resources: &[Option<ResourceId>],
     resource: &Label,
     func: &ResourceFunc,
     front: usize,
 ) -> Result<SharedItem, MeaningFault>
     requires placed { ArePlaced (length (types_of types.old)) scope.now.table.now }
+    requires resource { slice_get resources.now front ≡ Some
+        (option_and_then as_resource (scope_in (types_of types.old) scope.now resource.now)) }
     ensures item { IfOk result (λ i. (fronts : List Front)
         → slice_get fronts front ≡ Some (func_front resource.now (resource_func_tree func.now))
         → member_item (scope_in (types_of types.old) scope.now)
@@ -153,7 +143,7 @@ fn push_resource_item(
     ensures funcs { Extends (funcs_of types.old) (funcs_of types.new) }
 {
     unmoved();
-    let numbered = found_resource(scope, resource)?;
+    let numbered = resource_at(resources, front)?;
     let place = push_resource_func(alloc, types, scope, numbered, func)?;
     let back = back_of(resource, func).clone()?;
     Ok(SharedItem {
@@ -239,10 +229,13 @@ fn push_item(
     alloc: Global,
     types: &mut Types,
     scope: &Scope<'_, '_>,
+    resources: &[Option<ResourceId>],
     member: &Member<'_>,
 ) -> Result<SharedItem, MeaningFault>
     requires placed { ArePlaced (length (types_of types.old)) scope.now.table.now }
     requires own { AreOwn (scope_in (types_of types.old) scope.now) }
+    requires resource { HasResource (scope_in (types_of types.old) scope.now)
+        resources.now member.now }
     ensures item { IfOk result (λ i. (fronts : List Front)
         → slice_get fronts 0 ≡ Some front.Plain → IsFronted fronts member.now
         → member_item (scope_in (types_of types.old) scope.now) (member_view member.now)
@@ -263,7 +256,7 @@ fn push_item(
             resource,
             func,
             front,
-        } => push_resource_item(alloc, types, scope, resource, func, front),
+        } => push_resource_item(alloc, types, scope, resources, resource, func, front),
         Member::Function(name, func) => push_func_item(alloc, types, scope, name, func),
     }
 }
@@ -293,9 +286,10 @@ fn push_members(
     ensures grown { Extends (types_of types.old) (types_of types.new) }
     ensures funcs { Extends (funcs_of types.old) (funcs_of types.new) }
 {
+    let resources = front_resources(alloc, scope, &members.fronts)?;
     let mut items = Vec::new(alloc);
     for member in &members.list {
-        let item = push_item(alloc, types, scope, member)?;
+        let item = push_item(alloc, types, scope, &resources, member)?;
         if items.push(item).is_err() {
             return Err(MeaningFault::Memory);
         }
@@ -312,7 +306,8 @@ fn push_members(
 /// not within the limits; `NotSpellable` where no file could spell a type in one; and `Memory`
 /// where there is no memory. Then some of the types in it may have been added; earlier types, and
 /// those of functions, stay as they are. The names of a resource's functions share what stands in
-/// front of their labels. It costs the text's own length and a look-up for each of its names.
+/// front of their labels. It costs the text's own length and a look-up for each of its names; that
+/// of a resource is looked up as often as there are kinds of its functions, not once for each.
 pub fn push_items(
     alloc: Global,
     types: &mut Types,

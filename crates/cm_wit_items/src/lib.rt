@@ -4,6 +4,7 @@
 mod items;
 pub mod laws;
 mod members;
+mod resources;
 pub mod signature_laws;
 
 pub use items::push_items;

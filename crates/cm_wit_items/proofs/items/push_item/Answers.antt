@@ -1,6 +1,7 @@
 use Rattle.std.proofs.Common.{IfErr, sym, subst}
 use Rattle.cm_types_arena.specs.Places.{types_of}
 use Rattle.cm_wit_meanings.specs.Places.{scope_in}
+use Rattle.cm_wit_items.specs.Fronts.{HasResource}
 use Rattle.cm_wit_items.specs.Members.{member_item}
 use Rattle.cm_wit_items.specs.declared.members.Member as code
 use Rattle.cm_wit_items.specs.MemberViews.{member_view}
@@ -23,3 +24,7 @@ pub returns-in-OfResource-clause-fault : goal.returns-in-OfResource-clause-fault
 returns-in-OfResource-clause-fault c =
     let s = scope_in (types_of c.args.types.now) c.args.scope.now in
     subst (λ (m : code.Member). IfErr c.push_resource_item.result (IsItemFault (member_item s (member_view m)))) (sym c.in-OfResource.is) c.push_resource_item.ensures.fault
+
+pub push_resource_item-requires-clause-resource : goal.push_resource_item-requires-clause-resource
+push_resource_item-requires-clause-resource c =
+    subst (λ (m : code.Member). HasResource (scope_in (types_of c.args.types.now) c.args.scope.now) c.args.resources.now m) c.in-OfResource.is c.requires.resource
