@@ -1,8 +1,10 @@
 -- Whether names lead to types and resources, as tests over keys of which those of resources are
 -- marked.
-use Rattle.std.specs.Prelude.{ℕ, Bool, true, false, ◌&&◌, List, Option, Some, None, is_some}
+use Rattle.std.specs.Prelude.{◌≡◌, ℕ, Bool, true, false, ◌&&◌, List, Option, Some, None, is_some}
 use Rattle.std.specs.Prelude.{slice_get, slice_index_or, [], ◌∷◌, ◌+◌}
 use Rattle.std.specs.List.{list_all}
+use Rattle.cm_types_signatures.specs.declared.names.Front.{Front}
+use Rattle.cm_types_signatures.specs.declared.names.Front.TheVariants as front
 use Rattle.cm_wit_graph.specs.Keys.{Key, first_key}
 use Rattle.cm_wit_reading.specs.Types.{Ty, Tys, primitive, named, borrow, list, fixed_list, option}
 use Rattle.cm_wit_reading.specs.Types.{tuple, plain_result, ok_result, error_result, result}
@@ -14,6 +16,8 @@ use Rattle.cm_wit_worlds.specs.Interfaces.{PlacedInterface}
 use Rattle.cm_wit_tables.specs.Worlds.{Instance}
 use Rattle.cm_wit_items.specs.Members.{Member, used, declared, of_resource, function}
 use Rattle.cm_wit_items.specs.Members.{members}
+use Rattle.cm_wit_items.specs.declared.members.Member as code
+use Rattle.cm_wit_items.specs.declared.members.Member.TheVariants as member
 
 -- whether there is a place, and it is marked
 abbrev pub is_marked_place : List Bool → Option ℕ → Bool
@@ -26,6 +30,14 @@ is_led keys l n = is_some (first_key keys l n)
 
 abbrev pub is_resource_led : List Key → List Bool → ℕ → List ℕ → Bool
 is_resource_led keys marks l n = is_marked_place marks (first_key keys l n)
+
+-- whether the name of a front's resource leads to a marked place, if the front is of a resource
+abbrev pub front_led : List Key → List Bool → ℕ → Front → Bool
+front_led keys marks l front.Plain = false
+front_led keys marks l (front.Method r) = is_resource_led keys marks l r
+front_led keys marks l (front.Static r) = is_resource_led keys marks l r
+front_led keys marks l (front.Constructor r) = is_resource_led keys marks l r
+front_led keys marks l (front.Interface p) = false
 
 abbrev mutual
   -- whether each name in a type text leads to a place, and that of a borrow to a marked one
@@ -68,6 +80,15 @@ member_led keys marks l (declared n) = is_led keys l n
 member_led keys marks l (of_resource r f) =
     is_resource_led keys marks l r && resource_func_led keys marks l f
 member_led keys marks l (function n f) = func_led keys marks l f
+
+-- A function of a resource has a number at which these say whether its resource's name leads to a
+-- marked place.
+abbrev pub IsNumbered : List Key → List Bool → ℕ → List Bool → code.Member → Type 0
+IsNumbered keys marks l rs (member.Used name) = Unit {0}
+IsNumbered keys marks l rs (member.Declared name) = Unit {0}
+IsNumbered keys marks l rs (member.OfResource r f k) =
+    slice_get rs k ≡ Some (is_resource_led keys marks l r.now)
+IsNumbered keys marks l rs (member.Function name f) = Unit {0}
 
 -- whether each name in the members of these instances does, the first of which has the l-th list
 abbrev pub interface_led : List Key → List Bool → ℕ → Option PlacedInterface → Bool
