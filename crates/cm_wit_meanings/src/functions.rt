@@ -116,8 +116,6 @@ fn with_self(
         mut params,
         result: answer,
     } = def;
-    // A list that grows by itself makes room for four.
-    params.reserve_exact(1)?;
     if params.insert(0, FieldDef { label, ty }).is_err() {
         return Err(MeaningFault::Memory);
     }
