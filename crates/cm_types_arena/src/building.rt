@@ -80,7 +80,7 @@ pub(crate) fn build_fields(
     ensures { IfOk result (λ fields.
         map field_of fields.items ≡ map (field_def_type (types_in entries.now)) defs.items) }
 {
-    let mut fields = Vec::new(alloc);
+    let mut fields = Vec::with_capacity(alloc, defs.len())?;
     for def in defs {
         fields.push(build_field(entries, def)?)?;
     }
@@ -95,7 +95,7 @@ fn build_parts(
     ensures { IfOk result (λ parts.
         map type_of parts.items ≡ map (type_at (types_in entries.now)) places.now) }
 {
-    let mut parts = Vec::new(alloc);
+    let mut parts = Vec::with_capacity(alloc, places.len())?;
     for place in places {
         parts.push(share_at(entries, *place)?)?;
     }
@@ -123,7 +123,7 @@ fn build_cases(
     ensures { IfOk result (λ cases.
         map case_of cases.items ≡ map (case_def_type (types_in entries.now)) defs.items) }
 {
-    let mut cases = Vec::new(alloc);
+    let mut cases = Vec::with_capacity(alloc, defs.len())?;
     for def in defs {
         cases.push(build_case(entries, def)?)?;
     }

@@ -50,7 +50,7 @@ pub fn add_fields(
         (each_meaning (typed_meaning (scope_in (types_of types.old) scope.now))
         (map typed_tree texts.now)) result }
 {
-    let mut fields = Vec::new(alloc);
+    let mut fields = Vec::with_capacity(alloc, texts.len())?;
     for text in texts {
         let field = push_field(alloc, types, scope, text)?;
         if fields.push(field).is_err() {
@@ -144,7 +144,7 @@ pub fn push_cases(
         (each_meaning (case_meaning (scope_in (types_of types.old) scope.now))
         (map case_tree texts.now)) result }
 {
-    let mut cases = Vec::new(alloc);
+    let mut cases = Vec::with_capacity(alloc, texts.len())?;
     for text in texts {
         let case = push_case(alloc, types, scope, text)?;
         if cases.push(case).is_err() {

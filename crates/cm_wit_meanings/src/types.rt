@@ -153,7 +153,7 @@ fn push_parts(
     ensures { AddedParts types.old types.new (meanings (scope_in (types_of types.old) scope.now)
         (types_from (map type_tree texts.now))) result }
 {
-    let mut places = Vec::new(alloc);
+    let mut places = Vec::with_capacity(alloc, texts.len())?;
     for text in texts {
         let place = push_text(alloc, types, scope, text)?;
         if places.push(place).is_err() {

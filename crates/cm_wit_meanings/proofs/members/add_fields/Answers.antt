@@ -4,7 +4,7 @@ use Rattle.cm_wit_meanings.proofs.MemberLaws.{field_lost, field_next, field_stop
 use Rattle.cm_wit_meanings.proofs.members.add_fields.Goals as goal
 
 pub loop-text-init : goal.loop-text-init
-loop-text-init c = fields_none c.args.scope.now c.args.texts.now c.args.types.now c.new-fields.result.items (search rules)
+loop-text-init c = fields_none c.args.scope.now c.args.texts.now c.args.types.now c.in_ok-fields.fields.items (search rules)
 
 pub push_field-requires : goal.push_field-requires
 push_field-requires c = record { placed = fields_placed c.args.scope.now c.args.texts.now c.args.types.now c.loop-text.types c.requires.placed c.loop-text.text-index c.loop-text.fields.items c.loop-text.invariant }

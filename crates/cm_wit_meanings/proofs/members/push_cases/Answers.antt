@@ -4,7 +4,7 @@ use Rattle.cm_wit_meanings.proofs.MemberLaws.{case_lost, case_next, case_stops, 
 use Rattle.cm_wit_meanings.proofs.members.push_cases.Goals as goal
 
 pub loop-text-init : goal.loop-text-init
-loop-text-init c = cases_none c.args.scope.now c.args.texts.now c.args.types.now c.new-cases.result.items (search rules)
+loop-text-init c = cases_none c.args.scope.now c.args.texts.now c.args.types.now c.in_ok-cases.cases.items (search rules)
 
 pub push_case-requires : goal.push_case-requires
 push_case-requires c = record { placed = cases_placed c.args.scope.now c.args.texts.now c.args.types.now c.loop-text.types c.requires.placed c.loop-text.text-index c.loop-text.cases.items c.loop-text.invariant }

@@ -109,7 +109,7 @@ push_payload-returns-in-None t c =
 
 pub push_parts-loop-text-init : goal.push_parts-loop-text-init
 push_parts-loop-text-init t c =
-    types_none c.args.scope.now c.args.texts.now c.args.types.now c.new-places.result.items (search rules)
+    types_none c.args.scope.now c.args.texts.now c.args.types.now c.in_ok-places.places.items (search rules)
 
 pub push_parts-push_text-requires : goal.push_parts-push_text-requires
 push_parts-push_text-requires t c =
