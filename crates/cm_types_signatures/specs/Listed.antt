@@ -1,6 +1,6 @@
 -- Imports, exports and items in both of their forms: those of a component, and those whose names
 -- share their fronts (Binary.md, "Import and Export Definitions").
-use Rattle.std.specs.Prelude.{Bool, List, Option, None, length, map}
+use Rattle.std.specs.Prelude.{ℕ, Bool, List, [], Option, Some, None, length, map, slice_get}
 use Rattle.cm_types.specs.ExternNames.{name_spelling}
 use Rattle.cm_types.specs.ExternNameForms.{form_tree}
 use Rattle.cm_types.specs.Signatures.{ExternTy, NamedExtern, func, instance}
@@ -13,6 +13,7 @@ use Rattle.cm_types_placed.specs.Instances.{are_items_there, desc_of, is_desc_th
 use Rattle.cm_types_placed.specs.Instances.{replaced_item}
 use Rattle.cm_types_placed.specs.Externs.{are_externs_in, externs_in}
 use Rattle.cm_types_placed.specs.declared.instances.ItemDesc.{ItemDesc}
+use Rattle.cm_types_signatures.specs.Numbered.{number_in}
 use Rattle.cm_types_signatures.specs.Shared.{are_shared_externs_there, are_shared_items_there}
 use Rattle.cm_types_signatures.specs.Shared.{shared_externs_of, shared_items_of}
 use Rattle.cm_types_signatures.specs.declared.externs.Desc.{Desc}
@@ -57,8 +58,27 @@ abbrev pub extern_in : Types → NamedDesc → NamedExtern
 extern_in t e = record { name = name_spelling (form_tree e.name); desc = desc_in t e.desc }
 
 abbrev pub externs_listed : Types → Externs → List NamedExtern
-externs_listed t (externs.OfComponent es) = externs_in t es.items
+externs_listed t (externs.OfComponent es) = externs_in t es.externs.items
 externs_listed t (externs.OfWorld s) = shared_externs_of (types_of t) (funcs_of t) s
+
+-- ---- the names of the items of those that are instances
+
+abbrev pub names_of_desc : ExternTy → List (List ℕ)
+names_of_desc (func f) = []
+names_of_desc (instance items) = map (λ i. i.name) items
+
+abbrev pub names_of_named : Option NamedExtern → List (List ℕ)
+names_of_named None = []
+names_of_named (Some e) = names_of_desc e.desc
+
+-- of the one at a place
+abbrev pub names_at : Types → Externs → ℕ → List (List ℕ)
+names_at t es place = names_of_named (slice_get (externs_listed t es) place)
+
+-- the number of the one at a place, if it has one: a world's have none
+abbrev pub number_at : Externs → ℕ → Option ℕ
+number_at (externs.OfComponent es) place = number_in es.numbers.items place
+number_at (externs.OfWorld s) place = None
 
 -- ---- their places are in the arena
 
@@ -76,6 +96,6 @@ is_desc_in t (is.Func p) = is_there (length (funcs_of t)) p
 is_desc_in t (is.Instance list) = are_items_in t list
 
 abbrev pub are_in : Types → Externs → Bool
-are_in t (externs.OfComponent es) = are_externs_in t es.items
+are_in t (externs.OfComponent es) = are_externs_in t es.externs.items
 are_in t (externs.OfWorld s) =
     are_shared_externs_there (length (types_of t)) (length (funcs_of t)) s.externs.items

@@ -9,16 +9,16 @@ ghost use Rattle.cm_types_placed.specs.Externs.{extern_desc_of, is_extern_there}
 ghost use Rattle.cm_types_signatures.specs.Shared.{is_shared_there, shared_desc_of};
 ghost use Rattle.cm_types_arena.specs.Places.{funcs_of, types_of};
 
-use crate::{SharedDesc, SharedExterns, SharedItems};
+use crate::{NumberedExterns, SharedDesc, SharedExterns, SharedItems};
 use cm_types::ExternNameForm;
-use cm_types_placed::{Extern, ExternDesc, Item, ItemDesc, Placed};
+use cm_types_placed::{ExternDesc, Item, ItemDesc, Placed};
 use cm_types_resources::Move;
 
 /// Imports or exports in order: those of a component, whose names are whole, or those of a world,
 /// whose names share their fronts.
 #[derive(Drop)]
 pub enum Externs {
-    OfComponent(Vec<Extern>),
+    OfComponent(NumberedExterns),
     OfWorld(SharedExterns),
 }
 
@@ -85,14 +85,26 @@ fn shared_desc(desc: &SharedDesc) -> Desc<'_>
 
 impl Externs {
     ghost use Rattle.cm_types_signatures.specs.Listed.{are_in, extern_in, externs_listed};
+    ghost use Rattle.cm_types_signatures.specs.Listed.{number_at};
 
     /// How many they are.
     pub fn len(&self) -> usize
         ensures { (t : Types) → result ≡ length (externs_listed t self.now) }
     {
         match self {
-            Externs::OfComponent(externs) => externs.len(),
+            Externs::OfComponent(numbered) => numbered.externs().len(),
             Externs::OfWorld(shared) => shared.externs.len(),
+        }
+    }
+
+    /// The number of the one at a place, from 0, if it has one: those of one number are instances
+    /// whose items have the same names in the same order.
+    pub fn number(&self, place: usize) -> Option<usize>
+        ensures { result ≡ number_at self.now place }
+    {
+        match self {
+            Externs::OfComponent(numbered) => numbered.number(place),
+            Externs::OfWorld(_) => None,
         }
     }
 
@@ -105,8 +117,8 @@ impl Externs {
         ensures labels { IfSome result (λ e. HasLabels (form_tree e.name)) }
     {
         match self {
-            Externs::OfComponent(externs) => {
-                let each = externs.get(place)?;
+            Externs::OfComponent(numbered) => {
+                let each = numbered.externs().get(place)?;
                 Some(NamedDesc {
                     name: each.name.form(),
                     desc: component_desc(&each.desc),
