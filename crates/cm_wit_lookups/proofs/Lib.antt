@@ -3,3 +3,5 @@ pub mod ListingLaws
 pub mod ListLaws
 pub mod NumberLaws
 pub mod PlaceLaws
+pub mod HitLaws
+pub mod MeetLaws

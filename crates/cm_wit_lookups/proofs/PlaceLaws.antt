@@ -52,7 +52,7 @@ one_tree forms s t hs ht e = some_tree s t (sym (forms s hs) ∙ (ap form_of e �
 true_not : true ≡ false → ⊥
 true_not e = cc
 
-bool_same : (a b : Bool) → (a ≡ true → b ≡ true) → (b ≡ true → a ≡ true) → a ≡ b
+pub bool_same : (a b : Bool) → (a ≡ true → b ≡ true) → (b ≡ true → a ≡ true) → a ≡ b
 bool_same true b f g = sym (f refl)
 bool_same false true f g = g refl
 bool_same false false f g = refl

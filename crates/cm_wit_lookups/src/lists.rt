@@ -6,7 +6,7 @@ ghost use Rattle.cm_wit_lookups.specs.Listings.{AreNames};
 ghost use Rattle.cm_wit_lookups.specs.Places.{extern_names, item_names, place_in};
 
 use crate::listing::{ListedNames, component_externs, component_items, world_externs, world_items};
-use crate::places::places;
+use crate::places::NameTable;
 use cm_types_signatures::{Externs, Items};
 use std::alloc::{AllocError, Global};
 
@@ -14,12 +14,13 @@ fn listed_externs(alloc: Global, externs: &Externs) -> Result<ListedNames<'_>, A
     ensures { IfOk result (λ l. (t : Types) → AreNames l (extern_names t externs.now)) }
 {
     match externs {
-        Externs::OfComponent(externs) => component_externs(alloc, externs),
+        Externs::OfComponent(numbered) => component_externs(alloc, numbered.externs()),
         Externs::OfWorld(shared) => world_externs(alloc, &shared.fronts, &shared.externs),
     }
 }
 
-fn listed_items(alloc: Global, items: Items<'_>) -> Result<ListedNames<'_>, AllocError>
+/// The names of items.
+pub(crate) fn listed_items(alloc: Global, items: Items<'_>) -> Result<ListedNames<'_>, AllocError>
     ensures { IfOk result (λ l. (t : Types) → AreNames l (item_names t items.entry)) }
 {
     match items {
@@ -41,20 +42,6 @@ pub fn extern_places(
 {
     let names = listed_externs(alloc, externs)?;
     let theirs = listed_externs(alloc, others)?;
-    places(alloc, &names, &theirs)
-}
-
-/// For each of these items the place, from 0, of the first of the others that has its name, if one
-/// has; it costs as much as `extern_places`. Refused only where there is no memory.
-pub fn item_places(
-    alloc: Global,
-    items: Items<'_>,
-    others: Items<'_>,
-) -> Result<Vec<Option<usize>>, AllocError>
-    ensures { IfOk result (λ v. (t u : Types) → v.items
-        ≡ map (place_in (item_names u others.entry)) (item_names t items.entry)) }
-{
-    let names = listed_items(alloc, items)?;
-    let theirs = listed_items(alloc, others)?;
-    places(alloc, &names, &theirs)
+    let table = NameTable::new(alloc, &theirs)?;
+    table.places(alloc, &names)
 }

@@ -94,21 +94,41 @@ fn all_found(
     Ok(places)
 }
 
-/// For each name of a listing the place of the first name of another that is equal, if one is. It
-/// takes time linear in the texts that each listing holds, with a search for each name and each
-/// front. Refused only where there is no memory.
-pub(crate) fn places(
-    alloc: Global,
-    names: &ListedNames<'_>,
-    others: &ListedNames<'_>,
-) -> Result<Vec<Option<usize>>, AllocError>
-    ensures { IfOk result (λ v. (texts theirs : List (List ℕ)) → AreNames names.now texts
-        → AreNames others.now theirs → v.items ≡ map (place_in theirs) texts) }
-{
-    names_show_their_forms();
-    let table = Fronts::new(alloc, &others.fronts)?;
-    let numbers = numbers_of(alloc, &table, &others.fronts)?;
-    let keys = Keys::new(alloc, back_keys(alloc, &numbers, &others.names)?)?;
-    let wanted = numbers_of(alloc, &table, &names.fronts)?;
-    all_found(alloc, &wanted, &keys, &names.names)
+/// Tables in which names are found by their parts.
+#[derive(Drop)]
+pub(crate) struct NameTable<'a> {
+    fronts: Fronts<'a>,
+    keys: Keys<'a>,
+}
+
+impl<'a> NameTable<'a> {
+    ghost use Rattle.cm_wit_lookups.specs.Tables.{HasNames};
+
+    /// A table of the names of a listing. It takes time linear in the texts that the listing holds,
+    /// with a search for each name and each front. Refused only where there is no memory.
+    pub(crate) fn new(alloc: Global, names: &ListedNames<'a>) -> Result<NameTable<'a>, AllocError>
+        ensures { IfOk result (λ t. (texts : List (List ℕ)) → AreNames names.now texts
+            → HasNames texts t) }
+    {
+        let fronts = Fronts::new(alloc, &names.fronts)?;
+        let numbers = numbers_of(alloc, &fronts, &names.fronts)?;
+        let keys = Keys::new(alloc, back_keys(alloc, &numbers, &names.names)?)?;
+        Ok(NameTable { fronts, keys })
+    }
+
+    /// For each name of a listing the place of the first name of the table that is equal, if one
+    /// is. It takes time linear in the texts that the listing holds, with a search for each name
+    /// and each front. Refused only where there is no memory.
+    pub(crate) fn places(
+        &self,
+        alloc: Global,
+        names: &ListedNames<'_>,
+    ) -> Result<Vec<Option<usize>>, AllocError>
+        ensures { IfOk result (λ v. (texts theirs : List (List ℕ)) → AreNames names.now texts
+            → HasNames theirs self.now → v.items ≡ map (place_in theirs) texts) }
+    {
+        names_show_their_forms();
+        let wanted = numbers_of(alloc, &self.fronts, &names.fronts)?;
+        all_found(alloc, &wanted, &self.keys, &names.names)
+    }
 }

@@ -13,18 +13,18 @@ use Rattle.cm_wit_lookups.proofs.lists.listed_externs.Goals as goal
 
 pub returns-in-OfComponent : goal.returns-in-OfComponent
 returns-in-OfComponent c =
-    let is : (t : Types) → extern_names t c.args.externs.now ≡ map (λ (e : Extern). e.name) c.deref.result.now = λ t.
+    let is : (t : Types) → extern_names t c.args.externs.now ≡ map (λ (e : Extern). e.name) c.externs.result.now = λ t.
     ap (extern_names t) c.in-OfComponent.is
-    ∙ (fused (extern_of (types_of t) (funcs_of t)) (λ e. e.name) c.in-OfComponent.externs.items
-    ∙ sym (ap (λ (es : List Extern). map (λ (e : Extern). e.name) es) c.deref.ensures.value)) in
-    listed_as c.component_externs.result (map (λ (e : Extern). e.name) c.deref.result.now) (λ t. extern_names t c.args.externs.now) is c.component_externs.ensures
+    ∙ (fused (extern_of (types_of t) (funcs_of t)) (λ e. e.name) c.in-OfComponent.numbered.externs.items
+    ∙ sym (ap (λ (es : List Extern). map (λ (e : Extern). e.name) es) c.externs.ensures)) in
+    listed_as c.component_externs.result (map (λ (e : Extern). e.name) c.externs.result.now) (λ t. extern_names t c.args.externs.now) is c.component_externs.ensures
 
 pub returns-in-OfWorld : goal.returns-in-OfWorld
 returns-in-OfWorld c =
     let texts = λ (fs : List Front) (es : List SharedExtern). map (λ (e : SharedExtern). text_in fs e.name) es in
-    let is : (t : Types) → extern_names t c.args.externs.now ≡ texts c.deref-in-OfWorld.result.now c.deref-in-OfWorld-2.result.now = λ t.
+    let is : (t : Types) → extern_names t c.args.externs.now ≡ texts c.deref.result.now c.deref-in-OfWorld.result.now = λ t.
     ap (extern_names t) c.in-OfWorld.is
     ∙ (fused (shared_extern_of (types_of t) (funcs_of t) c.in-OfWorld.shared.fronts.items) (λ e. e.name) c.in-OfWorld.shared.externs.items
-    ∙ (sym (ap (λ (fs : List Front). texts fs c.in-OfWorld.shared.externs.items) c.deref-in-OfWorld.ensures.value)
-    ∙ sym (ap (texts c.deref-in-OfWorld.result.now) c.deref-in-OfWorld-2.ensures.value))) in
-    listed_as c.world_externs.result (texts c.deref-in-OfWorld.result.now c.deref-in-OfWorld-2.result.now) (λ t. extern_names t c.args.externs.now) is c.world_externs.ensures
+    ∙ (sym (ap (λ (fs : List Front). texts fs c.in-OfWorld.shared.externs.items) c.deref.ensures.value)
+    ∙ sym (ap (texts c.deref.result.now) c.deref-in-OfWorld.ensures.value))) in
+    listed_as c.world_externs.result (texts c.deref.result.now c.deref-in-OfWorld.result.now) (λ t. extern_names t c.args.externs.now) is c.world_externs.ensures
