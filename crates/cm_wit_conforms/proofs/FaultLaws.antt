@@ -26,8 +26,8 @@ module _ {A : Type 0} (view : A → Entry) (all : List A) where
       ∙ map-append view (take i all) (drop i all)
       ∙ ap (λ (xs : List A). map view (take i all) ++ map view xs) (drop_more all i x lt ∙ ap (λ (y : A). y ∷ drop (i + 1) all) (sym at))
 
-  pub first_here : (i : ℕ) (x : A) (r : ConformReason) → i < length all → x ≡ get_or all i x → AllFit (map view all) (map view (take i all)) → ¬ (Fits (map view all) (view x).what) → r ≡ reason_of (view x).item.list (view x).what → IsFirstIn (map view all) (view x).item r
-  first_here i x r lt at fit unfit why = record {
+  pub first_here : (es : List Entry) (i : ℕ) (x : A) (r : ConformReason) → i < length all → x ≡ get_or all i x → AllFit es (map view (take i all)) → ¬ (Fits es (view x).what) → r ≡ reason_of (view x).item.list (view x).what → IsFirstIn es (map view all) (view x).item r
+  first_here es i x r lt at fit unfit why = record {
     front = map view (take i all);
     entry = view x;
     rest = map view (drop (i + 1) all);

@@ -19,7 +19,7 @@ at_one : {A : Type 0} (P : A → Type 0) (a : List A) (x : A) (c : List A) → A
 at_one P [] x c all = all.0
 at_one P (z ∷ a) x c all = at_one P a x c all.1
 
-pub never_both : (all : List Entry) (item : ConformItem) (r : ConformReason) → AllFit all all → IsFirstIn all item r → ⊥
+pub never_both : (all : List Entry) (item : ConformItem) (r : ConformReason) → AllFit all all → IsFirstIn all all item r → ⊥
 never_both all item r fit f =
     let P : Entry → Type 0 = λ e. Fits all e.what in
     f.unfit (at_one P f.front f.entry f.rest (subst (λ (es : List Entry). AllFit all es) f.split fit))
@@ -32,7 +32,7 @@ same_first P [] (w ∷ b) c d x y e pa pb nx ny = absurd (nx (subst P (sym (ap (
 same_first P (z ∷ a) [] c d x y e pa pb nx ny = absurd (ny (subst P (ap (head_or z) e) pa.0))
 same_first P (z ∷ a) (w ∷ b) c d x y e pa pb nx ny = same_first P a b c d x y (ap tail e) pa.1 pb.1 nx ny
 
-pub one_first : (all : List Entry) (i j : ConformItem) (q r : ConformReason) → IsFirstIn all i q → IsFirstIn all j r → (i ≡ j) × (q ≡ r)
+pub one_first : (all : List Entry) (i j : ConformItem) (q r : ConformReason) → IsFirstIn all all i q → IsFirstIn all all j r → (i ≡ j) × (q ≡ r)
 one_first all i j q r f g =
     let P : Entry → Type 0 = λ e. Fits all e.what in
     let one : f.entry ≡ g.entry = same_first P f.front g.front f.rest g.rest f.entry g.entry (sym f.split ∙ g.split) f.before g.before f.unfit g.unfit in

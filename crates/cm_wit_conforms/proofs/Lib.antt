@@ -7,3 +7,8 @@ mod FirstLaws
 mod PairLaws
 mod MoreLaws
 mod ItselfLaws
+mod TakenLaws
+mod SearchLaws
+mod NoteLaws
+mod JudgedLaws
+mod KeptLaws

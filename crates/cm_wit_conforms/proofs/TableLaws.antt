@@ -13,19 +13,11 @@ use Rattle.cm_types.specs.Resources.{same_resource}
 use Rattle.cm_types.specs.declared.resource.ResourceId.{ResourceId}
 use Rattle.cm_wit_conforms.specs.declared.pairs.Pairs.{Pairs}
 use Rattle.cm_wit_conforms.specs.declared.pairs.ResourceKey.{ResourceKey}
-use Rattle.cm_wit_conforms.specs.Pairs.{key_of, key_order, pair_in, or_else, Notes}
+use Rattle.cm_wit_conforms.specs.Pairs.{key_of, key_order, lesser, pair_in, Notes}
 
-next_element : {A B : Type 0} (view : A → B) (xs : List A) (i : ℕ) (x : A) → i < length xs → x ≡ get_or xs i x → map view (drop i xs) ≡ view x ∷ map view (drop (i + 1) xs)
-next_element {A} view xs i x lt is = ap (map view) (drop_more xs i x lt ∙ ap (λ (a : A). a ∷ drop (i + 1) xs) (sym is))
-
-or_none : (a : Option ℕ) → or_else a None ≡ a
-or_none None = refl
-or_none (Some x) = refl
-
-later : (a : Option ℕ) (t : Bool) (i : ℕ) (rest : Option ℕ) → or_else a (cond t (Some i) rest) ≡ or_else (or_else a (if t then Some i else None)) rest
-later None true i rest = refl
-later None false i rest = refl
-later (Some x) t i rest = refl
+pub lesser_none : (a : Option ℕ) → lesser a None ≡ a
+lesser_none None = refl
+lesser_none (Some x) = refl
 
 -- ---- keys
 
@@ -77,29 +69,28 @@ other_key r s n = elim (cases_Bool (is_eq (key_order (key_of r) (key_of s)))) [
 
 -- ---- one pair
 
-pub notes_present : (place x : ℕ) (pairs : Pairs) (r : ResourceId) → pair_in pairs r ≡ Some x → Notes (λ s. same_resource s r) pairs pairs place
-notes_present place x pairs r has s = elim (cases_Bool (same_resource s r)) [
+pub notes_present : (place : ℕ) (pairs : Pairs) (r : ResourceId) → lesser (pair_in pairs r) (Some place) ≡ pair_in pairs r → Notes (λ s. same_resource s r) pairs pairs place
+notes_present place pairs r has s = elim (cases_Bool (same_resource s r)) [
   | inl y ↦
-      let here : pair_in pairs s ≡ Some x = ap (pair_in pairs) (same_is s r y) ∙ has in
-      here ∙ sym (ap (λ (o : Option ℕ). or_else o (if same_resource s r then Some place else None)) here)
-  | inr n ↦ sym (ap (λ (b : Bool). or_else (pair_in pairs s) (if b then Some place else None)) n ∙ or_none (pair_in pairs s))
+      sym (ap (λ (b : Bool). lesser (pair_in pairs s) (if b then Some place else None)) y
+      ∙ (ap (λ (x : ResourceId). lesser (pair_in pairs x) (Some place)) (same_is s r y) ∙ (has ∙ sym (ap (pair_in pairs) (same_is s r y)))))
+  | inr n ↦ sym (ap (λ (b : Bool). lesser (pair_in pairs s) (if b then Some place else None)) n ∙ lesser_none (pair_in pairs s))
 ]
 
-pub notes_new : (place : ℕ) (old new : Pairs) (r : ResourceId) → pair_in old r ≡ None → ((q : ResourceKey) → get key_order new.table q ≡ cond (is_eq (key_order (key_of r) q)) (Some place) (get key_order old.table q)) → Notes (λ s. same_resource s r) old new place
-notes_new place old new r none at s = elim (cases_Bool (same_resource s r)) [
+pub notes_new : (place : ℕ) (old new : Pairs) (r : ResourceId) → lesser (pair_in old r) (Some place) ≡ Some place → ((q : ResourceKey) → get key_order new.table q ≡ cond (is_eq (key_order (key_of r) q)) (Some place) (get key_order old.table q)) → Notes (λ s. same_resource s r) old new place
+notes_new place old new r is at s = elim (cases_Bool (same_resource s r)) [
   | inl y ↦
       let same : s ≡ r = same_is s r y in
-      let here : pair_in old s ≡ None = ap (pair_in old) same ∙ none in
       let equal : is_eq (key_order (key_of r) (key_of s)) ≡ true = ap (λ (x : ResourceId). is_eq (key_order (key_of r) (key_of x))) same ∙ ap is_eq (key_self (key_of r)) in
       at (key_of s) ∙ ap (λ (b : Bool). cond b (Some place) (get key_order old.table (key_of s))) equal
-      ∙ sym (ap (λ (o : Option ℕ). or_else o (if same_resource s r then Some place else None)) here ∙ ap (λ (b : Bool). if b then Some place else None) y)
+      ∙ sym (ap (λ (b : Bool). lesser (pair_in old s) (if b then Some place else None)) y ∙ (ap (λ (x : ResourceId). lesser (pair_in old x) (Some place)) same ∙ is))
   | inr n ↦
       at (key_of s) ∙ ap (λ (b : Bool). cond b (Some place) (get key_order old.table (key_of s))) (other_key r s n)
-      ∙ sym (ap (λ (b : Bool). or_else (pair_in old s) (if b then Some place else None)) n ∙ or_none (pair_in old s))
+      ∙ sym (ap (λ (b : Bool). lesser (pair_in old s) (if b then Some place else None)) n ∙ lesser_none (pair_in old s))
 ]
 
 pub notes_nothing : (place : ℕ) (pairs : Pairs) → Notes (λ r. false) pairs pairs place
-notes_nothing place pairs r = sym (or_none (pair_in pairs r))
+notes_nothing place pairs r = sym (lesser_none (pair_in pairs r))
 
 pub is_none_is : {A : Type 0} (o : Option A) (r : Bool) → is_some o ≡ not r → r ≡ true → o ≡ None
 is_none_is None r e t = refl
@@ -110,26 +101,3 @@ pub is_some_is : (o : Option ℕ) (r : Bool) → is_some o ≡ not r → r ≡ f
 is_some_is None true e t = absurd cc
 is_some_is None false e t = absurd cc
 is_some_is (Some x) r e t = (x, refl)
-
--- ---- all pairs
-
--- The first entry that meets a resource is what the table has, or else the first among those to
--- come.
-pub record Seeks {A E : Type 0} (view : A → E) (meets : ResourceId → E → Bool) (all : List A) (i : ℕ) (pairs : Pairs) : Type 0 where
-  pub is : (r : ResourceId) → position_from (meets r) 0 (map view all) ≡ or_else (pair_in pairs r) (position_from (meets r) i (map view (drop i all)))
-
-module _ {A E : Type 0} (view : A → E) (meets : ResourceId → E → Bool) (all : List A) where
-  pub seeks_start : (pairs : Pairs) → ((r : ResourceId) → pair_in pairs r ≡ None) → Seeks view meets all 0 pairs
-  seeks_start pairs none = record { is = λ r. sym (ap (λ (o : Option ℕ). or_else o (position_from (meets r) 0 (map view all))) (none r)) }
-
-  pub seeks_step : (i : ℕ) (x : A) (old new : Pairs) → i < length all → x ≡ get_or all i x → Seeks view meets all i old → Notes (λ r. meets r (view x)) old new i → Seeks view meets all (i + 1) new
-  seeks_step i x old new lt at s noted = record {
-    is = λ r.
-        s.is r
-        ∙ ap (λ (es : List E). or_else (pair_in old r) (position_from (meets r) i es)) (next_element view all i x lt at)
-        ∙ later (pair_in old r) (meets r (view x)) i (position_from (meets r) (i + 1) (map view (drop (i + 1) all)))
-        ∙ ap (λ (o : Option ℕ). or_else o (position_from (meets r) (i + 1) (map view (drop (i + 1) all)))) (sym (noted r));
-  }
-
-  pub seeks_all : (i : ℕ) (pairs : Pairs) → length all ≤ i → Seeks view meets all i pairs → (r : ResourceId) → pair_in pairs r ≡ position_from (meets r) 0 (map view all)
-  seeks_all i pairs le s r = sym (s.is r ∙ ap (λ (ys : List A). or_else (pair_in pairs r) (position_from (meets r) i (map view ys))) (drop_all i all le) ∙ or_none (pair_in pairs r))

@@ -9,32 +9,6 @@ use Rattle.std.specs.Prelude.{Result, Ok, Err, OnOk}
 use Rattle.cm_wit_lookups.specs.Places.{place_in}
 use Rattle.cm_wit_conforms.specs.Comparisons.{named}
 
-next_element : {A B : Type 0} (view : A → B) (xs : List A) (i : ℕ) (x : A) → i < length xs → x ≡ get_or xs i x → map view (drop i xs) ≡ view x ∷ map view (drop (i + 1) xs)
-next_element {A} view xs i x lt is = ap (map view) (drop_more xs i x lt ∙ ap (λ (a : A). a ∷ drop (i + 1) xs) (sym is))
-
--- These stand there, and those of the rest, which begins with the i-th, make all.
-pub record Adds {A B C D : Type 0} (view : A → B) (F : ℕ → List B → List D) (shown : C → D) (xs : List A) (i : ℕ) (start out : List C) : Type 0 where
-  pub is : map shown out ++ F i (map view (drop i xs)) ≡ map shown start ++ F 0 (map view xs)
-
-module _ {A B C D : Type 0} (view : A → B) (F : ℕ → List B → List D) (shown : C → D) (xs : List A) where
-  pub adds_start : (start : List C) → Adds view F shown xs 0 start start
-  adds_start start = record { is = refl }
-
-  pub adds_join : (i : ℕ) (start out next : List C) (part : List D) (x : A) → i < length xs → x ≡ get_or xs i x → map shown next ≡ map shown out ++ part → ((ys : List B) → F i (view x ∷ ys) ≡ part ++ F (i + 1) ys) → Adds view F shown xs i start out → Adds view F shown xs (i + 1) start next
-  adds_join i start out next part x lt e n s f = record {
-    is = ap (λ (l : List D). l ++ F (i + 1) (map view (drop (i + 1) xs))) n
-        ∙ (append_assoc (map shown out) part (F (i + 1) (map view (drop (i + 1) xs)))
-        ∙ (sym (ap (λ (l : List D). map shown out ++ l) (s (map view (drop (i + 1) xs))))
-        ∙ (sym (ap (λ (ys : List B). map shown out ++ F i ys) (next_element view xs i x lt e)) ∙ f.is)));
-  }
-
-  pub adds_end : (i : ℕ) (start out : List C) → length xs ≤ i → F i [] ≡ [] → Adds view F shown xs i start out → map shown out ≡ map shown start ++ F 0 (map view xs)
-  adds_end i start out le none f = sym (append-nil (map shown out)) ∙ (sym (ap (λ (l : List D). map shown out ++ l) none) ∙ (sym (ap (λ (ys : List A). map shown out ++ F i (map view ys)) (drop_all i xs le)) ∙ f.is))
-
--- one more is shown behind the others
-pub one_pushed : {C D : Type 0} (shown : C → D) (out next : List C) (c : C) (d : D) → next ≡ out ++ c ∷ [] → shown c ≡ d → map shown next ≡ map shown out ++ d ∷ []
-one_pushed {C} {D} shown out next c d n e = ap (map shown) n ∙ map-append shown out (c ∷ []) ∙ ap (λ (y : D). map shown out ++ y ∷ []) e
-
 -- ---- what stands at a place
 
 shift : {K : Type 0} (P : K → Bool) (i : ℕ) (xs : List K) → position_from P (i + 1) xs ≡ option_map suc (position_from P i xs)

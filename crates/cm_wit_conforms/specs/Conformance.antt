@@ -77,12 +77,12 @@ AllFit all es = AllByRecursion (λ e. Fits all e.what) es
 abbrev pub Conforms : SignatureTy → SignatureTy → Type 0
 Conforms have world = AllFit (entries have world) (entries have world)
 
--- The first of these entries that does not fit is this item, for this reason.
-pub record IsFirstIn (all : List Entry) (item : ConformItem) (r : ConformReason) : Type 0 where
+-- The first of these entries that does not fit, among all, is this item, for this reason.
+pub record IsFirstIn (all es : List Entry) (item : ConformItem) (r : ConformReason) : Type 0 where
   pub front : List Entry
   pub entry : Entry
   pub rest : List Entry
-  pub split : all ≡ front ++ entry ∷ rest
+  pub split : es ≡ front ++ entry ∷ rest
   pub before : AllFit all front
   pub unfit : ¬ (Fits all entry.what)
   pub place : entry.item ≡ item
@@ -90,7 +90,7 @@ pub record IsFirstIn (all : List Entry) (item : ConformItem) (r : ConformReason)
 
 -- The first fault of a signature against a world is at this item, for this reason.
 abbrev pub IsFirstFault : SignatureTy → SignatureTy → ConformItem → ConformReason → Type 0
-IsFirstFault have world item r = IsFirstIn (entries have world) item r
+IsFirstFault have world item r = IsFirstIn (entries have world) (entries have world) item r
 
 -- The world exports nothing of this name.
 abbrev pub IsUnasked : SignatureTy → NamedExtern → Type 0

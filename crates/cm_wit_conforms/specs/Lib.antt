@@ -5,3 +5,4 @@ pub mod Comparisons
 pub mod Conformance
 pub mod Faults
 pub mod Itself
+pub mod Walks

@@ -1,5 +1,5 @@
 -- What the code compares, among the types of the signature's arena and of the world's.
-use Rattle.std.specs.Prelude.{ℕ, List, [], ◌∷◌, Option, Some, None, slice_get}
+use Rattle.std.specs.Prelude.{ℕ, List, [], Option, Some, None, slice_get}
 use Rattle.std.specs.Option.{option_and_then, option_map}
 use Rattle.cm_types.specs.Signatures.{ItemTy, ExternTy}
 use Rattle.cm_types_resources.specs.declared.moves.Move.{Move}
@@ -14,9 +14,7 @@ use Rattle.cm_types_signatures.specs.declared.externs.Externs.{Externs}
 use Rattle.cm_types_signatures.specs.declared.externs.Items.{Items}
 use Rattle.cm_wit_conforms.specs.Comparisons as all
 use Rattle.cm_wit_conforms.specs.Comparisons.{Entry, nothing, two_sorts, two_funcs, two_types}
-use Rattle.cm_wit_conforms.specs.Comparisons.{extern_entries, facing, or_nothing, two_items}
-use Rattle.cm_wit_conforms.specs.Comparisons.{two_resources}
-use Rattle.cm_wit_conforms.specs.declared.fault.ConformItem.{ConformItem}
+use Rattle.cm_wit_conforms.specs.Comparisons.{extern_entries, two_resources}
 use Rattle.cm_wit_conforms.specs.declared.fault.ConformList.{ConformList}
 use Rattle.cm_wit_conforms.specs.declared.fault.ConformList.TheVariants as walked
 use Rattle.cm_wit_conforms.specs.declared.comparisons.Comparison.{Comparison}
@@ -63,14 +61,7 @@ abbrev pub extern_found : Types → Externs → Option ℕ → Option ExternTy
 extern_found t others place =
     option_map (λ e. e.desc) (option_and_then (slice_get (externs_listed t others)) place)
 
--- what is compared of an item, if there is one, and of an import or export, if there is one
-abbrev pub entries_at : ConformItem → Types → Items → Option ℕ → Option ItemTy → List Entry
-entries_at at t others place None = []
-entries_at at t others place (Some x) = record {
-  item = at;
-  what = or_nothing (option_map (facing two_items at.list x) (item_found t others place));
-} ∷ []
-
+-- what is compared of an import or export, if there is one
 abbrev pub entries_of : ConformList → ℕ → Option ExternTy → Option ExternTy → List Entry
 entries_of list place found None = []
 entries_of list place found (Some x) = extern_entries list place found x

@@ -10,28 +10,25 @@ ghost use Rattle.cm_wit_conforms.specs.Views.{entry_of};
 use crate::comparisons::PlacedComparison;
 use crate::fault::{ConformFault, ConformReason};
 use crate::judge::{Side, Tables};
-use crate::pairs::Pairs;
-use crate::walk::entries;
+use crate::lists::walked;
 use cm_types_signatures::Signature;
 use std::alloc::Global;
 
-/// Whether all that is compared fits, or the first fault.
+/// Whether these of all that is compared fit, or the first fault of them.
 fn judge(
     alloc: Global,
-    all: &[PlacedComparison],
+    judged: &[PlacedComparison],
     have: &Side<'_>,
     world: &Side<'_>,
 ) -> Result<(), ConformFault>
-    requires { AreSides (map (entry_of have.now.types.now world.now.types.now) all.now)
-        have.now world.now }
-    ensures ok { OnOk result (let es = map (entry_of have.now.types.now world.now.types.now) all.now
-        in AllFit es es) }
+    ensures ok { OnOk result ((all : List Entry) → AreSides all have.now world.now
+        → AllFit all (map (entry_of have.now.types.now world.now.types.now) judged.now)) }
     ensures err { IfErr result (λ f. (f.reason ≡ ConformReason.Memory)
-        ⊎ IsFirstIn (map (entry_of have.now.types.now world.now.types.now) all.now)
-        f.item f.reason) }
+        ⊎ ((all : List Entry) → AreSides all have.now world.now → IsFirstIn all
+        (map (entry_of have.now.types.now world.now.types.now) judged.now) f.item f.reason)) }
 {
     let mut tables = Tables::new(alloc);
-    for each in all {
+    for each in judged {
         if !tables.fits(alloc, have, world, each.what)? {
             return Err(ConformFault {
                 item: each.item,
@@ -53,26 +50,24 @@ fn judge(
 /// corresponds to another one already, and where a function stands against an instance. A resource
 /// that no two items of one name pair corresponds to none. `Memory` comes where memory is refused.
 ///
-/// It costs time linear in the items of the imports and exports of both, a shared instance counted
-/// for each of them, with a search for each name and resource; and in the types of both, each once
-/// for each way in which imports and exports move its resources.
+/// It costs time linear in the items of the imports and exports of both, with a search for each
+/// name and resource, where those of the signature that have one number are counted once; and in the
+/// types of both, each once for each way in which imports and exports move its resources.
 pub fn conforms(alloc: Global, have: &Signature, world: &Signature) -> Result<(), ConformFault>
     ensures ok { OnOk result (Conforms (signature_of have.now) (signature_of world.now)) }
     ensures err { IfErr result (λ f. (f.reason ≡ ConformReason.Memory)
         ⊎ IsFirstFault (signature_of have.now) (signature_of world.now) f.item f.reason) }
 {
-    let all = entries(alloc, have, world)?;
-    let have_pairs = Pairs::of_have(alloc, &all)?;
-    let world_pairs = Pairs::of_world(alloc, &all)?;
+    let walk = walked(alloc, have, world)?;
     let have = Side {
         types: have.types(),
-        pairs: &have_pairs,
+        pairs: &walk.pairs.have,
         mark: 1,
     };
     let world = Side {
         types: world.types(),
-        pairs: &world_pairs,
+        pairs: &walk.pairs.world,
         mark: 2,
     };
-    judge(alloc, &all, &have, &world)
+    judge(alloc, &walk.judged.entries, &have, &world)
 }

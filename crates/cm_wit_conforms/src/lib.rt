@@ -4,10 +4,14 @@
 #![tactic(auto)]
 
 mod comparisons;
+mod facing;
 mod fault;
 mod fit;
 mod judge;
+mod judged;
+mod kept;
 pub mod laws;
+mod lists;
 mod pairs;
 mod walk;
 

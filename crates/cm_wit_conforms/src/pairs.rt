@@ -1,15 +1,14 @@
 //! The pairs of resources.
 
-ghost use Rattle.std.specs.Prelude.{◌≡◌, IfOk, OnOk, None, map};
+ghost use Rattle.std.specs.Prelude.{◌≡◌, OnOk, None};
 ghost use Rattle.cm_types_arena.specs.declared.types.Types.{Types};
 ghost use Rattle.cm_types.specs.declared.resource.ResourceId.{ResourceId as Resource};
 ghost use Rattle.cm_types.specs.Resources.{same_resource};
-ghost use Rattle.cm_wit_conforms.specs.Conformance.{have_pair, mark, meets_have, meets_world};
-ghost use Rattle.cm_wit_conforms.specs.Conformance.{world_pair};
-ghost use Rattle.cm_wit_conforms.specs.Pairs.{HasPairs, Notes, key_of, pair_in};
-ghost use Rattle.cm_wit_conforms.specs.Views.{comparison_of, entry_of};
+ghost use Rattle.cm_wit_conforms.specs.Conformance.{mark, meets_have, meets_world};
+ghost use Rattle.cm_wit_conforms.specs.Pairs.{Notes, key_of, pair_in};
+ghost use Rattle.cm_wit_conforms.specs.Views.{comparison_of};
 
-use crate::comparisons::{Comparison, PlacedComparison};
+use crate::comparisons::Comparison;
 use cm_types::ResourceId;
 use std::alloc::{AllocError, Global};
 use std::collections::BTreeMap;
@@ -45,14 +44,17 @@ impl Pairs {
         self.table.get(&key(resource)).copied()
     }
 
-    /// Takes note of a pair, unless the resource belongs to one already.
+    /// Takes note of a pair, unless the resource belongs to an earlier one.
     fn note(&mut self, resource: ResourceId, place: usize) -> Result<(), AllocError>
         ensures { OnOk result (Notes (λ r. same_resource r resource) self.old self.new place) }
     {
-        if self.table.get(&key(resource)).is_none() {
-            self.table.insert(key(resource), place)?;
+        match self.pair(resource) {
+            Some(earlier) if earlier <= place => Ok(()),
+            _ => {
+                self.table.insert(key(resource), place)?;
+                Ok(())
+            }
         }
-        Ok(())
     }
 
     /// Takes note of the pair that a comparison makes, for the signature's resource.
@@ -82,29 +84,37 @@ impl Pairs {
             Comparison::Types(_, _) => Ok(()),
         }
     }
+}
 
-    /// The pairs of the signature's resources. Refused only where there is no memory.
-    pub(crate) fn of_have(alloc: Global, all: &[PlacedComparison]) -> Result<Pairs, AllocError>
-        ensures { IfOk result (λ pairs. (h w : Types)
-            → HasPairs (have_pair (map (entry_of h w) all.now)) pairs) }
+/// The pairs of the resources of both sides.
+#[derive(Drop)]
+pub(crate) struct BothPairs {
+    pub(crate) have: Pairs,
+    pub(crate) world: Pairs,
+}
+
+impl BothPairs {
+    ghost use Rattle.std.specs.Prelude.{[]};
+    ghost use Rattle.cm_wit_conforms.specs.Pairs.{HaveBoth, NoteBoth};
+
+    /// No pair yet.
+    pub(crate) fn new(alloc: Global) -> BothPairs
+        ensures { HaveBoth [] result }
     {
-        let mut pairs = Pairs::new(alloc);
-        for (place, each) in all.iter().enumerate() {
-            pairs.note_have(each.what, place)?;
+        BothPairs {
+            have: Pairs::new(alloc),
+            world: Pairs::new(alloc),
         }
-        Ok(pairs)
     }
 
-    /// The pairs of the world's resources. Refused only where there is no memory.
-    pub(crate) fn of_world(alloc: Global, all: &[PlacedComparison]) -> Result<Pairs, AllocError>
-        ensures { IfOk result (λ pairs. (h w : Types)
-            → HasPairs (world_pair (map (entry_of h w) all.now)) pairs) }
+    /// Takes note of the pair that the comparison of a number makes, if it makes one, for each of
+    /// its resources that belongs to no earlier one.
+    pub(crate) fn note(&mut self, what: Comparison, number: usize) -> Result<(), AllocError>
+        ensures { OnOk result ((h w : Types)
+            → NoteBoth (comparison_of h w what) self.old self.new number) }
     {
-        let mut pairs = Pairs::new(alloc);
-        for (place, each) in all.iter().enumerate() {
-            pairs.note_world(each.what, place)?;
-        }
-        Ok(pairs)
+        self.have.note_have(what, number)?;
+        self.world.note_world(what, number)
     }
 }
 

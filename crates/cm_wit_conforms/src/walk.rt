@@ -1,219 +1,177 @@
 //! All that is compared, in order.
 
-ghost use Rattle.std.specs.Prelude.{◌≡◌, ◌++◌, IfOk, OnOk, Some, map};
-ghost use Rattle.std.specs.Option.{option_map};
-ghost use Rattle.cm_types_arena.specs.Places.{funcs_of, types_of};
+ghost use Rattle.std.specs.Prelude.{◌≡◌, ◌+◌, ◌++◌, ◌∷◌, ◌<◌, ◌^◌, [], List, OnOk, length, map};
 ghost use Rattle.cm_types_arena.specs.declared.types.Types.{Types};
-ghost use Rattle.cm_types_placed.specs.Instances.{desc_of};
-ghost use Rattle.cm_types_signatures.specs.Listed.{brought_items, desc_in, externs_listed};
-ghost use Rattle.cm_types_signatures.specs.Signatures.{signature_of};
+ghost use Rattle.cm_types_signatures.specs.Listed.{items_listed};
 ghost use Rattle.cm_wit_conforms.specs.Comparisons as all;
-ghost use Rattle.cm_wit_conforms.specs.Comparisons.{entries_from, extern_entries, facing};
-ghost use Rattle.cm_wit_conforms.specs.Comparisons.{item_entries, or_nothing, two_items};
-ghost use Rattle.cm_wit_conforms.specs.Views.{brought_desc, comparison_of, entry_of, extern_found};
-ghost use Rattle.cm_wit_conforms.specs.Views.{entries_at, entries_of, item_found, item_stands};
-ghost use Rattle.cm_wit_conforms.specs.Views.{other, own};
-ghost use Rattle.cm_wit_lookups.specs.Places.{extern_names, item_names, place_in};
+ghost use Rattle.cm_wit_conforms.specs.Comparisons.{Entry};
+ghost use Rattle.cm_wit_conforms.specs.Pairs.{HaveBoth};
+ghost use Rattle.cm_wit_conforms.specs.Views.{comparison_of, entry_of};
+ghost use Rattle.cm_wit_conforms.specs.Walks.{IsJudged, IsKnownBy, facing_entries};
+ghost use Rattle.cm_wit_lookups.specs.Known.{AreMet};
+ghost use Rattle.cm_wit_lookups.specs.Places.{item_names, place_in};
 
-use crate::comparisons::{Comparison, PlacedComparison, facing_funcs, facing_items};
+use crate::comparisons::{Comparison, PlacedComparison};
+use crate::facing::{Facing, compared_at};
 use crate::fault::{ConformItem, ConformList};
-use cm_types_placed::ItemDesc;
-use cm_types_resources::Move;
-use cm_types_signatures::{Desc, Externs, Items, NamedDesc, NamedItem, Signature};
-use cm_wit_lookups::{extern_places, item_places};
+use crate::judged::Judged;
+use crate::pairs::BothPairs;
+use cm_wit_lookups::{KnownItems, Meeting};
 use std::alloc::{AllocError, Global};
 
-/// What the item is that stands at a place, if one does.
-fn item_found(others: Items<'_>, place: Option<usize>) -> Option<ItemDesc>
-    ensures { (t : Types) → option_map (desc_of (types_of t) (funcs_of t)) result
-        ≡ item_stands t others.entry place }
-{
-    let item = others.at(place?)?;
-    Some(item.desc)
-}
-
-/// An item against the one that stands at a place, if one does.
-fn compared_item(
-    list: ConformList,
-    item: ItemDesc,
-    by: Option<Move>,
-    others: Items<'_>,
-    place: Option<usize>,
-) -> Comparison
-    ensures { (h w : Types) → comparison_of h w result ≡ or_nothing
-        (option_map (facing two_items list (brought_desc (own list h w) by item))
-        (item_found (other list h w) others.entry place)) }
-{
-    match item_found(others, place) {
-        Some(found) => facing_items(list, item, by, found, others.by()),
-        None => Comparison::Nothing,
-    }
-}
-
-/// Adds the item at a place of an instance against the one of another that stands at a place, if
-/// one does.
-fn add_item(
-    out: &mut Vec<PlacedComparison>,
-    at: ConformItem,
-    item: Option<NamedItem<'_>>,
-    by: Option<Move>,
-    others: Items<'_>,
-    found: Option<usize>,
+/// Judges the items of an instance, each against the other of its name, until one finds nothing.
+fn judge_met(
+    judged: &mut Judged,
+    facing: Facing<'_>,
+    meeting: &Meeting<'_>,
 ) -> Result<(), AllocError>
-    ensures { OnOk result ((h w : Types) → map (entry_of h w) out.new.items
-        ≡ map (entry_of h w) out.old.items
-        ++ entries_at at (other at.list h w) others.entry found
-        (option_map (λ i. brought_desc (own at.list h w) by i.desc) item.entry)) }
+    requires { (t u : Types) → AreMet (item_names t facing.items)
+        (item_names u facing.others) meeting.now }
+    ensures { OnOk result ((h w : Types) (es : List Entry) → IsJudged h w es judged.old
+        → IsJudged h w (es ++ facing_entries h w facing.entry) judged.new) }
 {
-    if let Some(item) = item {
-        let what = compared_item(at.list, item.desc, by, others, found);
-        out.push(PlacedComparison { item: at, what })?;
+    for number in 0..facing.items.len() {
+        if !judged.found {
+            return Ok(());
+        }
+        if let Some(each) = compared_at(facing, number, meeting.at(number)) {
+            judged.add(each)?;
+        }
     }
     Ok(())
 }
 
-/// Adds the items of an instance against those of another, where the items of one name stand at
-/// these places.
-fn add_items(
-    out: &mut Vec<PlacedComparison>,
-    list: ConformList,
-    place: usize,
-    items: Items<'_>,
-    others: Items<'_>,
-    places: &[Option<usize>],
+/// Takes note of the pairs that the items of an instance make, which are counted from `count` on.
+/// Only those of which the other instance has one can make any.
+fn note_met(
+    pairs: &mut BothPairs,
+    count: usize,
+    facing: Facing<'_>,
+    meeting: &Meeting<'_>,
 ) -> Result<(), AllocError>
-    requires { (t u : Types)
-        → places.now ≡ map (place_in (item_names u others)) (item_names t items) }
-    ensures { OnOk result ((h w : Types) → map (entry_of h w) out.new.items
-        ≡ map (entry_of h w) out.old.items ++ item_entries list place
-        (brought_items (other list h w) others.entry) 0
-        (brought_items (own list h w) items.entry)) }
+    requires met { (t u : Types) → AreMet (item_names t facing.items)
+        (item_names u facing.others) meeting.now }
+    requires room { (t : Types)
+        → count + length (items_listed t facing.items) < 2 ^ 64 }
+    ensures { OnOk result ((h w : Types) (es : List Entry) → count ≡ length es
+        → HaveBoth es pairs.old → HaveBoth (es ++ facing_entries h w facing.entry) pairs.new) }
 {
-    for (n, found) in places.iter().enumerate() {
-        let at = ConformItem {
+    for place in meeting.places() {
+        if let Some(each) = compared_at(facing, *place, meeting.at(*place)) {
+            pairs.note(each.what, count + *place)?;
+        }
+    }
+    Ok(())
+}
+
+/// What is kept of all that is compared: what is judged of it, the pairs of resources, and how many
+/// comparisons there are.
+#[derive(Drop)]
+pub(crate) struct Walk {
+    pub(crate) judged: Judged,
+    pub(crate) pairs: BothPairs,
+    count: usize,
+}
+
+impl Walk {
+    ghost use Rattle.cm_wit_conforms.specs.Walks.{IsWalked};
+
+    /// Nothing is compared yet.
+    pub(crate) fn new(alloc: Global) -> Walk
+        ensures { (h w : Types) → IsWalked h w [] result }
+    {
+        Walk {
+            judged: Judged::new(alloc),
+            pairs: BothPairs::new(alloc),
+            count: 0,
+        }
+    }
+
+    /// Adds a comparison.
+    fn add(&mut self, each: PlacedComparison) -> Result<(), AllocError>
+        ensures { OnOk result ((h w : Types) (es : List Entry) → IsWalked h w es self.old
+            → IsWalked h w (es ++ entry_of h w each ∷ []) self.new) }
+    {
+        let count = self.count.checked_add(1).ok_or(AllocError)?;
+        self.judged.add(each)?;
+        self.pairs.note(each.what, self.count)?;
+        self.count = count;
+        Ok(())
+    }
+
+    /// Adds an import or export as a whole.
+    pub(crate) fn add_whole(
+        &mut self,
+        list: ConformList,
+        place: usize,
+        what: Comparison,
+    ) -> Result<(), AllocError>
+        ensures { OnOk result ((h w : Types) (es : List Entry) → IsWalked h w es self.old
+            → IsWalked h w (es ++ all.whole list place (comparison_of h w what)) self.new) }
+    {
+        let item = ConformItem {
             list,
             place,
-            item: Some(n),
+            item: None,
         };
-        add_item(out, at, items.at(n), items.by(), others, *found)?;
+        self.add(PlacedComparison { item, what })
     }
-    Ok(())
-}
 
-/// Adds an import or export as a whole.
-fn add_whole(
-    out: &mut Vec<PlacedComparison>,
-    list: ConformList,
-    place: usize,
-    what: Comparison,
-) -> Result<(), AllocError>
-    ensures { OnOk result ((h w : Types) → map (entry_of h w) out.new.items
-        ≡ map (entry_of h w) out.old.items ++ all.whole list place (comparison_of h w what)) }
-{
-    let item = ConformItem {
-        list,
-        place,
-        item: None,
-    };
-    out.push(PlacedComparison { item, what })?;
-    Ok(())
-}
-
-/// Adds an import or export against the one of its name.
-fn add_extern(
-    alloc: Global,
-    out: &mut Vec<PlacedComparison>,
-    list: ConformList,
-    place: usize,
-    desc: Desc<'_>,
-    found: Desc<'_>,
-) -> Result<(), AllocError>
-    ensures { OnOk result ((h w : Types) → map (entry_of h w) out.new.items
-        ≡ map (entry_of h w) out.old.items ++ extern_entries list place
-        (Some (desc_in (other list h w) found.entry)) (desc_in (own list h w) desc.entry)) }
-{
-    match (found, desc) {
-        (Desc::Func(g), Desc::Func(f)) => add_whole(out, list, place, facing_funcs(list, f, g)),
-        (Desc::Instance(others), Desc::Instance(items)) => {
-            let places = item_places(alloc, items, others)?;
-            add_items(out, list, place, items, others, &places)
+    /// Adds the items of an instance of the world's, each against that of its name, which stands at
+    /// the place that is given.
+    fn add_placed(&mut self, facing: Facing<'_>, places: &[Option<usize>]) -> Result<(), AllocError>
+        requires { (t u : Types) → places.now ≡ map (place_in
+            (item_names u facing.others)) (item_names t facing.items) }
+        ensures { OnOk result ((h w : Types) (es : List Entry) → IsWalked h w es self.old
+            → IsWalked h w (es ++ facing_entries h w facing.entry) self.new) }
+    {
+        for (number, found) in places.iter().enumerate() {
+            if let Some(each) = compared_at(facing, number, *found) {
+                self.add(each)?;
+            }
         }
-        (Desc::Func(_), Desc::Instance(_)) => add_whole(out, list, place, Comparison::Sorts),
-        (Desc::Instance(_), Desc::Func(_)) => add_whole(out, list, place, Comparison::Sorts),
+        Ok(())
     }
-}
 
-/// What the import or export is that stands at a place, if one does.
-fn extern_found(others: &Externs, place: Option<usize>) -> Option<Desc<'_>>
-    ensures { (t : Types) → option_map (desc_in t) result ≡ extern_found t others.now place }
-{
-    let each = others.at(place?)?;
-    Some(each.desc)
-}
-
-/// Adds an import or export, if there is one, against the one that stands at a place, if one does.
-fn add_compared(
-    alloc: Global,
-    out: &mut Vec<PlacedComparison>,
-    list: ConformList,
-    place: usize,
-    each: Option<NamedDesc<'_>>,
-    found: Option<Desc<'_>>,
-) -> Result<(), AllocError>
-    ensures { OnOk result ((h w : Types) → map (entry_of h w) out.new.items
-        ≡ map (entry_of h w) out.old.items ++ entries_of list place
-        (option_map (desc_in (other list h w)) found.entry)
-        (option_map (λ e. desc_in (own list h w) e.desc) each.entry)) }
-{
-    match (each, found) {
-        (Some(each), Some(found)) => add_extern(alloc, out, list, place, each.desc, found),
-        (Some(_), None) => add_whole(out, list, place, Comparison::Nothing),
-        (None, _) => Ok(()),
+    /// Adds the items of an instance of the signature's, of which those are gone through alone that
+    /// are judged, and those of which the world has one.
+    fn add_met(&mut self, facing: Facing<'_>, meeting: &Meeting<'_>) -> Result<(), AllocError>
+        requires { (t u : Types) → AreMet (item_names t facing.items)
+            (item_names u facing.others) meeting.now }
+        ensures { OnOk result ((h w : Types) (es : List Entry) → IsWalked h w es self.old
+            → IsWalked h w (es ++ facing_entries h w facing.entry) self.new) }
+    {
+        let count = self
+            .count
+            .checked_add(facing.items.len())
+            .ok_or(AllocError)?;
+        judge_met(&mut self.judged, facing, meeting)?;
+        note_met(&mut self.pairs, self.count, facing, meeting)?;
+        self.count = count;
+        Ok(())
     }
-}
 
-/// Adds imports or exports against those of another list, where those of one name stand at these
-/// places.
-fn add_externs(
-    alloc: Global,
-    out: &mut Vec<PlacedComparison>,
-    list: ConformList,
-    externs: &Externs,
-    others: &Externs,
-    places: &[Option<usize>],
-) -> Result<(), AllocError>
-    requires { (t u : Types) → places.now
-        ≡ map (place_in (extern_names u others.now)) (extern_names t externs.now) }
-    ensures { OnOk result ((h w : Types) → map (entry_of h w) out.new.items
-        ≡ map (entry_of h w) out.old.items
-        ++ entries_from list (externs_listed (other list h w) others.now) 0
-        (externs_listed (own list h w) externs.now)) }
-{
-    for (place, found) in places.iter().enumerate() {
-        let found = extern_found(others, *found);
-        add_compared(alloc, out, list, place, externs.at(place), found)?;
+    /// Adds the items of an instance against those of another, where those of the signature's are
+    /// known.
+    pub(crate) fn add_items(
+        &mut self,
+        alloc: Global,
+        facing: Facing<'_>,
+        known: &KnownItems<'_>,
+    ) -> Result<(), AllocError>
+        requires { IsKnownBy facing known.now }
+        ensures { OnOk result ((h w : Types) (es : List Entry) → IsWalked h w es self.old
+            → IsWalked h w (es ++ facing_entries h w facing.entry) self.new) }
+    {
+        match facing.list {
+            ConformList::WorldExports => {
+                let places = known.places(alloc, facing.items)?;
+                self.add_placed(facing, &places)
+            }
+            ConformList::HaveImports => {
+                let meeting = known.meet(alloc, facing.others)?;
+                self.add_met(facing, &meeting)
+            }
+        }
     }
-    Ok(())
-}
-
-/// All that is compared: the exports of the world in its order, then the imports of the signature
-/// in its own. Refused only where there is no memory.
-pub(crate) fn entries(
-    alloc: Global,
-    have: &Signature,
-    world: &Signature,
-) -> Result<Vec<PlacedComparison>, AllocError>
-    ensures { IfOk result (λ v. map (entry_of have.now.types world.now.types) v.items
-        ≡ all.entries (signature_of have.now) (signature_of world.now)) }
-{
-    let mut out = Vec::new(alloc);
-    let (exports, had) = (world.exports(), have.exports());
-    let places = extern_places(alloc, exports, had)?;
-    let list = ConformList::WorldExports;
-    add_externs(alloc, &mut out, list, exports, had, &places)?;
-    let (imports, allowed) = (have.imports(), world.imports());
-    let places = extern_places(alloc, imports, allowed)?;
-    let list = ConformList::HaveImports;
-    add_externs(alloc, &mut out, list, imports, allowed, &places)?;
-    Ok(out)
 }
