@@ -68,16 +68,17 @@ pub record AreShown (t : List Ty) (f : List FuncTy) (s : Spaces) (es : List Exte
   pub are : map (extern_of t f) es ≡ map exported_extern s.exports
   pub there : list_all (λ (e : Extern). is_extern_there (length t) (length f) e.desc) es ≡ true
 
-pub shown_in : (t u : List Ty) (f g : List FuncTy) (c d : List SectionTree) (w : Shared) (xs ys : List ExportEntry) (es : List Extern) → t ≡ u → f ≡ g → c ≡ d → xs ≡ ys
+pub shared_in : (c d : List SectionTree) (w : Shared) → c ≡ d → (IsValid c → AreShared (spaces_of c) w) → IsValid d → AreShared (spaces_of d) w
+shared_in c d w same shared valid = subst (λ (a : List SectionTree). AreShared (spaces_of a) w) same (shared (subst IsValid (sym same) valid))
+
+pub shown_in : (t u : List Ty) (f g : List FuncTy) (s : Spaces) (w : Shared) (xs ys : List ExportEntry) (es : List Extern) → t ≡ u → f ≡ g → xs ≡ ys
     → ((types : List Ty) (funcs : List FuncTy) (s : Spaces) → AreShared s w → AreExportsOf types funcs s xs → AreExternsOf types funcs xs es)
-    → (IsValid c → AreShared (spaces_of c) w) → IsValid d
-    → (spaces_of d).exports ≡ map (export_def u g) ys → list_all (λ (x : ExportEntry). is_exported_there (length u) (length g) x.def) ys ≡ true → AreShown t f (spaces_of d) es
-shown_in t u f g c d w xs ys es types funcs sections exports shown shared valid are there =
-    let same : (spaces_of d).exports ≡ map (export_def u g) xs = are ∙ ap (map (export_def u g)) (sym exports) in
-    let numbered : AreShared (spaces_of d) w = subst (λ (a : List SectionTree). AreShared (spaces_of a) w) sections (shared (subst IsValid (sym sections) valid)) in
-    let h = shown u g (spaces_of d) numbered (record { are = same; there = ap (list_all (λ (x : ExportEntry). is_exported_there (length u) (length g) x.def)) exports ∙ there }) in
-    subst (λ (v : List Ty). AreShown v f (spaces_of d) es) (sym types)
-    (subst (λ (v : List FuncTy). AreShown u v (spaces_of d) es) (sym funcs)
+    → AreShared s w → s.exports ≡ map (export_def u g) ys → list_all (λ (x : ExportEntry). is_exported_there (length u) (length g) x.def) ys ≡ true → AreShown t f s es
+shown_in t u f g s w xs ys es types funcs exports shown shared are there =
+    let same : s.exports ≡ map (export_def u g) xs = are ∙ ap (map (export_def u g)) (sym exports) in
+    let h = shown u g s shared (record { are = same; there = ap (list_all (λ (x : ExportEntry). is_exported_there (length u) (length g) x.def)) exports ∙ there }) in
+    subst (λ (v : List Ty). AreShown v f s es) (sym types)
+    (subst (λ (v : List FuncTy). AreShown u v s es) (sym funcs)
     (record { are = h.are ∙ ap (map exported_extern) (sym same); there = h.there }))
 
 pub imports_there : (t u : List Ty) (f g : List FuncTy) (es : List Extern) → t ≡ u → f ≡ g

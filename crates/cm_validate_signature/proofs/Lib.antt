@@ -1,3 +1,4 @@
 pub mod ItemLaws
 pub mod MadeLaws
 pub mod ExternLaws
+pub mod NumberLaws

@@ -4,6 +4,7 @@
 mod externs;
 mod items;
 mod made;
+mod numbers;
 mod signatures;
 
 pub use cm_validate_spaces::{Checked, ValidFault, ValidReason, validate};

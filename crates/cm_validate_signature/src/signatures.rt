@@ -6,7 +6,8 @@ ghost use Rattle.cm_validate_spaces.specs.Checked.{spaces_in};
 ghost use Rattle.cm_validate_signature.specs.Exports.{signature_in};
 
 use crate::externs::exported_externs;
-use cm_types_signatures::{Externs, Signature};
+use crate::numbers::{export_numbers, import_numbers};
+use cm_types_signatures::{Externs, NumberedExterns, Signature};
 use cm_validate_items::Shared;
 use cm_validate_spaces::{Checked, ComponentExterns};
 use std::alloc::{AllocError, Global};
@@ -16,7 +17,8 @@ use std::alloc::{AllocError, Global};
 /// `AllocError` comes where there is no memory.
 ///
 /// The items of an instance are made once, however many exports are that instance: these share
-/// them.
+/// them, and have one number. Imports that are instances of one type have one number too: so what
+/// is made of the names of their items is made once.
 pub fn signature(alloc: Global, checked: Checked<'_>) -> Result<Signature, AllocError>
     ensures { IfOk result (λ s. signature_of s ≡ signature_in (spaces_in checked.entry)) }
 {
@@ -27,9 +29,11 @@ pub fn signature(alloc: Global, checked: Checked<'_>) -> Result<Signature, Alloc
         exports,
     } = checked.into_externs();
     let exports = exported_externs(alloc, &shared, &exports)?;
+    let imported = import_numbers(alloc, &shared, imports.len())?;
+    let exported = export_numbers(alloc, &shared, exports.len())?;
     Ok(Signature::new(
         types,
-        Externs::OfComponent(imports),
-        Externs::OfComponent(exports),
+        Externs::OfComponent(NumberedExterns::new(imports, imported)),
+        Externs::OfComponent(NumberedExterns::new(exports, exported)),
     ))
 }
