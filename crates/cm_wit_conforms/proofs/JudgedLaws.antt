@@ -1,11 +1,12 @@
 -- What is judged: the entries up to the first that finds nothing.
-use Rattle.std.proofs.Common.{◌≡◌, ◌&&◌, ℕ, Bool, true, false, if◌then◌else◌, List, [], ◌∷◌, ◌++◌, inl, inr, refl, sym, ap, subst, ◌∙◌, append_assoc}
-use Rattle.std.specs.List.{AllByRecursion}
+use Rattle.std.proofs.Common.{◌≡◌, ◌&&◌, Bool, true, false, if◌then◌else◌, List, [], ◌∷◌, ◌++◌, inl, inr, refl, sym, ap, subst, ◌∙◌, append_assoc}
 use Rattle.std.proofs.lemmas.Bool.{cases_Bool}
 use Rattle.std.proofs.lemmas.List.Folds.{list_all-append}
 use Rattle.cm_wit_conforms.specs.Comparisons.{Comparison, nothing, two_sorts, two_funcs, two_types, two_resources, Entry}
 use Rattle.cm_wit_conforms.specs.Conformance.{AllFit, Fits, IsFirstIn}
-use Rattle.cm_wit_conforms.specs.Walks.{are_found, is_found, judged}
+use Rattle.cm_types_arena.specs.declared.types.Types.{Types}
+use Rattle.cm_wit_conforms.specs.Walks.{IsJudged, are_found, is_found, judged}
+use Rattle.cm_wit_conforms.specs.declared.judged.Judged.{Judged}
 use Rattle.cm_wit_conforms.specs.declared.fault.ConformItem.{ConformItem}
 use Rattle.cm_wit_conforms.specs.declared.fault.ConformReason.{ConformReason}
 
@@ -99,3 +100,9 @@ first_judged all es item r f =
       place = f.place;
       reason = f.reason;
     }
+
+-- behind what finds nothing, nothing is judged
+pub judged_end : (h w : Types) (xs ys : List Entry) (j : Judged) → j.found ≡ false → IsJudged h w xs j → IsJudged h w (xs ++ ys) j
+judged_end h w xs ys j stops is =
+    let found : are_found xs ≡ false = sym is.found ∙ stops in
+    record { entries = is.entries ∙ sym (judged_still xs ys found); found = stops ∙ sym (found_not xs ys found) }

@@ -1,5 +1,5 @@
 -- What is kept of one more number.
-use Rattle.std.proofs.Common.{◌≡◌, ℕ, Bool, true, cond, List, inl, inr, Option, Some, refl, sym, ap, subst, ◌∙◌, rules}
+use Rattle.std.proofs.Common.{◌≡◌, ℕ, Bool, true, cond, List, inl, inr, Option, Some, sym, ap, subst, ◌∙◌, rules}
 use Rattle.std.specs.BTreeMap.{get}
 use Rattle.std.specs.Ordering.{is_eq, nat_cmp}
 use Rattle.std.proofs.lemmas.Bool.{cases_Bool}

@@ -1,5 +1,5 @@
 -- Pairs that are noted in any order: each resource has the least number of those that meet it.
-use Rattle.std.proofs.Common.{◌≡◌, nat_le, ℕ, zero, suc, ◌+◌, ◌-◌, ◌<◌, ◌≤◌, Bool, true, false, cond, if◌then◌else◌, List, [], ◌∷◌, ◌++◌, ◌⊎◌, length, inl, inr, Option, Some, None, refl, sym, ap, subst, ◌∙◌, arith}
+use Rattle.std.proofs.Common.{◌≡◌, nat_le, ℕ, suc, ◌+◌, ◌-◌, ◌<◌, ◌≤◌, Bool, true, false, if◌then◌else◌, List, [], ◌∷◌, ◌++◌, ◌⊎◌, length, inl, inr, Option, Some, None, refl, sym, ap, ◌∙◌, arith}
 use Rattle.std.specs.List.{position_from, slice_get}
 use Rattle.std.proofs.lemmas.Bool.{cases_Bool}
 use Rattle.std.proofs.lemmas.Bool.Decides.{nat_tests}
@@ -12,7 +12,7 @@ use Rattle.cm_wit_conforms.specs.Pairs.{HasPairs, HaveBoth, NoteBoth, Notes, les
 use Rattle.cm_wit_conforms.specs.Walks.{is_found}
 use Rattle.cm_wit_conforms.specs.declared.pairs.BothPairs.{BothPairs}
 use Rattle.cm_wit_conforms.specs.declared.pairs.Pairs.{Pairs}
-use Rattle.cm_wit_conforms.proofs.SearchLaws.{IsFirst, first_found, found_behind, found_still, get_back, get_front, get_within, none_found}
+use Rattle.cm_wit_conforms.proofs.SearchLaws.{first_found, found_behind, found_still, get_back, get_front, get_within, none_found}
 
 -- ---- the lesser of two
 
@@ -43,9 +43,9 @@ lesser_low (Some a) false m n e = (a, refl, (let f : Some a ≡ Some n → a ≡
 lesser_low (Some a) true m n e =
     let is : a ≡ n = (let f : Some a ≡ Some n → a ≡ n = λ e. cc in f e) in
     elim (cases_Bool (nat_le a m)) [
-  | inl y ↦ (a, ap (λ (t : Bool). let o : Option ℕ = Some (if t then a else m) in o) y, omega (arith, is))
-  | inr fails ↦ (m, ap (λ (t : Bool). let o : Option ℕ = Some (if t then a else m) in o) fails, (let gt : m < a = grind (arith, nat_tests, fails) in omega (arith, is, gt)))
-]
+      | inl y ↦ (a, ap (λ (t : Bool). let o : Option ℕ = Some (if t then a else m) in o) y, omega (arith, is))
+      | inr fails ↦ (m, ap (λ (t : Bool). let o : Option ℕ = Some (if t then a else m) in o) fails, (let gt : m < a = grind (arith, nat_tests, fails) in omega (arith, is, gt)))
+    ]
 
 lesser_here : (o : Option ℕ) (b : Bool) (m : ℕ) → b ≡ true → (k : ℕ) × (lesser o (if b then Some m else None) ≡ Some k) × (k ≤ m)
 lesser_here None true m e = (m, refl, omega arith)
@@ -114,6 +114,7 @@ module _ {E : Type 0} (meets : ResourceId → E → Bool) (es added : List E) (p
     where
       none_some : (e : E) → (let o : Option E = None in o) ≡ Some e → ⊥
       none_some e h = cc
+
       one_place : (p q : ℕ) → Some p ≡ Some q → p ≡ q
       one_place p q h = cc
 
@@ -236,6 +237,7 @@ module _ (es added : List Entry) (places : List ℕ) where
       met_world r (two_funcs f g) h = refl
       met_world r (two_types x y) h = refl
       met_world r (two_resources a b) h = refl
+
       met_have : (r : ResourceId) (what : Comparison) → meets_have r what ≡ true → is_found what ≡ true
       met_have r nothing h = absurd cc
       met_have r two_sorts h = refl

@@ -1,25 +1,27 @@
 -- What is compared of items, imports and exports whose counterparts stand at places.
-use Rattle.std.proofs.Common.{◌≡◌, ℕ, zero, suc, ◌+◌, ◌<◌, List, [], ◌∷◌, length, map, get_or, Option, Some, None, refl, sym, ap, subst, ◌∙◌, arith}
+use Rattle.std.proofs.Common.{◌≡◌, ℕ, zero, suc, ◌+◌, ◌<◌, true, false, List, [], ◌∷◌, length, map, get_or, Option, Some, None, refl, sym, ap, subst, ◌∙◌, arith}
 use Rattle.std.specs.List.{slice_get}
 use Rattle.std.specs.Option.{option_and_then, option_map}
-use Rattle.cm_types.specs.Signatures.{ExternTy, ItemTy, NamedExtern, NamedItem}
+use Rattle.cm_types.specs.Signatures.{ItemTy, NamedExtern, NamedItem}
 use Rattle.cm_types_arena.specs.declared.types.Types.{Types}
-use Rattle.cm_types_resources.specs.declared.moves.Move.{Move}
 use Rattle.cm_types_placed.specs.Instances.{replaced_desc, replaced_item}
 use Rattle.cm_types_placed.specs.Placed.{moved_by}
-use Rattle.cm_types_signatures.specs.Listed.{brought_items, by_of, desc_in, extern_in, externs_listed, item_in, items_listed}
-use Rattle.cm_types_signatures.specs.declared.externs.Desc.{Desc}
+use Rattle.cm_types_signatures.specs.Listed.{brought_items, by_of, desc_in, externs_listed, item_in, items_listed, names_of_desc}
 use Rattle.cm_types_signatures.specs.declared.externs.Externs.{Externs}
 use Rattle.cm_types_signatures.specs.declared.externs.Items.{Items}
-use Rattle.cm_types_signatures.specs.declared.externs.NamedDesc as code_desc
 use Rattle.cm_types_signatures.specs.declared.externs.NamedItem as code_item
+use Rattle.std.proofs.lemmas.List.{length-map}
+use Rattle.cm_types_signatures.specs.declared.externs.Desc.TheVariants as is_desc
+use Rattle.cm_wit_lookups.specs.Known.{AreMet, StandsIn, found_at, places_in}
 use Rattle.cm_wit_lookups.specs.Places.{extern_names, item_names, place_in}
-use Rattle.cm_wit_conforms.specs.Comparisons.{Entry, extern_entries, extern_named, facing, item_comparison, item_entries, item_entry, item_named, or_nothing, two_items}
-use Rattle.cm_wit_conforms.specs.Views.{entries_of, extern_found, item_found}
+use Rattle.cm_wit_lookups.specs.declared.known.Meeting.{Meeting}
+use Rattle.cm_wit_conforms.specs.Walks.{is_found, of_signature}
+use Rattle.cm_wit_conforms.specs.declared.fault.ConformList.TheVariants as walked
+use Rattle.cm_wit_conforms.specs.Comparisons.{Entry, extern_named, facing, item_comparison, item_entries, item_entry, item_named, or_nothing, two_items}
+use Rattle.cm_wit_conforms.specs.Views.{extern_found, item_found}
 use Rattle.std.proofs.lemmas.Option.{slice_get-map}
-use Rattle.cm_wit_conforms.specs.declared.fault.ConformItem.{ConformItem}
 use Rattle.cm_wit_conforms.specs.declared.fault.ConformList.{ConformList}
-use Rattle.cm_wit_conforms.proofs.WalkLaws.{named_placed, place_at}
+use Rattle.cm_wit_conforms.proofs.WalkLaws.{named_placed}
 
 fused : {A B C : Type 0} (f : A → B) (g : B → C) (o : Option A) → option_map g (option_map f o) ≡ option_map (λ x. g (f x)) o
 fused f g None = refl
@@ -69,6 +71,43 @@ compared_so mine theirs list place n items others found at is there =
     sym (fused (item_in mine) (found_entry theirs list place n items others found) at)
     ∙ (ap (option_map (found_entry theirs list place n items others found)) there ∙ sym (compared_there mine theirs list place n items others found is))
 
+-- as many are compared as there are items
+pub entries_long : (mine theirs : Types) (list : ConformList) (place : ℕ) (items others : Items) → length (item_entries list place (brought_items theirs others) 0 (brought_items mine items)) ≡ length (items_listed mine items)
+entries_long mine theirs list place items others = long 0 (brought_items mine items) ∙ length-map (items_listed mine items) (replaced_item (moved_by (by_of items)))
+  where
+    long : (i : ℕ) (xs : List NamedItem) → length (item_entries list place (brought_items theirs others) i xs) ≡ length xs
+    long i [] = refl
+    long i (x ∷ xs) = ap suc (long (i + 1) xs)
+
+-- the place of a name is what was found for it
+pub placed_found : (texts others : List (List ℕ)) (places : List (Option ℕ)) (n : ℕ) → n < length places → places ≡ map (place_in others) texts → get_or places n None ≡ option_and_then (place_in others) (slice_get texts n)
+placed_found texts others places n lt is =
+    ap (λ (l : List (Option ℕ)). get_or l n None) is ∙ each texts n (subst (λ (l : List (Option ℕ)). n < length l) is lt)
+  where
+    each : (texts : List (List ℕ)) (n : ℕ) → n < length (map (place_in others) texts) → get_or (map (place_in others) texts) n None ≡ option_and_then (place_in others) (slice_get texts n)
+    each [] n lt = absurd (omega (arith, lt))
+    each (x ∷ xs) zero lt = refl
+    each (x ∷ xs) (suc n) lt = each xs n (omega (arith, lt))
+
+-- an item of which something is found stands among the places
+pub found_covered : (mine theirs : Types) (list : ConformList) (place : ℕ) (items others : Items) (m : Meeting) → AreMet (item_names mine items) (item_names theirs others) m → (p : ℕ) (e : Entry) → slice_get (item_entries list place (brought_items theirs others) 0 (brought_items mine items)) p ≡ Some e → is_found e.what ≡ true → StandsIn p (places_in m)
+found_covered mine theirs list place items others m met p e here found =
+    by_found (found_at m p) refl (sym (compared_there mine theirs list place p items others (found_at m p) (met.found p)) ∙ here)
+  where
+    missing : (o : Option NamedItem) → option_map (found_entry theirs list place p items others None) o ≡ Some e → is_found e.what ≡ true → ⊥
+    missing None is f = absurd cc
+    missing (Some x) is f = not_found (ap (λ (y : Entry). is_found y.what) (one_entry (found_entry theirs list place p items others None x) e is) ∙ f)
+      where
+        one_entry : (x y : Entry) → Some x ≡ Some y → x ≡ y
+        one_entry x y h = cc
+
+        not_found : false ≡ true → ⊥
+        not_found h = cc
+
+    by_found : (o : Option ℕ) → found_at m p ≡ o → option_map (found_entry theirs list place p items others (found_at m p)) (slice_get (items_listed mine items) p) ≡ Some e → StandsIn p (places_in m)
+    by_found None is at = absurd (missing (slice_get (items_listed mine items) p) (sym (ap (λ (o : Option ℕ). option_map (found_entry theirs list place p items others o) (slice_get (items_listed mine items) p)) is) ∙ at) found)
+    by_found (Some n) is at = met.among p n is
+
 -- the names of the items of an instance
 pub names_brought : (t : Types) (items : Items) → map (λ i. i.name) (brought_items t items) ≡ item_names t items
 names_brought t items = same (items_listed t items)
@@ -86,3 +125,8 @@ extern_there t others name =
     same : (xs : List NamedExtern) → map (λ x. x) xs ≡ xs
     same [] = refl
     same (x ∷ xs) = ap (λ (l : List NamedExtern). x ∷ l) (same xs)
+
+-- of two instances, the names of that which is the signature's
+pub names_of_two : (t : Types) (list : ConformList) (items others : Items) → names_of_desc (desc_in t (of_signature list (is_desc.Instance items) (is_desc.Instance others))) ≡ item_names t (of_signature list items others)
+names_of_two t walked.WorldExports items others = names_brought t others
+names_of_two t walked.HaveImports items others = names_brought t items

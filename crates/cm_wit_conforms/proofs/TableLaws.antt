@@ -1,14 +1,12 @@
 -- Tables of pairs, made entry by entry.
-use Rattle.std.proofs.Common.{◌≡◌, ◌==◌, ◌&&◌, ℕ, ◌+◌, ◌<◌, ◌≤◌, Bool, true, false, cond, if◌then◌else◌, List, ◌∷◌, length, map, drop, get_or, inl, inr, Option, Some, None, refl, sym, ap, ◌∙◌, arith, rules}
+use Rattle.std.proofs.Common.{◌≡◌, ◌==◌, ◌&&◌, ℕ, Bool, true, false, cond, if◌then◌else◌, inl, inr, Option, Some, None, refl, sym, ap, ◌∙◌, arith, rules}
 use Rattle.std.specs.BTreeMap.{get}
-use Rattle.std.specs.List.{position_from}
 use Rattle.std.specs.Ordering.{is_eq}
 use Rattle.std.specs.declared.cmp.Ordering.{Ordering}
 use Rattle.std.specs.declared.cmp.Ordering.TheVariants.{Less, Equal, Greater}
 use Rattle.std.specs.Prelude.{is_some, not}
 use Rattle.std.proofs.lemmas.Bool.{cases_Bool}
 use Rattle.std.proofs.lemmas.Bool.Decides.{nat_tests}
-use Rattle.std.proofs.lemmas.List.{drop_all, drop_more}
 use Rattle.cm_types.specs.Resources.{same_resource}
 use Rattle.cm_types.specs.declared.resource.ResourceId.{ResourceId}
 use Rattle.cm_wit_conforms.specs.declared.pairs.Pairs.{Pairs}

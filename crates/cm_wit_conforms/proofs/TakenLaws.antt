@@ -40,6 +40,21 @@ none_more {E} es xs n h = ap (λ (l : List E). es ++ l) (take_none xs n h)
 pub all_taken : {E : Type 0} (es xs : List E) (n : ℕ) → length xs ≤ n → es ++ take n xs ≡ es ++ xs
 all_taken {E} es xs n le = ap (λ (l : List E). es ++ l) (take_all n xs le)
 
+-- what holds of the first so many, with what was kept of them
+module _ {E S : Type 0} (P : List E → S → Type 0) (es all : List E) (n : ℕ) where
+  pub step_some : (e : E) (next was : S) → slice_get all n ≡ Some e → next ≡ was → P ((es ++ take n all) ++ e ∷ []) was → P (es ++ take (n + 1) all) next
+  step_some e next was here same h = subst (λ (s : S). P (es ++ take (n + 1) all) s) (sym same) (subst (λ (l : List E). P l was) (sym (one_more es all n e here)) h)
+
+  pub step_none : (next was : S) → slice_get all n ≡ None → next ≡ was → P (es ++ take n all) was → P (es ++ take (n + 1) all) next
+  step_none next was here same h = subst (λ (s : S). P (es ++ take (n + 1) all) s) (sym same) (subst (λ (l : List E). P l was) (sym (none_more es all n here)) h)
+
+  pub step_end : (last : S) → length all ≤ n → P (es ++ take n all) last → P (es ++ all) last
+  step_end last le h = subst (λ (l : List E). P l last) (all_taken es all n le) h
+
+-- what a comparison that is made says of the entry of its number
+pub entry_is : {A E : Type 0} (view : A → E) (result at : Option A) (found : Option E) → option_map view result ≡ found → result ≡ at → found ≡ option_map view at
+entry_is view result at found shown is = sym shown ∙ ap (option_map view) is
+
 -- ---- import by import
 
 entries_append : (list : ConformList) (others : List NamedExtern) (i : ℕ) (xs ys : List NamedExtern) → entries_from list others i (xs ++ ys) ≡ entries_from list others i xs ++ entries_from list others (i + length xs) ys

@@ -1,9 +1,10 @@
 //! Imports and exports that are gone through in order.
 
-ghost use Rattle.std.specs.Prelude.{◌≡◌, ◌++◌, [], List, IfOk, OnOk, map, slice_get};
+ghost use Rattle.std.specs.Prelude.{◌≡◌, ◌++◌, [], List, IfOk, IfSome, OnOk, map, slice_get};
 ghost use Rattle.std.specs.Option.{option_map};
 ghost use Rattle.cm_types_arena.specs.declared.types.Types.{Types};
-ghost use Rattle.cm_types_signatures.specs.Listed.{externs_listed, names_at};
+ghost use Rattle.cm_types_signatures.specs.Listed.{desc_in, externs_listed, names_at};
+ghost use Rattle.cm_types_signatures.specs.Listed.{names_of_desc};
 ghost use Rattle.cm_types_signatures.specs.Signatures.{signature_of};
 ghost use Rattle.cm_wit_conforms.specs.Comparisons as all;
 ghost use Rattle.cm_wit_conforms.specs.Comparisons.{Entry, entries_from};
@@ -83,10 +84,9 @@ fn add_instance<'a>(
         return walk.add_items(alloc, facing, &known);
     };
     kept.keep(alloc, have, place, number, items)?;
-    match kept.known(number) {
-        Some(known) => walk.add_items(alloc, facing, known),
-        None => Ok(()),
-    }
+    // It is kept now, so what is refused is memory.
+    let known = kept.known(number).ok_or(AllocError)?;
+    walk.add_items(alloc, facing, known)
 }
 
 /// Adds an import or export against the one of its name, where the signature's stands at a place of
@@ -127,6 +127,18 @@ fn add_two<'a>(
     }
 }
 
+/// The import or export that stands at a place that was found, if one does, and this place.
+fn found_extern(others: &Externs, found: Option<usize>) -> Option<(usize, Desc<'_>)>
+    ensures found { (t : Types)
+        → option_map (λ p. desc_in t p.1) result ≡ extern_found t others.now found }
+    ensures names { IfSome result (λ p. (t : Types)
+        → names_at t others.now p.0 ≡ names_of_desc (desc_in t p.1)) }
+{
+    let at = found?;
+    let other = others.at(at)?;
+    Some((at, other.desc))
+}
+
 /// Adds the import or export at a place, if there is one, against the other of its name, which
 /// stands at the place that was found, if one does.
 fn add_extern<'a>(
@@ -150,22 +162,20 @@ fn add_extern<'a>(
     let Some(each) = lists.own().at(place) else {
         return Ok(());
     };
-    if let Some(at) = found
-        && let Some(other) = lists.other().at(at)
-    {
-        let two = TwoDescs {
-            list,
-            place,
-            desc: each.desc,
-            found: other.desc,
-        };
-        let at = match list {
-            ConformList::WorldExports => at,
-            ConformList::HaveImports => place,
-        };
-        return add_two(alloc, walk, kept, lists.have, at, two);
-    }
-    walk.add_whole(list, place, Comparison::Nothing)
+    let Some((at, found)) = found_extern(lists.other(), found) else {
+        return walk.add_whole(list, place, Comparison::Nothing);
+    };
+    let two = TwoDescs {
+        list,
+        place,
+        desc: each.desc,
+        found,
+    };
+    let at = match list {
+        ConformList::WorldExports => at,
+        ConformList::HaveImports => place,
+    };
+    add_two(alloc, walk, kept, lists.have, at, two)
 }
 
 /// Adds the imports or exports of a list against those of another.

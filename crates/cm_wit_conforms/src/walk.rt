@@ -1,8 +1,7 @@
 //! All that is compared, in order.
 
-ghost use Rattle.std.specs.Prelude.{◌≡◌, ◌+◌, ◌++◌, ◌∷◌, ◌<◌, ◌^◌, [], List, OnOk, length, map};
+ghost use Rattle.std.specs.Prelude.{◌≡◌, ◌++◌, ◌∷◌, [], List, OnOk, length, map};
 ghost use Rattle.cm_types_arena.specs.declared.types.Types.{Types};
-ghost use Rattle.cm_types_signatures.specs.Listed.{items_listed};
 ghost use Rattle.cm_wit_conforms.specs.Comparisons as all;
 ghost use Rattle.cm_wit_conforms.specs.Comparisons.{Entry};
 ghost use Rattle.cm_wit_conforms.specs.Pairs.{HaveBoth};
@@ -49,16 +48,15 @@ fn note_met(
     facing: Facing<'_>,
     meeting: &Meeting<'_>,
 ) -> Result<(), AllocError>
-    requires met { (t u : Types) → AreMet (item_names t facing.items)
-        (item_names u facing.others) meeting.now }
-    requires room { (t : Types)
-        → count + length (items_listed t facing.items) < 2 ^ 64 }
+    requires { (t u : Types) → AreMet (item_names t facing.items) (item_names u facing.others)
+        meeting.now }
     ensures { OnOk result ((h w : Types) (es : List Entry) → count ≡ length es
         → HaveBoth es pairs.old → HaveBoth (es ++ facing_entries h w facing.entry) pairs.new) }
 {
     for place in meeting.places() {
         if let Some(each) = compared_at(facing, *place, meeting.at(*place)) {
-            pairs.note(each.what, count + *place)?;
+            let number = count.checked_add(*place).ok_or(AllocError)?;
+            pairs.note(each.what, number)?;
         }
     }
     Ok(())

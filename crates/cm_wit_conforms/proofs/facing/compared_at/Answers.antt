@@ -1,6 +1,5 @@
-use Rattle.std.proofs.Common.{◌∙◌, Option, Some, None, ap, rules}
+use Rattle.std.proofs.Common.{◌∙◌, Option, Some, None, ap}
 use Rattle.std.specs.Option.{option_map}
-use Rattle.cm_types_signatures.specs.Listed.{item_in}
 use Rattle.cm_wit_conforms.specs.Comparisons.{Comparison, Entry, facing, item_entry, or_nothing, two_items}
 use Rattle.cm_wit_conforms.specs.Views.{brought_desc, entry_of, item_found, other, own}
 use Rattle.cm_wit_conforms.proofs.PlacedLaws.{compared_so}

@@ -1,4 +1,4 @@
-use Rattle.std.proofs.Common.{◌≡◌, true, false, inr, map, rules}
+use Rattle.std.proofs.Common.{◌≡◌, true, false, inr, rules}
 use Rattle.cm_wit_conforms.specs.Conformance.{Fits}
 use Rattle.cm_wit_conforms.specs.Views.{comparison_of, entry_of}
 use Rattle.cm_wit_conforms.proofs.FaultLaws.{all_fit, first_here, fit_more, told_false, told_true}

@@ -1,4 +1,4 @@
-use Rattle.std.proofs.Common.{◌≡◌, ◌+◌, ◌++◌, ◌∷◌, [], ◌∙◌, length, arith, rules}
+use Rattle.std.proofs.Common.{◌≡◌, ◌+◌, ◌++◌, ◌∷◌, [], length, arith, rules}
 use Rattle.std.proofs.lemmas.List.{length-append}
 use Rattle.cm_wit_conforms.specs.Views.{entry_of}
 use Rattle.cm_wit_conforms.proofs.NoteLaws.{both_one}

@@ -1,7 +1,7 @@
-use Rattle.std.proofs.Common.{◌≡◌, ◌++◌, List, length, take}
+use Rattle.std.proofs.Common.{◌++◌, List, take}
 use Rattle.cm_types_arena.specs.declared.types.Types.{Types}
 use Rattle.cm_wit_conforms.specs.Comparisons.{Entry}
-use Rattle.cm_wit_conforms.specs.Walks.{IsJudged, IsWalked, facing_entries}
+use Rattle.cm_wit_conforms.specs.Walks.{IsWalked, facing_entries}
 use Rattle.cm_wit_conforms.proofs.walk.Walk.add_placed.Given as goal
 
 abbrev pub invariant-loop-number : goal.invariant-loop-number
