@@ -17,7 +17,7 @@ use cm_rows_types::{Arena, Places, read_move, read_name};
 use cm_types_arena::Types;
 use cm_types_placed::{Extern, ExternDesc, InstanceType, Item, ItemDesc, Placed};
 use cm_types_resources::Move;
-use cm_types_signatures::{Externs, Signature};
+use cm_types_signatures::{Externs, NumberedExterns, Signature};
 use std::alloc::Global;
 use std::rc::Rc;
 
@@ -34,8 +34,8 @@ pub fn read_signature(alloc: Global, words: &[&str], line: &mut Line) -> Option<
     }
     Some(Signature::new(
         types,
-        Externs::OfComponent(imports),
-        Externs::OfComponent(exports),
+        Externs::OfComponent(NumberedExterns::unnumbered(alloc, imports)),
+        Externs::OfComponent(NumberedExterns::unnumbered(alloc, exports)),
     ))
 }
 
