@@ -71,7 +71,7 @@ abbrev pub names_of_named : Option NamedExtern → List (List ℕ)
 names_of_named None = []
 names_of_named (Some e) = names_of_desc e.desc
 
--- of the one at a place
+-- the names of the items of the one at a place, which a function has not
 abbrev pub names_at : Types → Externs → ℕ → List (List ℕ)
 names_at t es place = names_of_named (slice_get (externs_listed t es) place)
 

@@ -50,9 +50,9 @@ fn judge(
 /// corresponds to another one already, and where a function stands against an instance. A resource
 /// that no two items of one name pair corresponds to none. `Memory` comes where memory is refused.
 ///
-/// It costs time linear in the items of the imports and exports of both, with a search for each
-/// name and resource, where those of the signature that have one number are counted once; and in the
-/// types of both, each once for each way in which imports and exports move its resources.
+/// It costs time linear in the items of the imports and exports of both, where those of the
+/// signature that have one number are counted once, with a search for each name and resource; and
+/// in the types of both, each once for each way in which imports and exports move its resources.
 pub fn conforms(alloc: Global, have: &Signature, world: &Signature) -> Result<(), ConformFault>
     ensures ok { OnOk result (Conforms (signature_of have.now) (signature_of world.now)) }
     ensures err { IfErr result (λ f. (f.reason ≡ ConformReason.Memory)
