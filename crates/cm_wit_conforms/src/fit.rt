@@ -48,7 +48,8 @@ fn judge(
 /// `Missing` where the signature lacks an export or an item of one, `NotInWorld` where the world
 /// lacks an import or an item of one, and `DifferentType` where types differ, where a resource
 /// corresponds to another one already, and where a function stands against an instance. A resource
-/// that no two items of one name pair corresponds to none. `Memory` comes where memory is refused.
+/// that no two items of one name pair corresponds to none. `Memory` comes where memory is refused,
+/// and where there are 2^64 comparisons or more.
 ///
 /// It costs time linear in the items of the imports and exports of both, where those of the
 /// signature that have one number are counted once, with a search for each name and resource; and

@@ -196,7 +196,7 @@ fn add_externs(alloc: Global, walk: &mut Walk, lists: Lists<'_>) -> Result<(), A
 }
 
 /// All that is compared: the exports of the world in its order, then the imports of the signature
-/// in its own. Refused only where there is no memory.
+/// in its own. Refused only where there is no memory, or where there are 2^64 comparisons or more.
 pub(crate) fn walked(alloc: Global, have: &Signature, world: &Signature) -> Result<Walk, AllocError>
     ensures { IfOk result (λ walk. IsWalked have.now.types world.now.types
         (all.entries (signature_of have.now) (signature_of world.now)) walk) }

@@ -63,7 +63,7 @@ fn note_met(
 }
 
 /// What is kept of all that is compared: what is judged of it, the pairs of resources, and how many
-/// comparisons there are.
+/// comparisons there are. Comparisons are refused where there is no memory, or where they are 2^64.
 #[derive(Drop)]
 pub(crate) struct Walk {
     pub(crate) judged: Judged,
