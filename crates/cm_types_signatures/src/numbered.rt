@@ -1,6 +1,6 @@
 //! Imports or exports of a component, of which some are instances of one type.
 
-ghost use Rattle.std.specs.Prelude.{◌≡◌};
+ghost use Rattle.std.specs.Prelude.{◌≡◌, []};
 ghost use Rattle.cm_types_signatures.specs.Numbered.{AreAlike};
 
 use cm_types_placed::Extern;
@@ -8,7 +8,7 @@ use std::alloc::Global;
 
 /// The imports or exports of a component in order, and numbers of those that are instances. Where
 /// two have one number, their items have the same names in the same order: so what is made of these
-/// names is made once.
+/// names is made once (Binary.md, "Import and Export Definitions").
 #[derive(Drop)]
 pub struct NumberedExterns {
     externs: Vec<Extern>,
@@ -22,14 +22,16 @@ impl NumberedExterns {
     /// These imports or exports, each with the number at its place, if there is one.
     pub fn new(externs: Vec<Extern>, numbers: Vec<Option<usize>>) -> NumberedExterns
         requires { AreAlike externs.items numbers.items }
-        ensures { result.externs.items ≡ externs.items }
+        ensures externs { result.externs.items ≡ externs.items }
+        ensures numbers { result.numbers.items ≡ numbers.items }
     {
         NumberedExterns { externs, numbers }
     }
 
     /// These imports or exports, of which none has a number.
     pub fn unnumbered(alloc: Global, externs: Vec<Extern>) -> NumberedExterns
-        ensures { result.externs.items ≡ externs.items }
+        ensures externs { result.externs.items ≡ externs.items }
+        ensures numbers { result.numbers.items ≡ [] }
     {
         NumberedExterns {
             externs,

@@ -1,6 +1,6 @@
 //! What is known of the items of instances, kept for all imports or exports of one number.
 
-ghost use Rattle.std.specs.Prelude.{◌≡◌, Some, OnOk};
+ghost use Rattle.std.specs.Prelude.{◌≡◌, Some, IsSome, OnOk};
 ghost use Rattle.std.specs.BTreeMap.{get};
 ghost use Rattle.std.specs.Option.{option_map};
 ghost use Rattle.std.specs.Ordering.{nat_cmp};
@@ -46,7 +46,8 @@ impl<'a> Kept<'a> {
         requires number { number_at externs.now place ≡ Some number }
         requires names { (t : Types) → names_at t externs.now place ≡ item_names t items }
         requires kept { AreKept externs.now self.old }
-        ensures { OnOk result (AreKept externs.now self.new) }
+        ensures kept { OnOk result (AreKept externs.now self.new) }
+        ensures there { OnOk result (IsSome (get nat_cmp self.new.known number)) }
     {
         equal_numbers_have_equal_names();
         if self.known.get(&number).is_none() {

@@ -11,8 +11,8 @@ use cm_types_signatures::Items;
 use std::alloc::{AllocError, Global};
 use std::collections::BTreeMap;
 
-/// The items of an instance by their names, kept so that the names of other lists are found among
-/// them.
+/// The items of an instance by their names (Explainer.md, "Import and Export Definitions"), kept so
+/// that the names of other lists are found among them.
 #[derive(Drop)]
 pub struct KnownItems<'a> {
     table: NameTable<'a>,

@@ -28,7 +28,7 @@ new-requires-3 c =
 pub new-requires-4-clause-imports : goal.new-requires-4-clause-imports
 new-requires-4-clause-imports c =
     let m = c.into_externs-types in
-    ap (are_externs_in m.result.types) c.new-2.ensures
+    ap (are_externs_in m.result.types) c.new-2.ensures.externs
     ∙ imports_there (types_of m.result.types) (types_in c.args.checked) (funcs_of m.result.types) (funcs_in c.args.checked) m.result.imports.items m.ensures.types m.ensures.funcs m.ensures.imports_there
 
 pub new-requires-4-clause-exports : goal.new-requires-4-clause-exports
@@ -39,7 +39,7 @@ new-requires-4-clause-exports c =
     let shown =
     shown_in (types_of m.result.types) (types_in k) (funcs_of m.result.types) (funcs_in k) (spaces_in k) c.in_ok-shared.shared c.deref.result.now m.result.exports.items c.in_ok-exports.exports.items
     m.ensures.types m.ensures.funcs c.deref.ensures.value c.in_ok-exports.ensures shared m.ensures.exports m.ensures.exports_there in
-    ap (are_externs_in m.result.types) c.new-3.ensures ∙ shown.there
+    ap (are_externs_in m.result.types) c.new-3.ensures.externs ∙ shown.there
 
 pub returns : goal.returns
 returns c =
@@ -50,6 +50,6 @@ returns c =
     shown_in (types_of m.result.types) (types_in k) (funcs_of m.result.types) (funcs_in k) (spaces_in k) c.in_ok-shared.shared c.deref.result.now m.result.exports.items c.in_ok-exports.exports.items
     m.ensures.types m.ensures.funcs c.deref.ensures.value c.in_ok-exports.ensures shared m.ensures.exports m.ensures.exports_there in
     signature_is (signature_of c.new-4.result) (signature_in (spaces_in k))
-    (c.new-4.ensures.imports ∙ ap (externs_in m.result.types) c.new-2.ensures
+    (c.new-4.ensures.imports ∙ ap (externs_in m.result.types) c.new-2.ensures.externs
     ∙ imports_are (types_of m.result.types) (types_in k) (funcs_of m.result.types) (funcs_in k) m.result.imports.items m.ensures.types m.ensures.funcs ∙ sym m.ensures.imports)
-    (c.new-4.ensures.exports ∙ ap (externs_in m.result.types) c.new-3.ensures ∙ shown.are)
+    (c.new-4.ensures.exports ∙ ap (externs_in m.result.types) c.new-3.ensures.externs ∙ shown.are)

@@ -13,4 +13,4 @@ add_items-requires-2 c = λ t.
     let k = c.in_ok-known-2.known in
     let has : c.known.result ≡ Some k = search rules in
     let kept : get nat_cmp c.keep.new.self.known c.in-Some.number ≡ Some k.now = sym c.known.ensures ∙ ap (option_map (λ b. b.now)) has in
-    subst (λ l. AreKnown l k.now) (c.requires.names t) (c.in_ok-keep.ensures t c.in-Some.number c.args.place k.now kept (sym c.number.ensures ∙ c.in-Some.is))
+    subst (λ l. AreKnown l k.now) (c.requires.names t) (c.in_ok-keep.ensures.kept t c.in-Some.number c.args.place k.now kept (sym c.number.ensures ∙ c.in-Some.is))
