@@ -8,7 +8,7 @@ use Rattle.cm_types.specs.TypeTrees.{case_before, plain_from}
 use Rattle.cm_types.specs.Types.{Ty, Fields, Cases, bool, signed, unsigned, char, string, list, fixed_list, fields, cases, flags, own, borrow, no_fields, field, no_cases, plain, carrying, tuple_type, result_type}
 use Rattle.cm_types_arena.specs.Arena.{field_types, parts_in, payload_types}
 use Rattle.cm_types_arena.specs.TypeDefs.{type_at}
-use Rattle.cm_types_resources.specs.Replaced.{Standing, replaced, replaced_fields, replaced_cases}
+use Rattle.cm_types_arena.specs.Replaced.{Standing, replaced, replaced_fields, replaced_cases}
 use Rattle.cm_layout_placed.specs.Placed.{result_cases, types_by}
 
 pub fields_by : (s : Standing) (fs : Fields) → field_types (replaced_fields s fs) ≡ map (replaced s) (field_types fs)

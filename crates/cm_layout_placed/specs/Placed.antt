@@ -10,7 +10,7 @@ use Rattle.cm_layout.specs.Flattening.{flat_of}
 use Rattle.cm_layout.specs.Layouts.{layout_of}
 use Rattle.cm_layout.specs.Shapes.{LayoutTy, layout_at}
 use Rattle.cm_types_arena.specs.TypeDefs.{type_at}
-use Rattle.cm_types_resources.specs.Replaced.{Standing, replaced}
+use Rattle.cm_types_arena.specs.Replaced.{Standing, replaced}
 use Rattle.cm_layout_placed.specs.declared.kinds.Kinds.{Kinds}
 use Rattle.cm_layout_placed.specs.declared.layouts.Layouts.{Layouts}
 

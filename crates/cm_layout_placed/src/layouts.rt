@@ -6,18 +6,17 @@ ghost use Rattle.cm_layout.specs.Layouts.{layout_of};
 ghost use Rattle.cm_layout.specs.Shapes.{layout_at, layout_of_fields_at};
 ghost use Rattle.cm_types_arena.specs.Places.{funcs_of, types_of};
 ghost use Rattle.cm_types_arena.specs.TypeDefs.{func_at, type_at};
-ghost use Rattle.cm_types_resources.specs.Replaced.{Standing, replaced, replaced_fields};
+ghost use Rattle.cm_types_arena.specs.Replaced.{Standing, replaced, replaced_fields};
 ghost use Rattle.cm_layout_placed.specs.Placed.{AreOfFirst, at_place, layouts_in, result_fields};
 ghost use Rattle.cm_layout_placed.specs.Placed.{types_by};
 
 use crate::nodes::{fields_layout, node_layout};
 use cm_layout::Layout;
 use cm_types::ResourceId;
-use cm_types_arena::Types;
+use cm_types_arena::laws::what_stays;
+use cm_types_arena::placed_laws::unmoved;
 use cm_types_arena::type_laws::types_are_lawful;
-use cm_types_placed::laws::unmoved;
-use cm_types_resources::Replacement;
-use cm_types_resources::laws::what_stays;
+use cm_types_arena::{Replacement, Types};
 use std::alloc::{AllocError, Global};
 
 /// Each resource stands for itself.

@@ -12,13 +12,13 @@ ghost use Rattle.cm_types.specs.TypeTrees.{case_before, cases_of, type_of};
 ghost use Rattle.cm_layout.specs.Layouts.{layout_of, payload_of};
 ghost use Rattle.cm_layout.specs.Shapes.{layout_at};
 ghost use Rattle.cm_types_arena.specs.Arena.{field_types, parts_in, payload_types};
-ghost use Rattle.cm_types_resources.specs.Replaced.{Standing, replaced, replaced_cases};
+ghost use Rattle.cm_types_arena.specs.Replaced.{Standing, replaced, replaced_cases};
 ghost use Rattle.cm_layout_placed.specs.Placed.{AreOf, IsNth, option_cases, result_cases};
 
 use crate::placed::{share_at, share_nth};
 use cm_layout::{CasesBuilder, FieldsBuilder, HandleType, Layout, Leaf, Payload};
 use cm_types::{Case, MAX_NODES, TypeNode};
-use cm_types_resources::Replacement;
+use cm_types_arena::Replacement;
 use std::alloc::{AllocError, Global};
 
 /// The layout of a type of at most 10,000 nodes with its resources replaced, of which those of the

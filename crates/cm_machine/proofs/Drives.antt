@@ -4,18 +4,18 @@ use Rattle.std.specs.Prelude.{slice_get, not}
 use Rattle.std.specs.Option.{option_map}
 use Rattle.std.proofs.lemmas.Bool.{eqb-true, eqb-false}
 use Rattle.std.proofs.lemmas.List.{append-nil, length-append}
-use Rattle.cm_machine_rules.specs.declared.frame.Frame.{Frame}
+use Rattle.cm_machine_model.specs.declared.frame.Frame.{Frame}
 use Rattle.cm_machine_model.specs.declared.event.Event.{Event}
 use Rattle.cm_machine_model.specs.declared.event.Event.TheVariants as event
 use Rattle.cm_machine_model.specs.declared.moves.Move.{Move}
 use Rattle.cm_machine_model.specs.Exchange.{Exchange}
-use Rattle.cm_machine_rules.specs.Stack.{actor, top_of}
-use Rattle.cm_machine_rules.specs.State.{State}
+use Rattle.cm_machine_model.specs.Stack.{actor, top_of}
+use Rattle.cm_machine_model.specs.State.{State}
 use Rattle.cm_machine_set.specs.Running.{RunningSet, SetSteps}
 use Rattle.cm_machine_model.specs.declared.event.Misuse.{Misuse}
 use Rattle.cm_machine_model.specs.declared.event.Misuse.TheVariants as misuse
 use Rattle.cm_machine_model.specs.Events.{is_last}
-use Rattle.cm_machine_rules.specs.Run.{misuse_by_closed, misuse_by_stack, misuse_of_begin}
+use Rattle.cm_machine_model.specs.Run.{misuse_by_closed, misuse_by_stack, misuse_of_begin}
 use Rattle.cm_machine.specs.Player.{Turn, Turns, last_of, exchanges_of, AreStops, TookPart, GoesOnAs, SeatPlays, is_taken, StaysTaken, EndsAt, IsPlay, IsHalt, IsDrive, closes_between, seat_after_close}
 
 stops_join : (xs ys : List Exchange) → AreStops xs → AreStops ys → AreStops (xs ++ ys)

@@ -1,5 +1,4 @@
 pub use Rattle.cm_machine_model.specs as cm_machine_model
-pub use Rattle.cm_machine_rules.specs as cm_machine_rules
 pub use Rattle.cm_machine_told.specs as cm_machine_told
 pub use Rattle.cm_machine_set.specs as cm_machine_set
 pub mod Player

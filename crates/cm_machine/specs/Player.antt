@@ -10,7 +10,7 @@ use Rattle.cm_machine_model.specs.declared.moves.Move.{Move}
 use Rattle.cm_machine_model.specs.declared.moves.Move.TheVariants as move
 use Rattle.cm_machine_model.specs.Exchange.{Exchange}
 use Rattle.cm_machine_model.specs.Events.{is_last}
-use Rattle.cm_machine_rules.specs.Stack.{actor, top_of}
+use Rattle.cm_machine_model.specs.Stack.{actor, top_of}
 use Rattle.cm_machine_set.specs.Running.{RunningSet, SetSteps}
 
 -- one turn of a drive: the instance that acted, the event that it saw, the move that was made

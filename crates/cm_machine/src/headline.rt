@@ -15,12 +15,12 @@ ghost use Rattle.cm_machine_told.specs.Lent.{BorrowsStand, LendsStand};
 ghost use Rattle.cm_machine_told.specs.MemoryChanges.{ChangesMemoryRightly};
 ghost use Rattle.cm_machine_told.specs.Placed.{KeepsGone, OwnsRightly};
 
-use cm_machine_changes::laws::handles_change_as_told;
-use cm_machine_memory::laws::memory_changes_as_told;
-use cm_machine_owners::laws::owners_are_told;
+use cm_machine_laws::handles::handles_change_as_told;
+use cm_machine_laws::memories::memory_changes_as_told;
+use cm_machine_laws::owners::owners_are_told;
+use cm_machine_laws::traps::traps_have_their_causes;
+use cm_machine_laws::values::values_are_passed;
 use cm_machine_told::laws::what_goes_on;
-use cm_machine_traps::laws::traps_have_their_causes;
-use cm_machine_values::laws::values_are_passed;
 
 /// The headline, a clause a sentence: for each set that can be linked, and each history of it from
 /// `Set::new` on, whatever the guests did. The clauses of `Set::new`, `Set::begin`, `Set::step`,

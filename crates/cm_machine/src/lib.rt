@@ -7,12 +7,12 @@
 mod headline;
 mod player;
 
+pub use cm_machine_model::state::{Place, Work};
 pub use cm_machine_model::{
     Event, Flat, Guest, MAX_FLAT_PARAMS, MAX_FRAMES, MAX_INSTANCES, MAX_MEMORY_SIZE, MAX_PAGES,
     Misuse, Move, PAGE_SIZE, Trap,
 };
 pub use cm_machine_parts::Outcome;
-pub use cm_machine_rules::state::{Place, Work};
 pub use cm_machine_set::Set;
 pub use cm_match::{Checked, ExportEntry, LinkFault, LinkReason, Linked, PlanLine, link};
 pub use player::Player;
@@ -24,5 +24,5 @@ pub mod laws {
 
 /// What a state is made of: types that only contracts name.
 pub mod state {
-    pub use cm_machine_rules::state::{Call, Frame, Lend, Phase, Purpose};
+    pub use cm_machine_model::state::{Call, Frame, Lend, Phase, Purpose};
 }

@@ -8,7 +8,7 @@ ghost use Rattle.cm_machine_model.specs.declared.event.Event.{Event};
 ghost use Rattle.cm_machine_model.specs.declared.event.Misuse.{Misuse};
 ghost use Rattle.cm_machine_model.specs.Exchange.{Exchange};
 ghost use Rattle.cm_machine_model.specs.Events.{is_last};
-ghost use Rattle.cm_machine_rules.specs.Run.{misuse_of_begin};
+ghost use Rattle.cm_machine_model.specs.Run.{misuse_of_begin};
 ghost use Rattle.cm_machine_set.specs.Running.{begun};
 ghost use Rattle.cm_machine.specs.Player.{Turn, Turns, last_of, exchanges_of, AreStops, SeatPlays};
 ghost use Rattle.cm_machine.specs.Player.{StaysTaken, EndsAt, IsPlay, IsDrive, IsHalt};

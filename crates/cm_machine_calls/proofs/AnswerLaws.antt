@@ -8,8 +8,8 @@ use Rattle.cm_abi_model.specs.Answered.{IsAnswered, Requesting, all_requests, ne
 use Rattle.cm_abi_model.specs.Answering.{places_of}
 use Rattle.cm_abi_model.specs.Scanned.{OnlyAsked, Scanned}
 use Rattle.cm_abi_model.specs.declared.request.Request.{Request}
-use Rattle.cm_machine_rules.specs.Passages.{HasAnswers}
-use Rattle.cm_machine_rules.specs.Passages as rules
+use Rattle.cm_machine_model.specs.Passages.{HasAnswers}
+use Rattle.cm_machine_model.specs.Passages as rules
 use Rattle.cm_machine_calls.specs.Lifting.{passage_in}
 
 -- the answers of a passage are those of what is kept

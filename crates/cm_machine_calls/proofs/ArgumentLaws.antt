@@ -8,7 +8,7 @@ use Rattle.cm_types.specs.declared.core_value.CoreKind.{CoreKind}
 use Rattle.cm_types.specs.declared.core_value.CoreKind.TheVariants as kind
 use Rattle.cm_types.specs.declared.core_value.CoreValue.{CoreValue}
 use Rattle.cm_abi_model.specs.Numbers.{slot_at}
-use Rattle.cm_machine_rules.specs.Step.{AreOf, one_i32}
+use Rattle.cm_machine_model.specs.Step.{AreOf, one_i32}
 use Rattle.cm_machine_calls.proofs.KindLaws.{join_kinds, slot_behind, split_kinds}
 
 -- the kinds of what stands behind the arguments

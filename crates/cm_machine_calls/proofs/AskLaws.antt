@@ -13,11 +13,11 @@ use Rattle.cm_abi_model.specs.RecordRequests.{tags_of}
 use Rattle.cm_abi_model.specs.Views.{Way, params, results}
 use Rattle.cm_abi_model.specs.declared.encoding.StringEncoding.{StringEncoding}
 use Rattle.cm_abi_model.specs.declared.request.Request.{Request}
-use Rattle.cm_machine_rules.specs.Passages.{asked_for}
-use Rattle.cm_machine_rules.specs.Plan.{Link, Plan, giver_side, receiver_side, types_of}
-use Rattle.cm_machine_rules.specs.Plans.{IsLink}
-use Rattle.cm_machine_rules.specs.State.{Passage, State}
-use Rattle.cm_machine_rules.specs.Step.{Asks}
+use Rattle.cm_machine_model.specs.Passages.{asked_for}
+use Rattle.cm_machine_model.specs.Plan.{Link, Plan, giver_side, receiver_side, types_of}
+use Rattle.cm_machine_model.specs.Plans.{IsLink}
+use Rattle.cm_machine_model.specs.State.{Passage, State}
+use Rattle.cm_machine_model.specs.Step.{Asks}
 use Rattle.cm_machine_parts.specs.Rows.{event_of}
 use Rattle.cm_machine_parts.specs.declared.outcome.Outcome.{Outcome}
 use Rattle.cm_machine_parts.specs.declared.outcome.Outcome.TheVariants as outcome

@@ -16,10 +16,10 @@ use Rattle.cm_abi_model.specs.Giving.{added_by, added_count, added_for, after_gi
 use Rattle.cm_abi_model.specs.Receives.{HandleLeaf, borrowed_leaf, owned_leaf}
 use Rattle.cm_abi_model.specs.Taken.{Met, after_met, content, lent, taken, text_content}
 use Rattle.cm_abi_model.specs.declared.receiver.Receiver.{Receiver}
-use Rattle.cm_machine_rules.specs.Plans.{NoneBorrowed}
-use Rattle.cm_machine_rules.specs.State.{table_at}
-use Rattle.cm_machine_rules.specs.Valid.{frame_at}
-use Rattle.cm_machine_rules.specs.declared.frame.Frame.{Frame}
+use Rattle.cm_machine_model.specs.Plans.{NoneBorrowed}
+use Rattle.cm_machine_model.specs.State.{table_at}
+use Rattle.cm_machine_model.specs.Valid.{frame_at}
+use Rattle.cm_machine_model.specs.declared.frame.Frame.{Frame}
 use Rattle.cm_machine_parts.specs.Kept.{AreBorrowsCounted}
 use Rattle.cm_machine_valid.specs.Taking.{AreTaken}
 

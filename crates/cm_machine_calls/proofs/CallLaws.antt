@@ -16,17 +16,17 @@ use Rattle.cm_machine_model.specs.declared.event.Event.TheVariants as event
 use Rattle.cm_machine_model.specs.declared.event.Trap.{Trap}
 use Rattle.cm_machine_model.specs.declared.event.Trap.TheVariants as trap
 use Rattle.cm_machine_model.specs.declared.limits.TheConstants.{MAX_FRAMES}
-use Rattle.cm_machine_rules.specs.declared.frame.Call.{Call}
-use Rattle.cm_machine_rules.specs.declared.frame.Frame.{Frame}
-use Rattle.cm_machine_rules.specs.declared.frame.Lend.{Lend}
-use Rattle.cm_machine_rules.specs.declared.frame.Phase.TheVariants as phase
-use Rattle.cm_machine_rules.specs.declared.frame.Purpose.TheVariants as purpose
-use Rattle.cm_machine_rules.specs.Passages.{Carries, IsScanned, asked_for}
-use Rattle.cm_machine_rules.specs.Plan.{Link, Plan, Reaches, types_of}
-use Rattle.cm_machine_rules.specs.Stack.{actor, below_top, top_of}
-use Rattle.cm_machine_rules.specs.State.{Passage, State, after_trap, table_at}
-use Rattle.cm_machine_rules.specs.Step.{GoesOn, HasRoom, MayLeave, PassesArguments, UnlessNoMemory, after_lift, after_lift_of_args, arg_slots, args_view, call_frame, new_call, pushed, result_place, top_place}
-use Rattle.cm_machine_rules.specs.Valid.{IsStack}
+use Rattle.cm_machine_model.specs.declared.frame.Call.{Call}
+use Rattle.cm_machine_model.specs.declared.frame.Frame.{Frame}
+use Rattle.cm_machine_model.specs.declared.frame.Lend.{Lend}
+use Rattle.cm_machine_model.specs.declared.frame.Phase.TheVariants as phase
+use Rattle.cm_machine_model.specs.declared.frame.Purpose.TheVariants as purpose
+use Rattle.cm_machine_model.specs.Passages.{Carries, IsScanned, asked_for}
+use Rattle.cm_machine_model.specs.Plan.{Link, Plan, Reaches, types_of}
+use Rattle.cm_machine_model.specs.Stack.{actor, below_top, top_of}
+use Rattle.cm_machine_model.specs.State.{Passage, State, after_trap, table_at}
+use Rattle.cm_machine_model.specs.Step.{GoesOn, HasRoom, MayLeave, PassesArguments, UnlessNoMemory, after_lift, after_lift_of_args, arg_slots, args_view, call_frame, new_call, pushed, result_place, top_place}
+use Rattle.cm_machine_model.specs.Valid.{IsStack}
 use Rattle.cm_machine_parts.specs.Kept.{AreBorrowsCounted, IsEncoded, Runs}
 use Rattle.cm_machine_parts.specs.Lends.{NoneAbove}
 use Rattle.cm_machine_parts.specs.States.{state_of}

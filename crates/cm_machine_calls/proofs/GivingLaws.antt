@@ -9,9 +9,9 @@ use Rattle.cm_handles.specs.declared.handle.Handle.{Handle}
 use Rattle.cm_abi_model.specs.Giving.{Gives, borrowed_count}
 use Rattle.cm_abi_model.specs.Receives.{HandleLeaf}
 use Rattle.cm_abi_model.specs.declared.receiver.Receiver.{Receiver}
-use Rattle.cm_machine_rules.specs.declared.frame.Frame.{Frame}
-use Rattle.cm_machine_rules.specs.declared.frame.Lend.{Lend}
-use Rattle.cm_machine_rules.specs.State.{table_at}
+use Rattle.cm_machine_model.specs.declared.frame.Frame.{Frame}
+use Rattle.cm_machine_model.specs.declared.frame.Lend.{Lend}
+use Rattle.cm_machine_model.specs.State.{table_at}
 use Rattle.cm_machine_parts.specs.Kept.{AreBorrowsCounted}
 use Rattle.cm_machine_parts.specs.Lends.{AreLentAtLeast, lends_at}
 use Rattle.cm_machine_calls.proofs.Borrows.{AddCounts, AddsFine, counted_set, frame_top, given_borrows}

@@ -27,13 +27,13 @@ use Rattle.cm_abi_model.specs.declared.encoding.StringEncoding.{StringEncoding}
 use Rattle.cm_abi_model.specs.declared.receiver.Receiver.{Receiver}
 use Rattle.cm_abi_model.specs.declared.request.Request.{Request}
 use Rattle.cm_machine_model.specs.Memories.{memory_at}
-use Rattle.cm_machine_rules.specs.declared.frame.Call.{Call}
-use Rattle.cm_machine_rules.specs.declared.frame.Place.{Place}
-use Rattle.cm_machine_rules.specs.Passages.{asked_for}
-use Rattle.cm_machine_rules.specs.Plan.{Link, Plan, receiver_side, types_of}
-use Rattle.cm_machine_rules.specs.Plans.{IsLink}
-use Rattle.cm_machine_rules.specs.State.{Passage, State, table_at}
-use Rattle.cm_machine_rules.specs.Step.{after_handing, giver_of, owners_given, receiver_of}
+use Rattle.cm_machine_model.specs.declared.frame.Call.{Call}
+use Rattle.cm_machine_model.specs.declared.frame.Place.{Place}
+use Rattle.cm_machine_model.specs.Passages.{asked_for}
+use Rattle.cm_machine_model.specs.Plan.{Link, Plan, receiver_side, types_of}
+use Rattle.cm_machine_model.specs.Plans.{IsLink}
+use Rattle.cm_machine_model.specs.State.{Passage, State, table_at}
+use Rattle.cm_machine_model.specs.Step.{after_handing, giver_of, owners_given, receiver_of}
 use Rattle.cm_machine_parts.specs.declared.state.State.{State as CodedState}
 use Rattle.cm_machine_calls.specs.Going.{CanHand, passage_now}
 use Rattle.cm_machine_calls.specs.Handing.{CanCopy}

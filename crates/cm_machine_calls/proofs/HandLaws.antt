@@ -9,15 +9,15 @@ use Rattle.cm_abi_model.specs.Requests.{tuple_of}
 use Rattle.cm_abi_model.specs.Views.{Way, params, results}
 use Rattle.cm_abi_model.specs.declared.receiver.Receiver.{Receiver}
 use Rattle.cm_types.specs.declared.core_value.CoreValue.{CoreValue}
-use Rattle.cm_machine_rules.specs.declared.frame.Call.{Call}
-use Rattle.cm_machine_rules.specs.declared.frame.Frame.{Frame}
-use Rattle.cm_machine_rules.specs.declared.frame.Lend.{Lend}
-use Rattle.cm_machine_rules.specs.declared.frame.Purpose.TheVariants as purpose
-use Rattle.cm_machine_rules.specs.Plan.{Link, Plan, types_of}
-use Rattle.cm_machine_rules.specs.Plans.{NoneBorrowed}
-use Rattle.cm_machine_rules.specs.Stack.{below_top}
-use Rattle.cm_machine_rules.specs.State.{State, table_at}
-use Rattle.cm_machine_rules.specs.Step.{receiver_of}
+use Rattle.cm_machine_model.specs.declared.frame.Call.{Call}
+use Rattle.cm_machine_model.specs.declared.frame.Frame.{Frame}
+use Rattle.cm_machine_model.specs.declared.frame.Lend.{Lend}
+use Rattle.cm_machine_model.specs.declared.frame.Purpose.TheVariants as purpose
+use Rattle.cm_machine_model.specs.Plan.{Link, Plan, types_of}
+use Rattle.cm_machine_model.specs.Plans.{NoneBorrowed}
+use Rattle.cm_machine_model.specs.Stack.{below_top}
+use Rattle.cm_machine_model.specs.State.{State, table_at}
+use Rattle.cm_machine_model.specs.Step.{receiver_of}
 use Rattle.cm_machine_parts.specs.Kept.{AreBorrowsCounted, CanEnd}
 use Rattle.cm_machine_parts.specs.Lends.{AreLentAtLeast, NoneAbove}
 use Rattle.cm_machine_parts.specs.States.{handles_in, state_of}

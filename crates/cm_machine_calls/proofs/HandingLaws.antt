@@ -23,10 +23,10 @@ use Rattle.cm_abi_model.specs.declared.receiver.Receiver.{Receiver}
 use Rattle.cm_abi_model.specs.declared.record.PartRecord.{PartRecord}
 use Rattle.cm_abi_model.specs.declared.request.Request.{Request}
 use Rattle.cm_machine_model.specs.Memories.{memory_at}
-use Rattle.cm_machine_rules.specs.Passages.{Carries, HasAnswers, asked_for}
-use Rattle.cm_machine_rules.specs.Plan.{Link, giver_side, receiver_side, types_of}
-use Rattle.cm_machine_rules.specs.State.{Passage, State, table_at, view_of}
-use Rattle.cm_machine_rules.specs.Step.{IsHanded, after_handing, given_to, trap_of}
+use Rattle.cm_machine_model.specs.Passages.{Carries, HasAnswers, asked_for}
+use Rattle.cm_machine_model.specs.Plan.{Link, giver_side, receiver_side, types_of}
+use Rattle.cm_machine_model.specs.State.{Passage, State, table_at, view_of}
+use Rattle.cm_machine_model.specs.Step.{IsHanded, after_handing, given_to, trap_of}
 use Rattle.cm_machine_calls.specs.Handing.{IsCopied, StopsHanding}
 use Rattle.cm_machine_calls.specs.Lifting.{passage_in}
 use Rattle.cm_machine_calls.proofs.Pairs.{at_same}

@@ -19,14 +19,14 @@ use Rattle.cm_machine_model.specs.declared.event.Event.{Event}
 use Rattle.cm_machine_model.specs.declared.event.Event.TheVariants as event
 use Rattle.cm_machine_model.specs.declared.event.Trap.{Trap}
 use Rattle.cm_machine_model.specs.declared.event.Trap.TheVariants as trap
-use Rattle.cm_machine_rules.specs.declared.frame.Frame.{Frame}
-use Rattle.cm_machine_rules.specs.declared.frame.Lend.{Lend}
-use Rattle.cm_machine_rules.specs.Owning.{count_lends}
-use Rattle.cm_machine_rules.specs.Passages.{HasAnswers, IsScanned, asked_for}
-use Rattle.cm_machine_rules.specs.Plan.{Link}
-use Rattle.cm_machine_rules.specs.Plans.{NoneBorrowed}
-use Rattle.cm_machine_rules.specs.State.{Passage, State, after_trap, table_at}
-use Rattle.cm_machine_rules.specs.Step.{Lifts, trap_of}
+use Rattle.cm_machine_model.specs.declared.frame.Frame.{Frame}
+use Rattle.cm_machine_model.specs.declared.frame.Lend.{Lend}
+use Rattle.cm_machine_model.specs.Owning.{count_lends}
+use Rattle.cm_machine_model.specs.Passages.{HasAnswers, IsScanned, asked_for}
+use Rattle.cm_machine_model.specs.Plan.{Link}
+use Rattle.cm_machine_model.specs.Plans.{NoneBorrowed}
+use Rattle.cm_machine_model.specs.State.{Passage, State, after_trap, table_at}
+use Rattle.cm_machine_model.specs.Step.{Lifts, trap_of}
 use Rattle.cm_machine_valid.specs.Taking.{AreThere}
 use Rattle.cm_machine_parts.specs.Kept.{AreBorrowsCounted}
 use Rattle.cm_machine_parts.specs.Lends.{AreLentAtLeast, lends_at}

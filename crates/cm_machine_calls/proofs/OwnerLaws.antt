@@ -1,8 +1,8 @@
 -- Where the resources of handles are, once they were given.
 use Rattle.std.proofs.Common.{◌≡◌, ℕ, List, [], ◌∷◌, length, refl, arith}
 use Rattle.cm_abi_model.specs.Receives.{HandleLeaf}
-use Rattle.cm_machine_rules.specs.declared.frame.Place.{Place}
-use Rattle.cm_machine_rules.specs.Step.{owners_given}
+use Rattle.cm_machine_model.specs.declared.frame.Place.{Place}
+use Rattle.cm_machine_model.specs.Step.{owners_given}
 
 pub none_given : (i : ℕ) (leaves : List HandleLeaf) (ns : List ℕ) (owners : List Place) → length ns ≡ 0 → owners_given i leaves ns owners ≡ owners
 none_given i [] ns owners none = refl

@@ -27,19 +27,19 @@ use Rattle.cm_machine_model.specs.declared.event.Event.TheVariants as event
 use Rattle.cm_machine_model.specs.declared.event.Trap.{Trap}
 use Rattle.cm_machine_model.specs.declared.event.Trap.TheVariants as trap
 use Rattle.cm_machine_model.specs.declared.limits.TheConstants.{MAX_FRAMES}
-use Rattle.cm_machine_rules.specs.declared.frame.Call.{Call}
-use Rattle.cm_machine_rules.specs.declared.frame.Frame.{Frame}
-use Rattle.cm_machine_rules.specs.declared.frame.Lend.{Lend}
-use Rattle.cm_machine_rules.specs.declared.frame.Phase.{Phase}
-use Rattle.cm_machine_rules.specs.declared.frame.Phase.TheVariants as phase
-use Rattle.cm_machine_rules.specs.declared.frame.Purpose.{Purpose}
-use Rattle.cm_machine_rules.specs.declared.frame.Purpose.TheVariants as purpose
-use Rattle.cm_machine_rules.specs.Passages.{Carries, HasAnswers, IsScanned, asked_for}
-use Rattle.cm_machine_rules.specs.Plan.{Link, Plan, Reaches, giver_side, receiver_side, types_of}
-use Rattle.cm_machine_rules.specs.Stack.{below_top, top_of}
-use Rattle.cm_machine_rules.specs.State.{Passage, State, after_trap, lends_to, table_at}
-use Rattle.cm_machine_rules.specs.Step.{Answers, AreOf, Finishes, GoesOn, GoesOnBy, PlacesResult, ReturnsIn, ReturnsResult, Unless, UnlessNoMemory, UnlessWrong, after_lift, after_lift_of_result, giver_of, in_phase, one_i32, receiver_of, result_view, top_place, trap_of}
-use Rattle.cm_machine_rules.specs.Valid.{IsOnItsWay, IsStack, PassesFor, PassesIn}
+use Rattle.cm_machine_model.specs.declared.frame.Call.{Call}
+use Rattle.cm_machine_model.specs.declared.frame.Frame.{Frame}
+use Rattle.cm_machine_model.specs.declared.frame.Lend.{Lend}
+use Rattle.cm_machine_model.specs.declared.frame.Phase.{Phase}
+use Rattle.cm_machine_model.specs.declared.frame.Phase.TheVariants as phase
+use Rattle.cm_machine_model.specs.declared.frame.Purpose.{Purpose}
+use Rattle.cm_machine_model.specs.declared.frame.Purpose.TheVariants as purpose
+use Rattle.cm_machine_model.specs.Passages.{Carries, HasAnswers, IsScanned, asked_for}
+use Rattle.cm_machine_model.specs.Plan.{Link, Plan, Reaches, giver_side, receiver_side, types_of}
+use Rattle.cm_machine_model.specs.Stack.{below_top, top_of}
+use Rattle.cm_machine_model.specs.State.{Passage, State, after_trap, lends_to, table_at}
+use Rattle.cm_machine_model.specs.Step.{Answers, AreOf, Finishes, GoesOn, GoesOnBy, PlacesResult, ReturnsIn, ReturnsResult, Unless, UnlessNoMemory, UnlessWrong, after_lift, after_lift_of_result, giver_of, in_phase, one_i32, receiver_of, result_view, top_place, trap_of}
+use Rattle.cm_machine_model.specs.Valid.{IsOnItsWay, IsStack, PassesFor, PassesIn}
 use Rattle.cm_machine_parts.specs.Kept.{AreBorrowsCounted, CanEnd, IsEncoded, IsEncodedAtTop, IsEncodedFor, IsEncodedIn, Runs}
 use Rattle.cm_machine_parts.specs.Lends.{AreLentAtLeast, NoneAbove}
 use Rattle.cm_machine_parts.specs.States.{state_of}

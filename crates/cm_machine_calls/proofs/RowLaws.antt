@@ -9,14 +9,14 @@ use Rattle.cm_abi_model.specs.declared.request.Request.{Request}
 use Rattle.cm_machine_model.specs.declared.event.Event.{Event}
 use Rattle.cm_machine_model.specs.declared.event.Event.TheVariants as event
 use Rattle.cm_machine_model.specs.declared.event.Trap.{Trap}
-use Rattle.cm_machine_rules.specs.declared.frame.Call.{Call}
-use Rattle.cm_machine_rules.specs.declared.frame.Frame.{Frame}
-use Rattle.cm_machine_rules.specs.declared.frame.Phase.{Phase}
-use Rattle.cm_machine_rules.specs.declared.frame.Purpose.TheVariants as purpose
-use Rattle.cm_machine_rules.specs.Passages.{asked_for}
-use Rattle.cm_machine_rules.specs.Plan.{CoreFunc, Link, Plan, Reaches, lowered}
-use Rattle.cm_machine_rules.specs.State.{Passage, State, after_trap}
-use Rattle.cm_machine_rules.specs.Step.{GoesOn, GoesOnBy, HandsOver, IsReceived, receiver_of}
+use Rattle.cm_machine_model.specs.declared.frame.Call.{Call}
+use Rattle.cm_machine_model.specs.declared.frame.Frame.{Frame}
+use Rattle.cm_machine_model.specs.declared.frame.Phase.{Phase}
+use Rattle.cm_machine_model.specs.declared.frame.Purpose.TheVariants as purpose
+use Rattle.cm_machine_model.specs.Passages.{asked_for}
+use Rattle.cm_machine_model.specs.Plan.{CoreFunc, Link, Plan, Reaches, lowered}
+use Rattle.cm_machine_model.specs.State.{Passage, State, after_trap}
+use Rattle.cm_machine_model.specs.Step.{GoesOn, GoesOnBy, HandsOver, IsReceived, receiver_of}
 use Rattle.cm_machine_parts.specs.Kept.{IsEncoded, IsEncodedAtTop, IsEncodedIn}
 use Rattle.cm_machine_parts.specs.declared.passing.Passing.{Passing}
 use Rattle.cm_machine_calls.specs.Going.{phase_of}

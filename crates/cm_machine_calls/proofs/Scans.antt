@@ -14,12 +14,12 @@ use Rattle.cm_abi_model.specs.Taken.{Met, after_met, met, tags_of as tags_met}
 use Rattle.cm_abi_model.specs.declared.encoding.StringEncoding.{StringEncoding}
 use Rattle.cm_abi_model.specs.Views.{View, Way}
 use Rattle.cm_abi_model.specs.declared.request.Request.{Request}
-use Rattle.cm_machine_rules.specs.declared.frame.Place.{Place}
-use Rattle.cm_machine_rules.specs.declared.frame.Place.TheVariants as places
-use Rattle.cm_machine_rules.specs.Passages.{Carries, IsScanned}
-use Rattle.cm_machine_rules.specs.Plan.{Link, giver_side, receiver_side, types_of}
-use Rattle.cm_machine_rules.specs.State.{Passage, State, table_at, with_places}
-use Rattle.cm_machine_rules.specs.Step.{after_lift}
+use Rattle.cm_machine_model.specs.declared.frame.Place.{Place}
+use Rattle.cm_machine_model.specs.declared.frame.Place.TheVariants as places
+use Rattle.cm_machine_model.specs.Passages.{Carries, IsScanned}
+use Rattle.cm_machine_model.specs.Plan.{Link, giver_side, receiver_side, types_of}
+use Rattle.cm_machine_model.specs.State.{Passage, State, table_at, with_places}
+use Rattle.cm_machine_model.specs.Step.{after_lift}
 use Rattle.cm_machine_calls.specs.Lifting.{IsSeen, passage_in}
 use Rattle.cm_machine_calls.proofs.HandingLaws.{RecordsAsk, all_are}
 

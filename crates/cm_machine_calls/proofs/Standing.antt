@@ -7,21 +7,21 @@ use Rattle.cm_types.specs.declared.core_value.CoreValue.{CoreValue}
 use Rattle.cm_types.specs.declared.limits.TheConstants.{MAX_FLAT_PARAMS}
 use Rattle.cm_abi_model.specs.Lifts.{LendsBelow}
 use Rattle.cm_abi_model.specs.Views.{params}
-use Rattle.cm_machine_rules.specs.declared.frame.Call.{Call}
-use Rattle.cm_machine_rules.specs.declared.frame.Frame.{Frame}
-use Rattle.cm_machine_rules.specs.declared.frame.Lend.{Lend}
-use Rattle.cm_machine_rules.specs.declared.frame.Phase.{Phase}
-use Rattle.cm_machine_rules.specs.declared.frame.Phase.TheVariants as phase
-use Rattle.cm_machine_rules.specs.declared.frame.Purpose.{Purpose}
-use Rattle.cm_machine_rules.specs.declared.frame.Purpose.TheVariants as purpose
-use Rattle.cm_machine_rules.specs.Owning.{AreCounted, count_lends}
-use Rattle.cm_machine_rules.specs.Plan.{CoreFunc, Link, Plan, Reaches, entered_kinds, lowered, types_of}
-use Rattle.cm_machine_rules.specs.Plans.{IsLink, IsPlan}
-use Rattle.cm_machine_rules.specs.Rows.{same_link}
-use Rattle.cm_machine_rules.specs.Stack.{below_top, top_of}
-use Rattle.cm_machine_rules.specs.State.{Passage, State, table_at}
-use Rattle.cm_machine_rules.specs.Step.{MayLeave, MayLeaveIn, arg_slots}
-use Rattle.cm_machine_rules.specs.Valid.{IsStack, PassesAtTop, PassesFor, PassesIn, StandsOn}
+use Rattle.cm_machine_model.specs.declared.frame.Call.{Call}
+use Rattle.cm_machine_model.specs.declared.frame.Frame.{Frame}
+use Rattle.cm_machine_model.specs.declared.frame.Lend.{Lend}
+use Rattle.cm_machine_model.specs.declared.frame.Phase.{Phase}
+use Rattle.cm_machine_model.specs.declared.frame.Phase.TheVariants as phase
+use Rattle.cm_machine_model.specs.declared.frame.Purpose.{Purpose}
+use Rattle.cm_machine_model.specs.declared.frame.Purpose.TheVariants as purpose
+use Rattle.cm_machine_model.specs.Owning.{AreCounted, count_lends}
+use Rattle.cm_machine_model.specs.Plan.{CoreFunc, Link, Plan, Reaches, entered_kinds, lowered, types_of}
+use Rattle.cm_machine_model.specs.Plans.{IsLink, IsPlan}
+use Rattle.cm_machine_model.specs.Rows.{same_link}
+use Rattle.cm_machine_model.specs.Stack.{below_top, top_of}
+use Rattle.cm_machine_model.specs.State.{Passage, State, table_at}
+use Rattle.cm_machine_model.specs.Step.{MayLeave, MayLeaveIn, arg_slots}
+use Rattle.cm_machine_model.specs.Valid.{IsStack, PassesAtTop, PassesFor, PassesIn, StandsOn}
 use Rattle.cm_machine_calls.proofs.GoingLaws.{few_kinds}
 
 -- ---- the plan

@@ -3,7 +3,7 @@ use Rattle.std.proofs.Common.{◌≡◌, ℕ, zero, suc, ◌<◌, List, [], ◌�
 use Rattle.std.specs.Prelude.{slice_set}
 use Rattle.cm_handles.specs.Handles.{Handles, TableState, no_handles}
 use Rattle.cm_abi_model.specs.Scanned.{Scanned}
-use Rattle.cm_machine_rules.specs.State.{Passage, State, table_at}
+use Rattle.cm_machine_model.specs.State.{Passage, State, table_at}
 use Rattle.cm_machine_parts.specs.States.{handles_in, passage_of, state_of}
 use Rattle.cm_machine_parts.specs.declared.state.State.{State as CodedState}
 use Rattle.cm_machine_calls.proofs.Pairs.{set_back}

@@ -7,8 +7,8 @@ use Rattle.cm_abi_model.specs.declared.fault.AbiFault.{AbiFault}
 use Rattle.cm_abi_model.specs.declared.request.Request.{Request}
 use Rattle.cm_machine_model.specs.declared.event.Trap.{Trap}
 use Rattle.cm_machine_model.specs.Memories.{memory_at}
-use Rattle.cm_machine_rules.specs.Passages.{HasAnswers, IsAnswered}
-use Rattle.cm_machine_rules.specs.Step.{trap_of}
+use Rattle.cm_machine_model.specs.Passages.{HasAnswers, IsAnswered}
+use Rattle.cm_machine_model.specs.Step.{trap_of}
 use Rattle.cm_machine_parts.specs.States.{state_of}
 use Rattle.cm_machine_parts.specs.declared.state.State.{State as CodedState}
 use Rattle.cm_machine_calls.specs.Going.{passage_now}

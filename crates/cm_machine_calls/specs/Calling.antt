@@ -9,18 +9,18 @@ use Rattle.cm_abi_model.specs.Views.{Way, params, results}
 use Rattle.cm_abi_model.specs.declared.request.Request.{Request}
 use Rattle.cm_machine_model.specs.declared.event.Event.{Event}
 use Rattle.cm_machine_model.specs.Memories.{memory_at}
-use Rattle.cm_machine_rules.specs.declared.frame.Call.{Call}
-use Rattle.cm_machine_rules.specs.declared.frame.Frame.{Frame}
-use Rattle.cm_machine_rules.specs.declared.frame.Phase.TheVariants as phase
-use Rattle.cm_machine_rules.specs.declared.frame.Purpose.TheVariants as purpose
-use Rattle.cm_machine_rules.specs.Passages.{IsAnswered, IsScanned, asked_for}
-use Rattle.cm_machine_rules.specs.Plan.{Link, Plan, Reaches, taken_kinds, types_of}
-use Rattle.cm_machine_rules.specs.Stack.{actor, top_of}
-use Rattle.cm_machine_rules.specs.State.{Passage, State}
-use Rattle.cm_machine_rules.specs.Step.{AreOf, GoesOn, HasRoom, MayLeave, UnlessWrong}
-use Rattle.cm_machine_rules.specs.Step.{after_lift_of_args, after_lift_of_result, arg_slots}
-use Rattle.cm_machine_rules.specs.Step.{args_view, new_call, receiver_of, result_place}
-use Rattle.cm_machine_rules.specs.Step.{result_view, top_place}
+use Rattle.cm_machine_model.specs.declared.frame.Call.{Call}
+use Rattle.cm_machine_model.specs.declared.frame.Frame.{Frame}
+use Rattle.cm_machine_model.specs.declared.frame.Phase.TheVariants as phase
+use Rattle.cm_machine_model.specs.declared.frame.Purpose.TheVariants as purpose
+use Rattle.cm_machine_model.specs.Passages.{IsAnswered, IsScanned, asked_for}
+use Rattle.cm_machine_model.specs.Plan.{Link, Plan, Reaches, taken_kinds, types_of}
+use Rattle.cm_machine_model.specs.Stack.{actor, top_of}
+use Rattle.cm_machine_model.specs.State.{Passage, State}
+use Rattle.cm_machine_model.specs.Step.{AreOf, GoesOn, HasRoom, MayLeave, UnlessWrong}
+use Rattle.cm_machine_model.specs.Step.{after_lift_of_args, after_lift_of_result, arg_slots}
+use Rattle.cm_machine_model.specs.Step.{args_view, new_call, receiver_of, result_place}
+use Rattle.cm_machine_model.specs.Step.{result_view, top_place}
 use Rattle.cm_machine_parts.specs.Kept.{Runs}
 use Rattle.cm_machine_parts.specs.States.{state_of}
 use Rattle.cm_machine_parts.specs.declared.state.State.{State as CodedState}

@@ -10,17 +10,17 @@ use Rattle.cm_abi_model.specs.Views.{Way, params, results}
 use Rattle.cm_abi_model.specs.declared.receiver.Receiver.{Receiver}
 use Rattle.cm_machine_model.specs.Memories.{memory_at}
 use Rattle.cm_machine_model.specs.declared.limits.TheConstants.{MAX_FRAMES}
-use Rattle.cm_machine_rules.specs.declared.frame.Call.{Call}
-use Rattle.cm_machine_rules.specs.declared.frame.Frame.{Frame}
-use Rattle.cm_machine_rules.specs.declared.frame.Phase.{Phase}
-use Rattle.cm_machine_rules.specs.declared.frame.Phase.TheVariants as phase
-use Rattle.cm_machine_rules.specs.declared.frame.Purpose.TheVariants as purpose
-use Rattle.cm_machine_rules.specs.Passages.{Carries, HasAnswers, asked_for}
-use Rattle.cm_machine_rules.specs.Plan.{Link, Plan, Reaches, types_of}
-use Rattle.cm_machine_rules.specs.Plans.{IsLink}
-use Rattle.cm_machine_rules.specs.State.{Passage, table_at}
-use Rattle.cm_machine_rules.specs.Step.{giver_of, receiver_of}
-use Rattle.cm_machine_rules.specs.Valid.{IsStack}
+use Rattle.cm_machine_model.specs.declared.frame.Call.{Call}
+use Rattle.cm_machine_model.specs.declared.frame.Frame.{Frame}
+use Rattle.cm_machine_model.specs.declared.frame.Phase.{Phase}
+use Rattle.cm_machine_model.specs.declared.frame.Phase.TheVariants as phase
+use Rattle.cm_machine_model.specs.declared.frame.Purpose.TheVariants as purpose
+use Rattle.cm_machine_model.specs.Passages.{Carries, HasAnswers, asked_for}
+use Rattle.cm_machine_model.specs.Plan.{Link, Plan, Reaches, types_of}
+use Rattle.cm_machine_model.specs.Plans.{IsLink}
+use Rattle.cm_machine_model.specs.State.{Passage, table_at}
+use Rattle.cm_machine_model.specs.Step.{giver_of, receiver_of}
+use Rattle.cm_machine_model.specs.Valid.{IsStack}
 use Rattle.cm_machine_parts.specs.Kept.{AreBorrowsCounted, CanEnd, IsEncoded}
 use Rattle.cm_machine_parts.specs.States.{state_of}
 use Rattle.cm_machine_parts.specs.declared.state.State.{State as CodedState}

@@ -23,12 +23,12 @@ use Rattle.cm_abi_model.specs.declared.receiver.Receiver.{Receiver}
 use Rattle.cm_machine_model.specs.declared.event.Trap.{Trap}
 use Rattle.cm_machine_model.specs.declared.event.Trap.TheVariants as trap
 use Rattle.cm_machine_model.specs.Memories.{memory_at}
-use Rattle.cm_machine_rules.specs.declared.frame.Place.{Place}
-use Rattle.cm_machine_rules.specs.declared.frame.Place.TheVariants as place
-use Rattle.cm_machine_rules.specs.Passages.{asked_for}
-use Rattle.cm_machine_rules.specs.Plan.{Link}
-use Rattle.cm_machine_rules.specs.State.{Passage, State, table_at}
-use Rattle.cm_machine_rules.specs.Step.{IsHanded, after_handing}
+use Rattle.cm_machine_model.specs.declared.frame.Place.{Place}
+use Rattle.cm_machine_model.specs.declared.frame.Place.TheVariants as place
+use Rattle.cm_machine_model.specs.Passages.{asked_for}
+use Rattle.cm_machine_model.specs.Plan.{Link}
+use Rattle.cm_machine_model.specs.State.{Passage, State, table_at}
+use Rattle.cm_machine_model.specs.Step.{IsHanded, after_handing}
 
 -- where the resource of one handle of a value is, once it was given at a number
 abbrev pub owner_given : ℕ → HandleLeaf → ℕ → List Place → List Place

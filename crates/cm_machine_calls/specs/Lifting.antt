@@ -13,10 +13,10 @@ use Rattle.cm_abi_model.specs.Taken.{Transferable, lent_of, met, tags_of}
 use Rattle.cm_abi_model.specs.Views.{View, Way}
 use Rattle.cm_machine_model.specs.declared.event.Trap.{Trap}
 use Rattle.cm_machine_model.specs.declared.event.Trap.TheVariants as trap
-use Rattle.cm_machine_rules.specs.Passages.{IsScanned}
-use Rattle.cm_machine_rules.specs.Plan.{Link, receiver_side, types_of}
-use Rattle.cm_machine_rules.specs.State.{Passage, State, table_at}
-use Rattle.cm_machine_rules.specs.Step.{MayWantMemory, after_lift, trap_of}
+use Rattle.cm_machine_model.specs.Passages.{IsScanned}
+use Rattle.cm_machine_model.specs.Plan.{Link, receiver_side, types_of}
+use Rattle.cm_machine_model.specs.State.{Passage, State, table_at}
+use Rattle.cm_machine_model.specs.Step.{MayWantMemory, after_lift, trap_of}
 
 -- what is on its way of a scan of these core values
 abbrev pub passage_in : List CoreValue → Scanned → Passage

@@ -6,7 +6,7 @@ use Rattle.cm_layout.specs.Shapes.{layout_of_fields_at}
 use Rattle.cm_abi_model.specs.Receives.{call_kinds}
 use Rattle.cm_abi_model.specs.Requests.{is_spilled}
 use Rattle.cm_abi_model.specs.Views.{Way, params, results}
-use Rattle.cm_machine_rules.specs.Plan.{Link, Side, types_of}
+use Rattle.cm_machine_model.specs.Plan.{Link, Side, types_of}
 use Rattle.cm_machine_calls.specs.declared.link.Link.{Link as CodedLink}
 use Rattle.cm_machine_calls.specs.declared.link.Side.{Side as CodedSide}
 use Rattle.cm_machine_calls.specs.declared.link.Types.{Types as CodedTypes}

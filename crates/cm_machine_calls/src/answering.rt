@@ -5,7 +5,7 @@ ghost use Rattle.cm_abi_model.specs.Answering.{answer_fault};
 ghost use Rattle.cm_abi_model.specs.declared.fault.AbiFault.{AbiFault};
 ghost use Rattle.cm_abi_model.specs.declared.request.Request.{Request};
 ghost use Rattle.cm_machine_model.specs.Memories.{memory_at};
-ghost use Rattle.cm_machine_rules.specs.Step.{trap_of};
+ghost use Rattle.cm_machine_model.specs.Step.{trap_of};
 ghost use Rattle.cm_machine_parts.specs.States.{state_of};
 ghost use Rattle.cm_machine_calls.specs.Answering.{CanAnswer, KeepsAnswer, StopsAnswer};
 

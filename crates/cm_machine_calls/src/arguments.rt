@@ -1,8 +1,8 @@
 //! The core values that a lowered function is called with.
 
 ghost use Rattle.std.specs.Prelude.{◌≡◌, IfNone, IfSome};
-ghost use Rattle.cm_machine_rules.specs.Plan.{Link as RulesLink, taken_kinds};
-ghost use Rattle.cm_machine_rules.specs.Step.{AreOf, arg_slots, result_place};
+ghost use Rattle.cm_machine_model.specs.Plan.{Link as RulesLink, taken_kinds};
+ghost use Rattle.cm_machine_model.specs.Step.{AreOf, arg_slots, result_place};
 ghost use Rattle.cm_machine_calls.specs.Links.{IsLinkOf};
 
 use crate::link::Link;

@@ -3,8 +3,8 @@
 ghost use Rattle.std.specs.Prelude.{◌≡◌, ℕ, List, OnOk, Ok};
 ghost use Rattle.cm_types.specs.Values.{Val};
 ghost use Rattle.cm_abi_model.specs.Ways.{way_of};
-ghost use Rattle.cm_machine_rules.specs.Plan.{Link as RulesLink, Plan};
-ghost use Rattle.cm_machine_rules.specs.Step.{GoesOn, top_place};
+ghost use Rattle.cm_machine_model.specs.Plan.{Link as RulesLink, Plan};
+ghost use Rattle.cm_machine_model.specs.Step.{GoesOn, top_place};
 ghost use Rattle.cm_machine_parts.specs.Kept.{IsKept};
 ghost use Rattle.cm_machine_parts.specs.Rows.{MeetsRow};
 ghost use Rattle.cm_machine_parts.specs.States.{state_of};
@@ -18,9 +18,9 @@ use cm_abi::Way;
 use cm_abi_model::laws::each_part_is_asked_for;
 use cm_abi_requests::laws::what_is_denoted_can_be_lowered;
 use cm_abi_requests::requesting_laws::records_ask_for_parts;
+use cm_machine_model::state::Call;
 use cm_machine_model::{Flat, Trap};
 use cm_machine_parts::{Outcome, State};
-use cm_machine_rules::state::Call;
 use std::alloc::Global;
 
 /// Goes on with the value on its way in the call on top, over a link, that way: its receiver's

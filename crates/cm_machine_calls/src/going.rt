@@ -4,13 +4,13 @@ ghost use Rattle.std.specs.Prelude.{◌≡◌, ◌<◌, ◌∷◌, [], List, IfS
 ghost use Rattle.cm_types.specs.declared.core_value.CoreValue.TheVariants as core_value;
 ghost use Rattle.cm_abi_model.specs.Views.{results};
 ghost use Rattle.cm_abi_model.specs.Ways.{way_of};
-ghost use Rattle.cm_machine_rules.specs.declared.frame.Frame.{Frame as RulesFrame};
-ghost use Rattle.cm_machine_rules.specs.declared.frame.Phase.TheVariants as phases;
-ghost use Rattle.cm_machine_rules.specs.Valid.{IsStack};
-ghost use Rattle.cm_machine_rules.specs.Plan.{Link as RulesLink, Plan};
-ghost use Rattle.cm_machine_rules.specs.State.{Passage};
-ghost use Rattle.cm_machine_rules.specs.Step.{Finishes, IsReceived, first_value, flat_result};
-ghost use Rattle.cm_machine_rules.specs.Step.{giver_of, in_phase, receiver_of, top_place};
+ghost use Rattle.cm_machine_model.specs.declared.frame.Frame.{Frame as RulesFrame};
+ghost use Rattle.cm_machine_model.specs.declared.frame.Phase.TheVariants as phases;
+ghost use Rattle.cm_machine_model.specs.Valid.{IsStack};
+ghost use Rattle.cm_machine_model.specs.Plan.{Link as RulesLink, Plan};
+ghost use Rattle.cm_machine_model.specs.State.{Passage};
+ghost use Rattle.cm_machine_model.specs.Step.{Finishes, IsReceived, first_value, flat_result};
+ghost use Rattle.cm_machine_model.specs.Step.{giver_of, in_phase, receiver_of, top_place};
 ghost use Rattle.cm_machine_parts.specs.Kept.{AreBorrowsCounted, CanEnd, IsEncodedAtTop};
 ghost use Rattle.cm_machine_parts.specs.Rows.{event_of};
 ghost use Rattle.cm_machine_parts.specs.States.{state_of};
@@ -19,9 +19,9 @@ ghost use Rattle.cm_machine_calls.specs.Links.{IsLinkOf};
 use crate::link::Link;
 use cm_abi::{Receiver, Request, Way};
 use cm_machine_model::Flat;
+use cm_machine_model::state::{Call, Frame, Phase, Purpose};
 use cm_machine_parts::laws::what_is_kept_stays;
 use cm_machine_parts::{Outcome, State, end_call};
-use cm_machine_rules::state::{Call, Frame, Phase, Purpose};
 use cm_types::CoreValue;
 
 /// Who gives what is passed that way.

@@ -6,10 +6,10 @@ ghost use Rattle.cm_types.specs.Values.{Val};
 ghost use Rattle.cm_abi_model.specs.Giving.{borrowed_count};
 ghost use Rattle.cm_abi_model.specs.HandleLeaves.{leaf_of, leaves_of};
 ghost use Rattle.cm_abi_model.specs.Ways.{way_of};
-ghost use Rattle.cm_machine_rules.specs.declared.frame.Call.{Call as RulesCall};
-ghost use Rattle.cm_machine_rules.specs.Passages.{asked_for};
-ghost use Rattle.cm_machine_rules.specs.Plan.{Link as RulesLink, Plan};
-ghost use Rattle.cm_machine_rules.specs.Step.{giver_of, owners_given, receiver_of};
+ghost use Rattle.cm_machine_model.specs.declared.frame.Call.{Call as RulesCall};
+ghost use Rattle.cm_machine_model.specs.Passages.{asked_for};
+ghost use Rattle.cm_machine_model.specs.Plan.{Link as RulesLink, Plan};
+ghost use Rattle.cm_machine_model.specs.Step.{giver_of, owners_given, receiver_of};
 ghost use Rattle.cm_machine_parts.specs.Kept.{AreBorrowsCounted, CanEnd};
 ghost use Rattle.cm_machine_parts.specs.States.{state_of};
 ghost use Rattle.cm_machine_calls.specs.Going.{CanHand, passage_now};
@@ -23,9 +23,9 @@ use cm_abi::{HandleLeaf, Passed, Receiver, Way};
 use cm_abi_lower::borrowed_count;
 use cm_abi_requests::requesting_laws::records_ask_for_parts;
 use cm_handles::laws::{borrows_are_counted, tables_change_in_one_place};
+use cm_machine_model::state::{Call, Place};
 use cm_machine_model::{Flat, MAX_FRAMES, Trap};
 use cm_machine_parts::State;
-use cm_machine_rules::state::{Call, Place};
 use std::alloc::Global;
 
 /// Says where the resource of a handle is that was given at a number of an instance's table, if it

@@ -2,8 +2,8 @@
 
 ghost use Rattle.std.specs.Prelude.{◌≡◌};
 ghost use Rattle.cm_abi_model.specs.Ways.{way_of};
-ghost use Rattle.cm_machine_rules.specs.Plan.{Link as RulesLink, giver_side, receiver_side};
-ghost use Rattle.cm_machine_rules.specs.Plan.{types_of};
+ghost use Rattle.cm_machine_model.specs.Plan.{Link as RulesLink, giver_side, receiver_side};
+ghost use Rattle.cm_machine_model.specs.Plan.{types_of};
 ghost use Rattle.cm_machine_calls.specs.Links.{IsLinkOf, IsTypesOf};
 
 use cm_abi_model::{Encodings, StringEncoding, Way};

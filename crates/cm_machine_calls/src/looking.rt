@@ -4,7 +4,7 @@ ghost use Rattle.std.specs.Prelude.{◌≡◌, ◌^◌, ◌<◌, ℕ, MatchResul
 ghost use Rattle.cm_abi_model.specs.Lifts.{IsGivenBy, LendsBelow};
 ghost use Rattle.cm_abi_model.specs.Views.{View};
 ghost use Rattle.cm_abi_model.specs.Ways.{way_of};
-ghost use Rattle.cm_machine_rules.specs.Plan.{Link as RulesLink, giver_side};
+ghost use Rattle.cm_machine_model.specs.Plan.{Link as RulesLink, giver_side};
 ghost use Rattle.cm_machine_calls.specs.Lifting.{IsSeen, StopsLift};
 ghost use Rattle.cm_machine_calls.specs.Links.{IsLinkOf};
 

@@ -1,7 +1,7 @@
 //! The traps of what is wrong with a value or an answer.
 
 ghost use Rattle.std.specs.Prelude.{◌≡◌};
-ghost use Rattle.cm_machine_rules.specs.Step.{trap_of};
+ghost use Rattle.cm_machine_model.specs.Step.{trap_of};
 
 use cm_abi::AbiFault;
 use cm_machine_model::Trap;

@@ -18,7 +18,7 @@ use Rattle.cm_match_model.specs.Imports.{links_of}
 use Rattle.cm_match_model.specs.Serving.{standing}
 use Rattle.cm_match_model.specs.Targets.{Target, targets_of}
 use Rattle.cm_match_serving.specs.Sets.{set_of}
-use Rattle.cm_machine_rules.specs.Plan as plan
+use Rattle.cm_machine_model.specs.Plan as plan
 use Rattle.cm_machine_links.specs.Planned.{IsCoreFuncOf, IsLinkOf}
 use Rattle.cm_machine_links.specs.Planning.{core_func_of, destructor_in, destructor_of, link_to, origin_in}
 use Rattle.cm_machine_links.specs.Standing.{AllStand, AreCallTypes, AreTypesOf, IsCoreSpelled, IsSpelled, RowsStand, Stands}

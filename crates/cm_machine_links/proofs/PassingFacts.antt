@@ -11,14 +11,14 @@ use Rattle.cm_types.specs.declared.core_value.CoreKind.TheVariants.{I32}
 use Rattle.cm_types.specs.Spellable.{are_spellable, is_spellable}
 use Rattle.cm_types.specs.Types.{Ty, Fields, FuncTy, field, fields, no_fields, tuple_type}
 use Rattle.cm_types_arena.specs.Arena.{field_types}
-use Rattle.cm_types_resources.specs.Replaced.{Standing, replaced, replaced_fields}
+use Rattle.cm_types_arena.specs.Replaced.{Standing, replaced, replaced_fields}
 use Rattle.cm_layout.specs.Flattening.{flat_of, flat_of_fields, flat_of_payload}
 use Rattle.cm_layout.specs.Shapes.{LayoutTy, layout_of_fields_at}
 use Rattle.cm_abi_model.specs.Receives.{call_kinds}
 use Rattle.cm_abi_model.specs.Requests.{is_spilled}
 use Rattle.cm_abi_model.specs.Views.{params, results}
 use Rattle.cm_layout_placed.specs.Placed.{result_fields}
-use Rattle.cm_machine_rules.specs.Plan.{one_field}
+use Rattle.cm_machine_model.specs.Plan.{one_field}
 use Rattle.cm_machine_links.specs.Standing.{AreCallTypes, IsCallTypes, IsSpelled}
 use Rattle.cm_machine_links.specs.declared.passing.CallTypes.{CallTypes}
 

@@ -4,8 +4,8 @@ use Rattle.std.specs.Prelude.{unwrap_or}
 use Rattle.std.specs.List.{AllByRecursion}
 use Rattle.cm_validate_model.specs.Definitions.{CoreFuncDef}
 use Rattle.cm_validate_model.specs.Spaces.{Spaces}
-use Rattle.cm_machine_rules.specs.Plan as plan
-use Rattle.cm_machine_rules.specs.Plan.{CoreFunc, Plan, core_func_at}
+use Rattle.cm_machine_model.specs.Plan as plan
+use Rattle.cm_machine_model.specs.Plan.{CoreFunc, Plan, core_func_at}
 use Rattle.cm_machine_links.specs.Planned.{AreCoreFuncsOf, AreRowsOf, IsCoreFuncOf, IsFound}
 use Rattle.cm_machine_links.specs.Planning.{core_def_in, core_func_of}
 use Rattle.cm_machine_links.specs.Standing.{AllStand, EachStands, IsCoreSpelled, RowsStand, Stands}

@@ -10,7 +10,7 @@ use Rattle.cm_types.specs.Holds.{fields_hold, holds, is_borrow, is_string}
 use Rattle.cm_types.specs.Spellable.{are_spellable, is_spellable, is_spellable_payload}
 use Rattle.cm_types.specs.Types.{Ty, Fields, FuncTy, fields, tuple_type}
 use Rattle.cm_types.specs.Values.{HasType, Val}
-use Rattle.cm_types_resources.specs.Replaced.{Standing, replaced, replaced_func}
+use Rattle.cm_types_arena.specs.Replaced.{Standing, replaced, replaced_func}
 use Rattle.cm_layout.specs.Flattening.{flat_of, flat_of_fields}
 use Rattle.cm_layout.specs.Sizes.{align_of, size_of}
 use Rattle.cm_binary_model.specs.declared.canons.CanonOption.{CanonOption}
@@ -27,9 +27,9 @@ use Rattle.cm_match_model.specs.Imports.{links_of}
 use Rattle.cm_match_model.specs.Origins.{definition_of, origin_of, resource_of}
 use Rattle.cm_match_model.specs.Serving.{IsSameFunc, standing}
 use Rattle.cm_match_model.specs.Targets.{Target, targets_of}
-use Rattle.cm_machine_rules.specs.Plan as plan
-use Rattle.cm_machine_rules.specs.Plan.{CoreFunc, Link, Plan, core_func_at, one_field, types_of}
-use Rattle.cm_machine_rules.specs.Plans.{HasAllocator, IsCoreFunc, IsGuest, IsGuestIfAny, IsLink, IsPlan, NoneBorrowed}
+use Rattle.cm_machine_model.specs.Plan as plan
+use Rattle.cm_machine_model.specs.Plan.{CoreFunc, Link, Plan, core_func_at, one_field, types_of}
+use Rattle.cm_machine_model.specs.Plans.{HasAllocator, IsCoreFunc, IsGuest, IsGuestIfAny, IsLink, IsPlan, NoneBorrowed}
 use Rattle.cm_machine_links.specs.Planning.{HaveOneType, IsPlanOf, core_def_in, core_func_of, destructor_in, destructor_of, encoding_of, first_in, link_to, origin_in, post_return_in, realloc_in}
 use Rattle.cm_machine_links.specs.Standing.{EachStands, IsCoreSpelled, IsSpelled}
 use Rattle.cm_machine_links.proofs.OptionFacts.{either, lift_latin1, lift_realloc, lower_latin1, lower_realloc, not_more, post_return_guest, realloc_guest, realloc_named, stored_in, stores}

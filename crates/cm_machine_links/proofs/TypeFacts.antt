@@ -8,7 +8,7 @@ use Rattle.cm_abi_model.specs.Parts.{Part, parts_each, parts_in, parts_in_fields
 use Rattle.cm_abi_model.specs.Receives.{HandleLeaf, borrowed_leaf, leaves_each, leaves_in, leaves_in_fields, leaves_in_payload, owned_leaf}
 use Rattle.cm_abi_model.specs.Requests.{CarryNoString, HasNoString, HaveNoString}
 use Rattle.cm_validate_model.specs.Options.{is_pointer}
-use Rattle.cm_machine_rules.specs.Plans.{NoneBorrowed}
+use Rattle.cm_machine_model.specs.Plans.{NoneBorrowed}
 
 pub or_left : (a b : Bool) → (a || b) ≡ false → a ≡ false
 or_left true b e = e

@@ -6,7 +6,7 @@ use Rattle.std.specs.declared.rc.Rc.{Rc}
 use Rattle.std.proofs.lemmas.List.{length-map}
 use Rattle.cm_types.specs.Spellable.{are_spellable, is_spellable, is_spellable_payload}
 use Rattle.cm_types.specs.Types.{Ty, Fields, FuncTy, field, no_fields}
-use Rattle.cm_types_resources.specs.Replaced.{Standing, replaced, replaced_fields, replaced_func}
+use Rattle.cm_types_arena.specs.Replaced.{Standing, replaced, replaced_fields, replaced_func}
 use Rattle.cm_binary_model.specs.declared.canons.CanonOption.{CanonOption}
 use Rattle.cm_validate_model.specs.Spaces.{Spaces}
 use Rattle.cm_validate_spaces.specs.Checked.{funcs_in}

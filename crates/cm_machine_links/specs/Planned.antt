@@ -6,8 +6,8 @@ use Rattle.cm_layout.specs.Shapes.{layout_of_fields_at}
 use Rattle.cm_abi_model.specs.Receives.{call_kinds}
 use Rattle.cm_abi_model.specs.Requests.{is_spilled}
 use Rattle.cm_abi_model.specs.Views.{Way, params, results}
-use Rattle.cm_machine_rules.specs.Plan as plan
-use Rattle.cm_machine_rules.specs.Plan.{Plan, types_of}
+use Rattle.cm_machine_model.specs.Plan as plan
+use Rattle.cm_machine_model.specs.Plan.{Plan, types_of}
 use Rattle.cm_machine_links.specs.declared.core_funcs.CoreFunc.{CoreFunc}
 use Rattle.cm_machine_links.specs.declared.core_funcs.CoreFunc.TheVariants as core_func
 use Rattle.cm_machine_links.specs.declared.core_funcs.Link.{Link}

@@ -5,7 +5,7 @@ use Rattle.std.specs.Prelude.{slice_get, unwrap_or}
 use Rattle.std.specs.Option.{option_and_then, option_map, option_or}
 use Rattle.cm_types.specs.declared.resource.ResourceId.{ResourceId}
 use Rattle.cm_types.specs.Types.{FuncTy}
-use Rattle.cm_types_resources.specs.Replaced.{replaced_func}
+use Rattle.cm_types_arena.specs.Replaced.{replaced_func}
 use Rattle.cm_binary_model.specs.declared.canons.CanonOption.{CanonOption}
 use Rattle.cm_binary_model.specs.declared.canons.CanonOption.TheVariants as option
 use Rattle.cm_abi_model.specs.declared.encoding.StringEncoding.{StringEncoding}
@@ -17,8 +17,8 @@ use Rattle.cm_match_model.specs.Imports.{links_of}
 use Rattle.cm_match_model.specs.Origins.{definition_of, origin_of, resource_of}
 use Rattle.cm_match_model.specs.Serving.{standing}
 use Rattle.cm_match_model.specs.Targets.{Target, targets_of}
-use Rattle.cm_machine_rules.specs.Plan as plan
-use Rattle.cm_machine_rules.specs.Plan.{CoreFunc, Link, Plan, Side, core_func_at}
+use Rattle.cm_machine_model.specs.Plan as plan
+use Rattle.cm_machine_model.specs.Plan.{CoreFunc, Link, Plan, Side, core_func_at}
 
 -- ---- options
 

@@ -6,7 +6,7 @@ use Rattle.std.specs.declared.alloc.Global.{Global}
 use Rattle.std.specs.declared.rc.Rc.{Rc}
 use Rattle.cm_types.specs.Spellable.{are_spellable, is_spellable_payload}
 use Rattle.cm_types.specs.Types.{FuncTy}
-use Rattle.cm_types_resources.specs.Replaced.{Standing, replaced, replaced_fields}
+use Rattle.cm_types_arena.specs.Replaced.{Standing, replaced, replaced_fields}
 use Rattle.cm_abi_model.specs.Requests.{is_spilled}
 use Rattle.cm_abi_model.specs.Views.{params, results}
 use Rattle.cm_validate_model.specs.Definitions.{CoreFuncDef}
@@ -14,8 +14,8 @@ use Rattle.cm_validate_model.specs.Spaces.{Spaces}
 use Rattle.cm_validate_spaces.specs.Checked.{funcs_in}
 use Rattle.cm_validate_spaces.specs.declared.checked.Checked.{Checked}
 use Rattle.cm_match_model.specs.Serving.{standing}
-use Rattle.cm_machine_rules.specs.Plan as plan
-use Rattle.cm_machine_rules.specs.Plan.{one_field}
+use Rattle.cm_machine_model.specs.Plan as plan
+use Rattle.cm_machine_model.specs.Plan.{one_field}
 use Rattle.cm_machine_links.specs.Planned.{IsCoreFuncOf, IsPassing}
 use Rattle.cm_machine_links.specs.Planning.{core_func_of}
 use Rattle.cm_machine_links.specs.declared.core_funcs.CoreFunc.{CoreFunc}

@@ -21,8 +21,8 @@ use crate::passing::CallTypes;
 use cm_binary_model::CanonOption;
 use cm_match::{Checked, CoreFuncEntry, Linked, MadeFunc};
 use cm_types::ResourceId;
-use cm_types_placed::laws::unmoved;
-use cm_types_resources::laws::what_stays;
+use cm_types_arena::laws::what_stays;
+use cm_types_arena::placed_laws::unmoved;
 use std::alloc::AllocError;
 use std::rc::Rc;
 

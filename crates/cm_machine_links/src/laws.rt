@@ -5,8 +5,8 @@ ghost use Rattle.std.specs.Prelude.{List};
 ghost use Rattle.std.specs.List.{AllByRecursion};
 ghost use Rattle.cm_validate_model.specs.Valid.{IsValid};
 ghost use Rattle.cm_match.specs.Linked.{sections_in, set_in};
-ghost use Rattle.cm_machine_rules.specs.Plan.{Plan};
-ghost use Rattle.cm_machine_rules.specs.Plans.{IsPlan};
+ghost use Rattle.cm_machine_model.specs.Plan.{Plan};
+ghost use Rattle.cm_machine_model.specs.Plans.{IsPlan};
 ghost use Rattle.cm_machine_links.specs.Planned.{AreRowsOf};
 ghost use Rattle.cm_machine_links.specs.Planning.{HaveOneType, IsPlanOf};
 ghost use Rattle.cm_machine_links.specs.Standing.{EachStands, RowsStand};
@@ -15,7 +15,7 @@ ghost use Rattle.cm_machine_links.specs.declared.core_funcs.CoreFunc.{CoreFunc a
 use cm_match::Linked;
 use cm_match_model::laws::{imported_functions_reach_lifts, links_lead_earlier, targets_are_lifts};
 use cm_match_model::origin_laws::{origins_are_unique, origins_follow_links, origins_lead_earlier};
-use cm_types_resources::laws::what_stays;
+use cm_types_arena::laws::what_stays;
 use cm_validate_canons::laws::{passing_stays, pointers};
 use cm_validate_model::function_laws::{
     destructors_are_guests, functions_are_as_imported, what_functions_name_is_there,

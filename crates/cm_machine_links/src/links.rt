@@ -12,7 +12,7 @@ pub struct Links {
 impl Links {
     ghost use Rattle.std.specs.Prelude.{◌≡◌, length};
     ghost use Rattle.std.specs.Option.{option_map};
-    ghost use Rattle.cm_machine_rules.specs.Plan.{Plan, core_func_at};
+    ghost use Rattle.cm_machine_model.specs.Plan.{Plan, core_func_at};
     ghost use Rattle.cm_machine_links.specs.Planned.{ArePlanned, IsFound, rows_in};
 
     /// How many instances there are.

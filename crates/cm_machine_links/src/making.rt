@@ -4,8 +4,8 @@ ghost use Rattle.std.specs.Prelude.{◌≡◌, IfOk, is_some, length, map, true}
 ghost use Rattle.std.specs.List.{AllByRecursion};
 ghost use Rattle.cm_validate_spaces.specs.Checked.{spaces_in};
 ghost use Rattle.cm_match.specs.Linked.{components_in, set_in};
-ghost use Rattle.cm_machine_rules.specs.Plan.{Plan};
-ghost use Rattle.cm_machine_rules.specs.Plans.{IsPlan};
+ghost use Rattle.cm_machine_model.specs.Plan.{Plan};
+ghost use Rattle.cm_machine_model.specs.Plans.{IsPlan};
 ghost use Rattle.cm_machine_links.specs.Planned.{ArePlanned};
 ghost use Rattle.cm_machine_links.specs.Planning.{IsPlanOf, core_func_of};
 ghost use Rattle.cm_machine_links.specs.Standing.{AllStand, AreTypesOf, RowsStand};

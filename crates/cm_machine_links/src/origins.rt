@@ -6,7 +6,7 @@ ghost use Rattle.cm_machine_links.specs.Planning.{destructor_of};
 
 use cm_match::Linked;
 use cm_types::ResourceId;
-use cm_types_resources::Replacement;
+use cm_types_arena::Replacement;
 use cm_validate_items::Resource;
 
 /// For each resource of a component, by its place in the set, stands what it is in the end.

@@ -2,3 +2,16 @@ pub mod Numbers
 pub mod Events
 pub mod Memories
 pub mod Exchange
+pub mod Plan
+pub mod Plans
+pub mod Stack
+pub mod State
+pub mod Passages
+pub mod Step
+pub mod Rows
+pub mod Cases
+pub mod Run
+pub mod History
+pub mod Owning
+pub mod Valid
+pub mod Work

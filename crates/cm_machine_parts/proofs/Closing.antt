@@ -5,7 +5,7 @@ use Rattle.std.proofs.lemmas.Bool.{cases_eq}
 use Rattle.std.proofs.lemmas.List.{get_or-set_other}
 use Rattle.cm_handles.specs.declared.handle.Handle.{Handle}
 use Rattle.cm_handles.specs.Handles.{Handles, TableState, after_close, borrows_from, is_borrow, slot_after_close, with_lends}
-use Rattle.cm_machine_rules.specs.State.{table_at}
+use Rattle.cm_machine_model.specs.State.{table_at}
 use Rattle.cm_machine_parts.specs.Closing.{AreClosed}
 use Rattle.cm_machine_parts.specs.States.{handles_in}
 use Rattle.cm_machine_parts.proofs.Tables.{handles_set, set_past, set_same_table, table_in, table_same, table_other}

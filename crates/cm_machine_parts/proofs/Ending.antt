@@ -6,18 +6,18 @@ use Rattle.std.proofs.lemmas.Option.{none-some}
 use Rattle.cm_handles.specs.Borrows.{borrows_of}
 use Rattle.cm_handles.specs.Handles.{Handles, after_unlend}
 use Rattle.cm_abi_model.specs.Views.{params, results}
-use Rattle.cm_machine_rules.specs.declared.frame.Call.{Call}
-use Rattle.cm_machine_rules.specs.declared.frame.Frame.{Frame}
-use Rattle.cm_machine_rules.specs.declared.frame.Lend.{Lend}
-use Rattle.cm_machine_rules.specs.declared.frame.Phase.{Phase}
-use Rattle.cm_machine_rules.specs.declared.frame.Phase.TheVariants as phase
-use Rattle.cm_machine_rules.specs.declared.frame.Purpose.{Purpose}
-use Rattle.cm_machine_rules.specs.declared.frame.Purpose.TheVariants as purpose
-use Rattle.cm_machine_rules.specs.Plan.{Plan, Link, Reaches}
-use Rattle.cm_machine_rules.specs.Stack.{below_top, top_of}
-use Rattle.cm_machine_rules.specs.State.{State, table_at}
-use Rattle.cm_machine_rules.specs.Step.{MayLeave, MayLeaveIn}
-use Rattle.cm_machine_rules.specs.Valid.{AreToCalls, IsStack, StandsOn, frame_at}
+use Rattle.cm_machine_model.specs.declared.frame.Call.{Call}
+use Rattle.cm_machine_model.specs.declared.frame.Frame.{Frame}
+use Rattle.cm_machine_model.specs.declared.frame.Lend.{Lend}
+use Rattle.cm_machine_model.specs.declared.frame.Phase.{Phase}
+use Rattle.cm_machine_model.specs.declared.frame.Phase.TheVariants as phase
+use Rattle.cm_machine_model.specs.declared.frame.Purpose.{Purpose}
+use Rattle.cm_machine_model.specs.declared.frame.Purpose.TheVariants as purpose
+use Rattle.cm_machine_model.specs.Plan.{Plan, Link, Reaches}
+use Rattle.cm_machine_model.specs.Stack.{below_top, top_of}
+use Rattle.cm_machine_model.specs.State.{State, table_at}
+use Rattle.cm_machine_model.specs.Step.{MayLeave, MayLeaveIn}
+use Rattle.cm_machine_model.specs.Valid.{AreToCalls, IsStack, StandsOn, frame_at}
 use Rattle.cm_machine_parts.specs.declared.passing.Passing.{Passing}
 use Rattle.cm_machine_parts.specs.Kept.{AreBorrowsCounted, IsEncodedAtTop, IsEncodedFor, IsEncodedIn}
 use Rattle.cm_machine_parts.specs.Lends.{NoneAbove}

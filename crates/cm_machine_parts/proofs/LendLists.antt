@@ -8,9 +8,9 @@ use Rattle.std.proofs.lemmas.Option.{none-some, same_Some, slice_get_within, get
 use Rattle.cm_handles.specs.declared.handle.Handle.{Handle}
 use Rattle.cm_handles.specs.Borrows.{borrows_of}
 use Rattle.cm_handles.specs.Handles.{Handles, TableState, handle_at, no_handles, after_change, after_unlend, with_lends}
-use Rattle.cm_machine_rules.specs.declared.frame.Lend.{Lend}
-use Rattle.cm_machine_rules.specs.Owning.{AreCounted, count_lends, standing}
-use Rattle.cm_machine_rules.specs.State.{State, table_at, tables_after_unlend, tables_after_call, lends_after_call, lends_to}
+use Rattle.cm_machine_model.specs.declared.frame.Lend.{Lend}
+use Rattle.cm_machine_model.specs.Owning.{AreCounted, count_lends, standing}
+use Rattle.cm_machine_model.specs.State.{State, table_at, tables_after_unlend, tables_after_call, lends_after_call, lends_to}
 use Rattle.cm_machine_parts.specs.Lends.{NeverFall, NoneAbove, lends_at, AreLentAtLeast, tables_after_unlends}
 use Rattle.cm_machine_parts.specs.States.{handles_in}
 use Rattle.cm_machine_parts.proofs.Tables.{handles_set, table_in, table_same, table_other, set_past}

@@ -4,7 +4,7 @@ use Rattle.std.specs.Prelude.{slice_set}
 use Rattle.std.proofs.lemmas.List.{map-set, get_or-set_same, get_or-set_other, get_or-map, length-set}
 use Rattle.std.proofs.lemmas.Option.{unwrap_or-slice_get}
 use Rattle.cm_handles.specs.Handles.{Handles, TableState, no_handles}
-use Rattle.cm_machine_rules.specs.State.{table_at}
+use Rattle.cm_machine_model.specs.State.{table_at}
 use Rattle.cm_machine_parts.specs.States.{handles_in}
 
 pub handles_set : (ts : List TableState) (i : ℕ) (t : TableState) → handles_in (slice_set ts i t) ≡ slice_set (handles_in ts) i t.handles

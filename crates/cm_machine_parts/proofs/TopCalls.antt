@@ -3,8 +3,8 @@ use Rattle.std.proofs.Common.{◌≡◌, ℕ, suc, ◌+◌, ◌<◌, ◌≤◌, 
 use Rattle.std.specs.Prelude.{reverse, take}
 use Rattle.std.proofs.Math.Seq.{take-suc}
 use Rattle.std.proofs.lemmas.List.{reverse-append, length-reverse, length-take-le}
-use Rattle.cm_machine_rules.specs.declared.frame.Frame.{Frame}
-use Rattle.cm_machine_rules.specs.Work.{place_if_call, top_call}
+use Rattle.cm_machine_model.specs.declared.frame.Frame.{Frame}
+use Rattle.cm_machine_model.specs.Work.{place_if_call, top_call}
 
 one_more : (fs : List Frame) (k : ℕ) (f : Frame) → k < length fs → f ≡ get_or fs k f → reverse (take (suc k) fs) ≡ f ∷ reverse (take k fs)
 one_more fs k f lt is = ap reverse (take-suc fs k f lt ∙ ap (λ (x : Frame). take k fs ++ (x ∷ [])) (sym is)) ∙ reverse-append (take k fs) (f ∷ [])

@@ -2,7 +2,7 @@
 use Rattle.std.specs.Prelude.{◌≡◌, ℕ, List, Option, Some, None}
 use Rattle.cm_types.specs.declared.core_value.CoreValue.{CoreValue}
 use Rattle.cm_abi_model.specs.Numbers.{slot_at}
-use Rattle.cm_machine_rules.specs.Step.{AreOf, one_i32}
+use Rattle.cm_machine_model.specs.Step.{AreOf, one_i32}
 
 -- the core values are one number of 32 bits, this one; or they are not
 abbrev pub IsOneI32 : List CoreValue → Option ℕ → Type 0

@@ -3,15 +3,15 @@ use Rattle.std.specs.Prelude.{◌≡◌, ℕ, ◌<◌, ⊤, List, [], ◌∷◌,
 use Rattle.cm_handles.specs.Borrows.{borrows_of}
 use Rattle.cm_handles.specs.Handles.{Handles}
 use Rattle.cm_abi_model.specs.Views.{Way, params, results}
-use Rattle.cm_machine_rules.specs.declared.frame.Frame.{Frame}
-use Rattle.cm_machine_rules.specs.declared.frame.Phase.{Phase}
-use Rattle.cm_machine_rules.specs.declared.frame.Phase.TheVariants as phase
-use Rattle.cm_machine_rules.specs.declared.frame.Purpose.{Purpose}
-use Rattle.cm_machine_rules.specs.declared.frame.Purpose.TheVariants as purpose
-use Rattle.cm_machine_rules.specs.Plan.{Plan, Link, Reaches, giver_side, receiver_side}
-use Rattle.cm_machine_rules.specs.Stack.{below_top}
-use Rattle.cm_machine_rules.specs.State.{table_at}
-use Rattle.cm_machine_rules.specs.Valid.{IsValidState, frame_at}
+use Rattle.cm_machine_model.specs.declared.frame.Frame.{Frame}
+use Rattle.cm_machine_model.specs.declared.frame.Phase.{Phase}
+use Rattle.cm_machine_model.specs.declared.frame.Phase.TheVariants as phase
+use Rattle.cm_machine_model.specs.declared.frame.Purpose.{Purpose}
+use Rattle.cm_machine_model.specs.declared.frame.Purpose.TheVariants as purpose
+use Rattle.cm_machine_model.specs.Plan.{Plan, Link, Reaches, giver_side, receiver_side}
+use Rattle.cm_machine_model.specs.Stack.{below_top}
+use Rattle.cm_machine_model.specs.State.{table_at}
+use Rattle.cm_machine_model.specs.Valid.{IsValidState, frame_at}
 use Rattle.cm_machine_parts.specs.declared.passing.Passing.{Passing}
 use Rattle.cm_machine_parts.specs.declared.state.State.{State as CodedState}
 use Rattle.cm_machine_parts.specs.Lends.{AreLentAtLeast, NoneAbove}

@@ -3,9 +3,9 @@ use Rattle.std.specs.Prelude.{◌≡◌, ℕ, ◌<◌, ◌≤◌, List, [], ◌�
 use Rattle.std.specs.Prelude.{slice_get}
 use Rattle.cm_handles.specs.declared.handle.Handle.{Handle}
 use Rattle.cm_handles.specs.Handles.{Handles, handle_at}
-use Rattle.cm_machine_rules.specs.declared.frame.Lend.{Lend}
-use Rattle.cm_machine_rules.specs.Owning.{count_lends}
-use Rattle.cm_machine_rules.specs.State.{table_at, tables_after_unlend}
+use Rattle.cm_machine_model.specs.declared.frame.Lend.{Lend}
+use Rattle.cm_machine_model.specs.Owning.{count_lends}
+use Rattle.cm_machine_model.specs.State.{table_at, tables_after_unlend}
 
 -- the frames of lends never fall: those to a later call stand behind those to an earlier one
 abbrev pub NeverFall : List Lend → Type 0

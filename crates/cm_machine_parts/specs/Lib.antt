@@ -5,4 +5,4 @@ pub mod Lends
 pub mod Rows
 pub mod Stacks
 pub mod States
-pub use Rattle.cm_machine_rules.specs as cm_machine_rules
+pub use Rattle.cm_machine_model.specs as cm_machine_model

@@ -4,7 +4,7 @@ use Rattle.cm_types.specs.declared.core_value.CoreValue.{CoreValue}
 use Rattle.cm_machine_model.specs.declared.event.Event.{Event}
 use Rattle.cm_machine_model.specs.declared.event.Event.TheVariants as event
 use Rattle.cm_machine_model.specs.declared.event.Trap.{Trap}
-use Rattle.cm_machine_rules.specs.State.{State, after_trap}
+use Rattle.cm_machine_model.specs.State.{State, after_trap}
 use Rattle.cm_machine_parts.specs.declared.outcome.Outcome.{Outcome}
 use Rattle.cm_machine_parts.specs.declared.outcome.Outcome.TheVariants as outcome
 

@@ -1,7 +1,7 @@
 -- The state of the rules that the state of a running set stands for.
 use Rattle.std.specs.Prelude.{ℕ, List, map, Option, Some, None, if◌then◌else◌}
 use Rattle.cm_handles.specs.Handles.{Handles, TableState}
-use Rattle.cm_machine_rules.specs.State.{State, Passage}
+use Rattle.cm_machine_model.specs.State.{State, Passage}
 use Rattle.cm_machine_parts.specs.declared.passing.Passing.{Passing}
 use Rattle.cm_machine_parts.specs.declared.state.State.{State as CodedState}
 

@@ -2,7 +2,7 @@
 
 ghost use Rattle.std.specs.Prelude.{◌≡◌, ◌↔◌, IsTrue, map};
 ghost use Rattle.cm_types.specs.CoreValues.{kind_of};
-ghost use Rattle.cm_machine_rules.specs.Step.{AreOf};
+ghost use Rattle.cm_machine_model.specs.Step.{AreOf};
 ghost use Rattle.cm_machine_parts.specs.Checks.{IsOneI32};
 
 use cm_types::{CoreKind, CoreValue};

@@ -1,8 +1,8 @@
 //! The end of a call.
 
 ghost use Rattle.std.specs.Prelude.{◌≡◌};
-ghost use Rattle.cm_machine_rules.specs.Stack.{below_top};
-ghost use Rattle.cm_machine_rules.specs.Step.{after_call, top_place};
+ghost use Rattle.cm_machine_model.specs.Stack.{below_top};
+ghost use Rattle.cm_machine_model.specs.Step.{after_call, top_place};
 ghost use Rattle.cm_machine_parts.specs.Kept.{AreBorrowsCounted, CanEnd};
 ghost use Rattle.cm_machine_parts.specs.Lends.{AreLentAtLeast, tables_after_unlends};
 ghost use Rattle.cm_machine_parts.specs.States.{handles_in, state_of};
@@ -10,7 +10,7 @@ ghost use Rattle.cm_machine_parts.specs.States.{handles_in, state_of};
 use crate::state::State;
 use cm_handles::Table;
 use cm_handles::laws::borrows_are_counted;
-use cm_machine_rules::state::Lend;
+use cm_machine_model::state::Lend;
 
 /// Ends these lends, one after another.
 fn unlend_all(tables: &mut Vec<Table>, lends: &[Lend])

@@ -1,14 +1,14 @@
 //! What a frame says of its instance.
 
 ghost use Rattle.std.specs.Prelude.{◌≡◌, ◌↔◌, IsTrue};
-ghost use Rattle.cm_machine_rules.specs.Stack.{actor};
-ghost use Rattle.cm_machine_rules.specs.State.{is_closed};
-ghost use Rattle.cm_machine_rules.specs.Step.{HasRoom, MayLeave};
+ghost use Rattle.cm_machine_model.specs.Stack.{actor};
+ghost use Rattle.cm_machine_model.specs.State.{is_closed};
+ghost use Rattle.cm_machine_model.specs.Step.{HasRoom, MayLeave};
 ghost use Rattle.cm_machine_parts.specs.States.{state_of};
 
 use crate::state::State;
 use cm_machine_model::MAX_FRAMES;
-use cm_machine_rules::state::{Frame, Phase, Purpose};
+use cm_machine_model::state::{Frame, Phase, Purpose};
 
 /// The instance that acts while this frame is on top: the caller while the results are placed, else
 /// the frame's own.

@@ -5,11 +5,11 @@ ghost use Rattle.std.specs.Prelude.{◌≡◌, ◌≢◌, ◌<◌, ◌∷◌, �
 ghost use Rattle.std.specs.Prelude.{slice_set};
 ghost use Rattle.cm_handles.specs.Borrows.{borrows_of};
 ghost use Rattle.cm_handles.specs.Handles.{Handles, TableState};
-ghost use Rattle.cm_machine_rules.specs.declared.frame.Frame.{Frame};
-ghost use Rattle.cm_machine_rules.specs.Plan.{Plan};
-ghost use Rattle.cm_machine_rules.specs.Stack.{actor, below_top, top_of};
-ghost use Rattle.cm_machine_rules.specs.State.{State, table_at};
-ghost use Rattle.cm_machine_rules.specs.Valid.{IsStack, IsValidState, frame_at};
+ghost use Rattle.cm_machine_model.specs.declared.frame.Frame.{Frame};
+ghost use Rattle.cm_machine_model.specs.Plan.{Plan};
+ghost use Rattle.cm_machine_model.specs.Stack.{actor, below_top, top_of};
+ghost use Rattle.cm_machine_model.specs.State.{State, table_at};
+ghost use Rattle.cm_machine_model.specs.Valid.{IsStack, IsValidState, frame_at};
 ghost use Rattle.cm_machine_parts.specs.declared.passing.Passing.{Passing};
 ghost use Rattle.cm_machine_parts.specs.declared.state.State.{State as CodedState};
 ghost use Rattle.cm_machine_parts.specs.Kept.{AreBorrowsCounted, CanEnd, IsEncodedAtTop, Runs};

@@ -2,11 +2,11 @@
 
 ghost use Rattle.std.specs.Prelude.{◌≡◌, ◌+◌, ◌<◌, ◌≤◌, ◌++◌, ℕ, [], OnErr, OnOk, Some, length};
 ghost use Rattle.std.specs.Prelude.{slice_get, take, vec_capacity, vec_len};
-ghost use Rattle.cm_machine_rules.specs.declared.frame.Lend.{Lend};
-ghost use Rattle.cm_machine_rules.specs.State.{lends_to};
+ghost use Rattle.cm_machine_model.specs.declared.frame.Lend.{Lend};
+ghost use Rattle.cm_machine_model.specs.State.{lends_to};
 ghost use Rattle.cm_machine_parts.specs.Lends.{NeverFall, NoneAbove};
 
-use cm_machine_rules::state::Lend;
+use cm_machine_model::state::Lend;
 use std::alloc::{AllocError, Global};
 use std::marker::Model;
 
@@ -19,7 +19,7 @@ pub struct Lends {
 
 impl Model for Lends {
     ghost use Rattle.std.specs.Prelude.{List};
-    ghost use Rattle.cm_machine_rules.specs.declared.frame.Lend.{Lend};
+    ghost use Rattle.cm_machine_model.specs.declared.frame.Lend.{Lend};
     ghost use Rattle.cm_machine_parts.specs.Lends.{NeverFall};
 
     ghost Value = { List Lend };

@@ -2,10 +2,10 @@
 
 ghost use Rattle.std.specs.Prelude.{◌≡◌};
 ghost use Rattle.cm_abi_model.specs.HandleLeaves.{leaves_of, owned_in};
-ghost use Rattle.cm_machine_rules.specs.State.{with_places};
+ghost use Rattle.cm_machine_model.specs.State.{with_places};
 
 use cm_abi_model::HandleLeaf;
-use cm_machine_rules::state::Place;
+use cm_machine_model::state::Place;
 
 /// Says of the resource of each of these handles that is to be owned where it is. Those that were
 /// not made are left out.

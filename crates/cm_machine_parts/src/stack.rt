@@ -2,11 +2,11 @@
 
 ghost use Rattle.std.specs.Prelude.{◌≡◌, ◌<◌, ◌≤◌, [], ◌∷◌, length, IfOk, reverse, slice_index};
 ghost use Rattle.std.specs.Prelude.{slice_set};
-ghost use Rattle.cm_machine_rules.specs.Stack.{top_of, below_top};
-ghost use Rattle.cm_machine_rules.specs.Work.{top_call};
+ghost use Rattle.cm_machine_model.specs.Stack.{top_of, below_top};
+ghost use Rattle.cm_machine_model.specs.Work.{top_call};
 
 use cm_machine_model::MAX_FRAMES;
-use cm_machine_rules::state::{Frame, Purpose};
+use cm_machine_model::state::{Frame, Purpose};
 use std::alloc::{AllocError, Global};
 use std::marker::Model;
 

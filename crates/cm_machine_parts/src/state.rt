@@ -5,7 +5,7 @@ use crate::passing::Passing;
 use crate::stack::Stack;
 use cm_handles::Table;
 use cm_machine_model::Memories;
-use cm_machine_rules::state::Place;
+use cm_machine_model::state::Place;
 
 /// What changes as a set runs.
 #[derive(Drop)]

@@ -2,9 +2,9 @@
 
 ghost use Rattle.std.specs.Prelude.{◌≡◌, [], map, slice_set};
 ghost use Rattle.cm_handles.specs.Handles.{after_close};
-ghost use Rattle.cm_machine_rules.specs.Plan.{Plan};
-ghost use Rattle.cm_machine_rules.specs.State.{after_trap, closed_after_trap, place_after_trap};
-ghost use Rattle.cm_machine_rules.specs.State.{table_at, tables_after_trap};
+ghost use Rattle.cm_machine_model.specs.Plan.{Plan};
+ghost use Rattle.cm_machine_model.specs.State.{after_trap, closed_after_trap, place_after_trap};
+ghost use Rattle.cm_machine_model.specs.State.{table_at, tables_after_trap};
 ghost use Rattle.cm_machine_parts.specs.Closing.{AreClosed};
 ghost use Rattle.cm_machine_parts.specs.Kept.{IsKept};
 ghost use Rattle.cm_machine_parts.specs.States.{handles_in, state_of};
@@ -13,7 +13,7 @@ use crate::stack::Stack;
 use crate::state::State;
 use cm_handles::Table;
 use cm_machine_model::MAX_INSTANCES;
-use cm_machine_rules::state::Place;
+use cm_machine_model::state::Place;
 
 /// Closes the table of an instance, unless it is marked as closed, and marks it.
 fn close_table(tables: &mut Vec<Table>, done: &mut [bool], instance: usize)

@@ -12,14 +12,14 @@ use Rattle.cm_machine_model.specs.declared.event.Event.{Event}
 use Rattle.cm_machine_model.specs.declared.event.Event.TheVariants as event
 use Rattle.cm_machine_model.specs.declared.event.Trap.{Trap}
 use Rattle.cm_machine_model.specs.declared.event.Trap.TheVariants as trap
-use Rattle.cm_machine_rules.specs.declared.frame.Frame.{Frame}
-use Rattle.cm_machine_rules.specs.declared.frame.Purpose.TheVariants as purpose
+use Rattle.cm_machine_model.specs.declared.frame.Frame.{Frame}
+use Rattle.cm_machine_model.specs.declared.frame.Purpose.TheVariants as purpose
 use Rattle.cm_machine_parts.specs.declared.outcome.Outcome.{Outcome}
 use Rattle.cm_machine_parts.specs.Rows.{MeetsRow, event_of}
-use Rattle.cm_machine_rules.specs.Rows.{at}
-use Rattle.cm_machine_rules.specs.Stack.{actor}
-use Rattle.cm_machine_rules.specs.State.{State, after_trap, table_at}
-use Rattle.cm_machine_rules.specs.Step.{AreOf, Drops, DropsFound, DropsHandle, DropsOwned, HasRoom, IsOpen, MayLeave, after_drop, one_i32, pushed, trap_of_handle, without_handle}
+use Rattle.cm_machine_model.specs.Rows.{at}
+use Rattle.cm_machine_model.specs.Stack.{actor}
+use Rattle.cm_machine_model.specs.State.{State, after_trap, table_at}
+use Rattle.cm_machine_model.specs.Step.{AreOf, Drops, DropsFound, DropsHandle, DropsOwned, HasRoom, IsOpen, MayLeave, after_drop, one_i32, pushed, trap_of_handle, without_handle}
 
 abbrev pub found : State → Frame → ℕ → ResourceId → Result Handle HandleFault
 found s top index r = if_not_lent (look_up (table_at s.tables (actor top)) index r)

@@ -12,13 +12,13 @@ use Rattle.cm_machine_model.specs.declared.event.Event.{Event}
 use Rattle.cm_machine_model.specs.declared.event.Event.TheVariants as event
 use Rattle.cm_machine_model.specs.declared.event.Trap.{Trap}
 use Rattle.cm_machine_model.specs.declared.event.Trap.TheVariants as trap
-use Rattle.cm_machine_rules.specs.declared.frame.Frame.{Frame}
-use Rattle.cm_machine_rules.specs.declared.frame.Place.{Place}
-use Rattle.cm_machine_rules.specs.declared.frame.Place.TheVariants as place
-use Rattle.cm_machine_rules.specs.Rows.{at}
-use Rattle.cm_machine_rules.specs.Stack.{actor}
-use Rattle.cm_machine_rules.specs.State.{State, after_trap, table_at}
-use Rattle.cm_machine_rules.specs.Step.{AreOf, CanMake, Makes, MayLeave, after_new, one_i32}
+use Rattle.cm_machine_model.specs.declared.frame.Frame.{Frame}
+use Rattle.cm_machine_model.specs.declared.frame.Place.{Place}
+use Rattle.cm_machine_model.specs.declared.frame.Place.TheVariants as place
+use Rattle.cm_machine_model.specs.Rows.{at}
+use Rattle.cm_machine_model.specs.Stack.{actor}
+use Rattle.cm_machine_model.specs.State.{State, after_trap, table_at}
+use Rattle.cm_machine_model.specs.Step.{AreOf, CanMake, Makes, MayLeave, after_new, one_i32}
 use Rattle.cm_machine_resources.specs.Adding.{AddsResource, HasRoomFor, MakesNone, new_handle}
 
 -- the state with another table of an instance and other owners

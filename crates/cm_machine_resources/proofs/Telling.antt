@@ -11,11 +11,11 @@ use Rattle.cm_machine_model.specs.declared.event.Event.{Event}
 use Rattle.cm_machine_model.specs.declared.event.Event.TheVariants as event
 use Rattle.cm_machine_model.specs.declared.event.Trap.{Trap}
 use Rattle.cm_machine_model.specs.declared.event.Trap.TheVariants as trap
-use Rattle.cm_machine_rules.specs.declared.frame.Frame.{Frame}
-use Rattle.cm_machine_rules.specs.Rows.{at}
-use Rattle.cm_machine_rules.specs.Stack.{actor}
-use Rattle.cm_machine_rules.specs.State.{State, after_trap, table_at}
-use Rattle.cm_machine_rules.specs.Step.{AreOf, Represents, TellsFound, one_i32, trap_of_handle}
+use Rattle.cm_machine_model.specs.declared.frame.Frame.{Frame}
+use Rattle.cm_machine_model.specs.Rows.{at}
+use Rattle.cm_machine_model.specs.Stack.{actor}
+use Rattle.cm_machine_model.specs.State.{State, after_trap, table_at}
+use Rattle.cm_machine_model.specs.Step.{AreOf, Represents, TellsFound, one_i32, trap_of_handle}
 
 -- what was looked up at the index is what the row looks up
 found_at : (s : State) (top : Frame) (r : ResourceId) (args : List CoreValue) (index : ℕ) (o : Result Handle HandleFault) → index ≡ slot_at args 0 → look_up (table_at s.tables (actor top)) index r ≡ o → look_up (table_at s.tables (actor top)) (slot_at args 0) r ≡ o

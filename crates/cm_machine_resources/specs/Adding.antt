@@ -6,9 +6,9 @@ use Rattle.cm_handles.specs.declared.handle.HandleKind.TheVariants as kind
 use Rattle.cm_handles.specs.Handles.{Handles, after_add, indices_left, next_index}
 use Rattle.cm_machine_model.specs.declared.event.Trap.{Trap}
 use Rattle.cm_machine_model.specs.declared.event.Trap.TheVariants as trap
-use Rattle.cm_machine_rules.specs.declared.frame.Place.{Place}
-use Rattle.cm_machine_rules.specs.declared.frame.Place.TheVariants as place
-use Rattle.cm_machine_rules.specs.Step.{MAX_SERIALS}
+use Rattle.cm_machine_model.specs.declared.frame.Place.{Place}
+use Rattle.cm_machine_model.specs.declared.frame.Place.TheVariants as place
+use Rattle.cm_machine_model.specs.Step.{MAX_SERIALS}
 
 -- the handle of a resource that was just made: owned, and lent to nobody
 abbrev pub new_handle : ResourceId → ℕ → ℕ → Handle

@@ -1,7 +1,7 @@
 -- A handle that can be dropped.
 use Rattle.std.specs.Prelude.{◌≡◌, ◌<◌, List, Ok, length}
 use Rattle.cm_handles.specs.Handles.{Handles, if_not_lent, look_up}
-use Rattle.cm_machine_rules.specs.State.{table_at}
+use Rattle.cm_machine_model.specs.State.{table_at}
 use Rattle.cm_machine_resources.specs.declared.drops.Dropped.{Dropped}
 
 -- it stands in the table of its instance, of its resource, and is not lent

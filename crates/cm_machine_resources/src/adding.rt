@@ -4,7 +4,7 @@ ghost use Rattle.cm_machine_resources.specs.Adding.{AddsResource};
 
 use cm_handles::{Handle, HandleFault, HandleKind, Table};
 use cm_machine_model::Trap;
-use cm_machine_rules::state::Place;
+use cm_machine_model::state::Place;
 use cm_types::ResourceId;
 
 /// Makes a resource with this representation, owned by the instance whose table this is: its handle

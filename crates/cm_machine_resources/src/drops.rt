@@ -3,12 +3,12 @@
 ghost use Rattle.std.specs.Prelude.{◌≡◌, ◌<◌, OnOk, Some, length, slice_set};
 ghost use Rattle.cm_handles.specs.declared.handle.HandleKind.TheVariants as kind;
 ghost use Rattle.cm_handles.specs.Handles.{after_release, if_not_lent, look_up};
-ghost use Rattle.cm_machine_rules.specs.declared.frame.Purpose.TheVariants as purpose;
-ghost use Rattle.cm_machine_rules.specs.Plan.{Plan};
-ghost use Rattle.cm_machine_rules.specs.Stack.{actor, top_of};
-ghost use Rattle.cm_machine_rules.specs.State.{table_at};
-ghost use Rattle.cm_machine_rules.specs.Step.{Drops, DropsOwned, HasRoom, after_drop};
-ghost use Rattle.cm_machine_rules.specs.Step.{pushed, without_handle};
+ghost use Rattle.cm_machine_model.specs.declared.frame.Purpose.TheVariants as purpose;
+ghost use Rattle.cm_machine_model.specs.Plan.{Plan};
+ghost use Rattle.cm_machine_model.specs.Stack.{actor, top_of};
+ghost use Rattle.cm_machine_model.specs.State.{table_at};
+ghost use Rattle.cm_machine_model.specs.Step.{Drops, DropsOwned, HasRoom, after_drop};
+ghost use Rattle.cm_machine_model.specs.Step.{pushed, without_handle};
 ghost use Rattle.cm_machine_parts.specs.Kept.{AreBorrowsCounted, IsKept, Runs};
 ghost use Rattle.cm_machine_parts.specs.Rows.{MeetsRow};
 ghost use Rattle.cm_machine_parts.specs.States.{handles_in, state_of};
@@ -17,10 +17,10 @@ ghost use Rattle.cm_machine_resources.specs.Dropping.{IsFound};
 use crate::faults::trap_of_handle;
 use cm_handles::laws::borrows_are_counted;
 use cm_handles::{Handle, HandleFault, HandleKind, Table};
+use cm_machine_model::state::{Frame, Place, Purpose};
 use cm_machine_model::{Flat, Trap};
 use cm_machine_parts::laws::{frames_have_instances, tables_are_handles, what_is_kept_stays};
 use cm_machine_parts::{Outcome, State, actor, has_room, is_closed, may_leave, one_i32};
-use cm_machine_rules::state::{Frame, Place, Purpose};
 use cm_types::{CoreValue, ResourceId};
 
 /// A handle that can be dropped, and where it stands.

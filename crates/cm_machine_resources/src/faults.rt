@@ -1,7 +1,7 @@
 //! The traps of what is wrong with a handle.
 
 ghost use Rattle.std.specs.Prelude.{◌≡◌};
-ghost use Rattle.cm_machine_rules.specs.Step.{trap_of_handle};
+ghost use Rattle.cm_machine_model.specs.Step.{trap_of_handle};
 
 use cm_handles::HandleFault;
 use cm_machine_model::Trap;

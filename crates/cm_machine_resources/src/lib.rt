@@ -1,14 +1,21 @@
-//! What the canonical functions on resources do: they make, drop and tell handles
-//! (CanonicalABI.md, `canon resource.new`, `canon resource.drop` and `canon resource.rep`).
+//! Moves that pass no value: the canonical functions on resources (CanonicalABI.md, `canon
+//! resource.new`, `canon resource.drop` and `canon resource.rep`), what a guest does to its own
+//! memory, and the returns that only end a frame; and the state of a set before anything ran.
 #![tactic(auto)]
 
 mod adding;
 mod drops;
 mod faults;
+mod guest_moves;
 mod makes;
 mod represents;
+mod returns;
+mod setup;
 
 pub use drops::drop_resource;
 pub use faults::trap_of_handle;
+pub use guest_moves::{grow, write};
 pub use makes::make_resource;
 pub use represents::represent;
+pub use returns::{return_destructor, return_post_return, return_root};
+pub use setup::{are_page_counts, fresh_state};

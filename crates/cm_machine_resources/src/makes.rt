@@ -1,19 +1,19 @@
 //! Makes a resource (CanonicalABI.md, `canon resource.new`).
 
 ghost use Rattle.std.specs.Prelude.{◌≡◌, ◌<◌, OnOk, Some};
-ghost use Rattle.cm_machine_rules.specs.Plan.{Plan};
-ghost use Rattle.cm_machine_rules.specs.Stack.{top_of};
-ghost use Rattle.cm_machine_rules.specs.Step.{Makes};
+ghost use Rattle.cm_machine_model.specs.Plan.{Plan};
+ghost use Rattle.cm_machine_model.specs.Stack.{top_of};
+ghost use Rattle.cm_machine_model.specs.Step.{Makes};
 ghost use Rattle.cm_machine_parts.specs.Kept.{IsKept, Runs};
 ghost use Rattle.cm_machine_parts.specs.Rows.{MeetsRow};
 ghost use Rattle.cm_machine_parts.specs.States.{state_of};
 
 use crate::adding::add_resource;
 use cm_handles::laws::borrows_are_counted;
+use cm_machine_model::state::Frame;
 use cm_machine_model::{Flat, Trap};
 use cm_machine_parts::laws::{frames_have_instances, tables_are_handles, what_is_kept_stays};
 use cm_machine_parts::{Outcome, State, actor, may_leave, one_i32};
-use cm_machine_rules::state::Frame;
 use cm_types::{CoreValue, ResourceId};
 
 /// Makes a resource whose representation is the one core value, owned by the acting instance, which

@@ -1,18 +1,18 @@
 //! Tells what a handle represents (CanonicalABI.md, `canon resource.rep`).
 
 ghost use Rattle.std.specs.Prelude.{◌≡◌, OnOk, Some};
-ghost use Rattle.cm_machine_rules.specs.Plan.{Plan};
-ghost use Rattle.cm_machine_rules.specs.Stack.{top_of};
-ghost use Rattle.cm_machine_rules.specs.Step.{Represents};
+ghost use Rattle.cm_machine_model.specs.Plan.{Plan};
+ghost use Rattle.cm_machine_model.specs.Stack.{top_of};
+ghost use Rattle.cm_machine_model.specs.Step.{Represents};
 ghost use Rattle.cm_machine_parts.specs.Kept.{Runs};
 ghost use Rattle.cm_machine_parts.specs.Rows.{MeetsRow};
 ghost use Rattle.cm_machine_parts.specs.States.{state_of};
 
 use crate::faults::trap_of_handle;
+use cm_machine_model::state::Frame;
 use cm_machine_model::{Flat, Trap};
 use cm_machine_parts::laws::{frames_have_instances, tables_are_handles};
 use cm_machine_parts::{Outcome, State, actor, one_i32};
-use cm_machine_rules::state::Frame;
 use cm_types::{CoreValue, ResourceId};
 
 /// Tells the acting instance the representation of the handle at the index that is the one core

@@ -2,13 +2,13 @@
 use Rattle.std.proofs.Common.{◌≡◌, ℕ, List, [], ◌∷◌, Option, Some, None, refl, sym, ap, subst, ◌∙◌}
 use Rattle.std.proofs.lemmas.Option.{none-some, same_Some}
 use Rattle.cm_types.specs.declared.resource.ResourceId.{ResourceId}
-use Rattle.cm_machine_rules.specs.declared.frame.Call.{Call}
-use Rattle.cm_machine_rules.specs.declared.frame.Frame.{Frame}
-use Rattle.cm_machine_rules.specs.declared.frame.Purpose.{Purpose}
-use Rattle.cm_machine_rules.specs.declared.frame.Purpose.TheVariants as purpose
-use Rattle.cm_machine_rules.specs.Plan.{CoreFunc, Link, Plan, Reaches, drops, guest, lowered, makes, represents}
-use Rattle.cm_machine_rules.specs.Stack.{top_of}
-use Rattle.cm_machine_rules.specs.Valid.{IsStack, StandsOn}
+use Rattle.cm_machine_model.specs.declared.frame.Call.{Call}
+use Rattle.cm_machine_model.specs.declared.frame.Frame.{Frame}
+use Rattle.cm_machine_model.specs.declared.frame.Purpose.{Purpose}
+use Rattle.cm_machine_model.specs.declared.frame.Purpose.TheVariants as purpose
+use Rattle.cm_machine_model.specs.Plan.{CoreFunc, Link, Plan, Reaches, drops, guest, lowered, makes, represents}
+use Rattle.cm_machine_model.specs.Stack.{top_of}
+use Rattle.cm_machine_model.specs.Valid.{IsStack, StandsOn}
 use Rattle.cm_machine_links.specs.declared.core_funcs.CoreFunc.{CoreFunc as CodedFunc}
 use Rattle.cm_machine_links.specs.declared.core_funcs.CoreFunc.TheVariants as core_func
 use Rattle.cm_machine_links.specs.declared.core_funcs.Link.{Link as CodedLink}

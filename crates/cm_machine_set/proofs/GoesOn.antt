@@ -4,17 +4,17 @@ use Rattle.std.specs.Prelude.{⊤}
 use Rattle.std.proofs.lemmas.Option.{none-some, same_Some}
 use Rattle.cm_machine_model.specs.declared.event.Event.{Event}
 use Rattle.cm_machine_model.specs.declared.moves.Move.{Move}
-use Rattle.cm_machine_rules.specs.declared.frame.Call.{Call}
-use Rattle.cm_machine_rules.specs.declared.frame.Frame.{Frame}
-use Rattle.cm_machine_rules.specs.declared.frame.Purpose.{Purpose}
-use Rattle.cm_machine_rules.specs.declared.frame.Purpose.TheVariants as purpose
-use Rattle.cm_machine_rules.specs.Cases.{Cases, case_of, trapped, wrote, stayed, grew, made, represented, dropped, destroyed, given_back, call_asks, call_enters, answer_asks, answer_enters, answer_tidies, answer_ends, return_asks, return_tidies, return_ends, tidied, root_ended, destructor_ended, place_changes}
-use Rattle.cm_machine_rules.specs.Plan.{Plan}
+use Rattle.cm_machine_model.specs.declared.frame.Call.{Call}
+use Rattle.cm_machine_model.specs.declared.frame.Frame.{Frame}
+use Rattle.cm_machine_model.specs.declared.frame.Purpose.{Purpose}
+use Rattle.cm_machine_model.specs.declared.frame.Purpose.TheVariants as purpose
+use Rattle.cm_machine_model.specs.Cases.{Cases, case_of, trapped, wrote, stayed, grew, made, represented, dropped, destroyed, given_back, call_asks, call_enters, answer_asks, answer_enters, answer_tidies, answer_ends, return_asks, return_tidies, return_ends, tidied, root_ended, destructor_ended, place_changes}
+use Rattle.cm_machine_model.specs.Plan.{Plan}
 use Rattle.cm_machine_model.specs.Events.{is_last}
-use Rattle.cm_machine_rules.specs.Stack.{below_top, top_of}
-use Rattle.cm_machine_rules.specs.State.{State}
-use Rattle.cm_machine_rules.specs.Step.{Step}
-use Rattle.cm_machine_rules.specs.Valid.{IsStack, StandsOn}
+use Rattle.cm_machine_model.specs.Stack.{below_top, top_of}
+use Rattle.cm_machine_model.specs.State.{State}
+use Rattle.cm_machine_model.specs.Step.{Step}
+use Rattle.cm_machine_model.specs.Valid.{IsStack, StandsOn}
 
 some_stand : (fs : List Frame) (f : Frame) → top_of fs ≡ Some f → 0 < length fs
 some_stand [] f e = absurd (none-some f e)

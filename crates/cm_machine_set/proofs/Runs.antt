@@ -4,11 +4,11 @@ use Rattle.std.proofs.Math.Seq.{drop-cons}
 use Rattle.std.proofs.lemmas.List.{append-nil, drop_all}
 use Rattle.cm_machine_model.specs.declared.event.Event.{Event}
 use Rattle.cm_machine_model.specs.declared.moves.Move.{Move}
-use Rattle.cm_machine_rules.specs.Plan.{Plan}
+use Rattle.cm_machine_model.specs.Plan.{Plan}
 use Rattle.cm_machine_model.specs.Events.{is_last}
-use Rattle.cm_machine_rules.specs.Run.{Run}
-use Rattle.cm_machine_rules.specs.State.{State}
-use Rattle.cm_machine_rules.specs.Step.{Step}
+use Rattle.cm_machine_model.specs.Run.{Run}
+use Rattle.cm_machine_model.specs.State.{State}
+use Rattle.cm_machine_model.specs.Step.{Step}
 
 -- the moves from a place on: the one there, and those after it
 from_place : (ms : List Move) (i : ℕ) (m : Move) → i < length ms → m ≡ get_or ms i m → drop i ms ≡ m ∷ drop (i + 1) ms

@@ -3,11 +3,11 @@ use Rattle.std.proofs.Common.{◌≡◌, List, [], ◌∷◌, Some, subst, sym}
 use Rattle.std.proofs.lemmas.Option.{none-some, same_Some}
 use Rattle.cm_machine_model.specs.declared.event.Event.{Event}
 use Rattle.cm_machine_model.specs.declared.moves.Move.{Move}
-use Rattle.cm_machine_rules.specs.declared.frame.Frame.{Frame}
-use Rattle.cm_machine_rules.specs.Plan.{Plan}
-use Rattle.cm_machine_rules.specs.Stack.{top_of}
-use Rattle.cm_machine_rules.specs.State.{State}
-use Rattle.cm_machine_rules.specs.Step.{Moves, Step, StepOn}
+use Rattle.cm_machine_model.specs.declared.frame.Frame.{Frame}
+use Rattle.cm_machine_model.specs.Plan.{Plan}
+use Rattle.cm_machine_model.specs.Stack.{top_of}
+use Rattle.cm_machine_model.specs.State.{State}
+use Rattle.cm_machine_model.specs.Step.{Moves, Step, StepOn}
 
 step_on : (plan : Plan) (fs : List Frame) (s : State) (top : Frame) (m : Move) (e : Event) (new : State) → top_of fs ≡ Some top → Moves plan s top m e new → StepOn plan fs s m e new
 step_on plan [] s top m e new is moves = absurd (none-some top is)

@@ -4,12 +4,12 @@ use Rattle.cm_abi_model.specs.declared.leaf.HandleLeaf.{HandleLeaf}
 use Rattle.cm_abi_model.specs.declared.leaf.HandleLeaf.TheVariants as leaf
 use Rattle.cm_machine_model.specs.declared.event.Event.{Event}
 use Rattle.cm_machine_model.specs.declared.moves.Move.{Move}
-use Rattle.cm_machine_rules.specs.History.{Action, IsHistoryOf, Occurrence, moves}
-use Rattle.cm_machine_rules.specs.Plan.{Plan}
-use Rattle.cm_machine_rules.specs.Run.{after_begin}
-use Rattle.cm_machine_rules.specs.State.{State}
-use Rattle.cm_machine_rules.specs.Step.{Step}
-use Rattle.cm_machine_rules.specs.Valid.{IsValidState}
+use Rattle.cm_machine_model.specs.History.{Action, IsHistoryOf, Occurrence, moves}
+use Rattle.cm_machine_model.specs.Plan.{Plan}
+use Rattle.cm_machine_model.specs.Run.{after_begin}
+use Rattle.cm_machine_model.specs.State.{State}
+use Rattle.cm_machine_model.specs.Step.{Step}
+use Rattle.cm_machine_model.specs.Valid.{IsValidState}
 use Rattle.cm_machine_links.specs.declared.links.Links.{Links}
 use Rattle.cm_machine_links.specs.Planned.{ArePlanned}
 use Rattle.cm_machine_links.specs.Planning.{IsPlanOf}

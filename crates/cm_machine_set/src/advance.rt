@@ -1,9 +1,9 @@
 //! What a move leads to.
 
 ghost use Rattle.std.specs.Prelude.{◌≡◌, OnOk, Some};
-ghost use Rattle.cm_machine_rules.specs.Plan.{Plan, core_func_at};
-ghost use Rattle.cm_machine_rules.specs.Stack.{actor, top_of};
-ghost use Rattle.cm_machine_rules.specs.Step.{Calls, Moves, Returns};
+ghost use Rattle.cm_machine_model.specs.Plan.{Plan, core_func_at};
+ghost use Rattle.cm_machine_model.specs.Stack.{actor, top_of};
+ghost use Rattle.cm_machine_model.specs.Step.{Calls, Moves, Returns};
 ghost use Rattle.cm_machine_links.specs.Planned.{ArePlanned};
 ghost use Rattle.cm_machine_parts.specs.Kept.{IsKept, Runs};
 ghost use Rattle.cm_machine_parts.specs.Rows.{MeetsRow};
@@ -12,11 +12,12 @@ ghost use Rattle.cm_machine_parts.specs.States.{state_of};
 use crate::link::call_link;
 use cm_machine_calls::{call_lowered, return_in_call};
 use cm_machine_links::{CoreFunc, Links};
+use cm_machine_model::state::{Call, Frame, Purpose};
 use cm_machine_model::{Flat, Move, Trap};
-use cm_machine_moves::{grow, return_destructor, return_root, write};
 use cm_machine_parts::{Outcome, State, actor};
-use cm_machine_resources::{drop_resource, make_resource, represent};
-use cm_machine_rules::state::{Call, Frame, Purpose};
+use cm_machine_resources::{
+    drop_resource, grow, make_resource, represent, return_destructor, return_root, write,
+};
 use cm_types::CoreValue;
 use std::alloc::Global;
 

@@ -1,7 +1,7 @@
 //! What a lowered function comes to, as a call reads it.
 
 ghost use Rattle.std.specs.Prelude.{◌≡◌};
-ghost use Rattle.cm_machine_rules.specs.Plan.{Link as RulesLink};
+ghost use Rattle.cm_machine_model.specs.Plan.{Link as RulesLink};
 ghost use Rattle.cm_machine_links.specs.Planned.{IsLinkOf as IsPlannedLink};
 ghost use Rattle.cm_machine_calls.specs.Links.{IsLinkOf};
 

@@ -6,12 +6,12 @@ use Rattle.std.proofs.lemmas.Option.{none-some}
 use Rattle.cm_machine_model.specs.declared.event.Event.{Event}
 use Rattle.cm_machine_model.specs.declared.event.Event.TheVariants as event
 use Rattle.cm_machine_model.specs.declared.event.Misuse.TheVariants as misuse
-use Rattle.cm_machine_rules.specs.declared.frame.Frame.{Frame}
-use Rattle.cm_machine_rules.specs.History.{Action, Happens, IsHistory, IsHistoryOf, Occurrence, begins, moves}
-use Rattle.cm_machine_rules.specs.Plan.{Plan}
-use Rattle.cm_machine_rules.specs.Run.{after_begin, misuse_by_closed, misuse_by_stack}
-use Rattle.cm_machine_rules.specs.State.{State, fresh_state}
-use Rattle.cm_machine_rules.specs.Valid.{IsValidState}
+use Rattle.cm_machine_model.specs.declared.frame.Frame.{Frame}
+use Rattle.cm_machine_model.specs.History.{Action, Happens, IsHistory, IsHistoryOf, Occurrence, begins, moves}
+use Rattle.cm_machine_model.specs.Plan.{Plan}
+use Rattle.cm_machine_model.specs.Run.{after_begin, misuse_by_closed, misuse_by_stack}
+use Rattle.cm_machine_model.specs.State.{State, fresh_state}
+use Rattle.cm_machine_model.specs.Valid.{IsValidState}
 use Rattle.cm_machine_told.specs.Acting.{acts, acts_after}
 use Rattle.cm_machine_told.specs.Doing.{Doing, doing, goes_on, root}
 use Rattle.cm_machine_told.specs.Matching.{AreTold, StepsTell}

@@ -12,19 +12,19 @@ use Rattle.cm_machine_model.specs.declared.event.Event.TheVariants as event
 use Rattle.cm_machine_model.specs.declared.limits.TheConstants.{MAX_FRAMES, MAX_PAGES, PAGE_SIZE}
 use Rattle.cm_machine_model.specs.declared.moves.Move.{Move}
 use Rattle.cm_machine_model.specs.Memories.{memory_at}
-use Rattle.cm_machine_rules.specs.declared.frame.Frame.{Frame}
+use Rattle.cm_machine_model.specs.declared.frame.Frame.{Frame}
 use Rattle.cm_types.specs.declared.core_value.CoreValue.{CoreValue}
 use Rattle.cm_types.specs.Values.{Val}
-use Rattle.cm_machine_rules.specs.declared.frame.Call.{Call}
-use Rattle.cm_machine_rules.specs.Step.{after_lift_of_result, HasRoom, IsOpen, MayLeave}
-use Rattle.cm_machine_rules.specs.Cases.{HasPlace, place_changes, Cases, answer_asks, answer_ends, answer_enters, answer_tidies, call_asks, call_enters, case_of, destroyed, destructor_ended, dropped, given_back, grew, made, represented, return_asks, return_ends, return_tidies, root_ended, stayed, tidied, trapped, wrote}
-use Rattle.cm_machine_rules.specs.History.{Action, GoesOnBy, Happens, IsHistory, IsHistoryOf, Occurrence, WritesBytes, begins, moves}
-use Rattle.cm_machine_rules.specs.Plan.{Link, Plan}
+use Rattle.cm_machine_model.specs.declared.frame.Call.{Call}
+use Rattle.cm_machine_model.specs.Step.{after_lift_of_result, HasRoom, IsOpen, MayLeave}
+use Rattle.cm_machine_model.specs.Cases.{HasPlace, place_changes, Cases, answer_asks, answer_ends, answer_enters, answer_tidies, call_asks, call_enters, case_of, destroyed, destructor_ended, dropped, given_back, grew, made, represented, return_asks, return_ends, return_tidies, root_ended, stayed, tidied, trapped, wrote}
+use Rattle.cm_machine_model.specs.History.{Action, GoesOnBy, Happens, IsHistory, IsHistoryOf, Occurrence, WritesBytes, begins, moves}
+use Rattle.cm_machine_model.specs.Plan.{Link, Plan}
 use Rattle.cm_machine_model.specs.Events.{is_last}
-use Rattle.cm_machine_rules.specs.Run.{Run, misuse_by_closed, misuse_by_stack}
-use Rattle.cm_machine_rules.specs.Stack.{actor, below_top, top_of}
-use Rattle.cm_machine_rules.specs.State.{Passage, State, fresh_state, table_at, zeros}
-use Rattle.cm_machine_rules.specs.Valid.{IsStack, IsValidState}
+use Rattle.cm_machine_model.specs.Run.{Run, misuse_by_closed, misuse_by_stack}
+use Rattle.cm_machine_model.specs.Stack.{actor, below_top, top_of}
+use Rattle.cm_machine_model.specs.State.{Passage, State, fresh_state, table_at, zeros}
+use Rattle.cm_machine_model.specs.Valid.{IsStack, IsValidState}
 use Rattle.cm_machine_told.specs.Acting.{acts, acts_after}
 use Rattle.cm_machine_told.specs.Always.{Always}
 use Rattle.cm_machine_told.specs.Answers.{AnswersRightly, Traps}

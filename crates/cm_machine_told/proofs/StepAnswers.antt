@@ -19,36 +19,36 @@ use Rattle.cm_abi_model.specs.Views.{Way, params, results}
 use Rattle.cm_machine_model.specs.declared.event.Event.{Event}
 use Rattle.cm_machine_model.specs.declared.event.Event.TheVariants as event
 use Rattle.cm_machine_model.specs.declared.event.Trap.TheVariants as trap
-use Rattle.cm_machine_rules.specs.declared.frame.Call.{Call}
-use Rattle.cm_machine_rules.specs.declared.frame.Frame.{Frame}
-use Rattle.cm_machine_rules.specs.declared.frame.Phase.{Phase}
-use Rattle.cm_machine_rules.specs.declared.frame.Phase.TheVariants as phase
-use Rattle.cm_machine_rules.specs.declared.frame.Purpose.{Purpose}
-use Rattle.cm_machine_rules.specs.declared.frame.Purpose.TheVariants as purpose
+use Rattle.cm_machine_model.specs.declared.frame.Call.{Call}
+use Rattle.cm_machine_model.specs.declared.frame.Frame.{Frame}
+use Rattle.cm_machine_model.specs.declared.frame.Phase.{Phase}
+use Rattle.cm_machine_model.specs.declared.frame.Phase.TheVariants as phase
+use Rattle.cm_machine_model.specs.declared.frame.Purpose.{Purpose}
+use Rattle.cm_machine_model.specs.declared.frame.Purpose.TheVariants as purpose
 use Rattle.cm_machine_model.specs.declared.moves.Move.{Move}
 use Rattle.cm_machine_model.specs.declared.moves.Move.TheVariants as move
 use Rattle.cm_machine_told.specs.Doing.{Doing, body, destroys, handing, placing, root, tidying}
 use Rattle.cm_machine_told.specs.Matching.{AllMatch, AreTold, MatchIn, MatchOne}
 use Rattle.cm_machine_model.specs.Memories.{memory_at, pages_of}
-use Rattle.cm_machine_rules.specs.Passages.{IsAnswered, as_args, asked_for}
+use Rattle.cm_machine_model.specs.Passages.{IsAnswered, as_args, asked_for}
 use Rattle.cm_abi_model.specs.Answered.{last_answer}
-use Rattle.cm_machine_rules.specs.Plan.{Plan, CoreFunc, Link, Reaches, core_func_at, drops, guest}
-use Rattle.cm_machine_rules.specs.Plan.{lowered, makes, receiver_side, represents, types_of}
-use Rattle.cm_machine_rules.specs.Stack.{actor, top_of}
-use Rattle.cm_machine_rules.specs.State.{Passage, State, table_at}
-use Rattle.cm_machine_rules.specs.Step as step
-use Rattle.cm_machine_rules.specs.Step.{Traps, Asks, GoesOn, GoesOnBy, IsReceived, Finishes}
-use Rattle.cm_machine_rules.specs.Step.{PassesArguments, CallsLowered, Makes, DropsFound}
-use Rattle.cm_machine_rules.specs.Step.{DropsHandle, DropsOwned, TellsFound, Calls, Answers}
-use Rattle.cm_machine_rules.specs.Step.{PlacesResult, ReturnsResult, ReturnsIn, Returns, Moves}
-use Rattle.cm_machine_rules.specs.Step.{StepOn, Step, after_handing, after_lift_of_args}
-use Rattle.cm_machine_rules.specs.Step.{after_lift_of_result, new_call, receiver_of, top_place}
-use Rattle.cm_machine_rules.specs.Step.{trap_of, trap_of_handle}
-use Rattle.cm_machine_rules.specs.Valid.{IsValidState}
+use Rattle.cm_machine_model.specs.Plan.{Plan, CoreFunc, Link, Reaches, core_func_at, drops, guest}
+use Rattle.cm_machine_model.specs.Plan.{lowered, makes, receiver_side, represents, types_of}
+use Rattle.cm_machine_model.specs.Stack.{actor, top_of}
+use Rattle.cm_machine_model.specs.State.{Passage, State, table_at}
+use Rattle.cm_machine_model.specs.Step as step
+use Rattle.cm_machine_model.specs.Step.{Traps, Asks, GoesOn, GoesOnBy, IsReceived, Finishes}
+use Rattle.cm_machine_model.specs.Step.{PassesArguments, CallsLowered, Makes, DropsFound}
+use Rattle.cm_machine_model.specs.Step.{DropsHandle, DropsOwned, TellsFound, Calls, Answers}
+use Rattle.cm_machine_model.specs.Step.{PlacesResult, ReturnsResult, ReturnsIn, Returns, Moves}
+use Rattle.cm_machine_model.specs.Step.{StepOn, Step, after_handing, after_lift_of_args}
+use Rattle.cm_machine_model.specs.Step.{after_lift_of_result, new_call, receiver_of, top_place}
+use Rattle.cm_machine_model.specs.Step.{trap_of, trap_of_handle}
+use Rattle.cm_machine_model.specs.Valid.{IsValidState}
 use Rattle.cm_machine_told.specs.Answers.{AnswersCall, AnswersReturn, IsAnswerTo, IsEntry}
 use Rattle.cm_machine_told.specs.Answers.{IsPostReturn, IsRequest, IsResumption}
 use Rattle.cm_machine_told.specs.Answers as told
-use Rattle.cm_machine_rules.specs.Rows.{OfTraps, by_check, by_memory, by_trap, by_wrong, same_link}
+use Rattle.cm_machine_model.specs.Rows.{OfTraps, by_check, by_memory, by_trap, by_wrong, same_link}
 
 -- what is said of an event: it is a trap, or this holds
 abbrev Ans : (Event → Type 0) → Event → State → Type 0

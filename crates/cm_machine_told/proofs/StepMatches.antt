@@ -1,6 +1,6 @@
 -- Why each step keeps the frames as what goes on by the events.
-use Rattle.cm_machine_rules.specs.Rows.{at, OfTraps, by_trap, by_check, by_memory, by_wrong, goes}
-use Rattle.cm_machine_rules.specs.Rows.{finish, same_link}
+use Rattle.cm_machine_model.specs.Rows.{at, OfTraps, by_trap, by_check, by_memory, by_wrong, goes}
+use Rattle.cm_machine_model.specs.Rows.{finish, same_link}
 use Rattle.std.proofs.Common.{◌≡◌, ℕ, suc, inl, inr, Bool, true, false, List, [], ◌∷◌, ◌++◌, length}
 use Rattle.std.proofs.Common.{Option, Some, None, refl, sym, ap, subst, ◌∙◌}
 use Rattle.std.specs.Prelude.{Result, Ok, Err}
@@ -21,12 +21,12 @@ use Rattle.cm_abi_model.specs.Views.{params, results}
 use Rattle.cm_machine_model.specs.declared.event.Event.{Event}
 use Rattle.cm_machine_model.specs.declared.event.Event.TheVariants as event
 use Rattle.cm_machine_model.specs.declared.event.Trap.TheVariants as trap
-use Rattle.cm_machine_rules.specs.declared.frame.Call.{Call}
-use Rattle.cm_machine_rules.specs.declared.frame.Frame.{Frame}
-use Rattle.cm_machine_rules.specs.declared.frame.Phase.{Phase}
-use Rattle.cm_machine_rules.specs.declared.frame.Phase.TheVariants as phase
-use Rattle.cm_machine_rules.specs.declared.frame.Purpose.{Purpose}
-use Rattle.cm_machine_rules.specs.declared.frame.Purpose.TheVariants as purpose
+use Rattle.cm_machine_model.specs.declared.frame.Call.{Call}
+use Rattle.cm_machine_model.specs.declared.frame.Frame.{Frame}
+use Rattle.cm_machine_model.specs.declared.frame.Phase.{Phase}
+use Rattle.cm_machine_model.specs.declared.frame.Phase.TheVariants as phase
+use Rattle.cm_machine_model.specs.declared.frame.Purpose.{Purpose}
+use Rattle.cm_machine_model.specs.declared.frame.Purpose.TheVariants as purpose
 use Rattle.cm_machine_model.specs.declared.moves.Move.{Move}
 use Rattle.cm_machine_model.specs.declared.moves.Move.TheVariants as move
 use Rattle.cm_machine_told.specs.Acting.{acts_after}
@@ -36,19 +36,19 @@ use Rattle.cm_machine_told.specs.Doing.{placing, root, tidying, unless_last, wit
 use Rattle.cm_machine_told.specs.Doing.{with_request}
 use Rattle.cm_machine_told.specs.Matching.{AllMatch, AreTold, IsCallOf, MatchIn, MatchOne}
 use Rattle.cm_machine_model.specs.Memories.{after_growth, after_write, memory_at, pages_of}
-use Rattle.cm_machine_rules.specs.Passages.{IsAnswered, asked_for}
-use Rattle.cm_machine_rules.specs.Plan.{Plan, CoreFunc, Link, Reaches, core_func_at, drops, guest}
-use Rattle.cm_machine_rules.specs.Plan.{lowered, makes, represents, types_of}
-use Rattle.cm_machine_rules.specs.Stack.{actor, actor_in, actor_of, below_top, top_of}
-use Rattle.cm_machine_rules.specs.State.{Passage, State, table_at}
-use Rattle.cm_machine_rules.specs.Step as step
-use Rattle.cm_machine_rules.specs.Step.{GoesOn, PassesArguments, CallsLowered, Makes, DropsFound}
-use Rattle.cm_machine_rules.specs.Step.{DropsHandle, DropsOwned, TellsFound, Calls, Answers}
-use Rattle.cm_machine_rules.specs.Step.{PlacesResult, ReturnsResult, ReturnsIn, Returns, Moves}
-use Rattle.cm_machine_rules.specs.Step.{StepOn, Step, after_handing, after_lift_of_args}
-use Rattle.cm_machine_rules.specs.Step.{after_lift_of_result, new_call, receiver_of, top_place}
-use Rattle.cm_machine_rules.specs.Step.{trap_of, trap_of_handle}
-use Rattle.cm_machine_rules.specs.Valid.{IsStack, IsValidState, StandsOn}
+use Rattle.cm_machine_model.specs.Passages.{IsAnswered, asked_for}
+use Rattle.cm_machine_model.specs.Plan.{Plan, CoreFunc, Link, Reaches, core_func_at, drops, guest}
+use Rattle.cm_machine_model.specs.Plan.{lowered, makes, represents, types_of}
+use Rattle.cm_machine_model.specs.Stack.{actor, actor_in, actor_of, below_top, top_of}
+use Rattle.cm_machine_model.specs.State.{Passage, State, table_at}
+use Rattle.cm_machine_model.specs.Step as step
+use Rattle.cm_machine_model.specs.Step.{GoesOn, PassesArguments, CallsLowered, Makes, DropsFound}
+use Rattle.cm_machine_model.specs.Step.{DropsHandle, DropsOwned, TellsFound, Calls, Answers}
+use Rattle.cm_machine_model.specs.Step.{PlacesResult, ReturnsResult, ReturnsIn, Returns, Moves}
+use Rattle.cm_machine_model.specs.Step.{StepOn, Step, after_handing, after_lift_of_args}
+use Rattle.cm_machine_model.specs.Step.{after_lift_of_result, new_call, receiver_of, top_place}
+use Rattle.cm_machine_model.specs.Step.{trap_of, trap_of_handle}
+use Rattle.cm_machine_model.specs.Valid.{IsStack, IsValidState, StandsOn}
 
 match_length : (plan : Plan) (fs : List Frame) (ds : List Doing) → AllMatch plan fs ds → length ds ≡ length fs
 match_length plan [] [] m = refl

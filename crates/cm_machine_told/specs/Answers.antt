@@ -11,9 +11,9 @@ use Rattle.cm_machine_model.specs.declared.moves.Move.TheVariants as move
 use Rattle.cm_machine_told.specs.Acting.{acts}
 use Rattle.cm_machine_told.specs.Doing.{Doing, LoweredCall, body, core_func_by_index, destroys}
 use Rattle.cm_machine_told.specs.Doing.{doing, handing, placing, root, tidying}
-use Rattle.cm_machine_rules.specs.History.{Occurrence, moves}
-use Rattle.cm_machine_rules.specs.Plan.{CoreFunc, Plan, drops, guest, lowered, makes, represents}
-use Rattle.cm_machine_rules.specs.State.{State}
+use Rattle.cm_machine_model.specs.History.{Occurrence, moves}
+use Rattle.cm_machine_model.specs.Plan.{CoreFunc, Plan, drops, guest, lowered, makes, represents}
+use Rattle.cm_machine_model.specs.State.{State}
 
 -- The body of this core function begins.
 abbrev pub IsEntry : ℕ → ℕ → Event → Type 0

@@ -3,9 +3,9 @@ use Rattle.std.specs.Prelude.{◌≡◌, ⊤, List, [], ◌∷◌, length}
 use Rattle.cm_types.specs.Values.{Val}
 use Rattle.cm_machine_told.specs.Doing.{Doing, body, destroys, doing, handing, placing, root}
 use Rattle.cm_machine_told.specs.Doing.{tidying}
-use Rattle.cm_machine_rules.specs.History.{Occurrence}
-use Rattle.cm_machine_rules.specs.Plan.{Plan}
-use Rattle.cm_machine_rules.specs.State.{State}
+use Rattle.cm_machine_model.specs.History.{Occurrence}
+use Rattle.cm_machine_model.specs.Plan.{Plan}
+use Rattle.cm_machine_model.specs.State.{State}
 use Rattle.cm_machine_told.specs.Told.{AsksFor, WasReturned, WasSent, answered_before, answers_back}
 use Rattle.cm_machine_told.specs.Told.{returned_requests, sent_requests}
 

@@ -4,10 +4,10 @@ use Rattle.cm_types.specs.Values.{Val}
 use Rattle.cm_abi_model.specs.Taken.{lent_of}
 use Rattle.cm_abi_model.specs.Views.{params, results}
 use Rattle.cm_machine_told.specs.Doing.{Doing, LoweredCall, body, doing, handing, placing, tidying}
-use Rattle.cm_machine_rules.specs.History.{Occurrence}
+use Rattle.cm_machine_model.specs.History.{Occurrence}
 use Rattle.cm_abi_model.specs.Requests.{parts_of}
-use Rattle.cm_machine_rules.specs.Plan.{Plan, types_of}
-use Rattle.cm_machine_rules.specs.State.{Passage, State}
+use Rattle.cm_machine_model.specs.Plan.{Plan, types_of}
+use Rattle.cm_machine_model.specs.State.{Passage, State}
 use Rattle.cm_machine_told.specs.Told.{WasReturned, WasSent, met_at_call}
 
 -- what is kept of a value of so many parts and handles

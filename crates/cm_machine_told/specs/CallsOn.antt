@@ -5,15 +5,15 @@ use Rattle.std.specs.Prelude.{slice_get, unwrap_or}
 use Rattle.std.proofs.lemmas.Bool.{cases_lt}
 use Rattle.std.proofs.lemmas.Option.{none-some, slice_get_past}
 use Rattle.cm_types.specs.declared.core_value.CoreValue.{CoreValue}
-use Rattle.cm_machine_rules.specs.declared.frame.Call.{Call}
-use Rattle.cm_machine_rules.specs.declared.frame.Frame.{Frame}
-use Rattle.cm_machine_rules.specs.declared.frame.Phase.{Phase}
-use Rattle.cm_machine_rules.specs.declared.frame.Phase.TheVariants as phase
-use Rattle.cm_machine_rules.specs.declared.frame.Purpose.{Purpose}
-use Rattle.cm_machine_rules.specs.declared.frame.Purpose.TheVariants as purpose
-use Rattle.cm_machine_rules.specs.Plan.{CoreFunc, Link, Plan, Reaches, lowered}
-use Rattle.cm_machine_rules.specs.Plans.{IsPlan}
-use Rattle.cm_machine_rules.specs.Rows.{same_link}
+use Rattle.cm_machine_model.specs.declared.frame.Call.{Call}
+use Rattle.cm_machine_model.specs.declared.frame.Frame.{Frame}
+use Rattle.cm_machine_model.specs.declared.frame.Phase.{Phase}
+use Rattle.cm_machine_model.specs.declared.frame.Phase.TheVariants as phase
+use Rattle.cm_machine_model.specs.declared.frame.Purpose.{Purpose}
+use Rattle.cm_machine_model.specs.declared.frame.Purpose.TheVariants as purpose
+use Rattle.cm_machine_model.specs.Plan.{CoreFunc, Link, Plan, Reaches, lowered}
+use Rattle.cm_machine_model.specs.Plans.{IsPlan}
+use Rattle.cm_machine_model.specs.Rows.{same_link}
 use Rattle.cm_machine_told.specs.Doing.{Asked, BodyReturn, Doing, LoweredCall, body, handing}
 use Rattle.cm_machine_told.specs.Doing.{placing, tidying}
 use Rattle.cm_machine_told.specs.Matching.{AllMatch, IsCallOf, MatchIn, MatchOne}

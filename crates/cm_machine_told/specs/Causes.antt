@@ -33,11 +33,11 @@ use Rattle.cm_machine_model.specs.declared.moves.Move.{Move}
 use Rattle.cm_machine_model.specs.declared.moves.Move.TheVariants as move
 use Rattle.cm_machine_model.specs.declared.limits.TheConstants.{MAX_FRAMES, MAX_PAGES, PAGE_SIZE}
 use Rattle.cm_machine_model.specs.Memories.{memory_at}
-use Rattle.cm_machine_rules.specs.Plan.{Plan, CoreFunc, Link, guest, lowered, makes, drops}
-use Rattle.cm_machine_rules.specs.Plan.{represents, core_func_at}
-use Rattle.cm_machine_rules.specs.Plan.{types_of}
-use Rattle.cm_machine_rules.specs.State.{State, table_at}
-use Rattle.cm_machine_rules.specs.Step.{trap_of}
+use Rattle.cm_machine_model.specs.Plan.{Plan, CoreFunc, Link, guest, lowered, makes, drops}
+use Rattle.cm_machine_model.specs.Plan.{represents, core_func_at}
+use Rattle.cm_machine_model.specs.Plan.{types_of}
+use Rattle.cm_machine_model.specs.State.{State, table_at}
+use Rattle.cm_machine_model.specs.Step.{trap_of}
 use Rattle.cm_abi_model.specs.LiftStops.{BorrowStops, LiftStops, HandleStands}
 use Rattle.cm_machine_told.specs.Doing.{Asked, BodyReturn, Doing, LoweredCall, root, placing, body}
 use Rattle.cm_machine_told.specs.Doing.{handing, tidying, destroys}

@@ -12,20 +12,20 @@ use Rattle.cm_abi_model.specs.Taken.{taken_of}
 use Rattle.cm_machine_model.specs.declared.event.Event.TheVariants as event
 use Rattle.cm_machine_model.specs.declared.event.Trap.{Trap}
 use Rattle.cm_machine_model.specs.declared.event.Trap.TheVariants as trap
-use Rattle.cm_machine_rules.specs.declared.frame.Place.{Place}
-use Rattle.cm_machine_rules.specs.declared.frame.Place.TheVariants as place
+use Rattle.cm_machine_model.specs.declared.frame.Place.{Place}
+use Rattle.cm_machine_model.specs.declared.frame.Place.TheVariants as place
 use Rattle.cm_machine_model.specs.declared.moves.Move.{Move}
 use Rattle.cm_machine_model.specs.declared.moves.Move.TheVariants as move
 use Rattle.cm_machine_told.specs.Acting.{acts}
 use Rattle.cm_machine_told.specs.Causes.{Cause, IsFirst, MayFindNoMemory, order}
 use Rattle.cm_machine_told.specs.Doing.{BodyReturn, Doing, LoweredCall, body, core_func_by_index}
 use Rattle.cm_machine_told.specs.Doing.{doing, instance_of}
-use Rattle.cm_machine_rules.specs.History.{Occurrence, moves}
-use Rattle.cm_machine_rules.specs.Owning.{IsAmong, IsAt}
+use Rattle.cm_machine_model.specs.History.{Occurrence, moves}
+use Rattle.cm_machine_model.specs.Owning.{IsAmong, IsAt}
 use Rattle.cm_abi_model.specs.HandleLeaves.{owned_in}
-use Rattle.cm_machine_rules.specs.Plan.{CoreFunc, Plan, lowered}
-use Rattle.cm_machine_rules.specs.State.{State, table_at}
-use Rattle.cm_machine_rules.specs.Step.{trap_of}
+use Rattle.cm_machine_model.specs.Plan.{CoreFunc, Plan, lowered}
+use Rattle.cm_machine_model.specs.State.{State, table_at}
+use Rattle.cm_machine_model.specs.Step.{trap_of}
 use Rattle.cm_machine_told.specs.Told.{WasReturned, WasSent, met_at_call, met_at_return}
 use Rattle.cm_machine_told.specs.Told.{returned_leaves, sent_leaves}
 use Rattle.cm_machine_told.specs.HandleChanges.{unlent}

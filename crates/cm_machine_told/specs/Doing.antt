@@ -3,14 +3,14 @@
 use Rattle.std.specs.Prelude.{ℕ, if◌then◌else◌, List, [], ◌∷◌, length, Option, Some, None}
 use Rattle.cm_types.specs.declared.core_value.CoreValue.{CoreValue}
 use Rattle.cm_types.specs.declared.core_value.CoreValue.TheVariants as core_value
-use Rattle.cm_machine_rules.specs.Plan.{Plan, CoreFunc, Link, lowered, core_func_at}
+use Rattle.cm_machine_model.specs.Plan.{Plan, CoreFunc, Link, lowered, core_func_at}
 use Rattle.cm_machine_model.specs.declared.event.Event.{Event}
 use Rattle.cm_machine_model.specs.declared.event.Event.TheVariants as event
 use Rattle.cm_machine_model.specs.declared.moves.Move.{Move}
 use Rattle.cm_machine_model.specs.declared.moves.Move.TheVariants as move
 use Rattle.cm_machine_model.specs.Events.{is_last}
-use Rattle.cm_machine_rules.specs.State.{State}
-use Rattle.cm_machine_rules.specs.History.{Action, begins, moves, Occurrence}
+use Rattle.cm_machine_model.specs.State.{State}
+use Rattle.cm_machine_model.specs.History.{Action, begins, moves, Occurrence}
 use Rattle.cm_machine_told.specs.Acting.{acts}
 
 -- a call of a lowered function: by whom, of what, with which core values, the state in which it was

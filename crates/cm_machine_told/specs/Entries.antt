@@ -15,9 +15,9 @@ use Rattle.cm_machine_model.specs.declared.moves.Move.TheVariants as move
 use Rattle.cm_machine_told.specs.Acting.{acts}
 use Rattle.cm_machine_told.specs.Doing.{Asked, BodyReturn, Doing, LoweredCall, body, body_return}
 use Rattle.cm_machine_told.specs.Doing.{destroys, doing, handing, tidying}
-use Rattle.cm_machine_rules.specs.History.{Action, Occurrence, moves}
-use Rattle.cm_machine_rules.specs.Plan.{Plan, types_of}
-use Rattle.cm_machine_rules.specs.State.{State, view_of}
+use Rattle.cm_machine_model.specs.History.{Action, Occurrence, moves}
+use Rattle.cm_machine_model.specs.Plan.{Plan, types_of}
+use Rattle.cm_machine_model.specs.State.{State, view_of}
 use Rattle.cm_machine_told.specs.Told.{WasReturned, WasSent, answers_back, answers_in, is_by_memory}
 use Rattle.cm_machine_told.specs.Told.{result_place_of, returned_requests, sent_requests}
 

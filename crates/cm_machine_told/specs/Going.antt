@@ -15,13 +15,13 @@ use Rattle.cm_machine_model.specs.declared.moves.Move.{Move}
 use Rattle.cm_machine_told.specs.Acting.{acts}
 use Rattle.cm_machine_told.specs.Causes.{MayCall}
 use Rattle.cm_machine_told.specs.Doing.{Doing, doing, instance_of}
-use Rattle.cm_machine_rules.specs.History.{IsHistoryOf, Occurrence, RunsOn, WritesBytes, begins}
+use Rattle.cm_machine_model.specs.History.{IsHistoryOf, Occurrence, RunsOn, WritesBytes, begins}
 use Rattle.cm_machine_model.specs.Memories.{memory_at}
-use Rattle.cm_machine_rules.specs.Plan.{Plan}
+use Rattle.cm_machine_model.specs.Plan.{Plan}
 use Rattle.cm_machine_model.specs.Events.{is_last}
-use Rattle.cm_machine_rules.specs.Run.{Run, misuse_of_begin}
-use Rattle.cm_machine_rules.specs.Stack.{actor, top_of}
-use Rattle.cm_machine_rules.specs.State.{State, fresh_state, table_at}
+use Rattle.cm_machine_model.specs.Run.{Run, misuse_of_begin}
+use Rattle.cm_machine_model.specs.Stack.{actor, top_of}
+use Rattle.cm_machine_model.specs.State.{State, fresh_state, table_at}
 use Rattle.cm_machine_told.specs.Answers.{Traps}
 
 -- ---- what goes on

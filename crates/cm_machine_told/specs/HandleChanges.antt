@@ -18,16 +18,16 @@ use Rattle.cm_abi_model.specs.Giving.{added_for, with_added}
 use Rattle.cm_abi_model.specs.declared.receiver.Receiver.{Receiver}
 use Rattle.cm_machine_model.specs.declared.event.Event.{Event}
 use Rattle.cm_machine_model.specs.declared.event.Event.TheVariants as event
-use Rattle.cm_machine_rules.specs.declared.frame.Place.TheVariants as place
+use Rattle.cm_machine_model.specs.declared.frame.Place.TheVariants as place
 use Rattle.cm_machine_model.specs.declared.moves.Move.{Move}
 use Rattle.cm_machine_model.specs.declared.moves.Move.TheVariants as move
 use Rattle.cm_machine_told.specs.Acting.{acts}
 use Rattle.cm_machine_told.specs.Doing.{BodyReturn, Doing, LoweredCall, body, core_func_by_index}
 use Rattle.cm_machine_told.specs.Doing.{doing, handing, placing}
-use Rattle.cm_machine_rules.specs.History.{Occurrence, begins, moves}
-use Rattle.cm_machine_rules.specs.Owning.{IsAt, StandsIn}
-use Rattle.cm_machine_rules.specs.Plan.{CoreFunc, Plan, drops, lowered, makes, represents}
-use Rattle.cm_machine_rules.specs.State.{State, table_at}
+use Rattle.cm_machine_model.specs.History.{Occurrence, begins, moves}
+use Rattle.cm_machine_model.specs.Owning.{IsAt, StandsIn}
+use Rattle.cm_machine_model.specs.Plan.{CoreFunc, Plan, drops, lowered, makes, represents}
+use Rattle.cm_machine_model.specs.State.{State, table_at}
 use Rattle.cm_machine_told.specs.Told.{WasReturned, WasSent, args_receiver, met_at_call}
 use Rattle.cm_machine_told.specs.Told.{met_at_return, result_receiver, returned_leaves, sent_leaves}
 use Rattle.cm_machine_told.specs.Answers.{Traps}

@@ -4,13 +4,13 @@ use Rattle.cm_types.specs.Values.{Val}
 use Rattle.cm_handles.specs.declared.handle.Handle.{Handle}
 use Rattle.cm_handles.specs.declared.handle.HandleKind.TheVariants as handle
 use Rattle.cm_abi_model.specs.Taken.{lent_of}
-use Rattle.cm_machine_rules.specs.declared.frame.Lend.{Lend}
+use Rattle.cm_machine_model.specs.declared.frame.Lend.{Lend}
 use Rattle.cm_machine_told.specs.Doing.{Doing, LoweredCall, body, destroys, doing, handing, placing}
 use Rattle.cm_machine_told.specs.Doing.{root, tidying}
-use Rattle.cm_machine_rules.specs.History.{Occurrence}
-use Rattle.cm_machine_rules.specs.Owning.{AreCounted, NoneDangles, StandsIn}
-use Rattle.cm_machine_rules.specs.Plan.{Plan}
-use Rattle.cm_machine_rules.specs.State.{State, lends_to}
+use Rattle.cm_machine_model.specs.History.{Occurrence}
+use Rattle.cm_machine_model.specs.Owning.{AreCounted, NoneDangles, StandsIn}
+use Rattle.cm_machine_model.specs.Plan.{Plan}
+use Rattle.cm_machine_model.specs.State.{State, lends_to}
 use Rattle.cm_machine_told.specs.Told.{WasSent, met_at_call}
 
 -- what is lent to a call: what it borrows of the caller's handles, as it did when it was made,

@@ -2,22 +2,22 @@
 use Rattle.std.specs.Prelude.{◌≡◌, ◌⊎◌, ℕ, ⊤, List, [], ◌∷◌, length, Option}
 use Rattle.std.specs.Option.{option_map}
 use Rattle.cm_machine_model.specs.declared.event.Event.{Event}
-use Rattle.cm_machine_rules.specs.declared.frame.Call.{Call}
-use Rattle.cm_machine_rules.specs.declared.frame.Frame.{Frame}
-use Rattle.cm_machine_rules.specs.declared.frame.Phase.{Phase}
-use Rattle.cm_machine_rules.specs.declared.frame.Phase.TheVariants as phase
-use Rattle.cm_machine_rules.specs.declared.frame.Purpose.{Purpose}
-use Rattle.cm_machine_rules.specs.declared.frame.Purpose.TheVariants as purpose
+use Rattle.cm_machine_model.specs.declared.frame.Call.{Call}
+use Rattle.cm_machine_model.specs.declared.frame.Frame.{Frame}
+use Rattle.cm_machine_model.specs.declared.frame.Phase.{Phase}
+use Rattle.cm_machine_model.specs.declared.frame.Phase.TheVariants as phase
+use Rattle.cm_machine_model.specs.declared.frame.Purpose.{Purpose}
+use Rattle.cm_machine_model.specs.declared.frame.Purpose.TheVariants as purpose
 use Rattle.cm_machine_model.specs.declared.moves.Move.{Move}
 use Rattle.cm_machine_told.specs.Acting.{acts_after}
 use Rattle.cm_machine_told.specs.Doing.{Doing, LoweredCall, after_move, body, destroys, handing}
 use Rattle.cm_machine_told.specs.Doing.{placing, root, tidying}
 use Rattle.cm_machine_told.specs.Answers.{IsAnswerTo, Traps}
-use Rattle.cm_machine_rules.specs.Plan.{Plan, Reaches}
-use Rattle.cm_machine_rules.specs.Stack.{actor, top_of}
-use Rattle.cm_machine_rules.specs.State.{State}
-use Rattle.cm_machine_rules.specs.Step.{Step, result_place}
-use Rattle.cm_machine_rules.specs.Valid.{IsValidState}
+use Rattle.cm_machine_model.specs.Plan.{Plan, Reaches}
+use Rattle.cm_machine_model.specs.Stack.{actor, top_of}
+use Rattle.cm_machine_model.specs.State.{State}
+use Rattle.cm_machine_model.specs.Step.{Step, result_place}
+use Rattle.cm_machine_model.specs.Valid.{IsValidState}
 
 -- a frame's call, of this instance and at this place, is the one that was made
 pub record IsCallOf (plan : Plan) (i : ℕ) (call : Call) (place : ℕ) (x : LoweredCall)

@@ -16,10 +16,10 @@ use Rattle.cm_machine_model.specs.declared.moves.Move.{Move}
 use Rattle.cm_machine_model.specs.declared.moves.Move.TheVariants as move
 use Rattle.cm_machine_told.specs.Acting.{acts}
 use Rattle.cm_machine_told.specs.Doing.{Asked, BodyReturn, Doing, LoweredCall, body, doing, handing}
-use Rattle.cm_machine_rules.specs.History.{Occurrence, begins, moves}
+use Rattle.cm_machine_model.specs.History.{Occurrence, begins, moves}
 use Rattle.cm_machine_model.specs.Memories.{memory_at}
-use Rattle.cm_machine_rules.specs.Plan.{Plan, types_of}
-use Rattle.cm_machine_rules.specs.State.{State}
+use Rattle.cm_machine_model.specs.Plan.{Plan, types_of}
+use Rattle.cm_machine_model.specs.State.{State}
 use Rattle.cm_machine_told.specs.Told.{WasReturned, WasSent, answers_back, answers_in}
 use Rattle.cm_machine_told.specs.Told.{returned_requests, sent_requests}
 use Rattle.cm_machine_told.specs.Entries.{answered_by}

@@ -2,13 +2,13 @@
 -- trap leaves is this project's own choice).
 use Rattle.std.specs.Prelude.{◌≡◌, ℕ, ◌≤◌, List, [], ◌∷◌, length}
 use Rattle.cm_types.specs.Values.{Val}
-use Rattle.cm_machine_rules.specs.declared.frame.Place.TheVariants as place
+use Rattle.cm_machine_model.specs.declared.frame.Place.TheVariants as place
 use Rattle.cm_machine_told.specs.Doing.{Doing, doing, handing, placing}
-use Rattle.cm_machine_rules.specs.History.{Occurrence}
-use Rattle.cm_machine_rules.specs.Owning.{IsAt, OnePlace, serials, travelling}
+use Rattle.cm_machine_model.specs.History.{Occurrence}
+use Rattle.cm_machine_model.specs.Owning.{IsAt, OnePlace, serials, travelling}
 use Rattle.cm_abi_model.specs.HandleLeaves.{owned_in}
-use Rattle.cm_machine_rules.specs.Plan.{Plan}
-use Rattle.cm_machine_rules.specs.State.{State}
+use Rattle.cm_machine_model.specs.Plan.{Plan}
+use Rattle.cm_machine_model.specs.State.{State}
 use Rattle.cm_machine_told.specs.Told.{WasReturned, WasSent, returned_leaves, sent_leaves}
 
 -- the resources that are on their way: those that the value owns that is being placed

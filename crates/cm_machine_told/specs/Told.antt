@@ -16,8 +16,8 @@ use Rattle.cm_abi_model.specs.Views.{View, params, results}
 use Rattle.cm_abi_model.specs.declared.receiver.Receiver.{Receiver}
 use Rattle.cm_machine_told.specs.Doing.{Asked, BodyReturn, LoweredCall}
 use Rattle.cm_abi_model.specs.Answered.{last_answer}
-use Rattle.cm_machine_rules.specs.Plan.{Link, types_of}
-use Rattle.cm_machine_rules.specs.State.{view_of}
+use Rattle.cm_machine_model.specs.Plan.{Link, types_of}
+use Rattle.cm_machine_model.specs.State.{view_of}
 
 -- ---- the arguments of a call
 

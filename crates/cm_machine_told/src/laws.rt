@@ -3,9 +3,9 @@
 
 ghost use Rattle.std.specs.Prelude.{List};
 ghost use Rattle.std.specs.Prelude.{ℕ};
-ghost use Rattle.cm_machine_rules.specs.History.{IsHistoryOf, Occurrence};
-ghost use Rattle.cm_machine_rules.specs.Plan.{Plan};
-ghost use Rattle.cm_machine_rules.specs.State.{State};
+ghost use Rattle.cm_machine_model.specs.History.{IsHistoryOf, Occurrence};
+ghost use Rattle.cm_machine_model.specs.Plan.{Plan};
+ghost use Rattle.cm_machine_model.specs.State.{State};
 ghost use Rattle.cm_machine_told.specs.Acting.{acts};
 ghost use Rattle.cm_machine_told.specs.Always.{Always};
 ghost use Rattle.cm_machine_told.specs.Answers.{AnswersRightly};

@@ -6,14 +6,14 @@ use Rattle.cm_handles.specs.Handles.{handle_at}
 use Rattle.cm_handles.specs.declared.handle.Handle.{Handle}
 use Rattle.cm_handles.specs.declared.handle.HandleKind.{HandleKind}
 use Rattle.cm_handles.specs.declared.handle.HandleKind.TheVariants as handle
-use Rattle.cm_machine_rules.specs.declared.frame.Call.{Call}
-use Rattle.cm_machine_rules.specs.declared.frame.Frame.{Frame}
-use Rattle.cm_machine_rules.specs.declared.frame.Purpose.TheVariants as purpose
-use Rattle.cm_machine_rules.specs.Owning.{IsBacked, NoneDangles, StandsIn, count_lends, standing}
-use Rattle.cm_machine_rules.specs.Plan.{Plan, lowered}
-use Rattle.cm_machine_rules.specs.Plans.{IsLink, IsPlan}
-use Rattle.cm_machine_rules.specs.State.{State}
-use Rattle.cm_machine_rules.specs.Valid.{IsStack, IsValidState, StandsOn, frame_at}
+use Rattle.cm_machine_model.specs.declared.frame.Call.{Call}
+use Rattle.cm_machine_model.specs.declared.frame.Frame.{Frame}
+use Rattle.cm_machine_model.specs.declared.frame.Purpose.TheVariants as purpose
+use Rattle.cm_machine_model.specs.Owning.{IsBacked, NoneDangles, StandsIn, count_lends, standing}
+use Rattle.cm_machine_model.specs.Plan.{Plan, lowered}
+use Rattle.cm_machine_model.specs.Plans.{IsLink, IsPlan}
+use Rattle.cm_machine_model.specs.State.{State}
+use Rattle.cm_machine_model.specs.Valid.{IsStack, IsValidState, StandsOn, frame_at}
 use Rattle.cm_machine_valid.proofs.Lending.{counts_of, one_counted, none_there, table_past}
 use Rattle.cm_machine_valid.proofs.LendKeeps.{call_of, frame_pop}
 use Rattle.cm_machine_valid.proofs.LendsValid.{from_valid}

@@ -12,14 +12,14 @@ use Rattle.cm_abi_model.specs.Receives.{HandleLeaf, owned_leaf, borrowed_leaf}
 use Rattle.cm_abi_model.specs.Giving.{added_by, added_count, after_given, handle_to, numbers_given}
 use Rattle.cm_abi_model.specs.Giving.{with_added}
 use Rattle.cm_abi_model.specs.declared.receiver.Receiver.{Receiver}
-use Rattle.cm_machine_rules.specs.declared.frame.Place.{Place}
-use Rattle.cm_machine_rules.specs.declared.frame.Place.TheVariants as place
-use Rattle.cm_machine_rules.specs.Owning.{HaveOnePlace, Owners, Standing, owners_of, serials}
-use Rattle.cm_machine_rules.specs.Owning.{standing}
+use Rattle.cm_machine_model.specs.declared.frame.Place.{Place}
+use Rattle.cm_machine_model.specs.declared.frame.Place.TheVariants as place
+use Rattle.cm_machine_model.specs.Owning.{HaveOnePlace, Owners, Standing, owners_of, serials}
+use Rattle.cm_machine_model.specs.Owning.{standing}
 use Rattle.cm_machine_valid.proofs.OwningLaws.{AddingIsFine, ChangesAt}
 use Rattle.cm_abi_model.specs.HandleLeaves.{owned_in}
-use Rattle.cm_machine_rules.specs.State.{table_at}
-use Rattle.cm_machine_rules.specs.Step.{owners_given}
+use Rattle.cm_machine_model.specs.State.{table_at}
+use Rattle.cm_machine_model.specs.Step.{owners_given}
 use Rattle.cm_machine_valid.proofs.OnePlaces.{giving}
 use Rattle.cm_machine_valid.proofs.LiftPlaces.{changed_in, moved_in, table_back, table_same}
 

@@ -6,14 +6,14 @@ use Rattle.cm_machine_model.specs.declared.event.Event.{Event}
 use Rattle.cm_machine_model.specs.declared.event.Misuse.{Misuse}
 use Rattle.cm_machine_model.specs.declared.event.Misuse.TheVariants as misuse
 use Rattle.cm_machine_model.specs.declared.moves.Move.{Move}
-use Rattle.cm_machine_rules.specs.declared.frame.Frame.{Frame}
-use Rattle.cm_machine_rules.specs.History.{Action, Happens, IsHistory, IsHistoryOf, Occurrence, WritesBytes, begins, moves}
-use Rattle.cm_machine_rules.specs.Plan.{Plan}
-use Rattle.cm_machine_rules.specs.Plans.{IsPlan}
-use Rattle.cm_machine_rules.specs.Run.{after_begin, misuse_by_closed, misuse_by_stack}
-use Rattle.cm_machine_rules.specs.State.{State, are_page_counts, fresh_state}
-use Rattle.cm_machine_rules.specs.Step.{Step}
-use Rattle.cm_machine_rules.specs.Valid.{IsValidState}
+use Rattle.cm_machine_model.specs.declared.frame.Frame.{Frame}
+use Rattle.cm_machine_model.specs.History.{Action, Happens, IsHistory, IsHistoryOf, Occurrence, WritesBytes, begins, moves}
+use Rattle.cm_machine_model.specs.Plan.{Plan}
+use Rattle.cm_machine_model.specs.Plans.{IsPlan}
+use Rattle.cm_machine_model.specs.Run.{after_begin, misuse_by_closed, misuse_by_stack}
+use Rattle.cm_machine_model.specs.State.{State, are_page_counts, fresh_state}
+use Rattle.cm_machine_model.specs.Step.{Step}
+use Rattle.cm_machine_model.specs.Valid.{IsValidState}
 
 -- The machine starts valid and stays so.
 pub record Keeps : Type 0 where

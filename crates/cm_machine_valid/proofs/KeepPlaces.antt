@@ -13,16 +13,16 @@ use Rattle.cm_handles.specs.Handles.{slot_after_close, with_lends}
 use Rattle.cm_handles.specs.declared.handle.Handle.{Handle}
 use Rattle.cm_handles.specs.declared.handle.HandleKind.{HandleKind}
 use Rattle.cm_handles.specs.declared.handle.HandleKind.TheVariants as handle
-use Rattle.cm_machine_rules.specs.declared.frame.Frame.{Frame}
-use Rattle.cm_machine_rules.specs.declared.frame.Lend.{Lend}
-use Rattle.cm_machine_rules.specs.declared.frame.Place.{Place}
-use Rattle.cm_machine_rules.specs.declared.frame.Place.TheVariants as place
-use Rattle.cm_machine_rules.specs.Owning.{HaveOnePlace, IsAmong, OnePlace, Owners, Owns, Standing}
-use Rattle.cm_machine_rules.specs.Owning.{StandsIn, owners_of, standing, travelling}
-use Rattle.cm_machine_rules.specs.Stack.{below_top}
-use Rattle.cm_machine_rules.specs.Step.{CanMake, after_call, after_drop, after_new}
-use Rattle.cm_machine_rules.specs.State.{Passage, State, after_trap, place_after_trap, table_at}
-use Rattle.cm_machine_rules.specs.State.{tables_after_call, tables_after_trap, tables_after_unlend}
+use Rattle.cm_machine_model.specs.declared.frame.Frame.{Frame}
+use Rattle.cm_machine_model.specs.declared.frame.Lend.{Lend}
+use Rattle.cm_machine_model.specs.declared.frame.Place.{Place}
+use Rattle.cm_machine_model.specs.declared.frame.Place.TheVariants as place
+use Rattle.cm_machine_model.specs.Owning.{HaveOnePlace, IsAmong, OnePlace, Owners, Owns, Standing}
+use Rattle.cm_machine_model.specs.Owning.{StandsIn, owners_of, standing, travelling}
+use Rattle.cm_machine_model.specs.Stack.{below_top}
+use Rattle.cm_machine_model.specs.Step.{CanMake, after_call, after_drop, after_new}
+use Rattle.cm_machine_model.specs.State.{Passage, State, after_trap, place_after_trap, table_at}
+use Rattle.cm_machine_model.specs.State.{tables_after_call, tables_after_trap, tables_after_unlend}
 use Rattle.cm_machine_valid.proofs.OwningLaws.{AddingIsFine, ChangesAt, MovesTo}
 use Rattle.cm_types.specs.declared.resource.ResourceId.{ResourceId}
 use Rattle.cm_machine_valid.proofs.OnePlaces.{place_of_owned}

@@ -15,21 +15,21 @@ use Rattle.cm_abi_model.specs.Receives.{HandleLeaf, borrowed_leaf, owned_leaf}
 use Rattle.cm_abi_model.specs.Taken.{CanGo, Met, after_met, lent_of, taken_of}
 use Rattle.cm_abi_model.specs.Giving.{added_by, added_count, after_given, handle_to, with_added}
 use Rattle.cm_abi_model.specs.declared.receiver.Receiver.{Receiver}
-use Rattle.cm_machine_rules.specs.declared.frame.Call.{Call}
-use Rattle.cm_machine_rules.specs.declared.frame.Frame.{Frame}
-use Rattle.cm_machine_rules.specs.declared.frame.Lend.{Lend}
-use Rattle.cm_machine_rules.specs.declared.frame.Phase.{Phase}
-use Rattle.cm_machine_rules.specs.declared.frame.Phase.TheVariants as phase
-use Rattle.cm_machine_rules.specs.declared.frame.Purpose.{Purpose}
-use Rattle.cm_machine_rules.specs.declared.frame.Purpose.TheVariants as purpose
-use Rattle.cm_machine_rules.specs.Owning.{IsAmong, count_lends, standing}
+use Rattle.cm_machine_model.specs.declared.frame.Call.{Call}
+use Rattle.cm_machine_model.specs.declared.frame.Frame.{Frame}
+use Rattle.cm_machine_model.specs.declared.frame.Lend.{Lend}
+use Rattle.cm_machine_model.specs.declared.frame.Phase.{Phase}
+use Rattle.cm_machine_model.specs.declared.frame.Phase.TheVariants as phase
+use Rattle.cm_machine_model.specs.declared.frame.Purpose.{Purpose}
+use Rattle.cm_machine_model.specs.declared.frame.Purpose.TheVariants as purpose
+use Rattle.cm_machine_model.specs.Owning.{IsAmong, count_lends, standing}
 use Rattle.cm_machine_valid.proofs.OwningLaws.{AddingIsFine}
-use Rattle.cm_machine_rules.specs.Plan.{Plan}
-use Rattle.cm_machine_rules.specs.Stack.{actor, below_top, top_of}
-use Rattle.cm_machine_rules.specs.State.{Passage, lends_after_call, lends_to, table_at}
-use Rattle.cm_machine_rules.specs.State.{tables_after_call, tables_after_trap}
-use Rattle.cm_machine_rules.specs.Step.{MayLeave, MayLeaveIn}
-use Rattle.cm_machine_rules.specs.Valid.{IsBorrowedLeaf, IsStack, StandsOn, frame_at}
+use Rattle.cm_machine_model.specs.Plan.{Plan}
+use Rattle.cm_machine_model.specs.Stack.{actor, below_top, top_of}
+use Rattle.cm_machine_model.specs.State.{Passage, lends_after_call, lends_to, table_at}
+use Rattle.cm_machine_model.specs.State.{tables_after_call, tables_after_trap}
+use Rattle.cm_machine_model.specs.Step.{MayLeave, MayLeaveIn}
+use Rattle.cm_machine_model.specs.Valid.{IsBorrowedLeaf, IsStack, StandsOn, frame_at}
 use Rattle.cm_machine_valid.proofs.Lending.{Clean, CountsAt, Fades, HasFrame, IsIn, Like, at_other}
 use Rattle.cm_machine_valid.proofs.Lending.{at_release, count_both, counted_elsewhere, counted_one}
 use Rattle.cm_machine_valid.proofs.Lending.{counted_to, counts_of, ends_count, ends_fade, fade}

@@ -15,11 +15,11 @@ use Rattle.cm_handles.specs.declared.handle.HandleKind.{HandleKind}
 use Rattle.cm_handles.specs.declared.handle.HandleKind.TheVariants as handle
 use Rattle.cm_abi_model.specs.Taken.{Met, text_content, content, taken, lent, after_met, taken_of}
 use Rattle.cm_abi_model.specs.Taken.{lent_of}
-use Rattle.cm_machine_rules.specs.declared.frame.Frame.{Frame}
-use Rattle.cm_machine_rules.specs.declared.frame.Lend.{Lend}
-use Rattle.cm_machine_rules.specs.Owning.{IsAmong, count_lends, standing}
-use Rattle.cm_machine_rules.specs.State.{lends_after_call, lends_to, table_at, tables_after_call}
-use Rattle.cm_machine_rules.specs.State.{tables_after_trap, tables_after_unlend}
+use Rattle.cm_machine_model.specs.declared.frame.Frame.{Frame}
+use Rattle.cm_machine_model.specs.declared.frame.Lend.{Lend}
+use Rattle.cm_machine_model.specs.Owning.{IsAmong, count_lends, standing}
+use Rattle.cm_machine_model.specs.State.{lends_after_call, lends_to, table_at, tables_after_call}
+use Rattle.cm_machine_model.specs.State.{tables_after_trap, tables_after_unlend}
 use Rattle.cm_machine_valid.proofs.KeepPlaces.{slice_set_past}
 use Rattle.cm_machine_valid.proofs.LiftPlaces.{table_other, table_same}
 

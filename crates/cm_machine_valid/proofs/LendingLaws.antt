@@ -1,11 +1,11 @@
 -- What keeps lends counted and borrows backed.
 use Rattle.cm_machine_model.specs.declared.event.Event.{Event}
 use Rattle.cm_machine_model.specs.declared.moves.Move.{Move}
-use Rattle.cm_machine_rules.specs.Owning.{AreCounted, NoneDangles}
-use Rattle.cm_machine_rules.specs.Plan.{Plan}
-use Rattle.cm_machine_rules.specs.State.{State}
-use Rattle.cm_machine_rules.specs.Step.{Step}
-use Rattle.cm_machine_rules.specs.Valid.{AreBorrowed, AreLentOut, AreToCalls, IsValidState}
+use Rattle.cm_machine_model.specs.Owning.{AreCounted, NoneDangles}
+use Rattle.cm_machine_model.specs.Plan.{Plan}
+use Rattle.cm_machine_model.specs.State.{State}
+use Rattle.cm_machine_model.specs.Step.{Step}
+use Rattle.cm_machine_model.specs.Valid.{AreBorrowed, AreLentOut, AreToCalls, IsValidState}
 
 -- Each handle is lent as often as it is among the lends, the lends are to calls that stand, and
 -- what is borrowed, or is on its way to be, is lent.

@@ -5,12 +5,12 @@ use Rattle.cm_handles.specs.declared.handle.Handle.{Handle}
 use Rattle.cm_machine_model.specs.declared.event.Event.{Event}
 use Rattle.cm_machine_model.specs.declared.moves.Move.{Move}
 use Rattle.cm_machine_valid.proofs.LendingLaws.{AreLent}
-use Rattle.cm_machine_rules.specs.Owning.{AreCounted, count_lends, standing}
+use Rattle.cm_machine_model.specs.Owning.{AreCounted, count_lends, standing}
 use Rattle.cm_machine_valid.proofs.OwningLaws.{AddingIsFine}
-use Rattle.cm_machine_rules.specs.Plan.{Plan}
-use Rattle.cm_machine_rules.specs.State.{State}
-use Rattle.cm_machine_rules.specs.Step.{Step}
-use Rattle.cm_machine_rules.specs.Valid.{IsValidState}
+use Rattle.cm_machine_model.specs.Plan.{Plan}
+use Rattle.cm_machine_model.specs.State.{State}
+use Rattle.cm_machine_model.specs.Step.{Step}
+use Rattle.cm_machine_model.specs.Valid.{IsValidState}
 use Rattle.cm_machine_valid.proofs.Lending.{CountsAt, counted_one, counts_of, in_from, in_to}
 use Rattle.cm_machine_valid.proofs.Lending.{one_counted, stands_lent}
 use Rattle.cm_machine_valid.proofs.StepLends.{H, steps_hold}

@@ -6,9 +6,9 @@ use Rattle.cm_handles.specs.Handles.{Handles, handle_at}
 use Rattle.cm_handles.specs.declared.handle.Handle.{Handle}
 use Rattle.cm_abi_model.specs.Receives.{HandleLeaf, borrowed_leaf, owned_leaf}
 use Rattle.cm_abi_model.specs.Taken.{Met, content, lent, lent_of, taken, taken_of, text_content}
-use Rattle.cm_machine_rules.specs.Owning.{IsAmong}
-use Rattle.cm_machine_rules.specs.Plans.{NoneBorrowed}
-use Rattle.cm_machine_rules.specs.Valid.{IsBorrowedLeaf}
+use Rattle.cm_machine_model.specs.Owning.{IsAmong}
+use Rattle.cm_machine_model.specs.Plans.{NoneBorrowed}
+use Rattle.cm_machine_model.specs.Valid.{IsBorrowedLeaf}
 use Rattle.cm_machine_valid.proofs.Lists.{Contains-first, Contains-rest}
 use Rattle.cm_machine_valid.specs.Taking.{AreThere, IsOf}
 

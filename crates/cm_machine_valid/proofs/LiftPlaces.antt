@@ -12,12 +12,12 @@ use Rattle.cm_handles.specs.Handles.{Handles, after_lend, after_release, handle_
 use Rattle.cm_handles.specs.Handles.{with_lends}
 use Rattle.cm_handles.specs.declared.handle.Handle.{Handle}
 use Rattle.cm_abi_model.specs.Taken.{Met, text_content, content, taken, lent, after_met}
-use Rattle.cm_machine_rules.specs.declared.frame.Place.{Place}
-use Rattle.cm_machine_rules.specs.declared.frame.Place.TheVariants as place
-use Rattle.cm_machine_rules.specs.Owning.{HaveOnePlace, owners_of, serials, standing}
+use Rattle.cm_machine_model.specs.declared.frame.Place.{Place}
+use Rattle.cm_machine_model.specs.declared.frame.Place.TheVariants as place
+use Rattle.cm_machine_model.specs.Owning.{HaveOnePlace, owners_of, serials, standing}
 use Rattle.cm_machine_valid.proofs.OwningLaws.{ChangesAt, MovesTo}
 use Rattle.cm_machine_valid.specs.Taking.{AreTaken}
-use Rattle.cm_machine_rules.specs.State.{table_at, with_places}
+use Rattle.cm_machine_model.specs.State.{table_at, with_places}
 use Rattle.cm_machine_valid.proofs.OnePlaces.{changing, place_of_owned, taking}
 
 -- ---- lists

@@ -16,15 +16,15 @@ use Rattle.cm_abi_model.specs.Receives.{HandleLeaf, borrowed_leaf, owned_leaf}
 use Rattle.cm_abi_model.specs.Taken.{Met, after_met, content, lent, taken, text_content}
 use Rattle.cm_abi_model.specs.Giving.{added_by, added_count, after_given, handle_to, with_added}
 use Rattle.cm_abi_model.specs.declared.receiver.Receiver.{Receiver}
-use Rattle.cm_machine_rules.specs.declared.frame.Frame.{Frame}
-use Rattle.cm_machine_rules.specs.declared.frame.Lend.{Lend}
-use Rattle.cm_machine_rules.specs.declared.frame.Place.{Place}
-use Rattle.cm_machine_rules.specs.declared.frame.Place.TheVariants as place
+use Rattle.cm_machine_model.specs.declared.frame.Frame.{Frame}
+use Rattle.cm_machine_model.specs.declared.frame.Lend.{Lend}
+use Rattle.cm_machine_model.specs.declared.frame.Place.{Place}
+use Rattle.cm_machine_model.specs.declared.frame.Place.TheVariants as place
 use Rattle.cm_machine_valid.proofs.OwningLaws.{AddingIsFine}
-use Rattle.cm_machine_rules.specs.State.{Passage, table_at, tables_after_call, tables_after_trap}
-use Rattle.cm_machine_rules.specs.State.{with_places}
-use Rattle.cm_machine_rules.specs.Step.{owners_given}
-use Rattle.cm_machine_rules.specs.Valid.{AllMade}
+use Rattle.cm_machine_model.specs.State.{Passage, table_at, tables_after_call, tables_after_trap}
+use Rattle.cm_machine_model.specs.State.{with_places}
+use Rattle.cm_machine_model.specs.Step.{owners_given}
+use Rattle.cm_machine_model.specs.Valid.{AllMade}
 use Rattle.cm_machine_valid.proofs.Lending.{Fades, at_release, ends_fade, fade_fades, met_at_index}
 use Rattle.cm_machine_valid.proofs.PlainKeeps.{table_set}
 use Rattle.cm_machine_valid.specs.Taking.{AreThere}

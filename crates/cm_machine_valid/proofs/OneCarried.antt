@@ -7,9 +7,9 @@ use Rattle.cm_abi_model.specs.Denotes.{Denotes}
 use Rattle.cm_abi_model.specs.Receives.{leaves_in}
 use Rattle.cm_abi_model.specs.Requests.{tuple_of}
 use Rattle.cm_abi_model.specs.Views.{View, Way}
-use Rattle.cm_machine_rules.specs.Passages.{Carries}
-use Rattle.cm_machine_rules.specs.Plan.{Link, types_of}
-use Rattle.cm_machine_rules.specs.State.{Passage}
+use Rattle.cm_machine_model.specs.Passages.{Carries}
+use Rattle.cm_machine_model.specs.Plan.{Link, types_of}
+use Rattle.cm_machine_model.specs.State.{Passage}
 
 -- Two values that the same memory shows, with the same handles, are one.
 abbrev pub OneCarried : Type 0

@@ -5,8 +5,8 @@ use Rattle.std.proofs.lemmas.Bool.{cases_eq}
 use Rattle.std.proofs.lemmas.Option.{none-some, same_Some}
 use Rattle.cm_handles.specs.declared.handle.Handle.{Handle}
 use Rattle.cm_handles.specs.declared.handle.HandleKind.TheVariants as handle
-use Rattle.cm_machine_rules.specs.declared.frame.Place.TheVariants as place
-use Rattle.cm_machine_rules.specs.Owning.{AreApart, HaveOnePlace, IsAmong, Owners, Owns, Standing}
+use Rattle.cm_machine_model.specs.declared.frame.Place.TheVariants as place
+use Rattle.cm_machine_model.specs.Owning.{AreApart, HaveOnePlace, IsAmong, Owners, Owns, Standing}
 use Rattle.cm_machine_valid.proofs.OwningLaws.{ChangesAt, MovesTo}
 
 -- ---- numbers in a row

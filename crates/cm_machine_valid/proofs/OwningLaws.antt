@@ -16,19 +16,19 @@ use Rattle.cm_types.specs.Types.{Fields}
 use Rattle.cm_machine_model.specs.declared.event.Event.{Event}
 use Rattle.cm_machine_model.specs.declared.moves.Move.{Move}
 use Rattle.cm_machine_valid.specs.Taking.{AreTaken}
-use Rattle.cm_machine_rules.specs.Plan.{Plan}
-use Rattle.cm_machine_rules.specs.Valid.{IsValidState}
-use Rattle.cm_machine_rules.specs.declared.frame.Place.{Place}
-use Rattle.cm_machine_rules.specs.declared.frame.Place.TheVariants as place
-use Rattle.cm_machine_rules.specs.Owning.{HaveOnePlace, OnePlace, Owners, Standing, StandsIn}
-use Rattle.cm_machine_rules.specs.Owning.{owners_of, serials, standing}
+use Rattle.cm_machine_model.specs.Plan.{Plan}
+use Rattle.cm_machine_model.specs.Valid.{IsValidState}
+use Rattle.cm_machine_model.specs.declared.frame.Place.{Place}
+use Rattle.cm_machine_model.specs.declared.frame.Place.TheVariants as place
+use Rattle.cm_machine_model.specs.Owning.{HaveOnePlace, OnePlace, Owners, Standing, StandsIn}
+use Rattle.cm_machine_model.specs.Owning.{owners_of, serials, standing}
 use Rattle.cm_abi_model.specs.Receives.{HandleLeaf, leaves_in}
 use Rattle.cm_abi_model.specs.Giving.{added_count, after_given, numbers_given}
 use Rattle.cm_abi_model.specs.declared.receiver.Receiver.{Receiver}
 use Rattle.cm_abi_model.specs.HandleLeaves.{owned_in}
-use Rattle.cm_machine_rules.specs.State.{State, after_trap, table_at, with_places}
-use Rattle.cm_machine_rules.specs.Step.{CanMake, Step, after_call, after_drop, after_new}
-use Rattle.cm_machine_rules.specs.Step.{owners_given}
+use Rattle.cm_machine_model.specs.State.{State, after_trap, table_at, with_places}
+use Rattle.cm_machine_model.specs.Step.{CanMake, Step, after_call, after_drop, after_new}
+use Rattle.cm_machine_model.specs.Step.{owners_given}
 
 -- one entry of the tables is this now, and all others are as they were
 pub record ChangesAt (old new : Standing) (i index : ℕ) (slot : Option Handle) : Type 0 where

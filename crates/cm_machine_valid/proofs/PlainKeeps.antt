@@ -4,14 +4,14 @@ use Rattle.std.proofs.Common.{length, Some, refl, sym, ap, subst, ◌∙◌, ari
 use Rattle.std.specs.Prelude.{Contains, slice_get, slice_set, ◌==◌, unwrap_or}
 use Rattle.std.proofs.lemmas.Bool.{cases_eq, cases_lt}
 use Rattle.cm_handles.specs.Handles.{Handles, IsSoundHandles, after_close, after_unlend}
-use Rattle.cm_machine_rules.specs.declared.frame.Frame.{Frame}
-use Rattle.cm_machine_rules.specs.declared.frame.Lend.{Lend}
+use Rattle.cm_machine_model.specs.declared.frame.Frame.{Frame}
+use Rattle.cm_machine_model.specs.declared.frame.Lend.{Lend}
 use Rattle.cm_machine_model.specs.declared.limits.TheConstants.{MAX_FRAMES, MAX_MEMORY_SIZE}
 use Rattle.cm_abi_model.specs.Bytes.{AreBytes}
 use Rattle.cm_machine_model.specs.Memories.{memory_at}
-use Rattle.cm_machine_rules.specs.Plan.{Plan}
-use Rattle.cm_machine_rules.specs.State.{closed_after_trap, table_at, tables_after_call}
-use Rattle.cm_machine_rules.specs.State.{tables_after_trap, tables_after_unlend}
+use Rattle.cm_machine_model.specs.Plan.{Plan}
+use Rattle.cm_machine_model.specs.State.{closed_after_trap, table_at, tables_after_call}
+use Rattle.cm_machine_model.specs.State.{tables_after_trap, tables_after_unlend}
 use Rattle.cm_machine_valid.proofs.KeepPlaces.{slice_set_past}
 use Rattle.cm_machine_valid.proofs.Lending.{HasFrame, either}
 use Rattle.cm_machine_valid.proofs.LiftPlaces.{get_set_other, get_set_same, table_other, table_same}

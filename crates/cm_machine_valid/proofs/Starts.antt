@@ -10,17 +10,17 @@ use Rattle.cm_handles.specs.Handles.{Handles, IsSoundHandles, handle_at, no_hand
 use Rattle.cm_handles.specs.declared.handle.Handle.{Handle}
 use Rattle.cm_machine_model.specs.declared.limits.TheConstants.{MAX_MEMORY_SIZE, MAX_PAGES}
 use Rattle.cm_machine_model.specs.declared.limits.TheConstants.{PAGE_SIZE}
-use Rattle.cm_machine_rules.specs.declared.frame.Frame.{Frame}
-use Rattle.cm_machine_rules.specs.declared.frame.Purpose.TheVariants as purpose
+use Rattle.cm_machine_model.specs.declared.frame.Frame.{Frame}
+use Rattle.cm_machine_model.specs.declared.frame.Purpose.TheVariants as purpose
 use Rattle.cm_machine_model.specs.Memories.{memory_at}
-use Rattle.cm_machine_rules.specs.declared.frame.Place.TheVariants as place
-use Rattle.cm_machine_rules.specs.Owning.{HaveOnePlace, owners_of, standing, travelling}
-use Rattle.cm_machine_rules.specs.Stack.{below_top}
-use Rattle.cm_machine_rules.specs.Plan.{Plan}
-use Rattle.cm_machine_rules.specs.Plans.{IsPlan}
-use Rattle.cm_machine_rules.specs.Run.{after_begin}
-use Rattle.cm_machine_rules.specs.State.{are_page_counts, State, fresh_state, table_at, zeros}
-use Rattle.cm_machine_rules.specs.Valid.{IsValidState, PassesAtTop, frame_at}
+use Rattle.cm_machine_model.specs.declared.frame.Place.TheVariants as place
+use Rattle.cm_machine_model.specs.Owning.{HaveOnePlace, owners_of, standing, travelling}
+use Rattle.cm_machine_model.specs.Stack.{below_top}
+use Rattle.cm_machine_model.specs.Plan.{Plan}
+use Rattle.cm_machine_model.specs.Plans.{IsPlan}
+use Rattle.cm_machine_model.specs.Run.{after_begin}
+use Rattle.cm_machine_model.specs.State.{are_page_counts, State, fresh_state, table_at, zeros}
+use Rattle.cm_machine_model.specs.Valid.{IsValidState, PassesAtTop, frame_at}
 use Rattle.cm_machine_valid.proofs.NoHandles.{sound_none}
 
 table_none : (n i : ℕ) → table_at (replicate n no_handles) i ≡ no_handles

@@ -5,12 +5,12 @@ use Rattle.cm_machine_model.specs.declared.event.Event.{Event}
 use Rattle.cm_machine_model.specs.declared.moves.Move.{Move}
 use Rattle.cm_machine_valid.proofs.LendingLaws.{AreLent}
 use Rattle.cm_machine_valid.proofs.OneCarried.{OneCarried}
-use Rattle.cm_machine_rules.specs.Plan.{Plan}
-use Rattle.cm_machine_rules.specs.State.{State}
-use Rattle.cm_machine_rules.specs.Step.{Step}
-use Rattle.cm_machine_rules.specs.Valid.{IsValidState}
+use Rattle.cm_machine_model.specs.Plan.{Plan}
+use Rattle.cm_machine_model.specs.State.{State}
+use Rattle.cm_machine_model.specs.Step.{Step}
+use Rattle.cm_machine_model.specs.Valid.{IsValidState}
 use Rattle.cm_machine_valid.proofs.SoundTables.{TableLaws}
-use Rattle.cm_machine_rules.specs.History.{WritesBytes}
+use Rattle.cm_machine_model.specs.History.{WritesBytes}
 use Rattle.cm_machine_valid.proofs.OneCarried.{OneCarried}
 use Rattle.cm_machine_valid.proofs.LendsValid.{steps_lend}
 use Rattle.cm_machine_valid.proofs.PlainKeeps.{has_from, has_one}

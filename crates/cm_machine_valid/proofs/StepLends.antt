@@ -28,42 +28,42 @@ use Rattle.cm_abi_model.specs.declared.receiver.Receiver.{Receiver}
 use Rattle.cm_machine_model.specs.declared.event.Event.{Event}
 use Rattle.cm_machine_model.specs.declared.event.Trap.{Trap}
 use Rattle.cm_machine_model.specs.declared.event.Trap.TheVariants as trap
-use Rattle.cm_machine_rules.specs.declared.frame.Call.{Call}
-use Rattle.cm_machine_rules.specs.declared.frame.Frame.{Frame}
-use Rattle.cm_machine_rules.specs.declared.frame.Phase.{Phase}
-use Rattle.cm_machine_rules.specs.declared.frame.Phase.TheVariants as phase
-use Rattle.cm_machine_rules.specs.declared.frame.Purpose.{Purpose}
-use Rattle.cm_machine_rules.specs.declared.frame.Purpose.TheVariants as purpose
+use Rattle.cm_machine_model.specs.declared.frame.Call.{Call}
+use Rattle.cm_machine_model.specs.declared.frame.Frame.{Frame}
+use Rattle.cm_machine_model.specs.declared.frame.Phase.{Phase}
+use Rattle.cm_machine_model.specs.declared.frame.Phase.TheVariants as phase
+use Rattle.cm_machine_model.specs.declared.frame.Purpose.{Purpose}
+use Rattle.cm_machine_model.specs.declared.frame.Purpose.TheVariants as purpose
 use Rattle.cm_machine_model.specs.declared.moves.Move.{Move}
 use Rattle.cm_machine_model.specs.declared.moves.Move.TheVariants as move
 use Rattle.cm_machine_model.specs.Memories.{memory_at}
-use Rattle.cm_machine_rules.specs.Owning.{IsAmong, standing}
+use Rattle.cm_machine_model.specs.Owning.{IsAmong, standing}
 use Rattle.cm_machine_valid.proofs.OwningLaws.{AddingIsFine}
-use Rattle.cm_machine_rules.specs.Passages.{Carries, IsAnswered, IsScanned, as_args, asked_for}
+use Rattle.cm_machine_model.specs.Passages.{Carries, IsAnswered, IsScanned, as_args, asked_for}
 use Rattle.cm_abi_model.specs.Answered.{last_answer}
-use Rattle.cm_machine_rules.specs.Plan.{Plan, CoreFunc, Link, Reaches, core_func_at, drops, guest}
-use Rattle.cm_machine_rules.specs.Plan.{lowered, makes, represents, receiver_side, types_of}
-use Rattle.cm_machine_rules.specs.Plans.{IsLink, IsPlan, IsResourceOf, NoneBorrowed}
-use Rattle.cm_machine_rules.specs.Stack.{actor, below_top, top_of}
-use Rattle.cm_machine_rules.specs.State.{Passage, State, after_trap, table_at}
-use Rattle.cm_machine_rules.specs.Step as step
-use Rattle.cm_machine_rules.specs.Step.{Traps, UnlessWrong, Asks, Answers, Calls, CanMake}
-use Rattle.cm_machine_rules.specs.Step.{DropsFound, DropsHandle, DropsOwned, Finishes, GoesOn}
-use Rattle.cm_machine_rules.specs.Step.{GoesOnBy, HasNoBorrows, IsReceived, MayLeave, Moves}
-use Rattle.cm_machine_rules.specs.Step.{PassesArguments, PlacesResult, Returns, ReturnsIn}
-use Rattle.cm_machine_rules.specs.Step.{ReturnsResult, Step, StepOn, TellsFound, after_handing}
-use Rattle.cm_machine_rules.specs.Step.{after_lift_of_args, after_lift_of_result, arg_slots}
-use Rattle.cm_machine_rules.specs.Step.{args_view, call_frame, new_call, receiver_of, result_view}
-use Rattle.cm_machine_rules.specs.Step.{top_place, trap_of, trap_of_handle}
-use Rattle.cm_machine_rules.specs.Valid.{IsBorrowedLeaf, IsStack, IsValidState, PassesAtTop}
-use Rattle.cm_machine_rules.specs.Valid.{PassesFor, PassesIn, StandsOn}
+use Rattle.cm_machine_model.specs.Plan.{Plan, CoreFunc, Link, Reaches, core_func_at, drops, guest}
+use Rattle.cm_machine_model.specs.Plan.{lowered, makes, represents, receiver_side, types_of}
+use Rattle.cm_machine_model.specs.Plans.{IsLink, IsPlan, IsResourceOf, NoneBorrowed}
+use Rattle.cm_machine_model.specs.Stack.{actor, below_top, top_of}
+use Rattle.cm_machine_model.specs.State.{Passage, State, after_trap, table_at}
+use Rattle.cm_machine_model.specs.Step as step
+use Rattle.cm_machine_model.specs.Step.{Traps, UnlessWrong, Asks, Answers, Calls, CanMake}
+use Rattle.cm_machine_model.specs.Step.{DropsFound, DropsHandle, DropsOwned, Finishes, GoesOn}
+use Rattle.cm_machine_model.specs.Step.{GoesOnBy, HasNoBorrows, IsReceived, MayLeave, Moves}
+use Rattle.cm_machine_model.specs.Step.{PassesArguments, PlacesResult, Returns, ReturnsIn}
+use Rattle.cm_machine_model.specs.Step.{ReturnsResult, Step, StepOn, TellsFound, after_handing}
+use Rattle.cm_machine_model.specs.Step.{after_lift_of_args, after_lift_of_result, arg_slots}
+use Rattle.cm_machine_model.specs.Step.{args_view, call_frame, new_call, receiver_of, result_view}
+use Rattle.cm_machine_model.specs.Step.{top_place, trap_of, trap_of_handle}
+use Rattle.cm_machine_model.specs.Valid.{IsBorrowedLeaf, IsStack, IsValidState, PassesAtTop}
+use Rattle.cm_machine_model.specs.Valid.{PassesFor, PassesIn, StandsOn}
 use Rattle.cm_machine_valid.proofs.LendKeeps.{Backed, GivenAt, Holds, LentFor, call_of, ends}
 use Rattle.cm_machine_valid.proofs.LendKeeps.{frame_top, given_at, gives_by, lifts, none_on_top}
 use Rattle.cm_machine_valid.proofs.LendKeeps.{pops, pushes, releases, rephases, repasses}
 use Rattle.cm_machine_valid.proofs.LendKeeps.{same_purpose, traps, unpasses}
 use Rattle.cm_machine_valid.proofs.LentLeaves.{none_lent, none_to_borrow}
 use Rattle.cm_machine_valid.proofs.LiftPlaces.{table_other}
-use Rattle.cm_machine_rules.specs.Rows.{same_link}
+use Rattle.cm_machine_model.specs.Rows.{same_link}
 use Rattle.cm_machine_valid.proofs.StepPlaces.{KnowsCall, KnowsCallee, actor_there, call_stands}
 use Rattle.cm_machine_valid.proofs.StepPlaces.{looked, none_for, not_lent}
 use Rattle.cm_machine_valid.specs.Taking.{AreThere}

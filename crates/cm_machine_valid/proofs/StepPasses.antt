@@ -26,35 +26,35 @@ use Rattle.cm_abi_model.specs.Requests.{is_spilled, call_parts, requests}
 use Rattle.cm_abi_model.specs.Views.{View, Way, params, results}
 use Rattle.cm_machine_model.specs.declared.event.Event.{Event}
 use Rattle.cm_machine_model.specs.declared.event.Trap.TheVariants as trap
-use Rattle.cm_machine_rules.specs.declared.frame.Call.{Call}
-use Rattle.cm_machine_rules.specs.declared.frame.Frame.{Frame}
-use Rattle.cm_machine_rules.specs.declared.frame.Phase.{Phase}
-use Rattle.cm_machine_rules.specs.declared.frame.Phase.TheVariants as phase
-use Rattle.cm_machine_rules.specs.declared.frame.Purpose.{Purpose}
-use Rattle.cm_machine_rules.specs.declared.frame.Purpose.TheVariants as purpose
+use Rattle.cm_machine_model.specs.declared.frame.Call.{Call}
+use Rattle.cm_machine_model.specs.declared.frame.Frame.{Frame}
+use Rattle.cm_machine_model.specs.declared.frame.Phase.{Phase}
+use Rattle.cm_machine_model.specs.declared.frame.Phase.TheVariants as phase
+use Rattle.cm_machine_model.specs.declared.frame.Purpose.{Purpose}
+use Rattle.cm_machine_model.specs.declared.frame.Purpose.TheVariants as purpose
 use Rattle.cm_machine_model.specs.declared.moves.Move.{Move}
 use Rattle.cm_machine_model.specs.declared.moves.Move.TheVariants as move
 use Rattle.cm_machine_model.specs.Memories.{after_growth, after_write, memory_at}
-use Rattle.cm_machine_rules.specs.Passages.{IsAnswered, as_args, asked_for, Carries, HasAnswers}
-use Rattle.cm_machine_rules.specs.Passages.{IsScanned}
+use Rattle.cm_machine_model.specs.Passages.{IsAnswered, as_args, asked_for, Carries, HasAnswers}
+use Rattle.cm_machine_model.specs.Passages.{IsScanned}
 use Rattle.cm_abi_model.specs.Answered.{last_answer}
-use Rattle.cm_machine_rules.specs.Plan.{Plan, CoreFunc, Link, Reaches, core_func_at, drops, guest}
-use Rattle.cm_machine_rules.specs.Plan.{lowered, makes, receiver_side, represents, types_of}
-use Rattle.cm_machine_rules.specs.Plan.{giver_side}
-use Rattle.cm_machine_rules.specs.Stack.{actor, actor_in, actor_of, below_top, top_of}
-use Rattle.cm_machine_rules.specs.State.{Passage, State, table_at}
-use Rattle.cm_machine_rules.specs.Step as step
-use Rattle.cm_machine_rules.specs.Step.{UnlessWrong, Asks, GoesOn, GoesOnBy, IsReceived}
-use Rattle.cm_machine_rules.specs.Step.{PassesArguments, DropsFound, DropsHandle, DropsOwned}
-use Rattle.cm_machine_rules.specs.Step.{TellsFound, Calls, Answers, PlacesResult, ReturnsResult}
-use Rattle.cm_machine_rules.specs.Step.{ReturnsIn, Returns, Moves, StepOn, Step, after_handing}
-use Rattle.cm_machine_rules.specs.Step.{after_lift_of_args, after_lift_of_result, new_call}
-use Rattle.cm_machine_rules.specs.Step.{receiver_of, top_place, trap_of, trap_of_handle, giver_of}
-use Rattle.cm_machine_rules.specs.Valid.{IsStack, IsValidState, StandsOn, IsOnItsWay, PassesAtTop}
-use Rattle.cm_machine_rules.specs.Valid.{PassesFor, PassesIn}
+use Rattle.cm_machine_model.specs.Plan.{Plan, CoreFunc, Link, Reaches, core_func_at, drops, guest}
+use Rattle.cm_machine_model.specs.Plan.{lowered, makes, receiver_side, represents, types_of}
+use Rattle.cm_machine_model.specs.Plan.{giver_side}
+use Rattle.cm_machine_model.specs.Stack.{actor, actor_in, actor_of, below_top, top_of}
+use Rattle.cm_machine_model.specs.State.{Passage, State, table_at}
+use Rattle.cm_machine_model.specs.Step as step
+use Rattle.cm_machine_model.specs.Step.{UnlessWrong, Asks, GoesOn, GoesOnBy, IsReceived}
+use Rattle.cm_machine_model.specs.Step.{PassesArguments, DropsFound, DropsHandle, DropsOwned}
+use Rattle.cm_machine_model.specs.Step.{TellsFound, Calls, Answers, PlacesResult, ReturnsResult}
+use Rattle.cm_machine_model.specs.Step.{ReturnsIn, Returns, Moves, StepOn, Step, after_handing}
+use Rattle.cm_machine_model.specs.Step.{after_lift_of_args, after_lift_of_result, new_call}
+use Rattle.cm_machine_model.specs.Step.{receiver_of, top_place, trap_of, trap_of_handle, giver_of}
+use Rattle.cm_machine_model.specs.Valid.{IsStack, IsValidState, StandsOn, IsOnItsWay, PassesAtTop}
+use Rattle.cm_machine_model.specs.Valid.{PassesFor, PassesIn}
 use Rattle.cm_machine_model.specs.declared.limits.TheConstants.{PAGE_SIZE}
-use Rattle.cm_machine_rules.specs.Plans.{IsLink, IsPlan}
-use Rattle.cm_machine_rules.specs.Rows.{OfTraps, by_check, by_memory, by_trap, finish, same_link}
+use Rattle.cm_machine_model.specs.Plans.{IsLink, IsPlan}
+use Rattle.cm_machine_model.specs.Rows.{OfTraps, by_check, by_memory, by_trap, finish, same_link}
 use Rattle.cm_machine_valid.proofs.StepPlaces.{none_for}
 use Rattle.cm_machine_valid.proofs.OneCarried.{OneCarried}
 use Rattle.cm_abi_model.specs.RecordRequests.{tags_of}

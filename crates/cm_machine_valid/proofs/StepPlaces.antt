@@ -28,37 +28,37 @@ use Rattle.cm_abi_model.specs.Views.{View, Way, params, results}
 use Rattle.cm_machine_model.specs.declared.event.Event.{Event}
 use Rattle.cm_machine_model.specs.declared.event.Trap.{Trap}
 use Rattle.cm_machine_model.specs.declared.event.Trap.TheVariants as trap
-use Rattle.cm_machine_rules.specs.declared.frame.Call.{Call}
-use Rattle.cm_machine_rules.specs.declared.frame.Frame.{Frame}
-use Rattle.cm_machine_rules.specs.declared.frame.Phase.{Phase}
-use Rattle.cm_machine_rules.specs.declared.frame.Phase.TheVariants as phase
-use Rattle.cm_machine_rules.specs.declared.frame.Purpose.{Purpose}
-use Rattle.cm_machine_rules.specs.declared.frame.Purpose.TheVariants as purpose
+use Rattle.cm_machine_model.specs.declared.frame.Call.{Call}
+use Rattle.cm_machine_model.specs.declared.frame.Frame.{Frame}
+use Rattle.cm_machine_model.specs.declared.frame.Phase.{Phase}
+use Rattle.cm_machine_model.specs.declared.frame.Phase.TheVariants as phase
+use Rattle.cm_machine_model.specs.declared.frame.Purpose.{Purpose}
+use Rattle.cm_machine_model.specs.declared.frame.Purpose.TheVariants as purpose
 use Rattle.cm_machine_model.specs.declared.moves.Move.{Move}
 use Rattle.cm_machine_model.specs.declared.moves.Move.TheVariants as move
-use Rattle.cm_machine_rules.specs.Owning.{HaveOnePlace, OnePlace, StandsIn, owners_of, serials}
-use Rattle.cm_machine_rules.specs.Owning.{standing, travelling}
+use Rattle.cm_machine_model.specs.Owning.{HaveOnePlace, OnePlace, StandsIn, owners_of, serials}
+use Rattle.cm_machine_model.specs.Owning.{standing, travelling}
 use Rattle.cm_machine_valid.proofs.OwningLaws.{AddingIsFine, LiftTakes}
 use Rattle.cm_machine_valid.specs.Taking.{AreTaken}
-use Rattle.cm_machine_rules.specs.Passages.{IsAnswered, IsScanned, as_args, asked_for}
+use Rattle.cm_machine_model.specs.Passages.{IsAnswered, IsScanned, as_args, asked_for}
 use Rattle.cm_abi_model.specs.Answered.{last_answer}
 use Rattle.cm_abi_model.specs.HandleLeaves.{owned_in}
-use Rattle.cm_machine_rules.specs.Plan.{Plan, CoreFunc, Link, Reaches, core_func_at, drops}
-use Rattle.cm_machine_rules.specs.Plan.{entered_kinds, guest, lowered, makes, represents}
-use Rattle.cm_machine_rules.specs.Plan.{receiver_side, types_of}
-use Rattle.cm_machine_rules.specs.Plans.{IsLink}
-use Rattle.cm_machine_rules.specs.Stack.{actor, actor_in, actor_of, below_top, top_of}
-use Rattle.cm_machine_rules.specs.State.{Passage, State, table_at, view_of}
-use Rattle.cm_machine_rules.specs.Step.{Traps, UnlessWrong, after_handing, after_lift, call_frame}
-use Rattle.cm_machine_rules.specs.Step.{in_phase, pushed, MayLeave, MayLeaveIn, GoesOn, GoesOnBy}
-use Rattle.cm_machine_rules.specs.Step.{IsReceived, Finishes, Asks, receiver_of, result_place}
-use Rattle.cm_machine_rules.specs.Step.{PassesArguments, CallsLowered, Makes, Drops, DropsFound}
-use Rattle.cm_machine_rules.specs.Step.{DropsHandle, DropsOwned, Represents, TellsFound, Calls}
-use Rattle.cm_machine_rules.specs.Step.{Answers, PlacesResult, ReturnsResult, ReturnsIn, Returns}
-use Rattle.cm_machine_rules.specs.Step.{Moves, StepOn, Step, popped, after_drop, top_place, trap_of}
-use Rattle.cm_machine_rules.specs.Step.{trap_of_handle}
-use Rattle.cm_machine_rules.specs.Valid.{IsStack, IsValidState, PassesAtTop, PassesFor, PassesIn}
-use Rattle.cm_machine_rules.specs.Valid.{StandsOn}
+use Rattle.cm_machine_model.specs.Plan.{Plan, CoreFunc, Link, Reaches, core_func_at, drops}
+use Rattle.cm_machine_model.specs.Plan.{entered_kinds, guest, lowered, makes, represents}
+use Rattle.cm_machine_model.specs.Plan.{receiver_side, types_of}
+use Rattle.cm_machine_model.specs.Plans.{IsLink}
+use Rattle.cm_machine_model.specs.Stack.{actor, actor_in, actor_of, below_top, top_of}
+use Rattle.cm_machine_model.specs.State.{Passage, State, table_at, view_of}
+use Rattle.cm_machine_model.specs.Step.{Traps, UnlessWrong, after_handing, after_lift, call_frame}
+use Rattle.cm_machine_model.specs.Step.{in_phase, pushed, MayLeave, MayLeaveIn, GoesOn, GoesOnBy}
+use Rattle.cm_machine_model.specs.Step.{IsReceived, Finishes, Asks, receiver_of, result_place}
+use Rattle.cm_machine_model.specs.Step.{PassesArguments, CallsLowered, Makes, Drops, DropsFound}
+use Rattle.cm_machine_model.specs.Step.{DropsHandle, DropsOwned, Represents, TellsFound, Calls}
+use Rattle.cm_machine_model.specs.Step.{Answers, PlacesResult, ReturnsResult, ReturnsIn, Returns}
+use Rattle.cm_machine_model.specs.Step.{Moves, StepOn, Step, popped, after_drop, top_place, trap_of}
+use Rattle.cm_machine_model.specs.Step.{trap_of_handle}
+use Rattle.cm_machine_model.specs.Valid.{IsStack, IsValidState, PassesAtTop, PassesFor, PassesIn}
+use Rattle.cm_machine_model.specs.Valid.{StandsOn}
 use Rattle.cm_machine_valid.proofs.LiftPlaces.{lifting, released, table_other}
 use Rattle.cm_machine_valid.proofs.GivePlaces.{giving_all}
 use Rattle.cm_machine_valid.proofs.KeepPlaces.{OwnSame, any_frame, drop_keeps, end_keeps, new_keeps}

@@ -31,42 +31,42 @@ use Rattle.cm_machine_model.specs.declared.event.Trap.TheVariants as trap
 use Rattle.cm_abi_model.specs.Bytes.{AreBytes}
 use Rattle.cm_abi_model.specs.HandleLeaves.{owned_in}
 use Rattle.cm_abi_model.specs.Stores.{Holds}
-use Rattle.cm_machine_rules.specs.History.{WritesBytes}
-use Rattle.cm_machine_rules.specs.Step.{IsHanded, given_to, Traps, UnlessWrong, Asks, Answers}
-use Rattle.cm_machine_rules.specs.Step.{Calls, DropsFound, DropsHandle, DropsOwned, Finishes}
-use Rattle.cm_machine_rules.specs.Step.{GoesOn, GoesOnBy, IsReceived, Moves, PassesArguments}
-use Rattle.cm_machine_rules.specs.Step.{PlacesResult, Returns, ReturnsIn, ReturnsResult, Step}
-use Rattle.cm_machine_rules.specs.Step.{StepOn, TellsFound, after_handing, after_lift_of_args}
-use Rattle.cm_machine_rules.specs.Step.{after_lift_of_result, arg_slots, args_view, call_frame}
-use Rattle.cm_machine_rules.specs.Step.{new_call, receiver_of, result_view, top_place, trap_of}
-use Rattle.cm_machine_rules.specs.Step.{trap_of_handle}
-use Rattle.cm_machine_rules.specs.Plan.{receiver_side, types_of, Plan, CoreFunc, Link, core_func_at}
-use Rattle.cm_machine_rules.specs.Plan.{drops, guest, lowered, makes, represents}
+use Rattle.cm_machine_model.specs.History.{WritesBytes}
+use Rattle.cm_machine_model.specs.Step.{IsHanded, given_to, Traps, UnlessWrong, Asks, Answers}
+use Rattle.cm_machine_model.specs.Step.{Calls, DropsFound, DropsHandle, DropsOwned, Finishes}
+use Rattle.cm_machine_model.specs.Step.{GoesOn, GoesOnBy, IsReceived, Moves, PassesArguments}
+use Rattle.cm_machine_model.specs.Step.{PlacesResult, Returns, ReturnsIn, ReturnsResult, Step}
+use Rattle.cm_machine_model.specs.Step.{StepOn, TellsFound, after_handing, after_lift_of_args}
+use Rattle.cm_machine_model.specs.Step.{after_lift_of_result, arg_slots, args_view, call_frame}
+use Rattle.cm_machine_model.specs.Step.{new_call, receiver_of, result_view, top_place, trap_of}
+use Rattle.cm_machine_model.specs.Step.{trap_of_handle}
+use Rattle.cm_machine_model.specs.Plan.{receiver_side, types_of, Plan, CoreFunc, Link, core_func_at}
+use Rattle.cm_machine_model.specs.Plan.{drops, guest, lowered, makes, represents}
 use Rattle.cm_machine_valid.proofs.ByteMemories.{grown_bytes, stored_bytes, written_bytes}
 use Rattle.cm_machine_valid.proofs.WrittenBytes.{call_written}
 use Rattle.cm_machine_valid.proofs.PlainKeeps.{memory_same, Plain, plain_end, plain_memory}
 use Rattle.cm_machine_valid.proofs.PlainKeeps.{plain_pop, plain_push, plain_table, plain_trap}
 use Rattle.cm_machine_valid.proofs.PlainKeeps.{plain_turn}
-use Rattle.cm_machine_rules.specs.declared.frame.Call.{Call}
-use Rattle.cm_machine_rules.specs.declared.frame.Frame.{Frame}
-use Rattle.cm_machine_rules.specs.declared.frame.Phase.{Phase}
-use Rattle.cm_machine_rules.specs.declared.frame.Phase.TheVariants as phase
-use Rattle.cm_machine_rules.specs.declared.frame.Purpose.{Purpose}
-use Rattle.cm_machine_rules.specs.declared.frame.Purpose.TheVariants as purpose
+use Rattle.cm_machine_model.specs.declared.frame.Call.{Call}
+use Rattle.cm_machine_model.specs.declared.frame.Frame.{Frame}
+use Rattle.cm_machine_model.specs.declared.frame.Phase.{Phase}
+use Rattle.cm_machine_model.specs.declared.frame.Phase.TheVariants as phase
+use Rattle.cm_machine_model.specs.declared.frame.Purpose.{Purpose}
+use Rattle.cm_machine_model.specs.declared.frame.Purpose.TheVariants as purpose
 use Rattle.cm_machine_model.specs.declared.moves.Move.{Move}
 use Rattle.cm_machine_model.specs.declared.moves.Move.TheVariants as move
 use Rattle.cm_machine_model.specs.declared.limits.TheConstants.{MAX_MEMORY_SIZE, PAGE_SIZE}
 use Rattle.cm_machine_model.specs.Memories.{after_growth, after_write, memory_at}
 use Rattle.cm_machine_valid.proofs.OwningLaws.{AddingIsFine}
 use Rattle.cm_machine_valid.specs.Taking.{AreTaken}
-use Rattle.cm_machine_rules.specs.Passages.{IsAnswered, as_args, asked_for}
+use Rattle.cm_machine_model.specs.Passages.{IsAnswered, as_args, asked_for}
 use Rattle.cm_abi_model.specs.Answered.{last_answer}
-use Rattle.cm_machine_rules.specs.Stack.{actor, below_top}
-use Rattle.cm_machine_rules.specs.State.{Passage, State, after_trap, is_closed, place_after_trap}
-use Rattle.cm_machine_rules.specs.State.{table_at, tables_after_trap, with_places}
-use Rattle.cm_machine_rules.specs.Step as step
-use Rattle.cm_machine_rules.specs.Valid.{IsStack, StandsOn, AllMade}
-use Rattle.cm_machine_rules.specs.declared.frame.Place.TheVariants as place
+use Rattle.cm_machine_model.specs.Stack.{actor, below_top}
+use Rattle.cm_machine_model.specs.State.{Passage, State, after_trap, is_closed, place_after_trap}
+use Rattle.cm_machine_model.specs.State.{table_at, tables_after_trap, with_places}
+use Rattle.cm_machine_model.specs.Step as step
+use Rattle.cm_machine_model.specs.Valid.{IsStack, StandsOn, AllMade}
+use Rattle.cm_machine_model.specs.declared.frame.Place.TheVariants as place
 use Rattle.cm_machine_valid.proofs.MadeKeeps.{Made, length_given, length_places, made_add, made_end}
 use Rattle.cm_machine_valid.proofs.MadeKeeps.{made_given, made_leaves, made_met, made_more}
 use Rattle.cm_machine_valid.proofs.MadeKeeps.{made_none, made_release, made_some, made_table}
@@ -76,7 +76,7 @@ use Rattle.cm_machine_valid.proofs.SoundTables.{sound_given, sound_met}
 use Rattle.cm_machine_valid.proofs.LendKeeps.{call_of}
 use Rattle.cm_machine_valid.specs.Taking.{AreThere}
 use Rattle.cm_machine_valid.proofs.Takes.{lift_takes}
-use Rattle.cm_machine_rules.specs.Rows.{same_link}
+use Rattle.cm_machine_model.specs.Rows.{same_link}
 use Rattle.cm_machine_valid.proofs.StepPlaces.{looked, not_lent}
 
 abbrev pub H : Plan → State → Type 0

@@ -15,31 +15,31 @@ use Rattle.cm_abi_model.specs.Requests.{is_spilled}
 use Rattle.cm_abi_model.specs.Views.{Way, params, results}
 use Rattle.cm_machine_model.specs.declared.event.Event.{Event}
 use Rattle.cm_machine_model.specs.declared.event.Trap.TheVariants as trap
-use Rattle.cm_machine_rules.specs.declared.frame.Call.{Call}
-use Rattle.cm_machine_rules.specs.declared.frame.Frame.{Frame}
-use Rattle.cm_machine_rules.specs.declared.frame.Phase.{Phase}
-use Rattle.cm_machine_rules.specs.declared.frame.Phase.TheVariants as phase
-use Rattle.cm_machine_rules.specs.declared.frame.Purpose.{Purpose}
-use Rattle.cm_machine_rules.specs.declared.frame.Purpose.TheVariants as purpose
+use Rattle.cm_machine_model.specs.declared.frame.Call.{Call}
+use Rattle.cm_machine_model.specs.declared.frame.Frame.{Frame}
+use Rattle.cm_machine_model.specs.declared.frame.Phase.{Phase}
+use Rattle.cm_machine_model.specs.declared.frame.Phase.TheVariants as phase
+use Rattle.cm_machine_model.specs.declared.frame.Purpose.{Purpose}
+use Rattle.cm_machine_model.specs.declared.frame.Purpose.TheVariants as purpose
 use Rattle.cm_machine_model.specs.declared.moves.Move.{Move}
 use Rattle.cm_machine_model.specs.declared.moves.Move.TheVariants as move
 use Rattle.cm_machine_model.specs.Memories.{after_growth, after_write, memory_at}
-use Rattle.cm_machine_rules.specs.Passages.{IsAnswered, asked_for}
-use Rattle.cm_machine_rules.specs.Plan.{Plan, CoreFunc, Link, Reaches, core_func_at, drops, guest}
-use Rattle.cm_machine_rules.specs.Plan.{lowered, makes, represents, types_of}
-use Rattle.cm_machine_rules.specs.Stack.{actor, actor_of, below_top, top_of}
-use Rattle.cm_machine_rules.specs.State.{Passage, State, table_at}
-use Rattle.cm_machine_rules.specs.Step as step
-use Rattle.cm_machine_rules.specs.Step.{GoesOn, IsReceived, PassesArguments, DropsFound}
-use Rattle.cm_machine_rules.specs.Step.{DropsHandle, DropsOwned, TellsFound, Calls, Answers}
-use Rattle.cm_machine_rules.specs.Step.{PlacesResult, ReturnsResult, ReturnsIn, Returns, Moves}
-use Rattle.cm_machine_rules.specs.Step.{StepOn, Step, after_handing, after_lift_of_args}
-use Rattle.cm_machine_rules.specs.Step.{after_lift_of_result, new_call, receiver_of, top_place}
-use Rattle.cm_machine_rules.specs.Step.{trap_of, trap_of_handle}
-use Rattle.cm_machine_rules.specs.Valid.{IsStack, IsValidState}
-use Rattle.cm_machine_rules.specs.Plans.{IsLink, IsPlan, IsResourceOf}
-use Rattle.cm_machine_rules.specs.Rows.{OfTraps, by_check, by_memory, by_trap, by_wrong}
-use Rattle.cm_machine_rules.specs.Rows.{finish, goes, same_link}
+use Rattle.cm_machine_model.specs.Passages.{IsAnswered, asked_for}
+use Rattle.cm_machine_model.specs.Plan.{Plan, CoreFunc, Link, Reaches, core_func_at, drops, guest}
+use Rattle.cm_machine_model.specs.Plan.{lowered, makes, represents, types_of}
+use Rattle.cm_machine_model.specs.Stack.{actor, actor_of, below_top, top_of}
+use Rattle.cm_machine_model.specs.State.{Passage, State, table_at}
+use Rattle.cm_machine_model.specs.Step as step
+use Rattle.cm_machine_model.specs.Step.{GoesOn, IsReceived, PassesArguments, DropsFound}
+use Rattle.cm_machine_model.specs.Step.{DropsHandle, DropsOwned, TellsFound, Calls, Answers}
+use Rattle.cm_machine_model.specs.Step.{PlacesResult, ReturnsResult, ReturnsIn, Returns, Moves}
+use Rattle.cm_machine_model.specs.Step.{StepOn, Step, after_handing, after_lift_of_args}
+use Rattle.cm_machine_model.specs.Step.{after_lift_of_result, new_call, receiver_of, top_place}
+use Rattle.cm_machine_model.specs.Step.{trap_of, trap_of_handle}
+use Rattle.cm_machine_model.specs.Valid.{IsStack, IsValidState}
+use Rattle.cm_machine_model.specs.Plans.{IsLink, IsPlan, IsResourceOf}
+use Rattle.cm_machine_model.specs.Rows.{OfTraps, by_check, by_memory, by_trap, by_wrong}
+use Rattle.cm_machine_model.specs.Rows.{finish, goes, same_link}
 use Rattle.cm_machine_valid.proofs.StepPlaces.{actor_there}
 
 abbrev Q : Plan → Event → State → Type 0

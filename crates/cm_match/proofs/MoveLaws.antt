@@ -4,9 +4,9 @@ use Rattle.std.proofs.lemmas.Bool.{cases_lt, lt-ltb, le-ltb, lt-leb}
 use Rattle.cm_types.specs.Signatures.{ItemTy, NamedItem, func_item, equal_type, equal_resource, fresh_resource}
 use Rattle.cm_types.specs.Types.{Ty, FuncTy}
 use Rattle.cm_types.specs.declared.resource.ResourceId.{ResourceId}
-use Rattle.cm_types_resources.specs.Moves.{moved as moved_range}
-use Rattle.cm_types_resources.specs.Replaced.{replaced, replaced_func}
-use Rattle.cm_types_placed.specs.Instances.{numbered, replaced_desc, replaced_item}
+use Rattle.cm_types_arena.specs.Moves.{moved as moved_range}
+use Rattle.cm_types_arena.specs.Replaced.{replaced, replaced_func}
+use Rattle.cm_types_arena.specs.Instances.{numbered, replaced_desc, replaced_item}
 use Rattle.cm_validate_model.specs.Definitions.{InstanceTy}
 use Rattle.cm_validate_model.specs.Moves.{moved_id, moved_type, moved_func, moved_item}
 use Rattle.cm_validate_model.specs.Counted.{IsCounted, IsFuncCounted, IsItemCounted, IsNumbered}

@@ -1,6 +1,6 @@
 -- What imported functions come to (how components are linked is this project's own choice).
 use Rattle.std.specs.Prelude.{List}
-use Rattle.cm_types_placed.specs.Placed.{placed_func}
+use Rattle.cm_types_arena.specs.Placed.{placed_func}
 use Rattle.cm_match_serving.specs.cm_validate_spaces.declared.checked.Checked.{Checked}
 use Rattle.cm_match_serving.specs.cm_validate_entries.Entries.{func_def}
 use Rattle.cm_match_model.specs.Targets as targets

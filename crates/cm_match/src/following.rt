@@ -3,7 +3,7 @@
 ghost use Rattle.std.specs.Prelude.{◌≡◌, IfSome, None, Some, length, slice_get, true};
 ghost use Rattle.std.specs.Option.{option_and_then, option_map};
 ghost use Rattle.cm_validate_model.specs.Spaces.{Spaces};
-ghost use Rattle.cm_types_placed.specs.Placed.{is_there};
+ghost use Rattle.cm_types_arena.specs.Placed.{is_there};
 ghost use Rattle.cm_match_serving.specs.cm_validate_entries.Entries.{func_def, is_func_there};
 ghost use Rattle.cm_match_serving.specs.cm_validate_spaces.Exported.{func_under};
 ghost use Rattle.cm_match_model.specs.Imports.{export_in, links_of};

@@ -1,7 +1,7 @@
 //! What an imported function comes to.
 
 use cm_binary_model::CanonOption;
-use cm_types_placed::Placed;
+use cm_types_arena::Placed;
 
 /// A lifted function of a component of a linked set (CanonicalABI.md, `canon lift`).
 #[derive(Clone, Copy)]

@@ -10,7 +10,7 @@ use cm_types::ResourceId;
 impl<'a> Linked<'a> {
     ghost use Rattle.std.specs.Prelude.{◌≡◌, IfSome, None, length, true};
     ghost use Rattle.std.specs.Option.{option_map};
-    ghost use Rattle.cm_types_placed.specs.Placed.{is_there};
+    ghost use Rattle.cm_types_arena.specs.Placed.{is_there};
     ghost use Rattle.cm_match_model.specs.Origins.{origin_of, resource_of};
     ghost use Rattle.cm_match_model.specs.Imports.{links_of};
     ghost use Rattle.cm_match_model.specs.Links.{CanBeLinked, plan_of};

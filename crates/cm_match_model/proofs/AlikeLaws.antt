@@ -5,8 +5,8 @@ use Rattle.std.proofs.lemmas.Bool.{cases_Bool, ltb-true, ltb-false, le-ltb, lt-l
 use Rattle.cm_types.specs.declared.resource.ResourceId.{ResourceId}
 use Rattle.cm_types.specs.Signatures.{ItemTy, NamedItem, func_item, equal_type, equal_resource, fresh_resource, NamedExtern}
 use Rattle.cm_types.specs.Signatures as extern
-use Rattle.cm_types_resources.specs.Moves.{moved}
-use Rattle.cm_types_placed.specs.Instances.{replaced_desc, replaced_item}
+use Rattle.cm_types_arena.specs.Moves.{moved}
+use Rattle.cm_types_arena.specs.Instances.{replaced_desc, replaced_item}
 use Rattle.cm_validate_model.specs.Definitions.{InstanceTy, ResourceDef, brought, NamedMember, exported_instance}
 use Rattle.cm_validate_model.specs.Scopes.{resource_id}
 use Rattle.cm_validate_model.specs.Spaces.{Spaces}

@@ -26,9 +26,9 @@ use Rattle.cm_validate_model.specs.Scopes.{resource_id, value_defined, func_defi
 use Rattle.cm_validate_model.specs.Spaces.{Spaces, empty_spaces, member_at, named_member, member_named, aliased_member, member_of_item, members_from, members_imported, brought_by, brought_from, next_resource, next_import, type_of_member, member_alias, type_alias, new_types, new_instances, new_resources, new_imports, imported_func, imported_instance, instance_ty_in, instance_exported, exported, import_desc, moved_named, after_item, after_items, spaces_of}
 use Rattle.cm_validate_model.specs.Counted.{IsNumbered, IsCounted, AreCounted, AreCasesCounted, IsFuncCounted, IsItemCounted}
 use Rattle.cm_validate_model.specs.CountedSpaces.{AreItemsCounted, AreSpacesCounted, IsDefCounted, IsInstanceCounted}
-use Rattle.cm_types_resources.specs.Moves.{moved as moved_range}
-use Rattle.cm_types_resources.specs.Replaced.{replaced, replaced_func}
-use Rattle.cm_types_placed.specs.Instances.{replaced_desc, replaced_item}
+use Rattle.cm_types_arena.specs.Moves.{moved as moved_range}
+use Rattle.cm_types_arena.specs.Replaced.{replaced, replaced_func}
+use Rattle.cm_types_arena.specs.Instances.{replaced_desc, replaced_item}
 use Rattle.cm_match_model.specs.Brought.{AreBrought, AreInOrder, BringsInOrder, IsBrought, IsInOrder, behind}
 use Rattle.cm_match_model.proofs.AlikeLists.{AllFrom, after_both, all_flat, all_joined, and_then, from_at, from_joined, from_weaker, get_behind, get_front, got, length_joined, mapped_any, nil_right, then_map, to_list}
 use Rattle.cm_match_model.proofs.OrderLaws.{type_ordered}

@@ -6,9 +6,9 @@ use Rattle.std.specs.Str.{bytes_eq}
 use Rattle.cm_types.specs.declared.resource.ResourceId.{ResourceId}
 use Rattle.cm_types.specs.Signatures.{ItemTy, NamedItem, func_item, equal_type, equal_resource, fresh_resource, NamedExtern}
 use Rattle.cm_types.specs.Types.{Ty, FuncTy, Fields, Cases, bool, signed, unsigned, char, string, list, fixed_list, fields, cases, flags, own, borrow, no_fields, field, no_cases, plain, carrying}
-use Rattle.cm_types_resources.specs.Moves.{moved}
-use Rattle.cm_types_resources.specs.Replaced.{Standing, replaced, replaced_fields, replaced_cases, replaced_func}
-use Rattle.cm_types_placed.specs.Instances.{replaced_item}
+use Rattle.cm_types_arena.specs.Moves.{moved}
+use Rattle.cm_types_arena.specs.Replaced.{Standing, replaced, replaced_fields, replaced_cases, replaced_func}
+use Rattle.cm_types_arena.specs.Instances.{replaced_item}
 use Rattle.cm_validate_model.specs.Definitions.{InstanceTy, value, func_type, resource, instance_type, faulty, ResourceDef, brought, MemberDef, func_member, type_member, NamedMember, ExportDef, exported_instance, NamedExport}
 use Rattle.cm_validate_model.specs.Spaces.{Spaces, item_of_member, member_named, next_resource}
 use Rattle.cm_validate_model.specs.Counted.{IsNumbered, IsCounted, AreCounted, AreCasesCounted, IsFuncCounted}

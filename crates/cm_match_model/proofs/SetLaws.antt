@@ -4,8 +4,8 @@ use Rattle.cm_types.specs.declared.resource.ResourceId.{ResourceId}
 use Rattle.cm_types.specs.Signatures.{NamedItem, NamedExtern, fresh_resource}
 use Rattle.cm_types.specs.Signatures as extern
 use Rattle.cm_binary_model.specs.Trees.{SectionTree}
-use Rattle.cm_types_resources.specs.Moves.{moved}
-use Rattle.cm_types_placed.specs.Instances.{replaced_item}
+use Rattle.cm_types_arena.specs.Moves.{moved}
+use Rattle.cm_types_arena.specs.Instances.{replaced_item}
 use Rattle.cm_validate_model.specs.Definitions.{InstanceTy, ExportDef, NamedMember, exported_instance}
 use Rattle.cm_validate_model.specs.Spaces.{Spaces, spaces_of}
 use Rattle.cm_validate_model.specs.CountedSpaces.{AreSpacesCounted}

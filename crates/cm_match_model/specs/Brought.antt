@@ -2,8 +2,8 @@
 -- Types"; Binary.md, "Import and Export Definitions").
 use Rattle.std.specs.Prelude.{◌≡◌, ◌+◌, ⊤, ℕ, List, [], ◌∷◌, Some, map, slice_get}
 use Rattle.cm_types.specs.Signatures.{ItemTy, NamedItem, fresh_resource}
-use Rattle.cm_types_resources.specs.Moves.{moved}
-use Rattle.cm_types_placed.specs.Instances.{replaced_item}
+use Rattle.cm_types_arena.specs.Moves.{moved}
+use Rattle.cm_types_arena.specs.Instances.{replaced_item}
 use Rattle.cm_validate_model.specs.Definitions.{InstanceTy, ResourceDef, brought}
 use Rattle.cm_validate_model.specs.Scopes.{resource_id}
 use Rattle.cm_validate_model.specs.Counted.{IsItemCounted}

@@ -8,7 +8,7 @@ use Rattle.cm_types.specs.Types.{Ty, FuncTy}
 use Rattle.cm_types.specs.Signatures.{ItemTy, NamedItem, func_item, equal_type, equal_resource}
 use Rattle.cm_types.specs.Signatures.{fresh_resource, ExternTy}
 use Rattle.cm_types.specs.Signatures as extern
-use Rattle.cm_types_resources.specs.Replaced.{Standing, replaced, replaced_func}
+use Rattle.cm_types_arena.specs.Replaced.{Standing, replaced, replaced_func}
 use Rattle.cm_validate_model.specs.Definitions.{ExportDef, exported_func, exported_instance}
 use Rattle.cm_validate_model.specs.Definitions.{NamedMember, func_type_of}
 use Rattle.cm_validate_model.specs.Spaces.{Spaces, item_of_member, member_named}

@@ -8,14 +8,14 @@ use Rattle.std.specs.Option.{option_map, option_map_or}
 use Rattle.std.specs.Slice.{IsItemAt}
 use Rattle.cm_types.specs.Signatures.{NamedExtern, NamedItem}
 use Rattle.cm_types.specs.Types.{FuncTy, Ty}
-use Rattle.cm_types_resources.specs.declared.moves.Move.{Move}
-use Rattle.cm_types_placed.specs.Placed.{moved_by}
-use Rattle.cm_types_placed.specs.Instances as instances
-use Rattle.cm_types_placed.specs.declared.instances.Item.{Item}
-use Rattle.cm_types_placed.specs.declared.instances.InstanceType.{InstanceType}
-use Rattle.cm_types_placed.specs.Externs.{extern_desc_of, extern_of}
-use Rattle.cm_types_placed.specs.declared.externs.ExternDesc.TheVariants as extern
-use Rattle.cm_types_placed.specs.declared.externs.Extern.{Extern}
+use Rattle.cm_types_arena.specs.declared.moves.Move.{Move}
+use Rattle.cm_types_arena.specs.Placed.{moved_by}
+use Rattle.cm_types_arena.specs.Instances as instances
+use Rattle.cm_types_arena.specs.declared.instances.Item.{Item}
+use Rattle.cm_types_arena.specs.declared.instances.InstanceType.{InstanceType}
+use Rattle.cm_types_arena.specs.Externs.{extern_desc_of, extern_of}
+use Rattle.cm_types_arena.specs.declared.externs.ExternDesc.TheVariants as extern
+use Rattle.cm_types_arena.specs.declared.externs.Extern.{Extern}
 use Rattle.cm_validate_model.specs.Definitions.{NamedExport}
 use Rattle.cm_validate_model.specs.Spaces.{Spaces, member_named}
 use Rattle.cm_validate_items.specs.Ranges.{resource_def}

@@ -6,7 +6,7 @@ use Rattle.std.proofs.lemmas.Option.{slice_get-get_or}
 use Rattle.std.specs.Option.{option_map_or}
 use Rattle.std.specs.Vec.{with_item}
 use Rattle.cm_types.specs.Types.{FuncTy, Ty}
-use Rattle.cm_types_resources.specs.Replaced.{Standing}
+use Rattle.cm_types_arena.specs.Replaced.{Standing}
 use Rattle.cm_types_arena.specs.Places.{funcs_of, types_of}
 use Rattle.cm_types_arena.specs.declared.types.Types.{Types}
 use Rattle.cm_types_numbers.specs.Numbering.{Extends, Numbering, numbering}

@@ -2,7 +2,7 @@
 use Rattle.std.proofs.Common.{◌≡◌, ◌∙◌, ◌==◌, ◌↔◌, ℕ, Bool, true, List, [], ◌∷◌, Option, Some, None, IsTrue, sym, ap, subst, arith}
 use Rattle.std.proofs.lemmas.Bool.Decides.{nat_tests}
 use Rattle.cm_types.specs.Types.{FuncTy, Ty}
-use Rattle.cm_types_resources.specs.Replaced.{Standing, replaced, replaced_func}
+use Rattle.cm_types_arena.specs.Replaced.{Standing, replaced, replaced_func}
 use Rattle.cm_types_numbers.specs.Numbering.{AreFuncNumbers, AreNumbers, Numbering, number, number_func}
 use Rattle.cm_types_numbers.specs.declared.moves.Brought.{Brought}
 use Rattle.cm_match_model.specs.Serving.{IsSameFunc, IsSameType, standing}

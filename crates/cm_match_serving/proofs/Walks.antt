@@ -3,10 +3,10 @@ use Rattle.std.proofs.Common.{◌≡◌, ◌∙◌, ℕ, zero, suc, ◌+◌, ◌
 use Rattle.std.specs.List.{AllByRecursion}
 use Rattle.cm_types.specs.Types.{FuncTy, Ty}
 use Rattle.cm_types.specs.Signatures.{NamedItem, instance}
-use Rattle.cm_types_resources.specs.declared.moves.Move.{Move}
-use Rattle.cm_types_placed.specs.Placed.{moved_by}
-use Rattle.cm_types_placed.specs.Instances.{item_of, items_of, replaced_item}
-use Rattle.cm_types_placed.specs.declared.instances.Item.{Item}
+use Rattle.cm_types_arena.specs.declared.moves.Move.{Move}
+use Rattle.cm_types_arena.specs.Placed.{moved_by}
+use Rattle.cm_types_arena.specs.Instances.{item_of, items_of, replaced_item}
+use Rattle.cm_types_arena.specs.declared.instances.Item.{Item}
 use Rattle.cm_validate_model.specs.Definitions.{NamedMember, exported_instance}
 use Rattle.cm_validate_model.specs.Spaces.{Spaces}
 use Rattle.cm_match_model.specs.declared.fault.LinkReason.{LinkReason}

@@ -2,10 +2,10 @@
 use Rattle.std.specs.Prelude.{◌≡◌, ℕ, List, Option, Some, None}
 use Rattle.cm_types.specs.Types.{Ty, FuncTy}
 use Rattle.cm_types.specs.Signatures.{ItemTy, ExternTy}
-use Rattle.cm_types_resources.specs.declared.moves.Move.{Move}
-use Rattle.cm_types_placed.specs.Placed.{moved_by}
-use Rattle.cm_types_placed.specs.Instances.{desc_of, replaced_desc}
-use Rattle.cm_types_placed.specs.declared.instances.ItemDesc.{ItemDesc}
+use Rattle.cm_types_arena.specs.declared.moves.Move.{Move}
+use Rattle.cm_types_arena.specs.Placed.{moved_by}
+use Rattle.cm_types_arena.specs.Instances.{desc_of, replaced_desc}
+use Rattle.cm_types_arena.specs.declared.instances.ItemDesc.{ItemDesc}
 use Rattle.cm_validate_model.specs.Definitions.{ExportDef}
 use Rattle.cm_validate_model.specs.Spaces.{Spaces}
 use Rattle.cm_match_model.specs.declared.fault.LinkReason.{LinkReason}

@@ -1,7 +1,7 @@
 -- Two components of a set: their types, and what their resources are in the end.
 use Rattle.std.specs.Prelude.{List}
 use Rattle.cm_types.specs.Types.{Ty, FuncTy}
-use Rattle.cm_types_resources.specs.Replaced.{Standing}
+use Rattle.cm_types_arena.specs.Replaced.{Standing}
 use Rattle.cm_validate_model.specs.Spaces.{Spaces}
 use Rattle.cm_match_model.specs.Serving.{standing}
 use Rattle.cm_match_serving.specs.Linkings.{components_in, set_in}

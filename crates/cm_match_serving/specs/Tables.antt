@@ -1,7 +1,7 @@
 -- What is known of the types of the components of a set.
 use Rattle.std.specs.Prelude.{◌≡◌, ℕ, List, Some, length, slice_get}
 use Rattle.cm_types.specs.Types.{Ty, FuncTy}
-use Rattle.cm_types_resources.specs.Replaced.{replaced, replaced_func}
+use Rattle.cm_types_arena.specs.Replaced.{replaced, replaced_func}
 use Rattle.cm_types_arena.specs.TypeDefs.{type_at, func_at}
 use Rattle.cm_types_numbers.specs.Numbering.{numbering}
 use Rattle.cm_types_numbers.specs.Moved.{brought_by}

@@ -10,7 +10,7 @@ ghost use Rattle.cm_match_serving.specs.Choices.{AreChoices};
 ghost use Rattle.cm_match_serving.specs.Sets.{set_of};
 
 use cm_match_model::{Candidate, Exports};
-use cm_types_placed::Extern;
+use cm_types_arena::Extern;
 use cm_validate_spaces::{Checked, ExportEntry};
 use std::alloc::{AllocError, Global};
 

@@ -4,16 +4,15 @@ use crate::sides::Pair;
 use crate::tables::Tables;
 use crate::{ExportedEntry, InstanceEntry};
 use cm_match_model::LinkReason;
+use cm_types_arena::{ExternDesc, Item, Move};
 use cm_types_numbers::Brought;
-use cm_types_placed::{ExternDesc, Item};
-use cm_types_resources::Move;
 use std::alloc::{AllocError, Global};
 
 impl Tables {
     ghost use Rattle.std.specs.Prelude.{◌≡◌, IfOk, OnOk, map};
-    ghost use Rattle.cm_types_placed.specs.Instances.{items_of, replaced_item};
-    ghost use Rattle.cm_types_placed.specs.Placed.{moved_by};
-    ghost use Rattle.cm_types_placed.specs.Externs.{extern_desc_of};
+    ghost use Rattle.cm_types_arena.specs.Instances.{items_of, replaced_item};
+    ghost use Rattle.cm_types_arena.specs.Placed.{moved_by};
+    ghost use Rattle.cm_types_arena.specs.Externs.{extern_desc_of};
     ghost use Rattle.cm_types.specs.Signatures.{instance};
     ghost use Rattle.cm_validate_model.specs.Definitions.{exported_instance};
     ghost use Rattle.cm_validate_entries.specs.ComponentSpaces.{exported_def};

@@ -4,8 +4,8 @@ ghost use Rattle.std.specs.Prelude.{◌≡◌, ℕ, List, None, Some, if◌then�
 ghost use Rattle.cm_types.specs.Signatures.{equal_resource, fresh_resource};
 ghost use Rattle.cm_types.specs.Types.{FuncTy, Ty};
 ghost use Rattle.cm_types.specs.declared.resource.ResourceId.{ResourceId as Resource};
-ghost use Rattle.cm_types_placed.specs.Instances.{numbered};
-ghost use Rattle.cm_types_placed.specs.Placed.{placed_func};
+ghost use Rattle.cm_types_arena.specs.Instances.{numbered};
+ghost use Rattle.cm_types_arena.specs.Placed.{placed_func};
 ghost use Rattle.cm_validate_model.specs.Definitions.{func_type_of};
 ghost use Rattle.cm_match_model.specs.declared.fault.LinkReason.TheVariants as reason;
 ghost use Rattle.cm_match_model.specs.Serving.{standing};
@@ -19,10 +19,9 @@ use crate::tables::Tables;
 use crate::{FuncEntry, MemberEntry};
 use cm_match_model::LinkReason;
 use cm_types::{ResourceId, same_resource};
+use cm_types_arena::laws::replacing;
+use cm_types_arena::{ItemDesc, Move, Placed, Replacement, moved_resource};
 use cm_types_numbers::Brought;
-use cm_types_placed::{ItemDesc, Placed, moved_resource};
-use cm_types_resources::laws::replacing;
-use cm_types_resources::{Move, Replacement};
 use std::alloc::{AllocError, Global};
 
 /// The type of a function.

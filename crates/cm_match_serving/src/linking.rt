@@ -7,7 +7,7 @@ ghost use Rattle.cm_match_serving.specs.Sets.{set_of};
 
 use cm_match_model::laws::links_lead_earlier;
 use cm_match_model::{Candidate, Link};
-use cm_types_placed::{Extern, ExternDesc};
+use cm_types_arena::{Extern, ExternDesc};
 use cm_validate_spaces::{Checked, ExportEntry, ExportedEntry, MemberEntry};
 
 /// The components of a set, at most `MAX_COMPONENTS`, with the candidates of each import.
@@ -23,7 +23,7 @@ impl<'s, 'a> Linking<'s, 'a> {
     ghost use Rattle.std.specs.Option.{option_and_then, option_map};
     ghost use Rattle.std.specs.Prelude.{slice_get};
     ghost use Rattle.cm_match_model.specs.Fitting.{only};
-    ghost use Rattle.cm_types_placed.specs.Externs.{extern_of};
+    ghost use Rattle.cm_types_arena.specs.Externs.{extern_of};
     ghost use Rattle.cm_validate_model.specs.Spaces.{member_named};
     ghost use Rattle.cm_validate_spaces.specs.cm_validate_entries.ComponentSpaces.{export_def};
     ghost use Rattle.cm_validate_spaces.specs.cm_validate_entries.Entries.{member_def};

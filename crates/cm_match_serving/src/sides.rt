@@ -5,7 +5,7 @@ ghost use Rattle.cm_match_serving.specs.Linkings.{components_in};
 
 use crate::Linking;
 use cm_types::ResourceId;
-use cm_types_resources::Replacement;
+use cm_types_arena::Replacement;
 
 /// A component of a set, by its place.
 #[derive(Clone, Copy)]

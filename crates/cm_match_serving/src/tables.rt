@@ -1,7 +1,7 @@
 //! The numbers of the types of a set.
 
 ghost use Rattle.std.specs.Prelude.{◌≡◌, ◌↔◌, IfOk, IsTrue, List, OnOk, Some, length};
-ghost use Rattle.cm_types_resources.specs.Replaced.{replaced, replaced_func};
+ghost use Rattle.cm_types_arena.specs.Replaced.{replaced, replaced_func};
 ghost use Rattle.cm_types_numbers.specs.Numbering.{Extends, number, number_func, numbering};
 ghost use Rattle.cm_match_model.specs.Serving.{IsSameFunc, IsSameType};
 ghost use Rattle.cm_match_serving.specs.Linkings.{components_in};

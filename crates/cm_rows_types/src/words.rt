@@ -2,8 +2,7 @@
 
 use cm_rows::{Line, split_repeat};
 use cm_types::{ExternName, Label, NameFault, ResourceId};
-use cm_types_arena::Primitive;
-use cm_types_resources::Move;
+use cm_types_arena::{Move, Primitive};
 use std::alloc::Global;
 
 /// Labels joined by commas, where `N*` before one stands for N of them.

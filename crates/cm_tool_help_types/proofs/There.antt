@@ -2,8 +2,8 @@
 use Rattle.std.proofs.Common.{◌≡◌, ℕ, ◌<◌, Bool, true, false, List, length, get_or, refl, sym, ap, ◌∙◌}
 use Rattle.std.proofs.lemmas.List.Folds.{list_all_at}
 use Rattle.std.specs.List.{list_all}
-use Rattle.cm_types_placed.specs.Instances.{are_items_there, is_desc_there}
-use Rattle.cm_types_placed.specs.declared.instances.Item.{Item}
+use Rattle.cm_types_arena.specs.Instances.{are_items_there, is_desc_there}
+use Rattle.cm_types_arena.specs.declared.instances.Item.{Item}
 use Rattle.cm_types_signatures.specs.Shared.{are_shared_items_there}
 use Rattle.cm_types_signatures.specs.declared.shared.SharedItem.{SharedItem}
 

@@ -10,16 +10,16 @@ use Rattle.cm_types.specs.ExternNames.{name_spelling}
 use Rattle.cm_types.specs.ExternNameForms.{form_tree}
 use Rattle.cm_types.specs.Signatures.{ExternTy, NamedExtern, NamedItem, func, instance}
 use Rattle.cm_types.specs.Types.{Ty, FuncTy}
-use Rattle.cm_types_resources.specs.Replaced.{Standing, replaced, replaced_func}
-use Rattle.cm_types_resources.specs.declared.moves.Move.{Move}
+use Rattle.cm_types_arena.specs.Replaced.{Standing, replaced, replaced_func}
+use Rattle.cm_types_arena.specs.declared.moves.Move.{Move}
 use Rattle.cm_types_arena.specs.Places.{funcs_of, types_of}
 use Rattle.cm_types_arena.specs.declared.types.Types.{Types}
 use Rattle.cm_types_arena.specs.TypeDefs.{func_at, type_at}
-use Rattle.cm_types_placed.specs.Placed.{moved_by}
-use Rattle.cm_types_placed.specs.Instances.{desc_of, replaced_desc, replaced_item}
-use Rattle.cm_types_placed.specs.declared.placed.Placed.{Placed}
-use Rattle.cm_types_placed.specs.declared.instances.ItemDesc.{ItemDesc}
-use Rattle.cm_types_placed.specs.declared.instances.ItemDesc.TheVariants as item
+use Rattle.cm_types_arena.specs.Placed.{moved_by}
+use Rattle.cm_types_arena.specs.Instances.{desc_of, replaced_desc, replaced_item}
+use Rattle.cm_types_arena.specs.declared.placed.Placed.{Placed}
+use Rattle.cm_types_arena.specs.declared.instances.ItemDesc.{ItemDesc}
+use Rattle.cm_types_arena.specs.declared.instances.ItemDesc.TheVariants as item
 use Rattle.cm_types_signatures.specs.Listed.{desc_in, item_in}
 use Rattle.cm_types_signatures.specs.declared.externs.Desc.{Desc}
 use Rattle.cm_types_signatures.specs.declared.externs.Desc.TheVariants as is

@@ -12,7 +12,7 @@ use Rattle.cm_types.specs.declared.type_trees.TypeNode.{TypeNode}
 use Rattle.cm_types.specs.declared.type_trees.TypeNode.TheVariants as leaf
 use Rattle.cm_types.specs.declared.type_trees.Field.{Field, out-Field}
 use Rattle.cm_types.specs.declared.type_trees.Case.{Case, out-Case}
-use Rattle.cm_types_resources.specs.Replaced.{Standing, replaced, replaced_cases, replaced_fields}
+use Rattle.cm_types_arena.specs.Replaced.{Standing, replaced, replaced_cases, replaced_fields}
 use Rattle.cm_tool_show.specs.Counted.{case_piece, case_with}
 use Rattle.cm_tool_show.specs.Pages.{IsOver, seen_on, text_on}
 use Rattle.cm_tool_show.specs.Pieces.{Piece, chars, seen_behind, text_behind}

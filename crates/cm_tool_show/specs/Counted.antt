@@ -4,8 +4,8 @@ use Rattle.std.specs.Option.{option_map}
 use Rattle.cm_types.specs.Types.{Ty}
 use Rattle.cm_types.specs.TypeTrees.{type_of}
 use Rattle.cm_types.specs.declared.type_trees.Case.{Case}
-use Rattle.cm_types_resources.specs.Replaced.{Standing, replaced}
-use Rattle.cm_types_placed.specs.Placed.{moved_by}
+use Rattle.cm_types_arena.specs.Replaced.{Standing, replaced}
+use Rattle.cm_types_arena.specs.Placed.{moved_by}
 use Rattle.cm_tool_show.specs.Pieces.{Piece, chars}
 use Rattle.cm_tool_show.specs.ShownTypes.{between, label_pieces, type_pieces}
 use Rattle.cm_tool_show.specs.declared.counting.Counting.{Counting}

@@ -4,8 +4,7 @@ ghost use Rattle.std.specs.Prelude.{◌≡◌};
 ghost use Rattle.cm_tool_show.specs.Counted.{counted};
 
 use cm_types::ResourceId;
-use cm_types_placed::moved_resource;
-use cm_types_resources::Move;
+use cm_types_arena::{Move, moved_resource};
 
 /// How the resources of a type are counted: as its place moves them, and then as the import or
 /// export that brings it does.

@@ -7,9 +7,9 @@ ghost use Rattle.cm_types.specs.ExternNames.{name_spelling};
 ghost use Rattle.cm_types.specs.ExternNameForms.{form_tree};
 ghost use Rattle.cm_types.specs.Funcs.{func_of, tree_type};
 ghost use Rattle.cm_types.specs.TypeTrees.{type_of};
-ghost use Rattle.cm_types_resources.specs.Replaced.{replaced, replaced_func};
-ghost use Rattle.cm_types_placed.specs.Instances.{numbered, replaced_item};
-ghost use Rattle.cm_types_placed.specs.Placed.{moved_by};
+ghost use Rattle.cm_types_arena.specs.Replaced.{replaced, replaced_func};
+ghost use Rattle.cm_types_arena.specs.Instances.{numbered, replaced_item};
+ghost use Rattle.cm_types_arena.specs.Placed.{moved_by};
 ghost use Rattle.cm_types_signatures.specs.Listed.{are_in, are_items_in, brought_items, extern_in};
 ghost use Rattle.cm_types_signatures.specs.Listed.{externs_listed, is_desc_in, is_item_in, item_in};
 ghost use Rattle.cm_tool_show.specs.Counted.{counted};
@@ -29,10 +29,8 @@ use crate::putting::{put, put_resource};
 use crate::types::{add_fields, add_type};
 use crate::{Counting, Page, ShowFault};
 use cm_types::{ExternNameForm, Func, ResourceId, TypeNode, TypeTree};
-use cm_types_arena::Types;
-use cm_types_placed::{ItemDesc, moved_resource};
-use cm_types_resources::Move;
-use cm_types_resources::laws::replacing;
+use cm_types_arena::laws::replacing;
+use cm_types_arena::{ItemDesc, Move, Types, moved_resource};
 use cm_types_signatures::{Desc, Externs, Items, NamedDesc, NamedItem};
 
 /// Adds what a line begins with: a word, a name and a blank.

@@ -3,7 +3,7 @@
 ghost use Rattle.std.specs.Prelude.{◌≡◌, ◌++◌, ◌∷◌, [], OnOk, IsErrOf, codes};
 ghost use Rattle.std.specs.Fmt.{decimal};
 ghost use Rattle.cm_types.specs.TypeTrees.{cases_of, fields_of, parts_of, type_of};
-ghost use Rattle.cm_types_resources.specs.Replaced.{replaced, replaced_cases, replaced_fields};
+ghost use Rattle.cm_types_arena.specs.Replaced.{replaced, replaced_cases, replaced_fields};
 ghost use Rattle.cm_tool_show.specs.Counted.{counted};
 ghost use Rattle.cm_tool_show.specs.Pages.{IsOver, seen_on, text_on};
 ghost use Rattle.cm_tool_show.specs.Pieces.{chars, number_of, seen_behind, text_behind};

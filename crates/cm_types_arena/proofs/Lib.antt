@@ -5,3 +5,9 @@ pub mod PlaceLaws
 pub mod EntryLaws
 pub mod FuncLaws
 pub mod TySets
+pub mod ReplacedLaws
+pub mod ResourceLaws
+pub mod Seen
+pub mod SameTypeLemmas
+pub mod SameTypeLaws
+pub mod UnmovedLaws

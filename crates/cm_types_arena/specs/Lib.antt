@@ -2,3 +2,9 @@ pub mod Summaries
 pub mod TypeDefs
 pub mod Arena
 pub mod Places
+pub mod Replaced
+pub mod Moves
+pub mod SameTypes
+pub mod Placed
+pub mod Instances
+pub mod Externs

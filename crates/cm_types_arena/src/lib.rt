@@ -1,19 +1,37 @@
-//! Types by places: a definition names its parts by earlier places, and its node is shared by all
-//! uses.
+//! Types by their place in an arena: a definition names its parts by earlier places, and its node
+//! is shared by all uses.
+//!
+//! An import moves the resources of the types that it brings in: a `Placed` is a place and that
+//! move, a `Replacement` puts what stands for a resource in its place, and `same_types` says whether
+//! two types are equal then. Imports and exports, instances and functions stand here in this form.
 #![tactic(auto)]
 
 mod building;
 mod entries;
+mod externs;
 mod func_types;
 mod funcs;
+mod instances;
+pub mod laws;
+mod moves;
+mod placed;
+pub mod placed_laws;
 mod primitives;
+mod replacement;
+mod same_types;
 mod summaries;
 mod type_defs;
 pub mod type_laws;
 mod types;
 
+pub use externs::{Extern, ExternDesc};
 pub use funcs::FuncDef;
+pub use instances::{InstanceType, Item, ItemDesc};
+pub use moves::Move;
+pub use placed::{Placed, moved_resource};
 pub use primitives::Primitive;
+pub use replacement::{Replacement, Row};
+pub use same_types::{same_func, same_type};
 pub use summaries::Summary;
 pub use type_defs::{CaseDef, FieldDef, TypeDef};
 pub use types::{DefFault, Types};

@@ -11,7 +11,7 @@ use Rattle.cm_types.specs.Types.{Ty, Fields, Cases, bool, signed, unsigned, char
 use Rattle.cm_types.specs.Limits.{depth_of, depth_of_fields, depth_of_cases}
 use Rattle.cm_types_arena.specs.Arena.{parts_in, field_types, payload_types}
 use Rattle.cm_types_arena.specs.TypeDefs.{type_at}
-use Rattle.cm_types_resources.specs.Replaced.{Standing, replaced}
+use Rattle.cm_types_arena.specs.Replaced.{Standing, replaced}
 use Rattle.cm_types_copies.specs.Copies.{BeginsWith, IsCopy, AreCopies}
 
 -- ---- types that begin with others

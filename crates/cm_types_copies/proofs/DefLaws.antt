@@ -14,7 +14,7 @@ use Rattle.cm_types_arena.specs.Arena.{field_types, payload_types}
 use Rattle.cm_types_arena.specs.TypeDefs.{type_at, field_def_type, case_def_type, IsBelow, option_list, payload_places}
 use Rattle.cm_types_arena.specs.declared.type_defs.FieldDef.{FieldDef}
 use Rattle.cm_types_arena.specs.declared.type_defs.CaseDef.{CaseDef}
-use Rattle.cm_types_resources.specs.Replaced.{Standing, replaced, replaced_fields, replaced_cases}
+use Rattle.cm_types_arena.specs.Replaced.{Standing, replaced, replaced_fields, replaced_cases}
 use Rattle.std.proofs.lemmas.List.{map-append}
 use Rattle.std.proofs.Math.Seq.{take-suc}
 use Rattle.cm_types_copies.proofs.Seen.{seen_payload}

@@ -8,7 +8,7 @@ use Rattle.std.proofs.lemmas.Bool.{cases_eq, ne_eqb}
 use Rattle.std.proofs.lemmas.List.{map-append}
 use Rattle.cm_types.specs.Types.{FuncTy, Ty}
 use Rattle.cm_types_arena.specs.TypeDefs.{type_at}
-use Rattle.cm_types_resources.specs.Replaced.{Standing, replaced}
+use Rattle.cm_types_arena.specs.Replaced.{Standing, replaced}
 use Rattle.cm_types_copies.specs.Copies.{AddsOnce, AreCopies, AreDistinct, BeginsWith, CopiesOnce, IsCopy}
 use Rattle.cm_types_copies.proofs.CopyLaws.{at_front}
 

@@ -4,7 +4,7 @@ use Rattle.std.specs.Prelude.{is_some, length, map}
 use Rattle.std.specs.List.{AllByRecursion}
 use Rattle.cm_types.specs.Types.{Ty}
 use Rattle.cm_types_arena.specs.TypeDefs.{type_at}
-use Rattle.cm_types_resources.specs.Replaced.{Standing, replaced}
+use Rattle.cm_types_arena.specs.Replaced.{Standing, replaced}
 
 -- a list begins with all of another
 abbrev pub BeginsWith : List Ty → List Ty → Type 0

@@ -11,14 +11,13 @@ ghost use Rattle.cm_types.specs.Spellable.{is_spellable};
 ghost use Rattle.cm_types_arena.specs.Arena.{parts_in};
 ghost use Rattle.cm_types_arena.specs.Places.{HasParts, funcs_of, types_of};
 ghost use Rattle.cm_types_arena.specs.TypeDefs.{def_type, type_at};
-ghost use Rattle.cm_types_resources.specs.Replaced.{replaced};
+ghost use Rattle.cm_types_arena.specs.Replaced.{replaced};
 ghost use Rattle.cm_types_copies.specs.Copies.{AddsOnce, AreCopies, BeginsWith, CopiesOnce, IsCopy};
 
 use crate::definitions::replaced_def;
+use cm_types_arena::laws::{replacing, what_stays};
 use cm_types_arena::type_laws::types_are_lawful;
-use cm_types_arena::{DefFault, TypeDef, Types};
-use cm_types_resources::Replacement;
-use cm_types_resources::laws::{replacing, what_stays};
+use cm_types_arena::{DefFault, Replacement, TypeDef, Types};
 use std::alloc::{AllocError, Global};
 use std::collections::BTreeMap;
 

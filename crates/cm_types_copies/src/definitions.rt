@@ -8,11 +8,10 @@ ghost use Rattle.cm_types.specs.Types.{Ty};
 ghost use Rattle.cm_types_arena.specs.Arena.{parts_in, payload_types};
 ghost use Rattle.cm_types_arena.specs.Places.{HasParts};
 ghost use Rattle.cm_types_arena.specs.TypeDefs.{def_type, option_list, payload_places, type_at};
-ghost use Rattle.cm_types_resources.specs.Replaced.{replaced};
+ghost use Rattle.cm_types_arena.specs.Replaced.{replaced};
 
 use cm_types::{Case, Field, TypeNode};
-use cm_types_arena::{CaseDef, FieldDef, Primitive, TypeDef};
-use cm_types_resources::Replacement;
+use cm_types_arena::{CaseDef, FieldDef, Primitive, Replacement, TypeDef};
 use std::alloc::{AllocError, Global};
 
 /// The definition of the type of this node with its resources replaced, where the types that it

@@ -9,7 +9,7 @@ use Rattle.cm_types.specs.Types.{Ty, FuncTy, Fields, bool, no_fields}
 use Rattle.cm_types.specs.declared.type_trees.Field.{Field}
 use Rattle.cm_types_arena.specs.Arena.{field_types, parts_in}
 use Rattle.cm_types_arena.specs.TypeDefs.{func_at, type_at}
-use Rattle.cm_types_resources.specs.Replaced.{Standing, replaced, replaced_fields, replaced_func}
+use Rattle.cm_types_arena.specs.Replaced.{Standing, replaced, replaced_fields, replaced_func}
 use Rattle.cm_types_numbers.specs.declared.key.Key.{Key}
 use Rattle.cm_types_numbers.specs.declared.key.Key.TheVariants as key
 use Rattle.cm_types_numbers.specs.Numbering.{Numbering, number, number_fields, number_func, Extends, AreNumbers, AreFuncNumbers, IsNodeOf}

@@ -7,7 +7,7 @@ use Rattle.cm_types.specs.declared.type_trees.TypeNode.{TypeNode}
 use Rattle.cm_types.specs.declared.type_trees.Field.{Field, out-Field}
 use Rattle.cm_types.specs.declared.type_trees.Case.{Case, out-Case}
 use Rattle.cm_types_arena.specs.Arena.{field_types, payload_types}
-use Rattle.cm_types_resources.specs.Replaced.{Standing, replaced, replaced_fields, replaced_cases}
+use Rattle.cm_types_arena.specs.Replaced.{Standing, replaced, replaced_fields, replaced_cases}
 use Rattle.cm_types_numbers.specs.declared.key.Key.TheVariants as key
 use Rattle.cm_types_numbers.specs.declared.key.Leaf.TheVariants as leaf
 use Rattle.cm_types_numbers.specs.Numbering.{Numbering, number, number_fields, number_cases, Extends, AreNumbers, HasNumber}

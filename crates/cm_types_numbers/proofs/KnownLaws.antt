@@ -11,7 +11,7 @@ use Rattle.std.proofs.lemmas.Map.Lookups.{exact_unsigned}
 use Rattle.cm_types.specs.Types.{Ty, bool}
 use Rattle.cm_types_arena.specs.Arena.{parts_in}
 use Rattle.cm_types_arena.specs.TypeDefs.{type_at}
-use Rattle.cm_types_resources.specs.Replaced.{Standing, replaced}
+use Rattle.cm_types_arena.specs.Replaced.{Standing, replaced}
 use Rattle.cm_types_numbers.specs.Knowing.{Knows}
 use Rattle.cm_types_numbers.specs.Numbering.{Numbering, number, Extends, AreNumbers, IsNodeOf}
 use Rattle.cm_types_numbers.specs.declared.key.Key.{Key}

@@ -8,7 +8,7 @@ use Rattle.std.specs.declared.cmp.Ordering.{Ordering}
 use Rattle.std.specs.declared.cmp.Ordering.TheVariants.{Less, Equal, Greater}
 use Rattle.std.proofs.lemmas.Bool.{cases_Bool}
 use Rattle.cm_types.specs.Types.{Ty, FuncTy}
-use Rattle.cm_types_resources.specs.Replaced.{Standing, replaced_func}
+use Rattle.cm_types_arena.specs.Replaced.{Standing, replaced_func}
 use Rattle.cm_types_arena.specs.TypeDefs.{func_at}
 use Rattle.cm_types_numbers.specs.Knowing.{Knows}
 use Rattle.cm_types_numbers.specs.Numbering.{Numbering, number_func}

@@ -7,11 +7,11 @@ use Rattle.std.specs.declared.cmp.Ordering.TheVariants.{Less, Equal, Greater}
 use Rattle.std.proofs.lemmas.Map.Lookups.{exact_unsigned}
 use Rattle.std.proofs.Math.Path.{fun_ext}
 use Rattle.cm_types.specs.declared.resource.ResourceId.{ResourceId}
-use Rattle.cm_types_resources.specs.Moves.{moved}
-use Rattle.cm_types_resources.specs.Replaced.{Standing}
-use Rattle.cm_types_resources.specs.contracts.moves.MoveOrd.TheImpl as move_ord
-use Rattle.cm_types_resources.specs.declared.moves.Move.{Move}
-use Rattle.cm_types_placed.specs.Placed.{moved_by}
+use Rattle.cm_types_arena.specs.Moves.{moved}
+use Rattle.cm_types_arena.specs.Replaced.{Standing}
+use Rattle.cm_types_arena.specs.contracts.moves.MoveOrd.TheImpl as move_ord
+use Rattle.cm_types_arena.specs.declared.moves.Move.{Move}
+use Rattle.cm_types_arena.specs.Placed.{moved_by}
 use Rattle.cm_types_numbers.specs.Moved.{moved_through}
 use Rattle.cm_types_numbers.specs.PlacedNumbersTables.{func_order, moves_order}
 use Rattle.cm_types_numbers.specs.declared.moves.Moves.{Moves}

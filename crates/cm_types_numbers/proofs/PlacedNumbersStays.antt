@@ -1,7 +1,7 @@
 -- Numbers of single types, and what is known of them, stay as a table of numbers grows.
 use Rattle.std.proofs.Common.{◌≡◌, ℕ, List, [], ◌∷◌, Option, Some, None, ap}
 use Rattle.cm_types.specs.Types.{Ty, FuncTy}
-use Rattle.cm_types_resources.specs.Replaced.{Standing, replaced, replaced_func}
+use Rattle.cm_types_arena.specs.Replaced.{Standing, replaced, replaced_func}
 use Rattle.cm_types_arena.specs.TypeDefs.{func_at, type_at}
 use Rattle.cm_types_numbers.specs.Numbering.{Numbering, AreFuncNumbers, AreNumbers, number, number_func}
 use Rattle.cm_types_numbers.specs.Moved.{moved_through}

@@ -3,7 +3,7 @@ use Rattle.std.proofs.Common.{◌≡◌, ℕ, List, [], ◌∷◌, Option, Some,
 use Rattle.cm_types.specs.Types.{Ty, FuncTy, Fields, Cases, bool, signed, unsigned, char, string, list, fixed_list, fields, cases, flags, own, borrow, no_fields, field, no_cases, plain, carrying, record_type, tuple_type, variant_type, enum_type, option_type, result_type, bits_8, bits_16, bits_32, bits_64}
 use Rattle.cm_types_numbers.specs.declared.key.Key.{Key}
 use Rattle.cm_types_numbers.specs.declared.key.Key.TheVariants as key
-use Rattle.cm_types_resources.specs.Replaced.{Standing, replaced, replaced_func}
+use Rattle.cm_types_arena.specs.Replaced.{Standing, replaced, replaced_func}
 use Rattle.cm_types_numbers.specs.Numbering.{Numbering, over, over_two, over_three, number, number_fields, number_cases, number_labels, number_of_signature, number_func, Extends, AreNumbers, AreFuncNumbers}
 use Rattle.cm_types_numbers.proofs.Places.{all_carry}
 

@@ -5,7 +5,7 @@ use Rattle.std.proofs.Math.Seq.{drop-cons}
 use Rattle.cm_types.specs.TypeTrees.{case_before}
 use Rattle.cm_types.specs.Types.{Ty, Fields, Cases, field, plain, carrying}
 use Rattle.cm_types_arena.specs.Arena.{field_types, payload_types}
-use Rattle.cm_types_resources.specs.Replaced.{Standing, replaced, replaced_fields, replaced_cases}
+use Rattle.cm_types_arena.specs.Replaced.{Standing, replaced, replaced_fields, replaced_cases}
 use Rattle.cm_types_numbers.specs.declared.key.Key.{Key}
 use Rattle.cm_types_numbers.specs.declared.key.Key.TheVariants as key
 use Rattle.cm_types_numbers.specs.Numbering.{Numbering, over, over_two, over_three, number, number_fields, number_cases, number_labels, Extends, AreNumbers, HasNumber}

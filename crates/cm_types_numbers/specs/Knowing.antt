@@ -3,7 +3,7 @@ use Rattle.std.specs.Prelude.{◌≡◌, ℕ, List, Option, Some}
 use Rattle.std.specs.BTreeMap.{get}
 use Rattle.std.specs.Ordering.{nat_cmp}
 use Rattle.cm_types.specs.Types.{Ty}
-use Rattle.cm_types_resources.specs.Replaced.{Standing, replaced}
+use Rattle.cm_types_arena.specs.Replaced.{Standing, replaced}
 use Rattle.cm_types_arena.specs.TypeDefs.{type_at}
 use Rattle.cm_types_numbers.specs.Numbering.{Numbering, number}
 use Rattle.cm_types_numbers.specs.declared.known.Known.{Known}

@@ -1,11 +1,11 @@
 -- Types that an item brings, as the import or export counts their resources (Binary.md, "Import and
 -- Export Definitions").
 use Rattle.cm_types.specs.Types.{Ty, FuncTy}
-use Rattle.cm_types_resources.specs.Replaced.{Standing, replaced, replaced_func}
+use Rattle.cm_types_arena.specs.Replaced.{Standing, replaced, replaced_func}
 use Rattle.cm_types_arena.specs.Places.{types_of, funcs_of}
 use Rattle.cm_types_arena.specs.TypeDefs.{type_at, func_at}
 use Rattle.cm_types_arena.specs.declared.types.Types.{Types}
-use Rattle.cm_types_placed.specs.Placed.{moved_by}
+use Rattle.cm_types_arena.specs.Placed.{moved_by}
 use Rattle.cm_types_numbers.specs.declared.moves.Brought.{Brought}
 use Rattle.cm_types_numbers.specs.declared.moves.Moves.{Moves}
 

@@ -9,7 +9,7 @@ use Rattle.cm_types.specs.Types.{variant_type, enum_type, option_type, result_ty
 use Rattle.cm_types.specs.Types.{bits_16, bits_32, bits_64}
 use Rattle.cm_types.specs.TypeTrees.{case_before}
 use Rattle.cm_types_arena.specs.TypeDefs.{func_at, type_at}
-use Rattle.cm_types_resources.specs.Replaced.{Standing, replaced, replaced_func}
+use Rattle.cm_types_arena.specs.Replaced.{Standing, replaced, replaced_func}
 use Rattle.cm_types_numbers.specs.declared.key.Key.{Key}
 use Rattle.cm_types_numbers.specs.declared.key.Key.TheVariants as key
 use Rattle.cm_types_numbers.specs.declared.key.Leaf.TheVariants as leaf

@@ -3,7 +3,7 @@ use Rattle.std.specs.Prelude.{◌≡◌, ℕ, List, Option, Some}
 use Rattle.std.specs.BTreeMap.{get}
 use Rattle.std.specs.declared.cmp.Ordering.{Ordering}
 use Rattle.cm_types.specs.Types.{Ty, FuncTy}
-use Rattle.cm_types_resources.specs.Replaced.{Standing, replaced_func}
+use Rattle.cm_types_arena.specs.Replaced.{Standing, replaced_func}
 use Rattle.cm_types_arena.specs.Places.{types_of, funcs_of}
 use Rattle.cm_types_arena.specs.TypeDefs.{func_at}
 use Rattle.cm_types_arena.specs.declared.types.Types.{Types}

@@ -5,7 +5,7 @@ ghost use Rattle.cm_types.specs.TypeTrees.{case_before, cases_of, fields_of, par
 ghost use Rattle.cm_types.specs.TypeTrees.{shared_payload};
 ghost use Rattle.cm_types.specs.Types.{Cases, Ty, no_cases};
 ghost use Rattle.cm_types_arena.specs.Arena.{field_types, payload_types};
-ghost use Rattle.cm_types_resources.specs.Replaced.{Standing, replaced_cases, replaced_fields};
+ghost use Rattle.cm_types_arena.specs.Replaced.{Standing, replaced_cases, replaced_fields};
 ghost use Rattle.cm_types_numbers.specs.Numbering.{AreNumbers, Extends, HasNumber, number_cases};
 ghost use Rattle.cm_types_numbers.specs.Numbering.{number_fields, number_labels, numbering};
 ghost use Rattle.cm_types_numbers.specs.Numbering.{result_cases};

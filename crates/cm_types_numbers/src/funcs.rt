@@ -2,7 +2,7 @@
 
 ghost use Rattle.std.specs.Prelude.{◌≡◌, List, Some};
 ghost use Rattle.cm_types.specs.Types.{FuncTy};
-ghost use Rattle.cm_types_resources.specs.Replaced.{Standing, replaced_func};
+ghost use Rattle.cm_types_arena.specs.Replaced.{Standing, replaced_func};
 ghost use Rattle.cm_types_arena.specs.TypeDefs.{func_at};
 ghost use Rattle.cm_types_numbers.specs.Numbering.{Numbering, number_func};
 ghost use Rattle.cm_types_numbers.specs.Moved.{moved_through};

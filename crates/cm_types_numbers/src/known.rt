@@ -3,7 +3,7 @@
 ghost use Rattle.std.specs.Prelude.{◌≡◌, ℕ, List, Some};
 ghost use Rattle.std.specs.BTreeMap.{IsEmpty};
 ghost use Rattle.cm_types.specs.Types.{Ty};
-ghost use Rattle.cm_types_resources.specs.Replaced.{Standing, replaced};
+ghost use Rattle.cm_types_arena.specs.Replaced.{Standing, replaced};
 ghost use Rattle.cm_types_arena.specs.TypeDefs.{type_at};
 ghost use Rattle.cm_types_numbers.specs.Knowing.{Knows, known_number};
 ghost use Rattle.cm_types_numbers.specs.Numbering.{Numbering, number};

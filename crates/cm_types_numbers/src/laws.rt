@@ -3,7 +3,7 @@
 
 ghost use Rattle.std.specs.Prelude.{◌≡◌, ℕ, List, Some};
 ghost use Rattle.cm_types.specs.Types.{FuncTy, Ty};
-ghost use Rattle.cm_types_resources.specs.Replaced.{Standing};
+ghost use Rattle.cm_types_arena.specs.Replaced.{Standing};
 ghost use Rattle.cm_types_numbers.specs.Numbering.{AreFuncNumbers, AreNumbers, Extends, Numbering};
 
 /// Numbers stay what they are while a table grows: those of types in their order, and those of

@@ -1,8 +1,7 @@
 //! How the resources of a type are moved.
 
 use cm_types::ResourceId;
-use cm_types_placed::{Placed, moved_resource};
-use cm_types_resources::{Move, Replacement};
+use cm_types_arena::{Move, Placed, Replacement, moved_resource};
 
 /// A type, or the type of a function, that an item of an instance brings: by its place, and as the
 /// import or export counts the resources in it.

@@ -2,7 +2,7 @@
 
 ghost use Rattle.std.specs.Prelude.{◌≡◌, IfOk, Some, List, ℕ};
 ghost use Rattle.cm_types.specs.Types.{FuncTy, Ty};
-ghost use Rattle.cm_types_resources.specs.Replaced.{Standing};
+ghost use Rattle.cm_types_arena.specs.Replaced.{Standing};
 ghost use Rattle.cm_types_numbers.specs.Numbering.{Agree, AgreeFuncs, AreFuncNumbers, AreNumbers};
 ghost use Rattle.cm_types_numbers.specs.Numbering.{Extends, IsBlank, TellsFuncs, TellsTypes};
 ghost use Rattle.cm_types_numbers.specs.Numbering.{numbering};

@@ -1,7 +1,7 @@
 //! What is known of the types of one arena.
 
 ghost use Rattle.std.specs.Prelude.{◌≡◌, IfOk, Some};
-ghost use Rattle.cm_types_resources.specs.Replaced.{Standing, replaced, replaced_func};
+ghost use Rattle.cm_types_arena.specs.Replaced.{Standing, replaced, replaced_func};
 ghost use Rattle.cm_types_arena.specs.declared.types.Types.{Types};
 ghost use Rattle.cm_types_numbers.specs.Numbering.{Extends, Numbering, number, number_func};
 ghost use Rattle.cm_types_numbers.specs.Numbering.{numbering};
@@ -13,9 +13,8 @@ use crate::funcs::KnownFuncs;
 use crate::laws::numbers_stay;
 use crate::moves::{Brought, MovedFunc, Through};
 use crate::types::KnownTypes;
-use cm_types_arena::Types;
-use cm_types_resources::Replacement;
-use cm_types_resources::laws::replacing;
+use cm_types_arena::laws::replacing;
+use cm_types_arena::{Replacement, Types};
 use std::alloc::{AllocError, Global};
 
 /// The numbers of types of one arena, as items bring them and as one table of numbers has them,

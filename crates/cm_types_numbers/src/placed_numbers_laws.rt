@@ -1,6 +1,6 @@
 //! What holds of what is known, as a law: the function does nothing, and its contract is the law.
 
-ghost use Rattle.cm_types_resources.specs.Replaced.{Standing};
+ghost use Rattle.cm_types_arena.specs.Replaced.{Standing};
 ghost use Rattle.cm_types_arena.specs.declared.types.Types.{Types};
 ghost use Rattle.cm_types_numbers.specs.Numbering.{Extends, Numbering};
 ghost use Rattle.cm_types_numbers.specs.PlacedNumbersTables.{KnowsPlaced};

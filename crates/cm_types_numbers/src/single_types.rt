@@ -4,7 +4,7 @@ ghost use Rattle.std.specs.Prelude.{◌≡◌, ◌<◌, IfOk, Some, length, map}
 ghost use Rattle.std.specs.List.{AllByRecursion};
 ghost use Rattle.cm_types_arena.specs.Places.{funcs_of, types_of};
 ghost use Rattle.cm_types_arena.specs.TypeDefs.{func_at, type_at};
-ghost use Rattle.cm_types_resources.specs.Replaced.{replaced, replaced_func};
+ghost use Rattle.cm_types_arena.specs.Replaced.{replaced, replaced_func};
 ghost use Rattle.cm_types_numbers.specs.Knowing.{Knows};
 ghost use Rattle.cm_types_numbers.specs.Numbering.{AreNumbers, Extends, number, number_func};
 ghost use Rattle.cm_types_numbers.specs.Numbering.{numbering};
@@ -12,8 +12,7 @@ ghost use Rattle.cm_types_numbers.specs.Numbering.{numbering};
 use crate::key::{Key, Leaf};
 use crate::known::Known;
 use crate::numbers::Numbers;
-use cm_types_arena::Types;
-use cm_types_resources::Replacement;
+use cm_types_arena::{Replacement, Types};
 use std::alloc::{AllocError, Global};
 
 impl Numbers {

@@ -5,15 +5,14 @@ ghost use Rattle.cm_types.specs.TypeTrees.{type_of};
 ghost use Rattle.cm_types_arena.specs.Arena.{parts_in};
 ghost use Rattle.cm_types_arena.specs.Places.{funcs_of, types_of};
 ghost use Rattle.cm_types_arena.specs.TypeDefs.{func_at};
-ghost use Rattle.cm_types_resources.specs.Replaced.{Standing, replaced, replaced_func};
+ghost use Rattle.cm_types_arena.specs.Replaced.{Standing, replaced, replaced_func};
 ghost use Rattle.cm_types_numbers.specs.Numbering.{AreFuncNumbers, AreNumbers, Extends, IsNodeOf};
 ghost use Rattle.cm_types_numbers.specs.Numbering.{number_func, numbering};
 
 use crate::key::{Key, Leaf};
 use crate::numbers::Numbers;
 use cm_types::{ResourceId, TypeNode};
-use cm_types_arena::Types;
-use cm_types_resources::Replacement;
+use cm_types_arena::{Replacement, Types};
 use std::alloc::{AllocError, Global};
 
 impl Numbers {

@@ -2,7 +2,7 @@
 
 ghost use Rattle.std.specs.Prelude.{◌≡◌, IfOk, List, Some};
 ghost use Rattle.cm_types.specs.Types.{Ty};
-ghost use Rattle.cm_types_resources.specs.Replaced.{Standing, replaced, replaced_func};
+ghost use Rattle.cm_types_arena.specs.Replaced.{Standing, replaced, replaced_func};
 ghost use Rattle.cm_types_arena.specs.Places.{funcs_of, types_of};
 ghost use Rattle.cm_types_arena.specs.TypeDefs.{func_at, type_at};
 ghost use Rattle.cm_types_numbers.specs.Numbering.{Extends, Numbering, number, number_func};
@@ -13,8 +13,7 @@ ghost use Rattle.cm_types_numbers.specs.PlacedNumbersTables.{KnowsTypes};
 use crate::laws::numbers_stay;
 use crate::moves::{Moves, Through};
 use crate::{Known, Numbers};
-use cm_types_arena::Types;
-use cm_types_resources::Replacement;
+use cm_types_arena::{Replacement, Types};
 use std::alloc::{AllocError, Global};
 use std::collections::BTreeMap;
 

@@ -6,14 +6,14 @@ use Rattle.std.proofs.lemmas.Option.{slice_get-map}
 use Rattle.cm_types.specs.Types.{FuncTy, Ty}
 use Rattle.cm_types_arena.specs.Places.{funcs_of, types_of}
 use Rattle.cm_types_arena.specs.declared.types.Types.{Types}
-use Rattle.cm_types_placed.specs.Externs.{extern_desc_of, extern_of}
-use Rattle.cm_types_placed.specs.Instances.{item_of, replaced_item}
-use Rattle.cm_types_placed.specs.Placed.{moved_by}
-use Rattle.cm_types_placed.specs.declared.externs.Extern.{Extern}
-use Rattle.cm_types_placed.specs.declared.externs.ExternDesc.{ExternDesc}
-use Rattle.cm_types_placed.specs.declared.externs.ExternDesc.TheVariants as extern
-use Rattle.cm_types_placed.specs.declared.instances.Item.{Item}
-use Rattle.cm_types_resources.specs.Replaced.{Standing}
+use Rattle.cm_types_arena.specs.Externs.{extern_desc_of, extern_of}
+use Rattle.cm_types_arena.specs.Instances.{item_of, replaced_item}
+use Rattle.cm_types_arena.specs.Placed.{moved_by}
+use Rattle.cm_types_arena.specs.declared.externs.Extern.{Extern}
+use Rattle.cm_types_arena.specs.declared.externs.ExternDesc.{ExternDesc}
+use Rattle.cm_types_arena.specs.declared.externs.ExternDesc.TheVariants as extern
+use Rattle.cm_types_arena.specs.declared.instances.Item.{Item}
+use Rattle.cm_types_arena.specs.Replaced.{Standing}
 use Rattle.cm_types_signatures.specs.Listed.{names_at, names_of_desc, names_of_named, number_at}
 use Rattle.cm_types_signatures.specs.Numbered.{names_of_extern, names_of_items}
 use Rattle.cm_types_signatures.specs.declared.externs.Externs.{Externs}

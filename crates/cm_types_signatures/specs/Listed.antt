@@ -7,12 +7,12 @@ use Rattle.cm_types.specs.Signatures.{ExternTy, NamedExtern, func, instance}
 use Rattle.cm_types.specs.Signatures as ty
 use Rattle.cm_types_arena.specs.Places.{funcs_of, types_of}
 use Rattle.cm_types_arena.specs.declared.types.Types.{Types}
-use Rattle.cm_types_resources.specs.declared.moves.Move.{Move}
-use Rattle.cm_types_placed.specs.Placed.{is_there, moved_by, placed_func}
-use Rattle.cm_types_placed.specs.Instances.{are_items_there, desc_of, is_desc_there, items_of}
-use Rattle.cm_types_placed.specs.Instances.{replaced_item}
-use Rattle.cm_types_placed.specs.Externs.{are_externs_in, externs_in}
-use Rattle.cm_types_placed.specs.declared.instances.ItemDesc.{ItemDesc}
+use Rattle.cm_types_arena.specs.declared.moves.Move.{Move}
+use Rattle.cm_types_arena.specs.Placed.{is_there, moved_by, placed_func}
+use Rattle.cm_types_arena.specs.Instances.{are_items_there, desc_of, is_desc_there, items_of}
+use Rattle.cm_types_arena.specs.Instances.{replaced_item}
+use Rattle.cm_types_arena.specs.Externs.{are_externs_in, externs_in}
+use Rattle.cm_types_arena.specs.declared.instances.ItemDesc.{ItemDesc}
 use Rattle.cm_types_signatures.specs.Numbered.{number_in}
 use Rattle.cm_types_signatures.specs.Shared.{are_shared_externs_there, are_shared_items_there}
 use Rattle.cm_types_signatures.specs.Shared.{shared_externs_of, shared_items_of}

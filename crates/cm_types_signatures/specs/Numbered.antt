@@ -2,9 +2,9 @@
 -- of one type have (Binary.md, "Import and Export Definitions").
 use Rattle.std.specs.Prelude.{◌≡◌, ℕ, List, [], Option, Some, None, map, slice_get}
 use Rattle.std.specs.Option.{option_and_then}
-use Rattle.cm_types_placed.specs.declared.externs.Extern.{Extern}
-use Rattle.cm_types_placed.specs.declared.externs.ExternDesc.{ExternDesc}
-use Rattle.cm_types_placed.specs.declared.externs.ExternDesc.TheVariants as extern
+use Rattle.cm_types_arena.specs.declared.externs.Extern.{Extern}
+use Rattle.cm_types_arena.specs.declared.externs.ExternDesc.{ExternDesc}
+use Rattle.cm_types_arena.specs.declared.externs.ExternDesc.TheVariants as extern
 
 -- the names of its items, which a function has not
 abbrev pub names_of_items : ExternDesc → List (List ℕ)

@@ -4,8 +4,8 @@ use Rattle.std.specs.Prelude.{ℕ, Bool, List, None, map}
 use Rattle.std.specs.List.{list_all}
 use Rattle.cm_types.specs.Types.{FuncTy, Ty}
 use Rattle.cm_types.specs.Signatures.{ExternTy, NamedExtern, NamedItem, func, instance}
-use Rattle.cm_types_placed.specs.Placed.{is_there, moved_by, placed_func}
-use Rattle.cm_types_placed.specs.Instances.{desc_of, is_desc_there, replaced_item}
+use Rattle.cm_types_arena.specs.Placed.{is_there, moved_by, placed_func}
+use Rattle.cm_types_arena.specs.Instances.{desc_of, is_desc_there, replaced_item}
 use Rattle.cm_types_signatures.specs.SharedNames.{text_in}
 use Rattle.cm_types_signatures.specs.declared.names.Front.{Front}
 use Rattle.cm_types_signatures.specs.declared.shared.SharedDesc.{SharedDesc}

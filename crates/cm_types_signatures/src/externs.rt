@@ -5,14 +5,13 @@ ghost use Rattle.std.specs.Option.{option_map};
 ghost use Rattle.cm_types.specs.ExternNames.{HasLabels};
 ghost use Rattle.cm_types.specs.ExternNameForms.{form_tree};
 ghost use Rattle.cm_types_arena.specs.declared.types.Types.{Types};
-ghost use Rattle.cm_types_placed.specs.Externs.{extern_desc_of, is_extern_there};
+ghost use Rattle.cm_types_arena.specs.Externs.{extern_desc_of, is_extern_there};
 ghost use Rattle.cm_types_signatures.specs.Shared.{is_shared_there, shared_desc_of};
 ghost use Rattle.cm_types_arena.specs.Places.{funcs_of, types_of};
 
 use crate::{NumberedExterns, SharedDesc, SharedExterns, SharedItems};
 use cm_types::ExternNameForm;
-use cm_types_placed::{ExternDesc, Item, ItemDesc, Placed};
-use cm_types_resources::Move;
+use cm_types_arena::{ExternDesc, Item, ItemDesc, Move, Placed};
 
 /// Imports or exports in order: those of a component, whose names are whole, or those of a world,
 /// whose names share their fronts.

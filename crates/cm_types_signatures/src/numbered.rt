@@ -3,7 +3,7 @@
 ghost use Rattle.std.specs.Prelude.{◌≡◌, []};
 ghost use Rattle.cm_types_signatures.specs.Numbered.{AreAlike};
 
-use cm_types_placed::Extern;
+use cm_types_arena::Extern;
 use std::alloc::Global;
 
 /// The imports or exports of a component in order, and numbers of those that are instances. Where

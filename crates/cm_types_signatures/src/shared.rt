@@ -1,7 +1,7 @@
 //! Imports and exports whose names share their fronts.
 
 use crate::{Front, SharedName};
-use cm_types_placed::{ItemDesc, Placed};
+use cm_types_arena::{ItemDesc, Placed};
 
 /// An item of an instance.
 #[derive(Drop)]

@@ -18,7 +18,7 @@ use Rattle.cm_types_arena.specs.TypeDefs.{params_type}
 use Rattle.cm_types_arena.specs.declared.summaries.Summary.{Summary}
 use Rattle.cm_layout_placed.specs.Placed.{at_place}
 use Rattle.cm_validate_canons.specs.declared.passing.Passed.{Passed}
-use Rattle.cm_types_resources.specs.Replaced.{Standing, replaced, replaced_fields, replaced_cases, replaced_func}
+use Rattle.cm_types_arena.specs.Replaced.{Standing, replaced, replaced_fields, replaced_cases, replaced_func}
 use Rattle.cm_types_arena.specs.Arena.{field_types}
 use Rattle.cm_types_arena.specs.TypeDefs.{type_at}
 use Rattle.cm_validate_model.specs.Options.{is_pointer}

@@ -5,11 +5,11 @@ ghost use Rattle.std.specs.Prelude.{◌≡◌, ◌||◌};
 ghost use Rattle.cm_types.specs.Holds.{holds, is_list, is_string};
 ghost use Rattle.cm_types.specs.Types.{FuncTy, Ty};
 ghost use Rattle.cm_layout.specs.Flattening.{flat_of};
-ghost use Rattle.cm_types_resources.specs.Replaced.{Standing, replaced, replaced_func};
+ghost use Rattle.cm_types_arena.specs.Replaced.{Standing, replaced, replaced_func};
 ghost use Rattle.cm_validate_model.specs.Options.{is_pointer};
 ghost use Rattle.cm_validate_canons.specs.Passing.{params_passed, result_passed};
 
-use cm_types_resources::laws::what_stays;
+use cm_types_arena::laws::what_stays;
 
 /// A type holds a pointer where it holds a string or a list.
 pub fn pointers()

@@ -2,7 +2,7 @@
 
 ghost use Rattle.std.specs.Prelude.{◌≡◌, ℕ, IfOk, OnErr, slice_get};
 ghost use Rattle.cm_binary_model.specs.Trees.{lower};
-ghost use Rattle.cm_types_placed.specs.Placed.{placed_func};
+ghost use Rattle.cm_types_arena.specs.Placed.{placed_func};
 ghost use Rattle.cm_validate_model.specs.Definitions.{CoreFuncDef};
 ghost use Rattle.cm_validate_model.specs.Items.{canon_item};
 ghost use Rattle.cm_validate_model.specs.Options.{lower_type_broken, no_post_return_broken};
@@ -20,7 +20,7 @@ use crate::needs::lower_type_fault;
 use crate::options::have_post_return;
 use crate::types::LaidTypes;
 use cm_binary_model::CanonOption;
-use cm_types_placed::Placed;
+use cm_types_arena::Placed;
 use cm_validate_core::CoreSpaces;
 use cm_validate_entries::laws::{others_add_nothing, types_after};
 use cm_validate_entries::{ComponentSpaces, FuncEntry};

@@ -9,15 +9,14 @@ ghost use Rattle.cm_types_arena.specs.Places.{funcs_of, types_of};
 ghost use Rattle.cm_types_arena.specs.Summaries.{summary_of};
 ghost use Rattle.cm_types_arena.specs.TypeDefs.{func_at};
 ghost use Rattle.cm_layout_placed.specs.Placed.{layouts_in};
-ghost use Rattle.cm_types_placed.specs.Placed.{placed_func};
+ghost use Rattle.cm_types_arena.specs.Placed.{placed_func};
 ghost use Rattle.cm_validate_model.specs.Options.{is_pointer};
 ghost use Rattle.cm_validate_canons.specs.Passing.{params_passed, result_passed, widths_at};
 
 use crate::laws::passing_stays;
 use cm_layout_placed::Layouts;
 use cm_types::{MAX_FLAT_PARAMS, MAX_FLAT_RESULTS};
-use cm_types_arena::{Summary, Types};
-use cm_types_placed::Placed;
+use cm_types_arena::{Placed, Summary, Types};
 
 /// What is passed: the parameters of a function together, or its result.
 #[derive(Clone, Copy)]

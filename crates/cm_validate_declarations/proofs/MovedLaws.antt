@@ -6,8 +6,8 @@ use Rattle.std.specs.List.{AllByRecursion, list_all}
 use Rattle.std.specs.Option.{option_map}
 use Rattle.cm_types.specs.Types.{Ty, FuncTy}
 use Rattle.cm_validate_model.specs.CountedSpaces.{IsDefCounted}
-use Rattle.cm_types_placed.specs.Instances.{is_desc_there}
-use Rattle.cm_types_placed.specs.declared.instances.Item.{Item}
+use Rattle.cm_types_arena.specs.Instances.{is_desc_there}
+use Rattle.cm_types_arena.specs.declared.instances.Item.{Item}
 use Rattle.cm_validate_types.specs.declared.entries.TypeEntry.{TypeEntry}
 use Rattle.cm_validate_types.specs.declared.scope.TypeScope.{TypeScope}
 use Rattle.cm_validate_types.specs.Entries.{def_of}

@@ -1,8 +1,8 @@
 -- The scope that declarations were read into.
 use Rattle.std.specs.Prelude.{ℕ, List, [], ◌∷◌, ◌++◌}
 use Rattle.cm_types.specs.Signatures.{NamedItem}
-use Rattle.cm_types_placed.specs.Instances.{desc_of, items_of}
-use Rattle.cm_types_placed.specs.declared.instances.ItemDesc.{ItemDesc}
+use Rattle.cm_types_arena.specs.Instances.{desc_of, items_of}
+use Rattle.cm_types_arena.specs.declared.instances.ItemDesc.{ItemDesc}
 use Rattle.cm_validate_model.specs.Declarations.{Scope}
 use Rattle.cm_validate_types.specs.Entries.{def_of}
 use Rattle.cm_validate_types.specs.declared.entries.TypeEntry.{TypeEntry}

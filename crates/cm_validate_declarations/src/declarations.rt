@@ -8,7 +8,7 @@ ghost use Rattle.cm_validate_declarations.specs.CountedAround.{AreCountedAround}
 ghost use Rattle.cm_validate_declarations.specs.DeclaredItems.{items_in};
 
 use cm_types::{Declaration, DeclaredType, DefValType, FuncType, OuterType};
-use cm_types_placed::{InstanceType, Item};
+use cm_types_arena::{InstanceType, Item};
 use cm_validate_model::ValidReason;
 use cm_validate_types::laws::{items_stay, moves_stay};
 use cm_validate_types::{TypeEntry, TypeScope};

@@ -2,7 +2,7 @@
 
 use crate::declarations::Declarations;
 use cm_types::{ExportDesc, ExternName, TypeBound};
-use cm_types_placed::{Item, ItemDesc};
+use cm_types_arena::{Item, ItemDesc};
 use cm_validate_model::ValidReason;
 use cm_validate_types::TypeEntry;
 use std::alloc::AllocError;
@@ -16,7 +16,7 @@ impl Declarations {
     ghost use Rattle.cm_validate_model.specs.Declarations.{with_fresh};
     ghost use Rattle.cm_validate_model.specs.Definitions.{sorts_of};
     ghost use Rattle.cm_validate_model.specs.Reasons.{least};
-    ghost use Rattle.cm_types_placed.specs.Instances.{is_desc_there};
+    ghost use Rattle.cm_types_arena.specs.Instances.{is_desc_there};
     ghost use Rattle.cm_validate_types.specs.Entries.{is_entry_there};
     ghost use Rattle.cm_validate_types.specs.Settled.{IsDescSettled};
     ghost use Rattle.cm_validate_types.specs.SettledScopes.{IsMovedCounted};

@@ -7,9 +7,9 @@ use Rattle.std.specs.Option.{option_map, option_and_then}
 use Rattle.cm_types.specs.Types.{Ty, FuncTy}
 use Rattle.cm_binary_model.specs.declared.instances.InstanceExportSort.{InstanceExportSort}
 use Rattle.cm_binary_model.specs.declared.instances.InstanceExportSort.TheVariants as member_sort
-use Rattle.cm_types_placed.specs.declared.placed.Placed.{Placed}
+use Rattle.cm_types_arena.specs.declared.placed.Placed.{Placed}
 use Rattle.cm_binary_model.specs.Trees.{instance_export}
-use Rattle.cm_types_placed.specs.Externs.{extern_of}
+use Rattle.cm_types_arena.specs.Externs.{extern_of}
 use Rattle.cm_validate_model.specs.declared.fault.ValidReason.TheVariants as reason
 use Rattle.cm_validate_model.specs.Definitions.{MemberDef, NamedMember, func_member}
 use Rattle.cm_validate_model.specs.Items.{alias_item}

@@ -4,8 +4,8 @@ use Rattle.std.specs.List.{slice_get}
 use Rattle.std.specs.Prelude.{is_some}
 use Rattle.cm_types.specs.Types.{Ty, FuncTy}
 use Rattle.cm_binary_model.specs.declared.externs.ExternDesc.TheVariants as desc
-use Rattle.cm_types_placed.specs.declared.placed.Placed.{Placed}
-use Rattle.cm_types_placed.specs.declared.externs.ExternDesc.TheVariants as extern
+use Rattle.cm_types_arena.specs.declared.placed.Placed.{Placed}
+use Rattle.cm_types_arena.specs.declared.externs.ExternDesc.TheVariants as extern
 use Rattle.cm_validate_model.specs.declared.fault.ValidReason.{ValidReason}
 use Rattle.cm_validate_model.specs.Items.{Item, import_item}
 use Rattle.cm_validate_model.specs.Reasons.{index_broken, least, lesser}

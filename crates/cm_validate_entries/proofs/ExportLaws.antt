@@ -7,8 +7,8 @@ use Rattle.std.specs.Option.{option_map, option_and_then}
 use Rattle.std.specs.Borrow.{Bor}
 use Rattle.cm_types.specs.Types.{Ty, FuncTy}
 use Rattle.cm_binary_model.specs.declared.externs.ExportSort.TheVariants as export_sort
-use Rattle.cm_types_placed.specs.Externs.{extern_of, is_extern_there}
-use Rattle.cm_types_placed.specs.declared.externs.Extern.{Extern}
+use Rattle.cm_types_arena.specs.Externs.{extern_of, is_extern_there}
+use Rattle.cm_types_arena.specs.declared.externs.Extern.{Extern}
 use Rattle.cm_validate_model.specs.declared.fault.ValidReason.{ValidReason}
 use Rattle.cm_validate_model.specs.declared.fault.ValidReason.TheVariants as reason
 use Rattle.cm_validate_model.specs.Definitions.{FuncDef, NamedExport, NamedMember, exported_func, exported_instance}

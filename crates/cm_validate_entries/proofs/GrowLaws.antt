@@ -9,18 +9,18 @@ use Rattle.cm_validate_names.specs.NameMaps.{entries_of}
 use Rattle.cm_types.specs.Types.{Ty, FuncTy}
 use Rattle.cm_types.specs.Signatures.{ItemTy, NamedItem, NamedExtern, func_item, equal_type}
 use Rattle.cm_types.specs.Signatures as externs
-use Rattle.cm_types_resources.specs.Replaced.{replaced, replaced_func}
-use Rattle.cm_types_resources.specs.declared.moves.Move.{Move}
-use Rattle.cm_types_placed.specs.Placed.{moved_by, placed_type, placed_func, is_there}
-use Rattle.cm_types_placed.specs.Instances.{desc_of, item_of, items_of, is_desc_there, are_items_there, replaced_item}
-use Rattle.cm_types_placed.specs.declared.placed.Placed.{Placed}
-use Rattle.cm_types_placed.specs.declared.instances.Item.{Item}
-use Rattle.cm_types_placed.specs.declared.instances.ItemDesc.{ItemDesc}
-use Rattle.cm_types_placed.specs.declared.instances.ItemDesc.TheVariants as item
-use Rattle.cm_types_placed.specs.Externs.{extern_of, extern_desc_of, is_extern_there}
-use Rattle.cm_types_placed.specs.declared.externs.Extern.{Extern}
-use Rattle.cm_types_placed.specs.declared.externs.ExternDesc.{ExternDesc}
-use Rattle.cm_types_placed.specs.declared.externs.ExternDesc.TheVariants as extern
+use Rattle.cm_types_arena.specs.Replaced.{replaced, replaced_func}
+use Rattle.cm_types_arena.specs.declared.moves.Move.{Move}
+use Rattle.cm_types_arena.specs.Placed.{moved_by, placed_type, placed_func, is_there}
+use Rattle.cm_types_arena.specs.Instances.{desc_of, item_of, items_of, is_desc_there, are_items_there, replaced_item}
+use Rattle.cm_types_arena.specs.declared.placed.Placed.{Placed}
+use Rattle.cm_types_arena.specs.declared.instances.Item.{Item}
+use Rattle.cm_types_arena.specs.declared.instances.ItemDesc.{ItemDesc}
+use Rattle.cm_types_arena.specs.declared.instances.ItemDesc.TheVariants as item
+use Rattle.cm_types_arena.specs.Externs.{extern_of, extern_desc_of, is_extern_there}
+use Rattle.cm_types_arena.specs.declared.externs.Extern.{Extern}
+use Rattle.cm_types_arena.specs.declared.externs.ExternDesc.{ExternDesc}
+use Rattle.cm_types_arena.specs.declared.externs.ExternDesc.TheVariants as extern
 use Rattle.cm_validate_model.specs.Definitions.{ExportDef, MemberDef, NamedMember, exported_func, exported_instance, func_member, func_type, imported, instance_type, lifted, type_member, value}
 use Rattle.cm_validate_model.specs.Counted.{IsCounted, IsFuncCounted}
 use Rattle.cm_validate_items.specs.InstanceTypes.{instance_type_of}

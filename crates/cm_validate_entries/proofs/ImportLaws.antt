@@ -10,19 +10,19 @@ use Rattle.cm_types.specs.Types.{Ty, FuncTy}
 use Rattle.cm_types.specs.Signatures.{NamedItem, NamedExtern}
 use Rattle.cm_types.specs.Signatures as externs
 use Rattle.cm_binary_model.specs.declared.externs.ExternDesc.TheVariants as desc
-use Rattle.cm_types_resources.specs.declared.moves.Move.{Move}
-use Rattle.cm_types_placed.specs.Placed.{is_there, moved_by, placed_func}
-use Rattle.cm_types_placed.specs.Instances.{are_items_there, items_of, replaced_item}
-use Rattle.cm_types_placed.specs.declared.instances.InstanceType.{InstanceType}
-use Rattle.cm_types_placed.specs.declared.placed.Placed.{Placed}
-use Rattle.cm_types_placed.specs.Externs.{extern_of, is_extern_there}
+use Rattle.cm_types_arena.specs.declared.moves.Move.{Move}
+use Rattle.cm_types_arena.specs.Placed.{is_there, moved_by, placed_func}
+use Rattle.cm_types_arena.specs.Instances.{are_items_there, items_of, replaced_item}
+use Rattle.cm_types_arena.specs.declared.instances.InstanceType.{InstanceType}
+use Rattle.cm_types_arena.specs.declared.placed.Placed.{Placed}
+use Rattle.cm_types_arena.specs.Externs.{extern_of, is_extern_there}
 use Rattle.cm_validate_types.specs.Entries.{def_of, entry_sort, instance_of, is_entry_there}
 use Rattle.cm_validate_types.specs.Settled.{AreItemsSettled, IsEntrySettled}
 use Rattle.cm_validate_types.specs.declared.entries.TypeEntry.{TypeEntry}
 use Rattle.cm_validate_types.specs.declared.entries.TypeEntry.TheVariants as entry
 use Rattle.cm_validate_entries.specs.declared.spaces.ExportEntry.{ExportEntry}
-use Rattle.cm_types_placed.specs.declared.externs.Extern.{Extern}
-use Rattle.cm_types_placed.specs.declared.externs.ExternDesc.TheVariants as extern
+use Rattle.cm_types_arena.specs.declared.externs.Extern.{Extern}
+use Rattle.cm_types_arena.specs.declared.externs.ExternDesc.TheVariants as extern
 use Rattle.cm_validate_model.specs.declared.fault.ValidReason.{ValidReason}
 use Rattle.cm_validate_model.specs.Definitions.{InstanceTy, TypeDef, NamedMember, brought, imported, sort_of, sorts_of}
 use Rattle.cm_validate_model.specs.Items.{Item, import_item}

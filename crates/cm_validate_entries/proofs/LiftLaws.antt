@@ -7,8 +7,8 @@ use Rattle.std.specs.Option.{option_and_then}
 use Rattle.cm_types.specs.Types.{Ty, FuncTy}
 use Rattle.cm_binary_model.specs.Trees.{lift}
 use Rattle.cm_binary_model.specs.declared.canons.CanonOption.{CanonOption}
-use Rattle.cm_types_placed.specs.Placed.{placed_func}
-use Rattle.cm_types_placed.specs.declared.placed.Placed.{Placed}
+use Rattle.cm_types_arena.specs.Placed.{placed_func}
+use Rattle.cm_types_arena.specs.declared.placed.Placed.{Placed}
 use Rattle.cm_validate_model.specs.declared.fault.ValidReason.{ValidReason}
 use Rattle.cm_validate_model.specs.Definitions.{TypeDef}
 use Rattle.cm_validate_model.specs.Items.{canon_item}

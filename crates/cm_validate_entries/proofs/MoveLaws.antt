@@ -6,14 +6,14 @@ use Rattle.std.proofs.lemmas.List.{map-append}
 use Rattle.std.specs.Option.{option_map}
 use Rattle.cm_types.specs.Signatures.{ItemTy, NamedItem, func_item, equal_type, equal_resource, fresh_resource}
 use Rattle.cm_types.specs.Types.{Ty, Fields, FuncTy, fields, tuple_type}
-use Rattle.cm_types_resources.specs.Replaced.{replaced, replaced_func}
-use Rattle.cm_types_resources.specs.Moves.{moved as moved_range}
-use Rattle.cm_types_resources.specs.declared.moves.Move.{Move}
-use Rattle.cm_types_placed.specs.Placed.{moved_by, placed_type, placed_func}
-use Rattle.cm_types_placed.specs.Instances.{desc_of, items_of, numbered, replaced_desc, replaced_item}
-use Rattle.cm_types_placed.specs.declared.instances.Item.{Item}
-use Rattle.cm_types_placed.specs.declared.instances.ItemDesc.{ItemDesc}
-use Rattle.cm_types_placed.specs.declared.instances.ItemDesc.TheVariants as item
+use Rattle.cm_types_arena.specs.Replaced.{replaced, replaced_func}
+use Rattle.cm_types_arena.specs.Moves.{moved as moved_range}
+use Rattle.cm_types_arena.specs.declared.moves.Move.{Move}
+use Rattle.cm_types_arena.specs.Placed.{moved_by, placed_type, placed_func}
+use Rattle.cm_types_arena.specs.Instances.{desc_of, items_of, numbered, replaced_desc, replaced_item}
+use Rattle.cm_types_arena.specs.declared.instances.Item.{Item}
+use Rattle.cm_types_arena.specs.declared.instances.ItemDesc.{ItemDesc}
+use Rattle.cm_types_arena.specs.declared.instances.ItemDesc.TheVariants as item
 use Rattle.cm_types_arena.specs.TypeDefs.{type_at, func_at}
 use Rattle.cm_validate_model.specs.Definitions.{InstanceTy, MemberDef, NamedMember, ResourceDef, brought, func_member, imported, type_member, value, resource}
 use Rattle.cm_validate_model.specs.Moves.{moved, moved_id, moved_type, moved_fields, moved_func, moved_item}

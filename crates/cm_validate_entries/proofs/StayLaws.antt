@@ -2,8 +2,8 @@
 -- more types.
 use Rattle.std.proofs.Common.{◌≡◌, ℕ, true, List, [], ◌∷◌, ◌++◌, length, map, Option, Some, None, refl, sym, ap, ◌∙◌, IfSome, append-nil}
 use Rattle.cm_types.specs.Types.{Ty, FuncTy}
-use Rattle.cm_types_placed.specs.Externs.{extern_of, is_extern_there}
-use Rattle.cm_types_placed.specs.declared.externs.Extern.{Extern}
+use Rattle.cm_types_arena.specs.Externs.{extern_of, is_extern_there}
+use Rattle.cm_types_arena.specs.declared.externs.Extern.{Extern}
 use Rattle.cm_validate_types.specs.Entries.{def_of, entry_sort}
 use Rattle.cm_validate_types.specs.declared.entries.TypeEntry.{TypeEntry}
 use Rattle.cm_validate_types.specs.declared.entries.TypeEntry.TheVariants as entry

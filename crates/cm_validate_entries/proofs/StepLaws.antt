@@ -5,8 +5,8 @@ use Rattle.std.specs.List.{list_all, list_any, slice_get}
 use Rattle.cm_types.specs.Names.{is_same_name}
 use Rattle.cm_types.specs.Types.{Ty, FuncTy}
 use Rattle.cm_types.specs.Signatures.{NamedExtern}
-use Rattle.cm_types_placed.specs.Externs.{extern_of, is_extern_there}
-use Rattle.cm_types_placed.specs.declared.externs.Extern.{Extern}
+use Rattle.cm_types_arena.specs.Externs.{extern_of, is_extern_there}
+use Rattle.cm_types_arena.specs.declared.externs.Extern.{Extern}
 use Rattle.cm_validate_entries.specs.declared.spaces.ExportEntry.{ExportEntry}
 use Rattle.cm_validate_model.specs.Definitions.{NamedExport}
 use Rattle.cm_validate_model.specs.Items.{Item}

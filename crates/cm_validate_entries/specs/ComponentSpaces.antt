@@ -6,7 +6,7 @@ use Rattle.std.specs.List.{AllByRecursion, list_all}
 use Rattle.std.specs.Option.{option_map}
 use Rattle.cm_types.specs.Types.{Ty, FuncTy}
 use Rattle.cm_binary_model.specs.Trees.{AliasTree}
-use Rattle.cm_types_placed.specs.Externs.{extern_of, is_extern_there}
+use Rattle.cm_types_arena.specs.Externs.{extern_of, is_extern_there}
 use Rattle.cm_validate_model.specs.declared.fault.ValidReason.{ValidReason}
 use Rattle.cm_validate_model.specs.Definitions.{ExportDef, exported_func, exported_instance}
 use Rattle.cm_validate_model.specs.Definitions.{NamedExport}

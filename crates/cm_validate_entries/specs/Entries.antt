@@ -7,15 +7,15 @@ use Rattle.std.specs.Option.{option_or}
 use Rattle.std.specs.declared.alloc.Global.{Global}
 use Rattle.std.specs.declared.rc.Rc.{Rc}
 use Rattle.cm_types.specs.Types.{Ty, FuncTy}
-use Rattle.cm_types_resources.specs.Moves.{moved}
-use Rattle.cm_types_resources.specs.declared.moves.Move.{Move}
+use Rattle.cm_types_arena.specs.Moves.{moved}
+use Rattle.cm_types_arena.specs.declared.moves.Move.{Move}
 use Rattle.cm_validate_names.specs.NameMaps.{entries_of}
-use Rattle.cm_types_placed.specs.Placed.{placed_type, placed_func, is_there}
-use Rattle.cm_types_placed.specs.Instances.{numbered, are_items_there}
-use Rattle.cm_types_placed.specs.declared.placed.Placed.{Placed}
-use Rattle.cm_types_placed.specs.declared.instances.Item.{Item}
-use Rattle.cm_types_placed.specs.declared.instances.ItemDesc.{ItemDesc}
-use Rattle.cm_types_placed.specs.declared.instances.ItemDesc.TheVariants as item
+use Rattle.cm_types_arena.specs.Placed.{placed_type, placed_func, is_there}
+use Rattle.cm_types_arena.specs.Instances.{numbered, are_items_there}
+use Rattle.cm_types_arena.specs.declared.placed.Placed.{Placed}
+use Rattle.cm_types_arena.specs.declared.instances.Item.{Item}
+use Rattle.cm_types_arena.specs.declared.instances.ItemDesc.{ItemDesc}
+use Rattle.cm_types_arena.specs.declared.instances.ItemDesc.TheVariants as item
 use Rattle.cm_validate_model.specs.Definitions.{value, resource, FuncDef, lifted, imported}
 use Rattle.cm_validate_model.specs.Definitions.{MemberDef}
 use Rattle.cm_validate_model.specs.Definitions.{func_member, type_member, NamedMember}

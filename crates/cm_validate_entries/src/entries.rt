@@ -1,8 +1,7 @@
 //! What stands in the index spaces of functions and instances.
 
 use cm_binary_model::CanonOption;
-use cm_types_placed::Placed;
-use cm_types_resources::Move;
+use cm_types_arena::{Move, Placed};
 use cm_validate_items::InstanceItems;
 use cm_validate_names::NameMap;
 use std::rc::Rc;

@@ -2,7 +2,7 @@
 
 ghost use Rattle.std.specs.Prelude.{◌≡◌, ℕ, IfErr, IfOk, List, Some, slice_get};
 ghost use Rattle.cm_types.specs.Types.{FuncTy, Ty};
-ghost use Rattle.cm_types_placed.specs.Placed.{placed_func};
+ghost use Rattle.cm_types_arena.specs.Placed.{placed_func};
 ghost use Rattle.cm_validate_model.specs.Reasons.{least};
 ghost use Rattle.cm_validate_model.specs.Rules.{func_ty_at, type_index_broken};
 ghost use Rattle.cm_validate_model.specs.Spaces.{Spaces};
@@ -16,7 +16,7 @@ use crate::entries::FuncEntry;
 use crate::spaces::ComponentSpaces;
 use crate::types::func_at;
 use cm_binary_model::CanonOption;
-use cm_types_placed::Placed;
+use cm_types_arena::Placed;
 use cm_validate_model::ValidReason;
 use cm_validate_types::TypeEntry;
 use std::alloc::AllocError;

@@ -1,7 +1,7 @@
 //! What stands in the spaces: imports, exports and resources.
 
 use crate::spaces::{ComponentSpaces, ExportEntry};
-use cm_types_placed::Extern;
+use cm_types_arena::Extern;
 use cm_validate_items::Resources;
 
 /// What a component imports and exports, in order, and its resources, in the order of their numbers
@@ -17,7 +17,7 @@ impl<'a> ComponentSpaces<'a> {
     ghost use Rattle.std.specs.Prelude.{◌≡◌, List, length, map, true};
     ghost use Rattle.std.specs.List.{list_all};
     ghost use Rattle.cm_types.specs.Types.{FuncTy, Ty};
-    ghost use Rattle.cm_types_placed.specs.Externs.{extern_of, is_extern_there};
+    ghost use Rattle.cm_types_arena.specs.Externs.{extern_of, is_extern_there};
     ghost use Rattle.cm_validate_model.specs.Spaces.{Spaces};
     ghost use Rattle.cm_validate_items.specs.Resources.{resources_in};
     ghost use Rattle.cm_validate_entries.specs.ComponentSpaces.{IsComponentOf, export_def};

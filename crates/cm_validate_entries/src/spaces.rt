@@ -2,7 +2,7 @@
 
 use crate::entries::{FuncEntry, InstanceEntry};
 use cm_types::ExternName;
-use cm_types_placed::Extern;
+use cm_types_arena::Extern;
 use cm_validate_items::Resources;
 use cm_validate_names::{FoldedName, NameSet};
 use std::alloc::{AllocError, Global};

@@ -9,7 +9,7 @@ ghost use Rattle.cm_validate_types.specs.Entries.{entry_sort};
 ghost use Rattle.cm_validate_types.specs.declared.entries.TypeEntry.TheVariants as entry;
 ghost use Rattle.cm_validate_entries.specs.Entries.{entry_func, entry_instance};
 
-use cm_types_placed::Placed;
+use cm_types_arena::Placed;
 use cm_validate_items::InstanceItems;
 use cm_validate_model::ValidReason;
 use cm_validate_types::TypeEntry;

@@ -1,7 +1,6 @@
-pub mod FaultLaws
-pub mod NameLaws
-pub mod ScopeLaws
-pub mod InstanceLaws
-pub mod PassLaws
-pub mod GrowLaws
-pub mod SettledLaws
+mod TextLaws
+mod ReasonLaws
+mod SketchLaws
+mod MemberLaws
+mod NameLaws
+mod GatherLaws

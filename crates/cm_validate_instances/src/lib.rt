@@ -1,20 +1,9 @@
-//! The type of an instance as a whole: the rules that it violates, and the type that it is.
-//!
-//! Which names the items of an instance may have is decided here, from sketches of the items.
+//! Instances made of definitions under names: the rules that one violates, and what it adds.
 #![tactic(auto)]
 
-mod exports;
-mod faults;
 mod instances;
-pub mod laws;
-pub mod name_laws;
-mod names;
-mod passes;
-mod resources;
+mod members;
 mod sketches;
-mod sketching;
 
-pub use cm_validate_sketches::{FuncSketch, resource_id};
-pub use faults::item_names_fault;
-pub use instances::define_instance;
-pub use sketches::{ItemSketch, NamedSketch};
+pub use cm_validate_instance_types::define_instance;
+pub use instances::add_instance;

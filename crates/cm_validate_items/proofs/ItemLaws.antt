@@ -4,8 +4,8 @@ use Rattle.std.specs.BTreeMap.{BTreeMap, get_by_text}
 use Rattle.std.specs.Str.{bytes_eq}
 use Rattle.std.specs.declared.alloc.Global.{Global}
 use Rattle.std.specs.declared.string.String.{String}
-use Rattle.cm_types_placed.specs.declared.instances.Item.{Item}
-use Rattle.cm_types_placed.specs.declared.instances.ItemDesc.{ItemDesc}
+use Rattle.cm_types_arena.specs.declared.instances.Item.{Item}
+use Rattle.cm_types_arena.specs.declared.instances.ItemDesc.{ItemDesc}
 use Rattle.cm_validate_items.specs.Items.{AreFound, item_named, fresh_at, fresh_from}
 
 pub put_before : (xs : List Item) (j i : ℕ) (x : Item) (old new : BTreeMap (String Global) (ℕ × ItemDesc))

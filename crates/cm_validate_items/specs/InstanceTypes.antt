@@ -1,5 +1,5 @@
 -- The types of instances.
-use Rattle.cm_types_placed.specs.declared.instances.InstanceType.{InstanceType}
+use Rattle.cm_types_arena.specs.declared.instances.InstanceType.{InstanceType}
 use Rattle.cm_validate_items.specs.declared.items.InstanceItems.{InstanceItems}
 
 -- the type whose items these are

@@ -5,10 +5,10 @@ use Rattle.std.specs.BTreeMap.{BTreeMap, get_by_text}
 use Rattle.std.specs.Str.{bytes_eq}
 use Rattle.std.specs.declared.alloc.Global.{Global}
 use Rattle.std.specs.declared.string.String.{String}
-use Rattle.cm_types_placed.specs.declared.instances.InstanceType.{InstanceType}
-use Rattle.cm_types_placed.specs.declared.instances.Item.{Item}
-use Rattle.cm_types_placed.specs.declared.instances.ItemDesc.{ItemDesc}
-use Rattle.cm_types_placed.specs.declared.instances.ItemDesc.TheVariants as item
+use Rattle.cm_types_arena.specs.declared.instances.InstanceType.{InstanceType}
+use Rattle.cm_types_arena.specs.declared.instances.Item.{Item}
+use Rattle.cm_types_arena.specs.declared.instances.ItemDesc.{ItemDesc}
+use Rattle.cm_types_arena.specs.declared.instances.ItemDesc.TheVariants as item
 
 -- the first item of this name, with its number, which are counted from `next` on
 abbrev pub item_named : ℕ → List Item → List ℕ → Option (ℕ × ItemDesc)

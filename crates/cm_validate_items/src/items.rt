@@ -5,7 +5,7 @@ ghost use Rattle.std.specs.BTreeMap.{get_by_text};
 ghost use Rattle.std.specs.Str.{bytes_eq};
 ghost use Rattle.cm_validate_items.specs.Items.{AreFound, fresh_at, fresh_from};
 
-use cm_types_placed::{InstanceType, Item, ItemDesc};
+use cm_types_arena::{InstanceType, Item, ItemDesc};
 use std::alloc::{AllocError, Global};
 use std::collections::BTreeMap;
 use std::rc::Rc;

@@ -14,8 +14,8 @@ use Rattle.cm_types.specs.declared.def_types.PrimValType.TheVariants as prim
 use Rattle.cm_types.specs.DefTypes.{DefValTypeTree, FuncTypeTree, primitive, record_of, variant_of, list_of, fixed_list_of, tuple_of, flags_of, enum_of, option_of, result_of, own_of, borrow_of}
 use Rattle.cm_types.specs.Types.{Ty, FuncTy, Fields, Cases, bool, signed, unsigned, char, string, list, fixed_list, fields, cases, flags, own, borrow, no_fields, field, no_cases, plain, carrying, record_type, tuple_type, variant_type, option_type, result_type}
 use Rattle.cm_types.specs.TypeTrees.{case_before, plain_from}
-use Rattle.cm_types_resources.specs.Moves.{moved as moved_range}
-use Rattle.cm_types_resources.specs.Replaced.{replaced, replaced_fields, replaced_cases, replaced_func}
+use Rattle.cm_types_arena.specs.Moves.{moved as moved_range}
+use Rattle.cm_types_arena.specs.Replaced.{replaced, replaced_fields, replaced_cases, replaced_func}
 use Rattle.cm_validate_model.specs.Definitions.{TypeDef, value, func_type, resource, instance_type, faulty, InstanceTy}
 use Rattle.cm_validate_model.specs.Moves.{moved, moved_id, moved_type, moved_fields, moved_cases, moved_func}
 use Rattle.cm_validate_model.specs.Scopes.{resource_id, value_in, resource_in, primitive_type, value_of, both, payload_of, fields_in, parts_in, cases_in, option_cases, result_cases, handle_of, value_defined, func_defined, value_def_of, func_def_of}

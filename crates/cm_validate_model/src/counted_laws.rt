@@ -4,8 +4,8 @@
 ghost use Rattle.std.specs.Prelude.{◌≡◌, ◌+◌, ℕ, List, map};
 ghost use Rattle.cm_binary_model.specs.Trees.{SectionTree};
 ghost use Rattle.cm_types.specs.Types.{FuncTy, Ty};
-ghost use Rattle.cm_types_resources.specs.Moves.{moved as moved_range};
-ghost use Rattle.cm_types_resources.specs.Replaced.{replaced, replaced_func};
+ghost use Rattle.cm_types_arena.specs.Moves.{moved as moved_range};
+ghost use Rattle.cm_types_arena.specs.Replaced.{replaced, replaced_func};
 ghost use Rattle.cm_validate_model.specs.Definitions.{InstanceTy};
 ghost use Rattle.cm_validate_model.specs.Items.{Item};
 ghost use Rattle.cm_validate_model.specs.Moves.{moved, moved_func, moved_type};

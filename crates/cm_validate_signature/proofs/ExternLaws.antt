@@ -8,13 +8,13 @@ use Rattle.std.specs.declared.rc.Rc.{Rc}
 use Rattle.cm_binary_model.specs.Trees.{SectionTree}
 use Rattle.cm_types.specs.Signatures.{NamedExtern, SignatureTy, instance}
 use Rattle.cm_types.specs.Types.{Ty, FuncTy}
-use Rattle.cm_types_resources.specs.Replaced.{replaced, replaced_func}
-use Rattle.cm_types_placed.specs.Instances.{items_of}
-use Rattle.cm_types_placed.specs.Placed.{moved_by}
-use Rattle.cm_types_placed.specs.declared.instances.InstanceType.{InstanceType}
-use Rattle.cm_types_placed.specs.Externs.{extern_of, is_extern_there}
-use Rattle.cm_types_placed.specs.declared.externs.Extern.{Extern}
-use Rattle.cm_types_placed.specs.declared.externs.ExternDesc.TheVariants as desc
+use Rattle.cm_types_arena.specs.Replaced.{replaced, replaced_func}
+use Rattle.cm_types_arena.specs.Instances.{items_of}
+use Rattle.cm_types_arena.specs.Placed.{moved_by}
+use Rattle.cm_types_arena.specs.declared.instances.InstanceType.{InstanceType}
+use Rattle.cm_types_arena.specs.Externs.{extern_of, is_extern_there}
+use Rattle.cm_types_arena.specs.declared.externs.Extern.{Extern}
+use Rattle.cm_types_arena.specs.declared.externs.ExternDesc.TheVariants as desc
 use Rattle.cm_validate_model.specs.Spaces.{Spaces, spaces_of}
 use Rattle.cm_validate_model.specs.Valid.{IsValid}
 use Rattle.cm_validate_items.specs.Shared.{AreShared}

@@ -7,13 +7,13 @@ use Rattle.std.specs.Option.{is_some}
 use Rattle.std.specs.Prelude.{not}
 use Rattle.cm_types.specs.Signatures.{NamedItem}
 use Rattle.cm_types.specs.Types.{Ty, FuncTy}
-use Rattle.cm_types_resources.specs.Replaced.{replaced, replaced_func}
-use Rattle.cm_types_resources.specs.declared.moves.Move.{Move}
-use Rattle.cm_types_placed.specs.Instances.{are_items_there, is_desc_there, item_of, items_of, replaced_item}
-use Rattle.cm_types_placed.specs.Placed.{is_there, moved_by}
-use Rattle.cm_types_placed.specs.declared.instances.Item.{Item}
-use Rattle.cm_types_placed.specs.declared.instances.ItemDesc.{ItemDesc}
-use Rattle.cm_types_placed.specs.declared.instances.ItemDesc.TheVariants as item
+use Rattle.cm_types_arena.specs.Replaced.{replaced, replaced_func}
+use Rattle.cm_types_arena.specs.declared.moves.Move.{Move}
+use Rattle.cm_types_arena.specs.Instances.{are_items_there, is_desc_there, item_of, items_of, replaced_item}
+use Rattle.cm_types_arena.specs.Placed.{is_there, moved_by}
+use Rattle.cm_types_arena.specs.declared.instances.Item.{Item}
+use Rattle.cm_types_arena.specs.declared.instances.ItemDesc.{ItemDesc}
+use Rattle.cm_types_arena.specs.declared.instances.ItemDesc.TheVariants as item
 use Rattle.cm_types.specs.Signatures.{ItemTy, func_item, equal_type, equal_resource, fresh_resource}
 use Rattle.cm_validate_model.specs.Declarations.{with_item}
 use Rattle.cm_validate_model.specs.Spaces.{item_of_member, items_of_members}

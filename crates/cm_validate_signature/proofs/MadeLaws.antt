@@ -13,7 +13,7 @@ use Rattle.std.proofs.lemmas.Bool.{cases_Bool}
 use Rattle.std.proofs.lemmas.Map.Lookups.{exact_unsigned}
 use Rattle.std.proofs.lemmas.Option.{slice_get-map, slice_get_read}
 use Rattle.cm_types.specs.Types.{Ty, FuncTy}
-use Rattle.cm_types_placed.specs.declared.instances.InstanceType.{InstanceType}
+use Rattle.cm_types_arena.specs.declared.instances.InstanceType.{InstanceType}
 use Rattle.cm_validate_model.specs.Definitions.{NamedExport, NamedMember, exported_instance}
 use Rattle.cm_validate_model.specs.Spaces.{Spaces}
 use Rattle.cm_validate_items.specs.Shared.{AreShared, exported_instance_in}

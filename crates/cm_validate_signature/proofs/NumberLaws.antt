@@ -4,14 +4,14 @@ use Rattle.std.specs.Option.{option_and_then, option_map}
 use Rattle.std.proofs.lemmas.Option.{slice_get-map, slice_get_within}
 use Rattle.cm_types.specs.Signatures.{NamedExtern, NamedItem, instance}
 use Rattle.cm_types.specs.Types.{FuncTy, Ty}
-use Rattle.cm_types_placed.specs.Externs.{extern_desc_of, extern_of}
-use Rattle.cm_types_placed.specs.Instances.{item_of, replaced_item}
-use Rattle.cm_types_placed.specs.Placed.{moved_by}
-use Rattle.cm_types_placed.specs.declared.externs.Extern.{Extern}
-use Rattle.cm_types_placed.specs.declared.externs.ExternDesc.{ExternDesc}
-use Rattle.cm_types_placed.specs.declared.externs.ExternDesc.TheVariants as extern
-use Rattle.cm_types_placed.specs.declared.instances.Item.{Item}
-use Rattle.cm_types_resources.specs.Replaced.{Standing}
+use Rattle.cm_types_arena.specs.Externs.{extern_desc_of, extern_of}
+use Rattle.cm_types_arena.specs.Instances.{item_of, replaced_item}
+use Rattle.cm_types_arena.specs.Placed.{moved_by}
+use Rattle.cm_types_arena.specs.declared.externs.Extern.{Extern}
+use Rattle.cm_types_arena.specs.declared.externs.ExternDesc.{ExternDesc}
+use Rattle.cm_types_arena.specs.declared.externs.ExternDesc.TheVariants as extern
+use Rattle.cm_types_arena.specs.declared.instances.Item.{Item}
+use Rattle.cm_types_arena.specs.Replaced.{Standing}
 use Rattle.cm_types_signatures.specs.Listed.{names_of_desc, names_of_named}
 use Rattle.cm_types_signatures.specs.Numbered.{AreAlike, names_of_extern, names_of_items, number_in}
 use Rattle.cm_validate_items.specs.Shared.{AreShared, IsImportOf, exported_instance_in, export_at, import_type_in, item_from}

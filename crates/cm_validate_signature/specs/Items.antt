@@ -2,11 +2,11 @@
 -- equal to one of the component (Explainer.md, "Import and Export Definitions").
 use Rattle.std.specs.Prelude.{ℕ, List}
 use Rattle.std.specs.Borrow.{Bor}
-use Rattle.cm_types_resources.specs.declared.moves.Move.{Move}
-use Rattle.cm_types_placed.specs.declared.instances.Item.{Item}
-use Rattle.cm_types_placed.specs.declared.instances.ItemDesc.{ItemDesc}
-use Rattle.cm_types_placed.specs.declared.instances.ItemDesc.TheVariants as item
-use Rattle.cm_types_placed.specs.declared.placed.Placed.{Placed}
+use Rattle.cm_types_arena.specs.declared.moves.Move.{Move}
+use Rattle.cm_types_arena.specs.declared.instances.Item.{Item}
+use Rattle.cm_types_arena.specs.declared.instances.ItemDesc.{ItemDesc}
+use Rattle.cm_types_arena.specs.declared.instances.ItemDesc.TheVariants as item
+use Rattle.cm_types_arena.specs.declared.placed.Placed.{Placed}
 use Rattle.cm_validate_entries.specs.Entries.{moved_number, moved_place}
 use Rattle.cm_validate_entries.specs.declared.entries.FuncEntry.{FuncEntry}
 use Rattle.cm_validate_entries.specs.declared.entries.FuncEntry.TheVariants as func

@@ -8,11 +8,11 @@ use Rattle.std.specs.Ordering.{nat_cmp}
 use Rattle.std.specs.declared.alloc.Global.{Global}
 use Rattle.std.specs.declared.rc.Rc.{Rc}
 use Rattle.cm_types.specs.Types.{FuncTy, Ty}
-use Rattle.cm_types_placed.specs.Instances.{are_items_there, items_of}
-use Rattle.cm_types_placed.specs.declared.instances.InstanceType.{InstanceType}
-use Rattle.cm_types_placed.specs.Externs.{extern_desc_of, extern_of, is_extern_there}
-use Rattle.cm_types_placed.specs.declared.externs.Extern.{Extern}
-use Rattle.cm_types_placed.specs.declared.externs.ExternDesc.{ExternDesc}
+use Rattle.cm_types_arena.specs.Instances.{are_items_there, items_of}
+use Rattle.cm_types_arena.specs.declared.instances.InstanceType.{InstanceType}
+use Rattle.cm_types_arena.specs.Externs.{extern_desc_of, extern_of, is_extern_there}
+use Rattle.cm_types_arena.specs.declared.externs.Extern.{Extern}
+use Rattle.cm_types_arena.specs.declared.externs.ExternDesc.{ExternDesc}
 use Rattle.cm_validate_model.specs.Definitions.{NamedMember, exported_instance}
 use Rattle.cm_validate_model.specs.Spaces.{Spaces, items_of_members}
 use Rattle.cm_validate_entries.specs.ComponentSpaces.{export_def, exported_def, is_exported_there}

@@ -10,8 +10,8 @@ ghost use Rattle.cm_validate_signature.specs.Made.{IsDescOf, IsExternOf};
 
 use crate::items::func_place;
 use crate::made::Made;
-use cm_types_placed::laws::unmoved;
-use cm_types_placed::{Extern, ExternDesc};
+use cm_types_arena::placed_laws::unmoved;
+use cm_types_arena::{Extern, ExternDesc};
 use cm_validate_entries::{ExportEntry, ExportedEntry};
 use cm_validate_items::Shared;
 use std::alloc::{AllocError, Global};

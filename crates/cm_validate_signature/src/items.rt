@@ -2,7 +2,7 @@
 
 ghost use Rattle.std.specs.Prelude.{◌≡◌, ℕ, IfOk, List, map, true};
 ghost use Rattle.cm_types.specs.Types.{FuncTy, Ty};
-ghost use Rattle.cm_types_placed.specs.Instances.{are_items_there, items_of};
+ghost use Rattle.cm_types_arena.specs.Instances.{are_items_there, items_of};
 ghost use Rattle.cm_validate_names.specs.NameMaps.{entries_of};
 ghost use Rattle.cm_validate_model.specs.Spaces.{items_of_members};
 ghost use Rattle.cm_validate_entries.specs.Entries.{are_members_there, members_of};
@@ -11,8 +11,7 @@ ghost use Rattle.cm_validate_signature.specs.Items.{func_place, member_desc, mem
 ghost use Rattle.cm_validate_signature.specs.Items.{moved_desc, moved_item};
 
 use cm_types::{ExternName, ResourceId};
-use cm_types_placed::{Item, ItemDesc, Placed};
-use cm_types_resources::{Move, Replacement};
+use cm_types_arena::{Item, ItemDesc, Move, Placed, Replacement};
 use cm_validate_entries::{FuncEntry, InstanceEntry, MemberEntry};
 use cm_validate_names::NameMap;
 use std::alloc::{AllocError, Global};

@@ -2,12 +2,12 @@
 
 ghost use Rattle.std.specs.Prelude.{◌≡◌, ℕ, IfOk, List, true};
 ghost use Rattle.cm_types.specs.Types.{FuncTy, Ty};
-ghost use Rattle.cm_types_placed.specs.Instances.{are_items_there, items_of};
+ghost use Rattle.cm_types_arena.specs.Instances.{are_items_there, items_of};
 ghost use Rattle.cm_validate_model.specs.Spaces.{items_of_members};
 ghost use Rattle.cm_validate_entries.specs.Entries.{are_members_there, members_of};
 
 use crate::items::instance_items;
-use cm_types_placed::InstanceType;
+use cm_types_arena::InstanceType;
 use cm_validate_entries::InstanceEntry;
 use std::alloc::{AllocError, Global};
 use std::collections::BTreeMap;

@@ -5,7 +5,7 @@ use Rattle.std.specs.Str.{bytes_eq}
 use Rattle.cm_types.specs.declared.resource.ResourceId.{ResourceId}
 use Rattle.cm_types.specs.Holds.{holds, is_borrow}
 use Rattle.cm_types.specs.Types.{Ty, Fields, FuncTy, bool, signed, unsigned, char, string, list, fixed_list, fields, cases, flags, own, borrow, no_fields, field}
-use Rattle.cm_types_resources.specs.Replaced.{Standing, replaced, replaced_fields, replaced_func}
+use Rattle.cm_types_arena.specs.Replaced.{Standing, replaced, replaced_fields, replaced_func}
 use Rattle.cm_validate_sketches.specs.declared.sketches.FuncSketch.{FuncSketch}
 use Rattle.cm_validate_sketches.specs.Sketches.{func_replaced, own_result, resource_borrowed, resource_owned, self_borrow, sketch_func, sketch_holding, sketch_value, value_replaced}
 

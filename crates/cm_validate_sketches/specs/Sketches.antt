@@ -5,7 +5,7 @@ use Rattle.std.specs.Str.{bytes_eq}
 use Rattle.cm_types.specs.declared.resource.ResourceId.{ResourceId}
 use Rattle.cm_types.specs.Holds.{holds, is_borrow}
 use Rattle.cm_types.specs.Types.{Ty, Fields, FuncTy, own, borrow, no_fields, field}
-use Rattle.cm_types_resources.specs.Replaced.{Standing}
+use Rattle.cm_types_arena.specs.Replaced.{Standing}
 use Rattle.cm_validate_model.specs.Definitions.{TypeDef, value, func_type, resource, instance_type}
 use Rattle.cm_validate_model.specs.Definitions.{faulty}
 use Rattle.cm_validate_model.specs.Scopes.{resource_id}

@@ -5,7 +5,7 @@ ghost use Rattle.cm_types.specs.Funcs.{func_of};
 ghost use Rattle.cm_types.specs.TypeTrees.{type_of};
 ghost use Rattle.cm_types_arena.specs.Places.{funcs_of, types_of};
 ghost use Rattle.cm_types_arena.specs.TypeDefs.{type_at};
-ghost use Rattle.cm_types_placed.specs.Placed.{is_there, placed_func, placed_type};
+ghost use Rattle.cm_types_arena.specs.Placed.{is_there, placed_func, placed_type};
 ghost use Rattle.cm_validate_types.specs.Entries.{def_of, is_entry_there};
 ghost use Rattle.cm_validate_sketches.specs.Sketches.{own_result, resource_borrowed};
 ghost use Rattle.cm_validate_sketches.specs.Sketches.{resource_owned};
@@ -14,9 +14,8 @@ ghost use Rattle.cm_validate_sketches.specs.Sketches.{sketch_value};
 
 use crate::sketches::{FuncSketch, Sketch, ValueSketch, resource_id};
 use cm_types::{Func, ResourceId, TypeNode};
-use cm_types_arena::Types;
-use cm_types_placed::Placed;
-use cm_types_resources::laws::what_stays;
+use cm_types_arena::laws::what_stays;
+use cm_types_arena::{Placed, Types};
 use cm_validate_types::TypeEntry;
 
 /// The sketch of the value type at a place.

@@ -3,13 +3,12 @@
 ghost use Rattle.std.specs.Prelude.{◌≡◌};
 ghost use Rattle.cm_validate_model.specs.Scopes.{resource_id};
 ghost use Rattle.std.specs.Option.{option_map};
-ghost use Rattle.cm_types_placed.specs.Placed.{moved_by};
+ghost use Rattle.cm_types_arena.specs.Placed.{moved_by};
 ghost use Rattle.cm_validate_sketches.specs.Sketches.{borrowed, func_replaced, holds_borrow, owned};
 ghost use Rattle.cm_validate_sketches.specs.Sketches.{sketch_sort, value_replaced};
 
 use cm_types::ResourceId;
-use cm_types_placed::moved_resource;
-use cm_types_resources::Move;
+use cm_types_arena::{Move, moved_resource};
 use cm_validate_model::TypeSort;
 
 /// What is kept of a value type: whether it is a handle, and of which resource; else whether it

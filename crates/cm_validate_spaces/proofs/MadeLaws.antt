@@ -5,8 +5,8 @@ use Rattle.std.proofs.lemmas.List.{get_or_append_left, length-map, map-append}
 use Rattle.std.proofs.lemmas.Option.{slice_get-map}
 use Rattle.std.specs.List.{list_all, slice_get}
 use Rattle.cm_types.specs.Types.{FuncTy}
-use Rattle.cm_types_resources.specs.Replaced.{replaced_func}
-use Rattle.cm_types_placed.specs.Placed.{moved_by}
+use Rattle.cm_types_arena.specs.Replaced.{replaced_func}
+use Rattle.cm_types_arena.specs.Placed.{moved_by}
 use Rattle.cm_validate_model.specs.Definitions.{CoreFuncDef, guest, lowered, making}
 use Rattle.cm_validate_model.specs.Options.{is_guest}
 use Rattle.cm_validate_types.specs.TypeScopes.{Extends}

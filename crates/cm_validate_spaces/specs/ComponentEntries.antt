@@ -3,7 +3,7 @@ use Rattle.std.specs.Prelude.{◌≡◌, ℕ, true, List, length, map}
 use Rattle.std.specs.List.{list_all}
 use Rattle.cm_types.specs.Types.{Ty, FuncTy}
 use Rattle.cm_types_arena.specs.Places.{funcs_of, types_of}
-use Rattle.cm_types_placed.specs.Externs.{extern_of, is_extern_there}
+use Rattle.cm_types_arena.specs.Externs.{extern_of, is_extern_there}
 use Rattle.cm_validate_model.specs.Definitions.{CoreFuncDef}
 use Rattle.cm_validate_model.specs.Spaces.{Spaces}
 use Rattle.cm_validate_core.specs.Entries.{func_of}

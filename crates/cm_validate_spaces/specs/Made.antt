@@ -1,7 +1,7 @@
 -- The core functions that canonical definitions made (Explainer.md, "Canonical Definitions").
 use Rattle.std.specs.Prelude.{◌≡◌, ℕ, Bool, true, false, List, Some, slice_get}
 use Rattle.cm_types.specs.Types.{FuncTy}
-use Rattle.cm_types_placed.specs.Placed.{placed_func, is_there}
+use Rattle.cm_types_arena.specs.Placed.{placed_func, is_there}
 use Rattle.cm_validate_model.specs.Definitions.{CoreFuncDef, guest, lowered, making, dropping}
 use Rattle.cm_validate_model.specs.Definitions.{reading}
 use Rattle.cm_validate_model.specs.Options.{is_guest}

@@ -3,8 +3,7 @@
 
 use crate::made::{CoreFuncEntry, MadeFunc};
 use crate::spaces::IndexSpaces;
-use cm_types_arena::Types;
-use cm_types_placed::Extern;
+use cm_types_arena::{Extern, Types};
 use cm_validate_core::CoreFunc;
 use cm_validate_entries::{ComponentLists, ExportEntry};
 use cm_validate_items::{Resource, Resources};
@@ -75,7 +74,7 @@ impl<'a> ComponentEntries<'a> {
     ghost use Rattle.std.specs.List.{list_all};
     ghost use Rattle.std.specs.Option.{option_map};
     ghost use Rattle.cm_types_arena.specs.Places.{funcs_of, types_of};
-    ghost use Rattle.cm_types_placed.specs.Externs.{extern_of, is_extern_there};
+    ghost use Rattle.cm_types_arena.specs.Externs.{extern_of, is_extern_there};
     ghost use Rattle.cm_validate_model.specs.Spaces.{Spaces};
     ghost use Rattle.cm_validate_items.specs.Ranges.{resource_def};
     ghost use Rattle.cm_validate_entries.specs.ComponentSpaces.{export_def, is_exported_there};

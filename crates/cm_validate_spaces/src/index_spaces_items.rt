@@ -7,7 +7,7 @@ use cm_types::OuterType;
 use cm_validate_core::laws::others_add_nothing as core_stays;
 use cm_validate_entries::Aliased;
 use cm_validate_entries::laws::{entries_stay, others_add_nothing as component_stays};
-use cm_validate_inline_exports::add_instance;
+use cm_validate_instances::add_instance;
 use cm_validate_model::ValidReason;
 use cm_validate_types::TypeEntry;
 use std::alloc::{AllocError, Global};

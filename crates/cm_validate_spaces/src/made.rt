@@ -1,7 +1,7 @@
 //! The core functions that canonical definitions make.
 
 use cm_binary_model::CanonOption;
-use cm_types_placed::Placed;
+use cm_types_arena::Placed;
 use cm_validate_core::GuestExport;
 
 /// A core function that a canonical definition made (Explainer.md, "Canonical Definitions").

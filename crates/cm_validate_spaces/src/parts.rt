@@ -7,8 +7,7 @@ use crate::checked::Checked;
 use crate::exported::func_under;
 use crate::{ComponentExterns, CoreFuncEntry, ExportEntry, FuncEntry};
 use cm_binary_model::Component;
-use cm_types_arena::Types;
-use cm_types_placed::Extern;
+use cm_types_arena::{Extern, Types};
 use cm_validate_items::Resource;
 
 impl<'a> Checked<'a> {
@@ -16,7 +15,7 @@ impl<'a> Checked<'a> {
     ghost use Rattle.std.specs.List.{list_all};
     ghost use Rattle.std.specs.Option.{option_map};
     ghost use Rattle.cm_types_arena.specs.Places.{funcs_of, types_of};
-    ghost use Rattle.cm_types_placed.specs.Externs.{extern_of, is_extern_there};
+    ghost use Rattle.cm_types_arena.specs.Externs.{extern_of, is_extern_there};
     ghost use Rattle.cm_validate_items.specs.Ranges.{resource_def};
     ghost use Rattle.cm_validate_entries.specs.ComponentSpaces.{export_def, is_exported_there};
     ghost use Rattle.cm_validate_spaces.specs.cm_validate_entries.Entries.{func_def, is_func_there};

@@ -5,7 +5,7 @@ use cm_layout_placed::laws::first_layouts_stay;
 use cm_types::{Declaration, DefType, DefValType, FuncType};
 use cm_validate_core::laws::others_add_nothing as core_stays;
 use cm_validate_entries::laws::{entries_stay, others_add_nothing as component_stays};
-use cm_validate_inline_exports::define_instance;
+use cm_validate_instances::define_instance;
 use cm_validate_model::ValidReason;
 use cm_validate_model::counted_laws::resources_are_counted;
 use std::alloc::{AllocError, Global};

@@ -17,14 +17,14 @@ use Rattle.cm_types.specs.Limits.{nodes_of, nodes_of_fields, nodes_of_cases}
 use Rattle.cm_types.specs.Types.{Ty, FuncTy, Fields, Cases, bool, fields, cases, record_type, tuple_type, variant_type, option_type, result_type, list, fixed_list, own, borrow}
 use Rattle.cm_types.specs.TypeTrees.{TypedLabel, CaseOf, fields_from, parts_from, cases_from, case_before, plain_from}
 use Rattle.cm_types_arena.specs.TypeDefs.{type_at}
-use Rattle.cm_types_placed.specs.Placed.{moved_by}
-use Rattle.cm_types_resources.specs.Replaced.{Standing, replaced}
-use Rattle.cm_types_resources.specs.declared.moves.Move.{Move}
+use Rattle.cm_types_arena.specs.Placed.{moved_by}
+use Rattle.cm_types_arena.specs.Replaced.{Standing, replaced}
+use Rattle.cm_types_arena.specs.declared.moves.Move.{Move}
 use Rattle.cm_validate_model.specs.Definitions.{TypeDef, value}
 use Rattle.cm_validate_model.specs.Scopes.{value_in, resource_in, resource_id, option_cases, result_cases}
 use Rattle.cm_validate_types.specs.declared.entries.TypeEntry.{TypeEntry}
 use Rattle.cm_validate_types.specs.declared.entries.TypeEntry.TheVariants as entry
-use Rattle.cm_types_placed.specs.declared.placed.Placed.{Placed}
+use Rattle.cm_types_arena.specs.declared.placed.Placed.{Placed}
 use Rattle.cm_validate_model.specs.declared.sorts.TypeSort.{TypeSort}
 use Rattle.cm_validate_model.specs.declared.sorts.TypeSort.TheVariants as sort
 use Rattle.cm_validate_types.specs.Entries.{def_of, entry_sort, unmoved_def_of}

@@ -26,13 +26,13 @@ use Rattle.cm_validate_model.specs.Definitions.{value, func_type, instance_type,
 use Rattle.cm_validate_model.specs.Scopes.{value_in, primitive_type}
 use Rattle.cm_validate_types.specs.declared.entries.TypeEntry.{TypeEntry}
 use Rattle.cm_validate_types.specs.declared.entries.TypeEntry.TheVariants as entry
-use Rattle.cm_types_placed.specs.declared.instances.Item.{Item}
-use Rattle.cm_types_placed.specs.declared.instances.ItemDesc.{ItemDesc}
-use Rattle.cm_types_placed.specs.declared.instances.ItemDesc.TheVariants as item
-use Rattle.cm_types_placed.specs.Instances.{desc_of, items_of, is_desc_there, are_items_there}
-use Rattle.cm_types_placed.specs.Placed.{moved_by, placed_func, placed_type}
-use Rattle.cm_types_placed.specs.declared.placed.Placed.{Placed}
-use Rattle.cm_types_resources.specs.Replaced.{Standing, replaced, replaced_func}
+use Rattle.cm_types_arena.specs.declared.instances.Item.{Item}
+use Rattle.cm_types_arena.specs.declared.instances.ItemDesc.{ItemDesc}
+use Rattle.cm_types_arena.specs.declared.instances.ItemDesc.TheVariants as item
+use Rattle.cm_types_arena.specs.Instances.{desc_of, items_of, is_desc_there, are_items_there}
+use Rattle.cm_types_arena.specs.Placed.{moved_by, placed_func, placed_type}
+use Rattle.cm_types_arena.specs.declared.placed.Placed.{Placed}
+use Rattle.cm_types_arena.specs.Replaced.{Standing, replaced, replaced_func}
 use Rattle.cm_validate_types.specs.Entries.{def_of, entry_sort, is_entry_there, in_arena}
 use Rattle.cm_validate_types.specs.Expansion.{value_or_bool}
 use Rattle.cm_validate_types.specs.TypeScopes.{Extends}

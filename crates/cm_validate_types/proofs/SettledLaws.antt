@@ -12,9 +12,9 @@ use Rattle.cm_types.specs.DefTypes.{DefValTypeTree, FuncTypeTree}
 use Rattle.cm_types.specs.Limits.{nodes_of, IsWithinLimits}
 use Rattle.cm_types.specs.Types.{Ty, FuncTy, bool}
 use Rattle.cm_types_arena.specs.TypeDefs.{type_at, params_type}
-use Rattle.cm_types_placed.specs.Placed.{moved_by}
-use Rattle.cm_types_placed.specs.declared.placed.Placed.{Placed}
-use Rattle.cm_types_resources.specs.Replaced.{Standing, replaced}
+use Rattle.cm_types_arena.specs.Placed.{moved_by}
+use Rattle.cm_types_arena.specs.declared.placed.Placed.{Placed}
+use Rattle.cm_types_arena.specs.Replaced.{Standing, replaced}
 use Rattle.cm_types.specs.declared.def_types.ValType.{ValType}
 use Rattle.cm_validate_model.specs.declared.fault.ValidReason.{ValidReason}
 use Rattle.cm_validate_model.specs.declared.fault.ValidReason.TheVariants as reason

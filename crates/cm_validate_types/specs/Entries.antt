@@ -3,10 +3,10 @@ use Rattle.std.specs.Prelude.{ℕ, Bool, true, ◌&&◌, is_none, List, length}
 use Rattle.std.specs.List.{list_all}
 use Rattle.cm_types.specs.Types.{Ty, FuncTy}
 use Rattle.cm_types_arena.specs.TypeDefs.{type_at}
-use Rattle.cm_types_placed.specs.Instances.{items_of, are_items_there}
-use Rattle.cm_types_placed.specs.Placed.{placed_type, placed_func, is_there}
-use Rattle.cm_types_placed.specs.declared.instances.InstanceType.{InstanceType}
-use Rattle.cm_types_placed.specs.declared.placed.Placed.{Placed}
+use Rattle.cm_types_arena.specs.Instances.{items_of, are_items_there}
+use Rattle.cm_types_arena.specs.Placed.{placed_type, placed_func, is_there}
+use Rattle.cm_types_arena.specs.declared.instances.InstanceType.{InstanceType}
+use Rattle.cm_types_arena.specs.declared.placed.Placed.{Placed}
 use Rattle.cm_validate_model.specs.Definitions.{TypeDef, value, func_type, resource, instance_type}
 use Rattle.cm_validate_model.specs.Definitions.{InstanceTy}
 use Rattle.cm_validate_model.specs.declared.sorts.TypeSort.{TypeSort}

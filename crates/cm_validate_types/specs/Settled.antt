@@ -3,11 +3,11 @@
 use Rattle.std.specs.Prelude.{⊤, ℕ, List, Option, Some, None}
 use Rattle.std.specs.List.{AllByRecursion}
 use Rattle.cm_types.specs.Types.{Ty, FuncTy}
-use Rattle.cm_types_resources.specs.declared.moves.Move.{Move}
-use Rattle.cm_types_placed.specs.Placed.{placed_type, placed_func}
-use Rattle.cm_types_placed.specs.declared.instances.Item.{Item}
-use Rattle.cm_types_placed.specs.declared.instances.ItemDesc.{ItemDesc}
-use Rattle.cm_types_placed.specs.declared.instances.ItemDesc.TheVariants as item
+use Rattle.cm_types_arena.specs.declared.moves.Move.{Move}
+use Rattle.cm_types_arena.specs.Placed.{placed_type, placed_func}
+use Rattle.cm_types_arena.specs.declared.instances.Item.{Item}
+use Rattle.cm_types_arena.specs.declared.instances.ItemDesc.{ItemDesc}
+use Rattle.cm_types_arena.specs.declared.instances.ItemDesc.TheVariants as item
 use Rattle.cm_validate_model.specs.Counted.{IsCounted, IsFuncCounted}
 use Rattle.cm_validate_items.specs.InstanceTypes.{instance_type_of}
 use Rattle.cm_validate_types.specs.declared.entries.TypeEntry.{TypeEntry}

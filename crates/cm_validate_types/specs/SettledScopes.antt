@@ -3,7 +3,7 @@
 use Rattle.std.specs.Prelude.{◌≡◌, ⊤, ℕ, List}
 use Rattle.std.specs.List.{AllByRecursion}
 use Rattle.cm_types.specs.Types.{Ty, FuncTy}
-use Rattle.cm_types_placed.specs.Placed.{placed_type, placed_func}
+use Rattle.cm_types_arena.specs.Placed.{placed_type, placed_func}
 use Rattle.cm_validate_model.specs.Counted.{IsCounted, IsFuncCounted}
 use Rattle.cm_validate_types.specs.declared.entries.TypeEntry.{TypeEntry}
 use Rattle.cm_validate_types.specs.declared.entries.TypeEntry.TheVariants as entry

@@ -6,7 +6,7 @@ ghost use Rattle.cm_validate_types.specs.Entries.{def_of, entry_sort, is_entry_t
 ghost use Rattle.cm_validate_types.specs.Settled.{IsEntrySettled};
 ghost use Rattle.cm_validate_types.specs.SettledScopes.{IsMovedCounted};
 
-use cm_types_placed::Placed;
+use cm_types_arena::Placed;
 use cm_validate_items::InstanceItems;
 use cm_validate_model::TypeSort;
 use std::alloc::AllocError;

@@ -3,8 +3,8 @@
 ghost use Rattle.std.specs.Prelude.{◌≡◌, ℕ, List, length, true};
 ghost use Rattle.std.specs.List.{AllByRecursion};
 ghost use Rattle.cm_types.specs.Types.{FuncTy, Ty};
-ghost use Rattle.cm_types_placed.specs.Instances.{are_items_there, items_of};
-ghost use Rattle.cm_types_placed.specs.declared.instances.Item.{Item};
+ghost use Rattle.cm_types_arena.specs.Instances.{are_items_there, items_of};
+ghost use Rattle.cm_types_arena.specs.declared.instances.Item.{Item};
 ghost use Rattle.cm_validate_model.specs.CountedSpaces.{IsDefCounted};
 ghost use Rattle.cm_validate_types.specs.declared.entries.TypeEntry.{TypeEntry};
 ghost use Rattle.cm_validate_types.specs.declared.scope.TypeScope.{TypeScope};

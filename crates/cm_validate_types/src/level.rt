@@ -4,8 +4,7 @@ ghost use Rattle.std.specs.Prelude.{◌≡◌, map};
 ghost use Rattle.cm_validate_types.specs.Entries.{entry_sort};
 
 use crate::entries::TypeEntry;
-use cm_types_placed::Placed;
-use cm_types_resources::Move;
+use cm_types_arena::{Move, Placed};
 use cm_validate_model::TypeSort;
 use std::alloc::{AllocError, Global};
 

@@ -2,11 +2,10 @@
 
 use crate::scope::TypeScope;
 use cm_types::{MAX_NODES, ValType};
+use cm_types_arena::laws::what_stays;
+use cm_types_arena::placed_laws::unmoved;
+use cm_types_arena::{Move, Placed};
 use cm_types_copies::push_replaced;
-use cm_types_placed::Placed;
-use cm_types_placed::laws::unmoved;
-use cm_types_resources::Move;
-use cm_types_resources::laws::what_stays;
 use std::alloc::{AllocError, Global};
 
 impl TypeScope {
@@ -14,8 +13,8 @@ impl TypeScope {
     ghost use Rattle.cm_types.specs.declared.def_types.ValType.{ValType as Used};
     ghost use Rattle.cm_types.specs.declared.limits.TheConstants.{MAX_NODES};
     ghost use Rattle.cm_types_arena.specs.TypeDefs.{type_at};
-    ghost use Rattle.cm_types_placed.specs.Placed.{moved_by};
-    ghost use Rattle.cm_types_resources.specs.Replaced.{replaced};
+    ghost use Rattle.cm_types_arena.specs.Placed.{moved_by};
+    ghost use Rattle.cm_types_arena.specs.Replaced.{replaced};
     ghost use Rattle.cm_validate_types.specs.TypeScopes.{arena_funcs, arena_types, own_types};
     ghost use Rattle.cm_validate_types.specs.SettledScopes.{StaysSettled};
     ghost use Rattle.cm_validate_types.specs.TypeScopes.{HasGrown, types_around};

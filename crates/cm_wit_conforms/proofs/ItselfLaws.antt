@@ -7,7 +7,7 @@ use Rattle.cm_types.specs.Resources.{same_resource}
 use Rattle.cm_types.specs.Types.{Ty, FuncTy, Fields, Cases, bool, signed, unsigned, char, string, list, fixed_list, fields, cases, flags, own, borrow, no_fields, field, no_cases, plain, carrying}
 use Rattle.cm_types.specs.Signatures.{ExternTy, ItemTy, NamedExtern, NamedItem, SignatureTy, func, instance, func_item, equal_type, equal_resource, fresh_resource}
 use Rattle.cm_types.specs.declared.resource.ResourceId.{ResourceId}
-use Rattle.cm_types_resources.specs.Replaced.{Standing, replaced, replaced_fields, replaced_cases, replaced_func}
+use Rattle.cm_types_arena.specs.Replaced.{Standing, replaced, replaced_fields, replaced_cases, replaced_func}
 use Rattle.cm_wit_conforms.specs.Comparisons.{Comparison, nothing, two_sorts, two_funcs, two_types, two_resources, Entry, entries, entries_from, extern_entries, extern_named, facing, item_entries, item_named, or_nothing, two_items}
 use Rattle.cm_wit_conforms.specs.Conformance.{AllFit, Conforms, Fits, have_mark, mark, meets_have, meets_world, world_mark}
 use Rattle.cm_wit_conforms.specs.Itself.{AllResources, AllFieldResources, AllCaseResources, IsNamed, HasNamed, HasItemNames, IsWellNamed}

@@ -5,7 +5,7 @@ use Rattle.std.proofs.Math.Path.{fun_ext}
 use Rattle.std.proofs.lemmas.Bool.Decides.{nat_tests}
 use Rattle.cm_types.specs.Types.{Ty, FuncTy}
 use Rattle.cm_types.specs.declared.resource.ResourceId.{ResourceId}
-use Rattle.cm_types_resources.specs.Replaced.{Standing, replaced, replaced_func}
+use Rattle.cm_types_arena.specs.Replaced.{Standing, replaced, replaced_func}
 use Rattle.cm_types_numbers.specs.Numbering.{Numbering, AreFuncNumbers, AreNumbers, number, number_func}
 use Rattle.cm_wit_conforms.specs.Comparisons.{Entry}
 use Rattle.cm_wit_conforms.specs.Conformance.{have_mark, mark, world_mark}

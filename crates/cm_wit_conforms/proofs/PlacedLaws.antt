@@ -4,8 +4,8 @@ use Rattle.std.specs.List.{slice_get}
 use Rattle.std.specs.Option.{option_and_then, option_map}
 use Rattle.cm_types.specs.Signatures.{ItemTy, NamedExtern, NamedItem}
 use Rattle.cm_types_arena.specs.declared.types.Types.{Types}
-use Rattle.cm_types_placed.specs.Instances.{replaced_desc, replaced_item}
-use Rattle.cm_types_placed.specs.Placed.{moved_by}
+use Rattle.cm_types_arena.specs.Instances.{replaced_desc, replaced_item}
+use Rattle.cm_types_arena.specs.Placed.{moved_by}
 use Rattle.cm_types_signatures.specs.Listed.{brought_items, by_of, desc_in, externs_listed, item_in, items_listed, names_of_desc}
 use Rattle.cm_types_signatures.specs.declared.externs.Externs.{Externs}
 use Rattle.cm_types_signatures.specs.declared.externs.Items.{Items}

@@ -6,7 +6,7 @@ use Rattle.std.specs.Str.{bytes_eq}
 use Rattle.cm_types.specs.Resources.{same_resource}
 use Rattle.cm_types.specs.Signatures.{NamedExtern, SignatureTy}
 use Rattle.cm_types.specs.declared.resource.ResourceId.{ResourceId}
-use Rattle.cm_types_resources.specs.Replaced.{Standing, replaced, replaced_func}
+use Rattle.cm_types_arena.specs.Replaced.{Standing, replaced, replaced_func}
 use Rattle.cm_wit_conforms.specs.Comparisons.{Comparison, nothing, two_sorts, two_funcs, two_types}
 use Rattle.cm_wit_conforms.specs.Comparisons.{two_resources, Entry, entries}
 use Rattle.cm_wit_conforms.specs.declared.fault.ConformList.{ConformList}

@@ -1,6 +1,6 @@
 -- The two sides of what is compared.
 use Rattle.std.specs.Prelude.{◌≡◌, List}
-use Rattle.cm_types_resources.specs.Replaced.{Standing}
+use Rattle.cm_types_arena.specs.Replaced.{Standing}
 use Rattle.cm_types_numbers.specs.Numbering.{numbering}
 use Rattle.cm_types_numbers.specs.PlacedNumbersTables.{KnowsPlaced}
 use Rattle.cm_wit_conforms.specs.Comparisons.{Entry}

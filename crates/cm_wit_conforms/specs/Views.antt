@@ -2,12 +2,12 @@
 use Rattle.std.specs.Prelude.{ℕ, List, [], Option, Some, None, slice_get}
 use Rattle.std.specs.Option.{option_and_then, option_map}
 use Rattle.cm_types.specs.Signatures.{ItemTy, ExternTy}
-use Rattle.cm_types_resources.specs.declared.moves.Move.{Move}
+use Rattle.cm_types_arena.specs.declared.moves.Move.{Move}
 use Rattle.cm_types_arena.specs.Places.{types_of, funcs_of}
 use Rattle.cm_types_arena.specs.declared.types.Types.{Types}
-use Rattle.cm_types_placed.specs.Placed.{moved_by}
-use Rattle.cm_types_placed.specs.Instances.{desc_of, replaced_desc}
-use Rattle.cm_types_placed.specs.declared.instances.ItemDesc.{ItemDesc}
+use Rattle.cm_types_arena.specs.Placed.{moved_by}
+use Rattle.cm_types_arena.specs.Instances.{desc_of, replaced_desc}
+use Rattle.cm_types_arena.specs.declared.instances.ItemDesc.{ItemDesc}
 use Rattle.cm_types_numbers.specs.Moved.{brought_func, brought_type}
 use Rattle.cm_types_signatures.specs.Listed.{by_of, externs_listed, items_listed}
 use Rattle.cm_types_signatures.specs.declared.externs.Externs.{Externs}

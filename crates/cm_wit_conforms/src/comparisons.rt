@@ -3,8 +3,8 @@
 ghost use Rattle.std.specs.Prelude.{◌≡◌};
 ghost use Rattle.cm_types_arena.specs.Places.{funcs_of};
 ghost use Rattle.cm_types_arena.specs.declared.types.Types.{Types};
-ghost use Rattle.cm_types_placed.specs.Instances.{numbered};
-ghost use Rattle.cm_types_placed.specs.Placed.{moved_by, placed_func};
+ghost use Rattle.cm_types_arena.specs.Instances.{numbered};
+ghost use Rattle.cm_types_arena.specs.Placed.{moved_by, placed_func};
 ghost use Rattle.cm_types.specs.Signatures.{equal_resource, equal_type, fresh_resource};
 ghost use Rattle.cm_types.specs.Signatures.{func_item};
 ghost use Rattle.cm_wit_conforms.specs.Comparisons.{facing, two_funcs, two_items};
@@ -14,10 +14,9 @@ ghost use Rattle.cm_wit_conforms.specs.Views.{brought_desc, comparison_of, other
 
 use crate::fault::{ConformItem, ConformList, ConformReason};
 use cm_types::ResourceId;
+use cm_types_arena::laws::replacing;
+use cm_types_arena::{ItemDesc, Move, Placed, moved_resource};
 use cm_types_numbers::Brought;
-use cm_types_placed::{ItemDesc, Placed, moved_resource};
-use cm_types_resources::Move;
-use cm_types_resources::laws::replacing;
 
 /// What is held against what: the signature's stands first, then the world's.
 #[derive(Clone, Copy)]

@@ -4,7 +4,7 @@ ghost use Rattle.std.specs.Prelude.{◌≡◌, slice_get};
 ghost use Rattle.std.specs.Option.{option_and_then, option_map};
 ghost use Rattle.cm_types_arena.specs.Places.{funcs_of, types_of};
 ghost use Rattle.cm_types_arena.specs.declared.types.Types.{Types};
-ghost use Rattle.cm_types_placed.specs.Instances.{desc_of};
+ghost use Rattle.cm_types_arena.specs.Instances.{desc_of};
 ghost use Rattle.cm_wit_conforms.specs.Comparisons.{facing, or_nothing, two_items};
 ghost use Rattle.cm_wit_conforms.specs.Views.{brought_desc, comparison_of, entry_of, item_found};
 ghost use Rattle.cm_wit_conforms.specs.Views.{item_stands, other, own};
@@ -12,8 +12,7 @@ ghost use Rattle.cm_wit_lookups.specs.Places.{item_names, place_in};
 
 use crate::comparisons::{Comparison, PlacedComparison, facing_items};
 use crate::fault::{ConformItem, ConformList};
-use cm_types_placed::ItemDesc;
-use cm_types_resources::Move;
+use cm_types_arena::{ItemDesc, Move};
 use cm_types_signatures::Items;
 
 /// The items of the import or export at a place of a list, and those of the one of its name.

@@ -1,7 +1,7 @@
 //! Whether what is compared fits.
 
 ghost use Rattle.std.specs.Prelude.{◌≡◌, ◌↔◌, IfOk, IsTrue, List, OnOk};
-ghost use Rattle.cm_types_resources.specs.Replaced.{replaced, replaced_func};
+ghost use Rattle.cm_types_arena.specs.Replaced.{replaced, replaced_func};
 ghost use Rattle.cm_types_numbers.specs.Moved.{brought_func, brought_type};
 ghost use Rattle.cm_wit_conforms.specs.Comparisons.{Entry};
 ghost use Rattle.cm_wit_conforms.specs.Conformance.{Fits};
@@ -12,11 +12,10 @@ ghost use Rattle.cm_wit_conforms.specs.declared.judge.Side.{Side as Sided};
 use crate::comparisons::Comparison;
 use crate::pairs::{Pairs, mark};
 use cm_types::{ResourceId, same_resource};
-use cm_types_arena::Types;
+use cm_types_arena::{Replacement, Types};
 use cm_types_numbers::laws::numbers_stay;
 use cm_types_numbers::placed_numbers_laws::known_stays;
 use cm_types_numbers::{Brought, KnownPlaced, Numbers};
-use cm_types_resources::Replacement;
 use std::alloc::{AllocError, Global};
 
 /// The types of one side, with the pairs of its resources.

@@ -10,17 +10,17 @@ use Rattle.cm_types.specs.declared.resource.ResourceId.{ResourceId}
 use Rattle.cm_types_arena.specs.Places.{types_of, funcs_of}
 use Rattle.cm_types_arena.specs.TypeDefs.{func_at}
 use Rattle.cm_types_arena.specs.declared.types.Types.{Types}
-use Rattle.cm_types_resources.specs.Replaced.{replaced, replaced_func}
-use Rattle.cm_types_placed.specs.Placed.{moved_by}
-use Rattle.cm_types_placed.specs.Instances.{desc_of, is_desc_there}
-use Rattle.cm_types_placed.specs.declared.placed.Placed.{Placed}
+use Rattle.cm_types_arena.specs.Replaced.{replaced, replaced_func}
+use Rattle.cm_types_arena.specs.Placed.{moved_by}
+use Rattle.cm_types_arena.specs.Instances.{desc_of, is_desc_there}
+use Rattle.cm_types_arena.specs.declared.placed.Placed.{Placed}
 use Rattle.cm_types_signatures.specs.Shared.{are_shared_items_there, shared_item_of}
 use Rattle.cm_types_signatures.specs.SharedNames.{text_in, name_with}
 use Rattle.cm_types_signatures.specs.declared.names.Front.{Front}
 use Rattle.cm_types_signatures.specs.declared.names.Front.TheVariants as front
 use Rattle.cm_types_signatures.specs.declared.shared.SharedItem.{SharedItem}
-use Rattle.cm_types_placed.specs.declared.instances.ItemDesc.{ItemDesc}
-use Rattle.cm_types_placed.specs.declared.instances.ItemDesc.TheVariants as desc
+use Rattle.cm_types_arena.specs.declared.instances.ItemDesc.{ItemDesc}
+use Rattle.cm_types_arena.specs.declared.instances.ItemDesc.TheVariants as desc
 use Rattle.cm_wit_meanings.specs.declared.fault.MeaningFault.{MeaningFault}
 use Rattle.cm_wit_meanings.specs.declared.fault.MeaningFault.TheVariants as fault
 use Rattle.cm_wit_meanings.specs.declared.scope.Scope as code_scope

@@ -9,7 +9,7 @@ ghost use Rattle.cm_wit_lookups.specs.Views.{front_view};
 
 use crate::parts::{FrontParts, NameParts, back_of, front_of, plain_front, shared_front};
 use cm_types::ExternNameForm;
-use cm_types_placed::{Extern, Item};
+use cm_types_arena::{Extern, Item};
 use cm_types_signatures::{Front, SharedExtern, SharedItem, SharedName};
 use std::alloc::{AllocError, Global};
 

@@ -6,11 +6,11 @@ use Rattle.std.proofs.lemmas.List.{map-append}
 use Rattle.std.proofs.lemmas.Bool.Decides.{nat_tests}
 use Rattle.cm_types.specs.Types.{Ty, FuncTy}
 use Rattle.cm_types.specs.Signatures.{NamedItem, NamedExtern, ExternTy, SignatureTy, func, instance}
-use Rattle.cm_types_resources.specs.Replaced.{replaced_func}
+use Rattle.cm_types_arena.specs.Replaced.{replaced_func}
 use Rattle.cm_types_arena.specs.Places.{types_of, funcs_of}
 use Rattle.cm_types_arena.specs.declared.types.Types.{Types}
-use Rattle.cm_types_placed.specs.Placed.{moved_by}
-use Rattle.cm_types_placed.specs.Instances.{replaced_item}
+use Rattle.cm_types_arena.specs.Placed.{moved_by}
+use Rattle.cm_types_arena.specs.Instances.{replaced_item}
 use Rattle.cm_types_signatures.specs.Shared.{shared_items_of, are_shared_items_there, shared_desc_of, shared_extern_of, shared_externs_of, is_shared_there}
 use Rattle.cm_types_signatures.specs.SharedNames.{text_in}
 use Rattle.cm_types_signatures.specs.declared.names.Front.{Front}

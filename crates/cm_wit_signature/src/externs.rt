@@ -21,9 +21,8 @@ ghost use Rattle.cm_wit_signature.specs.PartViews.{scopes_in, world_in};
 
 use crate::package_fronts;
 use crate::parts::{OwnFunc, Parts};
-use cm_types_arena::Types;
-use cm_types_placed::Placed;
-use cm_types_placed::laws::unmoved;
+use cm_types_arena::placed_laws::unmoved;
+use cm_types_arena::{Placed, Types};
 use cm_types_signatures::{SharedDesc, SharedExtern, SharedExterns, SharedName};
 use cm_wit_items::laws::{items_stay, tables_stay};
 use cm_wit_items::push_items;

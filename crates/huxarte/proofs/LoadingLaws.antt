@@ -9,7 +9,7 @@ use Rattle.cm_binary_forms.specs.File.{Spells}
 use Rattle.cm_validate_model.specs.Spaces.{Spaces}
 use Rattle.cm_machine_model.specs.declared.event.Misuse.{Misuse}
 use Rattle.cm_machine_model.specs.declared.event.Misuse.TheVariants as misuse
-use Rattle.cm_machine_rules.specs.State.{are_page_counts}
+use Rattle.cm_machine_model.specs.State.{are_page_counts}
 use Rattle.huxarte.specs.Loading.{AreSpelled, IsMisuse}
 
 same : {A : Type 0} (x y : A) → Some x ≡ Some y → x ≡ y

@@ -35,7 +35,7 @@ pub mod files {
 pub mod components {
     pub use cm_match::{LinkFault, LinkReason, Linked, MAX_COMPONENTS, PlanLine, Target, link};
     pub use cm_types::{ExternName, ExternNameForm, Label, NameFault, ResourceId, same_name};
-    pub use cm_types_placed::{ItemDesc, Placed};
+    pub use cm_types_arena::{ItemDesc, Placed};
     pub use cm_types_signatures::{Desc, Externs, Items, NamedDesc, NamedItem, Signature};
     pub use cm_validate::{
         Checked, CoreFuncEntry, ExportEntry, ExportedEntry, FuncEntry, GuestExport, InstanceEntry,

@@ -2,8 +2,7 @@
 
 use crate::components::read_component;
 use cm_rows::{Line, NamedFiles, word, words_from};
-use cm_types_arena::Types;
-use cm_types_placed::{Extern, ExternDesc, Placed};
+use cm_types_arena::{Extern, ExternDesc, Placed, Types};
 use cm_validate_spaces::{
     Checked, CoreFuncEntry, ExportEntry, ExportedEntry, FuncEntry, GuestExport, InstanceEntry,
     MadeFunc, ValidFault, ValidReason, validate,

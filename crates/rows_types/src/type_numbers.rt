@@ -3,9 +3,8 @@
 use crate::runs::Runs;
 use cm_rows::{Line, word, words_from};
 use cm_rows_types::{Arena, read_move, read_resources};
-use cm_types_arena::Types;
+use cm_types_arena::{Replacement, Row, Types};
 use cm_types_numbers::Numbers;
-use cm_types_resources::{Replacement, Row};
 use std::alloc::Global;
 
 /// The answer to `RESOURCES ITEM ; ITEM .. | RESOURCES ITEM ; ITEM ..`: types by places, each list

@@ -4,7 +4,7 @@ use crate::values::read_value;
 use cm_rows::{Line, word, words_from};
 use cm_rows_types::{read_func, read_params, read_resources, read_tree, read_type};
 use cm_types::{Func, TypeFault, TypeNode, TypeTree, has_type};
-use cm_types_resources::{same_func, same_type};
+use cm_types_arena::{same_func, same_type};
 use std::alloc::Global;
 
 /// The answer to `within TYPE`, `within_func TYPE..` (of the parameters), `equal TYPE | TYPE ..`,

@@ -6,7 +6,7 @@ use Rattle.cm_layout.specs.Shapes.{layout_at}
 use Rattle.cm_types_arena.specs.Arena.{parts_in}
 use Rattle.cm_types_arena.specs.Places.{types_of}
 use Rattle.cm_types_arena.specs.TypeDefs.{type_at}
-use Rattle.cm_types_resources.specs.Replaced.{replaced}
+use Rattle.cm_types_arena.specs.Replaced.{replaced}
 use Rattle.cm_layout_placed.specs.Placed.{types_by}
 use Rattle.cm_layout_placed.proofs.PlacedLaws.{are_of, first_laid}
 use Rattle.cm_layout_placed.proofs.ReplacedLaws.{as_many_by, parts_by, type_by, types_at_by}

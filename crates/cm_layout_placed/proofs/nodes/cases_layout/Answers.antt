@@ -11,7 +11,7 @@ use Rattle.cm_types.specs.declared.type_trees.Case.{Case, out-Case}
 use Rattle.cm_layout.specs.Layouts.{IsLayingCases, layout_of}
 use Rattle.cm_layout.specs.Shapes.{layout_at}
 use Rattle.cm_types_arena.specs.Arena.{payload_types}
-use Rattle.cm_types_resources.specs.Replaced.{Standing, replaced, replaced_cases}
+use Rattle.cm_types_arena.specs.Replaced.{Standing, replaced, replaced_cases}
 use Rattle.cm_layout_placed.specs.Placed.{AreOf}
 use Rattle.cm_layout_placed.proofs.PlacedLaws.{nth_payload, behind_payload}
 use Rattle.cm_layout_placed.proofs.ReplacedLaws.{before_by, some_by}

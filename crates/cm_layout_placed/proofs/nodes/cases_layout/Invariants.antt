@@ -4,7 +4,7 @@ use Rattle.cm_types.specs.declared.limits.TheConstants.{MAX_NODES}
 use Rattle.cm_types.specs.TypeTrees.{cases_of}
 use Rattle.cm_layout.specs.Layouts.{IsLayingCases, layout_of}
 use Rattle.cm_types_arena.specs.Arena.{payload_types}
-use Rattle.cm_types_resources.specs.Replaced.{Standing, replaced_cases}
+use Rattle.cm_types_arena.specs.Replaced.{Standing, replaced_cases}
 use Rattle.cm_layout_placed.specs.Placed.{AreOf}
 use Rattle.cm_layout_placed.proofs.nodes.cases_layout.Given as goal
 

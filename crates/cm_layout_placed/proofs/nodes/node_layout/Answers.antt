@@ -15,7 +15,7 @@ use Rattle.cm_types.specs.declared.names.Label.{Label}
 use Rattle.cm_layout.specs.Layouts.{layout_of}
 use Rattle.cm_layout.specs.Shapes.{layout_at}
 use Rattle.cm_types_arena.specs.Arena.{field_types, payload_types}
-use Rattle.cm_types_resources.specs.Replaced.{Standing, replaced, replaced_cases, replaced_fields}
+use Rattle.cm_types_arena.specs.Replaced.{Standing, replaced, replaced_cases, replaced_fields}
 use Rattle.cm_layout_placed.specs.Placed.{AreOf, option_cases, result_cases}
 use Rattle.cm_layout_placed.proofs.ReplacedLaws.{plain_by, result_by, some_by}
 use Rattle.cm_layout_placed.proofs.nodes.node_layout.Goals as goal

@@ -4,7 +4,7 @@ use Rattle.cm_abi_model.specs.Answered.{Requesting, all_requests, next_of, with_
 use Rattle.cm_abi_model.specs.Answering.{answer_fault}
 use Rattle.cm_abi_model.specs.Scanned.{Scanned}
 use Rattle.cm_abi_model.specs.declared.request.Request.{Request}
-use Rattle.cm_machine_rules.specs.State.{State}
+use Rattle.cm_machine_model.specs.State.{State}
 use Rattle.cm_machine_parts.specs.States.{state_of}
 use Rattle.cm_machine_calls.specs.Lifting.{passage_in}
 use Rattle.cm_machine_calls.proofs.AnswerLaws.{answered_is, asked_stays, at_next, few_answers, has_answers, next_is, passage_answered}

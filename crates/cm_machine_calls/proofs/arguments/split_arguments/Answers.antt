@@ -3,8 +3,8 @@ use Rattle.cm_types.specs.declared.core_value.CoreKind.{CoreKind}
 use Rattle.cm_types.specs.declared.core_value.CoreValue.{CoreValue}
 use Rattle.cm_abi_model.specs.Requests.{is_spilled}
 use Rattle.cm_abi_model.specs.Views.{results}
-use Rattle.cm_machine_rules.specs.Plan.{types_of}
-use Rattle.cm_machine_rules.specs.Step.{AreOf, one_i32}
+use Rattle.cm_machine_model.specs.Plan.{types_of}
+use Rattle.cm_machine_model.specs.Step.{AreOf, one_i32}
 use Rattle.cm_machine_calls.proofs.ArgumentLaws.{front_fails, no_pointer, pointer_kinds}
 use Rattle.cm_machine_calls.proofs.Results.{not_true}
 use Rattle.cm_machine_calls.proofs.arguments.split_arguments.Goals as goal

@@ -1,7 +1,7 @@
 use Rattle.std.proofs.Common.{◌≡◌, true, false, inl, inr, refl, sym, ◌∙◌, ap}
-use Rattle.cm_machine_rules.specs.Stack.{actor}
-use Rattle.cm_machine_rules.specs.State.{is_closed}
-use Rattle.cm_machine_rules.specs.Step.{CallsLowered, PassesArguments}
+use Rattle.cm_machine_model.specs.Stack.{actor}
+use Rattle.cm_machine_model.specs.State.{is_closed}
+use Rattle.cm_machine_model.specs.Step.{CallsLowered, PassesArguments}
 use Rattle.cm_machine_parts.specs.States.{state_of}
 use Rattle.cm_machine_calls.proofs.Results.{not_true}
 use Rattle.cm_machine_calls.proofs.Rows.{row_more}

@@ -9,15 +9,15 @@ use Rattle.cm_abi_model.specs.Requests.{tuple_of}
 use Rattle.cm_abi_model.specs.Taken.{lent_of, met}
 use Rattle.cm_abi_model.specs.Views.{params}
 use Rattle.cm_machine_model.specs.declared.event.Event.TheVariants as event
-use Rattle.cm_machine_rules.specs.declared.frame.Call.{Call}
-use Rattle.cm_machine_rules.specs.declared.frame.Frame.{Frame}
-use Rattle.cm_machine_rules.specs.declared.frame.Lend.{Lend}
-use Rattle.cm_machine_rules.specs.declared.frame.Phase.TheVariants as phase
-use Rattle.cm_machine_rules.specs.declared.frame.Purpose.TheVariants as purpose
-use Rattle.cm_machine_rules.specs.Passages.{IsScanned}
-use Rattle.cm_machine_rules.specs.Plan.{Reaches, types_of}
-use Rattle.cm_machine_rules.specs.State.{Passage, State, after_trap, lends_to, table_at}
-use Rattle.cm_machine_rules.specs.Step.{PassesArguments, after_lift_of_args, arg_slots, args_view, call_frame}
+use Rattle.cm_machine_model.specs.declared.frame.Call.{Call}
+use Rattle.cm_machine_model.specs.declared.frame.Frame.{Frame}
+use Rattle.cm_machine_model.specs.declared.frame.Lend.{Lend}
+use Rattle.cm_machine_model.specs.declared.frame.Phase.TheVariants as phase
+use Rattle.cm_machine_model.specs.declared.frame.Purpose.TheVariants as purpose
+use Rattle.cm_machine_model.specs.Passages.{IsScanned}
+use Rattle.cm_machine_model.specs.Plan.{Reaches, types_of}
+use Rattle.cm_machine_model.specs.State.{Passage, State, after_trap, lends_to, table_at}
+use Rattle.cm_machine_model.specs.Step.{PassesArguments, after_lift_of_args, arg_slots, args_view, call_frame}
 use Rattle.cm_machine_parts.specs.Kept.{IsEncoded}
 use Rattle.cm_machine_parts.specs.Lends.{NoneAbove}
 use Rattle.cm_machine_parts.specs.Stacks.{CountedFrames}

@@ -1,7 +1,7 @@
 use Rattle.std.proofs.Common.{[]}
 use Rattle.cm_abi_model.specs.Views.{params}
-use Rattle.cm_machine_rules.specs.Stack.{actor}
-use Rattle.cm_machine_rules.specs.Step.{GoesOn, PassesArguments, top_place}
+use Rattle.cm_machine_model.specs.Stack.{actor}
+use Rattle.cm_machine_model.specs.Step.{GoesOn, PassesArguments, top_place}
 use Rattle.cm_machine_parts.specs.States.{state_of}
 use Rattle.cm_machine_calls.specs.Going.{CanGoOn, passage_now}
 use Rattle.cm_machine_calls.proofs.CallLaws.{passes_on}

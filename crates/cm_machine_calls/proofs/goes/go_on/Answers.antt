@@ -7,12 +7,12 @@ use Rattle.cm_abi_model.specs.Ways.{way_of}
 use Rattle.cm_abi_model.specs.declared.receiver.Receiver.{Receiver}
 use Rattle.cm_abi_model.specs.declared.request.Request.{Request}
 use Rattle.cm_machine_model.specs.Memories.{memory_at}
-use Rattle.cm_machine_rules.specs.declared.frame.Frame.{Frame}
-use Rattle.cm_machine_rules.specs.Passages.{as_args, asked_for}
-use Rattle.cm_machine_rules.specs.Plan.{receiver_side, types_of}
-use Rattle.cm_machine_rules.specs.Stack.{below_top}
-use Rattle.cm_machine_rules.specs.Valid.{IsStack}
-use Rattle.cm_machine_rules.specs.Step.{Asks, GoesOnBy, giver_of, receiver_of, top_place}
+use Rattle.cm_machine_model.specs.declared.frame.Frame.{Frame}
+use Rattle.cm_machine_model.specs.Passages.{as_args, asked_for}
+use Rattle.cm_machine_model.specs.Plan.{receiver_side, types_of}
+use Rattle.cm_machine_model.specs.Stack.{below_top}
+use Rattle.cm_machine_model.specs.Valid.{IsStack}
+use Rattle.cm_machine_model.specs.Step.{Asks, GoesOnBy, giver_of, receiver_of, top_place}
 use Rattle.cm_machine_parts.specs.Rows.{event_of}
 use Rattle.cm_machine_parts.specs.States.{state_of}
 use Rattle.cm_machine_calls.specs.Going.{CanHand, passage_now}

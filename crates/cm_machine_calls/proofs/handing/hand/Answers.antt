@@ -4,9 +4,9 @@ use Rattle.cm_handles.specs.Handles.{Handles}
 use Rattle.cm_abi_model.specs.Giving.{borrowed_count}
 use Rattle.cm_abi_model.specs.Ways.{way_of}
 use Rattle.cm_abi_model.specs.declared.receiver.Receiver.{Receiver}
-use Rattle.cm_machine_rules.specs.declared.frame.Frame.{Frame}
-use Rattle.cm_machine_rules.specs.declared.frame.Purpose.TheVariants as purpose
-use Rattle.cm_machine_rules.specs.State.{State}
+use Rattle.cm_machine_model.specs.declared.frame.Frame.{Frame}
+use Rattle.cm_machine_model.specs.declared.frame.Purpose.TheVariants as purpose
+use Rattle.cm_machine_model.specs.State.{State}
 use Rattle.cm_abi_model.specs.Receives.{HandleLeaf}
 use Rattle.cm_machine_parts.specs.Kept.{AreBorrowsCounted}
 use Rattle.cm_machine_parts.specs.Lends.{AreLentAtLeast}

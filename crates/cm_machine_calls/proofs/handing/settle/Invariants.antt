@@ -1,6 +1,6 @@
 use Rattle.std.proofs.Common.{◌≡◌, drop}
 use Rattle.cm_abi_model.specs.HandleLeaves.{leaves_of}
-use Rattle.cm_machine_rules.specs.Step.{owners_given}
+use Rattle.cm_machine_model.specs.Step.{owners_given}
 use Rattle.cm_machine_calls.proofs.handing.settle.Given as goal
 
 abbrev pub invariant-loop-leaf : goal.invariant-loop-leaf

@@ -7,10 +7,10 @@ use Rattle.cm_abi_model.specs.Lifts.{IsGivenBy, LendsBelow}
 use Rattle.cm_abi_model.specs.Receives.{HandleLeaf}
 use Rattle.cm_abi_model.specs.Taken.{met}
 use Rattle.cm_abi_model.specs.Ways.{way_of}
-use Rattle.cm_machine_rules.specs.declared.frame.Place.TheVariants as places
-use Rattle.cm_machine_rules.specs.Passages.{IsScanned}
-use Rattle.cm_machine_rules.specs.Plan.{giver_side, types_of}
-use Rattle.cm_machine_rules.specs.State.{table_at, view_of, with_places}
+use Rattle.cm_machine_model.specs.declared.frame.Place.TheVariants as places
+use Rattle.cm_machine_model.specs.Passages.{IsScanned}
+use Rattle.cm_machine_model.specs.Plan.{giver_side, types_of}
+use Rattle.cm_machine_model.specs.State.{table_at, view_of, with_places}
 use Rattle.cm_machine_parts.specs.States.{handles_in, state_of}
 use Rattle.cm_machine_calls.specs.Lifting.{passage_in}
 use Rattle.cm_machine_calls.proofs.Pairs.{at_same}

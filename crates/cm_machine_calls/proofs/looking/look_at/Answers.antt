@@ -2,8 +2,8 @@ use Rattle.std.proofs.Common.{◌∙◌, inl, inr, ap, sym, subst, length}
 use Rattle.cm_abi_model.specs.Lifts.{IsGivenBy}
 use Rattle.cm_abi_model.specs.Scanned.{ScansCall}
 use Rattle.cm_abi_model.specs.Ways.{way_of}
-use Rattle.cm_machine_rules.specs.Plan.{receiver_side, types_of}
-use Rattle.cm_machine_rules.specs.Step.{trap_of}
+use Rattle.cm_machine_model.specs.Plan.{receiver_side, types_of}
+use Rattle.cm_machine_model.specs.Step.{trap_of}
 use Rattle.cm_machine_calls.proofs.Counts.{lent_is_some, never, nothing_is_none}
 use Rattle.cm_machine_calls.proofs.looking.look_at.Goals as goal
 

@@ -4,9 +4,9 @@ use Rattle.cm_abi_model.specs.Answering.{answer_fault}
 use Rattle.cm_abi_model.specs.Ways.{way_of}
 use Rattle.cm_abi_model.specs.declared.receiver.Receiver.{Receiver}
 use Rattle.cm_machine_model.specs.Memories.{memory_at}
-use Rattle.cm_machine_rules.specs.Passages.{asked_for}
-use Rattle.cm_machine_rules.specs.State.{State}
-use Rattle.cm_machine_rules.specs.Step.{GoesOn, giver_of, receiver_of, top_place}
+use Rattle.cm_machine_model.specs.Passages.{asked_for}
+use Rattle.cm_machine_model.specs.State.{State}
+use Rattle.cm_machine_model.specs.Step.{GoesOn, giver_of, receiver_of, top_place}
 use Rattle.cm_machine_parts.specs.States.{state_of}
 use Rattle.cm_machine_calls.specs.Answering.{CanAnswer}
 use Rattle.cm_machine_calls.specs.Calling.{AnswersAt}

@@ -2,10 +2,10 @@ use Rattle.std.proofs.Common.{◌≡◌, ◌∙◌, Some, ap, sym, subst, List, 
 use Rattle.std.proofs.lemmas.Bool.{le-ltb, ltb-false}
 use Rattle.std.specs.Prelude.{slice_index}
 use Rattle.cm_handles.specs.Borrows.{borrows_of}
-use Rattle.cm_machine_rules.specs.declared.frame.Frame.{Frame}
-use Rattle.cm_machine_rules.specs.Stack.{below_top}
-use Rattle.cm_machine_rules.specs.State.{table_at}
-use Rattle.cm_machine_rules.specs.Valid.{frame_at}
+use Rattle.cm_machine_model.specs.declared.frame.Frame.{Frame}
+use Rattle.cm_machine_model.specs.Stack.{below_top}
+use Rattle.cm_machine_model.specs.State.{table_at}
+use Rattle.cm_machine_model.specs.Valid.{frame_at}
 use Rattle.cm_machine_parts.specs.States.{state_of}
 use Rattle.cm_machine_calls.proofs.Borrows.{frame_top}
 use Rattle.cm_machine_calls.proofs.Standing.{top_high, top_parts}

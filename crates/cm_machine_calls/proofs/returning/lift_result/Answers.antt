@@ -5,14 +5,14 @@ use Rattle.cm_abi_model.specs.HandleLeaves.{owned_in}
 use Rattle.cm_abi_model.specs.Requests.{tuple_of}
 use Rattle.cm_abi_model.specs.Taken.{MAX_CONTENT, met}
 use Rattle.cm_abi_model.specs.Views.{results}
-use Rattle.cm_machine_rules.specs.declared.frame.Lend.{Lend}
-use Rattle.cm_machine_rules.specs.declared.frame.Phase.{Phase}
-use Rattle.cm_machine_rules.specs.declared.frame.Purpose.{Purpose}
-use Rattle.cm_machine_rules.specs.Passages.{IsScanned}
-use Rattle.cm_machine_rules.specs.Plan.{types_of}
-use Rattle.cm_machine_rules.specs.State.{Passage, State, table_at, view_of}
-use Rattle.cm_machine_rules.specs.Step.{after_lift_of_result, result_view, top_place}
-use Rattle.cm_machine_rules.specs.Valid.{PassesFor, PassesIn}
+use Rattle.cm_machine_model.specs.declared.frame.Lend.{Lend}
+use Rattle.cm_machine_model.specs.declared.frame.Phase.{Phase}
+use Rattle.cm_machine_model.specs.declared.frame.Purpose.{Purpose}
+use Rattle.cm_machine_model.specs.Passages.{IsScanned}
+use Rattle.cm_machine_model.specs.Plan.{types_of}
+use Rattle.cm_machine_model.specs.State.{Passage, State, table_at, view_of}
+use Rattle.cm_machine_model.specs.Step.{after_lift_of_result, result_view, top_place}
+use Rattle.cm_machine_model.specs.Valid.{PassesFor, PassesIn}
 use Rattle.cm_machine_parts.specs.Kept.{IsEncoded}
 use Rattle.cm_machine_parts.specs.Stacks.{CountedFrames}
 use Rattle.cm_machine_parts.specs.States.{state_of}

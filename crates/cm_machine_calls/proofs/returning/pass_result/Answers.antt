@@ -3,10 +3,10 @@ use Rattle.std.specs.Prelude.{slice_get}
 use Rattle.cm_abi_model.specs.RecordRequests.{tags_of}
 use Rattle.cm_abi_model.specs.Requests.{is_spilled, spilled_request}
 use Rattle.cm_abi_model.specs.Views.{results}
-use Rattle.cm_machine_rules.specs.declared.frame.Call.{Call}
-use Rattle.cm_machine_rules.specs.Passages.{asked_for}
-use Rattle.cm_machine_rules.specs.Plan.{giver_side, receiver_side, types_of}
-use Rattle.cm_machine_rules.specs.Step.{GoesOn, ReturnsResult, top_place}
+use Rattle.cm_machine_model.specs.declared.frame.Call.{Call}
+use Rattle.cm_machine_model.specs.Passages.{asked_for}
+use Rattle.cm_machine_model.specs.Plan.{giver_side, receiver_side, types_of}
+use Rattle.cm_machine_model.specs.Step.{GoesOn, ReturnsResult, top_place}
 use Rattle.cm_machine_parts.specs.States.{state_of}
 use Rattle.cm_machine_calls.specs.Calling.{AnswersAt}
 use Rattle.cm_machine_calls.specs.Going.{IsUnderWay, passage_now}

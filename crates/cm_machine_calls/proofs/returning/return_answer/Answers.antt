@@ -1,6 +1,6 @@
 use Rattle.std.proofs.Common.{inl, inr, refl, subst, ℕ}
 use Rattle.cm_abi_model.specs.Ways.{way_of}
-use Rattle.cm_machine_rules.specs.Step.{ReturnsIn}
+use Rattle.cm_machine_model.specs.Step.{ReturnsIn}
 use Rattle.cm_machine_parts.specs.States.{state_of}
 use Rattle.cm_machine_calls.specs.Calling.{AnswersAt}
 use Rattle.cm_machine_calls.specs.Going.{passage_now, phase_of}

@@ -3,10 +3,10 @@ use Rattle.std.proofs.lemmas.List.{length-map}
 use Rattle.cm_types.specs.CoreValues.{kind_of}
 use Rattle.cm_types.specs.declared.core_value.CoreKind.{CoreKind}
 use Rattle.cm_abi_model.specs.Views.{results}
-use Rattle.cm_machine_rules.specs.declared.frame.Phase.TheVariants as phase
-use Rattle.cm_machine_rules.specs.Plan.{types_of}
-use Rattle.cm_machine_rules.specs.State.{table_at}
-use Rattle.cm_machine_rules.specs.Step.{AreOf, HasNoBorrows, ReturnsIn, ReturnsResult, top_place}
+use Rattle.cm_machine_model.specs.declared.frame.Phase.TheVariants as phase
+use Rattle.cm_machine_model.specs.Plan.{types_of}
+use Rattle.cm_machine_model.specs.State.{table_at}
+use Rattle.cm_machine_model.specs.Step.{AreOf, HasNoBorrows, ReturnsIn, ReturnsResult, top_place}
 use Rattle.cm_machine_parts.specs.States.{state_of}
 use Rattle.cm_machine_calls.proofs.GoingLaws.{few_kinds}
 use Rattle.cm_machine_calls.proofs.Results.{not_true}

@@ -1,6 +1,6 @@
 use Rattle.std.proofs.Common.{sym, subst}
-use Rattle.cm_machine_rules.specs.declared.frame.Phase.{Phase}
-use Rattle.cm_machine_rules.specs.Step.{ReturnsIn}
+use Rattle.cm_machine_model.specs.declared.frame.Phase.{Phase}
+use Rattle.cm_machine_model.specs.Step.{ReturnsIn}
 use Rattle.cm_machine_parts.specs.Rows.{MeetsRow}
 use Rattle.cm_machine_parts.specs.States.{state_of}
 use Rattle.cm_machine_calls.proofs.Standing.{some_stand}

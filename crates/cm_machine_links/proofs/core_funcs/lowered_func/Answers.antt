@@ -2,8 +2,8 @@ use Rattle.std.proofs.Common.{◌≡◌, ◌∙◌, Some, refl, ap, sym, subst}
 use Rattle.std.specs.Option.{option_map}
 use Rattle.cm_types.specs.Types.{FuncTy}
 use Rattle.cm_types_arena.specs.TypeDefs.{func_at}
-use Rattle.cm_types_placed.specs.Placed.{moved_by}
-use Rattle.cm_types_resources.specs.Replaced.{replaced_func}
+use Rattle.cm_types_arena.specs.Placed.{moved_by}
+use Rattle.cm_types_arena.specs.Replaced.{replaced_func}
 use Rattle.cm_match.specs.Linked.{components_in, set_in}
 use Rattle.cm_match.specs.Targets.{target_def}
 use Rattle.cm_match_model.specs.Imports.{links_of}

@@ -1,7 +1,7 @@
 use Rattle.std.proofs.Common.{◌≡◌, sym, subst, ap}
 use Rattle.std.proofs.lemmas.Result.{IfOk-weaker}
 use Rattle.cm_types.specs.Types.{FuncTy}
-use Rattle.cm_types_placed.specs.Placed.{placed_func}
+use Rattle.cm_types_arena.specs.Placed.{placed_func}
 use Rattle.cm_validate_model.specs.Definitions.{CoreFuncDef, lowered}
 use Rattle.cm_validate_spaces.specs.Checked.{funcs_in}
 use Rattle.cm_validate_spaces.specs.Made.{made_def}

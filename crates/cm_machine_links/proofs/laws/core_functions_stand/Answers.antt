@@ -2,7 +2,7 @@ use Rattle.std.proofs.Common.{◌≡◌, ◌∙◌, ap, sym}
 use Rattle.std.specs.Prelude.{◌||◌}
 use Rattle.cm_types.specs.Holds.{holds, is_list, is_string}
 use Rattle.cm_types.specs.Types.{Ty}
-use Rattle.cm_types_resources.specs.Replaced.{Standing, replaced}
+use Rattle.cm_types_arena.specs.Replaced.{Standing, replaced}
 use Rattle.cm_validate_model.specs.Options.{is_pointer}
 use Rattle.cm_match.specs.Linked.{sections_in, set_in}
 use Rattle.cm_machine_links.proofs.KnownLaws.{known}

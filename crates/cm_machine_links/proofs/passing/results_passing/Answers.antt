@@ -4,7 +4,7 @@ use Rattle.cm_layout.specs.Layouts.{layout_of}
 use Rattle.cm_layout.specs.Shapes.{layout_of_fields_at}
 use Rattle.cm_types_arena.specs.Places.{funcs_of}
 use Rattle.cm_types_arena.specs.TypeDefs.{func_at}
-use Rattle.cm_types_resources.specs.Replaced.{replaced}
+use Rattle.cm_types_arena.specs.Replaced.{replaced}
 use Rattle.cm_machine_links.proofs.PassingFacts.{fields_are, results_kinds}
 use Rattle.cm_machine_links.proofs.passing.results_passing.Goals as goal
 

@@ -2,10 +2,10 @@ use Rattle.std.specs.Prelude.{slice_get}
 use Rattle.std.proofs.Common.{◌≡◌, ℕ, ◌-◌, ◌<◌, ◌≤◌, Some, List, length, take, drop, sym, ap, subst, ◌∙◌, arith}
 use Rattle.cm_handles.specs.Borrows.{borrows_of}
 use Rattle.cm_handles.specs.Handles.{Handles}
-use Rattle.cm_machine_rules.specs.declared.frame.Frame.{Frame}
-use Rattle.cm_machine_rules.specs.declared.frame.Lend.{Lend}
-use Rattle.cm_machine_rules.specs.Stack.{below_top}
-use Rattle.cm_machine_rules.specs.State.{State, lends_after_call, table_at, tables_after_call}
+use Rattle.cm_machine_model.specs.declared.frame.Frame.{Frame}
+use Rattle.cm_machine_model.specs.declared.frame.Lend.{Lend}
+use Rattle.cm_machine_model.specs.Stack.{below_top}
+use Rattle.cm_machine_model.specs.State.{State, lends_after_call, table_at, tables_after_call}
 use Rattle.cm_machine_parts.specs.Kept.{AreBorrowsCounted}
 use Rattle.cm_machine_parts.specs.Lends.{AreLentAtLeast, NoneAbove, tables_after_unlends}
 use Rattle.cm_machine_parts.specs.States.{handles_in, state_of}

@@ -1,8 +1,8 @@
 use Rattle.std.proofs.Common.{◌≡◌, ℕ, ◌+◌, ◌<◌, ◌∷◌, List, length, drop, get_or, sym, ap, subst, ◌∙◌, add-one, arith}
 use Rattle.std.proofs.Math.Seq.{drop-cons}
 use Rattle.cm_handles.specs.Handles.{Handles, handle_at}
-use Rattle.cm_machine_rules.specs.declared.frame.Lend.{Lend}
-use Rattle.cm_machine_rules.specs.State.{table_at, tables_after_unlend}
+use Rattle.cm_machine_model.specs.declared.frame.Lend.{Lend}
+use Rattle.cm_machine_model.specs.State.{table_at, tables_after_unlend}
 use Rattle.cm_machine_parts.specs.Lends.{AreLentAtLeast, lends_at, tables_after_unlends}
 use Rattle.cm_machine_parts.specs.States.{handles_in}
 use Rattle.cm_machine_parts.proofs.LendLists.{first_lent, lent_inside, rest_lent, stands_lent, unlent_table}

@@ -1,5 +1,5 @@
 use Rattle.std.proofs.Common.{ℕ, ◌-◌, ◌<◌, length, subst, sym}
-use Rattle.cm_machine_rules.specs.State.{State}
+use Rattle.cm_machine_model.specs.State.{State}
 use Rattle.cm_machine_parts.specs.Kept.{CanEnd, Runs}
 use Rattle.cm_machine_parts.specs.Lends.{NoneAbove}
 use Rattle.cm_machine_parts.specs.States.{state_of}

@@ -1,6 +1,6 @@
 use Rattle.std.proofs.Common.{◌≡◌, ◌+◌, ◌≤◌, ◌++◌, drop, length, vec_len}
 use Rattle.std.specs.Prelude.{vec_capacity}
-use Rattle.cm_machine_rules.specs.State.{lends_to}
+use Rattle.cm_machine_model.specs.State.{lends_to}
 use Rattle.cm_machine_parts.proofs.lends.add_to.Given as goal
 
 abbrev pub invariant-loop-index : goal.invariant-loop-index

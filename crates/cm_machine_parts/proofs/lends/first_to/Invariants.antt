@@ -1,6 +1,6 @@
 use Rattle.std.proofs.Common.{◌≡◌, ℕ, ◌≤◌, length, Some}
 use Rattle.std.specs.Prelude.{slice_get}
-use Rattle.cm_machine_rules.specs.declared.frame.Lend.{Lend}
+use Rattle.cm_machine_model.specs.declared.frame.Lend.{Lend}
 use Rattle.cm_machine_parts.proofs.lends.first_to.Given as goal
 
 abbrev pub invariant-loop-first : goal.invariant-loop-first

@@ -1,7 +1,7 @@
 use Rattle.std.proofs.Common.{◌≡◌, drop}
 use Rattle.cm_abi_model.specs.HandleLeaves.{owned_in}
 use Rattle.cm_abi_model.specs.HandleLeaves.{leaves_of}
-use Rattle.cm_machine_rules.specs.State.{with_places}
+use Rattle.cm_machine_model.specs.State.{with_places}
 use Rattle.cm_machine_parts.proofs.owners.put_owners.Given as goal
 
 abbrev pub invariant-loop-handle : goal.invariant-loop-handle

@@ -1,6 +1,6 @@
 use Rattle.std.proofs.Common.{◌≡◌, ◌≤◌, length}
 use Rattle.std.specs.Prelude.{reverse, take}
-use Rattle.cm_machine_rules.specs.Work.{top_call}
+use Rattle.cm_machine_model.specs.Work.{top_call}
 use Rattle.cm_machine_parts.proofs.stack.top_call.Given as goal
 
 abbrev pub invariant-loop-above : goal.invariant-loop-above

@@ -1,5 +1,5 @@
 use Rattle.std.proofs.Common.{◌≡◌, ◌++◌, map, take, drop}
-use Rattle.cm_machine_rules.specs.State.{place_after_trap}
+use Rattle.cm_machine_model.specs.State.{place_after_trap}
 use Rattle.cm_machine_parts.proofs.traps.abandon.Given as goal
 
 abbrev pub invariant-loop-place : goal.invariant-loop-place

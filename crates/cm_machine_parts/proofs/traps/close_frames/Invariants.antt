@@ -1,5 +1,5 @@
 use Rattle.std.proofs.Common.{◌≡◌, length}
-use Rattle.cm_machine_rules.specs.State.{closed_after_trap, tables_after_trap}
+use Rattle.cm_machine_model.specs.State.{closed_after_trap, tables_after_trap}
 use Rattle.cm_machine_parts.specs.Closing.{AreClosed}
 use Rattle.cm_machine_parts.specs.States.{handles_in}
 use Rattle.cm_machine_parts.proofs.traps.close_frames.Given as goal

@@ -3,10 +3,10 @@ use Rattle.std.specs.Prelude.{slice_set}
 use Rattle.std.proofs.lemmas.Option.{same_Some}
 use Rattle.cm_handles.specs.Borrows.{borrows_of}
 use Rattle.cm_handles.specs.Handles.{Handles, after_release, handle_at}
-use Rattle.cm_machine_rules.specs.declared.frame.Frame.{Frame}
-use Rattle.cm_machine_rules.specs.declared.frame.Purpose.TheVariants as purpose
-use Rattle.cm_machine_rules.specs.State.{State, table_at}
-use Rattle.cm_machine_rules.specs.Valid.{frame_at}
+use Rattle.cm_machine_model.specs.declared.frame.Frame.{Frame}
+use Rattle.cm_machine_model.specs.declared.frame.Purpose.TheVariants as purpose
+use Rattle.cm_machine_model.specs.State.{State, table_at}
+use Rattle.cm_machine_model.specs.Valid.{frame_at}
 use Rattle.cm_machine_parts.specs.Kept.{AreBorrowsCounted, IsEncodedAtTop}
 use Rattle.cm_machine_parts.specs.States.{handles_in, state_of}
 use Rattle.cm_machine_resources.proofs.Finding.{borrowed_less, borrowed_same, found_stands}

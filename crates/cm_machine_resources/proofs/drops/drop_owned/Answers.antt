@@ -1,6 +1,6 @@
 use Rattle.std.proofs.Common.{◌≡◌, Some}
 use Rattle.cm_handles.specs.Handles.{handle_at}
-use Rattle.cm_machine_rules.specs.State.{State, table_at}
+use Rattle.cm_machine_model.specs.State.{State, table_at}
 use Rattle.cm_machine_parts.specs.States.{state_of}
 use Rattle.cm_machine_resources.proofs.Finding.{found_stands}
 use Rattle.cm_machine_resources.proofs.drops.drop_owned.Goals as goal

@@ -1,7 +1,7 @@
 use Rattle.std.proofs.Common.{◌≡◌, ◌<◌, List, length, Ok, Err, sym, ap, ◌∙◌, arith}
 use Rattle.cm_handles.specs.Handles.{Handles, TableState, if_not_lent, look_up}
-use Rattle.cm_machine_rules.specs.State.{State, table_at}
-use Rattle.cm_machine_rules.specs.Step.{Drops, DropsOwned}
+use Rattle.cm_machine_model.specs.State.{State, table_at}
+use Rattle.cm_machine_model.specs.Step.{Drops, DropsOwned}
 use Rattle.cm_machine_parts.specs.States.{state_of}
 use Rattle.cm_machine_resources.proofs.DroppingRows.{drop_borrowed_at, drop_fault_at, drop_owned_at, meets_by}
 use Rattle.cm_machine_resources.proofs.drops.drop_resource.Goals as goal

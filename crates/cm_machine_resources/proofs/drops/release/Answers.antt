@@ -1,7 +1,7 @@
 use Rattle.std.proofs.Common.{◌≡◌, ◌<◌, List, length, sym, ap, ◌∙◌, arith}
 use Rattle.std.specs.Prelude.{slice_set}
 use Rattle.cm_handles.specs.Handles.{Handles, TableState, after_release}
-use Rattle.cm_machine_rules.specs.State.{table_at}
+use Rattle.cm_machine_model.specs.State.{table_at}
 use Rattle.cm_machine_parts.specs.States.{handles_in}
 use Rattle.cm_machine_resources.proofs.drops.release.Goals as goal
 

@@ -2,8 +2,8 @@ use Rattle.std.proofs.Common.{◌≡◌, ℕ, ◌<◌, List, Some, length, sym, 
 use Rattle.std.specs.Prelude.{slice_set}
 use Rattle.cm_handles.specs.Borrows.{borrows_of}
 use Rattle.cm_handles.specs.Handles.{Handles, after_release, handle_at}
-use Rattle.cm_machine_rules.specs.declared.frame.Place.TheVariants as place
-use Rattle.cm_machine_rules.specs.State.{State, table_at}
+use Rattle.cm_machine_model.specs.declared.frame.Place.TheVariants as place
+use Rattle.cm_machine_model.specs.State.{State, table_at}
 use Rattle.cm_machine_parts.specs.Kept.{AreBorrowsCounted}
 use Rattle.cm_machine_parts.specs.States.{handles_in, state_of}
 use Rattle.cm_machine_resources.proofs.Finding.{found_stands, owned_same}

@@ -2,9 +2,9 @@ use Rattle.std.proofs.Common.{◌≡◌, ℕ, ◌<◌, List, length, sym, ap, su
 use Rattle.std.specs.Prelude.{Ok}
 use Rattle.cm_handles.specs.Borrows.{borrows_of}
 use Rattle.cm_handles.specs.Handles.{Handles, IsSoundHandles, TableState}
-use Rattle.cm_machine_rules.specs.declared.frame.Place.{Place}
-use Rattle.cm_machine_rules.specs.Stack.{actor}
-use Rattle.cm_machine_rules.specs.State.{State, table_at}
+use Rattle.cm_machine_model.specs.declared.frame.Place.{Place}
+use Rattle.cm_machine_model.specs.Stack.{actor}
+use Rattle.cm_machine_model.specs.State.{State, table_at}
 use Rattle.cm_machine_parts.specs.Kept.{AreBorrowsCounted}
 use Rattle.cm_machine_parts.specs.States.{handles_in, state_of}
 use Rattle.cm_machine_resources.specs.Adding.{AddsResource, MakesNone, new_handle}

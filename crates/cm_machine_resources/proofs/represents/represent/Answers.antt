@@ -1,6 +1,6 @@
 use Rattle.std.proofs.Common.{◌≡◌, ◌<◌, List, length, Ok, Err, sym, ap, ◌∙◌, arith}
 use Rattle.cm_handles.specs.Handles.{Handles, TableState, look_up}
-use Rattle.cm_machine_rules.specs.State.{State, table_at}
+use Rattle.cm_machine_model.specs.State.{State, table_at}
 use Rattle.cm_machine_parts.specs.States.{state_of}
 use Rattle.cm_machine_resources.proofs.Telling.{told_at, told_fault_at}
 use Rattle.cm_machine_resources.proofs.represents.represent.Goals as goal

@@ -1,7 +1,7 @@
 use Rattle.std.proofs.Common.{Some, subst}
-use Rattle.cm_machine_rules.specs.declared.frame.Purpose.TheVariants as purpose
-use Rattle.cm_machine_rules.specs.Plan.{core_func_at}
-use Rattle.cm_machine_rules.specs.Step.{Returns, ReturnsIn}
+use Rattle.cm_machine_model.specs.declared.frame.Purpose.TheVariants as purpose
+use Rattle.cm_machine_model.specs.Plan.{core_func_at}
+use Rattle.cm_machine_model.specs.Step.{Returns, ReturnsIn}
 use Rattle.cm_machine_links.specs.declared.core_funcs.CoreFunc.{CoreFunc}
 use Rattle.cm_machine_links.specs.Planned.{IsFound}
 use Rattle.cm_machine_parts.specs.States.{state_of}

@@ -1,6 +1,6 @@
 use Rattle.std.proofs.Common.{sym, subst}
-use Rattle.cm_machine_rules.specs.declared.frame.Purpose.{Purpose}
-use Rattle.cm_machine_rules.specs.Step.{Returns}
+use Rattle.cm_machine_model.specs.declared.frame.Purpose.{Purpose}
+use Rattle.cm_machine_model.specs.Step.{Returns}
 use Rattle.cm_machine_parts.specs.Rows.{MeetsRow}
 use Rattle.cm_machine_parts.specs.States.{state_of}
 use Rattle.cm_machine_set.proofs.advance.return_from.Goals as goal

@@ -1,7 +1,7 @@
 use Rattle.std.proofs.Common.{◌≡◌, ℕ, true, length, sym, ap, subst, ◌∙◌}
-use Rattle.cm_machine_rules.specs.Plan.{Plan}
-use Rattle.cm_machine_rules.specs.State.{State, are_page_counts, fresh_state}
-use Rattle.cm_machine_rules.specs.Valid.{IsValidState}
+use Rattle.cm_machine_model.specs.Plan.{Plan}
+use Rattle.cm_machine_model.specs.State.{State, are_page_counts, fresh_state}
+use Rattle.cm_machine_model.specs.Valid.{IsValidState}
 use Rattle.cm_machine_parts.specs.States.{state_of}
 use Rattle.cm_match.specs.Linked.{components_in}
 use Rattle.cm_machine_set.proofs.Counts.{as_many}

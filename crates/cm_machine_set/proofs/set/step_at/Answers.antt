@@ -1,9 +1,9 @@
 use Rattle.std.proofs.Common.{sym, subst}
 use Rattle.cm_machine_model.specs.declared.event.Event.{Event}
 use Rattle.cm_machine_model.specs.declared.event.Event.TheVariants as event
-use Rattle.cm_machine_rules.specs.Plan.{Plan}
-use Rattle.cm_machine_rules.specs.State.{State}
-use Rattle.cm_machine_rules.specs.Step.{Moves, Step}
+use Rattle.cm_machine_model.specs.Plan.{Plan}
+use Rattle.cm_machine_model.specs.State.{State}
+use Rattle.cm_machine_model.specs.Step.{Moves, Step}
 use Rattle.cm_machine_parts.specs.Rows.{event_of}
 use Rattle.cm_machine_parts.specs.States.{state_of}
 use Rattle.cm_machine_set.proofs.GoesOn.{step_goes_on}

@@ -3,7 +3,7 @@ use Rattle.std.specs.Option.{option_map}
 use Rattle.cm_types.specs.Signatures.{NamedExtern}
 use Rattle.cm_match_model.specs.Fitting.{only}
 use Rattle.cm_match_model.specs.Tables.{HasExports}
-use Rattle.cm_types_placed.specs.Externs.{extern_of}
+use Rattle.cm_types_arena.specs.Externs.{extern_of}
 use Rattle.cm_validate_spaces.specs.Checked.{funcs_in, spaces_in, types_in}
 use Rattle.cm_match_model.specs.Imports.{candidates, exports_before, exports_from}
 use Rattle.cm_match_serving.specs.Choices.{choices_in}

@@ -1,6 +1,6 @@
 use Rattle.std.proofs.Common.{ap}
 use Rattle.cm_types.specs.Signatures.{equal_resource}
-use Rattle.cm_types_placed.specs.Instances.{numbered}
+use Rattle.cm_types_arena.specs.Instances.{numbered}
 use Rattle.cm_validate_model.specs.Spaces.{item_of_member}
 use Rattle.cm_validate_entries.specs.Entries.{member_def}
 use Rattle.cm_validate_entries.specs.declared.entries.MemberEntry.{MemberEntry}

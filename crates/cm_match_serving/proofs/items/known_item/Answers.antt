@@ -1,7 +1,7 @@
 use Rattle.std.proofs.Common.{◌≡◌, Option, sym, ap, subst}
 use Rattle.cm_types.specs.Signatures.{ItemTy, equal_resource}
 use Rattle.cm_types.specs.declared.resource.ResourceId.{ResourceId}
-use Rattle.cm_types_placed.specs.Instances.{numbered}
+use Rattle.cm_types_arena.specs.Instances.{numbered}
 use Rattle.cm_validate_model.specs.Spaces.{item_of_member}
 use Rattle.cm_match_model.specs.declared.fault.LinkReason.TheVariants as reason
 use Rattle.cm_match_model.specs.Serving.{standing}

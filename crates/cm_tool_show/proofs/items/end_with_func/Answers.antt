@@ -2,7 +2,7 @@ use Rattle.std.proofs.Common.{ap, rules, sym}
 use Rattle.std.specs.Option.{option_map}
 use Rattle.cm_types.specs.Funcs.{tree_type}
 use Rattle.cm_types.specs.TypeTrees.{fields_of}
-use Rattle.cm_types_resources.specs.Replaced.{replaced, replaced_fields}
+use Rattle.cm_types_arena.specs.Replaced.{replaced, replaced_fields}
 use Rattle.cm_tool_show.specs.Counted.{counted}
 use Rattle.cm_tool_show.specs.Lists.{with_commas}
 use Rattle.cm_tool_show.specs.Shown.{answer_pieces}

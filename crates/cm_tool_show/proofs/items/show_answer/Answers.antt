@@ -1,7 +1,7 @@
 use Rattle.std.proofs.Common.{ap, rules}
 use Rattle.std.specs.Option.{option_map}
 use Rattle.cm_types.specs.Funcs.{tree_type}
-use Rattle.cm_types_resources.specs.Replaced.{replaced}
+use Rattle.cm_types_arena.specs.Replaced.{replaced}
 use Rattle.cm_tool_show.specs.Counted.{counted}
 use Rattle.cm_tool_show.specs.Shown.{answer_pieces}
 use Rattle.cm_tool_show.proofs.ShownLaws.{answers, none_shown, stops, then, told}

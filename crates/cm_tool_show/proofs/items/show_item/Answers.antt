@@ -1,7 +1,7 @@
 use Rattle.std.proofs.Common.{◌≡◌, rules}
 use Rattle.cm_types.specs.Funcs.{func_of}
 use Rattle.cm_types.specs.TypeTrees.{type_of}
-use Rattle.cm_types_placed.specs.declared.instances.ItemDesc.TheVariants as item
+use Rattle.cm_types_arena.specs.declared.instances.ItemDesc.TheVariants as item
 use Rattle.cm_tool_show.proofs.LineLaws.{func_line, line_as, type_line}
 use Rattle.cm_tool_show.proofs.ShownLaws.{answers, stops, then, told}
 use Rattle.cm_tool_show.proofs.items.show_item.Goals as goal

@@ -5,7 +5,7 @@ use Rattle.cm_types.specs.Types.{bits_16, bits_32, bits_64, bits_8, bool, carryi
 use Rattle.cm_types.specs.TypeTrees.{cases_of, fields_of, parts_of, type_of}
 use Rattle.cm_types.specs.declared.type_trees.TypeNode.TheVariants as leaf
 use Rattle.cm_tool_show.specs.Counted.{case_piece, counted}
-use Rattle.cm_types_resources.specs.Replaced.{replaced}
+use Rattle.cm_types_arena.specs.Replaced.{replaced}
 use Rattle.cm_tool_show.specs.Lists.{comma_before}
 use Rattle.cm_tool_show.specs.ShownTypes.{between, type_pieces}
 use Rattle.cm_tool_show.proofs.ShownLaws.{answers, named, stops, then, told}

@@ -10,7 +10,7 @@ use Rattle.cm_types_arena.specs.Arena.{parts_in}
 use Rattle.cm_types_arena.specs.Places.{funcs_of, types_of}
 use Rattle.cm_types_arena.specs.TypeDefs.{type_at}
 use Rattle.cm_types_arena.specs.declared.summaries.Summary.{Summary}
-use Rattle.cm_types_resources.specs.Replaced.{replaced}
+use Rattle.cm_types_arena.specs.Replaced.{replaced}
 use Rattle.cm_types_copies.specs.Copies.{BeginsWith, IsCopy}
 use Rattle.cm_types_copies.proofs.CopyLaws.{all_and_one, all_below_more, all_copied, at_front, below_at, copies_more, copies_stay, front_of_front, index_stays, itself, longer, own_copy, part_copied, part_is, part_shallower, parts_long}
 use Rattle.cm_types_copies.proofs.OnceLaws.{PartCopied, both_once, last_once, nothing_once, part_copied_as, wider}

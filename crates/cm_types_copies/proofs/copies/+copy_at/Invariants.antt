@@ -6,7 +6,7 @@ use Rattle.cm_types.specs.Limits.{depth_of}
 use Rattle.cm_types_arena.specs.Arena.{parts_in}
 use Rattle.cm_types_arena.specs.Places.{funcs_of, types_of}
 use Rattle.cm_types_arena.specs.TypeDefs.{type_at}
-use Rattle.cm_types_resources.specs.Replaced.{replaced}
+use Rattle.cm_types_arena.specs.Replaced.{replaced}
 use Rattle.cm_types_copies.specs.Copies.{AreCopies, BeginsWith, CopiesOnce}
 use Rattle.cm_types_copies.proofs.copies.+copy_at.Given as goal
 

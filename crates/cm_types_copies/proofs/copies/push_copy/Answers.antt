@@ -7,7 +7,7 @@ use Rattle.cm_types.specs.TypeTrees.{type_of}
 use Rattle.cm_types_arena.specs.Arena.{parts_in}
 use Rattle.cm_types_arena.specs.Places.{funcs_of, types_of}
 use Rattle.cm_types_arena.specs.TypeDefs.{def_type, type_at}
-use Rattle.cm_types_resources.specs.Replaced.{replaced}
+use Rattle.cm_types_arena.specs.Replaced.{replaced}
 use Rattle.cm_types_copies.proofs.CopyLaws.{at_front, copied_long, itself, longer, made_copy}
 use Rattle.cm_types_copies.proofs.copies.push_copy.Goals as goal
 

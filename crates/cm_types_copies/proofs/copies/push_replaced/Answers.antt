@@ -7,7 +7,7 @@ use Rattle.cm_types.specs.Holds.{holds, is_handle}
 use Rattle.cm_types_arena.specs.Places.{funcs_of, types_of}
 use Rattle.cm_types_arena.specs.TypeDefs.{type_at}
 use Rattle.cm_types_arena.specs.declared.summaries.Summary.{Summary}
-use Rattle.cm_types_resources.specs.Replaced.{replaced}
+use Rattle.cm_types_arena.specs.Replaced.{replaced}
 use Rattle.cm_types_copies.specs.Copies.{IsCopy}
 use Rattle.cm_types_copies.proofs.CopyLaws.{at_front, itself}
 use Rattle.cm_types_copies.proofs.OnceLaws.{nothing_once, once_alone}

@@ -7,7 +7,7 @@ use Rattle.cm_types.specs.Types.{Ty, list, fixed_list, own, borrow, fields, case
 use Rattle.cm_types.specs.TypeTrees.{case_of, field_of, parts_from, plain_from, type_of}
 use Rattle.cm_types_arena.specs.TypeDefs.{type_at}
 use Rattle.cm_types_arena.specs.Arena.{parts_in}
-use Rattle.cm_types_resources.specs.Replaced.{replaced}
+use Rattle.cm_types_arena.specs.Replaced.{replaced}
 use Rattle.cm_types_copies.proofs.DefLaws.{cloned, cases_below, cases_same, fields_below, fields_long, fields_same, first_below, one_same, parts_same, labels_same, two_below}
 use Rattle.cm_types_copies.proofs.Seen.{seen_Bool, seen_S8, seen_U8, seen_S16, seen_U16, seen_S32, seen_U32, seen_S64, seen_U64, seen_Char, seen_String, seen_Own, seen_Borrow, seen_List, seen_FixedList, seen_Record, seen_Tuple, seen_Variant, seen_Enum, seen_Flags, seen_Option}
 use Rattle.cm_types_copies.proofs.definitions.replaced_def.Goals as goal

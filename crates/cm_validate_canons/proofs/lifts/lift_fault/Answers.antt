@@ -1,5 +1,5 @@
 use Rattle.std.proofs.Common.{ap, ◌∙◌}
-use Rattle.cm_types_placed.specs.Placed.{placed_func}
+use Rattle.cm_types_arena.specs.Placed.{placed_func}
 use Rattle.cm_validate_model.specs.Reasons.{lesser}
 use Rattle.cm_validate_canons.specs.Types.{funcs_in, types_in}
 use Rattle.cm_validate_canons.proofs.ReasonLaws.{typed, untyped}

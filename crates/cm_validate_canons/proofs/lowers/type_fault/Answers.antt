@@ -1,4 +1,4 @@
-use Rattle.cm_types_placed.specs.Placed.{placed_func}
+use Rattle.cm_types_arena.specs.Placed.{placed_func}
 use Rattle.cm_validate_canons.specs.Types.{funcs_in}
 use Rattle.cm_validate_canons.proofs.lowers.type_fault.Goals as goal
 

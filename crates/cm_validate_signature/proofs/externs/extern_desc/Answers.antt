@@ -1,5 +1,5 @@
 use Rattle.std.proofs.Common.{sym, subst, None}
-use Rattle.cm_types_placed.specs.declared.externs.ExternDesc.TheVariants as desc
+use Rattle.cm_types_arena.specs.declared.externs.ExternDesc.TheVariants as desc
 use Rattle.cm_validate_entries.specs.declared.spaces.ExportedEntry.{ExportedEntry}
 use Rattle.cm_validate_signature.specs.Made.{IsDescOf, IsNumbered}
 use Rattle.cm_validate_signature.proofs.ExternLaws.{instance_shown}

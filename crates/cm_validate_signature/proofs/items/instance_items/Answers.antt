@@ -2,8 +2,8 @@ use Rattle.std.proofs.Common.{◌≡◌, ℕ, List, true, map, sym, ap, ◌∙�
 use Rattle.std.specs.List.{list_all}
 use Rattle.cm_validate_names.specs.NameMaps.{entries_of}
 use Rattle.cm_types.specs.Types.{Ty, FuncTy}
-use Rattle.cm_types_placed.specs.Instances.{are_items_there, items_of}
-use Rattle.cm_types_placed.specs.declared.instances.Item.{Item}
+use Rattle.cm_types_arena.specs.Instances.{are_items_there, items_of}
+use Rattle.cm_types_arena.specs.declared.instances.Item.{Item}
 use Rattle.cm_validate_model.specs.Spaces.{items_of_members}
 use Rattle.cm_validate_items.specs.InstanceTypes.{instance_type_of}
 use Rattle.cm_validate_entries.specs.Entries.{are_members_there, is_member_there, members_of, named_member}

@@ -1,5 +1,5 @@
 use Rattle.std.proofs.Common.{rules, ◌≡◌, ◌∙◌, ◌++◌, ◌∷◌, [], ◌<◌, length, Some, None, slice_get, ap}
-use Rattle.cm_types_placed.specs.declared.instances.Item.{Item}
+use Rattle.cm_types_arena.specs.declared.instances.Item.{Item}
 use Rattle.cm_validate_names.specs.NameMaps.{entries_of}
 use Rattle.cm_validate_signature.specs.Items.{member_item}
 use Rattle.cm_validate_signature.proofs.ItemLaws.{before_end, map_at}

@@ -1,6 +1,6 @@
 use Rattle.std.proofs.Common.{ap, sym, ◌∙◌}
 use Rattle.cm_types_arena.specs.Places.{funcs_of, types_of}
-use Rattle.cm_types_placed.specs.Externs.{are_externs_in, externs_in}
+use Rattle.cm_types_arena.specs.Externs.{are_externs_in, externs_in}
 use Rattle.cm_types_signatures.specs.Signatures.{signature_of}
 use Rattle.cm_validate_spaces.specs.Checked.{funcs_in, sections_in, spaces_in, types_in}
 use Rattle.cm_validate_signature.specs.Exports.{signature_in}

@@ -1,7 +1,7 @@
 use Rattle.std.proofs.Common.{ap, ◌∙◌}
 use Rattle.cm_types_arena.specs.Places.{types_of}
 use Rattle.cm_types_arena.specs.TypeDefs.{type_at}
-use Rattle.cm_types_placed.specs.Placed.{moved_by}
+use Rattle.cm_types_arena.specs.Placed.{moved_by}
 use Rattle.cm_validate_sketches.specs.Sketches.{value_replaced}
 use Rattle.cm_validate_sketches.proofs.MoveLaws.{value_told}
 use Rattle.cm_validate_sketches.proofs.entries.sketch_placed.Goals as goal

@@ -1,7 +1,7 @@
 use Rattle.std.proofs.Common.{ap, ◌∙◌}
 use Rattle.cm_types_arena.specs.Places.{funcs_of}
 use Rattle.cm_types_arena.specs.TypeDefs.{func_at}
-use Rattle.cm_types_placed.specs.Placed.{moved_by}
+use Rattle.cm_types_arena.specs.Placed.{moved_by}
 use Rattle.cm_validate_sketches.specs.Sketches.{func_replaced, sketch_func}
 use Rattle.cm_validate_sketches.proofs.MoveLaws.{func_told}
 use Rattle.cm_validate_sketches.proofs.entries.sketch_placed_func.Goals as goal

@@ -1,6 +1,6 @@
 use Rattle.std.proofs.Common.{◌≡◌, refl, subst, sym}
 use Rattle.cm_types_arena.specs.Places.{funcs_of}
-use Rattle.cm_types_placed.specs.Placed.{placed_func}
+use Rattle.cm_types_arena.specs.Placed.{placed_func}
 use Rattle.cm_wit_conforms.specs.Comparisons.{facing, two_funcs}
 use Rattle.cm_wit_conforms.specs.declared.fault.ConformList.{ConformList}
 use Rattle.cm_wit_conforms.specs.Views.{other, own}

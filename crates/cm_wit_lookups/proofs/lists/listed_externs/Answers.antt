@@ -1,8 +1,8 @@
 use Rattle.std.proofs.Common.{◌≡◌, ◌∙◌, List, ap, map, sym}
 use Rattle.cm_types_arena.specs.Places.{funcs_of, types_of}
 use Rattle.cm_types_arena.specs.declared.types.Types.{Types}
-use Rattle.cm_types_placed.specs.Externs.{extern_of}
-use Rattle.cm_types_placed.specs.declared.externs.Extern.{Extern}
+use Rattle.cm_types_arena.specs.Externs.{extern_of}
+use Rattle.cm_types_arena.specs.declared.externs.Extern.{Extern}
 use Rattle.cm_types_signatures.specs.Shared.{shared_extern_of}
 use Rattle.cm_types_signatures.specs.SharedNames.{text_in}
 use Rattle.cm_types_signatures.specs.declared.names.Front.{Front}

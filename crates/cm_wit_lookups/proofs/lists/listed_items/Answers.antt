@@ -1,8 +1,8 @@
 use Rattle.std.proofs.Common.{◌≡◌, ◌∙◌, List, ap, map, sym}
 use Rattle.cm_types_arena.specs.Places.{funcs_of, types_of}
 use Rattle.cm_types_arena.specs.declared.types.Types.{Types}
-use Rattle.cm_types_placed.specs.Instances.{item_of}
-use Rattle.cm_types_placed.specs.declared.instances.Item.{Item}
+use Rattle.cm_types_arena.specs.Instances.{item_of}
+use Rattle.cm_types_arena.specs.declared.instances.Item.{Item}
 use Rattle.cm_types_signatures.specs.Shared.{shared_item_of}
 use Rattle.cm_types_signatures.specs.SharedNames.{text_in}
 use Rattle.cm_types_signatures.specs.declared.names.Front.{Front}

@@ -8,7 +8,7 @@ use Rattle.cm_layout.specs.Shapes.{layout_at, layout_of_fields_at}
 use Rattle.cm_types_arena.specs.Arena.{field_types}
 use Rattle.cm_types_arena.specs.Places.{types_of}
 use Rattle.cm_types_arena.specs.TypeDefs.{type_at}
-use Rattle.cm_types_resources.specs.Replaced.{Standing, replaced}
+use Rattle.cm_types_arena.specs.Replaced.{Standing, replaced}
 use Rattle.cm_layout_placed.specs.Placed.{AreOf, layouts_in, result_fields, types_by}
 use Rattle.cm_layout_placed.proofs.PlacedLaws.{all_laid}
 use Rattle.cm_layout_placed.proofs.ReplacedLaws.{as_many_by, type_by}

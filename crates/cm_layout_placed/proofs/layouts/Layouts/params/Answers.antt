@@ -9,7 +9,7 @@ use Rattle.cm_layout.specs.Shapes.{layout_at, layout_of_fields_at}
 use Rattle.cm_types_arena.specs.Arena.{field_types}
 use Rattle.cm_types_arena.specs.Places.{funcs_of, types_of}
 use Rattle.cm_types_arena.specs.TypeDefs.{func_at, type_at}
-use Rattle.cm_types_resources.specs.Replaced.{Standing, replaced, replaced_fields}
+use Rattle.cm_types_arena.specs.Replaced.{Standing, replaced, replaced_fields}
 use Rattle.cm_layout_placed.specs.Placed.{AreOf, layouts_in, types_by}
 use Rattle.cm_layout_placed.proofs.PlacedLaws.{all_laid, are_of}
 use Rattle.cm_layout_placed.proofs.ReplacedLaws.{as_many_by, fields_by, fields_nodes, types_at_by}

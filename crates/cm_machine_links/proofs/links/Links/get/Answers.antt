@@ -1,6 +1,6 @@
 use Rattle.std.proofs.Common.{◌≡◌, ◌∙◌, ap, sym, Some, None, slice_get, List, subst, option_and_then, Vec, Global}
 use Rattle.std.specs.Option.{option_map}
-use Rattle.cm_machine_rules.specs.Plan.{core_func_at}
+use Rattle.cm_machine_model.specs.Plan.{core_func_at}
 use Rattle.cm_machine_links.specs.Planned.{IsFound, rows_in}
 use Rattle.cm_machine_links.specs.declared.core_funcs.CoreFunc.{CoreFunc}
 use Rattle.cm_machine_links.proofs.PlanFacts.{found_at}

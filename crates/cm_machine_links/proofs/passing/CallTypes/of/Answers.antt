@@ -2,8 +2,8 @@ use Rattle.std.specs.Option.{option_map}
 use Rattle.cm_layout.specs.Layouts.{layout_of}
 use Rattle.cm_types_arena.specs.Places.{funcs_of}
 use Rattle.cm_types_arena.specs.TypeDefs.{func_at}
-use Rattle.cm_types_resources.specs.Replaced.{replaced}
-use Rattle.cm_machine_rules.specs.Plan.{one_field}
+use Rattle.cm_types_arena.specs.Replaced.{replaced}
+use Rattle.cm_machine_model.specs.Plan.{one_field}
 use Rattle.cm_machine_links.proofs.PassingFacts.{pointer_of}
 use Rattle.cm_machine_links.proofs.passing.CallTypes.of.Goals as goal
 

@@ -1,6 +1,6 @@
 use Rattle.std.proofs.Common.{List, ◌++◌, sym, ap, subst, ◌∙◌}
-use Rattle.cm_machine_rules.specs.declared.frame.Lend.{Lend}
-use Rattle.cm_machine_rules.specs.State.{lends_to}
+use Rattle.cm_machine_model.specs.declared.frame.Lend.{Lend}
+use Rattle.cm_machine_model.specs.State.{lends_to}
 use Rattle.cm_machine_parts.specs.Lends.{NeverFall, NoneAbove}
 use Rattle.cm_machine_parts.proofs.LendLists.{never_fall_more}
 use Rattle.cm_machine_parts.proofs.lends.Lends.add.Goals as goal

@@ -1,5 +1,5 @@
 use Rattle.std.proofs.Common.{List, sym, subst, ◌∙◌}
-use Rattle.cm_machine_rules.specs.declared.frame.Lend.{Lend}
+use Rattle.cm_machine_model.specs.declared.frame.Lend.{Lend}
 use Rattle.cm_machine_parts.specs.Lends.{NoneAbove}
 use Rattle.cm_machine_parts.proofs.lends.Lends.first_to.Goals as goal
 

@@ -1,7 +1,7 @@
 use Rattle.std.proofs.Common.{refl, sym, subst}
 use Rattle.cm_machine_model.specs.declared.event.Event.{Event}
-use Rattle.cm_machine_rules.specs.Step.{Step}
-use Rattle.cm_machine_rules.specs.Valid.{IsValidState}
+use Rattle.cm_machine_model.specs.Step.{Step}
+use Rattle.cm_machine_model.specs.Valid.{IsValidState}
 use Rattle.cm_machine_links.specs.Planned.{ArePlanned}
 use Rattle.cm_machine_parts.specs.Kept.{Runs}
 use Rattle.cm_machine_parts.specs.Rows.{event_of}

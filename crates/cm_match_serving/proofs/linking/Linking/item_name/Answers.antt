@@ -1,6 +1,6 @@
 use Rattle.std.proofs.Common.{◌≡◌, ◌∙◌, Some, List, ap, sym, slice_get}
-use Rattle.cm_types_placed.specs.declared.instances.InstanceType.{InstanceType}
-use Rattle.cm_types_placed.specs.declared.instances.Item.{Item}
+use Rattle.cm_types_arena.specs.declared.instances.InstanceType.{InstanceType}
+use Rattle.cm_types_arena.specs.declared.instances.Item.{Item}
 use Rattle.cm_match_serving.specs.Linkings.{components_in, set_in}
 use Rattle.cm_match_serving.specs.Sets.{funcs_at, types_at}
 use Rattle.cm_match_serving.proofs.Found.{got, item_read}

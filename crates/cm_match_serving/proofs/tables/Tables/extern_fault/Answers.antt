@@ -2,11 +2,11 @@ use Rattle.std.proofs.Common.{◌∙◌, List, map, sym, ap, subst}
 use Rattle.std.specs.Prelude.{IfOk}
 use Rattle.cm_types.specs.Signatures.{ExternTy}
 use Rattle.cm_types.specs.Signatures as extern
-use Rattle.cm_types_placed.specs.Instances.{items_of, replaced_item}
-use Rattle.cm_types_placed.specs.Placed.{moved_by, placed_func}
-use Rattle.cm_types_placed.specs.declared.instances.InstanceType.{InstanceType}
-use Rattle.cm_types_placed.specs.declared.instances.Item.{Item}
-use Rattle.cm_types_placed.specs.Externs.{extern_desc_of}
+use Rattle.cm_types_arena.specs.Instances.{items_of, replaced_item}
+use Rattle.cm_types_arena.specs.Placed.{moved_by, placed_func}
+use Rattle.cm_types_arena.specs.declared.instances.InstanceType.{InstanceType}
+use Rattle.cm_types_arena.specs.declared.instances.Item.{Item}
+use Rattle.cm_types_arena.specs.Externs.{extern_desc_of}
 use Rattle.cm_validate_model.specs.Definitions.{ExportDef}
 use Rattle.cm_validate_entries.specs.ComponentSpaces.{exported_def}
 use Rattle.cm_validate_entries.specs.Entries.{func_def}

@@ -2,8 +2,8 @@ use Rattle.std.proofs.Common.{◌∙◌, sym, ap, subst}
 use Rattle.std.specs.Prelude.{IfOk}
 use Rattle.cm_types.specs.Signatures.{ItemTy, equal_resource, equal_type, func_item}
 use Rattle.cm_types_arena.specs.TypeDefs.{func_at, type_at}
-use Rattle.cm_types_placed.specs.Instances.{numbered}
-use Rattle.cm_types_placed.specs.Placed.{moved_by}
+use Rattle.cm_types_arena.specs.Instances.{numbered}
+use Rattle.cm_types_arena.specs.Placed.{moved_by}
 use Rattle.cm_validate_model.specs.Spaces.{item_of_member}
 use Rattle.cm_validate_entries.specs.Entries.{member_def}
 use Rattle.cm_match_serving.specs.Answers.{JudgesItem, wanted_desc}

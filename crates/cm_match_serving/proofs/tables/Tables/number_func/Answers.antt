@@ -1,6 +1,6 @@
 use Rattle.std.proofs.Common.{◌≡◌, ◌∙◌, Some, ap, arith, subst, sym, IfOk}
 use Rattle.std.proofs.lemmas.Option.{slice_get-get_or}
-use Rattle.cm_types_resources.specs.Replaced.{replaced_func}
+use Rattle.cm_types_arena.specs.Replaced.{replaced_func}
 use Rattle.cm_types_arena.specs.TypeDefs.{func_at}
 use Rattle.cm_types_numbers.specs.Numbering.{number_func, numbering}
 use Rattle.cm_types_numbers.specs.Moved.{brought_by}

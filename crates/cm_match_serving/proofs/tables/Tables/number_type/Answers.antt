@@ -1,6 +1,6 @@
 use Rattle.std.proofs.Common.{◌≡◌, ◌∙◌, Some, ap, arith, subst, sym, IfOk}
 use Rattle.std.proofs.lemmas.Option.{slice_get-get_or}
-use Rattle.cm_types_resources.specs.Replaced.{replaced}
+use Rattle.cm_types_arena.specs.Replaced.{replaced}
 use Rattle.cm_types_arena.specs.TypeDefs.{type_at}
 use Rattle.cm_types_numbers.specs.Numbering.{number, numbering}
 use Rattle.cm_types_numbers.specs.Moved.{brought_by}

@@ -2,7 +2,7 @@ use Rattle.std.proofs.Common.{refl, sym, ◌∙◌}
 use Rattle.cm_types_numbers.specs.Numbering.{numbering}
 use Rattle.cm_match_serving.specs.Sides.{standing_of, funcs_in}
 use Rattle.cm_match_serving.specs.Tables.{func_brought}
-use Rattle.cm_types_resources.specs.Replaced.{replaced_func}
+use Rattle.cm_types_arena.specs.Replaced.{replaced_func}
 use Rattle.cm_match_serving.proofs.Same.{func_stays, funcs_of_pair, known_at, test_tells}
 use Rattle.cm_match_serving.proofs.tables.Tables.same_funcs.Goals as goal
 

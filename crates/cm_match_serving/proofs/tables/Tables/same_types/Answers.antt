@@ -2,7 +2,7 @@ use Rattle.std.proofs.Common.{refl, sym, ◌∙◌}
 use Rattle.cm_types_numbers.specs.Numbering.{numbering}
 use Rattle.cm_match_serving.specs.Sides.{standing_of, types_in}
 use Rattle.cm_match_serving.specs.Tables.{type_brought}
-use Rattle.cm_types_resources.specs.Replaced.{replaced}
+use Rattle.cm_types_arena.specs.Replaced.{replaced}
 use Rattle.cm_match_serving.proofs.Same.{known_at, test_tells, type_stays, types_of_pair}
 use Rattle.cm_match_serving.proofs.tables.Tables.same_types.Goals as goal
 

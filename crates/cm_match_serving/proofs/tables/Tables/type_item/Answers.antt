@@ -1,6 +1,6 @@
 use Rattle.std.proofs.Common.{Option, sym, ap, subst}
 use Rattle.cm_types.specs.Signatures.{ItemTy, equal_type}
-use Rattle.cm_types_placed.specs.Placed.{placed_type}
+use Rattle.cm_types_arena.specs.Placed.{placed_type}
 use Rattle.cm_validate_model.specs.Spaces.{item_of_member}
 use Rattle.cm_match_model.specs.declared.fault.LinkReason.TheVariants as reason
 use Rattle.cm_match_model.specs.Serving.{IsSameType}

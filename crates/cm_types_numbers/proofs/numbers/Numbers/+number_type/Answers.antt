@@ -4,7 +4,7 @@ use Rattle.cm_types.specs.Types.{Ty}
 use Rattle.cm_types.specs.TypeTrees.{type_of}
 use Rattle.cm_types_arena.specs.Places.{types_of}
 use Rattle.cm_types_arena.specs.TypeDefs.{type_at}
-use Rattle.cm_types_resources.specs.Replaced.{replaced}
+use Rattle.cm_types_arena.specs.Replaced.{replaced}
 use Rattle.cm_types_numbers.specs.Numbering.{AreNumbers, number, numbering}
 use Rattle.cm_types_numbers.proofs.KnownLaws.{at_place, known_stays, none_there, numbered_here, part_more, parts_of}
 use Rattle.cm_types_numbers.proofs.Stays.{extends_itself, extends_on}

@@ -1,7 +1,7 @@
 use Rattle.std.proofs.Common.{◌≡◌, ◌+◌, Some, drop, length}
 use Rattle.cm_types.specs.TypeTrees.{cases_of}
 use Rattle.cm_types_arena.specs.Arena.{payload_types}
-use Rattle.cm_types_resources.specs.Replaced.{Standing, replaced_cases}
+use Rattle.cm_types_arena.specs.Replaced.{Standing, replaced_cases}
 use Rattle.cm_types_numbers.specs.Numbering.{numbering, number_cases, Extends, AreNumbers}
 use Rattle.cm_types_numbers.proofs.numbers.Numbers.cases.Given as goal
 

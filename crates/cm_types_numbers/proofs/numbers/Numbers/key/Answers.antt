@@ -5,7 +5,7 @@ use Rattle.cm_types.specs.declared.type_trees.Field.{Field}
 use Rattle.cm_types.specs.Types.{Ty}
 use Rattle.cm_types.specs.TypeTrees.{cases_of, fields_of, parts_of, shared_payload, type_of}
 use Rattle.cm_types_arena.specs.Arena.{field_types, payload_types, parts_in}
-use Rattle.cm_types_resources.specs.Replaced.{replaced, replaced_cases, replaced_fields}
+use Rattle.cm_types_arena.specs.Replaced.{replaced, replaced_cases, replaced_fields}
 use Rattle.cm_types_numbers.specs.Numbering.{numbering, number, AreNumbers, number_cases, number_fields, number_labels, result_cases}
 use Rattle.cm_types_numbers.proofs.ChainLemmas.{fields_long, parts_are}
 use Rattle.cm_types_numbers.proofs.NodeLemmas.{list_numbered, fixed_list_numbered, record_numbered, tuple_numbered, variant_numbered, enum_numbered, flags_numbered, option_numbered, result_numbered}

@@ -5,7 +5,7 @@ use Rattle.cm_types.specs.Types.{Ty}
 use Rattle.cm_types_arena.specs.Arena.{field_types}
 use Rattle.cm_types_arena.specs.Places.{funcs_of, types_of}
 use Rattle.cm_types_arena.specs.TypeDefs.{func_at}
-use Rattle.cm_types_resources.specs.Replaced.{Standing}
+use Rattle.cm_types_arena.specs.Replaced.{Standing}
 use Rattle.cm_types_numbers.specs.Numbering.{Numbering, AreNumbers, numbering}
 use Rattle.cm_types_numbers.proofs.Stays.{extends_itself}
 use Rattle.cm_types_numbers.proofs.KnownFuncs.{func_known, known_long, procedure_known}

@@ -1,6 +1,6 @@
 use Rattle.std.proofs.Common.{take}
 use Rattle.cm_types_arena.specs.Places.{types_of, funcs_of}
-use Rattle.cm_types_resources.specs.Replaced.{Standing}
+use Rattle.cm_types_arena.specs.Replaced.{Standing}
 use Rattle.cm_types_numbers.specs.Numbering.{numbering, Extends, AreNumbers, AreFuncNumbers}
 use Rattle.cm_types_numbers.proofs.numbers.Numbers.number_funcs.Given as goal
 

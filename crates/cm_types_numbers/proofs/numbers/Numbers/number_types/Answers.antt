@@ -8,7 +8,7 @@ use Rattle.cm_types_arena.specs.Arena.{parts_in}
 use Rattle.cm_types_arena.specs.Places.{types_of}
 use Rattle.cm_types_arena.specs.TypeDefs.{type_at}
 use Rattle.cm_types_numbers.specs.Numbering.{numbering, AreNumbers, IsNodeOf}
-use Rattle.cm_types_resources.specs.Replaced.{replaced}
+use Rattle.cm_types_arena.specs.Replaced.{replaced}
 use Rattle.cm_types_numbers.proofs.ArenaLemmas.{type_numbered}
 use Rattle.cm_types_numbers.proofs.Stays.{extends_itself, extends_on}
 use Rattle.cm_types_numbers.proofs.numbers.Numbers.number_types.Goals as goal

@@ -1,7 +1,7 @@
 use Rattle.std.proofs.Common.{◌≡◌, Some, List, drop}
 use Rattle.cm_types.specs.TypeTrees.{parts_from}
 use Rattle.cm_types.specs.Types.{Ty}
-use Rattle.cm_types_resources.specs.Replaced.{Standing, replaced_fields}
+use Rattle.cm_types_arena.specs.Replaced.{Standing, replaced_fields}
 use Rattle.cm_types_numbers.specs.Numbering.{numbering, number_fields, Extends, AreNumbers}
 use Rattle.cm_types_numbers.proofs.numbers.Numbers.parts.Given as goal
 

@@ -1,7 +1,7 @@
 use Rattle.std.proofs.Common.{◌≡◌, Some, ap, sym, subst, ◌∙◌}
 use Rattle.cm_types_arena.specs.Places.{funcs_of}
 use Rattle.cm_types_arena.specs.TypeDefs.{func_at}
-use Rattle.cm_types_resources.specs.Replaced.{replaced_func}
+use Rattle.cm_types_arena.specs.Replaced.{replaced_func}
 use Rattle.cm_types_numbers.specs.Numbering.{number_func, numbering}
 use Rattle.cm_types_numbers.specs.Moved.{brought_by, moved_through}
 use Rattle.cm_types_numbers.specs.declared.moves.Moves.{Moves}

@@ -1,7 +1,7 @@
 use Rattle.std.proofs.Common.{◌≡◌, Some, ap, subst, ◌∙◌}
 use Rattle.cm_types_arena.specs.Places.{funcs_of, types_of}
 use Rattle.cm_types_arena.specs.TypeDefs.{type_at}
-use Rattle.cm_types_resources.specs.Replaced.{replaced}
+use Rattle.cm_types_arena.specs.Replaced.{replaced}
 use Rattle.cm_types_numbers.specs.Numbering.{number, numbering}
 use Rattle.cm_types_numbers.specs.Moved.{brought_by, moved_through}
 use Rattle.cm_types_numbers.specs.declared.moves.Moves.{Moves}

@@ -1,6 +1,6 @@
 use Rattle.cm_types.specs.DefTypes.{func_type_tree}
 use Rattle.cm_validate_model.specs.Scopes.{func_def_of}
-use Rattle.cm_types_placed.specs.Instances.{items_of}
+use Rattle.cm_types_arena.specs.Instances.{items_of}
 use Rattle.cm_validate_types.specs.TypeScopes.{arena_funcs, arena_types, own_types, types_around}
 use Rattle.cm_validate_declarations.specs.DeclaredScopes.{scope_so_far}
 use Rattle.cm_validate_declarations.proofs.MovedLaws.{around_before}

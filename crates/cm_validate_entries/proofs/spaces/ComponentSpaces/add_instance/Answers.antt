@@ -1,5 +1,5 @@
 use Rattle.std.proofs.Common.{◌≡◌, ◌++◌, ap, ◌∙◌, subst, map, length}
-use Rattle.cm_types_placed.specs.declared.instances.InstanceType.{InstanceType}
+use Rattle.cm_types_arena.specs.declared.instances.InstanceType.{InstanceType}
 use Rattle.cm_validate_model.specs.Definitions.{brought}
 use Rattle.cm_validate_items.specs.Items.{fresh_of}
 use Rattle.cm_validate_items.specs.InstanceTypes.{instance_type_of}

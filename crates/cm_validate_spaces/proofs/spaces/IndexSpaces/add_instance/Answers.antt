@@ -1,6 +1,6 @@
 use Rattle.std.proofs.Common.{refl, List, subst}
 use Rattle.cm_binary_model.specs.Trees.{instance_tree}
-use Rattle.cm_validate_inline_exports.specs.Answers.{AnswersAmong}
+use Rattle.cm_validate_instances.specs.Answers.{AnswersAmong}
 use Rattle.cm_types.specs.Types.{FuncTy, Ty}
 use Rattle.cm_binary_model.specs.declared.instances.InlineExport.{InlineExport}
 use Rattle.cm_types_arena.specs.Places.{funcs_of, types_of}

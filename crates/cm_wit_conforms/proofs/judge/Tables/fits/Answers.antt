@@ -1,6 +1,6 @@
 use Rattle.std.proofs.Common.{◌≡◌, ◌↔◌, Bool, IsTrue, List, subst, sym}
 use Rattle.cm_types.specs.declared.resource.ResourceId.{ResourceId}
-use Rattle.cm_types_resources.specs.Replaced.{replaced, replaced_func}
+use Rattle.cm_types_arena.specs.Replaced.{replaced, replaced_func}
 use Rattle.cm_types_arena.specs.declared.types.Types.{Types}
 use Rattle.cm_wit_conforms.specs.Comparisons.{Entry}
 use Rattle.cm_wit_conforms.specs.Conformance.{Fits}

@@ -1,6 +1,6 @@
 use Rattle.std.proofs.Common.{refl}
 use Rattle.cm_types_numbers.specs.Numbering.{numbering}
-use Rattle.cm_types_resources.specs.Replaced.{replaced_func}
+use Rattle.cm_types_arena.specs.Replaced.{replaced_func}
 use Rattle.cm_types_numbers.specs.Moved.{brought_func}
 use Rattle.cm_wit_conforms.specs.Judging.{marks_of}
 use Rattle.cm_wit_conforms.proofs.JudgeLaws.{test_tells, func_stays}

@@ -1,5 +1,0 @@
-mod Tables
-mod Calls
-mod Found
-mod Cases
-mod Along

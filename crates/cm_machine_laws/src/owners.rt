@@ -1,0 +1,31 @@
+//! Where resources are, and what is lent and borrowed, as laws: each function here does nothing,
+//! and its contract is the law.
+
+ghost use Rattle.cm_machine_told.specs.Always.{Always};
+ghost use Rattle.cm_machine_told.specs.Lent.{BorrowsStand, LendsStand};
+ghost use Rattle.cm_machine_told.specs.Placed.{KeepsGone, OwnsRightly};
+
+use crate::values::values_are_followed;
+use cm_machine_told::laws::histories_are_told;
+use cm_machine_valid::laws::{
+    histories_are_valid, what_is_borrowed_is_backed, what_is_met_is_the_values_handles,
+};
+
+/// Resources and borrows in each history of each set that can be linked, whatever its guests do.
+///
+/// Each resource that was made has exactly one place, and those on their way are of the value that
+/// is being placed. What was dropped or lost stays so, and no serial number is issued twice. What
+/// is lent is lent to the calls that go on, as they borrowed it, no more and no less. Each
+/// borrowed handle is of a call whose body runs in that instance, and none dangles.
+pub fn owners_are_told()
+    ensures one_place { Always OwnsRightly }
+    ensures stays_gone { Always KeepsGone }
+    ensures lends_stand { Always LendsStand }
+    ensures borrows_stand { Always BorrowsStand }
+{
+    histories_are_valid();
+    histories_are_told();
+    values_are_followed();
+    what_is_borrowed_is_backed();
+    what_is_met_is_the_values_handles();
+}

@@ -1,5 +1,0 @@
-mod Bytes
-mod Regions
-mod Turns
-mod Cases
-mod Along

@@ -1,6 +1,0 @@
-use Rattle.std.proofs.Common.{◌≡◌, take, map}
-use Rattle.cm_machine_rules.specs.State.{zeros}
-use Rattle.cm_machine_moves.proofs.setup.memories_of.Given as goal
-
-abbrev pub invariant-loop-count : goal.invariant-loop-count
-invariant-loop-count l = l.memories ≡ map zeros (take l.count-index l.pages)

@@ -1,1 +1,0 @@
-pub use Rattle.cm_machine_parts.specs as cm_machine_parts

@@ -1,6 +1,0 @@
-mod OnTheWay
-mod Borrowing
-mod Gone
-mod GoneCases
-mod Lending
-mod LendCases

@@ -1,3 +1,0 @@
-pub mod Replaced
-pub mod Moves
-pub mod SameTypes

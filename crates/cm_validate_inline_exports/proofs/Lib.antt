@@ -1,6 +1,0 @@
-mod TextLaws
-mod ReasonLaws
-mod SketchLaws
-mod MemberLaws
-mod NameLaws
-mod GatherLaws

@@ -1,0 +1,20 @@
+//! The type of an instance as a whole: the rules that it violates, and the type that it is.
+//!
+//! Which names the items of an instance may have is decided here, from sketches of the items.
+#![tactic(auto)]
+
+mod exports;
+mod faults;
+mod instances;
+pub mod laws;
+pub mod name_laws;
+mod names;
+mod passes;
+mod resources;
+mod sketches;
+mod sketching;
+
+pub use cm_validate_sketches::{FuncSketch, resource_id};
+pub use faults::item_names_fault;
+pub use instances::define_instance;
+pub use sketches::{ItemSketch, NamedSketch};
