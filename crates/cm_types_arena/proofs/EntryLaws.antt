@@ -14,7 +14,7 @@ use Rattle.cm_types_arena.specs.TypeDefs.{type_at, def_type, def_parts, is_spell
 use Rattle.cm_types_arena.specs.Arena.{parts_in, types_in, IsEntry, IsArena}
 use Rattle.cm_types_arena.specs.Places.{HasParts}
 use Rattle.cm_types_arena.proofs.ArenaLaws.{spellable_there}
-use Rattle.cm_types_arena.proofs.Laws.{AreSpellable, def_parts_are, def_spellable_is}
+use Rattle.cm_types_arena.proofs.DefLaws.{AreSpellable, def_parts_are, def_spellable_is}
 use Rattle.cm_types_arena.proofs.PlaceLaws.{parts_below}
 
 pub parts_spellable : (es : List TypeEntry) (ps : List ℕ) → ∥ IsArena es ∥₁ → AllByRecursion (λ p. p < length (types_in es)) ps → AreSpellable (map (type_at (types_in es)) ps)

@@ -26,7 +26,7 @@ use Rattle.cm_types_arena.specs.Arena.{field_types, types_in, funcs_in, IsArena,
 use Rattle.cm_types_arena.specs.Places.{HasFuncParts}
 use Rattle.cm_types_arena.proofs.ArenaLaws.{Summary-set, parts_left, at_left, all_below_prop, types_more}
 use Rattle.cm_types_arena.proofs.EntryLaws.{parts_spellable}
-use Rattle.cm_types_arena.proofs.Laws.{AreSpellable, record_parts, fields_spellable}
+use Rattle.cm_types_arena.proofs.DefLaws.{AreSpellable, record_parts, fields_spellable}
 use Rattle.cm_types_arena.proofs.PlaceLaws.{AreBelow, mapped_below, below_more, option_more, below_prop}
 use Rattle.cm_types_arena.proofs.SummaryLaws.{too_large, summary_known}
 use Rattle.cm_types_arena.proofs.TySets.{Types-set}

@@ -1,4 +1,4 @@
-pub mod Laws
+pub mod DefLaws
 pub mod ArenaLaws
 pub mod SummaryLaws
 pub mod PlaceLaws

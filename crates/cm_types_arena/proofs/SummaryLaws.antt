@@ -11,7 +11,7 @@ use Rattle.cm_types_arena.specs.declared.type_defs.TypeDef.{TypeDef}
 use Rattle.cm_types_arena.specs.declared.type_defs.TypeDef.TheVariants as def
 use Rattle.cm_types_arena.specs.Summaries.{summary_of, summary_of_all, def_summary}
 use Rattle.cm_types_arena.specs.TypeDefs.{type_at, def_type, def_parts}
-use Rattle.cm_types_arena.proofs.Laws.{def_summary_is}
+use Rattle.cm_types_arena.proofs.DefLaws.{def_summary_is}
 
 often : (n x : ℕ) → x ≤ 1 + max n 1 * x
 often n x = let h : 1 ≤ max n 1 = omega arith in let g : 1 * x ≤ max n 1 * x = mul-le-mul_right x h in omega arith
