@@ -1,5 +1,5 @@
-//! Values of components between core instances: the adapters of the Canonical ABI
-//! (CanonicalABI.md, "Lifting and Lowering Values").
+//! The adapters of the Canonical ABI: `lift` and `lower`, or `scan` and `copy` (CanonicalABI.md,
+//! "Lifting and Lowering Values").
 //!
 //! The way of a call. Of each function a layout of the tuple of its parameters and one of its
 //! results is made once, and the kinds of the core values that pass them (`cm_layout`).

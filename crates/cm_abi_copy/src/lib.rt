@@ -1,10 +1,7 @@
-//! Values of components, copied from their giver to the receiver of a call, into its memory and to
-//! its core values, with no tree made of them (CanonicalABI.md, "Loading", "Storing", "Flattening"
-//! and "Lifting and Lowering Values").
+//! `scan` and `copy`: values go from memory to memory without a value tree.
 //!
-//! Values of components that core values pass, looked at with no tree made of them: the same checks
-//! and the same handles, in reading order, as where they are lifted, and a record of each part
-//! (CanonicalABI.md, "Flattening" and "Lifting and Lowering Values").
+//! A `Scan` keeps a record of each string and list, the handles, and the answers of `realloc`
+//! (CanonicalABI.md, "Loading", "Storing" and "Lifting and Lowering Values").
 #![tactic(auto)]
 
 mod call_laws;

@@ -1,8 +1,8 @@
-//! Values of components, lifted from core values, with the handles that go with them
-//! (CanonicalABI.md, "Flattening" and "Lifting and Lowering Values").
+//! Lifts values from core values, and takes or lends the handles in them (CanonicalABI.md,
+//! "Flattening" and "Lifting and Lowering Values").
 //!
-//! Values of components looked at where they stand, with no tree made of them: the same checks as
-//! of a value that is read, and a record of each string and list (CanonicalABI.md, "Loading").
+//! The same walk records strings and lists where no tree is wanted (`Recorder`). What stands in
+//! memory is loaded by `cm_abi_load`.
 #![tactic(auto)]
 
 mod handing;

@@ -1,8 +1,6 @@
-//! Values of components, read from memory (CanonicalABI.md, "Loading").
+//! Loads values from memory: numbers, strings, lists and handles (CanonicalABI.md, "Loading").
 //!
-//! The leaves, the strings and the handles of values, and what their pointers lead to, read from
-//! memory (CanonicalABI.md, "Loading"); the numbers in core values; and how far a reader of values
-//! has come.
+//! A `Maker` decides what becomes of a value: a tree, or records of its strings and lists.
 #![tactic(auto)]
 
 mod giver;

@@ -1,8 +1,7 @@
-//! Values of components, passed in slots, with what is behind pointers stored into the memory of a
-//! receiver (CanonicalABI.md, "Flattening" and "Lifting and Lowering Values").
+//! Lowers values: core values, memory behind pointers, the receiver's handles (CanonicalABI.md,
+//! "Flattening" and "Lifting and Lowering Values").
 //!
-//! The handles of a value, given to the receiver of a call (CanonicalABI.md, "Storing" and
-//! "Lowering" of own and borrow).
+//! What goes to memory is stored by `cm_abi_store`.
 #![tactic(auto)]
 
 mod calls;

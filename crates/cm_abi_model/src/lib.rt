@@ -1,7 +1,6 @@
-//! What core values and bytes in memory say about values of components, and what a lowering stores:
-//! the Canonical ABI in definitions, with laws that say the same in the standard's words.
+//! The Canonical ABI in definitions, with laws in the standard's words.
 //!
-//! Nothing runs here but plain data: `cm_abi_load` and `cm_abi_lift` read values by these
+//! Of code there is only plain data. `cm_abi_load` and `cm_abi_lift` read values by these
 //! definitions, `cm_abi_store` and `cm_abi_lower` write them.
 #![tactic(auto)]
 

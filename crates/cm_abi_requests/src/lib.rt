@@ -1,8 +1,8 @@
-//! Values of components, lowered into the memory of a receiver (CanonicalABI.md, "Storing" and
-//! "Lowering").
+//! The memory that lowering asks `realloc` for; whether its answers will do (CanonicalABI.md,
+//! "Storing" of lists and strings).
 //!
-//! What the parts of a value ask for, by the records that were kept of them, one request after
-//! another (CanonicalABI.md, "Storing" of lists and strings, and `realloc`).
+//! The requests for a value tree are one list (`requests`); those for what a scan recorded come one
+//! after another (`PartRequests`). Nothing is lowered here.
 #![tactic(auto)]
 
 mod answers;

@@ -1,7 +1,6 @@
-//! Values of components, stored into the memory of a receiver (CanonicalABI.md, "Storing").
+//! Stores values into memory by their layouts, and converts strings (CanonicalABI.md, "Storing").
 //!
-//! What is stored of values of components and passed of them, by their layouts, and the bytes of
-//! numbers and texts written to a memory (CanonicalABI.md, "Storing" and "Flattening").
+//! A value comes from a tree, or from another memory: both are a `ValueSource`.
 #![tactic(auto)]
 
 mod bytes;

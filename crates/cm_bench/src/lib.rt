@@ -1,4 +1,4 @@
-//! What the benchmarks in `bench/` call: a few functions on numbers and byte slices.
+//! What the benchmarks in `bench/` call: functions on numbers and byte slices.
 #![tactic(auto)]
 
 mod call;

@@ -1,7 +1,6 @@
-//! Component files: reading and writing them, each form with the shortest spelling of each number
-//! (Binary.md).
+//! Component files, decoded and encoded: whole, in pieces, from readers, to writers.
 //!
-//! Component files that come in pieces, are read from a reader, or written to a writer.
+//! Each form is written with the shortest spelling of each number (Binary.md).
 #![tactic(auto)]
 
 mod aliases;

@@ -1,9 +1,7 @@
-//! Why bytes are no component file, the bytes that name its forms, and its texts (Binary.md).
+//! The grammar of component files: a production for each form, and its reader (Binary.md).
 //!
-//! The grammar of types in component files, of what they declare and of aliases, and a reader for
-//! each production (Binary.md).
-//!
-//! The grammar of component files, production by production, and a reader for each (Binary.md).
+//! The bytes that name the forms are tables of codes here; so are the reasons for which bytes are
+//! no component file.
 #![tactic(auto)]
 
 mod aliases;

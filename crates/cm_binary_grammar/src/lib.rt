@@ -1,6 +1,8 @@
-//! Grammars of bytes: steps from which a binary format is built, with the laws that make reading
-//! exact; and numbers in LEB128, as the files of components spell them (Binary.md; the core
-//! specification, "Integers"): `u32`, and `s33` for indices of types.
+//! Grammars of bytes: the steps that file formats are built from, with laws.
+//!
+//! A grammar says which bytes spell a value, and what the first fault of other bytes is; a reader
+//! that goes by it is exact. Numbers in LEB128 are read and written here too (the core
+//! specification, "Integers").
 #![tactic(auto)]
 
 mod cursor;

@@ -1,4 +1,6 @@
-//! The tree of a component file: its sections and what stands in them (Binary.md).
+//! The tree of a decoded component file: its sections and their items (Binary.md).
+//!
+//! The limits of a file, and the length of the shortest one, are here as well.
 #![tactic(auto)]
 
 mod aliases;

@@ -1,4 +1,4 @@
-//! Handle tables: which resource each index of an instance stands for (CanonicalABI.md, "Table
+//! Handle tables: the resource handle at each index of an instance (CanonicalABI.md, "Table
 //! State").
 #![tactic(auto)]
 

@@ -1,4 +1,4 @@
-//! How values of component types lie in memory, and which core values pass them (CanonicalABI.md,
+//! Sizes, alignments and offsets of types, and the core values that pass them (CanonicalABI.md,
 //! "Alignment", "Element Size" and "Flattening").
 //!
 //! Sizes, alignments and offsets are there one by one, and as one tree for a type and each type in

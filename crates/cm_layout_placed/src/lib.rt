@@ -1,7 +1,7 @@
-//! Layouts and core kinds of the types of an arena, by their places.
+//! Layouts and core kinds of the types of an arena, each type laid out once.
 //!
-//! Each type is laid out once, over the layouts of its parts, which it shares; nothing below a part
-//! is walked (CanonicalABI.md, "Alignment", "Element Size" and "Flattening").
+//! A layout is made of the layouts of a type's parts, which it shares; nothing below a part is
+//! walked (CanonicalABI.md, "Alignment", "Element Size" and "Flattening").
 #![tactic(auto)]
 
 mod kinds;

@@ -1,5 +1,4 @@
-//! Laws of the machine over all moves and whole histories: its rows against the sentences of
-//! `cm_machine_told`. There is no code here.
+//! The proofs of the headline's sentences, over all histories; no code.
 //!
 //! - `values`: what was sent is what is received, by what allocators were asked for and answered;
 //! - `memories`: which bytes of which memory change;

@@ -1,4 +1,4 @@
-//! What each core function of a linked set needs while it runs: made once, of the set.
+//! What each core function of a linked set comes to, with layouts, found once.
 //!
 //! The layouts and core kinds of what a function passes are made once for each type of a function,
 //! with each resource what it is in the end, and shared by all links of the type.

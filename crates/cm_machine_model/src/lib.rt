@@ -1,9 +1,9 @@
-//! The rules of the machine, and what rules and code share: moves, events, traps and misuses,
-//! limits, guests, and the linear memories of instances.
+//! The machine in definitions: a plan, a state, a step, runs and histories.
 //!
-//! Nothing runs here. The definitions stand in specs/: what each core function of a linked set
-//! stands for (`Plan`), the state while a set runs (`State`), what each move leads to (`Step`, a row
-//! a move), runs and whole histories (`Run`, `History`), and what holds between moves (`Valid`).
+//! Beside them stands the data that rules and code share: moves, events, traps and misuses, limits,
+//! guests, and the linear memories of instances. `Plan` is what each core function of a linked set
+//! stands for, `State` a set while it runs, `Step` what each kind of move leads to, `Run` and
+//! `History` many steps, and `Valid` what holds between moves.
 #![tactic(auto)]
 
 mod event;

@@ -1,4 +1,4 @@
-//! The parts of a linked set that runs: its state, and what each of its moves has in common.
+//! The state of a running set, and what its moves share: stack, lends.
 //!
 //! What a function of a row promises is said by `MeetsRow`. The rows themselves stand in the crates
 //! above.

@@ -1,6 +1,7 @@
-//! Moves that pass no value: the canonical functions on resources (CanonicalABI.md, `canon
-//! resource.new`, `canon resource.drop` and `canon resource.rep`), what a guest does to its own
-//! memory, and the returns that only end a frame; and the state of a set before anything ran.
+//! Moves that pass no value: resource built-ins, a guest's own memory (CanonicalABI.md, `canon
+//! resource.new`, `canon resource.drop` and `canon resource.rep`).
+//!
+//! Returns that only end a frame are here too, and the state of a set before anything ran.
 #![tactic(auto)]
 
 mod adding;

@@ -1,4 +1,4 @@
-//! A linked set that runs.
+//! `Set`: a linked set that runs, one move at a time.
 #![tactic(auto)]
 
 mod advance;

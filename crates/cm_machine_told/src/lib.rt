@@ -1,8 +1,7 @@
-//! What goes on in a running set, told by moves and events alone: who acts, which calls stand,
-//! which values were sent and returned, and why a move traps.
+//! The sentences of the headline, on moves and events alone; no code.
 //!
-//! Nothing in these definitions reads the machine's stack; that it says the same is a law, and so
-//! are the sentences on what goes on.
+//! They reconstruct who acts, which calls are open, which values were sent and returned, and why a
+//! move traps, without reading the machine's stack; that the stack says the same is a law.
 #![tactic(auto)]
 
 pub mod laws;

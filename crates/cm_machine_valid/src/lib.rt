@@ -1,5 +1,4 @@
-//! The machine is valid at each moment: before anything ran, when a root call begins, and after
-//! each step.
+//! Each begin and each step keeps the machine's state valid; no code.
 #![tactic(auto)]
 
 pub mod laws;

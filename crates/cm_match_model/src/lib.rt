@@ -1,4 +1,4 @@
-//! Which sets of components can be linked, and what a resource is in the end: definitions and laws.
+//! Which sets of components link, and what a resource is in the end.
 //!
 //! They cover every form: the plan of a set, why a set cannot be linked, which exports fit an
 //! import by name and version, and which imports are served alike.

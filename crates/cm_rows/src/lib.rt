@@ -1,5 +1,4 @@
-//! What the programs of test rows share: families of rows, each row a line of words that is
-//! answered by a line, and what rows of several programs spell: bytes, files, texts, writers.
+//! Rows of tests: read, answered and compared; how they spell files.
 #![tactic(auto)]
 
 mod answering;

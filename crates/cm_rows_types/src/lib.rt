@@ -1,4 +1,4 @@
-//! Types, names, resources and core values as the rows of several programs spell them.
+//! Types, names, resources and core values as rows spell them.
 #![tactic(auto)]
 
 mod arena;

@@ -1,4 +1,4 @@
-//! The command: it checks, shows, compares, links and plays the components in a host's files.
+//! The command, over a host's files and writers: check, show, conform, link, play.
 #![tactic(auto)]
 
 mod commands;

@@ -1,4 +1,4 @@
-//! The files of a command: the components and texts in them, and the lines that say what is wrong.
+//! Reads the files of a command, and writes the lines of their faults.
 //!
 //! A component is shown by its imports and exports, and compared with a world of a WIT text.
 #![tactic(auto)]

@@ -1,5 +1,4 @@
-//! What stood where a component file has its fault, and what was wanted there: the tails of the
-//! command's lines.
+//! Ends of error lines on component files: what was found, expected.
 //!
 //! Each call takes what a fault was found in, and answers the words behind its line, which begin
 //! with `: ` or are none. A tail stays in one line, and names no more than a few things.

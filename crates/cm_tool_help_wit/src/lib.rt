@@ -1,5 +1,4 @@
-//! What stood where a WIT text has its fault, and what was wanted there: the tails of the command's
-//! lines.
+//! Ends of error lines on WIT texts: what was found, expected.
 //!
 //! Each call takes what a fault was found in, and answers the words behind its line, which begin
 //! with `: ` or are none. A tail stays in one line, and names no more than a few things.

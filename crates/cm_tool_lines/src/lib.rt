@@ -1,4 +1,4 @@
-//! The lines that the command writes: events, plans, and explanations of faults.
+//! Lines of events, of a plan, and of faults of scripts and drives.
 #![tactic(auto)]
 
 mod events;

@@ -1,4 +1,4 @@
-//! Scripts: the statements that say what the guests of a set do, and guests that do it.
+//! Scripts: statements that say what guests do, and guests that do it.
 #![tactic(auto)]
 
 mod forms;

@@ -1,4 +1,4 @@
-//! The text that shows a type, a component's imports and exports, or those of a world.
+//! The text of a type or a signature, as the command `show` prints it.
 //!
 //! Resources are numbered in such a text, each by its first appearance.
 #![tactic(auto)]

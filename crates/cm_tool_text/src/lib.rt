@@ -1,4 +1,4 @@
-//! Texts in the lines of the command: names that stay in one line, places in a text, near words.
+//! Texts in error lines: names escaped, lines and columns, words that are near.
 #![tactic(auto)]
 
 mod escaped;

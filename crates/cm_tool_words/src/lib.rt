@@ -1,4 +1,4 @@
-//! The words of the command line, and the command that they ask for.
+//! The words of the command line, read as a request.
 #![tactic(auto)]
 
 mod mistakes;

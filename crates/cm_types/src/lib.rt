@@ -1,4 +1,6 @@
-//! Names, types, values and signatures of components (Explainer.md, "Type Definitions").
+//! Names, types and values of components, as trees (Explainer.md, "Type Definitions").
+//!
+//! Types in an arena, and signatures, stand in the rooms behind this door.
 #![tactic(auto)]
 
 mod core_value;

@@ -1,9 +1,9 @@
-//! Types by their place in an arena: a definition names its parts by earlier places, and its node
-//! is shared by all uses.
+//! Types by index in an arena: a definition names its parts by earlier indices.
 //!
-//! An import moves the resources of the types that it brings in: a `Placed` is a place and that
-//! move, a `Replacement` puts what stands for a resource in its place, and `same_types` says whether
-//! two types are equal then. Imports and exports, instances and functions stand here in this form.
+//! An import shifts the resource numbers of the types that it brings: a `Placed` is an index with
+//! that shift, a `Replacement` puts what stands for a resource in its place, and `same_types` says
+//! whether two types are equal then. Imports and exports, instances and functions stand here in
+//! this form.
 #![tactic(auto)]
 
 mod building;

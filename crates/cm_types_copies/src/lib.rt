@@ -1,4 +1,4 @@
-//! Copies of the types of an arena with their resources replaced, made within the arena.
+//! Copies of an arena's types with each resource replaced.
 #![tactic(auto)]
 
 mod copies;

@@ -1,4 +1,4 @@
-//! Numbers for types: two types are equal exactly where their numbers are.
+//! Numbers for types: equal exactly where the types are equal.
 //!
 //! Each type is numbered once, and once for each way in which imports and exports move its
 //! resources.

@@ -1,4 +1,7 @@
-//! What components and worlds import and export, with all types in one arena.
+//! Signatures: all that a component or a world imports and exports.
+//!
+//! All types of a signature are in one arena. Names of a component are whole; names of a world are
+//! prefix and rest, each prefix stored once. Both are read by parts.
 #![tactic(auto)]
 
 mod externs;

@@ -1,4 +1,4 @@
-//! Valid components: which they are, what their indices stand for, what they import and export.
+//! Valid components: `validate`, what each index stands for, and `signature`.
 #![tactic(auto)]
 
 pub use cm_validate_signature::signature;

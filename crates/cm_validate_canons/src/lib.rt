@@ -1,7 +1,8 @@
-//! Lifts and lowers: the rules that one violates, and the index spaces after it.
+//! Lifts and lowers: the rules on their functions' types and options (CanonicalABI.md, "Canonical
+//! Definitions").
 //!
-//! Which options a lift or a lower needs depends on what its function's type passes, which is known
-//! without a look below the type (CanonicalABI.md, "Canonical Definitions").
+//! Which options one needs depends on what its function's type passes, which is known without a
+//! look below the type.
 #![tactic(auto)]
 
 pub mod laws;

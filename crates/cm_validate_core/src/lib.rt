@@ -1,4 +1,4 @@
-//! The core index spaces of a component: core modules, core instances and what they export.
+//! The core index spaces: modules, instances, functions, memories.
 #![tactic(auto)]
 
 mod aliases;

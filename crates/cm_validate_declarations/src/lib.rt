@@ -1,4 +1,4 @@
-//! The types of instances, declaration by declaration.
+//! The declarations of an instance type, added one by one.
 #![tactic(auto)]
 
 mod declarations;

@@ -1,4 +1,4 @@
-//! The index spaces of functions and instances, with the resources, imports and exports.
+//! The index spaces of functions and instances; imports and exports.
 #![tactic(auto)]
 
 mod aliases;

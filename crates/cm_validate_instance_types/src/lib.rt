@@ -1,6 +1,4 @@
-//! The type of an instance as a whole: the rules that it violates, and the type that it is.
-//!
-//! Which names the items of an instance may have is decided here, from sketches of the items.
+//! An instance type as a whole: rules on its items' names.
 #![tactic(auto)]
 
 mod exports;

@@ -1,4 +1,4 @@
-//! Instances made of definitions under names: the rules that one violates, and what it adds.
+//! Instances made of inline exports: their rules, and their members.
 #![tactic(auto)]
 
 mod instances;

@@ -1,4 +1,4 @@
-//! The items of instance types by name, and the resources of a component by number.
+//! Items of an instance type by name; numbers of equal instances.
 //!
 //! The resources that an import brings are one range. Imports that are instances of one type share
 //! a number, and so do exports that are one instance: the index under which each stood first.

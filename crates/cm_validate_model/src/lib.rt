@@ -1,4 +1,4 @@
-//! What a valid component is: index spaces, scopes of types and rules, as definitions with laws.
+//! Validity in definitions: index spaces, scopes and every rule, with laws.
 //!
 //! They cover every form of component files: each rule with its number and name, where it is
 //! violated, which resources types may name, and where functions come from.

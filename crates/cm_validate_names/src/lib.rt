@@ -1,4 +1,4 @@
-//! The names of a component: which names imports and exports may have, and values by name.
+//! Which names imports and exports may have, and tables of values by name.
 //!
 //! Values under names are found in trees, and keep the order in which they came; the names of
 //! imports and of exports are found by a hash (`cm_types_texts`).

@@ -1,4 +1,4 @@
-//! What a valid component imports and exports, with its types in one arena.
+//! Makes the signature of a valid component.
 #![tactic(auto)]
 
 mod externs;

@@ -1,7 +1,8 @@
-//! Sketches of types: what the rules on instance types need to know of a type.
+//! Sketches: the facts of a type that rules on instance types need.
 //!
-//! The sketches of the types that a definition names decide which rules it violates, but for the
-//! limits on expanded types.
+//! An instance type is checked before it is built. A sketch has the sort of a type, the resource of
+//! a handle, and whether a borrow occurs; the sketches of the types that a definition names decide
+//! which rules it violates, but for the limits of size.
 #![tactic(auto)]
 
 mod definitions;

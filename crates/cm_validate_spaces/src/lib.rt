@@ -1,4 +1,4 @@
-//! Whole components: all index spaces, what each index stands for, or the first fault.
+//! `validate`: all index spaces of a component, or the first fault.
 #![tactic(auto)]
 
 mod canons;

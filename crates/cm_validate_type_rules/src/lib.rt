@@ -1,4 +1,4 @@
-//! The rules that a type definition violates by itself and by the sorts of types; limits aside.
+//! The rules that a type definition violates by itself, but for limits.
 #![tactic(auto)]
 
 mod labels;

@@ -1,4 +1,4 @@
-//! Types by index, in a component and in the type of an instance, over one arena.
+//! The index space of types: definitions with their parts, within the limits.
 #![tactic(auto)]
 
 mod entries;

@@ -1,4 +1,4 @@
-//! WIT texts: packages read and printed, signatures of worlds, and whether a component fits one.
+//! WIT texts: packages parsed and printed, signatures of worlds, conformance.
 #![tactic(auto)]
 
 pub mod laws;

@@ -1,6 +1,6 @@
-//! Whether a component's signature fits a world's: definitions, laws, and the call that decides it.
+//! Whether a component's signature fits a world's, or the first fault.
 //!
-//! They say what is compared, which resources correspond, and which fault is the first.
+//! The definitions say what is compared, which resources correspond, and which fault is the first.
 #![tactic(auto)]
 
 mod comparisons;

@@ -1,4 +1,4 @@
-//! The items of the instances that interfaces stand for, and what the signature of a world is.
+//! The items of an interface's instance; and what the signature of a world is.
 #![tactic(auto)]
 
 mod items;

@@ -1,5 +1,7 @@
-//! Names of one list that are found in another, part by part: what many names share is looked at
-//! once, and what is made of a list of items is kept.
+//! Finds the names of one list of imports, exports or items in another.
+//!
+//! Names are compared by their parts: a prefix that many share is looked at once, and the table of
+//! a list is kept for lists that recur.
 #![tactic(auto)]
 
 mod fronts;

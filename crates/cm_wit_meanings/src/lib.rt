@@ -1,4 +1,4 @@
-//! What types, definitions and functions of WIT texts stand for, put into an arena of types.
+//! The types and functions of a WIT text, one by one, put into an arena.
 #![tactic(auto)]
 
 mod definitions;

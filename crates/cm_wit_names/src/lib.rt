@@ -1,4 +1,4 @@
-//! The rules on the names of WIT texts: what each name declares and refers to.
+//! The rules on the names of a WIT text: declared twice, unknown, or in a cycle.
 #![tactic(auto)]
 
 mod adding;

@@ -1,4 +1,4 @@
-//! Packages of WIT, read and printed: a printed package is read again as the same one.
+//! Packages of WIT, parsed and printed; a printed one is read as the same.
 #![tactic(auto)]
 
 mod file_text;

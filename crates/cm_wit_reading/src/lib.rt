@@ -1,4 +1,4 @@
-//! The grammar of WIT texts: packages, interfaces, worlds, types and functions, and their readers.
+//! The grammar of WIT texts: one production for each form, and its reader (WIT.md).
 #![tactic(auto)]
 
 mod file;

@@ -1,7 +1,7 @@
-//! The signature of a world of packages, its types in one arena.
+//! Makes the signature of a world of packages, or says why it has none.
 //!
-//! It is made from the instances of the world; whether the names in them lead to types is decided
-//! first. By the laws here, packages hold only types that a component file can spell.
+//! Whether the names in its instances lead to types is decided first. By the laws here, packages
+//! hold only types that a component file can spell.
 #![tactic(auto)]
 
 mod externs;

@@ -1,8 +1,8 @@
-//! What the types declared by a world's interfaces stand for, as one table.
+//! The types that a world's interfaces declare, as one table.
 //!
-//! The table is filled in an order in which each declaration stands behind those that it uses. The
-//! definitions and laws of the table are here, with the list of declarations, what each uses, which
-//! are of resources, and whether each name in their texts leads to a type.
+//! Each declaration is put into the table behind those that it uses. The list of declarations is
+//! here, with what each uses, which are resources, and whether each name in their texts leads to a
+//! type.
 #![tactic(auto)]
 
 mod declarations;

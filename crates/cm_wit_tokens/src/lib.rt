@@ -1,4 +1,5 @@
-//! The tokens of WIT texts, and the steps from which grammars of tokens are built.
+//! The tokens of WIT texts, and the steps that grammars of tokens are built from (WIT.md, "Lexical
+//! structure").
 //!
 //! The laws of the steps make reading exact.
 #![tactic(auto)]

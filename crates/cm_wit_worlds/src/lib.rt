@@ -1,4 +1,4 @@
-//! The interfaces and worlds of packages, what paths lead to, and what worlds import and export.
+//! Interfaces and worlds by path, and what each world imports and exports.
 #![tactic(auto)]
 
 mod directory;

@@ -1,5 +1,4 @@
-//! Names each call and each type of the doors once, by its door: where one were gone from there,
-//! this program would not compile. Methods come with their types.
+//! Names each call and each type of the doors once: one that is gone does not compile.
 #![tactic(auto)]
 
 mod names;

@@ -1,7 +1,7 @@
-//! Huxarte in one crate: component files, WIT texts, linked sets, and the calls between components.
+//! The front door: what a host needs of the other doors, and `load`.
 //!
-//! A host depends on this crate alone. What it needs most stands at the root; each module
-//! has all of one door, and is named after what it is about.
+//! A host depends on this crate alone. What it needs most stands at the root; each module has what
+//! a host needs of one door, or of several on one subject.
 #![tactic(auto)]
 
 mod fault;

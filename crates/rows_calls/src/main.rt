@@ -1,6 +1,4 @@
-//! Answers rows on calls by the public calls of the adapters: what the giver of a call passes is
-//! lifted, asked for and lowered as a tree, and is looked at, asked for by the records of its
-//! parts, and copied.
+//! Answers rows on calls: values lifted and lowered, and scanned and copied.
 //!
 //! A row is `call WAY SOURCE TARGET MEMORY TABLE LENGTH RECEIVED INSTANCE TYPE.. = SLOT.. at
 //! ANSWER..`, its types spelled as in rows on types. MEMORY in hexadecimal digits and TABLE are the

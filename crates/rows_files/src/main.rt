@@ -1,5 +1,4 @@
-//! Answers rows by the public calls of `cm_binary`: files that are read and written, whole, in
-//! pieces, from readers and to writers.
+//! Answers rows on component files, read and written in every way.
 #![tactic(auto)]
 
 mod faults;

@@ -1,5 +1,4 @@
-//! Answers rows by the public calls on whole components: whether they are valid, what their indices
-//! stand for, sets of them that are linked, and what runs and drives of these do.
+//! Answers rows on components and sets: validity, links, runs and drives.
 #![tactic(auto)]
 
 mod checks;

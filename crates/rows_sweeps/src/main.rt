@@ -1,5 +1,4 @@
-//! Answers rows by the machine beside a plain interpreter of its rules: all lists of so many moves
-//! on a set of components.
+//! Answers rows with every list of so many moves, beside a plain interpreter.
 #![tactic(auto)]
 
 mod calls;

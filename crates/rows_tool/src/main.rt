@@ -1,5 +1,4 @@
-//! Answers rows by the command on files in memory, and by the public calls of the libraries of
-//! which it is made: its words, its scripts, the lines of events.
+//! Answers rows on the command: words, scripts, lines, and runs on files in memory.
 #![tactic(auto)]
 
 mod commands;

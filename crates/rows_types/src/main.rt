@@ -1,5 +1,4 @@
-//! Answers rows by the public calls of the libraries at the bottom: numbers, names, types as trees
-//! and by places, layouts, texts, handle tables; and those on what may serve an import.
+//! Answers rows on numbers, names, types, layouts, texts and handle tables.
 #![tactic(auto)]
 
 mod candidates;

@@ -1,5 +1,4 @@
-//! Answers rows by the public calls of the libraries on WIT: texts, packages, worlds, the tables of
-//! what packages declare, signatures, what conforms to a world and what is shown of one.
+//! Answers rows on WIT: texts, packages, worlds, signatures, conformance, `show`.
 #![tactic(auto)]
 
 mod conforming;
