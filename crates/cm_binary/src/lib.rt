@@ -1,4 +1,4 @@
-//! Component files, decoded and encoded: whole, in pieces, from readers, to writers.
+//! Component files, decoded and encoded: whole, in pieces, by streams.
 //!
 //! Each form is written with the shortest spelling of each number (Binary.md).
 #![tactic(auto)]

@@ -1,4 +1,4 @@
-//! Running sets, guests and players, and the headline, which is the main theorem.
+//! Running sets, guests and players, and the main theorem, the headline.
 //!
 //! `Set` is a linked set that runs, a move at a time. `Player::drive` plays one by guests. What
 //! holds of every history of a set says `laws::headline`.

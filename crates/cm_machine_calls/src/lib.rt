@@ -1,5 +1,4 @@
-//! A value's way across a call: lifted in the view of its giver, asked for, and handed over to its
-//! receiver, in the words of the machine's rules, with no tree made of it.
+//! The call of a lowered function, from its lift to its post-return.
 //!
 //! `looking` scans core values, `lifting` puts what was scanned into the state, `answering` keeps
 //! the answers of allocators, `copying` and `handing` hand the value over, and `going` and `goes`

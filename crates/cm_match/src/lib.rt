@@ -1,4 +1,4 @@
-//! `link`: each import of a component is served by one export of an earlier component.
+//! `link`: each import is served by one export of an earlier component.
 //!
 //! Each pair of an instance type and an exported instance is compared once, however many imports
 //! and exports have them.

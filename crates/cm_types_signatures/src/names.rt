@@ -86,6 +86,7 @@ impl PackageName {
         }
     }
 
+    /// The label of the package's namespace.
     pub fn namespace(&self) -> &str
         ensures text { result.now ≡ self.now.namespace }
         ensures label { IsLabel result.now }
@@ -93,6 +94,7 @@ impl PackageName {
         self.namespace.as_str()
     }
 
+    /// The label of the package itself.
     pub fn name(&self) -> &str
         ensures text { result.now ≡ self.now.name }
         ensures label { IsLabel result.now }
@@ -100,6 +102,7 @@ impl PackageName {
         self.name.as_str()
     }
 
+    /// The text of the package's version, or none.
     pub fn version(&self) -> Option<&str>
         ensures text { option_copied result ≡ self.now.version }
         ensures version { IfSome (option_copied result) (λ v. is_version v ≡ true) }

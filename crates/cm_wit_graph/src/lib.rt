@@ -1,4 +1,4 @@
-//! Directed graphs: what leads to what, cycles, orders of dependencies, and names with numbers.
+//! Directed graphs: what leads to what, cycles, orders of dependencies.
 //!
 //! A name stands in a list of names that has a number; the first entry with a name is found in a
 //! tree. An order puts each node behind those that it needs, by what waits or depth first.
