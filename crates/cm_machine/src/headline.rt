@@ -1,19 +1,22 @@
 //! What holds of every history of a linked set.
 
 ghost use Rattle.cm_machine_told.specs.Always.{Always};
-ghost use Rattle.cm_machine_told.specs.Answers.{AnswersRightly};
-ghost use Rattle.cm_machine_told.specs.Asks.{AsksRightly};
+ghost use Rattle.cm_machine_told.specs.Answers.{EventAnswersItsMove};
+ghost use Rattle.cm_machine_told.specs.Asks.{AsksForWhatTheValueWants};
 ghost use Rattle.cm_machine_told.specs.Bounds.{KeepsFew};
-ghost use Rattle.cm_machine_told.specs.Closing.{NamesFaults, TrapsAtACause, TrapsRightly};
-ghost use Rattle.cm_machine_told.specs.Entries.{EntersRightly, ResumesRightly, TidiesRightly};
-ghost use Rattle.cm_machine_told.specs.Going.{ActsAsTold, BeginsByCall, BeginsRightly};
-ghost use Rattle.cm_machine_told.specs.Going.{ClosesByTraps, EndsRightly, NoneClosedActs};
+ghost use Rattle.cm_machine_told.specs.Closing.{NamesFaults, TrapHasItsCauseAndCloses};
+ghost use Rattle.cm_machine_told.specs.Closing.{TrapsAtACause};
+ghost use Rattle.cm_machine_told.specs.Entries.{PostReturnGetsTheFlatResult, ReceivesWhatWasSent};
+ghost use Rattle.cm_machine_told.specs.Entries.{ResumesWithWhatWasReturned};
+ghost use Rattle.cm_machine_told.specs.Going.{ActsAsTold, BeginsByCall, BeginsWhereNothingGoesOn};
+ghost use Rattle.cm_machine_told.specs.Going.{ClosesByTraps, EndsWhereNothingGoesOn};
+ghost use Rattle.cm_machine_told.specs.Going.{NoneClosedActs};
 ghost use Rattle.cm_machine_told.specs.Going.{RefusesBegins, RunsExtend, StandsAsTold};
 ghost use Rattle.cm_machine_told.specs.Going.{StartsAlways};
-ghost use Rattle.cm_machine_told.specs.HandleChanges.{ChangesHandlesRightly};
+ghost use Rattle.cm_machine_told.specs.HandleChanges.{HandlesChangeByTheirMoves};
 ghost use Rattle.cm_machine_told.specs.Lent.{BorrowsStand, LendsStand};
-ghost use Rattle.cm_machine_told.specs.MemoryChanges.{ChangesMemoryRightly};
-ghost use Rattle.cm_machine_told.specs.Placed.{KeepsGone, OwnsRightly};
+ghost use Rattle.cm_machine_told.specs.MemoryChanges.{MemoryChangesByMovesAndValues};
+ghost use Rattle.cm_machine_told.specs.Placed.{KeepsGone, EachResourceHasOnePlace};
 
 use cm_machine_laws::handles::handles_change_as_told;
 use cm_machine_laws::memories::memory_changes_as_told;
@@ -34,13 +37,13 @@ pub fn headline()
     // A set starts with the memories of zeros that were asked for, with no handles, and open.
     ensures starts { StartsAlways }
     // A host begins a root call where nothing goes on, in an instance that is there and open.
-    ensures begins { Always BeginsRightly }
+    ensures begins { Always BeginsWhereNothingGoesOn }
     // It is refused for its reason, and for none where there is none.
     ensures begin_refusals { Always RefusesBegins }
     // Each move is answered by its own event, or traps.
-    ensures answers { Always AnswersRightly }
+    ensures answers { Always EventAnswersItsMove }
     // An event is a last one exactly where nothing goes on after it.
-    ensures ends { Always EndsRightly }
+    ensures ends { Always EndsWhereNothingGoesOn }
     // No instance closes but by a trap, and none opens again.
     ensures closes { Always ClosesByTraps }
     // The instance that acts is there and open.
@@ -50,23 +53,23 @@ pub fn headline()
     ensures begins_by_call { Always BeginsByCall }
     // Where a body begins, the callee has received the value that the caller's state denoted at the
     // call: its state denotes it too, but for borrows that it gets as representations.
-    ensures entries { Always EntersRightly }
+    ensures entries { Always ReceivesWhatWasSent }
     // Where a call ends, the caller has received the result that the callee's state denoted at its
     // return.
-    ensures resumptions { Always ResumesRightly }
+    ensures resumptions { Always ResumesWithWhatWasReturned }
     // What tidies up behind a call gets the core values that the body returned.
-    ensures tidies { Always TidiesRightly }
+    ensures tidies { Always PostReturnGetsTheFlatResult }
     // Allocators are asked for exactly what the value asks for, in order.
-    ensures asks { Always AsksRightly }
+    ensures asks { Always AsksForWhatTheValueWants }
     // Of a value on its way no more is kept than it has parts and handles.
     ensures bounded { Always KeepsFew }
     // A memory changes by writes and growths of its own instance, and where a value is handed over:
     // there inside the regions that were answered, by the bytes of the value alone.
-    ensures memory { Always ChangesMemoryRightly }
+    ensures memory { Always MemoryChangesByMovesAndValues }
     // Handles come, go and come back by the moves that say so, and by no others.
-    ensures handles { Always ChangesHandlesRightly }
+    ensures handles { Always HandlesChangeByTheirMoves }
     // Each resource has exactly one place.
-    ensures one_place { Always OwnsRightly }
+    ensures one_place { Always EachResourceHasOnePlace }
     // What was dropped or lost stays so, and no serial number is issued twice.
     ensures stays_gone { Always KeepsGone }
     // What is lent is lent to a call that goes on, as it borrowed it.
@@ -75,7 +78,7 @@ pub fn headline()
     ensures borrows_stand { Always BorrowsStand }
     // A trap has its named cause, the first one; it closes exactly the instances of what went on,
     // loses what was on its way, and leaves memories and all other handles alone.
-    ensures traps { Always TrapsRightly }
+    ensures traps { Always TrapHasItsCauseAndCloses }
     // A move for which a cause is there ends in the trap of the first one, or finds no memory.
     ensures refusals { Always TrapsAtACause }
     // What is wrong with a value is named by the trap of its own name.

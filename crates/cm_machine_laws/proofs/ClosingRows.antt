@@ -56,7 +56,7 @@ use Rattle.cm_machine_told.specs.CallsOn.{as_framed, callee_there, framed}
 use Rattle.cm_machine_told.specs.CallsOn.{IsBodyCall, body_call, handing_call, placing_call}
 use Rattle.cm_machine_told.specs.CallsOn.{tidying_call}
 use Rattle.cm_machine_told.specs.Closing.{ClosesAsItWas, ClosesAtCall, ClosesAtReturn, ClosesByCall}
-use Rattle.cm_machine_told.specs.Closing.{ClosesByReturn, ClosesExactly, ClosesRightly}
+use Rattle.cm_machine_told.specs.Closing.{ClosesByReturn, ClosesExactly, ClosesWhatWentOn}
 use Rattle.cm_machine_told.specs.Closing.{ClosesWithCall, ClosesWithReturn}
 use Rattle.cm_machine_told.specs.Doing.{BodyReturn, Doing, LoweredCall, destroys, instance_of}
 use Rattle.cm_machine_told.specs.Doing.{root}
@@ -561,7 +561,7 @@ module _ (laws : Laws) (closing : ClosingLaws) (plan : Plan) (s : State) (top : 
 
   -- what a trap closes, by the move
   pub closes_by : (mv : Move) (e : Event) (new : State) → Moves plan s top mv e new
-      → Right (λ t n. ClosesRightly plan s ds (actor top) mv t n) e new
+      → Right (λ t n. ClosesWhatWentOn plan s ds (actor top) mv t n) e new
   closes_by (move.Write a bytes) e new y = writes (actor top) a bytes.items e new y
   closes_by (move.Grow pages) e new y = grows (actor top) pages e new y
   closes_by (move.Call func args) e new y =

@@ -12,10 +12,10 @@ use Rattle.cm_machine_model.specs.State.{State}
 use Rattle.cm_machine_model.specs.Valid.{IsValidState}
 use Rattle.cm_machine_told.specs.Acting.{acts}
 use Rattle.cm_machine_told.specs.Always.{Always}
-use Rattle.cm_machine_told.specs.Asks.{AsksAt, AsksRightly}
+use Rattle.cm_machine_told.specs.Asks.{AsksAt, AsksForWhatTheValueWants}
 use Rattle.cm_machine_told.specs.Doing.{Doing, after_move, body, destroys, doing, goes_on, handing}
 use Rattle.cm_machine_told.specs.Doing.{placing, root, tidying}
-use Rattle.cm_machine_told.specs.Entries.{EntersRightly, TidiesRightly}
+use Rattle.cm_machine_told.specs.Entries.{ReceivesWhatWasSent, PostReturnGetsTheFlatResult}
 use Rattle.cm_machine_told.specs.Matching.{AllMatch, AreTold}
 use Rattle.cm_machine_laws.specs.Following.{AreBelow, AreFollowed}
 use Rattle.cm_machine_laws.proofs.FollowCases.{SaysOf, follow_case}
@@ -60,14 +60,14 @@ says one valid told follows plan pages x h s y =
     let before = earlier plan pages x h s y in
     (acted_follows one plan x.action x.event x.before x.after (acts h) (doing plan h) (valid plan pages h x.before before) (told plan pages h x.before before) (follows plan pages h x.before before) y.history.1).1
 
-pub enters_rightly : OneCarried → StaysValid → IsTold → IsFollowedAlong → Always EntersRightly
-enters_rightly one valid told follows plan pages [] s y = tt
-enters_rightly one valid told follows plan pages (x ∷ h) s y = λ i func args is.
+pub receives_what_was_sent : OneCarried → StaysValid → IsTold → IsFollowedAlong → Always ReceivesWhatWasSent
+receives_what_was_sent one valid told follows plan pages [] s y = tt
+receives_what_was_sent one valid told follows plan pages (x ∷ h) s y = λ i func args is.
     subst (λ (e : Event). SaysOf e (doing plan (x ∷ h)) x.after) is (says one valid told follows plan pages x h s y)
 
-pub tidies_rightly : OneCarried → StaysValid → IsTold → IsFollowedAlong → Always TidiesRightly
-tidies_rightly one valid told follows plan pages [] s y = tt
-tidies_rightly one valid told follows plan pages (x ∷ h) s y = λ i func args is.
+pub gets_the_flat_result : OneCarried → StaysValid → IsTold → IsFollowedAlong → Always PostReturnGetsTheFlatResult
+gets_the_flat_result one valid told follows plan pages [] s y = tt
+gets_the_flat_result one valid told follows plan pages (x ∷ h) s y = λ i func args is.
     subst (λ (e : Event). SaysOf e (doing plan (x ∷ h)) x.after) is (says one valid told follows plan pages x h s y)
 
 -- ---- what was asked
@@ -90,5 +90,5 @@ asks_at s (handing x asked r more ∷ ds) f = ((f.0.1.v, f.0.1.returned, f.0.1.s
 asks_at s (tidying x asked r more ∷ ds) f = ((f.0.1.v, f.0.1.returned, f.0.1.so_far, f.0.1.all), asks_below ds f.1)
 asks_at s (destroys dropper i ∷ ds) f = asks_below ds f.1
 
-pub asks_rightly : IsFollowedAlong → Always AsksRightly
-asks_rightly follows plan pages h s y = asks_at s (doing plan h) (follows plan pages h s y)
+pub asks_for_what_is_wanted : IsFollowedAlong → Always AsksForWhatTheValueWants
+asks_for_what_is_wanted follows plan pages h s y = asks_at s (doing plan h) (follows plan pages h s y)

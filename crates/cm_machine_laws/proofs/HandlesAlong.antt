@@ -16,7 +16,7 @@ use Rattle.cm_machine_told.specs.Acting.{acts}
 use Rattle.cm_machine_told.specs.Always.{Always}
 use Rattle.cm_machine_told.specs.Answers.{Traps}
 use Rattle.cm_machine_told.specs.Doing.{Doing, doing}
-use Rattle.cm_machine_told.specs.HandleChanges.{ChangesHandlesRightly, HandlesByMove}
+use Rattle.cm_machine_told.specs.HandleChanges.{HandlesChangeByTheirMoves, HandlesByMove}
 use Rattle.cm_machine_told.specs.Matching.{AllMatch, AreTold}
 use Rattle.cm_machine_laws.specs.Following.{AreFollowed}
 use Rattle.cm_machine_laws.proofs.Calls.{Laws}
@@ -47,9 +47,9 @@ moved laws plan s m e new acting ds valid told f step i is fine =
     (handle_case laws plan s c.top c.rest ds c.stack valid
     (subst (λ (fs : List Frame). AllMatch plan fs ds) c.stack told.matched) f m e new c.case fine)
 
-pub handles_rightly : Laws → StaysValid → IsTold → IsFollowedAlong → Always ChangesHandlesRightly
-handles_rightly laws valid told follow plan pages [] s y = tt
-handles_rightly laws valid told follow plan pages (x ∷ h) s y = (
+pub handles_change_by_moves : Laws → StaysValid → IsTold → IsFollowedAlong → Always HandlesChangeByTheirMoves
+handles_change_by_moves laws valid told follow plan pages [] s y = tt
+handles_change_by_moves laws valid told follow plan pages (x ∷ h) s y = (
   (λ i is.
       all_stay x.before x.after
       (ap (λ (n : State). n.tables)

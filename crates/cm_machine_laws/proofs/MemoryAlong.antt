@@ -15,7 +15,7 @@ use Rattle.cm_machine_told.specs.Acting.{acts}
 use Rattle.cm_machine_told.specs.Always.{Always}
 use Rattle.cm_machine_told.specs.Doing.{Doing, after_move, doing, goes_on}
 use Rattle.cm_machine_told.specs.Matching.{AllMatch, AreTold}
-use Rattle.cm_machine_told.specs.MemoryChanges.{ChangesAsTold, ChangesMemoryRightly}
+use Rattle.cm_machine_told.specs.MemoryChanges.{ChangesAsTold, MemoryChangesByMovesAndValues}
 use Rattle.cm_machine_laws.specs.Following.{AreFollowed}
 use Rattle.cm_machine_laws.proofs.MemoryCases.{memory_case}
 use Rattle.cm_machine_laws.proofs.MemoryTurns.{Laws}
@@ -47,9 +47,9 @@ moved laws plan s m e new acting ds valid told f step =
           (subst (λ (fs : List Frame). AllMatch plan fs ds) c.stack told.matched) f m e new c.case),
     )
 
-pub memory_rightly : Laws → StaysValid → IsTold → IsFollowedAlong → Always ChangesMemoryRightly
-memory_rightly laws valid told follow plan pages [] s y = tt
-memory_rightly laws valid told follow plan pages (x ∷ h) s y = (
+pub memory_changes_by_moves : Laws → StaysValid → IsTold → IsFollowedAlong → Always MemoryChangesByMovesAndValues
+memory_changes_by_moves laws valid told follow plan pages [] s y = tt
+memory_changes_by_moves laws valid told follow plan pages (x ∷ h) s y = (
   (λ i is.
       ap (λ (n : State). n.memories)
       (subst (λ (a : Action). Happens plan x.before a x.event x.after) is y.history.1).2),

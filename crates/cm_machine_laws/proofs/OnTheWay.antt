@@ -19,7 +19,7 @@ use Rattle.cm_machine_told.specs.Always.{Always}
 use Rattle.cm_machine_told.specs.Doing.{Doing, body, destroys, doing, handing, placing, root}
 use Rattle.cm_machine_told.specs.Doing.{tidying}
 use Rattle.cm_machine_told.specs.Matching.{AllMatch, AreTold, MatchIn, MatchOne}
-use Rattle.cm_machine_told.specs.Placed.{OwnsRightly, TravelsAsTold}
+use Rattle.cm_machine_told.specs.Placed.{EachResourceHasOnePlace, TravelsAsTold}
 use Rattle.cm_machine_laws.specs.Following.{AreFollowed}
 
 abbrev pub StaysValid : Type 0
@@ -77,8 +77,8 @@ travels plan s (handing x asked r more ∷ ds) p m f = (f.0.1.v, f.0.1.returned,
 travels plan s (tidying x asked r more ∷ ds) p m f = none_travels s (quiet plan s s.stack (tidying x asked r more) ds p m tt)
 travels plan s (destroys dropper i ∷ ds) p m f = none_travels s (quiet plan s s.stack (destroys dropper i) ds p m tt)
 
-pub owns_rightly : StaysValid → IsTold → IsFollowedAlong → Always OwnsRightly
-owns_rightly valid told follows plan pages h s y = record {
+pub each_has_one_place : StaysValid → IsTold → IsFollowedAlong → Always EachResourceHasOnePlace
+each_has_one_place valid told follows plan pages h s y = record {
   one_place = (valid plan pages h s y).one_place;
   on_their_way = travels plan s (doing plan h) (valid plan pages h s y).passes (told plan pages h s y).matched (follows plan pages h s y);
 }

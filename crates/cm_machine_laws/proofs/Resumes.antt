@@ -38,7 +38,7 @@ use Rattle.cm_machine_told.specs.Always.{Always}
 use Rattle.cm_machine_told.specs.CallsOn.{tidying_call}
 use Rattle.cm_machine_told.specs.Doing.{Asked, BodyReturn, answer_of, Doing, body_return, destroys}
 use Rattle.cm_machine_told.specs.Doing.{doing, with_answer}
-use Rattle.cm_machine_told.specs.Entries.{GivesBack, Resumes, ResumesRightly, TakesResult}
+use Rattle.cm_machine_told.specs.Entries.{GivesBack, Resumes, ResumesWithWhatWasReturned, TakesResult}
 use Rattle.cm_machine_told.specs.Entries.{answered_by, return_by}
 use Rattle.cm_machine_told.specs.Matching.{AllMatch, AreTold, MatchOne}
 use Rattle.cm_machine_told.specs.Told.{is_by_memory, result_place_of}
@@ -205,8 +205,8 @@ acted_back stays one plan (moves m) e s new acting ds valid told f x r i values 
     (λ k same. subst (λ (n : Move). Back s c.top ds n e new) (move_in m k same)
     (back_case stays one plan s c.top c.rest ds c.stack valid (subst (λ (fs : List Frame). AllMatch plan fs ds) c.stack told.matched) f m e new c.case)) by resumes
 
-pub resumes_rightly : ReceivedStays → OneCarried → StaysValid → IsTold → IsFollowedAlong → Always ResumesRightly
-resumes_rightly stays one valid told follows plan pages [] s y = tt
-resumes_rightly stays one valid told follows plan pages (x ∷ h) s y =
+pub resumes_with_what_was_returned : ReceivedStays → OneCarried → StaysValid → IsTold → IsFollowedAlong → Always ResumesWithWhatWasReturned
+resumes_with_what_was_returned stays one valid told follows plan pages [] s y = tt
+resumes_with_what_was_returned stays one valid told follows plan pages (x ∷ h) s y =
     let before = earlier plan pages x h s y in
     acted_back stays one plan x.action x.event x.before x.after (acts h) (doing plan h) (valid plan pages h x.before before) (told plan pages h x.before before) (follows plan pages h x.before before) y.history.1

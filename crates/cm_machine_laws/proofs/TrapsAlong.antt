@@ -17,7 +17,7 @@ use Rattle.cm_machine_model.specs.Valid.{IsValidState}
 use Rattle.cm_machine_told.specs.Acting.{acts}
 use Rattle.cm_machine_told.specs.Always.{Always}
 use Rattle.cm_machine_told.specs.Causes.{Cause, IsFirst, MayFindNoMemory, order_before, order_behind}
-use Rattle.cm_machine_told.specs.Closing.{ClosesRightly, NamesItsCause, TrapsAtACause, TrapsRightly}
+use Rattle.cm_machine_told.specs.Closing.{ClosesWhatWentOn, NamesItsCause, TrapsAtACause, TrapHasItsCauseAndCloses}
 use Rattle.cm_machine_told.specs.Doing.{Doing, doing}
 use Rattle.cm_machine_told.specs.Matching.{AllMatch, AreTold}
 use Rattle.cm_machine_laws.specs.Following.{AreFollowed}
@@ -79,20 +79,20 @@ named_here laws tuple carried valid told follow plan pages x h s y m t is traps 
 -- and so what it closes is right
 closed_here : (laws : Laws) (closing : ClosingLaws) (valid : StaysValid) (told : IsTold) (plan : Plan) (pages : List ℕ) (x : Occurrence) (h : List Occurrence) (s : State)
     → IsHistoryOf plan pages (x ∷ h) s → (m : Move) (t : Trap) → x.action ≡ moves m → x.event ≡ event.Trapped t
-    → (i : ℕ) → acts h ≡ Some i → ClosesRightly plan x.before (doing plan h) i m t x.after
+    → (i : ℕ) → acts h ≡ Some i → ClosesWhatWentOn plan x.before (doing plan h) i m t x.after
 closed_here laws closing valid told plan pages x h s y m t is traps i acting =
     let before : IsHistoryOf plan pages h x.before = earlier plan pages x h s y in
     let step = (subst (λ (a : Action). Happens plan x.before a x.event x.after) is y.history.1).1 in
     let c : IsMove plan x.before m x.event x.after = moved_on plan x.before.stack x.before m x.event x.after refl step in
     let known : AreTold plan x.before (acts h) (doing plan h) = told plan pages h x.before before in
     let actor_is : actor c.top ≡ i = same_Some (actor c.top) i (sym (ap (λ (fs : List Frame). option_map actor (top_of fs)) c.stack) ∙ (known.acts ∙ acting)) in
-    subst (λ (k : ℕ). ClosesRightly plan x.before (doing plan h) k m t x.after) actor_is
+    subst (λ (k : ℕ). ClosesWhatWentOn plan x.before (doing plan h) k m t x.after) actor_is
     (closes_by laws closing plan x.before c.top c.rest (doing plan h) c.stack (valid plan pages h x.before before)
     (subst (λ (fs : List Frame). AllMatch plan fs (doing plan h)) c.stack known.matched) m x.event x.after c.row t traps)
 
-pub traps_rightly : (laws : Laws) (closing : ClosingLaws) (tuple : TupleFirst) (carried : OneCarried) (valid : StaysValid) (told : IsTold) (follow : IsFollowedAlong) → Always TrapsRightly
-traps_rightly laws closing tuple carried valid told follow plan pages [] s y = tt
-traps_rightly laws closing tuple carried valid told follow plan pages (x ∷ h) s y = λ m t is traps.
+pub traps_have_causes : (laws : Laws) (closing : ClosingLaws) (tuple : TupleFirst) (carried : OneCarried) (valid : StaysValid) (told : IsTold) (follow : IsFollowedAlong) → Always TrapHasItsCauseAndCloses
+traps_have_causes laws closing tuple carried valid told follow plan pages [] s y = tt
+traps_have_causes laws closing tuple carried valid told follow plan pages (x ∷ h) s y = λ m t is traps.
     let n = named_here laws tuple carried valid told follow plan pages x h s y m t is traps in
     (n.0, n.1, n.2, closed_here laws closing valid told plan pages x h s y m t is traps n.0 n.1)
 

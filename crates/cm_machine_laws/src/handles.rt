@@ -2,7 +2,7 @@
 //! law.
 
 ghost use Rattle.cm_machine_told.specs.Always.{Always};
-ghost use Rattle.cm_machine_told.specs.HandleChanges.{ChangesHandlesRightly};
+ghost use Rattle.cm_machine_told.specs.HandleChanges.{HandlesChangeByTheirMoves};
 
 use crate::values::values_are_followed;
 use cm_abi_model::laws::{what_is_handed_over_is_counted, what_is_met_stands};
@@ -19,7 +19,7 @@ use cm_machine_valid::laws::{histories_are_valid, one_value_is_carried};
 /// representation. Nobody's handles else come or go, a begin's and the end of a call's included;
 /// how often a handle is lent is another law's.
 pub fn handles_change_as_told()
-    ensures { Always ChangesHandlesRightly }
+    ensures { Always HandlesChangeByTheirMoves }
 {
     what_is_handed_over_is_counted();
     what_is_met_stands();

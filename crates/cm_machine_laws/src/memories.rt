@@ -2,7 +2,7 @@
 //! is the law.
 
 ghost use Rattle.cm_machine_told.specs.Always.{Always};
-ghost use Rattle.cm_machine_told.specs.MemoryChanges.{ChangesMemoryRightly};
+ghost use Rattle.cm_machine_told.specs.MemoryChanges.{MemoryChangesByMovesAndValues};
 
 use crate::values::values_are_followed;
 use cm_abi_model::laws::{
@@ -20,7 +20,7 @@ use cm_machine_valid::laws::{histories_are_valid, one_value_is_carried};
 /// nothing beside a chosen payload. All else leaves each memory as it is: a begin, a call that asks
 /// an allocator, a resource built-in, the end of a call, a trap.
 pub fn memory_changes_as_told()
-    ensures { Always ChangesMemoryRightly }
+    ensures { Always MemoryChangesByMovesAndValues }
 {
     each_part_is_asked_for();
     requests_end_exact();

@@ -3,7 +3,7 @@
 
 ghost use Rattle.cm_machine_told.specs.Always.{Always};
 ghost use Rattle.cm_machine_told.specs.Lent.{BorrowsStand, LendsStand};
-ghost use Rattle.cm_machine_told.specs.Placed.{KeepsGone, OwnsRightly};
+ghost use Rattle.cm_machine_told.specs.Placed.{KeepsGone, EachResourceHasOnePlace};
 
 use crate::values::values_are_followed;
 use cm_machine_told::laws::histories_are_told;
@@ -18,7 +18,7 @@ use cm_machine_valid::laws::{
 /// is lent is lent to the calls that go on, as they borrowed it, no more and no less. Each
 /// borrowed handle is of a call whose body runs in that instance, and none dangles.
 pub fn owners_are_told()
-    ensures one_place { Always OwnsRightly }
+    ensures one_place { Always EachResourceHasOnePlace }
     ensures stays_gone { Always KeepsGone }
     ensures lends_stand { Always LendsStand }
     ensures borrows_stand { Always BorrowsStand }

@@ -2,7 +2,8 @@
 //! contract is the law.
 
 ghost use Rattle.cm_machine_told.specs.Always.{Always};
-ghost use Rattle.cm_machine_told.specs.Closing.{NamesFaults, TrapsAtACause, TrapsRightly};
+ghost use Rattle.cm_machine_told.specs.Closing.{NamesFaults, TrapHasItsCauseAndCloses};
+ghost use Rattle.cm_machine_told.specs.Closing.{TrapsAtACause};
 
 use crate::values::{handles_are_counted, values_are_followed};
 use cm_abi_lift::laws::first_faults_are_told;
@@ -25,7 +26,7 @@ use cm_machine_valid::laws::{
 /// move's order is there, the move traps, by the first one, unless there is no memory. What is
 /// wrong with a value is named by the trap of its own name.
 pub fn traps_have_their_causes()
-    ensures traps { Always TrapsRightly }
+    ensures traps { Always TrapHasItsCauseAndCloses }
     ensures refusals { Always TrapsAtACause }
     ensures names { NamesFaults }
 {

@@ -10,10 +10,11 @@ ghost use Rattle.cm_machine_model.specs.History.{IsHistoryOf, Occurrence};
 ghost use Rattle.cm_machine_model.specs.Plan.{Plan};
 ghost use Rattle.cm_machine_model.specs.State.{State};
 ghost use Rattle.cm_machine_told.specs.Always.{Always};
-ghost use Rattle.cm_machine_told.specs.Asks.{AsksRightly};
+ghost use Rattle.cm_machine_told.specs.Asks.{AsksForWhatTheValueWants};
 ghost use Rattle.cm_machine_told.specs.Bounds.{KeepsFew};
 ghost use Rattle.cm_machine_told.specs.Doing.{doing};
-ghost use Rattle.cm_machine_told.specs.Entries.{EntersRightly, ResumesRightly, TidiesRightly};
+ghost use Rattle.cm_machine_told.specs.Entries.{PostReturnGetsTheFlatResult, ReceivesWhatWasSent};
+ghost use Rattle.cm_machine_told.specs.Entries.{ResumesWithWhatWasReturned};
 ghost use Rattle.cm_machine_laws.specs.Following.{AreFollowed};
 
 use cm_abi_model::laws::what_is_received_stays;
@@ -45,10 +46,10 @@ pub fn values_are_followed()
 /// value asks for, in order, and for all of it. Of a value on its way no more is kept than it has
 /// parts and handles, and no more is lent for it.
 pub fn values_are_passed()
-    ensures entries { Always EntersRightly }
-    ensures resumptions { Always ResumesRightly }
-    ensures tidies { Always TidiesRightly }
-    ensures asks { Always AsksRightly }
+    ensures entries { Always ReceivesWhatWasSent }
+    ensures resumptions { Always ResumesWithWhatWasReturned }
+    ensures tidies { Always PostReturnGetsTheFlatResult }
+    ensures asks { Always AsksForWhatTheValueWants }
     ensures bounded { Always KeepsFew }
 {
     what_is_received_stays();

@@ -27,10 +27,10 @@ use Rattle.cm_machine_model.specs.State.{Passage, State, fresh_state, table_at, 
 use Rattle.cm_machine_model.specs.Valid.{IsStack, IsValidState}
 use Rattle.cm_machine_told.specs.Acting.{acts, acts_after}
 use Rattle.cm_machine_told.specs.Always.{Always}
-use Rattle.cm_machine_told.specs.Answers.{AnswersRightly, Traps}
+use Rattle.cm_machine_told.specs.Answers.{EventAnswersItsMove, Traps}
 use Rattle.cm_machine_told.specs.Causes.{MayCall}
 use Rattle.cm_machine_told.specs.Doing.{Doing, doing, goes_on, instance_of, root}
-use Rattle.cm_machine_told.specs.Going.{ActsAsTold, BeginsByCall, BeginsRightly, ClosesByTraps, EndsRightly, IsMisuseOf, NoneClosedActs, RefusesBegins, RunsExtend, StandsAsTold, StartsAlways, StartsRightly}
+use Rattle.cm_machine_told.specs.Going.{ActsAsTold, BeginsByCall, BeginsWhereNothingGoesOn, ClosesByTraps, EndsWhereNothingGoesOn, IsMisuseOf, NoneClosedActs, RefusesBegins, RunsExtend, StandsAsTold, StartsAlways, StartsWithWhatWasAskedFor}
 use Rattle.cm_machine_told.specs.Matching.{AllMatch, AreTold, StepsAnswer}
 use Rattle.cm_machine_told.proofs.Along.{StaysValid, earlier, may_begin}
 use Rattle.cm_machine_told.specs.Frames.{actor_stands, frame_there, instances, match_length, may_call, none_match, none_stand, one_instance, open_at, told_open}
@@ -58,9 +58,9 @@ begun plan h before after a e i m x is =
       ap (λ (n : State). record n { stack = before.stack }) y.2,
     )
 
-pub begin_rightly : IsTold → Always BeginsRightly
-begin_rightly told plan pages [] s y = tt
-begin_rightly told plan pages (x ∷ h) s y = λ i is.
+pub begins_where_nothing_goes_on : IsTold → Always BeginsWhereNothingGoesOn
+begins_where_nothing_goes_on told plan pages [] s y = tt
+begins_where_nothing_goes_on told plan pages (x ∷ h) s y = λ i is.
     let b = begun plan h x.before x.after x.action x.event i (told plan pages h x.before (earlier plan pages x h s y)).matched y.history.1 is in
     (b.0, b.1, b.2, subst (λ (n : State). record n { stack = x.before.stack } ≡ x.before) (sym y.history.2) b.3)
 
@@ -87,9 +87,9 @@ begin_refused told plan pages h s y = λ i. refused plan s.stack (doing plan h) 
 
 -- ---- answers
 
-pub answers_rightly : StepsAnswer → StaysValid → IsTold → Always AnswersRightly
-answers_rightly answer valid told plan pages [] s y = tt
-answers_rightly answer valid told plan pages (x ∷ h) s y = λ m is.
+pub event_answers_its_move : StepsAnswer → StaysValid → IsTold → Always EventAnswersItsMove
+event_answers_its_move answer valid told plan pages [] s y = tt
+event_answers_its_move answer valid told plan pages (x ∷ h) s y = λ m is.
     let before = earlier plan pages x h s y in
     let z : Happens plan x.before (moves m) x.event x.after = subst (λ (b : Action). Happens plan x.before b x.event x.after) is y.history.1 in
     answer plan x.before m x.event x.after (acts h) (doing plan h) (valid plan pages h x.before before) (told plan pages h x.before before) z.1
@@ -133,9 +133,9 @@ ended_by plan (moves m) e before after o acting x none =
     let c = case_of plan before m e after x.1 in
     last_ends e (actor c.top) (subst (λ (p : Option ℕ). acts_after e p ≡ None) (sym acting ∙ ap (λ (fs : List Frame). option_map actor (top_of fs)) c.stack) none)
 
-pub ends_rightly : IsTold → Always EndsRightly
-ends_rightly told plan pages [] s y = tt
-ends_rightly told plan pages (x ∷ h) s y = (
+pub ends_where_nothing_goes_on : IsTold → Always EndsWhereNothingGoesOn
+ends_where_nothing_goes_on told plan pages [] s y = tt
+ends_where_nothing_goes_on told plan pages (x ∷ h) s y = (
   λ last. none_match plan (doing plan (x ∷ h)) (subst (λ (fs : List Frame). AllMatch plan fs (doing plan (x ∷ h))) (no_top s.stack (now.acts ∙ none_acts x.event (acts h) last)) now.matched),
   λ nothing. ended_by plan x.action x.event x.before x.after (acts h) (told plan pages h x.before (earlier plan pages x h s y)).acts y.history.1
       (quiet plan s (acts (x ∷ h)) (subst (λ (ds : List Doing). AreTold plan s (acts (x ∷ h)) ds) nothing now)),
@@ -330,7 +330,7 @@ pub starts : StartsAlways
 starts plan pages s y =
     let n : ℕ = length plan in
     let counts : length pages ≡ n = eqb-true (length pages) n (and_parts (length pages == n) (list_all (λ p. nat_le p MAX_PAGES) pages) y.pages_fit).0 in
-    subst (λ (x : State). StartsRightly pages x) (sym y.history) (
+    subst (λ (x : State). StartsWithWhatWasAskedFor pages x) (sym y.history) (
       λ i count is. record {
         size = memory_of pages i count is;
         zeros = λ a. zero_in pages i a;

@@ -77,7 +77,7 @@ abbrev pub Traps : Event → Type 0
 Traps e = (t : Trap) × (e ≡ event.Trapped t)
 
 -- Each move is answered by its own event, or traps.
-abbrev pub AnswersRightly : Plan → List Occurrence → State → Type 0
-AnswersRightly plan [] s = ⊤
-AnswersRightly plan (x ∷ h) s = (m : Move) → x.action ≡ moves m
+abbrev pub EventAnswersItsMove : Plan → List Occurrence → State → Type 0
+EventAnswersItsMove plan [] s = ⊤
+EventAnswersItsMove plan (x ∷ h) s = (m : Move) → x.action ≡ moves m
     → Traps x.event ⊎ IsAnswerTo plan (acts h) (doing plan h) m x.event

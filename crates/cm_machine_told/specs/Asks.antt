@@ -28,5 +28,5 @@ AsksAt (tidying x asked r more ∷ ds) =
 AsksAt (destroys dropper i ∷ ds) = AsksAt ds
 
 -- In each history allocators were asked so.
-abbrev pub AsksRightly : Plan → List Occurrence → State → Type 0
-AsksRightly plan h s = AsksAt (doing plan h)
+abbrev pub AsksForWhatTheValueWants : Plan → List Occurrence → State → Type 0
+AsksForWhatTheValueWants plan h s = AsksAt (doing plan h)

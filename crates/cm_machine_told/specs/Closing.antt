@@ -161,20 +161,20 @@ ClosesAtReturn old (body x asked ∷ ds) r t new = ClosesByReturn old (body x as
 ClosesAtReturn old ds r t new = ClosesAsItWas old ds new
 
 -- What a trap closes, by the move that traps.
-abbrev pub ClosesRightly : Plan → State → List Doing → ℕ → Move → Trap → State → Type 0
-ClosesRightly plan old ds i (move.Call func args) t new =
+abbrev pub ClosesWhatWentOn : Plan → State → List Doing → ℕ → Move → Trap → State → Type 0
+ClosesWhatWentOn plan old ds i (move.Call func args) t new =
     ClosesAtCall old ds i (core_func_by_index plan (Some i) func) args.items t new
-ClosesRightly plan old ds i (move.Return values) t new =
+ClosesWhatWentOn plan old ds i (move.Return values) t new =
     ClosesAtReturn old ds (record { callee = i; values = values.items; state = old }) t new
-ClosesRightly plan old ds i m t new = ClosesAsItWas old ds new
+ClosesWhatWentOn plan old ds i m t new = ClosesAsItWas old ds new
 
 -- A trap has its named cause, and closes exactly the instances of what went on.
-abbrev pub TrapsRightly : Plan → List Occurrence → State → Type 0
-TrapsRightly plan [] s = ⊤
-TrapsRightly plan (x ∷ h) s = (m : Move) (t : Trap) → x.action ≡ moves m
+abbrev pub TrapHasItsCauseAndCloses : Plan → List Occurrence → State → Type 0
+TrapHasItsCauseAndCloses plan [] s = ⊤
+TrapHasItsCauseAndCloses plan (x ∷ h) s = (m : Move) (t : Trap) → x.action ≡ moves m
     → x.event ≡ event.Trapped t
     → (i : ℕ) × (acts h ≡ Some i) × NamesItsCause plan x.before (doing plan h) i m t
-    × ClosesRightly plan x.before (doing plan h) i m t x.after
+    × ClosesWhatWentOn plan x.before (doing plan h) i m t x.after
 
 -- A move traps where a cause of its order is there: by the first one, unless there is no memory.
 abbrev pub TrapsAtACause : Plan → List Occurrence → State → Type 0

@@ -42,9 +42,10 @@ Enters (body x asked ∷ ds) i f args new =
 Enters ds i f args new = ⊥
 
 -- Where a body begins, it is the latest call's, with that call's values.
-abbrev pub EntersRightly : Plan → List Occurrence → State → Type 0
-EntersRightly plan [] s = ⊤
-EntersRightly plan (x ∷ h) s = (i f : ℕ) (args : List CoreValue) → x.event ≡ event.Enter i f args
+abbrev pub ReceivesWhatWasSent : Plan → List Occurrence → State → Type 0
+ReceivesWhatWasSent plan [] s = ⊤
+ReceivesWhatWasSent plan (x ∷ h) s = (i f : ℕ) (args : List CoreValue)
+    → x.event ≡ event.Enter i f args
     → Enters (doing plan (x ∷ h)) i f args x.after
 
 -- ---- resumptions
@@ -96,9 +97,9 @@ return_by s acting (moves (move.Return values)) = body_return s acting values.it
 return_by s acting a = None
 
 -- Where a return resumes an instance, what went on latest ends, and hands its result over.
-abbrev pub ResumesRightly : Plan → List Occurrence → State → Type 0
-ResumesRightly plan [] s = ⊤
-ResumesRightly plan (x ∷ h) s = (r : BodyReturn) (i : ℕ) (values : List CoreValue)
+abbrev pub ResumesWithWhatWasReturned : Plan → List Occurrence → State → Type 0
+ResumesWithWhatWasReturned plan [] s = ⊤
+ResumesWithWhatWasReturned plan (x ∷ h) s = (r : BodyReturn) (i : ℕ) (values : List CoreValue)
     → return_by x.before (acts h) x.action ≡ Some r → x.event ≡ event.Resume i values
     → Resumes (doing plan h) r i values x.after
 
@@ -108,7 +109,7 @@ Tidies (tidying x asked back more ∷ ds) args = args ≡ back.values
 Tidies ds args = ⊥
 
 -- In each history a callee tidies up so.
-abbrev pub TidiesRightly : Plan → List Occurrence → State → Type 0
-TidiesRightly plan [] s = ⊤
-TidiesRightly plan (x ∷ h) s = (i f : ℕ) (args : List CoreValue)
+abbrev pub PostReturnGetsTheFlatResult : Plan → List Occurrence → State → Type 0
+PostReturnGetsTheFlatResult plan [] s = ⊤
+PostReturnGetsTheFlatResult plan (x ∷ h) s = (i f : ℕ) (args : List CoreValue)
     → x.event ≡ event.PostReturn i f args → Tidies (doing plan (x ∷ h)) args

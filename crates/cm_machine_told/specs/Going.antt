@@ -36,9 +36,9 @@ StandsAsTold plan h s = map (λ f. f.instance) s.stack ≡ map instance_of (doin
 
 -- Where a host begins a root call, nothing goes on, and its instance is there and open and goes on
 -- next; nothing else changes.
-abbrev pub BeginsRightly : Plan → List Occurrence → State → Type 0
-BeginsRightly plan [] s = ⊤
-BeginsRightly plan (x ∷ h) s = (i : ℕ) → x.action ≡ begins i
+abbrev pub BeginsWhereNothingGoesOn : Plan → List Occurrence → State → Type 0
+BeginsWhereNothingGoesOn plan [] s = ⊤
+BeginsWhereNothingGoesOn plan (x ∷ h) s = (i : ℕ) → x.action ≡ begins i
     → (doing plan h ≡ []) × (slice_get x.before.closed i ≡ Some false)
     × (x.event ≡ event.Resume i []) × (record s { stack = x.before.stack } ≡ x.before)
 
@@ -56,9 +56,9 @@ RefusesBegins plan h s = (i : ℕ)
     → IsMisuseOf (doing plan h) (slice_get s.closed i) (misuse_of_begin s i)
 
 -- An event is a last one exactly where nothing goes on after it.
-abbrev pub EndsRightly : Plan → List Occurrence → State → Type 0
-EndsRightly plan [] s = ⊤
-EndsRightly plan (x ∷ h) s = (is_last x.event ≡ true) ↔ (doing plan (x ∷ h) ≡ [])
+abbrev pub EndsWhereNothingGoesOn : Plan → List Occurrence → State → Type 0
+EndsWhereNothingGoesOn plan [] s = ⊤
+EndsWhereNothingGoesOn plan (x ∷ h) s = (is_last x.event ≡ true) ↔ (doing plan (x ∷ h) ≡ [])
 
 -- ---- closed instances
 
@@ -89,8 +89,8 @@ pub record StartsWith (s : State) (i pages : ℕ) : Type 0 where
   pub no_handle : (index : ℕ) → handle_at (table_at s.tables i) index ≡ None
 
 -- A set starts with what was asked for, no resource was made, and nothing is lent.
-abbrev pub StartsRightly : List ℕ → State → Type 0
-StartsRightly pages s =
+abbrev pub StartsWithWhatWasAskedFor : List ℕ → State → Type 0
+StartsWithWhatWasAskedFor pages s =
     ((i count : ℕ) → slice_get pages i ≡ Some count → StartsWith s i count)
     × (s.owners ≡ []) × (s.lends ≡ []) × (s.stack ≡ []) × (s.passage ≡ None)
 
@@ -104,4 +104,4 @@ RunsExtend = (plan : Plan) (pages : List ℕ) (h : List Occurrence) (s : State) 
 -- Each set that can be linked starts so.
 abbrev pub StartsAlways : Type 0
 StartsAlways = (plan : Plan) (pages : List ℕ) (s : State)
-    → IsHistoryOf plan pages [] s → StartsRightly pages s
+    → IsHistoryOf plan pages [] s → StartsWithWhatWasAskedFor pages s

@@ -213,9 +213,9 @@ HandlesByMove plan ds old i (move.Return values) e new =
 HandlesByMove plan ds old i m e new = HandlesStay old new
 
 -- Handles come and go by calls, returns and the resource built-ins alone, each as told.
-abbrev pub ChangesHandlesRightly : Plan → List Occurrence → State → Type 0
-ChangesHandlesRightly plan [] s = ⊤
-ChangesHandlesRightly plan (x ∷ h) s =
+abbrev pub HandlesChangeByTheirMoves : Plan → List Occurrence → State → Type 0
+HandlesChangeByTheirMoves plan [] s = ⊤
+HandlesChangeByTheirMoves plan (x ∷ h) s =
     ((i : ℕ) → x.action ≡ begins i → HandlesStay x.before x.after)
     × ((m : Move) (i : ℕ) → x.action ≡ moves m → acts h ≡ Some i → (Traps x.event → ⊥)
     → HandlesByMove plan (doing plan h) x.before i m x.event x.after)

@@ -126,9 +126,9 @@ ChangesAsTold ds es old i (move.Return values) (event.Resume j back) new =
 ChangesAsTold ds es old i m e new = SameMemories old new
 
 -- Memories change by writes and growths of the acting instance, and where values are handed over.
-abbrev pub ChangesMemoryRightly : Plan → List Occurrence → State → Type 0
-ChangesMemoryRightly plan [] s = ⊤
-ChangesMemoryRightly plan (x ∷ h) s =
+abbrev pub MemoryChangesByMovesAndValues : Plan → List Occurrence → State → Type 0
+MemoryChangesByMovesAndValues plan [] s = ⊤
+MemoryChangesByMovesAndValues plan (x ∷ h) s =
     ((i : ℕ) → x.action ≡ begins i → SameMemories x.before x.after)
     × ((m : Move) → x.action ≡ moves m
     → (i : ℕ) × (acts h ≡ Some i)

@@ -22,7 +22,7 @@ TravelsAsTold ds s = travelling s.passage ≡ []
 
 -- Each resource that was made has exactly one place; on their way are those of the value that is
 -- being placed.
-pub record OwnsRightly (plan : Plan) (h : List Occurrence) (s : State) : Type 0 where
+pub record EachResourceHasOnePlace (plan : Plan) (h : List Occurrence) (s : State) : Type 0 where
   pub one_place : OnePlace s
   pub on_their_way : TravelsAsTold (doing plan h) s
 

@@ -8,10 +8,11 @@ ghost use Rattle.cm_machine_model.specs.Plan.{Plan};
 ghost use Rattle.cm_machine_model.specs.State.{State};
 ghost use Rattle.cm_machine_told.specs.Acting.{acts};
 ghost use Rattle.cm_machine_told.specs.Always.{Always};
-ghost use Rattle.cm_machine_told.specs.Answers.{AnswersRightly};
+ghost use Rattle.cm_machine_told.specs.Answers.{EventAnswersItsMove};
 ghost use Rattle.cm_machine_told.specs.Doing.{doing};
-ghost use Rattle.cm_machine_told.specs.Going.{ActsAsTold, BeginsByCall, BeginsRightly};
-ghost use Rattle.cm_machine_told.specs.Going.{ClosesByTraps, EndsRightly, NoneClosedActs};
+ghost use Rattle.cm_machine_told.specs.Going.{ActsAsTold, BeginsByCall, BeginsWhereNothingGoesOn};
+ghost use Rattle.cm_machine_told.specs.Going.{ClosesByTraps, EndsWhereNothingGoesOn};
+ghost use Rattle.cm_machine_told.specs.Going.{NoneClosedActs};
 ghost use Rattle.cm_machine_told.specs.Going.{RefusesBegins, RunsExtend, StandsAsTold};
 ghost use Rattle.cm_machine_told.specs.Going.{StartsAlways};
 ghost use Rattle.cm_machine_told.specs.Matching.{AreTold, StepsAnswer, StepsTell};
@@ -46,10 +47,10 @@ pub fn what_goes_on()
     ensures acting { Always ActsAsTold }
     ensures standing { Always StandsAsTold }
     ensures starts { StartsAlways }
-    ensures begins { Always BeginsRightly }
+    ensures begins { Always BeginsWhereNothingGoesOn }
     ensures begin_refusals { Always RefusesBegins }
-    ensures answers { Always AnswersRightly }
-    ensures ends { Always EndsRightly }
+    ensures answers { Always EventAnswersItsMove }
+    ensures ends { Always EndsWhereNothingGoesOn }
     ensures closes { Always ClosesByTraps }
     ensures none_closed_acts { Always NoneClosedActs }
     ensures begins_by_call { Always BeginsByCall }

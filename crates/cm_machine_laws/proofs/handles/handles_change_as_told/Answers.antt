@@ -1,8 +1,8 @@
-use Rattle.cm_machine_laws.proofs.HandlesAlong.{handles_rightly}
+use Rattle.cm_machine_laws.proofs.HandlesAlong.{handles_change_by_moves}
 use Rattle.cm_machine_laws.proofs.handles.handles_change_as_told.Goals as goal
 
 pub returns : goal.returns
-returns c = handles_rightly (record {
+returns c = handles_change_by_moves (record {
   carried = c.one_value_is_carried.ensures;
   adds = c.tables_change_in_one_place.ensures.add;
   releases = c.tables_change_in_one_place.ensures.release;

@@ -1,8 +1,8 @@
-use Rattle.cm_machine_laws.proofs.MemoryAlong.{memory_rightly}
+use Rattle.cm_machine_laws.proofs.MemoryAlong.{memory_changes_by_moves}
 use Rattle.cm_machine_laws.proofs.memories.memory_changes_as_told.Goals as goal
 
 pub returns : goal.returns
-returns c = memory_rightly (record {
+returns c = memory_changes_by_moves (record {
   carried = c.one_value_is_carried.ensures;
   exact = c.requests_end_exact.ensures;
   each = c.each_part_is_asked_for.ensures.each;

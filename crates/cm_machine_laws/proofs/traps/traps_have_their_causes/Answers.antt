@@ -1,9 +1,9 @@
 use Rattle.std.proofs.Common.{refl}
-use Rattle.cm_machine_laws.proofs.TrapsAlong.{causes_trap, traps_rightly}
+use Rattle.cm_machine_laws.proofs.TrapsAlong.{causes_trap, traps_have_causes}
 use Rattle.cm_machine_laws.proofs.traps.traps_have_their_causes.Goals as goal
 
 pub returns-clause-traps : goal.returns-clause-traps
-returns-clause-traps c = traps_rightly (record {
+returns-clause-traps c = traps_have_causes (record {
   one_stop = c.first_faults_are_told.ensures.one;
   beside = c.first_faults_are_told.ensures.beside_no_value;
   number = c.first_faults_are_told.ensures.number;

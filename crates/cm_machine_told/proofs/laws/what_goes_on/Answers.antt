@@ -11,16 +11,16 @@ pub returns-clause-starts : goal.returns-clause-starts
 returns-clause-starts c = going.starts
 
 pub returns-clause-begins : goal.returns-clause-begins
-returns-clause-begins c = going.begin_rightly c.histories_are_told.ensures
+returns-clause-begins c = going.begins_where_nothing_goes_on c.histories_are_told.ensures
 
 pub returns-clause-begin_refusals : goal.returns-clause-begin_refusals
 returns-clause-begin_refusals c = going.begin_refused c.histories_are_told.ensures
 
 pub returns-clause-answers : goal.returns-clause-answers
-returns-clause-answers c = going.answers_rightly c.frames_are_told.ensures.answers c.histories_are_valid.ensures c.histories_are_told.ensures
+returns-clause-answers c = going.event_answers_its_move c.frames_are_told.ensures.answers c.histories_are_valid.ensures c.histories_are_told.ensures
 
 pub returns-clause-ends : goal.returns-clause-ends
-returns-clause-ends c = going.ends_rightly c.histories_are_told.ensures
+returns-clause-ends c = going.ends_where_nothing_goes_on c.histories_are_told.ensures
 
 pub returns-clause-closes : goal.returns-clause-closes
 returns-clause-closes c = going.closes_by_traps
