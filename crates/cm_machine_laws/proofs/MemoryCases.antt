@@ -133,7 +133,7 @@ module _ (laws : Laws) (plan : Plan) (s : State) (top : Frame) (fs : List Frame)
       v = v;
       sent = sent;
       inside = subst (λ (n : List ℕ). ChangesInside old n (sent_requests x v) []) (sym now) both.inside;
-      bytes = subst (λ (n : List ℕ). ChangesBytes old n params (types_of l params) v (places_of (sent_requests x v) [])) (sym now) both.bytes;
+      bytes = subst (λ (n : List ℕ). ChangesBytes old n params (types_of l params) v l.callee.encoding (places_of (sent_requests x v) [])) (sym now) both.bytes;
       others = others_stay s new l.instance memory memories_are;
     } where
       old : List ℕ
@@ -143,7 +143,7 @@ module _ (laws : Laws) (plan : Plan) (s : State) (top : Frame) (fs : List Frame)
       now = memory_is s new l.instance memory memories_are
           (omega (arith, callee_there plan valid.linked (actor top) func l is_called.reach, valid.memories))
 
-      both : IsChanged old memory params (types_of l params) v (sent_requests x v) []
+      both : IsChanged old memory params (types_of l params) v l.callee.encoding (sent_requests x v) []
       both = changed laws (after_lift_of_args s (actor top) func l args.items v p) l params
           (receiver_of params (length s.stack) l (new_call (actor top) func l args.items)) p v memory
           slots (sender_view x) (sent_slots x) [] given.handed is_called.denoted
@@ -198,7 +198,7 @@ module _ (laws : Laws) (plan : Plan) (s : State) (top : Frame) (fs : List Frame)
       v = g.v;
       sent = g.sent;
       inside = subst (λ (n : List ℕ). ChangesInside old n rs mine) (sym now) both.inside;
-      bytes = subst (λ (n : List ℕ). ChangesBytes old n params (types_of l params) g.v (places_of rs mine)) (sym now) both.bytes;
+      bytes = subst (λ (n : List ℕ). ChangesBytes old n params (types_of l params) g.v l.callee.encoding (places_of rs mine)) (sym now) both.bytes;
       others = others_stay s new l.instance memory memories_are;
     } where
       old : List ℕ
@@ -217,7 +217,7 @@ module _ (laws : Laws) (plan : Plan) (s : State) (top : Frame) (fs : List Frame)
       now = memory_is s new l.instance memory memories_are
           (omega (arith, callee_there plan valid.linked call.caller call.func l pl.reach, valid.memories))
 
-      both : IsChanged old memory params (types_of l params) g.v rs mine
+      both : IsChanged old memory params (types_of l params) g.v l.callee.encoding rs mine
       both = changed laws (record s { passage = Some q }) l params (receiver_of params (top_place s) l call) q g.v memory slots
           (sender_view y) (sent_slots y) mine
           (subst (λ (o : Val). IsHanded (record s { passage = Some q }) l params (receiver_of params (top_place s) l call) q o memory slots) t.value_is given.handed) g.sent.denoted
@@ -269,7 +269,7 @@ module _ (laws : Laws) (plan : Plan) (s : State) (top : Frame) (fs : List Frame)
       v = j.v;
       returned = j.returned;
       inside = subst (λ (n : List ℕ). ChangesInside old n rs mine) (sym now) both.inside;
-      bytes = subst (λ (n : List ℕ). ChangesBytes old n results (types_of l results) j.v (places_of rs mine)) (sym now) both.bytes;
+      bytes = subst (λ (n : List ℕ). ChangesBytes old n results (types_of l results) j.v l.caller.encoding (places_of rs mine)) (sym now) both.bytes;
       others = others_stay s new call.caller memory memories_are;
     } where
       old : List ℕ
@@ -289,7 +289,7 @@ module _ (laws : Laws) (plan : Plan) (s : State) (top : Frame) (fs : List Frame)
       now = memory_is s new call.caller memory memories_are
           (omega (arith, caller_there plan call.caller call.func l pl.reach, valid.memories))
 
-      both : IsChanged old memory results (types_of l results) j.v rs mine
+      both : IsChanged old memory results (types_of l results) j.v l.caller.encoding rs mine
       both = changed laws (record s { passage = Some q }) l results (receiver_of results (top_place s) l call) q j.v memory slots
           (returner_view z d.back) d.back.values mine
           (subst (λ (o : Val). IsHanded (record s { passage = Some q }) l results (receiver_of results (top_place s) l call) q o memory slots) u.value_is given.handed) j.returned.denoted
@@ -351,7 +351,7 @@ module _ (laws : Laws) (plan : Plan) (s : State) (top : Frame) (fs : List Frame)
         v = v;
         returned = record { denoted = ret.denoted; transferable = ret.transferable };
         inside = subst (λ (n : List ℕ). ChangesInside old n rs mine) (sym now) both.inside;
-        bytes = subst (λ (n : List ℕ). ChangesBytes old n results (types_of l results) v (places_of rs mine)) (sym now) both.bytes;
+        bytes = subst (λ (n : List ℕ). ChangesBytes old n results (types_of l results) v l.caller.encoding (places_of rs mine)) (sym now) both.bytes;
         others = others_stay s new call.caller memory memories_are;
       } where
         old : List ℕ
@@ -381,8 +381,8 @@ module _ (laws : Laws) (plan : Plan) (s : State) (top : Frame) (fs : List Frame)
               (subst (λ (xs : List Request). slice_get xs (length answers) ≡ None) (w.asks ∙ asks) given.none_to_come),
         )
 
-        both : IsChanged old memory results (types_of l results) v rs mine
-        both = subst (λ (ms : List (List ℕ)). IsChanged (memory_at ms call.caller) memory results (types_of l results) v rs mine) w.memories
+        both : IsChanged old memory results (types_of l results) v l.caller.encoding rs mine
+        both = subst (λ (ms : List (List ℕ)). IsChanged (memory_at ms call.caller) memory results (types_of l results) v l.caller.encoding rs mine) w.memories
             (changed laws st l results (receiver_of results (top_place st) l call) q v memory slots (returner_view k back) values.items mine given.handed ret.denoted
             (ap (λ (xs : List ℕ). length xs) answers_are ∙ all)
             (w.places ∙ (ap (λ (xs : List Request). places_of xs answers) asks ∙ ap (λ (xs : List ℕ). places_of rs xs) (sym answers_are))))

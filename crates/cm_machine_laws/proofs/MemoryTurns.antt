@@ -223,9 +223,9 @@ call_scalars way types v source tags x = by (is_spilled way types) where
 
 -- what the receiver's memory has of the value
 pub record IsChanged (old memory : List ℕ) (way : Way) (types : Fields) (v : Val)
-    (rs : List Request) (answers : List ℕ) : Type 0 where
+    (receiver : StringEncoding) (rs : List Request) (answers : List ℕ) : Type 0 where
   pub inside : ChangesInside old memory rs answers
-  pub bytes : ChangesBytes old memory way types v (places_of rs answers)
+  pub bytes : ChangesBytes old memory way types v receiver (places_of rs answers)
 
 pub changed : Laws → (st : State) (l : Link) (way : Way) (to : Receiver) (q : Passage) (v : Val)
     (memory : List ℕ) (slots : List CoreValue) (w : View) (from : List CoreValue)
@@ -235,7 +235,7 @@ pub changed : Laws → (st : State) (l : Link) (way : Way) (to : Receiver) (q : 
     ≡ length (requests way (types_of l way) v w.encoding (receiver_side l way).encoding (tags_of (met w way (types_of l way) from v)))
     → q.places ≡ places_of (requests way (types_of l way) v w.encoding (receiver_side l way).encoding (tags_of (met w way (types_of l way) from v))) answers
     → IsChanged (memory_at st.memories to.instance) memory way (types_of l way) v
-    (requests way (types_of l way) v w.encoding (receiver_side l way).encoding (tags_of (met w way (types_of l way) from v))) answers
+    (receiver_side l way).encoding (requests way (types_of l way) v w.encoding (receiver_side l way).encoding (tags_of (met w way (types_of l way) from v))) answers
 changed laws st l way to q v memory slots w from answers handed denoted all places = record {
   inside = record {
     same_length = handed.framed.length_stays;
@@ -245,7 +245,7 @@ changed laws st l way to q v memory slots w from answers handed denoted all plac
         (call_scalars way (types_of l way) v w.encoding tags (laws.spelled w way (types_of l way) from v denoted)) all places
         (laws.inside way (types_of l way) g v (receiver_side l way).encoding handed.received.typed refl) handed.framed a not;
   };
-  bytes = record { given = g; placed = places; framed = handed.framed };
+  bytes = record { given = g; placed = places; stored_in = refl; framed = handed.framed };
 } where
   g : Given
   g = given_to st l way to q

@@ -3,8 +3,10 @@ use Rattle.std.specs.Prelude.{◌≡◌, ◌≢◌, ℕ, ◌+◌, ◌*◌, ◌<�
 use Rattle.std.specs.Prelude.{slice_index}
 use Rattle.cm_types.specs.Types.{Fields}
 use Rattle.cm_types.specs.Values.{Val}
+use Rattle.cm_abi_model.specs.declared.encoding.StringEncoding.{StringEncoding}
 use Rattle.cm_abi_model.specs.declared.request.Request.{Request}
 use Rattle.cm_abi_model.specs.Receives.{call_bytes}
+use Rattle.cm_abi_model.specs.Requests.{stored_charset}
 use Rattle.cm_abi_model.specs.Stores.{Framed, Given}
 use Rattle.cm_abi_model.specs.Views.{Way, params, results}
 use Rattle.cm_abi_model.specs.Answering.{places_of, regions_of}
@@ -56,12 +58,13 @@ pub record ChangesInside (old new : List ℕ) (rs : List Request) (answers : Lis
   pub outside : (a : ℕ) → (IsInOne (regions_of rs answers) a → ⊥)
       → slice_index new a ≡ slice_index old a
 
--- Of these bytes, where each part stands at its place, alone a memory is changed: no padding, and
--- nothing beside a chosen payload.
-pub record ChangesBytes (old new : List ℕ) (way : Way) (types : Fields) (v : Val) (places : List ℕ)
-    : Type 0 where
+-- By the bytes of the value alone, each part at its place and strings as the receiver's encoding
+-- stores them, a memory is changed: no padding, and nothing beside a chosen payload.
+pub record ChangesBytes (old new : List ℕ) (way : Way) (types : Fields) (v : Val)
+    (receiver : StringEncoding) (places : List ℕ) : Type 0 where
   pub given : Given
   pub placed : given.places ≡ places
+  pub stored_in : given.charset ≡ stored_charset receiver
   pub framed : Framed old new (call_bytes given way types v)
 
 -- What is handed over changes the receiver's memory alone, inside the regions that its allocator
@@ -74,7 +77,7 @@ pub record HandsArgs (old : State) (x : LoweredCall) (asked : List Asked) (new :
       (memory_at new.memories x.link.instance) (sent_requests x v) (answers_in asked)
   pub bytes : ChangesBytes (memory_at old.memories x.link.instance)
       (memory_at new.memories x.link.instance) params (types_of x.link params) v
-      (places_of (sent_requests x v) (answers_in asked))
+      x.link.callee.encoding (places_of (sent_requests x v) (answers_in asked))
   pub others : OthersStay old x.link.instance new
 
 -- A result is handed over to the caller, who may have given its place.
@@ -86,7 +89,7 @@ pub record HandsResult (old : State) (x : LoweredCall) (r : BodyReturn) (more : 
       (memory_at new.memories x.caller) (returned_requests x r v) (answers_back x more)
   pub bytes : ChangesBytes (memory_at old.memories x.caller)
       (memory_at new.memories x.caller) results (types_of x.link results) v
-      (places_of (returned_requests x r v) (answers_back x more))
+      x.link.caller.encoding (places_of (returned_requests x r v) (answers_back x more))
   pub others : OthersStay old x.caller new
 
 -- no memory changes
