@@ -1,7 +1,9 @@
 //! `scan` and `copy`: values go from memory to memory without a value tree.
 //!
-//! A `Scan` keeps a record of each string and list, the handles, and the answers of `realloc`
-//! (CanonicalABI.md, "Loading", "Storing" and "Lifting and Lowering Values").
+//! A `Scan` keeps a record of each string and list, the handles, and the answers of `realloc`.
+//! Records and answers are two lists, since a record is what was read and does not change; the
+//! sizes to be asked for next are worked out once a part (CanonicalABI.md, "Loading", "Storing" and
+//! "Lifting and Lowering Values").
 #![tactic(auto)]
 
 mod call_laws;

@@ -3,7 +3,8 @@
 //! Beside them stands the data that rules and code share: moves, events, traps and misuses, limits,
 //! guests, and the linear memories of instances. `Plan` is what each core function of a linked set
 //! stands for, `State` a set while it runs, `Step` what each kind of move leads to, `Run` and
-//! `History` many steps, and `Valid` what holds between moves.
+//! `History` many steps, and `Valid` what holds between moves. A plan is no part of a state: it has
+//! types, and a set keeps layouts, from which no type is read back.
 #![tactic(auto)]
 
 mod event;

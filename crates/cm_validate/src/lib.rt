@@ -1,4 +1,4 @@
-//! Valid components: `validate`, what each index stands for, and `signature`.
+//! Valid components: `validate`, what each index means, and `signature`.
 #![tactic(auto)]
 
 pub use cm_validate_signature::signature;

@@ -1,4 +1,7 @@
 //! The rules that a type definition violates by itself, but for limits.
+//!
+//! What an index violates goes by the sort of what it names, so a rule is judged before a type is
+//! built.
 #![tactic(auto)]
 
 mod labels;
