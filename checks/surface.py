@@ -6,7 +6,8 @@ member of a public trait, or what a type is seen as (`impl Model`, but for its i
 tests, programs and static libraries have none.
 
 A door is a crate for those who use Huxarte, and a room is a crate behind one: it is named after its
-door, as `cm_wit_graph` after `cm_wit`. A library that is neither is one of tests.
+door, as `cm_wit_graph` after `cm_wit`, unless several doors share it. A library that is neither is
+one of tests.
 """
 
 import re
@@ -30,6 +31,8 @@ DOORS = (
     "cm_machine",
     "cm_tool",
 )
+# rooms that stand behind several doors, each with the first of these
+SHARED = {"cm_names": "cm_types"}
 # what the build makes of a crate's code, beside its definitions
 MADE = ("declared", "contracts")
 
@@ -321,7 +324,7 @@ def crates():
 def door_of(crate):
     """The door that a crate is or stands behind, or None."""
     found = [it for it in DOORS if crate == it or crate.startswith(f"{it}_")]
-    return max(found, key=len, default=None)
+    return max(found, key=len, default=SHARED.get(crate))
 
 
 SURFACES = {}

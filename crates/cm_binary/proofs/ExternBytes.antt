@@ -2,7 +2,7 @@
 use Rattle.std.proofs.Common.{◌≡◌, ◌-◌, ◌++◌, ◌∷◌, [], length, true, Ok, refl, arith}
 use Rattle.std.proofs.lemmas.Bool.{and_parts}
 use Rattle.std.proofs.lemmas.List.{length-append}
-use Rattle.cm_binary_grammar.specs.LebWriting.{shortest_unsigned}
+use Rattle.cm_leb.specs.NumbersWritten.{shortest_unsigned}
 use Rattle.cm_binary_grammar.proofs.LeastLaws.{Least, done_least, bind_least, code_least}
 use Rattle.cm_binary_grammar.proofs.WrittenLaws.{Spelled, Writes, bind_written, last_written, code_written}
 use Rattle.cm_binary_model.specs.declared.externs.ExternDesc.{ExternDesc}

@@ -4,7 +4,7 @@ use Rattle.std.specs.Str.{is_utf8}
 use Rattle.std.specs.List.{list_all}
 use Rattle.std.proofs.lemmas.Bool.{and_parts}
 use Rattle.std.proofs.lemmas.List.{length-append}
-use Rattle.cm_binary_grammar.specs.LebWriting.{shortest_unsigned}
+use Rattle.cm_leb.specs.NumbersWritten.{shortest_unsigned}
 use Rattle.cm_binary_grammar.specs.Spelling.{blob_spelling, vec_spelling}
 use Rattle.cm_binary_grammar.proofs.LeastLaws.{Least, done_least, bind_least, code_least, fixed_least, vec_least}
 use Rattle.cm_binary_grammar.proofs.WrittenLaws.{Writes, bind_written, last_written, code_written, fixed_written, vec_written}

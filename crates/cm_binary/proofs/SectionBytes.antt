@@ -4,7 +4,7 @@ use Rattle.std.specs.List.{flat_map, list_all, sum_by, starts_with}
 use Rattle.std.proofs.lemmas.Bool.{and_parts, and_from, eqb-true, eq-eqb}
 use Rattle.std.proofs.lemmas.List.{length-append}
 use Rattle.std.proofs.lemmas.List.Sums.{sum_by-cons}
-use Rattle.cm_binary_grammar.specs.LebWriting.{shortest_unsigned}
+use Rattle.cm_leb.specs.NumbersWritten.{shortest_unsigned}
 use Rattle.cm_binary_grammar.specs.Whole.{remainder, SpellsEach, of_size}
 use Rattle.cm_binary_grammar.specs.Spelling.{blob_spelling}
 use Rattle.cm_binary_grammar.proofs.LeastLaws.{Least, LeastWhole, bind_least, code_least, vec_least, build_least, remainder_least, begins_with_least, exactly_least, join_least, of_size_least, to_end_least}

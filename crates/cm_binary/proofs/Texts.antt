@@ -2,7 +2,7 @@
 use Rattle.std.proofs.Common.{◌≡◌, ℕ, ◌<◌, ◌^◌, List, length, true, refl, arith}
 use Rattle.std.specs.Str.{is_utf8}
 use Rattle.std.proofs.lemmas.Bool.{and_parts, ltb-true}
-use Rattle.cm_binary_grammar.specs.LebWriting.{shortest_unsigned}
+use Rattle.cm_leb.specs.NumbersWritten.{shortest_unsigned}
 use Rattle.cm_binary_grammar.specs.Spelling.{blob_spelling}
 use Rattle.cm_binary_grammar.proofs.LeastLaws.{Least, bind_least, number_least, check_least, fixed_least, counted_least}
 use Rattle.cm_binary_grammar.proofs.WrittenLaws.{Spelled, Writes, bind_written, number_written, fixed_written, check_written, raw_written, text_written}

@@ -7,10 +7,10 @@ use Rattle.std.proofs.lemmas.Bool.{and_parts, ltb-true}
 use Rattle.std.proofs.lemmas.Bool.Decides.{nat_tests}
 use Rattle.std.proofs.lemmas.Int.{ints}
 use Rattle.std.proofs.lemmas.List.{length-append}
-use Rattle.cm_binary_grammar.specs.Numbers.{IsWithin}
-use Rattle.cm_binary_grammar.specs.LebReading.{is_within}
-use Rattle.cm_binary_grammar.specs.LebWriting.{group_of, signed_length, to_two_complement, shortest_unsigned, shortest_signed}
-use Rattle.cm_binary_grammar.proofs.LebWritingLaws.{shortest_signed-apart}
+use Rattle.cm_leb.specs.Numbers.{IsWithin}
+use Rattle.cm_leb.specs.NumbersRead.{is_within}
+use Rattle.cm_leb.specs.NumbersWritten.{group_of, signed_length, to_two_complement, shortest_unsigned, shortest_signed}
+use Rattle.cm_leb.proofs.ShortestLaws.{shortest_signed-apart}
 use Rattle.cm_binary_grammar.specs.Grammar.{vec}
 use Rattle.cm_binary_grammar.specs.Spelling.{blob_spelling, vec_spelling}
 use Rattle.cm_binary_grammar.proofs.LeastLaws.{Least, done_least, bind_least, ahead_least, code_least, refuse_least, number_least, signed_least, check_least, fixed_least, vec_least, from_stock_least, stocked_least}

@@ -1,7 +1,7 @@
 -- What a decoder holds, and what it answers.
 use Rattle.std.specs.Prelude.{◌≡◌, ◌≢◌, ℕ, ◌+◌, ◌-◌, ◌≤◌, ◌↔◌, List, [], ◌∷◌, ◌++◌, length, Option}
 use Rattle.std.specs.Prelude.{Some, None, Result, Ok, Err}
-use Rattle.cm_binary_grammar.specs.Numbers.{SpellsUnsigned}
+use Rattle.cm_leb.specs.Numbers.{SpellsUnsigned}
 use Rattle.cm_binary_grammar.specs.declared.fault.End.{End}
 use Rattle.cm_binary_grammar.specs.declared.fault.ReadError.TheVariants as errors
 use Rattle.cm_binary_grammar.specs.declared.fault.End.TheVariants as end

@@ -5,8 +5,9 @@ ghost use Rattle.cm_binary_model.specs.Spelling.{outer_type_spelling};
 
 use crate::instances::{core_sort_code, instance_sort_code};
 use crate::written::Written;
-use cm_binary_grammar::{write_blob, write_u32};
+use cm_binary_grammar::write_blob;
 use cm_binary_model::Alias;
+use cm_leb::write_u32;
 use cm_types::OuterType;
 use std::alloc::AllocError;
 

@@ -1,8 +1,8 @@
 //! Canonical definitions and their options.
 
 use crate::written::{Written, write_vec};
-use cm_binary_grammar::write_u32;
 use cm_binary_model::{Canon, CanonOption};
+use cm_leb::write_u32;
 use std::alloc::AllocError;
 
 impl Written for CanonOption {

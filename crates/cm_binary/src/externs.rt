@@ -5,8 +5,9 @@ ghost use Rattle.cm_binary_model.specs.Spelling.{extern_name_spelling, desc_spel
 ghost use Rattle.cm_binary_model.specs.Spelling.{export_sort_code};
 
 use crate::written::Written;
-use cm_binary_grammar::{write_blob, write_u32};
+use cm_binary_grammar::write_blob;
 use cm_binary_model::{Export, ExportSort, ExternDesc, Import};
+use cm_leb::write_u32;
 use cm_types::ExternName;
 use std::alloc::AllocError;
 

@@ -5,11 +5,12 @@ ghost use Rattle.cm_binary_model.specs.Spelling.{core_sort_code, instance_sort_c
 
 use crate::externs::write_extern_name;
 use crate::written::{Written, write_vec};
-use cm_binary_grammar::{write_blob, write_u32};
+use cm_binary_grammar::write_blob;
 use cm_binary_model::{
     CoreInlineExport, CoreInstance, CoreInstantiationArg, CoreSort, InlineExport, Instance,
     InstanceExportSort,
 };
+use cm_leb::write_u32;
 use std::alloc::AllocError;
 
 impl Written for CoreInstantiationArg {

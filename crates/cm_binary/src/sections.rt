@@ -6,8 +6,9 @@ ghost use Rattle.cm_binary_model.specs.Spelling.{contents_spelling, section_id, 
 ghost use Rattle.cm_binary_model.specs.Spelling.{spelling};
 
 use crate::written::write_vec;
-use cm_binary_grammar::{write_blob, write_count};
+use cm_binary_grammar::write_blob;
 use cm_binary_model::{COMPONENT_PREAMBLE, Section, contents_length, file_length};
+use cm_leb::formats::write_count;
 use std::alloc::{AllocError, Global};
 
 /// The bytes of a file with these sections, with the shortest spelling of each number. Memory is

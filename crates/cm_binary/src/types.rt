@@ -1,7 +1,7 @@
 //! Types.
 
 ghost use Rattle.std.specs.Prelude.{◌≡◌, ◌++◌, OnOk};
-ghost use Rattle.cm_binary_grammar.specs.LebWriting.{shortest_unsigned};
+ghost use Rattle.cm_leb.specs.NumbersWritten.{shortest_unsigned};
 ghost use Rattle.cm_types.specs.DefTypes.{def_val_type_tree, func_type_tree};
 ghost use Rattle.cm_types.specs.DefTypes.{declared_type_tree};
 ghost use Rattle.cm_binary_model.specs.Spelling.{optional_spelling, prim_val_type_code};
@@ -13,7 +13,8 @@ ghost use Rattle.cm_binary_model.specs.Spelling.{declared_type_spelling, export_
 use crate::aliases::write_outer_type;
 use crate::externs::write_extern_name;
 use crate::written::{Written, write_vec};
-use cm_binary_grammar::{write_blob, write_s33, write_u32};
+use cm_binary_grammar::write_blob;
+use cm_leb::{write_s33, write_u32};
 use cm_types::{
     CaseType, Declaration, DeclaredType, DefType, DefValType, ExportDesc, FuncType, Label,
     LabeledValType, PrimValType, TypeBound, ValType,

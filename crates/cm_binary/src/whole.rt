@@ -3,8 +3,9 @@
 
 ghost use Rattle.std.specs.Prelude.{◌≡◌, ◌≤◌, length, drop};
 
-use cm_binary_grammar::{LebFault, front_u32};
 use cm_binary_model::{COMPONENT_PREAMBLE, MAX_FILE_BYTES};
+use cm_leb::LebFault;
+use cm_leb::formats::front_u32;
 
 /// How many of the bytes gathered are fed, and how many are to be gathered behind them before more
 /// are.

@@ -3,8 +3,8 @@
 ghost use Rattle.std.specs.Prelude.{◌≡◌, ◌++◌, map, OnOk};
 ghost use Rattle.cm_binary_grammar.specs.Spelling.{vec_spelling};
 
-use cm_binary_grammar::write_count;
 use cm_binary_model::Part;
+use cm_leb::formats::write_count;
 use std::alloc::AllocError;
 
 /// A part of a file that is written.

@@ -1,7 +1,7 @@
 -- Types are read exactly.
 use Rattle.std.proofs.Common.{ℕ, ◌≤◌, ◌<◌, Bool, true, false, List, [], ◌∷◌, length, ap, arith}
 use Rattle.std.proofs.lemmas.List.{length-append}
-use Rattle.cm_binary_grammar.specs.Numbers.{IsGroup}
+use Rattle.cm_leb.specs.Numbers.{IsGroup}
 use Rattle.cm_binary_grammar.proofs.Laws.{Lawful, done_lawful, bind_lawful, ahead_lawful, code_lawful, signed_lawful, check_lawful, fixed_lawful, vec_lawful, from_stock_lawful, stocked_lawful}
 use Rattle.cm_types.specs.declared.def_types.ValType.{ValType}
 use Rattle.cm_binary_forms.specs.declared.codes.OptionalForm.{OptionalForm}

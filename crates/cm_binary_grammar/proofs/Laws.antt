@@ -2,12 +2,12 @@
 use Rattle.std.proofs.Common.{◌≡◌, ℕ, zero, suc, ◌-◌, ◌<◌, ◌≤◌, Bool, true, false, cond, ltb, List, [], ◌∷◌, ◌++◌, length, take, drop, Result, Ok, Err, refl, sym, ap, subst, ◌∙◌, append_assoc, arith, inl, inr, ◌⊎◌}
 use Rattle.std.proofs.lemmas.Bool.{cases_Bool, cases_eq, ltb-true, ltb-false, lt-ltb, le-ltb, eq-eqb, ne_eqb}
 use Rattle.std.proofs.lemmas.List.{length-append, length-take, take_at, take-append-le, drop_at, take-append-drop}
-use Rattle.cm_binary_grammar.specs.declared.leb_fault.LebFault.{LebFault}
-use Rattle.cm_binary_grammar.specs.declared.leb_fault.LebFault.TheVariants.{Truncated, TooLong, BadLastBits}
-use Rattle.cm_binary_grammar.specs.Numbers.{greatest_length, IsTooLong, IsUnsignedFault, IsSignedFault}
-use Rattle.cm_binary_grammar.specs.LebReading.{unsigned_at, signed_at}
-use Rattle.cm_binary_grammar.proofs.UnsignedLaws.{unsigned_takes, unsigned_again, unsigned_faulty, unsigned_faulty_again}
-use Rattle.cm_binary_grammar.proofs.SignedLaws.{signed_takes, signed_again, signed_faulty, signed_faulty_again}
+use Rattle.cm_leb.specs.declared.fault.LebFault.{LebFault}
+use Rattle.cm_leb.specs.declared.fault.LebFault.TheVariants.{Truncated, TooLong, BadLastBits}
+use Rattle.cm_leb.specs.Numbers.{greatest_length, IsTooLong, IsUnsignedFault, IsSignedFault}
+use Rattle.cm_leb.specs.NumbersRead.{unsigned_at, signed_at}
+use Rattle.cm_leb.proofs.UnsignedLaws.{unsigned_takes, unsigned_again, unsigned_faulty, unsigned_faulty_again}
+use Rattle.cm_leb.proofs.SignedLaws.{signed_takes, signed_again, signed_faulty, signed_faulty_again}
 use Rattle.cm_binary_grammar.specs.declared.fault.Fault.{Fault}
 use Rattle.cm_binary_grammar.specs.declared.fault.End.{End}
 use Rattle.cm_binary_grammar.specs.declared.fault.End.TheVariants as end

@@ -3,8 +3,8 @@ use Rattle.std.proofs.Common.{◌≡◌, ℕ, zero, suc, ◌+◌, ◌-◌, ◌�
 use Rattle.std.specs.List.{flat_map}
 use Rattle.std.proofs.lemmas.Bool.Decides.{nat_tests}
 use Rattle.std.proofs.lemmas.List.{length-append}
-use Rattle.cm_binary_grammar.specs.LebWriting.{shortest_unsigned, shortest_signed}
-use Rattle.cm_binary_grammar.proofs.LebWritingLaws.{shortest_unsigned-least, shortest_unsigned-length, shortest_signed-least}
+use Rattle.cm_leb.specs.NumbersWritten.{shortest_unsigned, shortest_signed}
+use Rattle.cm_leb.proofs.ShortestLaws.{shortest_unsigned-least, shortest_unsigned-length, shortest_signed-least}
 use Rattle.cm_binary_grammar.specs.Grammar.{Grammar, done, ◌>>=◌, code, refuse, ahead, number, signed, raw, check, fixed, chain, from_stock, vec, stocked}
 use Rattle.cm_binary_grammar.specs.Whole.{Whole, build, remainder, exactly, join, begins_with, SpellsEach, to_end, of_size, at_most}
 use Rattle.cm_binary_grammar.specs.Spelling.{vec_spelling, blob_spelling}

@@ -1,8 +1,3 @@
-pub mod Powers
-pub mod LebLaws
-pub mod UnsignedLaws
-pub mod SignedLaws
-pub mod LebWritingLaws
 pub mod Tools
 pub mod Laws
 pub mod WholeLaws

@@ -5,9 +5,9 @@ use Rattle.std.specs.Prelude.{ℤ}
 use Rattle.std.proofs.lemmas.Bool.{and_parts}
 use Rattle.std.proofs.lemmas.List.{length-append, append-nil}
 use Rattle.std.proofs.lemmas.List.Sums.{sum_by-cons}
-use Rattle.cm_binary_grammar.specs.Numbers.{IsWithin}
-use Rattle.cm_binary_grammar.specs.LebWriting.{shortest_unsigned, shortest_signed}
-use Rattle.cm_binary_grammar.proofs.LebWritingLaws.{shortest_unsigned-spells, shortest_signed-spells}
+use Rattle.cm_leb.specs.Numbers.{IsWithin}
+use Rattle.cm_leb.specs.NumbersWritten.{shortest_unsigned, shortest_signed}
+use Rattle.cm_leb.proofs.ShortestLaws.{shortest_unsigned-spells, shortest_signed-spells}
 use Rattle.cm_binary_grammar.specs.Grammar.{Grammar, done, ◌>>=◌, code, ahead, number, signed, raw, check, fixed, chain, from_stock, vec, stocked}
 use Rattle.cm_binary_grammar.specs.Whole.{SpellsEach}
 use Rattle.cm_binary_grammar.specs.Spelling.{vec_spelling, blob_spelling}

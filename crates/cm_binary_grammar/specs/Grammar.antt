@@ -4,12 +4,12 @@
 use Rattle.std.specs.Prelude.{◌≡◌, ◌≢◌, ℕ, zero, suc, ◌-◌, ◌<◌, ◌⊎◌, Bool, true, false, List}
 use Rattle.std.specs.Prelude.{[], ◌∷◌, ◌++◌, length, take, drop, Result, Ok, Err, ℤ, nat_lt, ◌==◌}
 use Rattle.std.specs.Prelude.{if◌then◌else◌}
-use Rattle.cm_binary_grammar.specs.declared.leb_fault.LebFault.{LebFault}
-use Rattle.cm_binary_grammar.specs.declared.leb_fault.LebFault.TheVariants.{BadLastBits, TooLong}
-use Rattle.cm_binary_grammar.specs.declared.leb_fault.LebFault.TheVariants.{Truncated}
-use Rattle.cm_binary_grammar.specs.Numbers.{SpellsUnsigned, SpellsSigned, IsTruncated, IsTooLong}
-use Rattle.cm_binary_grammar.specs.Numbers.{HasBadUnsignedBits, HasBadSignedBits}
-use Rattle.cm_binary_grammar.specs.LebReading.{unsigned_at, signed_at}
+use Rattle.cm_leb.specs.declared.fault.LebFault.{LebFault}
+use Rattle.cm_leb.specs.declared.fault.LebFault.TheVariants.{BadLastBits, TooLong}
+use Rattle.cm_leb.specs.declared.fault.LebFault.TheVariants.{Truncated}
+use Rattle.cm_leb.specs.Numbers.{SpellsUnsigned, SpellsSigned, IsTruncated, IsTooLong}
+use Rattle.cm_leb.specs.Numbers.{HasBadUnsignedBits, HasBadSignedBits}
+use Rattle.cm_leb.specs.NumbersRead.{unsigned_at, signed_at}
 use Rattle.cm_binary_grammar.specs.declared.fault.Fault.{Fault}
 use Rattle.cm_binary_grammar.specs.declared.fault.End.{End}
 use Rattle.cm_binary_grammar.specs.Faults.{flaw, want, and_then}

@@ -1,6 +1,3 @@
-pub mod Numbers
-pub mod LebReading
-pub mod LebWriting
 pub mod Faults
 pub mod Grammar
 pub mod Whole

@@ -1,7 +1,7 @@
 -- How values are written: the shortest numbers, and lists behind their count.
 use Rattle.std.specs.Prelude.{ℕ, List, ◌++◌, length}
 use Rattle.std.specs.List.{flat_map}
-use Rattle.cm_binary_grammar.specs.LebWriting.{shortest_unsigned}
+use Rattle.cm_leb.specs.NumbersWritten.{shortest_unsigned}
 
 -- The number of things, and the things one after the other.
 abbrev pub vec_spelling : {A : Type 0} → (A → List ℕ) → List A → List ℕ

@@ -9,7 +9,8 @@ ghost use Rattle.cm_binary_grammar.specs.Whole.{begins_with, begins_with_reads, 
 ghost use Rattle.cm_binary_grammar.specs.declared.fault.ReadError.TheVariants as errors;
 
 use crate::fault::{End, Fault, ReadError};
-use crate::{LebFault, front_s33, front_u32};
+use cm_leb::LebFault;
+use cm_leb::formats::{front_s33, front_u32};
 
 /// Bytes of which a part was read: what is left, and how it ends. After an error nothing is said of
 /// what is left.

@@ -7,7 +7,7 @@ ghost use Rattle.cm_binary_grammar.specs.Spelling.{blob_spelling};
 
 use crate::cursor::Cursor;
 use crate::fault::ReadError;
-use crate::write_count;
+use cm_leb::formats::write_count;
 use std::alloc::{AllocError, Global};
 
 /// A form of a format: how it is read at a place of it.

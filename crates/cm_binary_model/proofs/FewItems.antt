@@ -5,7 +5,7 @@ use Rattle.std.specs.List.{flat_map, sum_by, list_all}
 use Rattle.std.proofs.lemmas.Bool.{ltb-false}
 use Rattle.std.proofs.lemmas.List.{length-append}
 use Rattle.std.proofs.lemmas.List.Sums.{sum_by-cons}
-use Rattle.cm_binary_grammar.specs.LebWriting.{shortest_unsigned}
+use Rattle.cm_leb.specs.NumbersWritten.{shortest_unsigned}
 use Rattle.cm_binary_grammar.specs.Spelling.{vec_spelling}
 use Rattle.cm_binary_model.specs.declared.limits.LimitFault.{LimitFault}
 use Rattle.cm_binary_model.specs.declared.limits.LimitFault.TheVariants.{TooMany, TooLong, NotAModule}

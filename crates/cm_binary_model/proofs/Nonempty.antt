@@ -2,8 +2,8 @@
 use Rattle.std.proofs.Common.{ℕ, ◌<◌, List, [], ◌∷◌, ◌++◌, length, ap, arith}
 use Rattle.std.specs.Prelude.{pos}
 use Rattle.std.proofs.lemmas.List.{length-append}
-use Rattle.cm_binary_grammar.specs.LebWriting.{shortest_unsigned, shortest_signed}
-use Rattle.cm_binary_grammar.proofs.LebWritingLaws.{shortest_signed-apart}
+use Rattle.cm_leb.specs.NumbersWritten.{shortest_unsigned, shortest_signed}
+use Rattle.cm_leb.proofs.ShortestLaws.{shortest_signed-apart}
 use Rattle.cm_binary_grammar.specs.Spelling.{blob_spelling}
 use Rattle.cm_types.specs.declared.def_types.ValType.{ValType}
 use Rattle.cm_types.specs.declared.def_types.ValType.TheVariants as val_types

@@ -2,7 +2,7 @@
 -- brackets), which is the one that is written.
 use Rattle.std.specs.Prelude.{ℕ, List, [], ◌∷◌, ◌++◌, Option, Some, None, pos}
 use Rattle.std.specs.List.{flat_map}
-use Rattle.cm_binary_grammar.specs.LebWriting.{shortest_unsigned, shortest_signed}
+use Rattle.cm_leb.specs.NumbersWritten.{shortest_unsigned, shortest_signed}
 use Rattle.cm_binary_grammar.specs.Spelling.{vec_spelling, blob_spelling}
 use Rattle.cm_types.specs.declared.def_types.PrimValType.{PrimValType}
 use Rattle.cm_types.specs.declared.def_types.PrimValType.TheVariants as prim_val_types

@@ -2,13 +2,13 @@
 
 ghost use Rattle.std.specs.Prelude.{◌≡◌, ◌≤◌, length, pos, true};
 ghost use Rattle.std.specs.Str.{is_utf8};
-ghost use Rattle.cm_binary_grammar.specs.LebWriting.{shortest_signed, shortest_unsigned};
+ghost use Rattle.cm_leb.specs.NumbersWritten.{shortest_signed, shortest_unsigned};
 ghost use Rattle.cm_binary_grammar.specs.Spelling.{blob_spelling};
 ghost use Rattle.cm_binary_model.specs.Spelling.{extern_name_spelling};
 ghost use Rattle.cm_binary_model.specs.Parts.{holds_label, holds_name, is_index};
 ghost use Rattle.cm_binary_model.specs.Measures.{saturate};
 
-use cm_binary_grammar::{spelled_length, spelled_signed_length};
+use cm_leb::formats::{spelled_length, spelled_signed_length};
 use cm_types::{ExternName, Label};
 
 /// The length of a number.

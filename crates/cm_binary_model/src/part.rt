@@ -5,7 +5,7 @@ ghost use Rattle.std.specs.List.{flat_map, list_all};
 ghost use Rattle.cm_binary_grammar.specs.Spelling.{vec_spelling};
 ghost use Rattle.cm_binary_model.specs.Measures.{saturate};
 
-use cm_binary_grammar::spelled_length;
+use cm_leb::formats::spelled_length;
 
 /// A part of a file: its tree, the shortest spelling of that, and what every such tree holds.
 ///

@@ -2,7 +2,7 @@
 
 ghost use Rattle.std.specs.Prelude.{◌≡◌, ◌≤◌, ℕ, List, length, map, true};
 ghost use Rattle.std.specs.List.{sum_by};
-ghost use Rattle.cm_binary_grammar.specs.LebWriting.{shortest_unsigned};
+ghost use Rattle.cm_leb.specs.NumbersWritten.{shortest_unsigned};
 ghost use Rattle.cm_binary_grammar.specs.Spelling.{blob_spelling};
 ghost use Rattle.cm_types.specs.DefTypes.{def_val_type_tree, func_type_tree, def_type_tree};
 ghost use Rattle.cm_types.specs.DefTypes.{declared_type_tree, DeclarationTree, declaration_tree};

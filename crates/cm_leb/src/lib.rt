@@ -1,4 +1,17 @@
 //! Numbers in LEB128: `u32`, and `s33` for indices of types (the core specification, "Integers").
 #![tactic(auto)]
 
-pub use cm_binary_grammar::{LebFault, read_s33, read_u32, write_s33, write_u32};
+mod fault;
+mod reading;
+mod writing;
+
+pub use fault::LebFault;
+pub use reading::{read_s33, read_u32};
+pub use writing::{write_s33, write_u32};
+
+/// What a reader or a writer of a whole format needs besides: the number at the front of bytes, the
+/// length of a spelling, and counts.
+pub mod formats {
+    pub use crate::reading::{front_s33, front_u32};
+    pub use crate::writing::{spelled_length, spelled_signed_length, write_count};
+}

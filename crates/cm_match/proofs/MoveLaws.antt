@@ -9,7 +9,7 @@ use Rattle.cm_types_arena.specs.Replaced.{replaced, replaced_func}
 use Rattle.cm_types_arena.specs.Instances.{numbered, replaced_desc, replaced_item}
 use Rattle.cm_validate_model.specs.Definitions.{InstanceTy}
 use Rattle.cm_validate_model.specs.Moves.{moved_id, moved_type, moved_func, moved_item}
-use Rattle.cm_validate_model.specs.Counted.{IsCounted, IsFuncCounted, IsItemCounted, IsNumbered}
+use Rattle.cm_validate_model.specs.Counted.{IsCounted, IsFuncCounted, IsItemCounted, IsAmongFirst}
 use Rattle.cm_validate_model.specs.CountedSpaces.{AreItemsCounted}
 use Rattle.cm_validate_items.specs.Shared.{item_from}
 
@@ -32,7 +32,7 @@ module _ (types_move : TypesMove) (funcs_move : FuncsMove) (i : InstanceTy) (nex
     | inr brings ↦ rw (not_below n i.first brings, lt-leb (i.first + i.fresh) n lt) refl
   ]
 
-  id_told : (r : ResourceId) → IsNumbered (i.first + i.fresh) r → moved_id i next r ≡ moved_range i.first i.fresh next r
+  id_told : (r : ResourceId) → IsAmongFirst (i.first + i.fresh) r → moved_id i next r ≡ moved_range i.first i.fresh next r
   id_told r c =
       let same : numbered r.number ≡ r = ap (λ (k : ℕ). record { component = k; number = r.number }) (sym c.0) in
       subst (λ (q : ResourceId). moved_id i next q ≡ moved_range i.first i.fresh next q) same (number_told r.number c.1)

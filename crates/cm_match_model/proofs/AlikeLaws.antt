@@ -10,7 +10,7 @@ use Rattle.cm_types_arena.specs.Instances.{replaced_desc, replaced_item}
 use Rattle.cm_validate_model.specs.Definitions.{InstanceTy, ResourceDef, brought, NamedMember, exported_instance}
 use Rattle.cm_validate_model.specs.Scopes.{resource_id}
 use Rattle.cm_validate_model.specs.Spaces.{Spaces}
-use Rattle.cm_validate_model.specs.Counted.{IsNumbered}
+use Rattle.cm_validate_model.specs.Counted.{IsAmongFirst}
 use Rattle.cm_validate_model.specs.CountedSpaces.{AreSpacesCounted, fresh_numbers, fresh_of, numbers_from}
 use Rattle.cm_match_model.specs.Origins.{AreOrigins, origin_of}
 use Rattle.cm_match_model.specs.Imports.{links_of}
@@ -120,7 +120,7 @@ module _ (set : List Spaces) (counted : (n : ℕ) (p : Spaces) → slice_get set
   stays_same r h = ap (standing set c) (it_stays t a r h ∙ sym (it_stays t b r h))
 
   abbrev AreSameBelow : ℕ → Type 0
-  AreSameBelow n = (r : ResourceId) → IsNumbered n (to_a r) → IsSame r
+  AreSameBelow n = (r : ResourceId) → IsAmongFirst n (to_a r) → IsSame r
 
   -- one more resource is the same for both
   one_more : (n : ℕ) (q : ResourceId) → AreSameBelow n → to_a q ≡ resource_id n → stays t q.number ≡ false → IsSame q → AreSameBelow (n + 1)

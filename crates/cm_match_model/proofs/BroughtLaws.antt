@@ -24,7 +24,7 @@ use Rattle.cm_validate_model.specs.Items.{Item, core_module_item, core_instance_
 use Rattle.cm_validate_model.specs.Moves.{moved, moved_id, moved_type, moved_fields, moved_cases, moved_func, moved_item}
 use Rattle.cm_validate_model.specs.Scopes.{resource_id, value_defined, func_defined}
 use Rattle.cm_validate_model.specs.Spaces.{Spaces, empty_spaces, member_at, named_member, member_named, aliased_member, member_of_item, members_from, members_imported, brought_by, brought_from, next_resource, next_import, type_of_member, member_alias, type_alias, new_types, new_instances, new_resources, new_imports, imported_func, imported_instance, instance_ty_in, instance_exported, exported, import_desc, moved_named, after_item, after_items, spaces_of}
-use Rattle.cm_validate_model.specs.Counted.{IsNumbered, IsCounted, AreCounted, AreCasesCounted, IsFuncCounted, IsItemCounted}
+use Rattle.cm_validate_model.specs.Counted.{IsAmongFirst, IsCounted, AreCounted, AreCasesCounted, IsFuncCounted, IsItemCounted}
 use Rattle.cm_validate_model.specs.CountedSpaces.{AreItemsCounted, AreSpacesCounted, IsDefCounted, IsInstanceCounted}
 use Rattle.cm_types_arena.specs.Moves.{moved as moved_range}
 use Rattle.cm_types_arena.specs.Replaced.{replaced, replaced_func}
@@ -42,7 +42,7 @@ module _ (t : InstanceTy) (next : ℕ) (le : t.first ≤ next) where
     | inr k ↦ rw k (omega (arith, le, h, ltb-false n t.first k))
   ]
 
-  id_moved : (m : ℕ) (r : ResourceId) → IsNumbered (t.first + m) r → IsNumbered (next + m) (moved_id t next r)
+  id_moved : (m : ℕ) (r : ResourceId) → IsAmongFirst (t.first + m) r → IsAmongFirst (next + m) (moved_id t next r)
   id_moved m r h = (refl, number_moved m r.number h.1)
 
   mutual
@@ -132,7 +132,7 @@ Ranged = (t : InstanceTy) (next : ℕ) (is : List NamedItem) → AreItemsCounted
 
 module _ (types : (t : InstanceTy) (next : ℕ) (u : Ty) → IsCounted (t.first + t.fresh) u → moved_type t next u ≡ replaced (moved_range t.first t.fresh next) u)
     (funcs : (t : InstanceTy) (next : ℕ) (f : FuncTy) → IsFuncCounted (t.first + t.fresh) f → moved_func t next f ≡ replaced_func (moved_range t.first t.fresh next) f) where
-  id_ranged : (t : InstanceTy) (next : ℕ) (r : ResourceId) → IsNumbered (t.first + t.fresh) r → moved_id t next r ≡ moved_range t.first t.fresh next r
+  id_ranged : (t : InstanceTy) (next : ℕ) (r : ResourceId) → IsAmongFirst (t.first + t.fresh) r → moved_id t next r ≡ moved_range t.first t.fresh next r
   id_ranged t next r h = let e : own (moved_id t next r) ≡ own (moved_range t.first t.fresh next r) = types t next (own r) h in cc
 
   desc_ranged : (t : InstanceTy) (next : ℕ) (d : ItemTy) → IsItemCounted (t.first + t.fresh) d → moved_item t next d ≡ replaced_desc (moved_range t.first t.fresh next) d

@@ -1,5 +1,4 @@
-mod OriginLaws
-mod Following
+pub mod OriginLaws
 mod ListLemmas
 mod LinkLaws
 mod AnswerLaws
@@ -13,13 +12,7 @@ mod ServingLaws
 mod SameLaws
 mod AlikeLaws
 mod SetLaws
-mod Orders
-mod GreatestLaws
-mod Rows
-mod Additions
-pub mod NameTableLaws
-mod Carets
 mod Requirements
-mod Splits
-mod FitLaws
+pub mod Carets
+pub mod Compatible
 mod RangeLaws

@@ -13,7 +13,7 @@ use Rattle.cm_types.specs.ExternNames.{NameTree, constructor, form_of, interface
 use Rattle.cm_match_model.specs.Fitting.{fits, is_compatible, is_compatible_name}
 use Rattle.cm_match_model.specs.Ranges.{comes_before, is_later_prerelease, next_incompatible, numbers}
 use Rattle.cm_match_model.proofs.Carets.{allows_is, caret_at, caret_numbers, of_release}
-use Rattle.cm_match_model.proofs.FitLaws.{allows_itself, compatible_is, version_read}
+use Rattle.cm_match_model.proofs.Compatible.{allows_itself, compatible_is, version_read}
 
 not_empty : (b : ℕ) (rest : List ℕ) → (length (b ∷ rest) == 0) ≡ false
 not_empty b rest = grind (arith, common_steps)

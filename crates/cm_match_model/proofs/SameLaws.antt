@@ -11,7 +11,7 @@ use Rattle.cm_types_arena.specs.Replaced.{Standing, replaced, replaced_fields, r
 use Rattle.cm_types_arena.specs.Instances.{replaced_item}
 use Rattle.cm_validate_model.specs.Definitions.{InstanceTy, value, func_type, resource, instance_type, faulty, ResourceDef, brought, MemberDef, func_member, type_member, NamedMember, ExportDef, exported_instance, NamedExport}
 use Rattle.cm_validate_model.specs.Spaces.{Spaces, item_of_member, member_named, next_resource}
-use Rattle.cm_validate_model.specs.Counted.{IsNumbered, IsCounted, AreCounted, AreCasesCounted, IsFuncCounted}
+use Rattle.cm_validate_model.specs.Counted.{IsAmongFirst, IsCounted, AreCounted, AreCasesCounted, IsFuncCounted}
 use Rattle.cm_validate_model.specs.CountedSpaces.{AreMembersCounted, AreSpacesCounted, IsExportCounted, IsMemberCounted}
 use Rattle.cm_match_model.specs.declared.component.Link.{Link}
 use Rattle.cm_match_model.specs.Origins.{AreOrigins, definition_of, exported_resource, item_name, items_of, members_of, origin_by, origin_of, resource_at, resource_member, resource_of, served}
@@ -22,7 +22,7 @@ use Rattle.cm_match_model.proofs.AlikeLists.{get_below, get_map, got_at, mapped,
 
 -- ---- types with resources that are the same in the end
 
-module _ (s p q : Standing) (n : ℕ) (same : (r : ResourceId) → IsNumbered n (p r) → s (p r) ≡ s (q r)) where
+module _ (s p q : Standing) (n : ℕ) (same : (r : ResourceId) → IsAmongFirst n (p r) → s (p r) ≡ s (q r)) where
   mutual
     pub type_same : (t : Ty) → IsCounted n (replaced p t) → replaced s (replaced p t) ≡ replaced s (replaced q t)
     type_same bool h = refl

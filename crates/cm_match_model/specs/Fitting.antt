@@ -5,6 +5,7 @@ use Rattle.std.specs.Prelude.{None, Result, Ok}
 use Rattle.std.specs.Str.{bytes_eq}
 use Rattle.semver.specs.EvalViews.{matches_views}
 use Rattle.semver.specs.Parse.{Held, Parts, req_of, version_parts}
+use Rattle.semver.specs.declared.Op.TheVariants as op
 use Rattle.semver.specs.declared.error.Error.{Error}
 use Rattle.cm_types.specs.ExternNames.{NameTree, form_of, interface, name_spelling}
 use Rattle.cm_match_model.specs.declared.candidates.Candidate.{Candidate}
@@ -18,6 +19,11 @@ is_met_by _ _ = false
 -- whether a version meets the requirement that is spelled `^` (94) and another version
 abbrev pub is_compatible : List ℕ → List ℕ → Bool
 is_compatible wanted have = is_met_by (req_of (94 ∷ wanted)) (version_parts have)
+
+-- whether the caret of a version allows another, both as they were read
+abbrev pub allows : Parts → Parts → Bool
+allows wanted have =
+    matches_views ((op.Caret, wanted.0, Some wanted.1, Some wanted.2, wanted.3) ∷ []) have
 
 -- whether two names are those of one interface, each with a version, of which the second is
 -- compatible with the first
@@ -51,3 +57,9 @@ abbrev pub only : List NamedExport → Candidate
 only [] = candidate.None
 only (e ∷ []) = candidate.One e.component e.number
 only (e ∷ f ∷ es) = candidate.Several
+
+-- the candidates among two lists of exports, of which these are the candidates
+abbrev pub and_also : Candidate → Candidate → Candidate
+and_also candidate.None other = other
+and_also first candidate.None = first
+and_also _ _ = candidate.Several

@@ -1,6 +1,4 @@
 pub mod Origins
-pub mod Components
-pub mod Sets
 pub mod Reasons
 pub mod Imports
 pub mod Serving
@@ -10,8 +8,3 @@ pub mod Brought
 pub mod Alike
 pub mod Fitting
 pub mod Ranges
-pub mod Readings
-pub mod Greatest
-pub mod Distinct
-pub mod NameTables
-pub mod Tables

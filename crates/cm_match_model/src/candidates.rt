@@ -1,7 +1,7 @@
 //! What may serve an import.
 
 ghost use Rattle.std.specs.Prelude.{◌≡◌};
-ghost use Rattle.cm_match_model.specs.Greatest.{and_also};
+ghost use Rattle.cm_match_model.specs.Fitting.{and_also};
 
 /// The exports that may serve an import: none, the only one, or more than one.
 #[derive(Clone, Copy, Debug, PartialEq, Eq)]
@@ -16,7 +16,7 @@ pub enum Candidate {
 
 impl Candidate {
     /// The candidates of two lists of exports, of which these are the candidates.
-    pub(crate) fn and_also(self, other: Candidate) -> Candidate
+    pub fn and_also(self, other: Candidate) -> Candidate
         ensures { result ≡ and_also self other }
     {
         match (self, other) {

@@ -25,7 +25,7 @@ use Rattle.cm_validate_spaces.specs.cm_validate_entries.declared.spaces.ExportEn
 use Rattle.cm_validate_spaces.specs.Checked.{funcs_in, spaces_in, types_in}
 use Rattle.cm_validate_spaces.specs.declared.checked.Checked.{Checked}
 use Rattle.cm_match_model.specs.Origins.{exported_resource, item_name, items_of, members_of, resource_member, resource_of}
-use Rattle.cm_match_model.specs.Sets.{member_of, source_by, source_of}
+use Rattle.cm_match_serving.specs.ToldSets.{member_of, source_by, source_of}
 use Rattle.cm_match_model.specs.declared.component.Link.{Link}
 use Rattle.cm_match_model.specs.Imports.{export_in, import_in}
 use Rattle.cm_match_serving.specs.Sets.{funcs_at, set_of, types_at}

@@ -5,3 +5,12 @@ mod Walks
 mod Rows
 mod Links
 mod Found
+mod GreatestLaws
+mod Additions
+pub mod UnversionedLaws
+mod VersionOrders
+mod SeriesRows
+mod Splits
+mod FitLaws
+mod CaretRows
+mod Following

@@ -7,3 +7,9 @@ pub use Rattle.cm_validate_spaces.specs.cm_validate_entries
 pub mod Sets
 pub mod Choices
 pub mod Linkings
+pub mod Readings
+pub mod Greatest
+pub mod Unversioned
+pub mod ExportTables
+pub mod Components
+pub mod ToldSets

@@ -3,8 +3,8 @@
 use Rattle.std.specs.Prelude.{List}
 use Rattle.cm_validate_model.specs.Spaces.{Spaces}
 use Rattle.cm_validate_spaces.specs.declared.checked.Checked.{Checked}
-use Rattle.cm_match_model.specs.Components.{Told}
-use Rattle.cm_match_model.specs.Sets.{member_of, source_of}
+use Rattle.cm_match_serving.specs.Components.{Told}
+use Rattle.cm_match_serving.specs.ToldSets.{member_of, source_of}
 use Rattle.cm_match_model.specs.Imports.{links_of}
 use Rattle.cm_match_serving.specs.Sets.{set_of}
 use Rattle.cm_match_serving.specs.declared.linking.Linking.{Linking}

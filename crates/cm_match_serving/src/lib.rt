@@ -3,19 +3,27 @@
 //! Types are compared once each resource is replaced by what it is in the end.
 #![tactic(auto)]
 
-mod by_name;
+mod components;
+mod exports;
+mod greatest;
+mod import_candidates;
 mod imports;
 mod instances;
 mod items;
 mod linking;
+mod origins;
+mod readings;
 mod resources;
+mod series;
 mod sides;
 mod tables;
+mod unversioned;
 
-pub use by_name::choices;
 pub use cm_validate_spaces::{
     Checked, CoreFuncEntry, ExportEntry, ExportedEntry, FuncEntry, InstanceEntry, MadeFunc,
     MemberEntry,
 };
+pub use exports::Exports;
+pub use import_candidates::choices;
 pub use linking::Linking;
 pub use tables::Tables;

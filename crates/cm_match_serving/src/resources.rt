@@ -5,10 +5,12 @@ ghost use Rattle.cm_types.specs.Types.{FuncTy, Ty};
 ghost use Rattle.cm_match_model.specs.Origins.{resource_member};
 ghost use Rattle.cm_validate_spaces.specs.cm_validate_entries.Entries.{member_def};
 
+use crate::components::{Components, Source};
 use crate::linking::Linking;
+use crate::origins::origin;
+use cm_match_model::Link;
 use cm_match_model::laws::links_lead_earlier;
 use cm_match_model::origin_laws::origins_are_unique;
-use cm_match_model::{Components, Link, Source, origin};
 use cm_types::ResourceId;
 use cm_validate_spaces::{MemberEntry, Resource};
 

@@ -1,15 +1,14 @@
 //! Extern names: the names of imports and exports, and of an instance's items.
 
 ghost use Rattle.std.specs.Prelude.{◌≡◌, IfOk, IfErr, ◌⊎◌, Some, None, ◌<◌, option_copied};
-ghost use Rattle.std.specs.Prelude.{IsTrue, [], Ok, Err};
+ghost use Rattle.std.specs.Prelude.{[], Ok, Err};
 ghost use Rattle.cm_types.specs.declared.names.NameFault.{NameFault};
 ghost use Rattle.std.specs.Option.{option_map};
 ghost use Rattle.std.specs.List.{list_any};
-ghost use Rattle.semver.specs.Parse.{memory_error};
 ghost use Rattle.cm_types.specs.Names.{label_fault};
 ghost use Rattle.cm_types.specs.ExternNames.{cut, cut_or_all, extern_name_fault, form_of};
 ghost use Rattle.cm_types.specs.ExternNames.{interface_of, interface_parts, is_bracketed};
-ghost use Rattle.cm_types.specs.ExternNames.{is_interface_mark, is_version, labels_fault};
+ghost use Rattle.cm_types.specs.ExternNames.{is_interface_mark, labels_fault};
 ghost use Rattle.cm_types.specs.ExternNames.{least_fault, member, method, parts_fault, static};
 ghost use Rattle.cm_types.specs.ExternNames.{name_spelling, unannotated_form, version_fault};
 ghost use Rattle.cm_types.specs.ExternNames.{without_front};
@@ -17,7 +16,7 @@ ghost use Rattle.cm_types.specs.ExternNames.{HasLabels, version_in, version_text
 ghost use Rattle.cm_types.specs.ExternNameForms.{form_tree, pair_view};
 
 use crate::names::{NameFault, label_fault, shared};
-use semver::{Error, Version};
+use crate::version::reads_as_version;
 use std::alloc::{AllocError, Global};
 use std::marker::Model;
 use std::rc::Rc;
@@ -161,22 +160,6 @@ fn least_fault(a: Option<NameFault>, b: Option<NameFault>) -> Option<NameFault>
                 Some(other)
             }
         }
-    }
-}
-
-fn is_want_of_memory(error: Error) -> bool
-    ensures { error ≡ memory_error → IsTrue result }
-{
-    error == Error::from(AllocError)
-}
-
-fn reads_as_version(alloc: Global, text: &str) -> Result<bool, AllocError>
-    ensures { IfOk result (λ b. b ≡ is_version text.now) }
-{
-    match Version::parse(alloc, text) {
-        Ok(_) => Ok(true),
-        Err(error) if is_want_of_memory(error) => Err(AllocError),
-        Err(_) => Ok(false),
     }
 }
 

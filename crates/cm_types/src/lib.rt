@@ -16,6 +16,7 @@ mod spellable;
 mod type_trees;
 mod typed_values;
 mod values;
+mod version;
 
 pub use core_value::{CoreKind, CoreValue};
 pub use def_types::{
@@ -31,3 +32,4 @@ pub use spellable::MAX_FLAGS;
 pub use type_trees::{Case, Field, Func, TypeFault, TypeNode, TypeTree};
 pub use typed_values::has_type;
 pub use values::{Value, is_scalar};
+pub use version::Version;

@@ -51,22 +51,3 @@ node_inserted m n key next (Err e) is none was old updates long same = record {
   one_to_one = subst (λ (es : List (Key × ℕ)). IsOneToOne (λ k. lookup (λ q. is_eq (key_order k q)) es) (length es)) (sym same) was;
   kept = λ k i is. subst (λ (es : List (Key × ℕ)). lookup (λ q. is_eq (key_order k q)) es ≡ Some i) (sym same) is;
 }
-
-pub text_inserted : {E : Type 0} (m n : BTreeMap (String Global) ℕ) (text : List ℕ) (copy : String Global) (next : ℕ) (r : Result (Option ℕ) E) → next ≡ btree_map_len m → string_bytes copy ≡ text → get_by_text m text ≡ None → IsOneToOne (get_by_text m) (btree_map_len m)
-    → IfOk r (λ old. old ≡ get_by_text m (string_bytes copy))
-    → OnOk r (UpdatesBy string_cmp (λ k. slice_cmp nat_cmp (string_bytes copy) (string_bytes k)) m n (Some next))
-    → IfOk r (λ old. btree_map_len n ≡ btree_map_len m + (if is_some old then 0 else 1))
-    → OnErr r (IsUnchanged m n) → GoesOn (get_by_text m) (get_by_text n) (btree_map_len n)
-text_inserted m n text copy next (Ok v) is bytes none was old updates long same =
-    let here : get_by_text m (string_bytes copy) ≡ None = ap (get_by_text m) bytes ∙ none in
-    let exact : (q : List ℕ) → bytes_eq (string_bytes copy) q ≡ true → string_bytes copy ≡ q = λ q e. (bytes_eq-Decides (string_bytes copy) q).0 e in
-    let count = one_more (btree_map_len n) (btree_map_len m) v (get_by_text m (string_bytes copy)) old here long in
-    let changes = btree_map_updates_text (string_bytes copy) m n (Some (btree_map_len m)) (subst (λ (i : ℕ). UpdatesBy string_cmp (λ k. slice_cmp nat_cmp (string_bytes copy) (string_bytes k)) m n (Some i)) is updates) in
-    record {
-      one_to_one = subst (λ (k : ℕ). IsOneToOne (get_by_text n) k) (sym count) (one_to_one_more (get_by_text m) (get_by_text n) (btree_map_len m) (string_bytes copy) (bytes_eq (string_bytes copy)) exact changes here was);
-      kept = keeps_more (get_by_text m) (get_by_text n) (btree_map_len m) (string_bytes copy) (bytes_eq (string_bytes copy)) exact changes here was;
-    }
-text_inserted m n text copy next (Err e) is bytes none was old updates long same = record {
-  one_to_one = subst (λ (es : List (String Global × ℕ)). IsOneToOne (λ bs. lookup (λ k. is_eq (slice_cmp nat_cmp bs (string_bytes k))) es) (length es)) (sym same) was;
-  kept = λ bs i is. subst (λ (es : List (String Global × ℕ)). lookup (λ k. is_eq (slice_cmp nat_cmp bs (string_bytes k))) es ≡ Some i) (sym same) is;
-}

@@ -2,6 +2,7 @@
 use Rattle.std.specs.Prelude.{◌≡◌, ◌↔◌, ℕ, ◌<◌, List, [], ◌∷◌, length, map, slice_index, Option}
 use Rattle.std.specs.Prelude.{Some, None, codes}
 use Rattle.std.specs.Option.{option_and_then}
+use Rattle.cm_names.specs.TextNumbers.{number_of}
 use Rattle.cm_types.specs.Types.{Ty, FuncTy, Fields, Cases, bool, signed, unsigned, char, string}
 use Rattle.cm_types.specs.Types.{list, fixed_list, fields, cases, flags, own, borrow, no_fields}
 use Rattle.cm_types.specs.Types.{field, no_cases, plain, carrying, record_type, tuple_type}
@@ -13,7 +14,7 @@ use Rattle.cm_types_arena.specs.Replaced.{Standing, replaced, replaced_func}
 use Rattle.cm_types_numbers.specs.declared.key.Key.{Key}
 use Rattle.cm_types_numbers.specs.declared.key.Key.TheVariants as key
 use Rattle.cm_types_numbers.specs.declared.key.Leaf.TheVariants as leaf
-use Rattle.std.specs.BTreeMap.{get, get_by_text}
+use Rattle.std.specs.BTreeMap.{get}
 use Rattle.cm_types_numbers.specs.declared.numbers.Numbers.{Numbers}
 use Rattle.cm_types_numbers.specs.Tables.{key_order}
 
@@ -91,7 +92,7 @@ result_cases ok error = case_before (codes "ok") ok (case_before (codes "error")
 -- what a table of the code numbers
 abbrev pub numbering : Numbers → Numbering
 numbering s = record {
-  label = get_by_text s.texts.numbers;
+  label = number_of s.texts;
   node = get key_order s.nodes.numbers;
 }
 

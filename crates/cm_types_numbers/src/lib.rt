@@ -15,7 +15,6 @@ mod numbers;
 mod placed_numbers_known;
 pub mod placed_numbers_laws;
 mod single_types;
-mod texts;
 mod type_numbers;
 mod types;
 

@@ -9,7 +9,7 @@ ghost use Rattle.cm_types_numbers.specs.Numbering.{numbering};
 
 use crate::key::Key;
 use crate::nodes::NodeNumbers;
-use crate::texts::TextNumbers;
+use cm_names::TextNumbers;
 use std::alloc::{AllocError, Global};
 
 /// A number for each type, each once: two types have one number exactly where they are equal.

@@ -6,46 +6,8 @@ ghost use Rattle.cm_types.specs.Names.{IsLabel};
 ghost use Rattle.cm_types.specs.ExternNames.{HasLabels, is_version};
 ghost use Rattle.cm_types.specs.ExternNameForms.{form_tree};
 
-use cm_types::{ExternNameForm, Label};
+use cm_types::{ExternNameForm, Label, Version};
 use std::alloc::{AllocError, Global};
-use std::marker::Model;
-
-/// The version of a package: a text that the crate `semver` reads as a version (WIT.md, "Package
-/// declaration").
-#[derive(Drop)]
-struct VersionText {
-    text: String,
-}
-
-impl Model for VersionText {
-    ghost use Rattle.std.specs.Prelude.{◌≡◌, ℕ, List, true};
-    ghost use Rattle.std.specs.String.{string_bytes};
-    ghost use Rattle.cm_types.specs.ExternNames.{is_version};
-
-    ghost Value = { List ℕ };
-
-    ghost view = { λ version. string_bytes version.text };
-
-    ghost invariant = { λ version. is_version (string_bytes version.text) ≡ true };
-}
-
-impl VersionText {
-    /// A copy of this text. Refused only where there is no memory.
-    fn new(alloc: Global, text: &str) -> Result<VersionText, AllocError>
-        requires { is_version text.now ≡ true }
-        ensures { IfOk result (λ v. v ≡ text.now) }
-    {
-        let text = String::from_str(alloc, text)?;
-        Ok(VersionText { text })
-    }
-
-    fn as_str(&self) -> &str
-        ensures text { result.now ≡ self.now }
-        ensures version { is_version result.now ≡ true }
-    {
-        self.text.as_str()
-    }
-}
 
 /// The name of a package, with its version where it has one (Explainer.md, "Import and Export
 /// Definitions").
@@ -53,7 +15,7 @@ impl VersionText {
 pub struct PackageName {
     namespace: Label,
     name: Label,
-    version: Option<VersionText>,
+    version: Option<Version>,
 }
 
 impl PackageName {
@@ -76,7 +38,7 @@ impl PackageName {
             Some(version) => Ok(PackageName {
                 namespace,
                 name,
-                version: Some(VersionText::new(alloc, version)?),
+                version: Some(Version::copied(alloc, version)?),
             }),
             None => Ok(PackageName {
                 namespace,

@@ -8,7 +8,7 @@ use Rattle.cm_validate_model.specs.Options.{is_same_export}
 use Rattle.cm_validate_names.specs.NamedValues.{place_of}
 use Rattle.cm_validate_core.specs.declared.entries.GuestMemory.{GuestMemory}
 use Rattle.cm_validate_core.specs.Entries.{memory_of}
-use Rattle.cm_validate_core.specs.CoreSpaces.{IsNumbered, MemoryNames}
+use Rattle.cm_validate_core.specs.CoreSpaces.{IsMemoryNumbered, MemoryNames}
 use Rattle.cm_validate_core.proofs.PlaceLaws.{one_at}
 
 -- ---- options of one kind
@@ -64,7 +64,7 @@ eq_self x = grind (arith, nat_tests)
 some_is : (x y : ℕ) → Some x ≡ Some y → x ≡ y
 some_is x y e = cc
 
-pub same_number : (names : MemoryNames) (a b : GuestMemory) → IsNumbered names a → IsNumbered names b → (a.number == b.number) ≡ bytes_eq a.export.name.now b.export.name.now
+pub same_number : (names : MemoryNames) (a b : GuestMemory) → IsMemoryNumbered names a → IsMemoryNumbered names b → (a.number == b.number) ≡ bytes_eq a.export.name.now b.export.name.now
 same_number names a b m n = bools (a.number == b.number) (bytes_eq a.export.name.now b.export.name.now) there back
   where
     there : (a.number == b.number) ≡ true → bytes_eq a.export.name.now b.export.name.now ≡ true
@@ -76,7 +76,7 @@ same_number names a b m n = bools (a.number == b.number) (bytes_eq a.export.name
         rw (some_is a.number b.number (sym m ∙ ap (λ x. place_of x names) t ∙ n)) (eq_self b.number)
 
 -- of one core instance
-pub same_there : (names : MemoryNames) (a b : GuestMemory) → a.export.instance ≡ b.export.instance → IsNumbered names a → IsNumbered names b → (a.number == b.number) ≡ is_same_export (memory_of a) (memory_of b)
+pub same_there : (names : MemoryNames) (a b : GuestMemory) → a.export.instance ≡ b.export.instance → IsMemoryNumbered names a → IsMemoryNumbered names b → (a.number == b.number) ≡ is_same_export (memory_of a) (memory_of b)
 same_there names a b e m n =
     same_number names a b m n
     ∙ sym (ap (λ t. t && bytes_eq a.export.name.now b.export.name.now) (ap (λ x. x == b.export.instance) e ∙ eq_self b.export.instance))

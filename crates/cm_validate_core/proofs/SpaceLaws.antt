@@ -19,7 +19,7 @@ use Rattle.cm_validate_core.specs.declared.entries.CoreInstanceEntry.TheVariants
 use Rattle.cm_validate_core.specs.declared.spaces.CoreSpaces.{CoreSpaces}
 use Rattle.cm_validate_names.specs.NameMaps.{entries_of}
 use Rattle.cm_validate_core.specs.Entries.{instance_of}
-use Rattle.cm_validate_core.specs.CoreSpaces.{IsCoreOf, IsFirstNumbered, IsInstanceNumbered, IsItemNumbered, IsNumbered, KeepsNumbers, MemoryNames, memory_names_of}
+use Rattle.cm_validate_core.specs.CoreSpaces.{IsCoreOf, IsFirstNumbered, IsInstanceNumbered, IsItemNumbered, IsMemoryNumbered, KeepsNumbers, MemoryNames, memory_names_of}
 
 -- ---- at an index
 
@@ -75,7 +75,7 @@ names_keep made c d s k r = record {
   globals = r.globals;
   memory = r.memory;
   no_guests = r.no_guests;
-  memories_numbered = all_keep (IsNumbered (memory_names_of c)) (IsNumbered (memory_names_of d)) c.memories.items (λ m. k m.export.name.now m.number) r.memories_numbered;
+  memories_numbered = all_keep (IsMemoryNumbered (memory_names_of c)) (IsMemoryNumbered (memory_names_of d)) c.memories.items (λ m. k m.export.name.now m.number) r.memories_numbered;
   instances_numbered = all_keep (IsInstanceNumbered (memory_names_of c)) (IsInstanceNumbered (memory_names_of d)) c.instances.items (instance_keeps (memory_names_of c) (memory_names_of d) k) r.instances_numbered;
   memory_numbered = first_keeps (memory_names_of c) (memory_names_of d) k c.memory r.memory_numbered;
 }

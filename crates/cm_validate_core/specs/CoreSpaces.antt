@@ -32,11 +32,11 @@ abbrev pub memory_names_of : CoreSpaces → MemoryNames
 memory_names_of c = names_in (entries_of c.memory_names)
 
 -- the number of a memory is the place of its name
-abbrev pub IsNumbered : MemoryNames → GuestMemory → Type 0
-IsNumbered names m = place_of m.export.name.now names ≡ Some m.number
+abbrev pub IsMemoryNumbered : MemoryNames → GuestMemory → Type 0
+IsMemoryNumbered names m = place_of m.export.name.now names ≡ Some m.number
 
 abbrev pub IsItemNumbered : MemoryNames → CoreItem → Type 0
-IsItemNumbered names (item.Memory m) = IsNumbered names m
+IsItemNumbered names (item.Memory m) = IsMemoryNumbered names m
 IsItemNumbered names _ = ⊤
 
 abbrev pub AreItemsNumbered : MemoryNames → List (Bor (List ℕ) × CoreItem) → Type 0
@@ -48,7 +48,7 @@ IsInstanceNumbered names (entry.Exporting items) = AreItemsNumbered names (entri
 
 abbrev pub IsFirstNumbered : MemoryNames → Option GuestMemory → Type 0
 IsFirstNumbered names None = ⊤
-IsFirstNumbered names (Some m) = IsNumbered names m
+IsFirstNumbered names (Some m) = IsMemoryNumbered names m
 
 -- names keep their numbers where others are added
 abbrev pub KeepsNumbers : MemoryNames → MemoryNames → Type 0
@@ -68,7 +68,7 @@ pub record IsCoreOf (made : ℕ → CoreFuncDef) (c : CoreSpaces) (s : Spaces) :
   pub globals : s.globals ≡ map export_of c.globals.items
   pub memory : s.memory ≡ option_map memory_of c.memory
   pub no_guests : (n : ℕ) → is_guest (made n) ≡ false
-  pub memories_numbered : AllByRecursion (IsNumbered (memory_names_of c)) c.memories.items
+  pub memories_numbered : AllByRecursion (IsMemoryNumbered (memory_names_of c)) c.memories.items
   pub instances_numbered : AllByRecursion (IsInstanceNumbered (memory_names_of c)) c.instances.items
   pub memory_numbered : IsFirstNumbered (memory_names_of c) c.memory
 

@@ -2,7 +2,7 @@
 
 ghost use Rattle.std.specs.Prelude.{◌≡◌, ℕ};
 ghost use Rattle.cm_validate_model.specs.Options.{are_once, is_once, is_same_export};
-ghost use Rattle.cm_validate_core.specs.CoreSpaces.{IsNumbered, MemoryNames};
+ghost use Rattle.cm_validate_core.specs.CoreSpaces.{IsMemoryNumbered, MemoryNames};
 ghost use Rattle.cm_validate_core.specs.Entries.{memory_of};
 ghost use Rattle.cm_validate_core.specs.Kinds.{is_of_kind};
 
@@ -68,7 +68,8 @@ fn are_once(options: &[CanonOption]) -> bool
 impl<'a> GuestMemory<'a> {
     /// Whether it is the same memory.
     fn is(self, other: GuestMemory<'a>) -> bool
-        ensures { (names : MemoryNames) → IsNumbered names self.entry → IsNumbered names other.entry
+        ensures { (names : MemoryNames) → IsMemoryNumbered names self.entry
+            → IsMemoryNumbered names other.entry
             → result ≡ is_same_export (memory_of self.entry) (memory_of other.entry) }
     {
         self.export.instance == other.export.instance && self.number == other.number

@@ -11,7 +11,7 @@ use Rattle.cm_types_arena.specs.Placed.{placed_func, placed_type}
 use Rattle.cm_types_arena.specs.declared.instances.Item.{Item}
 use Rattle.cm_types_arena.specs.declared.instances.ItemDesc.{ItemDesc}
 use Rattle.cm_types_arena.specs.declared.instances.ItemDesc.TheVariants as item
-use Rattle.cm_validate_model.specs.Counted.{AreCasesCounted, AreCounted, IsCounted, IsFuncCounted, IsNumbered}
+use Rattle.cm_validate_model.specs.Counted.{AreCasesCounted, AreCounted, IsCounted, IsFuncCounted, IsAmongFirst}
 use Rattle.cm_validate_types.specs.declared.entries.TypeEntry.{TypeEntry}
 use Rattle.cm_validate_types.specs.declared.entries.TypeEntry.TheVariants as entry
 use Rattle.cm_validate_types.specs.declared.scope.TypeScope.{TypeScope}
@@ -20,7 +20,7 @@ use Rattle.cm_validate_types.specs.SettledScopes.{AreMovedCounted, IsMovedCounte
 use Rattle.cm_validate_types.specs.TypeScopes.{arena_funcs, arena_types, entries_of}
 use Rattle.cm_validate_declarations.specs.CountedAround.{AreCountedAround}
 
-numbered_prop : (n : ℕ) (r : ResourceId) → IsProp (IsNumbered n r)
+numbered_prop : (n : ℕ) (r : ResourceId) → IsProp (IsAmongFirst n r)
 numbered_prop n r = ×_prop (ℕ_set _ _) le_prop
 
 mutual

@@ -28,9 +28,9 @@ pub enum Aliased {
     Type(TypeEntry),
 }
 
-/// A type in an instance that is imported, whose resources the import moves, where no import did
-/// before.
-fn moved_place(by: Move, ty: Placed) -> Placed
+/// A type in an instance that is imported, by its place, with the move that stands for its
+/// resources: the one of its own, and that of the import (`by`) where it has none.
+pub fn moved_place(by: Move, ty: Placed) -> Placed
     ensures { result ≡ moved_place by ty }
 {
     Placed {
@@ -39,8 +39,9 @@ fn moved_place(by: Move, ty: Placed) -> Placed
     }
 }
 
-/// The number that a resource of such an instance gets.
-fn moved_number(by: Move, number: u64) -> u64
+/// The number that a resource of such an instance gets, from 0: the one that the move of the import
+/// puts in the place of its number in the type of the instance.
+pub fn moved_number(by: Move, number: u64) -> u64
     ensures { result ≡ moved_number by number }
 {
     by.replace(ResourceId {

@@ -13,7 +13,7 @@ mod resources;
 mod spaces;
 mod types;
 
-pub use aliases::Aliased;
+pub use aliases::{Aliased, moved_number, moved_place};
 pub use cm_validate_types::TypeEntry;
 pub use entries::{FuncEntry, InstanceEntry, MemberEntry};
 pub use lifts::func_type_at;

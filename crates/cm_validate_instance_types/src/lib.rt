@@ -12,7 +12,7 @@ mod resources;
 mod sketches;
 mod sketching;
 
-pub use cm_validate_sketches::{FuncSketch, resource_id};
+pub use cm_validate_sketches::{FuncSketch, moved_option, own_result, resource_id, self_borrow};
 pub use faults::item_names_fault;
 pub use instances::define_instance;
 pub use sketches::{ItemSketch, NamedSketch};

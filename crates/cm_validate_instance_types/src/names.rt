@@ -2,7 +2,6 @@
 
 ghost use Rattle.std.specs.Prelude.{◌≡◌, IfOk, List, map};
 ghost use Rattle.cm_types.specs.ExternNameForms.{form_tree};
-ghost use Rattle.cm_validate_model.specs.ItemNames.{is_plain};
 ghost use Rattle.cm_validate_instance_types.specs.Names.{AreResources, are_all_well_named};
 ghost use Rattle.cm_validate_instance_types.specs.Names.{may_name_func};
 ghost use Rattle.cm_validate_instance_types.specs.Names.{is_named_well, is_of, resource_found};
@@ -11,6 +10,7 @@ ghost use Rattle.cm_validate_instance_types.specs.Sketches.{SketchedItem, sketch
 use crate::resources::resources;
 use crate::sketches::{ItemSketch, NamedSketch};
 use cm_types::{ExternNameForm, ResourceId, same_resource};
+use cm_validate_names::is_label;
 use cm_validate_sketches::FuncSketch;
 use std::alloc::{AllocError, Global};
 use std::collections::BTreeMap;
@@ -56,16 +56,6 @@ fn may_name_func(
             Some(found) => is_of(found, func.own_result),
             None => false,
         },
-    }
-}
-
-/// Whether the name is a label.
-fn is_label(form: ExternNameForm<'_>) -> bool
-    ensures { result ≡ is_plain (form_tree form.entry) }
-{
-    match form {
-        ExternNameForm::Label(_) => true,
-        _ => false,
     }
 }
 

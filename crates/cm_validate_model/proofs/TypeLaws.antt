@@ -19,7 +19,7 @@ use Rattle.cm_types_arena.specs.Replaced.{replaced, replaced_fields, replaced_ca
 use Rattle.cm_validate_model.specs.Definitions.{TypeDef, value, func_type, resource, instance_type, faulty, InstanceTy}
 use Rattle.cm_validate_model.specs.Moves.{moved, moved_id, moved_type, moved_fields, moved_cases, moved_func}
 use Rattle.cm_validate_model.specs.Scopes.{resource_id, value_in, resource_in, primitive_type, value_of, both, payload_of, fields_in, parts_in, cases_in, option_cases, result_cases, handle_of, value_defined, func_defined, value_def_of, func_def_of}
-use Rattle.cm_validate_model.specs.Counted.{IsNumbered, IsCounted, AreCounted, AreCasesCounted, IsFuncCounted}
+use Rattle.cm_validate_model.specs.Counted.{IsAmongFirst, IsCounted, AreCounted, AreCasesCounted, IsFuncCounted}
 use Rattle.cm_validate_model.specs.CountedSpaces.{IsDefCounted}
 
 -- ---- lists and options
@@ -49,7 +49,7 @@ both_have P Q R f g (Some x) (Some y) h k = g x y h k
 
 -- ---- more resources
 
-pub number_grows : (n m : ℕ) → n ≤ m → (r : ResourceId) → IsNumbered n r → IsNumbered m r
+pub number_grows : (n m : ℕ) → n ≤ m → (r : ResourceId) → IsAmongFirst n r → IsAmongFirst m r
 number_grows n m le r h = (h.0, omega (arith, le, h.1))
 
 mutual
@@ -145,7 +145,7 @@ module _ (n : ℕ) (types : List TypeDef) (known : AllByRecursion (IsDefCounted 
   plain_counted [] = tt {0}
   plain_counted (l ∷ ls) = plain_counted ls
 
-  handle_counted : (h : ResourceId → Ty) → ((r : ResourceId) → IsNumbered n r → IsCounted n (h r)) → (i : ℕ) → IfSome (handle_of h types i) (IsCounted n)
+  handle_counted : (h : ResourceId → Ty) → ((r : ResourceId) → IsAmongFirst n r → IsCounted n (h r)) → (i : ℕ) → IfSome (handle_of h types i) (IsCounted n)
   handle_counted h f i =
       mapped (λ k. k < n) (IsCounted n) (λ k. h (resource_id k)) (λ k lt. f (resource_id k) (refl, lt)) (option_and_then resource_in (slice_get types i))
       (resource_of_def n (slice_get types i) (got (IsDefCounted n) types i known))
@@ -195,7 +195,7 @@ module _ (i : InstanceTy) (next : ℕ) where
   ]
 
   module _ (le : i.first ≤ next) where
-    pub id_moved : (r : ResourceId) → IsNumbered (i.first + i.fresh) r → IsNumbered (next + i.fresh) (moved_id i next r)
+    pub id_moved : (r : ResourceId) → IsAmongFirst (i.first + i.fresh) r → IsAmongFirst (next + i.fresh) (moved_id i next r)
     id_moved r h = (refl, number_moved r.number le h.1)
 
     mutual
@@ -230,7 +230,7 @@ module _ (i : InstanceTy) (next : ℕ) where
   abbrev make_id : ℕ → ℕ → ResourceId
   make_id c k = record { component = c; number = k }
 
-  pub id_ranged : (r : ResourceId) → IsNumbered (i.first + i.fresh) r → moved_id i next r ≡ moved_range i.first i.fresh next r
+  pub id_ranged : (r : ResourceId) → IsAmongFirst (i.first + i.fresh) r → moved_id i next r ≡ moved_range i.first i.fresh next r
   id_ranged r h = elim (cases_Bool (nat_lt r.number i.first)) [
     | inl y ↦ rw y (ap (λ c. make_id c r.number) (sym h.0))
     | inr n ↦ rw (n, lt-leb (i.first + i.fresh) r.number h.1) (ap (λ c. make_id c (r.number - i.first + next)) (sym h.0))
@@ -271,7 +271,7 @@ module _ (i : InstanceTy) (next : ℕ) where
 
   -- ---- what names no resource of the instance's own
 
-  id_stays : (r : ResourceId) → IsNumbered i.first r → moved_id i next r ≡ r
+  id_stays : (r : ResourceId) → IsAmongFirst i.first r → moved_id i next r ≡ r
   id_stays r h = rw (lt-ltb r.number i.first h.1) (ap (λ c. make_id c r.number) (sym h.0))
 
   mutual

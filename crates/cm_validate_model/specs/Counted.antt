@@ -8,8 +8,8 @@ use Rattle.cm_types.specs.Types.{Ty, FuncTy, Fields, Cases, list, fixed_list, fi
 use Rattle.cm_types.specs.Types.{borrow, no_fields, field, no_cases, plain, carrying}
 
 -- one of the component's first so many resources
-abbrev pub IsNumbered : ℕ → ResourceId → Type 0
-IsNumbered n r = (r.component ≡ 0) × (r.number < n)
+abbrev pub IsAmongFirst : ℕ → ResourceId → Type 0
+IsAmongFirst n r = (r.component ≡ 0) × (r.number < n)
 
 abbrev mutual
   -- a type names no other resources
@@ -18,8 +18,8 @@ abbrev mutual
   IsCounted n (fixed_list t k) = IsCounted n t
   IsCounted n (fields k fs) = AreCounted n fs
   IsCounted n (cases k cs) = AreCasesCounted n cs
-  IsCounted n (own r) = IsNumbered n r
-  IsCounted n (borrow r) = IsNumbered n r
+  IsCounted n (own r) = IsAmongFirst n r
+  IsCounted n (borrow r) = IsAmongFirst n r
   IsCounted n t = ⊤
 
   pub AreCounted : ℕ → Fields → Type 0
@@ -39,5 +39,5 @@ IsFuncCounted n f = AreCounted n f.params × IfSome f.result (IsCounted n)
 abbrev pub IsItemCounted : ℕ → ItemTy → Type 0
 IsItemCounted n (func_item f) = IsFuncCounted n f
 IsItemCounted n (equal_type t) = IsCounted n t
-IsItemCounted n (equal_resource r) = IsNumbered n r
-IsItemCounted n (fresh_resource r) = IsNumbered n r
+IsItemCounted n (equal_resource r) = IsAmongFirst n r
+IsItemCounted n (fresh_resource r) = IsAmongFirst n r

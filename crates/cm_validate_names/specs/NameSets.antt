@@ -3,7 +3,7 @@ use Rattle.std.specs.Prelude.{◌≡◌, ◌||◌, Bool, ℕ, List, not}
 use Rattle.std.specs.List.{list_any}
 use Rattle.std.specs.Str.{bytes_eq}
 use Rattle.cm_types.specs.Names.{is_same_name}
-use Rattle.cm_types_texts.specs.TextTables.{texts_of}
+use Rattle.cm_names.specs.TextTables.{texts_of}
 use Rattle.cm_validate_model.specs.declared.fault.ValidReason.{ValidReason}
 use Rattle.cm_validate_model.specs.declared.fault.ValidReason.TheVariants as reason
 use Rattle.cm_validate_model.specs.Reasons.{unless}

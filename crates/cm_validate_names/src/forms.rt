@@ -17,8 +17,8 @@ pub enum ExternSort {
     Instance,
 }
 
-/// Whether the name is a label.
-fn is_label(form: ExternNameForm<'_>) -> bool
+/// Whether the name is a label alone (Explainer.md, "Import and Export Definitions").
+pub fn is_label(form: ExternNameForm<'_>) -> bool
     ensures { result ≡ is_plain (form_tree form.entry) }
 {
     match form {

@@ -2,7 +2,7 @@
 
 use crate::forms::{ExternSort, form_fault};
 use crate::names::FoldedName;
-use cm_types_texts::TextTable;
+use cm_names::TextTable;
 use cm_validate_model::ValidReason;
 use cm_validate_model::laws::least_of_both;
 use cm_validate_type_rules::{broken_unless, lesser};

@@ -23,7 +23,7 @@ use Rattle.cm_validate_entries.specs.Entries.{members_of}
 use Rattle.cm_validate_entries.specs.declared.entries.InstanceEntry.{InstanceEntry}
 use Rattle.cm_validate_entries.specs.declared.spaces.ExportEntry.{ExportEntry}
 use Rattle.cm_validate_entries.specs.declared.spaces.ExportedEntry.TheVariants as export
-use Rattle.cm_validate_signature.specs.Made.{AreExportsOf, AreMade, IsNumbered, IsTypeOf}
+use Rattle.cm_validate_signature.specs.Made.{AreExportsOf, AreMade, IsInstanceNumber, IsTypeOf}
 use Rattle.cm_validate_signature.specs.declared.made.Made.{Made}
 
 is_equal : (o : Ordering) → is_eq o ≡ true → o ≡ Equal
@@ -45,14 +45,14 @@ if_ok (Err e) P Q N f h = tt
 -- ---- an instance by its number
 
 pub made_already : (types : List Ty) (funcs : List FuncTy) (s : Spaces) (m : Made) (number : ℕ) (t : Rc InstanceType Global) (i : InstanceEntry)
-    → AreMade types funcs s m → get nat_cmp m.types number ≡ Some t → IsNumbered types funcs s (Some number) (export.Instance i) → IsTypeOf types funcs (members_of types funcs i) t.value
+    → AreMade types funcs s m → get nat_cmp m.types number ≡ Some t → IsInstanceNumber types funcs s (Some number) (export.Instance i) → IsTypeOf types funcs (members_of types funcs i) t.value
 made_already types funcs s m number t i made found numbered =
     let e = numbered.is in
     subst (λ (ms : List NamedMember). IsTypeOf types funcs ms t.value) (sym (members_are_one (members_of types funcs i) e.0 e.2)) (made.each number t e.0 found e.1)
 
 pub one_more_made : (types : List Ty) (funcs : List FuncTy) (s : Spaces) (m : Made) (n : BTreeMap ℕ (Rc InstanceType Global)) (number : ℕ) (t : Rc InstanceType Global) (i : InstanceEntry)
     → ((q : ℕ) → get nat_cmp n q ≡ cond (is_eq (nat_cmp number q)) (Some t) (get nat_cmp m.types q))
-    → AreMade types funcs s m → IsNumbered types funcs s (Some number) (export.Instance i) → IsTypeOf types funcs (members_of types funcs i) t.value → AreMade types funcs s (record { types = n })
+    → AreMade types funcs s m → IsInstanceNumber types funcs s (Some number) (export.Instance i) → IsTypeOf types funcs (members_of types funcs i) t.value → AreMade types funcs s (record { types = n })
 one_more_made types funcs s m n number t i at made numbered here = record {
   each = λ q y ms found there. elim (cases_Bool (is_eq (nat_cmp number q))) [
     | inl h ↦
@@ -85,7 +85,7 @@ true_at test (y ∷ ys) zero x all at = subst (λ z. test z ≡ true) (some_is y
 true_at test (y ∷ ys) (suc k) x all at = true_at test ys k x (right (test y) (list_all test ys) all) at
 
 pub numbered_at : (types : List Ty) (funcs : List FuncTy) (s : Spaces) (w : Shared) (xs : List ExportEntry) (k : ℕ) (x : ExportEntry) (number : Option ℕ)
-    → k < length xs → x ≡ get_or xs k x → number ≡ exported_instance_in w k → AreShared s w → AreExportsOf types funcs s xs → IsNumbered types funcs s number x.def
+    → k < length xs → x ≡ get_or xs k x → number ≡ exported_instance_in w k → AreShared s w → AreExportsOf types funcs s xs → IsInstanceNumber types funcs s number x.def
 numbered_at types funcs s w xs k x number lt is_x is_number shared exports =
     let P : ℕ → Type 0 = λ r. (ms : List NamedMember) × (slice_get s.instances r ≡ Some ms) × (exported_def types funcs x.def ≡ exported_instance ms) in
     let at : slice_get xs k ≡ Some x = slice_get_read xs (length xs) k x refl lt is_x in

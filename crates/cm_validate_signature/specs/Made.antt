@@ -31,7 +31,7 @@ pub record AreExportsOf (types : List Ty) (funcs : List FuncTy) (s : Spaces)
       list_all (λ e. is_exported_there (length types) (length funcs) e.def) exports ≡ true
 
 -- the number of an export, if it has one, is that of the instance that it is
-pub record IsNumbered (types : List Ty) (funcs : List FuncTy) (s : Spaces) (number : Option ℕ)
+pub record IsInstanceNumber (types : List Ty) (funcs : List FuncTy) (s : Spaces) (number : Option ℕ)
     (def : ExportedEntry) : Type 0 where
   pub is : IfSome number (λ r. (ms : List NamedMember) × (slice_get s.instances r ≡ Some ms)
       × (exported_def types funcs def ≡ exported_instance ms))
@@ -56,7 +56,7 @@ abbrev pub InEachArena : Made → Option ℕ → ExportedEntry
     → (List Ty → List FuncTy → Spaces → Type 0) → Type 0
 InEachArena m number def P =
     (types : List Ty) (funcs : List FuncTy) (s : Spaces) → AreMade types funcs s m
-    → IsNumbered types funcs s number def → P types funcs s
+    → IsInstanceNumber types funcs s number def → P types funcs s
 
 -- ---- what is shown
 

@@ -6,13 +6,12 @@ ghost use Rattle.cm_types_arena.specs.Instances.{are_items_there, items_of};
 ghost use Rattle.cm_validate_names.specs.NameMaps.{entries_of};
 ghost use Rattle.cm_validate_model.specs.Spaces.{items_of_members};
 ghost use Rattle.cm_validate_entries.specs.Entries.{are_members_there, members_of};
-ghost use Rattle.cm_validate_entries.specs.Entries.{moved_number, moved_place};
 ghost use Rattle.cm_validate_signature.specs.Items.{func_place, member_desc, member_item};
 ghost use Rattle.cm_validate_signature.specs.Items.{moved_desc, moved_item};
 
-use cm_types::{ExternName, ResourceId};
-use cm_types_arena::{Item, ItemDesc, Move, Placed, Replacement};
-use cm_validate_entries::{FuncEntry, InstanceEntry, MemberEntry};
+use cm_types::ExternName;
+use cm_types_arena::{Item, ItemDesc, Move, Placed};
+use cm_validate_entries::{FuncEntry, InstanceEntry, MemberEntry, moved_number, moved_place};
 use cm_validate_names::NameMap;
 use std::alloc::{AllocError, Global};
 
@@ -60,28 +59,6 @@ fn member_items<'a>(
         }
     }
     Ok(items)
-}
-
-/// A type in an instance that is imported, whose resources the import moves, where no import did
-/// before.
-fn moved_place(by: Move, ty: Placed) -> Placed
-    ensures { result ≡ moved_place by ty }
-{
-    Placed {
-        place: ty.place,
-        by: ty.by.or(Some(by)),
-    }
-}
-
-/// The number that a resource of such an instance gets.
-fn moved_number(by: Move, number: u64) -> u64
-    ensures { result ≡ moved_number by number }
-{
-    by.replace(ResourceId {
-        component: 0,
-        number,
-    })
-    .number
 }
 
 /// The item that an item of an imported instance is for the component: a resource that the import

@@ -65,7 +65,8 @@ fn resource_owned(ty: &TypeNode) -> Option<ResourceId>
     }
 }
 
-fn self_borrow(func: &Func) -> Option<ResourceId>
+/// The resource that the first parameter of a function borrows, where it is `self` and a borrow.
+pub fn self_borrow(func: &Func) -> Option<ResourceId>
     ensures { result ≡ self_borrow (func_of func.now).params }
 {
     match func.params.as_slice() {
@@ -80,7 +81,8 @@ fn self_borrow(func: &Func) -> Option<ResourceId>
     }
 }
 
-fn own_result(func: &Func) -> Option<ResourceId>
+/// The resource of which the result of a function is an owned handle, where it is one.
+pub fn own_result(func: &Func) -> Option<ResourceId>
     ensures { result ≡ own_result (func_of func.now).result }
 {
     match &func.result {

@@ -13,6 +13,6 @@ mod level;
 mod sketches;
 
 pub use cm_validate_types::{broken_unless, lesser, names_are_distinct};
-pub use entries::sketch_entry;
+pub use entries::{own_result, self_borrow, sketch_entry};
 pub use level::SketchLevel;
-pub use sketches::{FuncSketch, Sketch, ValueSketch, resource_id};
+pub use sketches::{FuncSketch, Sketch, ValueSketch, moved_option, resource_id};

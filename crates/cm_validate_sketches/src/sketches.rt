@@ -56,8 +56,8 @@ pub fn resource_id(number: u64) -> ResourceId
     }
 }
 
-/// The resource that stands for one, if there is one.
-fn moved_option(by: Option<Move>, resource: Option<ResourceId>) -> Option<ResourceId>
+/// The resource that stands for one after a move, if there is one.
+pub fn moved_option(by: Option<Move>, resource: Option<ResourceId>) -> Option<ResourceId>
     ensures { result ≡ option_map (moved_by by) resource }
 {
     match resource {

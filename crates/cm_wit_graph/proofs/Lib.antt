@@ -3,7 +3,6 @@ pub mod GraphLaws
 pub mod CycleLaws
 mod EdgeLaws
 mod ReachLaws
-mod KeyLaws
 mod WalkLaws
 mod RankLaws
 mod WaitLaws

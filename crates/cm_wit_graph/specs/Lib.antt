@@ -3,9 +3,6 @@ pub mod Rows
 pub mod Marking
 pub mod Marked
 pub mod Reach
-pub mod Keys
-pub mod Listed
-pub mod Table
 pub mod DepthFirst
 pub mod Paths
 pub mod Orders

@@ -7,7 +7,7 @@ use Rattle.std.proofs.lemmas.List.{length-map}
 use Rattle.cm_types.specs.declared.resource.ResourceId.{ResourceId}
 use Rattle.cm_types.specs.Types as cm
 use Rattle.cm_types.specs.TypeTrees.{fields_from}
-use Rattle.cm_wit_graph.specs.Keys.{Key, is_key}
+use Rattle.cm_names.specs.Keys.{Key, is_key}
 use Rattle.cm_wit_reading.specs.Types.{Ty, Tys, primitive, named, borrow, list, fixed_list, option, tuple, plain_result, ok_result, error_result, result, no_types, types}
 use Rattle.cm_wit_reading.specs.Signatures.{Typed, Func}
 use Rattle.cm_wit_reading.specs.Trees.{ResourceFunc, method, static, constructor}

@@ -6,7 +6,7 @@ use Rattle.std.specs.Str.{bytes_eq}
 use Rattle.std.proofs.lemmas.Bool.{cases_Bool}
 use Rattle.std.proofs.lemmas.Bool.Decides.{nat_tests}
 use Rattle.std.proofs.lemmas.Slice.Eq.{bytes_eq-Decides}
-use Rattle.cm_wit_graph.specs.Keys.{Key, first_key, is_key}
+use Rattle.cm_names.specs.Keys.{Key, first_key, is_key}
 use Rattle.cm_wit_lookups.specs.Parts.{FrontKey}
 use Rattle.cm_wit_lookups.specs.Numbers.{first_number, first_of, number_in, second_number, second_of, version_of}
 

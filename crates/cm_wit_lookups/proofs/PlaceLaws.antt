@@ -5,7 +5,7 @@ use Rattle.std.specs.Option.{option_and_then, unwrap_or}
 use Rattle.std.specs.Str.{bytes_eq}
 use Rattle.std.proofs.lemmas.Bool.{cases_Bool}
 use Rattle.cm_types.specs.ExternNames.{HasLabels, NameTree, constructor, form_of, interface, method, name_spelling, plain, static}
-use Rattle.cm_wit_graph.specs.Keys.{Key, first_key, is_key}
+use Rattle.cm_names.specs.Keys.{Key, first_key, is_key}
 use Rattle.cm_wit_lookups.specs.Parts.{FrontKey, back_of, front_of, parts_of}
 use Rattle.cm_wit_lookups.specs.Views.{front_at, front_view, parts_in}
 use Rattle.cm_wit_lookups.specs.Numbers.{first_of, number_in, second_of, version_of}

@@ -2,8 +2,8 @@
 -- them. It is found text by text, in lists of keys.
 use Rattle.std.specs.Prelude.{◌≡◌, ℕ, List, Option, map, unwrap_or}
 use Rattle.std.specs.Option.{option_and_then}
-use Rattle.cm_wit_graph.specs.Keys.{Key, first_key}
-use Rattle.cm_wit_graph.specs.Listed.{listed}
+use Rattle.cm_names.specs.Keys.{Key, first_key}
+use Rattle.cm_names.specs.Listed.{listed}
 use Rattle.cm_wit_lookups.specs.Parts.{FrontKey}
 use Rattle.cm_wit_lookups.specs.Views.{front_view}
 use Rattle.cm_wit_lookups.specs.declared.fronts.Fronts.{Fronts}

@@ -3,7 +3,7 @@ use Rattle.std.specs.Prelude.{ℕ, List, Option, None, map, slice_index_or, unwr
 use Rattle.std.specs.List.{position_from}
 use Rattle.std.specs.Option.{option_and_then}
 use Rattle.std.specs.Str.{bytes_eq}
-use Rattle.cm_wit_graph.specs.Keys.{Key, first_key}
+use Rattle.cm_names.specs.Keys.{Key, first_key}
 use Rattle.cm_types_arena.specs.declared.types.Types.{Types}
 use Rattle.cm_types_signatures.specs.Listed.{externs_listed, items_listed}
 use Rattle.cm_types_signatures.specs.declared.externs.Externs.{Externs}

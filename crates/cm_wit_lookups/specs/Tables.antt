@@ -1,6 +1,6 @@
 -- Tables in which names are found by their parts.
 use Rattle.std.specs.Prelude.{◌≡◌, ℕ, List, Option, map}
-use Rattle.cm_wit_graph.specs.Listed.{listed}
+use Rattle.cm_names.specs.Listed.{listed}
 use Rattle.cm_wit_lookups.specs.Listings.{AreNames}
 use Rattle.cm_wit_lookups.specs.Numbers.{HasFronts, front_number}
 use Rattle.cm_wit_lookups.specs.Places.{back_key}

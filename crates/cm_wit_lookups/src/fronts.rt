@@ -1,12 +1,12 @@
 //! The numbers of fronts.
 
 ghost use Rattle.std.specs.Prelude.{◌≡◌, IfOk, map};
-ghost use Rattle.cm_wit_graph.specs.Keys.{key_view};
-ghost use Rattle.cm_wit_graph.specs.Listed.{listed};
+ghost use Rattle.cm_names.specs.Keys.{key_view};
+ghost use Rattle.cm_names.specs.Listed.{listed};
 ghost use Rattle.cm_wit_lookups.specs.Views.{front_view};
 
 use crate::parts::FrontParts;
-use cm_wit_graph::Keys;
+use cm_names::Keys;
 use std::alloc::{AllocError, Global};
 
 /// Tables in which the number of a front is found, text by text.

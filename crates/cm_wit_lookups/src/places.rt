@@ -2,8 +2,8 @@
 
 ghost use Rattle.std.specs.Prelude.{◌≡◌, ℕ, List, None, IfOk, map, slice_index_or, unwrap_or};
 ghost use Rattle.std.specs.Option.{option_and_then};
-ghost use Rattle.cm_wit_graph.specs.Keys.{first_key, key_view};
-ghost use Rattle.cm_wit_graph.specs.Listed.{listed};
+ghost use Rattle.cm_names.specs.Keys.{first_key, key_view};
+ghost use Rattle.cm_names.specs.Listed.{listed};
 ghost use Rattle.cm_wit_lookups.specs.Views.{front_view};
 ghost use Rattle.cm_wit_lookups.specs.Numbers.{front_number};
 ghost use Rattle.cm_wit_lookups.specs.Listings.{AreNames};
@@ -12,8 +12,8 @@ ghost use Rattle.cm_wit_lookups.specs.Places.{back_key, found_by, place_in};
 use crate::fronts::Fronts;
 use crate::listing::ListedNames;
 use crate::parts::{FrontParts, NameParts};
+use cm_names::Keys;
 use cm_types::laws::names_show_their_forms;
-use cm_wit_graph::Keys;
 use std::alloc::{AllocError, Global};
 
 /// The numbers that tables have for fronts.

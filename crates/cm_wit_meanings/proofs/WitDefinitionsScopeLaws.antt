@@ -5,7 +5,7 @@ use Rattle.cm_wit_meanings.specs.declared.scope.Meaning as code
 use Rattle.cm_wit_meanings.specs.declared.scope.Meaning.TheVariants as meant
 use Rattle.cm_wit_meanings.specs.declared.scope.Scope as code_scope
 use Rattle.cm_wit_meanings.specs.Scopes.{Meaning, value, scope_at}
-use Rattle.cm_wit_graph.specs.Listed.{listed}
+use Rattle.cm_names.specs.Listed.{listed}
 use Rattle.cm_wit_meanings.proofs.WitDefinitionsGrowthLaws.{extends_length, place_kept, below_more}
 use Rattle.cm_wit_meanings.specs.Places.{meaning_in, table_in, scope_in, IsPlaced, ArePlaced, Extends}
 

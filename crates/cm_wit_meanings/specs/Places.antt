@@ -4,7 +4,7 @@ use Rattle.std.specs.List.{AllByRecursion}
 use Rattle.std.specs.Option.{option_map}
 use Rattle.cm_types.specs.Types.{Ty}
 use Rattle.cm_types_arena.specs.TypeDefs.{type_at}
-use Rattle.cm_wit_graph.specs.Listed.{listed}
+use Rattle.cm_names.specs.Listed.{listed}
 use Rattle.cm_wit_meanings.specs.declared.scope.Meaning as code
 use Rattle.cm_wit_meanings.specs.declared.scope.Meaning.TheVariants as meant
 use Rattle.cm_wit_meanings.specs.declared.scope.Scope as code_scope

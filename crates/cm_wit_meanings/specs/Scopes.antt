@@ -3,7 +3,7 @@ use Rattle.std.specs.Prelude.{ℕ, List, Option, Some, None, slice_index_or}
 use Rattle.std.specs.Option.{option_and_then}
 use Rattle.cm_types.specs.declared.resource.ResourceId.{ResourceId}
 use Rattle.cm_types.specs.Types.{Ty, own}
-use Rattle.cm_wit_graph.specs.Keys.{Key, first_key}
+use Rattle.cm_names.specs.Keys.{Key, first_key}
 
 -- what a name stands for: a value type, or a resource
 pub data Meaning : Type 0 where

@@ -16,7 +16,7 @@ ghost use Rattle.cm_wit_meanings.specs.Places.{ArePlaced, Extends, IsPlaced, mea
 ghost use Rattle.cm_wit_meanings.specs.Scopes.{as_type};
 ghost use Rattle.cm_wit_meanings.specs.WitDefinitionsAdded.{AddedDef, named_place};
 
-use crate::members::{add_fields, push_cases};
+use crate::members::{push_cases, push_fields};
 use crate::{Meaning, MeaningFault, Scope, push, push_type};
 use cm_types::{Label, ResourceId};
 use cm_types_arena::{TypeDef as ArenaDef, Types};
@@ -35,7 +35,7 @@ fn push_record(
         (each_meaning (typed_meaning (scope_in (types_of types.old) scope.now))
         (map typed_tree texts.now))) result }
 {
-    let fields = add_fields(alloc, types, scope, texts)?;
+    let fields = push_fields(alloc, types, scope, texts)?;
     push(alloc, types, ArenaDef::Record(fields))
 }
 

@@ -12,7 +12,7 @@ ghost use Rattle.cm_wit_meanings.specs.Meanings.{func_meaning, resource_func_mea
 ghost use Rattle.cm_wit_meanings.specs.Places.{ArePlaced, Extends, scope_in};
 ghost use Rattle.cm_wit_meanings.specs.WitDefinitionsAdded.{AddedFunc};
 
-use crate::members::{add_fields, push_result};
+use crate::members::{push_fields, push_result};
 use crate::{MeaningFault, Scope, push};
 use cm_types::{Label, ResourceId};
 use cm_types_arena::{DefFault, FieldDef, FuncDef, TypeDef, Types};
@@ -51,7 +51,7 @@ fn func_def(
     ensures { AddedFunc types.old types.new
         (func_meaning (scope_in (types_of types.old) scope.now) (func_tree text.now)) result }
 {
-    let params = add_fields(alloc, types, scope, &text.params)?;
+    let params = push_fields(alloc, types, scope, &text.params)?;
     let answer = push_result(alloc, types, scope, &text.result)?;
     Ok(FuncDef {
         params,
@@ -154,7 +154,7 @@ fn constructor_def(
         (resource_func_meaning (scope_in (types_of types.old) scope.now) resource
         (constructor (map typed_tree texts.now))) result }
 {
-    let params = add_fields(alloc, types, scope, texts)?;
+    let params = push_fields(alloc, types, scope, texts)?;
     let place = push(alloc, types, TypeDef::Own(resource))?;
     Ok(FuncDef {
         params,

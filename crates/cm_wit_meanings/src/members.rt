@@ -1,14 +1,13 @@
 //! What the fields, cases and parameters of texts stand for.
 
-ghost use Rattle.std.specs.Prelude.{◌≡◌, ◌<◌, IfOk, IfErr, Some, length, map};
-ghost use Rattle.std.specs.List.{AllByRecursion};
+ghost use Rattle.std.specs.Prelude.{◌≡◌, IfOk, IfErr, Some, length, map};
 ghost use Rattle.std.specs.Option.{option_map};
 ghost use Rattle.cm_types_arena.specs.Places.{funcs_of, types_of};
-ghost use Rattle.cm_types_arena.specs.TypeDefs.{IsBelow, field_def_type, type_at};
+ghost use Rattle.cm_types_arena.specs.TypeDefs.{IsBelow, type_at};
 ghost use Rattle.cm_wit_reading.specs.TypeViews.{type_tree};
 ghost use Rattle.cm_wit_reading.specs.SignatureViews.{typed_tree};
 ghost use Rattle.cm_wit_reading.specs.Views.{case_tree};
-ghost use Rattle.cm_wit_meanings.specs.Faults.{AreFieldsFault, IsPayloadFault};
+ghost use Rattle.cm_wit_meanings.specs.Faults.{IsPayloadFault};
 ghost use Rattle.cm_wit_meanings.specs.Meanings.{case_meaning, each_meaning, payload_meaning};
 ghost use Rattle.cm_wit_meanings.specs.Meanings.{typed_meaning};
 ghost use Rattle.cm_wit_meanings.specs.Places.{ArePlaced, Extends, scope_in};
@@ -37,9 +36,13 @@ fn push_field(
     Ok(FieldDef { label, ty })
 }
 
-/// Adds the types of fields or parameters, and answers these with their places, in order; its
-/// faults are those of `push_fields`.
-pub fn add_fields(
+/// Adds the types of fields or parameters, and answers these with their places, in order.
+///
+/// The names in them are looked up in the scope. Faults come as those of `push_type`, in the order
+/// of the texts, and `Memory` also where the answer finds none; then some of the types may have
+/// been added. Earlier types stay as they are. It costs the length of the texts and a look-up for
+/// each name. (WIT.md, "Item: `record`", "Item: `func`")
+pub fn push_fields(
     alloc: Global,
     types: &mut Types,
     scope: &Scope<'_, '_>,
@@ -58,34 +61,6 @@ pub fn add_fields(
         }
     }
     Ok(fields)
-}
-
-/// Adds the types of fields or parameters, and answers these with their places, in order.
-///
-/// The names in them are looked up in the scope. Faults come as those of `push_type`, in the order
-/// of the texts, and `Memory` also where the answer finds none; then some of the types may have
-/// been added. Earlier types stay as they are. It costs the length of the texts and a look-up for
-/// each name. (WIT.md, "Item: `record`", "Item: `func`")
-pub fn push_fields(
-    alloc: Global,
-    types: &mut Types,
-    scope: &Scope<'_, '_>,
-    texts: &[Typed],
-) -> Result<Vec<FieldDef>, MeaningFault>
-    requires placed { ArePlaced (length (types_of types.old)) scope.now.table.now }
-    ensures there { IfOk result (λ fs.
-        AllByRecursion (λ f. f.ty < length (types_of types.new)) fs.items) }
-    ensures meaning { IfOk result (λ fs.
-        each_meaning (typed_meaning (scope_in (types_of types.old) scope.now))
-        (map typed_tree texts.now)
-        ≡ Some (map (field_def_type (types_of types.new)) fs.items)) }
-    ensures fault { IfErr result (AreFieldsFault
-        (each_meaning (typed_meaning (scope_in (types_of types.old) scope.now))
-        (map typed_tree texts.now))) }
-    ensures grown { Extends (types_of types.old) (types_of types.new) }
-    ensures funcs { funcs_of types.new ≡ funcs_of types.old }
-{
-    add_fields(alloc, types, scope, texts)
 }
 
 /// Adds the type of a result, if there is one, and answers its place; none is added for none.

@@ -5,8 +5,8 @@ ghost use Rattle.std.specs.Option.{option_map};
 ghost use Rattle.cm_types.specs.Types.{Ty};
 ghost use Rattle.cm_wit_meanings.specs.Places.{ArePlaced, IsPlaced, meaning_in, scope_in};
 
+use cm_names::Keys;
 use cm_types::ResourceId;
-use cm_wit_graph::Keys;
 
 /// What a name stands for: a value type, by its place in an arena, or a resource.
 #[derive(Clone, Copy)]

@@ -16,7 +16,7 @@ use Rattle.std.specs.BTreeMap.{is_at}
 use Rattle.std.specs.Map.{lookup}
 use Rattle.std.specs.Option.{option_and_then}
 use Rattle.std.specs.Ordering.{nat_cmp}
-use Rattle.cm_wit_graph.specs.Table.{Table, look_up, or_else, under}
+use Rattle.cm_names.specs.KeyTables.{Table, look_up, or_else, under}
 use Rattle.cm_wit_names.specs.Table.{IsTableOf, is_key, Notes}
 
 -- What is known is what the table has, or else the first among the mentions to come.

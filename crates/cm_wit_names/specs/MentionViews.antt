@@ -6,7 +6,7 @@ use Rattle.cm_types.specs.ExternNames as name
 use Rattle.cm_types.specs.ExternNames.{NameTree}
 use Rattle.cm_wit_reading.specs.SignatureViews.{path_tree}
 use Rattle.cm_wit_reading.specs.Views.{file_tree}
-use Rattle.cm_wit_names.specs.declared.mention.Declared as declared
+use Rattle.cm_wit_names.specs.declared.mention.ListedName as declared
 use Rattle.cm_wit_names.specs.declared.mention.FullName as mention_name
 use Rattle.cm_wit_names.specs.declared.mention.FullName.TheVariants as full
 use Rattle.cm_wit_names.specs.declared.mention.Mention as mention
@@ -24,7 +24,7 @@ full_name (full.Static m) = name.static [] m.now
 full_name full.Constructor = name.constructor []
 full_name (full.Interface file path) = path_name (file_tree file.now) (path_tree path.now)
 
-abbrev pub declared_view : declared.Declared → spec.Declared
+abbrev pub declared_view : declared.ListedName → spec.ListedName
 declared_view d =
     record {
       in_list = d.in_list;

@@ -15,7 +15,7 @@ pub data Reference : Type 0 where
 
 -- a name in a list of names that are distinct: the number of the list, the full name, whether that
 -- is an interface's of the file's own package, and whether an implied `self` stands before it
-pub record Declared : Type 0 where
+pub record ListedName : Type 0 where
   pub in_list : ℕ
   pub name : NameTree
   pub is_own : Bool
@@ -25,7 +25,7 @@ pub record Declared : Type 0 where
 -- number of its interface's name and its own), what it refers to, the mention of the declaration
 -- in whose text it stands, whether it stands in a result, and whether it may be a resource
 pub record Mention : Type 0 where
-  pub declares : Option Declared
+  pub declares : Option ListedName
   pub known : Option (ℕ × List ℕ)
   pub refers : Reference
   pub owner : Option ℕ
@@ -44,7 +44,7 @@ bare = record {
 }
 
 -- a name in a list of distinct names
-abbrev pub listed_as : ℕ → NameTree → Declared
+abbrev pub listed_as : ℕ → NameTree → ListedName
 listed_as list name =
     record { in_list = list; name = name; is_own = false; after_self = false }
 

@@ -11,7 +11,7 @@ use Rattle.cm_types.specs.ExternNames.{NameTree, name_spelling}
 use Rattle.cm_wit_tokens.specs.declared.fault.WitReason.{WitReason}
 use Rattle.cm_wit_tokens.specs.declared.fault.WitReason.TheVariants as reason
 use Rattle.cm_wit_tokens.specs.Reasons.{reason_number}
-use Rattle.cm_wit_names.specs.Mentions.{Declared, Mention, Reference, no_reference}
+use Rattle.cm_wit_names.specs.Mentions.{ListedName, Mention, Reference, no_reference}
 use Rattle.cm_wit_names.specs.Mentions.{to_interface, to_used, to_type, to_resource}
 use Rattle.cm_wit_graph.specs.Graphs.{ReachesItself}
 use Rattle.cm_wit_names.specs.Known.{known_at, target, edges, IsAt, IsResource, HoldsBorrow}
@@ -34,7 +34,7 @@ own_part (full.constructor r) = full.constructor r
 -- package what stands behind the package. Nothing is lost: full names of one package differ exactly
 -- where these parts do, and since no label is empty, the full name of another package is no such
 -- part.
-abbrev pub told_by : Declared → NameTree
+abbrev pub told_by : ListedName → NameTree
 told_by d = if d.is_own then own_part d.name else d.name
 
 -- the list in which a mention has to be distinct, and its name there

@@ -7,7 +7,7 @@ ghost use Rattle.cm_wit_names.specs.Marks.{one};
 ghost use Rattle.cm_wit_names.specs.Mentions.{bare, declaring};
 ghost use Rattle.cm_wit_names.specs.MentionViews.{Adds, full_name, mention_view};
 
-use crate::mention::{Declared, FullName, Mention, Reference};
+use crate::mention::{FullName, ListedName, Mention, Reference};
 use cm_types::Label;
 use std::alloc::AllocError;
 
@@ -29,7 +29,7 @@ pub fn bare<'a>() -> Mention<'a>
 pub fn declaring<'a>(in_list: usize, name: FullName<'a>) -> Mention<'a>
     ensures { mention_view result ≡ declaring in_list (full_name name.entry) }
 {
-    let declares = Some(Declared {
+    let declares = Some(ListedName {
         in_list,
         name,
         is_own: false,
@@ -55,7 +55,7 @@ pub fn add_label<'a>(
 ) -> Result<(), AllocError>
     ensures { OnOk result (Adds (one (label after_self in_list name.now)) out.old out.new) }
 {
-    let declares = Some(Declared {
+    let declares = Some(ListedName {
         in_list,
         name: FullName::Label(name),
         is_own: false,

@@ -12,7 +12,7 @@ ghost use Rattle.cm_wit_names.specs.Rules.{told_by};
 
 use crate::full_names::folded;
 use crate::names::Names;
-use crate::{Declared, Mention};
+use crate::{ListedName, Mention};
 use cm_types::ExternNameForm;
 use std::alloc::{AllocError, Global};
 use std::collections::BTreeSet;
@@ -36,7 +36,7 @@ fn own_part<'a>(name: ExternNameForm<'a>) -> ExternNameForm<'a>
 }
 
 /// What tells a declared name from others.
-fn told_by<'a>(declared: Declared<'a>) -> ExternNameForm<'a>
+fn told_by<'a>(declared: ListedName<'a>) -> ExternNameForm<'a>
     ensures { form_tree result ≡ told_by (declared_view declared.entry) }
 {
     let name = declared.name.form();

@@ -6,8 +6,8 @@ ghost use Rattle.cm_wit_names.specs.MentionViews.{mention_view};
 ghost use Rattle.cm_wit_names.specs.Table.{IsTableOf, Notes};
 
 use crate::Mention;
+use cm_names::{KeyTable, note};
 use cm_types::Label;
-use cm_wit_graph::{Table, note};
 use std::alloc::{AllocError, Global};
 use std::collections::BTreeMap;
 
@@ -16,7 +16,7 @@ use std::collections::BTreeMap;
 #[tactic(auto, using(crate::proofs::TableLaws::notes_nothing))]
 fn note_known<'a>(
     alloc: Global,
-    table: &mut Table<'a>,
+    table: &mut KeyTable<'a>,
     known: Option<(usize, &'a Label)>,
     index: usize,
 ) -> Result<(), AllocError>
@@ -31,7 +31,7 @@ fn note_known<'a>(
 
 /// For each number and name the mention that makes a type or an interface known by them first.
 #[tactic(auto, using(crate::proofs::TableLaws::table_laws))]
-pub fn known_names<'a>(alloc: Global, mentions: &[Mention<'a>]) -> Result<Table<'a>, AllocError>
+pub fn known_names<'a>(alloc: Global, mentions: &[Mention<'a>]) -> Result<KeyTable<'a>, AllocError>
     ensures { IfOk result (λ table. IsTableOf (map mention_view mentions.now) table) }
 {
     let mut table = BTreeMap::new(alloc);

@@ -21,5 +21,5 @@ mod world_mentions;
 
 pub use file_mentions::mentions;
 pub use full_names::folded;
-pub use mention::{Declared, FullName, Mention, Place, Reference};
+pub use mention::{FullName, ListedName, Mention, Place, Reference};
 pub use names::Names;

@@ -80,7 +80,7 @@ impl<'a> FullName<'a> {
 
 /// A name in a list of names that are distinct.
 #[derive(Clone, Copy)]
-pub struct Declared<'a> {
+pub struct ListedName<'a> {
     /// The number of the list.
     pub in_list: usize,
     /// The full name.
@@ -117,7 +117,7 @@ pub enum Reference<'a> {
 /// What a name says. Names are counted from 0 in reading order.
 #[derive(Clone, Copy)]
 pub struct Mention<'a> {
-    pub declares: Option<Declared<'a>>,
+    pub declares: Option<ListedName<'a>>,
     /// What it is known as: an interface by 0 and its name, a type by the number of its interface's
     /// name and its own.
     pub known: Option<(usize, &'a Label)>,

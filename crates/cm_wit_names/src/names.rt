@@ -7,14 +7,14 @@ ghost use Rattle.cm_wit_names.specs.Table.{IsTableOf};
 
 use crate::known::known_names;
 use crate::{Mention, Reference};
-use cm_wit_graph::{Table, look_up};
+use cm_names::{KeyTable, look_up};
 use std::alloc::{AllocError, Global};
 
 /// What each name of a file says, and what is known by which name.
 #[derive(Drop)]
 pub struct Names<'a> {
     pub mentions: Vec<Mention<'a>>,
-    known: Table<'a>,
+    known: KeyTable<'a>,
     ghost table: { IsTableOf (map mention_view mentions.items) known },
 }
 

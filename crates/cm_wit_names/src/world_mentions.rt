@@ -11,7 +11,7 @@ ghost use Rattle.cm_wit_names.specs.MentionViews.{Adds, full_name, mention_view}
 
 use crate::adding::{add, bare, declaring};
 use crate::func_mentions::add_func;
-use crate::mention::{Declared, FullName, Mention, Reference};
+use crate::mention::{FullName, ListedName, Mention, Reference};
 use crate::scope::Scope;
 use cm_types::{Label, same_name};
 use cm_wit_reading::{Path, WitFile, World, WorldExtern, WorldItem};
@@ -47,7 +47,7 @@ fn is_own_package(
 fn placed_at<'a>(in_list: usize, name: FullName<'a>, is_own: bool) -> Mention<'a>
     ensures { mention_view result ≡ placed_at in_list (full_name name.entry) is_own }
 {
-    let declares = Some(Declared {
+    let declares = Some(ListedName {
         in_list,
         name,
         is_own,

@@ -2,7 +2,7 @@
 use Rattle.std.proofs.Common.{◌≡◌, ◌↔◌, ℕ, zero, suc, ◌+◌, ◌≤◌, Bool, true, false, ◌&&◌, is_some, List, [], ◌∷◌, ◌++◌, length, map, Option, Some, None, MatchOption, slice_get, refl, sym, ap, subst, ◌∙◌, arith}
 use Rattle.std.specs.List.{AllByRecursion, list_all}
 use Rattle.cm_wit_graph.specs.Graphs.{IsMarked}
-use Rattle.cm_wit_graph.specs.Keys.{Key}
+use Rattle.cm_names.specs.Keys.{Key}
 use Rattle.cm_wit_reading.specs.Types.{Ty, Tys, primitive, named, borrow, list, fixed_list, option, tuple, plain_result, ok_result, error_result, result, no_types, types}
 use Rattle.cm_wit_reading.specs.Signatures.{Typed, Func}
 use Rattle.cm_wit_reading.specs.Trees.{ResourceFunc, method, static, constructor, WorldItem, WorldExtern, interface_at, named_func, imports, exports, File}

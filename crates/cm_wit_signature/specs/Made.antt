@@ -1,7 +1,7 @@
 -- The signature of a world, of what it is made of.
 use Rattle.std.specs.Prelude.{ℕ, List, Option}
 use Rattle.cm_types.specs.Signatures.{SignatureTy}
-use Rattle.cm_wit_graph.specs.Keys.{Key}
+use Rattle.cm_names.specs.Keys.{Key}
 use Rattle.cm_wit_worlds.specs.Interfaces.{PlacedInterface, PlacedWorld}
 use Rattle.cm_wit_meanings.specs.Scopes.{Meaning, scope_at}
 use Rattle.cm_wit_items.specs.Signatures.{externs_from, with_exports}

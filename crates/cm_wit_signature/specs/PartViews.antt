@@ -7,7 +7,7 @@ use Rattle.cm_types_arena.specs.declared.types.Types.{Types}
 use Rattle.cm_types_signatures.specs.Shared.{are_shared_externs_there, shared_extern_of}
 use Rattle.cm_types_signatures.specs.declared.names.Front.{Front}
 use Rattle.cm_types_signatures.specs.declared.shared.SharedExtern.{SharedExtern}
-use Rattle.cm_wit_graph.specs.Listed.{listed}
+use Rattle.cm_names.specs.Listed.{listed}
 use Rattle.cm_wit_reading.specs.SignatureViews.{func_tree}
 use Rattle.cm_wit_worlds.specs.Interfaces.{PlacedInterface, PlacedWorld}
 use Rattle.cm_wit_reading.specs.Trees.{File}

@@ -5,7 +5,7 @@ use Rattle.std.specs.Prelude.{slice_get, slice_index_or, [], ◌∷◌, ◌+◌}
 use Rattle.std.specs.List.{list_all}
 use Rattle.cm_types_signatures.specs.declared.names.Front.{Front}
 use Rattle.cm_types_signatures.specs.declared.names.Front.TheVariants as front
-use Rattle.cm_wit_graph.specs.Keys.{Key, first_key}
+use Rattle.cm_names.specs.Keys.{Key, first_key}
 use Rattle.cm_wit_reading.specs.Types.{Ty, Tys, primitive, named, borrow, list, fixed_list, option}
 use Rattle.cm_wit_reading.specs.Types.{tuple, plain_result, ok_result, error_result, result}
 use Rattle.cm_wit_reading.specs.Types.{no_types, types}
@@ -83,12 +83,12 @@ member_led keys marks l (function n f) = func_led keys marks l f
 
 -- A function of a resource has a number at which these say whether its resource's name leads to a
 -- marked place.
-abbrev pub IsNumbered : List Key → List Bool → ℕ → List Bool → code.Member → Type 0
-IsNumbered keys marks l rs (member.Used name) = Unit {0}
-IsNumbered keys marks l rs (member.Declared name) = Unit {0}
-IsNumbered keys marks l rs (member.OfResource r f k) =
+abbrev pub HasResourceNumber : List Key → List Bool → ℕ → List Bool → code.Member → Type 0
+HasResourceNumber keys marks l rs (member.Used name) = Unit {0}
+HasResourceNumber keys marks l rs (member.Declared name) = Unit {0}
+HasResourceNumber keys marks l rs (member.OfResource r f k) =
     slice_get rs k ≡ Some (is_resource_led keys marks l r.now)
-IsNumbered keys marks l rs (member.Function name f) = Unit {0}
+HasResourceNumber keys marks l rs (member.Function name f) = Unit {0}
 
 -- whether each name in the members of these instances does, the first of which has the l-th list
 abbrev pub interface_led : List Key → List Bool → ℕ → Option PlacedInterface → Bool

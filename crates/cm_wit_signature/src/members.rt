@@ -2,7 +2,7 @@
 
 ghost use Rattle.std.specs.Prelude.{◌≡◌, IfOk, map};
 ghost use Rattle.std.specs.List.{AllByRecursion, list_all};
-ghost use Rattle.cm_wit_graph.specs.Listed.{listed};
+ghost use Rattle.cm_names.specs.Listed.{listed};
 ghost use Rattle.cm_wit_reading.specs.Views.{interface_tree};
 ghost use Rattle.cm_wit_items.specs.MemberViews.{member_view};
 ghost use Rattle.cm_wit_items.specs.Members as spec;
@@ -47,7 +47,7 @@ fn fronts_led(
 /// Whether each name in a member leads to a type, and that of a borrow or of a resource to a
 /// resource. Whether that of a resource does is looked up in `resources`, by the front's number.
 fn member_led(names: Names<'_, '_>, resources: &[bool], member: &Member<'_>) -> bool
-    requires numbered { test.IsNumbered (listed names.keys.now) names.marks.now names.list
+    requires numbered { test.HasResourceNumber (listed names.keys.now) names.marks.now names.list
         resources.now member.now }
     ensures { result ≡ test.member_led (listed names.entry.keys.now) names.entry.marks.now
         names.entry.list (member_view member.now) }
@@ -65,8 +65,8 @@ fn member_led(names: Names<'_, '_>, resources: &[bool], member: &Member<'_>) -> 
 /// Whether this is so of each of these members.
 #[tactic(auto, using(crate::proofs::RestLaws::rest_laws))]
 fn members_led(names: Names<'_, '_>, resources: &[bool], members: &[Member<'_>]) -> bool
-    requires numbered { AllByRecursion (test.IsNumbered (listed names.keys.now) names.marks.now
-        names.list resources.now) members.now }
+    requires numbered { AllByRecursion (test.HasResourceNumber (listed names.keys.now)
+        names.marks.now names.list resources.now) members.now }
     ensures { result ≡ list_all (test.member_led (listed names.entry.keys.now)
         names.entry.marks.now names.entry.list) (map member_view members.now) }
 {

@@ -8,8 +8,8 @@ ghost use Rattle.cm_wit_meanings.specs.Places.{scope_in};
 ghost use Rattle.cm_wit_items.specs.Signatures.{extern_func, func_at, item_func};
 ghost use Rattle.cm_wit_reading.specs.Views.{extern_tree, world_item_tree};
 
+use cm_names::Keys;
 use cm_types::Label;
-use cm_wit_graph::Keys;
 use cm_wit_meanings::{Meaning, Scope};
 use cm_wit_reading::{Func, WitFile, WorldExtern, WorldItem};
 use cm_wit_worlds::{PlacedInterface, PlacedWorld};

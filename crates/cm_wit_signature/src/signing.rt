@@ -1,7 +1,7 @@
 //! The signature of a world whose names lead to types.
 
 ghost use Rattle.std.specs.Prelude.{◌≡◌, ◌<◌, ◌^◌, ℕ, List, Some, IfOk, IfErr, length, map};
-ghost use Rattle.cm_wit_graph.specs.Listed.{listed};
+ghost use Rattle.cm_names.specs.Listed.{listed};
 ghost use Rattle.cm_types_signatures.specs.Signatures.{signature_of};
 ghost use Rattle.cm_types_arena.specs.Places.{types_of};
 ghost use Rattle.cm_wit_tables.specs.DeclaredViews.{declaration_view, instance_view};

@@ -1,14 +1,14 @@
 //! Whether the names in texts lead to types.
 
 ghost use Rattle.std.specs.Prelude.{◌≡◌, map};
-ghost use Rattle.cm_wit_graph.specs.Listed.{listed};
+ghost use Rattle.cm_names.specs.Listed.{listed};
 ghost use Rattle.cm_wit_reading.specs.Types.{types_from};
 ghost use Rattle.cm_wit_reading.specs.TypeViews.{type_tree};
 ghost use Rattle.cm_wit_reading.specs.SignatureViews.{func_tree, typed_tree};
 ghost use Rattle.cm_wit_reading.specs.Views.{resource_func_tree};
 ghost use Rattle.cm_wit_signature.specs.Tests as test;
 
-use cm_wit_graph::Keys;
+use cm_names::Keys;
 use cm_wit_reading::{Func, ResourceFunc, Typed, WitType};
 
 /// What finds the names of one list: the keys of declarations, with a mark for each that is of a

@@ -3,7 +3,7 @@
 ghost use Rattle.std.specs.Prelude.{◌≡◌, ◌↔◌, ◌&&◌, IfOk, IsTrue, List, length, map};
 ghost use Rattle.std.specs.Prelude.{slice_get};
 ghost use Rattle.std.specs.List.{list_all};
-ghost use Rattle.cm_wit_graph.specs.Listed.{listed};
+ghost use Rattle.cm_names.specs.Listed.{listed};
 ghost use Rattle.cm_wit_reading.specs.Views.{extern_tree, world_item_tree};
 ghost use Rattle.cm_wit_reading.specs.Trees.{File};
 ghost use Rattle.cm_wit_worlds.specs.Interfaces as spec;
@@ -14,7 +14,7 @@ ghost use Rattle.cm_wit_signature.specs.Tests as test;
 
 use crate::members::interface_led;
 use crate::texts::{Names, func_led};
-use cm_wit_graph::Keys;
+use cm_names::Keys;
 use cm_wit_reading::{WorldExtern, WorldItem};
 use cm_wit_tables::{Declaration, Instance, declaration_keys, resource_marks};
 use cm_wit_worlds::{PlacedInterface, PlacedWorld};

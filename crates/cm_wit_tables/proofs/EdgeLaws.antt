@@ -3,7 +3,7 @@ use Rattle.std.proofs.Common.{◌≡◌, ℕ, ◌+◌, ◌<◌, List, [], ◌∷
 use Rattle.std.specs.List.{cons_option}
 use Rattle.std.specs.Option.{option_map}
 use Rattle.cm_wit_graph.specs.Graphs.{Edges}
-use Rattle.cm_wit_graph.specs.Keys.{Key}
+use Rattle.cm_names.specs.Keys.{Key}
 use Rattle.cm_wit_tables.specs.Declarations.{Declaration}
 use Rattle.cm_wit_tables.specs.Leading.{brought_target}
 use Rattle.cm_wit_tables.specs.Resources.{brought_edges}

@@ -5,7 +5,7 @@ use Rattle.std.specs.declared.alloc.AllocError.{AllocError}
 use Rattle.std.specs.List.{AllByRecursion, list_all}
 use Rattle.std.specs.Borrow.{Bor}
 use Rattle.cm_wit_graph.specs.Graphs.{IsMarked}
-use Rattle.cm_wit_graph.specs.Keys.{Key}
+use Rattle.cm_names.specs.Keys.{Key}
 use Rattle.cm_wit_reading.specs.Trees.{TypeDef}
 use Rattle.cm_wit_tables.specs.Declarations.{Declaration, Declared, brought, defined, keys_of, target, names_in_def}
 use Rattle.cm_wit_tables.specs.TypeFaults.{IsResource, LeadsToType, LeadsToResource, HasTypes, AllHaveTypes, borrowed_in_def}

@@ -3,7 +3,7 @@ use Rattle.std.proofs.Common.{◌≡◌, ℕ, zero, suc, ◌+◌, ◌<◌, Bool,
 use Rattle.std.specs.List.{All, AllByRecursion, filter_map, cons_option, position_from}
 use Rattle.std.specs.Option.{option_map_or}
 use Rattle.std.proofs.lemmas.List.{length-map}
-use Rattle.cm_wit_graph.specs.Keys.{Key, is_key}
+use Rattle.cm_names.specs.Keys.{Key, is_key}
 use Rattle.cm_wit_graph.specs.Orders.{Needs, NeedsItself, IsWithin, IsRanked as IsRankedBy}
 use Rattle.cm_wit_tables.specs.Declarations.{Declaration, keys_of, key_of, refers, target, uses, IsRanked, HasTypeCycle}
 

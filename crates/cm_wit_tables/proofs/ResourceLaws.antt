@@ -5,7 +5,7 @@ use Rattle.std.specs.Option.{option_map}
 use Rattle.std.proofs.lemmas.List.{length-map, get_or_default}
 use Rattle.std.proofs.lemmas.Option.{slice_get_within, same_Some}
 use Rattle.cm_wit_graph.specs.Graphs.{Edges, HasEdge, Walk, LeadsToMarked, IsMarked, IsWithin}
-use Rattle.cm_wit_graph.specs.Keys.{Key, is_key}
+use Rattle.cm_names.specs.Keys.{Key, is_key}
 use Rattle.cm_wit_tables.specs.Declarations.{Declaration, Declared, brought, defined, keys_of, key_of, target}
 use Rattle.cm_wit_tables.specs.Tables.{defines_resource, declares_resource}
 use Rattle.cm_wit_tables.specs.TypeFaults.{IsResource, own_one, brought_one}

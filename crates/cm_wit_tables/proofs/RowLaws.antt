@@ -5,7 +5,7 @@ use Rattle.std.specs.List.{filter_map, cons_option}
 use Rattle.std.specs.Option.{option_map_or}
 use Rattle.std.specs.Borrow.{Bor}
 use Rattle.std.specs.Global.{Vec}
-use Rattle.cm_wit_graph.specs.Keys.{Key, first_key}
+use Rattle.cm_names.specs.Keys.{Key, first_key}
 use Rattle.cm_wit_graph.specs.Orders.{needs_of}
 use Rattle.cm_wit_tables.specs.Declarations.{Declaration, keys_of, refers, target, uses}
 use Rattle.cm_wit_tables.specs.Leading.{found, named, uses_by}

@@ -6,7 +6,7 @@ use Rattle.std.specs.Option.{option_map, option_and_then, option_map_or}
 use Rattle.std.proofs.lemmas.Option.{unwrap_or-slice_get, slice_get_within}
 use Rattle.cm_types.specs.declared.resource.ResourceId.{ResourceId}
 use Rattle.cm_types.specs.Types as cm
-use Rattle.cm_wit_graph.specs.Keys.{Key}
+use Rattle.cm_names.specs.Keys.{Key}
 use Rattle.cm_wit_reading.specs.Types.{Ty, Tys, primitive, named, borrow, list, fixed_list, option, tuple, plain_result, ok_result, error_result, result, no_types, types}
 use Rattle.cm_wit_reading.specs.Signatures.{Typed}
 use Rattle.cm_wit_reading.specs.Trees.{Case, TypeDef, alias, record_of, variant, enum, flags}

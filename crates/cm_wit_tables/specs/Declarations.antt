@@ -4,7 +4,7 @@ use Rattle.std.specs.Prelude.{ℕ, ◌<◌, ◌++◌, List, [], ◌∷◌, Optio
 use Rattle.std.specs.Prelude.{None, map, slice_get}
 use Rattle.std.specs.List.{AllByRecursion, filter_map, flat_map}
 use Rattle.std.specs.Option.{option_map_or}
-use Rattle.cm_wit_graph.specs.Keys.{Key, first_key}
+use Rattle.cm_names.specs.Keys.{Key, first_key}
 use Rattle.cm_wit_graph.specs.Orders.{NeedsItself}
 use Rattle.cm_wit_reading.specs.Types.{Ty, Tys, primitive, named, borrow, list, fixed_list, option}
 use Rattle.cm_wit_reading.specs.Types.{tuple, plain_result, ok_result, error_result, result}

@@ -1,6 +1,6 @@
 -- The declarations and instances that the code's are.
 use Rattle.std.specs.Option.{option_map}
-use Rattle.cm_wit_graph.specs.Keys.{key_view}
+use Rattle.cm_names.specs.Keys.{key_view}
 use Rattle.cm_wit_reading.specs.Views.{type_def_tree}
 use Rattle.cm_wit_tables.specs.Declarations.{Declared, Declaration, brought, defined}
 use Rattle.cm_wit_tables.specs.Worlds.{Instance}

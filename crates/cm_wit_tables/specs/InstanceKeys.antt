@@ -1,7 +1,7 @@
 -- The keys by which the instances of a world are found, and what they use.
 use Rattle.std.specs.Prelude.{ℕ, Bool, true, false, List, Option, codes}
 use Rattle.std.specs.Option.{option_map}
-use Rattle.cm_wit_graph.specs.Keys.{Key}
+use Rattle.cm_names.specs.Keys.{Key}
 use Rattle.cm_wit_reading.specs.Trees.{UsedName}
 use Rattle.cm_wit_tables.specs.Declarations.{Declaration, brought}
 use Rattle.cm_wit_tables.specs.Worlds.{Instance, used_as}

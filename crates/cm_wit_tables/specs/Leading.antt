@@ -2,7 +2,7 @@
 use Rattle.std.specs.Prelude.{ℕ, Bool, false, ◌&&◌, List, Option, Some, None, is_some, map}
 use Rattle.std.specs.Prelude.{slice_index_or}
 use Rattle.std.specs.List.{filter_map, list_all}
-use Rattle.cm_wit_graph.specs.Keys.{Key, first_key}
+use Rattle.cm_names.specs.Keys.{Key, first_key}
 use Rattle.cm_wit_tables.specs.Declarations.{Declaration, Declared, brought, defined}
 use Rattle.cm_wit_tables.specs.Declarations.{names_in_def}
 use Rattle.cm_wit_tables.specs.Declarations.{refers}

@@ -1,6 +1,6 @@
 -- Declarations, with what finds them.
 use Rattle.std.specs.Prelude.{◌≡◌, ℕ, ◌<◌, List, Some, map, length, slice_get}
-use Rattle.cm_wit_graph.specs.Listed.{listed}
+use Rattle.cm_names.specs.Listed.{listed}
 use Rattle.cm_wit_tables.specs.DeclaredViews.{declaration_view}
 use Rattle.cm_wit_tables.specs.Declarations.{Declaration, keys_of}
 use Rattle.cm_wit_tables.specs.Tables.{resource_of}

@@ -3,7 +3,7 @@ use Rattle.std.specs.Prelude.{ℕ, ◌+◌, List, [], ◌∷◌, Option}
 use Rattle.std.specs.List.{cons_option}
 use Rattle.std.specs.Option.{option_map}
 use Rattle.cm_wit_graph.specs.Graphs.{Edges}
-use Rattle.cm_wit_graph.specs.Keys.{Key}
+use Rattle.cm_names.specs.Keys.{Key}
 use Rattle.cm_wit_tables.specs.Declarations.{Declaration}
 use Rattle.cm_wit_tables.specs.Leading.{brought_target}
 

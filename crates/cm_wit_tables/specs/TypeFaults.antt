@@ -2,7 +2,7 @@
 -- borrow is that of a resource, declared or used, is this project's own choice).
 use Rattle.std.specs.Prelude.{◌≡◌, ℕ, true, ◌++◌, List, [], ◌∷◌, Option, Some, None, slice_get}
 use Rattle.std.specs.List.{AllByRecursion, flat_map}
-use Rattle.cm_wit_graph.specs.Keys.{Key}
+use Rattle.cm_names.specs.Keys.{Key}
 use Rattle.cm_wit_reading.specs.Types.{Ty, Tys, primitive, named, borrow, list, fixed_list, option}
 use Rattle.cm_wit_reading.specs.Types.{tuple, plain_result, ok_result, error_result, result}
 use Rattle.cm_wit_reading.specs.Types.{no_types, types}

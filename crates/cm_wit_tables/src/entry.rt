@@ -2,7 +2,7 @@
 
 ghost use Rattle.std.specs.Prelude.{◌≡◌, ◌<◌, ℕ, List, IfOk, IfErr, IfSome, Some, length};
 ghost use Rattle.std.specs.Option.{option_map};
-ghost use Rattle.cm_wit_graph.specs.Keys.{key_view};
+ghost use Rattle.cm_names.specs.Keys.{key_view};
 ghost use Rattle.cm_types.specs.Types.{Ty};
 ghost use Rattle.cm_types_arena.specs.Places.{funcs_of, types_of};
 ghost use Rattle.cm_wit_meanings.specs.Faults.{IsFaultIn};

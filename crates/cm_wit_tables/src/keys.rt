@@ -1,13 +1,13 @@
 //! The keys of declarations.
 
 ghost use Rattle.std.specs.Prelude.{◌≡◌, IfOk, map};
-ghost use Rattle.cm_wit_graph.specs.Keys.{key_view};
-ghost use Rattle.cm_wit_graph.specs.Listed.{listed};
+ghost use Rattle.cm_names.specs.Keys.{key_view};
+ghost use Rattle.cm_names.specs.Listed.{listed};
 ghost use Rattle.cm_wit_tables.specs.Declarations.{key_of, keys_of};
 ghost use Rattle.cm_wit_tables.specs.DeclaredViews.{declaration_view};
 
 use crate::Declaration;
-use cm_wit_graph::Keys;
+use cm_names::Keys;
 use std::alloc::{AllocError, Global};
 
 /// The number of the list in which each declaration stands, and its name.

@@ -2,7 +2,7 @@
 
 ghost use Rattle.std.specs.Prelude.{◌≡◌, ◌<◌, ◌↔◌, IfOk, IsTrue, is_some, map};
 ghost use Rattle.std.specs.List.{list_all};
-ghost use Rattle.cm_wit_graph.specs.Listed.{listed};
+ghost use Rattle.cm_names.specs.Listed.{listed};
 ghost use Rattle.cm_wit_tables.specs.Declarations.{keys_of};
 ghost use Rattle.cm_wit_tables.specs.TypeFaults.{AllHaveTypes};
 ghost use Rattle.cm_wit_tables.specs.DeclaredViews.{declaration_view};
@@ -12,7 +12,7 @@ use crate::keys::declaration_keys;
 use crate::names::names_in_def;
 use crate::resources::resource_marks;
 use crate::{Declaration, Declared};
-use cm_wit_graph::Keys;
+use cm_names::Keys;
 use std::alloc::{AllocError, Global};
 
 /// Whether each name of a list leads to a declaration.

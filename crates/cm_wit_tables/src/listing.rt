@@ -1,8 +1,8 @@
 //! Declarations, with what finds them.
 
 use crate::Declaration;
+use cm_names::Keys;
 use cm_types::ResourceId;
-use cm_wit_graph::Keys;
 
 /// The declarations of a world, what finds them by their keys, and for each the resource that it
 /// brings if it declares one.

@@ -2,7 +2,7 @@
 
 ghost use Rattle.std.specs.Prelude.{◌≡◌, ◌<◌, ◌↔◌, ℕ, Some, IfOk, IfErr, MatchOption, length, map};
 ghost use Rattle.std.specs.Prelude.{slice_get};
-ghost use Rattle.cm_wit_graph.specs.Listed.{listed};
+ghost use Rattle.cm_names.specs.Listed.{listed};
 ghost use Rattle.cm_wit_graph.specs.Orders.{IsOrder};
 ghost use Rattle.cm_types.specs.Limits.{IsWithinLimits};
 ghost use Rattle.cm_types_arena.specs.Places.{funcs_of, types_of};
@@ -22,8 +22,9 @@ use crate::laws::{ordered_ones_can_be_ranked, ranked_ones_are_acyclic};
 use crate::table::Table;
 use crate::wit_declared_laws::{each_stands_where_names_lead, what_is_used_is_declared};
 use crate::{Declaration, Listing, all_lead, declaration_keys, fill, resource_ids, use_rows};
+use cm_names::Keys;
 use cm_types_arena::Types;
-use cm_wit_graph::{Keys, order_of};
+use cm_wit_graph::order_of;
 use cm_wit_meanings::{Meaning, MeaningFault};
 use std::alloc::{AllocError, Global};
 

@@ -1,13 +1,13 @@
 //! Finding the instances of a world.
 
 ghost use Rattle.std.specs.Prelude.{◌≡◌, IfOk, map};
-ghost use Rattle.cm_wit_graph.specs.Keys.{key_view};
-ghost use Rattle.cm_wit_graph.specs.Listed.{listed};
+ghost use Rattle.cm_names.specs.Keys.{key_view};
+ghost use Rattle.cm_names.specs.Listed.{listed};
 ghost use Rattle.cm_wit_tables.specs.DeclaredViews.{instance_view};
 ghost use Rattle.cm_wit_tables.specs.InstanceKeys.{instance_key, side_word};
 
 use crate::declarations::Instance;
-use cm_wit_graph::Keys;
+use cm_names::Keys;
 use std::alloc::{AllocError, Global};
 
 fn side_word(exported: bool) -> &'static str

@@ -2,7 +2,7 @@
 
 ghost use Rattle.std.specs.Prelude.{◌≡◌, ◌<◌, ◌↔◌, ℕ, IfOk, length, map, slice_get, vec_len};
 ghost use Rattle.cm_wit_graph.specs.Graphs.{IsMarked, IsWithin};
-ghost use Rattle.cm_wit_graph.specs.Listed.{listed};
+ghost use Rattle.cm_names.specs.Listed.{listed};
 ghost use Rattle.cm_wit_tables.specs.Declarations.{keys_of};
 ghost use Rattle.cm_wit_tables.specs.Tables.{declares_resource, resource_of};
 ghost use Rattle.cm_wit_tables.specs.TypeFaults.{IsResource};
@@ -11,8 +11,9 @@ ghost use Rattle.cm_wit_tables.specs.Leading.{brought_target};
 ghost use Rattle.cm_wit_tables.specs.Resources.{brought_edges};
 
 use crate::{Declaration, Declared};
+use cm_names::Keys;
 use cm_types::ResourceId;
-use cm_wit_graph::{Graph, Keys};
+use cm_wit_graph::Graph;
 use cm_wit_reading::TypeDef;
 use std::alloc::{AllocError, Global};
 

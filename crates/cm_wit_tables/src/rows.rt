@@ -2,7 +2,7 @@
 
 ghost use Rattle.std.specs.Prelude.{◌≡◌, ◌++◌, IfOk, OnOk, length, map, vec_len};
 ghost use Rattle.std.specs.List.{filter_map};
-ghost use Rattle.cm_wit_graph.specs.Listed.{listed};
+ghost use Rattle.cm_names.specs.Listed.{listed};
 ghost use Rattle.cm_wit_graph.specs.Orders.{needs_of};
 ghost use Rattle.cm_wit_tables.specs.Declarations.{keys_of, refers, uses};
 ghost use Rattle.cm_wit_tables.specs.DeclaredViews.{declaration_view};
@@ -11,7 +11,7 @@ ghost use Rattle.cm_wit_tables.specs.Names.{texts};
 
 use crate::names::names_in_def;
 use crate::{Declaration, Declared};
-use cm_wit_graph::Keys;
+use cm_names::Keys;
 use std::alloc::{AllocError, Global};
 
 /// Adds the places to which names of a list lead.

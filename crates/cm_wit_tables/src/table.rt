@@ -2,7 +2,7 @@
 
 ghost use Rattle.std.specs.Prelude.{◌≡◌};
 
-use cm_wit_graph::Keys;
+use cm_names::Keys;
 use cm_wit_meanings::{Meaning, Scope};
 
 /// What the declarations of a world stand for.

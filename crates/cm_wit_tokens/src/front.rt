@@ -8,12 +8,12 @@ ghost use Rattle.cm_wit_tokens.specs.Tokens.{version_front, front_behind, IsWith
 ghost use Rattle.cm_wit_tokens.specs.Tokens.{integer_front, word_front, escaped_front, slash_front};
 ghost use Rattle.cm_wit_tokens.specs.Tokens.{hyphen_front};
 
+use crate::Version;
 use crate::comment::comment_length;
 use crate::keyword::Keyword;
 use crate::operator::Operator;
 use crate::run::Run;
 use crate::token::Form;
-use crate::version::Version;
 use cm_types::{Label, NameFault};
 use std::alloc::{AllocError, Global};
 

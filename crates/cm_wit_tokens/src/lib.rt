@@ -14,10 +14,9 @@ mod lists;
 mod operator;
 mod run;
 mod token;
-mod version;
 mod whole;
 
-pub use cm_types::{Label, MAX_DEPTH};
+pub use cm_types::{Label, MAX_DEPTH, Version};
 pub use cursor::Cursor;
 pub use fault::{ReadError, WitFault, WitReason};
 pub use keyword::Keyword;
@@ -25,5 +24,4 @@ pub use lexed::Lexed;
 pub use lists::{Item, read_items, read_items_and, read_members};
 pub use operator::Operator;
 pub use token::{Form, Token};
-pub use version::Version;
 pub use whole::read_text;

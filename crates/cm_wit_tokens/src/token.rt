@@ -4,9 +4,9 @@ ghost use Rattle.std.specs.Prelude.{◌≡◌};
 ghost use Rattle.cm_wit_tokens.specs.Tokens.{is_at};
 ghost use Rattle.cm_wit_tokens.specs.Forms.{is_operator, is_keyword};
 
+use crate::Version;
 use crate::keyword::Keyword;
 use crate::operator::Operator;
-use crate::version::Version;
 use cm_types::Label;
 
 /// What a token is (WIT.md, "Lexical structure").

@@ -10,7 +10,7 @@ use Rattle.cm_types.specs.ExternNames as name
 use Rattle.cm_wit_reading.specs.Signatures.{Path, local, foreign}
 use Rattle.cm_wit_reading.specs.Trees.{File, FileItem, interface, world, Interface, InterfaceItem}
 use Rattle.cm_wit_reading.specs.Trees.{World, uses, defines, has_func}
-use Rattle.cm_wit_graph.specs.Keys.{Key, first_key}
+use Rattle.cm_names.specs.Keys.{Key, first_key}
 
 -- ---- names
 

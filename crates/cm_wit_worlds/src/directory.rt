@@ -2,7 +2,7 @@
 
 ghost use Rattle.std.specs.Prelude.{◌≡◌, map, slice_index_or};
 ghost use Rattle.std.specs.Option.{option_copied};
-ghost use Rattle.cm_wit_graph.specs.Listed.{listed};
+ghost use Rattle.cm_names.specs.Listed.{listed};
 ghost use Rattle.cm_wit_worlds.specs.Interfaces as spec;
 ghost use Rattle.cm_wit_worlds.specs.Interfaces.{has_label};
 ghost use Rattle.cm_wit_worlds.specs.InterfaceViews.{files_of, placed_interface, placed_world};
@@ -10,7 +10,7 @@ ghost use Rattle.cm_wit_worlds.specs.InterfaceViews.{files_of, placed_interface,
 use crate::keying::{interface_keys, package_keys};
 use crate::placed::{PlacedInterface, PlacedWorld};
 use crate::texts::{label_in, package_name, package_text};
-use cm_wit_graph::Keys;
+use cm_names::Keys;
 use cm_wit_reading::{Path, WitFile};
 use std::alloc::{AllocError, Global};
 

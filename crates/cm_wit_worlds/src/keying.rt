@@ -2,7 +2,7 @@
 
 ghost use Rattle.std.specs.Prelude.{◌≡◌, IfOk, map};
 ghost use Rattle.std.specs.String.{string_bytes};
-ghost use Rattle.cm_wit_graph.specs.Keys.{key_view};
+ghost use Rattle.cm_names.specs.Keys.{key_view};
 ghost use Rattle.cm_wit_worlds.specs.Interfaces.{interface_key, package_name};
 ghost use Rattle.cm_wit_worlds.specs.InterfaceViews.{files_of, placed_interface};
 

@@ -1,6 +1,7 @@
 //! Rows on what may serve an import.
 
-use cm_match_model::{Candidate, Exports};
+use cm_match_model::Candidate;
+use cm_match_serving::Exports;
 use cm_rows::{Line, word, words_from};
 use cm_rows_types::read_name;
 use std::alloc::{AllocError, Global};

@@ -1,9 +1,7 @@
 //! Rows on numbers in LEB128.
 
-use cm_binary_grammar::{
-    LebFault, front_s33, front_u32, read_s33, read_u32, spelled_length, write_count, write_s33,
-    write_u32,
-};
+use cm_leb::formats::{front_s33, front_u32, spelled_length, write_count};
+use cm_leb::{LebFault, read_s33, read_u32, write_s33, write_u32};
 use cm_rows::{Line, word, write_bytes};
 use std::alloc::Global;
 use std::fmt::Display;

@@ -1,6 +1,6 @@
 use Rattle.std.proofs.Common.{◌≡◌, ◌++◌, length, map, take}
 use Rattle.std.specs.List.{flat_map}
-use Rattle.cm_binary_grammar.specs.LebWriting.{shortest_unsigned}
+use Rattle.cm_leb.specs.NumbersWritten.{shortest_unsigned}
 use Rattle.cm_binary.proofs.written.write_vec.Given as goal
 
 abbrev pub invariant-loop-value : goal.invariant-loop-value

@@ -10,5 +10,5 @@ use Rattle.cm_validate_instances.proofs.sketches.func_sketch.Goals as goal
 pub returns : goal.returns
 returns c =
     let by = moved_by c.args.ty.by in
-    sketch_moved by (func_at (funcs_of c.args.arena.now) c.args.ty.place) (func_of c.func-func.result.now) c.moved.result c.moved-2.result c.func-func.ensures
-    (c.moved.ensures ∙ ap (option_map by) c.self_borrow.ensures) (c.moved-2.ensures ∙ ap (option_map by) c.own_result.ensures)
+    sketch_moved by (func_at (funcs_of c.args.arena.now) c.args.ty.place) (func_of c.func-func.result.now) c.moved_option.result c.moved_option-2.result c.func-func.ensures
+    (c.moved_option.ensures ∙ ap (option_map by) c.self_borrow.ensures) (c.moved_option-2.ensures ∙ ap (option_map by) c.own_result.ensures)

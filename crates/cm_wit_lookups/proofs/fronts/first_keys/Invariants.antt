@@ -1,4 +1,4 @@
-use Rattle.cm_wit_graph.specs.Keys.{key_view}
+use Rattle.cm_names.specs.Keys.{key_view}
 use Rattle.cm_wit_lookups.specs.Numbers.{first_of}
 use Rattle.cm_wit_lookups.specs.Views.{front_view}
 use Rattle.cm_wit_lookups.proofs.MapLaws.{Rests}

@@ -1,5 +1,5 @@
-use Rattle.cm_wit_graph.specs.Keys.{key_view}
-use Rattle.cm_wit_graph.specs.Listed.{listed}
+use Rattle.cm_names.specs.Keys.{key_view}
+use Rattle.cm_names.specs.Listed.{listed}
 use Rattle.cm_wit_lookups.specs.Numbers.{version_of}
 use Rattle.cm_wit_lookups.specs.Views.{front_view}
 use Rattle.cm_wit_lookups.proofs.MapLaws.{Rests}

@@ -1,4 +1,4 @@
-use Rattle.cm_wit_graph.specs.Listed.{listed}
+use Rattle.cm_names.specs.Listed.{listed}
 use Rattle.cm_wit_lookups.specs.Places.{found_by}
 use Rattle.cm_wit_lookups.proofs.MapLaws.{Maps}
 use Rattle.cm_wit_lookups.proofs.places.all_found.Given as goal

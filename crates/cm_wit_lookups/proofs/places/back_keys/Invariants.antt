@@ -1,4 +1,4 @@
-use Rattle.cm_wit_graph.specs.Keys.{key_view}
+use Rattle.cm_names.specs.Keys.{key_view}
 use Rattle.cm_wit_lookups.specs.Places.{back_key}
 use Rattle.cm_wit_lookups.proofs.MapLaws.{Rests}
 use Rattle.cm_wit_lookups.proofs.places.back_keys.Given as goal

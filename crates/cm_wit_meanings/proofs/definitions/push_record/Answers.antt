@@ -12,4 +12,4 @@ push-requires c = record { parts = c.in_ok-fields.ensures.there }
 
 pub returns : goal.returns
 returns c =
-    made record_of c.in_ok-fields.ensures (type_added c.add_fields.new.types c.push.new.types _ c.push.result c.push.ensures.there c.push.ensures.ty c.push.ensures.fault c.push.ensures.grown c.push.ensures.funcs)
+    made record_of c.in_ok-fields.ensures (type_added c.push_fields.new.types c.push.new.types _ c.push.result c.push.ensures.there c.push.ensures.ty c.push.ensures.fault c.push.ensures.grown c.push.ensures.funcs)

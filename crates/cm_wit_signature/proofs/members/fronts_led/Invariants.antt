@@ -1,5 +1,5 @@
 use Rattle.std.proofs.Common.{◌≡◌, map, take}
-use Rattle.cm_wit_graph.specs.Listed.{listed}
+use Rattle.cm_names.specs.Listed.{listed}
 use Rattle.cm_wit_signature.specs.Tests as test
 use Rattle.cm_wit_signature.proofs.members.fronts_led.Given as goal
 

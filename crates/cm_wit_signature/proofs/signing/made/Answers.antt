@@ -1,5 +1,5 @@
 use Rattle.std.proofs.Common.{rules, ◌≡◌, ℕ, List, Option, IfOk, IfErr, Some, length, map}
-use Rattle.cm_wit_graph.specs.Listed.{listed}
+use Rattle.cm_names.specs.Listed.{listed}
 use Rattle.cm_types_signatures.specs.Signatures.{signature_of}
 use Rattle.cm_types_arena.specs.Places.{types_of}
 use Rattle.cm_wit_worlds.specs.InterfaceViews.{placed_interface, placed_world}

@@ -1,6 +1,6 @@
 use Rattle.std.proofs.Common.{length, map, sym, subst}
 use Rattle.std.proofs.lemmas.List.{length-map}
-use Rattle.cm_wit_graph.specs.Listed.{listed}
+use Rattle.cm_names.specs.Listed.{listed}
 use Rattle.cm_types_signatures.specs.Signatures.{signature_of}
 use Rattle.cm_types_arena.specs.Places.{types_of}
 use Rattle.cm_wit_tables.specs.DeclaredViews.{declaration_view, instance_view}

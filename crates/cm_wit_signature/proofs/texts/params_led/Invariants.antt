@@ -1,4 +1,4 @@
-use Rattle.cm_wit_graph.specs.Listed.{listed}
+use Rattle.cm_names.specs.Listed.{listed}
 use Rattle.cm_wit_reading.specs.SignatureViews.{typed_tree}
 use Rattle.cm_wit_signature.specs.Tests as test
 use Rattle.cm_wit_signature.proofs.RestLaws.{Rests}

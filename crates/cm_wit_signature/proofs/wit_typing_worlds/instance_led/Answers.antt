@@ -1,6 +1,6 @@
 use Rattle.std.proofs.Common.{◌≤◌, inl, inr, length}
 use Rattle.std.proofs.lemmas.Bool.{cases_lt}
-use Rattle.cm_wit_graph.specs.Listed.{listed}
+use Rattle.cm_names.specs.Listed.{listed}
 use Rattle.cm_wit_worlds.specs.InterfaceViews.{placed_interface}
 use Rattle.cm_wit_signature.proofs.LedLaws.{none_led}
 use Rattle.cm_wit_signature.proofs.wit_typing_worlds.instance_led.Goals as goal

@@ -1,5 +1,5 @@
 use Rattle.std.specs.List.{list_all}
-use Rattle.cm_wit_graph.specs.Listed.{listed}
+use Rattle.cm_names.specs.Listed.{listed}
 use Rattle.cm_wit_reading.specs.Views.{world_item_tree}
 use Rattle.cm_wit_signature.specs.Tests as test
 use Rattle.cm_wit_signature.proofs.RestLaws.{Rests}

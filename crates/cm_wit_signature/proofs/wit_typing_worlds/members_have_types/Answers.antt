@@ -1,6 +1,6 @@
 use Rattle.std.proofs.Common.{Bool, List, map, length, ap, ◌∙◌}
 use Rattle.std.specs.List.{list_all}
-use Rattle.cm_wit_graph.specs.Listed.{listed}
+use Rattle.cm_names.specs.Listed.{listed}
 use Rattle.cm_wit_reading.specs.declared.worlds.WorldItem as code_item
 use Rattle.cm_wit_reading.specs.Views.{world_item_tree}
 use Rattle.cm_wit_worlds.specs.InterfaceViews.{placed_interface, placed_world}

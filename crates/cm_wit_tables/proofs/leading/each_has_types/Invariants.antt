@@ -1,6 +1,6 @@
 use Rattle.std.proofs.Common.{◌≡◌, map, drop}
 use Rattle.std.specs.List.{list_all}
-use Rattle.cm_wit_graph.specs.Listed.{listed}
+use Rattle.cm_names.specs.Listed.{listed}
 use Rattle.cm_wit_tables.specs.DeclaredViews.{declaration_view}
 use Rattle.cm_wit_tables.specs.Leading.{has_types}
 use Rattle.cm_wit_tables.proofs.leading.each_has_types.Given as goal

@@ -1,5 +1,5 @@
 use Rattle.std.proofs.Common.{◌≡◌, ap}
-use Rattle.cm_wit_graph.specs.Listed.{listed}
+use Rattle.cm_names.specs.Listed.{listed}
 use Rattle.cm_wit_reading.specs.Views.{type_def_tree}
 use Rattle.cm_wit_tables.specs.Declarations.{defined}
 use Rattle.cm_wit_tables.specs.DeclaredViews.{declared_view}

@@ -1,5 +1,5 @@
 use Rattle.std.proofs.Common.{map, []}
-use Rattle.cm_wit_graph.specs.Keys.{key_view}
+use Rattle.cm_names.specs.Keys.{key_view}
 use Rattle.cm_wit_tables.specs.DeclaredViews.{instance_view}
 use Rattle.cm_wit_tables.specs.InstanceKeys.{instance_key}
 use Rattle.cm_wit_tables.proofs.ListLaws.{Makes}

@@ -1,4 +1,4 @@
-use Rattle.cm_wit_graph.specs.Listed.{listed}
+use Rattle.cm_names.specs.Listed.{listed}
 use Rattle.cm_wit_tables.specs.DeclaredViews.{declaration_view}
 use Rattle.cm_wit_tables.specs.Resources as spec
 use Rattle.cm_wit_tables.proofs.MapLaws.{Makes}

@@ -1,7 +1,7 @@
 use Rattle.std.proofs.Common.{◌↔◌, ℕ, map}
 use Rattle.std.proofs.lemmas.Result.{IfOk-weaker}
 use Rattle.cm_wit_graph.specs.Graphs.{IsMarked, LeadsToMarked}
-use Rattle.cm_wit_graph.specs.Listed.{listed}
+use Rattle.cm_names.specs.Listed.{listed}
 use Rattle.cm_wit_tables.specs.DeclaredViews.{declaration_view}
 use Rattle.cm_wit_tables.specs.TypeFaults.{IsResource}
 use Rattle.cm_wit_tables.proofs.ResourceLaws.{edges_fit, marks_told}

@@ -1,4 +1,4 @@
-use Rattle.cm_wit_graph.specs.Listed.{listed}
+use Rattle.cm_names.specs.Listed.{listed}
 use Rattle.cm_wit_tables.proofs.RowLaws.{Finds}
 use Rattle.cm_wit_tables.proofs.rows.add_targets.Given as goal
 

@@ -1,5 +1,5 @@
 use Rattle.std.proofs.Common.{map, arith, refl}
-use Rattle.cm_wit_graph.specs.Listed.{listed}
+use Rattle.cm_names.specs.Listed.{listed}
 use Rattle.cm_wit_tables.specs.DeclaredViews.{declaration_view}
 use Rattle.cm_wit_tables.specs.Leading.{uses_by}
 use Rattle.cm_wit_tables.proofs.MapLaws.{makes_all}

@@ -1,5 +1,5 @@
 use Rattle.std.proofs.Common.{map}
-use Rattle.cm_wit_graph.specs.Keys.{key_view}
+use Rattle.cm_names.specs.Keys.{key_view}
 use Rattle.cm_wit_worlds.specs.Interfaces.{interface_key}
 use Rattle.cm_wit_worlds.specs.InterfaceViews.{placed_interface}
 use Rattle.cm_wit_worlds.proofs.KeyingLaws.{Rests}

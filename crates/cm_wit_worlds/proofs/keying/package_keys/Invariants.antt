@@ -1,6 +1,6 @@
 use Rattle.std.proofs.Common.{map}
 use Rattle.std.specs.String.{string_bytes}
-use Rattle.cm_wit_graph.specs.Keys.{key_view}
+use Rattle.cm_names.specs.Keys.{key_view}
 use Rattle.cm_wit_worlds.proofs.KeyingLaws.{Rests}
 use Rattle.cm_wit_worlds.proofs.keying.package_keys.Given as goal
 

@@ -2,8 +2,8 @@ use Rattle.std.proofs.Common.{◌≡◌, ◌∙◌, Some, None, List, ℕ, Optio
 use Rattle.std.specs.Option.{option_map}
 use Rattle.cm_validate_items.specs.Ranges.{resource_def}
 use Rattle.cm_validate_items.specs.declared.ranges.Resource.{Resource}
-use Rattle.cm_match_model.specs.Components.{source_view}
-use Rattle.cm_match_model.specs.Sets.{source_by}
+use Rattle.cm_match_serving.specs.Components.{source_view}
+use Rattle.cm_match_serving.specs.ToldSets.{source_by}
 use Rattle.cm_match_serving.specs.Linkings.{components_in, set_in}
 use Rattle.cm_match_serving.proofs.Found.{got, source_told}
 use Rattle.cm_match_serving.proofs.resources.LinkingComponents.source.Goals as goal

@@ -1,3 +1,5 @@
+use Rattle.cm_names.specs.TextTables.{texts_of}
+use Rattle.cm_names.proofs.NumberLaws.{one_text}
 use Rattle.cm_types_numbers.specs.declared.numbers.Numbers.{Numbers}
 use Rattle.cm_types_numbers.specs.Numbering.{numbering}
 use Rattle.cm_types_numbers.proofs.Tells.{IsDistinct, tells_types, tells_funcs, agrees, agree_funcs}
@@ -5,7 +7,7 @@ use Rattle.cm_types_numbers.proofs.numbers.Numbers.tell_apart.Goals as goal
 
 -- each number of a table of the code is that of one label, and of one node
 distinct : (s : Numbers) → IsDistinct (numbering s)
-distinct s = record { labels = s.texts.one_to_one.distinct; nodes = s.nodes.one_to_one.distinct }
+distinct s = record { labels = one_text (texts_of s.texts.texts); nodes = s.nodes.one_to_one.distinct }
 
 pub returns-clause-types : goal.returns-clause-types
 returns-clause-types c = tells_types (numbering c.args.self.now) (distinct c.args.self.now)

@@ -1,6 +1,6 @@
 use Rattle.std.specs.String.{string_bytes}
 use Rattle.std.proofs.lemmas.Result.{on_err_weaker, on_ok_weaker}
-use Rattle.cm_types_texts.specs.TextTables.{texts_of}
+use Rattle.cm_names.specs.TextTables.{texts_of}
 use Rattle.cm_validate_names.proofs.NameLaws.{none_more, one_more}
 use Rattle.cm_validate_names.proofs.name_set.NameSet.add.Goals as goal
 

@@ -1,7 +1,7 @@
 use Rattle.std.proofs.Common.{not, ap, sym, ◌∙◌}
 use Rattle.std.specs.List.{list_any}
 use Rattle.std.specs.Str.{bytes_eq}
-use Rattle.cm_types_texts.specs.TextTables.{texts_of}
+use Rattle.cm_names.specs.TextTables.{texts_of}
 use Rattle.cm_validate_model.specs.declared.fault.ValidReason.TheVariants as reason
 use Rattle.cm_validate_model.specs.Reasons.{least, lesser, unless}
 use Rattle.cm_validate_names.specs.Forms.{form_broken}

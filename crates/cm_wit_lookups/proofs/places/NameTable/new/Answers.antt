@@ -1,5 +1,5 @@
 use Rattle.std.proofs.Common.{◌≡◌, ◌∙◌, ℕ, List, Option, ap, map, subst}
-use Rattle.cm_wit_graph.specs.Listed.{listed}
+use Rattle.cm_names.specs.Listed.{listed}
 use Rattle.cm_wit_lookups.specs.Numbers.{HasFronts, front_number}
 use Rattle.cm_wit_lookups.specs.Places.{back_key}
 use Rattle.cm_wit_lookups.specs.Tables.{numbers_in}

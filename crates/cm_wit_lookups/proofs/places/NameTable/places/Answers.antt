@@ -1,6 +1,6 @@
 use Rattle.std.proofs.Common.{◌≡◌, ◌∙◌, ℕ, List, Option, Ok, Err, IfOk, ap, map, refl}
 use Rattle.std.specs.declared.result.Result.{Result}
-use Rattle.cm_wit_graph.specs.Listed.{listed}
+use Rattle.cm_names.specs.Listed.{listed}
 use Rattle.cm_wit_lookups.specs.Numbers.{front_number}
 use Rattle.cm_wit_lookups.specs.Places.{found_by, place_in}
 use Rattle.cm_wit_lookups.specs.Tables.{numbers_in}

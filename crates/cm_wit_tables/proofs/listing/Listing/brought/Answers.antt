@@ -1,6 +1,6 @@
 use Rattle.std.proofs.Common.{ap, ◌∙◌, sym}
 use Rattle.std.specs.Option.{option_map}
-use Rattle.cm_wit_graph.specs.Keys.{key_view}
+use Rattle.cm_names.specs.Keys.{key_view}
 use Rattle.cm_wit_meanings.specs.Places.{table_in}
 use Rattle.cm_wit_tables.specs.Declarations.{brought}
 use Rattle.cm_wit_tables.specs.Tables.{declared_meaning}

@@ -1,4 +1,4 @@
-use Rattle.cm_wit_graph.specs.Listed.{listed}
+use Rattle.cm_names.specs.Listed.{listed}
 use Rattle.cm_wit_tables.specs.Placings.{instances_in}
 use Rattle.cm_wit_tables.proofs.PlaceLaws.{place_found}
 use Rattle.cm_wit_tables.proofs.placing.Placing.place_of.Goals as goal

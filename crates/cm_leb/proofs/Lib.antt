@@ -1,0 +1,5 @@
+pub mod Powers
+pub mod GroupLaws
+pub mod UnsignedLaws
+pub mod SignedLaws
+pub mod ShortestLaws

@@ -1,0 +1,4 @@
+pub mod FindingLaws
+pub mod TextLaws
+mod KeyLaws
+pub mod NumberLaws

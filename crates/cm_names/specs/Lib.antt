@@ -1,0 +1,10 @@
+pub mod Finding
+pub mod Hash
+pub mod Places
+pub mod MarkedTexts
+pub mod TextTables
+pub mod Keys
+pub mod KeyTables
+pub mod Listed
+pub mod Distinct
+pub mod TextNumbers

@@ -1,2 +1,0 @@
-pub mod FindingLaws
-pub mod TableLaws
