@@ -8,6 +8,7 @@ ghost use Rattle.cm_machine_told.specs.Closing.{NamesFaults, TrapHasItsCauseAndC
 ghost use Rattle.cm_machine_told.specs.Closing.{TrapsAtACause};
 ghost use Rattle.cm_machine_told.specs.Entries.{PostReturnGetsTheFlatResult, ReceivesWhatWasSent};
 ghost use Rattle.cm_machine_told.specs.Entries.{ResumesWithWhatWasReturned};
+ghost use Rattle.cm_machine_told.specs.FreeIndices.{NextIndexIsTheLastFreed};
 ghost use Rattle.cm_machine_told.specs.Going.{ActsAsTold, BeginsByCall, BeginsWhereNothingGoesOn};
 ghost use Rattle.cm_machine_told.specs.Going.{ClosesByTraps, EndsWhereNothingGoesOn};
 ghost use Rattle.cm_machine_told.specs.Going.{NoneClosedActs};
@@ -68,6 +69,9 @@ pub fn headline()
     ensures memory { Always MemoryChangesByMovesAndValues }
     // Handles come, go and come back by the moves that say so, and by no others.
     ensures handles { Always HandlesChangeByTheirMoves }
+    // A new handle gets the index that was freed last of those that are free still, else the least
+    // from 1 on that was never used.
+    ensures next_index { Always NextIndexIsTheLastFreed }
     // Each resource has exactly one place.
     ensures one_place { Always EachResourceHasOnePlace }
     // What was dropped or lost stays so, and no serial number is issued twice.

@@ -143,7 +143,7 @@ given adds ts us to leaves lt sound room ends = record {
 
 -- ---- what goes on where a root or a destructor ends
 
-rooted : (plan : Plan) (top : Frame) (fs : List Frame) (ds : List Doing) → top.purpose ≡ purpose.Root
+pub rooted : (plan : Plan) (top : Frame) (fs : List Frame) (ds : List Doing) → top.purpose ≡ purpose.Root
     → AllMatch plan (top ∷ fs) ds → (j : ℕ) × (rest : List Doing) × (ds ≡ root j ∷ rest)
 rooted plan top fs [] pu m = absurd m
 rooted plan top fs (d ∷ rest) pu m =
@@ -153,7 +153,7 @@ rooted plan top fs (d ∷ rest) pu m =
       by (root j) x = (j, rest, refl)
       by d x = absurd x
 
-destroying : (plan : Plan) (top : Frame) (fs : List Frame) (ds : List Doing) (dropper : ℕ)
+pub destroying : (plan : Plan) (top : Frame) (fs : List Frame) (ds : List Doing) (dropper : ℕ)
     → top.purpose ≡ purpose.Destructor dropper → AllMatch plan (top ∷ fs) ds
     → (who : ℕ) × (j : ℕ) × (rest : List Doing) × (ds ≡ destroys who j ∷ rest)
 destroying plan top fs [] dropper pu m = absurd m

@@ -16,6 +16,9 @@ mod Calls
 mod Found
 mod HandleCases
 mod HandlesAlong
+mod FreeTables
+mod FreeCases
+mod FreeAlong
 mod OnTheWay
 mod Borrowing
 mod Gone

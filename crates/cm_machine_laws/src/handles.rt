@@ -2,6 +2,7 @@
 //! law.
 
 ghost use Rattle.cm_machine_told.specs.Always.{Always};
+ghost use Rattle.cm_machine_told.specs.FreeIndices.{NextIndexIsTheLastFreed};
 ghost use Rattle.cm_machine_told.specs.HandleChanges.{HandlesChangeByTheirMoves};
 
 use crate::values::values_are_followed;
@@ -18,8 +19,12 @@ use cm_machine_valid::laws::{histories_are_valid, one_value_is_carried};
 /// serial number never issued before, or drops one that is lent to nobody, or tells one's
 /// representation. Nobody's handles else come or go, a begin's and the end of a call's included;
 /// how often a handle is lent is another law's.
+///
+/// The next index is the one that was freed last of those that are free still, else the least from
+/// 1 on that was never used.
 pub fn handles_change_as_told()
-    ensures { Always HandlesChangeByTheirMoves }
+    ensures changes { Always HandlesChangeByTheirMoves }
+    ensures next_index { Always NextIndexIsTheLastFreed }
 {
     what_is_handed_over_is_counted();
     what_is_met_stands();

@@ -9,6 +9,7 @@ pub mod Entries
 pub mod Asks
 pub mod MemoryChanges
 pub mod HandleChanges
+pub mod FreeIndices
 pub mod Placed
 pub mod Lent
 pub mod Bounds

@@ -1,8 +1,8 @@
 //! Which sets of components link, and what a resource is in the end.
 //!
-//! They cover every form: the plan of a set, why a set cannot be linked, which exports fit an
-//! import by name and version, and which imports are served alike. The code that finds what fits
-//! an import, and what a resource is, stands in `cm_match_serving`.
+//! Definitions and laws cover every form: the plan of a set, why a set cannot be linked, which
+//! exports fit an import by name and version, and which imports are served alike. The code is in
+//! `cm_match_serving`.
 #![tactic(auto)]
 
 pub mod alike_laws;

@@ -1,21 +1,16 @@
 -- What fits, as names are read.
-use Rattle.std.proofs.Common.{◌≡◌, ◌∙◌, ℕ, Bool, true, false, List, [], ◌∷◌, length, Option, Some, None, Result, Ok, Err, refl, sym, ap, subst, arith, inl, inr, filter}
+use Rattle.std.proofs.Common.{◌≡◌, ◌∙◌, ℕ, Bool, true, false, List, [], ◌∷◌, Option, Some, None, Result, Ok, refl, sym, ap, subst, inl, inr, filter}
 use Rattle.std.proofs.lemmas.Bool.{cases_Bool}
-use Rattle.std.proofs.lemmas.Cmp.{tied_itself}
-use Rattle.std.proofs.lemmas.Grind.{common_steps}
 use Rattle.std.proofs.lemmas.Slice.Eq.{bytes_eq-Decides}
 use Rattle.std.specs.List.{AllByRecursion}
 use Rattle.std.specs.Option.{option_map_or}
-use Rattle.std.specs.Ordering.{is_lt}
-use Rattle.std.specs.Prelude.{IsTrue, is_ok, not, ◌&&◌, ◌||◌, ◌==◌}
+use Rattle.std.specs.Prelude.{not, ◌&&◌, ◌||◌}
 use Rattle.std.specs.Result.{result_ok}
 use Rattle.std.specs.Str.{bytes_eq}
-use Rattle.semver.specs.Order.{pre_cmp}
-use Rattle.semver.specs.OrderLaws.{pre_total}
 use Rattle.semver.specs.Parse.{Parts, version_parts}
 use Rattle.semver.specs.declared.error.Error.{Error}
-use Rattle.cm_types.specs.ExternNames.{HasLabels, NameTree, constructor, form_of, interface, is_version, method, name_spelling, plain, static}
-use Rattle.cm_match_model.specs.Fitting.{NamedExport, candidates, fits, is_compatible, is_compatible_name, only}
+use Rattle.cm_types.specs.ExternNames.{HasLabels, NameTree, constructor, form_of, interface, method, name_spelling, plain, static}
+use Rattle.cm_match_model.specs.Fitting.{NamedExport, candidates, fits, is_compatible_name, only}
 use Rattle.cm_match_model.specs.Fitting.{and_also}
 use Rattle.cm_match_serving.specs.Readings.{HasForm, fits_read, is_in_row, is_prerelease, name_read, prereleases_row, releases_row, tree_read, unversioned_row}
 use Rattle.cm_match_model.specs.Fitting.{allows}

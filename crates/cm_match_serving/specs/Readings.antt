@@ -1,5 +1,5 @@
 -- What a name is read as to find what fits it, and the series that an export belongs to.
-use Rattle.std.specs.Prelude.{◌≡◌, ℕ, Bool, true, false, ◌&&◌, ◌==◌, List, [], ◌∷◌}
+use Rattle.std.specs.Prelude.{◌≡◌, ℕ, Bool, true, false, ◌&&◌, ◌==◌, List, []}
 use Rattle.std.specs.Prelude.{Option, Some, None}
 use Rattle.std.specs.Prelude.{filter, if◌then◌else◌, length, nat_lt, not}
 use Rattle.std.specs.Option.{option_map, option_map_or}

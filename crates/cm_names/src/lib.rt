@@ -1,8 +1,8 @@
-//! Tables of texts: each text by its number, and the first of several that are one name.
+//! Tables of names and other texts, in which no choice of names makes a look-up slow.
 //!
-//! A `TextTable` numbers texts from 0 on; a text is found by its hash, with a tree for those that
-//! many others stand in the way of. `TextNumbers` is such a table in which each text stands once.
-//! `Keys` finds the first of keys, each a number and a name, in trees.
+//! A `TextTable` numbers texts from 0 on: it is a hash table with 16 probes, and a tree behind it
+//! for the texts that find no place. In a `TextNumbers` equal texts have one number. `Keys` finds
+//! the first of keys, each a number and a name, in trees.
 #![tactic(auto)]
 
 mod finding;
