@@ -1,5 +1,6 @@
 -- Lowering the values of a call (CanonicalABI.md, "Lifting and Lowering Values").
-use Rattle.std.specs.Prelude.{◌≡◌, ℕ, ◌<◌, ◌≤◌, ◌⊎◌, true, List, None}
+use Rattle.std.specs.Prelude.{◌≡◌, ℕ, ◌<◌, ◌≤◌, ◌⊎◌, true, List, None, length}
+use Rattle.cm_types.specs.declared.core_value.CoreValue.{CoreValue}
 use Rattle.cm_types.specs.Spellable.{are_spellable}
 use Rattle.cm_types.specs.Types.{Fields}
 use Rattle.cm_types.specs.Values.{HasType, Val, parts}
@@ -12,15 +13,16 @@ use Rattle.cm_abi_model.specs.declared.fault.AbiFault.{AbiFault}
 use Rattle.cm_abi_model.specs.declared.fault.AbiFault.TheVariants as fault
 use Rattle.cm_abi_model.specs.declared.request.Request.{Request}
 use Rattle.cm_abi_model.specs.Parts.{Part, parts_in}
-use Rattle.cm_abi_model.specs.Receives.{HandleLeaf, call_kinds, leaves_in}
+use Rattle.cm_abi_model.specs.Receives.{HandleLeaf, NoneImplemented, Passes, Receives, call_bytes}
+use Rattle.cm_abi_model.specs.Receives.{call_kinds, leaves_in}
 use Rattle.cm_abi_model.specs.Requests.{CanStore, requests, stored_charset, tuple_of}
-use Rattle.cm_abi_model.specs.Stores.{Given}
+use Rattle.cm_abi_model.specs.Stores.{Framed, Given}
 use Rattle.cm_abi_model.specs.Taken.{MAX_CONTENT}
 use Rattle.cm_abi_model.specs.Views.{View}
 use Rattle.cm_abi_model.specs.Ways.{way_of}
 use Rattle.cm_abi_model.specs.Answering.{HaveScalars, IsFaultOfAnswers, IsGood, places_of}
 use Rattle.cm_abi_requests.specs.Asking.{content_of_parts}
-use Rattle.cm_abi_model.specs.Giving.{IsViewOf, added_count, numbers_given}
+use Rattle.cm_abi_model.specs.Giving.{Gives, IsViewOf, added_count, numbers_given}
 use Rattle.cm_abi_model.specs.declared.receiver.Receiver.{Receiver}
 use Rattle.cm_abi.specs.declared.passing.Passing.{Passing}
 
@@ -72,6 +74,28 @@ pub record IsReceiving (w : View) (p : Passing) (to : Receiver) (memory : List �
   pub receiver : IsViewOf w to table
   pub memory_is : w.memory ≡ memory
   pub stored_alike : stored_charset w.encoding ≡ stored_charset p.encodings.target
+
+-- Values of these types were lowered for a receiver, by the answers to what they asked for: its
+-- memory and its table became these, and these core values pass them.
+pub record IsLowered (p : Passing) (types : Fields) (to : Receiver) (answers old_memory : List ℕ)
+    (old_table : Handles) (new_memory : List ℕ) (new_table : Handles) (slots : List CoreValue)
+    : Type 0 where
+  -- the receiver has the values: each part at its answer, each handle by its number
+  pub received : (w : View) → IsReceiving w p to new_memory new_table
+      → Receives w (way_of p.way) types slots (given_for p types to old_table answers)
+      (tuple_in p)
+  -- the core values denote them in its view, where it implements the resource of none of them
+  pub denoted : (w : View) → IsReceiving w p to new_memory new_table
+      → w.encoding ≡ p.encodings.target → NoneImplemented w (handles_passed p types)
+      → Passes w (way_of p.way) types slots (tuple_in p)
+  -- the bytes of the values were written, each at its address, and no other byte
+  pub framed : Framed old_memory new_memory
+      (call_bytes (given_for p types to old_table answers) (way_of p.way) types (tuple_in p))
+  -- exactly their handles were added to the table, under the numbers that stand for them
+  pub handles : Gives to old_table new_table (handles_passed p types)
+      (numbers_given to old_table (handles_passed p types))
+  -- the answers will do
+  pub answers_are_good : IsGood (length old_memory) (asked_for p types) answers
 
 -- Why values are not lowered: what is wrong with the answers; where they will do, that the table
 -- has fewer indices left than it is to get handles; or that there is no memory.

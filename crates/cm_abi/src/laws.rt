@@ -71,15 +71,10 @@ pub fn one_call()
 /// Where `scan` found values of types that a file can spell, which may be stored where they go,
 /// they go on as they stood: what `copy` asks of its caller besides the answers holds, whichever of
 /// the requests are answered; and the requests are those of the values, with the tags of their
-/// strings.
+/// strings. As many handles were taken out of the caller's table or lent there as the values have.
 /// Where `copy` then leaves core values that denote the values in the receiver's view, both sides
-/// denote them, and no other: what the giver's core values denoted when they were scanned is what
-/// the receiver's denote.
-///
-/// The handles that `scan` took out of the giver's table are, in reading order, those of the values
-/// that are to be owned, which `copy` adds to the receiver's; and those that it lent are those that
-/// are to be borrowed. A record is kept of each string and each list, one of a tuple behind a
-/// pointer, and each handle: no more.
+/// denote them, and no other: what the core values denoted when they were scanned is what those of
+/// the receiver denote.
 pub fn one_copied_call()
     ensures copied { (giver : View) (target : StringEncoding) (way : Way) (types : Fields)
         (slots : List CoreValue) (v : Val) (t : Handles) (s : Scanned)
@@ -95,6 +90,24 @@ pub fn one_copied_call()
         → ScansCall giver target way types given v t s
         → Denotes receiver way types received v → (u : Val)
         → Denotes giver way types given u ↔ Denotes receiver way types received u }
+    ensures shared { (giver : View) (target : StringEncoding) (way : Way) (types : Fields)
+        (given : List CoreValue) (v : Val) (t : Handles) (s : Scanned)
+        → AreBytes giver.memory → ScansCall giver target way types given v t s
+        → length s.owns + length s.lends ≡ handle_count v }
+{
+    denotations_are_unique();
+    records_ask_for_parts();
+    handles_that_are_met_are_the_values();
+    what_is_met_stands();
+    what_is_denoted_can_be_lowered();
+}
+
+/// What is kept of a call whose values are copied. The handles that `scan` took out of the table of
+/// the instance that passes them are, in reading order, those of the values that are to be owned,
+/// which `copy` adds to the receiver's; and those that it lent are those that are to be borrowed. A
+/// record is kept of each string and each list, one of a tuple behind a pointer, and each handle:
+/// no more.
+pub fn what_a_scan_keeps()
     ensures owned { (giver : View) (target : StringEncoding) (way : Way) (types : Fields)
         (given : List CoreValue) (v : Val) (t : Handles) (s : Scanned)
         → ScansCall giver target way types given v t s
@@ -108,13 +121,7 @@ pub fn one_copied_call()
         (given : List CoreValue) (v : Val) (t : Handles) (s : Scanned)
         → AreBytes giver.memory → ScansCall giver target way types given v t s
         → things_kept s ≡ parts_of way types v }
-    ensures shared { (giver : View) (target : StringEncoding) (way : Way) (types : Fields)
-        (given : List CoreValue) (v : Val) (t : Handles) (s : Scanned)
-        → AreBytes giver.memory → ScansCall giver target way types given v t s
-        → length s.owns + length s.lends ≡ handle_count v }
 {
-    denotations_are_unique();
-    records_ask_for_parts();
     handles_that_are_met_are_the_values();
     what_is_met_stands();
     what_is_denoted_can_be_lowered();

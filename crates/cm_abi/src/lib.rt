@@ -29,9 +29,9 @@
 //!    copies the values from the giver's memory into the receiver's, and into the core values that
 //!    pass them.
 //!
-//! The law `laws::one_copied_call` says that of these three calls. The laws `fitting_laws` say what
-//! fits a memory: records of strings and lists tell what it reads, and a value that can be stored
-//! has room in it.
+//! The laws `laws::one_copied_call` and `laws::what_a_scan_keeps` say that of these three calls.
+//! The laws `fitting_laws` say what fits a memory: records of strings and lists tell what it reads,
+//! and a value that can be stored has room in it.
 #![tactic(auto)]
 
 mod cases;

@@ -1,16 +1,9 @@
 //! The values of a call, lowered for its receiver.
 
-ghost use Rattle.std.specs.Prelude.{◌≡◌, ◌^◌, ◌<◌, ◌≤◌, [], IfErr, IfOk, OnErr, OnOk};
-ghost use Rattle.std.specs.Prelude.{length, replicate, vec_capacity};
+ghost use Rattle.std.specs.Prelude.{◌≡◌, ◌^◌, ◌<◌, ◌≤◌, [], IfErr, IfOk, OnErr, length};
+ghost use Rattle.std.specs.Prelude.{replicate, vec_capacity};
 ghost use Rattle.cm_types.specs.Types.{Fields};
-ghost use Rattle.cm_abi_model.specs.Receives.{NoneImplemented, Passes, Receives, call_bytes};
-ghost use Rattle.cm_abi_model.specs.Stores.{Framed};
-ghost use Rattle.cm_abi_model.specs.Views.{View};
-ghost use Rattle.cm_abi_model.specs.Ways.{way_of};
-ghost use Rattle.cm_abi_model.specs.Giving.{Gives, numbers_given};
-ghost use Rattle.cm_abi.specs.Lowers.{CanBeLowered, IsFaultOfLowering, IsReceiving};
-ghost use Rattle.cm_abi_model.specs.Answering.{IsGood};
-ghost use Rattle.cm_abi.specs.Lowers.{asked_for, given_for, handles_passed, tuple_in};
+ghost use Rattle.cm_abi.specs.Lowers.{CanBeLowered, IsFaultOfLowering, IsLowered, asked_for};
 
 use crate::cases::cases_fit;
 use crate::passing::Passing;
@@ -80,26 +73,9 @@ pub fn lower(
     requires answered { (types : Fields) → CanBeLowered passing.now types
         → length answers.now ≡ length (asked_for passing.now types) }
     requires few { length memory.old < 2 ^ 32 }
-    ensures received { (types : Fields) (w : View) → CanBeLowered passing.now types
-        → IsReceiving w passing.now to memory.new table.new.handles
-        → IfOk result (λ slots. Receives w (way_of passing.now.way) types slots.items
-        (given_for passing.now types to table.old.handles answers.now) (tuple_in passing.now)) }
-    ensures denoted { (types : Fields) (w : View) → CanBeLowered passing.now types
-        → IsReceiving w passing.now to memory.new table.new.handles
-        → w.encoding ≡ passing.now.encodings.target
-        → NoneImplemented w (handles_passed passing.now types)
-        → IfOk result (λ slots. Passes w (way_of passing.now.way) types slots.items
-        (tuple_in passing.now)) }
-    ensures framed { (types : Fields) → CanBeLowered passing.now types
-        → OnOk result (Framed memory.old memory.new
-        (call_bytes (given_for passing.now types to table.old.handles answers.now)
-        (way_of passing.now.way) types (tuple_in passing.now))) }
-    ensures handles { (types : Fields) → CanBeLowered passing.now types
-        → OnOk result (Gives to table.old.handles table.new.handles
-        (handles_passed passing.now types)
-        (numbers_given to table.old.handles (handles_passed passing.now types))) }
-    ensures answers { (types : Fields) → CanBeLowered passing.now types
-        → OnOk result (IsGood (length memory.old) (asked_for passing.now types) answers.now) }
+    ensures lowered { (types : Fields) → CanBeLowered passing.now types
+        → IfOk result (λ slots. IsLowered passing.now types to answers.now memory.old
+        table.old.handles memory.new table.new.handles slots.items) }
     ensures err { (types : Fields) → CanBeLowered passing.now types
         → IfErr result (IsFaultOfLowering (length memory.old) passing.now types to
         table.old.handles answers.now) }

@@ -1,6 +1,6 @@
 //! Numbers that stand for leaves, from those in memory to those that are stored.
 
-ghost use Rattle.std.specs.Prelude.{◌≡◌, ◌*◌, ◌-◌, ◌%◌, ◌^◌, ◌<◌, ◌≤◌, nat_lt, neg_ℤ};
+ghost use Rattle.std.specs.Prelude.{◌≡◌, ◌*◌, ◌-◌, ◌^◌, ◌<◌, ◌≤◌, nat_lt, neg_ℤ};
 ghost use Rattle.std.specs.Prelude.{if◌then◌else◌, pos};
 ghost use Rattle.cm_abi_model.specs.Numbers.{as_signed};
 ghost use Rattle.cm_abi_model.specs.Stores.{from_signed};
@@ -8,6 +8,7 @@ ghost use Rattle.cm_abi_copy.specs.Shown.{leaf_shown};
 ghost use Rattle.cm_abi_load.specs.Sized.{IsNumberSize, IsSizedLeaf, core_size};
 ghost use Rattle.cm_abi_store.specs.Storing.{number_in};
 
+use cm_abi_load::labels_set;
 use cm_layout::Leaf;
 
 /// A number in two's complement of fewer bits in that of 64, where the least number with a sign is
@@ -37,18 +38,6 @@ fn signed_number(bytes: u32, number: u64) -> u64
         2 => extended(number, 0x8000),
         4 => extended(number, 0x8000_0000),
         _ => extended(number, 0x8000_0000_0000_0000),
-    }
-}
-
-/// The labels that are set in a number, of so many labels.
-#[tactic(auto, using(crate::proofs::LeafLemmas::flags))]
-fn labels_set(labels: usize, number: u32) -> u32
-    ensures { result ≡ number % 2 ^ labels }
-{
-    if labels >= 32 {
-        number
-    } else {
-        number % (1 << labels)
     }
 }
 

@@ -2,25 +2,14 @@
 
 ghost use Rattle.std.specs.Prelude.{◌≡◌, ◌∷◌, [], IsOk, OnOk};
 ghost use Rattle.cm_abi_load.specs.Meeting.{AreAsWanted, IsAsWanted};
-ghost use Rattle.cm_abi_load.specs.Reading.{resource_of};
 ghost use Rattle.cm_abi_model.specs.HandleLeaves.{leaf_of, leaves_of};
 ghost use Rattle.cm_abi_copy.specs.MetLeaves.{leaves_found};
 
-use cm_abi_load::MetHandle;
+use cm_abi_load::{MetHandle, resource_of};
 use cm_abi_model::{HandleLeaf, HandleValue};
 use cm_handles::Table;
 use cm_layout::HandleType;
-use cm_types::ResourceId;
 use std::alloc::AllocError;
-
-/// The resource of a handle.
-fn resource_of(wanted: HandleType) -> ResourceId
-    ensures { result ≡ resource_of wanted }
-{
-    match wanted {
-        HandleType::Own(resource) | HandleType::Borrow(resource) => resource,
-    }
-}
 
 /// A handle that was met, as the type of the value has it.
 fn leaf_met(table: &Table, met: MetHandle) -> HandleLeaf

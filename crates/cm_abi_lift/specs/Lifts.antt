@@ -4,7 +4,8 @@ use Rattle.cm_types.specs.declared.core_value.CoreValue.{CoreValue}
 use Rattle.cm_types.specs.Types.{Fields}
 use Rattle.cm_types.specs.Values.{Val}
 use Rattle.cm_handles.specs.Handles.{Handles, handle_at}
-use Rattle.cm_layout.specs.Shapes.{LayoutTy}
+use Rattle.cm_layout.specs.Layouts.{layout_of}
+use Rattle.cm_layout.specs.Shapes.{LayoutTy, layout_of_fields_at}
 use Rattle.cm_abi_model.specs.declared.encoding.StringEncoding.{StringEncoding}
 use Rattle.cm_abi_model.specs.declared.fault.AbiFault.{AbiFault}
 use Rattle.cm_abi_model.specs.Denotes.{Denotes}
@@ -16,6 +17,11 @@ use Rattle.cm_abi_lift.specs.FlatReading.{read_passed}
 use Rattle.cm_abi_model.specs.Lifts.{Hands}
 use Rattle.cm_abi_lift.specs.HandingOver.{lifted}
 use Rattle.cm_abi_lift.specs.declared.lifted.Lifted.{Lifted}
+use Rattle.cm_abi_lift.specs.declared.passed.Passed.{Passed}
+
+-- what is passed is a tuple of values of these types: its layout is theirs
+abbrev pub IsTupleOf : Fields → Passed → Type 0
+IsTupleOf types passed = layout_of passed.layout.now ≡ layout_of_fields_at types
 
 -- a reader that has met nothing
 abbrev pub fresh : State

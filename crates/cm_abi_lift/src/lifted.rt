@@ -5,7 +5,6 @@ ghost use Rattle.std.specs.Prelude.{length};
 ghost use Rattle.cm_types.specs.Types.{Fields};
 ghost use Rattle.cm_types.specs.Values.{Val, Vals, parts};
 ghost use Rattle.cm_layout.specs.Layouts.{layout_of};
-ghost use Rattle.cm_layout.specs.Shapes.{layout_of_fields_at};
 ghost use Rattle.cm_types.specs.ValueTrees.{value_of, values_of};
 ghost use Rattle.cm_handles.specs.Handles.{IsSoundHandles};
 ghost use Rattle.cm_abi_model.specs.Denotes.{Denotes};
@@ -17,7 +16,7 @@ ghost use Rattle.cm_abi_load.specs.Outcomes.{State};
 ghost use Rattle.cm_abi_model.specs.Lifts.{LendsBelow};
 ghost use Rattle.cm_abi_lift.specs.HandingOver.{hand_over, handed, untouched};
 ghost use Rattle.cm_abi_model.specs.Lifts.{IsGivenBy, Lifts};
-ghost use Rattle.cm_abi_lift.specs.Lifts.{handed_with, lift_of};
+ghost use Rattle.cm_abi_lift.specs.Lifts.{IsTupleOf, handed_with, lift_of};
 
 use crate::handing::{Handed, hand_over, is_sound};
 use crate::laws::{first_faults_are_told, lifting_is_exact};
@@ -54,8 +53,8 @@ fn fields_of(tuple: Value) -> Vec<Value>
 }
 
 /// The values that core values denote, by the layout of the tuple of their types, in the view of an
-/// instance: its memory, its handle table and how its strings are encoded (CanonicalABI.md,
-/// "Lifting and Lowering Values").
+/// instance: its memory, its handle table and how its strings are encoded; the standard's
+/// `lift_flat_values` (CanonicalABI.md, "Lifting and Lowering Values").
 ///
 /// It succeeds exactly where the core values denote values that can be handed over: no handle is
 /// owned twice, none that is to be owned is lent or borrowed as well, and strings and lists hold at
@@ -76,23 +75,19 @@ pub fn lift(
     encoding: StringEncoding,
     passed: &Passed<'_>,
 ) -> Result<Lifted, AbiFault>
-    requires layout { (types : Fields)
-        × (layout_of passed.now.layout.now ≡ layout_of_fields_at types) }
+    requires layout { (types : Fields) × IsTupleOf types passed.now }
     requires lends { LendsBelow (2 ^ 100) table.old.handles }
     ensures lifts { (w : View) (types : Fields)
-        → IsGivenBy w memory.now table.old.handles encoding
-        → layout_of passed.now.layout.now ≡ layout_of_fields_at types
+        → IsGivenBy w memory.now table.old.handles encoding → IsTupleOf types passed.now
         → IfOk result (λ l. Lifts w (way_of passed.now.way) types passed.now.slots.now
         (parts (values_of l.values.items)) l.tagged.items
         (handed_with table.new.handles l)) }
     ensures stops { (w : View) (types : Fields)
-        → IsGivenBy w memory.now table.old.handles encoding
-        → layout_of passed.now.layout.now ≡ layout_of_fields_at types
+        → IsGivenBy w memory.now table.old.handles encoding → IsTupleOf types passed.now
         → IfErr result (λ e. (e ≡ AbiFault.EngineMemory)
         ⊎ LiftStops w (way_of passed.now.way) types passed.now.slots.now e) }
     ensures only { (w : View) (types : Fields) (v : Val)
-        → IsGivenBy w memory.now table.old.handles encoding
-        → layout_of passed.now.layout.now ≡ layout_of_fields_at types
+        → IsGivenBy w memory.now table.old.handles encoding → IsTupleOf types passed.now
         → Denotes w (way_of passed.now.way) types passed.now.slots.now v
         → Transferable w (way_of passed.now.way) types passed.now.slots.now v
         → IsOkUnless result AbiFault.EngineMemory }
@@ -114,8 +109,7 @@ fn lift_values(
     encoding: StringEncoding,
     passed: &Passed<'_>,
 ) -> Result<Lifted, AbiFault>
-    requires layout { (types : Fields)
-        × (layout_of passed.now.layout.now ≡ layout_of_fields_at types) }
+    requires layout { (types : Fields) × IsTupleOf types passed.now }
     requires lends { LendsBelow (2 ^ 100) table.old.handles }
     ensures ok { IfOk result (λ l.
         lift_of memory.now table.old.handles encoding (way_of passed.now.way)

@@ -1,14 +1,14 @@
 //! Records of the parts of values, of which nothing else is made.
 
 ghost use Rattle.std.specs.Prelude.{◌≡◌, ◌++◌, ⊤};
-ghost use Rattle.cm_abi_model.specs.Texts.{text_align, units_of};
+ghost use Rattle.cm_abi_model.specs.Texts.{units_of};
 ghost use Rattle.cm_abi_lift.specs.Records.{is_tagged};
 ghost use Rattle.std.proofs.Common.{rules};
 ghost use Rattle.std.proofs.lemmas.Grind.{common_steps};
 
 use cm_abi_load::laws::handles_stay_met;
 use cm_abi_load::{Giver, Maker, Progress, Stop, measure_text};
-use cm_abi_model::{PartKind, PartRecord, StringEncoding, UTF16_TAG};
+use cm_abi_model::{PartKind, PartRecord, StringEncoding, UTF16_TAG, text_align};
 use cm_types::Value;
 use std::alloc::Global;
 
@@ -37,16 +37,6 @@ fn text_units(encoding: StringEncoding, tagged: u32) -> u32
         StringEncoding::Utf8 | StringEncoding::Utf16 => tagged,
         StringEncoding::Latin1OrUtf16 if tagged < UTF16_TAG => tagged,
         StringEncoding::Latin1OrUtf16 => tagged - UTF16_TAG,
-    }
-}
-
-/// The alignment of a string's pointer, in bytes.
-fn text_align(encoding: StringEncoding) -> u32
-    ensures { result ≡ text_align encoding }
-{
-    match encoding {
-        StringEncoding::Utf8 => 1,
-        StringEncoding::Utf16 | StringEncoding::Latin1OrUtf16 => 2,
     }
 }
 

@@ -12,8 +12,8 @@ use cm_handles::{HandleFault, HandleKind, Table};
 use cm_layout::HandleType;
 use cm_types::{ResourceId, Value};
 
-/// The resource of a handle.
-fn resource_of(wanted: HandleType) -> ResourceId
+/// The resource of a handle, by its type.
+pub fn resource_of(wanted: HandleType) -> ResourceId
     ensures { result ≡ resource_of wanted }
 {
     match wanted {

@@ -40,9 +40,10 @@ pub fn core_size(leaf: Leaf) -> u32
     }
 }
 
-/// The labels that are set in a number, of so many labels.
+/// The labels that are set in a number, of so many labels; the bits above them are left out
+/// (CanonicalABI.md, "Loading" of flags).
 #[tactic(auto, using(crate::proofs::LeafLemmas::flags))]
-fn labels_set(labels: usize, number: u32) -> u32
+pub fn labels_set(labels: usize, number: u32) -> u32
     ensures { result ≡ number % 2 ^ labels }
 {
     if labels >= 32 {

@@ -19,8 +19,8 @@ mod texts;
 mod trees;
 
 pub use giver::Giver;
-pub use handles::load_handle;
-pub use leaves::{core_size, leaf_size, leaf_value};
+pub use handles::{load_handle, resource_of};
+pub use leaves::{core_size, labels_set, leaf_size, leaf_value};
 pub use loading::{is_plain_leaf, make_handle, make_list, make_value};
 pub use maker::{Maker, Reader};
 pub use measures::measure_text;

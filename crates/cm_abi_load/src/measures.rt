@@ -14,8 +14,8 @@ use crate::giver::Giver;
 use crate::progress::Progress;
 use crate::regions::check_region;
 use crate::stop::Stop;
-use crate::texts::{keep_tag, text_align, text_size};
-use cm_abi_model::{AbiFault, StringEncoding, UTF16_TAG};
+use crate::texts::{keep_tag, text_size};
+use cm_abi_model::{AbiFault, StringEncoding, UTF16_TAG, text_align};
 use cm_text::{Encoding, Latin1, Source, Utf8, Utf16, transcoded_size};
 
 /// How many bytes the text of an encoding takes in another.
@@ -46,10 +46,7 @@ fn utf8_measure(target: StringEncoding, bytes: &[u8]) -> Result<usize, Stop>
     ensures { (s : State) → Reads (λ n. n) result s
         (mapped (text_length (stored_charset target)) (text_value (decoded utf8 bytes.now) s)) }
 {
-    match size_for::<Utf8>(target, bytes) {
-        Ok(size) => Ok(size),
-        Err(stop) => Err(stop),
-    }
+    size_for::<Utf8>(target, bytes)
 }
 
 /// How many bytes a string takes whose bytes are in UTF-16.
@@ -57,10 +54,7 @@ fn utf16_measure(target: StringEncoding, bytes: &[u8]) -> Result<usize, Stop>
     ensures { (s : State) → Reads (λ n. n) result s
         (mapped (text_length (stored_charset target)) (text_value (decoded utf16 bytes.now) s)) }
 {
-    match size_for::<Utf16>(target, bytes) {
-        Ok(size) => Ok(size),
-        Err(stop) => Err(stop),
-    }
+    size_for::<Utf16>(target, bytes)
 }
 
 /// How many bytes a string takes whose bytes are in Latin-1.
@@ -68,10 +62,7 @@ fn latin1_measure(target: StringEncoding, bytes: &[u8]) -> Result<usize, Stop>
     ensures { (s : State) → Reads (λ n. n) result s
         (mapped (text_length (stored_charset target)) (text_value (decoded latin1 bytes.now) s)) }
 {
-    match size_for::<Latin1>(target, bytes) {
-        Ok(size) => Ok(size),
-        Err(stop) => Err(stop),
-    }
+    size_for::<Latin1>(target, bytes)
 }
 
 /// How many bytes a string of a tagged length takes.

@@ -5,7 +5,7 @@ ghost use Rattle.std.specs.Str.{chars};
 ghost use Rattle.std.specs.String.{string_bytes};
 ghost use Rattle.cm_text.specs.Text.{IsText};
 ghost use Rattle.cm_types.specs.ValueTrees.{value_of};
-ghost use Rattle.cm_abi_model.specs.Texts.{charset_of, latin1, text_align, text_size, utf16, utf8};
+ghost use Rattle.cm_abi_model.specs.Texts.{charset_of, latin1, text_size, utf16, utf8};
 ghost use Rattle.cm_abi_load.specs.Decoded.{decoded};
 ghost use Rattle.cm_abi_load.specs.Outcomes.{Reads, State, state_of};
 ghost use Rattle.cm_abi_load.specs.Texts.{after_text, read_text, text_value};
@@ -15,21 +15,10 @@ use crate::giver::Giver;
 use crate::progress::Progress;
 use crate::regions::check_region;
 use crate::stop::Stop;
-use cm_abi_model::{AbiFault, StringEncoding, UTF16_TAG};
+use cm_abi_model::{AbiFault, StringEncoding, UTF16_TAG, text_align};
 use cm_text::{Latin1, Source, TextFault, Utf8, Utf16, transcode};
 use cm_types::Value;
 use std::alloc::Global;
-
-/// The alignment of a string's pointer, in bytes.
-pub(crate) fn text_align(encoding: StringEncoding) -> u32
-    ensures value { result ≡ text_align encoding }
-    ensures positive { 0 < result }
-{
-    match encoding {
-        StringEncoding::Utf8 => 1,
-        StringEncoding::Utf16 | StringEncoding::Latin1OrUtf16 => 2,
-    }
-}
 
 /// How many bytes the string of a tagged length has.
 pub(crate) fn text_size(encoding: StringEncoding, tagged: u32) -> u64

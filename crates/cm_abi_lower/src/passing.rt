@@ -1,23 +1,21 @@
 //! Values in core values: one walk down a layout, wherever the values come from, with what is
 //! behind pointers in memory.
 
-ghost use Rattle.std.specs.Prelude.{◌≡◌, ℕ, ◌+◌, ◌*◌, ◌≤◌, [], length, map};
+ghost use Rattle.std.specs.Prelude.{◌≡◌, ℕ, ◌+◌, ◌*◌, ◌≤◌, [], length};
 ghost use Rattle.cm_layout.specs.Laid.{Laid};
-ghost use Rattle.cm_layout.specs.Layouts.{layout_of, nothings, part_of, payload_of};
-ghost use Rattle.cm_layout.specs.Shapes.{cases_shape, fields_shape, fixed_list_shape};
-ghost use Rattle.cm_layout.specs.Shapes.{handle_shape, leaf_shape, list_shape, parts_from};
-ghost use Rattle.cm_layout.specs.Shapes.{payloads_from, string_shape};
+ghost use Rattle.cm_layout.specs.Layouts.{layout_of, part_of, payload_of};
+ghost use Rattle.cm_layout.specs.Shapes.{handle_shape, leaf_shape, string_shape};
 ghost use Rattle.cm_layout.specs.declared.heads.Head.{Head as HeadTy};
-ghost use Rattle.cm_abi_model.specs.Parts.{handle_count, handle_count_each, part_count};
-ghost use Rattle.cm_abi_model.specs.Parts.{part_count_each};
-ghost use Rattle.cm_abi_model.specs.Receives.{behind_each};
-ghost use Rattle.cm_abi_model.specs.Stores.{Given, poke, store_each};
+ghost use Rattle.cm_abi_model.specs.Parts.{handle_count, part_count};
+ghost use Rattle.cm_abi_model.specs.Stores.{Given, poke};
 ghost use Rattle.cm_abi_store.specs.FlatLowering.{ArePassedIn, IsPassedIn, PayloadIsPassed};
-ghost use Rattle.cm_abi_store.specs.FlatLowering.{behind_by, behind_by_fields, slots_by};
-ghost use Rattle.cm_abi_store.specs.FlatLowering.{slots_by_fields};
+ghost use Rattle.cm_abi_store.specs.FlatLowering.{behind_by, slots_by};
 ghost use Rattle.cm_abi_store.specs.Storing.{given_of};
-ghost use Rattle.cm_abi_store.specs.Sources.{IsCarriedReady, carried_behind, carried_slots};
-ghost use Rattle.cm_abi_store.specs.Sources.{case_told};
+ghost use Rattle.cm_abi_store.specs.Sources.{IsCarriedReady, case_told};
+ghost use Rattle.cm_abi_store.specs.Stored.{LowersFieldsFlat, LowersElementsFlat};
+ghost use Rattle.cm_abi_store.specs.Stored.{LowersFlat, LowersPayloadFlat};
+ghost use Rattle.cm_abi_store.specs.Stored.{cases_of, enum_of, fields_of, fixed_list_of, list_of};
+ghost use Rattle.cm_abi_store.specs.Stored.{record_of};
 
 use cm_abi_store::{
     Next, PassedSource, Target, ValueSource, field_width, number_passed, pass_handle, pass_pointer,
@@ -50,19 +48,15 @@ fn pass_enum<S: ValueSource>(
 )
     requires inside { at + 1 ≤ length slots.old }
     requires ready { (n : ℕ) × (g : Given) × (e : HeadTy) × (k : ℕ) × (h : ℕ) × S.ready source n g e
-        (cases_shape discriminant discriminant (nothings count)) k h }
+        (enum_of discriminant count) k h }
     ensures slots { (g : Given) (k h : ℕ) → slots.new
-        ≡ poke (slots_by g (cases_shape discriminant discriminant (nothings count))
-        (S.value source (cases_shape discriminant discriminant (nothings count))) at k h)
-        slots.old }
-    ensures behind { (g : Given) (k h : ℕ) → behind_by g
-        (cases_shape discriminant discriminant (nothings count))
-        (S.value source (cases_shape discriminant discriminant (nothings count))) k h ≡ [] }
+        ≡ poke (slots_by g (enum_of discriminant count)
+        (S.value source (enum_of discriminant count)) at k h) slots.old }
+    ensures behind { (g : Given) (k h : ℕ) → behind_by g (enum_of discriminant count)
+        (S.value source (enum_of discriminant count)) k h ≡ [] }
     ensures slots_stay { length slots.new ≡ length slots.old }
-    ensures parts { part_count (S.value source
-        (cases_shape discriminant discriminant (nothings count))) ≡ 0 }
-    ensures handles { handle_count (S.value source
-        (cases_shape discriminant discriminant (nothings count))) ≡ 0 }
+    ensures parts { part_count (S.value source (enum_of discriminant count)) ≡ 0 }
+    ensures handles { handle_count (S.value source (enum_of discriminant count)) ≡ 0 }
 {
     let case = source.case(discriminant, discriminant);
     slots[at] = u64::from(case.0);
@@ -80,17 +74,9 @@ fn pass_text<S: ValueSource>(
     requires inside { at + 2 ≤ length slots.old }
     requires ready { (e : HeadTy) × S.ready source (length memory.old) (given_of to.now) e
         string_shape next.old.part next.old.handle }
-    ensures slots { slots.new
-        ≡ poke (slots_by (given_of to.now) string_shape (S.value source string_shape) at
-        next.old.part next.old.handle) slots.old }
-    ensures stored { memory.new
-        ≡ poke (behind_by (given_of to.now) string_shape (S.value source string_shape) next.old.part
-        next.old.handle) memory.old }
-    ensures stays { length memory.new ≡ length memory.old }
-    ensures slots_stay { length slots.new ≡ length slots.old }
-    ensures part { next.new.part ≡ next.old.part + part_count (S.value source string_shape) }
-    ensures handle { next.new.handle
-        ≡ next.old.handle + handle_count (S.value source string_shape) }
+    ensures { LowersFlat (given_of to.now) string_shape
+        (S.value source string_shape) at next.old slots.old memory.old
+        next.new slots.new memory.new }
 {
     let part = next.part;
     let size = source.text_size(to.encoding, part);
@@ -112,18 +98,9 @@ fn pass_handle_of<S: ValueSource>(
     requires inside { at + 1 ≤ length slots.old }
     requires ready { (e : HeadTy) × S.ready source (length memory.old) (given_of to.now) e
         (handle_shape handle) next.old.part next.old.handle }
-    ensures slots { slots.new
-        ≡ poke (slots_by (given_of to.now) (handle_shape handle)
-        (S.value source (handle_shape handle)) at next.old.part next.old.handle) slots.old }
-    ensures stored { memory.new
-        ≡ poke (behind_by (given_of to.now) (handle_shape handle)
-        (S.value source (handle_shape handle)) next.old.part next.old.handle) memory.old }
-    ensures stays { length memory.new ≡ length memory.old }
-    ensures slots_stay { length slots.new ≡ length slots.old }
-    ensures part { next.new.part
-        ≡ next.old.part + part_count (S.value source (handle_shape handle)) }
-    ensures handle { next.new.handle
-        ≡ next.old.handle + handle_count (S.value source (handle_shape handle)) }
+    ensures { LowersFlat (given_of to.now) (handle_shape handle)
+        (S.value source (handle_shape handle)) at next.old slots.old memory.old
+        next.new slots.new memory.new }
 {
     pass_handle(to, slots, at, next);
 }
@@ -141,34 +118,19 @@ fn pass_list<S: PassedSource>(
     requires laid { Laid (layout_of element.now).head.size (layout_of element.now).shape }
     requires inside { at + 2 ≤ length slots.old }
     requires ready { (e : HeadTy) × S.ready source (length memory.old) (given_of to.now) e
-        (list_shape (layout_of element.now).head (layout_of element.now).shape) next.old.part
-        next.old.handle }
-    ensures slots { slots.new
-        ≡ poke (slots_by (given_of to.now)
-        (list_shape (layout_of element.now).head (layout_of element.now).shape)
-        (S.value source (list_shape (layout_of element.now).head (layout_of element.now).shape)) at
-        next.old.part next.old.handle) slots.old }
-    ensures stored { memory.new
-        ≡ poke (behind_by (given_of to.now)
-        (list_shape (layout_of element.now).head (layout_of element.now).shape)
-        (S.value source (list_shape (layout_of element.now).head (layout_of element.now).shape))
-        next.old.part next.old.handle) memory.old }
-    ensures stays { length memory.new ≡ length memory.old }
-    ensures slots_stay { length slots.new ≡ length slots.old }
-    ensures part { next.new.part
-        ≡ next.old.part + part_count (S.value source
-        (list_shape (layout_of element.now).head (layout_of element.now).shape)) }
-    ensures handle { next.new.handle
-        ≡ next.old.handle + handle_count (S.value source
-        (list_shape (layout_of element.now).head (layout_of element.now).shape)) }
+        (list_of (layout_of element.now)) next.old.part next.old.handle }
+    ensures { LowersFlat (given_of to.now) (list_of (layout_of element.now))
+        (S.value source (list_of (layout_of element.now))) at next.old slots.old memory.old
+        next.new slots.new memory.new }
 {
     let elements = source.stored_elements();
     let place = pass_pointer(to, slots, at, elements.0, next);
     store_row::<S::Stored>(to, memory, element, elements.1, elements.0, place, next);
 }
 
-/// Passes a value by its layout in slots from this one on (CanonicalABI.md, "Flat Lowering"). The
-/// next part and the next handle are then those behind the value's; it takes no memory.
+/// Passes a value by its layout in slots from this one on: the standard's `lower_flat`
+/// (CanonicalABI.md, "Flat Lowering"). The next part and the next handle are then those behind the
+/// value's; it takes no memory.
 #[cycle(passing)]
 pub fn pass_value<S: PassedSource>(
     to: &Target<'_>,
@@ -183,18 +145,9 @@ pub fn pass_value<S: PassedSource>(
     requires inside { at + (layout_of layout.now).head.width ≤ length slots.old }
     requires ready { S.ready source (length memory.old) (given_of to.now)
         (layout_of layout.now).head (layout_of layout.now).shape next.old.part next.old.handle }
-    ensures slots { slots.new
-        ≡ poke (slots_by (given_of to.now) (layout_of layout.now).shape
-        (S.value source (layout_of layout.now).shape) at next.old.part next.old.handle) slots.old }
-    ensures stored { memory.new
-        ≡ poke (behind_by (given_of to.now) (layout_of layout.now).shape
-        (S.value source (layout_of layout.now).shape) next.old.part next.old.handle) memory.old }
-    ensures stays { length memory.new ≡ length memory.old }
-    ensures slots_stay { length slots.new ≡ length slots.old }
-    ensures part { next.new.part
-        ≡ next.old.part + part_count (S.value source (layout_of layout.now).shape) }
-    ensures handle { next.new.handle
-        ≡ next.old.handle + handle_count (S.value source (layout_of layout.now).shape) }
+    ensures { LowersFlat (given_of to.now) (layout_of layout.now).shape
+        (S.value source (layout_of layout.now).shape) at next.old slots.old memory.old
+        next.new slots.new memory.new }
 {
     match &layout.form {
         Form::Leaf(leaf) => pass_leaf(slots, *leaf, source, at),
@@ -254,26 +207,10 @@ fn pass_fixed_list<S: PassedSource>(
     requires passed { IsPassedIn (layout_of element.now).head.width (layout_of element.now).shape }
     requires inside { at + count * (layout_of element.now).head.width ≤ length slots.old }
     requires ready { (e : HeadTy) × S.ready source (length memory.old) (given_of to.now) e
-        (fixed_list_shape (layout_of element.now).head (layout_of element.now).shape count)
-        next.old.part next.old.handle }
-    ensures slots { slots.new
-        ≡ poke (slots_by (given_of to.now)
-        (fixed_list_shape (layout_of element.now).head (layout_of element.now).shape count)
-        (S.value source (fixed_list_shape (layout_of element.now).head (layout_of element.now).shape
-        count)) at next.old.part next.old.handle) slots.old }
-    ensures stored { memory.new
-        ≡ poke (behind_by (given_of to.now)
-        (fixed_list_shape (layout_of element.now).head (layout_of element.now).shape count)
-        (S.value source (fixed_list_shape (layout_of element.now).head (layout_of element.now).shape
-        count)) next.old.part next.old.handle) memory.old }
-    ensures stays { length memory.new ≡ length memory.old }
-    ensures slots_stay { length slots.new ≡ length slots.old }
-    ensures part { next.new.part
-        ≡ next.old.part + part_count (S.value source
-        (fixed_list_shape (layout_of element.now).head (layout_of element.now).shape count)) }
-    ensures handle { next.new.handle
-        ≡ next.old.handle + handle_count (S.value source
-        (fixed_list_shape (layout_of element.now).head (layout_of element.now).shape count)) }
+        (fixed_list_of (layout_of element.now) count) next.old.part next.old.handle }
+    ensures { LowersFlat (given_of to.now) (fixed_list_of (layout_of element.now) count)
+        (S.value source (fixed_list_of (layout_of element.now) count)) at
+        next.old slots.old memory.old next.new slots.new memory.new }
 {
     let items = source.items(count as usize);
     pass_row::<S>(to, slots, memory, element, items, count as usize, at, next);
@@ -296,23 +233,9 @@ fn pass_row<S: PassedSource>(
     requires ready { S.values_ready items (length memory.old) (given_of to.now)
         (layout_of element.now).head (layout_of element.now).shape count next.old.part
         next.old.handle }
-    ensures slots { slots.new
-        ≡ poke (store_each (slots_by (given_of to.now) (layout_of element.now).shape)
-        (layout_of element.now).head.width
+    ensures { LowersElementsFlat (given_of to.now) (layout_of element.now)
         (S.values_left items (layout_of element.now).head (layout_of element.now).shape count) at
-        next.old.part next.old.handle) slots.old }
-    ensures stored { memory.new
-        ≡ poke (behind_each (behind_by (given_of to.now) (layout_of element.now).shape)
-        (S.values_left items (layout_of element.now).head (layout_of element.now).shape count)
-        next.old.part next.old.handle) memory.old }
-    ensures stays { length memory.new ≡ length memory.old }
-    ensures slots_stay { length slots.new ≡ length slots.old }
-    ensures part { next.new.part
-        ≡ next.old.part + part_count_each
-        (S.values_left items (layout_of element.now).head (layout_of element.now).shape count) }
-    ensures handle { next.new.handle
-        ≡ next.old.handle + handle_count_each
-        (S.values_left items (layout_of element.now).head (layout_of element.now).shape count) }
+        next.old slots.old memory.old next.new slots.new memory.new }
 {
     let mut rest = items;
     let mut slot = at;
@@ -335,26 +258,13 @@ fn pass_record<S: PassedSource>(
     at: usize,
     next: &mut Next,
 )
-    requires passed { ArePassedIn width 0 (parts_from (map part_of parts.now)) }
+    requires passed { ArePassedIn width 0 (fields_of parts.now) }
     requires inside { at + width ≤ length slots.old }
     requires ready { (e : HeadTy) × S.ready source (length memory.old) (given_of to.now) e
-        (fields_shape (parts_from (map part_of parts.now))) next.old.part next.old.handle }
-    ensures slots { slots.new
-        ≡ poke (slots_by (given_of to.now) (fields_shape (parts_from (map part_of parts.now)))
-        (S.value source (fields_shape (parts_from (map part_of parts.now)))) at next.old.part
-        next.old.handle) slots.old }
-    ensures stored { memory.new
-        ≡ poke (behind_by (given_of to.now) (fields_shape (parts_from (map part_of parts.now)))
-        (S.value source (fields_shape (parts_from (map part_of parts.now)))) next.old.part
-        next.old.handle) memory.old }
-    ensures stays { length memory.new ≡ length memory.old }
-    ensures slots_stay { length slots.new ≡ length slots.old }
-    ensures part { next.new.part
-        ≡ next.old.part + part_count (S.value source
-        (fields_shape (parts_from (map part_of parts.now)))) }
-    ensures handle { next.new.handle
-        ≡ next.old.handle + handle_count (S.value source
-        (fields_shape (parts_from (map part_of parts.now)))) }
+        (record_of parts.now) next.old.part next.old.handle }
+    ensures { LowersFlat (given_of to.now) (record_of parts.now)
+        (S.value source (record_of parts.now)) at next.old slots.old memory.old
+        next.new slots.new memory.new }
 {
     let fields = source.fields();
     pass_fields::<S>(to, slots, memory, parts, width, fields, at, next);
@@ -372,26 +282,13 @@ pub(crate) fn pass_fields<S: PassedSource>(
     at: usize,
     next: &mut Next,
 )
-    requires passed { ArePassedIn width 0 (parts_from (map part_of parts.now)) }
+    requires passed { ArePassedIn width 0 (fields_of parts.now) }
     requires inside { at + width ≤ length slots.old }
     requires ready { S.fields_ready fields (length memory.old) (given_of to.now)
-        (parts_from (map part_of parts.now)) next.old.part next.old.handle }
-    ensures slots { slots.new
-        ≡ poke (slots_by_fields (given_of to.now) (parts_from (map part_of parts.now))
-        (S.fields_left fields (parts_from (map part_of parts.now))) at next.old.part
-        next.old.handle) slots.old }
-    ensures stored { memory.new
-        ≡ poke (behind_by_fields (given_of to.now) (parts_from (map part_of parts.now))
-        (S.fields_left fields (parts_from (map part_of parts.now))) next.old.part next.old.handle)
-        memory.old }
-    ensures stays { length memory.new ≡ length memory.old }
-    ensures slots_stay { length slots.new ≡ length slots.old }
-    ensures part { next.new.part
-        ≡ next.old.part + part_count_each
-        (S.fields_left fields (parts_from (map part_of parts.now))) }
-    ensures handle { next.new.handle
-        ≡ next.old.handle + handle_count_each
-        (S.fields_left fields (parts_from (map part_of parts.now))) }
+        (fields_of parts.now) next.old.part next.old.handle }
+    ensures { LowersFieldsFlat (given_of to.now) (fields_of parts.now)
+        (S.fields_left fields (fields_of parts.now)) at next.old slots.old memory.old
+        next.new slots.new memory.new }
 {
     let mut rest = fields;
     let mut slot = at;
@@ -417,18 +314,9 @@ fn pass_field<S: PassedSource>(
     requires inside { at + (part_of part.now).1.head.width ≤ length slots.old }
     requires ready { S.ready source (length memory.old) (given_of to.now) (part_of part.now).1.head
         (part_of part.now).1.shape next.old.part next.old.handle }
-    ensures slots { slots.new
-        ≡ poke (slots_by (given_of to.now) (part_of part.now).1.shape
-        (S.value source (part_of part.now).1.shape) at next.old.part next.old.handle) slots.old }
-    ensures stored { memory.new
-        ≡ poke (behind_by (given_of to.now) (part_of part.now).1.shape
-        (S.value source (part_of part.now).1.shape) next.old.part next.old.handle) memory.old }
-    ensures stays { length memory.new ≡ length memory.old }
-    ensures slots_stay { length slots.new ≡ length slots.old }
-    ensures part { next.new.part
-        ≡ next.old.part + part_count (S.value source (part_of part.now).1.shape) }
-    ensures handle { next.new.handle
-        ≡ next.old.handle + handle_count (S.value source (part_of part.now).1.shape) }
+    ensures { LowersFlat (given_of to.now) (part_of part.now).1.shape
+        (S.value source (part_of part.now).1.shape) at next.old slots.old memory.old
+        next.new slots.new memory.new }
 {
     pass_value(to, slots, memory, &part.layout, source, at, next);
 }
@@ -447,31 +335,13 @@ fn pass_case<S: PassedSource>(
     at: usize,
     next: &mut Next,
 )
-    requires passed { IsPassedIn width (cases_shape discriminant offset
-        (payloads_from (map payload_of payloads.now))) }
+    requires passed { IsPassedIn width (cases_of discriminant offset payloads.now) }
     requires inside { at + width ≤ length slots.old }
     requires ready { (e : HeadTy) × S.ready source (length memory.old) (given_of to.now) e
-        (cases_shape discriminant offset (payloads_from (map payload_of payloads.now)))
-        next.old.part next.old.handle }
-    ensures slots { slots.new
-        ≡ poke (slots_by (given_of to.now)
-        (cases_shape discriminant offset (payloads_from (map payload_of payloads.now)))
-        (S.value source (cases_shape discriminant offset
-        (payloads_from (map payload_of payloads.now)))) at next.old.part next.old.handle)
-        slots.old }
-    ensures stored { memory.new
-        ≡ poke (behind_by (given_of to.now)
-        (cases_shape discriminant offset (payloads_from (map payload_of payloads.now)))
-        (S.value source (cases_shape discriminant offset
-        (payloads_from (map payload_of payloads.now)))) next.old.part next.old.handle) memory.old }
-    ensures stays { length memory.new ≡ length memory.old }
-    ensures slots_stay { length slots.new ≡ length slots.old }
-    ensures part { next.new.part
-        ≡ next.old.part + part_count (S.value source
-        (cases_shape discriminant offset (payloads_from (map payload_of payloads.now)))) }
-    ensures handle { next.new.handle
-        ≡ next.old.handle + handle_count (S.value source
-        (cases_shape discriminant offset (payloads_from (map payload_of payloads.now)))) }
+        (cases_of discriminant offset payloads.now) next.old.part next.old.handle }
+    ensures { LowersFlat (given_of to.now) (cases_of discriminant offset payloads.now)
+        (S.value source (cases_of discriminant offset payloads.now)) at
+        next.old slots.old memory.old next.new slots.new memory.new }
 {
     let case = source.case(discriminant, offset);
     slots[at] = u64::from(case.0);
@@ -495,20 +365,9 @@ fn pass_payload<S: PassedSource>(
     requires passed { PayloadIsPassed (length slots.old) at (payload_of payload.now) }
     requires ready { IsCarriedReady (λ s e sh. S.ready s (length memory.old) (given_of to.now) e sh
         next.old.part next.old.handle) (payload_of payload.now) source }
-    ensures slots { slots.new
-        ≡ poke (carried_slots (given_of to.now) (payload_of payload.now)
-        (case_told S.value 0 (payload_of payload.now) source) at next.old.part next.old.handle)
-        slots.old }
-    ensures stored { memory.new
-        ≡ poke (carried_behind (given_of to.now) (payload_of payload.now)
-        (case_told S.value 0 (payload_of payload.now) source) next.old.part next.old.handle)
-        memory.old }
-    ensures stays { length memory.new ≡ length memory.old }
-    ensures slots_stay { length slots.new ≡ length slots.old }
-    ensures part { next.new.part
-        ≡ next.old.part + part_count (case_told S.value 0 (payload_of payload.now) source) }
-    ensures handle { next.new.handle
-        ≡ next.old.handle + handle_count (case_told S.value 0 (payload_of payload.now) source) }
+    ensures { LowersPayloadFlat (given_of to.now) (payload_of payload.now)
+        (case_told S.value 0 (payload_of payload.now) source) at next.old slots.old memory.old
+        next.new slots.new memory.new }
 {
     if let Payload::Carried(layout) = payload {
         if let Some(source) = source {

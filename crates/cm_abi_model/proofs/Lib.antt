@@ -25,3 +25,4 @@ pub mod OneAcross
 pub mod TakenLaws
 pub mod AskedFor
 pub mod AskedStays
+pub mod StringSizes

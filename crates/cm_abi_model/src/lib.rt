@@ -15,6 +15,7 @@ mod record;
 mod region;
 mod request;
 pub mod standard_laws;
+mod string_sizes;
 mod way;
 
 pub use encoding::{StringEncoding, UTF16_TAG};
@@ -26,4 +27,5 @@ pub use receiver::Receiver;
 pub use record::{PartKind, PartRecord};
 pub use region::Region;
 pub use request::Request;
+pub use string_sizes::{text_align, utf16_size};
 pub use way::Way;

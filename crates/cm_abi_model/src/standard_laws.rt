@@ -109,14 +109,23 @@ pub fn truths_are_stored()
         → slots_of g bool (truth false) s k h ≡ put s 0 }
 {}
 
-/// A byte that is 0 is received as `false`, and any other as `true`; a number without sign stands
-/// in as many bytes as its type has, and one with a sign in two's complement; a char is a Unicode
-/// scalar in 4 bytes (CanonicalABI.md, "Loading").
-pub fn values_are_received()
+/// A byte that is 0 is loaded as `false`, and any other as `true` (CanonicalABI.md, "Loading",
+/// `convert_int_to_bool`).
+pub fn truths_are_loaded()
     ensures zero_is_false { (w : View) (p : ℕ) (b : Bool) → slice_index w.memory p ≡ 0
         → Shows w bool p (truth b) → b ≡ false }
     ensures others_are_true { (w : View) (p : ℕ) (b : Bool) → 0 < slice_index w.memory p
         → Shows w bool p (truth b) → b ≡ true }
+    ensures false_only { (w : View) (p : ℕ) → slice_index w.memory p ≡ 0
+        → Shows w bool p (truth false) }
+    ensures true_only { (w : View) (p : ℕ) → 0 < slice_index w.memory p
+        → Shows w bool p (truth true) }
+{}
+
+/// A number without sign stands in as many bytes as its type has, and one with a sign in two's
+/// complement; a char is a Unicode scalar in 4 bytes (CanonicalABI.md, "Loading", `load_int` and
+/// `convert_i32_to_char`).
+pub fn numbers_are_loaded()
     ensures unsigned { (w : View) (k : Width) (p n : ℕ) → AreBytes w.memory
         → Shows w (unsigned k) p (number n) → StandsAt w.memory p (width_bytes k) n }
     ensures signed { (w : View) (k : Width) (p : ℕ) (z : ℤ) → AreBytes w.memory
@@ -125,10 +134,6 @@ pub fn values_are_received()
         × IsTwosComplement (8 * width_bytes k) n z }
     ensures scalars { (w : View) (p c : ℕ) → AreBytes w.memory → Shows w char p (scalar c)
         → StandsAt w.memory p 4 c × IsScalarValue c }
-    ensures false_only { (w : View) (p : ℕ) → slice_index w.memory p ≡ 0
-        → Shows w bool p (truth false) }
-    ensures true_only { (w : View) (p : ℕ) → 0 < slice_index w.memory p
-        → Shows w bool p (truth true) }
     ensures unsigned_only { (w : View) (k : Width) (p n : ℕ)
         → StandsAt w.memory p (width_bytes k) n → Shows w (unsigned k) p (number n) }
     ensures signed_only { (w : View) (k : Width) (p n : ℕ) (z : ℤ)
@@ -262,11 +267,10 @@ pub fn handles_are_indices()
 /// with the old pointer and the old size, for what it takes: to UTF-8 for a byte a unit, where a
 /// character is none of ASCII then for the most bytes that its units may take, three of one of
 /// UTF-16 and two of one of Latin-1, and for fewer where it takes fewer; from UTF-8 to UTF-16 for
-/// two bytes a byte, and for fewer where it takes fewer. What is stored as it was read, and Latin-1
-/// to UTF-16, asks once, for what it takes (CanonicalABI.md, "Storing", `store_string_into_range`).
-/// So U+E9 from UTF-16 to UTF-8 asks for 1 byte, then for 3 in place of 1, then for 2 in place
-/// of 3.
-pub fn strings_ask_for_memory()
+/// two bytes a byte, and for fewer where it takes fewer (CanonicalABI.md, "Storing",
+/// `store_string_to_utf8` and `store_utf8_to_utf16`). So U+E9 from UTF-16 to UTF-8 asks for 1 byte,
+/// then for 3 in place of 1, then for 2 in place of 3.
+pub fn transcoded_strings_ask_again()
     ensures utf16_to_utf8 { (scalars : List ℕ) (others : List Part)
         → AsksToUtf8 (length (utf16_units scalars)) (3 * length (utf16_units scalars)) scalars
         (part_requests Utf16 Utf8 [] (text_part scalars ∷ others))
@@ -284,6 +288,13 @@ pub fn strings_ask_for_memory()
         → AsksToUtf16 (2 * length (utf8_units scalars)) scalars
         (part_requests Utf8 Utf16 [] (text_part scalars ∷ others))
         (part_requests Utf8 Utf16 [] others) }
+    ensures example { part_requests Utf16 Utf8 [] (text_part (0xE9 ∷ []) ∷ [])
+        ≡ fresh 1 1 ∷ again 1 1 3 ∷ again 3 1 2 ∷ [] }
+{}
+
+/// A string that is stored as it was read, or from Latin-1 in UTF-16, asks once, for what it takes
+/// (CanonicalABI.md, "Storing", `store_string_copy`).
+pub fn strings_ask_once()
     ensures utf8 { (scalars : List ℕ) (others : List Part)
         → part_requests Utf8 Utf8 [] (text_part scalars ∷ others)
         ≡ fresh 1 (length (utf8_units scalars)) ∷ part_requests Utf8 Utf8 [] others }
@@ -298,20 +309,24 @@ pub fn strings_ask_for_memory()
         → AllByRecursion HasLatin1 scalars
         → part_requests Latin1OrUtf16 Utf16 (false ∷ tags) (text_part scalars ∷ others)
         ≡ fresh 2 (2 * length scalars) ∷ part_requests Latin1OrUtf16 Utf16 tags others }
-    ensures example { part_requests Utf16 Utf8 [] (text_part (0xE9 ∷ []) ∷ [])
-        ≡ fresh 1 1 ∷ again 1 1 3 ∷ again 3 1 2 ∷ [] }
 {}
 
-/// Numbers and truth values in core values: of an i32 or an i64 the lowest bits that the type has
-/// are the number, read in two's complement where it has a sign; 0 is false and any other i32 true;
-/// a char is a scalar; flags are the lowest bits. A number with a sign is passed in two's
-/// complement of 32 bits, or of 64 (CanonicalABI.md, "Flat Lifting" and "Flat Lowering"). So an i32
-/// of 0x1FFFE is the `u16` 65534, and -2 as `s8` is 0xFFFFFFFE both ways.
-pub fn numbers_in_core_values()
+/// An i32 of 0 is lifted as `false`, and any other as `true` (CanonicalABI.md, "Flat Lifting").
+pub fn truths_are_lifted_flat()
     ensures zero_is_false { (w : View) (s : List CoreValue) (k : ℕ) (b : Bool) → IsCore32 s k 0
         → FlatShows w s bool k (truth b) → b ≡ false }
     ensures others_are_true { (w : View) (s : List CoreValue) (k n : ℕ) (b : Bool)
         → IsCore32 s k n → 0 < n → FlatShows w s bool k (truth b) → b ≡ true }
+    ensures false_only { (w : View) (s : List CoreValue) (k : ℕ) → IsCore32 s k 0
+        → FlatShows w s bool k (truth false) }
+    ensures true_only { (w : View) (s : List CoreValue) (k n : ℕ) → IsCore32 s k n → 0 < n
+        → FlatShows w s bool k (truth true) }
+{}
+
+/// Of an i32 or an i64 the lowest bits that the type has are the number, read in two's complement
+/// where it has a sign; a char is a scalar (CanonicalABI.md, "Flat Lifting", `lift_flat_unsigned`
+/// and `lift_flat_signed`). So an i32 of 0x1FFFE is the `u16` 65534, and 0xFFFFFFFE is -2 as `s8`.
+pub fn numbers_are_lifted_flat()
     ensures unsigned { (w : View) (s : List CoreValue) (t : Width) (k n m : ℕ) → IsCore s k n
         → FlatShows w s (unsigned t) k (number m) → m ≡ n % 2 ^ (8 * width_bytes t) }
     ensures signed { (w : View) (s : List CoreValue) (t : Width) (k n : ℕ) (z : ℤ) → IsCore s k n
@@ -319,10 +334,6 @@ pub fn numbers_in_core_values()
         → IsTwosComplement (8 * width_bytes t) (n % 2 ^ (8 * width_bytes t)) z }
     ensures chars { (w : View) (s : List CoreValue) (k n c : ℕ) → IsCore32 s k n
         → FlatShows w s char k (scalar c) → (c ≡ n) × IsScalarValue c }
-    ensures false_only { (w : View) (s : List CoreValue) (k : ℕ) → IsCore32 s k 0
-        → FlatShows w s bool k (truth false) }
-    ensures true_only { (w : View) (s : List CoreValue) (k n : ℕ) → IsCore32 s k n → 0 < n
-        → FlatShows w s bool k (truth true) }
     ensures unsigned_only { (w : View) (s : List CoreValue) (t : Width) (k n : ℕ) → IsCore s k n
         → FlatShows w s (unsigned t) k (number (n % 2 ^ (8 * width_bytes t))) }
     ensures signed_only { (w : View) (s : List CoreValue) (t : Width) (k n : ℕ) (z : ℤ)
@@ -330,12 +341,26 @@ pub fn numbers_in_core_values()
         → FlatShows w s (signed t) k (signed_number z) }
     ensures chars_only { (w : View) (s : List CoreValue) (k c : ℕ) → IsCore32 s k c
         → IsScalarValue c → FlatShows w s char k (scalar c) }
+    ensures u16_read { (w : View) (s : List CoreValue) (k m : ℕ) → IsCore s k 0x1FFFE
+        → FlatShows w s (unsigned bits_16) k (number m) → m ≡ 65534 }
+    ensures s8_read { (w : View) (s : List CoreValue) (k : ℕ) (z : ℤ) → IsCore s k 0xFFFFFFFE
+        → FlatShows w s (signed bits_8) k (signed_number z) → z ≡ neg_ℤ (pos 2) }
+{}
+
+/// Flags are the lowest bits of an i32, one for each label (CanonicalABI.md, "Flat Lifting",
+/// `lift_flat_flags`).
+pub fn flags_are_lifted_flat()
     ensures flags_read { (w : View) (s : List CoreValue) (labels : List (List ℕ)) (k n set : ℕ)
         → IsCore32 s k n → FlatShows w s (flags labels) k (flag_set set)
         → AreLowBits n (length labels) set }
     ensures flags_only { (w : View) (s : List CoreValue) (labels : List (List ℕ)) (k n set : ℕ)
         → IsCore32 s k n → AreLowBits n (length labels) set
         → FlatShows w s (flags labels) k (flag_set set) }
+{}
+
+/// A number with a sign is passed in two's complement of 32 bits, or of 64 (CanonicalABI.md, "Flat
+/// Lowering", `lower_flat_signed`). So -2 as `s8` is 0xFFFFFFFE.
+pub fn signed_numbers_are_lowered_flat()
     ensures narrow { (g : Given) (t : Width) (z : ℤ) (s k h : ℕ) → width_bytes t ≤ 4
         → FitsSignedWidth t z → (n : ℕ)
         × (slots_of g (signed t) (signed_number z) s k h ≡ put s n)
@@ -343,19 +368,13 @@ pub fn numbers_in_core_values()
     ensures wide { (g : Given) (z : ℤ) (s k h : ℕ) → FitsSignedWidth bits_64 z → (n : ℕ)
         × (slots_of g (signed bits_64) (signed_number z) s k h ≡ put s n)
         × (n < 2 ^ 64) × IsTwosComplement 64 n z }
-    ensures u16_read { (w : View) (s : List CoreValue) (k m : ℕ) → IsCore s k 0x1FFFE
-        → FlatShows w s (unsigned bits_16) k (number m) → m ≡ 65534 }
-    ensures s8_read { (w : View) (s : List CoreValue) (k : ℕ) (z : ℤ) → IsCore s k 0xFFFFFFFE
-        → FlatShows w s (signed bits_8) k (signed_number z) → z ≡ neg_ℤ (pos 2) }
     ensures s8_passed { (g : Given) (s k h : ℕ)
         → slots_of g (signed bits_8) (signed_number (neg_ℤ (pos 2))) s k h ≡ put s 0xFFFFFFFE }
 {}
 
-/// Strings and lists are passed as their pointer and their length, in two i32 in this order; a
-/// handle as its index; fields one after another, each in as many core values as its type has, and
-/// so the elements of a list of fixed length; a case as its number, and behind it what it carries
-/// (CanonicalABI.md, "Flattening" and "Flat Lifting").
-pub fn parts_in_core_values()
+/// Strings and lists are passed as their pointer and their length, in two i32 in this order
+/// (CanonicalABI.md, "Flat Lifting", `lift_flat_string` and `lift_flat_list`).
+pub fn strings_and_lists_are_lifted_flat()
     ensures string { (w : View) (s : List CoreValue) (k at n : ℕ) (scalars : List ℕ)
         → AreBytes w.memory → IsCore32 s k at → IsCore32 s (k + 1) n
         → FlatShows w s string k (text scalars) → IsString w at n scalars }
@@ -368,6 +387,12 @@ pub fn parts_in_core_values()
     ensures list_only { (w : View) (s : List CoreValue) (t : Ty) (k at n : ℕ) (vs : Vals)
         → IsCore32 s k at → IsCore32 s (k + 1) n → count_of vs ≡ n → AreElements w t at vs
         → FlatShows w s (list t) k (elements vs) }
+{}
+
+/// A handle is passed as its index in the table of the instance that passes it; to be owned, the
+/// handle there has to own its resource (CanonicalABI.md, "Flat Lifting", `lift_own` and
+/// `lift_borrow`).
+pub fn handles_are_lifted_flat()
     ensures own { (w : View) (s : List CoreValue) (r : ResourceId) (k index : ℕ) (h : HandleValue)
         → IsCore32 s k index → FlatShows w s (own r) k (handle h)
         → (entry : Handle) × IsHandle w.table index r entry h × (entry.kind ≡ Owned) }
@@ -381,6 +406,12 @@ pub fn parts_in_core_values()
     ensures borrow_only { (w : View) (s : List CoreValue) (r : ResourceId) (k index : ℕ)
         (entry : Handle) (h : HandleValue) → IsCore32 s k index
         → IsHandle w.table index r entry h → FlatShows w s (borrow r) k (handle h) }
+{}
+
+/// Fields are passed one after another, each in as many core values as its type has, and so are the
+/// elements of a list of fixed length (CanonicalABI.md, "Flattening" and "Flat Lifting",
+/// `lift_flat_record`).
+pub fn fields_are_lifted_flat()
     ensures there { (fs : Fields) → (first : ℕ → ℕ) × AreFirst fs first }
     ensures fields { (w : View) (s : List CoreValue) (x : FieldsKind) (fs : Fields)
         (first : ℕ → ℕ) (k : ℕ) (vs : Vals) → AreFirst fs first
@@ -392,6 +423,11 @@ pub fn parts_in_core_values()
         → FlatShows w s (fixed_list t n) k (parts vs) → (count_of vs ≡ n) × ArePassed w s t k vs }
     ensures fixed_only { (w : View) (s : List CoreValue) (t : Ty) (n k : ℕ) (vs : Vals)
         → count_of vs ≡ n → ArePassed w s t k vs → FlatShows w s (fixed_list t n) k (parts vs) }
+{}
+
+/// A case is passed as its number, and behind it what it carries (CanonicalABI.md, "Flattening" and
+/// "Flat Lifting", `lift_flat_variant`).
+pub fn cases_are_lifted_flat()
     ensures bare { (w : View) (s : List CoreValue) (x : CasesKind) (cs : Cases) (k n i : ℕ)
         → IsCore32 s k n → FlatShows w s (cases x cs) k (bare i)
         → (i ≡ n) × IsCase cs i None }
@@ -405,10 +441,10 @@ pub fn parts_in_core_values()
         → FlatShows w s (cases x cs) k (bearing i v) }
 {}
 
-/// Parameters that take 16 core values at most, and a result that takes 1, are passed in them; else
-/// one i32 is the pointer to the tuple of them in memory (CanonicalABI.md, "Lifting and Lowering
-/// Values", `MAX_FLAT_PARAMS` and `MAX_FLAT_RESULTS`).
-pub fn many_values_are_behind_a_pointer()
+/// Parameters that take 16 core values at most are passed in them; more of them spill: one i32 is
+/// the pointer to the tuple of them in memory (CanonicalABI.md, "Lifting and Lowering Values",
+/// `MAX_FLAT_PARAMS`, `lift_flat_values` and `lower_flat_values`).
+pub fn parameters_spill()
     ensures params_flat { (w : View) (types : Fields) (s : List CoreValue) (v : Val)
         → length (flat_of_fields types) ≤ 16 → Denotes w params types s v
         → FlatShows w s (fields tuple_type types) 0 v }
@@ -421,6 +457,19 @@ pub fn many_values_are_behind_a_pointer()
     ensures params_behind_only { (w : View) (types : Fields) (s : List CoreValue) (p : ℕ)
         (v : Val) → 16 < length (flat_of_fields types) → IsCore32 s 0 p
         → IsTupleAt w types p v → Denotes w params types s v }
+    ensures params_kinds { (types : Fields) → length (flat_of_fields types) ≤ 16
+        → call_kinds params types ≡ flat_of_fields types }
+    ensures params_lowered { (g : Given) (types : Fields) (v : Val)
+        → 16 < length (flat_of_fields types) → (call_kinds params types ≡ I32 ∷ [])
+        × (call_numbers g params types v ≡ put 0 (place_of g 0))
+        × (call_bytes g params types v
+        ≡ stored g (fields tuple_type types) v (place_of g 0) 1 0) }
+{}
+
+/// A result that takes 1 core value at most is passed in it; a longer one spills: one i32 is the
+/// pointer to the tuple of it in memory (CanonicalABI.md, "Lifting and Lowering Values",
+/// `MAX_FLAT_RESULTS`, `lift_flat_values` and `lower_flat_values`).
+pub fn results_spill()
     ensures result_flat { (w : View) (types : Fields) (s : List CoreValue) (v : Val)
         → length (flat_of_fields types) ≤ 1 → Denotes w results types s v
         → FlatShows w s (fields tuple_type types) 0 v }
@@ -433,15 +482,8 @@ pub fn many_values_are_behind_a_pointer()
     ensures result_behind_only { (w : View) (types : Fields) (s : List CoreValue) (p : ℕ)
         (v : Val) → 1 < length (flat_of_fields types) → IsCore32 s 0 p
         → IsTupleAt w types p v → Denotes w results types s v }
-    ensures params_kinds { (types : Fields) → length (flat_of_fields types) ≤ 16
-        → call_kinds params types ≡ flat_of_fields types }
     ensures result_kinds { (types : Fields) → length (flat_of_fields types) ≤ 1
         → call_kinds results types ≡ flat_of_fields types }
-    ensures params_lowered { (g : Given) (types : Fields) (v : Val)
-        → 16 < length (flat_of_fields types) → (call_kinds params types ≡ I32 ∷ [])
-        × (call_numbers g params types v ≡ put 0 (place_of g 0))
-        × (call_bytes g params types v
-        ≡ stored g (fields tuple_type types) v (place_of g 0) 1 0) }
     ensures result_lowered { (g : Given) (types : Fields) (v : Val)
         → 1 < length (flat_of_fields types) → (call_kinds results types ≡ I32 ∷ [])
         × (call_numbers g results types v ≡ put 0 (place_of g 0))
@@ -467,12 +509,9 @@ pub fn lists_and_tuples_ask_for_memory()
         ≡ part_requests source target tags (parts_in (fields tuple_type types) v) }
 {}
 
-/// What is stored stands in the same places: of a string and of a list the pointer, which is the
-/// place that was given, and behind it the length, and there the units, or each element; each field
-/// at its offset; the number of a case in the least bytes that serve, and what it carries at its
-/// offset; of a handle the number that was given for it (CanonicalABI.md, "Storing"). The part and
-/// the handle that a field or an element begins with are some of those given.
-pub fn parts_are_stored_in_place()
+/// Of a string the pointer is stored, which is the place that was given, and behind it the length;
+/// and at that place stand its units, in a row (CanonicalABI.md, "Storing", `store_string`).
+pub fn strings_are_stored()
     ensures utf8 { (memory : List ℕ) (g : Given) (scalars : List ℕ) (p k h : ℕ)
         → AreBytes memory → g.charset ≡ utf8
         → place_of g k + length (utf8_units scalars) ≤ length memory → length memory < 2 ^ 32
@@ -487,6 +526,14 @@ pub fn parts_are_stored_in_place()
         → StandsAt memory p 4 (place_of g k)
         × StandsAt memory (p + 4) 4 (length (utf16_units scalars))
         × StandInRow memory (place_of g k) 2 (utf16_units scalars) }
+{}
+
+/// Of a list the pointer is stored, which is the place that was given, and behind it the length,
+/// and each element stands there, at its number times the size of an element; those of a list of
+/// fixed length stand in place, and each field at its offset (CanonicalABI.md, "Storing",
+/// `store_list` and `store_record`). The part and the handle that a field or an element begins with
+/// are some of those given.
+pub fn lists_and_fields_are_stored()
     ensures list { (memory : List ℕ) (g : Given) (t : Ty) (vs : Vals) (p k h : ℕ)
         → place_of g k < 2 ^ 32 → count_of vs < 2 ^ 32
         → Holds memory (stored g (list t) (elements vs) p k h)
@@ -502,6 +549,12 @@ pub fn parts_are_stored_in_place()
         → count_of vs ≡ field_count fs → Holds memory (stored g (fields x fs) (parts vs) p k h)
         → (i : ℕ) → i < field_count fs → (a : ℕ) × (b : ℕ)
         × Holds memory (stored g (field_type fs i) (value_at vs i) (p + offset i) a b) }
+{}
+
+/// The number of a case is stored in the least bytes that serve, and what it carries at its offset;
+/// of a handle the number that was given for it, in 4 bytes (CanonicalABI.md, "Storing",
+/// `store_variant`, `lower_own` and `lower_borrow`).
+pub fn cases_and_handles_are_stored()
     ensures bare { (memory : List ℕ) (g : Given) (x : CasesKind) (cs : Cases) (i b p k h : ℕ)
         → case_count cs ≤ 2 ^ 32 → IsLeastBytes (λ x. case_count cs ≤ 256 ^ x) b
         → i < case_count cs → Holds memory (stored g (cases x cs) (bare i) p k h)
@@ -523,12 +576,9 @@ pub fn parts_are_stored_in_place()
     sizes_of_numbers();
 }
 
-/// What is passed stands in the same core values: of a string and of a list the pointer, which is
-/// the place that was given, and then the length; of a handle the number that was given for it; the
-/// number of a case, and behind it what it carries; each field from its first core value on
-/// (CanonicalABI.md, "Flat Lowering"). The part and the handle that a field begins with are some of
-/// those given.
-pub fn parts_are_lowered_in_place()
+/// Of a string and of a list the pointer is passed, which is the place that was given, and then the
+/// length (CanonicalABI.md, "Flat Lowering", `lower_flat_string` and `lower_flat_list`).
+pub fn strings_and_lists_are_lowered_flat()
     ensures utf8 { (slots : List CoreValue) (g : Given) (scalars : List ℕ) (s k h : ℕ)
         → g.charset ≡ utf8 → s + 1 < length slots
         → SlotsHold slots (slots_of g string (text scalars) s k h)
@@ -540,6 +590,11 @@ pub fn parts_are_lowered_in_place()
     ensures list { (slots : List CoreValue) (g : Given) (t : Ty) (vs : Vals) (s k h : ℕ)
         → s + 1 < length slots → SlotsHold slots (slots_of g (list t) (elements vs) s k h)
         → IsCore slots s (place_of g k) × IsCore slots (s + 1) (count_of vs) }
+{}
+
+/// Of a handle the number is passed that was given for it; the number of a case, and behind it what
+/// it carries (CanonicalABI.md, "Flat Lowering", `lower_flat_variant`).
+pub fn handles_and_cases_are_lowered_flat()
     ensures own { (slots : List CoreValue) (g : Given) (r : ResourceId) (e : HandleValue)
         (s k h : ℕ) → s < length slots → SlotsHold slots (slots_of g (own r) (handle e) s k h)
         → IsCore slots s (number_of g h) }
@@ -554,6 +609,11 @@ pub fn parts_are_lowered_in_place()
         (i s k h : ℕ) (v : Val) (t : Ty) → s < length slots → IsCase cs i (Some t)
         → SlotsHold slots (slots_of g (cases x cs) (bearing i v) s k h)
         → IsCore slots s i × SlotsHold slots (slots_of g t v (s + 1) k h) }
+{}
+
+/// Each field is passed from its first core value on (CanonicalABI.md, "Flat Lowering",
+/// `lower_flat_record`). The part and the handle that a field begins with are some of those given.
+pub fn fields_are_lowered_flat()
     ensures fields { (slots : List CoreValue) (g : Given) (x : FieldsKind) (fs : Fields)
         (first : ℕ → ℕ) (vs : Vals) (s k h : ℕ) → AreFirst fs first
         → count_of vs ≡ field_count fs

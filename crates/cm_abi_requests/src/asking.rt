@@ -15,8 +15,9 @@ ghost use Rattle.cm_abi_requests.specs.Asking.{parts_by_payload};
 
 use crate::asked::Asked;
 use crate::chains::{ask_first, ask_sizes};
-use crate::charsets::{read_charset, stored_charset, text_align, text_size, text_units};
+use crate::charsets::{read_charset, stored_charset, text_size, text_units};
 use crate::strings::Strings;
+use cm_abi_model::text_align;
 use cm_layout::{Form, Head, Layout, Part, Payload};
 use cm_types::Value;
 use std::alloc::AllocError;

@@ -2,14 +2,12 @@
 
 ghost use Rattle.std.specs.Prelude.{◌≡◌, length};
 ghost use Rattle.std.specs.Str.{chars};
-ghost use Rattle.cm_abi_model.specs.Texts.{text_align, utf16};
 ghost use Rattle.cm_abi_model.specs.Requests.{read_charset, stored_charset, tagged_charset};
 ghost use Rattle.cm_abi_model.specs.Requests.{text_bytes};
 ghost use Rattle.cm_abi_model.specs.Requests.{text_units};
 ghost use Rattle.cm_abi_requests.specs.Asking.{charset_seen};
 
-use cm_abi_model::StringEncoding;
-use cm_text::{Utf8, Utf16, transcoded_size};
+use cm_abi_model::{StringEncoding, utf16_size};
 
 /// What the bytes of one string are in.
 #[derive(Clone, Copy, Debug, PartialEq, Eq)]
@@ -44,26 +42,6 @@ pub(crate) fn stored_charset(encoding: StringEncoding) -> Charset
     match encoding {
         StringEncoding::Utf8 => Charset::Utf8,
         StringEncoding::Utf16 | StringEncoding::Latin1OrUtf16 => Charset::Utf16,
-    }
-}
-
-/// The alignment of a string's pointer, in bytes.
-pub(crate) fn text_align(encoding: StringEncoding) -> u32
-    ensures { result ≡ text_align encoding }
-{
-    match encoding {
-        StringEncoding::Utf8 => 1,
-        StringEncoding::Utf16 | StringEncoding::Latin1OrUtf16 => 2,
-    }
-}
-
-/// How many bytes a text takes in UTF-16.
-fn utf16_size(text: &str) -> usize
-    ensures { result ≡ length (text_bytes utf16 (chars text.now)) }
-{
-    match transcoded_size::<Utf8, Utf16>(text.as_bytes()) {
-        Ok(size) => size,
-        Err(_) => unreachable!(),
     }
 }
 

@@ -37,13 +37,5 @@ text_of bytes h = record { all = to_all (chars bytes) (scalars-chars bytes h); i
 same_chars : (cs bytes : List ℕ) → IsText IsScalar spell_utf8 cs bytes → cs ≡ chars bytes
 same_chars cs bytes t = sym (ap chars (sym (spelled cs ∙ t.is)) ∙ chars-encodes cs (from_all cs t.all))
 
-pub no_fault : (bytes : List ℕ) (e : TextFault) → IsUtf8 bytes → IsIllFormed e (IsTextUpTo IsScalar spell_utf8 bytes) → ⊥
-no_fault bytes (text_fault.IllFormed at) h up =
-    up.longest (length bytes) (chars bytes) up.short (subst (λ bs. IsText IsScalar spell_utf8 (chars bytes) bs) (sym (take-length bytes)) (text_of bytes h))
-no_fault bytes text_fault.Memory h up = up
-
 pub size_8 : (bytes : List ℕ) → IsUtf8 bytes → length bytes ≡ length (flat_map spell_utf8 (chars bytes))
 size_8 bytes h = ap length (sym (spelled_chars bytes h))
-
-pub size_16 : (bytes : List ℕ) (size : ℕ) → IsTextOfSize IsScalar spell_utf8 spell_utf16 bytes size → size ≡ length (flat_map spell_utf16 (chars bytes))
-size_16 bytes size t = sym t.size_is ∙ ap (λ cs. length (flat_map spell_utf16 cs)) (same_chars t.scalars bytes t.text)

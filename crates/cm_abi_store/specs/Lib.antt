@@ -6,3 +6,4 @@ pub mod Fitting
 pub mod FlatLowering
 pub mod Calls
 pub mod Kinds
+pub mod Stored

@@ -1,18 +1,18 @@
 //! Values in memory: one walk down a layout, wherever the values come from.
 
-ghost use Rattle.std.specs.Prelude.{◌≡◌, ℕ, ◌+◌, ◌*◌, ◌≤◌, length, map};
+ghost use Rattle.std.specs.Prelude.{◌≡◌, ℕ, ◌+◌, ◌*◌, ◌≤◌, length};
 ghost use Rattle.cm_layout.specs.Laid.{Laid, PartsLaid};
-ghost use Rattle.cm_layout.specs.Layouts.{layout_of, nothings, part_of, payload_of};
-ghost use Rattle.cm_layout.specs.Shapes.{cases_shape, fields_shape, fixed_list_shape};
-ghost use Rattle.cm_layout.specs.Shapes.{handle_shape, leaf_shape, list_shape, parts_from};
-ghost use Rattle.cm_layout.specs.Shapes.{payloads_from, string_shape};
+ghost use Rattle.cm_layout.specs.Layouts.{layout_of, part_of, payload_of};
+ghost use Rattle.cm_layout.specs.Shapes.{handle_shape, leaf_shape, string_shape};
 ghost use Rattle.cm_layout.specs.declared.heads.Head.{Head as HeadTy};
-ghost use Rattle.cm_abi_model.specs.Parts.{handle_count, handle_count_each, part_count};
-ghost use Rattle.cm_abi_model.specs.Parts.{part_count_each};
-ghost use Rattle.cm_abi_model.specs.Stores.{Given, poke, store_each};
+ghost use Rattle.cm_abi_model.specs.Parts.{handle_count, part_count};
+ghost use Rattle.cm_abi_model.specs.Stores.{Given, poke};
 ghost use Rattle.cm_abi_store.specs.Fitting.{PayloadLies};
-ghost use Rattle.cm_abi_store.specs.Storing.{given_of, stored_by, stored_by_fields};
-ghost use Rattle.cm_abi_store.specs.Sources.{IsCarriedReady, carried_bytes, case_told};
+ghost use Rattle.cm_abi_store.specs.Sources.{IsCarriedReady, case_told};
+ghost use Rattle.cm_abi_store.specs.Stored.{StoresFields, StoresElements, StoresPayload};
+ghost use Rattle.cm_abi_store.specs.Stored.{StoresValue, cases_of, enum_of, fields_of};
+ghost use Rattle.cm_abi_store.specs.Stored.{fixed_list_of, list_of, record_of};
+ghost use Rattle.cm_abi_store.specs.Storing.{given_of, stored_by};
 
 use crate::source::{StoredSource, ValueSource};
 use crate::{Next, Target, store_handle, store_pointer, units_stored, write_bytes, write_number};
@@ -46,13 +46,8 @@ fn store_text<S: ValueSource>(
     requires inside { at + 8 ≤ length memory.old }
     requires ready { (e : HeadTy) × S.ready source (length memory.old) (given_of to.now) e
         string_shape next.old.part next.old.handle }
-    ensures stored { memory.new
-        ≡ poke (stored_by (given_of to.now) string_shape (S.value source string_shape) at
-        next.old.part next.old.handle) memory.old }
-    ensures stays { length memory.new ≡ length memory.old }
-    ensures part { next.new.part ≡ next.old.part + part_count (S.value source string_shape) }
-    ensures handle { next.new.handle
-        ≡ next.old.handle + handle_count (S.value source string_shape) }
+    ensures { StoresValue (given_of to.now) string_shape (S.value source string_shape) at
+        next.old memory.old next.new memory.new }
 {
     let part = next.part;
     let size = source.text_size(to.encoding, part);
@@ -73,14 +68,8 @@ fn store_handle_of<S: ValueSource>(
     requires inside { at + 4 ≤ length memory.old }
     requires ready { (e : HeadTy) × S.ready source (length memory.old) (given_of to.now) e
         (handle_shape handle) next.old.part next.old.handle }
-    ensures stored { memory.new
-        ≡ poke (stored_by (given_of to.now) (handle_shape handle)
-        (S.value source (handle_shape handle)) at next.old.part next.old.handle) memory.old }
-    ensures stays { length memory.new ≡ length memory.old }
-    ensures part { next.new.part
-        ≡ next.old.part + part_count (S.value source (handle_shape handle)) }
-    ensures handle { next.new.handle
-        ≡ next.old.handle + handle_count (S.value source (handle_shape handle)) }
+    ensures { StoresValue (given_of to.now) (handle_shape handle)
+        (S.value source (handle_shape handle)) at next.old memory.old next.new memory.new }
 {
     store_handle(to, memory, at, next);
 }
@@ -95,23 +84,21 @@ fn store_enum<S: ValueSource>(
 )
     requires inside { at + discriminant ≤ length memory.old }
     requires ready { (n : ℕ) × (g : Given) × (e : HeadTy) × (k : ℕ) × (h : ℕ)
-        × S.ready source n g e (cases_shape discriminant discriminant (nothings count)) k h }
+        × S.ready source n g e (enum_of discriminant count) k h }
     ensures stored { (g : Given) (k h : ℕ) → memory.new
-        ≡ poke (stored_by g (cases_shape discriminant discriminant (nothings count))
-        (S.value source (cases_shape discriminant discriminant (nothings count))) at k h)
+        ≡ poke (stored_by g (enum_of discriminant count)
+        (S.value source (enum_of discriminant count)) at k h)
         memory.old }
     ensures stays { length memory.new ≡ length memory.old }
-    ensures parts { part_count
-        (S.value source (cases_shape discriminant discriminant (nothings count))) ≡ 0 }
-    ensures handles { handle_count
-        (S.value source (cases_shape discriminant discriminant (nothings count))) ≡ 0 }
+    ensures parts { part_count (S.value source (enum_of discriminant count)) ≡ 0 }
+    ensures handles { handle_count (S.value source (enum_of discriminant count)) ≡ 0 }
 {
     let case = source.case(discriminant, discriminant);
     write_number(memory, at, discriminant, u64::from(case.0));
 }
 
-/// Stores a value by its layout at an address (CanonicalABI.md, "Storing"). The next part and the
-/// next handle are then those behind the value's; it takes no memory.
+/// Stores a value by its layout at an address: the standard's `store` (CanonicalABI.md, "Storing").
+/// The next part and the next handle are then those behind the value's; it takes no memory.
 #[cycle(storing)]
 pub fn store_value<S: StoredSource>(
     to: &Target<'_>,
@@ -125,15 +112,9 @@ pub fn store_value<S: StoredSource>(
     requires inside { at + (layout_of layout.now).head.size ≤ length memory.old }
     requires ready { S.ready source (length memory.old) (given_of to.now)
         (layout_of layout.now).head (layout_of layout.now).shape next.old.part next.old.handle }
-    ensures stored { memory.new
-        ≡ poke (stored_by (given_of to.now) (layout_of layout.now).shape
-        (S.value source (layout_of layout.now).shape) at next.old.part next.old.handle)
-        memory.old }
-    ensures stays { length memory.new ≡ length memory.old }
-    ensures part { next.new.part
-        ≡ next.old.part + part_count (S.value source (layout_of layout.now).shape) }
-    ensures handle { next.new.handle
-        ≡ next.old.handle + handle_count (S.value source (layout_of layout.now).shape) }
+    ensures { StoresValue (given_of to.now) (layout_of layout.now).shape
+        (S.value source (layout_of layout.now).shape) at next.old
+        memory.old next.new memory.new }
 {
     let size = layout.head.size;
     match &layout.form {
@@ -180,20 +161,10 @@ fn store_list<S: StoredSource>(
     requires laid { Laid (layout_of element.now).head.size (layout_of element.now).shape }
     requires inside { at + 8 ≤ length memory.old }
     requires ready { (e : HeadTy) × S.ready source (length memory.old) (given_of to.now) e
-        (list_shape (layout_of element.now).head (layout_of element.now).shape) next.old.part
-        next.old.handle }
-    ensures stored { memory.new
-        ≡ poke (stored_by (given_of to.now)
-        (list_shape (layout_of element.now).head (layout_of element.now).shape)
-        (S.value source (list_shape (layout_of element.now).head (layout_of element.now).shape))
-        at next.old.part next.old.handle) memory.old }
-    ensures stays { length memory.new ≡ length memory.old }
-    ensures part { next.new.part
-        ≡ next.old.part + part_count (S.value source
-        (list_shape (layout_of element.now).head (layout_of element.now).shape)) }
-    ensures handle { next.new.handle
-        ≡ next.old.handle + handle_count (S.value source
-        (list_shape (layout_of element.now).head (layout_of element.now).shape)) }
+        (list_of (layout_of element.now)) next.old.part next.old.handle }
+    ensures { StoresValue (given_of to.now) (list_of (layout_of element.now))
+        (S.value source (list_of (layout_of element.now))) at next.old memory.old
+        next.new memory.new }
 {
     let elements = source.elements();
     let place = store_pointer(to, memory, at, elements.0, next);
@@ -214,21 +185,10 @@ fn store_fixed_list<S: StoredSource>(
     requires laid { Laid (layout_of element.now).head.size (layout_of element.now).shape }
     requires inside { at + count * (layout_of element.now).head.size ≤ length memory.old }
     requires ready { (e : HeadTy) × S.ready source (length memory.old) (given_of to.now) e
-        (fixed_list_shape (layout_of element.now).head (layout_of element.now).shape count)
-        next.old.part next.old.handle }
-    ensures stored { memory.new
-        ≡ poke (stored_by (given_of to.now)
-        (fixed_list_shape (layout_of element.now).head (layout_of element.now).shape count)
-        (S.value source
-        (fixed_list_shape (layout_of element.now).head (layout_of element.now).shape count))
-        at next.old.part next.old.handle) memory.old }
-    ensures stays { length memory.new ≡ length memory.old }
-    ensures part { next.new.part
-        ≡ next.old.part + part_count (S.value source
-        (fixed_list_shape (layout_of element.now).head (layout_of element.now).shape count)) }
-    ensures handle { next.new.handle
-        ≡ next.old.handle + handle_count (S.value source
-        (fixed_list_shape (layout_of element.now).head (layout_of element.now).shape count)) }
+        (fixed_list_of (layout_of element.now) count) next.old.part next.old.handle }
+    ensures { StoresValue (given_of to.now) (fixed_list_of (layout_of element.now) count)
+        (S.value source (fixed_list_of (layout_of element.now) count)) at next.old memory.old
+        next.new memory.new }
 {
     let items = source.items(count as usize);
     store_row::<S>(to, memory, element, items, count as usize, at, next);
@@ -251,18 +211,9 @@ pub fn store_row<S: StoredSource>(
     requires ready { S.values_ready items (length memory.old) (given_of to.now)
         (layout_of element.now).head (layout_of element.now).shape count next.old.part
         next.old.handle }
-    ensures stored { memory.new
-        ≡ poke (store_each (stored_by (given_of to.now) (layout_of element.now).shape)
-        (layout_of element.now).head.size
+    ensures { StoresElements (given_of to.now) (layout_of element.now)
         (S.values_left items (layout_of element.now).head (layout_of element.now).shape count) at
-        next.old.part next.old.handle) memory.old }
-    ensures stays { length memory.new ≡ length memory.old }
-    ensures part { next.new.part
-        ≡ next.old.part + part_count_each
-        (S.values_left items (layout_of element.now).head (layout_of element.now).shape count) }
-    ensures handle { next.new.handle
-        ≡ next.old.handle + handle_count_each
-        (S.values_left items (layout_of element.now).head (layout_of element.now).shape count) }
+        next.old memory.old next.new memory.new }
 {
     if element.head.is_bulk {
         if let Some(bytes) = S::plain_bytes(&items, element, count) {
@@ -290,21 +241,12 @@ fn store_record<S: StoredSource>(
     size: u32,
     next: &mut Next,
 )
-    requires laid { PartsLaid size 0 (parts_from (map part_of parts.now)) }
+    requires laid { PartsLaid size 0 (fields_of parts.now) }
     requires inside { at + size ≤ length memory.old }
     requires ready { (e : HeadTy) × S.ready source (length memory.old) (given_of to.now) e
-        (fields_shape (parts_from (map part_of parts.now))) next.old.part next.old.handle }
-    ensures stored { memory.new
-        ≡ poke (stored_by (given_of to.now) (fields_shape (parts_from (map part_of parts.now)))
-        (S.value source (fields_shape (parts_from (map part_of parts.now)))) at next.old.part
-        next.old.handle) memory.old }
-    ensures stays { length memory.new ≡ length memory.old }
-    ensures part { next.new.part
-        ≡ next.old.part
-        + part_count (S.value source (fields_shape (parts_from (map part_of parts.now)))) }
-    ensures handle { next.new.handle
-        ≡ next.old.handle
-        + handle_count (S.value source (fields_shape (parts_from (map part_of parts.now)))) }
+        (record_of parts.now) next.old.part next.old.handle }
+    ensures { StoresValue (given_of to.now) (record_of parts.now)
+        (S.value source (record_of parts.now)) at next.old memory.old next.new memory.new }
 {
     let fields = source.fields();
     store_fields::<S>(to, memory, parts, fields, at, size, next);
@@ -323,21 +265,13 @@ pub fn store_fields<S: StoredSource>(
     size: u32,
     next: &mut Next,
 )
-    requires laid { PartsLaid size 0 (parts_from (map part_of parts.now)) }
+    requires laid { PartsLaid size 0 (fields_of parts.now) }
     requires inside { at + size ≤ length memory.old }
     requires ready { S.fields_ready fields (length memory.old) (given_of to.now)
-        (parts_from (map part_of parts.now)) next.old.part next.old.handle }
-    ensures stored { memory.new
-        ≡ poke (stored_by_fields (given_of to.now) (parts_from (map part_of parts.now))
-        (S.fields_left fields (parts_from (map part_of parts.now))) at next.old.part
-        next.old.handle) memory.old }
-    ensures stays { length memory.new ≡ length memory.old }
-    ensures part { next.new.part
-        ≡ next.old.part
-        + part_count_each (S.fields_left fields (parts_from (map part_of parts.now))) }
-    ensures handle { next.new.handle
-        ≡ next.old.handle
-        + handle_count_each (S.fields_left fields (parts_from (map part_of parts.now))) }
+        (fields_of parts.now) next.old.part next.old.handle }
+    ensures { StoresFields (given_of to.now) (fields_of parts.now)
+        (S.fields_left fields (fields_of parts.now)) at next.old memory.old
+        next.new memory.new }
 {
     let mut rest = fields;
     for part in parts {
@@ -361,15 +295,9 @@ fn store_field<S: StoredSource>(
         ≤ length memory.old }
     requires ready { S.ready source (length memory.old) (given_of to.now)
         (part_of part.now).1.head (part_of part.now).1.shape next.old.part next.old.handle }
-    ensures stored { memory.new
-        ≡ poke (stored_by (given_of to.now) (part_of part.now).1.shape
-        (S.value source (part_of part.now).1.shape) (at + (part_of part.now).0) next.old.part
-        next.old.handle) memory.old }
-    ensures stays { length memory.new ≡ length memory.old }
-    ensures part { next.new.part
-        ≡ next.old.part + part_count (S.value source (part_of part.now).1.shape) }
-    ensures handle { next.new.handle
-        ≡ next.old.handle + handle_count (S.value source (part_of part.now).1.shape) }
+    ensures { StoresValue (given_of to.now) (part_of part.now).1.shape
+        (S.value source (part_of part.now).1.shape) (at + (part_of part.now).0)
+        next.old memory.old next.new memory.new }
 {
     let place = at + part.offset as usize;
     store_value(to, memory, &part.layout, source, place, next);
@@ -389,25 +317,13 @@ fn store_case<S: StoredSource>(
     size: u32,
     next: &mut Next,
 )
-    requires laid { Laid size
-        (cases_shape discriminant offset (payloads_from (map payload_of payloads.now))) }
+    requires laid { Laid size (cases_of discriminant offset payloads.now) }
     requires inside { at + size ≤ length memory.old }
     requires ready { (e : HeadTy) × S.ready source (length memory.old) (given_of to.now) e
-        (cases_shape discriminant offset (payloads_from (map payload_of payloads.now)))
-        next.old.part next.old.handle }
-    ensures stored { memory.new
-        ≡ poke (stored_by (given_of to.now)
-        (cases_shape discriminant offset (payloads_from (map payload_of payloads.now)))
-        (S.value source
-        (cases_shape discriminant offset (payloads_from (map payload_of payloads.now)))) at
-        next.old.part next.old.handle) memory.old }
-    ensures stays { length memory.new ≡ length memory.old }
-    ensures part { next.new.part
-        ≡ next.old.part + part_count (S.value source
-        (cases_shape discriminant offset (payloads_from (map payload_of payloads.now)))) }
-    ensures handle { next.new.handle
-        ≡ next.old.handle + handle_count (S.value source
-        (cases_shape discriminant offset (payloads_from (map payload_of payloads.now)))) }
+        (cases_of discriminant offset payloads.now) next.old.part next.old.handle }
+    ensures { StoresValue (given_of to.now) (cases_of discriminant offset payloads.now)
+        (S.value source (cases_of discriminant offset payloads.now)) at next.old memory.old
+        next.new memory.new }
 {
     let case = source.case(discriminant, offset);
     write_number(memory, at, discriminant, u64::from(case.0));
@@ -431,15 +347,9 @@ fn store_payload<S: StoredSource>(
     requires ready { IsCarriedReady
         (λ s e sh. S.ready s (length memory.old) (given_of to.now) e sh next.old.part
         next.old.handle) (payload_of payload.now) source }
-    ensures stored { memory.new
-        ≡ poke (carried_bytes (given_of to.now) (payload_of payload.now)
-        (case_told S.value 0 (payload_of payload.now) source) at next.old.part
-        next.old.handle) memory.old }
-    ensures stays { length memory.new ≡ length memory.old }
-    ensures part { next.new.part
-        ≡ next.old.part + part_count (case_told S.value 0 (payload_of payload.now) source) }
-    ensures handle { next.new.handle
-        ≡ next.old.handle + handle_count (case_told S.value 0 (payload_of payload.now) source) }
+    ensures { StoresPayload (given_of to.now) (payload_of payload.now)
+        (case_told S.value 0 (payload_of payload.now) source) at next.old memory.old
+        next.new memory.new }
 {
     if let Payload::Carried(layout) = payload {
         if let Some(source) = source {

@@ -9,9 +9,9 @@ ghost use Rattle.cm_abi_model.specs.Texts.{Has, charset_of, latin1, spell, utf16
 ghost use Rattle.cm_text.specs.Text.{IsText, IsTextOfSize};
 
 use crate::bytes::write_bytes;
-use cm_abi_model::{StringEncoding, UTF16_TAG};
+use cm_abi_model::{StringEncoding, UTF16_TAG, utf16_size};
 use cm_text::laws::one_list_of_scalars;
-use cm_text::{Encoding, Latin1, Source, Utf8, Utf16, transcode_into, transcoded_size};
+use cm_text::{Encoding, Latin1, Source, Utf8, Utf16, transcode_into};
 
 /// Writes a text of one encoding in another one, where it takes so many bytes.
 fn write_transcoded<S: Source, D: Encoding>(memory: &mut [u8], at: usize, size: usize, bytes: &[u8])
@@ -23,16 +23,6 @@ fn write_transcoded<S: Source, D: Encoding>(memory: &mut [u8], at: usize, size: 
 {
     one_list_of_scalars::<S>();
     transcode_into::<S, D>(bytes, &mut memory[at..at + size]);
-}
-
-/// How many bytes a text takes in UTF-16.
-fn utf16_size(text: &str) -> usize
-    ensures { result ≡ length (text_bytes utf16 (chars text.now)) }
-{
-    match transcoded_size::<Utf8, Utf16>(text.as_bytes()) {
-        Ok(size) => size,
-        Err(_) => unreachable!(),
-    }
 }
 
 /// Writes a text of UTF-8 as it is stored, in so many bytes.

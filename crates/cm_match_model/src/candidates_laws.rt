@@ -34,8 +34,8 @@ pub fn names_fit()
         → fits a b ≡ bytes_eq a b }
 {}
 
-/// Cases that were worked by hand from Cargo's rules.
-pub fn worked_cases()
+/// Which of some exports an import finds, in cases that were worked by hand from Cargo's rules.
+pub fn worked_candidates()
     ensures later { only (candidates (exports_named 0 (codes "a:b/c@1.4.1" ∷ []))
         (codes "a:b/c@1.2.0")) ≡ candidate.One 0 0 }
     ensures major { only (candidates (exports_named 0 (codes "a:b/c@2.0.0" ∷ []))
@@ -43,6 +43,10 @@ pub fn worked_cases()
     ensures two { only (candidates
         (exports_named 0 (codes "a:b/c@1.2.0" ∷ codes "a:b/c@1.3.0" ∷ []))
         (codes "a:b/c@1.2.0")) ≡ candidate.Several }
+{}
+
+/// Which names fit, in cases that were worked by hand from Cargo's rules.
+pub fn worked_fits()
     ensures earlier { fits (codes "a:b/c@0.2.3") (codes "a:b/c@0.2.1") ≡ false }
     ensures minor { fits (codes "a:b/c@0.2.3") (codes "a:b/c@0.3.0") ≡ false }
     ensures patch { fits (codes "a:b/c@0.0.3") (codes "a:b/c@0.0.4") ≡ false }

@@ -75,37 +75,22 @@ pass_row-loop-preserved g t c =
       next_handles v all others c.loop.next.handle c.pass_value.new.next.handle _ is c.pass_value.ensures.handle c.loop.invariant.7,
     )
 
-pub pass_row-returns-clause-slots : goal.pass_row-returns-clause-slots
-pass_row-returns-clause-slots g t c =
+pub pass_row-returns : goal.pass_row-returns
+pass_row-returns g t c =
     let done : c.args.count - c.loop.counter ≡ 0 = omega (arith, c.loop-test.false) in
     let ready : g.S.ValueSource.values_ready c.loop.rest (length c.args.memory.now) (given_of c.args.to.now) (layout_of c.args.element.now).head (layout_of c.args.element.now).shape 0 c.loop.next.part c.loop.next.handle = rw done at c.loop.invariant.3 in
     let none = g.met.S.ValueSource.no_elements c.loop.rest _ _ _ _ _ _ ready in
-    rw (done, none) at c.loop.invariant.4
-
-pub pass_row-returns-clause-stored : goal.pass_row-returns-clause-stored
-pass_row-returns-clause-stored g t c =
-    let done : c.args.count - c.loop.counter ≡ 0 = omega (arith, c.loop-test.false) in
-    let ready : g.S.ValueSource.values_ready c.loop.rest (length c.args.memory.now) (given_of c.args.to.now) (layout_of c.args.element.now).head (layout_of c.args.element.now).shape 0 c.loop.next.part c.loop.next.handle = rw done at c.loop.invariant.3 in
-    let none = g.met.S.ValueSource.no_elements c.loop.rest _ _ _ _ _ _ ready in
-    rw (done, none) at c.loop.invariant.5
-
-pub pass_row-returns-clause-part : goal.pass_row-returns-clause-part
-pass_row-returns-clause-part g t c =
-    let done : c.args.count - c.loop.counter ≡ 0 = omega (arith, c.loop-test.false) in
-    let ready : g.S.ValueSource.values_ready c.loop.rest (length c.args.memory.now) (given_of c.args.to.now) (layout_of c.args.element.now).head (layout_of c.args.element.now).shape 0 c.loop.next.part c.loop.next.handle = rw done at c.loop.invariant.3 in
-    let none = g.met.S.ValueSource.no_elements c.loop.rest _ _ _ _ _ _ ready in
-    let all = c.args.next.now.part + part_count_each (g.S.ValueSource.values_left c.args.items (layout_of c.args.element.now).head (layout_of c.args.element.now).shape c.args.count) in
-    let counted : c.loop.next.part + 0 ≡ all = rw (done, none) at c.loop.invariant.6 in
-    omega (arith, counted)
-
-pub pass_row-returns-clause-handle : goal.pass_row-returns-clause-handle
-pass_row-returns-clause-handle g t c =
-    let done : c.args.count - c.loop.counter ≡ 0 = omega (arith, c.loop-test.false) in
-    let ready : g.S.ValueSource.values_ready c.loop.rest (length c.args.memory.now) (given_of c.args.to.now) (layout_of c.args.element.now).head (layout_of c.args.element.now).shape 0 c.loop.next.part c.loop.next.handle = rw done at c.loop.invariant.3 in
-    let none = g.met.S.ValueSource.no_elements c.loop.rest _ _ _ _ _ _ ready in
-    let all = c.args.next.now.handle + handle_count_each (g.S.ValueSource.values_left c.args.items (layout_of c.args.element.now).head (layout_of c.args.element.now).shape c.args.count) in
-    let counted : c.loop.next.handle + 0 ≡ all = rw (done, none) at c.loop.invariant.7 in
-    omega (arith, counted)
+    let left = g.S.ValueSource.values_left c.args.items (layout_of c.args.element.now).head (layout_of c.args.element.now).shape c.args.count in
+    let parts : c.loop.next.part + 0 ≡ c.args.next.now.part + part_count_each left = rw (done, none) at c.loop.invariant.6 in
+    let handles : c.loop.next.handle + 0 ≡ c.args.next.now.handle + handle_count_each left = rw (done, none) at c.loop.invariant.7 in
+    record {
+      slots = rw (done, none) at c.loop.invariant.4;
+      stored = rw (done, none) at c.loop.invariant.5;
+      stays = c.loop.invariant.0;
+      slots_stay = c.loop.invariant.1;
+      part = omega (arith, parts);
+      handle = omega (arith, handles);
+    }
 
 pub pass_fields-loop-part-init : goal.pass_fields-loop-part-init
 pass_fields-loop-part-init g t c = (
@@ -161,71 +146,39 @@ pass_fields-loop-part-preserved g t c =
       next_handles v all left c.loop-part.next.handle c.pass_field.new.next.handle _ told.0 c.pass_field.ensures.handle (rw next at c.loop-part.invariant.7),
     )
 
-pub pass_case-returns-in-Some-clause-slots : goal.pass_case-returns-in-Some-clause-slots
-pass_case-returns-in-Some-clause-slots g t c =
+pub pass_case-returns-in-Some : goal.pass_case-returns-in-Some
+pass_case-returns-in-Some g t c =
     let V = g.S.ValueSource.value in
     let ps = payloads_from (map payload_of c.args.payloads.now) in
     let i = c.case-case.result.0 in
     let is = payload_is payload_of c.args.payloads.now i c.in-Some.payload.now c.in-Some.ensures.lookup.3.0 c.in-Some.ensures.lookup.1 in
     let told = c.case-case.ensures _ _ _ ps _ _ c.requires.ready.1 in
-    rw (told.0, c.pass_payload.ensures.slots, ← is, c.from.ensures)
-    (case_passed V (given_of c.args.to.now) c.args.discriminant c.args.offset ps i c.case-case.result.1 c.args.at c.args.next.now.part c.args.next.now.handle c.args.slots.now)
+    record {
+      slots =
+          rw (told.0, c.pass_payload.ensures.slots, ← is, c.from.ensures)
+          (case_passed V (given_of c.args.to.now) c.args.discriminant c.args.offset ps i c.case-case.result.1 c.args.at c.args.next.now.part c.args.next.now.handle c.args.slots.now);
+      stored =
+          rw (told.0, c.pass_payload.ensures.stored, ← is)
+          (ap (λ bs. poke bs c.args.memory.now) (behind_passed V (given_of c.args.to.now) c.args.discriminant c.args.offset ps i c.case-case.result.1 c.args.next.now.part c.args.next.now.handle));
+      stays = c.pass_payload.ensures.stays;
+      slots_stay = search (rules, the_lemmas);
+      part = rw (told.0, is, case_parts V i (payload_of c.in-Some.payload.now) c.case-case.result.1) c.pass_payload.ensures.part;
+      handle = rw (told.0, is, case_handles V i (payload_of c.in-Some.payload.now) c.case-case.result.1) c.pass_payload.ensures.handle;
+    }
 
-pub pass_case-returns-in-Some-clause-stored : goal.pass_case-returns-in-Some-clause-stored
-pass_case-returns-in-Some-clause-stored g t c =
-    let V = g.S.ValueSource.value in
-    let ps = payloads_from (map payload_of c.args.payloads.now) in
-    let i = c.case-case.result.0 in
-    let is = payload_is payload_of c.args.payloads.now i c.in-Some.payload.now c.in-Some.ensures.lookup.3.0 c.in-Some.ensures.lookup.1 in
-    let told = c.case-case.ensures _ _ _ ps _ _ c.requires.ready.1 in
-    rw (told.0, c.pass_payload.ensures.stored, ← is)
-    (ap (λ bs. poke bs c.args.memory.now) (behind_passed V (given_of c.args.to.now) c.args.discriminant c.args.offset ps i c.case-case.result.1 c.args.next.now.part c.args.next.now.handle))
-
-pub pass_case-returns-in-Some-clause-part : goal.pass_case-returns-in-Some-clause-part
-pass_case-returns-in-Some-clause-part g t c =
-    let V = g.S.ValueSource.value in
-    let ps = payloads_from (map payload_of c.args.payloads.now) in
-    let i = c.case-case.result.0 in
-    let is = payload_is payload_of c.args.payloads.now i c.in-Some.payload.now c.in-Some.ensures.lookup.3.0 c.in-Some.ensures.lookup.1 in
-    let told = c.case-case.ensures _ _ _ ps _ _ c.requires.ready.1 in
-    rw (told.0, is, case_parts V i (payload_of c.in-Some.payload.now) c.case-case.result.1) c.pass_payload.ensures.part
-
-pub pass_case-returns-in-Some-clause-handle : goal.pass_case-returns-in-Some-clause-handle
-pass_case-returns-in-Some-clause-handle g t c =
-    let V = g.S.ValueSource.value in
-    let ps = payloads_from (map payload_of c.args.payloads.now) in
-    let i = c.case-case.result.0 in
-    let is = payload_is payload_of c.args.payloads.now i c.in-Some.payload.now c.in-Some.ensures.lookup.3.0 c.in-Some.ensures.lookup.1 in
-    let told = c.case-case.ensures _ _ _ ps _ _ c.requires.ready.1 in
-    rw (told.0, is, case_handles V i (payload_of c.in-Some.payload.now) c.case-case.result.1) c.pass_payload.ensures.handle
-
-pub pass_case-returns-in-None-clause-slots : goal.pass_case-returns-in-None-clause-slots
-pass_case-returns-in-None-clause-slots g t c =
+pub pass_case-returns-in-None : goal.pass_case-returns-in-None
+pass_case-returns-in-None g t c =
     let ps = payloads_from (map payload_of c.args.payloads.now) in
     let is = payload_past payload_of c.args.payloads.now c.case-case.result.0 c.in-None.ensures.lookup.3 in
     let told = c.case-case.ensures _ _ _ ps _ _ c.requires.ready.1 in
-    rw (told.0, is, c.from.ensures) refl
-
-pub pass_case-returns-in-None-clause-stored : goal.pass_case-returns-in-None-clause-stored
-pass_case-returns-in-None-clause-stored g t c =
-    let ps = payloads_from (map payload_of c.args.payloads.now) in
-    let is = payload_past payload_of c.args.payloads.now c.case-case.result.0 c.in-None.ensures.lookup.3 in
-    let told = c.case-case.ensures _ _ _ ps _ _ c.requires.ready.1 in
-    rw (told.0, is) refl
-
-pub pass_case-returns-in-None-clause-part : goal.pass_case-returns-in-None-clause-part
-pass_case-returns-in-None-clause-part g t c =
-    let ps = payloads_from (map payload_of c.args.payloads.now) in
-    let is = payload_past payload_of c.args.payloads.now c.case-case.result.0 c.in-None.ensures.lookup.3 in
-    let told = c.case-case.ensures _ _ _ ps _ _ c.requires.ready.1 in
-    rw (told.0, is) (omega arith)
-
-pub pass_case-returns-in-None-clause-handle : goal.pass_case-returns-in-None-clause-handle
-pass_case-returns-in-None-clause-handle g t c =
-    let ps = payloads_from (map payload_of c.args.payloads.now) in
-    let is = payload_past payload_of c.args.payloads.now c.case-case.result.0 c.in-None.ensures.lookup.3 in
-    let told = c.case-case.ensures _ _ _ ps _ _ c.requires.ready.1 in
-    rw (told.0, is) (omega arith)
+    record {
+      slots = rw (told.0, is, c.from.ensures) refl;
+      stored = rw (told.0, is) refl;
+      stays = refl;
+      slots_stay = search rules;
+      part = rw (told.0, is) (omega arith);
+      handle = rw (told.0, is) (omega arith);
+    }
 
 pub pass_case-pass_payload-requires : goal.pass_case-pass_payload-requires
 pass_case-pass_payload-requires g t c κs within =
@@ -240,7 +193,7 @@ pass_case-pass_payload-requires g t c κs within =
     rw (← is) told.1 in
     (search (rules, the_lemmas, lt), search (rules, the_lemmas, pass, ready))
 
-pub pass_value-returns-in-Leaf-clause-slots : goal.pass_value-returns-in-Leaf-clause-slots
-pass_value-returns-in-Leaf-clause-slots g t c =
+pub pass_value-returns-in-Leaf : goal.pass_value-returns-in-Leaf
+pass_value-returns-in-Leaf g t c =
     let passed = c.pass_leaf.ensures.slots (given_of c.args.to.now) c.args.next.now.part c.args.next.now.handle in
     search (rules, the_lemmas, passed)

@@ -8,7 +8,7 @@ use Rattle.cm_layout.specs.declared.layouts.Form.{the_lemmas}
 use Rattle.cm_layout.specs.declared.layouts.Part.{Part}
 use Rattle.cm_layout.specs.declared.layouts.Payload.{Payload}
 use Rattle.cm_abi_model.specs.Parts.{handle_count_each, part_count_each}
-use Rattle.cm_abi_model.specs.Stores.{place_of, pointer_bytes, store_each}
+use Rattle.cm_abi_model.specs.Stores.{place_of, pointer_bytes, poke, store_each}
 use Rattle.cm_abi_store.specs.Fitting.{PayloadLies}
 use Rattle.cm_abi_store.specs.Storing.{given_of, stored_by}
 use Rattle.cm_abi_store.specs.Sources.{IsCarriedReady, field_before}
@@ -35,19 +35,25 @@ store_value-store_case-requires g t c κs within =
     let ready : g.S.ValueSource.ready c.args.source (length c.args.memory.now) (given_of c.args.to.now) (layout_of c.args.layout.now).head (cases_shape d o (payloads_from (map payload_of payloads))) c.args.next.now.part c.args.next.now.handle = rw shape_is at c.requires.ready in
     (search (rules, the_lemmas), search (rules, the_lemmas, ready))
 
-pub store_value-returns-in-Leaf-clause-stored : goal.store_value-returns-in-Leaf-clause-stored
-store_value-returns-in-Leaf-clause-stored g t c =
+pub store_value-returns-in-Leaf : goal.store_value-returns-in-Leaf
+store_value-returns-in-Leaf g t c =
     let stored = c.store_leaf.ensures.stored (given_of c.args.to.now) c.args.next.now.part c.args.next.now.handle in
     search (rules, the_lemmas, stored)
 
-pub store_list-returns-clause-stored : goal.store_list-returns-clause-stored
-store_list-returns-clause-stored g t c =
+pub store_list-returns : goal.store_list-returns
+store_list-returns g t c =
     let e = layout_of c.args.element.now in
     let place = place_of (given_of c.args.to.now) c.args.next.now.part in
     let told = c.elements-elements.ensures _ (given_of c.args.to.now) _ _ _ _ _ c.requires.ready.1 in
     let vs = g.S.ValueSource.values_left c.elements-elements.result.1 e.head e.shape c.elements-elements.result.0 in
-    rw (told.0, c.store_row.ensures.stored, c.store_pointer-place.ensures.place, c.store_pointer-place.ensures.stored, c.store_pointer-place.ensures.part, c.store_pointer-place.ensures.handle, told.1)
-    (sym (poke_both (pointer_bytes c.args.at place c.elements-elements.result.0) (store_each (stored_by (given_of c.args.to.now) e.shape) e.head.size vs place (c.args.next.now.part + 1) c.args.next.now.handle) c.args.memory.now))
+    record {
+      stored =
+          rw (told.0, c.store_row.ensures.stored, c.store_pointer-place.ensures.place, c.store_pointer-place.ensures.stored, c.store_pointer-place.ensures.part, c.store_pointer-place.ensures.handle, told.1)
+          (sym (poke_both (pointer_bytes c.args.at place c.elements-elements.result.0) (store_each (stored_by (given_of c.args.to.now) e.shape) e.head.size vs place (c.args.next.now.part + 1) c.args.next.now.handle) c.args.memory.now));
+      stays = search (rules, the_lemmas);
+      part = search (rules, the_lemmas);
+      handle = search (rules, the_lemmas);
+    }
 
 pub store_row-next_element-source-requires : goal.store_row-next_element-source-requires
 store_row-next_element-source-requires g t c =
@@ -88,30 +94,20 @@ store_row-loop-preserved g t c =
       next_handles v all others c.loop.next.handle c.store_value.new.next.handle _ is c.store_value.ensures.handle c.loop.invariant.5,
     )
 
-pub store_row-returns-clause-stored : goal.store_row-returns-clause-stored
-store_row-returns-clause-stored g t c =
+pub store_row-returns : goal.store_row-returns
+store_row-returns g t c =
     let done : c.args.count - c.loop.counter ≡ 0 = omega (arith, c.loop-test.false) in
     let ready : g.S.ValueSource.values_ready c.loop.rest (length c.args.memory.now) (given_of c.args.to.now) (layout_of c.args.element.now).head (layout_of c.args.element.now).shape 0 c.loop.next.part c.loop.next.handle = rw done at c.loop.invariant.2 in
     let none = g.met.S.ValueSource.no_elements c.loop.rest _ _ _ _ _ _ ready in
-    rw (done, none) at c.loop.invariant.3
-
-pub store_row-returns-clause-part : goal.store_row-returns-clause-part
-store_row-returns-clause-part g t c =
-    let done : c.args.count - c.loop.counter ≡ 0 = omega (arith, c.loop-test.false) in
-    let ready : g.S.ValueSource.values_ready c.loop.rest (length c.args.memory.now) (given_of c.args.to.now) (layout_of c.args.element.now).head (layout_of c.args.element.now).shape 0 c.loop.next.part c.loop.next.handle = rw done at c.loop.invariant.2 in
-    let none = g.met.S.ValueSource.no_elements c.loop.rest _ _ _ _ _ _ ready in
-    let all = c.args.next.now.part + part_count_each (g.S.ValueSource.values_left c.args.items (layout_of c.args.element.now).head (layout_of c.args.element.now).shape c.args.count) in
-    let counted : c.loop.next.part + 0 ≡ all = rw (done, none) at c.loop.invariant.4 in
-    omega (arith, counted)
-
-pub store_row-returns-clause-handle : goal.store_row-returns-clause-handle
-store_row-returns-clause-handle g t c =
-    let done : c.args.count - c.loop.counter ≡ 0 = omega (arith, c.loop-test.false) in
-    let ready : g.S.ValueSource.values_ready c.loop.rest (length c.args.memory.now) (given_of c.args.to.now) (layout_of c.args.element.now).head (layout_of c.args.element.now).shape 0 c.loop.next.part c.loop.next.handle = rw done at c.loop.invariant.2 in
-    let none = g.met.S.ValueSource.no_elements c.loop.rest _ _ _ _ _ _ ready in
-    let all = c.args.next.now.handle + handle_count_each (g.S.ValueSource.values_left c.args.items (layout_of c.args.element.now).head (layout_of c.args.element.now).shape c.args.count) in
-    let counted : c.loop.next.handle + 0 ≡ all = rw (done, none) at c.loop.invariant.5 in
-    omega (arith, counted)
+    let left = g.S.ValueSource.values_left c.args.items (layout_of c.args.element.now).head (layout_of c.args.element.now).shape c.args.count in
+    let parts : c.loop.next.part + 0 ≡ c.args.next.now.part + part_count_each left = rw (done, none) at c.loop.invariant.4 in
+    let handles : c.loop.next.handle + 0 ≡ c.args.next.now.handle + handle_count_each left = rw (done, none) at c.loop.invariant.5 in
+    record {
+      stored = rw (done, none) at c.loop.invariant.3;
+      stays = c.loop.invariant.0;
+      part = omega (arith, parts);
+      handle = omega (arith, handles);
+    }
 
 pub store_fields-next_field-source-requires : goal.store_fields-next_field-source-requires
 store_fields-next_field-source-requires g t c =
@@ -162,54 +158,33 @@ store_fields-loop-part-init g t c = (
   refl,
 )
 
-pub store_case-returns-in-Some-clause-stored : goal.store_case-returns-in-Some-clause-stored
-store_case-returns-in-Some-clause-stored g t c =
+pub store_case-returns-in-Some : goal.store_case-returns-in-Some
+store_case-returns-in-Some g t c =
     let V = g.S.ValueSource.value in
     let ps = payloads_from (map payload_of c.args.payloads.now) in
     let i = c.case-case.result.0 in
     let is = payload_is payload_of c.args.payloads.now i c.in-Some.payload.now c.in-Some.ensures.lookup.3.0 c.in-Some.ensures.lookup.1 in
     let told = c.case-case.ensures _ _ _ ps _ _ c.requires.ready.1 in
-    rw (told.0, c.store_payload.ensures.stored, ← is, c.write_number.ensures.stored, c.from.ensures)
-    (case_both V (given_of c.args.to.now) c.args.discriminant c.args.offset ps i c.case-case.result.1 c.args.at c.args.next.now.part c.args.next.now.handle c.args.memory.now)
+    record {
+      stored =
+          rw (told.0, c.store_payload.ensures.stored, ← is, c.write_number.ensures.stored, c.from.ensures)
+          (case_both V (given_of c.args.to.now) c.args.discriminant c.args.offset ps i c.case-case.result.1 c.args.at c.args.next.now.part c.args.next.now.handle c.args.memory.now);
+      stays = c.store_payload.ensures.stays ∙ c.write_number.ensures.stays;
+      part = rw (told.0, is, case_parts V i (payload_of c.in-Some.payload.now) c.case-case.result.1) c.store_payload.ensures.part;
+      handle = rw (told.0, is, case_handles V i (payload_of c.in-Some.payload.now) c.case-case.result.1) c.store_payload.ensures.handle;
+    }
 
-pub store_case-returns-in-Some-clause-part : goal.store_case-returns-in-Some-clause-part
-store_case-returns-in-Some-clause-part g t c =
-    let V = g.S.ValueSource.value in
-    let ps = payloads_from (map payload_of c.args.payloads.now) in
-    let i = c.case-case.result.0 in
-    let is = payload_is payload_of c.args.payloads.now i c.in-Some.payload.now c.in-Some.ensures.lookup.3.0 c.in-Some.ensures.lookup.1 in
-    let told = c.case-case.ensures _ _ _ ps _ _ c.requires.ready.1 in
-    rw (told.0, is, case_parts V i (payload_of c.in-Some.payload.now) c.case-case.result.1) c.store_payload.ensures.part
-
-pub store_case-returns-in-Some-clause-handle : goal.store_case-returns-in-Some-clause-handle
-store_case-returns-in-Some-clause-handle g t c =
-    let V = g.S.ValueSource.value in
-    let ps = payloads_from (map payload_of c.args.payloads.now) in
-    let i = c.case-case.result.0 in
-    let is = payload_is payload_of c.args.payloads.now i c.in-Some.payload.now c.in-Some.ensures.lookup.3.0 c.in-Some.ensures.lookup.1 in
-    let told = c.case-case.ensures _ _ _ ps _ _ c.requires.ready.1 in
-    rw (told.0, is, case_handles V i (payload_of c.in-Some.payload.now) c.case-case.result.1) c.store_payload.ensures.handle
-
-pub store_case-returns-in-None-clause-stored : goal.store_case-returns-in-None-clause-stored
-store_case-returns-in-None-clause-stored g t c =
+pub store_case-returns-in-None : goal.store_case-returns-in-None
+store_case-returns-in-None g t c =
     let ps = payloads_from (map payload_of c.args.payloads.now) in
     let is = payload_past payload_of c.args.payloads.now c.case-case.result.0 c.in-None.ensures.lookup.3 in
     let told = c.case-case.ensures _ _ _ ps _ _ c.requires.ready.1 in
-    rw (told.0, is, c.write_number.ensures.stored, c.from.ensures) refl
-
-pub store_case-returns-in-None-clause-part : goal.store_case-returns-in-None-clause-part
-store_case-returns-in-None-clause-part g t c =
-    let ps = payloads_from (map payload_of c.args.payloads.now) in
-    let is = payload_past payload_of c.args.payloads.now c.case-case.result.0 c.in-None.ensures.lookup.3 in
-    let told = c.case-case.ensures _ _ _ ps _ _ c.requires.ready.1 in
-    rw (told.0, is) (omega arith)
-
-pub store_case-returns-in-None-clause-handle : goal.store_case-returns-in-None-clause-handle
-store_case-returns-in-None-clause-handle g t c =
-    let ps = payloads_from (map payload_of c.args.payloads.now) in
-    let is = payload_past payload_of c.args.payloads.now c.case-case.result.0 c.in-None.ensures.lookup.3 in
-    let told = c.case-case.ensures _ _ _ ps _ _ c.requires.ready.1 in
-    rw (told.0, is) (omega arith)
+    record {
+      stored = rw (told.0, is, c.write_number.ensures.stored, c.from.ensures) refl;
+      stays = c.write_number.ensures.stays;
+      part = rw (told.0, is) (omega arith);
+      handle = rw (told.0, is) (omega arith);
+    }
 
 pub store_case-store_payload-requires : goal.store_case-store_payload-requires
 store_case-store_payload-requires g t c κs within =
@@ -229,14 +204,14 @@ store_row-write_bytes-requires g t c =
     let plain = c.in-Some.ensures (length c.args.memory.now) (given_of c.args.to.now) c.args.next.now.part c.args.next.now.handle c.args.at c.requires.ready in
     record { inside = rw plain.size c.requires.inside }
 
-pub store_row-returns-in-Some-clause-part : goal.store_row-returns-in-Some-clause-part
-store_row-returns-in-Some-clause-part g t c =
+pub store_row-returns-in-Some : goal.store_row-returns-in-Some
+store_row-returns-in-Some g t c =
     let plain = c.in-Some.ensures (length c.args.memory.now) (given_of c.args.to.now) c.args.next.now.part c.args.next.now.handle c.args.at c.requires.ready in
-    let none = plain.parts in
-    omega (arith, none)
-
-pub store_row-returns-in-Some-clause-handle : goal.store_row-returns-in-Some-clause-handle
-store_row-returns-in-Some-clause-handle g t c =
-    let plain = c.in-Some.ensures (length c.args.memory.now) (given_of c.args.to.now) c.args.next.now.part c.args.next.now.handle c.args.at c.requires.ready in
-    let none = plain.handles in
-    omega (arith, none)
+    let parts = plain.parts in
+    let handles = plain.handles in
+    record {
+      stored = c.write_bytes.ensures.stored ∙ ap (λ bs. poke bs c.args.memory.now) (sym plain.stored);
+      stays = c.write_bytes.ensures.stays;
+      part = omega (arith, parts);
+      handle = omega (arith, handles);
+    }
