@@ -1,5 +1,6 @@
 pub mod SeenLayouts
 pub mod FlatLemmas
+mod HandedCounts
 pub mod HandleLemmas
 pub mod FlatLaws
 pub mod CallLemmas

@@ -8,6 +8,7 @@ pub mod SlotLaws
 pub mod Shown
 pub mod Copying
 pub mod Ready
+pub mod Kept
 pub mod Known
 pub mod PartLaws
 pub mod MetLeaves

@@ -105,18 +105,18 @@ pub fn copy(
     what_is_passed_fits();
     what_is_received_is_denoted();
     are_bytes(found.memory);
-    kept.numbers.clear();
-    if !kept.parts.are_apart() {
+    kept.lists.numbers.clear();
+    if !kept.lists.parts.are_apart() {
         return Err(AbiFault::Overlap);
     }
-    match give(table, to, &kept.handles, &mut kept.numbers) {
+    match give(table, to, &kept.lists.handles, &mut kept.lists.numbers) {
         Ok(()) => {}
         Err(fault) => return Err(fault),
     }
-    let encodings = kept.parts.encodings();
-    let places = kept.parts.places();
-    let numbers: &[u32] = &kept.numbers;
-    let records = kept.parts.records();
+    let encodings = kept.lists.parts.encodings();
+    let places = kept.lists.parts.places();
+    let numbers: &[u32] = &kept.lists.numbers;
+    let records = kept.lists.parts.records();
     are_numbers(places);
     are_numbers(numbers);
     let from = copier(found.memory, encodings, places, numbers, records);

@@ -1,12 +1,14 @@
 //! What is kept of a value between its scan and its copy.
 
 ghost use Rattle.std.specs.Prelude.{◌≡◌, ◌++◌, ◌∷◌, [], IfErr, IfSome, IsSome, List, OnErr, OnOk};
-ghost use Rattle.std.specs.Prelude.{None, Some, ◌<◌, ℕ};
+ghost use Rattle.std.specs.Prelude.{None, Some, ◌*◌, ◌<◌, ◌≤◌, false, ℕ};
 ghost use Rattle.std.specs.Option.{IsSomeAnd};
 ghost use Rattle.cm_abi_model.specs.Answered.{IsAnswered, OnlyAnswered, all_requests, next_of};
 ghost use Rattle.cm_abi_model.specs.Answering.{answer_fault};
 ghost use Rattle.cm_abi_model.specs.HandleLeaves.{leaves_of};
-ghost use Rattle.cm_abi_model.specs.Scanned.{OnlyAsked, nothing_kept, things_kept};
+ghost use Rattle.cm_abi_model.specs.Scanned.{IsInOrder, OnlyAsked, all_kept, nothing_kept};
+ghost use Rattle.cm_abi_model.specs.Scanned.{things_kept};
+ghost use Rattle.cm_abi_copy.specs.Kept.{AreAtRest, kept_in};
 
 use cm_abi_lift::Handed;
 use cm_abi_load::Progress;
@@ -26,6 +28,14 @@ use std::marker::Model;
 /// a value takes no more than one before it, no memory is taken.
 #[derive(Drop)]
 pub struct Scan {
+    // Whether a value is kept.
+    pub(crate) has_value: bool,
+    pub(crate) lists: Lists,
+}
+
+/// The lists of a scan.
+#[derive(Drop)]
+pub(crate) struct Lists {
     // The parts, and how far they are asked for.
     pub(crate) parts: PartRequests,
     // The handles of the value, in reading order.
@@ -39,45 +49,22 @@ pub struct Scan {
 }
 
 impl Model for Scan {
-    ghost use Rattle.std.specs.Prelude.{◌-◌};
     ghost use Rattle.cm_abi_model.specs.Scanned.{Scanned};
 
     ghost Value = { Scanned };
 
-    ghost use Rattle.cm_abi_model.specs.HandleLeaves.{leaves_of};
-    ghost use Rattle.cm_abi_model.specs.Taken.{MAX_CONTENT};
+    ghost use Rattle.cm_abi_copy.specs.Kept.{AreAtRest, kept_in};
 
-    ghost view = { λ s. record {
-      parts = s.parts;
-      handles = leaves_of s.handles.items;
-      owns = s.handed.owns.items;
-      lends = s.handed.lends.items;
-      content = MAX_CONTENT - s.progress.left;
-      numbers = s.numbers.items;
-    } };
+    ghost view = { λ s. kept_in s.has_value s.lists };
+
+    ghost invariant = { λ s. AreAtRest s.has_value s.lists };
 }
 
-impl Scan {
-    /// Nothing is kept. It takes no memory.
-    pub fn new(alloc: Global) -> Scan
-        ensures { result ≡ nothing_kept }
-    {
-        Scan {
-            parts: PartRequests::new(alloc),
-            handles: Vec::new(alloc),
-            handed: Handed::new(alloc),
-            numbers: Vec::new(alloc),
-            progress: Progress {
-                left: MAX_CONTENT,
-                handles: Vec::new(alloc),
-                tags: Vec::new(alloc),
-            },
-        }
-    }
-
-    /// Keeps nothing any more; the lists keep their room. No memory is taken.
-    pub fn clear(&mut self)
-        ensures { self.new ≡ nothing_kept }
+impl Lists {
+    /// Nothing is kept; the lists keep their room. No memory is taken.
+    pub(crate) fn clear(&mut self)
+        ensures kept { kept_in false self.new ≡ nothing_kept }
+        ensures rest { AreAtRest false self.new }
     {
         self.parts.clear();
         self.handles.clear();
@@ -87,12 +74,55 @@ impl Scan {
         self.progress.handles.clear();
         self.progress.tags.clear();
     }
+}
 
-    /// How many things are kept: a record of each part, and the handles.
-    pub fn parts(&self) -> usize
-        ensures { result ≡ things_kept self.now }
+impl Scan {
+    /// Nothing is kept. It takes no memory.
+    pub fn new(alloc: Global) -> Scan
+        ensures { result ≡ nothing_kept }
     {
-        self.parts.records().len() + self.handles.len()
+        Scan {
+            has_value: false,
+            lists: Lists {
+                parts: PartRequests::new(alloc),
+                handles: Vec::new(alloc),
+                handed: Handed::new(alloc),
+                numbers: Vec::new(alloc),
+                progress: Progress {
+                    left: MAX_CONTENT,
+                    handles: Vec::new(alloc),
+                    tags: Vec::new(alloc),
+                },
+            },
+        }
+    }
+
+    /// Keeps nothing any more; the lists keep their room. No memory is taken.
+    pub fn clear(&mut self)
+        ensures { self.new ≡ nothing_kept }
+    {
+        self.has_value = false;
+        self.lists.clear();
+    }
+
+    /// Whether a value is kept. What is kept is in order.
+    pub fn has_value(&self) -> bool
+        ensures value { result ≡ self.now.has_value }
+        ensures order { IsInOrder self.now }
+    {
+        self.has_value
+    }
+
+    /// How many things are kept: a record of each part, and the handles. All lists together have at
+    /// most three times as many members: a part has a place beside its record, a handle says beside
+    /// how its type has it where it went, and what its number is. Where no value is kept, they have
+    /// none.
+    pub fn parts(&self) -> usize
+        ensures things { result ≡ things_kept self.now }
+        ensures all { all_kept self.now ≤ 3 * result }
+        ensures none { self.now.has_value ≡ false → result ≡ 0 }
+    {
+        self.lists.parts.records().len() + self.lists.handles.len()
     }
 
     /// How many bytes the strings and the elements of the lists are, as they stand in the giver's
@@ -100,7 +130,7 @@ impl Scan {
     pub fn content(&self) -> u32
         ensures { result ≡ self.now.content }
     {
-        MAX_CONTENT.saturating_sub(self.progress.left)
+        MAX_CONTENT.saturating_sub(self.lists.progress.left)
     }
 
     /// The request behind those that were answered, with its old pointer: where it is chained the
@@ -112,7 +142,7 @@ impl Scan {
             → result ≡ next_of (all_requests self.now.parts) answers }
         ensures aligned { IfSome result (λ r. 0 < r.0.align) }
     {
-        self.parts.next_request()
+        self.lists.parts.next_request()
     }
 
     /// Keeps the answer to the next request, in a memory of so many bytes. An answer that is not
@@ -133,7 +163,10 @@ impl Scan {
         ensures unchanged { OnErr result (self.new ≡ self.old) }
         ensures only { OnlyAsked self.old self.new }
     {
-        self.parts.answer(at, memory_length)
+        let answered = self.lists.parts.answer(at, memory_length);
+        // Read behind it, so that the check knows that no part has two places.
+        let _ = self.lists.parts.places();
+        answered
     }
 
     /// The records of the parts, in reading order, a list before its elements; where the values are
@@ -141,7 +174,7 @@ impl Scan {
     pub fn records(&self) -> &[PartRecord]
         ensures { result.now ≡ self.now.parts.records }
     {
-        self.parts.records()
+        self.lists.parts.records()
     }
 
     /// Where the parts stand whose requests are all answered, in order: each at the answer to the
@@ -149,7 +182,7 @@ impl Scan {
     pub fn places(&self) -> &[u32]
         ensures { result.now ≡ self.now.parts.places }
     {
-        self.parts.places()
+        self.lists.parts.places()
     }
 
     /// How strings are encoded where the values come from, and where they go.
@@ -157,7 +190,7 @@ impl Scan {
         ensures { result
             ≡ record { source = self.now.parts.source; target = self.now.parts.target } }
     {
-        self.parts.encodings()
+        self.lists.parts.encodings()
     }
 
     /// The handles of the values, in reading order, each as its type has it: to be owned, or to be
@@ -165,21 +198,21 @@ impl Scan {
     pub fn handles(&self) -> &[HandleLeaf]
         ensures { leaves_of result.now ≡ self.now.handles }
     {
-        &self.handles
+        &self.lists.handles
     }
 
     /// The handles that were taken out of the giver's table, in reading order.
     pub fn owns(&self) -> &[Handle]
         ensures { result.now ≡ self.now.owns }
     {
-        &self.handed.owns
+        &self.lists.handed.owns
     }
 
     /// The indices of the handles that were lent, in reading order.
     pub fn lends(&self) -> &[u32]
         ensures { result.now ≡ self.now.lends }
     {
-        &self.handed.lends
+        &self.lists.handed.lends
     }
 
     /// The number that stands for each handle where it was given, in reading order, once the values
@@ -188,6 +221,6 @@ impl Scan {
     pub fn numbers(&self) -> &[u32]
         ensures { result.now ≡ self.now.numbers }
     {
-        &self.numbers
+        &self.lists.numbers
     }
 }

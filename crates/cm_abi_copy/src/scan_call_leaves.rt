@@ -1,6 +1,6 @@
 //! The handles that a reader met, each as the type of the value has it.
 
-ghost use Rattle.std.specs.Prelude.{◌≡◌, ◌∷◌, [], IsOk, OnOk};
+ghost use Rattle.std.specs.Prelude.{◌≡◌, ◌∷◌, [], IsOk, OnOk, length};
 ghost use Rattle.cm_abi_load.specs.Meeting.{AreAsWanted, IsAsWanted};
 ghost use Rattle.cm_abi_model.specs.HandleLeaves.{leaf_of, leaves_of};
 ghost use Rattle.cm_abi_copy.specs.MetLeaves.{leaves_found};
@@ -43,6 +43,7 @@ pub fn handles_met(
     requires wanted { AreAsWanted table.now.handles met.now }
     ensures leaves { OnOk result
         (leaves_of leaves.new.items ≡ leaves_found table.now.handles met.now) }
+    ensures count { OnOk result (length leaves.new.items ≡ length met.now) }
     ensures nothing { met.now ≡ [] → IsOk result }
 {
     leaves.clear();

@@ -1,7 +1,7 @@
 //! Values that core values denote, with no tree made of them.
 
 ghost use Rattle.std.specs.Prelude.{◌≡◌, ◌^◌, ◌<◌, ◌⊎◌, [], Err, IfErr, IsOk, IsOkUnless, Ok, OnOk};
-ghost use Rattle.std.specs.Prelude.{Bool, List, OnErr};
+ghost use Rattle.std.specs.Prelude.{◌*◌, ◌≤◌, Bool, List, OnErr, length, true};
 ghost use Rattle.cm_types.specs.Types.{Fields};
 ghost use Rattle.cm_types.specs.Values.{Val};
 ghost use Rattle.cm_layout.specs.Layouts.{layout_of};
@@ -13,17 +13,19 @@ ghost use Rattle.cm_abi_model.specs.LiftStops.{LiftStops};
 ghost use Rattle.cm_abi_model.specs.Lifts.{IsGivenBy, LendsBelow};
 ghost use Rattle.cm_abi_model.specs.Receives.{leaves_in};
 ghost use Rattle.cm_abi_model.specs.Requests.{call_parts, tuple_of};
-ghost use Rattle.cm_abi_model.specs.Scanned.{ScansCall, nothing_kept, scanned_with};
+ghost use Rattle.cm_abi_model.specs.Scanned.{ScansCall, all_kept, nothing_kept, scanned_with};
+ghost use Rattle.cm_abi_model.specs.Scanned.{things_kept};
 ghost use Rattle.cm_abi_model.specs.Taken.{Transferable};
 ghost use Rattle.cm_abi_model.specs.Views.{View, flat_limit};
 ghost use Rattle.cm_abi_model.specs.Ways.{way_of};
 ghost use Rattle.cm_abi_load.specs.Meeting.{AreAsWanted};
 ghost use Rattle.cm_abi_lift.specs.Lifts.{lift_of};
+ghost use Rattle.cm_abi_copy.specs.Kept.{AreAtRest, kept_in};
 ghost use Rattle.cm_abi_copy.specs.MetLeaves.{leaves_found};
 ghost use Rattle.cm_abi_copy.specs.Scans.{IsKept, KeepsNothing, giver_of};
 
 use crate::handles_met;
-use crate::kept::Scan;
+use crate::kept::{Lists, Scan};
 use crate::met_laws::handles_that_are_met_are_the_values;
 use crate::passed::scan_passed;
 use crate::scan_call_laws::{records_tell_what_is_passed, what_has_nothing_keeps_nothing};
@@ -47,9 +49,9 @@ use std::alloc::Global;
 /// lent, and else answers the same first fault, with the table as it was, and then nothing is kept.
 /// The caller gives a table whose handles are lent fewer than 2^100 times. The records tell the
 /// parts of the values, each at its place, and can be asked for; the handles are told as the values
-/// have them. Memory is taken for parts, tags of strings and handles alone; `EngineMemory` comes
-/// where there is none for them, and values that have no part and no handle are never refused for
-/// it.
+/// have them. All lists together then have at most two members for each part and handle. Memory is
+/// taken for parts, tags of strings and handles alone; `EngineMemory` comes where there is none for
+/// them, and values that have no part and no handle are never refused for it.
 pub fn scan(
     alloc: Global,
     kept: &mut Scan,
@@ -83,6 +85,8 @@ pub fn scan(
         → Denotes w (way_of passed.now.way) types passed.now.slots.now v
         → Transferable w (way_of passed.now.way) types passed.now.slots.now v
         → IsOkUnless result AbiFault.EngineMemory }
+    ensures value { OnOk result (kept.new.has_value ≡ true) }
+    ensures few { OnOk result (all_kept kept.new ≤ 2 * things_kept kept.new) }
     ensures walked { OnOk result ((v : Val)
         × IsKept (giver_of memory.now table.old.handles encodings.source) encodings.target
         (flat_limit (way_of passed.now.way)) (layout_of passed.now.layout.now) passed.now.slots.now
@@ -97,13 +101,15 @@ pub fn scan(
     nothing_is_met_without_parts();
     what_has_nothing_keeps_nothing();
     what_is_passed_is_met();
-    match scan_values(alloc, kept, memory, table, encodings, passed) {
+    match scan_values(alloc, &mut kept.lists, memory, table, encodings, passed) {
         Ok(()) => {
+            kept.has_value = true;
             is_sound(table);
             Ok(())
         }
         Err(fault) => {
-            kept.clear();
+            kept.has_value = false;
+            kept.lists.clear();
             is_sound(table);
             Err(fault)
         }
@@ -126,6 +132,7 @@ fn keep_handles(
     requires wanted { AreAsWanted table.now.handles met.now }
     ensures leaves { OnOk result
         (leaves_of handles.new.items ≡ leaves_found table.now.handles met.now) }
+    ensures count { OnOk result (length handles.new.items ≡ length met.now) }
     ensures none { met.now ≡ [] → IsOk result }
     ensures err { IfErr result (λ e. e ≡ AbiFault.EngineMemory) }
 {
@@ -138,7 +145,7 @@ fn keep_handles(
 /// `scan`, by the definitions of reading and of what is kept alone.
 fn scan_values(
     alloc: Global,
-    kept: &mut Scan,
+    lists: &mut Lists,
     memory: &[u8],
     table: &mut Table,
     encodings: Encodings,
@@ -150,10 +157,11 @@ fn scan_values(
     ensures ok { OnOk result ((v : Val) × (tags : List Bool)
         × (lift_of memory.now table.old.handles encodings.source (way_of passed.now.way)
         (layout_of passed.now.layout.now) passed.now.slots.now
-        ≡ Ok (v, tags, scanned_with table.new.handles kept.new))
+        ≡ Ok (v, tags, scanned_with table.new.handles (kept_in true lists.new)))
         × IsKept (giver_of memory.now table.old.handles encodings.source) encodings.target
         (flat_limit (way_of passed.now.way)) (layout_of passed.now.layout.now) passed.now.slots.now
-        v kept.new) }
+        v (kept_in true lists.new)) }
+    ensures rest { OnOk result (AreAtRest true lists.new) }
     ensures err { IfErr result (λ e. (e ≡ AbiFault.EngineMemory)
         ⊎ (lift_of memory.now table.old.handles encodings.source (way_of passed.now.way)
         (layout_of passed.now.layout.now) passed.now.slots.now ≡ Err e)) }
@@ -168,11 +176,11 @@ fn scan_values(
     content_of_what_is_denoted();
     small_parts_can_be_asked_for();
     size_fits(passed.layout);
-    kept.numbers.clear();
-    kept.progress.left = MAX_CONTENT;
-    kept.progress.handles.clear();
-    kept.progress.tags.clear();
-    let mut records = kept.parts.take_records(alloc);
+    lists.numbers.clear();
+    lists.progress.left = MAX_CONTENT;
+    lists.progress.handles.clear();
+    lists.progress.tags.clear();
+    let mut records = lists.parts.take_records(alloc);
     let giver = Giver {
         alloc,
         memory,
@@ -183,19 +191,22 @@ fn scan_values(
         &giver,
         encodings.target,
         passed,
-        &mut kept.progress,
+        &mut lists.progress,
         &mut records,
     ) {
         Ok(()) => {
-            let Ok(()) = kept.parts.ask(records, encodings) else {
+            let Ok(()) = lists.parts.ask(records, encodings) else {
                 return Err(AbiFault::EngineMemory);
             };
-            keep_handles(table, &kept.progress.handles, &mut kept.handles)?;
-            hand_over(table, &kept.progress.handles, &mut kept.handed)
+            keep_handles(table, &lists.progress.handles, &mut lists.handles)?;
+            let handed = hand_over(table, &lists.progress.handles, &mut lists.handed);
+            lists.progress.handles.clear();
+            lists.progress.tags.clear();
+            handed
         }
         Err(Stop::Memory) => Err(AbiFault::EngineMemory),
         Err(Stop::Fault(fault)) => {
-            Err(first_fault(table, &kept.progress.handles, fault, &mut kept.handed))
+            Err(first_fault(table, &lists.progress.handles, fault, &mut lists.handed))
         }
     }
 }

@@ -1,6 +1,6 @@
 -- What is kept of a value on its way, between its scan and its copy (CanonicalABI.md, "Lifting and
 -- Lowering Values"; that this is kept is this project's own choice).
-use Rattle.std.specs.Prelude.{◌≡◌, ℕ, ◌+◌, Bool, true, List, [], length}
+use Rattle.std.specs.Prelude.{◌≡◌, ℕ, ◌+◌, ◌≤◌, Bool, true, false, List, [], length}
 use Rattle.cm_types.specs.declared.core_value.CoreValue.{CoreValue}
 use Rattle.cm_types.specs.Spellable.{are_spellable}
 use Rattle.cm_types.specs.Types.{Fields}
@@ -21,11 +21,12 @@ use Rattle.cm_abi_model.specs.Views.{View, Way}
 use Rattle.cm_abi_model.specs.declared.encoding.StringEncoding.{StringEncoding}
 use Rattle.cm_abi_model.specs.declared.encoding.StringEncoding.TheVariants.{Latin1OrUtf16}
 
--- What is kept of a value: its parts, with how far they are asked for; its handles, in reading
--- order, each as its type has it; those that were taken out of the giver's table, and the indices
--- that were lent; how many bytes its strings and lists are in their source; and, once it was
--- copied, the numbers that stand for its handles.
+-- What is kept of a value, and whether there is one: its parts, with how far they are asked for;
+-- its handles, in reading order, each as its type has it; those that were taken out of the giver's
+-- table, and the indices that were lent; how many bytes its strings and lists are in their source;
+-- and, once it was copied, the numbers that stand for its handles.
 pub record Scanned : Type 0 where
+  pub has_value : Bool
   pub parts : Requesting
   pub handles : List HandleLeaf
   pub owns : List Handle
@@ -35,12 +36,34 @@ pub record Scanned : Type 0 where
 
 -- nothing is kept
 abbrev pub nothing_kept : Scanned
-nothing_kept =
-    record { parts = nothing_asked; handles = []; owns = []; lends = []; content = 0; numbers = [] }
+nothing_kept = record {
+  has_value = false;
+  parts = nothing_asked;
+  handles = [];
+  owns = [];
+  lends = [];
+  content = 0;
+  numbers = [];
+}
 
 -- how many things are kept: a record of each part, and the handles
 abbrev pub things_kept : Scanned → ℕ
 things_kept s = length s.parts.records + length s.handles
+
+-- how many members all lists have together: the records of the parts, their places, the handles,
+-- those that were taken and those that were lent, and their numbers
+abbrev pub all_kept : Scanned → ℕ
+all_kept s =
+    length s.parts.records + length s.parts.places + length s.handles + length s.owns
+    + length s.lends + length s.numbers
+
+-- What is kept is in order: no part has two places; of no handle it is kept twice that it was taken
+-- or lent, or what its number is; and where there is no value, nothing is kept.
+pub record IsInOrder (s : Scanned) : Type 0 where
+  pub places : length s.parts.places ≤ length s.parts.records
+  pub handed : length s.owns + length s.lends ≤ length s.handles
+  pub numbers : length s.numbers ≤ length s.handles
+  pub empty : s.has_value ≡ false → things_kept s ≡ 0
 
 -- the handles after values were scanned
 abbrev pub scanned_with : Handles → Scanned → Hands

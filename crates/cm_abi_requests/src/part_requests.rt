@@ -1,6 +1,6 @@
 //! Requests for the parts of a value, answered one after another.
 
-ghost use Rattle.std.specs.Prelude.{◌≡◌, ◌↔◌, ◌<◌, ◌++◌, ◌∷◌, [], IfErr, IfSome, IsOk, IsSome};
+ghost use Rattle.std.specs.Prelude.{◌≡◌, ◌↔◌, ◌<◌, ◌≤◌, ◌++◌, ◌∷◌, [], IfErr, IfSome, IsOk, IsSome};
 ghost use Rattle.std.specs.Prelude.{IsTrue, List, None, OnErr, OnOk, Some, drop, length, ℕ};
 ghost use Rattle.std.specs.Prelude.{slice_get};
 ghost use Rattle.std.specs.Option.{IsSomeAnd};
@@ -29,7 +29,7 @@ pub struct PartRequests {
     records: Vec<PartRecord>,
     // Where the parts stand that have all their answers, in order: each at the last one.
     places: Vec<u32>,
-    // Room for a region of each part, to look at when all have their places.
+    // Room for a region of each part, to look at when all have their places; else no region.
     regions: Vec<Region>,
     source: StringEncoding,
     target: StringEncoding,
@@ -42,7 +42,7 @@ pub struct PartRequests {
 }
 
 impl Model for PartRequests {
-    ghost use Rattle.std.specs.Prelude.{length, vec_capacity};
+    ghost use Rattle.std.specs.Prelude.{◌≡◌, [], length, vec_capacity};
     ghost use Rattle.cm_abi_model.specs.Answered.{Requesting};
 
     ghost Value = { Requesting };
@@ -54,7 +54,8 @@ impl Model for PartRequests {
         requesting_of s.records.items s.source s.target s.places.items s.stage s.last };
 
     ghost invariant = { λ s. IsAtStage s.records.items s.source s.target (length s.places.items)
-        s.stage (sizes_seen s.sizes) (vec_capacity s.places) (vec_capacity s.regions) };
+        s.stage (sizes_seen s.sizes) (vec_capacity s.places) (vec_capacity s.regions)
+        × (s.regions.items ≡ []) };
 }
 
 /// The record of the part of this number, from 0.
@@ -143,7 +144,6 @@ impl PartRequests {
         let count = records.len();
         self.records.clear();
         self.places.clear();
-        self.regions.clear();
         self.stage = 0;
         self.last = 0;
         self.source = StringEncoding::Utf8;
@@ -235,9 +235,10 @@ impl PartRequests {
     }
 
     /// Where the parts stand that have all their answers, in order: each at the answer to the last
-    /// request for it.
+    /// request for it. No part has two.
     pub fn places(&self) -> &[u32]
-        ensures { result.now ≡ self.now.places }
+        ensures places { result.now ≡ self.now.places }
+        ensures few { length self.now.places ≤ length self.now.records }
     {
         &self.places
     }
@@ -260,8 +261,9 @@ impl PartRequests {
             ↔ AreDisjoint (regions_at self.old.records self.old.places) }
         ensures same { self.new ≡ self.old }
     {
-        self.regions.clear();
         put_regions(&self.records, &self.places, &mut self.regions);
-        are_disjoint(&mut self.regions)
+        let apart = are_disjoint(&mut self.regions);
+        self.regions.clear();
+        apart
     }
 }

@@ -1,4 +1,4 @@
-use Rattle.std.proofs.Common.{Err, inl, inr, refl, sym, ap, subst, ◌∙◌, ◌≡◌, ◌<◌, ◌≤◌, ◌^◌, arith, length, map, take, ℕ, Bool, true, false}
+use Rattle.std.proofs.Common.{Err, inl, inr, refl, sym, ap, subst, ◌∙◌, ◌≡◌, ◌<◌, ◌≤◌, ◌^◌, arith, length, map, take, List, ℕ, Bool, true, false}
 use Rattle.std.specs.Prelude.{IsTrue, Result, slice_index}
 use Rattle.std.proofs.lemmas.Bool.{cases_lt}
 use Rattle.cm_abi_model.specs.declared.encodings.Encodings.{Encodings}
@@ -6,6 +6,7 @@ use Rattle.cm_abi_model.specs.declared.fault.AbiFault.{AbiFault}
 use Rattle.cm_abi_model.specs.declared.fault.AbiFault.TheVariants as fault
 use Rattle.cm_types.specs.CoreValues.{kind_of}
 use Rattle.cm_abi_model.specs.Answered.{IsAllAnswered, Requesting}
+use Rattle.cm_abi_model.specs.declared.leaf.HandleLeaf.{HandleLeaf}
 use Rattle.cm_abi_model.specs.Copies.{IsFaultOfCopying, given_by, handles_of_values}
 use Rattle.cm_abi_model.specs.Giving.{Gives, added_count}
 use Rattle.cm_abi_model.specs.HandleLeaves.{leaves_of}
@@ -17,6 +18,7 @@ use Rattle.cm_abi_model.specs.Stores.{poke}
 use Rattle.cm_abi_model.specs.Ways.{way_of}
 use Rattle.cm_abi_copy.specs.declared.copier.Copier.{Copier}
 use Rattle.cm_handles.specs.Handles.{indices_left}
+use Rattle.cm_abi_copy.proofs.HandedCounts.{all_numbered}
 use Rattle.cm_abi_copy.proofs.CopyLaws.{IsFrom, all_zeros, are_numbers, as_many, few_slots, fits, framed, given_is, gives, none_there, none_told, numbers_are, passed_on, received, received_serves, taken_long}
 use Rattle.cm_abi_copy.proofs.copying.copy.Goals as goal
 
@@ -39,18 +41,18 @@ room left more not_less = elim (cases_lt left more) [ inl less ↦ absurd (not_l
 
 pub are_apart-requires : goal.are_apart-requires
 are_apart-requires c =
-    let parts_are : c.kept.inside.parts ≡ c.args.kept.now.parts = ap (λ (x : Scanned). x.parts) c.kept.view_is in
+    let parts_are : c.kept.inside.lists.parts ≡ c.args.kept.now.parts = ap (λ (x : Scanned). x.parts) c.kept.view_is in
     record { answered = (c.requires.copied.1, subst (λ p. IsAllAnswered p c.requires.copied.1) (sym parts_are) c.requires.copied.4.answered) }
 
 pub returns-then-not-are_apart-clause-err : goal.returns-then-not-are_apart-clause-err
 returns-then-not-are_apart-clause-err c = λ giver answers types v can clear.
-    let parts_are : c.kept.inside.parts ≡ c.args.kept.now.parts = ap (λ (x : Scanned). x.parts) c.kept.view_is in
+    let parts_are : c.kept.inside.lists.parts ≡ c.args.kept.now.parts = ap (λ (x : Scanned). x.parts) c.kept.view_is in
     let settled = c.what_can_be_copied_is_settled.ensures (length c.args.memory.now) (map kind_of c.args.slots.now) giver c.args.found.now c.args.kept.now answers types v c.are_bytes.ensures can in
     fails c.are_apart.result c.if-not-are_apart.true (c.are_apart.ensures.answer.1 (subst (λ (p : Requesting). AreDisjoint (regions_at p.records p.places)) (sym parts_are) (settled.regions.1 clear)))
 
 pub returns-in-Err-clause-err : goal.returns-in-Err-clause-err
 returns-in-Err-clause-err c = λ giver answers types v can.
-    let parts_are : c.kept.inside.parts ≡ c.args.kept.now.parts = ap (λ (x : Scanned). x.parts) c.kept.view_is in
+    let parts_are : c.kept.inside.lists.parts ≡ c.args.kept.now.parts = ap (λ (x : Scanned). x.parts) c.kept.view_is in
     let handles_are : leaves_of c.deref.result.now ≡ c.args.kept.now.handles = ap leaves_of c.deref.ensures.value ∙ ap (λ (x : Scanned). x.handles) c.kept.view_is in
     let settled = c.what_can_be_copied_is_settled.ensures (length c.args.memory.now) (map kind_of c.args.slots.now) giver c.args.found.now c.args.kept.now answers types v c.are_bytes.ensures can in
     let clear = settled.regions.0 (subst (λ (p : Requesting). AreDisjoint (regions_at p.records p.places)) parts_are (c.are_apart.ensures.answer.0 (holds c.are_apart.result c.if-not-are_apart.false))) in
@@ -65,6 +67,20 @@ returns-in-Err-clause-err c = λ giver answers types v can.
       )
     ]
 
+pub invariant_of-kept-2 : goal.invariant_of-kept-2
+invariant_of-kept-2 c =
+    let records = ap (λ (p : Requesting). length p.records) c.are_apart.ensures.same in
+    let places = ap (λ (p : Requesting). length p.places) c.are_apart.ensures.same in record {
+      met = c.kept.invariant.met;
+      tags = c.kept.invariant.tags;
+      order = record {
+        places = omega (arith, c.kept.invariant.order.places, records, places);
+        handed = c.kept.invariant.order.handed;
+        numbers = omega (arith, ap length c.in-Ok.ensures.gives.numbers, all_numbered c.args.to c.args.table.now.handles (leaves_of c.deref.result.now), ap (λ (xs : List HandleLeaf). length (leaves_of xs)) c.deref.ensures.value);
+        empty = λ none. omega (arith, c.kept.invariant.order.empty none, records);
+      };
+    }
+
 pub slice_bounds-zeros-end : goal.slice_bounds-zeros-end
 slice_bounds-zeros-end c =
     let giver = c.requires.copied.0 in
@@ -72,7 +88,7 @@ slice_bounds-zeros-end c =
     let types = c.requires.copied.2 in
     let v = c.requires.copied.3 in
     let can = c.requires.copied.4 in
-    let parts_are : c.kept.inside.parts ≡ c.args.kept.now.parts = ap (λ (x : Scanned). x.parts) c.kept.view_is in
+    let parts_are : c.kept.inside.lists.parts ≡ c.args.kept.now.parts = ap (λ (x : Scanned). x.parts) c.kept.view_is in
     let handles_are : leaves_of c.deref.result.now ≡ c.args.kept.now.handles = ap leaves_of c.deref.ensures.value ∙ ap (λ (x : Scanned). x.handles) c.kept.view_is in
     let settled = c.what_can_be_copied_is_settled.ensures (length c.args.memory.now) (map kind_of c.args.slots.now) giver c.args.found.now c.args.kept.now answers types v c.are_bytes.ensures can in
     let gave = subst (λ ls. Gives c.args.to c.args.table.now.handles c.give.new.table.handles ls c.give.new.numbers.items) handles_are c.in-Ok.ensures.gives in
@@ -85,7 +101,7 @@ slice_bounds-passed-end c =
     let types = c.requires.copied.2 in
     let v = c.requires.copied.3 in
     let can = c.requires.copied.4 in
-    let parts_are : c.kept.inside.parts ≡ c.args.kept.now.parts = ap (λ (x : Scanned). x.parts) c.kept.view_is in
+    let parts_are : c.kept.inside.lists.parts ≡ c.args.kept.now.parts = ap (λ (x : Scanned). x.parts) c.kept.view_is in
     let handles_are : leaves_of c.deref.result.now ≡ c.args.kept.now.handles = ap leaves_of c.deref.ensures.value ∙ ap (λ (x : Scanned). x.handles) c.kept.view_is in
     let settled = c.what_can_be_copied_is_settled.ensures (length c.args.memory.now) (map kind_of c.args.slots.now) giver c.args.found.now c.args.kept.now answers types v c.are_bytes.ensures can in
     let gave = subst (λ ls. Gives c.args.to c.args.table.now.handles c.give.new.table.handles ls c.give.new.numbers.items) handles_are c.in-Ok.ensures.gives in
@@ -98,7 +114,7 @@ copy_call-requires c =
     let types = c.requires.copied.2 in
     let v = c.requires.copied.3 in
     let can = c.requires.copied.4 in
-    let parts_are : c.kept.inside.parts ≡ c.args.kept.now.parts = ap (λ (x : Scanned). x.parts) c.kept.view_is in
+    let parts_are : c.kept.inside.lists.parts ≡ c.args.kept.now.parts = ap (λ (x : Scanned). x.parts) c.kept.view_is in
     let handles_are : leaves_of c.deref.result.now ≡ c.args.kept.now.handles = ap leaves_of c.deref.ensures.value ∙ ap (λ (x : Scanned). x.handles) c.kept.view_is in
     let settled = c.what_can_be_copied_is_settled.ensures (length c.args.memory.now) (map kind_of c.args.slots.now) giver c.args.found.now c.args.kept.now answers types v c.are_bytes.ensures can in
     let gave = subst (λ ls. Gives c.args.to c.args.table.now.handles c.give.new.table.handles ls c.give.new.numbers.items) handles_are c.in-Ok.ensures.gives in
@@ -109,7 +125,7 @@ copy_call-requires c =
       memory = c.copier-from.ensures.memory;
       encoding = c.copier-from.ensures.source ∙ (ap (λ (x : Encodings). x.source) c.encodings-encodings.ensures ∙ ap (λ (p : Requesting). p.source) same);
       target = c.copier-from.ensures.target ∙ (ap (λ (x : Encodings). x.target) c.encodings-encodings.ensures ∙ ap (λ (p : Requesting). p.target) same);
-      places = c.copier-from.ensures.places ∙ (c.places-places.ensures ∙ ap (λ (p : Requesting). p.places) same);
+      places = c.copier-from.ensures.places ∙ (c.places-places.ensures.places ∙ ap (λ (p : Requesting). p.places) same);
       numbers = c.copier-from.ensures.numbers ∙ c.deref-numbers.ensures.value;
       records = c.copier-from.ensures.records ∙ (c.records-records.ensures ∙ ap (λ (p : Requesting). p.records) same);
     } in
@@ -126,7 +142,7 @@ put_numbers-requires-clause-length c =
     let types = c.requires.copied.2 in
     let v = c.requires.copied.3 in
     let can = c.requires.copied.4 in
-    let parts_are : c.kept.inside.parts ≡ c.args.kept.now.parts = ap (λ (x : Scanned). x.parts) c.kept.view_is in
+    let parts_are : c.kept.inside.lists.parts ≡ c.args.kept.now.parts = ap (λ (x : Scanned). x.parts) c.kept.view_is in
     let handles_are : leaves_of c.deref.result.now ≡ c.args.kept.now.handles = ap leaves_of c.deref.ensures.value ∙ ap (λ (x : Scanned). x.handles) c.kept.view_is in
     let settled = c.what_can_be_copied_is_settled.ensures (length c.args.memory.now) (map kind_of c.args.slots.now) giver c.args.found.now c.args.kept.now answers types v c.are_bytes.ensures can in
     let gave = subst (λ ls. Gives c.args.to c.args.table.now.handles c.give.new.table.handles ls c.give.new.numbers.items) handles_are c.in-Ok.ensures.gives in
@@ -143,7 +159,7 @@ put_numbers-requires-clause-fits c =
     let types = c.requires.copied.2 in
     let v = c.requires.copied.3 in
     let can = c.requires.copied.4 in
-    let parts_are : c.kept.inside.parts ≡ c.args.kept.now.parts = ap (λ (x : Scanned). x.parts) c.kept.view_is in
+    let parts_are : c.kept.inside.lists.parts ≡ c.args.kept.now.parts = ap (λ (x : Scanned). x.parts) c.kept.view_is in
     let handles_are : leaves_of c.deref.result.now ≡ c.args.kept.now.handles = ap leaves_of c.deref.ensures.value ∙ ap (λ (x : Scanned). x.handles) c.kept.view_is in
     let settled = c.what_can_be_copied_is_settled.ensures (length c.args.memory.now) (map kind_of c.args.slots.now) giver c.args.found.now c.args.kept.now answers types v c.are_bytes.ensures can in
     let gave = subst (λ ls. Gives c.args.to c.args.table.now.handles c.give.new.table.handles ls c.give.new.numbers.items) handles_are c.in-Ok.ensures.gives in
@@ -154,7 +170,7 @@ put_numbers-requires-clause-fits c =
       memory = c.copier-from.ensures.memory;
       encoding = c.copier-from.ensures.source ∙ (ap (λ (x : Encodings). x.source) c.encodings-encodings.ensures ∙ ap (λ (p : Requesting). p.source) same);
       target = c.copier-from.ensures.target ∙ (ap (λ (x : Encodings). x.target) c.encodings-encodings.ensures ∙ ap (λ (p : Requesting). p.target) same);
-      places = c.copier-from.ensures.places ∙ (c.places-places.ensures ∙ ap (λ (p : Requesting). p.places) same);
+      places = c.copier-from.ensures.places ∙ (c.places-places.ensures.places ∙ ap (λ (p : Requesting). p.places) same);
       numbers = c.copier-from.ensures.numbers ∙ c.deref-numbers.ensures.value;
       records = c.copier-from.ensures.records ∙ (c.records-records.ensures ∙ ap (λ (p : Requesting). p.records) same);
     } in
@@ -167,13 +183,13 @@ put_numbers-requires-clause-fits c =
     let numbers : c.copy_call.new.slots ≡ poke (call_numbers (given_by c.args.kept.now.parts answers types v c.args.to c.args.table.now.handles) (way_of c.args.found.now.passed.way) types v) (take (length c.args.slots.now) all_zeros) =
     c.copy_call.ensures.passed types v on ∙ ap (λ g. poke (call_numbers g (way_of c.args.found.now.passed.way) types v) (take (length c.args.slots.now) all_zeros)) is in
     fits (length c.args.memory.now) (map kind_of c.args.slots.now) giver c.args.found.now c.args.kept.now answers types v c.args.to c.args.table.now.handles c.give.new.table.handles c.give.new.numbers.items can settled gave c.what_is_passed_fits.ensures c.args.memory.now (take (length c.args.slots.now) all_zeros) refl c.requires.few gave.sound (none_there (length c.args.slots.now))
-    (λ k. subst (λ xs. slice_index xs k < 2 ^ 32) (c.places-places.ensures ∙ (ap (λ (p : Requesting). p.places) same ∙ settled.places)) (c.are_numbers.ensures k))
+    (λ k. subst (λ xs. slice_index xs k < 2 ^ 32) (c.places-places.ensures.places ∙ (ap (λ (p : Requesting). p.places) same ∙ settled.places)) (c.are_numbers.ensures k))
     (λ k. subst (λ xs. slice_index xs k < 2 ^ 32) (c.deref-numbers.ensures.value ∙ numbers_are (length c.args.memory.now) (map kind_of c.args.slots.now) giver c.args.found.now c.args.kept.now answers types v c.args.to c.args.table.now.handles c.give.new.table.handles c.give.new.numbers.items can settled gave) (c.are_numbers-2.ensures k))
     c.copy_call.new.slots numbers
 
 pub returns-clause-received : goal.returns-clause-received
 returns-clause-received c = λ giver w answers types v can view.
-    let parts_are : c.kept.inside.parts ≡ c.args.kept.now.parts = ap (λ (x : Scanned). x.parts) c.kept.view_is in
+    let parts_are : c.kept.inside.lists.parts ≡ c.args.kept.now.parts = ap (λ (x : Scanned). x.parts) c.kept.view_is in
     let handles_are : leaves_of c.deref.result.now ≡ c.args.kept.now.handles = ap leaves_of c.deref.ensures.value ∙ ap (λ (x : Scanned). x.handles) c.kept.view_is in
     let settled = c.what_can_be_copied_is_settled.ensures (length c.args.memory.now) (map kind_of c.args.slots.now) giver c.args.found.now c.args.kept.now answers types v c.are_bytes.ensures can in
     let gave = subst (λ ls. Gives c.args.to c.args.table.now.handles c.give.new.table.handles ls c.give.new.numbers.items) handles_are c.in-Ok.ensures.gives in
@@ -184,7 +200,7 @@ returns-clause-received c = λ giver w answers types v can view.
       memory = c.copier-from.ensures.memory;
       encoding = c.copier-from.ensures.source ∙ (ap (λ (x : Encodings). x.source) c.encodings-encodings.ensures ∙ ap (λ (p : Requesting). p.source) same);
       target = c.copier-from.ensures.target ∙ (ap (λ (x : Encodings). x.target) c.encodings-encodings.ensures ∙ ap (λ (p : Requesting). p.target) same);
-      places = c.copier-from.ensures.places ∙ (c.places-places.ensures ∙ ap (λ (p : Requesting). p.places) same);
+      places = c.copier-from.ensures.places ∙ (c.places-places.ensures.places ∙ ap (λ (p : Requesting). p.places) same);
       numbers = c.copier-from.ensures.numbers ∙ c.deref-numbers.ensures.value;
       records = c.copier-from.ensures.records ∙ (c.records-records.ensures ∙ ap (λ (p : Requesting). p.records) same);
     } in
@@ -208,7 +224,7 @@ returns-clause-received c = λ giver w answers types v can view.
 
 pub returns-clause-denoted : goal.returns-clause-denoted
 returns-clause-denoted c = λ giver w answers types v can view encoding none.
-    let parts_are : c.kept.inside.parts ≡ c.args.kept.now.parts = ap (λ (x : Scanned). x.parts) c.kept.view_is in
+    let parts_are : c.kept.inside.lists.parts ≡ c.args.kept.now.parts = ap (λ (x : Scanned). x.parts) c.kept.view_is in
     let handles_are : leaves_of c.deref.result.now ≡ c.args.kept.now.handles = ap leaves_of c.deref.ensures.value ∙ ap (λ (x : Scanned). x.handles) c.kept.view_is in
     let settled = c.what_can_be_copied_is_settled.ensures (length c.args.memory.now) (map kind_of c.args.slots.now) giver c.args.found.now c.args.kept.now answers types v c.are_bytes.ensures can in
     let gave = subst (λ ls. Gives c.args.to c.args.table.now.handles c.give.new.table.handles ls c.give.new.numbers.items) handles_are c.in-Ok.ensures.gives in
@@ -219,7 +235,7 @@ returns-clause-denoted c = λ giver w answers types v can view encoding none.
       memory = c.copier-from.ensures.memory;
       encoding = c.copier-from.ensures.source ∙ (ap (λ (x : Encodings). x.source) c.encodings-encodings.ensures ∙ ap (λ (p : Requesting). p.source) same);
       target = c.copier-from.ensures.target ∙ (ap (λ (x : Encodings). x.target) c.encodings-encodings.ensures ∙ ap (λ (p : Requesting). p.target) same);
-      places = c.copier-from.ensures.places ∙ (c.places-places.ensures ∙ ap (λ (p : Requesting). p.places) same);
+      places = c.copier-from.ensures.places ∙ (c.places-places.ensures.places ∙ ap (λ (p : Requesting). p.places) same);
       numbers = c.copier-from.ensures.numbers ∙ c.deref-numbers.ensures.value;
       records = c.copier-from.ensures.records ∙ (c.records-records.ensures ∙ ap (λ (p : Requesting). p.records) same);
     } in
@@ -244,7 +260,7 @@ returns-clause-denoted c = λ giver w answers types v can view encoding none.
 
 pub returns-clause-framed : goal.returns-clause-framed
 returns-clause-framed c = λ giver answers types v can.
-    let parts_are : c.kept.inside.parts ≡ c.args.kept.now.parts = ap (λ (x : Scanned). x.parts) c.kept.view_is in
+    let parts_are : c.kept.inside.lists.parts ≡ c.args.kept.now.parts = ap (λ (x : Scanned). x.parts) c.kept.view_is in
     let handles_are : leaves_of c.deref.result.now ≡ c.args.kept.now.handles = ap leaves_of c.deref.ensures.value ∙ ap (λ (x : Scanned). x.handles) c.kept.view_is in
     let settled = c.what_can_be_copied_is_settled.ensures (length c.args.memory.now) (map kind_of c.args.slots.now) giver c.args.found.now c.args.kept.now answers types v c.are_bytes.ensures can in
     let gave = subst (λ ls. Gives c.args.to c.args.table.now.handles c.give.new.table.handles ls c.give.new.numbers.items) handles_are c.in-Ok.ensures.gives in
@@ -255,7 +271,7 @@ returns-clause-framed c = λ giver answers types v can.
       memory = c.copier-from.ensures.memory;
       encoding = c.copier-from.ensures.source ∙ (ap (λ (x : Encodings). x.source) c.encodings-encodings.ensures ∙ ap (λ (p : Requesting). p.source) same);
       target = c.copier-from.ensures.target ∙ (ap (λ (x : Encodings). x.target) c.encodings-encodings.ensures ∙ ap (λ (p : Requesting). p.target) same);
-      places = c.copier-from.ensures.places ∙ (c.places-places.ensures ∙ ap (λ (p : Requesting). p.places) same);
+      places = c.copier-from.ensures.places ∙ (c.places-places.ensures.places ∙ ap (λ (p : Requesting). p.places) same);
       numbers = c.copier-from.ensures.numbers ∙ c.deref-numbers.ensures.value;
       records = c.copier-from.ensures.records ∙ (c.records-records.ensures ∙ ap (λ (p : Requesting). p.records) same);
     } in
@@ -273,7 +289,7 @@ returns-clause-framed c = λ giver answers types v can.
 
 pub returns-clause-handles : goal.returns-clause-handles
 returns-clause-handles c = λ giver answers types v can.
-    let parts_are : c.kept.inside.parts ≡ c.args.kept.now.parts = ap (λ (x : Scanned). x.parts) c.kept.view_is in
+    let parts_are : c.kept.inside.lists.parts ≡ c.args.kept.now.parts = ap (λ (x : Scanned). x.parts) c.kept.view_is in
     let handles_are : leaves_of c.deref.result.now ≡ c.args.kept.now.handles = ap leaves_of c.deref.ensures.value ∙ ap (λ (x : Scanned). x.handles) c.kept.view_is in
     let settled = c.what_can_be_copied_is_settled.ensures (length c.args.memory.now) (map kind_of c.args.slots.now) giver c.args.found.now c.args.kept.now answers types v c.are_bytes.ensures can in
     let gave = subst (λ ls. Gives c.args.to c.args.table.now.handles c.give.new.table.handles ls c.give.new.numbers.items) handles_are c.in-Ok.ensures.gives in
@@ -281,7 +297,7 @@ returns-clause-handles c = λ giver answers types v can.
 
 pub returns-clause-apart : goal.returns-clause-apart
 returns-clause-apart c = λ giver answers types v can.
-    let parts_are : c.kept.inside.parts ≡ c.args.kept.now.parts = ap (λ (x : Scanned). x.parts) c.kept.view_is in
+    let parts_are : c.kept.inside.lists.parts ≡ c.args.kept.now.parts = ap (λ (x : Scanned). x.parts) c.kept.view_is in
     let handles_are : leaves_of c.deref.result.now ≡ c.args.kept.now.handles = ap leaves_of c.deref.ensures.value ∙ ap (λ (x : Scanned). x.handles) c.kept.view_is in
     let settled = c.what_can_be_copied_is_settled.ensures (length c.args.memory.now) (map kind_of c.args.slots.now) giver c.args.found.now c.args.kept.now answers types v c.are_bytes.ensures can in
     let gave = subst (λ ls. Gives c.args.to c.args.table.now.handles c.give.new.table.handles ls c.give.new.numbers.items) handles_are c.in-Ok.ensures.gives in

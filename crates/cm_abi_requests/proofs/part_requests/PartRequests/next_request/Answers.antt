@@ -16,7 +16,7 @@ returns-clause-next c = λ answers h.
     ap (λ xs. slice_get xs (length c.self.inside.places.items)) (sym c.deref.ensures.value) ∙ (ap (slice_get c.deref.result.now) many ∙ (sym c.part_at.ensures ∙ c.in-Some.is)) in
     ap (λ x. Some x) c.with_old.ensures
     ∙ (ap (option_map (with_last c.self.inside.last)) (sym c.in-Some-request_at.is ∙ c.request_at.ensures)
-    ∙ (next_seen s (sizes_seen c.self.inside.sizes) (vec_capacity c.self.inside.places) (vec_capacity c.self.inside.regions) c.self.invariant answers c.in-Some.part (subst (λ p. IsAnswered p answers) (sym c.self.view_is) h) is
+    ∙ (next_seen s (sizes_seen c.self.inside.sizes) (vec_capacity c.self.inside.places) (vec_capacity c.self.inside.regions) c.self.invariant.0 answers c.in-Some.part (subst (λ p. IsAnswered p answers) (sym c.self.view_is) h) is
     ∙ ap (λ p. next_of (all_requests p) answers) c.self.view_is))
 
 pub returns-clause-aligned : goal.returns-clause-aligned
@@ -26,4 +26,4 @@ returns-clause-aligned c =
     let is : slice_get c.self.inside.records.items (length c.self.inside.places.items) ≡ Some c.in-Some.part =
     ap (λ xs. slice_get xs (length c.self.inside.places.items)) (sym c.deref.ensures.value) ∙ (ap (slice_get c.deref.result.now) many ∙ (sym c.part_at.ensures ∙ c.in-Some.is)) in
     subst (λ (x : Request × ℕ). 0 < x.0.align) (sym c.with_old.ensures)
-    (seen_aligned s (sizes_seen c.self.inside.sizes) (vec_capacity c.self.inside.places) (vec_capacity c.self.inside.regions) c.self.invariant c.in-Some.part c.in-Some-request_at.request is (sym c.request_at.ensures ∙ c.in-Some-request_at.is))
+    (seen_aligned s (sizes_seen c.self.inside.sizes) (vec_capacity c.self.inside.places) (vec_capacity c.self.inside.regions) c.self.invariant.0 c.in-Some.part c.in-Some-request_at.request is (sym c.request_at.ensures ∙ c.in-Some-request_at.is))
