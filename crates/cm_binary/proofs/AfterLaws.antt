@@ -4,7 +4,6 @@ use Rattle.std.specs.Prelude.{◌↔◌}
 use Rattle.cm_binary_grammar.specs.declared.fault.Fault.{Fault}
 use Rattle.cm_binary_grammar.specs.declared.fault.End.TheVariants as end
 use Rattle.cm_binary_grammar.specs.Faults.{flaw}
-use Rattle.cm_binary_grammar.proofs.Tools.{IsBytes, ok_of, err_of, ok_is, err_is}
 use Rattle.cm_binary_model.specs.Trees.{SectionTree}
 use Rattle.cm_binary_forms.specs.declared.fault.DecodeFault.{DecodeFault}
 use Rattle.cm_binary_forms.specs.declared.fault.DecodeReason.{DecodeReason}
@@ -12,6 +11,9 @@ use Rattle.cm_binary_forms.specs.declared.fault.DecodeReason.TheVariants.{Trunca
 use Rattle.cm_binary.specs.Progress.{Progress, with_sections}
 use Rattle.cm_binary.specs.After.{Answer, rest_of_file, ComesTo}
 use Rattle.cm_binary.proofs.StopLaws.{rest_lawful}
+use Rattle.cm_lemmas.proofs.Lists.{IsBytes}
+use Rattle.cm_lemmas.proofs.Equations.{err_is, ok_is}
+use Rattle.cm_lemmas.proofs.Results.{err_of, ok_of}
 
 -- What is read of these bytes, with the sections that were read.
 abbrev pub read_in_all : Progress → List ℕ → Result (List SectionTree) (Fault DecodeReason)

@@ -1,11 +1,10 @@
 -- What has come of a file, of which a decoder was fed a part.
 use Rattle.std.proofs.Common.{◌≡◌, ℕ, ◌+◌, ◌<◌, List, [], ◌++◌, length, take, get_or, Bor, Option, Some, None, Result, Ok, Err, refl, sym, ap, subst, ◌∙◌, append_assoc, append-nil, arith, inl, inr, ◌⊎◌}
 use Rattle.std.specs.Prelude.{OnOk, IfOk, IfErr, IfSome}
-use Rattle.cm_binary_grammar.proofs.Tools.{ok_of}
 use Rattle.cm_binary.proofs.OneAnswer.{one_answer}
 use Rattle.std.proofs.lemmas.List.{length-append, get_or_past, take_more, flat_map_more}
 use Rattle.std.specs.List.{flat_map}
-use Rattle.cm_binary_grammar.proofs.Tools.{IsBytes, IsBytes-after}
+use Rattle.cm_binary_grammar.proofs.Tools.{IsBytes-after}
 use Rattle.cm_binary_forms.specs.declared.fault.DecodeFault.{DecodeFault}
 use Rattle.cm_binary_forms.specs.declared.fault.DecodeReason.TheVariants.{Memory, Read}
 use Rattle.cm_binary_forms.specs.File.{Spells, FirstFault}
@@ -14,6 +13,8 @@ use Rattle.cm_binary.specs.After.{Held, Answer, nothing, After, Follows, IsSettl
 use Rattle.cm_binary.specs.Streams.{FailsBehind}
 use Rattle.cm_binary.specs.Pieces.{Decodes, StaysFault, IsOpen, HasCome}
 use Rattle.cm_binary.proofs.PieceLaws.{IsBytes-append, fresh_answers}
+use Rattle.cm_lemmas.proofs.Lists.{IsBytes}
+use Rattle.cm_lemmas.proofs.Results.{ok_of}
 
 pub come_nothing : HasCome nothing [] []
 come_nothing = record {

@@ -6,7 +6,6 @@ use Rattle.std.proofs.lemmas.List.{length-append, get_or_append_left, get_or_pas
 use Rattle.cm_binary_grammar.specs.declared.fault.Fault.{Fault}
 use Rattle.cm_binary_grammar.specs.declared.fault.End.TheVariants as end
 use Rattle.cm_binary_grammar.specs.Faults.{flaw}
-use Rattle.cm_binary_grammar.proofs.Tools.{IsBytes, ok_is, err_is}
 use Rattle.cm_binary_model.specs.Trees.{SectionTree}
 use Rattle.cm_binary_forms.specs.declared.fault.DecodeFault.{DecodeFault}
 use Rattle.cm_binary_forms.specs.declared.fault.DecodeReason.{DecodeReason}
@@ -14,6 +13,8 @@ use Rattle.cm_binary_forms.specs.declared.fault.DecodeReason.TheVariants.{Trunca
 use Rattle.cm_binary_forms.specs.File.{file, Spells, FirstFault}
 use Rattle.cm_binary.specs.Answers.{Accepts, Refuses, Answers}
 use Rattle.cm_binary_forms.proofs.LawfulFile.{file_lawful}
+use Rattle.cm_lemmas.proofs.Lists.{IsBytes}
+use Rattle.cm_lemmas.proofs.Equations.{err_is, ok_is}
 
 pub is_found : (bytes : List ℕ) (r : Result (List SectionTree) DecodeFault) → IsBytes bytes → Answers bytes r (file.reads (end.Cut Truncated) bytes) → IfOk r (λ c. Spells c bytes)
 is_found bytes (Ok c) fits h = file_lawful.takes (end.Cut Truncated) bytes c fits h

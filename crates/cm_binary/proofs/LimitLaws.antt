@@ -6,7 +6,7 @@ use Rattle.cm_binary_grammar.specs.declared.fault.Fault.{Fault}
 use Rattle.cm_binary_grammar.specs.declared.fault.End.{End}
 use Rattle.cm_binary_grammar.specs.declared.fault.End.TheVariants as end
 use Rattle.cm_binary_grammar.specs.Whole.{Whole, too_many, and_behind, at_most}
-use Rattle.cm_binary_grammar.proofs.Tools.{IsBytes, IsBytes-take}
+use Rattle.cm_binary_grammar.proofs.Tools.{IsBytes-take}
 use Rattle.cm_binary_grammar.proofs.PartLaws.{cases_le}
 use Rattle.cm_binary_grammar.proofs.EndLaws.{at_most_all, at_most_cut}
 use Rattle.cm_binary_model.specs.Trees.{SectionTree}
@@ -15,6 +15,7 @@ use Rattle.cm_binary_forms.specs.declared.fault.DecodeReason.{DecodeReason}
 use Rattle.cm_binary_forms.specs.declared.fault.DecodeReason.TheVariants.{Truncated, TooLong}
 use Rattle.cm_binary.specs.Progress.{Progress, behind, with_sections, HasRead, Reaches}
 use Rattle.cm_binary.specs.After.{rest_of_file}
+use Rattle.cm_lemmas.proofs.Lists.{IsBytes}
 
 -- Where so many bytes more may stand behind these.
 pub limited_fits : {R A : Type 0} (w : Whole R A) (reason : R) (e : End R) (limit room : ℕ) (bytes more : List ℕ) → limit ≡ length bytes + room → length more ≤ room → (at_most limit reason w).reads e (bytes ++ more) ≡ w.reads e (bytes ++ more)

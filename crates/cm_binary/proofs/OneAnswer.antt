@@ -3,7 +3,6 @@ use Rattle.std.proofs.Common.{◌≡◌, ℕ, ◌+◌, ◌-◌, List, length, Re
 use Rattle.cm_binary_grammar.specs.declared.fault.Fault.{Fault}
 use Rattle.cm_binary_grammar.specs.declared.fault.End.TheVariants as end
 use Rattle.cm_binary_grammar.specs.Faults.{flaw}
-use Rattle.cm_binary_grammar.proofs.Tools.{IsBytes, err_of}
 use Rattle.cm_binary_grammar.proofs.AnswerLaws.{comes_read}
 use Rattle.cm_binary_model.specs.Trees.{SectionTree}
 use Rattle.cm_binary_forms.specs.declared.fault.DecodeFault.{DecodeFault}
@@ -13,6 +12,8 @@ use Rattle.cm_binary_forms.specs.File.{file, FirstFault}
 use Rattle.cm_binary.specs.Answers.{IsAnswer, IsOnlyAnswer}
 use Rattle.cm_binary_forms.proofs.LawfulFile.{file_lawful}
 use Rattle.cm_binary.proofs.FileWants.{file_ends}
+use Rattle.cm_lemmas.proofs.Lists.{IsBytes}
+use Rattle.cm_lemmas.proofs.Results.{err_of}
 
 abbrev Answer : Type 0
 Answer = Result (List SectionTree) DecodeFault

@@ -10,7 +10,7 @@ use Rattle.cm_binary_grammar.specs.declared.fault.End.TheVariants as end
 use Rattle.cm_binary_grammar.specs.declared.fault.ReadError.{ReadError}
 use Rattle.cm_binary_grammar.specs.declared.fault.ReadError.TheVariants as errors
 use Rattle.cm_binary_grammar.specs.Faults.{flaw, want}
-use Rattle.cm_binary_grammar.proofs.Tools.{IsBytes, IsBytes-after, err_is, parts_more}
+use Rattle.cm_binary_grammar.proofs.Tools.{IsBytes-after, parts_more}
 use Rattle.cm_binary_grammar.proofs.Laws.{fixed_lawful}
 use Rattle.cm_binary_grammar.proofs.EndLaws.{at_most_all}
 use Rattle.cm_binary_grammar.proofs.WantLaws.{fixed_ends, inside_ends}
@@ -35,6 +35,8 @@ use Rattle.cm_binary.specs.After.{After, Answer, Held, rest_of_file, ComesTo, Fo
 use Rattle.cm_binary.proofs.LimitLaws.{limited_same}
 use Rattle.cm_binary.proofs.StopLaws.{rest_lawful, rest_ends, stop_read, nothing_behind, stop_stays, stop_too_long}
 use Rattle.cm_binary.proofs.AfterLaws.{comes_same, comes_fault}
+use Rattle.cm_lemmas.proofs.Lists.{IsBytes}
+use Rattle.cm_lemmas.proofs.Equations.{err_is}
 
 -- ---- how many bytes are kept
 

@@ -6,7 +6,7 @@ use Rattle.cm_binary_grammar.specs.declared.fault.ReadError.{ReadError}
 use Rattle.cm_binary_grammar.specs.declared.fault.ReadError.TheVariants as errors
 use Rattle.cm_binary_grammar.specs.Grammar.{Grammar, fixed}
 use Rattle.cm_binary_grammar.specs.Whole.{SpellsEach, state_after}
-use Rattle.cm_binary_grammar.proofs.Tools.{IsBytes, IsBytes-after, parts_behind, parts_more}
+use Rattle.cm_binary_grammar.proofs.Tools.{IsBytes-after, parts_behind, parts_more}
 use Rattle.cm_binary_grammar.proofs.Laws.{fixed_lawful}
 use Rattle.cm_binary_grammar.proofs.ReadingLaws.{to_end_more}
 use Rattle.cm_binary_model.specs.Trees.{SectionTree}
@@ -19,6 +19,7 @@ use Rattle.cm_binary_forms.proofs.LawfulSections.{section_lawful, section_nonemp
 use Rattle.cm_binary.specs.declared.front.Next.{Next}
 use Rattle.cm_binary.specs.declared.front.Next.TheVariants as nexts
 use Rattle.cm_binary.specs.Progress.{Progress, from, behind, IsNext, Takes, StopsBy, Stops, StopsInside, with_sections, HasReadBy, HasRead, Reaches, room_behind}
+use Rattle.cm_lemmas.proofs.Lists.{IsBytes}
 
 -- ---- one thing
 

@@ -8,7 +8,7 @@ use Rattle.cm_binary_grammar.specs.declared.fault.ReadError.TheVariants as error
 use Rattle.cm_binary_grammar.specs.Faults.{later, want}
 use Rattle.cm_binary_grammar.specs.Grammar.{fixed}
 use Rattle.cm_binary_grammar.specs.Whole.{too_many, and_behind}
-use Rattle.cm_binary_grammar.proofs.Tools.{IsBytes, IsBytes-take, err_of, err_is, then_from_err, later-later}
+use Rattle.cm_binary_grammar.proofs.Tools.{IsBytes-take, then_from_err, later-later}
 use Rattle.cm_binary_grammar.proofs.Laws.{fixed_lawful}
 use Rattle.cm_binary_grammar.proofs.WholeLaws.{LawfulWhole}
 use Rattle.cm_binary_grammar.proofs.PartLaws.{cases_le}
@@ -28,6 +28,9 @@ use Rattle.cm_binary.specs.declared.front.Next.TheVariants as nexts
 use Rattle.cm_binary.specs.Progress.{Progress, from, behind, StopsBy, Stops, with_sections, HasRead, Reaches}
 use Rattle.cm_binary.specs.After.{rest_of_file}
 use Rattle.cm_binary.proofs.LimitLaws.{limited_fits, limited_cut, with_behind}
+use Rattle.cm_lemmas.proofs.Lists.{IsBytes}
+use Rattle.cm_lemmas.proofs.Equations.{err_is}
+use Rattle.cm_lemmas.proofs.Results.{err_of}
 
 -- ---- what may stand behind is read exactly
 

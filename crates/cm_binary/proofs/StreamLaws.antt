@@ -4,13 +4,13 @@ use Rattle.std.specs.Prelude.{IfSome}
 use Rattle.std.specs.Io.KnownBytes.{Consumes, Appends, IsAtEnd, Keeps}
 use Rattle.std.proofs.KnownBytes.{Consumes-trans, Consumes-kept, Appends-trans}
 use lib.Seq.{take-add}
-use Rattle.cm_binary_grammar.proofs.Tools.{IsBytes}
 use Rattle.cm_binary_forms.specs.declared.fault.DecodeFault.{DecodeFault}
 use Rattle.cm_binary_forms.specs.declared.fault.DecodeReason.TheVariants.{Memory}
 use Rattle.cm_binary.specs.Answers.{IsAnswer}
 use Rattle.cm_binary.specs.After.{Held, Answer}
 use Rattle.cm_binary.specs.Pieces.{Decodes, StaysFault, HasCome}
 use Rattle.cm_binary.specs.Streams.{FailsBehind, IsReadUpTo, IsReadFrom, IsKnown}
+use Rattle.cm_lemmas.proofs.Lists.{IsBytes}
 
 -- ---- reading
 

@@ -1,7 +1,6 @@
 -- Types are read exactly.
-use Rattle.std.proofs.Common.{ℕ, ◌≤◌, ◌<◌, Bool, true, false, List, [], ◌∷◌, length, ap, arith}
+use Rattle.std.proofs.Common.{ℕ, ◌<◌, Bool, true, false, List, length, ap, arith}
 use Rattle.std.proofs.lemmas.List.{length-append}
-use Rattle.cm_leb.specs.Numbers.{IsGroup}
 use Rattle.cm_binary_grammar.proofs.Laws.{Lawful, done_lawful, bind_lawful, ahead_lawful, code_lawful, signed_lawful, check_lawful, fixed_lawful, vec_lawful, from_stock_lawful, stocked_lawful}
 use Rattle.cm_types.specs.declared.def_types.ValType.{ValType}
 use Rattle.cm_binary_forms.specs.declared.codes.OptionalForm.{OptionalForm}
@@ -27,6 +26,7 @@ use Rattle.cm_binary_forms.specs.Codes.{is_from}
 use Rattle.cm_binary_forms.specs.Types.{optional_of, optional, type_index, val_type_of, val_type, param, case_type, def_val_type_of, func_result_of, func_result, func_type, declared_type_of, declared_type, declared_type_from, declared_alias_of, declared_alias, type_bound_of, type_bound, export_desc_of, export_desc, export_decl, declaration_of, declaration, declarations, def_type_of, def_type, def_type_from, type_defs}
 use Rattle.cm_binary_forms.proofs.LawfulTexts.{index_lawful, label_lawful, extern_name_lawful}
 use Rattle.cm_binary_forms.proofs.LawfulAliases.{outer_type_lawful}
+use Rattle.cm_leb.proofs.SignedLaws.{IsGroup-some}
 
 pub optional_of_lawful : {A : Type 0} (g : Production A) → Lawful g → (f : OptionalForm) → Lawful (optional_of g f)
 unfolding optional_of
@@ -46,14 +46,10 @@ unfolding val_type_of
 val_type_of_lawful true = bind_lawful _ _ (code_lawful _) (λ primitive. done_lawful _)
 val_type_of_lawful false = bind_lawful _ _ type_index_lawful (λ number. done_lawful _)
 
-group_some : (bytes : List ℕ) → IsGroup bytes → 1 ≤ length bytes
-group_some [] g = absurd g
-group_some (b ∷ bytes) g = omega arith
-
 val_type_of_nonempty : (p : Bool) (x : ValType) (front : List ℕ) → (val_type_of p).Spells x front → 0 < length front
 unfolding val_type_of type_index
 val_type_of_nonempty true x front s = omega (arith, ap length s.5, length-append s.1 s.2, ap length s.3.1)
-val_type_of_nonempty false x front s = omega (arith, ap length s.5, length-append s.1 s.2, group_some s.1 s.3.0.group)
+val_type_of_nonempty false x front s = omega (arith, ap length s.5, length-append s.1 s.2, IsGroup-some s.1 s.3.0.group)
 
 pub val_type_lawful : Lawful val_type
 unfolding val_type

@@ -6,13 +6,14 @@ use Rattle.cm_binary_grammar.specs.declared.fault.End.{End}
 use Rattle.cm_binary_grammar.specs.declared.fault.ReadError.{ReadError}
 use Rattle.cm_binary_grammar.specs.Faults.{Fails}
 use Rattle.cm_binary_grammar.specs.Whole.{to_end}
-use Rattle.cm_binary_grammar.proofs.Tools.{IsBytes, IsBytes-after}
+use Rattle.cm_binary_grammar.proofs.Tools.{IsBytes-after}
 use Rattle.cm_binary_grammar.proofs.ReadingLaws.{with_each, to_end_more, to_end_fails}
 use Rattle.cm_binary_model.specs.declared.section.Section.{Section}
 use Rattle.cm_binary_model.specs.Trees.{SectionTree, section_tree}
 use Rattle.cm_binary_forms.specs.declared.fault.DecodeReason.{DecodeReason}
 use Rattle.cm_binary_forms.specs.Sections.{section, room_after}
 use Rattle.cm_binary_forms.proofs.LawfulSections.{section_lawful, section_nonempty}
+use Rattle.cm_lemmas.proofs.Lists.{IsBytes}
 
 pub section_shorter : (room : ℕ) (e : End DecodeReason) (bytes : List ℕ) (x : SectionTree) (behind : List ℕ) → IsBytes bytes → (section room).reads e bytes ≡ Ok (x, behind) → length behind < length bytes
 section_shorter room e bytes x behind fits h =

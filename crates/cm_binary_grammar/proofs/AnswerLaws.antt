@@ -3,8 +3,8 @@ use Rattle.std.proofs.Common.{◌≡◌, ℕ, List, Result, Ok, Err}
 use Rattle.cm_binary_grammar.specs.declared.fault.Fault.{Fault}
 use Rattle.cm_binary_grammar.specs.declared.fault.End.{End}
 use Rattle.cm_binary_grammar.specs.Whole.{Whole}
-use Rattle.cm_binary_grammar.proofs.Tools.{IsBytes}
 use Rattle.cm_binary_grammar.proofs.WholeLaws.{LawfulWhole}
+use Rattle.cm_lemmas.proofs.Lists.{IsBytes}
 
 -- What the bytes come to: the value that they spell, or their first fault.
 abbrev pub ComesTo : {R A : Type 0} → Whole R A → End R → List ℕ → Result A (Fault R) → Type 0

@@ -8,10 +8,13 @@ use Rattle.cm_binary_grammar.specs.declared.fault.End.TheVariants as end
 use Rattle.cm_binary_grammar.specs.Faults.{flaw, later, and_then}
 use Rattle.cm_binary_grammar.specs.Grammar.{Grammar}
 use Rattle.cm_binary_grammar.specs.Whole.{Whole, SpellsEach, state_after, each_reads, to_end, too_many, and_behind, at_most}
-use Rattle.cm_binary_grammar.proofs.Tools.{IsBytes, IsBytes-after, IsBytes-take, err_of, ok_is, err_is, then_ok, then_err, later-later, parts_behind, parts_more}
+use Rattle.cm_binary_grammar.proofs.Tools.{IsBytes-after, IsBytes-take, then_ok, then_err, later-later, parts_behind, parts_more}
 use Rattle.cm_binary_grammar.proofs.Laws.{Stays, Lawful}
 use Rattle.cm_binary_grammar.proofs.WholeLaws.{LawfulWhole}
 use Rattle.cm_binary_grammar.proofs.PartLaws.{cases_le, part_of, later_twice}
+use Rattle.cm_lemmas.proofs.Lists.{IsBytes}
+use Rattle.cm_lemmas.proofs.Equations.{err_is, ok_is}
+use Rattle.cm_lemmas.proofs.Results.{err_of}
 
 -- A thing takes at least one byte.
 abbrev pub IsNonempty : {R A : Type 0} → Grammar R A → Type 0

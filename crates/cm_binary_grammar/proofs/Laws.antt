@@ -13,7 +13,10 @@ use Rattle.cm_binary_grammar.specs.declared.fault.End.{End}
 use Rattle.cm_binary_grammar.specs.declared.fault.End.TheVariants as end
 use Rattle.cm_binary_grammar.specs.Faults.{flaw, later, want}
 use Rattle.cm_binary_grammar.specs.Grammar.{Grammar, done, ◌>>=◌, fail, code_answer, code_reads, code, ahead_reads, ahead, number_fault, number_reads, number, signed, raw, check, DifferAt, IsBeginning, fixed_reads, fixed, chain, times, from_stock, vec, stocked, blob}
-use Rattle.cm_binary_grammar.proofs.Tools.{IsBytes, IsBytes-after, ok_of, err_of, ok_is, err_is, then_ok, then_err, then_from_ok, then_from_err, cond_ok, cond_err, flaw-later, parts_behind}
+use Rattle.cm_binary_grammar.proofs.Tools.{IsBytes-after, then_ok, then_err, then_from_ok, then_from_err, cond_ok, cond_err, flaw-later, parts_behind}
+use Rattle.cm_lemmas.proofs.Lists.{IsBytes}
+use Rattle.cm_lemmas.proofs.Equations.{err_is, ok_is}
+use Rattle.cm_lemmas.proofs.Results.{err_of, ok_of}
 
 -- A spelling of x in front, and the rest.
 pub record Takes {R A : Type 0} (g : Grammar R A) (x : A) (bytes rest : List ℕ) : Type 0 where

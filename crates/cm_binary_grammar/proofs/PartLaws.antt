@@ -8,9 +8,12 @@ use Rattle.cm_binary_grammar.specs.declared.fault.End.TheVariants as end
 use Rattle.cm_binary_grammar.specs.Faults.{flaw, later, want}
 use Rattle.cm_binary_grammar.specs.Grammar.{DifferAt, IsBeginning}
 use Rattle.cm_binary_grammar.specs.Whole.{Whole, too_short, begins_with_reads, begins_with, inside, cut_short, of_size}
-use Rattle.cm_binary_grammar.proofs.Tools.{IsBytes, IsBytes-take, ok_of, err_of, ok_is, err_is, flaw-later, later-later}
+use Rattle.cm_binary_grammar.proofs.Tools.{IsBytes-take, flaw-later, later-later}
 use Rattle.cm_binary_grammar.proofs.Laws.{Takes, Stays, Lawful, differ_more, beginning_more}
 use Rattle.cm_binary_grammar.proofs.WholeLaws.{LawfulWhole}
+use Rattle.cm_lemmas.proofs.Lists.{IsBytes, both_cons}
+use Rattle.cm_lemmas.proofs.Equations.{err_is, ok_is}
+use Rattle.cm_lemmas.proofs.Results.{err_of, ok_of}
 
 -- ---- bytes that begin with a text
 
@@ -20,9 +23,6 @@ begun_goes_on c text reason e bytes b rest h = let t = eq-eqb b c h in rw t refl
 begun_stops : {R : Type 0} (c : ℕ) (text : List ℕ) (reason : R) (e : End R) (bytes : List ℕ) (b : ℕ) (rest : List ℕ) → (b ≡ c → ⊥) → begins_with_reads (c ∷ text) reason e bytes (b ∷ rest) ≡ Err (flaw (length bytes) reason)
 begun_stops c text reason e bytes b rest h = let t = ne_eqb b c h in rw t refl
 
-cons_same : (b c : ℕ) (rest tail : List ℕ) → b ≡ c → rest ≡ tail → b ∷ rest ≡ c ∷ tail
-cons_same b c rest tail p q = cc
-
 begun_ok : {R : Type 0} (text : List ℕ) (reason : R) (e : End R) (bytes rest x : List ℕ) → begins_with_reads text reason e bytes rest ≡ Ok x → (x ≡ bytes) × ((tail : List ℕ) × (rest ≡ text ++ tail))
 begun_ok {R} [] reason e bytes rest x h = (sym (ok_is (Fault R) bytes x h), (rest, refl))
 begun_ok (c ∷ text) reason e bytes [] x h = absurd cc
@@ -30,7 +30,7 @@ begun_ok (c ∷ text) reason e bytes (b ∷ rest) x h =
     elim (cases_eq b c) [
       | inl q ↦
           let k = begun_ok text reason e bytes rest x (sym (begun_goes_on c text reason e bytes b rest q) ∙ h) in
-          (k.0, (k.1.0, cons_same b c rest (text ++ k.1.0) q k.1.1))
+          (k.0, (k.1.0, both_cons b c rest (text ++ k.1.0) q k.1.1))
       | inr n ↦ let q = begun_stops c text reason e bytes b rest n in absurd cc
     ]
 

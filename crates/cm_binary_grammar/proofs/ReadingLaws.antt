@@ -11,10 +11,11 @@ use Rattle.cm_binary_grammar.specs.Faults.{and_then, Fails, Gives}
 use Rattle.cm_binary_grammar.specs.Grammar.{Grammar, chain}
 use Rattle.cm_binary_grammar.specs.Whole.{Whole, of_size, to_end}
 use Rattle.cm_binary_grammar.specs.Reading.{part_end, IsInside, behind_part}
-use Rattle.cm_binary_grammar.proofs.Tools.{IsBytes, ok_of}
 use Rattle.cm_binary_grammar.proofs.Laws.{Lawful}
 use Rattle.cm_binary_grammar.proofs.EndLaws.{IsNonempty, and_more, to_end_turn, to_end_stops}
 use Rattle.cm_binary_grammar.proofs.WholeLaws.{LawfulWhole}
+use Rattle.cm_lemmas.proofs.Lists.{IsBytes}
+use Rattle.cm_lemmas.proofs.Results.{ok_of}
 
 -- ---- a loop over a count, with a state
 

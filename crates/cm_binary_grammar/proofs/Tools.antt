@@ -1,36 +1,17 @@
 -- Small facts on results, tests and lists of bytes, used by every law.
-use Rattle.std.proofs.Common.{◌≡◌, ℕ, suc, ◌+◌, ◌<◌, Bool, true, false, cond, List, ◌∷◌, ◌++◌, length, get_or, drop, take, Result, Ok, Err, refl, sym, ap, ◌∙◌, append_assoc, arith, inl, inr, ◌⊎◌}
-use Rattle.std.proofs.lemmas.List.{get_or-drop, get_or-append-add, length-take, get_or-take, get_or_past}
+use Rattle.std.proofs.Common.{◌≡◌, ℕ, ◌+◌, Bool, true, false, cond, List, ◌++◌, length, get_or, take, Result, Ok, Err, refl, sym, ap, ◌∙◌, append_assoc, arith, inl, inr, ◌⊎◌}
+use Rattle.std.proofs.lemmas.List.{get_or-append-add, length-take, get_or-take, get_or_past}
 use Rattle.std.proofs.lemmas.Bool.{cases_lt}
 use Rattle.cm_binary_grammar.specs.declared.fault.Fault.{Fault}
 use Rattle.cm_binary_grammar.specs.Faults.{flaw, later, and_then}
-
--- The numbers of a slice are bytes.
-abbrev pub IsBytes : List ℕ → Type 0
-IsBytes bytes = (i : ℕ) → get_or bytes i 0 < 256
-
-pub IsBytes-drop : (n : ℕ) (bytes : List ℕ) → IsBytes bytes → IsBytes (drop n bytes)
-IsBytes-drop n bytes h i = rw get_or-drop (h (n + i))
+use Rattle.cm_lemmas.proofs.Lists.{IsBytes}
+use Rattle.cm_lemmas.proofs.Equations.{err_is}
+use Rattle.cm_lemmas.proofs.Results.{err_of, ok_of}
 
 pub IsBytes-after : (bytes front rest : List ℕ) → bytes ≡ front ++ rest → IsBytes bytes → IsBytes rest
 IsBytes-after bytes front rest e h i =
     let p : get_or bytes (length front + i) 0 ≡ get_or rest i 0 = ap (λ (b : List ℕ). get_or b (length front + i) 0) e ∙ get_or-append-add front rest i 0 in
     omega (arith, h (length front + i))
-
-pub IsBytes-tail : (b : ℕ) (bytes : List ℕ) → IsBytes (b ∷ bytes) → IsBytes bytes
-IsBytes-tail b bytes h i = h (suc i)
-
-abbrev pub ok_of : {A : Type 0} (E : Type 0) → A → Result A E
-ok_of E x = Ok x
-
-abbrev pub err_of : {E : Type 0} (A : Type 0) → E → Result A E
-err_of A f = Err f
-
-pub ok_is : {A : Type 0} (E : Type 0) (x y : A) → ok_of E x ≡ ok_of E y → x ≡ y
-ok_is E x y e = cc
-
-pub err_is : {E : Type 0} (A : Type 0) (f d : E) → err_of A f ≡ err_of A d → f ≡ d
-err_is A f d e = cc
 
 pub then_ok : {A B E : Type 0} (r : Result A E) (next : A → Result B E) (y : B) → and_then r next ≡ Ok y → (x : A) × (r ≡ Ok x) × (next x ≡ Ok y)
 then_ok (Ok x) next y e = (x, refl, e)

@@ -4,9 +4,9 @@ use Rattle.cm_binary_grammar.specs.declared.fault.Fault.{Fault}
 use Rattle.cm_binary_grammar.specs.declared.fault.End.{End}
 use Rattle.cm_binary_grammar.specs.declared.fault.End.TheVariants as end
 use Rattle.cm_binary_grammar.specs.Faults.{flaw, later, want, want_reason}
-use Rattle.cm_binary_grammar.proofs.Tools.{err_of}
 use Rattle.cm_binary_grammar.specs.Grammar.{Grammar, done, ◌>>=◌, fail, code, ahead, number, signed, raw, check, fixed, chain, times, from_stock, vec, blob}
 use Rattle.cm_binary_grammar.specs.Whole.{Whole, build, remainder, exactly, join, too_short, begins_with, to_end, of_size, at_most, state_after}
+use Rattle.cm_lemmas.proofs.Results.{err_of}
 
 -- A fault of the reason r is the want of a byte where the bytes end, and they end for that reason.
 pub record Ends {R A : Type 0} (r : R) (g : Grammar R A) : Type 0 where

@@ -7,8 +7,11 @@ use Rattle.cm_binary_grammar.specs.declared.fault.End.TheVariants as end
 use Rattle.cm_binary_grammar.specs.Faults.{flaw, later, and_then}
 use Rattle.cm_binary_grammar.specs.Grammar.{Grammar}
 use Rattle.cm_binary_grammar.specs.Whole.{Whole, build, remainder, exactly_ends, exactly, join}
-use Rattle.cm_binary_grammar.proofs.Tools.{IsBytes, IsBytes-after, ok_of, err_of, ok_is, err_is, then_ok, then_err, then_from_ok, then_from_err, flaw-later}
+use Rattle.cm_binary_grammar.proofs.Tools.{IsBytes-after, then_ok, then_err, then_from_ok, then_from_err, flaw-later}
 use Rattle.cm_binary_grammar.proofs.Laws.{Stays, Lawful, ok_stays}
+use Rattle.cm_lemmas.proofs.Lists.{IsBytes}
+use Rattle.cm_lemmas.proofs.Equations.{err_is, ok_is}
+use Rattle.cm_lemmas.proofs.Results.{err_of, ok_of}
 
 pub record LawfulWhole {R A : Type 0} (w : Whole R A) : Type 0 where
   pub takes : (e : End R) (bytes : List ℕ) (x : A) → IsBytes bytes → w.reads e bytes ≡ Ok x → w.Spells x bytes

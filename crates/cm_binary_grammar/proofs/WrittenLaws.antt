@@ -11,6 +11,7 @@ use Rattle.cm_leb.proofs.ShortestLaws.{shortest_unsigned-spells, shortest_signed
 use Rattle.cm_binary_grammar.specs.Grammar.{Grammar, done, ◌>>=◌, code, ahead, number, signed, raw, check, fixed, chain, from_stock, vec, stocked}
 use Rattle.cm_binary_grammar.specs.Whole.{SpellsEach}
 use Rattle.cm_binary_grammar.specs.Spelling.{vec_spelling, blob_spelling}
+use Rattle.cm_lemmas.proofs.Lists.{all_spelled}
 
 -- The text is a spelling of x.
 pub record Spelled {R A : Type 0} (g : Grammar R A) (x : A) (text : List ℕ) : Type 0 where
@@ -83,15 +84,11 @@ fine_parts test spell x xs h =
     let lengths = length-append (spell x) (flat_map spell xs) in
     (both.0, omega (arith, lengths, h.1), (both.1, omega (arith, lengths, h.1)))
 
-flat_map_some : {A : Type 0} (spell : A → List ℕ) → ((x : A) → 0 < length (spell x)) → (xs : List A) → length xs ≤ length (flat_map spell xs)
-flat_map_some spell some [] = omega arith
-flat_map_some spell some (x ∷ xs) = omega (arith, some x, flat_map_some spell some xs, length-append (spell x) (flat_map spell xs))
-
 -- Where no spelling is empty there are no more things than bytes.
 counted_parts : {A : Type 0} (test : A → Bool) (spell : A → List ℕ) → ((x : A) → 0 < length (spell x)) → (xs : List A) → list_all test xs ≡ true → length (vec_spelling spell xs) < 2 ^ 32 → (length xs < 2 ^ 32) × AreFine test spell xs
 counted_parts test spell some xs h lt =
     let lengths = length-append (shortest_unsigned (length xs)) (flat_map spell xs) in
-    (omega (arith, flat_map_some spell some xs, lengths, lt), (h, omega (arith, lengths, lt)))
+    (omega (arith, all_spelled spell some xs, lengths, lt), (h, omega (arith, lengths, lt)))
 
 vec_step : {R A : Type 0} (g : Grammar R A) (test : A → Bool) (spell : A → List ℕ) → Writes g test spell → (s : Unit {0}) (x : A) (xs : List A) → AreFine test spell (x ∷ xs) → Spelled g x (spell x) × AreFine test spell xs
 vec_step g test spell w s x xs fine = let p = fine_parts test spell x xs fine in (w x p.0 p.1, p.2)

@@ -15,11 +15,7 @@ use Rattle.cm_binary_model.specs.Trees.{SectionTree}
 use Rattle.cm_binary_model.specs.Spelling.{core_instance_spelling, instance_spelling, alias_spelling, def_spelling, canon_spelling, import_spelling, export_spelling, contents_spelling, section_spelling, spelling}
 use Rattle.cm_binary_model.proofs.Nonempty.{core_instance_some, instance_some, alias_some, def_some, canon_some, import_some, export_some}
 use Rattle.cm_binary_model.specs.Limits.{types_in, items_in, has_preamble, limit_fault}
-
--- things that each take a byte are no more than their bytes
-all_spelled : {A : Type 0} (spell : A → List ℕ) → ((x : A) → 0 < length (spell x)) → (xs : List A) → length xs ≤ length (flat_map spell xs)
-all_spelled spell h [] = omega arith
-all_spelled spell h (x ∷ xs) = omega (arith, h x, all_spelled spell h xs, length-append (spell x) (flat_map spell xs))
+use Rattle.cm_lemmas.proofs.Lists.{all_spelled}
 
 vec_spelled : {A : Type 0} (spell : A → List ℕ) → ((x : A) → 0 < length (spell x)) → (xs : List A) → length xs ≤ length (vec_spelling spell xs)
 vec_spelled spell h xs = omega (arith, all_spelled spell h xs, length-append (shortest_unsigned (length xs)) (flat_map spell xs))

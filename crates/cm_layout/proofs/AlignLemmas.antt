@@ -2,16 +2,11 @@
 use Rattle.std.proofs.Common.{◌≡◌, ℕ, suc, ◌≤◌, max, List, [], ◌∷◌, length, map, Option, Some, None, nat_le, refl, ap, ◌∙◌, arith, inl, inr}
 use Rattle.std.proofs.lemmas.Bool.{cases_Bool}
 use Rattle.std.proofs.lemmas.List.{length-map}
-use Rattle.cm_types.specs.Types.{Ty, Fields, Cases, CasesKind, Width, bits_8, bits_16, bits_32, bits_64, width_bytes, bool, signed, unsigned, char, string, list, fixed_list, fields, cases, flags, own, borrow, no_fields, field, no_cases, plain, carrying}
+use Rattle.cm_types.specs.Types.{Ty, Fields, Cases, CasesKind, bool, signed, unsigned, char, string, list, fixed_list, fields, cases, flags, own, borrow, no_fields, field, no_cases, plain, carrying}
 use Rattle.cm_types.specs.TypeTrees.{CaseOf, case_before, cases_from, plain_from, case_of, cases_of}
 use Rattle.cm_types.specs.declared.type_trees.Case.{Case}
 use Rattle.cm_layout.specs.Sizes.{align_of, align_of_fields, align_of_payloads, align_of_payload, case_count, discriminant_size, flags_size}
-
-width_pos : (w : Width) → 1 ≤ width_bytes w
-width_pos bits_8 = omega arith
-width_pos bits_16 = omega arith
-width_pos bits_32 = omega arith
-width_pos bits_64 = omega arith
+use Rattle.cm_types.proofs.TypesLaws.{width_some}
 
 pub flags_pos : (n : ℕ) → 1 ≤ flags_size n
 flags_pos n = elim (cases_Bool (nat_le n 8)) [
@@ -36,8 +31,8 @@ payloads_align_pos (carrying l t cs) = omega (arith, payloads_align_pos cs)
 
 pub align_pos : (t : Ty) → 1 ≤ align_of t
 align_pos bool = omega arith
-align_pos (signed w) = width_pos w
-align_pos (unsigned w) = width_pos w
+align_pos (signed w) = width_some w
+align_pos (unsigned w) = width_some w
 align_pos char = omega arith
 align_pos string = omega arith
 align_pos (list t) = omega arith

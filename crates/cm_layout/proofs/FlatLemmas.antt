@@ -18,7 +18,7 @@ pub joined_nil : (xs : List CoreKind) → join_slots xs [] ≡ xs
 joined_nil [] = refl
 joined_nil (x ∷ xs) = refl
 
-join_assoc : (a b c : CoreKind) → join (join a b) c ≡ join a (join b c)
+pub join_assoc : (a b c : CoreKind) → join (join a b) c ≡ join a (join b c)
 join_assoc I32 b c = refl
 join_assoc I64 b c = refl
 
@@ -58,11 +58,11 @@ result_flat k l m o p =
 
 -- ---- slots joined one after another
 
-end_joined : (ks js : List CoreKind) → join_from (length ks) ks js ≡ ks ++ js
+pub end_joined : (ks js : List CoreKind) → join_from (length ks) ks js ≡ ks ++ js
 end_joined [] js = refl
 end_joined (k ∷ ks) js = ap (λ zs. k ∷ zs) (end_joined ks js)
 
-behind_start : (xs ks js : List CoreKind) → join_from (length ks) (join_slots xs ks) js ≡ join_slots xs (ks ++ js)
+pub behind_start : (xs ks js : List CoreKind) → join_from (length ks) (join_slots xs ks) js ≡ join_slots xs (ks ++ js)
 behind_start xs [] js = ap (λ zs. join_slots zs js) (joined_nil xs)
 behind_start [] (k ∷ ks) js = ap (λ zs. k ∷ zs) (end_joined ks js)
 behind_start (x ∷ xs) (k ∷ ks) js = ap (λ zs. join x k ∷ zs) (behind_start xs ks js)

@@ -15,10 +15,11 @@ use Rattle.cm_layout.specs.declared.fields.FieldsSoFar.{FieldsSoFar}
 use Rattle.cm_layout.specs.declared.cases.CasesSoFar.{CasesSoFar}
 use Rattle.cm_layout.specs.declared.heads.Head.{Head}
 use Rattle.cm_layout.proofs.AlignLemmas.{align_before, payload_align_pos, enum_align, flags_pos, align_pos, fields_align_pos, payloads_align_pos}
-use Rattle.cm_layout.proofs.Seen.{before_nodes}
-use Rattle.cm_layout.proofs.SizeLemmas.{place_above, two_nodes, enum_size, greatest_before, align_small, fields_align_small, payloads_align_small, size_small, end_small, payload_small, place_of_type, element_nodes}
+use Rattle.cm_layout.proofs.SizeLemmas.{place_above, two_nodes, enum_size, greatest_before, align_small, fields_align_small, payloads_align_small, size_small, end_small, payload_small, place_of_type}
 use Rattle.cm_layout.proofs.WidthLaws.{flat_plain, copies_long, join_long, narrow, fields_narrow, cases_narrow}
 use Rattle.cm_layout.proofs.BulkLaws.{numbers_fit, fields_bulk, fixed_list_bulk, cases_not_bulk}
+use Rattle.cm_types.proofs.Nodes.{before_nodes}
+use Rattle.cm_lemmas.proofs.Numbers.{times_least}
 
 -- ---- from numbers to what a type takes
 
@@ -261,4 +262,4 @@ flags_taken ls n d h e f g =
     taken (flags ls) h (ap (λ x. x.size) g ∙ f ∙ ap flags_size e) (ap (λ x. x.align) g ∙ f ∙ ap flags_size e) (ap (λ x. x.width) g)
     (ap (λ x. x.is_bulk) g ∙ sym (ne_eqb 0 (flags_size (length ls)) (λ z. absurd (omega (arith, flags_pos (length ls))))))
 
-pub ruleset heads = (align_pos, fields_align_pos, payloads_align_pos, align_small, fields_align_small, payloads_align_small, size_small, end_small, payload_small, narrow, fields_narrow, cases_narrow, copies_long, join_long, element_nodes, taken)
+pub ruleset heads = (align_pos, fields_align_pos, payloads_align_pos, align_small, fields_align_small, payloads_align_small, size_small, end_small, payload_small, narrow, fields_narrow, cases_narrow, copies_long, join_long, times_least, taken)

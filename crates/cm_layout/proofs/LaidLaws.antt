@@ -8,7 +8,7 @@ use Rattle.cm_layout.specs.Laid.{Laid, PartsLaid, PayloadsLaid}
 use Rattle.cm_layout.proofs.AlignLemmas.{align_pos, fields_align_pos, payloads_align_pos}
 use Rattle.cm_layout.proofs.SizeLemmas.{place_above}
 
-end_grows : (fs : Fields) (at : ℕ) → at ≤ end_of fs at
+pub end_grows : (fs : Fields) (at : ℕ) → at ≤ end_of fs at
 end_grows no_fields at = omega arith
 end_grows (field l t fs) at = omega (arith, place_above (align_of t) at (align_pos t), end_grows fs (align_to (align_of t) at + size_of t))
 

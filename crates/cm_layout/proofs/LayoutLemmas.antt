@@ -52,7 +52,7 @@ seen_Carried l = search (rules, the_lemmas)
 pub seen_Nothing : payload_of payload.Nothing ≡ None
 seen_Nothing = search (rules, the_lemmas)
 
-seen_head : (l : Layout) → (layout_of l).head ≡ (out-Layout l).head
+pub seen_head : (l : Layout) → (layout_of l).head ≡ (out-Layout l).head
 seen_head l = search (rules, the_lemmas)
 
 seen_layout : (h : Head) (f : Form) → layout_of (view.roll-Layout (record { head = h; form = f })) ≡ record { head = h; shape = shape_of f }

@@ -1,4 +1,3 @@
-pub mod Seen
 pub mod AlignLemmas
 pub mod SizeLemmas
 pub mod OffsetLaws
@@ -10,6 +9,9 @@ pub mod HeadLaws
 pub mod LayoutLemmas
 pub mod LawsOfLayouts
 pub mod NumberLaws
-pub mod FlatSeen
 pub mod FlatLemmas
 pub mod SlotLaws
+pub mod FlatteningLaws
+pub mod LayoutsLaws
+pub mod ShapesLaws
+pub mod SizesLaws

@@ -1,6 +1,6 @@
 -- What is marked as plain bytes is numbers, one behind the other, and nothing else is marked.
 use Rattle.std.proofs.Common.{◌≡◌, ◌↔◌, ℕ, ◌+◌, ◌<◌, false, ◌&&◌, ◌||◌, IsTrue, length, refl, sym, ◌∙◌, arith, inl, inr}
-use Rattle.std.proofs.lemmas.Bool.{eqb-true, eqb-false, eq-eqb, and_parts, and_from, or_cases, or_left, or_right, cases_Bool}
+use Rattle.std.proofs.lemmas.Bool.{eqb-true, eq-eqb, and_parts, and_from, or_cases, or_left, or_right, cases_Bool}
 use Rattle.std.specs.Prelude.{◌==◌}
 use Rattle.cm_types.specs.Types.{Ty, Fields, Cases, bool, signed, unsigned, char, string, list, fixed_list, fields, cases, flags, own, borrow, no_fields, field, no_cases, plain, carrying}
 use Rattle.cm_layout.specs.Alignment.{align_to}
@@ -10,6 +10,7 @@ use Rattle.cm_layout.specs.Shapes.{head_of, shape_of_type, parts_at, parts_from,
 use Rattle.cm_layout.specs.Laid.{IsNumbers, AreNumbers, IsMarked, ArePartsMarked, ArePayloadsMarked}
 use Rattle.cm_layout.proofs.AlignLemmas.{flags_pos}
 use Rattle.cm_layout.proofs.BulkLaws.{fills, fills_from_start, fields_bulk, fixed_list_bulk, cases_not_bulk}
+use Rattle.cm_lemmas.proofs.Numbers.{not_zero}
 
 -- a length of 0 or elements that are numbers
 fixed_list_numbers : (t : Ty) (n : ℕ) → (IsTrue (is_bulk t) → IsNumbers (size_of t) (shape_of_type t)) → IsTrue ((n == 0) || is_bulk t) → 0 < n → IsNumbers (size_of t) (shape_of_type t)
@@ -42,9 +43,6 @@ mutual
       let c = and_parts (is_bulk t) (align_to (align_of t) at == at) b.0 in
       (eqb-true (align_to (align_of t) at) at c.1, to_numbers t c.0, to_part_numbers fs (align_to (align_of t) at + size_of t) n b.1 e)
 
-some : (n : ℕ) → (n == 0) ≡ false → 0 < n
-some n z = let f : n ≡ 0 → ⊥ = eqb-false n 0 z in omega arith
-
 mutual
   from_numbers : (t : Ty) → IsNumbers (size_of t) (shape_of_type t) → IsTrue (is_bulk t)
   from_numbers bool h = absurd h
@@ -55,7 +53,7 @@ mutual
   from_numbers (list t) h = absurd h
   from_numbers (fixed_list t n) h = fixed_list_bulk t n ∙ elim (cases_Bool (n == 0)) [
     | inl z ↦ or_left (n == 0) (is_bulk t) z
-    | inr z ↦ or_right (n == 0) (is_bulk t) (from_numbers t (h.1 (some n z)))
+    | inr z ↦ or_right (n == 0) (is_bulk t) (from_numbers t (h.1 (not_zero n z)))
   ]
   from_numbers (fields k fs) h =
       let b = from_part_numbers fs 0 (size_of (fields k fs)) h in

@@ -6,9 +6,10 @@ use Rattle.cm_types.specs.Types.{Ty, Fields, Cases, CasesKind, Width, bits_8, bi
 use Rattle.cm_types.specs.TypeTrees.{case_before, plain_from}
 use Rattle.cm_types.specs.Limits.{nodes_of, nodes_of_fields, nodes_of_cases, payload_nodes}
 use Rattle.cm_layout.specs.Alignment.{align_to, IsLeastMultiple}
-use Rattle.cm_layout.proofs.Seen.{before_nodes}
 use Rattle.cm_layout.specs.Sizes.{align_of, align_of_fields, align_of_payloads, align_of_payload, case_count, discriminant_size, flags_size, size_of, end_of, greatest_payload, payload_offset, size_of_payload}
 use Rattle.cm_layout.proofs.AlignLemmas.{align_pos, fields_align_pos, payloads_align_pos, discriminant_pos, flags_pos, count_before, count_of_cases, count_plain, align_before, align_plain, payload_align_pos}
+use Rattle.cm_types.proofs.Nodes.{before_nodes}
+use Rattle.cm_lemmas.proofs.Numbers.{times_least}
 
 -- ---- places
 
@@ -130,11 +131,6 @@ mutual
   payload_small (plain l cs) = payload_small cs
   payload_small (carrying l t cs) = omega (arith, size_small t, payload_small cs)
 
--- a list of fixed length has at least its element's nodes
-pub element_nodes : (n x : ℕ) → x ≤ max n 1 * x
-element_nodes zero x = omega arith
-element_nodes (suc m) x = let e : max (suc m) 1 ≡ suc m = omega arith in rw e (omega arith)
-
 -- ---- what each arm answers
 
 pub fixed_room : (u t v : Ty) (n s : ℕ) → u ≡ fixed_list t n → v ≡ t → s + 7 ≤ 32 * nodes_of v → n * s + 7 ≤ 32 * nodes_of u
@@ -177,4 +173,4 @@ greatest_plain (l ∷ ls) = greatest_plain ls
 pub enum_size : (k : CasesKind) (r n : ℕ) (ls : List (List ℕ)) → r ≡ discriminant_size n → n ≡ length ls → r ≡ size_of (cases k (plain_from ls))
 enum_size k r n ls e f = rw (count_plain ls, align_plain ls, greatest_plain ls) (e ∙ ap discriminant_size f ∙ enum_place (length ls))
 
-pub ruleset sizes = (align_pos, fields_align_pos, payloads_align_pos, align_small, fields_align_small, payloads_align_small, place_of_type, size_small, end_small, payload_small, element_nodes)
+pub ruleset sizes = (align_pos, fields_align_pos, payloads_align_pos, align_small, fields_align_small, payloads_align_small, place_of_type, size_small, end_small, payload_small, times_least)

@@ -1,10 +1,9 @@
 -- The first core kinds of types, from those of their parts.
 use Rattle.std.proofs.Common.{inl, inr, ◌⊎◌, ◌≡◌, ℕ, zero, suc, ◌+◌, ◌≤◌, ◌<◌, List, [], ◌∷◌, ◌++◌, map, take, drop, length, get_or, refl, sym, ap, ◌∙◌, arith, subst, append_assoc, min, Vec, Global, length-take}
-use Rattle.std.proofs.Math.ListN.{set}
 use Rattle.std.proofs.lemmas.List.{take-append-drop, length-take-le}
 use Rattle.std.proofs.Math.Seq.{take-append_seam}
 use Rattle.cm_types.specs.declared.core_value.CoreKind.{CoreKind}
-use Rattle.cm_types.specs.declared.core_value.CoreKind.TheVariants.{I32, I64}
+use Rattle.cm_types.specs.declared.core_value.CoreKind.TheVariants.{I32}
 use Rattle.cm_types.specs.Types.{Ty, Fields, Cases, bool, no_fields, field, no_cases, plain, carrying}
 use Rattle.cm_layout.specs.Flattening.{copies, join, join_slots, join_from, flat_of, flat_of_cases, flat_of_fields}
 use Rattle.std.specs.List.{AllByRecursion}
@@ -14,6 +13,8 @@ use Rattle.cm_types_arena.specs.Arena.{field_types, payload_types}
 use Rattle.cm_types_arena.specs.TypeDefs.{type_at}
 use Rattle.cm_layout_placed.specs.Kinds.{in_turn, joined, kinds_at}
 use Rattle.cm_layout_placed.specs.Placed.{first_kinds}
+use Rattle.cm_layout.proofs.FlatLemmas.{behind_start, copies_end, end_joined, joined_assoc, joined_nil}
+use Rattle.cm_layout.proofs.FlatteningLaws.{join_long}
 
 -- ---- the first of a list
 
@@ -92,38 +93,10 @@ copies_least n m k ks e = by_order (le_cases n m)
     by_order (inl h) = ap (λ j. take n (copies j ks)) (omega (arith, e, h)) ∙ sym (copies_enough n m ks h)
     by_order (inr h) = ap (λ j. take n (copies j ks)) (omega (arith, e, h))
 
-copies_end : (n : ℕ) (xs : List CoreKind) → copies n xs ++ xs ≡ xs ++ copies n xs
-copies_end zero xs = nil_right xs
-  where
-    nil_right : (ys : List CoreKind) → ys ≡ ys ++ []
-    nil_right [] = refl
-    nil_right (y ∷ ys) = ap (λ l. y ∷ l) (nil_right ys)
-copies_end (suc n) xs = append_assoc xs (copies n xs) xs ∙ ap (λ ys. xs ++ ys) (copies_end n xs)
-
 pub one_copy_more : (n m : ℕ) (ks : List CoreKind) → take n (take n (copies m ks) ++ ks) ≡ take n (copies (suc m) ks)
 one_copy_more n m ks = take_front n (copies m ks) ks ∙ ap (take n) (copies_end m ks)
 
 -- ---- slots
-
-joined_nil : (xs : List CoreKind) → join_slots xs [] ≡ xs
-joined_nil [] = refl
-joined_nil (x ∷ xs) = refl
-
-join_assoc : (a b c : CoreKind) → join (join a b) c ≡ join a (join b c)
-join_assoc I32 b c = refl
-join_assoc I64 b c = refl
-
-joined_assoc : (xs ys zs : List CoreKind) → join_slots (join_slots xs ys) zs ≡ join_slots xs (join_slots ys zs)
-joined_assoc [] ys zs = refl
-joined_assoc (x ∷ xs) [] zs = refl
-joined_assoc (x ∷ xs) (y ∷ ys) [] = refl
-joined_assoc (x ∷ xs) (y ∷ ys) (z ∷ zs) =
-    ap (λ k. k ∷ join_slots (join_slots xs ys) zs) (join_assoc x y z) ∙ ap (λ ks. join x (join y z) ∷ ks) (joined_assoc xs ys zs)
-
-join_long : (xs ys : List CoreKind) → length ys ≤ length (join_slots xs ys)
-join_long [] ys = omega arith
-join_long (x ∷ xs) [] = omega arith
-join_long (x ∷ xs) (y ∷ ys) = omega (arith, join_long xs ys)
 
 take_joined : (n : ℕ) (xs ys : List CoreKind) → take n (join_slots xs ys) ≡ join_slots (take n xs) (take n ys)
 take_joined zero xs ys = refl
@@ -148,15 +121,6 @@ pub joined_more : (kss : List (List CoreKind)) (ks : List CoreKind) → joined (
 joined_more [] ks = joined_nil ks
 joined_more (js ∷ kss) ks = ap (join_slots js) (joined_more kss ks) ∙ sym (joined_assoc js (joined kss) ks)
 
-end_joined : (ks js : List CoreKind) → join_from (length ks) ks js ≡ ks ++ js
-end_joined [] js = refl
-end_joined (k ∷ ks) js = ap (λ zs. k ∷ zs) (end_joined ks js)
-
-behind_start : (xs ks js : List CoreKind) → join_from (length ks) (join_slots xs ks) js ≡ join_slots xs (ks ++ js)
-behind_start xs [] js = ap (λ zs. join_slots zs js) (joined_nil xs)
-behind_start [] (k ∷ ks) js = ap (λ zs. k ∷ zs) (end_joined ks js)
-behind_start (x ∷ xs) (k ∷ ks) js = ap (λ zs. join x k ∷ zs) (behind_start xs ks js)
-
 -- one slot more is joined
 pub next_joined : (at : ℕ) (xs ks js : List CoreKind) → length ks ≡ at → join_from at (join_slots xs ks) js ≡ join_slots xs (ks ++ js)
 next_joined at xs ks js e = subst (λ n. join_from n (join_slots xs ks) js ≡ join_slots xs (ks ++ js)) e (behind_start xs ks js)
@@ -164,17 +128,8 @@ next_joined at xs ks js e = subst (λ n. join_from n (join_slots xs ks) js ≡ j
 pub slots_before : (at : ℕ) (xs ks : List CoreKind) → length ks ≡ at → at ≤ length (join_slots xs ks)
 slots_before at xs ks e = omega (arith, e, join_long xs ks)
 
-pub joined_none : (xs : List CoreKind) → join_slots xs [] ≡ xs
-joined_none = joined_nil
-
 pub joined_end : (at : ℕ) (xs : List CoreKind) (k : CoreKind) → at ≡ length xs → join_from at xs (k ∷ []) ≡ xs ++ k ∷ []
 joined_end at xs k e = ap (λ n. join_from n xs (k ∷ [])) e ∙ end_joined xs (k ∷ [])
-
-pub joined_here : (at : ℕ) (xs : List CoreKind) (k x : CoreKind) → at < length xs → join_from at xs (k ∷ []) ≡ set xs at (join (get_or xs at x) k)
-joined_here zero [] k x h = absurd (omega (arith, h))
-joined_here zero (y ∷ ys) k x h = ap (λ zs. join y k ∷ zs) (joined_nil ys)
-joined_here (suc n) [] k x h = absurd (omega (arith, h))
-joined_here (suc n) (y ∷ ys) k x h = ap (λ zs. y ∷ zs) (joined_here n ys k x (omega (arith, h)))
 
 -- where so many stand there with the first of others, the others add nothing
 pub take_enough : {A : Type 0} (n i : ℕ) (xs ys : List A) → length (xs ++ take i ys) ≡ n → take n (xs ++ ys) ≡ xs ++ take i ys
@@ -182,11 +137,6 @@ take_enough n i xs ys e =
     ap (λ l. take n (xs ++ l)) (sym (take-append-drop i ys)) ∙ ap (take n) (sym (append_assoc xs (take i ys) (drop i ys))) ∙ take_full n (xs ++ take i ys) (drop i ys) e
 
 -- ---- kinds by place
-
-pub all_at : (P : ℕ → Type 0) (xs : List ℕ) (i : ℕ) → AllByRecursion P xs → i < length xs → P (get_or xs i 0)
-all_at P [] i h lt = absurd (omega (arith, lt))
-all_at P (y ∷ xs) zero h lt = h.0
-all_at P (y ∷ xs) (suc i) h lt = all_at P xs i h.1 (omega (arith, lt))
 
 pub kinds_get : (ks : List (Vec CoreKind Global)) (p : ℕ) (v : Vec CoreKind Global) → p < length ks → v ≡ get_or ks p v → kinds_at (map (λ u. u.items) ks) p ≡ v.items
 kinds_get [] p v lt e = absurd (omega (arith, lt))

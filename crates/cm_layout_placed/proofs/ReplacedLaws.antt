@@ -4,7 +4,7 @@ use Rattle.std.specs.Option.{option_map}
 use Rattle.std.proofs.lemmas.List.{length-map}
 use Rattle.std.proofs.Math.ListN.{get_or-map}
 use Rattle.cm_types.specs.Limits.{nodes_of, nodes_of_fields}
-use Rattle.cm_types.specs.TypeTrees.{case_before, plain_from}
+use Rattle.cm_types.specs.TypeTrees.{case_before}
 use Rattle.cm_types.specs.Types.{Ty, Fields, Cases, bool, signed, unsigned, char, string, list, fixed_list, fields, cases, flags, own, borrow, no_fields, field, no_cases, plain, carrying, tuple_type, result_type}
 use Rattle.cm_types_arena.specs.Arena.{field_types, parts_in, payload_types}
 use Rattle.cm_types_arena.specs.TypeDefs.{type_at}
@@ -65,7 +65,3 @@ itself s stays (t ∷ ts) = ap (λ u. u ∷ types_by s ts) (stays t) ∙ ap (λ 
 -- as many nodes
 pub fields_nodes : (s : Standing) (fs : Fields) → nodes_of (replaced s (fields tuple_type fs)) ≡ nodes_of (fields tuple_type fs) → nodes_of_fields (replaced_fields s fs) ≡ nodes_of_fields fs
 fields_nodes s fs e = omega (arith, e)
-
-pub plain_by : (s : Standing) (ls : List (List ℕ)) → replaced_cases s (plain_from ls) ≡ plain_from ls
-plain_by s [] = refl
-plain_by s (l ∷ ls) = ap (plain l) (plain_by s ls)

@@ -12,7 +12,7 @@ use Rattle.cm_leb.specs.Numbers.{IsGroup, digits_value, two_complement, IsWithin
 use Rattle.cm_leb.specs.NumbersRead.{is_within}
 use Rattle.cm_leb.specs.NumbersWritten.{group_of, unsigned_length, shortest_unsigned, signed_length, to_two_complement, shortest_signed}
 use Rattle.cm_leb.proofs.Powers.{pow_room}
-use Rattle.cm_leb.proofs.SignedLaws.{within_from_test, test_from_within}
+use Rattle.cm_leb.proofs.SignedLaws.{within_from_test, test_from_within, IsGroup-some}
 
 group_of-length : (k v : ℕ) → length (group_of k v) ≡ k
 group_of-length zero v = refl
@@ -36,10 +36,6 @@ group_of-value (suc (suc k)) v h =
 pub digits_below : (bytes : List ℕ) → digits_value bytes < 128 ^ length bytes
 digits_below [] = omega arith
 digits_below (b ∷ bytes) = omega (arith, digits_below bytes, pow_room (length bytes))
-
-IsGroup-some : (bytes : List ℕ) → IsGroup bytes → 1 ≤ length bytes
-IsGroup-some [] g = absurd g
-IsGroup-some (b ∷ bytes) g = omega arith
 
 -- ---- without a sign
 

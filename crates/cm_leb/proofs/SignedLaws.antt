@@ -10,7 +10,8 @@ use Rattle.cm_leb.specs.declared.fault.LebFault.{LebFault}
 use Rattle.cm_leb.specs.declared.fault.LebFault.TheVariants.{Truncated, TooLong, BadLastBits}
 use Rattle.cm_leb.specs.Numbers.{IsGroup, digits_value, greatest_length, two_complement, IsWithin, SpellsSigned, BeginsSigned, StandsSigned, IsSignedFault}
 use Rattle.cm_leb.specs.NumbersRead.{group_at, is_within, in_signed_range, signed_at, signed_from, Finds}
-use Rattle.cm_leb.proofs.GroupLaws.{IsBytes, IsBytes-drop, IsDigitsFault, ok_is, bind_ok, bind_err, group_takes, group_again, group_faulty, group_truncated, group_too_long}
+use Rattle.cm_leb.proofs.GroupLaws.{IsDigitsFault, ok_is, bind_ok, bind_err, group_takes, group_again, group_faulty, group_truncated, group_too_long}
+use Rattle.cm_lemmas.proofs.Lists.{IsBytes, IsBytes-drop}
 
 -- The test says what it is named for.
 pub within_from_test : (bits : ℕ) (z : ℤ) → is_within bits z ≡ true → IsWithin bits z
@@ -126,7 +127,7 @@ pub signed_from_past : (bytes : List ℕ) (at : ℕ) → length bytes ≤ at →
 unfolding signed_from
 signed_from_past bytes at h = rw (drop_all at bytes h, signed_nothing 33 (omega arith)) refl
 
-IsGroup-some : (bytes : List ℕ) → IsGroup bytes → 1 ≤ length bytes
+pub IsGroup-some : (bytes : List ℕ) → IsGroup bytes → 1 ≤ length bytes
 IsGroup-some [] g = absurd g
 IsGroup-some (b ∷ bytes) g = omega arith
 

@@ -1,14 +1,16 @@
 -- Unsigned numbers: the laws of reading them, in the words of Numbers.
-use Rattle.std.proofs.Common.{◌≡◌, ℕ, ◌-◌, ◌^◌, ◌<◌, ◌≤◌, true, false, ltb, List, [], ◌∷◌, ◌++◌, length, drop, Result, Ok, Err, refl, sym, ap, subst, ◌∙◌, arith, inl, inr, ◌↔◌}
+use Rattle.std.proofs.Common.{◌≡◌, ℕ, ◌-◌, ◌^◌, ◌<◌, ◌≤◌, true, false, ltb, List, [], ◌++◌, length, drop, Result, Ok, Err, refl, sym, ap, subst, ◌∙◌, arith, inl, inr, ◌↔◌}
 use Rattle.std.proofs.lemmas.Bool.{ltb-true, ltb-false, lt-ltb, le-ltb, cases_Bool}
 use Rattle.std.specs.Prelude.{IfOk, IsOkAnd, slice_range}
 use Rattle.std.specs.Result.{IsErrOf}
 use Rattle.std.proofs.lemmas.List.{length-append, length-drop, take_at, take-append-drop, drop_all}
 use Rattle.cm_leb.specs.declared.fault.LebFault.{LebFault}
 use Rattle.cm_leb.specs.declared.fault.LebFault.TheVariants.{Truncated, TooLong, BadLastBits}
-use Rattle.cm_leb.specs.Numbers.{IsGroup, digits_value, greatest_length, SpellsUnsigned, BeginsUnsigned, StandsUnsigned, IsUnsignedFault}
+use Rattle.cm_leb.specs.Numbers.{digits_value, greatest_length, SpellsUnsigned, BeginsUnsigned, StandsUnsigned, IsUnsignedFault}
 use Rattle.cm_leb.specs.NumbersRead.{group_at, in_range, unsigned_at, unsigned_from, Finds}
-use Rattle.cm_leb.proofs.GroupLaws.{IsBytes, IsBytes-drop, IsDigitsFault, ok_is, bind_ok, bind_err, group_takes, group_again, group_faulty, group_truncated, group_too_long}
+use Rattle.cm_leb.proofs.GroupLaws.{IsDigitsFault, ok_is, bind_ok, bind_err, group_takes, group_again, group_faulty, group_truncated, group_too_long}
+use Rattle.cm_lemmas.proofs.Lists.{IsBytes, IsBytes-drop}
+use Rattle.cm_leb.proofs.SignedLaws.{IsGroup-some}
 
 in_range_ok : (bits : ℕ) (x y : ℕ × List ℕ) → in_range bits x ≡ Ok y → (x.0 < 2 ^ bits) × (x ≡ y)
 in_range_ok bits x y e =
@@ -95,10 +97,6 @@ unsigned_nothing bits h = unsigned_faulty_again bits [] Truncated (h, tt)
 pub unsigned_from_past : (bytes : List ℕ) (at : ℕ) → length bytes ≤ at → unsigned_from 32 bytes at ≡ Err Truncated
 unfolding unsigned_from
 unsigned_from_past bytes at h = rw (drop_all at bytes h, unsigned_nothing 32 (omega arith)) refl
-
-IsGroup-some : (bytes : List ℕ) → IsGroup bytes → 1 ≤ length bytes
-IsGroup-some [] g = absurd g
-IsGroup-some (b ∷ bytes) g = omega arith
 
 -- A number in front of what follows a place stands there.
 pub begins_stands : (bits : ℕ) (bytes : List ℕ) (at : ℕ) (n : ℕ) (rest : List ℕ) → BeginsUnsigned bits (drop at bytes) n rest → StandsUnsigned bits bytes at n (length bytes - length rest)

@@ -5,6 +5,10 @@ pub mod Cuts
 pub mod Labels
 pub mod ExternNameLaws
 pub mod ResourceLaws
-pub mod ValuesSeen
 pub mod TypedValueLemmas
 pub mod TypedValueLaws
+pub mod CoreValueLaws
+pub mod TypeTreesLaws
+pub mod TypesLaws
+pub mod ValueTreesLaws
+pub mod ValuesLaws

@@ -10,7 +10,7 @@ resource_sound r s h =
     ap (λ n. record { component = n; number = r.number }) (eqb-true r.component s.component p.0)
     ∙ ap (λ n. record { component = s.component; number = n }) (eqb-true r.number s.number p.1)
 
-resource_same : (r : ResourceId) → same_resource r r ≡ true
+pub resource_same : (r : ResourceId) → same_resource r r ≡ true
 resource_same r = and_from _ _ (eq-eqb r.component r.component refl) (eq-eqb r.number r.number refl)
 
 pub resource_complete : (r s : ResourceId) → r ≡ s → same_resource r s ≡ true

@@ -4,6 +4,7 @@ use Rattle.cm_types.specs.Types
 use Rattle.cm_types.specs.Types.{Ty, Cases, result_type, no_cases}
 use Rattle.cm_types.specs.TypeTrees.{TypedLabel, CaseOf, fields_from, parts_from, cases_from, plain_from, case_before}
 use Rattle.cm_types.specs.Spellable.{is_spellable, has_no_fields, has_no_cases, are_spellable_payloads, is_spellable_payload}
+use Rattle.cm_lemmas.proofs.Bools.{and_true}
 
 pub plain_spellable : (ls : List (List ℕ)) → are_spellable_payloads (plain_from ls) ≡ true
 plain_spellable [] = refl
@@ -34,13 +35,9 @@ pub some_label : (ls : List (List ℕ)) → 1 ≤ length ls → false ≡ has_no
 some_label [] some = absurd (omega arith)
 some_label (l ∷ ls) some = refl
 
-pub and_yes : (b : Bool) → (b && true) ≡ b
-and_yes true = refl
-and_yes false = refl
-
 pub enum_spellable : (r : Bool) (p ls : List (List ℕ)) → r ≡ has_no_cases (plain_from p) → p ≡ ls
     → not r ≡ (not (has_no_cases (plain_from ls)) && are_spellable_payloads (plain_from ls))
-enum_spellable r p ls e f = rw (plain_spellable ls, and_yes (not (has_no_cases (plain_from ls)))) (ap not e ∙ ap (λ xs. not (has_no_cases (plain_from xs))) f)
+enum_spellable r p ls e f = rw (plain_spellable ls, and_true (not (has_no_cases (plain_from ls)))) (ap not e ∙ ap (λ xs. not (has_no_cases (plain_from xs))) f)
 
 -- the parts of a test, where the first decides and where it does not
 pub then_not : (r n m b : Bool) → n ≡ m → n ≡ false → r ≡ b → r ≡ (not m && b)
@@ -59,6 +56,6 @@ pub result_spelled : (k l : List ℕ) (p q : Option Ty) → is_spellable (Types.
 result_spelled k l p q =
     let rest = case_before l q no_cases in
     let whole = ap (λ (b : Bool). not b && are_spellable_payloads (case_before k p rest)) (before_not_none k p rest) in
-    whole ∙ before_spellable k p rest ∙ ap (λ (b : Bool). is_spellable_payload p && b) (before_spellable l q no_cases ∙ and_yes (is_spellable_payload q))
+    whole ∙ before_spellable k p rest ∙ ap (λ (b : Bool). is_spellable_payload p && b) (before_spellable l q no_cases ∙ and_true (is_spellable_payload q))
 
-pub ruleset cases = (plain_spellable, before_not_none, before_spellable, and_yes)
+pub ruleset cases = (plain_spellable, before_not_none, before_spellable, and_true)

@@ -25,7 +25,7 @@ between_sound a z b h =
 between_complete : (a z b : ℤ) → (a ≤ℤ z) × (z <ℤ b) → is_between a z b ≡ true
 between_complete a z b h = and_from _ _ (T_true _ h.0.le) (T_true _ h.1.lt)
 
-scalar_sound : (c : ℕ) → is_scalar_value c ≡ true → IsScalarValue c
+pub scalar_sound : (c : ℕ) → is_scalar_value c ≡ true → IsScalarValue c
 scalar_sound c h =
     let p = and_parts _ _ h in (
       ltb-true _ _ p.0,
@@ -35,7 +35,7 @@ scalar_sound c h =
       ],
     )
 
-scalar_complete : (c : ℕ) → IsScalarValue c → is_scalar_value c ≡ true
+pub scalar_complete : (c : ℕ) → IsScalarValue c → is_scalar_value c ≡ true
 scalar_complete c h = and_from _ _ (lt-ltb _ _ h.0) (elim h.1 [
   | inl low ↦ ap (λ b. b || nat_lt 0xDFFF c) (lt-ltb _ _ low)
   | inr high ↦ or_right (nat_lt c 0xD800) (nat_lt 0xDFFF c) (lt-ltb _ _ high)

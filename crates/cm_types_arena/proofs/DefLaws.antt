@@ -2,7 +2,7 @@
 use Rattle.std.proofs.Common.{◌≡◌, ℕ, suc, ◌+◌, Bool, true, false, ◌&&◌, ◌||◌, not, List, [], ◌∷◌, ◌++◌, length, map, max, nat_lt, Option, Some, None, refl, sym, ap, ◌∙◌, arith, codes}
 use Rattle.std.specs.List.{AllByRecursion}
 use Rattle.std.specs.Option.{option_map}
-use Rattle.std.proofs.lemmas.Bool.{lt-ltb}
+use Rattle.std.proofs.lemmas.Bool.{lt-ltb, and_from}
 use Rattle.cm_types.specs.Types.{Ty, Fields, Cases, FieldsKind, CasesKind, list, fixed_list, fields, cases, no_fields, field, no_cases, plain, carrying, record_type, tuple_type, variant_type, enum_type, option_type, result_type}
 use Rattle.cm_types.specs.TypeTrees.{TypedLabel, CaseOf, fields_from, parts_from, cases_from, plain_from, case_before}
 use Rattle.cm_types.specs.Limits.{nodes_of_fields, nodes_of_cases, depth_of_fields, depth_of_cases}
@@ -17,6 +17,7 @@ use Rattle.cm_types_arena.specs.declared.type_defs.CaseDef.{CaseDef}
 use Rattle.cm_types_arena.specs.Summaries.{summary_of, no_summary, beside, summary_of_all, above, def_summary}
 use Rattle.cm_types_arena.specs.TypeDefs.{type_at, field_def_type, case_def_type, def_type, option_list, payload_places, def_parts, is_spellable_def}
 use Rattle.cm_types_arena.specs.Arena.{field_types, payload_types, parts_in}
+use Rattle.cm_lemmas.proofs.Bools.{or_false}
 
 -- ---- parts
 
@@ -115,10 +116,6 @@ fields_above k fs = ap (with_nodes (summary_of (fields k fs))) (omega arith) ∙
 cases_above : (k : CasesKind) (cs : Cases) → summary_of (cases k cs) ≡ above 1 (summary_of_all (payload_types cs))
 cases_above k cs = ap (with_nodes (summary_of (cases k cs))) (omega arith) ∙ ap (above 1) (cases_all cs)
 
-or_false : (b : Bool) → (b || false) ≡ b
-or_false true = refl
-or_false false = refl
-
 abbrev make_summary : ℕ → ℕ → Bool → Bool → Bool → Bool → Summary
 make_summary n d a b c e = record { nodes = n; depth = d; holds_string = a; holds_list = b; holds_borrow = c; holds_handle = e }
 
@@ -184,17 +181,14 @@ module _ (types : List Ty) where
 abbrev pub AreSpellable : List Ty → Type 0
 AreSpellable ts = AllByRecursion (λ t. is_spellable t ≡ true) ts
 
-and_true : (a b : Bool) → a ≡ true → b ≡ true → (a && b) ≡ true
-and_true a b e f = rw (e, f) refl
-
 pub fields_spellable : (fs : Fields) → AreSpellable (field_types fs) → are_spellable fs ≡ true
 fields_spellable no_fields h = refl
-fields_spellable (field l t fs) h = and_true (is_spellable t) (are_spellable fs) h.0 (fields_spellable fs h.1)
+fields_spellable (field l t fs) h = and_from (is_spellable t) (are_spellable fs) h.0 (fields_spellable fs h.1)
 
 cases_spellable : (cs : Cases) → AreSpellable (payload_types cs) → are_spellable_payloads cs ≡ true
 cases_spellable no_cases h = refl
 cases_spellable (plain l cs) h = cases_spellable cs h
-cases_spellable (carrying l t cs) h = and_true (is_spellable t) (are_spellable_payloads cs) h.0 (cases_spellable cs h.1)
+cases_spellable (carrying l t cs) h = and_from (is_spellable t) (are_spellable_payloads cs) h.0 (cases_spellable cs h.1)
 
 and_yes : (a b : Bool) → b ≡ true → (a && b) ≡ a
 and_yes true b e = e

@@ -6,8 +6,9 @@ pub mod EntryLaws
 pub mod FuncLaws
 pub mod TySets
 pub mod ReplacedLaws
-pub mod ResourceLaws
-pub mod Seen
 pub mod SameTypeLemmas
 pub mod SameTypeLaws
 pub mod UnmovedLaws
+pub mod ArenaLemmas
+pub mod InstancesLaws
+pub mod ReplacedLemmas

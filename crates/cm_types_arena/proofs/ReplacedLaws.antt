@@ -1,5 +1,5 @@
 -- Types with each resource replaced.
-use Rattle.std.proofs.Common.{◌≡◌, ◌+◌, ◌*◌, Bool, true, false, ◌||◌, List, max, Option, Some, None, refl, ap, ◌∙◌}
+use Rattle.std.proofs.Common.{◌≡◌, ◌+◌, ◌*◌, Bool, false, List, max, Option, Some, None, refl, ap, ◌∙◌}
 use Rattle.std.specs.Option.{option_map}
 use Rattle.cm_types.specs.declared.resource.ResourceId.{ResourceId}
 use Rattle.cm_types.specs.Resources.{resolve}
@@ -9,9 +9,8 @@ use Rattle.cm_types.specs.Limits.{nodes_of, nodes_of_fields, nodes_of_cases, dep
 use Rattle.cm_types.specs.Spellable.{is_spellable, are_spellable, are_spellable_payloads, has_no_fields, has_no_cases}
 use Rattle.cm_types.specs.Types.{Ty, FuncTy, Fields, Cases, bool, signed, unsigned, char, string, list, fixed_list, fields, cases, flags, own, borrow, no_fields, field, no_cases, plain, carrying}
 use Rattle.cm_types_arena.specs.Replaced.{Standing, replaced, replaced_fields, replaced_cases, replaced_func}
-
-abbrev make_func : Fields → Option Ty → FuncTy
-make_func ps x = record { params = ps; result = x }
+use Rattle.cm_types.proofs.TypesLaws.{make_func}
+use Rattle.cm_lemmas.proofs.Bools.{or_left, or_right}
 
 -- ---- rows
 
@@ -48,14 +47,6 @@ module _ (row : List ResourceId) where
   func_by_row f = ap (λ ps. make_func ps (option_map (replaced (resolve row)) f.result)) (fields_by_row f.params) ∙ ap (make_func (resolved_fields row f.params)) (result_by_row f.result)
 
 -- ---- types without handles
-
-or_left : (a b : Bool) → (a || b) ≡ false → a ≡ false
-or_left true b e = e
-or_left false b e = refl
-
-or_right : (a b : Bool) → (a || b) ≡ false → b ≡ false
-or_right true b e = absurd cc
-or_right false b e = e
 
 module _ (s : Standing) where
   mutual

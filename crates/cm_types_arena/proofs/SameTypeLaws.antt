@@ -1,18 +1,15 @@
 -- The test for equal types says yes exactly where the types are equal.
 use Rattle.std.proofs.Common.{◌≡◌, ℕ, true, List, [], ◌∷◌, Option, Some, None, refl, sym, ap, ◌∙◌}
 use Rattle.std.specs.Option.{option_map}
-use Rattle.std.specs.Str.{bytes_eq}
-use Rattle.std.specs.Cmp.Lexicographic.{bytes_decides}
 use Rattle.std.proofs.lemmas.Bool.{and_parts, and_from, eqb-true, eq-eqb, false≢true}
 use Rattle.cm_types.specs.declared.resource.ResourceId.{ResourceId}
 use Rattle.cm_types.specs.Types.{Ty, FuncTy, Fields, Cases, FieldsKind, CasesKind, Width, bits_8, bits_16, bits_32, bits_64, bool, signed, unsigned, char, string, list, fixed_list, fields, cases, flags, own, borrow, no_fields, field, no_cases, plain, carrying, record_type, tuple_type, variant_type, enum_type, option_type, result_type}
 use Rattle.cm_types.specs.Resources.{resolve}
 use Rattle.cm_types.specs.Resolved.{resolved, resolved_fields, resolved_cases, resolved_func}
-use Rattle.cm_types_arena.proofs.ResourceLaws.{resource_sound, resource_complete}
 use Rattle.cm_types_arena.specs.SameTypes.{same_width, same_fields_kind, same_cases_kind, same_labels, same_type, same_fields, same_cases, same_payload, same_func}
-
-abbrev make_func : Fields → Option Ty → FuncTy
-make_func ps r = record { params = ps; result = r }
+use Rattle.cm_lemmas.proofs.Lists.{text_same, same_text}
+use Rattle.cm_types.proofs.TypesLaws.{make_func}
+use Rattle.cm_types.proofs.ResourceLaws.{resource_complete, resource_sound}
 
 -- ---- yes only where they are equal
 
@@ -44,14 +41,11 @@ cases_kind_sound option_type option_type h = refl
 cases_kind_sound result_type result_type h = refl
 cases_kind_sound _ _ h = absurd (false≢true h)
 
-label_sound : (k l : List ℕ) → bytes_eq k l ≡ true → k ≡ l
-label_sound k l h = (bytes_decides k l).0 h
-
 labels_sound : (ks ls : List (List ℕ)) → same_labels ks ls ≡ true → ks ≡ ls
 labels_sound [] [] h = refl
 labels_sound (k ∷ ks) (l ∷ ls) h =
     let p = and_parts _ _ h in
-    let e = label_sound k l p.0 in
+    let e = same_text k l p.0 in
     let f = labels_sound ks ls p.1 in cc
 labels_sound _ _ h = absurd (false≢true h)
 
@@ -73,12 +67,9 @@ cases_kind_same result_type = refl
 cases_kind_complete : (j k : CasesKind) → j ≡ k → same_cases_kind j k ≡ true
 cases_kind_complete j k e = ap (same_cases_kind j) (sym e) ∙ cases_kind_same j
 
-label_complete : (k l : List ℕ) → k ≡ l → bytes_eq k l ≡ true
-label_complete k l e = (bytes_decides k l).1 e
-
 labels_same : (ks : List (List ℕ)) → same_labels ks ks ≡ true
 labels_same [] = refl
-labels_same (k ∷ ks) = and_from _ _ (label_complete k k refl) (labels_same ks)
+labels_same (k ∷ ks) = and_from _ _ (text_same k k refl) (labels_same ks)
 
 labels_complete : (ks ls : List (List ℕ)) → ks ≡ ls → same_labels ks ls ≡ true
 labels_complete ks ls e = ap (same_labels ks) (sym e) ∙ labels_same ks
@@ -114,7 +105,7 @@ module _ (rs ss : List ResourceId) where
     fields_sound (field k t fs) (field l u gs) h =
         let p = and_parts _ _ h in
         let q = and_parts _ _ p.0 in
-        let d = label_sound k l q.0 in
+        let d = same_text k l q.0 in
         let e = sound t u q.1 in
         let f = fields_sound fs gs p.1 in cc
     fields_sound _ _ h = absurd (false≢true h)
@@ -123,12 +114,12 @@ module _ (rs ss : List ResourceId) where
     cases_sound no_cases no_cases h = refl
     cases_sound (plain k cs) (plain l ds) h =
         let p = and_parts _ _ h in
-        let d = label_sound k l p.0 in
+        let d = same_text k l p.0 in
         let f = cases_sound cs ds p.1 in cc
     cases_sound (carrying k t cs) (carrying l u ds) h =
         let p = and_parts _ _ h in
         let q = and_parts _ _ p.0 in
-        let d = label_sound k l q.0 in
+        let d = same_text k l q.0 in
         let e = sound t u q.1 in
         let f = cases_sound cs ds p.1 in cc
     cases_sound _ _ h = absurd (false≢true h)
@@ -152,14 +143,14 @@ module _ (rs ss : List ResourceId) where
     pub fields_complete : (fs gs : Fields) → resolved_fields rs fs ≡ resolved_fields ss gs → same_fields rs ss fs gs ≡ true
     fields_complete no_fields no_fields e = refl
     fields_complete (field k t fs) (field l u gs) e =
-        and_from _ _ (and_from _ _ (label_complete k l cc) (complete t u cc)) (fields_complete fs gs cc)
+        and_from _ _ (and_from _ _ (text_same k l cc) (complete t u cc)) (fields_complete fs gs cc)
     fields_complete _ _ e = cc
 
     pub cases_complete : (cs ds : Cases) → resolved_cases rs cs ≡ resolved_cases ss ds → same_cases rs ss cs ds ≡ true
     cases_complete no_cases no_cases e = refl
-    cases_complete (plain k cs) (plain l ds) e = and_from _ _ (label_complete k l cc) (cases_complete cs ds cc)
+    cases_complete (plain k cs) (plain l ds) e = and_from _ _ (text_same k l cc) (cases_complete cs ds cc)
     cases_complete (carrying k t cs) (carrying l u ds) e =
-        and_from _ _ (and_from _ _ (label_complete k l cc) (complete t u cc)) (cases_complete cs ds cc)
+        and_from _ _ (and_from _ _ (text_same k l cc) (complete t u cc)) (cases_complete cs ds cc)
     cases_complete _ _ e = cc
 
   payload_sound : (o p : Option Ty) → same_payload rs ss o p ≡ true → option_map (resolved rs) o ≡ option_map (resolved ss) p

@@ -4,6 +4,7 @@ use Rattle.std.specs.Option.{option_map}
 use Rattle.cm_types.specs.Types.{Ty, FuncTy, Fields, Cases, bool, signed, unsigned, char, string, list, fixed_list, fields, cases, flags, own, borrow, no_fields, field, no_cases, plain, carrying}
 use Rattle.cm_types_arena.specs.Replaced.{replaced, replaced_fields, replaced_cases, replaced_func}
 use Rattle.cm_types_arena.specs.Placed.{moved_by}
+use Rattle.cm_types.proofs.TypesLaws.{make_func}
 
 mutual
   pub unmoved : (t : Ty) → replaced (moved_by None) t ≡ t
@@ -32,9 +33,6 @@ mutual
 result_unmoved : (o : Option Ty) → option_map (replaced (moved_by None)) o ≡ o
 result_unmoved None = refl
 result_unmoved (Some t) = ap Some (unmoved t)
-
-abbrev make_func : Fields → Option Ty → FuncTy
-make_func ps x = record { params = ps; result = x }
 
 pub func_unmoved : (f : FuncTy) → replaced_func (moved_by None) f ≡ f
 func_unmoved f = ap (λ ps. make_func ps (option_map (replaced (moved_by None)) f.result)) (fields_unmoved f.params) ∙ ap (make_func f.params) (result_unmoved f.result)

@@ -1,1 +1,1 @@
-mod NumberLaws
+pub mod NumberLaws

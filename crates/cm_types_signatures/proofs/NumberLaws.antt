@@ -1,5 +1,5 @@
 -- The names of items, by the places of imports and exports.
-use Rattle.std.proofs.Common.{◌≡◌, ℕ, List, [], ◌∷◌, map, Option, Some, None, refl, sym, ap, ◌∙◌}
+use Rattle.std.proofs.Common.{◌≡◌, ℕ, List, map, Option, Some, None, refl, sym, ap, ◌∙◌}
 use Rattle.std.specs.List.{slice_get}
 use Rattle.std.specs.Option.{option_map}
 use Rattle.std.proofs.lemmas.Option.{slice_get-map}
@@ -7,28 +7,21 @@ use Rattle.cm_types.specs.Types.{FuncTy, Ty}
 use Rattle.cm_types_arena.specs.Places.{funcs_of, types_of}
 use Rattle.cm_types_arena.specs.declared.types.Types.{Types}
 use Rattle.cm_types_arena.specs.Externs.{extern_desc_of, extern_of}
-use Rattle.cm_types_arena.specs.Instances.{item_of, replaced_item}
 use Rattle.cm_types_arena.specs.Placed.{moved_by}
 use Rattle.cm_types_arena.specs.declared.externs.Extern.{Extern}
 use Rattle.cm_types_arena.specs.declared.externs.ExternDesc.{ExternDesc}
 use Rattle.cm_types_arena.specs.declared.externs.ExternDesc.TheVariants as extern
-use Rattle.cm_types_arena.specs.declared.instances.Item.{Item}
-use Rattle.cm_types_arena.specs.Replaced.{Standing}
 use Rattle.cm_types_signatures.specs.Listed.{names_at, names_of_desc, names_of_named, number_at}
 use Rattle.cm_types_signatures.specs.Numbered.{names_of_extern, names_of_items}
 use Rattle.cm_types_signatures.specs.declared.externs.Externs.{Externs}
 use Rattle.cm_types_signatures.specs.declared.externs.Externs.TheVariants as externs
+use Rattle.cm_types_arena.proofs.InstancesLaws.{placed_names}
 
--- items keep their names where they are placed and replaced
-placed_names : (types : List Ty) (funcs : List FuncTy) (s : Standing) (items : List Item) → map (λ i. i.name) (map (replaced_item s) (map (item_of types funcs) items)) ≡ map (λ (i : Item). i.name) items
-placed_names types funcs s [] = refl
-placed_names types funcs s (i ∷ items) = ap (λ (l : List (List ℕ)). i.name ∷ l) (placed_names types funcs s items)
-
-desc_names : (types : List Ty) (funcs : List FuncTy) (d : ExternDesc) → names_of_desc (extern_desc_of types funcs d) ≡ names_of_items d
+pub desc_names : (types : List Ty) (funcs : List FuncTy) (d : ExternDesc) → names_of_desc (extern_desc_of types funcs d) ≡ names_of_items d
 desc_names types funcs (extern.Func p) = refl
 desc_names types funcs (extern.Instance ty by) = placed_names types funcs (moved_by by) ty.value.items.items
 
-of_one : (types : List Ty) (funcs : List FuncTy) (e : Option Extern) → names_of_named (option_map (extern_of types funcs) e) ≡ names_of_extern e
+pub of_one : (types : List Ty) (funcs : List FuncTy) (e : Option Extern) → names_of_named (option_map (extern_of types funcs) e) ≡ names_of_extern e
 of_one types funcs None = refl
 of_one types funcs (Some e) = desc_names types funcs e.desc
 

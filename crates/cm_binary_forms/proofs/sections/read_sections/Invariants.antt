@@ -1,11 +1,11 @@
 use Rattle.std.proofs.Common.{◌≡◌, length, map}
 use Rattle.cm_binary_grammar.specs.Whole.{to_end}
-use Rattle.cm_binary_grammar.proofs.Tools.{IsBytes}
 use Rattle.cm_binary_grammar.proofs.ReadingLaws.{with_each}
 use Rattle.cm_binary_model.specs.Trees.{section_tree}
 use Rattle.cm_binary_model.specs.declared.limits.TheConstants.{MAX_TYPES}
 use Rattle.cm_binary_forms.specs.Sections.{section, room_after}
 use Rattle.cm_binary_forms.proofs.sections.read_sections.Given as goal
+use Rattle.cm_lemmas.proofs.Lists.{IsBytes}
 
 abbrev pub invariant-loop-cursor : goal.invariant-loop-cursor
 invariant-loop-cursor l =

@@ -5,9 +5,9 @@ use Rattle.cm_types.specs.declared.core_value.CoreKind.TheVariants.{I32}
 use Rattle.cm_types.specs.Types.{enum_type, option_type, result_type}
 use Rattle.cm_types.specs.TypeTrees.{type_of, field_of, case_of, cases_of, fields_of, parts_of, shared_payload}
 use Rattle.cm_layout.specs.Flattening.{JoinedFrom, flat_of, flat_of_cases, flat_of_fields, flat_of_payload, join_slots}
-use Rattle.cm_layout.proofs.FlatSeen.{seen_field, seen_case, seen_Variant, seen_Enum, seen_Option, seen_Result}
 use Rattle.cm_layout.proofs.FlatLemmas.{flat_before, enum_flat, option_flat, result_flat, joined_same, joined_then, joined_both, more_behind, none_behind, more_over, none_over, more_copies}
 use Rattle.cm_layout.proofs.flattening.+flat.Goals as goal
+use Rattle.cm_types.proofs.Seen.{seen_Enum, seen_Option, seen_Result, seen_Variant, seen_case, seen_field}
 
 pub join_copies-loop-copy-preserved : goal.join_copies-loop-copy-preserved
 join_copies-loop-copy-preserved t c =

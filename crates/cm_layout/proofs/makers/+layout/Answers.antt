@@ -10,9 +10,10 @@ use Rattle.cm_layout.specs.declared.layouts.Payload.TheVariants as payload
 use Rattle.cm_layout.specs.declared.layouts.Form.TheViews as view
 use Rattle.cm_layout.specs.Shapes.{layout_at}
 use Rattle.cm_layout.specs.Layouts.{IsLayingCases, IsLayingFields, layout_of, payload_of}
-use Rattle.cm_layout.proofs.Seen.{seen_field, seen_case, seen_Bool, seen_S8, seen_U8, seen_S16, seen_U16, seen_S32, seen_U32, seen_S64, seen_U64, seen_Char, seen_StringType, seen_List, seen_FixedList, seen_Record, seen_Tuple, seen_Variant, seen_Enum, seen_Flags, seen_Option, seen_Result, seen_Own, seen_Borrow}
 use Rattle.cm_layout.proofs.LayoutLemmas.{seen_Carried, seen_Nothing}
 use Rattle.cm_layout.proofs.makers.+layout.Goals as goal
+use Rattle.cm_types.proofs.TypesLaws.{seen_Bool, seen_Borrow, seen_Char, seen_Own, seen_S16, seen_S32, seen_S64, seen_S8, seen_U16, seen_U32, seen_U64, seen_U8}
+use Rattle.cm_types.proofs.Seen.{seen_Enum, seen_FixedList, seen_Flags, seen_List, seen_Option, seen_Record, seen_Result, seen_StringType, seen_Tuple, seen_Variant, seen_case, seen_field}
 
 pub fields_layout-loop-field-preserved : goal.fields_layout-loop-field-preserved
 fields_layout-loop-field-preserved t c =

@@ -5,10 +5,11 @@ use Rattle.std.proofs.lemmas.List.{drop_all}
 use Rattle.cm_layout.specs.Sizes.{discriminant_size}
 use Rattle.cm_layout.proofs.SizeLemmas.{two_cases}
 use Rattle.cm_layout.proofs.AlignLemmas.{count_of_cases}
-use Rattle.cm_layout.proofs.Seen.{seen_case, seen_field, seen_Bool, seen_FixedList, seen_Record, seen_Tuple, seen_Variant, seen_Enum, seen_Flags, seen_Option, seen_Result}
 use Rattle.cm_layout.proofs.HeadLaws.{head_taken, fields_room, both_positive, both_near, one_small, payload_taken, none_greatest, no_field_taken, no_case_taken, fixed_list_room, room_for_cases, space_for_cases, room_of_option, fixed_list_taken, field_taken, fields_taken, fields_all_taken, cases_taken, case_taken, cases_all_taken, one_greatest, both_greatest, result_room}
 use Rattle.cm_layout.proofs.LayoutLemmas.{field_room}
 use Rattle.cm_layout.proofs.measures.+heads.Goals as goal
+use Rattle.cm_types.proofs.TypesLaws.{seen_Bool}
+use Rattle.cm_types.proofs.Seen.{seen_Enum, seen_FixedList, seen_Flags, seen_Option, seen_Record, seen_Result, seen_Tuple, seen_Variant, seen_case, seen_field}
 
 pub fixed_list_head-returns : goal.fixed_list_head-returns
 fixed_list_head-returns t c =

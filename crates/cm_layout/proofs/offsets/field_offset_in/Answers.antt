@@ -3,9 +3,9 @@ use Rattle.cm_types.specs.TypeTrees.{field_of, type_of}
 use Rattle.cm_types.specs.Limits.{nodes_of}
 use Rattle.cm_types.specs.declared.type_trees.Field.{Field, out-Field}
 use Rattle.cm_layout.specs.Sizes.{align_of}
-use Rattle.cm_layout.proofs.Seen.{seen_field}
 use Rattle.cm_layout.proofs.OffsetLaws.{field_place_is, fields_before, fields_up_to}
 use Rattle.cm_layout.proofs.offsets.field_offset_in.Goals as goal
+use Rattle.cm_types.proofs.Seen.{seen_field}
 
 -- the type of the field that is read
 type_there : (fs : List Field) (n : ℕ) (x : Field) → x ≡ get_or fs n x → type_of (out-Field (get_or fs n x)).ty ≡ (field_of x).1

@@ -2,12 +2,12 @@ use Rattle.std.proofs.Common.{◌≡◌, ◌∙◌, ap, arith, codes, refl, vec_
 use Rattle.cm_types.specs.TypeTrees.{case_before, type_of, cases_of, shared_payload}
 use Rattle.cm_types.specs.Types.{no_cases, plain, carrying}
 use Rattle.cm_layout.specs.Sizes.{case_count, discriminant_size}
-use Rattle.cm_layout.proofs.Seen.{seen_Variant, seen_Enum, seen_Option, seen_Result}
 use Rattle.cm_layout.proofs.AlignLemmas.{count_of_cases}
 use Rattle.cm_layout.proofs.SizeLemmas.{two_cases}
 use Rattle.cm_layout.proofs.HeadLaws.{one_greatest, both_greatest}
 use Rattle.cm_layout.proofs.OffsetLaws.{variant_offset, enum_offset}
 use Rattle.cm_layout.proofs.offsets.node_case_offset.Goals as goal
+use Rattle.cm_types.proofs.Seen.{seen_Enum, seen_Option, seen_Result, seen_Variant}
 
 pub returns-in-Variant : goal.returns-in-Variant
 returns-in-Variant c =

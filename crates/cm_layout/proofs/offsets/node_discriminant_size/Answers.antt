@@ -1,9 +1,9 @@
 use Rattle.std.proofs.Common.{◌≡◌, ◌∙◌, ap, arith, vec_len}
 use Rattle.cm_types.specs.TypeTrees.{type_of, cases_of, plain_from}
 use Rattle.cm_layout.specs.Sizes.{case_count, discriminant_size}
-use Rattle.cm_layout.proofs.Seen.{seen_Variant, seen_Enum}
 use Rattle.cm_layout.proofs.AlignLemmas.{count_of_cases, count_plain}
 use Rattle.cm_layout.proofs.offsets.node_discriminant_size.Goals as goal
+use Rattle.cm_types.proofs.Seen.{seen_Enum, seen_Variant}
 
 pub returns-in-Variant : goal.returns-in-Variant
 returns-in-Variant c =

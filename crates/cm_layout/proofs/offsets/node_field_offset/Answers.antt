@@ -1,8 +1,8 @@
 use Rattle.std.proofs.Common.{◌∙◌, ap, arith}
 use Rattle.cm_types.specs.TypeTrees.{type_of}
-use Rattle.cm_layout.proofs.Seen.{seen_Record, seen_Tuple}
 use Rattle.cm_layout.proofs.OffsetLaws.{count_fields, count_parts}
 use Rattle.cm_layout.proofs.offsets.node_field_offset.Goals as goal
+use Rattle.cm_types.proofs.Seen.{seen_Record, seen_Tuple}
 
 pub field_offset_in-requires-clause-there : goal.field_offset_in-requires-clause-there
 field_offset_in-requires-clause-there c =

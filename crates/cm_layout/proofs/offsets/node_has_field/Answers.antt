@@ -1,9 +1,9 @@
 use Rattle.std.proofs.Common.{◌≡◌, ◌∙◌, ap, arith, ℕ, ◌<◌, IsTrue, nat_lt, vec_len}
 use Rattle.std.proofs.lemmas.Bool.{ltb-true, lt-ltb}
 use Rattle.cm_types.specs.TypeTrees.{type_of}
-use Rattle.cm_layout.proofs.Seen.{seen_Record, seen_Tuple}
 use Rattle.cm_layout.proofs.OffsetLaws.{count_fields, count_parts}
 use Rattle.cm_layout.proofs.offsets.node_has_field.Goals as goal
+use Rattle.cm_types.proofs.Seen.{seen_Record, seen_Tuple}
 
 below : (n len count : ℕ) → count ≡ len → (IsTrue (nat_lt n len) → n < count) × (n < count → IsTrue (nat_lt n len))
 below n len count e = (λ h. omega (arith, ltb-true n len h), λ h. lt-ltb n len (omega arith))

@@ -1,8 +1,9 @@
 use Rattle.std.proofs.Common.{◌≡◌, ◌<◌, ◌∙◌, ap, arith, length, sym}
 use Rattle.std.proofs.Math.ListN.{set}
 use Rattle.cm_layout.specs.Flattening.{join}
-use Rattle.cm_layout_placed.proofs.KindLaws.{joined_here, joined_end}
+use Rattle.cm_layout_placed.proofs.KindLaws.{joined_end}
 use Rattle.cm_layout_placed.proofs.kinds.join_kind.Goals as goal
+use Rattle.cm_layout.proofs.FlatLemmas.{joined_here}
 
 pub returns-then-at-len : goal.returns-then-at-len
 returns-then-at-len c =

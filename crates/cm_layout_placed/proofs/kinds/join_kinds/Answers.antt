@@ -1,9 +1,10 @@
 use Rattle.std.proofs.Common.{◌<◌, ◌∙◌, length, arith, sym}
-use Rattle.cm_layout_placed.proofs.KindLaws.{joined_none, slot_step, slots_so_far}
+use Rattle.cm_layout_placed.proofs.KindLaws.{slot_step, slots_so_far}
 use Rattle.cm_layout_placed.proofs.kinds.join_kinds.Goals as goal
+use Rattle.cm_layout.proofs.FlatLemmas.{joined_nil}
 
 pub loop-at-init : goal.loop-at-init
-loop-at-init c = sym (joined_none c.args.kinds.now.items)
+loop-at-init c = sym (joined_nil c.args.kinds.now.items)
 
 pub join_kind-requires : goal.join_kind-requires
 join_kind-requires c =

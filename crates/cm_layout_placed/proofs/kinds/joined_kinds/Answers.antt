@@ -1,7 +1,8 @@
 use Rattle.std.proofs.Common.{◌≡◌, ◌<◌, ◌∙◌, map, length, get_or, refl, sym}
 use Rattle.cm_layout_placed.specs.Kinds.{kinds_at}
-use Rattle.cm_layout_placed.proofs.KindLaws.{all_at, kinds_get, join_step}
+use Rattle.cm_layout_placed.proofs.KindLaws.{kinds_get, join_step}
 use Rattle.cm_layout_placed.proofs.kinds.joined_kinds.Goals as goal
+use Rattle.cm_lemmas.proofs.Lists.{all_at}
 
 pub loop-place-preserved : goal.loop-place-preserved
 loop-place-preserved c =

@@ -17,8 +17,9 @@ use Rattle.cm_layout.specs.Shapes.{layout_at}
 use Rattle.cm_types_arena.specs.Arena.{field_types, payload_types}
 use Rattle.cm_types_arena.specs.Replaced.{Standing, replaced, replaced_cases, replaced_fields}
 use Rattle.cm_layout_placed.specs.Placed.{AreOf, option_cases, result_cases}
-use Rattle.cm_layout_placed.proofs.ReplacedLaws.{plain_by, result_by, some_by}
+use Rattle.cm_layout_placed.proofs.ReplacedLaws.{result_by, some_by}
 use Rattle.cm_layout_placed.proofs.nodes.node_layout.Goals as goal
+use Rattle.cm_types_arena.proofs.ReplacedLemmas.{plain_by}
 
 seen_Record : (v : Rc (Vec Field Global) Global) → type_of (node.Record v) ≡ fields record_type (fields_of v.value.items)
 seen_Record v = search (rules, the_lemmas)

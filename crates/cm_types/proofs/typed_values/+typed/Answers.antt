@@ -7,9 +7,9 @@ use Rattle.cm_types.specs.TypeTrees.{type_of, field_of, case_of}
 use Rattle.cm_types.specs.ValueTrees.{value_of, boxed_value}
 use Rattle.cm_types.specs.Types.{variant_type}
 use Rattle.cm_types.specs.TypedValues.{payload_has_type}
-use Rattle.cm_types.proofs.ValuesSeen.{seen_StringType, seen_case}
 use Rattle.cm_types.proofs.TypedValueLemmas.{case_there, case_past, fields_unequal, parts_unequal, scalars_of_text, seen_String}
 use Rattle.cm_types.proofs.typed_values.+typed.Goals as goal
+use Rattle.cm_types.proofs.Seen.{seen_StringType, seen_case}
 
 pub case_has_type-returns-in-None : goal.case_has_type-returns-in-None
 case_has_type-returns-in-None t c = sym (case_past case_of variant_type c.args.variants.now c.args.index (boxed_value c.args.payload.now) c.in-None.ensures.lookup.3)

@@ -1,8 +1,8 @@
 use Rattle.std.proofs.Common.{◌∙◌, sym, ap, map}
 use Rattle.cm_types.specs.TypeTrees.{type_of, field_of, case_of}
-use Rattle.cm_types_arena.proofs.Seen.{seen_Enum}
 use Rattle.cm_types_arena.proofs.SameTypeLemmas.{fields_differ, parts_differ, cases_differ, mapped_differ, enums_same}
 use Rattle.cm_types_arena.proofs.same_types.+same.Goals as goal
+use Rattle.cm_types.proofs.Seen.{seen_Enum}
 
 pub same_fields-returns-then-a-b : goal.same_fields-returns-then-a-b
 same_fields-returns-then-a-b t c = sym (fields_differ c.args.left.now c.args.right.now (map field_of c.args.a.now) (map field_of c.args.b.now) (mapped_differ field_of c.args.a.now c.args.b.now c.if-a-b.true))
