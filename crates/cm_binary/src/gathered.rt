@@ -20,6 +20,8 @@ pub struct Gathered {
     pub unfed: Vec<u8>,
     /// How many bytes are to be gathered before some are fed.
     wanted: usize,
+    // No more than a file may have, and one.
+    ghost few: { wanted ≤ 16_777_217 },
 }
 
 impl Gathered {

@@ -14,7 +14,8 @@ use crate::aliases::write_outer_type;
 use crate::externs::write_extern_name;
 use crate::written::{Written, write_vec};
 use cm_binary_grammar::write_blob;
-use cm_leb::{write_s33, write_u32};
+use cm_leb::formats::write_index;
+use cm_leb::write_u32;
 use cm_types::{
     CaseType, Declaration, DeclaredType, DefType, DefValType, ExportDesc, FuncType, Label,
     LabeledValType, PrimValType, TypeBound, ValType,
@@ -201,7 +202,7 @@ fn write_val_type(out: &mut Vec<u8>, ty: ValType) -> Result<(), AllocError>
             out.push(prim_val_type_code(primitive))?;
             Ok(())
         }
-        ValType::Index(index) => write_s33(out, i64::from(index)),
+        ValType::Index(index) => write_index(out, index),
     }
 }
 

@@ -19,7 +19,8 @@ pub(crate) struct Feeding {
 /// and the sections that are whole. A section that goes past the limit of files is fed where more
 /// bytes of it are there than there may be, and a size that is none as it stands.
 pub(crate) fn next_feeding(bytes: &[u8], position: usize) -> Feeding
-    ensures { result.fed ≤ length bytes.now }
+    ensures fed { result.fed ≤ length bytes.now }
+    ensures few { result.wanted ≤ 16_777_217 }
 {
     let preamble = if position == 0 {
         COMPONENT_PREAMBLE.len().min(bytes.len())

@@ -1,5 +1,7 @@
 -- The shortest spelling of a number, computed. That no spelling is shorter is stated where it is
 -- written.
+use Rattle.cm_leb.specs.declared.fault.SignedFault.{SignedFault}
+use Rattle.cm_leb.specs.declared.fault.SignedFault.TheVariants.{Memory, TooLarge}
 use Rattle.std.specs.Prelude.{ℕ, zero, suc, ◌+◌, ◌-◌, ◌*◌, ◌/◌, ◌%◌, ◌^◌, List, [], ◌∷◌, nat_lt}
 use Rattle.std.specs.Prelude.{if◌then◌else◌, ℤ, pos, negsuc}
 use Rattle.cm_leb.specs.NumbersRead.{is_within}
@@ -34,3 +36,8 @@ to_two_complement bits (negsuc n) = 2 ^ bits - (n + 1)
 -- The shortest spelling of a number of 33 bits with a sign.
 abbrev pub shortest_signed : ℤ → List ℕ
 shortest_signed z = group_of (signed_length z) (to_two_complement (7 * signed_length z) z)
+
+-- The number by which it is known why a number is not written, this project's own.
+abbrev pub signed_fault_number : SignedFault → ℕ
+signed_fault_number TooLarge = 1
+signed_fault_number Memory = 2

@@ -1,4 +1,4 @@
-//! Why bytes spell no number.
+//! Why bytes spell no number, and why a number is not written.
 
 use thiserror::Error;
 
@@ -23,6 +23,29 @@ impl LebFault {
     /// The number by which the fault is known, from 1 for `Truncated` to 3 for `BadLastBits`.
     pub fn number(self) -> u8
         ensures { result ≡ fault_number self }
+    {
+        self as u8
+    }
+}
+
+/// Why a number with a sign is not written.
+#[derive(Clone, Copy, Debug, PartialEq, Eq, Drop, Error)]
+pub enum SignedFault {
+    /// The number has more than 33 bits.
+    #[error("a number of more than 33 bits")]
+    TooLarge = 1,
+    /// There was no memory for its bytes.
+    #[error("out of memory")]
+    Memory,
+}
+
+impl SignedFault {
+    ghost use Rattle.std.specs.Prelude.{◌≡◌};
+    ghost use Rattle.cm_leb.specs.NumbersWritten.{signed_fault_number};
+
+    /// The number by which the fault is known: 1 for `TooLarge`, 2 for `Memory`.
+    pub fn number(self) -> u8
+        ensures { result ≡ signed_fault_number self }
     {
         self as u8
     }

@@ -1,6 +1,7 @@
 //! The shortest spellings.
 
 ghost use Rattle.std.specs.Prelude.{◌≡◌, ℕ, List, ◌%◌, ◌^◌, ◌<◌, ◌≤◌, ◌++◌, length, OnOk, OnErr};
+ghost use Rattle.std.specs.Prelude.{◌↔◌, Err, IfOk, IsTrue, pos};
 ghost use Rattle.cm_leb.specs.Numbers.{IsWithin, SpellsUnsigned, StandsUnsigned};
 ghost use Rattle.cm_leb.specs.Numbers.{SpellsSigned};
 ghost use Rattle.cm_leb.specs.Numbers.{StandsSigned};
@@ -8,6 +9,7 @@ ghost use Rattle.cm_leb.specs.NumbersWritten.{group_of, unsigned_length, shortes
 ghost use Rattle.cm_leb.specs.NumbersWritten.{signed_length};
 ghost use Rattle.cm_leb.specs.NumbersWritten.{to_two_complement, shortest_signed};
 
+use crate::fault::SignedFault;
 use std::alloc::AllocError;
 
 /// Appends the shortest spelling of a number without a sign: one byte for each seven bits that it
@@ -41,11 +43,50 @@ pub fn write_count(out: &mut Vec<u8>, count: usize) -> Result<(), AllocError>
 /// Appends the shortest spelling of a number of 33 bits with a sign, in two's complement of seven
 /// bits a byte (the core specification, "Integers").
 ///
-/// The one error is that memory was refused; the list is then unchanged.
-pub fn write_s33(out: &mut Vec<u8>, value: i64) -> Result<(), AllocError>
-    requires { IsWithin 33 value }
+/// `TooLarge` comes exactly for a number below -2^32 and for one of 2^32 or more; `Memory` comes
+/// where there is no memory for the bytes. With each fault the list is unchanged.
+pub fn write_s33(out: &mut Vec<u8>, value: i64) -> Result<(), SignedFault>
+    ensures fits { IfOk result (λ _. IsWithin 33 value) }
     ensures ok { OnOk result (out.new.items ≡ out.old.items ++ shortest_signed value) }
     // So a read from the old end on finds the number, and the new end.
+    ensures stands { OnOk result
+        (StandsSigned 33 out.new.items (length out.old.items) value (length out.new.items)) }
+    ensures spelled { OnOk result (SpellsSigned 33 (shortest_signed value) value) }
+    ensures shortest { (bytes : List ℕ) → SpellsSigned 33 bytes value
+        → length (shortest_signed value) ≤ length bytes }
+    ensures too_large { (result ≡ Err SignedFault.TooLarge) ↔ (¬ IsWithin 33 value) }
+    ensures err { OnErr result (out.new.items ≡ out.old.items) }
+{
+    if !fits_s33(value) {
+        return Err(SignedFault::TooLarge);
+    }
+    match put_s33(out, value) {
+        Ok(()) => Ok(()),
+        Err(_) => Err(SignedFault::Memory),
+    }
+}
+
+/// Appends the index of a type, as [`write_s33`] appends a number.
+///
+/// The one error is that memory was refused; the list is then unchanged.
+pub fn write_index(out: &mut Vec<u8>, index: u32) -> Result<(), AllocError>
+    ensures ok { OnOk result (out.new.items ≡ out.old.items ++ shortest_signed (pos index)) }
+    ensures err { OnErr result (out.new.items ≡ out.old.items) }
+{
+    put_s33(out, i64::from(index))
+}
+
+/// Whether a number has at most 33 bits, its sign among them.
+fn fits_s33(value: i64) -> bool
+    ensures { IsTrue result ↔ IsWithin 33 value }
+{
+    value >= -(1 << 32) && value < 1 << 32
+}
+
+/// Appends the shortest spelling of a number that has at most 33 bits.
+fn put_s33(out: &mut Vec<u8>, value: i64) -> Result<(), AllocError>
+    requires { IsWithin 33 value }
+    ensures ok { OnOk result (out.new.items ≡ out.old.items ++ shortest_signed value) }
     ensures stands { OnOk result
         (StandsSigned 33 out.new.items (length out.old.items) value (length out.new.items)) }
     ensures spelled { SpellsSigned 33 (shortest_signed value) value }

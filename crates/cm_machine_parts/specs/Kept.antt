@@ -24,6 +24,12 @@ AreBorrowsCounted borrows frames tables = (place : ℕ) (f : Frame)
     → frame_at frames place ≡ Some f
     → slice_index borrows place ≡ borrows_of place (table_at tables f.instance)
 
+-- where a frame stands at this place, it is of this instance, and so many handles of the table are
+-- borrowed for its call
+abbrev pub IsCountAt : List Frame → ℕ → ℕ → Handles → ℕ → Type 0
+IsCountAt frames place instance table n = (f : Frame) → frame_at frames place ≡ Some f
+    → (f.instance ≡ instance) × (n ≡ borrows_of place table)
+
 -- what passes over a link that way is encoded as its sides say
 abbrev pub IsEncoded : Link → Way → Passing → Type 0
 IsEncoded l way p =

@@ -12,7 +12,8 @@ ghost use Rattle.cm_machine_model.specs.State.{State, table_at};
 ghost use Rattle.cm_machine_model.specs.Valid.{IsStack, IsValidState, frame_at};
 ghost use Rattle.cm_machine_parts.specs.declared.passing.Passing.{Passing};
 ghost use Rattle.cm_machine_parts.specs.declared.state.State.{State as CodedState};
-ghost use Rattle.cm_machine_parts.specs.Kept.{AreBorrowsCounted, CanEnd, IsEncodedAtTop, Runs};
+ghost use Rattle.cm_machine_parts.specs.Kept.{AreBorrowsCounted, CanEnd, IsCountAt};
+ghost use Rattle.cm_machine_parts.specs.Kept.{IsEncodedAtTop, Runs};
 ghost use Rattle.cm_machine_parts.specs.States.{handles_in};
 
 use cm_handles::laws::borrows_are_counted;
@@ -53,9 +54,7 @@ pub fn what_is_kept_stays()
         → AreBorrowsCounted borrows fs (slice_set tables i t) }
     ensures counted { (borrows : List ℕ) (fs : List Frame) (tables : List Handles) (i : ℕ)
         (t : Handles) (place n : ℕ) → AreBorrowsCounted borrows fs tables
-        → place < length borrows → i < length tables
-        → ((f : Frame) → frame_at fs place ≡ Some f
-        → (f.instance ≡ i) × (n ≡ borrows_of place t))
+        → place < length borrows → i < length tables → IsCountAt fs place i t n
         → ((call : ℕ) → call ≢ place → borrows_of call t ≡ borrows_of call (table_at tables i))
         → AreBorrowsCounted (slice_set borrows place n) fs (slice_set tables i t) }
     ensures leaves { (plan : Plan) (p : Passing) (fs : List Frame) → IsStack plan fs

@@ -1,6 +1,7 @@
 //! Marking places.
 
-ghost use Rattle.std.specs.Prelude.{◌≡◌, ◌≤◌, ◌^◌, IfOk, IfSome, map, slice_get, suc, true};
+ghost use Rattle.std.specs.Prelude.{◌≡◌, ◌≤◌, ◌^◌, IfOk, IfSome, length, map, slice_get, suc};
+ghost use Rattle.std.specs.Prelude.{true};
 ghost use Rattle.std.specs.Option.{option_map};
 ghost use Rattle.std.specs.String.{string_bytes};
 ghost use Rattle.cm_names.specs.Finding.{IsFound, IsFoundOf, KeepsFound, KeepsFoundOf};
@@ -34,6 +35,7 @@ fn mark_of(number: usize) -> Option<u32>
 pub(crate) fn put(marks: &mut Vec<u32>, text: &str, number: usize) -> bool
     ensures kept { KeepsFound marks.old.items marks.new.items }
     ensures found { result ≡ true → IsFound marks.new.items text.now number }
+    ensures places { length marks.new.items ≡ length marks.old.items }
 {
     let Some(mark) = mark_of(number) else {
         return false;
@@ -63,6 +65,7 @@ fn put_again(marks: &mut Vec<u32>, texts: &[String], number: Option<usize>) -> b
     ensures kept { KeepsFound marks.old.items marks.new.items }
     ensures found { result ≡ true → IfSome number (IsFoundOf (map string_bytes texts.now)
         marks.new.items) }
+    ensures places { length marks.new.items ≡ length marks.old.items }
 {
     let Some(number) = number else {
         return true;
@@ -81,8 +84,9 @@ pub(crate) fn spread(
     texts: &[String],
     size: usize,
 ) -> Result<Option<Vec<u32>>, AllocError>
-    ensures { IfOk result (λ r. IfSome r (λ new.
+    ensures found { IfOk result (λ r. IfSome r (λ new.
         KeepsFoundOf (map string_bytes texts.now) marks.now new.items)) }
+    ensures places { IfOk result (λ r. IfSome r (λ new. length new.items ≡ size)) }
 {
     let mut new = Vec::from_elem(alloc, 0, size)?;
     for at in 0..marks.len() {

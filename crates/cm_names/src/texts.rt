@@ -1,6 +1,7 @@
 //! Tables of texts.
 
-ghost use Rattle.std.specs.Prelude.{◌≡◌, ◌++◌, ◌∷◌, [], ℕ, List, OnErr, OnOk, length, map};
+ghost use Rattle.std.specs.Prelude.{◌≡◌, ◌++◌, ◌∷◌, ◌+◌, ◌*◌, ◌≤◌, [], ℕ, List, OnErr, OnOk};
+ghost use Rattle.std.specs.Prelude.{length, map};
 ghost use Rattle.std.specs.BTreeMap.{get_by_text};
 ghost use Rattle.std.specs.String.{string_bytes};
 ghost use Rattle.cm_names.specs.MarkedTexts.{IsTable, PutsLast, looked_up};
@@ -25,6 +26,8 @@ pub struct TextTable {
     /// How many texts there are to be when more places are made.
     next: usize,
     ghost is_table: { IsTable marks.items (map string_bytes texts.items) rest },
+    // Places cost what the texts do: eight for each at most, and 80 more.
+    ghost few: { length marks.items ≤ 8 * length texts.items + 80 },
 }
 
 /// The number of a text by its marks, or else by the tree.
@@ -70,6 +73,7 @@ fn place(
         → IsTable marks.new.items (ts ++ text.now ∷ []) rest.new) }
     ensures kept { OnErr result ((ts : List (List ℕ)) → IsTable marks.old.items ts rest.old
         → IsTable marks.new.items ts rest.new) }
+    ensures places { length marks.new.items ≡ length marks.old.items }
 {
     if put(marks, text, number) {
         return Ok(());

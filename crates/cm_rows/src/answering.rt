@@ -80,7 +80,9 @@ fn answer_family<D: Driver, R: Files + Print + AllocGlobal>(
     Ok(tally)
 }
 
-/// Whether a row is answered as wanted; where it is not, it is printed.
+/// Whether a row is answered as wanted; where it is not, it is printed. A row that finds no memory
+/// is answered once more: a refused call leaves all as it was, so the second answer is the wanted
+/// one where one allocation alone is refused.
 fn passes<D: Driver>(
     rt: &(impl Print + AllocGlobal),
     driver: &mut D,
@@ -92,7 +94,10 @@ fn passes<D: Driver>(
         println!(rt; "{family}.rows:{number}: wanted `INPUT => WANTED`, got {row}")?;
         return Ok(false);
     };
-    let answer = answer_row(driver, rt.alloc(), input);
+    let answer = match answer_row(driver, rt.alloc(), input) {
+        Err(RowFault::Memory) => answer_row(driver, rt.alloc(), input),
+        answer => answer,
+    };
     let answer = match &answer {
         Ok(answer) => answer.as_str(),
         Err(fault) => fault.text(),
@@ -105,7 +110,7 @@ fn passes<D: Driver>(
 
 fn answer_row<D: Driver>(driver: &mut D, alloc: Global, row: &str) -> Result<String, RowFault> {
     let words: Vec<&str> = row.split(' ').collect(alloc)?;
-    let mut answer = Line::new(alloc);
+    let mut answer = Line::with_room(alloc)?;
     driver.answer(alloc, words.as_slice(), &mut answer);
     answer.done()
 }

@@ -24,6 +24,15 @@ impl Line {
         }
     }
 
+    /// An empty line with room for most answers, so that writing one takes no memory behind the
+    /// call that it shows.
+    pub fn with_room(alloc: Global) -> Result<Line, AllocError> {
+        Ok(Line {
+            text: String::with_capacity(alloc, 1 << 14)?,
+            fault: None,
+        })
+    }
+
     /// What is written so far.
     pub fn as_str(&self) -> &str {
         self.text.as_str()

@@ -1,17 +1,16 @@
 //! The commands.
 
-use crate::conforming::{Asked, conform};
-use crate::fault::{Fault, report};
-use crate::loading::{check, load_file, load_files, load_script};
-use crate::outcome::Outcome;
 use crate::playing::play;
 use cm_machine::Set;
 use cm_match::Linked;
-use cm_tool_files::{Files, show_component};
-use cm_tool_lines::{SetSize, write_plan};
+use cm_tool_commands::{
+    Asked, Fault, Outcome, load_files, load_script, report, run_check, run_conform, run_link,
+    run_show,
+};
+use cm_tool_files::Files;
+use cm_tool_lines::SetSize;
 use cm_tool_words::{Request, Usage, WordsFault};
 use std::alloc::Global;
-use std::io;
 use std::io::Write;
 
 /// The most moves of a drive.
@@ -70,79 +69,6 @@ fn read_words<'a>(alloc: Global, words: &'a [String]) -> Result<Request<'a>, Fau
         Err(WordsFault::NoCommand) => Err(Fault::Usage(Usage::Words(words))),
         Err(WordsFault::Memory) => Err(Fault::Memory),
     }
-}
-
-fn run_check<'a, F: Files, O: Write>(
-    alloc: Global,
-    name: &'a str,
-    files: &mut F,
-    out: &mut O,
-) -> Result<Outcome, Fault<'a>> {
-    let (imports, exports) = counts_of(alloc, name, files)?;
-    writeln!(out, "ok: {imports} imports, {exports} exports")?;
-    out.flush()?;
-    Ok(Outcome::Done)
-}
-
-/// How many imports and how many exports the component of a file has.
-fn counts_of<'a, F: Files>(
-    alloc: Global,
-    name: &'a str,
-    files: &mut F,
-) -> Result<(usize, usize), Fault<'a>> {
-    let component = load_file(alloc, files, name)?;
-    let checked = check(alloc, name, &component)?;
-    Ok((checked.imports().len(), checked.exports().len()))
-}
-
-fn run_show<'a, F: Files, O: Write>(
-    alloc: Global,
-    name: &'a str,
-    files: &mut F,
-    out: &mut O,
-) -> Result<Outcome, Fault<'a>> {
-    let text = shown_text(alloc, name, files)?;
-    write_text(out, text.as_str())?;
-    Ok(Outcome::Done)
-}
-
-/// The text that shows the component of a file.
-fn shown_text<'a, F: Files>(
-    alloc: Global,
-    name: &'a str,
-    files: &mut F,
-) -> Result<String, Fault<'a>> {
-    let component = load_file(alloc, files, name)?;
-    let checked = check(alloc, name, &component)?;
-    show_component(alloc, checked).map_err(|fault| Fault::Show { name, fault })
-}
-
-fn run_conform<'a, F: Files, O: Write>(
-    alloc: Global,
-    asked: Asked<'a>,
-    files: &mut F,
-    out: &mut O,
-) -> Result<Outcome, Fault<'a>> {
-    conform(alloc, asked, files)?;
-    write_text(out, "ok\n")?;
-    Ok(Outcome::Done)
-}
-
-fn write_text<O: Write>(out: &mut O, text: &str) -> io::Result<()> {
-    out.write_all(text.as_bytes())?;
-    out.flush()
-}
-
-fn run_link<'a, F: Files, O: Write>(
-    alloc: Global,
-    names: &[&'a str],
-    files: &mut F,
-    out: &mut O,
-) -> Result<Outcome, Fault<'a>> {
-    let loaded = load_files(alloc, files, names)?;
-    let linked = loaded.link(alloc)?;
-    write_plan(out, &linked)?;
-    Ok(Outcome::Done)
 }
 
 fn run_play<'a, F: Files, O: Write, E: Write>(

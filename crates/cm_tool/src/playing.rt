@@ -1,8 +1,7 @@
 //! Playing a script on a set.
 
-use crate::fault::{Fault, report};
-use crate::outcome::Outcome;
 use cm_machine::{Event, Guest, Misuse, Player, Set};
+use cm_tool_commands::{Fault, Outcome, report};
 use cm_tool_lines::{Drive, write_event};
 use cm_tool_script::{Script, ScriptGuest};
 use std::alloc::Global;

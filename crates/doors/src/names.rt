@@ -1,7 +1,7 @@
 //! The names, a module a door.
 
 pub mod leb {
-    pub use cm_leb::{LebFault, read_s33, read_u32, write_s33, write_u32};
+    pub use cm_leb::{LebFault, SignedFault, read_s33, read_u32, write_s33, write_u32};
 }
 
 pub mod types {

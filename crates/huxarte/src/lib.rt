@@ -23,7 +23,7 @@ pub mod files {
         ExternDesc, Feature, Import, InlineExport, Instance, InstanceExportSort, LimitFault,
         Section, WriteFault, WriteReason, decode, decode_from, decode_pieces, encode, write_to,
     };
-    pub use cm_leb::{LebFault, read_s33, read_u32, write_s33, write_u32};
+    pub use cm_leb::{LebFault, SignedFault, read_s33, read_u32, write_s33, write_u32};
     pub use cm_types::{
         CaseType, Declaration, DeclaredType, DefType, DefValType, ExportDecl, ExportDesc, FuncType,
         LabeledValType, OuterType, PrimValType, TypeBound, ValType,

@@ -13,8 +13,7 @@ use crate::giving::read_receiver;
 use crate::passing::{read_encoding, read_way};
 use cm_abi_model::{Receiver, Request, StringEncoding, Way};
 use cm_layout::{FlatFunc, Layout, Side, flatten_func, layout_of_params};
-use cm_rows::{Line, RowFault};
-use cm_rows_types::{make_func, read_core_values};
+use cm_rows::{Line, RowFault, make_func, read_core_values};
 use cm_types::{CoreKind, CoreValue, Func};
 use std::alloc::{AllocError, Global};
 

@@ -11,8 +11,7 @@ use crate::tables::{read_table, write_table};
 use cm_abi::laws::one_call;
 use cm_abi::{AbiFault, Passing, Request, lower, requests};
 use cm_handles::Table;
-use cm_rows::{Line, RowFault, write_units};
-use cm_rows_types::write_core_values;
+use cm_rows::{Line, RowFault, write_core_values, write_units};
 use cm_types::CoreValue;
 use std::alloc::Global;
 

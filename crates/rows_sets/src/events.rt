@@ -1,8 +1,7 @@
 //! Events as rows show them.
 
 use cm_machine::Event;
-use cm_rows::Line;
-use cm_rows_types::write_core_values;
+use cm_rows::{Line, write_core_values};
 
 /// Writes an event, and whether a run stops after it.
 pub fn write_event(line: &mut Line, event: &Event) {

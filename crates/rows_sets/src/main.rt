@@ -6,6 +6,9 @@ mod components;
 mod events;
 mod faults;
 mod links;
+mod moves;
+mod plays;
+mod seen;
 mod sets;
 
 use cm_rows::{Driver, Line, NamedFiles, answer_families, word, words_from};
@@ -57,5 +60,10 @@ impl Driver for SetRows {
 }
 
 fn main(rt: HostRuntime) -> io::Result<ExitCode> {
-    answer_families::<SetRows, _>(&rt, &FAMILIES)
+    let of_families = answer_families::<SetRows, _>(&rt, &FAMILIES)?;
+    Ok(if moves::answer_moves(&rt)? {
+        of_families
+    } else {
+        ExitCode::FAILURE
+    })
 }

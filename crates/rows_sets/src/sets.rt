@@ -7,15 +7,16 @@ use crate::links::{link_components, read_item, write_link_fault};
 use cm_binary::Component;
 use cm_machine::{Event, Flat, Guest, Misuse, Move, Player, Set};
 use cm_match::Linked;
-use cm_rows::{Line, NamedFiles, RowFault, read_text, word, words_from, write_units};
-use cm_rows_types::{read_core_values, write_core_values};
+use cm_rows::{
+    Line, NamedFiles, RowFault, read_core_values, read_text, word, words_from, write_core_values,
+    write_units,
+};
 use cm_tool_script::{LineFault, ScriptGuest, Statement};
 use cm_types::CoreValue;
 use std::alloc::Global;
 use std::collections::VecDeque;
 
-/// The components that were linked last, until a machine is made of them, and the machine that was
-/// made last.
+/// The components that were linked last, and the machine that was made last.
 #[derive(Drop)]
 pub struct Sets {
     linked: Option<Vec<Component>>,
@@ -42,9 +43,9 @@ impl Sets {
         }
     }
 
-    /// The answer to `target COMPONENT IMPORT ITEM`, `new PAGES..` (which takes the linked set),
-    /// `begin INSTANCE`, `step MOVE`, `run MOVE ; ..`, `acting`, `memory INSTANCE`, `is_closed
-    /// INSTANCE`, `drives ROOTS LIMIT SEAT | ..` or `flat VALUE..`.
+    /// The answer to `target COMPONENT IMPORT ITEM`, `new PAGES..` (of the set linked last), `begin
+    /// INSTANCE`, `step MOVE`, `run MOVE ; ..`, `acting`, `memory INSTANCE`, `is_closed INSTANCE`,
+    /// `drives ROOTS LIMIT SEAT | ..` or `flat VALUE..`.
     pub fn answer(&mut self, alloc: Global, words: &[&str], line: &mut Line) {
         match word(words, 0) {
             "target" => self.write_target(alloc, words, line),
@@ -83,7 +84,7 @@ impl Sets {
     }
 
     fn make(&mut self, alloc: Global, pages: &[&str], line: &mut Line) {
-        let Some(components) = self.linked.take() else {
+        let Some(components) = self.linked.as_ref() else {
             return line.refuse();
         };
         let mut numbers = Vec::new(alloc);
@@ -91,7 +92,7 @@ impl Sets {
             let number = line.number(number);
             line.push(&mut numbers, number);
         }
-        let Ok(linked) = link_components(alloc, &components, line) else {
+        let Ok(linked) = link_components(alloc, components, line) else {
             return line.refuse();
         };
         match Set::new(alloc, &linked, &numbers) {

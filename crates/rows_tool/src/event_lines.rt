@@ -1,8 +1,7 @@
 //! The lines that events print.
 
 use cm_machine::{Event, Flat, Trap};
-use cm_rows::{Line, RowFault, word, words_from, write_text};
-use cm_rows_types::read_core_values;
+use cm_rows::{Line, RowFault, read_core_values, word, words_from, write_text};
 use cm_tool_lines::write_event;
 use std::alloc::Global;
 

@@ -1,8 +1,7 @@
 //! Rows on scripts, their numbers and their bytes.
 
 use cm_machine::Move;
-use cm_rows::{Line, RowFault, read_text, word, words_from, write_bytes};
-use cm_rows_types::write_core_values;
+use cm_rows::{Line, RowFault, read_text, word, words_from, write_bytes, write_core_values};
 use cm_tool_script::{
     LineFault, Script, ScriptFault, ScriptRefusal, form_of, read_u32, read_u64, script_bytes,
 };

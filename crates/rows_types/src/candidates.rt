@@ -2,8 +2,7 @@
 
 use cm_match_model::Candidate;
 use cm_match_serving::Exports;
-use cm_rows::{Line, word, words_from};
-use cm_rows_types::read_name;
+use cm_rows::{Line, read_name, word, words_from};
 use std::alloc::{AllocError, Global};
 
 /// The answer to `WANTED NAME..`, a name and those of the exports of components, with a `|` between

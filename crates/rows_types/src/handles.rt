@@ -5,8 +5,7 @@ ghost use Rattle.std.specs.Option.{ForSome};
 ghost use Rattle.cm_handles.specs.Handles.{handle_at};
 
 use cm_handles::{Handle, HandleFault, HandleKind, Table};
-use cm_rows::{Line, word, words_from};
-use cm_rows_types::read_resource;
+use cm_rows::{Line, read_resource, word, words_from};
 use cm_types::ResourceId;
 use std::alloc::Global;
 
@@ -103,6 +102,15 @@ impl Handles {
         write_handle(line, outcome);
     }
 
+    /// Adds a handle. Where there is no memory for it, the table is as it was, and it is added
+    /// again.
+    fn add_again(&mut self, handle: Handle) -> Result<u32, HandleFault> {
+        match self.table.add(handle) {
+            Err(HandleFault::Memory) => self.table.add(handle),
+            added => added,
+        }
+    }
+
     /// Adds so many handles, of which each is to stand at the index after that of the one before
     /// it.
     fn fill(&mut self, count: u32, handle: Handle, line: &mut Line) {
@@ -112,7 +120,7 @@ impl Handles {
         }
         for _ in 0..count {
             let rep = last.saturating_add(1);
-            match self.table.add(Handle { rep, ..handle }) {
+            match self.add_again(Handle { rep, ..handle }) {
                 Ok(index) if index == rep => last = rep,
                 other => return write_index(line, other),
             }

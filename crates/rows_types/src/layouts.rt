@@ -5,8 +5,7 @@ use cm_layout::{
     discriminant_size, field_offset, flatten, flatten_func, has_cases, has_field, head, layout,
     layout_of_params, size,
 };
-use cm_rows::{Line, word, words_from};
-use cm_rows_types::{read_func, read_tree};
+use cm_rows::{Line, read_func, read_tree, word, words_from};
 use cm_types::{CoreKind, ResourceId, TypeTree};
 use std::alloc::{AllocError, Global};
 use std::fmt::Display;

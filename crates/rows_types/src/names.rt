@@ -1,7 +1,6 @@
 //! Rows on names.
 
-use cm_rows::{Line, word};
-use cm_rows_types::read_core_value;
+use cm_rows::{Line, read_core_value, word};
 use cm_types::{
     CoreKind, CoreValue, ExternName, ExternNameForm, Label, NameFault, is_scalar, same_name,
 };

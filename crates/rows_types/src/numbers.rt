@@ -1,8 +1,8 @@
 //! Rows on numbers in LEB128.
 
 use cm_leb::formats::{front_s33, front_u32, spelled_length, write_count};
-use cm_leb::{LebFault, read_s33, read_u32, write_s33, write_u32};
-use cm_rows::{Line, word, write_bytes};
+use cm_leb::{LebFault, SignedFault, read_s33, read_u32, write_s33, write_u32};
+use cm_rows::{Line, RowFault, word, write_bytes};
 use std::alloc::Global;
 use std::fmt::Display;
 
@@ -34,6 +34,9 @@ fn write_faults(line: &mut Line) {
     ] {
         line.number_of_debug(&fault, fault.number());
     }
+    for fault in [SignedFault::TooLarge, SignedFault::Memory] {
+        line.number_of_debug(&fault, fault.number());
+    }
 }
 
 fn answer_reading(call: &str, bytes: &[u8], at: &str, line: &mut Line) {
@@ -52,20 +55,29 @@ fn answer_reading(call: &str, bytes: &[u8], at: &str, line: &mut Line) {
     }
 }
 
-/// Adds a number to bytes; of numbers with a sign, only one of 33 bits is a row.
+/// Adds a number to bytes.
 fn add_number(out: &mut Vec<u8>, call: &str, number: &str, line: &mut Line) {
     let written = match call {
         "write_u32" => write_u32(out, line.number(number)),
         "write_count" => write_count(out, line.number(number)),
         _ => {
-            let number = line.number::<i64>(number);
-            if number < -(1 << 32) || number >= 1 << 32 {
-                return line.refuse();
-            }
-            write_s33(out, number)
+            let number = line.number(number);
+            return add_signed(out, number, line);
         }
     };
     line.kept(written);
+}
+
+/// Adds a number with a sign; of one that is too large the fault stands before the bytes.
+fn add_signed(out: &mut Vec<u8>, number: i64, line: &mut Line) {
+    match write_s33(out, number) {
+        Ok(()) => {}
+        Err(SignedFault::Memory) => line.fail(RowFault::Memory),
+        Err(fault) => {
+            line.fault(&fault);
+            line.put(", then ");
+        }
+    }
 }
 
 /// Writes `NUMBER, COUNT left`, or the fault.

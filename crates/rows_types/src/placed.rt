@@ -1,8 +1,7 @@
 //! Rows on types by places, and on types of functions.
 
 use cm_layout::{Layout, layout_of_params, size};
-use cm_rows::{Line, word};
-use cm_rows_types::{Arena, Outcome};
+use cm_rows::{Arena, Line, Outcome, word};
 use cm_types_arena::{DefFault, Summary, Types};
 use std::alloc::{AllocError, Global};
 

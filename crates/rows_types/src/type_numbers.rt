@@ -1,8 +1,7 @@
 //! Rows on the numbers of types by places.
 
 use crate::runs::Runs;
-use cm_rows::{Line, word, words_from};
-use cm_rows_types::{Arena, read_move, read_resources};
+use cm_rows::{Arena, Line, read_move, read_resources, word, words_from};
 use cm_types_arena::{Replacement, Row, Types};
 use cm_types_numbers::Numbers;
 use std::alloc::Global;

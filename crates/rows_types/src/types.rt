@@ -1,8 +1,9 @@
 //! Rows on types as trees: their limits and their equality.
 
 use crate::values::read_value;
-use cm_rows::{Line, word, words_from};
-use cm_rows_types::{read_func, read_params, read_resources, read_tree, read_type};
+use cm_rows::{
+    Line, read_func, read_params, read_resources, read_tree, read_type, word, words_from,
+};
 use cm_types::{Func, TypeFault, TypeNode, TypeTree, has_type};
 use cm_types_arena::{same_func, same_type};
 use std::alloc::Global;

@@ -6,8 +6,8 @@ use cm_binary::Component;
 use cm_tool_files::{
     Files, Unfit, UnfitReason, checked_of, conform_component, read_file, text_of, world_of,
 };
+use cm_tool_help_texts::{wit_help, world_help};
 use cm_tool_help_types::conform_help;
-use cm_tool_help_wit::{wit_help, world_help};
 use cm_tool_show::ShowFault;
 use cm_validate_signature::signature;
 use cm_wit_conforms::ConformFault;
@@ -16,7 +16,7 @@ use std::alloc::Global;
 /// The words of the command line: the file of the text, the full name of the world, and the file of
 /// the component.
 #[derive(Clone, Copy)]
-pub(crate) struct Asked<'a> {
+pub struct Asked<'a> {
     pub wit: &'a str,
     pub world: &'a str,
     pub file: &'a str,

@@ -2,7 +2,7 @@ use Rattle.std.proofs.Common.{w64}
 use Rattle.std.proofs.lemmas.Int.{to_z-of_z}
 use Rattle.cm_leb.specs.NumbersWritten.{shortest_signed}
 use Rattle.cm_leb.proofs.ShortestLaws.{shortest_signed-spells, shortest_signed-least, signed_appended}
-use Rattle.cm_leb.proofs.writing.write_s33.Goals as goal
+use Rattle.cm_leb.proofs.writing.put_s33.Goals as goal
 
 pub returns-clause-spelled : goal.returns-clause-spelled
 returns-clause-spelled c = shortest_signed-spells c.args.value c.requires

@@ -9,8 +9,9 @@
 //! `last`, that of the type that was added last. `N*` before an item stands for N of them, before
 //! a place for N of that place.
 
-use crate::words::{primitive_named, read_labels, read_resource};
-use cm_rows::{Line, split_repeat, word, words_from};
+use crate::line::Line;
+use crate::named_types::{primitive_named, read_labels, read_resource};
+use crate::words::{split_repeat, word, words_from};
 use cm_types::Label;
 use cm_types_arena::{CaseDef, DefFault, FieldDef, FuncDef, TypeDef, Types};
 use std::alloc::Global;

@@ -1,9 +1,9 @@
 //! Why a command ends early, and the line that says so.
 
 ghost use Rattle.std.specs.Prelude.{◌≡◌};
-ghost use Rattle.cm_tool.specs.declared.fault.Fault.TheVariants as fault;
+ghost use Rattle.cm_tool_commands.specs.declared.fault.Fault.TheVariants as fault;
 
-use cm_machine::Misuse;
+use cm_machine_model::Misuse;
 use cm_match::{LinkFault, LinkReason};
 use cm_tool_files::{BadFile, Unfit, write_show_fault};
 use cm_tool_lines::{

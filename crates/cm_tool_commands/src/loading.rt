@@ -6,7 +6,7 @@ use cm_match::{LinkFault, Linked, MAX_COMPONENTS, link};
 use cm_tool_files::{
     BadFile, Checked, FileReason, Files, checked_of, component_of, read_file, text_of,
 };
-use cm_tool_help_files::{bytes_help, valid_help};
+use cm_tool_help_texts::{bytes_help, valid_help};
 use cm_tool_help_types::link_help;
 use cm_tool_lines::BadLine;
 use cm_tool_script::Script;

@@ -7,8 +7,9 @@
 //! `own:COMPONENT.NUMBER` and `borrow:COMPONENT.NUMBER` among them. LABELS are joined by commas.
 //! `N*` before a word or a label stands for N of them.
 
-use crate::words::{named, primitive_named, read_labels, read_resource};
-use cm_rows::{Line, split_repeat, word};
+use crate::line::Line;
+use crate::named_types::{named, primitive_named, read_labels, read_resource};
+use crate::words::{split_repeat, word};
 use cm_types::{Case, Field, Func, Label, TypeNode, TypeTree};
 use cm_types_arena::Primitive;
 use std::alloc::Global;

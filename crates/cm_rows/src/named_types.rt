@@ -1,6 +1,7 @@
-//! Words of rows.
+//! Labels, names and resources as rows spell them.
 
-use cm_rows::{Line, split_repeat};
+use crate::line::Line;
+use crate::words::split_repeat;
 use cm_types::{ExternName, Label, NameFault, ResourceId};
 use cm_types_arena::{Move, Primitive};
 use std::alloc::Global;

@@ -1,6 +1,7 @@
 //! Core values, as rows spell them: `i32:NUMBER` or `i64:NUMBER`.
 
-use cm_rows::{Line, split_repeat};
+use crate::line::Line;
+use crate::words::split_repeat;
 use cm_types::CoreValue;
 use std::alloc::Global;
 

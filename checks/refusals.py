@@ -1,0 +1,107 @@
+"""What rows answer where one allocation is refused.
+
+A row that finds no memory is answered once more, so a refusal changes no answer: the call that was
+refused left all as it was. Three kinds of answers show the refusal themselves: a move of a set ends
+in trap 20 (and what comes behind it in the block is not judged), a play of the command ends in that
+trap or in a fault, and a list of answers has `Memory@PLACE`. A program that cannot read or print a
+row ends with status 1, and what it printed is a beginning.
+"""
+
+import re
+
+from rows import run, write_block
+
+# The events of moves that may want memory: a growth, what a call or a return hands over or asks
+# for, and a handle that is made.
+WANTING = re.compile(r"grown \d|enter |realloc |postreturn |resume |trapped ")
+PLAYED = re.compile(r"status (\d), out (.*), err (.*)")
+TRAPPED = re.compile(r"(?:.*; )?trapped (?:EngineMemory \(last\)|20)(?: .*)?")
+
+
+def lacks_within(line, wanted):
+    """Whether a list of answers has `Memory@PLACE`, and else what is wanted."""
+    words, others = line.split(" "), wanted.split(" ")
+    return len(words) == len(others) and all(
+        word == other or word.startswith("Memory@") for word, other in zip(words, others))
+
+
+def lacks_in_play(got, wanted):
+    """Whether a play ends for want of memory: in trap 20, in a fault or misuse of memory, or with
+    its fault cut."""
+    ours, whole = PLAYED.fullmatch(got), PLAYED.fullmatch(wanted)
+    if not ours or not whole:
+        return False
+    lines, all_lines = (it[2].removeprefix("-").split("\\n")[:-1] for it in (ours, whole))
+    if "trapped 20" in lines:
+        at = lines.index("trapped 20")
+        is_beginning = at < len(all_lines) and lines[:at] == all_lines[:at]
+        return is_beginning and ours[1] == "3" and bool(WANTING.match(all_lines[at]))
+    if ours[1] == whole[1] and lines == all_lines and len(ours[3]) < len(whole[3]):
+        return True
+    is_told = any(word in ours[3] for word in ("Memory", "no memory", "misuse 6", "Write"))
+    return is_told and lines == all_lines[:len(lines)] and ours[1] in "134"
+
+
+def lacks_in_move(got, wanted):
+    """Whether a move, or the last one of a run, ends in trap 20 where its event may want memory."""
+    if not TRAPPED.fullmatch(got):
+        return False
+    before = got.split("; ")[:-1]
+    events = wanted.split("; ")
+    return events[:len(before)] == before and len(events) > len(before) and bool(
+        WANTING.match(events[len(before)]))
+
+
+def are_right(differing, rows):
+    """Whether the rows that differ show the refusal."""
+    for number, line in sorted(differing.items()):
+        wanted = rows[number - 1][1]
+        got = line.removeprefix(f"wanted {wanted}, got ")
+        if lacks_in_move(got, wanted) or lacks_in_play(got, wanted):
+            return True
+        if not lacks_within(got, wanted):
+            return False
+    return True
+
+
+def judge(done, program_families, block):
+    """Whether what was printed may be, whether all was, and whether a row differs."""
+    rows, differing, counted = block.all(), {}, []
+    for line in done.lines:
+        differs = re.match(rf"{block.family}\.rows:(\d+): (.*)", line)
+        if differs:
+            differing[int(differs[1])] = differs[2]
+        elif line not in ("-", "."):
+            counted.append(line)
+    passed = len(rows) - len(differing)
+    of_family = f"{passed} of {len(rows)} rows pass" if differing else f"{len(rows)} rows pass"
+    wanted = sorted(
+        f"{it}: {of_family if it == block.family else '0 rows pass'}" for it in program_families)
+    is_whole = sorted(counted) == wanted
+    is_right = are_right(differing, rows) and set(counted) <= set(wanted)
+    return is_right and done.status == (bool(differing) if is_whole else 1), is_whole, differing
+
+
+def sweep(program, families, folder, block, most):
+    """Refuses each allocation of a block, or `most` of them at equal distances where it has more:
+    how many were refused, how many of these showed, how many ended the program, how many answers
+    were wrong, and how many allocations were left out."""
+    write_block(program, folder, block)
+    first = block.rows[-1][0][:160]
+    done = run(program, folder)
+    is_right, is_whole, differing = judge(done, families, block)
+    if not is_right or not is_whole or differing:
+        print(f"{program}: not as wanted with all memory: {first}")
+        return 0, 0, 0, 1, 0
+    step = -(-done.asked // most)
+    numbers = range(1, done.asked + 1, step)
+    shown = ended = wrong = 0
+    for refused in numbers:
+        done = run(program, folder, refused)
+        is_right, is_whole, differing = judge(done, families, block)
+        shown += is_whole and bool(differing)
+        ended += not is_whole
+        if not is_right:
+            print(f"{program}: allocation {refused} refused, status {done.status}: {first}")
+            wrong += 1
+    return len(numbers), shown, ended, wrong, (numbers.stop - 1) - len(numbers)
