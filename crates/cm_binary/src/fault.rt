@@ -1,14 +1,15 @@
 //! Why a file is not written whole.
 
-use std::error::Error;
-use std::fmt;
+use thiserror::Error;
 
 /// Why writing stopped, by the number of the reason.
-#[derive(Clone, Copy, Debug, PartialEq, Eq)]
+#[derive(Clone, Copy, Debug, PartialEq, Eq, Error)]
 pub enum WriteReason {
     /// The writer failed, or took none of the bytes.
+    #[error("the writer failed")]
     Write,
     /// There was no memory.
+    #[error("no memory")]
     Memory,
 }
 
@@ -27,26 +28,10 @@ impl WriteReason {
     }
 }
 
-impl fmt::Display for WriteReason {
-    fn fmt<W: fmt::Write>(&self, f: &mut fmt::Formatter<W>) -> fmt::Result {
-        f.write_str(match self {
-            WriteReason::Write => "the writer failed",
-            WriteReason::Memory => "no memory",
-        })
-    }
-}
-
 /// Why a file was not written whole, and how many of its bytes were, from its first byte on.
-#[derive(Clone, Copy, Debug, PartialEq, Eq)]
+#[derive(Clone, Copy, Debug, PartialEq, Eq, Error)]
+#[error("{reason} after {written} bytes")]
 pub struct WriteFault {
     pub written: usize,
     pub reason: WriteReason,
 }
-
-impl fmt::Display for WriteFault {
-    fn fmt<W: fmt::Write>(&self, f: &mut fmt::Formatter<W>) -> fmt::Result {
-        write!(f, "{} after {} bytes", self.reason, self.written)
-    }
-}
-
-impl Error for WriteFault {}

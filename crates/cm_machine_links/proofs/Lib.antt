@@ -9,3 +9,4 @@ mod Lookups
 mod PlanFacts
 mod PlanLaws
 mod KnownLaws
+mod WrittenFacts

@@ -70,11 +70,11 @@ post_return_guest s (option.PostReturn g ∷ os) f h e = subst (IsGuestAt s) (sa
 
 -- ---- what types need
 
-nil_front : {A : Type 0} (xs ys : List A) → xs ++ ys ≡ [] → xs ≡ []
+pub nil_front : {A : Type 0} (xs ys : List A) → xs ++ ys ≡ [] → xs ≡ []
 nil_front [] ys h = refl
 nil_front (x ∷ xs) ys h = cc h
 
-nil_rest : {A : Type 0} (xs ys : List A) → xs ++ ys ≡ [] → ys ≡ []
+pub nil_rest : {A : Type 0} (xs ys : List A) → xs ++ ys ≡ [] → ys ≡ []
 nil_rest [] ys h = h
 nil_rest (x ∷ xs) ys h = cc h
 

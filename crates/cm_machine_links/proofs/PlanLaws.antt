@@ -54,7 +54,7 @@ pub record Known (set : List Spaces) : Type 0 where
 
 -- ---- lists and options
 
-got : {A : Type 0} (P : A → Type 0) (xs : List A) (i : ℕ) (x : A) → AllByRecursion P xs → slice_get xs i ≡ Some x → P x
+pub got : {A : Type 0} (P : A → Type 0) (xs : List A) (i : ℕ) (x : A) → AllByRecursion P xs → slice_get xs i ≡ Some x → P x
 got P [] i x h e = cc e
 got P (y ∷ xs) zero x h e = let same : y ≡ x = cc in subst P same h.0
 got P (y ∷ xs) (suc i) x h e = got P xs i x h.1 e
@@ -67,14 +67,14 @@ still_some : {A B : Type 0} (f : A → B) (o : Option A) → is_some o ≡ true 
 still_some f None h = cc h
 still_some f (Some x) h = refl
 
-same_some : {A : Type 0} {x y : A} → Some x ≡ Some y → x ≡ y
+pub same_some : {A : Type 0} {x y : A} → Some x ≡ Some y → x ≡ y
 same_some {x = x} e = ap (λ o. unwrap_or o x) e
 
 stepped : {A B : Type 0} (o : Option A) (f : A → Option B) (y : B) → option_and_then f o ≡ Some y → (x : A) × (o ≡ Some x) × (f x ≡ Some y)
 stepped None f y h = cc h
 stepped (Some x) f y h = (x, refl, h)
 
-mapped : {A B : Type 0} (f : A → B) (o : Option A) (y : B) → option_map f o ≡ Some y → (x : A) × (o ≡ Some x) × (f x ≡ y)
+pub mapped : {A B : Type 0} (f : A → B) (o : Option A) (y : B) → option_map f o ≡ Some y → (x : A) × (o ≡ Some x) × (f x ≡ y)
 mapped f None y h = cc h
 mapped f (Some x) y h = (x, refl, same_some h)
 

@@ -1,3 +1,4 @@
 pub mod Planning
 pub mod Planned
 pub mod Standing
+pub mod Written

@@ -11,6 +11,7 @@ mod making;
 mod options;
 mod origins;
 mod passing;
+pub mod plan_laws;
 
 pub use core_funcs::{CoreFunc, Link};
 pub use links::Links;

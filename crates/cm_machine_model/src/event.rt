@@ -3,8 +3,8 @@
 ghost use Rattle.std.specs.Prelude.{◌≡◌};
 
 use crate::flat::Flat;
-use std::error::Error;
 use std::fmt;
+use thiserror::Error;
 
 /// What the machine answers to a move. Instances, functions and indices count from 0.
 #[derive(Clone, Debug, Drop, PartialEq)]
@@ -155,19 +155,25 @@ impl fmt::Display for Trap {
 }
 
 /// Why a call of the machine itself was refused.
-#[derive(Clone, Copy, Debug, PartialEq, Eq)]
+#[derive(Clone, Copy, Debug, PartialEq, Eq, Error)]
 pub enum Misuse {
     /// No frame stands on the stack, so no instance acts.
+    #[error("misuse 1: no instance acts")]
     Idle = 1,
     /// A frame stands on the stack already.
+    #[error("misuse 2: a call is on the stack")]
     Busy,
     /// The instance is closed.
+    #[error("misuse 3: the instance is closed")]
     Closed,
     /// There is no instance with this number.
+    #[error("misuse 4: there is no such instance")]
     NoInstance,
     /// Not one number of pages for each component, or a number above `MAX_PAGES`.
+    #[error("misuse 5: wrong numbers of pages")]
     BadPages,
     /// No memory for the set or for the list of events.
+    #[error("misuse 6: out of memory")]
     Memory,
 }
 
@@ -180,24 +186,4 @@ impl Misuse {
     {
         self as u8
     }
-
-    /// What was wrong, in a few words.
-    fn text(self) -> &'static str {
-        match self {
-            Misuse::Idle => "no instance acts",
-            Misuse::Busy => "a call is on the stack",
-            Misuse::Closed => "the instance is closed",
-            Misuse::NoInstance => "there is no such instance",
-            Misuse::BadPages => "wrong numbers of pages",
-            Misuse::Memory => "out of memory",
-        }
-    }
 }
-
-impl fmt::Display for Misuse {
-    fn fmt<W: fmt::Write>(&self, f: &mut fmt::Formatter<W>) -> fmt::Result {
-        write!(f, "misuse {}: {}", self.number(), self.text())
-    }
-}
-
-impl Error for Misuse {}

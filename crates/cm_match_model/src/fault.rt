@@ -81,7 +81,8 @@ impl Error for LinkReason {}
 
 /// Why and at which import a set of components can't be linked. It is shown as
 /// `NoProvider in component 1, import 0:` and what the reason means.
-#[derive(Clone, Copy, Debug, PartialEq, Eq)]
+#[derive(Clone, Copy, Debug, PartialEq, Eq, thiserror::Error)]
+#[error("{} in component {component}, import {import}: {reason}", .reason.name())]
 pub struct LinkFault {
     /// The place of the component in the set, from 0; 0 where the fault is the set's.
     pub component: usize,
@@ -89,20 +90,3 @@ pub struct LinkFault {
     pub import: usize,
     pub reason: LinkReason,
 }
-
-impl fmt::Display for LinkFault {
-    fn fmt<W: fmt::Write>(&self, f: &mut fmt::Formatter<W>) -> fmt::Result {
-        let LinkFault {
-            component,
-            import,
-            reason,
-        } = self;
-        let name = reason.name();
-        write!(
-            f,
-            "{name} in component {component}, import {import}: {reason}"
-        )
-    }
-}
-
-impl Error for LinkFault {}

@@ -13,6 +13,7 @@ mod fault;
 pub mod laws;
 pub mod origin_laws;
 mod plan;
+pub mod target_laws;
 
 pub use candidates::Candidate;
 pub use component::Link;

@@ -6,14 +6,16 @@ ghost use Rattle.cm_tool_script.specs.Faults.{script_fault_number};
 
 use hex::FromHexError;
 use std::alloc::Global;
-use std::fmt;
+use thiserror::Error;
 
 /// Why a text spells no bytes.
-#[derive(Clone, Copy)]
+#[derive(Clone, Copy, Debug, Error)]
 pub enum ScriptFault {
     /// The text is neither `-` nor one or more pairs of hex digits.
+    #[error("two hex digits a byte, or - for none")]
     BadHex = 1,
     /// There was no memory for the bytes.
+    #[error("no memory")]
     Memory = 2,
 }
 
@@ -23,15 +25,6 @@ impl ScriptFault {
         ensures { result ≡ script_fault_number self }
     {
         self as u8
-    }
-}
-
-impl fmt::Display for ScriptFault {
-    fn fmt<W: fmt::Write>(&self, f: &mut fmt::Formatter<W>) -> fmt::Result {
-        f.write_str(match self {
-            ScriptFault::BadHex => "two hex digits a byte, or - for none",
-            ScriptFault::Memory => "no memory",
-        })
     }
 }
 

@@ -3,24 +3,17 @@
 use clap::error::ErrorKind;
 use clap::{Arg, ArgAction, ArgMatches, Command};
 use std::alloc::{AllocError, Global};
-use std::fmt;
+use thiserror::Error;
 
 /// Why words are no command.
-#[derive(Clone, Copy)]
+#[derive(Clone, Copy, Debug, Error)]
 pub enum WordsFault {
     /// The words are no command, or ask for help.
+    #[error("no command")]
     NoCommand,
     /// There was no memory.
+    #[error("no memory")]
     Memory,
-}
-
-impl fmt::Display for WordsFault {
-    fn fmt<W: fmt::Write>(&self, f: &mut fmt::Formatter<W>) -> fmt::Result {
-        f.write_str(match self {
-            WordsFault::NoCommand => "no command",
-            WordsFault::Memory => "no memory",
-        })
-    }
 }
 
 /// A command, with the names of its files in order.

@@ -1,6 +1,7 @@
 //! Names, types and values of components, as trees (Explainer.md, "Type Definitions").
 //!
-//! Types in an arena, and signatures, stand in the rooms behind this door.
+//! Types in an arena, and signatures, stand in the rooms behind this door; the doors `cm_validate`
+//! and `cm_wit` give out what a signature is.
 #![tactic(auto)]
 
 mod core_value;
@@ -11,7 +12,6 @@ pub mod laws;
 mod limits;
 mod names;
 mod resource;
-mod signatures;
 mod spellable;
 mod type_trees;
 mod typed_values;
@@ -27,7 +27,6 @@ pub use extern_names::{ExternName, ExternNameForm};
 pub use limits::{MAX_DEPTH, MAX_FLAT_PARAMS, MAX_FLAT_RESULTS, MAX_NODES};
 pub use names::{Label, NameFault, same_name};
 pub use resource::{ResourceId, resolve, same_resource};
-pub use signatures::{ExternType, InstanceItem, ItemType, Signature, SignatureItem};
 pub use spellable::MAX_FLAGS;
 pub use type_trees::{Case, Field, Func, TypeFault, TypeNode, TypeTree};
 pub use typed_values::has_type;

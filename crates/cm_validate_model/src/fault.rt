@@ -131,7 +131,8 @@ impl Error for ValidReason {}
 
 /// Why and where a component is not valid. It is shown as `NoSuchIndex in section 3, item 0:` and
 /// what the reason means.
-#[derive(Clone, Copy, Debug, PartialEq, Eq)]
+#[derive(Clone, Copy, Debug, PartialEq, Eq, thiserror::Error)]
+#[error("{} in section {section}, item {item}: {reason}", .reason.name())]
 pub struct ValidFault {
     /// The section, from 0, custom sections counted.
     pub section: usize,
@@ -139,17 +140,3 @@ pub struct ValidFault {
     pub item: usize,
     pub reason: ValidReason,
 }
-
-impl fmt::Display for ValidFault {
-    fn fmt<W: fmt::Write>(&self, f: &mut fmt::Formatter<W>) -> fmt::Result {
-        let ValidFault {
-            section,
-            item,
-            reason,
-        } = self;
-        let name = reason.name();
-        write!(f, "{name} in section {section}, item {item}: {reason}")
-    }
-}
-
-impl Error for ValidFault {}

@@ -8,6 +8,7 @@ pub mod counted_laws;
 mod fault;
 pub mod function_laws;
 pub mod laws;
+pub mod resource_laws;
 mod sorts;
 
 pub use fault::{ValidFault, ValidReason};

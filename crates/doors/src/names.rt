@@ -7,7 +7,7 @@ pub mod leb {
 pub mod types {
     pub use cm_types::{
         CoreKind, CoreValue, DefType, ExternName, Func, FuncType, Label, NameFault, ResourceId,
-        Signature, TypeTree, ValType, Value,
+        TypeTree, ValType, Value,
     };
 }
 
@@ -19,12 +19,13 @@ pub mod binary {
 }
 
 pub mod validity {
-    pub use cm_validate::{Checked, ValidFault, signature, validate};
+    pub use cm_validate::{Checked, Signature, ValidFault, signature, validate};
 }
 
 pub mod wit {
     pub use cm_wit::{
-        ConformFault, Package, WitFault, WorldFault, conforms, parse, print, world_signature,
+        ConformFault, Package, Signature, WitFault, WorldFault, conforms, parse, print,
+        world_signature,
     };
 }
 

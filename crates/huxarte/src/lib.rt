@@ -36,18 +36,18 @@ pub mod components {
     pub use cm_match::{LinkFault, LinkReason, Linked, MAX_COMPONENTS, PlanLine, Target, link};
     pub use cm_types::{ExternName, ExternNameForm, Label, NameFault, ResourceId, same_name};
     pub use cm_types_arena::{ItemDesc, Placed};
-    pub use cm_types_signatures::{Desc, Externs, Items, NamedDesc, NamedItem, Signature};
     pub use cm_validate::{
-        Checked, CoreFuncEntry, ExportEntry, ExportedEntry, FuncEntry, GuestExport, InstanceEntry,
-        MadeFunc, MemberEntry, Resource, ValidFault, ValidReason, signature, validate,
+        Checked, CoreFuncEntry, Desc, ExportEntry, ExportedEntry, Externs, FuncEntry, GuestExport,
+        InstanceEntry, Items, MadeFunc, MemberEntry, NamedDesc, NamedItem, Resource, Signature,
+        ValidFault, ValidReason, signature, validate,
     };
 }
 
 /// WIT texts and the worlds in them.
 pub mod wit {
     pub use cm_wit::{
-        ConformFault, ConformItem, ConformList, ConformReason, Package, WitFault, WitReason,
-        WorldFault, conforms, parse, print, world_signature,
+        ConformFault, ConformItem, ConformList, ConformReason, Package, Signature, WitFault,
+        WitReason, WorldFault, conforms, parse, print, world_signature,
     };
 }
 
