@@ -9,7 +9,8 @@ use Rattle.cm_handles.specs.Changes.{AddsTo, ClosesAll, ReleasesFrom, WritesLend
 use Rattle.cm_handles.specs.Handles.{Handles, IsSoundHandles, after_change, after_close, after_release, borrows_from, handle_at, indices_left, is_borrow, slot_after_close, with_lends}
 use Rattle.cm_handles.specs.Slots.{after_close_at}
 use Rattle.cm_handles.proofs.ClosingTable.{IsClosing, closed-at_each, closing_end, closing_start, closing_step}
-use Rattle.cm_handles.proofs.SoundHandles.{Contains-first, IsSoundHandles-after_release, IsSoundHandles-pushed, IsSoundHandles-reused, IsSoundHandles-written, within_slots}
+use Rattle.cm_handles.proofs.SoundHandles.{IsSoundHandles-after_release, IsSoundHandles-pushed, IsSoundHandles-reused, IsSoundHandles-written, within_slots}
+use Rattle.cm_lemmas.proofs.Lists.{Contains-first}
 
 adds_at : (slots : List (Option Handle)) (freed : List ℕ) (h : Handle) → IsSoundHandles (record { slots = slots; freed = freed }) → 0 < indices_left (record { slots = slots; freed = freed }) → AddsTo (record { slots = slots; freed = freed }) h
 adds_at slots [] h sound room = record {

@@ -11,7 +11,8 @@ use Rattle.cm_handles.specs.Handles.{Handles, IsSoundHandles, after_add, after_c
 use Rattle.cm_handles.specs.declared.handle.Handle.{Handle}
 use Rattle.cm_handles.specs.declared.handle.HandleKind.{HandleKind}
 use Rattle.cm_handles.specs.declared.handle.HandleKind.TheVariants.{Owned, Borrowed}
-use Rattle.cm_handles.proofs.SoundHandles.{Contains-first, within_slots}
+use Rattle.cm_handles.proofs.SoundHandles.{within_slots}
+use Rattle.cm_lemmas.proofs.Lists.{Contains-first}
 
 -- what a slot counts
 abbrev counted : ℕ → Option Handle → ℕ

@@ -4,3 +4,6 @@ pub mod TableSteps
 pub mod ClosingTable
 pub mod ChangedTables
 pub mod CountedBorrows
+pub mod FaultLaws
+pub mod HandleLaws
+pub mod HandlesLaws

@@ -151,10 +151,6 @@ pub left_of : (es : List Slot) (first free capacity : ℕ) (old : TableState) �
 left_of es first free capacity old view =
     sym (ap (λ (s : TableState). indices_left s.handles) view) ∙ omega (arith, length-thread free es first, length-map es handle_in)
 
-pub no_elements : (xs : List ℕ) → length xs ≡ 0 → xs ≡ []
-no_elements [] none = refl
-no_elements (x ∷ xs) none = absurd (omega arith)
-
 -- the index at which the empty slots begin is the one freed last
 pub freed_first : (es : List Slot) (first free capacity : ℕ) (old : TableState) → table_of es first free capacity ≡ old → 0 < free → slice_get old.handles.freed 0 ≡ Some first
 freed_first es first free capacity old view positive =

@@ -11,7 +11,8 @@ use Rattle.cm_handles.specs.declared.slot.Slot.TheVariants.{Free, Owned, Borrowe
 use Rattle.cm_handles.specs.declared.table.TheConstants.{MAX_HANDLES}
 use Rattle.cm_handles.specs.Handles.{Handles, no_handles, handle_at, IsSoundHandles, after_release, after_restore, after_add}
 use Rattle.cm_handles.specs.Slots.{handle_in, is_free, next_of, thread, Threads, handles_of, IsThreaded}
-use Rattle.cm_handles.proofs.SoundHandles.{IsSoundHandles-after_release, IsSoundHandles-reused, IsSoundHandles-pushed, IsSoundHandles-written, Contains-first, Contains-rest, positive_index, IsSoundHandles-none}
+use Rattle.cm_handles.proofs.SoundHandles.{IsSoundHandles-after_release, IsSoundHandles-reused, IsSoundHandles-pushed, IsSoundHandles-written, positive_index, IsSoundHandles-none}
+use Rattle.cm_lemmas.proofs.Lists.{Contains-first, Contains-rest}
 
 handle_in-at : (es : List Slot) (k : ℕ) → get_or (map handle_in es) k None ≡ option_and_then handle_in (slice_get es k)
 handle_in-at [] k = refl

@@ -13,3 +13,5 @@ pub mod FaultLemmas
 pub mod TightLemmas
 pub mod WellFormedLemmas
 pub mod GrowthLemmas
+pub mod Utf16Laws
+pub mod Utf8Laws

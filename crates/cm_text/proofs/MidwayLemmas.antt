@@ -4,7 +4,8 @@ use Rattle.std.proofs.lemmas.List.{append-nil, take_all, drop_all, drop_at, leng
 use Rattle.std.proofs.lemmas.List.Concat.{flat_map-append}
 use Rattle.std.specs.List.{AllByRecursion, flat_map}
 use Rattle.cm_text.specs.Text.{IsText, IsTextOfSize, IsSameText, BeginsWith, BeginsWithSome}
-use Rattle.cm_text.proofs.TextLemmas.{Laws, Left, goes_on, one_text, no_scalar, all-append}
+use Rattle.cm_text.proofs.TextLemmas.{Laws, Left, goes_on, one_text, no_scalar}
+use Rattle.cm_lemmas.proofs.Lists.{all_numbers_joined}
 
 pub record Midway (has : ℕ → Type 0) (spell spell_to : ℕ → List ℕ) (bytes : List ℕ) (at : ℕ) (out : List ℕ) (to : ℕ) : Type 0 where
   pub done : List ℕ
@@ -48,7 +49,7 @@ module _ (has : ℕ → Type 0) (spell spell_to : ℕ → List ℕ) (laws : Laws
       sym (drop-drop size at bytes) ∙ ap (drop size) split ∙ drop_at (flat_map spell xs) rest size size_is in
       record {
         done = m.done ++ xs;
-        all = all-append has m.done xs m.all all;
+        all = all_numbers_joined has m.done xs m.all all;
         at_le = omega (arith, m.at_le, length-drop at bytes, ap length split, length-append (flat_map spell xs) rest);
         to_le = room;
         read = m.read ∙ ap (λ ys. flat_map spell m.done ++ ys) split ∙ sym (append_assoc (flat_map spell m.done) (flat_map spell xs) rest)

@@ -9,7 +9,7 @@ use lib.Lanes.{Each1, chunk}
 use Rattle.cm_text.specs.Utf16.{unit, units, bytes_of_unit, spell_utf16}
 use Rattle.cm_text.specs.Lanes.{second_bytes, is_plain}
 use Rattle.cm_text.specs.Utf16Laws.{one_unit}
-use Rattle.cm_text.proofs.TextLemmas.{all-append}
+use Rattle.cm_lemmas.proofs.Lists.{all_numbers_joined}
 
 -- the bytes before a place are scalars
 pub record Plain (bytes : List ℕ) (at : ℕ) : Type 0 where
@@ -67,7 +67,7 @@ plain_on bytes at run so_far fits within few le =
     record {
       scalars = so_far.scalars ++ us;
       within = omega arith;
-      all = all-append IsScalar so_far.scalars us so_far.all more.all;
+      all = all_numbers_joined IsScalar so_far.scalars us so_far.all more.all;
       split = so_far.split ∙ ap (λ ys. flat_map spell_utf16 so_far.scalars ++ ys) block
           ∙ sym (append_assoc (flat_map spell_utf16 so_far.scalars) (flat_map spell_utf16 us) (drop (at + 2 * run) bytes))
           ∙ ap (λ ys. ys ++ drop (at + 2 * run) bytes) (sym (flat_map-append spell_utf16 so_far.scalars us));

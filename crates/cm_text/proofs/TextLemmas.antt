@@ -6,6 +6,7 @@ use Rattle.std.proofs.lemmas.List.Concat.{flat_map-append}
 use Rattle.std.proofs.Math.Seq.{take-append-add}
 use Rattle.std.specs.List.{AllByRecursion, flat_map}
 use Rattle.cm_text.specs.Text.{IsText, IsTextUpTo}
+use Rattle.cm_lemmas.proofs.Lists.{all_numbers_joined}
 
 pub record Laws (has : ℕ → Type 0) (spell : ℕ → List ℕ) : Type 0 where
   pub some_byte : (c : ℕ) → has c → 0 < length (spell c)
@@ -16,10 +17,6 @@ pub record Left (has : ℕ → Type 0) (spell : ℕ → List ℕ) (all done : Li
   pub rest : List ℕ
   pub split : all ≡ done ++ rest
   pub text : IsText has spell rest bytes
-
-pub all-append : (has : ℕ → Type 0) (xs ys : List ℕ) → AllByRecursion has xs → AllByRecursion has ys → AllByRecursion has (xs ++ ys)
-all-append has [] ys a b = b
-all-append has (x ∷ xs) ys a b = (a.0, all-append has xs ys a.1 b)
 
 module _ (has : ℕ → Type 0) (spell : ℕ → List ℕ) (laws : Laws has spell) where
   -- a text of no bytes has no scalars
@@ -93,14 +90,9 @@ ReadSome has spell bytes rest = (done : List ℕ) × Read has spell done bytes r
 pub read_more : (has : ℕ → Type 0) (spell : ℕ → List ℕ) (done bytes rest : List ℕ) (c : ℕ) (after cs left : List ℕ) → Read has spell done bytes rest → has c
     → rest ≡ spell c ++ after → AllByRecursion has cs → after ≡ flat_map spell cs ++ left → Read has spell (done ++ c ∷ cs) bytes left
 read_more has spell done bytes rest c after cs left so_far is_c first all more = record {
-  all = all-append has done (c ∷ cs) so_far.all (is_c, all);
+  all = all_numbers_joined has done (c ∷ cs) so_far.all (is_c, all);
   split = so_far.split
       ∙ ap (λ ys. flat_map spell done ++ ys) (first ∙ ap (λ ys. spell c ++ ys) more ∙ sym (append_assoc (spell c) (flat_map spell cs) left))
       ∙ sym (append_assoc (flat_map spell done) (flat_map spell (c ∷ cs)) left)
       ∙ ap (λ ys. ys ++ left) (sym (flat_map-append spell done (c ∷ cs)));
 }
-
--- what holds of each element, weakened
-pub all-weaker : (P Q : ℕ → Type 0) → ((x : ℕ) → P x → Q x) → (xs : List ℕ) → AllByRecursion P xs → AllByRecursion Q xs
-all-weaker P Q weaker [] all = tt
-all-weaker P Q weaker (x ∷ xs) all = (weaker x all.0, all-weaker P Q weaker xs all.1)

@@ -16,7 +16,7 @@ use Rattle.cm_text.proofs.PairLemmas.{unit_run_of}
 use Rattle.cm_text.proofs.TextLemmas.{one_text}
 
 -- a scalar takes a unit at the most for each of its bytes, and less if it is not ASCII
-units_le : (c : ℕ) → length (encode_utf16 c) ≤ length (spell_utf8 c)
+pub units_le : (c : ℕ) → length (encode_utf16 c) ≤ length (spell_utf8 c)
 units_le c = grind (arith, nat_tests)
 
 units_lt : (c : ℕ) → 128 ≤ c → length (encode_utf16 c) < length (spell_utf8 c)

@@ -1,27 +1,19 @@
 -- UTF-8 as the libraries speak of it.
-use Rattle.std.proofs.Common.{◌≡◌, ℕ, ◌≤◌, true, List, [], ◌∷◌, ◌++◌, length, take, drop, refl, sym, ap, ◌∙◌, arith, Some, None, length-append, ◌&&◌}
-use Rattle.std.proofs.lemmas.Bool.{and_parts}
+use Rattle.std.proofs.Common.{◌≡◌, ℕ, ◌≤◌, List, [], ◌∷◌, ◌++◌, length, take, drop, refl, sym, ap, ◌∙◌, arith, Some, None, length-append}
 use Rattle.std.specs.Char.{IsScalar, encode_utf8}
-use Rattle.std.specs.List.{AllByRecursion, flat_map}
-use Rattle.std.specs.Str.{IsUtf8, IsValidUpTo, encode_utf8_all, all_scalars}
+use Rattle.std.specs.List.{flat_map}
+use Rattle.std.specs.Str.{IsUtf8, IsValidUpTo, encode_utf8_all}
 use Rattle.bstr.specs.Utf8.{Decoded, decoded, good}
 use Rattle.bstr.proofs.lemmas.EncodeLemmas.{decoded-encode}
 use Rattle.bstr.proofs.lemmas.SoundLemmas.{SpellsChar-decoded}
 use Rattle.cm_text.specs.Text.{IsText, IsSomeText, IsTextUpTo}
 use Rattle.cm_text.specs.Utf8.{spell_utf8}
 use Rattle.cm_text.specs.Utf8Laws.{spell_utf8-encode}
+use Rattle.cm_lemmas.proofs.Lists.{from_all, to_all}
 
-spelled : (cs : List ℕ) → encode_utf8_all cs ≡ flat_map spell_utf8 cs
+pub spelled : (cs : List ℕ) → encode_utf8_all cs ≡ flat_map spell_utf8 cs
 spelled [] = refl
 spelled (c ∷ cs) = ap (λ ys. ys ++ encode_utf8_all cs) (sym (spell_utf8-encode c)) ∙ ap (λ ys. spell_utf8 c ++ ys) (spelled cs)
-
-to_all : (cs : List ℕ) → all_scalars cs ≡ true → AllByRecursion IsScalar cs
-to_all [] is = tt
-to_all (c ∷ cs) is = let parts = and_parts _ _ is in (parts.0, to_all cs parts.1)
-
-from_all : (cs : List ℕ) → AllByRecursion IsScalar cs → all_scalars cs ≡ true
-from_all [] all = refl
-from_all (c ∷ cs) all = ap (λ b. b && all_scalars cs) all.0 ∙ from_all cs all.1
 
 pub text_of : (bytes : List ℕ) → IsUtf8 bytes → IsSomeText IsScalar spell_utf8 bytes
 text_of bytes is = (is.0, record { all = to_all is.0 is.1.0; is = sym (spelled is.0) ∙ is.1.1 })

@@ -21,8 +21,9 @@ use Rattle.cm_tool_show.specs.ShownTypes.{between, case_pieces, field_pieces, la
 use Rattle.cm_tool_show.specs.declared.fault.ShowFault.{ShowFault}
 use Rattle.cm_tool_show.specs.declared.page.Page.{Page}
 use Rattle.cm_tool_show.specs.Written.{Shows}
-use Rattle.cm_tool_show.proofs.Seen.{seen_Enum, seen_label, seen_type, seen_case_label, seen_payload}
 use Rattle.cm_tool_show.proofs.PageLaws.{Adds, members, adds_next, all_text, all_seen, all_over}
+use Rattle.cm_types.proofs.Seen.{seen_Enum, seen_case, seen_field}
+use Rattle.cm_types.proofs.TypeTreesLaws.{seen_case_label, seen_label}
 
 -- a member behind its comma
 abbrev pub member : {A : Type 0} → (A → List Piece) → ℕ → A → List Piece
@@ -79,7 +80,7 @@ fields_are s [] = refl
 fields_are s (x ∷ xs) =
     ap (λ (pss : List (List Piece)). field_piece s x ∷ pss) (fields_are s xs)
     ∙ (ap (λ (l : List ℕ). (chars l ∷ chars (codes ": ") ∷ type_pieces (replaced s (type_of (out-Field x).ty))) ∷ field_pieces (replaced_fields s (fields_of xs))) (sym (seen_label x))
-    ∙ ap (λ (t : Ty). (chars (field_of x).0 ∷ chars (codes ": ") ∷ type_pieces (replaced s t)) ∷ field_pieces (replaced_fields s (fields_of xs))) (sym (seen_type x)))
+    ∙ ap (λ (t : Ty). (chars (field_of x).0 ∷ chars (codes ": ") ∷ type_pieces (replaced s t)) ∷ field_pieces (replaced_fields s (fields_of xs))) (sym (seen_field x)))
 
 pub fields_shown : (s : Standing) (xs : List Field) (i : ℕ) (start now : Page) (u : Unit {0}) → length xs ≤ i → Adds (member (field_piece s)) xs i start now → Shows (with_commas (field_pieces (replaced_fields s (fields_of xs)))) start now (Ok u)
 fields_shown s xs i start now u le a = list_shown (field_piece s) xs (field_pieces (replaced_fields s (fields_of xs))) i start now u (fields_are s xs) le a
@@ -113,7 +114,7 @@ cases_are s [] = refl
 cases_are s (x ∷ xs) =
     ap (λ (pss : List (List Piece)). case_piece s x ∷ pss) (cases_are s xs)
     ∙ (ap (λ (l : List ℕ). case_with s l (option_map type_of (out-Case x).payload) ∷ case_pieces (replaced_cases s (cases_of xs))) (sym (seen_case_label x))
-    ∙ (ap (λ (t : Option Ty). case_with s (case_of x).0 t ∷ case_pieces (replaced_cases s (cases_of xs))) (sym (seen_payload x))
+    ∙ (ap (λ (t : Option Ty). case_with s (case_of x).0 t ∷ case_pieces (replaced_cases s (cases_of xs))) (sym (seen_case x))
     ∙ case_is s (case_of x).0 (case_of x).1 (cases_of xs)))
 
 pub cases_shown : (s : Standing) (xs : List Case) (i : ℕ) (start now : Page) (u : Unit {0}) → length xs ≤ i → Adds (member (case_piece s)) xs i start now → Shows (with_commas (case_pieces (replaced_cases s (cases_of xs)))) start now (Ok u)

@@ -1,24 +1,16 @@
 -- The numbers of resources by their first appearance.
-use Rattle.std.proofs.Common.{◌≡◌, ◌==◌, ◌&&◌, ◌||◌, ℕ, ◌+◌, Bool, true, false, not, cond, if◌then◌else◌, List, [], ◌∷◌, ◌++◌, refl, sym, ap, ◌∙◌, append_assoc, append-nil, arith}
-use Rattle.std.proofs.lemmas.Bool.Decides.{nat_tests}
+use Rattle.std.proofs.Common.{◌≡◌, ◌||◌, ℕ, ◌+◌, Bool, true, false, not, cond, if◌then◌else◌, List, [], ◌∷◌, ◌++◌, refl, sym, ap, ◌∙◌, append_assoc, append-nil}
 use Rattle.std.specs.Fmt.{decimal}
 use Rattle.std.specs.List.{list_any, position_or_len}
 use Rattle.cm_types.specs.declared.resource.ResourceId.{ResourceId}
 use Rattle.cm_types.specs.Resources.{same_resource}
 use Rattle.cm_tool_show.specs.Pieces.{Piece, chars, number_of, number_behind, appeared, seen_behind, text_behind, text_with, order_of, text_of}
-
-eq_self : (x : ℕ) → (x == x) ≡ true
-eq_self x = grind (arith, nat_tests)
-
-same_self : (r : ResourceId) → same_resource r r ≡ true
-same_self r = ap (λ (b : Bool). b && (r.number == r.number)) (eq_self r.component) ∙ eq_self r.number
-
-false_true : false ≡ true → ⊥
-false_true e = cc
+use Rattle.cm_lemmas.proofs.Bools.{false_not_true}
+use Rattle.cm_types.proofs.ResourceLaws.{resource_same}
 
 -- what is found among the first stays where it is
 kept : (p : ResourceId → Bool) (xs ys : List ResourceId) → list_any p xs ≡ true → position_or_len p (xs ++ ys) ≡ position_or_len p xs
-kept p [] ys e = absurd (false_true e)
+kept p [] ys e = absurd (false_not_true e)
 kept p (x ∷ xs) ys e = by (p x) e (λ h. kept p xs ys h)
   where
     by : (b : Bool) → (b || list_any p xs) ≡ true → (list_any p xs ≡ true → position_or_len p (xs ++ ys) ≡ position_or_len p xs) → cond (not b) (1 + position_or_len p (xs ++ ys)) 0 ≡ cond (not b) (1 + position_or_len p xs) 0
@@ -49,14 +41,14 @@ is_seen seen r = by (list_any (same_resource r) seen) refl
   where
     by : (b : Bool) → list_any (same_resource r) seen ≡ b → list_any (same_resource r) (if b then seen else seen ++ r ∷ []) ≡ true
     by true e = e
-    by false e = last_found (same_resource r) seen r (same_self r)
+    by false e = last_found (same_resource r) seen r (resource_same r)
 
 same_number : (seen : List ResourceId) (r : ResourceId) → number_behind (appeared seen r) r ≡ number_behind seen r
 same_number seen r = by (list_any (same_resource r) seen) refl
   where
     by : (b : Bool) → list_any (same_resource r) seen ≡ b → position_or_len (same_resource r) (if b then seen else seen ++ r ∷ []) ≡ position_or_len (same_resource r) seen
     by true e = refl
-    by false e = last_place (same_resource r) seen r e (same_self r)
+    by false e = last_place (same_resource r) seen r e (resource_same r)
 
 -- those that appeared stay, with more behind them
 one_behind : (seen : List ResourceId) (r : ResourceId) → (more : List ResourceId) × (appeared seen r ≡ seen ++ more)

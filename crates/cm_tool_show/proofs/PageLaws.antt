@@ -1,5 +1,5 @@
 -- Pieces that are written one behind the other.
-use Rattle.std.proofs.Common.{◌≡◌, ℕ, zero, suc, ◌+◌, ◌<◌, ◌≤◌, List, [], ◌∷◌, ◌++◌, length, drop, get_or, refl, sym, ap, subst, ◌∙◌, append_assoc, append-nil, drop-cons, add-one, arith}
+use Rattle.std.proofs.Common.{◌≡◌, ℕ, zero, suc, ◌+◌, ◌<◌, ◌≤◌, List, [], ◌∷◌, ◌++◌, length, drop, get_or, refl, sym, ap, subst, ◌∙◌, append_assoc, append-nil, arith}
 use Rattle.std.proofs.lemmas.List.{drop_all, length-append}
 use Rattle.std.specs.Prelude.{codes}
 use Rattle.std.specs.Fmt.{decimal}
@@ -8,6 +8,7 @@ use Rattle.cm_tool_show.specs.Pieces.{Piece, chars, number_of, number_behind, ap
 use Rattle.cm_tool_show.specs.Lists.{comma_before}
 use Rattle.cm_tool_show.specs.Pages.{seen_on, IsOver, text_on}
 use Rattle.cm_tool_show.specs.declared.page.Page.{Page}
+use Rattle.cm_lemmas.proofs.Lists.{rest_from}
 
 pub text_append : (seen : List ResourceId) (a b : List Piece) → text_behind seen (a ++ b) ≡ text_behind seen a ++ text_behind (seen_behind seen a) b
 text_append seen [] b = refl
@@ -43,9 +44,6 @@ pub record Adds {A : Type 0} (f : ℕ → A → List Piece) (xs : List A) (i : �
 pub adds_none : {A : Type 0} (f : ℕ → A → List Piece) (xs : List A) (start : Page) → Adds f xs 0 start start
 adds_none f xs start = record { text = refl; seen = refl }
 
-rest_is : {A : Type 0} (xs : List A) (i : ℕ) (x : A) → i < length xs → x ≡ get_or xs i x → drop i xs ≡ x ∷ drop (i + 1) xs
-rest_is {A} xs i x lt e = drop-cons xs i x lt ∙ (ap (λ (a : A). a ∷ drop (suc i) xs) (sym e) ∙ rw (add-one i) refl)
-
 pub adds_next : {A : Type 0} (f : ℕ → A → List Piece) (xs : List A) (i : ℕ) (x : A) (start now new : Page) → i < length xs → x ≡ get_or xs i x → text_on new ≡ text_on now ++ text_behind (seen_on now) (f i x) → seen_on new ≡ seen_behind (seen_on now) (f i x) → Adds f xs i start now → Adds f xs (i + 1) start new
 adds_next {A} f xs i x start now new lt e p q s = record {
   text = text_now ∙ s.text;
@@ -56,7 +54,7 @@ adds_next {A} f xs i x start now new lt e p q s = record {
     more = members f (i + 1) (drop (i + 1) xs)
 
     left : members f i (drop i xs) ≡ f i x ++ more
-    left = ap (λ (ys : List A). members f i ys) (rest_is xs i x lt e)
+    left = ap (λ (ys : List A). members f i ys) (rest_from xs i x lt e)
 
     text_now : text_on new ++ text_behind (seen_on new) more ≡ text_on now ++ text_behind (seen_on now) (members f i (drop i xs))
     text_now =
@@ -93,4 +91,4 @@ over_now now ps start all e o =
     omega (arith, o, same)
 
 pub all_over : {A : Type 0} (f : ℕ → A → List Piece) (xs : List A) (i : ℕ) (x : A) (start now : Page) → i < length xs → x ≡ get_or xs i x → IsOver now (f i x) → Adds f xs i start now → IsOver start (members f 0 xs)
-all_over {A} f xs i x start now lt e o s = over_now now (members f i (drop i xs)) start (members f 0 xs) s.text (subst (λ (ps : List Piece). IsOver now ps) (sym (ap (λ (ys : List A). members f i ys) (rest_is xs i x lt e))) (over_more now (f i x) (members f (i + 1) (drop (i + 1) xs)) o))
+all_over {A} f xs i x start now lt e o s = over_now now (members f i (drop i xs)) start (members f 0 xs) s.text (subst (λ (ps : List Piece). IsOver now ps) (sym (ap (λ (ys : List A). members f i ys) (rest_from xs i x lt e))) (over_more now (f i x) (members f (i + 1) (drop (i + 1) xs)) o))

@@ -1,12 +1,12 @@
 -- What a definition with other places for its parts is.
 use Rattle.std.proofs.Common.{◌≡◌, ℕ, suc, ◌+◌, ◌<◌, ◌++◌, List, [], ◌∷◌, length, map, take, drop, get_or, drop-cons, Option, Some, None, refl, sym, ap, ◌∙◌, arith, append-nil, append_assoc, codes, if◌then◌else◌}
 use Rattle.std.specs.Prelude.{is_some, slice_index}
-use Rattle.std.specs.List.{AllByRecursion, AllZip}
+use Rattle.std.specs.List.{AllByRecursion}
 use Rattle.std.specs.Option.{option_map}
 use Rattle.std.specs.declared.rc.Rc.{Rc}
 use Rattle.std.proofs.Common.{Global}
 use Rattle.cm_types.specs.Types.{Ty, Cases, field, no_cases, plain, carrying}
-use Rattle.cm_types.specs.TypeTrees.{type_of, field_of, case_of, fields_of, cases_of, parts_from, fields_from, cases_from, plain_from, case_before, shared_payload}
+use Rattle.cm_types.specs.TypeTrees.{type_of, field_of, case_of, fields_of, cases_of, parts_from, fields_from, cases_from, case_before, shared_payload}
 use Rattle.cm_types.specs.declared.type_trees.TypeNode.{TypeNode}
 use Rattle.cm_types.specs.declared.type_trees.Field.{Field}
 use Rattle.cm_types.specs.declared.type_trees.Case.{Case, out-Case}
@@ -17,10 +17,8 @@ use Rattle.cm_types_arena.specs.declared.type_defs.CaseDef.{CaseDef}
 use Rattle.cm_types_arena.specs.Replaced.{Standing, replaced, replaced_fields, replaced_cases}
 use Rattle.std.proofs.lemmas.List.{map-append}
 use Rattle.std.proofs.Math.Seq.{take-suc}
-use Rattle.cm_types_copies.proofs.Seen.{seen_payload}
-
-pub heads : {A : Type 0} (x y : A) (xs ys : List A) → x ∷ xs ≡ y ∷ ys → (x ≡ y) × (xs ≡ ys)
-heads x y xs ys e = (cc, cc)
+use Rattle.cm_lemmas.proofs.Lists.{heads}
+use Rattle.cm_types.proofs.Seen.{seen_case}
 
 -- ---- places below a count
 
@@ -100,21 +98,7 @@ module _ (s : Standing) (types : List Ty) where
       case_same (codes "ok") (codes "ok") o x (case_before (codes "error") (option_map (type_at types) e) no_cases) (case_before (codes "error") y no_cases) (option_list e) refl f (t ∙ ap (map (type_at types)) (sym h))
       (λ u. case_same (codes "error") (codes "error") e y no_cases no_cases [] refl g (u ∙ ap (map (type_at types)) (sym (append-nil (option_list e)))) (λ _. refl))
 
-pub labels_same : (s : Standing) (ls : List (List ℕ)) → replaced_cases s (plain_from ls) ≡ plain_from ls
-labels_same s [] = refl
-labels_same s (l ∷ ls) = ap (plain l) (labels_same s ls)
-
-pub cloned : (xs ys : List (List ℕ)) → AllZip (λ x y. y ≡ x) xs ys → ys ≡ xs
-cloned [] [] h = refl
-cloned [] (y ∷ ys) h = absurd h
-cloned (x ∷ xs) [] h = absurd h
-cloned (x ∷ xs) (y ∷ ys) h = ap (λ z. z ∷ ys) h.0 ∙ ap (λ zs. x ∷ zs) (cloned xs ys h.1)
-
 -- ---- how many parts there are
-
-pub fields_long : (fs : List Field) → length (field_types (fields_of fs)) ≡ length fs
-fields_long [] = refl
-fields_long (f ∷ fs) = ap suc (fields_long fs)
 
 pub parts_long : (ts : List Ty) → length (field_types (parts_from ts)) ≡ length ts
 parts_long [] = refl
@@ -152,7 +136,7 @@ cases_here : (cs : List Case) (i : ℕ) (c : Case) → i < length cs → c ≡ g
 cases_here cs i c lt is =
     let n : suc i ≡ i + 1 = omega arith in
     ap (λ (xs : List Case). payload_types (cases_of xs)) (drop-cons cs i c lt ∙ ap (λ x. x ∷ drop (suc i) cs) (sym is) ∙ ap (λ (k : ℕ). c ∷ drop k cs) n)
-    ∙ ap (λ (o : Option Ty). payload_types (case_before (case_of c).0 o (cases_of (drop (i + 1) cs)))) (seen_payload c)
+    ∙ ap (λ (o : Option Ty). payload_types (case_before (case_of c).0 o (cases_of (drop (i + 1) cs)))) (seen_case c)
 
 pub left_none : (cs : List Case) (i : ℕ) (c : Case) → i < length cs → c ≡ get_or cs i c → (out-Case c).payload ≡ None → length (payload_types (cases_of (drop i cs))) ≡ length (payload_types (cases_of (drop (i + 1) cs)))
 left_none cs i c lt is none = ap length (cases_here cs i c lt is ∙ ap (λ (o : Option TypeNode). payload_types (case_before (case_of c).0 (option_map type_of o) (cases_of (drop (i + 1) cs)))) none)
@@ -161,5 +145,5 @@ pub left_some : (cs : List Case) (i : ℕ) (c : Case) (x : TypeNode) → i < len
 left_some cs i c x lt is one = ap length (cases_here cs i c lt is ∙ ap (λ (o : Option TypeNode). payload_types (case_before (case_of c).0 (option_map type_of o) (cases_of (drop (i + 1) cs)))) one)
 
 pub carries : (c : Case) (o : Option TypeNode) → (out-Case c).payload ≡ o → is_some o ≡ is_some (case_of c).1
-carries c None e = ap is_some (sym (seen_payload c ∙ ap (option_map type_of) e))
-carries c (Some x) e = ap is_some (sym (seen_payload c ∙ ap (option_map type_of) e))
+carries c None e = ap is_some (sym (seen_case c ∙ ap (option_map type_of) e))
+carries c (Some x) e = ap is_some (sym (seen_case c ∙ ap (option_map type_of) e))

@@ -1,4 +1,3 @@
-pub mod Seen
 pub mod DefLaws
 pub mod CopyLaws
 pub mod OnceLaws

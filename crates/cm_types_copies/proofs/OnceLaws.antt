@@ -11,14 +11,7 @@ use Rattle.cm_types_arena.specs.TypeDefs.{type_at}
 use Rattle.cm_types_arena.specs.Replaced.{Standing, replaced}
 use Rattle.cm_types_copies.specs.Copies.{AddsOnce, AreCopies, AreDistinct, BeginsWith, CopiesOnce, IsCopy}
 use Rattle.cm_types_copies.proofs.CopyLaws.{at_front}
-
-all_both : (P : ℕ → Type 0) (xs ys : List ℕ) → AllByRecursion P xs → AllByRecursion P ys → AllByRecursion P (xs ++ ys)
-all_both P [] ys h k = k
-all_both P (x ∷ xs) ys h k = (h.0, all_both P xs ys h.1 k)
-
-all_so : (P Q : ℕ → Type 0) → ((p : ℕ) → P p → Q p) → (xs : List ℕ) → AllByRecursion P xs → AllByRecursion Q xs
-all_so P Q f [] h = tt
-all_so P Q f (x ∷ xs) h = (f x h.0, all_so P Q f xs h.1)
+use Rattle.cm_lemmas.proofs.Lists.{all_numbers_joined, all_so}
 
 none_is : (o : Option ℕ) → o ≡ None → is_some o ≡ true → ⊥
 none_is None e h = cc
@@ -31,7 +24,7 @@ apart t x ys h fresh = all_so (λ p. t p ≡ None) (λ q. x ≡ q → ⊥) (λ q
 distinct_both : (t : ℕ → Option ℕ) (xs ys : List ℕ) → AreDistinct xs → AreDistinct ys → AllByRecursion (λ p. is_some (t p) ≡ true) xs → AllByRecursion (λ p. t p ≡ None) ys → AreDistinct (xs ++ ys)
 distinct_both t [] ys d e known fresh = e
 distinct_both t (x ∷ xs) ys d e known fresh =
-    (all_both (λ q. x ≡ q → ⊥) xs ys d.0 (apart t x ys known.0 fresh), distinct_both t xs ys d.1 e known.1 fresh)
+    (all_numbers_joined (λ q. x ≡ q → ⊥) xs ys d.0 (apart t x ys known.0 fresh), distinct_both t xs ys d.1 e known.1 fresh)
 
 not_there : (t u : ℕ → Option ℕ) → ((q : ℕ) → is_some (t q) ≡ true → is_some (u q) ≡ true) → (p : ℕ) → u p ≡ None → t p ≡ None
 not_there t u kept p none = by_case (t p) refl
@@ -78,10 +71,10 @@ module _ (s : Standing) where
               ∙ append_assoc a (map (λ p. replaced s (type_at a p)) xs) (map (λ p. replaced s (type_at a p)) ys)
               ∙ ap (λ ts. a ++ ts) (sym (map-append (λ p. replaced s (type_at a p)) xs ys));
           distinct = distinct_both u xs ys x.once.distinct y.once.distinct x.known y.fresh;
-          below = all_both (λ p. p < n) xs ys x.once.below y.once.below;
+          below = all_numbers_joined (λ p. p < n) xs ys x.once.below y.once.below;
         };
-        fresh = all_both (λ p. t p ≡ None) xs ys x.fresh (all_so (λ p. u p ≡ None) (λ p. t p ≡ None) (not_there t u x.kept) ys y.fresh);
-        known = all_both (λ p. is_some (v p) ≡ true) xs ys (all_so (λ p. is_some (u p) ≡ true) (λ p. is_some (v p) ≡ true) y.kept xs x.known) y.known;
+        fresh = all_numbers_joined (λ p. t p ≡ None) xs ys x.fresh (all_so (λ p. u p ≡ None) (λ p. t p ≡ None) (not_there t u x.kept) ys y.fresh);
+        known = all_numbers_joined (λ p. is_some (v p) ≡ true) xs ys (all_so (λ p. is_some (u p) ≡ true) (λ p. is_some (v p) ≡ true) y.kept xs x.known) y.known;
         kept = λ q h. y.kept q (x.kept q h);
         above = λ q h. y.above q h ∙ x.above q h;
       }

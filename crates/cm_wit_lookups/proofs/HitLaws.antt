@@ -4,11 +4,10 @@ use Rattle.std.specs.BTreeMap.{BTreeMap, get}
 use Rattle.std.specs.List.{cons_option, filter_map, position_from}
 use Rattle.std.specs.Option.{option_or}
 use Rattle.std.specs.Ordering.{nat_cmp}
-use Rattle.std.proofs.lemmas.List.{drop_all, drop_more}
+use Rattle.std.proofs.lemmas.List.{drop_all}
 use Rattle.cm_wit_lookups.specs.Hits.{is_place, repeats_from}
-
-first_element : {A : Type 0} (xs : List A) (i : ℕ) (x : A) → i < length xs → x ≡ get_or xs i x → drop i xs ≡ x ∷ drop (i + 1) xs
-first_element {A} xs i x lt is = drop_more xs i x lt ∙ ap (λ (a : A). a ∷ drop (i + 1) xs) (sym is)
+use Rattle.cm_lemmas.proofs.Lists.{rest_from}
+use Rattle.cm_lemmas.proofs.Options.{or_none}
 
 -- ---- the places that repeat
 
@@ -22,14 +21,14 @@ repeats_start fs = record { is = refl }
 pub repeats_first : (fs : List (Option ℕ)) (i : ℕ) (out : List ℕ) (f : Option ℕ) → i < length fs → f ≡ get_or fs i f → is_place i f ≡ true → Repeats fs i out → Repeats fs (i + 1) out
 repeats_first fs i out f lt e t r = record {
   is = sym (ap (λ (b : Bool). out ++ (if b then repeats_from (i + 1) (drop (i + 1) fs) else i ∷ repeats_from (i + 1) (drop (i + 1) fs))) t)
-      ∙ (sym (ap (λ (gs : List (Option ℕ)). out ++ repeats_from i gs) (first_element fs i f lt e)) ∙ r.is);
+      ∙ (sym (ap (λ (gs : List (Option ℕ)). out ++ repeats_from i gs) (rest_from fs i f lt e)) ∙ r.is);
 }
 
 pub repeats_more : (fs : List (Option ℕ)) (i : ℕ) (out : List ℕ) (f : Option ℕ) → i < length fs → f ≡ get_or fs i f → is_place i f ≡ false → Repeats fs i out → Repeats fs (i + 1) (out ++ i ∷ [])
 repeats_more fs i out f lt e t r = record {
   is = append_assoc out (i ∷ []) (repeats_from (i + 1) (drop (i + 1) fs))
       ∙ (sym (ap (λ (b : Bool). out ++ (if b then repeats_from (i + 1) (drop (i + 1) fs) else i ∷ repeats_from (i + 1) (drop (i + 1) fs))) t)
-      ∙ (sym (ap (λ (gs : List (Option ℕ)). out ++ repeats_from i gs) (first_element fs i f lt e)) ∙ r.is));
+      ∙ (sym (ap (λ (gs : List (Option ℕ)). out ++ repeats_from i gs) (rest_from fs i f lt e)) ∙ r.is));
 }
 
 pub repeats_end : (fs : List (Option ℕ)) (i : ℕ) (out : List ℕ) → length fs ≤ i → Repeats fs i out → out ≡ repeats_from 0 fs
@@ -50,13 +49,13 @@ pub finds_some : (fs : List (Option ℕ)) (i : ℕ) (out : List ℕ) (f : Option
 finds_some fs i out f n lt e s r = record {
   is = append_assoc out (n ∷ []) (filter_map (λ f. f) (drop (i + 1) fs))
       ∙ (sym (ap (λ (o : Option ℕ). out ++ cons_option o (filter_map (λ f. f) (drop (i + 1) fs))) s)
-      ∙ (sym (ap (λ (gs : List (Option ℕ)). out ++ filter_map (λ f. f) gs) (first_element fs i f lt e)) ∙ r.is));
+      ∙ (sym (ap (λ (gs : List (Option ℕ)). out ++ filter_map (λ f. f) gs) (rest_from fs i f lt e)) ∙ r.is));
 }
 
 pub finds_none : (fs : List (Option ℕ)) (i : ℕ) (out : List ℕ) (f : Option ℕ) → i < length fs → f ≡ get_or fs i f → f ≡ None → Finds fs i out → Finds fs (i + 1) out
 finds_none fs i out f lt e s r = record {
   is = sym (ap (λ (o : Option ℕ). out ++ cons_option o (filter_map (λ f. f) (drop (i + 1) fs))) s)
-      ∙ (sym (ap (λ (gs : List (Option ℕ)). out ++ filter_map (λ f. f) gs) (first_element fs i f lt e)) ∙ r.is);
+      ∙ (sym (ap (λ (gs : List (Option ℕ)). out ++ filter_map (λ f. f) gs) (rest_from fs i f lt e)) ∙ r.is);
 }
 
 pub finds_end : (fs : List (Option ℕ)) (i : ℕ) (out : List ℕ) → length fs ≤ i → Finds fs i out → out ≡ filter_map (λ f. f) fs
@@ -65,10 +64,6 @@ finds_end fs i out le r = sym (append-nil out) ∙ (sym (ap (λ (gs : List (Opti
 pub ruleset find_laws = (finds_start, finds_some, finds_none, finds_end)
 
 -- ---- where places are found first
-
-pub or_none : (o : Option ℕ) → option_or o None ≡ o
-or_none None = refl
-or_none (Some x) = refl
 
 later : (a : Option ℕ) (t : Bool) (i : ℕ) (rest : Option ℕ) → option_or a (cond t (Some i) rest) ≡ option_or (option_or a (if t then Some i else None)) rest
 later None true i rest = refl
@@ -86,7 +81,7 @@ pub seeks_step : (fs : List (Option ℕ)) (i : ℕ) (f : Option ℕ) (old new : 
 seeks_step fs i f old new lt e s noted = record {
   is = λ p.
       s.is p
-      ∙ ap (λ (gs : List (Option ℕ)). option_or (get nat_cmp old p) (position_from (is_place p) i gs)) (first_element fs i f lt e)
+      ∙ ap (λ (gs : List (Option ℕ)). option_or (get nat_cmp old p) (position_from (is_place p) i gs)) (rest_from fs i f lt e)
       ∙ later (get nat_cmp old p) (is_place p f) i (position_from (is_place p) (i + 1) (drop (i + 1) fs))
       ∙ ap (λ (o : Option ℕ). option_or o (position_from (is_place p) (i + 1) (drop (i + 1) fs))) (sym (noted p));
 }

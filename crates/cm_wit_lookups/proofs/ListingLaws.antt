@@ -15,10 +15,7 @@ use Rattle.cm_wit_lookups.specs.Listings.{AreNames, fronts_in}
 use Rattle.cm_wit_lookups.specs.declared.listing.ListedNames.{ListedNames}
 use Rattle.cm_wit_lookups.specs.declared.parts.FrontParts.{FrontParts}
 use Rattle.cm_wit_lookups.specs.declared.parts.NameParts.{NameParts}
-
-all_more : {X : Type 0} (P : X → Type 0) (xs : List X) (y : X) → AllByRecursion P xs → P y → AllByRecursion P (xs ++ y ∷ [])
-all_more P [] y h p = (p, tt)
-all_more P (x ∷ xs) y h p = (h.0, all_more P xs y h.1 p)
+use Rattle.cm_lemmas.proofs.Lists.{all_push}
 
 all_wider : (m n : ℕ) (ns : List NameParts) → m ≤ n → AllByRecursion (λ x. x.front < m) ns → AllByRecursion (λ x. x.front < n) ns
 all_wider m n [] le h = tt
@@ -36,7 +33,7 @@ parts_kept fs f n (x ∷ ns) e h =
 pub named_more : (old new : ListedNames) (t : NameTree) (n : NameParts) (texts : List (List ℕ)) → fronts_in new ≡ fronts_in old → length new.fronts.items ≡ length old.fronts.items → new.names.items ≡ old.names.items ++ n ∷ [] → HasLabels t → parts_in (fronts_in old) n ≡ parts_of t → n.front < length old.fronts.items → AreNames old texts → AreNames new (texts ++ name_spelling t ∷ [])
 named_more old new t n texts fs len ns labels is lt h = record {
   trees = h.trees ++ t ∷ [];
-  labels = all_more HasLabels h.trees t h.labels labels;
+  labels = all_push HasLabels h.trees t h.labels labels;
   spelled = map-append name_spelling h.trees (t ∷ []) ∙ ap (λ (l : List (List ℕ)). l ++ name_spelling t ∷ []) h.spelled;
   parts =
       ap (λ (l : List NameParts). map (parts_in (fronts_in new)) l) ns
@@ -45,7 +42,7 @@ named_more old new t n texts fs len ns labels is lt h = record {
       ∙ (ap (λ (l : List (FrontKey × List ℕ)). l ++ parts_in (fronts_in old) n ∷ []) h.parts
       ∙ (ap (λ (p : FrontKey × List ℕ). map parts_of h.trees ++ p ∷ []) is ∙ sym (map-append parts_of h.trees (t ∷ []))))));
   within = subst (λ (l : List NameParts). AllByRecursion (λ x. x.front < length new.fronts.items) l) (sym ns)
-      (all_more (λ (x : NameParts). x.front < length new.fronts.items) old.names.items n (all_wider (length old.fronts.items) (length new.fronts.items) old.names.items (omega (arith, len)) h.within) (omega (arith, lt, len)));
+      (all_push (λ (x : NameParts). x.front < length new.fronts.items) old.names.items n (all_wider (length old.fronts.items) (length new.fronts.items) old.names.items (omega (arith, len)) h.within) (omega (arith, lt, len)));
 }
 
 -- the listing with a front more

@@ -1,9 +1,7 @@
 -- Lists that are made of others, element by element.
 use Rattle.std.proofs.Common.{◌≡◌, ℕ, ◌+◌, ◌<◌, ◌≤◌, List, [], ◌∷◌, ◌++◌, length, map, drop, get_or, refl, sym, ap, ◌∙◌, append_assoc, append-nil}
-use Rattle.std.proofs.lemmas.List.{drop_all, drop_more, map-append}
-
-next_element : {A B : Type 0} (view : A → B) (xs : List A) (i : ℕ) (x : A) → i < length xs → x ≡ get_or xs i x → map view (drop i xs) ≡ view x ∷ map view (drop (i + 1) xs)
-next_element {A} view xs i x lt is = ap (map view) (drop_more xs i x lt ∙ ap (λ (a : A). a ∷ drop (i + 1) xs) (sym is))
+use Rattle.std.proofs.lemmas.List.{drop_all, map-append}
+use Rattle.cm_lemmas.proofs.Lists.{next_element}
 
 -- These are shown there, and those of the rest make all.
 pub record Rests {A C D : Type 0} (view : A → D) (shown : C → D) (xs : List A) (i : ℕ) (out : List C) : Type 0 where

@@ -13,8 +13,9 @@ use Rattle.cm_wit_lookups.specs.Known.{AreKnown, AreMet, StandsIn, found_at}
 use Rattle.cm_wit_lookups.specs.Places.{place_in}
 use Rattle.cm_wit_lookups.specs.declared.known.KnownItems.{KnownItems}
 use Rattle.cm_wit_lookups.specs.declared.known.Meeting.{Meeting}
-use Rattle.cm_wit_lookups.proofs.NumberLaws.{of_same, same_of, same_text, text_same}
-use Rattle.cm_wit_lookups.proofs.PlaceLaws.{bool_same}
+use Rattle.cm_lemmas.proofs.Bools.{bools}
+use Rattle.cm_lemmas.proofs.Numbers.{eq_true, eq_of}
+use Rattle.cm_lemmas.proofs.Lists.{same_text, text_same}
 
 -- ---- the first that passes a test
 
@@ -48,13 +49,13 @@ found_some test i (suc k) x (y ∷ xs) e t = elim (cases_Bool (test y)) [
 
 place_is : (c : ℕ) (o : Option ℕ) → is_place c o ≡ true → o ≡ Some c
 place_is c None e = absurd cc
-place_is c (Some n) e = ap (λ (x : ℕ). let y : Option ℕ = Some x in y) (sym (same_of c n e))
+place_is c (Some n) e = ap (λ (x : ℕ). let y : Option ℕ = Some x in y) (sym (eq_of c n e))
 
 one_at : {X : Type 0} (xs : List X) (i j : ℕ) (x y : X) → i ≡ j → slice_get xs i ≡ Some x → slice_get xs j ≡ Some y → x ≡ y
 one_at xs i j x y e f g = cc
 
 same_place : (texts : List (List ℕ)) (t o : List ℕ) (c : ℕ) → place_in texts t ≡ Some c → is_place c (place_in texts o) ≡ bytes_eq t o
-same_place texts t o c e = bool_same (is_place c (place_in texts o)) (bytes_eq t o)
+same_place texts t o c e = bools (is_place c (place_in texts o)) (bytes_eq t o)
     (λ h.
     let a = seen (bytes_eq t) 0 c texts e in
     let b = seen (bytes_eq o) 0 c texts (place_is c (place_in texts o) h) in
@@ -63,7 +64,7 @@ same_place texts t o c e = bool_same (is_place c (place_in texts o)) (bytes_eq t
     let same : x.0 ≡ y.0 = one_at texts a.0 b.0 x.0 y.0 (omega (arith, a.1, b.1)) x.1 y.1 in
     text_same t o (same_text t x.0 x.2 ∙ same ∙ sym (same_text o y.0 y.2)))
     (λ h.
-    ap (is_place c) (ap (place_in texts) (sym (same_text t o h)) ∙ e) ∙ of_same c c refl)
+    ap (is_place c) (ap (place_in texts) (sym (same_text t o h)) ∙ e) ∙ eq_true c c refl)
 
 met : (texts : List (List ℕ)) (t : List ℕ) (c : ℕ) → place_in texts t ≡ Some c → (i : ℕ) (others : List (List ℕ)) → position_from (is_place c) i (map (place_in texts) others) ≡ position_from (bytes_eq t) i others
 met texts t c e i [] = refl

@@ -1,49 +1,25 @@
 -- Fronts have one number exactly where they are equal.
-use Rattle.std.proofs.Common.{◌≡◌, ℕ, zero, suc, ◌+◌, ◌<◌, ◌==◌, ◌&&◌, Bool, true, false, cond, List, [], ◌∷◌, length, map, get_or, inl, inr, Option, Some, None, refl, sym, ap, ◌∙◌, arith}
+use Rattle.std.proofs.Common.{◌≡◌, ℕ, zero, suc, ◌+◌, ◌<◌, ◌==◌, Bool, true, cond, List, [], ◌∷◌, length, map, get_or, inl, inr, Option, Some, None, refl, sym, ap, ◌∙◌, arith}
 use Rattle.std.specs.List.{position_from}
 use Rattle.std.specs.Option.{option_and_then, unwrap_or}
 use Rattle.std.specs.Str.{bytes_eq}
-use Rattle.std.proofs.lemmas.Bool.{cases_Bool}
-use Rattle.std.proofs.lemmas.Bool.Decides.{nat_tests}
-use Rattle.std.proofs.lemmas.Slice.Eq.{bytes_eq-Decides}
+use Rattle.std.proofs.lemmas.Bool.{cases_Bool, and_from}
 use Rattle.cm_names.specs.Keys.{Key, first_key, is_key}
 use Rattle.cm_wit_lookups.specs.Parts.{FrontKey}
 use Rattle.cm_wit_lookups.specs.Numbers.{first_number, first_of, number_in, second_number, second_of, version_of}
-
-pub same_text : (x y : List ℕ) → bytes_eq x y ≡ true → x ≡ y
-same_text x y e = (bytes_eq-Decides x y).0 e
-
-pub text_same : (x y : List ℕ) → x ≡ y → bytes_eq x y ≡ true
-text_same x y e = (bytes_eq-Decides x y).1 e
-
-pub same_of : (x y : ℕ) → (x == y) ≡ true → x ≡ y
-same_of x y e = grind (arith, nat_tests)
-
-pub of_same : (x y : ℕ) → x ≡ y → (x == y) ≡ true
-of_same x y e = grind (arith, nat_tests)
-
-pub first_true : (a b : Bool) → (a && b) ≡ true → a ≡ true
-first_true true b h = refl
-first_true false b h = absurd cc
-
-pub second_true : (a b : Bool) → (a && b) ≡ true → b ≡ true
-second_true true b h = h
-second_true false b h = absurd cc
-
-pub both_true : (a b : Bool) → a ≡ true → b ≡ true → (a && b) ≡ true
-both_true a b e f = ap (λ (x : Bool). x && b) e ∙ f
-
-some_is : (i n : ℕ) → Some i ≡ Some n → n ≡ i
-some_is i n e = cc
+use Rattle.cm_lemmas.proofs.Bools.{both_left, both_right}
+use Rattle.cm_lemmas.proofs.Numbers.{eq_true, eq_of}
+use Rattle.cm_lemmas.proofs.Lists.{same_text, text_same}
+use Rattle.cm_lemmas.proofs.Options.{some_turned}
 
 pair_is : (a : ℕ) (x : List ℕ) (k : Key) → is_key a x k ≡ true → k ≡ (a, x)
 pair_is a x k h =
-    let n : a ≡ k.0 = same_of a k.0 (first_true (a == k.0) (bytes_eq x k.1) h) in
-    let t : x ≡ k.1 = same_text x k.1 (second_true (a == k.0) (bytes_eq x k.1) h) in
+    let n : a ≡ k.0 = eq_of a k.0 (both_left (a == k.0) (bytes_eq x k.1) h) in
+    let t : x ≡ k.1 = same_text x k.1 (both_right (a == k.0) (bytes_eq x k.1) h) in
     ap (λ (m : ℕ). let p : Key = (m, k.1) in p) (sym n) ∙ ap (λ (y : List ℕ). let p : Key = (a, y) in p) (sym t)
 
 own_key : (k : Key) → is_key k.0 k.1 k ≡ true
-own_key k = both_true (k.0 == k.0) (bytes_eq k.1 k.1) (of_same k.0 k.0 refl) (text_same k.1 k.1 refl)
+own_key k = and_from (k.0 == k.0) (bytes_eq k.1 k.1) (eq_true k.0 k.0 refl) (text_same k.1 k.1 refl)
 
 module _ {X : Type 0} (key : X → Key) where
   -- the key of each is found
@@ -66,7 +42,7 @@ module _ {X : Type 0} (key : X → Key) where
   found_is [] i p a x e = absurd cc
   found_is (z ∷ xs) i p a x e = elim (cases_Bool (is_key a x (key z))) [
     | inl h ↦
-        let here : p ≡ i = some_is i p (sym (ap (λ (b : Bool). cond b (Some i) (position_from (is_key a x) (i + 1) (map key xs))) h) ∙ e) in
+        let here : p ≡ i = some_turned i p (sym (ap (λ (b : Bool). cond b (Some i) (position_from (is_key a x) (i + 1) (map key xs))) h) ∙ e) in
         (zero, omega (arith, here), omega arith, λ d. pair_is a x (key z) h)
     | inr h ↦
         let f : At xs (i + 1) p (a, x) = found_is xs (i + 1) p a x (sym (ap (λ (b : Bool). cond b (Some i) (position_from (is_key a x) (i + 1) (map key xs))) h) ∙ e) in

@@ -1,9 +1,9 @@
 -- Names are found by their parts exactly where they are found by their texts.
-use Rattle.std.proofs.Common.{◌≡◌, ℕ, zero, suc, ◌+◌, ◌<◌, ◌==◌, Bool, true, false, cond, if◌then◌else◌, List, [], ◌∷◌, length, map, get_or, inl, inr, Option, Some, None, refl, sym, ap, ◌∙◌, arith}
+use Rattle.std.proofs.Common.{◌≡◌, ℕ, zero, suc, ◌+◌, ◌<◌, ◌==◌, Bool, cond, if◌then◌else◌, List, [], ◌∷◌, length, map, get_or, inl, inr, Option, Some, None, refl, sym, ap, ◌∙◌, arith}
 use Rattle.std.specs.List.{AllByRecursion, position_from}
 use Rattle.std.specs.Option.{option_and_then, unwrap_or}
 use Rattle.std.specs.Str.{bytes_eq}
-use Rattle.std.proofs.lemmas.Bool.{cases_Bool}
+use Rattle.std.proofs.lemmas.Bool.{cases_Bool, and_from}
 use Rattle.cm_types.specs.ExternNames.{HasLabels, NameTree, constructor, form_of, interface, method, name_spelling, plain, static}
 use Rattle.cm_names.specs.Keys.{Key, first_key, is_key}
 use Rattle.cm_wit_lookups.specs.Parts.{FrontKey, back_of, front_of, parts_of}
@@ -12,7 +12,11 @@ use Rattle.cm_wit_lookups.specs.Numbers.{first_of, number_in, second_of, version
 use Rattle.cm_wit_lookups.specs.Places.{back_key, found_by, place_in}
 use Rattle.cm_wit_lookups.specs.declared.parts.FrontParts.{FrontParts}
 use Rattle.cm_wit_lookups.specs.declared.parts.NameParts.{NameParts}
-use Rattle.cm_wit_lookups.proofs.NumberLaws.{both_true, first_true, has_number, of_same, one_front, same_of, same_text, second_true, text_same}
+use Rattle.cm_wit_lookups.proofs.NumberLaws.{has_number, one_front}
+use Rattle.cm_lemmas.proofs.Bools.{bools, both_left, both_right}
+use Rattle.cm_lemmas.proofs.Options.{none_number, some_number}
+use Rattle.cm_lemmas.proofs.Numbers.{eq_true, eq_of}
+use Rattle.cm_lemmas.proofs.Lists.{same_text, text_same}
 
 -- ---- names are what their parts are
 
@@ -48,20 +52,6 @@ one_tree : Forms → (s t : NameTree) → HasLabels s → HasLabels t → name_s
 one_tree forms s t hs ht e = some_tree s t (sym (forms s hs) ∙ (ap form_of e ∙ forms t ht))
 
 -- ---- tests, lists
-
-true_not : true ≡ false → ⊥
-true_not e = cc
-
-pub bool_same : (a b : Bool) → (a ≡ true → b ≡ true) → (b ≡ true → a ≡ true) → a ≡ b
-bool_same true b f g = sym (f refl)
-bool_same false true f g = g refl
-bool_same false false f g = refl
-
-some_number : (m n : ℕ) → Some m ≡ Some n → m ≡ n
-some_number m n e = cc
-
-none_some : (n : ℕ) → None ≡ Some n → ⊥
-none_some n e = cc
 
 some_of : {X : Type 0} (xs : List X) (k : ℕ) → k < length xs → X
 some_of [] k lt = absurd (omega (arith, lt))
@@ -120,16 +110,16 @@ module _ (forms : Forms) (fs : List FrontParts) (firsts seconds versions : List 
       let k = its_number n t is lt in
       let at : (back_key numbers n).0 ≡ k.0 = ap (λ (o : Option ℕ). unwrap_or o 0) k.2 in
       let back : n.back.now ≡ back_of t = ap (λ (p : Parts). p.1) is in
-      bool_same (is_key m (back_of x) (back_key numbers n)) (bytes_eq (name_spelling x) (name_spelling t))
+      bools (is_key m (back_of x) (back_key numbers n)) (bytes_eq (name_spelling x) (name_spelling t))
       (λ h.
-      let first : m ≡ k.0 = same_of m (back_key numbers n).0 (first_true (m == (back_key numbers n).0) (bytes_eq (back_of x) n.back.now) h) ∙ at in
-      let second : back_of x ≡ back_of t = same_text (back_of x) n.back.now (second_true (m == (back_key numbers n).0) (bytes_eq (back_of x) n.back.now) h) ∙ back in
+      let first : m ≡ k.0 = eq_of m (back_key numbers n).0 (both_left (m == (back_key numbers n).0) (bytes_eq (back_of x) n.back.now) h) ∙ at in
+      let second : back_of x ≡ back_of t = same_text (back_of x) n.back.now (both_right (m == (back_key numbers n).0) (bytes_eq (back_of x) n.back.now) h) ∙ back in
       let front : front_of x ≡ front_of t = one_front front_view fs firsts seconds versions e1 e2 e3 (front_of x) (front_of t) m has (k.1 ∙ ap (λ (i : ℕ). let o : Option ℕ = Some i in o) (sym first)) in
       text_same (name_spelling x) (name_spelling t) (ap name_spelling (one_name x t front second)))
       (λ h.
       let one : x ≡ t = one_tree forms x t hx ht (same_text (name_spelling x) (name_spelling t) h) in
       let first : m ≡ k.0 = some_number m k.0 (sym has ∙ (ap (λ (s : NameTree). number (front_of s)) one ∙ k.1)) in
-      both_true (m == (back_key numbers n).0) (bytes_eq (back_of x) n.back.now) (of_same m (back_key numbers n).0 (first ∙ sym at)) (text_same (back_of x) n.back.now (ap back_of one ∙ sym back)))
+      and_from (m == (back_key numbers n).0) (bytes_eq (back_of x) n.back.now) (eq_true m (back_key numbers n).0 (first ∙ sym at)) (text_same (back_of x) n.back.now (ap back_of one ∙ sym back)))
 
   found_same : (x : NameTree) (m : ℕ) → HasLabels x → number (front_of x) ≡ Some m → (ns : List NameParts) (ts : List NameTree) → map (parts_in (map front_view fs)) ns ≡ map parts_of ts → AllByRecursion Within ns → AllByRecursion HasLabels ts → (i : ℕ) → position_from (is_key m (back_of x)) i (map (back_key numbers) ns) ≡ position_from (bytes_eq (name_spelling x)) i (map name_spelling ts)
   found_same x m hx has [] [] e w l i = refl
@@ -152,7 +142,7 @@ module _ (forms : Forms) (fs : List FrontParts) (firsts seconds versions : List 
         | inl h ↦
             let k = its_number n t is w.0 in
             let one : x ≡ t = one_tree forms x t hx l.0 (same_text (name_spelling x) (name_spelling t) h) in
-            absurd (none_some k.0 (sym has ∙ (ap (λ (s : NameTree). number (front_of s)) one ∙ k.1)))
+            absurd (none_number k.0 (sym has ∙ (ap (λ (s : NameTree). number (front_of s)) one ∙ k.1)))
         | inr h ↦ ap (λ (b : Bool). cond b (Some i) (position_from (bytes_eq (name_spelling x)) (i + 1) (map name_spelling ts))) h ∙ none_same x hx has ns ts rest w.1 l.1 (i + 1)
       ]
 

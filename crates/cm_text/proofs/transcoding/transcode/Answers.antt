@@ -1,8 +1,9 @@
 use Rattle.std.proofs.Common.{◌≡◌, ◌++◌, Err, ap, ◌∙◌, sym, arith, length, take, drop}
 use Rattle.std.proofs.lemmas.List.{take-append-le, take_all}
 use Rattle.cm_text.proofs.FaultLemmas.{only_memory, only_fault}
-use Rattle.cm_text.proofs.TextLemmas.{all-weaker, not_text}
+use Rattle.cm_text.proofs.TextLemmas.{not_text}
 use Rattle.cm_text.proofs.transcoding.transcode.Goals as goal
+use Rattle.cm_lemmas.proofs.Lists.{all_so}
 
 pub returns-in-Err-clause-only : goal.returns-in-Err-clause-only
 returns-in-Err-clause-only g c =
@@ -20,7 +21,7 @@ returns-clause-ok g c =
       sized.scalars,
       sized.text,
       record {
-        all = all-weaker g.S.Source.has g.D.Source.has (λ x has. g.met.D.Encoding.every x (g.met.S.Source.only_scalars x has)) sized.scalars sized.text.all;
+        all = all_so g.S.Source.has g.D.Source.has (λ x has. g.met.D.Encoding.every x (g.met.S.Source.only_scalars x has)) sized.scalars sized.text.all;
         is = sym (whole ∙ c.write.ensures sized.scalars sized.text);
       },
     )

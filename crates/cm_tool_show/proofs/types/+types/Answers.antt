@@ -9,9 +9,11 @@ use Rattle.cm_types_arena.specs.Replaced.{replaced}
 use Rattle.cm_tool_show.specs.Lists.{comma_before}
 use Rattle.cm_tool_show.specs.ShownTypes.{between, type_pieces}
 use Rattle.cm_tool_show.proofs.ShownLaws.{answers, named, stops, then, told}
-use Rattle.cm_tool_show.proofs.Seen.{seen_Bool, seen_Borrow, seen_Char, seen_FixedList, seen_Flags, seen_List, seen_Option, seen_Own, seen_Record, seen_S16, seen_S32, seen_S64, seen_S8, seen_String, seen_Tuple, seen_U16, seen_U32, seen_U64, seen_U8, seen_Variant, seen_both, seen_error, seen_ok, seen_plain}
+use Rattle.cm_tool_show.proofs.Seen.{seen_FixedList, seen_List, seen_Option, seen_Record, seen_Tuple, seen_Variant, seen_both, seen_error, seen_ok, seen_plain}
 use Rattle.cm_tool_show.proofs.ListLaws.{case_shown, cases_shown, cases_stop, enum_is, field_piece, fields_shown, fields_stop, fixed_pieces, kind_is, member_shown, option_is, part_piece, parts_shown, parts_stop, result_parts, two_is}
 use Rattle.cm_tool_show.proofs.types.+types.Goals as goal
+use Rattle.cm_types.proofs.TypesLaws.{seen_Bool, seen_Borrow, seen_Char, seen_Own, seen_S16, seen_S32, seen_S64, seen_S8, seen_U16, seen_U32, seen_U64, seen_U8}
+use Rattle.cm_types.proofs.Seen.{seen_Flags, seen_StringType}
 
 pub show_one-returns-in_err-put : goal.show_one-returns-in_err-put
 show_one-returns-in_err-put t c =
@@ -194,7 +196,7 @@ add_type-returns-in-Char t c =
 
 pub add_type-returns-in-String : goal.add_type-returns-in-String
 add_type-returns-in-String t c =
-    told (kind_is (counted c.args.by) c.args.node.now leaf.String string c.in-String.is seen_String) c.put-in-String.ensures
+    told (kind_is (counted c.args.by) c.args.node.now leaf.String string c.in-String.is seen_StringType) c.put-in-String.ensures
 
 pub add_type-returns-in-List : goal.add_type-returns-in-List
 add_type-returns-in-List t c =

@@ -5,9 +5,9 @@ use Rattle.cm_types.specs.TypeTrees.{case_of}
 use Rattle.cm_types_arena.specs.declared.type_defs.CaseDef.{CaseDef}
 use Rattle.cm_types_arena.specs.TypeDefs.{payload_places}
 use Rattle.cm_types_copies.proofs.DefLaws.{carries, left_none, left_some, one_more, places_more, take_more}
-use Rattle.cm_types_copies.proofs.Seen.{seen_case_label}
 use Rattle.cm_types_copies.proofs.definitions.case_defs.Goals.{in-None+in_ok-push-in-None, in-Some+in_ok-push-in-Some}
 use Rattle.cm_types_copies.proofs.definitions.case_defs.Goals as goal
+use Rattle.cm_types.proofs.TypeTreesLaws.{seen_case_label}
 
 pub bounds-payloads-used : goal.bounds-payloads-used
 bounds-payloads-used c =

@@ -8,9 +8,13 @@ use Rattle.cm_types.specs.TypeTrees.{case_of, field_of, parts_from, plain_from, 
 use Rattle.cm_types_arena.specs.TypeDefs.{type_at}
 use Rattle.cm_types_arena.specs.Arena.{parts_in}
 use Rattle.cm_types_arena.specs.Replaced.{replaced}
-use Rattle.cm_types_copies.proofs.DefLaws.{cloned, cases_below, cases_same, fields_below, fields_long, fields_same, first_below, one_same, parts_same, labels_same, two_below}
-use Rattle.cm_types_copies.proofs.Seen.{seen_Bool, seen_S8, seen_U8, seen_S16, seen_U16, seen_S32, seen_U32, seen_S64, seen_U64, seen_Char, seen_String, seen_Own, seen_Borrow, seen_List, seen_FixedList, seen_Record, seen_Tuple, seen_Variant, seen_Enum, seen_Flags, seen_Option}
+use Rattle.cm_types_copies.proofs.DefLaws.{cases_below, cases_same, fields_below, fields_same, first_below, one_same, parts_same, two_below}
 use Rattle.cm_types_copies.proofs.definitions.replaced_def.Goals as goal
+use Rattle.cm_lemmas.proofs.Lists.{cloned}
+use Rattle.cm_types_arena.proofs.ArenaLemmas.{fields_long}
+use Rattle.cm_types_arena.proofs.ReplacedLemmas.{plain_by}
+use Rattle.cm_types.proofs.TypesLaws.{seen_Bool, seen_Borrow, seen_Char, seen_Own, seen_S16, seen_S32, seen_S64, seen_S8, seen_U16, seen_U32, seen_U64, seen_U8}
+use Rattle.cm_types.proofs.Seen.{seen_Enum, seen_FixedList, seen_Flags, seen_List, seen_Option, seen_Record, seen_StringType, seen_Tuple, seen_Variant}
 
 pub field_defs-requires : goal.field_defs-requires
 field_defs-requires g c =
@@ -60,7 +64,7 @@ returns-in_ok-clone-in-Enum-clause-ty g c = λ types are.
     let s = g.R.Replacement.replacement c.args.by.now in
     let seen = ap type_of c.in-Enum.is ∙ seen_Enum c.in-Enum.labels in
     let same = cloned c.deref-in-Enum.result.now.items c.in_ok-clone-in-Enum.field-0.items c.in_ok-clone-in-Enum.ensures.cases.0 ∙ ap (λ v. v.items) c.deref-in-Enum.ensures in
-    ap (λ (ls : List (List ℕ)). cases enum_type (plain_from ls)) same ∙ ap (cases enum_type) (sym (labels_same s c.in-Enum.labels.value.items)) ∙ ap (replaced s) (sym seen)
+    ap (λ (ls : List (List ℕ)). cases enum_type (plain_from ls)) same ∙ ap (cases enum_type) (sym (plain_by s c.in-Enum.labels.value.items)) ∙ ap (replaced s) (sym seen)
 
 pub returns-in_ok-clone-in-Flags-clause-ty : goal.returns-in_ok-clone-in-Flags-clause-ty
 returns-in_ok-clone-in-Flags-clause-ty g c = λ types are.
@@ -149,7 +153,7 @@ pub returns-in-String-clause-there : goal.returns-in-String-clause-there
 returns-in-String-clause-there g c = λ count all. tt
 
 pub returns-in-String-clause-ty : goal.returns-in-String-clause-ty
-returns-in-String-clause-ty g c = λ types are. sym (ap (replaced (g.R.Replacement.replacement c.args.by.now)) (ap type_of c.in-String.is ∙ seen_String))
+returns-in-String-clause-ty g c = λ types are. sym (ap (replaced (g.R.Replacement.replacement c.args.by.now)) (ap type_of c.in-String.is ∙ seen_StringType))
 
 pub returns-in-Own-clause-there : goal.returns-in-Own-clause-there
 returns-in-Own-clause-there g c = λ count all. tt

@@ -1,12 +1,13 @@
 use Rattle.std.proofs.Common.{◌∙◌, ap, sym, subst, arith, Some}
 use Rattle.cm_handles.specs.Handles.{TableState, Changes, handle_at, IsSoundHandles}
 use Rattle.cm_handles.proofs.ThreadedSlots.{length-thread}
-use Rattle.cm_handles.proofs.TableSteps.{freed_first, next-freed, after_add-freed, left_of, freed_within, no_elements}
+use Rattle.cm_handles.proofs.TableSteps.{freed_first, next-freed, after_add-freed, left_of, freed_within}
 use Rattle.cm_handles.proofs.table.Table.add.Goals as goal
+use Rattle.cm_lemmas.proofs.Lists.{empty_list}
 
 pub append-requires : goal.append-requires
 append-requires c =
-    sym (ap (λ (s : TableState). s.handles.freed) c.self.view_is) ∙ no_elements _ (omega (arith, length-thread c.self.inside.free c.self.inside.slots.items c.self.inside.first))
+    sym (ap (λ (s : TableState). s.handles.freed) c.self.view_is) ∙ empty_list _ (omega (arith, length-thread c.self.inside.free c.self.inside.slots.items c.self.inside.first))
 
 pub restore-requires : goal.restore-requires
 restore-requires c = freed_first c.self.inside.slots.items c.self.inside.first c.self.inside.free _ c.args.self.now c.self.view_is (omega arith)
