@@ -10,7 +10,7 @@ ghost use Rattle.rows_calls.specs.Calls.{IsLifted, IsOf};
 use crate::call::Call;
 use crate::giving::write_given;
 use crate::passing::{write_fault, write_hands};
-use crate::tables::{read_table, write_table};
+use crate::tables::{look_behind, read_table, shown_table, write_table};
 use crate::values::write_values;
 use cm_abi::laws::one_call;
 use cm_abi::{AbiFault, Encodings, Lifted, Passed, Passing, Request, lift, requests};
@@ -76,9 +76,11 @@ pub fn answer(alloc: Global, call: &Call, table: &str, line: &mut Line)
     requires { (types : Fields) × IsOf call.now types }
 {
     let mut table = read_table(alloc, table, line);
+    let before = shown_table(alloc, &table);
     match lift_call(alloc, call, &mut table) {
         Ok(lifted) => write_lifted(line, &lifted, &table),
         Err(fault) => {
+            look_behind(alloc, fault, &before, &table, true, line);
             write_fault(line, fault);
             write_table(line, &table);
         }

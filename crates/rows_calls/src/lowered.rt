@@ -7,7 +7,7 @@ ghost use Rattle.rows_calls.specs.Calls.{IsOf};
 use crate::call::{Call, write_request};
 use crate::lifted::{lift_call, passed_on, write_lifted};
 use crate::passing::write_fault;
-use crate::tables::{read_table, write_table};
+use crate::tables::{look_behind, read_table, shown_table, write_table};
 use cm_abi::laws::one_call;
 use cm_abi::{AbiFault, Passing, Request, lower, requests};
 use cm_handles::Table;
@@ -63,6 +63,7 @@ fn lower_values(alloc: Global, call: &Call, passing: &Passing<'_>, received: Tab
         return line.fail(RowFault::Memory);
     };
     let to = call.sides.to;
+    let before = shown_table(alloc, &received);
     let lowered = lower(
         alloc,
         &mut memory,
@@ -71,7 +72,15 @@ fn lower_values(alloc: Global, call: &Call, passing: &Passing<'_>, received: Tab
         passing,
         &call.answers,
     );
+    if let Err(fault) = &lowered {
+        look_behind(alloc, *fault, &before, &received, is_filled(&memory), line);
+    }
     write_received(line, lowered, &memory, &received);
+}
+
+/// Whether the receiver's memory holds what it held before.
+pub fn is_filled(memory: &[u8]) -> bool {
+    memory.iter().all(|byte| *byte == FILL)
 }
 
 /// Writes the core values that pass what the receiver got, or the fault, and its memory and table.

@@ -10,9 +10,9 @@ ghost use Rattle.cm_abi_model.specs.Scanned.{OnlyAsked};
 ghost use Rattle.rows_calls.specs.Calls.{IsOf, IsScanned};
 
 use crate::call::{Call, write_request};
-use crate::lowered::{FILL, write_received};
+use crate::lowered::{FILL, is_filled, write_received};
 use crate::passing::{write_fault, write_hands};
-use crate::tables::{read_table, write_table};
+use crate::tables::{look_behind, read_table, shown_table, write_table};
 use cm_abi::laws::one_copied_call;
 use cm_abi::{Encodings, Found, PartKind, PartRecord, Passed, Scan, copy, scan};
 use cm_abi_model::laws::what_goes_on_stays;
@@ -38,6 +38,7 @@ pub fn answer(alloc: Global, call: &Call, table: &str, received: &str, line: &mu
         source: call.sides.source,
         target: call.sides.target,
     };
+    let stood = shown_table(alloc, &table);
     let mut kept = Scan::new(alloc);
     let _before = scan(
         alloc,
@@ -61,10 +62,16 @@ pub fn answer(alloc: Global, call: &Call, table: &str, received: &str, line: &mu
             copy_values(alloc, call, &mut kept, received, line);
         }
         Err(fault) => {
+            look_behind(alloc, fault, &stood, &table, is_empty(&kept), line);
             write_fault(line, fault);
             write_table(line, &table);
         }
     }
+}
+
+/// Whether nothing is kept of values.
+fn is_empty(kept: &Scan) -> bool {
+    kept.records().is_empty() && kept.owns().is_empty() && kept.lends().is_empty()
 }
 
 fn write_scanned(line: &mut Line, kept: &Scan, table: &Table) {
@@ -85,6 +92,11 @@ fn zeros(alloc: Global, kinds: &[CoreKind]) -> Result<Vec<CoreValue>, AllocError
         })?;
     }
     Ok(slots)
+}
+
+/// Whether core values are all 0.
+fn are_zeros(slots: &[CoreValue]) -> bool {
+    slots.iter().all(|slot| matches!(slot, CoreValue::I32(0) | CoreValue::I64(0)))
 }
 
 /// Writes what parts ask for and, where all answers will do, what copying the values comes to.
@@ -113,9 +125,14 @@ fn copy_values(alloc: Global, call: &Call, kept: &mut Scan, received: Table, lin
         return line.fail(RowFault::Memory);
     };
     let to = call.sides.to;
+    let stood = shown_table(alloc, &received);
     match copy(kept, &mut memory, &mut received, &mut slots, to, &found) {
         Ok(()) => write_received(line, Ok(slots), &memory, &received),
-        Err(fault) => write_received(line, Err(fault), &memory, &received),
+        Err(fault) => {
+            let is_as_before = is_filled(&memory) && are_zeros(&slots);
+            look_behind(alloc, fault, &stood, &received, is_as_before, line);
+            write_received(line, Err(fault), &memory, &received);
+        }
     }
 }
 

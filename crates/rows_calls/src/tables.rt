@@ -8,6 +8,7 @@
 ghost use Rattle.std.specs.Prelude.{◌<◌, ◌^◌};
 ghost use Rattle.cm_abi_model.specs.Lifts.{LendsBelow};
 
+use cm_abi_model::AbiFault;
 use cm_handles::{Handle, HandleFault, HandleKind, Table};
 use cm_rows::{Line, RowFault, split_repeat};
 use cm_types::ResourceId;
@@ -88,6 +89,34 @@ pub fn read_handle(word: &str, line: &mut Line) -> Handle
         lends: u128::from(lends),
         rep: serial.wrapping_add(100),
         kind,
+    }
+}
+
+/// A table as a row shows it.
+pub fn shown_table(alloc: Global, table: &Table) -> Line {
+    let mut line = Line::new(alloc);
+    write_table(&mut line, table);
+    line
+}
+
+/// Where a call found no memory: the row is none if a table is shown in another way than before, or
+/// if what is kept of the call changed.
+pub fn look_behind(
+    alloc: Global,
+    fault: AbiFault,
+    before: &Line,
+    table: &Table,
+    is_as_before: bool,
+    line: &mut Line,
+) {
+    if fault != AbiFault::EngineMemory {
+        return;
+    }
+    let after = shown_table(alloc, table);
+    line.keep_fault_of(before);
+    line.keep_fault_of(&after);
+    if before.as_str() != after.as_str() || !is_as_before {
+        line.refuse();
     }
 }
 
