@@ -1,5 +1,5 @@
 -- Core instances: what they are made of is there, and what stands after them.
-use Rattle.std.proofs.Common.{◌≡◌, ℕ, ◌+◌, ◌<◌, ◌≤◌, Bool, true, false, ◌&&◌, List, [], ◌∷◌, ◌++◌, length, get_or, take, drop, map, Option, Some, None, refl, sym, ap, ◌∙◌, add-one, drop-cons, nat_lt, subst, IfSome}
+use Rattle.std.proofs.Common.{◌≡◌, ℕ, ◌+◌, ◌<◌, ◌≤◌, Bool, true, false, ◌&&◌, List, [], ◌∷◌, ◌++◌, length, get_or, take, drop, map, Option, Some, None, refl, sym, ap, ◌∙◌, add-one, drop-cons, nat_lt}
 use Rattle.std.specs.Prelude.{is_some, not}
 use Rattle.std.specs.Borrow.{Bor}
 use Rattle.std.specs.List.{flat_map, list_all, slice_get}
@@ -21,6 +21,7 @@ use Rattle.cm_validate_core.specs.declared.spaces.CoreSpaces.{CoreSpaces}
 use Rattle.cm_validate_core.specs.CoreSpaces.{IsCoreOf}
 use Rattle.cm_validate_core.specs.Entries.{def_of, instance_of}
 use Rattle.cm_validate_core.specs.Instances.{is_arg_there, is_export_there}
+use Rattle.cm_lemmas.proofs.Options.{some_mapped}
 
 -- ---- each is there
 
@@ -43,10 +44,6 @@ module _ {A B : Type 0} (test : B → Bool) (view : A → B) (xs : List A) (i : 
 
 pub passes_all : {A B : Type 0} (test : B → Bool) (view : A → B) (xs : List A) (i : ℕ) (all : Bool) → length xs ≤ i → list_all test (map view (drop i xs)) ≡ all → true ≡ all
 passes_all test view xs i all le before = sym (ap (λ ys. list_all test (map view ys)) (drop_all i xs le)) ∙ before
-
-pub some_mapped : {A B : Type 0} (f : A → B) (o : Option A) → is_some (option_map f o) ≡ is_some o
-some_mapped f None = refl
-some_mapped f (Some x) = refl
 
 pub some_of_none : {A : Type 0} (o : Option A) (b : Bool) → is_some o ≡ not b → b ≡ true → is_some o ≡ false
 some_of_none o true e f = e
@@ -168,10 +165,3 @@ one_def s x d e = ap (λ (o : Option CoreDef). option_to_list (option_map (λ v.
 -- what all of them name
 pub no_more : {A B C : Type 0} (f : B → List C) (g : A → B) (xs : List A) (i : ℕ) → length xs ≤ i → flat_map (λ x. f (g x)) (take i xs) ≡ flat_map f (map g xs)
 no_more f g xs i le = ap (flat_map (λ x. f (g x))) (take_all i xs le) ∙ sym (flat_map-map f g xs)
-
-pub some_has : {A : Type 0} (P : A → Type 0) (o : Option A) (x : A) → o ≡ Some x → IfSome o P → P x
-some_has P None x e p = absurd cc
-some_has P (Some y) x e p = subst P (some_is e) p
-  where
-    some_is : Some y ≡ Some x → y ≡ x
-    some_is f = cc

@@ -1,7 +1,6 @@
 mod NameLaws
 mod PlaceLaws
 mod SpaceLaws
-mod ReasonLaws
 mod OptionLaws
 mod CanonLaws
 mod TextLaws

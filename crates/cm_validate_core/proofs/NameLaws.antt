@@ -1,6 +1,5 @@
 -- What stands under a name, in a map and in the list of its entries.
-use Rattle.std.proofs.Common.{◌≡◌, ℕ, Bool, true, false, cond, List, [], ◌∷◌, map, Some, refl, sym, ◌∙◌, IfSome}
-use Rattle.std.proofs.lemmas.Slice.Eq.{bytes_eq-Decides}
+use Rattle.std.proofs.Common.{◌≡◌, ℕ, Bool, true, false, cond, List, [], ◌∷◌, map, Some, refl, IfSome}
 use Rattle.std.specs.Borrow.{Bor}
 use Rattle.std.specs.Map.{lookup}
 use Rattle.std.specs.Option.{option_map}
@@ -10,18 +9,7 @@ use Rattle.cm_validate_model.specs.Spaces.{core_def_named}
 use Rattle.cm_validate_core.specs.declared.entries.CoreItem.{CoreItem}
 use Rattle.cm_validate_core.specs.Entries.{def_of, named_def}
 use Rattle.cm_validate_core.specs.CoreSpaces.{AreItemsNumbered, IsItemNumbered, MemoryNames}
-
-same_text : (x y : List ℕ) → bytes_eq x y ≡ true → bytes_eq y x ≡ true
-same_text x y e = (bytes_eq-Decides y x).1 (sym ((bytes_eq-Decides x y).0 e))
-
-pub texts_either_way : (x y : List ℕ) → bytes_eq x y ≡ bytes_eq y x
-texts_either_way x y = by (bytes_eq x y) (bytes_eq y x) refl refl
-  where
-    by : (a b : Bool) → bytes_eq x y ≡ a → bytes_eq y x ≡ b → a ≡ b
-    by true true e f = refl
-    by false false e f = refl
-    by true false e f = sym (same_text x y e) ∙ f
-    by false true e f = sym e ∙ same_text y x f
+use Rattle.cm_lemmas.proofs.Lists.{texts_either_way}
 
 pub named_law : (made : ℕ → CoreFuncDef) (name : List ℕ) (es : List (Bor (List ℕ) × CoreItem)) → option_map (def_of made) (lookup (λ k. bytes_eq name k.now) es) ≡ core_def_named (map (named_def made) es) name
 named_law made name [] = refl

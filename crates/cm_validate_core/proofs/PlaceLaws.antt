@@ -1,5 +1,5 @@
 -- Places of names, where one more comes last.
-use Rattle.std.proofs.Common.{◌≡◌, ℕ, suc, ◌+◌, ◌≤◌, Bool, true, false, cond, List, [], ◌∷◌, ◌++◌, length, Some, None, refl, sym, ap, ◌∙◌, arith}
+use Rattle.std.proofs.Common.{◌≡◌, ℕ, ◌+◌, ◌≤◌, Bool, true, false, cond, List, [], ◌∷◌, ◌++◌, length, Some, None, refl, sym, ap, ◌∙◌, arith}
 use Rattle.std.specs.Prelude.{is_some}
 use Rattle.std.proofs.lemmas.Slice.Eq.{bytes_eq-Decides}
 use Rattle.std.specs.Borrow.{Bor}
@@ -7,16 +7,8 @@ use Rattle.std.specs.List.{position_from}
 use Rattle.std.specs.Str.{bytes_eq}
 use Rattle.cm_validate_names.specs.NamedValues.{names_in, place_of}
 use Rattle.cm_validate_core.specs.CoreSpaces.{KeepsNumbers, MemoryNames}
-use Rattle.cm_validate_core.proofs.NameLaws.{texts_either_way}
-
--- the names of entries, where one more comes last
-names_more : {V : Type 0} (es : List (Bor (List ℕ) × V)) (e : Bor (List ℕ) × V) → names_in (es ++ e ∷ []) ≡ names_in es ++ e.0.now ∷ []
-names_more [] e = refl
-names_more (x ∷ es) e = ap (λ ns. x.0.now ∷ ns) (names_more es e)
-
-names_length : {V : Type 0} (es : List (Bor (List ℕ) × V)) → length (names_in es) ≡ length es
-names_length [] = refl
-names_length (x ∷ es) = ap suc (names_length es)
+use Rattle.cm_validate_names.proofs.PlaceLaws.{names_length, names_more}
+use Rattle.cm_lemmas.proofs.Lists.{texts_either_way}
 
 -- ---- whether a name is there
 

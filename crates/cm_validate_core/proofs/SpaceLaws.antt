@@ -1,5 +1,5 @@
 -- The spaces of a component, at an index and with more names.
-use Rattle.std.proofs.Common.{◌≡◌, ℕ, subst, List, [], ◌∷◌, Option, Some, None, refl, ap, ◌∙◌, zero, suc, IfSome, Result, Ok, Err, OnErr}
+use Rattle.std.proofs.Common.{◌≡◌, ℕ, subst, List, [], ◌∷◌, Option, Some, None, refl, ap, ◌∙◌, IfSome, Result, Ok, Err, OnErr}
 use Rattle.std.proofs.lemmas.Option.{slice_get-map}
 use Rattle.std.specs.List.{AllByRecursion, slice_get}
 use Rattle.std.specs.Option.{option_map, option_and_then}
@@ -20,16 +20,9 @@ use Rattle.cm_validate_core.specs.declared.spaces.CoreSpaces.{CoreSpaces}
 use Rattle.cm_validate_names.specs.NameMaps.{entries_of}
 use Rattle.cm_validate_core.specs.Entries.{instance_of}
 use Rattle.cm_validate_core.specs.CoreSpaces.{IsCoreOf, IsFirstNumbered, IsInstanceNumbered, IsItemNumbered, IsMemoryNumbered, KeepsNumbers, MemoryNames, memory_names_of}
+use Rattle.cm_lemmas.proofs.Lists.{got_at}
 
 -- ---- at an index
-
-all_at : {A : Type 0} (P : A → Type 0) (xs : List A) (i : ℕ) (x : A) → AllByRecursion P xs → slice_get xs i ≡ Some x → P x
-all_at P [] i x a e = absurd cc
-all_at P (y ∷ ys) zero x a e = subst P (some_is e) a.0
-  where
-    some_is : Some y ≡ Some x → y ≡ x
-    some_is f = cc
-all_at P (y ∷ ys) (suc i) x a e = all_at P ys i x a.1 e
 
 pub aliased_at : (made : ℕ → CoreFuncDef) (c : CoreSpaces) (s : Spaces) (sort : CoreSort) (i : ℕ) (name : List ℕ) (o : Option CoreInstanceEntry) → IsCoreOf made c s → slice_get c.instances.items i ≡ o → aliased_core s sort i name ≡ option_and_then (λ e. core_export_in sort i name (instance_of made e)) o
 aliased_at made c s sort i name o r e =
@@ -42,7 +35,7 @@ aliased_at made c s sort i name o r e =
     through (Some x) = refl
 
 pub instance_numbered : (made : ℕ → CoreFuncDef) (c : CoreSpaces) (s : Spaces) (i : ℕ) (e : CoreInstanceEntry) → IsCoreOf made c s → slice_get c.instances.items i ≡ Some e → IsInstanceNumbered (memory_names_of c) e
-instance_numbered made c s i e r is = all_at (IsInstanceNumbered (memory_names_of c)) c.instances.items i e r.instances_numbered is
+instance_numbered made c s i e r is = got_at (IsInstanceNumbered (memory_names_of c)) c.instances.items i e r.instances_numbered is
 
 -- ---- with more names
 

@@ -25,8 +25,9 @@ use Rattle.cm_validate_model.specs.Sources.{IsItemAt}
 use Rattle.cm_validate_model.specs.Spaces.{Spaces, after_item, after_items, aliased_member, empty_spaces, exported, func_ty_in, imported_instance, instance_exported, member_alias, member_at, member_named, member_of_item, members_from, members_imported, named_member, new_instances, new_types, next_import, next_resource, type_alias, type_of_member}
 use Rattle.cm_validate_model.specs.TypeRules.{func_def_broken, func_ty_broken, limits_broken, no_borrow_broken, params_broken, uses_broken}
 use Rattle.cm_validate_model.specs.Valid.{IsValidFrom}
-use Rattle.cm_validate_model.proofs.ListLemmas.{all_flat, all_joined, and_then, got, mapped_any, nil_front, nil_rest, then_map, to_list}
 use Rattle.cm_validate_model.proofs.Stepping.{holds_before}
+use Rattle.cm_lemmas.proofs.Lists.{all_flat, all_both, got_there, nil_front, nil_rest, to_list}
+use Rattle.cm_lemmas.proofs.Options.{and_then, mapped_any, then_map}
 
 -- the result of a function holds no borrow
 abbrev pub LendsNone : FuncTy → Type 0
@@ -113,7 +114,7 @@ no_members (Some f) = tt {0}
 module _ (s : Spaces) (h : Lends s) where
   member_lends : (sort : InstanceExportSort) (i : ℕ) → IfSome (member_at s sort i) MemberLends
   member_lends member_sort.Func i = mapped_any MemberLends func_member (λ f. tt {0}) (slice_get s.funcs i)
-  member_lends member_sort.Type i = then_map DefLends MemberLends type_member (λ t k. k) (slice_get s.types i) (got DefLends s.types i h.types)
+  member_lends member_sort.Type i = then_map DefLends MemberLends type_member (λ t k. k) (slice_get s.types i) (got_there DefLends s.types i h.types)
 
   inline_lends : (e : InlineExport) → MembersLend (named_member s e)
   inline_lends e =
@@ -123,13 +124,13 @@ module _ (s : Spaces) (h : Lends s) where
   alias_lends : (a : AliasTree) → IfSome (type_alias s a) DefLends
   alias_lends (instance_export sort instance name) =
       and_then MemberLends DefLends type_of_member type_lends (aliased_member s instance name)
-      (and_then MembersLend MemberLends (λ ms. member_named ms name) (λ ms k. under_name ms name k) (slice_get s.instances instance) (got MembersLend s.instances instance h.instances))
+      (and_then MembersLend MemberLends (λ ms. member_named ms name) (λ ms k. under_name ms name k) (slice_get s.instances instance) (got_there MembersLend s.instances instance h.instances))
   alias_lends (core_instance_export sort instance name) = tt {0}
-  alias_lends (outer_type o) = got DefLends s.types o.index h.types
+  alias_lends (outer_type o) = got_there DefLends s.types o.index h.types
 
   export_lends : (sort : ExportSort) (i : ℕ) → IfSome (option_and_then instance_exported (exported s sort i)) MembersLend
   export_lends export_sort.Func i = no_members (slice_get s.funcs i)
-  export_lends export_sort.Instance i = exported_lends (slice_get s.instances i) (got MembersLend s.instances i h.instances)
+  export_lends export_sort.Instance i = exported_lends (slice_get s.instances i) (got_there MembersLend s.instances i h.instances)
 
   defined_lends : (d : DefTypeTree) → broken s (type_item d) ≡ [] → AllByRecursion DefLends (new_types s (type_item d))
   defined_lends (value_def v) none = (value_lends (value_defined s.types v), tt {0})
@@ -162,8 +163,8 @@ module _ (s : Spaces) (h : Lends s) where
 item_keeps : (s : Spaces) (x : Item) → broken s x ≡ [] → Lends s → Lends (after_item s x)
 item_keeps s x none h =
     record {
-      types = all_joined DefLends s.types (new_types s x) h.types (types_lend s h x none);
-      instances = all_joined MembersLend s.instances (new_instances s x) h.instances (instances_lend s h x);
+      types = all_both DefLends s.types (new_types s x) h.types (types_lend s h x none);
+      instances = all_both MembersLend s.instances (new_instances s x) h.instances (instances_lend s h x);
     }
 
 ty_lends : (d : TypeDef) → DefLends d → IfSome (func_ty_in d) LendsNone
@@ -179,4 +180,4 @@ lends_none items s x valid at i ty e =
     let keeps : (t : Spaces) (y : Item) → IsItemAt items t y → Lends t → Lends (after_item t y) =
     λ t y here h. item_keeps t y (subst (λ v. broken v y ≡ []) here.spaces (valid here.front y here.rest here.split)) h in
     let h = holds_before items Lends keeps (record { types = tt {0}; instances = tt {0} }) s x at in
-    subst (λ o. IfSome o LendsNone) e (and_then DefLends LendsNone func_ty_in ty_lends (slice_get s.types i) (got DefLends s.types i h.types))
+    subst (λ o. IfSome o LendsNone) e (and_then DefLends LendsNone func_ty_in ty_lends (slice_get s.types i) (got_there DefLends s.types i h.types))

@@ -16,7 +16,8 @@ use Rattle.cm_validate_model.specs.Moves.{moved_item, moved_func}
 use Rattle.cm_validate_model.specs.Spaces.{Spaces, after_item, after_items, empty_spaces, import_desc, imported_func, imported_instance, moved_named, new_funcs, new_imports, next_import, next_resource, spaces_of}
 use Rattle.cm_validate_model.specs.Imported.{IsAsImported, IsLoweredAsImported, func_item_of, wanted_func, wanted_of}
 use Rattle.cm_validate_model.specs.Sources.{IsAdded, IsCoreAdded, IsItemAt, OfExport, OfFunctions, OfMember, OfMembers, by_drop, by_import, by_item, by_lift, by_lower, by_new, by_rep, of_guest}
-use Rattle.cm_validate_model.proofs.ListLemmas.{all_weaker, at_end, get_map, got_at, grown_at, stays}
+use Rattle.cm_validate_model.proofs.ListLemmas.{all_weaker, at_end, grown_at, stays}
+use Rattle.cm_lemmas.proofs.Lists.{get_map, got_at}
 
 -- ---- what is said of functions, wherever they stand
 

@@ -24,7 +24,9 @@ use Rattle.cm_validate_model.specs.Rules.{func_ty_at, resource_at}
 use Rattle.cm_validate_model.specs.Spaces.{Spaces, empty_spaces, member_at, named_member, member_named, member_of_item, members_from, next_resource, next_import, func_of_member, member_alias, func_ty_in, imported_func, imported_instance, lifted_func, canon_func, exported, func_exported, instance_exported, members_imported}
 use Rattle.cm_validate_model.specs.Spaces.{new_core_instances, new_core_funcs, new_funcs, new_instances, new_exports, after_item, after_items, spaces_of, core_def_at, core_def_named, core_def_of_sort, core_export_in, core_alias, core_func_in, core_instance_of, named_core_def, lower_func, canon_core_func}
 use Rattle.cm_validate_model.specs.Sources.{IsAdded, IsCoreAdded, IsItemAt, OfExport, OfFunctions, OfMember, OfMembers, by_drop, by_import, by_item, by_lift, by_lower, by_new, by_rep, of_guest}
-use Rattle.cm_validate_model.proofs.ListLemmas.{after_both, all_flat, all_joined, and_then, got, mapped_any, nil_right, then_map, to_list}
+use Rattle.cm_validate_model.proofs.ListLemmas.{after_both}
+use Rattle.cm_lemmas.proofs.Lists.{all_flat, all_both, got_there, nil_right, to_list}
+use Rattle.cm_lemmas.proofs.Options.{and_then, mapped_any, then_map}
 
 -- ---- core definitions, which may be functions
 
@@ -60,7 +62,7 @@ named is (m ∷ ms) name k = by_name is m.def (member_named ms name) (bytes_eq m
 module _ (is : List Item) (s : Spaces) (h : Has is s) where
   core_at : (sort : CoreSort) (i : ℕ) → IfSome (core_def_at s sort i) (CoreHas is)
   unfolding CoreHas
-  core_at core_sort.Func i = then_map (IsCoreAdded is) (CoreHas is) core_func (λ f k. k) (slice_get s.core_funcs i) (got (IsCoreAdded is) s.core_funcs i h.core_funcs)
+  core_at core_sort.Func i = then_map (IsCoreAdded is) (CoreHas is) core_func (λ f k. k) (slice_get s.core_funcs i) (got_there (IsCoreAdded is) s.core_funcs i h.core_funcs)
   core_at core_sort.Table i = mapped_any (CoreHas is) table (λ e. tt {0}) (slice_get s.tables i)
   core_at core_sort.Memory i = mapped_any (CoreHas is) memory (λ e. tt {0}) (slice_get s.memories i)
   core_at core_sort.Global i = mapped_any (CoreHas is) global (λ e. tt {0}) (slice_get s.globals i)
@@ -109,7 +111,7 @@ module _ (is : List Item) (s : Spaces) (h : Has is s) where
   core_aliased : (a : AliasTree) → IfSome (core_alias s a) (CoreHas is)
   core_aliased (core_instance_export sort instance name) =
       and_then (CoreInstanceHas is) (CoreHas is) (core_export_in sort instance name) (core_exported sort instance name)
-      (slice_get s.core_instances instance) (got (CoreInstanceHas is) s.core_instances instance h.core_instances)
+      (slice_get s.core_instances instance) (got_there (CoreInstanceHas is) s.core_instances instance h.core_instances)
   core_aliased (instance_export sort instance name) = tt {0}
   core_aliased (outer_type o) = tt {0}
 
@@ -124,7 +126,7 @@ module _ (is : List Item) (s : Spaces) (h : Has is s) where
   aliased_has : (a : AliasTree) → IfSome (member_alias s a) (OfMember (IsAdded is))
   aliased_has (instance_export sort instance name) =
       and_then (OfMembers (IsAdded is)) (OfMember (IsAdded is)) (λ ms. member_named ms name) (λ ms k. named is ms name k)
-      (slice_get s.instances instance) (got (OfMembers (IsAdded is)) s.instances instance h.instances)
+      (slice_get s.instances instance) (got_there (OfMembers (IsAdded is)) s.instances instance h.instances)
   aliased_has (core_instance_export sort instance name) = tt {0}
   aliased_has (outer_type o) = tt {0}
 
@@ -133,9 +135,9 @@ module _ (is : List Item) (s : Spaces) (h : Has is s) where
   func_of (type_member d) k = tt {0}
 
   exported_has : (sort : ExportSort) (i : ℕ) → IfSome (exported s sort i) (OfExport (IsAdded is))
-  exported_has export_sort.Func i = then_map (IsAdded is) (OfExport (IsAdded is)) exported_func (λ f k. k) (slice_get s.funcs i) (got (IsAdded is) s.funcs i h.funcs)
+  exported_has export_sort.Func i = then_map (IsAdded is) (OfExport (IsAdded is)) exported_func (λ f k. k) (slice_get s.funcs i) (got_there (IsAdded is) s.funcs i h.funcs)
   exported_has export_sort.Instance i =
-      then_map (OfMembers (IsAdded is)) (OfExport (IsAdded is)) exported_instance (λ ms k. k) (slice_get s.instances i) (got (OfMembers (IsAdded is)) s.instances i h.instances)
+      then_map (OfMembers (IsAdded is)) (OfExport (IsAdded is)) exported_instance (λ ms k. k) (slice_get s.instances i) (got_there (OfMembers (IsAdded is)) s.instances i h.instances)
 
   func_of_export : (d : ExportDef) → OfExport (IsAdded is) d → IfSome (func_exported d) (IsAdded is)
   func_of_export (exported_func f) k = k
@@ -146,7 +148,7 @@ module _ (is : List Item) (s : Spaces) (h : Has is s) where
   instance_of_export (exported_instance ms) k = k
 
   member_has : (sort : InstanceExportSort) (i : ℕ) → IfSome (member_at s sort i) (OfMember (IsAdded is))
-  member_has member_sort.Func i = then_map (IsAdded is) (OfMember (IsAdded is)) func_member (λ f k. k) (slice_get s.funcs i) (got (IsAdded is) s.funcs i h.funcs)
+  member_has member_sort.Func i = then_map (IsAdded is) (OfMember (IsAdded is)) func_member (λ f k. k) (slice_get s.funcs i) (got_there (IsAdded is) s.funcs i h.funcs)
   member_has member_sort.Type i = mapped_any (OfMember (IsAdded is)) type_member (λ d. tt {0}) (slice_get s.types i)
 
   inline_has : (e : InlineExport) → OfMembers (IsAdded is) (named_member s e)
@@ -274,11 +276,11 @@ module _ (is : List Item) (s : Spaces) (h : Has is s) where
 item_has : (is : List Item) (s : Spaces) (x : Item) → IsItemAt is s x → Has is s → Has is (after_item s x)
 item_has is s x at h =
     record {
-      core_instances = all_joined (CoreInstanceHas is) s.core_instances (new_core_instances s x) h.core_instances (core_instances_added is s h x);
-      core_funcs = all_joined (IsCoreAdded is) s.core_funcs (new_core_funcs s x) h.core_funcs (core_funcs_added is s h x at);
-      funcs = all_joined (IsAdded is) s.funcs (new_funcs s x) h.funcs (funcs_added is s h x at);
-      instances = all_joined (OfMembers (IsAdded is)) s.instances (new_instances s x) h.instances (instances_added is s h x at);
-      exports = all_joined (λ d. OfExport (IsAdded is) d.def) s.exports (new_exports s x) h.exports (exports_added is s h x);
+      core_instances = all_both (CoreInstanceHas is) s.core_instances (new_core_instances s x) h.core_instances (core_instances_added is s h x);
+      core_funcs = all_both (IsCoreAdded is) s.core_funcs (new_core_funcs s x) h.core_funcs (core_funcs_added is s h x at);
+      funcs = all_both (IsAdded is) s.funcs (new_funcs s x) h.funcs (funcs_added is s h x at);
+      instances = all_both (OfMembers (IsAdded is)) s.instances (new_instances s x) h.instances (instances_added is s h x at);
+      exports = all_both (λ d. OfExport (IsAdded is) d.def) s.exports (new_exports s x) h.exports (exports_added is s h x);
     }
 
 -- ---- after all items

@@ -3,9 +3,14 @@ pub mod ValidLaws
 pub mod TypeLaws
 pub mod ScopeLaws
 pub mod SpaceLaws
-mod ListLemmas
+pub mod ListLemmas
 mod ItemLaws
 mod ImportedLaws
 mod Stepping
 mod BorrowLaws
-mod NamedLaws
+pub mod NamedLaws
+pub mod FaultLaws
+pub mod ReasonsLaws
+pub mod RulesLaws
+pub mod SharedLaws
+pub mod TextLaws

@@ -1,5 +1,5 @@
 -- What lifts and lowers of a valid component name is there.
-use Rattle.std.proofs.Common.{◌≡◌, ◌∙◌, ◌<◌, ◌+◌, ℕ, zero, suc, List, [], ◌∷◌, ◌++◌, length, Bool, true, false, Option, Some, None, refl, ap, sym, subst, arith}
+use Rattle.std.proofs.Common.{◌≡◌, ◌∙◌, ◌<◌, ◌+◌, ℕ, List, [], ◌∷◌, ◌++◌, Bool, true, false, Option, Some, None, refl, ap, sym, subst}
 use Rattle.std.specs.Prelude.{IfSome, slice_get}
 use Rattle.std.specs.Option.{option_map_or}
 use Rattle.std.specs.List.{AllByRecursion, flat_map}
@@ -25,10 +25,11 @@ use Rattle.cm_validate_model.specs.Sources.{IsAdded, IsCoreAdded, IsItemAt, OfFu
 use Rattle.cm_validate_model.proofs.ImportedLaws.{functions_weaker}
 use Rattle.cm_validate_model.specs.CountedSpaces.{AreSpacesCounted, IsDefCounted}
 use Rattle.cm_validate_model.proofs.BorrowLaws.{lends_none}
-use Rattle.cm_validate_model.proofs.ListLemmas.{all_joined, got, nil_front, nil_rest, stays}
+use Rattle.cm_validate_model.proofs.ListLemmas.{stays}
 use Rattle.cm_validate_model.proofs.SpaceLaws.{before_all}
 use Rattle.cm_validate_model.proofs.Stepping.{holds_after}
 use Rattle.cm_validate_model.proofs.TypeLaws.{resource_of_def}
+use Rattle.cm_lemmas.proofs.Lists.{all_both, item_there, got_there, nil_front, nil_rest}
 
 -- ---- what breaks no rule
 
@@ -72,7 +73,7 @@ found_by broken o x h e = subst (λ v. found broken v ≡ []) e h
 
 -- ---- an item of a valid component breaks nothing
 
-item_breaks_nothing : (items : List Item) (s : Spaces) (x : Item) → IsValidFrom empty_spaces items → IsItemAt items s x → broken s x ≡ []
+pub item_breaks_nothing : (items : List Item) (s : Spaces) (x : Item) → IsValidFrom empty_spaces items → IsItemAt items s x → broken s x ≡ []
 item_breaks_nothing items s x valid at = subst (λ v. broken v x ≡ []) at.spaces (valid at.front x at.rest at.split)
 
 -- what is there before an item is there after all
@@ -94,11 +95,6 @@ module _ (items : List Item) (s : Spaces) (x : Item) (at : IsItemAt items s x) w
 
 -- ---- resources
 
-found_below : {A : Type 0} (xs : List A) (n : ℕ) → n < length xs → (x : A) × (slice_get xs n ≡ Some x)
-found_below [] n lt = absurd (omega (arith, lt))
-found_below (x ∷ xs) zero lt = (x, refl)
-found_below (x ∷ xs) (suc n) lt = found_below xs n (omega (arith, lt))
-
 own_by : (r : ResourceDef) → unless (is_defined r) reason.NotOwnResource ≡ [] → (d : Option ℕ) × (r ≡ defined d)
 own_by (defined d) h = (d, refl)
 own_by (brought import item) h = cc h
@@ -112,7 +108,7 @@ brought_whole s import item (fresh_resource r) = (tt {0}, tt {0})
 all_brought_whole : (s : Spaces) (import item : ℕ) (xs : List NamedItem) → AllByRecursion (IsResourceWhole s) (brought_from import item xs)
 all_brought_whole s import item [] = tt {0}
 all_brought_whole s import item (x ∷ xs) =
-    all_joined (IsResourceWhole s) (brought_by import item x.desc) (brought_from import (item + 1) xs) (brought_whole s import item x.desc) (all_brought_whole s import (item + 1) xs)
+    all_both (IsResourceWhole s) (brought_by import item x.desc) (brought_from import (item + 1) xs) (brought_whole s import item x.desc) (all_brought_whole s import (item + 1) xs)
 
 import_whole : (s : Spaces) (import : ℕ) (o : Option InstanceTy) → AllByRecursion (IsResourceWhole s) (option_map_or (λ t. brought_from import 0 t.items) o [])
 import_whole s import None = tt {0}
@@ -149,8 +145,8 @@ module _ (items : List Item) (valid : IsValidFrom empty_spaces items) where
   there_at s i n at e =
       let counted = subst AreSpacesCounted at.spaces (before_all at.front) in
       let few : IfSome (resource_at s i) (λ k. k < next_resource s) =
-      resource_of_def (next_resource s) (slice_get s.types i) (got (IsDefCounted (next_resource s)) s.types i counted.types) in
-      found_below s.resources n (subst (λ o. IfSome o (λ k. k < next_resource s)) e few)
+      resource_of_def (next_resource s) (slice_get s.types i) (got_there (IsDefCounted (next_resource s)) s.types i counted.types) in
+      item_there s.resources n (subst (λ o. IfSome o (λ k. k < next_resource s)) e few)
 
   own_at : {x : Item} (s : Spaces) (i n : ℕ) → IsItemAt items s x → resource_at s i ≡ Some n → resource_broken s i ++ if_found (own_resource_broken s) (resource_at s i) ≡ [] → IsOwnResourceAt s n
   own_at s i n at e none =
@@ -197,7 +193,7 @@ module _ (items : List Item) (valid : IsValidFrom empty_spaces items) where
   pub all_resources_whole : AllByRecursion (IsResourceWhole (after_items empty_spaces items)) (after_items empty_spaces items).resources
   all_resources_whole =
       holds_after items (λ s. AllByRecursion (IsResourceWhole (after_items empty_spaces items)) s.resources)
-      (λ s x at h. all_joined (IsResourceWhole (after_items empty_spaces items)) s.resources (new_resources s x) h (resources_whole s x at))
+      (λ s x at h. all_both (IsResourceWhole (after_items empty_spaces items)) s.resources (new_resources s x) h (resources_whole s x at))
       (tt {0})
 
 pub all_whole : (sections : List SectionTree) → IsValid sections → OfFunctions (IsAdded (all_items sections)) (IsCoreAdded (all_items sections)) (spaces_of sections)

@@ -15,7 +15,8 @@ use Rattle.cm_validate_model.specs.Moves.{moved}
 use Rattle.cm_validate_model.specs.Definitions.{InstanceTy, TypeDef, value, func_type, resource, instance_type, faulty}
 use Rattle.cm_validate_model.specs.Counted.{IsItemCounted}
 use Rattle.cm_validate_model.specs.CountedSpaces.{AreItemsCounted, fresh_of, fresh_numbers, numbers_from, IsInstanceCounted, IsDefCounted}
-use Rattle.cm_validate_model.proofs.TypeLaws.{all_append, all_weaker, got, number_grows, grows, func_grows, value_def_counted, func_def_counted}
+use Rattle.cm_validate_model.proofs.TypeLaws.{all_weaker, number_grows, grows, func_grows, value_def_counted, func_def_counted}
+use Rattle.cm_lemmas.proofs.Lists.{all_both, got_there}
 
 -- ---- more resources
 
@@ -45,7 +46,7 @@ IsOld o = IfSome o (λ d. fresh_of d ≡ [])
 
 pub item_added : (n : ℕ) (is : List NamedItem) (name : List ℕ) (o : Option ItemTy) → AreItemsCounted n is → IfSome o (IsItemCounted n) → AreItemsCounted n (with_item is name o)
 item_added n is name None h k = subst (AreItemsCounted n) (sym (append-nil is)) h
-item_added n is name (Some d) h k = all_append (λ i. IsItemCounted n i.desc) is _ h (k, tt {0})
+item_added n is name (Some d) h k = all_both (λ i. IsItemCounted n i.desc) is _ h (k, tt {0})
 
 three : (a b c : List ℕ) → a ++ (b ++ c) ≡ (a ++ b) ++ c
 three [] b c = refl
@@ -86,10 +87,10 @@ declared_counted n types (declared_value v) h = value_def_counted n types h v
 declared_counted n types (declared_func f) h = func_def_counted n types h f
 
 outer_counted : (first : ℕ) (s : Scope) → Counted first s → (count index : ℕ) → IfSome (outer_type_of s count index) (IsDefCounted s.next)
-outer_counted first s c zero index = got (IsDefCounted s.next) s.types index c.types
+outer_counted first s c zero index = got_there (IsDefCounted s.next) s.types index c.types
 outer_counted first s c (suc zero) index =
     let le : first ≤ s.next = omega (arith, c.next) in
-    some_grows first s.next le (slice_get s.around index) (got (IsDefCounted first) s.around index c.around)
+    some_grows first s.next le (slice_get s.around index) (got_there (IsDefCounted first) s.around index c.around)
 outer_counted first s c (suc (suc k)) index = tt {0}
 
 func_is_counted : (n : ℕ) (o : Option TypeDef) → IfSome o (IsDefCounted n) → IfSome (option_and_then func_in o) (IsItemCounted n)
@@ -129,7 +130,7 @@ type_added first s d c h =
     record {
       count = c.count;
       next = c.next;
-      types = all_append (IsDefCounted s.next) s.types (d ∷ []) c.types (h, tt {0});
+      types = all_both (IsDefCounted s.next) s.types (d ∷ []) c.types (h, tt {0});
       around = c.around;
       items = c.items;
       fresh = c.fresh;
@@ -143,7 +144,7 @@ func_exported first s name i c =
       types = c.types;
       around = c.around;
       items = item_added s.next s.items name (option_and_then func_in (slice_get s.types i)) c.items
-          (func_is_counted s.next (slice_get s.types i) (got (IsDefCounted s.next) s.types i c.types));
+          (func_is_counted s.next (slice_get s.types i) (got_there (IsDefCounted s.next) s.types i c.types));
       fresh = old_added s.items name (option_and_then func_in (slice_get s.types i)) (func_is_old (slice_get s.types i)) ∙ c.fresh;
     }
 
@@ -152,7 +153,7 @@ equal_exported first s name d c h =
     record {
       count = c.count;
       next = c.next;
-      types = all_append (IsDefCounted s.next) s.types (d ∷ []) c.types (h, tt {0});
+      types = all_both (IsDefCounted s.next) s.types (d ∷ []) c.types (h, tt {0});
       around = c.around;
       items = item_added s.next s.items name (type_in d) c.items (type_is_counted s.next d h);
       fresh = old_added s.items name (type_in d) (type_is_old d) ∙ c.fresh;
@@ -163,16 +164,16 @@ fresh_exported first s name c =
     record {
       count = suc c.count;
       next = omega (arith, c.next);
-      types = all_append (IsDefCounted (s.next + 1)) s.types _ (defs_grow s.next (s.next + 1) (omega arith) s.types c.types) (omega arith, tt {0});
+      types = all_both (IsDefCounted (s.next + 1)) s.types _ (defs_grow s.next (s.next + 1) (omega arith) s.types c.types) (omega arith, tt {0});
       around = c.around;
-      items = all_append (λ i. IsItemCounted (s.next + 1) i.desc) s.items _ (items_grow s.next (s.next + 1) (omega arith) s.items c.items) ((refl, omega arith), tt {0});
+      items = all_both (λ i. IsItemCounted (s.next + 1) i.desc) s.items _ (items_grow s.next (s.next + 1) (omega arith) s.items c.items) ((refl, omega arith), tt {0});
       fresh = fresh_append s.items _ ∙ ap (λ l. l ++ s.next ∷ []) c.fresh ∙ ap (λ n. numbers_from first c.count ++ n ∷ []) c.next ∙ sym (one_more first c.count);
     }
 
 exported_one : (first : ℕ) (s : Scope) → Counted first s → (name : List ℕ) (d : ExportDesc) → Counted first (with_export s name d)
 exported_one first s c name (desc.Func i) = func_exported first s name i c
 exported_one first s c name (desc.Type (bound.Equal i)) =
-    equal_exported first s name (unwrap_or (slice_get s.types i) faulty) c (or_faulty s.next (slice_get s.types i) (got (IsDefCounted s.next) s.types i c.types))
+    equal_exported first s name (unwrap_or (slice_get s.types i) faulty) c (or_faulty s.next (slice_get s.types i) (got_there (IsDefCounted s.next) s.types i c.types))
 exported_one first s c name (desc.Type bound.SubResource) = fresh_exported first s name c
 
 declared_one : (first : ℕ) (s : Scope) (d : DeclarationTree) → Counted first s → Counted first (after_declaration s d)

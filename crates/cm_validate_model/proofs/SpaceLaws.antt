@@ -24,22 +24,12 @@ use Rattle.cm_validate_model.specs.Scopes.{value_def_of, func_def_of}
 use Rattle.cm_validate_model.specs.Spaces.{Spaces, empty_spaces, member_at, named_member, member_named, aliased_member, member_of_item, members_from, brought_by, brought_from, next_resource, func_of_member, type_of_member, member_alias, type_alias, new_types, func_ty_in, instance_ty_in, imported_func, imported_instance, next_import, lifted_func, canon_func, exported, func_exported, instance_exported, new_funcs, members_imported, new_instances, new_resources, moved_named, import_desc, new_imports, new_exports, after_item, after_items, spaces_of}
 use Rattle.cm_validate_model.specs.Counted.{IsFuncCounted, IsItemCounted}
 use Rattle.cm_validate_model.specs.CountedSpaces.{AreItemsCounted, fresh_of, fresh_numbers, numbers_from, IsInstanceCounted, IsDefCounted, IsFuncDefCounted, IsMemberCounted, AreMembersCounted, IsExternCounted, IsExportCounted, AreSpacesCounted}
-use Rattle.cm_validate_model.proofs.TypeLaws.{all_append, all_weaker, got, mapped, func_grows, value_def_counted, func_def_counted, number_moved, id_moved, type_moved, func_moved}
+use Rattle.cm_validate_model.proofs.TypeLaws.{all_weaker, func_grows, value_def_counted, func_def_counted, number_moved, id_moved, type_moved, func_moved}
 use Rattle.cm_validate_model.proofs.ScopeLaws.{items_grow, def_grows, defs_grow, instance_counted}
+use Rattle.cm_lemmas.proofs.Lists.{all_both, all_flat, got_there, to_list}
+use Rattle.cm_lemmas.proofs.Options.{and_then, then_map}
 
 -- ---- lists and options
-
-to_list : {A : Type 0} (P : A → Type 0) (o : Option A) → IfSome o P → AllByRecursion P (option_to_list o)
-to_list P None h = tt {0}
-to_list P (Some x) h = (h, tt {0})
-
-and_then : {A B : Type 0} (P : A → Type 0) (Q : B → Type 0) (f : A → Option B) → ((x : A) → P x → IfSome (f x) Q) → (o : Option A) → IfSome o P → IfSome (option_and_then f o) Q
-and_then P Q f g None h = tt {0}
-and_then P Q f g (Some x) h = g x h
-
-all_flat : {A B : Type 0} (P : B → Type 0) (f : A → List B) → ((x : A) → AllByRecursion P (f x)) → (xs : List A) → AllByRecursion P (flat_map f xs)
-all_flat P f g [] = tt {0}
-all_flat P f g (x ∷ xs) = all_append P (f x) (flat_map f xs) (g x) (all_flat P f g xs)
 
 all_map : {A B : Type 0} (P : A → Type 0) (Q : B → Type 0) (f : A → B) → ((x : A) → P x → Q (f x)) → (xs : List A) → AllByRecursion P xs → AllByRecursion Q (map f xs)
 all_map P Q f g [] h = tt {0}
@@ -122,7 +112,7 @@ by_test : (P : MemberDef → Type 0) (d : MemberDef) (o : Option MemberDef) (b :
 by_test P d o true h k = h
 by_test P d o false h k = k
 
-named_known : (n : ℕ) (ms : List NamedMember) (name : List ℕ) → AreMembersCounted n ms → IfSome (member_named ms name) (IsMemberCounted n)
+pub named_known : (n : ℕ) (ms : List NamedMember) (name : List ℕ) → AreMembersCounted n ms → IfSome (member_named ms name) (IsMemberCounted n)
 named_known n [] name h = tt {0}
 named_known n (m ∷ ms) name h = by_test (IsMemberCounted n) m.def (member_named ms name) (bytes_eq m.name name) h.0 (named_known n ms name h.1)
 
@@ -147,7 +137,7 @@ module _ (s : Spaces) (c : AreSpacesCounted s) where
   n = next_resource s
 
   aliased_known : (instance : ℕ) (name : List ℕ) → IfSome (aliased_member s instance name) (IsMemberCounted n)
-  aliased_known instance name = and_then (AreMembersCounted n) (IsMemberCounted n) (λ ms. member_named ms name) (λ ms. named_known n ms name) (slice_get s.instances instance) (got (AreMembersCounted n) s.instances instance c.instances)
+  aliased_known instance name = and_then (AreMembersCounted n) (IsMemberCounted n) (λ ms. member_named ms name) (λ ms. named_known n ms name) (slice_get s.instances instance) (got_there (AreMembersCounted n) s.instances instance c.instances)
 
   alias_known : (a : AliasTree) → IfSome (member_alias s a) (IsMemberCounted n)
   alias_known (instance_export sort instance name) = aliased_known instance name
@@ -157,38 +147,38 @@ module _ (s : Spaces) (c : AreSpacesCounted s) where
   type_known : (a : AliasTree) → IfSome (type_alias s a) (IsDefCounted n)
   type_known (instance_export sort instance name) = and_then (IsMemberCounted n) (IsDefCounted n) type_of_member (type_in_member n) (aliased_member s instance name) (aliased_known instance name)
   type_known (core_instance_export sort instance name) = tt {0}
-  type_known (outer_type o) = got (IsDefCounted n) s.types o.index c.types
+  type_known (outer_type o) = got_there (IsDefCounted n) s.types o.index c.types
 
   imported_func_known : (d : ExternDesc) → IfSome (imported_func s d) (IsFuncCounted n)
-  imported_func_known (desc.Func i) = and_then (IsDefCounted n) (IsFuncCounted n) func_ty_in (func_known n) (slice_get s.types i) (got (IsDefCounted n) s.types i c.types)
+  imported_func_known (desc.Func i) = and_then (IsDefCounted n) (IsFuncCounted n) func_ty_in (func_known n) (slice_get s.types i) (got_there (IsDefCounted n) s.types i c.types)
   imported_func_known (desc.Instance i) = tt {0}
 
   imported_instance_known : (d : ExternDesc) → IfSome (imported_instance s d) (IsInstanceCounted n)
   imported_instance_known (desc.Func i) = tt {0}
-  imported_instance_known (desc.Instance i) = and_then (IsDefCounted n) (IsInstanceCounted n) instance_ty_in (instance_known n) (slice_get s.types i) (got (IsDefCounted n) s.types i c.types)
+  imported_instance_known (desc.Instance i) = and_then (IsDefCounted n) (IsInstanceCounted n) instance_ty_in (instance_known n) (slice_get s.types i) (got_there (IsDefCounted n) s.types i c.types)
 
   canon_known : (t : CanonTree) → IfSome (canon_func s t) (IsFuncDefCounted n)
   canon_known (lift f os i) =
       and_then (IsDefCounted n) (IsFuncDefCounted n) (lifted_func f os)
-      (λ d h. mapped (IsFuncCounted n) (IsFuncDefCounted n) (λ ty. lifted f ty os) (λ ty k. k) (func_ty_in d) (func_known n d h))
-      (slice_get s.types i) (got (IsDefCounted n) s.types i c.types)
+      (λ d h. then_map (IsFuncCounted n) (IsFuncDefCounted n) (λ ty. lifted f ty os) (λ ty k. k) (func_ty_in d) (func_known n d h))
+      (slice_get s.types i) (got_there (IsDefCounted n) s.types i c.types)
   canon_known (lower f os) = tt {0}
   canon_known (resource_new i) = tt {0}
   canon_known (resource_drop i) = tt {0}
   canon_known (resource_rep i) = tt {0}
 
   exported_known : (sort : ExportSort) (i : ℕ) → IfSome (exported s sort i) (IsExportCounted n)
-  exported_known export_sort.Func i = mapped (IsFuncDefCounted n) (IsExportCounted n) exported_func (λ f h. h) (slice_get s.funcs i) (got (IsFuncDefCounted n) s.funcs i c.funcs)
-  exported_known export_sort.Instance i = mapped (AreMembersCounted n) (IsExportCounted n) exported_instance (λ ms h. h) (slice_get s.instances i) (got (AreMembersCounted n) s.instances i c.instances)
+  exported_known export_sort.Func i = then_map (IsFuncDefCounted n) (IsExportCounted n) exported_func (λ f h. h) (slice_get s.funcs i) (got_there (IsFuncDefCounted n) s.funcs i c.funcs)
+  exported_known export_sort.Instance i = then_map (AreMembersCounted n) (IsExportCounted n) exported_instance (λ ms h. h) (slice_get s.instances i) (got_there (AreMembersCounted n) s.instances i c.instances)
 
   member_known : (sort : InstanceExportSort) (i : ℕ) → IfSome (member_at s sort i) (IsMemberCounted n)
-  member_known member_sort.Func i = mapped (IsFuncDefCounted n) (IsMemberCounted n) func_member (λ f h. h) (slice_get s.funcs i) (got (IsFuncDefCounted n) s.funcs i c.funcs)
-  member_known member_sort.Type i = mapped (IsDefCounted n) (IsMemberCounted n) type_member (λ t h. h) (slice_get s.types i) (got (IsDefCounted n) s.types i c.types)
+  member_known member_sort.Func i = then_map (IsFuncDefCounted n) (IsMemberCounted n) func_member (λ f h. h) (slice_get s.funcs i) (got_there (IsFuncDefCounted n) s.funcs i c.funcs)
+  member_known member_sort.Type i = then_map (IsDefCounted n) (IsMemberCounted n) type_member (λ t h. h) (slice_get s.types i) (got_there (IsDefCounted n) s.types i c.types)
 
   named_member_known : (e : InlineExport) → AreMembersCounted n (named_member s e)
   named_member_known e =
       to_list (λ m. IsMemberCounted n m.def) (option_map (λ d. record { name = e.name; def = d }) (member_at s e.sort e.index))
-      (mapped (IsMemberCounted n) (λ m. IsMemberCounted n m.def) (λ d. record { name = e.name; def = d }) (λ d h. h) (member_at s e.sort e.index) (member_known e.sort e.index))
+      (then_map (IsMemberCounted n) (λ m. IsMemberCounted n m.def) (λ d. record { name = e.name; def = d }) (λ d h. h) (member_at s e.sort e.index) (member_known e.sort e.index))
 
   -- those of new types are of the resources after the item
   module _ (m : ℕ) (le : n ≤ m) where
@@ -238,7 +228,7 @@ funcs_added s c (type_item d) = tt {0}
 funcs_added s c (canon_item t) = funcs s c _ (more s (canon_item t)) (canon_func s t) (canon_known s c t)
 funcs_added s c (import_item i) =
     funcs s c _ (more s (import_item i)) (option_map (imported (next_import s) None) (imported_func s i.desc))
-    (mapped (IsFuncCounted (next_resource s)) (IsFuncDefCounted (next_resource s)) (imported (next_import s) None) (λ f h. h) (imported_func s i.desc) (imported_func_known s c i.desc))
+    (then_map (IsFuncCounted (next_resource s)) (IsFuncDefCounted (next_resource s)) (imported (next_import s) None) (λ f h. h) (imported_func s i.desc) (imported_func_known s c i.desc))
 funcs_added s c (export_item e) =
     funcs s c _ (more s (export_item e)) (option_and_then func_exported (exported s e.sort e.index))
     (and_then (IsExportCounted (next_resource s)) (IsFuncDefCounted (next_resource s)) func_exported (func_in_export (next_resource s)) (exported s e.sort e.index) (exported_known s c e.sort e.index))
@@ -272,7 +262,7 @@ extern_imported s i (Some t) e h =
 
 import_counted : (s : Spaces) (c : AreSpacesCounted s) (name : List ℕ) (d : ExternDesc) → IfSome (import_desc s d) (IsExternCounted (next_resource (after_item s (import_item (record { name = name; desc = d })))))
 import_counted s c name (desc.Func i) =
-    mapped (IsFuncCounted (next_resource s)) _ extern.func (λ f h. func_grows _ _ (more s (import_item (record { name = name; desc = desc.Func i }))) f h) (imported_func s (desc.Func i)) (imported_func_known s c (desc.Func i))
+    then_map (IsFuncCounted (next_resource s)) _ extern.func (λ f h. func_grows _ _ (more s (import_item (record { name = name; desc = desc.Func i }))) f h) (imported_func s (desc.Func i)) (imported_func_known s c (desc.Func i))
 import_counted s c name (desc.Instance i) =
     extern_imported s (record { name = name; desc = desc.Instance i }) (imported_instance s (desc.Instance i)) refl (imported_instance_known s c (desc.Instance i))
 
@@ -285,7 +275,7 @@ imports_added s c (type_item d) = tt {0}
 imports_added s c (canon_item t) = tt {0}
 imports_added s c (import_item i) =
     to_list (λ e. IsExternCounted (next_resource (after_item s (import_item i))) e.desc) (option_map (λ d. record { name = i.name; desc = d }) (import_desc s i.desc))
-    (mapped (IsExternCounted (next_resource (after_item s (import_item i)))) (λ e. IsExternCounted (next_resource (after_item s (import_item i))) e.desc) (λ d. record { name = i.name; desc = d }) (λ d h. h)
+    (then_map (IsExternCounted (next_resource (after_item s (import_item i)))) (λ e. IsExternCounted (next_resource (after_item s (import_item i))) e.desc) (λ d. record { name = i.name; desc = d }) (λ d h. h)
     (import_desc s i.desc) (import_counted s c i.name i.desc))
 imports_added s c (export_item e) = tt {0}
 
@@ -299,7 +289,7 @@ exports_added s c (canon_item t) = tt {0}
 exports_added s c (import_item i) = tt {0}
 exports_added s c (export_item e) =
     to_list (λ x. IsExportCounted (next_resource (after_item s (export_item e))) x.def) (option_map (λ d. record { name = e.name; def = d }) (exported s e.sort e.index))
-    (mapped (IsExportCounted (next_resource s)) (λ x. IsExportCounted (next_resource (after_item s (export_item e))) x.def) (λ d. record { name = e.name; def = d })
+    (then_map (IsExportCounted (next_resource s)) (λ x. IsExportCounted (next_resource (after_item s (export_item e))) x.def) (λ d. record { name = e.name; def = d })
     (λ d h. export_grows _ _ (more s (export_item e)) d h) (exported s e.sort e.index) (exported_known s c e.sort e.index))
 
 item_counted : (s : Spaces) (x : Item) → AreSpacesCounted s → AreSpacesCounted (after_item s x)
@@ -307,14 +297,14 @@ item_counted s x c =
     let m : ℕ = next_resource (after_item s x) in
     let le : next_resource s ≤ next_resource (after_item s x) = more s x in
     record {
-      types = all_append (IsDefCounted m) s.types (new_types s x) (defs_grow _ m le s.types c.types) (types_added s c x);
-      funcs = all_append (IsFuncDefCounted m) s.funcs (new_funcs s x)
+      types = all_both (IsDefCounted m) s.types (new_types s x) (defs_grow _ m le s.types c.types) (types_added s c x);
+      funcs = all_both (IsFuncDefCounted m) s.funcs (new_funcs s x)
           (all_weaker (IsFuncDefCounted (next_resource s)) (IsFuncDefCounted m) (λ f. func_grows _ m le (func_type_of f)) s.funcs c.funcs) (funcs_added s c x);
-      instances = all_append (AreMembersCounted m) s.instances (new_instances s x)
+      instances = all_both (AreMembersCounted m) s.instances (new_instances s x)
           (all_weaker (AreMembersCounted (next_resource s)) (AreMembersCounted m) (members_grow _ m le) s.instances c.instances) (instances_added s c x);
-      imports = all_append (λ e. IsExternCounted m e.desc) s.imports (new_imports s x)
+      imports = all_both (λ e. IsExternCounted m e.desc) s.imports (new_imports s x)
           (all_weaker (λ e. IsExternCounted (next_resource s) e.desc) (λ e. IsExternCounted m e.desc) (λ e. extern_grows _ m le e.desc) s.imports c.imports) (imports_added s c x);
-      exports = all_append (λ e. IsExportCounted m e.def) s.exports (new_exports s x)
+      exports = all_both (λ e. IsExportCounted m e.def) s.exports (new_exports s x)
           (all_weaker (λ e. IsExportCounted (next_resource s) e.def) (λ e. IsExportCounted m e.def) (λ e. export_grows _ m le e.def) s.exports c.exports) (exports_added s c x);
     }
 

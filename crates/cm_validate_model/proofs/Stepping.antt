@@ -4,7 +4,8 @@ use Rattle.std.proofs.lemmas.List.{append_assoc}
 use Rattle.cm_validate_model.specs.Items.{Item}
 use Rattle.cm_validate_model.specs.Sources.{IsItemAt}
 use Rattle.cm_validate_model.specs.Spaces.{Spaces, after_item, after_items, empty_spaces}
-use Rattle.cm_validate_model.proofs.ListLemmas.{after_both, nil_right}
+use Rattle.cm_validate_model.proofs.ListLemmas.{after_both}
+use Rattle.cm_lemmas.proofs.Lists.{nil_right}
 
 module _ (items : List Item) (Holds : Spaces → Type 0)
     (step : (s : Spaces) (x : Item) → IsItemAt items s x → Holds s → Holds (after_item s x)) where

@@ -1,5 +1,5 @@
 -- Types that name the first so many resources of a component.
-use Rattle.std.proofs.Common.{◌≡◌, ℕ, zero, suc, ◌+◌, ◌-◌, ◌<◌, ◌≤◌, List, [], ◌∷◌, ◌++◌, Option, Some, None, refl, ap, sym, ◌∙◌, arith, inl, inr, nat_lt}
+use Rattle.std.proofs.Common.{◌≡◌, ℕ, ◌+◌, ◌-◌, ◌<◌, ◌≤◌, List, [], ◌∷◌, Option, Some, None, refl, ap, sym, ◌∙◌, arith, inl, inr, nat_lt}
 use Rattle.std.specs.Prelude.{IfSome, slice_get}
 use Rattle.std.specs.List.{AllByRecursion}
 use Rattle.std.specs.Option.{option_map, option_map_or, option_and_then}
@@ -21,25 +21,15 @@ use Rattle.cm_validate_model.specs.Moves.{moved, moved_id, moved_type, moved_fie
 use Rattle.cm_validate_model.specs.Scopes.{resource_id, value_in, resource_in, primitive_type, value_of, both, payload_of, fields_in, parts_in, cases_in, option_cases, result_cases, handle_of, value_defined, func_defined, value_def_of, func_def_of}
 use Rattle.cm_validate_model.specs.Counted.{IsAmongFirst, IsCounted, AreCounted, AreCasesCounted, IsFuncCounted}
 use Rattle.cm_validate_model.specs.CountedSpaces.{IsDefCounted}
+use Rattle.cm_types.proofs.TypesLaws.{make_func}
+use Rattle.cm_lemmas.proofs.Lists.{got_there}
+use Rattle.cm_lemmas.proofs.Options.{then_map}
 
 -- ---- lists and options
-
-pub all_append : {A : Type 0} (P : A → Type 0) (xs ys : List A) → AllByRecursion P xs → AllByRecursion P ys → AllByRecursion P (xs ++ ys)
-all_append P [] ys h k = k
-all_append P (x ∷ xs) ys h k = (h.0, all_append P xs ys h.1 k)
 
 pub all_weaker : {A : Type 0} (P Q : A → Type 0) → ((x : A) → P x → Q x) → (xs : List A) → AllByRecursion P xs → AllByRecursion Q xs
 all_weaker P Q f [] h = tt {0}
 all_weaker P Q f (x ∷ xs) h = (f x h.0, all_weaker P Q f xs h.1)
-
-pub got : {A : Type 0} (P : A → Type 0) (xs : List A) (i : ℕ) → AllByRecursion P xs → IfSome (slice_get xs i) P
-got P [] i h = tt {0}
-got P (x ∷ xs) zero h = h.0
-got P (x ∷ xs) (suc i) h = got P xs i h.1
-
-pub mapped : {A B : Type 0} (P : A → Type 0) (Q : B → Type 0) (f : A → B) → ((x : A) → P x → Q (f x)) → (o : Option A) → IfSome o P → IfSome (option_map f o) Q
-mapped P Q f g None h = tt {0}
-mapped P Q f g (Some x) h = g x h
 
 pub both_have : {A B C : Type 0} (P : A → Type 0) (Q : B → Type 0) (R : C → Type 0) (f : A → B → C) → ((x : A) (y : B) → P x → Q y → R (f x y))
     → (a : Option A) (b : Option B) → IfSome a P → IfSome b Q → IfSome (both f a b) R
@@ -117,11 +107,11 @@ resource_of_def n (Some faulty) h = tt {0}
 module _ (n : ℕ) (types : List TypeDef) (known : AllByRecursion (IsDefCounted n) types) where
   value_counted : (t : ValType) → IfSome (value_of types t) (IsCounted n)
   value_counted (val_type.Primitive p) = primitive_counted n p
-  value_counted (val_type.Index i) = value_of_def n (slice_get types i) (got (IsDefCounted n) types i known)
+  value_counted (val_type.Index i) = value_of_def n (slice_get types i) (got_there (IsDefCounted n) types i known)
 
   payload_counted : (o : Option ValType) → IfSome (payload_of types o) (λ p. IfSome p (IsCounted n))
   payload_counted None = tt {0}
-  payload_counted (Some t) = mapped (IsCounted n) (λ p. IfSome p (IsCounted n)) (λ x. Some x) (λ x h. h) (value_of types t) (value_counted t)
+  payload_counted (Some t) = then_map (IsCounted n) (λ p. IfSome p (IsCounted n)) (λ x. Some x) (λ x h. h) (value_of types t) (value_counted t)
 
   fields_counted : (fs : List LabeledValType) → IfSome (fields_in types fs) (AreCounted n)
   fields_counted [] = tt {0}
@@ -147,19 +137,19 @@ module _ (n : ℕ) (types : List TypeDef) (known : AllByRecursion (IsDefCounted 
 
   handle_counted : (h : ResourceId → Ty) → ((r : ResourceId) → IsAmongFirst n r → IsCounted n (h r)) → (i : ℕ) → IfSome (handle_of h types i) (IsCounted n)
   handle_counted h f i =
-      mapped (λ k. k < n) (IsCounted n) (λ k. h (resource_id k)) (λ k lt. f (resource_id k) (refl, lt)) (option_and_then resource_in (slice_get types i))
-      (resource_of_def n (slice_get types i) (got (IsDefCounted n) types i known))
+      then_map (λ k. k < n) (IsCounted n) (λ k. h (resource_id k)) (λ k lt. f (resource_id k) (refl, lt)) (option_and_then resource_in (slice_get types i))
+      (resource_of_def n (slice_get types i) (got_there (IsDefCounted n) types i known))
 
   defined_counted : (d : DefValTypeTree) → IfSome (value_defined types d) (IsCounted n)
   defined_counted (primitive p) = primitive_counted n p
-  defined_counted (record_of fs) = mapped (AreCounted n) (IsCounted n) (fields record_type) (λ x h. h) (fields_in types fs) (fields_counted fs)
-  defined_counted (variant_of cs) = mapped (AreCasesCounted n) (IsCounted n) (cases variant_type) (λ x h. h) (cases_in types cs) (cases_counted cs)
-  defined_counted (list_of t) = mapped (IsCounted n) (IsCounted n) list (λ x h. h) (value_of types t) (value_counted t)
-  defined_counted (fixed_list_of t k) = mapped (IsCounted n) (IsCounted n) (λ x. fixed_list x k) (λ x h. h) (value_of types t) (value_counted t)
-  defined_counted (tuple_of ts) = mapped (AreCounted n) (IsCounted n) (fields tuple_type) (λ x h. h) (parts_in types ts) (parts_counted ts)
+  defined_counted (record_of fs) = then_map (AreCounted n) (IsCounted n) (fields record_type) (λ x h. h) (fields_in types fs) (fields_counted fs)
+  defined_counted (variant_of cs) = then_map (AreCasesCounted n) (IsCounted n) (cases variant_type) (λ x h. h) (cases_in types cs) (cases_counted cs)
+  defined_counted (list_of t) = then_map (IsCounted n) (IsCounted n) list (λ x h. h) (value_of types t) (value_counted t)
+  defined_counted (fixed_list_of t k) = then_map (IsCounted n) (IsCounted n) (λ x. fixed_list x k) (λ x h. h) (value_of types t) (value_counted t)
+  defined_counted (tuple_of ts) = then_map (AreCounted n) (IsCounted n) (fields tuple_type) (λ x h. h) (parts_in types ts) (parts_counted ts)
   defined_counted (flags_of ls) = tt {0}
   defined_counted (enum_of ls) = plain_counted ls
-  defined_counted (option_of t) = mapped (IsCounted n) (IsCounted n) (λ x. cases option_type (option_cases x)) (λ x h. (h, tt {0})) (value_of types t) (value_counted t)
+  defined_counted (option_of t) = then_map (IsCounted n) (IsCounted n) (λ x. cases option_type (option_cases x)) (λ x h. (h, tt {0})) (value_of types t) (value_counted t)
   defined_counted (result_of ok error) =
       both_have (λ p. IfSome p (IsCounted n)) (λ p. IfSome p (IsCounted n)) (IsCounted n) (λ x y. cases result_type (result_cases x y))
       (λ x y h k. case_counted _ x _ h (case_counted _ y no_cases k (tt {0})))
@@ -181,9 +171,6 @@ module _ (n : ℕ) (types : List TypeDef) (known : AllByRecursion (IsDefCounted 
 
   pub func_def_counted : (f : FuncTypeTree) → IsDefCounted n (func_def_of types f)
   func_def_counted f = def_of_some (IsFuncCounted n) func_type (λ x h. h) (func_defined types f) (func_counted f)
-
-abbrev func_with : Fields → Option Ty → FuncTy
-func_with ps r = record { params = ps; result = r }
 
 -- ---- resources that an import moves
 
@@ -223,7 +210,7 @@ module _ (i : InstanceTy) (next : ℕ) where
       cases_moved (carrying l t cs) h = (type_moved t h.0, cases_moved cs h.1)
 
     pub func_moved : (f : FuncTy) → IsFuncCounted (i.first + i.fresh) f → IsFuncCounted (next + i.fresh) (moved_func i next f)
-    func_moved f h = (fields_moved f.params h.0, mapped (IsCounted (i.first + i.fresh)) (IsCounted (next + i.fresh)) (moved_type i next) type_moved f.result h.1)
+    func_moved f h = (fields_moved f.params h.0, then_map (IsCounted (i.first + i.fresh)) (IsCounted (next + i.fresh)) (moved_type i next) type_moved f.result h.1)
 
   -- ---- a move of what is counted is one of a range
 
@@ -266,8 +253,8 @@ module _ (i : InstanceTy) (next : ℕ) where
 
   pub func_ranged : (f : FuncTy) → IsFuncCounted (i.first + i.fresh) f → moved_func i next f ≡ replaced_func (moved_range i.first i.fresh next) f
   func_ranged f h =
-      ap (λ ps. func_with ps (option_map (moved_type i next) f.result)) (fields_ranged f.params h.0)
-      ∙ ap (func_with (replaced_fields (moved_range i.first i.fresh next) f.params)) (answer_ranged f.result h.1)
+      ap (λ ps. make_func ps (option_map (moved_type i next) f.result)) (fields_ranged f.params h.0)
+      ∙ ap (make_func (replaced_fields (moved_range i.first i.fresh next) f.params)) (answer_ranged f.result h.1)
 
   -- ---- what names no resource of the instance's own
 

@@ -11,6 +11,8 @@ use Rattle.cm_validate_model.specs.Items.{Item, items_of, all_items}
 use Rattle.cm_validate_model.specs.Spaces.{Spaces, empty_spaces, after_item, after_items}
 use Rattle.cm_validate_model.specs.Rules.{broken}
 use Rattle.cm_validate_model.specs.Valid.{IsValidFrom, IsValid, IsLeast, IsFirstFault, IsFaultOf}
+use Rattle.cm_validate_model.proofs.ListLemmas.{after_both}
+use Rattle.cm_lemmas.proofs.Lists.{nil_right}
 
 -- ---- lists
 
@@ -21,10 +23,6 @@ head_or x (y ∷ ys) = y
 abbrev tail : {A : Type 0} → List A → List A
 tail [] = []
 tail (y ∷ ys) = ys
-
-nil_right : {A : Type 0} (xs : List A) → xs ++ [] ≡ xs
-nil_right [] = refl
-nil_right (x ∷ xs) = ap (λ l. x ∷ l) (nil_right xs)
 
 -- two places of one list: one is before the other, or they are the same
 Apart : {A : Type 0} → List A → List A → List A → List A → A → A → Type 0
@@ -49,12 +47,12 @@ places (z ∷ a) (w ∷ b) c d x y e = further a b c d x y z w (ap (head_or z) e
 nothing_there : (r : ValidReason) → Contains [] r → ⊥
 nothing_there r c = omega (arith, c.1)
 
-at_or_behind : (q : ValidReason) (rs : List ValidReason) (r : ValidReason) → reason_number r ≤ reason_number q → ((y : ValidReason) → Contains rs y → reason_number r ≤ reason_number y)
+pub at_or_behind : (q : ValidReason) (rs : List ValidReason) (r : ValidReason) → reason_number r ≤ reason_number q → ((y : ValidReason) → Contains rs y → reason_number r ≤ reason_number y)
     → (y : ValidReason) (k : ℕ) → k < length (q ∷ rs) → slice_index_or (q ∷ rs) k y ≡ y → reason_number r ≤ reason_number y
 at_or_behind q rs r h b y zero lt e = subst (λ v. reason_number r ≤ reason_number v) e h
 at_or_behind q rs r h b y (suc k) lt e = b y (k, omega (arith, lt), e)
 
-least_of_more : (q : ValidReason) (rs : List ValidReason) (r : ValidReason) → Contains (q ∷ rs) r → reason_number r ≤ reason_number q
+pub least_of_more : (q : ValidReason) (rs : List ValidReason) (r : ValidReason) → Contains (q ∷ rs) r → reason_number r ≤ reason_number q
     → ((y : ValidReason) → Contains rs y → reason_number r ≤ reason_number y) → IsLeast (q ∷ rs) r
 least_of_more q rs r there h b = record { there = there; least = λ y c. at_or_behind q rs r h b y c.0 c.1 c.2 }
 
@@ -114,17 +112,13 @@ one_least rs q r f g =
 
 -- ---- items
 
-after_both : (s : Spaces) (xs ys : List Item) → after_items s (xs ++ ys) ≡ after_items (after_items s xs) ys
-after_both s [] ys = refl
-after_both s (x ∷ xs) ys = after_both (after_item s x) xs ys
-
 valid_front : (s : Spaces) (xs ys : List Item) → IsValidFrom s (xs ++ ys) → IsValidFrom s xs
 valid_front s xs ys v = λ front x rest e. v front x (rest ++ ys) (ap (λ l. l ++ ys) e ∙ append_assoc front (x ∷ rest) ys)
 
 valid_behind : (s : Spaces) (xs ys : List Item) → IsValidFrom s (xs ++ ys) → IsValidFrom (after_items s xs) ys
 valid_behind s xs ys v = λ front x rest e. ap (λ t. broken t x) (sym (after_both s xs front)) ∙ v (xs ++ front) x rest (ap (λ l. xs ++ l) e ∙ sym (append_assoc xs front (x ∷ rest)))
 
-valid_more : (s : Spaces) (x : Item) (xs : List Item) → broken s x ≡ [] → IsValidFrom (after_item s x) xs
+pub valid_more : (s : Spaces) (x : Item) (xs : List Item) → broken s x ≡ [] → IsValidFrom (after_item s x) xs
     → (front : List Item) (y : Item) (rest : List Item) → x ∷ xs ≡ front ++ y ∷ rest → broken (after_items s front) y ≡ []
 valid_more s x xs h v [] y rest e = ap (broken s) (sym (ap (head_or x) e)) ∙ h
 valid_more s x xs h v (z ∷ front) y rest e = ap (λ w. broken (after_items (after_item s w) front) y) (sym (ap (head_or x) e)) ∙ v front y rest (ap tail e)
@@ -182,7 +176,7 @@ answer s (x ∷ xs) = answer_more s x xs (broken s x) refl (answer (after_item s
 
 -- ---- sections
 
-all_both : (xs ys : List SectionTree) → all_items (xs ++ ys) ≡ all_items xs ++ all_items ys
+pub all_both : (xs ys : List SectionTree) → all_items (xs ++ ys) ≡ all_items xs ++ all_items ys
 all_both [] ys = refl
 all_both (x ∷ xs) ys = ap (λ l. items_of x ++ l) (all_both xs ys) ∙ sym (append_assoc (items_of x) (all_items xs) (all_items ys))
 

@@ -1,2 +1,2 @@
-mod PlaceLaws
+pub mod PlaceLaws
 mod NameLaws

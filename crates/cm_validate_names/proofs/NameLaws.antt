@@ -4,6 +4,7 @@ use Rattle.std.specs.List.{list_any}
 use Rattle.std.specs.Str.{bytes_eq}
 use Rattle.cm_types.specs.Names.{is_same_name}
 use Rattle.cm_validate_names.specs.Names.{without_case}
+use Rattle.cm_lemmas.proofs.Bools.{or_false_turned}
 
 or_later : (b c d : Bool) → ((b || c) || d) ≡ (b || (c || d))
 or_later true c d = refl
@@ -20,10 +21,6 @@ one_more text name old new same is n =
     ∙ any_more (bytes_eq (without_case n)) old text
     ∙ ap (λ t. list_any (bytes_eq (without_case n)) old || (bytes_eq (without_case n) t || false)) same
 
-or_none : (b : Bool) → b ≡ (b || false)
-or_none true = refl
-or_none false = refl
-
 pub none_more : (old new : List (List ℕ)) → new ≡ old
     → (n : List ℕ) → list_any (bytes_eq (without_case n)) new ≡ (list_any (bytes_eq (without_case n)) old || list_any (is_same_name n) [])
-none_more old new is n = ap (list_any (bytes_eq (without_case n))) is ∙ or_none (list_any (bytes_eq (without_case n)) old)
+none_more old new is n = ap (list_any (bytes_eq (without_case n))) is ∙ or_false_turned (list_any (bytes_eq (without_case n)) old)

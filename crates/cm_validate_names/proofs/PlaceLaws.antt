@@ -1,5 +1,5 @@
 -- Places of names, and what stands at them.
-use Rattle.std.proofs.Common.{◌≡◌, inl, inr, ℕ, suc, ◌+◌, Bool, true, false, cond, if◌then◌else◌, List, [], ◌∷◌, ◌++◌, length, Option, Some, None, is_some, refl, sym, ap, ◌∙◌, arith, slice_get}
+use Rattle.std.proofs.Common.{◌≡◌, inl, inr, ℕ, suc, ◌+◌, Bool, true, false, cond, if◌then◌else◌, List, [], ◌∷◌, ◌++◌, length, Option, Some, None, refl, sym, ap, ◌∙◌, arith, slice_get}
 use Rattle.std.proofs.lemmas.Bool.{cases_Bool}
 use Rattle.std.proofs.lemmas.Map.Text.{btree_map_updates_str}
 use Rattle.std.proofs.lemmas.Slice.Eq.{bytes_eq-Decides}
@@ -11,6 +11,7 @@ use Rattle.std.specs.Option.{option_map, option_or}
 use Rattle.std.specs.Ordering.{nat_cmp}
 use Rattle.std.specs.Str.{bytes_eq}
 use Rattle.cm_validate_names.specs.NamedValues.{ArePlaced, names_in, place_of, value_of}
+use Rattle.cm_lemmas.proofs.Options.{or_none}
 
 -- ---- what stands at the place of a name
 
@@ -62,10 +63,6 @@ later : (b : Bool) (i n : ℕ) (o : Option ℕ) (d : Bool) → cond b (Some i) (
 later true i n o d = refl
 later false i n o d = refl
 
-or_none : (o : Option ℕ) → option_or o None ≡ o
-or_none None = refl
-or_none (Some x) = refl
-
 place_more : (name : List ℕ) (ns : List (List ℕ)) (x : List ℕ) (i : ℕ)
     → position_from (bytes_eq name) i (ns ++ x ∷ []) ≡ option_or (position_from (bytes_eq name) i ns) (if bytes_eq name x then Some (i + length ns) else None)
 place_more name [] x i = here (bytes_eq name x)
@@ -77,11 +74,11 @@ place_more name (n ∷ ns) x i =
     ap (cond (bytes_eq name n) (Some i)) (place_more name ns x (i + 1) ∙ ap (λ k. option_or (position_from (bytes_eq name) (i + 1) ns) (if bytes_eq name x then Some k else None)) (omega arith))
     ∙ later (bytes_eq name n) i (i + length (n ∷ ns)) (position_from (bytes_eq name) (i + 1) ns) (bytes_eq name x)
 
-names_more : {V : Type 0} (es : List (Bor (List ℕ) × V)) (e : Bor (List ℕ) × V) → names_in (es ++ e ∷ []) ≡ names_in es ++ e.0.now ∷ []
+pub names_more : {V : Type 0} (es : List (Bor (List ℕ) × V)) (e : Bor (List ℕ) × V) → names_in (es ++ e ∷ []) ≡ names_in es ++ e.0.now ∷ []
 names_more [] e = refl
 names_more (x ∷ es) e = ap (λ ns. x.0.now ∷ ns) (names_more es e)
 
-names_length : {V : Type 0} (es : List (Bor (List ℕ) × V)) → length (names_in es) ≡ length es
+pub names_length : {V : Type 0} (es : List (Bor (List ℕ) × V)) → length (names_in es) ≡ length es
 names_length [] = refl
 names_length (x ∷ es) = ap suc (names_length es)
 
@@ -114,7 +111,3 @@ put_last old new es e n placed absent last updates name =
       where
         apart : bytes_eq e.0.now name ≡ false → bytes_eq e.0.now name ≡ true → ⊥
         apart f g = absurd cc
-
-pub is_none : {A : Type 0} (o : Option A) → is_some o ≡ false → o ≡ None
-is_none None e = refl
-is_none (Some x) e = absurd cc

@@ -1,10 +1,12 @@
 -- A list of texts is read from its front, and each text is looked for in the set of those before it.
-use Rattle.std.proofs.Common.{◌≡◌, ℕ, ◌+◌, ◌<◌, Bool, true, false, ◌&&◌, ◌||◌, not, cond, List, [], ◌∷◌, length, get_or, drop, map, refl, sym, ◌∙◌, ap, add-one, drop-cons}
+use Rattle.std.proofs.Common.{◌≡◌, ℕ, ◌+◌, ◌<◌, Bool, true, false, ◌&&◌, ◌||◌, not, cond, List, [], ◌∷◌, length, get_or, drop, map, refl, sym, ◌∙◌, ap}
 use Rattle.std.specs.List.{list_all, list_any}
 use Rattle.std.specs.Str.{bytes_eq}
 use Rattle.std.specs.Char.{to_ascii_lowercase}
 use Rattle.cm_types.specs.Names.{is_same_name}
 use Rattle.cm_validate_model.specs.TypeRules.{are_distinct_names}
+use Rattle.cm_lemmas.proofs.Lists.{none_of_more, none_is_seen, next_element}
+use Rattle.cm_lemmas.proofs.Bools.{and_assoc}
 
 -- no two of these texts are equal
 abbrev pub are_distinct : List (List ℕ) → Bool
@@ -38,47 +40,20 @@ or_swap true false c = refl
 or_swap false true c = refl
 or_swap false false c = refl
 
-all_not_in_nothing : (has : List ℕ → Bool) (xs : List (List ℕ)) → ((q : List ℕ) → has q ≡ false) → list_all (λ x. not (has x)) xs ≡ true
-all_not_in_nothing has [] none = refl
-all_not_in_nothing has (x ∷ xs) none = ap (λ b. not b && list_all (λ y. not (has y)) xs) (none x) ∙ all_not_in_nothing has xs none
-
 -- before the first text the set is empty
 pub rest_is_distinct-empty : (has : List ℕ → Bool) (xs : List (List ℕ)) → ((q : List ℕ) → has q ≡ false) → rest_is_distinct has xs ≡ are_distinct xs
-rest_is_distinct-empty has xs none = ap (λ b. b && are_distinct xs) (all_not_in_nothing has xs none)
+rest_is_distinct-empty has xs none = ap (λ b. b && are_distinct xs) (none_is_seen has xs none)
 
 -- a text that is in the set stands twice
 pub rest_is_distinct-seen : (has : List ℕ → Bool) (x : List ℕ) (xs : List (List ℕ)) → has x ≡ true → rest_is_distinct has (x ∷ xs) ≡ false
 rest_is_distinct-seen has x xs e = ap (λ b. (not b && list_all (λ y. not (has y)) xs) && are_distinct (x ∷ xs)) e
 
-one_more : (b f a n : Bool) → (not (cond b true f) && (a && not n)) ≡ ((not f && a) && not (b || n))
-one_more true true a n = refl
-one_more true false true n = refl
-one_more true false false n = refl
-one_more false true a n = refl
-one_more false false true n = refl
-one_more false false false n = refl
-
-all_not_in_more : (has more : List ℕ → Bool) (x : List ℕ) (xs : List (List ℕ)) → ((q : List ℕ) → more q ≡ cond (bytes_eq x q) true (has q)) → list_all (λ y. not (more y)) xs ≡ (list_all (λ y. not (has y)) xs && not (list_any (bytes_eq x) xs))
-all_not_in_more has more x [] grows = refl
-all_not_in_more has more x (y ∷ ys) grows =
-    ap (λ b. not b && list_all (λ z. not (more z)) ys) (grows y)
-    ∙ ap (λ b. not (cond (bytes_eq x y) true (has y)) && b) (all_not_in_more has more x ys grows)
-    ∙ one_more (bytes_eq x y) (has y) (list_all (λ z. not (has z)) ys) (list_any (bytes_eq x) ys)
-
-and_assoc : (a b c : Bool) → ((a && b) && c) ≡ (a && (b && c))
-and_assoc true b c = refl
-and_assoc false b c = refl
-
 -- a new text goes into the set
 pub rest_is_distinct-new : (has more : List ℕ → Bool) (x : List ℕ) (xs : List (List ℕ)) → has x ≡ false → ((q : List ℕ) → more q ≡ cond (bytes_eq x q) true (has q)) → rest_is_distinct more xs ≡ rest_is_distinct has (x ∷ xs)
 rest_is_distinct-new has more x xs new grows =
-    ap (λ b. b && are_distinct xs) (all_not_in_more has more x xs grows)
+    ap (λ b. b && are_distinct xs) (none_of_more has more x xs grows)
     ∙ and_assoc (list_all (λ y. not (has y)) xs) (not (list_any (bytes_eq x) xs)) (are_distinct xs)
     ∙ sym (ap (λ b. (not b && list_all (λ y. not (has y)) xs) && are_distinct (x ∷ xs)) new)
-
--- the next element of a list that is read by index
-pub next_element : {A B : Type 0} (key : A → B) (xs : List A) (i : ℕ) (x : A) → i < length xs → x ≡ get_or xs i x → map key (drop i xs) ≡ key x ∷ map key (drop (i + 1) xs)
-next_element key xs i x lt is = rw (add-one, drop-cons xs i x lt, ← is) refl
 
 is_false : (new b : Bool) → new ≡ not b → new ≡ true → b ≡ false
 is_false new true e n = absurd cc

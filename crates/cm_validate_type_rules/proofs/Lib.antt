@@ -1,2 +1,1 @@
-pub mod ReasonLaws
 pub mod DistinctLaws

@@ -6,8 +6,10 @@ use Rattle.cm_wit_tokens.specs.declared.fault.WitReason.{WitReason}
 use Rattle.cm_wit_tokens.specs.declared.fault.WitReason.TheVariants as reason
 use Rattle.cm_wit_tokens.specs.Faults.{Fault, flaw}
 use Rattle.cm_wit_tokens.specs.Grammar.{first, Grammar, done, ◌>>=◌, taken, token_reads, token, passes, chosen}
-use Rattle.cm_wit_tokens.proofs.Tools.{ok_of, err_of, ok_is, err_is, then_ok, then_err, then_from_err, first-append, first_same, same_front, not_behind, parts_behind}
+use Rattle.cm_wit_tokens.proofs.Tools.{then_ok, then_err, then_from_err, first-append, first_same, same_front, not_behind, parts_behind}
 pub use Rattle.cm_wit_tokens.specs.Exact.{Takes, IsRest, Lawful}
+use Rattle.cm_lemmas.proofs.Equations.{err_is, ok_is}
+use Rattle.cm_lemmas.proofs.Results.{err_of, ok_of}
 
 -- ---- no tokens
 

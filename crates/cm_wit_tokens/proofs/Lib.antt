@@ -12,3 +12,5 @@ pub mod MostLaws
 pub mod WholeLaws
 pub mod TextLaws
 mod KeywordLaws
+pub mod FaultsLaws
+pub mod ReadLaws

@@ -12,9 +12,11 @@ use Rattle.cm_wit_tokens.specs.declared.keyword.Keyword.{Keyword}
 use Rattle.cm_wit_tokens.specs.Parts.{expect, expect_word}
 use Rattle.cm_wit_tokens.specs.Exact.{Shortens}
 use Rattle.cm_wit_tokens.specs.Lists.{next_item, items, and_more, last_comma, at_most, items_and, is_member, next_member, members}
-use Rattle.cm_wit_tokens.proofs.Tools.{ok_of, ok_is, then_ok, length_behind}
+use Rattle.cm_wit_tokens.proofs.Tools.{then_ok, length_behind}
 use Rattle.cm_wit_tokens.proofs.Laws.{Lawful, done_lawful, bind_lawful, token_lawful, chosen_lawful, if_ok}
 use Rattle.cm_wit_tokens.proofs.StepLaws.{Moves, steps_lawful}
+use Rattle.cm_lemmas.proofs.Equations.{ok_is}
+use Rattle.cm_lemmas.proofs.Results.{ok_of}
 
 pub no_longer : {A : Type 0} (g : Grammar A) → Lawful g → (ts : List Token) (x : A) (rest : List Token) → g.reads ts ≡ Ok (x, rest) → length rest ≤ length ts
 no_longer g l ts x rest e = let t = l.takes ts x rest e in omega (arith, length_behind ts t.front rest t.parts)
@@ -121,7 +123,7 @@ pub record StepsGo {A : Type 0} (g : Grammar (Option A)) (xs : List A) (rest : L
 pub steps_begin : {A : Type 0} (g : Grammar (Option A)) (xs : List A) (ts : List Token) → StepsGo g xs ts (with_front xs ((steps g).reads ts))
 steps_begin g xs ts = record { turns = suc (length ts); enough = omega arith; same = refl }
 
-turn : {A : Type 0} (g : Grammar (Option A)) (turns : ℕ) (rest : List Token) → length rest < turns → (fewer : ℕ) × (turns ≡ suc fewer) × (steps_in g turns rest ≡ and_then (g.reads rest) (λ p. after_step (steps_in g fewer) p.0 p.1))
+pub turn : {A : Type 0} (g : Grammar (Option A)) (turns : ℕ) (rest : List Token) → length rest < turns → (fewer : ℕ) × (turns ≡ suc fewer) × (steps_in g turns rest ≡ and_then (g.reads rest) (λ p. after_step (steps_in g fewer) p.0 p.1))
 unfolding steps_in
 turn g zero rest lt = absurd (omega (arith, lt))
 turn g (suc fewer) rest lt = (fewer, refl, refl)

@@ -8,7 +8,7 @@ use Rattle.cm_wit_tokens.specs.declared.fault.ReadError.TheVariants as errors
 use Rattle.cm_wit_tokens.specs.Faults.{Fault, Fails, and_then}
 use Rattle.cm_wit_tokens.specs.Grammar.{Grammar, ◌>>=◌, with_front}
 use Rattle.cm_wit_tokens.specs.Lists.{next_item, and_more, last_comma, at_most}
-use Rattle.cm_wit_tokens.proofs.Tools.{ok_of}
+use Rattle.cm_lemmas.proofs.Results.{ok_of}
 
 -- These were read, in so many turns of most, and the rest makes all.
 pub record MostGo {A : Type 0} (closing : Operator) (g : Grammar A) (most turn : ℕ) (xs : List A) (rest : List Token) (all : Result (List A × List Token) Fault) : Type 0 where

@@ -8,8 +8,9 @@ use Rattle.cm_wit_tokens.specs.Faults.{Fault}
 use Rattle.cm_wit_tokens.specs.Grammar.{Grammar}
 use Rattle.cm_wit_tokens.specs.Reading.{next_left}
 use Rattle.cm_wit_tokens.specs.Whole.{whole, end_fault, place_fault, at_stop, placed, text_reads, IsMemory, Answers, IsTextOf, IsRefused, place, IsFaultOf}
-use Rattle.cm_wit_tokens.proofs.Tools.{ok_of, ok_is, err_is}
 use Rattle.cm_wit_tokens.proofs.WholeLaws.{whole_is_text, text_is_whole, whole_refused}
+use Rattle.cm_lemmas.proofs.Equations.{err_is, ok_is}
+use Rattle.cm_lemmas.proofs.Results.{ok_of}
 
 -- ---- what is read is a text
 

@@ -4,18 +4,8 @@ use Rattle.std.proofs.lemmas.List.{length-append, append_cancel_right}
 use Rattle.cm_wit_tokens.specs.declared.token.Token.{Token}
 use Rattle.cm_wit_tokens.specs.Faults.{Fault, and_then}
 use Rattle.cm_wit_tokens.specs.Grammar.{first, first_or}
-
-abbrev pub ok_of : {A : Type 0} (E : Type 0) → A → Result A E
-ok_of E x = Ok x
-
-abbrev pub err_of : {E : Type 0} (A : Type 0) → E → Result A E
-err_of A f = Err f
-
-pub ok_is : {A : Type 0} (E : Type 0) (x y : A) → ok_of E x ≡ ok_of E y → x ≡ y
-ok_is E x y e = cc
-
-pub err_is : {E : Type 0} (A : Type 0) (f d : E) → err_of A f ≡ err_of A d → f ≡ d
-err_is A f d e = cc
+use Rattle.cm_lemmas.proofs.Equations.{err_is}
+use Rattle.cm_lemmas.proofs.Results.{err_of}
 
 pub then_ok : {A B : Type 0} (r : Result A Fault) (next : A → Result B Fault) (y : B) → and_then r next ≡ Ok y → (x : A) × (r ≡ Ok x) × (next x ≡ Ok y)
 then_ok (Ok x) next y e = (x, refl, e)

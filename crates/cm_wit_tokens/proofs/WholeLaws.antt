@@ -5,8 +5,10 @@ use Rattle.cm_wit_tokens.specs.Faults.{Fault, flaw}
 use Rattle.cm_wit_tokens.specs.Grammar.{first, Grammar, IsText}
 use Rattle.cm_wit_tokens.specs.Parts.{other_fault}
 use Rattle.cm_wit_tokens.specs.Whole.{to_end, whole, CannotStand, IsRefused}
-use Rattle.cm_wit_tokens.proofs.Tools.{ok_of, err_of, ok_is, err_is, then_ok, then_err}
+use Rattle.cm_wit_tokens.proofs.Tools.{then_ok, then_err}
 use Rattle.cm_wit_tokens.proofs.Laws.{Lawful}
+use Rattle.cm_lemmas.proofs.Equations.{err_is, ok_is}
+use Rattle.cm_lemmas.proofs.Results.{err_of, ok_of}
 
 end_ok : {A : Type 0} (x y : A) (rest : List Token) → to_end x rest ≡ Ok y → (rest ≡ []) × (x ≡ y)
 end_ok x y [] e = (refl, ok_is Fault x y e)

@@ -4,8 +4,11 @@ use Rattle.cm_binary_model.specs.Trees.{ArgTree, arg_tree}
 use Rattle.cm_validate_names.specs.NameMaps.{entries_of}
 use Rattle.cm_validate_model.specs.Rules.{are_distinct_texts}
 use Rattle.cm_validate_core.proofs.PlaceLaws.{has_name, name_more}
-use Rattle.cm_validate_core.proofs.TextLaws.{at_first, seen_first, was_new, mapped_twice}
+use Rattle.cm_validate_core.proofs.TextLaws.{seen_first}
 use Rattle.cm_validate_core.proofs.instances.args_are_distinct.Goals as goal
+use Rattle.cm_validate_model.proofs.RulesLaws.{at_first}
+use Rattle.cm_lemmas.proofs.Lists.{mapped_twice}
+use Rattle.cm_lemmas.proofs.Bools.{was_new}
 
 pub loop-arg-init : goal.loop-arg-init
 loop-arg-init c =

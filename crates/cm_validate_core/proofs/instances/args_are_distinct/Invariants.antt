@@ -4,8 +4,8 @@ use Rattle.cm_binary_model.specs.Trees.{arg_tree}
 use Rattle.cm_validate_model.specs.Rules.{are_distinct_texts}
 use Rattle.cm_validate_names.specs.NameMaps.{entries_of}
 use Rattle.cm_validate_core.proofs.PlaceLaws.{has_name}
-use Rattle.cm_validate_core.proofs.TextLaws.{rest_is_distinct}
 use Rattle.cm_validate_core.proofs.instances.args_are_distinct.Given as goal
+use Rattle.cm_validate_model.proofs.SharedLaws.{rest_is_distinct}
 
 -- those to come differ from those that were seen, and from one another, where all differ
 abbrev pub invariant-loop-arg : goal.invariant-loop-arg

@@ -1,8 +1,8 @@
 use Rattle.std.proofs.Common.{[], get_or, refl, ◌∙◌, map}
 use Rattle.std.specs.BTreeSet.{contains_text}
 use Rattle.cm_validate_type_rules.proofs.DistinctLaws.{distinct_labels, folded, goes_on, met_again, rest_is_distinct-empty}
-use Rattle.cm_validate_type_rules.proofs.ReasonLaws.{element_again}
 use Rattle.cm_validate_type_rules.proofs.labels.names_are_distinct.Goals as goal
+use Rattle.cm_lemmas.proofs.Lists.{element_again}
 
 pub loop-name-init : goal.loop-name-init
 loop-name-init c = rest_is_distinct-empty (contains_text c.new-seen.result) (map (λ x. folded x.now) c.args.names.now) (λ q. rw c.new-seen.ensures.empty refl) ∙ distinct_labels (λ x. x.now) c.args.names.now

@@ -1,8 +1,8 @@
 use Rattle.std.proofs.Common.{◌∙◌, ap}
 use Rattle.cm_validate_model.specs.Reasons.{lesser}
 use Rattle.cm_validate_model.specs.TypeRules.{payload_broken}
-use Rattle.cm_validate_type_rules.proofs.ReasonLaws.{read_on}
 use Rattle.cm_validate_type_rules.proofs.parts.cases_fault.Goals as goal
+use Rattle.cm_validate_model.proofs.ReasonsLaws.{read_on}
 
 pub loop-case-preserved : goal.loop-case-preserved
 loop-case-preserved c =

@@ -1,8 +1,8 @@
 use Rattle.std.proofs.Common.{◌∙◌, ap}
 use Rattle.cm_validate_model.specs.Reasons.{lesser}
 use Rattle.cm_validate_model.specs.TypeRules.{value_broken}
-use Rattle.cm_validate_type_rules.proofs.ReasonLaws.{read_on}
 use Rattle.cm_validate_type_rules.proofs.parts.fields_fault.Goals as goal
+use Rattle.cm_validate_model.proofs.ReasonsLaws.{read_on}
 
 pub loop-field-preserved : goal.loop-field-preserved
 loop-field-preserved c =

@@ -3,8 +3,9 @@ use Rattle.cm_types.specs.declared.def_types.PrimValType.TheVariants as prim
 use Rattle.cm_types.specs.declared.def_types.ValType.TheVariants as val_type
 use Rattle.cm_validate_model.specs.Reasons.{lesser}
 use Rattle.cm_validate_model.specs.TypeRules.{value_broken}
-use Rattle.cm_validate_type_rules.proofs.ReasonLaws.{element_again, read_on}
 use Rattle.cm_validate_type_rules.proofs.parts.types_fault.Goals as goal
+use Rattle.cm_lemmas.proofs.Lists.{element_again}
+use Rattle.cm_validate_model.proofs.ReasonsLaws.{read_on}
 
 pub loop-ty-preserved : goal.loop-ty-preserved
 loop-ty-preserved c =

@@ -9,8 +9,9 @@ use Rattle.cm_validate_model.specs.Spaces.{named_core_def}
 use Rattle.cm_validate_names.specs.NameMaps.{entries_of}
 use Rattle.cm_validate_core.specs.CoreSpaces.{AreItemsNumbered, memory_names_of}
 use Rattle.cm_validate_core.specs.Entries.{named_def}
-use Rattle.cm_validate_core.proofs.InstanceLaws.{export_missing, exports_there, some_has}
+use Rattle.cm_validate_core.proofs.InstanceLaws.{export_missing, exports_there}
 use Rattle.cm_validate_core.proofs.spaces.CoreSpaces.add_exporting.Goals as goal
+use Rattle.cm_lemmas.proofs.Options.{some_has}
 
 pub returns-then-not-exports_are_there-clause-answer : goal.returns-then-not-exports_are_there-clause-answer
 returns-then-not-exports_are_there-clause-answer c = record {

@@ -2,8 +2,9 @@ use Rattle.std.proofs.Common.{◌∙◌, ap, get_or}
 use Rattle.cm_binary_model.specs.declared.canons.CanonOption.TheVariants as option
 use Rattle.cm_validate_model.specs.Options.{option_broken}
 use Rattle.cm_validate_model.specs.Reasons.{lesser}
-use Rattle.cm_validate_core.proofs.ReasonLaws.{element_again, read_end, read_on}
 use Rattle.cm_validate_core.proofs.spaces.CoreSpaces.each_fault.Goals as goal
+use Rattle.cm_lemmas.proofs.Lists.{element_again}
+use Rattle.cm_validate_model.proofs.ReasonsLaws.{read_end, read_on}
 
 pub loop-option-preserved : goal.loop-option-preserved
 loop-option-preserved c = λ made s r.

@@ -5,8 +5,8 @@ use Rattle.cm_validate_model.specs.Options.{option_broken}
 use Rattle.cm_validate_model.specs.Reasons.{least, lesser}
 use Rattle.cm_validate_model.specs.Spaces.{Spaces}
 use Rattle.cm_validate_core.specs.CoreSpaces.{IsCoreOf}
-use Rattle.cm_validate_core.proofs.ReasonLaws.{rest_fault}
 use Rattle.cm_validate_core.proofs.spaces.CoreSpaces.each_fault.Given as goal
+use Rattle.cm_validate_model.proofs.FaultLaws.{rest_fault}
 
 -- the lesser of what was met and what is to come is the least of all
 abbrev pub invariant-loop-option : goal.invariant-loop-option

@@ -1,8 +1,8 @@
 use Rattle.std.proofs.Common.{◌∙◌, sym, get_or}
 use Rattle.cm_binary_model.specs.declared.canons.CanonOption.TheVariants as option
 use Rattle.cm_validate_core.proofs.CanonLaws.{memory_here, memory_later, memory_none}
-use Rattle.cm_validate_core.proofs.ReasonLaws.{element_again}
 use Rattle.cm_validate_core.proofs.spaces.CoreSpaces.first_memory.Goals as goal
+use Rattle.cm_lemmas.proofs.Lists.{element_again}
 
 pub returns-then-is_some-clause-memory : goal.returns-then-is_some-clause-memory
 returns-then-is_some-clause-memory c = λ made s r.

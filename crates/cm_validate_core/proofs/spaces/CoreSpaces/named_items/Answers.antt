@@ -12,8 +12,11 @@ use Rattle.cm_validate_core.specs.Instances.{is_export_there}
 use Rattle.cm_validate_core.proofs.InstanceLaws.{export_there, no_more, one_def, passes_here}
 use Rattle.cm_validate_core.proofs.PlaceLaws.{has_name, name_more}
 use Rattle.cm_validate_core.proofs.SpaceLaws.{numbered_there}
-use Rattle.cm_validate_core.proofs.TextLaws.{all_push, at_first, mapped_twice, one_more_def, seen_again, seen_first, was_new, was_seen}
+use Rattle.cm_validate_core.proofs.TextLaws.{seen_again, seen_first}
 use Rattle.cm_validate_core.proofs.spaces.CoreSpaces.named_items.Goals as goal
+use Rattle.cm_lemmas.proofs.Lists.{all_push, mapped_twice, one_more_def}
+use Rattle.cm_validate_model.proofs.RulesLaws.{at_first}
+use Rattle.cm_lemmas.proofs.Bools.{was_new, was_seen}
 
 pub loop-export-init : goal.loop-export-init
 loop-export-init c = record {

@@ -10,8 +10,8 @@ use Rattle.cm_validate_core.specs.Entries.{named_def}
 use Rattle.cm_validate_core.specs.Instances.{is_export_there}
 use Rattle.cm_validate_names.specs.NameMaps.{entries_of}
 use Rattle.cm_validate_core.proofs.PlaceLaws.{has_name}
-use Rattle.cm_validate_core.proofs.TextLaws.{rest_is_distinct}
 use Rattle.cm_validate_core.proofs.spaces.CoreSpaces.named_items.Given as goal
+use Rattle.cm_validate_model.proofs.SharedLaws.{rest_is_distinct}
 
 -- the names to come differ from those of the items, and from one another, where all differ; the
 -- items are what the exports before name

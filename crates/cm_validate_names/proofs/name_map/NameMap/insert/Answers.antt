@@ -1,8 +1,9 @@
 use Rattle.std.proofs.Common.{◌≡◌, ◌++◌, ◌∷◌, [], None, sym, subst, ◌∙◌, arith, length}
 use Rattle.std.proofs.lemmas.Grind.{common_steps}
 use Rattle.cm_validate_names.specs.NamedValues.{ArePlaced, names_in, place_of}
-use Rattle.cm_validate_names.proofs.PlaceLaws.{is_none, put_last}
+use Rattle.cm_validate_names.proofs.PlaceLaws.{put_last}
 use Rattle.cm_validate_names.proofs.name_map.NameMap.insert.Goals as goal
+use Rattle.cm_lemmas.proofs.Options.{is_none}
 
 pub invariant_of-self-2 : goal.invariant_of-self-2
 invariant_of-self-2 g c =

@@ -1,25 +1,34 @@
--- The least reason of a list, while it is read.
-use Rattle.std.proofs.Common.{◌≡◌, ℕ, ◌+◌, ◌<◌, ◌≤◌, List, [], ◌∷◌, ◌++◌, length, get_or, drop, zero, suc, arith, Option, Some, None, refl, sym, ap, ◌∙◌, add-one, drop-cons, append_assoc}
+-- Laws of what Reasons defines, for this crate and those above it.
+use Rattle.std.proofs.Common.{Option, None, ◌≡◌, refl, Some, List, ℕ, length, ◌≤◌, sym, ap, ◌∙◌, true, Bool, false, ◌++◌, append_assoc, ◌<◌, get_or, ◌+◌, drop, add-one, drop-cons, [], ◌∷◌}
 use Rattle.std.proofs.lemmas.List.{drop_all}
 use Rattle.std.specs.List.{flat_map}
+use Rattle.std.specs.Prelude.{is_some, nat_le, if◌then◌else◌}
+use Rattle.cm_validate_model.proofs.FaultLaws.{rest_fault, listed}
+use Rattle.cm_validate_model.proofs.SharedLaws.{LeastOfBoth}
+use Rattle.cm_validate_model.specs.ReasonWords.{reason_number}
+use Rattle.cm_validate_model.specs.Reasons.{lesser, least, unless}
 use Rattle.cm_validate_model.specs.declared.fault.ValidReason.{ValidReason}
-use Rattle.cm_validate_model.specs.Reasons.{least, lesser}
-
--- the least of both lists is the lesser of what is least in each
-abbrev pub LeastOfBoth : Type 0
-LeastOfBoth = (qs rs : List ValidReason) → least (qs ++ rs) ≡ lesser (least qs) (least rs)
-
-abbrev listed : Option ValidReason → List ValidReason
-listed None = []
-listed (Some r) = r ∷ []
-
-least_listed : (p : Option ValidReason) → least (listed p) ≡ p
-least_listed None = refl
-least_listed (Some r) = refl
 
 pub lesser_none : (p : Option ValidReason) → lesser p None ≡ p
 lesser_none None = refl
 lesser_none (Some r) = refl
+
+-- none is left to read
+pub read_end : {A : Type 0} (f : A → List ValidReason) (xs : List A) (i : ℕ) (so_far all : Option ValidReason) → length xs ≤ i → lesser so_far (rest_fault f xs i) ≡ all → so_far ≡ all
+read_end f xs i so_far all le before =
+    sym (ap (λ ys. lesser so_far (least (flat_map f ys))) (drop_all i xs le) ∙ lesser_none so_far) ∙ before
+
+pub lesser_some : (q : ValidReason) (o : Option ValidReason) → is_some (lesser (Some q) o) ≡ true
+lesser_some q None = refl
+lesser_some q (Some r) = here (nat_le (reason_number q) (reason_number r))
+  where
+    here : (b : Bool) → is_some (if b then Some q else Some r) ≡ true
+    here true = refl
+    here false = refl
+
+pub least_listed : (p : Option ValidReason) → least (listed p) ≡ p
+least_listed None = refl
+least_listed (Some r) = refl
 
 pub lesser_assoc : LeastOfBoth → (p q r : Option ValidReason) → lesser p (lesser q r) ≡ lesser (lesser p q) r
 lesser_assoc both p q r =
@@ -31,10 +40,6 @@ lesser_assoc both p q r =
     let same : least (listed p ++ (listed q ++ listed r)) ≡ least ((listed p ++ listed q) ++ listed r) = ap least (sym (append_assoc (listed p) (listed q) (listed r))) in
     let whole : lesser (least (listed p)) (lesser (least (listed q)) (least (listed r))) ≡ lesser (lesser (least (listed p)) (least (listed q))) (least (listed r)) = sym right ∙ same ∙ left in
     rw (a, b, c) at whole
-
--- the reasons that the elements from an index on break
-abbrev pub rest_fault : {A : Type 0} → (A → List ValidReason) → List A → ℕ → Option ValidReason
-rest_fault f xs i = least (flat_map f (drop i xs))
 
 -- one element more is read
 pub read_on : {A : Type 0} → LeastOfBoth → (f : A → List ValidReason) (xs : List A) (i : ℕ) (x : A) (so_far now all : Option ValidReason)
@@ -48,13 +53,11 @@ read_on both f xs i x so_far now all lt is e before =
     ∙ sym (ap (lesser so_far) rest)
     ∙ before
 
--- none is left to read
-pub read_end : {A : Type 0} (f : A → List ValidReason) (xs : List A) (i : ℕ) (so_far all : Option ValidReason) → length xs ≤ i → lesser so_far (rest_fault f xs i) ≡ all → so_far ≡ all
-read_end f xs i so_far all le before =
-    sym (ap (λ ys. lesser so_far (least (flat_map f ys))) (drop_all i xs le) ∙ lesser_none so_far) ∙ before
+pub none_broken : (rs : List ValidReason) → least rs ≡ None → rs ≡ []
+none_broken [] e = refl
+none_broken (r ∷ rs) e = let wrong : true ≡ false = sym (lesser_some r (least rs)) ∙ ap is_some e in absurd cc
 
--- an element is the same whatever stands for those that are not there
-pub element_again : {A : Type 0} (xs : List A) (i : ℕ) (d e : A) → i < length xs → get_or xs i d ≡ get_or xs i e
-element_again [] i d e lt = absurd (omega arith)
-element_again (x ∷ xs) zero d e lt = refl
-element_again (x ∷ xs) (suc i) d e lt = element_again xs i d e (omega arith)
+-- a rule holds that is not broken
+pub kept : (b : Bool) (r : ValidReason) → unless b r ≡ [] → b ≡ true
+kept true r e = refl
+kept false r e = absurd cc
