@@ -25,9 +25,9 @@ use Rattle.cm_machine_parts.specs.Kept.{Runs}
 use Rattle.cm_machine_parts.specs.States.{state_of}
 use Rattle.cm_machine_parts.specs.declared.state.State.{State as CodedState}
 use Rattle.cm_machine_calls.specs.declared.arguments.Arguments.{Arguments}
-use Rattle.cm_machine_calls.specs.declared.link.Link.{Link as CodedLink}
+use Rattle.cm_machine_parts.specs.declared.link.Link.{Link as CodedLink}
 use Rattle.cm_machine_calls.specs.Going.{IsUnderWay, passage_now}
-use Rattle.cm_machine_calls.specs.Links.{IsLinkOf}
+use Rattle.cm_machine_parts.specs.Links.{IsLinkOf}
 
 -- ---- a call
 

@@ -47,6 +47,12 @@ pub record CanCopy (view : View) (from : List ℕ) (memory_length : ℕ) (passed
     pub fine : first_fault memory_length (all_requests s.parts) answers ≡ None
     pub kinds_are : kinds ≡ call_kinds (way_of passed.way) types
 
+-- some value can
+abbrev pub CanBeCopied : List ℕ → ℕ → Passed → List CoreKind → Scanned → Type 0
+CanBeCopied from memory_length passed kinds s =
+    (view : View) × (answers : List ℕ) × (types : Fields) × (v : Val)
+    × CanCopy view from memory_length passed kinds s answers types v
+
 -- A value was copied to its receiver: its memory, its table and the core values pass the value, the
 -- memory is changed by the bytes of the value alone, and the table by its handles.
 pub record IsCopied (to : Receiver) (way : Way) (types : Fields) (v : Val) (parts : Requesting)

@@ -1,25 +1,22 @@
 //! The call of a lowered function, from its lift to its post-return.
 //!
-//! `looking` scans core values, `lifting` puts what was scanned into the state, `answering` keeps
-//! the answers of allocators, `copying` and `handing` hand the value over, and `going` and `goes`
-//! go on with the call. What is promised of each is a part of a row of `Step`; `calling` and
-//! `returning` put the rows together.
+//! `enter` begins a call (CanonicalABI.md, `canon_lower`, `enter_call`) and `exit` ends it
+//! (`canon_lift`, `exit_call`); both use `lift` (`lift_flat_values`), `requests` (what
+//! the receiver's allocator is asked for, and its answers) and `lower` (`lower_flat_values`).
+//! `post_return` is the return of what tidies up. What is promised of each is a part of a row of
+//! `Step`; `call_lowered` and `return_in_call` put the rows together.
 #![tactic(auto)]
 
-mod answering;
 mod arguments;
-mod calling;
-mod copying;
-mod goes;
-mod going;
-mod handing;
+mod enter;
+mod exit;
 mod laws;
-mod lifting;
+mod lift;
 mod link;
-mod looking;
-mod returning;
+mod lower;
+mod post_return;
+mod requests;
 mod traps;
 
-pub use calling::call_lowered;
-pub use link::{Link, Side, Types};
-pub use returning::return_in_call;
+pub use enter::call_lowered;
+pub use exit::return_in_call;

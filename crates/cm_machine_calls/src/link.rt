@@ -1,62 +1,55 @@
-//! What a lowered function comes to, as a call uses it.
+//! What a link says of a value that is passed one way.
 
-ghost use Rattle.std.specs.Prelude.{◌≡◌};
+ghost use Rattle.std.specs.Prelude.{◌≡◌, ◌<◌, length};
+ghost use Rattle.cm_layout.specs.Layouts.{layout_of};
+ghost use Rattle.cm_layout.specs.Shapes.{layout_of_fields_at};
+ghost use Rattle.cm_abi_model.specs.Receives.{call_kinds};
 ghost use Rattle.cm_abi_model.specs.Ways.{way_of};
 ghost use Rattle.cm_machine_model.specs.Plan.{Link as RulesLink, giver_side, receiver_side};
 ghost use Rattle.cm_machine_model.specs.Plan.{types_of};
-ghost use Rattle.cm_machine_calls.specs.Links.{IsLinkOf, IsTypesOf};
+ghost use Rattle.cm_machine_model.specs.Step.{giver_of, in_phase, receiver_of};
+ghost use Rattle.cm_machine_parts.specs.States.{state_of};
+ghost use Rattle.cm_machine_parts.specs.Links.{IsLinkOf, ArePassed};
 
-use cm_abi_model::{Encodings, StringEncoding, Way};
+use cm_abi::{Receiver, Way};
+use cm_abi_model::Encodings;
 use cm_layout::Layout;
+use cm_machine_model::state::{Call, Frame, Phase, Purpose};
+use cm_machine_parts::{Link, PassedTypes, State};
 use cm_types::CoreKind;
 
-/// The types of what is passed one way.
-#[derive(Clone, Copy)]
-pub struct Types<'a> {
-    /// The layout of their tuple, resources replaced by what they are in the end.
-    pub layout: &'a Layout,
-    /// The kinds of the core values that pass them, where a lifted function takes or gives them.
-    pub kinds: &'a [CoreKind],
-}
-
-/// One side of a link: how its strings are encoded, and the core function that is its allocator.
-#[derive(Clone, Copy)]
-pub struct Side {
-    pub encoding: StringEncoding,
-    pub realloc: Option<u32>,
-}
-
-/// A lowered function and the lifted one that it comes to (CanonicalABI.md, "canon lift" and
-/// "canon lower"). Instances and core functions count from 0.
-#[derive(Clone, Copy)]
-pub struct Link<'a> {
-    /// The instance that is called, and its core function that is lifted.
-    pub instance: u32,
-    pub func: u32,
-    /// The instance that calls, and the one that is called.
-    pub caller: Side,
-    pub callee: Side,
-    /// The core function of the callee that tidies up.
-    pub post_return: Option<u32>,
-    pub params: Types<'a>,
-    pub results: Types<'a>,
-    /// Whether the result goes by memory: the caller then passes its place behind the arguments.
-    pub has_pointer: bool,
-}
-
 /// The types of what a link passes that way.
-pub(crate) fn types_of<'a>(link: &Link<'a>, way: Way) -> Types<'a>
+fn types_of(link: &Link, way: Way) -> &PassedTypes
     ensures { (l : RulesLink) → IsLinkOf l link.now
-        → IsTypesOf (way_of way) (types_of l (way_of way)) result }
+        → ArePassed (way_of way) (types_of l (way_of way)) result.now }
 {
+    let types = &*link.types;
     match way {
-        Way::Params => link.params,
-        Way::Results => link.results,
+        Way::Params => &types.params,
+        Way::Results => &types.results,
     }
 }
 
+/// The layout of the tuple of what a link passes that way.
+pub(crate) fn layout_of(link: &Link, way: Way) -> &Layout
+    ensures { (l : RulesLink) → IsLinkOf l link.now
+        → layout_of result.now ≡ layout_of_fields_at (types_of l (way_of way)) }
+{
+    let types = types_of(link, way);
+    &types.layout
+}
+
+/// The kinds of the core values that pass it, where a lifted function takes or gives them.
+pub(crate) fn kinds_of(link: &Link, way: Way) -> &[CoreKind]
+    ensures { (l : RulesLink) → IsLinkOf l link.now
+        → result.now ≡ call_kinds (way_of way) (types_of l (way_of way)) }
+{
+    let types = types_of(link, way);
+    types.kinds.as_slice()
+}
+
 /// How strings are encoded by who gives what is passed that way, and by who receives it.
-pub(crate) fn encodings_of(link: &Link<'_>, way: Way) -> Encodings
+pub(crate) fn encodings_of(link: &Link, way: Way) -> Encodings
     ensures source { (l : RulesLink) → IsLinkOf l link.now
         → result.source ≡ (giver_side l (way_of way)).encoding }
     ensures target { (l : RulesLink) → IsLinkOf l link.now
@@ -75,7 +68,7 @@ pub(crate) fn encodings_of(link: &Link<'_>, way: Way) -> Encodings
 }
 
 /// The allocator of who receives what is passed that way.
-pub(crate) fn realloc_of(link: &Link<'_>, way: Way) -> Option<u32>
+pub(crate) fn realloc_of(link: &Link, way: Way) -> Option<u32>
     ensures { (l : RulesLink) → IsLinkOf l link.now
         → result ≡ (receiver_side l (way_of way)).realloc }
 {
@@ -83,4 +76,50 @@ pub(crate) fn realloc_of(link: &Link<'_>, way: Way) -> Option<u32>
         Way::Params => link.callee.realloc,
         Way::Results => link.caller.realloc,
     }
+}
+
+/// Who gives what is passed that way.
+pub(crate) fn giver_of(link: &Link, call: &Call, way: Way) -> u32
+    ensures { (l : RulesLink) → IsLinkOf l link.now → result ≡ giver_of (way_of way) l call.now }
+{
+    match way {
+        Way::Params => call.caller,
+        Way::Results => link.instance,
+    }
+}
+
+/// Who receives it, in the call whose frame has this place.
+pub(crate) fn receiver_of(link: &Link, call: &Call, way: Way, place: u32) -> Receiver
+    ensures { (l : RulesLink) → IsLinkOf l link.now
+        → result ≡ receiver_of (way_of way) place l call.now }
+{
+    match way {
+        Way::Params => Receiver {
+            instance: link.instance,
+            call: place,
+        },
+        Way::Results => Receiver {
+            instance: call.caller,
+            call: place,
+        },
+    }
+}
+
+/// The call on top is in another phase.
+pub(crate) fn put_phase(state: &mut State, link: &Link, call: &Call, phase: Phase)
+    requires { 0 < length state.old.stack.frames }
+    ensures phase { (l : RulesLink) → IsLinkOf l link.now
+        → state_of state.new ≡ in_phase phase l.instance call.now (state_of state.old) }
+    ensures borrows { state.new.stack.borrows ≡ state.old.stack.borrows }
+    ensures passing { state.new.passing ≡ state.old.passing }
+{
+    state.stack.turn(Frame {
+        instance: link.instance,
+        purpose: Purpose::Call(Call {
+            caller: call.caller,
+            func: call.func,
+            result_at: call.result_at,
+            phase,
+        }),
+    });
 }

@@ -19,13 +19,14 @@ use Rattle.cm_match_model.specs.Serving.{standing}
 use Rattle.cm_match_model.specs.Targets.{Target, targets_of}
 use Rattle.cm_match_serving.specs.Sets.{set_of}
 use Rattle.cm_machine_model.specs.Plan as plan
-use Rattle.cm_machine_links.specs.Planned.{IsCoreFuncOf, IsLinkOf}
+use Rattle.cm_machine_links.specs.Planned.{IsCoreFuncOf}
+use Rattle.cm_machine_parts.specs.Links.{IsLinkOf}
 use Rattle.cm_machine_links.specs.Planning.{core_func_of, destructor_in, destructor_of, link_to, origin_in}
 use Rattle.cm_machine_links.specs.Standing.{AllStand, AreCallTypes, AreTypesOf, IsCoreSpelled, IsSpelled, RowsStand, Stands}
 use Rattle.cm_machine_links.specs.declared.core_funcs.CoreFunc.{CoreFunc}
 use Rattle.cm_machine_links.specs.declared.core_funcs.CoreFunc.TheVariants as core_func
-use Rattle.cm_machine_links.specs.declared.core_funcs.Link.{Link}
-use Rattle.cm_machine_links.specs.declared.passing.CallTypes.{CallTypes}
+use Rattle.cm_machine_parts.specs.declared.link.Link.{Link}
+use Rattle.cm_machine_parts.specs.declared.link.CallTypes.{CallTypes}
 
 some_in : {A : Type 0} {x y : A} → Some x ≡ Some y → x ≡ y
 some_in {x = x} e = ap (λ o. unwrap_or o x) e

@@ -11,16 +11,16 @@ use Rattle.cm_types.specs.declared.core_value.CoreKind.TheVariants.{I32}
 use Rattle.cm_types.specs.Spellable.{are_spellable, is_spellable}
 use Rattle.cm_types.specs.Types.{Ty, Fields, FuncTy, field, fields, no_fields, tuple_type}
 use Rattle.cm_types_arena.specs.Arena.{field_types}
-use Rattle.cm_types_arena.specs.Replaced.{Standing, replaced, replaced_fields}
+use Rattle.cm_types_arena.specs.Replaced.{Standing, replaced, replaced_fields, replaced_func}
 use Rattle.cm_layout.specs.Flattening.{flat_of, flat_of_fields, flat_of_payload}
 use Rattle.cm_layout.specs.Shapes.{LayoutTy, layout_of_fields_at}
 use Rattle.cm_abi_model.specs.Receives.{call_kinds}
 use Rattle.cm_abi_model.specs.Requests.{is_spilled}
-use Rattle.cm_abi_model.specs.Views.{params, results}
+use Rattle.cm_abi_model.specs.Views.{Way, params, results}
 use Rattle.cm_layout_placed.specs.Placed.{result_fields}
 use Rattle.cm_machine_model.specs.Plan.{one_field}
-use Rattle.cm_machine_links.specs.Standing.{AreCallTypes, IsCallTypes, IsSpelled}
-use Rattle.cm_machine_links.specs.declared.passing.CallTypes.{CallTypes}
+use Rattle.cm_machine_links.specs.Standing.{AreCallTypes, IsCallTypes, IsSpelled, first_flat, most_flat, passed_fields}
+use Rattle.cm_machine_parts.specs.declared.link.CallTypes.{CallTypes}
 
 pub fields_are : (o : Option Ty) → result_fields o ≡ one_field o
 fields_are None = refl
@@ -63,6 +63,13 @@ results_kinds same s o l b flat ks laid spilled first is =
     is
     ∙ ap (λ x. if x then I32 ∷ [] else flat) spilled
     ∙ kinds_passed 1 l.head.width (flat_of_fields fs) flat (omega arith) (ap (λ (x : LayoutTy). x.head.width) laid_one) (first ∙ ap (take 16) (sym (result_flat same s o)))
+
+-- those that pass what a function passes that way
+pub kinds_that_way : (flat_of_same : (s : Standing) (t : Ty) → flat_of (replaced s t) ≡ flat_of t) (s : Standing) (f : FuncTy) (way : Way) (most : ℕ) (l : LayoutTy) (b : Bool) (flat ks : List CoreKind)
+    → l ≡ layout_of_fields_at (passed_fields (replaced_func s f) way) → most ≡ most_flat way → b ≡ nat_lt most l.head.width → flat ≡ first_flat f way → ks ≡ (if b then I32 ∷ [] else flat)
+    → ks ≡ call_kinds way (passed_fields (replaced_func s f) way)
+kinds_that_way same s f params most l b flat ks laid at spilled first is = params_kinds same s f.params l b flat ks laid (spilled ∙ ap (λ n. nat_lt n l.head.width) at) first is
+kinds_that_way same s f results most l b flat ks laid at spilled first is = results_kinds same s f.result l b flat ks laid (spilled ∙ ap (λ n. nat_lt n l.head.width) at) first is ∙ ap (call_kinds results) (sym (fields_are (option_map (replaced s) f.result)))
 
 -- a result goes by memory where it is wide
 pub pointer_of : (types : Fields) (l : LayoutTy) (b : Bool) → l ≡ layout_of_fields_at types → b ≡ nat_lt 1 l.head.width → b ≡ is_spilled results types

@@ -14,11 +14,11 @@ use Rattle.cm_validate_spaces.specs.declared.checked.Checked.{Checked}
 use Rattle.cm_match_model.specs.Serving.{standing}
 use Rattle.cm_match_serving.specs.Sets.{funcs_at}
 use Rattle.cm_match_model.specs.Targets.{Target}
-use Rattle.cm_machine_links.specs.Planned.{IsLinkOf, side_in}
+use Rattle.cm_machine_parts.specs.Links.{IsLinkOf, side_in}
 use Rattle.cm_machine_links.specs.Planning.{first_in, link_to, post_return_in, side_of}
 use Rattle.cm_machine_links.specs.Standing.{AreCallTypes, AreTypesOf, IsCallTypes, IsSpelled}
-use Rattle.cm_machine_links.specs.declared.core_funcs.Link.{Link}
-use Rattle.cm_machine_links.specs.declared.passing.CallTypes.{CallTypes}
+use Rattle.cm_machine_parts.specs.declared.link.Link.{Link}
+use Rattle.cm_machine_parts.specs.declared.link.CallTypes.{CallTypes}
 
 -- ---- places
 

@@ -1,14 +1,18 @@
 -- What is made of the types and the core functions of a set, one for one.
-use Rattle.std.specs.Prelude.{◌≡◌, ⊤, ℕ, ◌+◌, true, List, [], ◌∷◌, Some, is_some}
+use Rattle.std.specs.Prelude.{◌≡◌, ⊤, ℕ, ◌+◌, true, List, [], ◌∷◌, Some, is_some, take}
 use Rattle.std.specs.List.{AllByRecursion}
 use Rattle.std.specs.Option.{option_map}
 use Rattle.std.specs.declared.alloc.Global.{Global}
 use Rattle.std.specs.declared.rc.Rc.{Rc}
 use Rattle.cm_types.specs.Spellable.{are_spellable, is_spellable_payload}
-use Rattle.cm_types.specs.Types.{FuncTy}
+use Rattle.cm_types.specs.Types.{Fields, FuncTy}
+use Rattle.cm_types.specs.declared.core_value.CoreKind.{CoreKind}
+use Rattle.cm_types.specs.declared.limits.TheConstants.{MAX_FLAT_PARAMS, MAX_FLAT_RESULTS}
+use Rattle.cm_layout.specs.Flattening.{flat_of_fields, flat_of_payload}
+use Rattle.cm_layout_placed.specs.Placed.{result_fields}
 use Rattle.cm_types_arena.specs.Replaced.{Standing, replaced, replaced_fields}
 use Rattle.cm_abi_model.specs.Requests.{is_spilled}
-use Rattle.cm_abi_model.specs.Views.{params, results}
+use Rattle.cm_abi_model.specs.Views.{Way, params, results}
 use Rattle.cm_validate_model.specs.Definitions.{CoreFuncDef}
 use Rattle.cm_validate_model.specs.Spaces.{Spaces}
 use Rattle.cm_validate_spaces.specs.Checked.{funcs_in}
@@ -16,17 +20,33 @@ use Rattle.cm_validate_spaces.specs.declared.checked.Checked.{Checked}
 use Rattle.cm_match_model.specs.Serving.{standing}
 use Rattle.cm_machine_model.specs.Plan as plan
 use Rattle.cm_machine_model.specs.Plan.{one_field}
-use Rattle.cm_machine_links.specs.Planned.{IsCoreFuncOf, IsPassing}
+use Rattle.cm_machine_links.specs.Planned.{IsCoreFuncOf}
+use Rattle.cm_machine_parts.specs.Links.{ArePassed}
 use Rattle.cm_machine_links.specs.Planning.{core_func_of}
 use Rattle.cm_machine_links.specs.declared.core_funcs.CoreFunc.{CoreFunc}
-use Rattle.cm_machine_links.specs.declared.passing.CallTypes.{CallTypes}
+use Rattle.cm_machine_parts.specs.declared.link.CallTypes.{CallTypes}
 
 -- ---- types of functions
 
+-- the types that a function passes that way, as fields
+abbrev pub passed_fields : FuncTy → Way → Fields
+passed_fields f params = f.params
+passed_fields f results = result_fields f.result
+
+-- the kinds of the first core values that pass them flat, as many as may pass parameters
+abbrev pub first_flat : FuncTy → Way → List CoreKind
+first_flat f params = take MAX_FLAT_PARAMS (flat_of_fields f.params)
+first_flat f results = take MAX_FLAT_PARAMS (flat_of_payload f.result)
+
+-- how many core values at most pass them flat (CanonicalABI.md, "Flattening")
+abbrev pub most_flat : Way → ℕ
+most_flat params = MAX_FLAT_PARAMS
+most_flat results = MAX_FLAT_RESULTS
+
 -- what a function passes, its resources replaced, and whether its result goes by memory
 pub record IsCallTypes (s : Standing) (f : FuncTy) (t : CallTypes) : Type 0 where
-  pub params_are : IsPassing params (replaced_fields s f.params) t.params
-  pub results_are : IsPassing results (one_field (option_map (replaced s) f.result)) t.results
+  pub params_are : ArePassed params (replaced_fields s f.params) t.params
+  pub results_are : ArePassed results (one_field (option_map (replaced s) f.result)) t.results
   pub pointer_is : t.has_pointer ≡ is_spilled results (one_field (option_map (replaced s) f.result))
 
 -- a file can spell the types in it

@@ -15,10 +15,10 @@ ghost use Rattle.cm_match_model.specs.Targets.{targets_of};
 ghost use Rattle.cm_machine_links.specs.Planning.{core_func_of, origin_in};
 ghost use Rattle.cm_machine_links.specs.Standing.{AreTypesOf, IsCallTypes, IsSpelled, Stands};
 
-use crate::options::{Side, post_return};
+use crate::options::{lift_lower_options, post_return};
 use crate::origins::destructor;
-use crate::passing::CallTypes;
 use cm_binary_model::CanonOption;
+use cm_machine_parts::{CallTypes, Link};
 use cm_match::{Checked, CoreFuncEntry, Linked, MadeFunc};
 use cm_types::ResourceId;
 use cm_types_arena::laws::what_stays;
@@ -43,23 +43,6 @@ pub enum CoreFunc {
     },
     /// Tells what a handle of a resource represents (`canon resource.rep`).
     Represents(ResourceId),
-}
-
-/// What a lowered function comes to.
-#[derive(Drop)]
-pub struct Link {
-    /// The instance that is called, by its place in the set.
-    pub instance: u32,
-    /// The core function of that instance that is lifted, by its index.
-    pub func: u32,
-    /// The core function of that instance that tidies up once a result was read, if one is named.
-    pub post_return: Option<u32>,
-    /// How the instance that calls passes values.
-    pub caller: Side,
-    /// How the one that is called does.
-    pub callee: Side,
-    /// What is passed: the same on both sides.
-    pub types: Rc<CallTypes>,
 }
 
 /// What the function of a place in the arena of a component passes, shared.
@@ -107,8 +90,8 @@ fn lowered_func(
         instance: target.component,
         func: target.core_func,
         post_return: post_return(target.options),
-        caller: Side::of(options),
-        callee: Side::of(target.options),
+        caller: lift_lower_options(options),
+        callee: lift_lower_options(target.options),
         types,
     }))
 }

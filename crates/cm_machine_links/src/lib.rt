@@ -13,8 +13,6 @@ mod origins;
 mod passing;
 pub mod plan_laws;
 
-pub use core_funcs::{CoreFunc, Link};
+pub use core_funcs::CoreFunc;
 pub use links::Links;
 pub use making::links_of;
-pub use options::Side;
-pub use passing::{CallTypes, Passing};

@@ -1,32 +1,22 @@
 //! The options of canonical definitions.
 
 ghost use Rattle.std.specs.Prelude.{◌≡◌};
-ghost use Rattle.cm_machine_links.specs.Planned.{side_in};
+ghost use Rattle.cm_machine_parts.specs.Links.{side_in};
 ghost use Rattle.cm_machine_links.specs.Planning.{encoding_in, encoding_of, first_in};
 ghost use Rattle.cm_machine_links.specs.Planning.{post_return_in, realloc_in, side_of};
 
 use cm_abi_model::StringEncoding;
 use cm_binary_model::CanonOption;
+use cm_machine_parts::LiftLowerOptions;
 
-/// How one side of a call passes values (CanonicalABI.md, "Canonical Options"). Its memory is the
-/// one that its instance has.
-#[derive(Clone, Copy)]
-pub struct Side {
-    /// How its strings are encoded.
-    pub encoding: StringEncoding,
-    /// The core function of its instance that allocates, by its index, if one is named.
-    pub realloc: Option<u32>,
-}
-
-impl Side {
-    /// That of a lift or a lower with these options.
-    pub(crate) fn of(options: &[CanonOption]) -> Side
-        ensures { side_in result ≡ side_of options.now }
-    {
-        Side {
-            encoding: encoding(options),
-            realloc: realloc(options),
-        }
+/// How the side of a lift or a lower with these options passes values (CanonicalABI.md,
+/// `LiftLowerOptions`).
+pub(crate) fn lift_lower_options(options: &[CanonOption]) -> LiftLowerOptions
+    ensures { side_in result ≡ side_of options.now }
+{
+    LiftLowerOptions {
+        encoding: encoding(options),
+        realloc: realloc(options),
     }
 }
 

@@ -3,47 +3,28 @@
 ghost use Rattle.std.specs.Prelude.{◌≡◌, ◌<◌, ◌∷◌, [], IfOk, OnOk, if◌then◌else◌, length, map};
 ghost use Rattle.std.specs.Prelude.{nat_lt, true};
 ghost use Rattle.cm_types.specs.declared.core_value.CoreKind.TheVariants.{I32};
-ghost use Rattle.std.specs.Option.{option_map};
 ghost use Rattle.cm_types.specs.Spellable.{are_spellable, is_spellable_payload};
 ghost use Rattle.cm_layout.specs.Layouts.{layout_of};
-ghost use Rattle.cm_layout.specs.Shapes.{layout_at};
+ghost use Rattle.cm_layout.specs.Shapes.{layout_at, layout_of_fields_at};
 ghost use Rattle.cm_types_arena.specs.Places.{funcs_of, types_of};
 ghost use Rattle.cm_types_arena.specs.TypeDefs.{func_at};
-ghost use Rattle.cm_types_arena.specs.Replaced.{Standing, replaced, replaced_fields};
+ghost use Rattle.cm_types_arena.specs.Replaced.{Standing, replaced_func};
 ghost use Rattle.cm_layout_placed.specs.Placed.{first_kinds, kinds_in, layouts_in, types_by};
-ghost use Rattle.cm_abi_model.specs.Views.{params, results};
-ghost use Rattle.cm_machine_model.specs.Plan.{one_field};
-ghost use Rattle.cm_machine_links.specs.Planned.{IsPassing};
+ghost use Rattle.cm_abi_model.specs.Ways.{way_of};
+ghost use Rattle.cm_machine_parts.specs.Links.{ArePassed};
 ghost use Rattle.cm_machine_links.specs.Standing.{AreCallTypes, IsCallTypes, IsSpelled};
+ghost use Rattle.cm_machine_links.specs.Standing.{first_flat, most_flat, passed_fields};
 
+use cm_abi_model::Way;
 use cm_layout::Layout;
 use cm_layout_placed::{Kinds, Layouts};
+use cm_machine_parts::{CallTypes, PassedTypes};
 use cm_types::{CoreKind, MAX_FLAT_PARAMS, MAX_FLAT_RESULTS};
 use cm_types_arena::type_laws::types_are_lawful;
 use cm_types_arena::{Replacement, Types};
 use cm_validate_canons::laws::passing_stays;
 use std::alloc::{AllocError, Global};
 use std::rc::Rc;
-
-/// Values that are passed one way, with each resource what it is in the end.
-#[derive(Drop)]
-pub struct Passing {
-    /// The layout of the tuple of their types (CanonicalABI.md, "Flattening").
-    pub layout: Layout,
-    /// The kinds of the core values that pass them: those that a lifted function takes, or gives.
-    /// A lowered one takes one more, a pointer, where a result goes by memory, and gives none then.
-    pub kinds: Vec<CoreKind>,
-}
-
-/// What a function passes.
-#[derive(Drop)]
-pub struct CallTypes {
-    pub params: Passing,
-    pub results: Passing,
-    /// Whether the result goes by memory: a lowered function then takes a pointer behind its
-    /// arguments, to where the result is to stand.
-    pub has_pointer: bool,
-}
 
 /// Whether what has this layout goes by memory, where at most so many core values pass it flat.
 fn is_spilled(layout: &Layout, most: usize) -> bool
@@ -68,51 +49,81 @@ fn passed_kinds(
     }
 }
 
-fn params_passing(
+/// The layout of the tuple of what a function passes that way.
+fn tuple_layout(
     alloc: Global,
+    way: Way,
     types: &Types,
     layouts: &Layouts,
-    kinds: &Kinds,
     func: usize,
-) -> Result<Passing, AllocError>
+) -> Result<Layout, AllocError>
     requires there { func < length (funcs_of types.now) }
     requires laid { (s : Standing)
         × (layouts_in layouts.now ≡ map layout_at (types_by s (types_of types.now))) }
-    requires kinds { kinds_in kinds.now ≡ map first_kinds (types_of types.now) }
-    ensures { IfOk result (λ p. (s : Standing)
+    ensures { IfOk result (λ l. (s : Standing)
         → layouts_in layouts.now ≡ map layout_at (types_by s (types_of types.now))
-        → IsPassing params (replaced_fields s (func_at (funcs_of types.now) func).params) p) }
+        → layout_of l ≡ layout_of_fields_at
+        (passed_fields (replaced_func s (func_at (funcs_of types.now) func)) (way_of way))) }
 {
-    passing_stays();
-    let layout = layouts.params(alloc, types, func)?;
-    let flat = kinds.params(alloc, types, func)?;
-    let spilled = is_spilled(&layout, MAX_FLAT_PARAMS);
-    let kinds = passed_kinds(alloc, spilled, flat)?;
-    Ok(Passing { layout, kinds })
+    match way {
+        Way::Params => layouts.params(alloc, types, func),
+        Way::Results => layouts.result(alloc, types, func),
+    }
 }
 
-fn results_passing(
+/// The kinds of core values that pass it flat, of which at most the first 16 are made.
+fn flat_kinds(
     alloc: Global,
+    way: Way,
+    types: &Types,
+    kinds: &Kinds,
+    func: usize,
+) -> Result<Vec<CoreKind>, AllocError>
+    requires there { func < length (funcs_of types.now) }
+    requires kinds { kinds_in kinds.now ≡ map first_kinds (types_of types.now) }
+    ensures { IfOk result (λ ks.
+        ks.items ≡ first_flat (func_at (funcs_of types.now) func) (way_of way)) }
+{
+    match way {
+        Way::Params => kinds.params(alloc, types, func),
+        Way::Results => kinds.result(alloc, types, func),
+    }
+}
+
+/// How many core values at most pass it flat (CanonicalABI.md, "Flattening").
+fn most_flat(way: Way) -> usize
+    ensures { result ≡ most_flat (way_of way) }
+{
+    match way {
+        Way::Params => MAX_FLAT_PARAMS,
+        Way::Results => MAX_FLAT_RESULTS,
+    }
+}
+
+/// What a function passes that way.
+fn passing(
+    alloc: Global,
+    way: Way,
     types: &Types,
     layouts: &Layouts,
     kinds: &Kinds,
     func: usize,
-) -> Result<Passing, AllocError>
+) -> Result<PassedTypes, AllocError>
     requires there { func < length (funcs_of types.now) }
     requires laid { (s : Standing)
         × (layouts_in layouts.now ≡ map layout_at (types_by s (types_of types.now))) }
     requires kinds { kinds_in kinds.now ≡ map first_kinds (types_of types.now) }
     ensures { IfOk result (λ p. (s : Standing)
         → layouts_in layouts.now ≡ map layout_at (types_by s (types_of types.now))
-        → IsPassing results
-        (one_field (option_map (replaced s) (func_at (funcs_of types.now) func).result)) p) }
+        → ArePassed (way_of way)
+        (passed_fields (replaced_func s (func_at (funcs_of types.now) func)) (way_of way)) p) }
 {
     passing_stays();
-    let layout = layouts.result(alloc, types, func)?;
-    let flat = kinds.result(alloc, types, func)?;
-    let spilled = is_spilled(&layout, MAX_FLAT_RESULTS);
+    let layout = tuple_layout(alloc, way, types, layouts, func)?;
+    let flat = flat_kinds(alloc, way, types, kinds, func)?;
+    let spilled = is_spilled(&layout, most_flat(way));
     let kinds = passed_kinds(alloc, spilled, flat)?;
-    Ok(Passing { layout, kinds })
+    Ok(PassedTypes { layout, kinds })
 }
 
 /// Each parameter of a function is of a type that a file can spell. It does nothing: the arena's
@@ -136,35 +147,33 @@ fn result_is_spellable(types: &Types, func: usize)
     }
 }
 
-impl CallTypes {
-    /// What the function of a place passes.
-    fn of(
-        alloc: Global,
-        types: &Types,
-        layouts: &Layouts,
-        kinds: &Kinds,
-        func: usize,
-    ) -> Result<CallTypes, AllocError>
-        requires there { func < length (funcs_of types.now) }
-        requires laid { (s : Standing)
-            × (layouts_in layouts.now ≡ map layout_at (types_by s (types_of types.now))) }
-        requires kinds { kinds_in kinds.now ≡ map first_kinds (types_of types.now) }
-        ensures passes { IfOk result (λ t. (s : Standing)
-            → layouts_in layouts.now ≡ map layout_at (types_by s (types_of types.now))
-            → IsCallTypes s (func_at (funcs_of types.now) func) t) }
-        ensures spelled { OnOk result (IsSpelled (func_at (funcs_of types.now) func)) }
-    {
-        params_are_spellable(types, func);
-        result_is_spellable(types, func);
-        let params = params_passing(alloc, types, layouts, kinds, func)?;
-        let results = results_passing(alloc, types, layouts, kinds, func)?;
-        let has_pointer = is_spilled(&results.layout, MAX_FLAT_RESULTS);
-        Ok(CallTypes {
-            params,
-            results,
-            has_pointer,
-        })
-    }
+/// What the function of a place passes.
+fn call_types_at(
+    alloc: Global,
+    types: &Types,
+    layouts: &Layouts,
+    kinds: &Kinds,
+    func: usize,
+) -> Result<CallTypes, AllocError>
+    requires there { func < length (funcs_of types.now) }
+    requires laid { (s : Standing)
+        × (layouts_in layouts.now ≡ map layout_at (types_by s (types_of types.now))) }
+    requires kinds { kinds_in kinds.now ≡ map first_kinds (types_of types.now) }
+    ensures passes { IfOk result (λ t. (s : Standing)
+        → layouts_in layouts.now ≡ map layout_at (types_by s (types_of types.now))
+        → IsCallTypes s (func_at (funcs_of types.now) func) t) }
+    ensures spelled { OnOk result (IsSpelled (func_at (funcs_of types.now) func)) }
+{
+    params_are_spellable(types, func);
+    result_is_spellable(types, func);
+    let params = passing(alloc, Way::Params, types, layouts, kinds, func)?;
+    let results = passing(alloc, Way::Results, types, layouts, kinds, func)?;
+    let has_pointer = is_spilled(&results.layout, MAX_FLAT_RESULTS);
+    Ok(CallTypes {
+        params,
+        results,
+        has_pointer,
+    })
 }
 
 /// What each function type of an arena passes, by place, each resource replaced by what stands for
@@ -181,7 +190,7 @@ pub(crate) fn call_types<R: Replacement>(
     let kinds = Kinds::of(alloc, types)?;
     let mut all = Vec::with_capacity(alloc, types.func_count())?;
     for func in 0..types.func_count() {
-        let one = CallTypes::of(alloc, types, &layouts, &kinds, func)?;
+        let one = call_types_at(alloc, types, &layouts, &kinds, func)?;
         all.push(Rc::new(alloc, one)?)?;
     }
     Ok(all)

@@ -2,6 +2,7 @@ pub mod Checks
 pub mod Closing
 pub mod Kept
 pub mod Lends
+pub mod Links
 pub mod Rows
 pub mod Stacks
 pub mod States

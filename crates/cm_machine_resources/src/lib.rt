@@ -18,5 +18,5 @@ pub use faults::trap_of_handle;
 pub use guest_moves::{grow, write};
 pub use makes::make_resource;
 pub use represents::represent;
-pub use returns::{return_destructor, return_post_return, return_root};
+pub use returns::{return_destructor, return_root};
 pub use setup::{are_page_counts, fresh_state};

@@ -11,8 +11,9 @@ use Rattle.cm_machine_model.specs.Stack.{top_of}
 use Rattle.cm_machine_model.specs.Valid.{IsStack, StandsOn}
 use Rattle.cm_machine_links.specs.declared.core_funcs.CoreFunc.{CoreFunc as CodedFunc}
 use Rattle.cm_machine_links.specs.declared.core_funcs.CoreFunc.TheVariants as core_func
-use Rattle.cm_machine_links.specs.declared.core_funcs.Link.{Link as CodedLink}
-use Rattle.cm_machine_links.specs.Planned.{IsFound, IsLinkOf}
+use Rattle.cm_machine_parts.specs.declared.link.Link.{Link as CodedLink}
+use Rattle.cm_machine_links.specs.Planned.{IsFound}
+use Rattle.cm_machine_parts.specs.Links.{IsLinkOf}
 
 -- ---- by what was found
 

@@ -9,7 +9,6 @@ ghost use Rattle.cm_machine_parts.specs.Kept.{IsKept, Runs};
 ghost use Rattle.cm_machine_parts.specs.Rows.{MeetsRow};
 ghost use Rattle.cm_machine_parts.specs.States.{state_of};
 
-use crate::link::call_link;
 use cm_machine_calls::{call_lowered, return_in_call};
 use cm_machine_links::{CoreFunc, Links};
 use cm_machine_model::state::{Call, Frame, Purpose};
@@ -45,7 +44,7 @@ fn call(
     match links.get(actor(top), func) {
         None | Some(CoreFunc::Guest) => Err(Trap::UnknownFunction),
         Some(CoreFunc::Lowered(link)) => {
-            call_lowered(alloc, state, top, func, &call_link(link), args, values)
+            call_lowered(alloc, state, top, func, link, args, values)
         }
         Some(CoreFunc::Makes(resource)) => make_resource(state, top, *resource, args, values),
         Some(
@@ -80,7 +79,7 @@ fn return_call(
     let Some(CoreFunc::Lowered(link)) = links.get(call.caller, call.func) else {
         unreachable!()
     };
-    return_in_call(alloc, state, call, &call_link(link), given, values)
+    return_in_call(alloc, state, call, link, given, values)
 }
 
 /// Returns from what the frame on top stands for.

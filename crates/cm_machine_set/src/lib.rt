@@ -2,7 +2,6 @@
 #![tactic(auto)]
 
 mod advance;
-mod link;
 mod set;
 
 pub use set::Set;

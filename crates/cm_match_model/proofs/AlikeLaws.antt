@@ -17,8 +17,10 @@ use Rattle.cm_match_model.specs.Imports.{links_of}
 use Rattle.cm_match_model.specs.Serving.{IsItemServed, Serves, standing}
 use Rattle.cm_match_model.specs.Alike.{AreAllAlike, AreAlike, IsLinkedTo}
 use Rattle.cm_match_model.specs.Brought.{AreBrought, AreInOrder, BringsInOrder, IsBrought, IsInOrder, OwnsWhatItBrings, behind, items_from}
-use Rattle.cm_match_model.proofs.AlikeLists.{get_map, some_same}
 use Rattle.cm_match_model.proofs.SameLaws.{func_same, import_there, provided_origin, resource_under, stands_as, type_same}
+use Rattle.cm_lemmas.proofs.Lists.{get_map}
+use Rattle.cm_lemmas.proofs.Bools.{or_left}
+use Rattle.cm_lemmas.proofs.Options.{some_is}
 
 -- ---- which resources are moved
 
@@ -35,12 +37,8 @@ it_stays t next r h = rw h refl
 it_moves : (t : InstanceTy) (next : ℕ) (r : ResourceId) → stays t r.number ≡ false → moved t.first t.fresh next r ≡ at_number r (r.number - t.first + next)
 it_moves t next r h = rw h refl
 
-left_false : (x y : Bool) → (x || y) ≡ false → x ≡ false
-left_false true y h = cc h
-left_false false y h = refl
-
 from_first : (t : InstanceTy) (n : ℕ) → stays t n ≡ false → t.first ≤ n
-from_first t n h = ltb-false n t.first (left_false (nat_lt n t.first) (nat_le (t.first + t.fresh) n) h)
+from_first t n h = ltb-false n t.first (or_left (nat_lt n t.first) (nat_le (t.first + t.fresh) n) h)
 
 own_moves : (t : InstanceTy) (n : ℕ) → t.first ≤ n → n < t.first + t.fresh → stays t n ≡ false
 own_moves t n low high = rw (le-ltb n t.first low, lt-leb (t.first + t.fresh) n high) refl
@@ -63,7 +61,7 @@ brought_at : (resources : List ResourceDef) (import n : ℕ) (is : List NamedIte
     → IsBrought resources import (n + k) i.desc
 brought_at resources import n [] h k i e = cc e
 brought_at resources import n (x ∷ is) h zero i e =
-    subst (λ (y : NamedItem). IsBrought resources import (n + zero) y.desc) (some_same x i e) (subst (λ m. IsBrought resources import m x.desc) (omega arith) h.0)
+    subst (λ (y : NamedItem). IsBrought resources import (n + zero) y.desc) (some_is x i e) (subst (λ m. IsBrought resources import m x.desc) (omega arith) h.0)
 brought_at resources import n (x ∷ is) h (suc k) i e = subst (λ m. IsBrought resources import m i.desc) (omega arith) (brought_at resources import (n + 1) is h.1 k i e)
 
 abbrev head_or : ℕ → List ℕ → ℕ

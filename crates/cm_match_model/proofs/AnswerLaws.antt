@@ -13,7 +13,9 @@ use Rattle.cm_match_model.specs.declared.plan.TheConstants.{MAX_COMPONENTS}
 use Rattle.cm_match_model.specs.Imports.{ImportAt, candidates, export_in, imports_of, only_link}
 use Rattle.cm_match_model.specs.Serving.{IsExternUnserved, IsFirst, IsItemServed, IsItemUnserved, IsUnserved, Serves, ServesExtern, are_known_resources, item_under}
 use Rattle.cm_match_model.specs.Links.{CanBeLinked, IsFirstNotServed, IsLinkFault, IsNotServed, IsNotServedBy, IsServed}
-use Rattle.cm_match_model.proofs.ListLemmas.{all_rest, one_first, some_same}
+use Rattle.cm_match_model.proofs.ListLemmas.{one_first}
+use Rattle.cm_lemmas.proofs.Lists.{all_right}
+use Rattle.cm_lemmas.proofs.Options.{some_is}
 
 -- ---- the first that is not so
 
@@ -21,7 +23,7 @@ use Rattle.cm_match_model.proofs.ListLemmas.{all_rest, one_first, some_same}
 first_is_so : {A : Type 0} (is_so : A → Type 0) (xs : List A) (x : A) → AllByRecursion is_so xs → IsFirst is_so xs x → is_so x
 first_is_so is_so xs x h f =
     let split : AllByRecursion is_so _ = subst (AllByRecursion is_so) f.split h in
-    (all_rest is_so f.front (x ∷ f.rest) split).0
+    (all_right is_so f.front (x ∷ f.rest) split).0
 
 same_first : {A : Type 0} (is_so : A → Type 0) (xs : List A) (x y : A) → IsFirst is_so xs x → IsFirst is_so xs y → (is_so x → ⊥) → (is_so y → ⊥) → x ≡ y
 same_first is_so xs x y f g h k = one_first is_so f.front g.front f.rest g.rest x y (sym f.split ∙ g.split) f.before g.before h k
@@ -74,7 +76,7 @@ one_item_reason set c w d (Some h) q r u v = elim (unserved_by set c w d h q u) 
 
 served_or_not : (set : List Spaces) (c d : ℕ) (w : ItemTy) (o : Option ItemTy) (r : LinkReason) → (h : ItemTy) × (o ≡ Some h) × Serves set c w d h → IsUnserved set c w d o r → ⊥
 served_or_not set c d w None r s u = cc s.1
-served_or_not set c d w (Some h) r s u = does_not_serve set c w d h r u (subst (Serves set c w d) (sym (some_same h s.0 s.1)) s.2)
+served_or_not set c d w (Some h) r s u = does_not_serve set c w d h r u (subst (Serves set c w d) (sym (some_is h s.0 s.1)) s.2)
 
 item_or_not : (set : List Spaces) (c d : ℕ) (ms : List NamedMember) (i : NamedItem) (r : LinkReason) → IsItemServed set c d ms i → IsItemUnserved set c d ms i r → ⊥
 item_or_not set c d ms i r s u = served_or_not set c d i.desc (item_under ms i.name) r s u
@@ -100,18 +102,18 @@ one_extern_reason set c (extern.instance items) d (exported_instance ms) q r u v
 
 by_or_not : (set : List Spaces) (i : ImportAt) (r : LinkReason) → IsServed set i → IsNotServedBy set i r → ⊥
 by_or_not set i r s u =
-    let link : s.link ≡ u.link = some_same s.link u.link (sym s.linked ∙ u.linked) in
+    let link : s.link ≡ u.link = some_is s.link u.link (sym s.linked ∙ u.linked) in
     let there : export_in set u.link.component u.link.export ≡ Some s.export = subst (λ (l : Link). export_in set l.component l.export ≡ Some s.export) link s.exported in
     let serves : ServesExtern set i.component i.item.desc u.link.component s.export = subst (λ (l : Link). ServesExtern set i.component i.item.desc l.component s.export) link s.serves in
-    let export : s.export ≡ u.export = some_same s.export u.export (sym there ∙ u.exported) in
+    let export : s.export ≡ u.export = some_is s.export u.export (sym there ∙ u.exported) in
     extern_or_not set i.component i.item.desc u.link.component u.export r (subst (ServesExtern set i.component i.item.desc u.link.component) export serves) u.fails
 
 one_by_reason : (set : List Spaces) (i : ImportAt) (q r : LinkReason) → IsNotServedBy set i q → IsNotServedBy set i r → q ≡ r
 one_by_reason set i q r u v =
-    let link : u.link ≡ v.link = some_same u.link v.link (sym u.linked ∙ v.linked) in
+    let link : u.link ≡ v.link = some_is u.link v.link (sym u.linked ∙ v.linked) in
     let there : export_in set v.link.component v.link.export ≡ Some u.export = subst (λ (l : Link). export_in set l.component l.export ≡ Some u.export) link u.exported in
     let fails : IsExternUnserved set i.component i.item.desc v.link.component u.export q = subst (λ (l : Link). IsExternUnserved set i.component i.item.desc l.component u.export q) link u.fails in
-    let export : u.export ≡ v.export = some_same u.export v.export (sym there ∙ v.exported) in
+    let export : u.export ≡ v.export = some_is u.export v.export (sym there ∙ v.exported) in
     one_extern_reason set i.component i.item.desc v.link.component v.export q r
     (subst (λ e. IsExternUnserved set i.component i.item.desc v.link.component e q) export fails) v.fails
 

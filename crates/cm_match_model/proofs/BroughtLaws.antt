@@ -30,8 +30,11 @@ use Rattle.cm_types_arena.specs.Moves.{moved as moved_range}
 use Rattle.cm_types_arena.specs.Replaced.{replaced, replaced_func}
 use Rattle.cm_types_arena.specs.Instances.{replaced_desc, replaced_item}
 use Rattle.cm_match_model.specs.Brought.{AreBrought, AreInOrder, BringsInOrder, IsBrought, IsInOrder, behind}
-use Rattle.cm_match_model.proofs.AlikeLists.{AllFrom, after_both, all_flat, all_joined, and_then, from_at, from_joined, from_weaker, get_behind, get_front, got, length_joined, mapped_any, nil_right, then_map, to_list}
+use Rattle.cm_match_model.proofs.AlikeLists.{AllFrom, from_at, from_joined, from_weaker, get_behind}
 use Rattle.cm_match_model.proofs.OrderLaws.{type_ordered}
+use Rattle.cm_validate_model.proofs.ListLemmas.{after_both}
+use Rattle.cm_lemmas.proofs.Lists.{all_flat, all_both, get_front, got_there, one_longer, nil_right, to_list}
+use Rattle.cm_lemmas.proofs.Options.{and_then, mapped_any, then_map}
 
 -- ---- the items of an import, as it counts their resources
 
@@ -110,7 +113,7 @@ module _ (t : InstanceTy) (next : ℕ) (le : t.first ≤ next) where
       let b : ResourceDef = brought import number in
       let rest = brought_from import (number + 1) is in
       let place : moved t next r.number ≡ length front = ap (λ (q : ResourceId). moved t next q.number) k ∙ ap (λ (q : ResourceId). q.number) (own_moved m) ∙ sym e in
-      let longer : length (front ++ b ∷ []) ≡ next + suc m = omega (arith, length_joined front b, e) in (
+      let longer : length (front ++ b ∷ []) ≡ next + suc m = omega (arith, one_longer front b, e) in (
         subst (λ n. slice_get (front ++ b ∷ rest) n ≡ Some b) (sym place) (get_behind front b rest),
         subst (λ l. AreBrought l import (number + 1) (map as_moved is)) (append_assoc front (b ∷ []) rest)
             (more (suc m) (front ++ b ∷ []) longer (subst (λ n. AreInOrder n is) (omega arith) l)),
@@ -229,7 +232,7 @@ imported_members t next import number (i ∷ is) = (by_desc i.desc, imported_mem
 module _ (s : Spaces) (h : Ordered s) where
   alias_ordered : (a : AliasTree) → IfSome (member_alias s a) IsMemberOrdered
   alias_ordered (instance_export sort instance name) =
-      and_then AreMembersOrdered IsMemberOrdered (λ ms. member_named ms name) (λ ms. named_ordered ms name) (slice_get s.instances instance) (got AreMembersOrdered s.instances instance h.instances)
+      and_then AreMembersOrdered IsMemberOrdered (λ ms. member_named ms name) (λ ms. named_ordered ms name) (slice_get s.instances instance) (got_there AreMembersOrdered s.instances instance h.instances)
   alias_ordered (core_instance_export sort instance name) = tt {0}
   alias_ordered (outer_type o) = tt {0}
 
@@ -237,7 +240,7 @@ module _ (s : Spaces) (h : Ordered s) where
   type_alias_ordered (instance_export sort instance name) =
       and_then IsMemberOrdered IsOrdered type_of_member type_in_member (aliased_member s instance name) (alias_ordered (instance_export sort instance name))
   type_alias_ordered (core_instance_export sort instance name) = tt {0}
-  type_alias_ordered (outer_type o) = got IsOrdered s.types o.index h.types
+  type_alias_ordered (outer_type o) = got_there IsOrdered s.types o.index h.types
 
   types_added : ((x : Item) → AreSpacesCounted (after_item s x)) → (x : Item) → AllByRecursion IsOrdered (new_types s x)
   types_added told core_module_item = tt {0}
@@ -254,7 +257,7 @@ module _ (s : Spaces) (h : Ordered s) where
 
   member_ordered : (sort : InstanceExportSort) (i : ℕ) → IfSome (member_at s sort i) IsMemberOrdered
   member_ordered member_sort.Func i = mapped_any IsMemberOrdered func_member (λ f. tt {0}) (slice_get s.funcs i)
-  member_ordered member_sort.Type i = then_map IsOrdered IsMemberOrdered type_member (λ t k. k) (slice_get s.types i) (got IsOrdered s.types i h.types)
+  member_ordered member_sort.Type i = then_map IsOrdered IsMemberOrdered type_member (λ t k. k) (slice_get s.types i) (got_there IsOrdered s.types i h.types)
 
   inline_ordered : (e : InlineExport) → AreMembersOrdered (named_member s e)
   inline_ordered e =
@@ -267,7 +270,7 @@ module _ (s : Spaces) (h : Ordered s) where
 
   exported_ordered : (sort : ExportSort) (i : ℕ) → IfSome (exported s sort i) IsExportOrdered
   exported_ordered export_sort.Func i = mapped_any IsExportOrdered exported_func (λ f. tt {0}) (slice_get s.funcs i)
-  exported_ordered export_sort.Instance i = then_map AreMembersOrdered IsExportOrdered exported_instance (λ ms k. k) (slice_get s.instances i) (got AreMembersOrdered s.instances i h.instances)
+  exported_ordered export_sort.Instance i = then_map AreMembersOrdered IsExportOrdered exported_instance (λ ms k. k) (slice_get s.instances i) (got_there AreMembersOrdered s.instances i h.instances)
 
   instance_ordered : (d : ExportDef) → IsExportOrdered d → IfSome (instance_exported d) AreMembersOrdered
   instance_ordered (exported_func f) k = tt {0}
@@ -326,7 +329,7 @@ module _ (s : Spaces) (h : Ordered s) where
   import_added : Ranged → AreSpacesCounted s → (name : List ℕ) (d : ExternDesc)
       → AllFrom (ImportInOrder (resources_with (imported_instance s d))) (length s.imports) (option_to_list (option_map (λ e. record { name = name; desc = e }) (import_desc s d)))
   import_added ranged c name (desc.Func i) = func_imported name (resources_with (imported_instance s (desc.Func i))) (imported_func s (desc.Func i))
-  import_added ranged c name (desc.Instance i) = instance_imported ranged name (imported_instance s (desc.Instance i)) (known (slice_get s.types i) (got IsOrdered s.types i h.types) (got (IsDefCounted (next_resource s)) s.types i c.types))
+  import_added ranged c name (desc.Instance i) = instance_imported ranged name (imported_instance s (desc.Instance i)) (known (slice_get s.types i) (got_there IsOrdered s.types i h.types) (got_there (IsDefCounted (next_resource s)) s.types i c.types))
     where
       known : (o : Option TypeDef) → IfSome o IsOrdered → IfSome o (IsDefCounted (next_resource s)) → IfSome (option_and_then instance_ty_in o) IsKnown
       known None k l = tt {0}
@@ -346,8 +349,8 @@ item_ordered : Ranged → (s : Spaces) (x : Item) → AreSpacesCounted s → ((y
 item_ordered ranged s x c told h =
     let all = s.resources ++ new_resources s x in
     record {
-      types = all_joined IsOrdered s.types (new_types s x) h.types (types_added s h told x);
-      instances = all_joined AreMembersOrdered s.instances (new_instances s x) h.instances (instances_added s h x);
+      types = all_both IsOrdered s.types (new_types s x) h.types (types_added s h told x);
+      instances = all_both AreMembersOrdered s.instances (new_instances s x) h.instances (instances_added s h x);
       imports = from_joined (ImportInOrder all) 0 s.imports (new_imports s x)
           (from_weaker (ImportInOrder s.resources) (ImportInOrder all) (λ n y. import_grows s.resources (new_resources s x) n y.desc) 0 s.imports h.imports)
           (subst (λ n. AllFrom (ImportInOrder all) n (new_imports s x)) (omega arith) (imports_added s h ranged c x));

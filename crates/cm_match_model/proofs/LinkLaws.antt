@@ -10,7 +10,9 @@ use Rattle.cm_validate_model.specs.Spaces.{Spaces}
 use Rattle.cm_match_model.specs.Origins.{LeadEarlier}
 use Rattle.cm_match_model.specs.declared.component.Link.{Link}
 use Rattle.cm_match_model.specs.Imports.{all_exports_from, export_in, exports_before, exports_from, import_at, import_in, link_of, links_of, only_link}
-use Rattle.cm_match_model.proofs.ListLemmas.{all_joined, all_kept, stepped}
+use Rattle.cm_match_model.proofs.ListLemmas.{all_kept}
+use Rattle.cm_lemmas.proofs.Lists.{all_both}
+use Rattle.cm_lemmas.proofs.Options.{stepped}
 
 abbrev IsOf : ℕ → NamedExport → Type 0
 IsOf n e = e.component < n
@@ -21,7 +23,7 @@ own_exports n c k (x ∷ xs) h = (h, own_exports n c (k + 1) xs h)
 
 all_exports : (n c : ℕ) (ss : List Spaces) → c + length ss ≤ n → AllByRecursion (IsOf n) (all_exports_from c ss)
 all_exports n c [] h = tt {0}
-all_exports n c (s ∷ ss) h = all_joined (IsOf n) (exports_from c 0 s.exports) (all_exports_from (c + 1) ss) (own_exports n c 0 s.exports (omega (arith, h))) (all_exports n (c + 1) ss (omega (arith, h)))
+all_exports n c (s ∷ ss) h = all_both (IsOf n) (exports_from c 0 s.exports) (all_exports_from (c + 1) ss) (own_exports n c 0 s.exports (omega (arith, h))) (all_exports n (c + 1) ss (omega (arith, h)))
 
 so_many : (n : ℕ) (ss : List Spaces) → length (take n ss) ≤ n
 so_many zero ss = omega arith
@@ -66,7 +68,7 @@ all_there : (set : List Spaces) (c : ℕ) (front ss : List Spaces) (n : ℕ) →
 all_there set c front ss zero split count = tt {0}
 all_there set c front [] (suc n) split count = tt {0}
 all_there set c front (s ∷ ss) (suc n) split count =
-    all_joined (IsThere set) (exports_from c 0 s.exports) (all_exports_from (c + 1) (take n ss))
+    all_both (IsThere set) (exports_from c 0 s.exports) (all_exports_from (c + 1) (take n ss))
     (own_there set c s 0 [] s.exports (ap (λ ys. slice_get ys c) split ∙ seam front ss s c count) refl refl)
     (all_there set (c + 1) (front ++ s ∷ []) ss n (split ∙ sym (append_assoc front (s ∷ []) ss)) (length-append front (s ∷ []) ∙ ap (λ n. n + 1) count))
 

@@ -1,21 +1,14 @@
 -- Lists, and what may be there.
-use Rattle.std.proofs.Common.{◌≡◌, ℕ, zero, suc, Bool, List, [], ◌∷◌, ◌++◌, Option, Some, None, refl, sym, ap, subst, inl, inr, filter, option_and_then, slice_get}
+use Rattle.std.proofs.Common.{◌≡◌, ℕ, zero, suc, Bool, List, [], ◌∷◌, ◌++◌, Option, Some, None, refl, sym, ap, subst, inl, inr, filter, slice_get}
 use Rattle.std.proofs.lemmas.Bool.{cases_Bool}
 use Rattle.std.specs.Prelude.{unwrap_or}
 use Rattle.std.specs.List.{AllByRecursion}
 use Rattle.std.specs.Option.{option_map}
-
--- where a step led to a value, there was one before it
-pub stepped : {A B : Type 0} (o : Option A) (f : A → Option B) (y : B) → option_and_then f o ≡ Some y → (x : A) × (o ≡ Some x) × (f x ≡ Some y)
-stepped None f y h = cc h
-stepped (Some x) f y h = (x, refl, h)
+use Rattle.cm_lemmas.proofs.Options.{some_is}
 
 pub mapped : {A B : Type 0} (o : Option A) (f : A → B) (y : B) → option_map f o ≡ Some y → (x : A) × (o ≡ Some x) × (f x ≡ y)
 mapped None f y h = cc h
 mapped (Some x) f y h = (x, refl, ap (λ o. unwrap_or o (f x)) h)
-
-pub some_same : {A : Type 0} (x y : A) → Some x ≡ Some y → x ≡ y
-some_same x y h = ap (λ o. unwrap_or o x) h
 
 -- ---- all of a list
 
@@ -26,21 +19,9 @@ all_kept is_so p (x ∷ xs) h = elim (cases_Bool (p x)) [
   | inr n ↦ rw n (all_kept is_so p xs h.1)
 ]
 
-pub all_joined : {A : Type 0} (is_so : A → Type 0) (xs ys : List A) → AllByRecursion is_so xs → AllByRecursion is_so ys → AllByRecursion is_so (xs ++ ys)
-all_joined is_so [] ys h k = k
-all_joined is_so (x ∷ xs) ys h k = (h.0, all_joined is_so xs ys h.1 k)
-
-pub all_front : {A : Type 0} (is_so : A → Type 0) (xs ys : List A) → AllByRecursion is_so (xs ++ ys) → AllByRecursion is_so xs
-all_front is_so [] ys h = tt {0}
-all_front is_so (x ∷ xs) ys h = (h.0, all_front is_so xs ys h.1)
-
-pub all_rest : {A : Type 0} (is_so : A → Type 0) (xs ys : List A) → AllByRecursion is_so (xs ++ ys) → AllByRecursion is_so ys
-all_rest is_so [] ys h = h
-all_rest is_so (x ∷ xs) ys h = all_rest is_so xs ys h.1
-
 pub all_at : {A : Type 0} (is_so : A → Type 0) (xs : List A) → AllByRecursion is_so xs → (k : ℕ) (x : A) → slice_get xs k ≡ Some x → is_so x
 all_at is_so [] h k x e = cc e
-all_at is_so (y ∷ ys) h zero x e = subst is_so (some_same y x e) h.0
+all_at is_so (y ∷ ys) h zero x e = subst is_so (some_is y x e) h.0
 all_at is_so (y ∷ ys) h (suc k) x e = all_at is_so ys h.1 k x e
 
 -- ---- the first that is not so

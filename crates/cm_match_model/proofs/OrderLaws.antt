@@ -15,7 +15,8 @@ use Rattle.cm_validate_model.specs.Spaces.{Spaces, after_item, next_resource}
 use Rattle.cm_validate_model.specs.Counted.{IsItemCounted}
 use Rattle.cm_validate_model.specs.CountedSpaces.{AreItemsCounted, AreSpacesCounted, IsDefCounted}
 use Rattle.cm_match_model.specs.Brought.{AreInOrder, IsInOrder, behind}
-use Rattle.cm_match_model.proofs.AlikeLists.{nil_right, of_last}
+use Rattle.cm_match_model.proofs.AlikeLists.{of_last}
+use Rattle.cm_lemmas.proofs.Lists.{nil_right}
 
 -- ---- items one after another
 

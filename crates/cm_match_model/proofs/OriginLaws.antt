@@ -7,11 +7,7 @@ use Rattle.cm_validate_model.specs.Definitions.{ResourceDef, brought, defined}
 use Rattle.cm_validate_model.specs.Spaces.{Spaces}
 use Rattle.cm_match_model.specs.declared.component.Link.{Link}
 use Rattle.cm_match_model.specs.Origins.{AreOrigins, LeadEarlier, Links, Table, definition_of, exported_resource, item_name, origin_by, origin_of, origin_within, resource_at, resource_of, served}
-
--- where a step led to a value, there was one before it
-stepped : {A B : Type 0} (o : Option A) (f : A → Option B) (y : B) → option_and_then f o ≡ Some y → (x : A) × (o ≡ Some x) × (f x ≡ Some y)
-stepped None f y h = cc h
-stepped (Some x) f y h = (x, refl, h)
+use Rattle.cm_lemmas.proofs.Options.{some_in, stepped, still_some}
 
 mapped : {A B : Type 0} (o : Option A) (f : A → B) (y : B) → option_map f o ≡ Some y → (x : A) × (f x ≡ y)
 mapped None f y h = cc h
@@ -84,12 +80,9 @@ brought_follows set links table a r provided origin i k h s t =
 
 -- ---- origins are of earlier components
 
-option_in : {A : Type 0} {x y : A} → Some x ≡ Some y → x ≡ y
-option_in {x = x} e = ap (λ o. unwrap_or o x) e
-
 mapped_by : {A B : Type 0} (f : A → B) (o : Option A) (y : B) → option_map f o ≡ Some y → (x : A) × (f x ≡ y)
 mapped_by f None y h = cc h
-mapped_by f (Some x) y h = (x, option_in h)
+mapped_by f (Some x) y h = (x, some_in h)
 
 -- a table leads to no later component
 abbrev LeadsBack : Table → Type 0
@@ -115,10 +108,6 @@ not_later set links early (suc n) r origin h =
 
 pub earlier_origin : (set : List Spaces) (links : Links) → LeadEarlier links → (r origin : ResourceId) → origin_of set links r ≡ Some origin → origin.component ≤ r.component
 earlier_origin set links early r origin h = not_later set links early (suc r.component) r origin h
-
-still_some : {A B : Type 0} (f : A → B) (o : Option A) → is_some o ≡ true → is_some (option_map f o) ≡ true
-still_some f None h = cc h
-still_some f (Some x) h = refl
 
 pub origin_there : (set : List Spaces) (links : Links) (r : ResourceId) → is_some (definition_of set r) ≡ true → is_some (origin_of set links r) ≡ true
 origin_there set links r h = still_some (origin_by set links (origin_within r.component set links) r) (definition_of set r) h

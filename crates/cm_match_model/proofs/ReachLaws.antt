@@ -15,8 +15,9 @@ use Rattle.cm_match_model.specs.Imports.{export_in, links_of}
 use Rattle.cm_match_model.specs.Serving.{IsSameFunc}
 use Rattle.cm_match_model.specs.Targets.{FuncAt, Target, exported_under, func_for, linked_func, serving_func, target_by, target_of, targets_of}
 use Rattle.cm_match_model.proofs.LinkLaws.{lead_earlier}
-use Rattle.cm_match_model.proofs.ListLemmas.{all_at, mapped, some_same, stepped}
+use Rattle.cm_match_model.proofs.ListLemmas.{all_at, mapped}
 use Rattle.cm_match_model.proofs.TargetLaws.{exists, serving_earlier}
+use Rattle.cm_lemmas.proofs.Options.{some_is, stepped}
 
 -- ---- what an export has
 
@@ -30,7 +31,7 @@ module _ (P : FuncDef → Type 0) where
   named (m ∷ ms) name k = by_name m.def (member_named ms name) (bytes_eq m.name name) k.0 (named ms name k.1)
 
   of_member : (m : MemberDef) (h : FuncDef) → OfMember P m → func_of_member m ≡ Some h → P h
-  of_member (func_member f) h k e = subst P (some_same f h e) k
+  of_member (func_member f) h k e = subst P (some_is f h e) k
   of_member (type_member d) h k e = cc e
 
   under : (name : List ℕ) (e : ExportDef) (h : FuncDef) → OfExport P e → exported_under name e ≡ Some h → P h
@@ -41,7 +42,7 @@ module _ (P : FuncDef → Type 0) where
       of_member m.0 h has m.2
 
   of_export : (s : Spaces) (import : ℕ) (item : Option ℕ) (e : ExportDef) (h : FuncDef) → OfExport P e → func_for s import item e ≡ Some h → P h
-  of_export s import None (exported_func f) h k u = subst P (some_same f h u) k
+  of_export s import None (exported_func f) h k u = subst P (some_is f h u) k
   of_export s import None (exported_instance ms) h k u = cc u
   of_export s import (Some item) e h k u =
       let name = stepped (item_name s import item) (λ name. exported_under name e) h u in
@@ -113,7 +114,7 @@ module _ (P : ℕ → Spaces → FuncDef → Type 0) (set : List Spaces) (told :
   lift_by : (d : ℕ) (h : FuncDef) (t : Target) → Of P set (record { component = d; func = h }) → target_by (targets_of set (links_of set)) d h ≡ Some t
       → ((import : ℕ) (item : Option ℕ) → targets_of set (links_of set) d import item ≡ Some t → OfLift t) → OfLift t
   unfolding Of
-  lift_by d (lifted k ty os) t of e below = subst OfLift (some_same (record { component = d; core_func = k; ty = ty; options = os }) t e) of
+  lift_by d (lifted k ty os) t of e below = subst OfLift (some_is (record { component = d; core_func = k; ty = ty; options = os }) t e) of
   lift_by d (imported import item ty) t of e below = below import item e
 
   lift_within : (n c import : ℕ) (item : Option ℕ) (t : Target) → c < n → targets_of set (links_of set) c import item ≡ Some t → OfLift t
@@ -130,7 +131,7 @@ module _ (P : ℕ → Spaces → FuncDef → Type 0) (set : List Spaces) (told :
 
 from_map : {A B : Type 0} (f : A → B) (is_so : A → Type 0) (xs : List A) → AllByRecursion is_so xs → (k : ℕ) (y : B) → slice_get (map f xs) k ≡ Some y → (x : A) × is_so x × (f x ≡ y)
 from_map f is_so [] all k y h = cc h
-from_map f is_so (x ∷ xs) all zero y h = (x, all.0, some_same (f x) y h)
+from_map f is_so (x ∷ xs) all zero y h = (x, all.0, some_is (f x) y h)
 from_map f is_so (x ∷ xs) all (suc k) y h = from_map f is_so xs all.1 k y h
 
 pub told_of : (P : Spaces → FuncDef → Type 0) (Q : Spaces → CoreFuncDef → Type 0) (is_so : List SectionTree → Type 0)
@@ -152,7 +153,7 @@ sections_at components d = unwrap_or (slice_get components d) []
 
 at_place : (components : List (List SectionTree)) (d : ℕ) (t : Spaces) → slice_get (map spaces_of components) d ≡ Some t → spaces_of (sections_at components d) ≡ t
 at_place [] d t e = cc e
-at_place (x ∷ xs) zero t e = some_same (spaces_of x) t e
+at_place (x ∷ xs) zero t e = some_is (spaces_of x) t e
 at_place (x ∷ xs) (suc d) t e = at_place xs d t e
 
 pub told_where : (P : List SectionTree → FuncDef → Type 0) (Q : List SectionTree → CoreFuncDef → Type 0)

@@ -1,8 +1,7 @@
 -- The resources of a type's own are, in the end, the same for two imports that are served alike.
-use Rattle.std.proofs.Common.{◌≡◌, ◌∙◌, ℕ, ◌<◌, List, [], ◌∷◌, Bool, true, false, Option, Some, None, refl, ap, sym, subst, slice_get, option_and_then}
-use Rattle.std.specs.Prelude.{IfSome, unwrap_or, if◌then◌else◌}
+use Rattle.std.proofs.Common.{◌≡◌, ◌∙◌, ℕ, ◌<◌, List, Option, Some, None, refl, ap, sym, subst, slice_get, option_and_then}
+use Rattle.std.specs.Prelude.{IfSome, unwrap_or}
 use Rattle.std.specs.Option.{option_map}
-use Rattle.std.specs.Str.{bytes_eq}
 use Rattle.cm_types.specs.declared.resource.ResourceId.{ResourceId}
 use Rattle.cm_types.specs.Signatures.{ItemTy, NamedItem, func_item, equal_type, equal_resource, fresh_resource, NamedExtern}
 use Rattle.cm_types.specs.Types.{Ty, FuncTy, Fields, Cases, bool, signed, unsigned, char, string, list, fixed_list, fields, cases, flags, own, borrow, no_fields, field, no_cases, plain, carrying}
@@ -18,7 +17,10 @@ use Rattle.cm_match_model.specs.Origins.{AreOrigins, definition_of, exported_res
 use Rattle.cm_match_model.specs.Imports.{export_in, links_of}
 use Rattle.cm_match_model.specs.Serving.{Serves, item_under, standing}
 use Rattle.cm_match_model.specs.Alike.{IsLinkedTo}
-use Rattle.cm_match_model.proofs.AlikeLists.{get_below, get_map, got_at, mapped, stepped}
+use Rattle.cm_match_model.proofs.AlikeLists.{mapped}
+use Rattle.cm_lemmas.proofs.Lists.{item_there, get_map, got_at}
+use Rattle.cm_validate_model.proofs.SpaceLaws.{named_known}
+use Rattle.cm_lemmas.proofs.Options.{stepped}
 
 -- ---- types with resources that are the same in the end
 
@@ -61,14 +63,6 @@ module _ (s p q : Standing) (n : ℕ) (same : (r : ResourceId) → IsAmongFirst 
 
 -- ---- the resource that an instance has under a name
 
-by_test : (n : ℕ) (d : MemberDef) (o : Option MemberDef) (b : Bool) → IsMemberCounted n d → IfSome o (IsMemberCounted n) → IfSome (if b then Some d else o) (IsMemberCounted n)
-by_test n d o true h k = h
-by_test n d o false h k = k
-
-named_counted : (n : ℕ) (ms : List NamedMember) (name : List ℕ) → AreMembersCounted n ms → IfSome (member_named ms name) (IsMemberCounted n)
-named_counted n [] name h = tt {0}
-named_counted n (m ∷ ms) name h = by_test n m.def (member_named ms name) (bytes_eq m.name name) h.0 (named_counted n ms name h.1)
-
 resource_is : (m : MemberDef) (q : ResourceId) → item_of_member m ≡ Some (equal_resource q) → (n : ℕ) × (m ≡ type_member (resource n))
 resource_is (func_member f) q e = cc e
 resource_is (type_member (value t)) q e = cc e
@@ -108,8 +102,8 @@ module _ (set : List Spaces) (counted : (n : ℕ) (p : Spaces) → slice_get set
       let k : AreSpacesCounted x.0 = counted l.component x.0 x.1 in
       let exported : IsExportCounted (next_resource x.0) x.2.def = got_at (λ (e : NamedExport). IsExportCounted (next_resource x.0) e.def) x.0.exports l.export x.2 k.exports x.3 in
       let members : AreMembersCounted (next_resource x.0) ms = subst (IsExportCounted (next_resource x.0)) x.4 exported in
-      let below : n < next_resource x.0 = subst (λ o. IfSome o (IsMemberCounted (next_resource x.0))) m (named_counted (next_resource x.0) ms name members) in
-      let def = get_below x.0.resources n below in
+      let below : n < next_resource x.0 = subst (λ o. IfSome o (IsMemberCounted (next_resource x.0))) m (named_known (next_resource x.0) ms name members) in
+      let def = item_there x.0.resources n below in
       (def.0, ap (option_and_then (λ (v : Spaces). slice_get v.resources n)) x.1 ∙ def.1)
 
   -- it is something in the end

@@ -16,7 +16,9 @@ use Rattle.cm_match_model.specs.Serving.{IsItemServed, IsSameFunc, Serves, Serve
 use Rattle.cm_validate_model.specs.Imported.{func_item_of, wanted_func, wanted_of}
 use Rattle.cm_match_model.specs.Targets.{FuncAt, exported_under, func_for, linked_func, serving_func}
 use Rattle.cm_match_model.proofs.LinkLaws.{linked_earlier}
-use Rattle.cm_match_model.proofs.ListLemmas.{all_at, all_front, all_rest, some_same, stepped}
+use Rattle.cm_match_model.proofs.ListLemmas.{all_at}
+use Rattle.cm_lemmas.proofs.Lists.{all_left, all_right}
+use Rattle.cm_lemmas.proofs.Options.{some_is, stepped}
 
 -- ---- what holds of all imports of a set holds of each
 
@@ -24,7 +26,7 @@ of_component : (is_so : ImportAt → Type 0) (c m : ℕ) (xs : List NamedExtern)
     → (n : ℕ) (x : NamedExtern) → slice_get xs n ≡ Some x → is_so (import_at c (m + n) x)
 of_component is_so c m [] h n x e = cc e
 of_component is_so c m (y ∷ ys) h zero x e =
-    let same : is_so (import_at c m x) = subst (λ z. is_so (import_at c m z)) (some_same y x e) h.0 in
+    let same : is_so (import_at c m x) = subst (λ z. is_so (import_at c m z)) (some_is y x e) h.0 in
     subst (λ k. is_so (import_at c k x)) (omega arith) same
 of_component is_so c m (y ∷ ys) h (suc n) x e = subst (λ k. is_so (import_at c k x)) (omega arith) (of_component is_so c (m + 1) ys h.1 n x e)
 
@@ -32,12 +34,12 @@ of_set : (is_so : ImportAt → Type 0) (d : ℕ) (ss : List Spaces) → AllByRec
     → (c : ℕ) (s : Spaces) → slice_get ss c ≡ Some s → (n : ℕ) (x : NamedExtern) → slice_get s.imports n ≡ Some x → is_so (import_at (d + c) n x)
 of_set is_so d [] h c s e n x f = cc e
 of_set is_so d (t ∷ ts) h zero s e n x f =
-    let front : AllByRecursion is_so (imports_from d 0 t.imports) = all_front is_so (imports_from d 0 t.imports) (all_imports_from (d + 1) ts) h in
-    let same : slice_get t.imports n ≡ Some x = subst (λ (v : Spaces). slice_get v.imports n ≡ Some x) (sym (some_same t s e)) f in
+    let front : AllByRecursion is_so (imports_from d 0 t.imports) = all_left is_so (imports_from d 0 t.imports) (all_imports_from (d + 1) ts) h in
+    let same : slice_get t.imports n ≡ Some x = subst (λ (v : Spaces). slice_get v.imports n ≡ Some x) (sym (some_is t s e)) f in
     let here : is_so (import_at d n x) = subst (λ k. is_so (import_at d k x)) (omega arith) (of_component is_so d 0 t.imports front n x same) in
     subst (λ k. is_so (import_at k n x)) (omega arith) here
 of_set is_so d (t ∷ ts) h (suc c) s e n x f =
-    let rest : AllByRecursion is_so (all_imports_from (d + 1) ts) = all_rest is_so (imports_from d 0 t.imports) (all_imports_from (d + 1) ts) h in
+    let rest : AllByRecursion is_so (all_imports_from (d + 1) ts) = all_right is_so (imports_from d 0 t.imports) (all_imports_from (d + 1) ts) h in
     subst (λ k. is_so (import_at k n x)) (omega arith) (of_set is_so (d + 1) ts rest c s e n x f)
 
 -- ---- items
@@ -50,7 +52,7 @@ served_func set c f d (equal_resource r) s = absurd s
 served_func set c f d (fresh_resource r) s = absurd s
 
 item_is_func : (w : ItemTy) (f : FuncTy) → func_item_of w ≡ Some f → w ≡ func_item f
-item_is_func (func_item g) f h = ap func_item (some_same g f h)
+item_is_func (func_item g) f h = ap func_item (some_is g f h)
 item_is_func (equal_type t) f h = cc h
 item_is_func (equal_resource r) f h = cc h
 item_is_func (fresh_resource r) f h = cc h
@@ -69,7 +71,7 @@ ty_or g _ = g
 
 member_is_func : (m : MemberDef) (g : FuncTy) → item_of_member m ≡ Some (func_item g) → (h : FuncDef) × (func_of_member m ≡ Some h) × (func_type_of h ≡ g)
 unfolding ty_or
-member_is_func (func_member h) g e = (h, refl, ap (ty_or g) (some_same (func_item (func_type_of h)) (func_item g) e))
+member_is_func (func_member h) g e = (h, refl, ap (ty_or g) (some_is (func_item (func_type_of h)) (func_item g) e))
 member_is_func (type_member t) g e = absurd (no_func t g e)
 
 found_under : (ms : List NamedMember) (name : List ℕ) (g : FuncTy) → item_under ms name ≡ Some (func_item g)
@@ -97,7 +99,7 @@ by_item set s c import k f d ms i name is served =
 by_extern : (set : List Spaces) (s : Spaces) (c import : ℕ) (item : Option ℕ) (f : FuncTy) (d : ℕ) (x : NamedExtern) (t : ExternTy) (e : ExportDef)
     → slice_get s.imports import ≡ Some x → x.desc ≡ t → wanted_of item t ≡ Some f → ServesExtern set c t d e → Served set s c import item f d e
 unfolding Served
-by_extern set s c import None f d x (extern.func g) (exported_func h) there is wanted serves = (h, refl, subst (λ v. IsSameFunc set c v d (func_type_of h)) (some_same g f wanted) serves)
+by_extern set s c import None f d x (extern.func g) (exported_func h) there is wanted serves = (h, refl, subst (λ v. IsSameFunc set c v d (func_type_of h)) (some_is g f wanted) serves)
 by_extern set s c import None f d x (extern.func g) (exported_instance ms) there is wanted serves = absurd serves
 by_extern set s c import (Some k) f d x (extern.func g) e there is wanted serves = cc wanted
 by_extern set s c import None f d x (extern.instance items) e there is wanted serves = cc wanted

@@ -19,15 +19,15 @@ use Rattle.cm_match_model.specs.Links.{IsNotServed, IsNotServedBy, IsServed}
 use Rattle.cm_match_model.specs.Serving.{IsExternUnserved, IsItemServed, ServesExtern, standing}
 use Rattle.cm_match_model.specs.Alike.{AreAllAlike, FailsAt, IsLinkedTo}
 use Rattle.cm_match_model.specs.Brought.{BringsInOrder, OwnsWhatItBrings, items_from}
-use Rattle.cm_match_model.proofs.AlikeLists.{some_same, stepped}
 use Rattle.cm_match_model.proofs.AlikeLaws.{all_alike, same_served}
 use Rattle.cm_match_model.proofs.ServingLaws.{AlikeFor, extern_served, extern_unserved, fails_too}
+use Rattle.cm_lemmas.proofs.Options.{some_is, stepped}
 
 -- ---- the components of a set
 
 map_back : {A B : Type 0} (f : A → B) (xs : List A) (k : ℕ) (y : B) → slice_get (map f xs) k ≡ Some y → (x : A) × (f x ≡ y)
 map_back f [] k y h = cc h
-map_back f (x ∷ xs) zero y h = (x, some_same (f x) y h)
+map_back f (x ∷ xs) zero y h = (x, some_is (f x) y h)
 map_back f (x ∷ xs) (suc k) y h = map_back f xs k y h
 
 module _ (counted : (sections : List SectionTree) → AreSpacesCounted (spaces_of sections))
@@ -99,7 +99,7 @@ fails_both law components c j k d t a b e r owns v w =
 
 module _ (set : List Spaces) (c : ℕ) (t : InstanceTy) (d : ℕ) (e : ExportDef) where
   import_is : (n next : ℕ) (w : IsLinkedTo set c n t next d e) (x : NamedExtern) → import_in set c n ≡ Some x → x ≡ w.import
-  import_is n next w x h = some_same x w.import (sym h ∙ w.there)
+  import_is n next w x h = some_is x w.import (sym h ∙ w.there)
 
   desc_is : (n next : ℕ) (w : IsLinkedTo set c n t next d e) (x : NamedExtern) → import_in set c n ≡ Some x → x.desc ≡ extern.instance (items_from t next)
   desc_is n next w x h = ap (λ (y : NamedExtern). y.desc) (import_is n next w x h) ∙ w.items
@@ -111,9 +111,9 @@ module _ (set : List Spaces) (c : ℕ) (t : InstanceTy) (d : ℕ) (e : ExportDef
   export_is : (n next : ℕ) (w : IsLinkedTo set c n t next d e) (x : NamedExtern) → import_in set c n ≡ Some x → (l : Link) (f : ExportDef) → link_of set (import_at c n x) ≡ Some l
       → export_in set l.component l.export ≡ Some f → (l.component ≡ d) × (f ≡ e)
   export_is n next w x h l f linked exported =
-      let same : l ≡ w.link = some_same l w.link (sym linked ∙ link_is n next w x h) in (
+      let same : l ≡ w.link = some_is l w.link (sym linked ∙ link_is n next w x h) in (
         ap (λ (y : Link). y.component) same ∙ w.to,
-        some_same f e (sym exported ∙ ap (λ (y : Link). export_in set y.component y.export) same ∙ w.exported),
+        some_is f e (sym exported ∙ ap (λ (y : Link). export_in set y.component y.export) same ∙ w.exported),
       )
 
   -- a fact of the one import, by the link and the export, is one of the other

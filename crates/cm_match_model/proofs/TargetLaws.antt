@@ -5,7 +5,8 @@ use Rattle.cm_validate_model.specs.Spaces.{Spaces}
 use Rattle.cm_match_model.specs.Origins.{LeadEarlier, Links}
 use Rattle.cm_match_model.specs.Imports.{export_in}
 use Rattle.cm_match_model.specs.Targets.{AreTargets, FuncAt, Targets, func_for, linked_func, serving_func, target_by, target_of, target_within, targets_of}
-use Rattle.cm_match_model.proofs.ListLemmas.{mapped, stepped}
+use Rattle.cm_match_model.proofs.ListLemmas.{mapped}
+use Rattle.cm_lemmas.proofs.Options.{stepped}
 
 -- what serves an import is of an earlier component
 pub serving_earlier : (set : List Spaces) (links : Links) (c i : ℕ) (item : Option ℕ) (g : FuncAt) → LeadEarlier links → serving_func set links c i item ≡ Some g → g.component < c

@@ -13,8 +13,11 @@ use Rattle.std.specs.Cmp.Lexicographic.{slice_cmp}
 use Rattle.std.specs.Map.{lookup}
 use Rattle.std.specs.Option.{option_and_then, unwrap_or}
 use Rattle.std.specs.Ordering.{is_eq, nat_cmp}
-use Rattle.std.proofs.lemmas.Grind.{common_steps}
 use Rattle.std.proofs.lemmas.Map.Text.{btree_map_updates_str}
+use Rattle.cm_lemmas.proofs.Orders.{same_number}
+use Rattle.cm_lemmas.proofs.Numbers.{eq_of}
+use Rattle.cm_lemmas.proofs.Lists.{same_text}
+use Rattle.cm_lemmas.proofs.Bools.{true_not_false}
 
 abbrev pub Name : Type 0
 Name = ℕ × Bor (List ℕ)
@@ -28,23 +31,14 @@ seeks_none keys table e = record {
   is = λ n name. ap (λ es. or_else (option_and_then (under name) (lookup (is_at (nat_cmp n)) es)) (position_from (is_key n name) 0 (map key_view keys))) (sym e);
 }
 
-or_none : (a : Option ℕ) → or_else a None ≡ a
+pub or_none : (a : Option ℕ) → or_else a None ≡ a
 or_none None = refl
 or_none (Some x) = refl
 
-later : (a : Option ℕ) (t : Bool) (i : ℕ) (rest : Option ℕ) → or_else a (cond t (Some i) rest) ≡ or_else (or_else a (if t then Some i else None)) rest
+pub later : (a : Option ℕ) (t : Bool) (i : ℕ) (rest : Option ℕ) → or_else a (cond t (Some i) rest) ≡ or_else (or_else a (if t then Some i else None)) rest
 later None true i rest = refl
 later None false i rest = refl
 later (Some x) t i rest = refl
-
-same_of : (x y : ℕ) → (x == y) ≡ true → x ≡ y
-same_of x y e = grind (arith, nat_tests)
-
-same_text : (x y : List ℕ) → bytes_eq x y ≡ true → x ≡ y
-same_text x y e = (bytes_eq-Decides x y).0 e
-
-true_not : true ≡ false → ⊥
-true_not e = cc
 
 next_rest : (keys : List Name) (i : ℕ) (k : Name) → i < length keys → k ≡ get_or keys i k → map key_view (drop i keys) ≡ key_view k ∷ map key_view (drop (i + 1) keys)
 next_rest keys i k lt is = ap (map key_view) (drop_more keys i k lt ∙ ap (λ (y : Name). y ∷ drop (i + 1) keys) (sym is))
@@ -66,9 +60,6 @@ pub ruleset table_laws = (seeks_none, seeks_step, seeks_all)
 
 -- ---- one key
 
-same_number : (m n : ℕ) → is_eq (nat_cmp m n) ≡ (m == n)
-same_number m n = grind (arith, common_steps)
-
 -- ---- the names under a number
 
 placed_or : (o : Option ℕ) (place : ℕ) → Some (unwrap_or o place) ≡ or_else o (Some place)
@@ -80,7 +71,7 @@ not_text x y e = by (bytes_eq y x) refl
   where
     by : (t : Bool) → bytes_eq y x ≡ t → t ≡ false
     by false f = refl
-    by true f = absurd (true_not (sym ((bytes_eq-Decides x y).1 (sym (same_text y x f))) ∙ e))
+    by true f = absurd (true_not_false (sym ((bytes_eq-Decides x y).1 (sym (same_text y x f))) ∙ e))
 
 -- a name has what it had, or else the place
 pub name_noted : (name m : List ℕ) (names : Names) (place w : ℕ) → w ≡ unwrap_or (under name names) place → cond (bytes_eq name m) (Some w) (under m names) ≡ or_else (under m names) (if bytes_eq m name then Some place else None)
@@ -126,7 +117,7 @@ module _ (place : ℕ) (old new : KeyTable) (names more : Names) (k : Name)
       by true e =
           ap (option_and_then (under name)) (given n ∙ ap (λ b. cond b (Some more) (get_by (nat_cmp n) old)) (same_number k.0 n ∙ e))
           ∙ noted name
-          ∙ ap (λ o. or_else o (if bytes_eq name k.1.now then Some place else None)) (held name ∙ ap (λ m. look_up old m name) (same_of k.0 n e))
+          ∙ ap (λ o. or_else o (if bytes_eq name k.1.now then Some place else None)) (held name ∙ ap (λ m. look_up old m name) (eq_of k.0 n e))
           ∙ ap (λ b. or_else (look_up old n name) (if b && bytes_eq name k.1.now then Some place else None)) (sym (turned true e))
       by false e =
           ap (option_and_then (under name)) (given n ∙ ap (λ b. cond b (Some more) (get_by (nat_cmp n) old)) (same_number k.0 n ∙ e))

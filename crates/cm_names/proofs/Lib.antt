@@ -1,4 +1,4 @@
 pub mod FindingLaws
 pub mod TextLaws
-mod KeyLaws
+pub mod KeyLaws
 pub mod NumberLaws

@@ -1,5 +1,5 @@
 -- The numbers of texts that are there once.
-use Rattle.std.proofs.Common.{◌≡◌, ◌∙◌, ℕ, zero, suc, ◌+◌, true, false, cond, List, [], ◌∷◌, ◌++◌, length, slice_get, Some, Result, Ok, Err, sym, ap, subst, arith, inl, inr}
+use Rattle.std.proofs.Common.{◌≡◌, ◌∙◌, ℕ, zero, suc, ◌+◌, false, cond, List, [], ◌∷◌, ◌++◌, length, slice_get, Some, Result, Ok, Err, sym, ap, subst, arith, inl, inr}
 use Rattle.std.proofs.lemmas.Bool.{cases_Bool}
 use Rattle.std.proofs.lemmas.Slice.Eq.{bytes_eq-Decides}
 use Rattle.std.specs.List.{list_any, position_from}
@@ -7,7 +7,9 @@ use Rattle.std.specs.Prelude.{OnErr, OnOk, ⊤}
 use Rattle.std.specs.Str.{bytes_eq}
 use Rattle.cm_names.specs.Distinct.{AreDistinct}
 use Rattle.cm_names.specs.TextNumbers.{number_in}
-use Rattle.cm_names.proofs.TextLaws.{any_there, last_there, none_some, old_or_last, some_is}
+use Rattle.cm_names.proofs.TextLaws.{last_there}
+use Rattle.cm_lemmas.proofs.Lists.{absent, old_or_last}
+use Rattle.cm_lemmas.proofs.Options.{none_some, some_is}
 
 -- the text of a number that is counted from another one on
 record StandsAt (text : List ℕ) (start n : ℕ) (texts : List (List ℕ)) : Type 0 where
@@ -77,13 +79,6 @@ stays_from text i n (x ∷ ts) us e = elim (cases_Bool (bytes_eq text x)) [
 -- a text keeps its number where more are added behind
 pub number_stays : (ts us : List (List ℕ)) (text : List ℕ) (n : ℕ) → number_in ts text ≡ Some n → number_in (ts ++ us) text ≡ Some n
 number_stays ts us text n e = stays_from text 0 n ts us e
-
--- a text is another one than those of a list that has it not
-absent : (ts : List (List ℕ)) (t u : List ℕ) (n : ℕ) → list_any (bytes_eq t) ts ≡ false → slice_get ts n ≡ Some u → bytes_eq u t ≡ false
-absent ts t u n a e = elim (cases_Bool (bytes_eq u t)) [
-  | inl y ↦ let f : list_any (bytes_eq t) ts ≡ true = any_there ts t n (e ∙ ap (λ (v : List ℕ). Some v) ((bytes_eq-Decides u t).0 y)) in absurd (let g = sym a ∙ f in cc)
-  | inr m ↦ m
-]
 
 -- a text that is not there may be added
 pub distinct_more : (ts : List (List ℕ)) (t : List ℕ) → list_any (bytes_eq t) ts ≡ false → AreDistinct ts → AreDistinct (ts ++ t ∷ [])

@@ -1,5 +1,5 @@
 -- What a table tells, and tables with one text more.
-use Rattle.std.proofs.Common.{◌≡◌, ◌⊎◌, ℕ, zero, suc, ◌+◌, Bool, true, false, ◌||◌, List, [], ◌∷◌, ◌++◌, length, get_or, slice_get, Option, Some, None, is_some, IfSome, refl, sym, ap, ◌∙◌, subst, inl, inr, if◌then◌else◌}
+use Rattle.std.proofs.Common.{◌≡◌, ℕ, zero, suc, ◌+◌, Bool, true, false, ◌||◌, List, [], ◌∷◌, ◌++◌, length, get_or, slice_get, Option, Some, None, is_some, IfSome, refl, sym, ap, ◌∙◌, subst, inl, inr, if◌then◌else◌}
 use Rattle.std.proofs.lemmas.Bool.{cases_Bool}
 use Rattle.std.proofs.lemmas.Slice.Eq.{bytes_eq-Decides}
 use Rattle.std.specs.BTreeMap.{BTreeMap, get_by_text}
@@ -12,14 +12,10 @@ use Rattle.cm_names.specs.Finding.{IsFound, IsFoundOf, KeepsFound, KeepsFoundOf,
 use Rattle.cm_names.specs.Hash.{home_of}
 use Rattle.cm_names.specs.MarkedTexts.{IsTable, PutsLast, looked_up}
 use Rattle.cm_names.proofs.FindingLaws.{found_by, kept_from}
+use Rattle.cm_lemmas.proofs.Lists.{any_there, old_or_last}
+use Rattle.cm_lemmas.proofs.Options.{none_some, some_is}
 
 -- ---- texts by number
-
-pub some_is : {A : Type 0} (x y : A) → Some x ≡ Some y → x ≡ y
-some_is x y e = cc
-
-pub none_some : {A P : Type 0} (x : A) → None ≡ Some x → P
-none_some x e = absurd cc
 
 pub text_there : (ts : List (List ℕ)) (t : List ℕ) (n : ℕ) → is_text ts t n ≡ true → slice_get ts n ≡ Some t
 text_there ts t n h = here (slice_get ts n) refl h
@@ -39,27 +35,6 @@ front_there (x ∷ ts) us (suc n) t e = front_there ts us n t e
 pub last_there : (ts : List (List ℕ)) (t : List ℕ) → slice_get (ts ++ t ∷ []) (length ts) ≡ Some t
 last_there [] t = refl
 last_there (x ∷ ts) t = last_there ts t
-
-abbrev pub OldOrLast : List (List ℕ) → List ℕ → ℕ → List ℕ → Type 0
-OldOrLast ts t n u = (slice_get ts n ≡ Some u) ⊎ ((n ≡ length ts) × (u ≡ t))
-
-pub old_or_last : (ts : List (List ℕ)) (t : List ℕ) (n : ℕ) (u : List ℕ) → slice_get (ts ++ t ∷ []) n ≡ Some u → OldOrLast ts t n u
-old_or_last [] t zero u e = inr (refl, sym (some_is t u e))
-old_or_last [] t (suc n) u e = none_some u e
-old_or_last (x ∷ ts) t zero u e = inl e
-old_or_last (x ∷ ts) t (suc n) u e = elim (old_or_last ts t n u e) [
-  | inl h ↦ inl h
-  | inr h ↦ inr (ap (λ m. suc m) h.0, h.1)
-]
-
-pub any_there : (ts : List (List ℕ)) (t : List ℕ) (n : ℕ) → slice_get ts n ≡ Some t → list_any (bytes_eq t) ts ≡ true
-any_there [] t n e = none_some t e
-any_there (x ∷ ts) t zero e = rw ((bytes_eq-Decides t x).1 (sym (some_is x t e))) refl
-any_there (x ∷ ts) t (suc n) e = here (bytes_eq t x) (any_there ts t n e)
-  where
-    here : (b : Bool) → list_any (bytes_eq t) ts ≡ true → (b || list_any (bytes_eq t) ts) ≡ true
-    here true h = refl
-    here false h = h
 
 there_any : (ts : List (List ℕ)) (t : List ℕ) → list_any (bytes_eq t) ts ≡ true → (n : ℕ) × (slice_get ts n ≡ Some t)
 there_any [] t h = absurd cc

@@ -13,10 +13,10 @@ use Rattle.cm_types_arena.specs.Replaced.{Standing, replaced, replaced_fields, r
 use Rattle.cm_types_numbers.specs.declared.key.Key.{Key}
 use Rattle.cm_types_numbers.specs.declared.key.Key.TheVariants as key
 use Rattle.cm_types_numbers.specs.Numbering.{Numbering, number, number_fields, number_func, Extends, AreNumbers, AreFuncNumbers, IsNodeOf}
-use Rattle.cm_types_numbers.proofs.ChainLemmas.{fields_long}
 use Rattle.cm_types_numbers.proofs.NodeLemmas.{procedure_numbered, func_numbered}
 use Rattle.cm_types_numbers.proofs.Places.{numbers_before, numbers_there, number_there, one_more, take_more}
 use Rattle.cm_types_numbers.proofs.Stays.{numbers_stay, funcs_stay, extends_on, stays}
+use Rattle.cm_types_arena.proofs.ArenaLemmas.{fields_long}
 
 -- one more type of an arena
 module _ (t u v : Numbering) (b : Extends t u) (c : Extends u v) (s : Standing) (ts : List Ty) (place : ℕ) (ns : List ℕ) (are : AreNumbers t s (take place ts) ns) (lt : place < length ts)

@@ -11,12 +11,9 @@ use Rattle.cm_types_arena.specs.Replaced.{Standing, replaced, replaced_fields, r
 use Rattle.cm_types_numbers.specs.declared.key.Key.TheVariants as key
 use Rattle.cm_types_numbers.specs.declared.key.Leaf.TheVariants as leaf
 use Rattle.cm_types_numbers.specs.Numbering.{Numbering, number, number_fields, number_cases, Extends, AreNumbers, HasNumber}
-use Rattle.cm_types_numbers.proofs.Seen.{seen_label, seen_case_label, seen_payload}
 use Rattle.cm_types_numbers.proofs.Steps.{from_here, field_step}
-
-pub fields_long : (fs : List Field) → length (field_types (fields_of fs)) ≡ length fs
-fields_long [] = refl
-fields_long (f ∷ fs) = ap suc (fields_long fs)
+use Rattle.cm_types.proofs.TypeTreesLaws.{seen_case_label, seen_label}
+use Rattle.cm_types.proofs.Seen.{seen_case}
 
 -- the types of the parts of a tuple
 pub parts_are : (ts : List Ty) → field_types (parts_from ts) ≡ ts
@@ -57,7 +54,7 @@ pub cases_here : (cs : List Case) (i : ℕ) (c : Case) → 0 < i → i - 1 < len
 cases_here cs i c some lt is =
     ap cases_of (from_here cs i c c some lt is)
     ∙ ap (λ (l : List ℕ). case_before l (case_of c).1 (cases_of (drop i cs))) (seen_case_label c)
-    ∙ ap (λ (o : Option Ty). case_before (out-Case c).label o (cases_of (drop i cs))) (seen_payload c)
+    ∙ ap (λ (o : Option Ty). case_before (out-Case c).label o (cases_of (drop i cs))) (seen_case c)
 
 pub plain_here : (cs : List Case) (i : ℕ) (c : Case) (text : List ℕ) → 0 < i → i - 1 < length cs → c ≡ get_or cs (i - 1) c → text ≡ (out-Case c).label → (out-Case c).payload ≡ None
     → cases_of (drop (i - 1) cs) ≡ plain text (cases_of (drop i cs))

@@ -1,8 +1,6 @@
 -- What an insertion of a key without a number makes of a table.
-use Rattle.std.proofs.Common.{◌≡◌, ℕ, ◌+◌, true, List, Option, Some, None, Result, Ok, Err, refl, sym, ap, subst, ◌∙◌}
+use Rattle.std.proofs.Common.{◌≡◌, ℕ, ◌+◌, true, List, Option, Some, None, Result, Ok, Err, sym, ap, subst, ◌∙◌}
 use Rattle.std.specs.Prelude.{OnOk, IfOk, OnErr, if◌then◌else◌, is_some}
-use Rattle.std.specs.declared.cmp.Ordering.{Ordering}
-use Rattle.std.specs.declared.cmp.Ordering.TheVariants.{Less, Equal, Greater}
 use Rattle.std.specs.Ordering.{is_eq}
 use Rattle.std.specs.BTreeMap.{BTreeMap, get, btree_map_len, IsUnchanged, Updates}
 use Rattle.std.specs.Map.{lookup}
@@ -11,6 +9,7 @@ use Rattle.cm_types_numbers.specs.declared.key.Key.{Key}
 use Rattle.cm_types_numbers.specs.Tables.{key_order, IsOneToOne, KeepsNumbers}
 use Rattle.cm_types_numbers.proofs.Orders.{exact_key}
 use Rattle.cm_types_numbers.proofs.Additions.{one_to_one_more, keeps_more}
+use Rattle.cm_lemmas.proofs.Orders.{is_equal}
 
 -- a table with this lookup and count has one more key than one with that lookup
 pub record GoesOn {K : Type 0} (old new : K → Option ℕ) (count : ℕ) : Type 0 where
@@ -19,11 +18,6 @@ pub record GoesOn {K : Type 0} (old new : K → Option ℕ) (count : ℕ) : Type
 
 same_entries : {K X : Type 0} (m n : BTreeMap K X) → IsUnchanged m n → btree_map_len n ≡ btree_map_len m
 same_entries m n e = ap length e
-
-is_equal : (o : Ordering) → is_eq o ≡ true → o ≡ Equal
-is_equal Less e = absurd cc
-is_equal Equal e = refl
-is_equal Greater e = absurd cc
 
 one_more : (n m : ℕ) (old : Option ℕ) (here : Option ℕ) → old ≡ here → here ≡ None → n ≡ m + (if is_some old then 0 else 1) → n ≡ m + 1
 one_more n m old here is none long = let same : old ≡ None = is ∙ none in long ∙ ap (λ (o : Option ℕ). m + (if is_some o then 0 else 1)) same

@@ -11,10 +11,10 @@ use Rattle.cm_types_arena.specs.Replaced.{Standing, replaced, replaced_fields, r
 use Rattle.cm_types_numbers.specs.declared.key.Key.TheVariants as key
 use Rattle.cm_types_numbers.specs.declared.key.Leaf.TheVariants as leaf
 use Rattle.cm_types_numbers.specs.Numbering.{Numbering, number, number_fields, number_func, over, Extends, AreNumbers}
-use Rattle.cm_types_numbers.proofs.ChainLemmas.{fields_long}
 use Rattle.cm_types_numbers.proofs.NodeLemmas.{procedure_numbered, func_numbered}
 use Rattle.cm_types_numbers.proofs.Places.{as_many}
 use Rattle.cm_types_numbers.proofs.Stays.{stays}
+use Rattle.cm_types_arena.proofs.ArenaLemmas.{fields_long}
 
 module _ (t u v : Numbering) (c : Extends u v) (s : Standing) (ts : List Ty) (places parts : List ℕ) (are : AreNumbers t s (map (type_at ts) places) parts) (f : FuncTy) (fs : List Field) (fe : fields_of fs ≡ f.params)
     (types : field_types f.params ≡ map (type_at ts) places) where

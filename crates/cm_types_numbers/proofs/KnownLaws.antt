@@ -1,9 +1,7 @@
 -- Numbers that are known by their places.
-use Rattle.std.proofs.Common.{◌≡◌, ℕ, zero, suc, ◌+◌, ◌<◌, ◌≤◌, Bool, true, false, cond, List, [], ◌∷◌, ◌++◌, length, map, take, get_or, inl, inr, Option, Some, None, refl, sym, ap, subst, ◌∙◌, arith}
+use Rattle.std.proofs.Common.{◌≡◌, ℕ, zero, suc, ◌+◌, ◌<◌, ◌≤◌, Bool, false, cond, List, [], ◌∷◌, ◌++◌, length, map, take, get_or, inl, inr, Option, Some, None, sym, ap, subst, ◌∙◌, arith}
 use Rattle.std.specs.BTreeMap.{get}
 use Rattle.std.specs.Ordering.{is_eq, nat_cmp}
-use Rattle.std.specs.declared.cmp.Ordering.{Ordering}
-use Rattle.std.specs.declared.cmp.Ordering.TheVariants.{Less, Equal, Greater}
 use Rattle.std.specs.List.{AllByRecursion}
 use Rattle.std.proofs.lemmas.Bool.{cases_Bool}
 use Rattle.std.proofs.lemmas.List.{get_or_past, map_more, take_all}
@@ -18,21 +16,15 @@ use Rattle.cm_types_numbers.specs.declared.key.Key.{Key}
 use Rattle.cm_types_numbers.specs.declared.known.Known.{Known}
 use Rattle.cm_types_numbers.proofs.Places.{as_many, one_more}
 use Rattle.cm_types_numbers.proofs.Stays.{numbers_stay, stays}
-
-is_equal : (o : Ordering) → is_eq o ≡ true → o ≡ Equal
-is_equal Less e = absurd cc
-is_equal Equal e = refl
-is_equal Greater e = absurd cc
-
-some_is : (m n : ℕ) → Some m ≡ Some n → m ≡ n
-some_is m n e = cc
+use Rattle.cm_lemmas.proofs.Orders.{is_equal}
+use Rattle.cm_lemmas.proofs.Options.{some_number}
 
 pub known_more : (t : Numbering) (s : Standing) (ts : List Ty) (old new : Known) (place n : ℕ) → ((q : ℕ) → get nat_cmp new.numbers q ≡ cond (is_eq (nat_cmp place q)) (Some n) (get nat_cmp old.numbers q))
     → Knows t s ts old → number t (replaced s (type_at ts place)) ≡ Some n → Knows t s ts new
 known_more t s ts old new place n at knows is q m e = elim (cases_Bool (is_eq (nat_cmp place q))) [
   | inl y ↦
       let here : place ≡ q = exact_unsigned place q (is_equal (nat_cmp place q) y) in
-      let same : n ≡ m = some_is n m (sym (at q ∙ ap (λ (b : Bool). cond b (Some n) (get nat_cmp old.numbers q)) y) ∙ e) in
+      let same : n ≡ m = some_number n m (sym (at q ∙ ap (λ (b : Bool). cond b (Some n) (get nat_cmp old.numbers q)) y) ∙ e) in
       ap (λ (p : ℕ). number t (replaced s (type_at ts p))) (sym here) ∙ is ∙ ap (λ (k : ℕ). let o : Option ℕ = Some k in o) same
   | inr isnt ↦ knows q m (sym (at q ∙ ap (λ (b : Bool). cond b (Some n) (get nat_cmp old.numbers q)) isnt) ∙ e)
 ]

@@ -8,9 +8,9 @@ use Rattle.cm_types_arena.specs.Replaced.{Standing, replaced, replaced_fields, r
 use Rattle.cm_types_numbers.specs.declared.key.Key.{Key}
 use Rattle.cm_types_numbers.specs.declared.key.Key.TheVariants as key
 use Rattle.cm_types_numbers.specs.Numbering.{Numbering, over, over_two, number, number_fields, number_cases, number_labels, number_of_signature, number_func, Extends, AreNumbers, HasNumber, result_cases}
-use Rattle.cm_types_numbers.proofs.Places.{heads}
 use Rattle.cm_types_numbers.proofs.Stays.{stays, stays_fields, stays_cases, stays_labels}
 use Rattle.cm_types_numbers.proofs.Steps.{over_is, over_two_is}
+use Rattle.cm_lemmas.proofs.Lists.{heads}
 
 -- labels are numbered as the cases that they are without payloads
 pub plain_numbered : (t : Numbering) (s : Standing) (ls : List (List ℕ)) → number_cases t (replaced_cases s (plain_from ls)) ≡ number_labels t ls

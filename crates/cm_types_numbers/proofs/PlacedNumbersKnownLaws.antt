@@ -1,11 +1,10 @@
 -- Tables of what is known, one entry more.
-use Rattle.std.proofs.Common.{◌≡◌, ℕ, Bool, true, cond, List, inl, inr, Option, Some, refl, sym, ap, subst, ◌∙◌}
+use Rattle.std.proofs.Common.{◌≡◌, ℕ, Bool, cond, List, inl, inr, Option, Some, sym, ap, subst, ◌∙◌}
 use Rattle.std.specs.BTreeMap.{IsUnchanged, get, is_at}
 use Rattle.std.specs.Map.{lookup}
 use Rattle.std.specs.Ordering.{is_eq}
-use Rattle.std.specs.Prelude.{Result, Ok, Err, IfOk}
 use Rattle.std.specs.declared.cmp.Ordering.{Ordering}
-use Rattle.std.specs.declared.cmp.Ordering.TheVariants.{Less, Equal, Greater}
+use Rattle.std.specs.declared.cmp.Ordering.TheVariants.{Equal}
 use Rattle.std.proofs.lemmas.Bool.{cases_Bool}
 use Rattle.cm_types.specs.Types.{Ty, FuncTy}
 use Rattle.cm_types_arena.specs.Replaced.{Standing, replaced_func}
@@ -20,14 +19,8 @@ use Rattle.cm_types_numbers.specs.declared.moves.MovedFunc.{MovedFunc}
 use Rattle.cm_types_numbers.specs.declared.moves.Moves.{Moves}
 use Rattle.cm_types_numbers.specs.declared.types.KnownTypes.{KnownTypes}
 use Rattle.cm_types_numbers.proofs.PlacedNumbersOrders.{same_func, same_standing}
-
-is_equal : (o : Ordering) → is_eq o ≡ true → o ≡ Equal
-is_equal Less e = absurd cc
-is_equal Equal e = refl
-is_equal Greater e = absurd cc
-
-some_is : {A : Type 0} (x y : A) → Some x ≡ Some y → x ≡ y
-some_is x y e = cc
+use Rattle.cm_lemmas.proofs.Orders.{is_equal}
+use Rattle.cm_lemmas.proofs.Options.{some_is}
 
 -- What holds of each entry of a table, and of equal keys alike, holds of each of a table with one
 -- more of which it holds.
@@ -61,8 +54,3 @@ funcs_more t s fs old new func n at knows here =
 -- a table that was left as it was
 pub tables_same : (t : Numbering) (s : Standing) (ts : List Ty) (old new : KnownTypes) → IsUnchanged old.tables new.tables → KnowsTypes t s ts old → KnowsTypes t s ts new
 tables_same t s ts old new e knows moves table at = knows moves table (sym (ap (λ (es : List (Moves × Known)). lookup (is_at (moves_order moves)) es) e) ∙ at)
-
--- what holds of an answer
-pub if_ok_more : {T E : Type 0} (r : Result T E) (P Q : T → Type 0) → IfOk r P → ((v : T) → P v → Q v) → IfOk r Q
-if_ok_more (Ok v) P Q h f = f v h
-if_ok_more (Err e) P Q h f = tt

@@ -1,85 +1,11 @@
 -- What type each kind of node is.
-use Rattle.std.proofs.Common.{◌≡◌, ℕ, Option, Vec, Global, rules, codes}
-use Rattle.std.specs.Option.{option_map}
+use Rattle.std.proofs.Common.{◌≡◌, Option, Global, rules}
 use Rattle.std.specs.declared.rc.Rc.{Rc}
-use Rattle.cm_types.specs.Types.{bool, signed, unsigned, bits_8, bits_16, bits_32, bits_64, char, string, list, fixed_list, fields, cases, flags, record_type, tuple_type, variant_type, enum_type, option_type, result_type, no_cases, plain, carrying}
-use Rattle.cm_types.specs.TypeTrees.{type_of, field_of, case_of, fields_of, parts_of, cases_of, plain_from, shared_payload}
-use Rattle.cm_types.specs.declared.names.Label.{Label}
+use Rattle.cm_types.specs.Types.{cases, result_type}
+use Rattle.cm_types.specs.TypeTrees.{type_of, shared_payload}
 use Rattle.cm_types.specs.declared.type_trees.TypeNode.{TypeNode, the_lemmas}
 use Rattle.cm_types.specs.declared.type_trees.TypeNode.TheViews as node
-use Rattle.cm_types.specs.declared.type_trees.TypeNode.TheVariants as leaf
-use Rattle.cm_types.specs.declared.type_trees.Field.{Field, out-Field}
-use Rattle.cm_types.specs.declared.type_trees.Case.{Case, out-Case}
 use Rattle.cm_types_numbers.specs.Numbering.{result_cases}
-
-pub seen_List : (b : Rc TypeNode Global) → type_of (node.List b) ≡ list (type_of b.value)
-seen_List b = search (rules, the_lemmas)
-
-pub seen_FixedList : (b : Rc TypeNode Global) (n : ℕ) → type_of (node.FixedList b n) ≡ fixed_list (type_of b.value) n
-seen_FixedList b n = search (rules, the_lemmas)
-
-pub seen_Record : (v : Rc (Vec Field Global) Global) → type_of (node.Record v) ≡ fields record_type (fields_of v.value.items)
-seen_Record v = search (rules, the_lemmas)
-
-pub seen_Tuple : (v : Rc (Vec TypeNode Global) Global) → type_of (node.Tuple v) ≡ fields tuple_type (parts_of v.value.items)
-seen_Tuple v = search (rules, the_lemmas)
-
-pub seen_Variant : (v : Rc (Vec Case Global) Global) → type_of (node.Variant v) ≡ cases variant_type (cases_of v.value.items)
-seen_Variant v = search (rules, the_lemmas)
-
-pub seen_Enum : (v : Rc (Vec Label Global) Global) → type_of (leaf.Enum v) ≡ cases enum_type (plain_from v.value.items)
-seen_Enum v = search (rules, the_lemmas)
-
-pub seen_Flags : (v : Rc (Vec Label Global) Global) → type_of (leaf.Flags v) ≡ flags v.value.items
-seen_Flags v = search (rules, the_lemmas)
-
-pub seen_Option : (b : Rc TypeNode Global) → type_of (node.Option b) ≡ cases option_type (plain (codes "none") (carrying (codes "some") (type_of b.value) no_cases))
-seen_Option b = search (rules, the_lemmas)
 
 pub seen_Result : (ok error : Option (Rc TypeNode Global)) → type_of (node.Result ok error) ≡ cases result_type (result_cases (shared_payload ok) (shared_payload error))
 seen_Result ok error = search (rules, the_lemmas)
-
--- the label of a field
-pub seen_label : (f : Field) → (field_of f).0 ≡ (out-Field f).label
-seen_label f = search (rules, the_lemmas)
-
--- the label and the payload of a case
-pub seen_case_label : (c : Case) → (case_of c).0 ≡ (out-Case c).label
-seen_case_label c = search (rules, the_lemmas)
-
-pub seen_payload : (c : Case) → (case_of c).1 ≡ option_map type_of (out-Case c).payload
-seen_payload c = search (rules, the_lemmas)
-
--- primitive types
-pub seen_Bool : type_of leaf.Bool ≡ bool
-seen_Bool = search (rules, the_lemmas)
-
-pub seen_S8 : type_of leaf.S8 ≡ signed bits_8
-seen_S8 = search (rules, the_lemmas)
-
-pub seen_U8 : type_of leaf.U8 ≡ unsigned bits_8
-seen_U8 = search (rules, the_lemmas)
-
-pub seen_S16 : type_of leaf.S16 ≡ signed bits_16
-seen_S16 = search (rules, the_lemmas)
-
-pub seen_U16 : type_of leaf.U16 ≡ unsigned bits_16
-seen_U16 = search (rules, the_lemmas)
-
-pub seen_S32 : type_of leaf.S32 ≡ signed bits_32
-seen_S32 = search (rules, the_lemmas)
-
-pub seen_U32 : type_of leaf.U32 ≡ unsigned bits_32
-seen_U32 = search (rules, the_lemmas)
-
-pub seen_S64 : type_of leaf.S64 ≡ signed bits_64
-seen_S64 = search (rules, the_lemmas)
-
-pub seen_U64 : type_of leaf.U64 ≡ unsigned bits_64
-seen_U64 = search (rules, the_lemmas)
-
-pub seen_Char : type_of leaf.Char ≡ char
-seen_Char = search (rules, the_lemmas)
-
-pub seen_String : type_of leaf.String ≡ string
-seen_String = search (rules, the_lemmas)

@@ -1,6 +1,5 @@
 -- One more member of a chain.
 use Rattle.std.proofs.Common.{◌≡◌, ℕ, zero, suc, ◌+◌, ◌-◌, ◌<◌, ◌≤◌, List, [], ◌∷◌, length, drop, get_or, Option, Some, None, refl, sym, ap, subst, ◌∙◌, arith}
-use Rattle.std.specs.Prelude.{Result, Ok, Err, IfOk}
 use Rattle.std.proofs.Math.Seq.{drop-cons}
 use Rattle.cm_types.specs.TypeTrees.{case_before}
 use Rattle.cm_types.specs.Types.{Ty, Fields, Cases, field, plain, carrying}
@@ -9,8 +8,8 @@ use Rattle.cm_types_arena.specs.Replaced.{Standing, replaced, replaced_fields, r
 use Rattle.cm_types_numbers.specs.declared.key.Key.{Key}
 use Rattle.cm_types_numbers.specs.declared.key.Key.TheVariants as key
 use Rattle.cm_types_numbers.specs.Numbering.{Numbering, over, over_two, over_three, number, number_fields, number_cases, number_labels, Extends, AreNumbers, HasNumber}
-use Rattle.cm_types_numbers.proofs.Places.{heads}
 use Rattle.cm_types_numbers.proofs.Stays.{stays, stays_fields, stays_cases, stays_labels, extends_on}
+use Rattle.cm_lemmas.proofs.Lists.{heads}
 
 pub over_is : (t : Numbering) (k : ℕ → Key) (a : Option ℕ) (i : ℕ) → a ≡ Some i → over t k a ≡ t.node (k i)
 over_is t k a i p = ap (over t k) p
@@ -81,11 +80,6 @@ module _ (start t v : Numbering) (a : Extends start t) (s : Standing) (text : Li
       let two : (number start (replaced s x) ≡ Some m) × AreNumbers start s (payload_types R) ms = heads _ _ _ _ here in
       ap (λ (C : Cases). number_cases v (replaced_cases s C)) e
       ∙ made (Some (replaced s x)) (replaced_cases s R) (stays start t a (replaced s x) m two.0) (h two.1)
-
--- what holds of an answer
-pub if_ok_more : {T E : Type 0} (r : Result T E) (P Q : T → Type 0) → IfOk r P → ((v : T) → P v → Q v) → IfOk r Q
-if_ok_more (Ok v) P Q h f = f v h
-if_ok_more (Err e) P Q h f = tt
 
 -- a payload keeps its number
 pub has_stays : (t u : Numbering) → Extends t u → (x : Option Ty) (n : Option ℕ) → HasNumber t x n → HasNumber u x n

@@ -1,8 +1,8 @@
 -- What moves brought, while declarations are read.
-use Rattle.std.proofs.Common.{◌≡◌, ℕ, zero, suc, Bool, true, false, ◌&&◌, List, [], ◌∷◌, ◌++◌, length, Option, Some, None, IfSome, refl, sym, subst, slice_get}
+use Rattle.std.proofs.Common.{◌≡◌, ℕ, Bool, true, false, List, [], ◌∷◌, ◌++◌, length, Option, Some, None, IfSome, sym, subst, slice_get}
 use Rattle.std.specs.Prelude.{if◌then◌else◌}
 use Rattle.std.specs.Borrow.{Bor}
-use Rattle.std.specs.List.{AllByRecursion, list_all}
+use Rattle.std.specs.List.{AllByRecursion}
 use Rattle.std.specs.Option.{option_map}
 use Rattle.cm_types.specs.Types.{Ty, FuncTy}
 use Rattle.cm_validate_model.specs.CountedSpaces.{IsDefCounted}
@@ -17,27 +17,7 @@ use Rattle.cm_validate_types.specs.TypeScopes.{arena_funcs, arena_types, types_a
 use Rattle.cm_validate_declarations.specs.CountedAround.{AreCountedAround}
 use Rattle.cm_validate_declarations.specs.DeclaredItems.{items_in}
 use Rattle.cm_validate_declarations.proofs.PropLaws.{items_known, moved_known}
-
-got : {A : Type 0} (P : A → Type 0) (xs : List A) (i : ℕ) (x : A) → AllByRecursion P xs → slice_get xs i ≡ Some x → P x
-got P [] i x a e = absurd cc
-got P (y ∷ ys) zero x a e = let same : y ≡ x = cc in subst P same a.0
-got P (y ∷ ys) (suc i) x a e = got P ys i x a.1 e
-
-all_push : {A : Type 0} (P : A → Type 0) (xs : List A) (x : A) → AllByRecursion P xs → P x → AllByRecursion P (xs ++ x ∷ [])
-all_push P [] x a p = (p, tt)
-all_push P (y ∷ ys) x a p = (a.0, all_push P ys x a.1 p)
-
-both_left : (a b : Bool) → (a && b) ≡ true → a ≡ true
-both_left true b e = refl
-both_left false b e = absurd cc
-
-both_right : (a b : Bool) → (a && b) ≡ true → b ≡ true
-both_right true b e = e
-both_right false b e = absurd cc
-
-true_push : {A : Type 0} (test : A → Bool) (xs : List A) (x : A) → list_all test xs ≡ true → test x ≡ true → list_all test (xs ++ x ∷ []) ≡ true
-true_push test [] x a p = rw p refl
-true_push test (y ∷ ys) x a p = rw (both_left (test y) (list_all test ys) a, true_push test ys x (both_right (test y) (list_all test ys) a) p) refl
+use Rattle.cm_lemmas.proofs.Lists.{all_push, got_at, all_pushed}
 
 by_push : {A : Type 0} (P : List A → Type 0) (b : Bool) (xs ys : List A) (x : A) → ys ≡ (if b then xs ++ x ∷ [] else xs) → P xs → P (xs ++ x ∷ []) → P ys
 by_push P true xs ys x e old new = subst P (sym e) new
@@ -55,7 +35,7 @@ DefsCounted = (types : List Ty) (funcs : List FuncTy) (n : ℕ) (e : TypeEntry) 
 pub around_moved : DefsCounted → (s : TypeScope) (n i : ℕ) (o : Option (Bor TypeEntry)) → option_map (λ e. def_of (arena_types s) (arena_funcs s) e.now) o ≡ slice_get (types_around s) i
     → IfSome o (λ e. AreCountedAround n s → IsMovedCounted (arena_types s) (arena_funcs s) n e.now)
 around_moved law s n i None told = tt
-around_moved law s n i (Some e) told = λ a. law (arena_types s) (arena_funcs s) n e.now (got (IsDefCounted n) (types_around s) i (def_of (arena_types s) (arena_funcs s) e.now) a (sym told))
+around_moved law s n i (Some e) told = λ a. law (arena_types s) (arena_funcs s) n e.now (got_at (IsDefCounted n) (types_around s) i (def_of (arena_types s) (arena_funcs s) e.now) a (sym told))
 
 -- and among its own
 pub own_moved : (s : TypeScope) (n : ℕ) (o : Option (Bor TypeEntry)) → ∥ (AreCountedAround n s → AreMovedCounted n s) ∥₁
@@ -86,7 +66,7 @@ module _ (s t : TypeScope) (types : arena_types t ≡ arena_types s) (funcs : ar
 -- with one more, or without
 module _ (s : TypeScope) (b : Bool) (xs ys : List Item) (x : Item) (e : ys ≡ (if b then xs ++ x ∷ [] else xs)) where
   pub there_more : AreThere s xs → is_desc_there (length (arena_types s)) (length (arena_funcs s)) x.desc ≡ true → AreThere s ys
-  there_more h p = by_push (AreThere s) b xs ys x e h (true_push (λ (i : Item). is_desc_there (length (arena_types s)) (length (arena_funcs s)) i.desc) xs x h p)
+  there_more h p = by_push (AreThere s) b xs ys x e h (all_pushed (λ (i : Item). is_desc_there (length (arena_types s)) (length (arena_funcs s)) i.desc) xs x h p)
 
   pub known_more : (n : ℕ) → AreKnown n s xs → (AreCountedAround n s → IsDescSettled (arena_types s) (arena_funcs s) n x.desc) → AreKnown n s ys
   known_more n h p =

@@ -53,7 +53,7 @@ impl Declarations {
 
     /// Before the first declaration, in a component with the types of this scope, whose next
     /// resource has this number.
-    #[tactic(auto, using(crate::proofs::GrowLaws::unchanged))]
+    #[tactic(auto, using(cm_validate_types::proofs::GrowLaws::unchanged))]
     pub fn new(alloc: Global, component: TypeScope, next: u64) -> Declarations
         ensures scope { scope_so_far result ≡ scope_in (own_types component) next }
         ensures first { first_resource result ≡ next }
@@ -102,7 +102,7 @@ impl Declarations {
     ///
     /// `AllocError` comes where there is no memory, or no number for a resource. The types of the
     /// component around stay as they are, whatever comes.
-    #[tactic(auto, using(crate::proofs::GrowLaws::grown_on))]
+    #[tactic(auto, using(cm_validate_types::proofs::GrowLaws::grown_on))]
     pub fn declare_all(
         &mut self,
         alloc: Global,
@@ -194,7 +194,7 @@ impl Declarations {
 
     /// Reads the declaration of an alias of a type of its own or of the component, as `declare`
     /// does.
-    #[tactic(auto, using(crate::proofs::GrowLaws::unchanged))]
+    #[tactic(auto, using(cm_validate_types::proofs::GrowLaws::unchanged))]
     fn alias(&mut self, outer: OuterType) -> Result<Option<ValidReason>, AllocError>
         ensures fault { IfOk result (λ r. r ≡ least
             (declaration_broken (scope_so_far self.old) (outer_type_decl outer))) }
@@ -220,7 +220,7 @@ impl Declarations {
     /// The type that the declarations make, and the scope of the component with the types that it
     /// had. Its own types are dropped. Where the types of the component name only resources that it
     /// had before the instance's own, so does each type in an item that an outer alias brought.
-    #[tactic(auto, using(crate::proofs::GrowLaws::unchanged))]
+    #[tactic(auto, using(cm_validate_types::proofs::GrowLaws::unchanged))]
     pub fn finish(self, alloc: Global) -> (TypeScope, InstanceType)
         ensures types { own_types result.0 ≡ (scope_so_far self).around }
         ensures around { types_around result.0 ≡ [] }

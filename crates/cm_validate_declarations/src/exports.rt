@@ -28,7 +28,7 @@ impl Declarations {
     ghost use Rattle.cm_validate_declarations.specs.DeclaredScopes.{with_both, with_desc};
 
     /// Adds an item.
-    #[tactic(auto, using(crate::proofs::GrowLaws::unchanged))]
+    #[tactic(auto, using(cm_validate_types::proofs::GrowLaws::unchanged))]
     fn add_item(&mut self, name: &ExternName, item: ItemDesc) -> Result<(), AllocError>
         requires placed { is_desc_there (length (arena_types self.old.scope))
             (length (arena_funcs self.old.scope)) item ≡ true }
@@ -47,7 +47,7 @@ impl Declarations {
     }
 
     /// Adds an item and a type.
-    #[tactic(auto, using(crate::proofs::GrowLaws::unchanged))]
+    #[tactic(auto, using(cm_validate_types::proofs::GrowLaws::unchanged))]
     fn add_both(
         &mut self,
         name: &ExternName,
@@ -106,7 +106,7 @@ impl Declarations {
         }
     }
 
-    #[tactic(auto, using(crate::proofs::GrowLaws::unchanged))]
+    #[tactic(auto, using(cm_validate_types::proofs::GrowLaws::unchanged))]
     fn export_equal(
         &mut self,
         name: &ExternName,
@@ -140,7 +140,7 @@ impl Declarations {
         }
     }
 
-    #[tactic(auto, using(crate::proofs::GrowLaws::unchanged))]
+    #[tactic(auto, using(cm_validate_types::proofs::GrowLaws::unchanged))]
     fn export_fresh(&mut self, name: &ExternName) -> Result<(), AllocError>
         ensures declared { OnOk result
             (scope_so_far self.new ≡ with_fresh (scope_so_far self.old) name.now) }
@@ -163,7 +163,7 @@ impl Declarations {
     }
 
     /// Reads an export: what it names is of the sort that it says, and gets the name.
-    #[tactic(auto, using(crate::proofs::GrowLaws::unchanged))]
+    #[tactic(auto, using(cm_validate_types::proofs::GrowLaws::unchanged))]
     pub(crate) fn export(
         &mut self,
         name: &ExternName,

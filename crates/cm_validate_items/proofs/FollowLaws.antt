@@ -27,7 +27,8 @@ use Rattle.cm_validate_model.specs.declared.sorts.TypeSort.TheVariants as sort
 use Rattle.cm_validate_model.specs.CountedSpaces.{AreSpacesCounted, IsDefCounted}
 use Rattle.cm_validate_items.specs.Numbers.{Numbers, after_alias, after_export, after_import, no_numbers, numbers_after, numbers_after_all, with_own_type}
 use Rattle.cm_validate_items.specs.Shared.{IsImportOf, item_from}
-use Rattle.cm_validate_items.proofs.RootLaws.{Roots, all_at, behind, each_more, first_nothing, no_roots, root_there, roots_again, roots_kept, roots_own, seam, stays}
+use Rattle.cm_validate_items.proofs.RootLaws.{Roots, each_more, no_roots, root_there, roots_again, roots_kept, roots_own, seam}
+use Rattle.cm_lemmas.proofs.Lists.{got_at, get_behind, nil_front, get_front}
 
 -- ---- what each number says
 
@@ -70,21 +71,21 @@ import_of_grows s x j i k = record {
   next = k.next;
   name = k.name;
   known = k.known;
-  import_is = stays s.imports (new_imports s x) j (record { name = k.name; desc = extern.instance (map (item_from i k.next) i.items) }) k.import_is;
-  brought = λ n d e. stays s.resources (new_resources s x) (k.next + n) d (k.brought n d e);
+  import_is = get_front s.imports (new_imports s x) j (record { name = k.name; desc = extern.instance (map (item_from i k.next) i.items) }) k.import_is;
+  brought = λ n d e. get_front s.resources (new_resources s x) (k.next + n) d (k.brought n d e);
 }
 
 import_grows : (s : Spaces) (x : Item) (j : ℕ) (o : Option ℕ) → IsImportNumbered s j o → IsImportNumbered (after_item s x) j o
-import_grows s x j None k = (k.0, k.1, stays s.imports (new_imports s x) j (record { name = k.0; desc = extern.func k.1 }) k.2)
-import_grows s x j (Some r) k = (k.0, stays s.types (new_types s x) r (instance_type k.0) k.1, import_of_grows s x j k.0 k.2)
+import_grows s x j None k = (k.0, k.1, get_front s.imports (new_imports s x) j (record { name = k.0; desc = extern.func k.1 }) k.2)
+import_grows s x j (Some r) k = (k.0, get_front s.types (new_types s x) r (instance_type k.0) k.1, import_of_grows s x j k.0 k.2)
 
 export_grows : (s : Spaces) (x : Item) (e : ℕ) (o : Option ℕ) → IsExportNumbered s e o → IsExportNumbered (after_item s x) e o
-export_grows s x e None k = (k.0, k.1, stays s.exports (new_exports s x) e (record { name = k.0; def = exported_func k.1 }) k.2)
+export_grows s x e None k = (k.0, k.1, get_front s.exports (new_exports s x) e (record { name = k.0; def = exported_func k.1 }) k.2)
 export_grows s x e (Some r) k = (
   k.0,
   k.1,
-  stays s.instances (new_instances s x) r k.1 k.2,
-  stays s.exports (new_exports s x) e (record { name = k.0; def = exported_instance k.1 }) k.3,
+  get_front s.instances (new_instances s x) r k.1 k.2,
+  get_front s.exports (new_exports s x) e (record { name = k.0; def = exported_instance k.1 }) k.3,
 )
 
 -- ---- imports and exports, one more or none
@@ -202,7 +203,7 @@ follow_func_import : (s : Spaces) (n : Numbers) (name : List ℕ) (k : ℕ) → 
     → Follows (after_item s (import_item (record { name = name; desc = desc.Func k }))) (after_import n (desc.Func k))
 follow_func_import s n name k w e =
     let x = import_item (record { name = name; desc = desc.Func k }) in
-    let f = func_found (slice_get s.types k) (type_at s sort.Func k (first_nothing (type_index_broken s (has_sort sort.Func) k) (func_name_broken name) e)) in
+    let f = func_found (slice_get s.types k) (type_at s sort.Func k (nil_front (type_index_broken s (has_sort sort.Func) k) (func_name_broken name) e)) in
     let t : NamedExtern = record { name = name; desc = extern.func f.0 } in
     let adds : new_imports s x ≡ t ∷ [] = ap (λ (o : Option TypeDef). option_to_list (option_map (λ d. record { name = name; desc = d }) (option_map extern.func (option_and_then func_ty_in o)))) f.1 in
     record {
@@ -226,16 +227,16 @@ import_of s name k i c e =
     record {
       next = length s.resources;
       name = name;
-      known = (all_at (IsDefCounted (length s.resources)) s.types k (instance_type i) c.types e).known;
+      known = (got_at (IsDefCounted (length s.resources)) s.types k (instance_type i) c.types e).known;
       import_is = ap (λ (ys : List NamedExtern). slice_get (s.imports ++ ys) (length s.imports)) adds ∙ seam s.imports [] t;
-      brought = λ n d h. behind s.resources (new_resources s x) n ∙ (ap (λ (ys : List ResourceDef). slice_get ys n) brings ∙ h);
+      brought = λ n d h. get_behind s.resources (new_resources s x) n ∙ (ap (λ (ys : List ResourceDef). slice_get ys n) brings ∙ h);
     }
 
 follow_instance_import : (s : Spaces) (n : Numbers) (name : List ℕ) (k : ℕ) → AreSpacesCounted s → Follows s n → desc_broken s name (desc.Instance k) ≡ []
     → Follows (after_item s (import_item (record { name = name; desc = desc.Instance k }))) (after_import n (desc.Instance k))
 follow_instance_import s n name k c w e =
     let x = import_item (record { name = name; desc = desc.Instance k }) in
-    let i = instance_found (slice_get s.types k) (type_at s sort.Instance k (first_nothing (type_index_broken s (has_sort sort.Instance) k) (instance_name_broken name) e)) in
+    let i = instance_found (slice_get s.types k) (type_at s sort.Instance k (nil_front (type_index_broken s (has_sort sort.Instance) k) (instance_name_broken name) e)) in
     let r = root_there s.types n.types k (instance_type i.0) w.types i.1 in
     let t : NamedExtern = record { name = name; desc = extern.instance (map (item_from i.0 (length s.resources)) i.0.items) } in
     let ms = members_from i.0 (length s.resources) (length s.imports) 0 i.0.items in
@@ -244,7 +245,7 @@ follow_instance_import s n name k c w e =
       types = roots_kept s.types [] n.types w.types refl;
       instances = roots_own s.instances (new_instances s x) n.instances ms w.instances made;
       imports = imports_more s x n.imports (slice_get n.types k) t w.imports (import_adds s name k i.0 i.1)
-          (subst (λ (o : Option ℕ). IsImportNumbered (after_item s x) (length s.imports) o) (sym r.1) (i.0, stays s.types [] r.0 (instance_type i.0) r.2, import_of s name k i.0 c i.1));
+          (subst (λ (o : Option ℕ). IsImportNumbered (after_item s x) (length s.imports) o) (sym r.1) (i.0, get_front s.types [] r.0 (instance_type i.0) r.2, import_of s name k i.0 c i.1));
       exports = exports_kept s x n.exports w.exports refl;
     }
 
@@ -263,7 +264,7 @@ follow_func_export : (s : Spaces) (n : Numbers) (name : List ℕ) (k : ℕ) → 
     → Follows (after_item s (export_item (record { name = name; sort = export_sort.Func; index = k }))) (after_export n export_sort.Func k)
 follow_func_export s n name k w e =
     let x = export_item (record { name = name; sort = export_sort.Func; index = k }) in
-    let f = some_found (slice_get s.funcs k) (first_nothing (bare_index_broken s.funcs k) (func_name_broken name) e) in
+    let f = some_found (slice_get s.funcs k) (nil_front (bare_index_broken s.funcs k) (func_name_broken name) e) in
     let t : NamedExport = record { name = name; def = exported_func f.0 } in
     let adds : new_exports s x ≡ t ∷ [] = ap (λ (o : Option FuncDef). option_to_list (option_map (λ d. record { name = name; def = d }) (option_map exported_func o))) f.1 in
     let none : new_instances s x ≡ [] = ap (λ (o : Option FuncDef). option_to_list (option_and_then instance_exported (option_map exported_func o))) f.1 in
@@ -278,7 +279,7 @@ follow_instance_export : (s : Spaces) (n : Numbers) (name : List ℕ) (k : ℕ) 
     → Follows (after_item s (export_item (record { name = name; sort = export_sort.Instance; index = k }))) (after_export n export_sort.Instance k)
 follow_instance_export s n name k w e =
     let x = export_item (record { name = name; sort = export_sort.Instance; index = k }) in
-    let ms = some_found (slice_get s.instances k) (first_nothing (bare_index_broken s.instances k) (instance_name_broken name) e) in
+    let ms = some_found (slice_get s.instances k) (nil_front (bare_index_broken s.instances k) (instance_name_broken name) e) in
     let r = root_there s.instances n.instances k ms.0 w.instances ms.1 in
     let t : NamedExport = record { name = name; def = exported_instance ms.0 } in
     let adds : new_exports s x ≡ t ∷ [] = ap (λ (o : Option (List NamedMember)). option_to_list (option_map (λ d. record { name = name; def = d }) (option_map exported_instance o))) ms.1 in
@@ -289,7 +290,7 @@ follow_instance_export s n name k w e =
       imports = imports_kept s x n.imports w.imports refl;
       exports = exports_more s x n.exports (slice_get n.instances k) t w.exports adds
           (subst (λ (o : Option ℕ). IsExportNumbered (after_item s x) (length s.exports) o) (sym r.1)
-          (name, ms.0, stays s.instances (new_instances s x) r.0 ms.0 r.2, ap (λ (ys : List NamedExport). slice_get (s.exports ++ ys) (length s.exports)) adds ∙ seam s.exports [] t));
+          (name, ms.0, get_front s.instances (new_instances s x) r.0 ms.0 r.2, ap (λ (ys : List NamedExport). slice_get (s.exports ++ ys) (length s.exports)) adds ∙ seam s.exports [] t));
     }
 
 follow_export : (s : Spaces) (n : Numbers) (name : List ℕ) (sort : ExportSort) (k : ℕ) → Follows s n → exported_broken s name sort k ≡ []
@@ -306,8 +307,8 @@ follow_item s n (instance_item es) c k e = follow_instance s n es k
 follow_item s n (alias_item a) c k e = follow_alias s n a k e
 follow_item s n (type_item d) c k e = own_type s (type_item d) n (def_of s d) k refl refl refl refl
 follow_item s n (canon_item d) c k e = nothing s (canon_item d) n k refl refl refl refl
-follow_item s n (import_item i) c k e = follow_import s n i.name i.desc c k (first_nothing (desc_broken s i.name i.desc) (name_broken i.name (map (λ x. x.name) s.imports)) e)
-follow_item s n (export_item i) c k e = follow_export s n i.name i.sort i.index k (first_nothing (exported_broken s i.name i.sort i.index) (name_broken i.name (map (λ x. x.name) s.exports)) e)
+follow_item s n (import_item i) c k e = follow_import s n i.name i.desc c k (nil_front (desc_broken s i.name i.desc) (name_broken i.name (map (λ x. x.name) s.imports)) e)
+follow_item s n (export_item i) c k e = follow_export s n i.name i.sort i.index k (nil_front (exported_broken s i.name i.sort i.index) (name_broken i.name (map (λ x. x.name) s.exports)) e)
 
 pub follow_all : (s : Spaces) (n : Numbers) (xs : List Item) → ((front : List Item) → AreSpacesCounted (after_items s front)) → Follows s n → IsValidFrom s xs → Follows (after_items s xs) (numbers_after_all n xs)
 follow_all s n [] c k v = k

@@ -5,9 +5,11 @@ use Rattle.std.specs.List.{AllWithin}
 use Rattle.std.specs.List.Sorted.{IsNonDecreasingBy}
 use Rattle.std.specs.Option.{option_or, option_and_then}
 use Rattle.std.specs.Prelude.{nat_le, if◌then◌else◌}
+use Rattle.std.proofs.lemmas.Option.{slice_get_past}
 use Rattle.cm_validate_model.specs.Definitions.{ResourceDef}
 use Rattle.cm_validate_items.specs.declared.ranges.Range.{Range}
 use Rattle.cm_validate_items.specs.Ranges.{begun, source_defs, range_defs, starts_from}
+use Rattle.cm_lemmas.proofs.Lists.{both_cons, get_left}
 
 -- ---- the range that begins last at or before a number
 
@@ -51,9 +53,6 @@ heads x y xs ys e = cc
 
 tails : (x y : ℕ) (xs ys : List ℕ) → x ∷ xs ≡ y ∷ ys → xs ≡ ys
 tails x y xs ys e = cc
-
-both_cons : (x y : ℕ) (xs ys : List ℕ) → x ≡ y → xs ≡ ys → x ∷ xs ≡ y ∷ ys
-both_cons x y xs ys e f = cc
 
 pub follows : (rs : List Range) (next end : ℕ) → map (λ (r : Range). r.first) rs ≡ starts_from next rs → end ≡ next + length (range_defs rs) → FollowFrom next rs end
 follows [] next end e f = omega (arith, f)
@@ -100,20 +99,10 @@ defs_more (x ∷ xs) r = ap (λ ys. source_defs x.source ++ ys) (defs_more xs r)
 
 -- ---- a number in them
 
-pub get_left : {A : Type 0} (xs ys : List A) (n : ℕ) → n < length xs → slice_get (xs ++ ys) n ≡ slice_get xs n
-get_left [] ys n lt = absurd (omega (arith, lt))
-get_left (x ∷ xs) ys zero lt = refl
-get_left (x ∷ xs) ys (suc n) lt = get_left xs ys n (omega (arith, lt))
-
 pub get_right : {A : Type 0} (xs ys : List A) (n k : ℕ) → n ≡ length xs + k → slice_get (xs ++ ys) n ≡ slice_get ys k
 get_right [] ys n k e = let same : n ≡ k = omega (arith, e) in ap (slice_get ys) same
 get_right (x ∷ xs) ys zero k e = absurd (omega (arith, e))
 get_right (x ∷ xs) ys (suc n) k e = get_right xs ys n k (omega (arith, e))
-
-pub get_past : {A : Type 0} (xs : List A) (n : ℕ) → length xs ≤ n → slice_get xs n ≡ None
-get_past [] n le = refl
-get_past (x ∷ xs) zero le = absurd (omega (arith, le))
-get_past (x ∷ xs) (suc n) le = get_past xs n (omega (arith, le))
 
 none_begun : (rs : List Range) (next end n : ℕ) → FollowFrom next rs end → n < next → begun rs n ≡ None
 none_begun [] next end n f lt = refl
@@ -155,7 +144,7 @@ found_in (r ∷ rs) next end n f le = elim (cases_lt n (next + length (source_de
         → slice_get (range_defs rs) (n - (next + length (source_defs r.source))) ≡ option_and_then (in_range n) (option_or (begun rs n) (if nat_le r.first n then Some r else None))
     later rest past (inl none) =
         let holds : nat_le r.first n ≡ true = le-leb r.first n (omega (arith, f.0)) in
-        let gone : in_range n r ≡ None = get_past (source_defs r.source) (n - r.first) (omega (arith, f.0)) in
+        let gone : in_range n r ≡ None = slice_get_past (source_defs r.source) (n - r.first) (omega (arith, f.0)) in
         rw (none, holds) (sym gone)
     later rest past (inr some) = rest ∙ ap (option_and_then (in_range n)) some.1 ∙ sym (ap (λ o. option_and_then (in_range n) (option_or o (if nat_le r.first n then Some r else None))) some.1)
 

@@ -1,42 +1,15 @@
 -- First indices of definitions.
-use Rattle.std.proofs.Common.{◌≡◌, ℕ, zero, suc, ◌+◌, ◌<◌, List, [], ◌∷◌, ◌++◌, length, Option, Some, None, slice_get, refl, sym, ap, subst, ◌∙◌, arith, length-append, append-nil}
+use Rattle.std.proofs.Common.{◌≡◌, ℕ, zero, suc, ◌<◌, List, [], ◌∷◌, ◌++◌, length, Option, Some, None, slice_get, refl, sym, ap, subst, ◌∙◌, arith, length-append, append-nil}
 use Rattle.std.proofs.lemmas.Option.{slice_get_within}
-use Rattle.std.specs.List.{AllByRecursion}
 use Rattle.std.specs.Prelude.{option_to_list}
+use Rattle.cm_lemmas.proofs.Options.{some_is}
+use Rattle.cm_lemmas.proofs.Lists.{get_front, item_there}
 
 -- ---- lists
-
-some_is : {A : Type 0} (x y : A) → Some x ≡ Some y → x ≡ y
-some_is x y e = cc
-
-pub first_nothing : {A : Type 0} (xs ys : List A) → xs ++ ys ≡ [] → xs ≡ []
-first_nothing [] ys e = refl
-first_nothing (x ∷ xs) ys e = absurd cc
-
-pub stays : {A : Type 0} (xs ys : List A) (i : ℕ) (x : A) → slice_get xs i ≡ Some x → slice_get (xs ++ ys) i ≡ Some x
-stays [] ys i x e = absurd cc
-stays (y ∷ xs) ys zero x e = e
-stays (y ∷ xs) ys (suc i) x e = stays xs ys i x e
-
-pub behind : {A : Type 0} (xs ys : List A) (k : ℕ) → slice_get (xs ++ ys) (length xs + k) ≡ slice_get ys k
-behind [] ys k = ap (slice_get ys) (omega arith)
-behind (x ∷ xs) ys k =
-    let next : suc (length xs) + k ≡ suc (length xs + k) = omega arith in
-    ap (slice_get (x ∷ (xs ++ ys))) next ∙ behind xs ys k
 
 pub seam : {A : Type 0} (xs ys : List A) (y : A) → slice_get (xs ++ y ∷ ys) (length xs) ≡ Some y
 seam [] ys y = refl
 seam (x ∷ xs) ys y = seam xs ys y
-
-pub there : {A : Type 0} (xs : List A) (i : ℕ) → i < length xs → (x : A) × (slice_get xs i ≡ Some x)
-there [] i lt = absurd (omega (arith, lt))
-there (y ∷ ys) zero lt = (y, refl)
-there (y ∷ ys) (suc i) lt = there ys i (omega (arith, lt))
-
-pub all_at : {A : Type 0} (P : A → Type 0) (xs : List A) (i : ℕ) (x : A) → AllByRecursion P xs → slice_get xs i ≡ Some x → P x
-all_at P [] i x a e = absurd cc
-all_at P (y ∷ ys) zero x a e = subst P (some_is y x e) a.0
-all_at P (y ∷ ys) (suc i) x a e = all_at P ys i x a.1 e
 
 -- what holds of each, and of one more
 pub each_more : {A : Type 0} (P : ℕ → A → Type 0) (xs : List A) (y : A) → ((i : ℕ) (x : A) → slice_get xs i ≡ Some x → P i x) → P (length xs) y
@@ -63,7 +36,7 @@ roots_grow : {A : Type 0} (defs : List A) (firsts : List ℕ) (x : A) (r : ℕ) 
 roots_grow {A} defs firsts x r k e = record {
   long = omega (arith, k.long, length-append firsts (r ∷ []), length-append defs (x ∷ []));
   same = each_more (λ (i q : ℕ). (y : A) × (slice_get (defs ++ x ∷ []) i ≡ Some y) × (slice_get (defs ++ x ∷ []) q ≡ Some y)) firsts r
-      (λ i q h. let s = k.same i q h in (s.0, stays defs (x ∷ []) i s.0 s.1, stays defs (x ∷ []) q s.0 s.2))
+      (λ i q h. let s = k.same i q h in (s.0, get_front defs (x ∷ []) i s.0 s.1, get_front defs (x ∷ []) q s.0 s.2))
       (x, ap (λ (n : ℕ). slice_get (defs ++ x ∷ []) n) k.long ∙ seam defs [] x, e);
 }
 
@@ -76,7 +49,7 @@ roots_own {A} defs more firsts x k e =
 pub root_there : {A : Type 0} (defs : List A) (firsts : List ℕ) (i : ℕ) (x : A) → Roots defs firsts → slice_get defs i ≡ Some x → (r : ℕ) × (slice_get firsts i ≡ Some r) × (slice_get defs r ≡ Some x)
 root_there {A} defs firsts i x k e =
     let lt : i < length firsts = omega (arith, k.long, slice_get_within defs i x e) in
-    let t = there firsts i lt in
+    let t = item_there firsts i lt in
     let s = k.same i t.0 t.1 in
     (t.0, t.1, s.2 ∙ (sym s.1 ∙ e))
 
@@ -85,7 +58,7 @@ again : {A : Type 0} (defs : List A) (firsts : List ℕ) (i : ℕ) (o : Option A
 again {A} defs firsts i None None k e h = subst (λ (ns : List ℕ). Roots (defs ++ []) ns) (sym (append-nil firsts)) (roots_kept defs [] firsts k refl)
 again {A} defs firsts i (Some x) (Some r) k e h =
     let s = k.same i r h in
-    roots_grow defs firsts x r k (stays defs (x ∷ []) r x (s.2 ∙ (sym s.1 ∙ e)))
+    roots_grow defs firsts x r k (get_front defs (x ∷ []) r x (s.2 ∙ (sym s.1 ∙ e)))
 again {A} defs firsts i (Some x) None k e h =
     let t = root_there defs firsts i x k e in
     let u : Some t.0 ≡ None = sym t.1 ∙ h in

@@ -15,11 +15,8 @@ use Rattle.cm_validate_items.specs.Numbers.{Numbers, no_numbers, numbers_of}
 use Rattle.cm_validate_items.specs.Shared.{AreShared, IsImportOf, export_at, exported_instance_in, import_at, import_type_in, numbers_in}
 use Rattle.cm_validate_items.specs.declared.shared.Shared.{Shared}
 use Rattle.cm_validate_items.proofs.FollowLaws.{AreExports, AreImports, Follows, follow_all, none_follow}
-use Rattle.cm_validate_items.proofs.RootLaws.{all_at, there}
-
-told : (o : Option (Option ℕ)) (r : ℕ) → option_and_then (λ q. q) o ≡ Some r → o ≡ Some (Some r)
-told None r e = absurd cc
-told (Some o) r e = ap (λ (p : Option ℕ). Some p) e
+use Rattle.cm_lemmas.proofs.Lists.{got_at, item_there}
+use Rattle.cm_lemmas.proofs.Options.{joined_some}
 
 mapped : {A B : Type 0} (f : A → B) (o : Option A) (y : B) → option_map f o ≡ Some y → (x : A) × (o ≡ Some x)
 mapped f None y e = absurd cc
@@ -30,7 +27,7 @@ import_told : (s : Spaces) (ns : List (Option ℕ)) (j : ℕ) (items : List Name
 import_told s ns j items None k e h =
     let x = mapped (λ (y : NamedExtern). y.desc) (slice_get s.imports j) (extern.instance items) e in
     let lt : j < length ns = omega (arith, k.long, slice_get_within s.imports j x.0 x.1) in
-    let t = there ns j lt in
+    let t = item_there ns j lt in
     let u : Some t.0 ≡ None = sym t.1 ∙ h in
     absurd cc
 import_told s ns j items (Some None) k e h =
@@ -44,7 +41,7 @@ export_told : (s : Spaces) (ns : List (Option ℕ)) (j : ℕ) (ms : List NamedMe
 export_told s ns j ms None k e h =
     let x = mapped (λ (y : NamedExport). y.def) (slice_get s.exports j) (exported_instance ms) e in
     let lt : j < length ns = omega (arith, k.long, slice_get_within s.exports j x.0 x.1) in
-    let t = there ns j lt in
+    let t = item_there ns j lt in
     let u : Some t.0 ≡ None = sym t.1 ∙ h in
     absurd cc
 export_told s ns j ms (Some None) k e h =
@@ -55,8 +52,8 @@ export_told s ns j ms (Some (Some r)) k e h = refl
 
 shared_of : (s : Spaces) (w : Shared) → Follows s (numbers_in w) → AreShared s w
 shared_of s w k = record {
-  imports = λ j r e. k.imports.each j (Some r) (told (slice_get w.imports.items j) r e);
-  exports = λ j r e. let x = k.exports.each j (Some r) (told (slice_get w.exports.items j) r e) in (x.1, x.2, ap (λ (o : Option NamedExport). option_map (λ y. y.def) o) x.3);
+  imports = λ j r e. k.imports.each j (Some r) (joined_some (slice_get w.imports.items j) r e);
+  exports = λ j r e. let x = k.exports.each j (Some r) (joined_some (slice_get w.exports.items j) r e) in (x.1, x.2, ap (λ (o : Option NamedExport). option_map (λ y. y.def) o) x.3);
   all_imports = λ j items e. import_told s w.imports.items j items (slice_get w.imports.items j) k.imports e refl;
   all_exports = λ j ms e. export_told s w.exports.items j ms (slice_get w.exports.items j) k.exports e refl;
 }
@@ -92,7 +89,7 @@ imports_counted c sections w j k r a e h =
     let x = a.imports j r e in
     let y = a.imports k r h in (
       x.0,
-      all_at (IsDefCounted (next_resource s)) s.types r (instance_type x.0) (c sections).types x.1,
+      got_at (IsDefCounted (next_resource s)) s.types r (instance_type x.0) (c sections).types x.1,
       x.2,
       subst (λ (i : InstanceTy). IsImportOf s k i) (one_type y.0 x.0 (slice_get s.types r) y.1 x.1) y.2,
     )

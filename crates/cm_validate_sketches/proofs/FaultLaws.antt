@@ -2,7 +2,7 @@
 use Rattle.std.proofs.Common.{◌≡◌, ℕ, Bool, true, false, ◌&&◌, not, List, [], ◌∷◌, ◌++◌, length, map, nat_le, nat_lt, Option, Some, None, refl, sym, ap, ◌∙◌, slice_get, arith, if◌then◌else◌}
 use Rattle.std.specs.List.{flat_map, list_all, list_any}
 use Rattle.std.specs.Option.{option_map}
-use Rattle.std.proofs.lemmas.Bool.{ltb-true, lt-leb, le-leb}
+use Rattle.std.proofs.lemmas.Bool.{ltb-true, lt-leb, le-leb, and_from}
 use Rattle.std.proofs.lemmas.List.Elements.{filter-append}
 use Rattle.std.proofs.lemmas.List.Folds.{list_all-append}
 use Rattle.cm_types.specs.declared.def_types.ValType.{ValType}
@@ -25,19 +25,17 @@ use Rattle.cm_validate_sketches.specs.Definitions.{are_used, is_used, holds_used
 use Rattle.cm_validate_sketches.specs.Faults.{value_def_faults, func_def_faults, is_too_large, besides_limits, is_before_limits, or_too_large}
 use Rattle.cm_validate_sketches.specs.Sketches.{sketch_of, sketch_sort}
 use Rattle.cm_validate_sketches.proofs.SketchLaws.{sorts_told, fields_known, payload_known, payload_has, is_not_known, is_known, known_as}
+use Rattle.cm_lemmas.proofs.Bools.{both_left, both_right}
 
 -- ---- reasons before `TooLarge`
 
 abbrev pub are_before : List ValidReason → Bool
 are_before rs = list_all is_before_limits rs
 
-and_true : (a b : Bool) → a ≡ true → b ≡ true → (a && b) ≡ true
-and_true a b p q = rw (p, q) refl
-
 pub before_both : (xs ys : List ValidReason) → are_before xs ≡ true → are_before ys ≡ true → are_before (xs ++ ys) ≡ true
-before_both xs ys p q = list_all-append is_before_limits xs ys ∙ and_true (are_before xs) (are_before ys) p q
+before_both xs ys p q = list_all-append is_before_limits xs ys ∙ and_from (are_before xs) (are_before ys) p q
 
-before_unless : (b : Bool) (r : ValidReason) → is_before_limits r ≡ true → are_before (unless b r) ≡ true
+pub before_unless : (b : Bool) (r : ValidReason) → is_before_limits r ≡ true → are_before (unless b r) ≡ true
 before_unless true r h = refl
 before_unless false r h = rw h refl
 
@@ -122,20 +120,12 @@ other reason.NotImported h = refl
 other reason.TooLarge h = absurd cc
 other reason.StoresLatin1 h = refl
 
-left_true : (a b : Bool) → (a && b) ≡ true → a ≡ true
-left_true true b e = refl
-left_true false b e = e
-
-right_true : (a b : Bool) → (a && b) ≡ true → b ≡ true
-right_true true b e = e
-right_true false b e = absurd cc
-
 -- those before it stay
 pub all_stay : (rs : List ValidReason) → are_before rs ≡ true → besides_limits rs ≡ rs
 all_stay [] h = refl
 all_stay (r ∷ rs) h =
-    let o = other r (left_true (is_before_limits r) (are_before rs) h) in
-    let e = all_stay rs (right_true (is_before_limits r) (are_before rs) h) in
+    let o = other r (both_left (is_before_limits r) (are_before rs) h) in
+    let e = all_stay rs (both_right (is_before_limits r) (are_before rs) h) in
     rw (o, e) refl
 
 pub besides_both : (xs ys : List ValidReason) → besides_limits (xs ++ ys) ≡ besides_limits xs ++ besides_limits ys
@@ -244,7 +234,7 @@ before_lesser r (Some s) p q = chosen (nat_le (reason_number r) (reason_number s
 
 before_least : (rs : List ValidReason) → are_before rs ≡ true → is_before_all (least rs) ≡ true
 before_least [] h = refl
-before_least (r ∷ rs) h = before_lesser r (least rs) (left_true (is_before_limits r) (are_before rs) h) (before_least rs (right_true (is_before_limits r) (are_before rs) h))
+before_least (r ∷ rs) h = before_lesser r (least rs) (both_left (is_before_limits r) (are_before rs) h) (before_least rs (both_right (is_before_limits r) (are_before rs) h))
 
 -- a reason before it goes before it
 goes_first : (r : ValidReason) → is_before_limits r ≡ true → lesser (Some r) (Some reason.TooLarge) ≡ Some r
@@ -300,8 +290,8 @@ limits_last (r ∷ rs) h = step (is_too_large r) refl (λ below. limits_last rs 
     step false e rest =
         let here : besides_limits (r ∷ rs) ≡ r ∷ besides_limits rs = rw e refl in
         let both_below : are_before (r ∷ besides_limits rs) ≡ true = ap are_before (sym here) ∙ h in
-        let first = left_true (is_before_limits r) (are_before (besides_limits rs)) both_below in
-        let below = right_true (is_before_limits r) (are_before (besides_limits rs)) both_below in
+        let first = both_left (is_before_limits r) (are_before (besides_limits rs)) both_below in
+        let below = both_right (is_before_limits r) (are_before (besides_limits rs)) both_below in
         ap (lesser (Some r)) (rest below)
         ∙ before_others r (least (besides_limits rs)) rs first
         ∙ sym (some_stays r (least (besides_limits rs)) (r ∷ rs))

@@ -19,16 +19,9 @@ use Rattle.cm_validate_model.specs.Reasons.{unless, found, index_broken}
 use Rattle.cm_validate_model.specs.Scopes.{value_in, resource_in, value_of, payload_of, fields_in, parts_in, cases_in, value_defined, func_defined, option_cases, handle_of, resource_id}
 use Rattle.cm_validate_model.specs.TypeRules.{has_sort, value_broken, payload_broken, parts_broken, uses_broken, emptiness_broken, labels_broken}
 use Rattle.cm_validate_types.specs.Expansion.{value_or_bool, resource_or_zero, labeled_or_bool, case_or_bool, type_or_bool, func_or_bool}
+use Rattle.cm_lemmas.proofs.Lists.{nil_front, nil_rest}
 
 -- ---- lists of reasons that are empty
-
-pub left_empty : {A : Type 0} (xs ys : List A) → xs ++ ys ≡ [] → xs ≡ []
-left_empty [] ys e = refl
-left_empty (x ∷ xs) ys e = absurd cc
-
-pub right_empty : {A : Type 0} (xs ys : List A) → xs ++ ys ≡ [] → ys ≡ []
-right_empty [] ys e = e
-right_empty (x ∷ xs) ys e = absurd cc
 
 -- ---- indices
 
@@ -65,22 +58,22 @@ module _ (types : List TypeDef) where
   pub fields_there : (fs : List LabeledValType) → flat_map (λ f. value_broken (sorts_of types) f.ty) fs ≡ [] → fields_in types fs ≡ Some (fields_from (map (labeled_or_bool types) fs))
   fields_there [] e = refl
   fields_there (f ∷ fs) e =
-      let now = value_there f.ty (left_empty (value_broken (sorts_of types) f.ty) (flat_map (λ g. value_broken (sorts_of types) g.ty) fs) e) in
-      let rest = fields_there fs (right_empty (value_broken (sorts_of types) f.ty) (flat_map (λ g. value_broken (sorts_of types) g.ty) fs) e) in
+      let now = value_there f.ty (nil_front (value_broken (sorts_of types) f.ty) (flat_map (λ g. value_broken (sorts_of types) g.ty) fs) e) in
+      let rest = fields_there fs (nil_rest (value_broken (sorts_of types) f.ty) (flat_map (λ g. value_broken (sorts_of types) g.ty) fs) e) in
       rw (now, rest) refl
 
   parts_there : (ts : List ValType) → flat_map (value_broken (sorts_of types)) ts ≡ [] → parts_in types ts ≡ Some (parts_from (map (value_or_bool types) ts))
   parts_there [] e = refl
   parts_there (t ∷ ts) e =
-      let now = value_there t (left_empty (value_broken (sorts_of types) t) (flat_map (value_broken (sorts_of types)) ts) e) in
-      let rest = parts_there ts (right_empty (value_broken (sorts_of types) t) (flat_map (value_broken (sorts_of types)) ts) e) in
+      let now = value_there t (nil_front (value_broken (sorts_of types) t) (flat_map (value_broken (sorts_of types)) ts) e) in
+      let rest = parts_there ts (nil_rest (value_broken (sorts_of types) t) (flat_map (value_broken (sorts_of types)) ts) e) in
       rw (now, rest) refl
 
   cases_there : (cs : List CaseType) → flat_map (λ c. payload_broken (sorts_of types) c.payload) cs ≡ [] → cases_in types cs ≡ Some (cases_from (map (case_or_bool types) cs))
   cases_there [] e = refl
   cases_there (c ∷ cs) e =
-      let now = payload_there c.payload (left_empty (payload_broken (sorts_of types) c.payload) (flat_map (λ d. payload_broken (sorts_of types) d.payload) cs) e) in
-      let rest = cases_there cs (right_empty (payload_broken (sorts_of types) c.payload) (flat_map (λ d. payload_broken (sorts_of types) d.payload) cs) e) in
+      let now = payload_there c.payload (nil_front (payload_broken (sorts_of types) c.payload) (flat_map (λ d. payload_broken (sorts_of types) d.payload) cs) e) in
+      let rest = cases_there cs (nil_rest (payload_broken (sorts_of types) c.payload) (flat_map (λ d. payload_broken (sorts_of types) d.payload) cs) e) in
       rw (now, rest) refl
 
   result_there : (ok error : Option ValType) → payload_broken (sorts_of types) ok ≡ [] → payload_broken (sorts_of types) error ≡ [] → value_defined types (result_of ok error) ≡ Some (type_or_bool types (result_of ok error))
@@ -88,7 +81,7 @@ module _ (types : List TypeDef) where
 
   -- the first two of three lists, and the first of them
   front : (a b c : List ValidReason) → (a ++ b) ++ c ≡ [] → a ≡ []
-  front a b c e = left_empty a b (left_empty (a ++ b) c e)
+  front a b c e = nil_front a b (nil_front (a ++ b) c e)
 
   pub defined_there : (v : DefValTypeTree) → parts_broken (sorts_of types) v ≡ [] → value_defined types v ≡ Some (type_or_bool types v)
   defined_there (primitive p) e = refl
@@ -98,18 +91,18 @@ module _ (types : List TypeDef) where
       ap (option_map (cases variant_type)) (cases_there cs (front (flat_map (λ c. payload_broken (sorts_of types) c.payload) cs) (emptiness_broken cs) (labels_broken (map (λ c. c.label) cs)) e))
   defined_there (list_of t) e = ap (option_map list) (value_there t e)
   defined_there (fixed_list_of t n) e =
-      ap (option_map (λ x. fixed_list x n)) (value_there t (left_empty (value_broken (sorts_of types) t) (unless (nat_lt 0 n) reason.EmptyType) e))
-  defined_there (tuple_of ts) e = ap (option_map (fields tuple_type)) (parts_there ts (left_empty (flat_map (value_broken (sorts_of types)) ts) (emptiness_broken ts) e))
+      ap (option_map (λ x. fixed_list x n)) (value_there t (nil_front (value_broken (sorts_of types) t) (unless (nat_lt 0 n) reason.EmptyType) e))
+  defined_there (tuple_of ts) e = ap (option_map (fields tuple_type)) (parts_there ts (nil_front (flat_map (value_broken (sorts_of types)) ts) (emptiness_broken ts) e))
   defined_there (flags_of ls) e = refl
   defined_there (enum_of ls) e = refl
   defined_there (option_of t) e = ap (option_map (λ x. cases option_type (option_cases x))) (value_there t e)
   defined_there (result_of ok error) e =
-      result_there ok error (left_empty (payload_broken (sorts_of types) ok) (payload_broken (sorts_of types) error) e) (right_empty (payload_broken (sorts_of types) ok) (payload_broken (sorts_of types) error) e)
+      result_there ok error (nil_front (payload_broken (sorts_of types) ok) (payload_broken (sorts_of types) error) e) (nil_rest (payload_broken (sorts_of types) ok) (payload_broken (sorts_of types) error) e)
   defined_there (own_of i) e = handle_there own i e
   defined_there (borrow_of i) e = handle_there borrow i e
 
   pub func_there : (f : FuncTypeTree) → uses_broken (sorts_of types) f ≡ [] → func_defined types f ≡ Some (func_or_bool types f)
   func_there f e =
-      let ps = fields_there f.params (left_empty (flat_map (λ p. value_broken (sorts_of types) p.ty) f.params) (payload_broken (sorts_of types) f.result) e) in
-      let r = payload_there f.result (right_empty (flat_map (λ p. value_broken (sorts_of types) p.ty) f.params) (payload_broken (sorts_of types) f.result) e) in
+      let ps = fields_there f.params (nil_front (flat_map (λ p. value_broken (sorts_of types) p.ty) f.params) (payload_broken (sorts_of types) f.result) e) in
+      let r = payload_there f.result (nil_rest (flat_map (λ p. value_broken (sorts_of types) p.ty) f.params) (payload_broken (sorts_of types) f.result) e) in
       rw (ps, r) refl

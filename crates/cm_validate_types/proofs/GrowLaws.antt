@@ -9,7 +9,7 @@ unchanged old new p q = (([], p ∙ sym (append-nil (arena_types old))), ([], q 
 pub same : (s : TypeScope) → HasGrown s s
 same s = unchanged s s refl refl
 
-more : {A : Type 0} (xs ys zs : List A) → Extends xs ys → Extends ys zs → Extends xs zs
+pub more : {A : Type 0} (xs ys zs : List A) → Extends xs ys → Extends ys zs → Extends xs zs
 more xs ys zs p q = (p.0 ++ q.0, q.1 ∙ ap (λ v. v ++ q.0) p.1 ∙ append_assoc xs p.0 q.0)
 
 pub grown_on : (a b c : TypeScope) → HasGrown a b → HasGrown b c → HasGrown a c

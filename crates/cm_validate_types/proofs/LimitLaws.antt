@@ -1,7 +1,7 @@
 -- Of what a definition of a type breaks, that which is beyond its parts comes last.
-use Rattle.std.proofs.Common.{inl, inr, ◌≡◌, ℕ, ◌≤◌, Bool, true, false, ◌&&◌, not, List, [], ◌∷◌, ◌++◌, length, map, nat_le, nat_lt, Option, Some, None, refl, sym, ap, ◌∙◌, slice_get, arith}
+use Rattle.std.proofs.Common.{inl, inr, ◌≡◌, ℕ, ◌≤◌, Bool, true, false, not, List, [], ◌∷◌, ◌++◌, length, map, nat_le, nat_lt, Option, Some, None, refl, sym, ap, ◌∙◌, slice_get, arith}
 use Rattle.std.specs.List.{flat_map, list_all}
-use Rattle.std.proofs.lemmas.Bool.{cases_Bool, leb-true, le-leb}
+use Rattle.std.proofs.lemmas.Bool.{cases_Bool, leb-true, le-leb, and_from}
 use Rattle.std.proofs.lemmas.List.Folds.{list_all-append}
 use Rattle.cm_types.specs.declared.def_types.ValType.{ValType}
 use Rattle.cm_types.specs.declared.def_types.ValType.TheVariants as val_type
@@ -24,6 +24,8 @@ use Rattle.std.specs.Option.{option_map_or}
 use Rattle.cm_validate_types.specs.Expansion.{func_or_bool, type_or_bool}
 use Rattle.cm_validate_types.proofs.ExpandLaws.{defined_there, func_there}
 use Rattle.cm_validate_model.specs.TypeRules.{has_sort, value_broken, payload_broken, parts_broken, uses_broken, params_broken, emptiness_broken, labels_broken, is_within_limits, limits_broken, value_def_broken, func_def_broken, func_ty_broken, are_distinct_names, is_not_empty, no_borrow_broken}
+use Rattle.cm_validate_model.proofs.SharedLaws.{LeastOfBoth}
+use Rattle.cm_lemmas.proofs.Bools.{both_left, both_right}
 
 -- ---- reasons of small numbers
 
@@ -33,18 +35,15 @@ at_most n r = nat_le (reason_number r) n
 abbrev low : ℕ → List ValidReason → Bool
 low n rs = list_all (at_most n) rs
 
-and_true : (a b : Bool) → a ≡ true → b ≡ true → (a && b) ≡ true
-and_true a b p q = rw (p, q) refl
-
 low_both : (n : ℕ) (xs ys : List ValidReason) → low n xs ≡ true → low n ys ≡ true → low n (xs ++ ys) ≡ true
-low_both n xs ys p q = list_all-append (at_most n) xs ys ∙ and_true (low n xs) (low n ys) p q
+low_both n xs ys p q = list_all-append (at_most n) xs ys ∙ and_from (low n xs) (low n ys) p q
 
 low_unless : (n : ℕ) (b : Bool) (r : ValidReason) → at_most n r ≡ true → low n (unless b r) ≡ true
 low_unless n true r h = refl
 low_unless n false r h = rw h refl
 
 low_found : (n : ℕ) (test : TypeSort → Bool) (o : Option TypeSort) → 2 ≤ n → low n (found (λ s. unless (test s) reason.WrongSort) o) ≡ true
-low_found n test None h = and_true (nat_le 1 n) true (le-leb 1 n (omega arith)) refl
+low_found n test None h = and_from (nat_le 1 n) true (le-leb 1 n (omega arith)) refl
 low_found n test (Some s) h = low_unless n (test s) reason.WrongSort (le-leb 2 n h)
 
 low_each : {A : Type 0} (n : ℕ) (f : A → List ValidReason) (xs : List A) → ((x : A) → low n (f x) ≡ true) → low n (flat_map f xs) ≡ true
@@ -107,7 +106,7 @@ abbrev high : ℕ → List ValidReason → Bool
 high n rs = list_all (at_least n) rs
 
 high_both : (n : ℕ) (xs ys : List ValidReason) → high n xs ≡ true → high n ys ≡ true → high n (xs ++ ys) ≡ true
-high_both n xs ys p q = list_all-append (at_least n) xs ys ∙ and_true (high n xs) (high n ys) p q
+high_both n xs ys p q = list_all-append (at_least n) xs ys ∙ and_from (high n xs) (high n ys) p q
 
 high_unless : (n : ℕ) (b : Bool) (r : ValidReason) → at_least n r ≡ true → high n (unless b r) ≡ true
 high_unless n true r h = refl
@@ -134,14 +133,6 @@ abbrev if_any : (ValidReason → Bool) → Option ValidReason → Bool
 if_any test None = true
 if_any test (Some r) = test r
 
-left_true : (a b : Bool) → (a && b) ≡ true → a ≡ true
-left_true true b e = refl
-left_true false b e = e
-
-right_true : (a b : Bool) → (a && b) ≡ true → b ≡ true
-right_true true b e = e
-right_true false b e = absurd cc
-
 lesser_any : (test : ValidReason → Bool) (q : ValidReason) (o : Option ValidReason) → test q ≡ true → if_any test o ≡ true → if_any test (lesser (Some q) o) ≡ true
 lesser_any test q None h k = h
 lesser_any test q (Some r) h k = elim (cases_Bool (nat_le (reason_number q) (reason_number r))) [
@@ -151,16 +142,13 @@ lesser_any test q (Some r) h k = elim (cases_Bool (nat_le (reason_number q) (rea
 
 least_any : (test : ValidReason → Bool) (rs : List ValidReason) → list_all test rs ≡ true → if_any test (least rs) ≡ true
 least_any test [] e = refl
-least_any test (r ∷ rs) e = lesser_any test r (least rs) (left_true (test r) (list_all test rs) e) (least_any test rs (right_true (test r) (list_all test rs) e))
+least_any test (r ∷ rs) e = lesser_any test r (least rs) (both_left (test r) (list_all test rs) e) (least_any test rs (both_right (test r) (list_all test rs) e))
 
 lesser_first : (n : ℕ) (r : ValidReason) (o : Option ValidReason) → at_most n r ≡ true → if_any (at_least n) o ≡ true → lesser (Some r) o ≡ Some r
 lesser_first n r None h k = refl
 lesser_first n r (Some q) h k =
     let le : reason_number r ≤ reason_number q = omega (arith, leb-true (reason_number r) n h, leb-true n (reason_number q) k) in
     rw (le-leb (reason_number r) (reason_number q) le) refl
-
-abbrev pub LeastOfBoth : Type 0
-LeastOfBoth = (qs rs : List ValidReason) → least (qs ++ rs) ≡ lesser (least qs) (least rs)
 
 first_least : LeastOfBoth → (n : ℕ) (xs ys : List ValidReason) (r : ValidReason) → low n xs ≡ true → high n ys ≡ true → least xs ≡ Some r → least (xs ++ ys) ≡ Some r
 first_least both n xs ys r l h e =
@@ -184,30 +172,15 @@ uses_first both types f r e =
 
 -- ---- limits
 
-none_listed : (rs : List ValidReason) → least rs ≡ None → rs ≡ []
-none_listed [] e = refl
-none_listed (r ∷ rs) e = absurd (some_lesser r (least rs) e)
-  where
-    some_lesser : (r : ValidReason) (o : Option ValidReason) → lesser (Some r) o ≡ None → ⊥
-    some_lesser r None e = cc
-    some_lesser r (Some q) e = elim (cases_Bool (nat_le (reason_number r) (reason_number q))) [
-      | inl y ↦ let f : Some r ≡ None = sym (rw y refl) ∙ e in cc
-      | inr n ↦ let f : Some q ≡ None = sym (rw n refl) ∙ e in cc
-    ]
-
--- nothing is broken where there is no least reason
-pub none_broken : (rs : List ValidReason) → least rs ≡ None → rs ≡ []
-none_broken = none_listed
-
 pub within_told : (t : Ty) → IsWithinLimits t → is_within_limits t ≡ true
-within_told t h = and_true (nat_le (nodes_of t) MAX_NODES) (nat_le (depth_of t) MAX_DEPTH) (le-leb (nodes_of t) MAX_NODES h.0) (le-leb (depth_of t) MAX_DEPTH h.1)
+within_told t h = and_from (nat_le (nodes_of t) MAX_NODES) (nat_le (depth_of t) MAX_DEPTH) (le-leb (nodes_of t) MAX_NODES h.0) (le-leb (depth_of t) MAX_DEPTH h.1)
 
 over_told : (t : Ty) (b : Bool) → is_within_limits t ≡ b → (IsWithinLimits t → ⊥) → b ≡ false
 over_told t false e h = refl
 over_told t true e h =
     absurd (h (
-      leb-true (nodes_of t) MAX_NODES (left_true (nat_le (nodes_of t) MAX_NODES) (nat_le (depth_of t) MAX_DEPTH) e),
-      leb-true (depth_of t) MAX_DEPTH (right_true (nat_le (nodes_of t) MAX_NODES) (nat_le (depth_of t) MAX_DEPTH) e),
+      leb-true (nodes_of t) MAX_NODES (both_left (nat_le (nodes_of t) MAX_NODES) (nat_le (depth_of t) MAX_DEPTH) e),
+      leb-true (depth_of t) MAX_DEPTH (both_right (nat_le (nodes_of t) MAX_NODES) (nat_le (depth_of t) MAX_DEPTH) e),
     ))
 
 pub is_over : (t : Ty) → (IsWithinLimits t → ⊥) → is_within_limits t ≡ false

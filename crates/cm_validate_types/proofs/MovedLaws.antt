@@ -1,5 +1,5 @@
 -- What definitions see of entries whose resources may be moved.
-use Rattle.std.proofs.Common.{inl, inr, ◌≡◌, ℕ, zero, suc, ◌+◌, ◌*◌, ◌<◌, ◌≤◌, max, Bool, true, false, ◌&&◌, List, [], ◌∷◌, ◌++◌, length, map, nat_le, Option, Some, None, refl, sym, ap, ◌∙◌, arith, slice_get, unwrap_or, option_to_list}
+use Rattle.std.proofs.Common.{inl, inr, ◌≡◌, ℕ, zero, suc, ◌+◌, ◌*◌, ◌<◌, ◌≤◌, max, Bool, true, ◌&&◌, List, [], ◌∷◌, ◌++◌, length, map, nat_le, Option, Some, None, refl, sym, ap, ◌∙◌, arith, slice_get, unwrap_or, option_to_list}
 use Rattle.std.specs.Prelude.{is_none, slice_set}
 use Rattle.std.specs.List.{flat_map, list_all, sum_by}
 use Rattle.std.specs.Option.{option_map, option_and_then}
@@ -30,14 +30,7 @@ use Rattle.cm_validate_model.specs.declared.sorts.TypeSort.TheVariants as sort
 use Rattle.cm_validate_types.specs.Entries.{def_of, entry_sort, unmoved_def_of}
 use Rattle.cm_validate_types.specs.Expansion.{value_or_bool, resource_or_zero, labeled_or_bool, case_or_bool, type_or_bool, func_or_bool}
 use Rattle.cm_validate_types.specs.Uses.{uses_of, params_of, func_uses_of, nodes_together, is_entry_unmoved, is_use_unmoved, are_uses_unmoved}
-
-both_left : (a b : Bool) → (a && b) ≡ true → a ≡ true
-both_left true b e = refl
-both_left false b e = absurd cc
-
-both_right : (a b : Bool) → (a && b) ≡ true → b ≡ true
-both_right true b e = e
-both_right false b e = absurd cc
+use Rattle.cm_lemmas.proofs.Bools.{both_left, both_right}
 
 abbrev pub Unmoved : Type 0
 Unmoved = (t : Ty) → replaced (moved_by None) t ≡ t

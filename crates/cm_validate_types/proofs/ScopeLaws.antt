@@ -1,5 +1,5 @@
 -- What entries stand for, also among more types.
-use Rattle.std.proofs.Common.{inl, inr, ◌≡◌, ℕ, zero, suc, ◌<◌, ◌≤◌, Bool, true, false, ◌&&◌, List, [], ◌∷◌, ◌++◌, length, map, get_or, nat_lt, Option, Some, None, refl, sym, ap, ◌∙◌, arith, slice_get, unwrap_or, append-nil, length-append, Result, Ok, Err, OnOk, OnErr}
+use Rattle.std.proofs.Common.{inl, inr, ◌≡◌, ℕ, zero, suc, ◌<◌, ◌≤◌, Bool, true, List, [], ◌∷◌, ◌++◌, length, map, get_or, nat_lt, Option, Some, None, refl, sym, ap, ◌∙◌, arith, slice_get, unwrap_or, append-nil, length-append, Result, Ok, Err, OnOk, OnErr}
 use Rattle.std.specs.Prelude.{is_none}
 use Rattle.std.specs.List.{list_all}
 use Rattle.std.specs.Option.{option_map, option_and_then}
@@ -36,10 +36,12 @@ use Rattle.cm_types_arena.specs.Replaced.{Standing, replaced, replaced_func}
 use Rattle.cm_validate_types.specs.Entries.{def_of, entry_sort, is_entry_there, in_arena}
 use Rattle.cm_validate_types.specs.Expansion.{value_or_bool}
 use Rattle.cm_validate_types.specs.TypeScopes.{Extends}
+use Rattle.cm_lemmas.proofs.Bools.{both_left, both_right}
+use Rattle.cm_types_arena.proofs.ArenaLemmas.{type_there}
 
 -- ---- sorts
 
-sort_told : (types : List Ty) (funcs : List FuncTy) (e : TypeEntry) → sort_of (def_of types funcs e) ≡ entry_sort e
+pub sort_told : (types : List Ty) (funcs : List FuncTy) (e : TypeEntry) → sort_of (def_of types funcs e) ≡ entry_sort e
 sort_told types funcs (entry.Value p) = refl
 sort_told types funcs (entry.Func p) = refl
 sort_told types funcs (entry.Resource n) = refl
@@ -50,14 +52,6 @@ sorts_told types funcs [] = refl
 sorts_told types funcs (e ∷ es) = rw (sort_told types funcs e, sorts_told types funcs es) refl
 
 -- ---- among more types
-
-both_left : (a b : Bool) → (a && b) ≡ true → a ≡ true
-both_left true b e = refl
-both_left false b e = e
-
-both_right : (a b : Bool) → (a && b) ≡ true → b ≡ true
-both_right true b e = e
-both_right false b e = absurd cc
 
 no_func : FuncTy
 no_func = record { params = no_fields; result = None }
@@ -155,11 +149,6 @@ pub last_func : (funcs : List FuncTy) (f : FuncTy) → func_at (funcs ++ f ∷ [
 last_func funcs f = get_or_push funcs f _ (length funcs) refl
 
 -- ---- what an arena's types are
-
-type_there : (es : List arena.TypeEntry) (k : ℕ) (d : arena.TypeEntry) → k < length es → type_at (types_in es) k ≡ type_of (get_or es k d).node
-type_there [] k d h = absurd (omega arith)
-type_there (x ∷ es) zero d h = refl
-type_there (x ∷ es) (suc k) d h = type_there es k d (omega arith)
 
 pub spelled_at : (es : List arena.TypeEntry) → ∥ IsArena es ∥₁ → (k : ℕ) → is_spellable (type_at (types_in es) k) ≡ true
 spelled_at es a k = elim (cases_lt k (length es)) [

@@ -1,8 +1,8 @@
 -- What a definition stands for, and breaks, where the types that it uses were copied.
-use Rattle.std.proofs.Common.{inl, inr, ◌≡◌, ℕ, ◌<◌, ◌≤◌, Bool, true, false, List, [], ◌∷◌, ◌++◌, length, map, nat_le, Option, Some, None, Result, Ok, Err, IfOk, refl, sym, ap, ◌∙◌, arith, slice_get, get_or, take, suc, ◌+◌, ◌&&◌}
+use Rattle.std.proofs.Common.{inl, inr, ◌≡◌, ℕ, ◌<◌, ◌≤◌, true, false, List, [], ◌∷◌, ◌++◌, length, map, nat_le, Option, Some, None, Result, Ok, Err, IfOk, refl, sym, ap, ◌∙◌, arith, slice_get, get_or, take, suc, ◌+◌, ◌&&◌}
 use Rattle.std.specs.Prelude.{slice_set}
 use Rattle.std.specs.List.{list_all}
-use Rattle.std.proofs.lemmas.Bool.{cases_Bool, le-leb, leb-true}
+use Rattle.std.proofs.lemmas.Bool.{cases_Bool, le-leb, leb-true, and_from}
 use Rattle.std.proofs.lemmas.List.Folds.{list_all-append}
 use Rattle.std.proofs.lemmas.List.Sums.{sum_by_push, sum_by-take-le}
 use Rattle.std.proofs.Math.Seq.{take-suc}
@@ -86,15 +86,12 @@ take_more us i d lt =
     let n : i + 1 ≡ suc i = omega arith in
     ap (λ (k : ℕ). take k us) n ∙ take-suc us i d lt
 
-and_true : (a b : Bool) → a ≡ true → b ≡ true → (a && b) ≡ true
-and_true a b p q = rw (p, q) refl
-
 pub one_more_settled : (es : List TypeEntry) (us : List ValType) (i : ℕ) (d : ValType) → i < length us → are_uses_unmoved es (take i us) ≡ true → is_use_unmoved es (get_or us i d) ≡ true
     → are_uses_unmoved es (take (i + 1) us) ≡ true
 one_more_settled es us i d lt before now =
     ap (are_uses_unmoved es) (take_more us i d lt)
     ∙ list_all-append (is_use_unmoved es) (take i us) (get_or us i d ∷ [])
-    ∙ and_true (are_uses_unmoved es (take i us)) (is_use_unmoved es (get_or us i d) && true) before (and_true (is_use_unmoved es (get_or us i d)) true now refl)
+    ∙ and_from (are_uses_unmoved es (take i us)) (is_use_unmoved es (get_or us i d) && true) before (and_from (is_use_unmoved es (get_or us i d)) true now refl)
 
 pub one_more_nodes : (types : List TypeDef) (us : List ValType) (i : ℕ) (d : ValType) → i < length us
     → nodes_together types (take (i + 1) us) ≡ nodes_together types (take i us) + nodes_of (value_or_bool types (get_or us i d))

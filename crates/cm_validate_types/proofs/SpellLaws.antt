@@ -1,5 +1,5 @@
 -- What breaks no rule on its parts can be spelled, where all that it may name can be.
-use Rattle.std.proofs.Common.{◌≡◌, ℕ, Bool, true, false, not, List, [], ◌∷◌, ◌++◌, length, map, nat_le, nat_lt, Option, Some, None, refl, codes}
+use Rattle.std.proofs.Common.{◌≡◌, ℕ, true, not, List, [], ◌∷◌, ◌++◌, length, map, nat_le, nat_lt, Option, Some, None, refl, codes}
 use Rattle.std.specs.List.{flat_map}
 use Rattle.std.specs.Option.{option_map}
 use Rattle.cm_types.specs.declared.def_types.PrimValType.{PrimValType}
@@ -12,19 +12,14 @@ use Rattle.cm_types.specs.DefTypes.{DefValTypeTree, primitive, record_of, varian
 use Rattle.cm_types.specs.Spellable.{is_spellable, are_spellable, are_spellable_payloads, has_no_cases}
 use Rattle.cm_types.specs.TypeTrees.{fields_from, parts_from, cases_from, case_before, plain_from}
 use Rattle.cm_types.specs.Types.{Ty, Cases, no_cases}
-use Rattle.cm_validate_model.specs.declared.fault.ValidReason.{ValidReason}
 use Rattle.cm_validate_model.specs.declared.fault.ValidReason.TheVariants as reason
 use Rattle.cm_validate_model.specs.Definitions.{TypeDef, sorts_of}
 use Rattle.cm_validate_model.specs.Reasons.{unless}
 use Rattle.cm_validate_model.specs.Scopes.{primitive_type}
 use Rattle.cm_validate_model.specs.TypeRules.{value_broken, payload_broken, parts_broken, emptiness_broken, labels_broken, is_not_empty}
 use Rattle.cm_validate_types.specs.Expansion.{value_or_bool, labeled_or_bool, case_or_bool, type_or_bool}
-use Rattle.cm_validate_types.proofs.ExpandLaws.{left_empty, right_empty}
-
--- a rule holds that is not broken
-pub holds_of : (b : Bool) (r : ValidReason) → unless b r ≡ [] → b ≡ true
-holds_of true r e = refl
-holds_of false r e = absurd cc
+use Rattle.cm_validate_model.proofs.ReasonsLaws.{kept}
+use Rattle.cm_lemmas.proofs.Lists.{nil_front, nil_rest}
 
 pub primitive_spelled : (p : PrimValType) → is_spellable (primitive_type p) ≡ true
 primitive_spelled prim.Bool = refl
@@ -91,19 +86,19 @@ module _ (types : List TypeDef) (spelled : (t : ValType) → is_spellable (value
   def_spelled (primitive p) e = primitive_spelled p
   def_spelled (record_of fs) e =
       let uses = flat_map (λ f. value_broken (sorts_of types) f.ty) fs in
-      record_spelled fs (holds_of (is_not_empty fs) reason.EmptyType (right_empty uses (emptiness_broken fs) (left_empty (uses ++ emptiness_broken fs) (labels_broken (map (λ f. f.label) fs)) e)))
+      record_spelled fs (kept (is_not_empty fs) reason.EmptyType (nil_rest uses (emptiness_broken fs) (nil_front (uses ++ emptiness_broken fs) (labels_broken (map (λ f. f.label) fs)) e)))
   def_spelled (variant_of cs) e =
       let uses = flat_map (λ c. payload_broken (sorts_of types) c.payload) cs in
-      variant_spelled cs (holds_of (is_not_empty cs) reason.EmptyType (right_empty uses (emptiness_broken cs) (left_empty (uses ++ emptiness_broken cs) (labels_broken (map (λ c. c.label) cs)) e)))
+      variant_spelled cs (kept (is_not_empty cs) reason.EmptyType (nil_rest uses (emptiness_broken cs) (nil_front (uses ++ emptiness_broken cs) (labels_broken (map (λ c. c.label) cs)) e)))
   def_spelled (list_of t) e = spelled t
   def_spelled (fixed_list_of t n) e =
-      rw (holds_of (nat_lt 0 n) reason.EmptyType (right_empty (value_broken (sorts_of types) t) (unless (nat_lt 0 n) reason.EmptyType) e), spelled t) refl
-  def_spelled (tuple_of ts) e = tuple_spelled ts (holds_of (is_not_empty ts) reason.EmptyType (right_empty (flat_map (value_broken (sorts_of types)) ts) (emptiness_broken ts) e))
+      rw (kept (nat_lt 0 n) reason.EmptyType (nil_rest (value_broken (sorts_of types) t) (unless (nat_lt 0 n) reason.EmptyType) e), spelled t) refl
+  def_spelled (tuple_of ts) e = tuple_spelled ts (kept (is_not_empty ts) reason.EmptyType (nil_rest (flat_map (value_broken (sorts_of types)) ts) (emptiness_broken ts) e))
   def_spelled (flags_of ls) e =
       let many = unless (nat_le (length ls) MAX_FLAGS) reason.TooManyFlags in
-      let two = left_empty (emptiness_broken ls ++ many) (labels_broken ls) e in
-      rw (holds_of (is_not_empty ls) reason.EmptyType (left_empty (emptiness_broken ls) many two), holds_of (nat_le (length ls) MAX_FLAGS) reason.TooManyFlags (right_empty (emptiness_broken ls) many two)) refl
-  def_spelled (enum_of ls) e = enum_spelled ls (holds_of (is_not_empty ls) reason.EmptyType (left_empty (emptiness_broken ls) (labels_broken ls) e))
+      let two = nil_front (emptiness_broken ls ++ many) (labels_broken ls) e in
+      rw (kept (is_not_empty ls) reason.EmptyType (nil_front (emptiness_broken ls) many two), kept (nat_le (length ls) MAX_FLAGS) reason.TooManyFlags (nil_rest (emptiness_broken ls) many two)) refl
+  def_spelled (enum_of ls) e = enum_spelled ls (kept (is_not_empty ls) reason.EmptyType (nil_front (emptiness_broken ls) (labels_broken ls) e))
   def_spelled (option_of t) e = rw (spelled t) refl
   def_spelled (result_of ok error) e = result_spelled ok error
   def_spelled (own_of i) e = refl

@@ -1,5 +1,5 @@
 -- What moves brought into the types of a scope, while they are read.
-use Rattle.std.proofs.Common.{◌≡◌, ℕ, zero, suc, Bool, true, false, ◌&&◌, List, [], ◌∷◌, ◌++◌, length, nat_lt, Option, Some, None, Result, Ok, Err, OnOk, OnErr, refl, sym, ap, subst, ◌∙◌}
+use Rattle.std.proofs.Common.{◌≡◌, ℕ, zero, suc, Bool, true, List, [], ◌∷◌, ◌++◌, length, nat_lt, Option, Some, None, Result, Ok, Err, OnOk, OnErr, refl, sym, ap, subst, ◌∙◌}
 use Rattle.std.specs.Prelude.{is_none, slice_set}
 use Rattle.std.specs.List.{AllByRecursion, list_all}
 use Rattle.cm_types.specs.Types.{Ty, FuncTy}
@@ -22,24 +22,14 @@ use Rattle.cm_validate_types.specs.Settled.{AreItemsSettled, IsDescSettled, IsEn
 use Rattle.cm_validate_types.specs.SettledScopes.{AreMovedCounted, AreSettled, IsMovedCounted, StaysSettled}
 use Rattle.cm_validate_types.specs.TypeScopes.{Extends, HasGrown, arena_funcs, arena_types, entries_around, entries_of}
 use Rattle.cm_validate_types.proofs.ScopeLaws.{func_kept, type_kept}
-
-both_left : (a b : Bool) → (a && b) ≡ true → a ≡ true
-both_left true b e = refl
-both_left false b e = absurd cc
-
-both_right : (a b : Bool) → (a && b) ≡ true → b ≡ true
-both_right true b e = e
-both_right false b e = absurd cc
+use Rattle.cm_lemmas.proofs.Lists.{all_push}
+use Rattle.cm_lemmas.proofs.Bools.{both_left, both_right}
 
 -- ---- lists
 
 all_kept : {A : Type 0} (test : A → Bool) (P Q : A → Type 0) → ((x : A) → test x ≡ true → P x → Q x) → (xs : List A) → list_all test xs ≡ true → AllByRecursion P xs → AllByRecursion Q xs
 all_kept test P Q keep [] h a = tt
 all_kept test P Q keep (x ∷ xs) h a = (keep x (both_left (test x) (list_all test xs) h) a.0, all_kept test P Q keep xs (both_right (test x) (list_all test xs) h) a.1)
-
-all_push : {A : Type 0} (P : A → Type 0) (xs : List A) (x : A) → AllByRecursion P xs → P x → AllByRecursion P (xs ++ x ∷ [])
-all_push P [] x a p = (p, tt)
-all_push P (y ∷ ys) x a p = (a.0, all_push P ys x a.1 p)
 
 pub all_added : {A T E : Type 0} (P : A → Type 0) (xs ys : List A) (x : A) (r : Result T E) → OnOk r (ys ≡ xs ++ x ∷ []) → OnErr r (ys ≡ xs) → P x → AllByRecursion P xs → AllByRecursion P ys
 all_added P xs ys x (Ok v) is kept p a = subst (AllByRecursion P) (sym is) (all_push P xs x a p)

@@ -25,4 +25,4 @@ returns c = λ ty.
     let types : IsCallTypes (standing set t.component) t.ty c.in_ok-types.types.value = subst (λ (x : FuncTy). IsCallTypes (standing set t.component) x c.in_ok-types.types.value) stays c.in_ok-types.ensures.passes in
     let spelled : IsSpelled t.ty = subst IsSpelled stays c.in_ok-types.ensures.spelled in
     stands_lowered set c.args.component c.args.import c.args.item ty c.args.options.now t _ found
-    (link_is set c.args.options.now t _ c.what_stays.ensures.spellable refl refl c.post_return.ensures c.of.ensures c.of-2.ensures types spelled)
+    (link_is set c.args.options.now t _ c.what_stays.ensures.spellable refl refl c.post_return.ensures c.lift_lower_options.ensures c.lift_lower_options-2.ensures types spelled)

@@ -7,7 +7,7 @@ use Rattle.cm_match.specs.Linked.{components_in, set_in}
 use Rattle.cm_match_model.specs.Serving.{standing}
 use Rattle.cm_match_serving.specs.Sets.{funcs_at}
 use Rattle.cm_machine_links.specs.Standing.{IsCallTypes, IsSpelled}
-use Rattle.cm_machine_links.specs.declared.passing.CallTypes.{CallTypes}
+use Rattle.cm_machine_parts.specs.declared.link.CallTypes.{CallTypes}
 use Rattle.cm_machine_links.proofs.TypesAt.{place_there, row_of, rows_there, types_at}
 use Rattle.cm_machine_links.proofs.core_funcs.share_types.Goals as goal
 

@@ -7,7 +7,7 @@ use Rattle.cm_validate_spaces.specs.declared.checked.Checked.{Checked}
 use Rattle.cm_match.specs.Linked.{components_in, set_in}
 use Rattle.cm_match_model.specs.Serving.{standing}
 use Rattle.cm_machine_links.specs.Standing.{AreCallTypes, AreTypesOf}
-use Rattle.cm_machine_links.specs.declared.passing.CallTypes.{CallTypes}
+use Rattle.cm_machine_parts.specs.declared.link.CallTypes.{CallTypes}
 use Rattle.cm_machine_links.proofs.MadeFacts.{component_at, mapped_more, one_more_types}
 use Rattle.cm_machine_links.proofs.making.types_of.Goals as goal
 

@@ -5,7 +5,7 @@ use Rattle.cm_types.specs.Types.{FuncTy, no_fields}
 use Rattle.cm_types_arena.specs.Places.{funcs_of}
 use Rattle.cm_types_arena.specs.TypeDefs.{func_at}
 use Rattle.cm_machine_links.specs.Standing.{AreCallTypes, IsCallTypes}
-use Rattle.cm_machine_links.specs.declared.passing.CallTypes.{CallTypes}
+use Rattle.cm_machine_parts.specs.declared.link.CallTypes.{CallTypes}
 use Rattle.cm_machine_links.proofs.PassingFacts.{one_type_more}
 use Rattle.cm_machine_links.proofs.passing.call_types.Goals as goal
 

@@ -8,8 +8,8 @@ use Rattle.cm_types_arena.specs.Replaced.{replaced}
 use Rattle.cm_types_numbers.specs.Numbering.{AreNumbers, number, numbering}
 use Rattle.cm_types_numbers.proofs.KnownLaws.{at_place, known_stays, none_there, numbered_here, part_more, parts_of}
 use Rattle.cm_types_numbers.proofs.Stays.{extends_itself, extends_on}
-use Rattle.cm_types_numbers.proofs.Steps.{if_ok_more}
 use Rattle.cm_types_numbers.proofs.numbers.Numbers.+number_type.Goals as goal
+use Rattle.cm_lemmas.proofs.Results.{if_ok_more}
 
 pub returns-then-place-len-clause-known : goal.returns-then-place-len-clause-known
 returns-then-place-len-clause-known g t c =

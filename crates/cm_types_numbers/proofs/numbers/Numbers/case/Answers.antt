@@ -1,8 +1,9 @@
 use Rattle.std.proofs.Common.{◌≡◌, ℕ, Option, None, Some, subst}
 use Rattle.cm_types_numbers.specs.declared.key.Key.TheVariants as key
 use Rattle.cm_types_numbers.specs.Numbering.{Numbering, numbering}
-use Rattle.cm_types_numbers.proofs.Steps.{case_numbered, if_ok_more}
+use Rattle.cm_types_numbers.proofs.Steps.{case_numbered}
 use Rattle.cm_types_numbers.proofs.numbers.Numbers.case.Goals as goal
+use Rattle.cm_lemmas.proofs.Results.{if_ok_more}
 
 made_by : (t : Numbering) (label others n ty given : ℕ) → ty ≡ given → t.node (key.Carrying label ty others) ≡ Some n → t.node (key.Carrying label given others) ≡ Some n
 made_by t label others n ty given is = subst (λ (m : ℕ). t.node (key.Carrying label m others) ≡ Some n) is

@@ -7,11 +7,14 @@ use Rattle.cm_types.specs.TypeTrees.{cases_of, fields_of, parts_of, shared_paylo
 use Rattle.cm_types_arena.specs.Arena.{field_types, payload_types, parts_in}
 use Rattle.cm_types_arena.specs.Replaced.{replaced, replaced_cases, replaced_fields}
 use Rattle.cm_types_numbers.specs.Numbering.{numbering, number, AreNumbers, number_cases, number_fields, number_labels, result_cases}
-use Rattle.cm_types_numbers.proofs.ChainLemmas.{fields_long, parts_are}
+use Rattle.cm_types_numbers.proofs.ChainLemmas.{parts_are}
 use Rattle.cm_types_numbers.proofs.NodeLemmas.{list_numbered, fixed_list_numbered, record_numbered, tuple_numbered, variant_numbered, enum_numbered, flags_numbered, option_numbered, result_numbered}
-use Rattle.cm_types_numbers.proofs.Seen.{seen_Bool, seen_S8, seen_U8, seen_S16, seen_U16, seen_S32, seen_U32, seen_S64, seen_U64, seen_Char, seen_String, seen_List, seen_FixedList, seen_Record, seen_Tuple, seen_Variant, seen_Enum, seen_Flags, seen_Option, seen_Result}
+use Rattle.cm_types_numbers.proofs.Seen.{seen_Result}
 use Rattle.cm_types_numbers.proofs.Stays.{extends_itself}
 use Rattle.cm_types_numbers.proofs.numbers.Numbers.key.Goals as goal
+use Rattle.cm_types_arena.proofs.ArenaLemmas.{fields_long}
+use Rattle.cm_types.proofs.TypesLaws.{seen_Bool, seen_Char, seen_S16, seen_S32, seen_S64, seen_S8, seen_U16, seen_U32, seen_U64, seen_U8}
+use Rattle.cm_types.proofs.Seen.{seen_Enum, seen_FixedList, seen_Flags, seen_List, seen_Option, seen_Record, seen_StringType, seen_Tuple, seen_Variant}
 
 pub fields-requires : goal.fields-requires
 fields-requires g c =
@@ -117,7 +120,7 @@ returns-in-Char-clause-node g c = λ are later e.
 
 pub returns-in-String-clause-node : goal.returns-in-String-clause-node
 returns-in-String-clause-node g c = λ are later e.
-    ap (λ (t : Ty). number later (replaced (g.R.Replacement.replacement c.args.replacement.now) t)) (ap type_of c.in-String.is ∙ seen_String)
+    ap (λ (t : Ty). number later (replaced (g.R.Replacement.replacement c.args.replacement.now) t)) (ap type_of c.in-String.is ∙ seen_StringType)
 
 pub returns-in-Bool-clause-kept : goal.returns-in-Bool-clause-kept
 returns-in-Bool-clause-kept g c = extends_itself (numbering c.args.self.now)

@@ -6,8 +6,8 @@ use Rattle.cm_types_arena.specs.Places.{funcs_of, types_of}
 use Rattle.cm_types_arena.specs.TypeDefs.{func_at}
 use Rattle.cm_types_numbers.specs.Numbering.{numbering}
 use Rattle.cm_types_numbers.proofs.ArenaLemmas.{params_long, procedure_is, func_is}
-use Rattle.cm_types_numbers.proofs.Steps.{if_ok_more}
 use Rattle.cm_types_numbers.proofs.numbers.Numbers.number_func.Goals as goal
+use Rattle.cm_lemmas.proofs.Results.{if_ok_more}
 
 pub fields-requires : goal.fields-requires
 fields-requires c =

@@ -11,8 +11,8 @@ use Rattle.cm_types_numbers.proofs.Stays.{extends_itself}
 use Rattle.cm_types_numbers.proofs.KnownFuncs.{func_known, known_long, procedure_known}
 use Rattle.cm_types_numbers.proofs.KnownLaws.{known_stays}
 use Rattle.cm_types_numbers.proofs.Stays.{extends_on}
-use Rattle.cm_types_numbers.proofs.Steps.{if_ok_more}
 use Rattle.cm_types_numbers.proofs.numbers.Numbers.number_func_type.Goals as goal
+use Rattle.cm_lemmas.proofs.Results.{if_ok_more}
 
 -- the numbers as they are passed
 passed : (t : Numbering) (s : Standing) (ts : List Ty) (ns parts : List ℕ) → parts ≡ ns → AreNumbers t s ts ns → AreNumbers t s ts parts

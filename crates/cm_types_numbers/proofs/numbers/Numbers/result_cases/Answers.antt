@@ -2,8 +2,8 @@ use Rattle.std.proofs.Common.{ap}
 use Rattle.cm_types.specs.TypeTrees.{shared_payload, type_of}
 use Rattle.cm_types_numbers.specs.Numbering.{numbering}
 use Rattle.cm_types_numbers.proofs.NodeLemmas.{only_error, only_ok, ok_and_error}
-use Rattle.cm_types_numbers.proofs.Steps.{if_ok_more}
 use Rattle.cm_types_numbers.proofs.numbers.Numbers.result_cases.Goals as goal
+use Rattle.cm_lemmas.proofs.Results.{if_ok_more}
 
 pub returns-in-None-Some-clause-number : goal.returns-in-None-Some-clause-number
 returns-in-None-Some-clause-number c = if_ok_more c.two_cases-in-None-Some.result _ _ c.two_cases-in-None-Some.ensures.number (λ n made s.

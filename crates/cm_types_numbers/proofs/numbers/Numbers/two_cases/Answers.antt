@@ -1,10 +1,11 @@
 use Rattle.std.proofs.Common.{◌≡◌}
 use Rattle.cm_types_numbers.specs.Numbering.{numbering}
 use Rattle.cm_types_numbers.proofs.Stays.{extends_on}
-use Rattle.cm_types_numbers.proofs.Steps.{if_ok_more, has_stays}
+use Rattle.cm_types_numbers.proofs.Steps.{has_stays}
 use Rattle.cm_types.specs.Types.{no_cases}
 use Rattle.cm_types.specs.TypeTrees.{case_before}
 use Rattle.cm_types_numbers.proofs.numbers.Numbers.two_cases.Goals as goal
+use Rattle.cm_lemmas.proofs.Results.{if_ok_more}
 
 pub returns-clause-number : goal.returns-clause-number
 returns-clause-number c = if_ok_more c.case-2.result _ _ c.case-2.ensures.number (λ n made x y has_x has_y.

@@ -5,9 +5,9 @@ use Rattle.cm_types_arena.specs.Replaced.{replaced}
 use Rattle.cm_types_numbers.specs.Numbering.{number, numbering}
 use Rattle.cm_types_numbers.specs.Moved.{brought_by, moved_through}
 use Rattle.cm_types_numbers.specs.declared.moves.Moves.{Moves}
-use Rattle.cm_types_numbers.proofs.PlacedNumbersKnownLaws.{if_ok_more}
 use Rattle.cm_types_numbers.proofs.PlacedNumbersStays.{all_funcs_stay}
 use Rattle.cm_types_numbers.proofs.placed_numbers_known.KnownPlaced.number_type.Goals as goal
+use Rattle.cm_lemmas.proofs.Results.{if_ok_more}
 
 pub returns-clause-number : goal.returns-clause-number
 returns-clause-number g c =

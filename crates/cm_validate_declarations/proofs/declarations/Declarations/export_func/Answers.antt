@@ -1,9 +1,9 @@
 use Rattle.std.proofs.Common.{subst}
 use Rattle.cm_validate_types.specs.SettledScopes.{IsMovedCounted}
 use Rattle.cm_validate_types.specs.TypeScopes.{arena_funcs, arena_types}
-use Rattle.cm_validate_declarations.proofs.GrowLaws.{same}
 use Rattle.cm_validate_declarations.proofs.PropLaws.{moved_known}
 use Rattle.cm_validate_declarations.proofs.declarations.Declarations.export_func.Goals as goal
+use Rattle.cm_validate_types.proofs.GrowLaws.{same}
 
 pub returns-in-Some-clause-grown : goal.returns-in-Some-clause-grown
 returns-in-Some-clause-grown c = same c.args.self.now.scope

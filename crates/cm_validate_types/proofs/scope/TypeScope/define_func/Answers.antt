@@ -5,8 +5,9 @@ use Rattle.cm_validate_model.specs.Definitions.{sorts_of}
 use Rattle.cm_validate_model.specs.Reasons.{least}
 use Rattle.cm_validate_model.specs.TypeRules.{uses_broken}
 use Rattle.cm_validate_types.specs.TypeScopes.{own_types}
-use Rattle.cm_validate_types.proofs.LimitLaws.{none_broken, uses_first}
+use Rattle.cm_validate_types.proofs.LimitLaws.{uses_first}
 use Rattle.cm_validate_types.proofs.scope.TypeScope.define_func.Goals as goal
+use Rattle.cm_validate_model.proofs.ReasonsLaws.{none_broken}
 
 pub returns-in-Some-clause-fault : goal.returns-in-Some-clause-fault
 returns-in-Some-clause-fault c =

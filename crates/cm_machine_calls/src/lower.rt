@@ -1,0 +1,270 @@
+//! Lowering the value on its way to its receiver (CanonicalABI.md, `lower_flat_values`): its bytes
+//! are copied from one instance's memory to another's, and its handles added to a table.
+
+ghost use Rattle.std.specs.Prelude.{◌≡◌, ◌≢◌, ◌<◌, ◌≤◌, ◌+◌, List, MatchResult, OnErr, OnOk, ℕ};
+ghost use Rattle.std.specs.Prelude.{length, map, slice_index, slice_set};
+ghost use Rattle.cm_types.specs.CoreValues.{kind_of};
+ghost use Rattle.cm_types.specs.Types.{Fields};
+ghost use Rattle.cm_types.specs.Values.{Val};
+ghost use Rattle.cm_abi_model.specs.Copies.{IsFaultOfCopying, handles_of_values};
+ghost use Rattle.cm_abi_model.specs.Views.{View};
+ghost use Rattle.cm_abi_model.specs.Ways.{way_of};
+ghost use Rattle.cm_machine_model.specs.Memories.{memory_at};
+ghost use Rattle.cm_machine_calls.specs.Handing.{CanBeCopied, CanCopy, IsCopied, IsCopiedIn};
+ghost use Rattle.cm_machine_calls.specs.Handing.{owner_given};
+ghost use Rattle.cm_abi_model.specs.Giving.{borrowed_count};
+ghost use Rattle.cm_abi_model.specs.HandleLeaves.{leaf_of, leaves_of};
+ghost use Rattle.cm_machine_model.specs.Step.{owners_given};
+ghost use Rattle.cm_machine_parts.specs.Kept.{AreBorrowsCounted, CanEnd};
+ghost use Rattle.cm_machine_parts.specs.States.{state_of};
+ghost use Rattle.cm_machine_calls.specs.Going.{CanBeLowered, LowersOrStops};
+
+use crate::link::{kinds_of, layout_of};
+use crate::traps::trap_of;
+use cm_abi::{AbiFault, Found, HandleLeaf, Passed, Receiver, Scan, Way, copy};
+use cm_abi_lower::borrowed_count;
+use cm_abi_requests::requesting_laws::records_ask_for_parts;
+use cm_handles::Table;
+use cm_handles::laws::{borrows_are_counted, tables_change_in_one_place};
+use cm_machine_model::state::Place;
+use cm_machine_model::{Flat, MAX_FRAMES, MAX_MEMORY_SIZE, Memories, Trap};
+use cm_machine_parts::{Link, State};
+use cm_types::{CoreKind, CoreValue, MAX_FLAT_PARAMS};
+use std::alloc::Global;
+
+/// Puts a zero of each of these kinds in the place of as many core values.
+fn put_zeros(kinds: &[CoreKind], slots: &mut [CoreValue])
+    requires { length slots.old ≡ length kinds.now }
+    ensures { map kind_of slots.new ≡ kinds.now }
+{
+    for i in 0..kinds.len() {
+        slots[i] = match kinds[i] {
+            CoreKind::I32 => CoreValue::I32(0),
+            CoreKind::I64 => CoreValue::I64(0),
+        };
+    }
+}
+
+/// Copies a value that was scanned in one memory into another, and puts the core values that pass
+/// it, of these kinds, into `values`. Else nothing is changed but the room of lists.
+fn copy_into(
+    kept: &mut Scan,
+    from: &[u8],
+    bytes: &mut Vec<u8>,
+    table: &mut Table,
+    to: Receiver,
+    passed: &Passed<'_>,
+    kinds: &[CoreKind],
+    values: &mut Flat,
+) -> Result<(), AbiFault>
+    requires copied { CanBeCopied from.now (length bytes.old.items) passed.now kinds.now kept.old }
+    requires few { length bytes.old.items ≤ MAX_MEMORY_SIZE }
+    requires kinds { length kinds.now ≤ MAX_FLAT_PARAMS }
+    ensures copied { (view : View) (answers : List ℕ) (types : Fields) (v : Val)
+        → CanCopy view from.now (length bytes.old.items) passed.now kinds.now kept.old answers
+        types v
+        → MatchResult result
+        (λ _. IsCopied to (way_of passed.now.way) types v kept.old.parts answers bytes.old.items
+        bytes.new.items table.old.handles table.new.handles values.new kept.new.numbers)
+        (IsFaultOfCopying kept.old.parts answers to table.old.handles
+        (handles_of_values types v)) }
+    ensures bytes_stay { OnErr result (bytes.new.items ≡ bytes.old.items) }
+    ensures table_stays { OnErr result (table.new.handles ≡ table.old.handles) }
+    ensures length { length bytes.new.items ≡ length bytes.old.items }
+    ensures kept_stays { kept.new ≡ record kept.old { numbers = kept.new.numbers } }
+{
+    let mut slots = [CoreValue::I32(0); MAX_FLAT_PARAMS];
+    let received = &mut slots[..kinds.len()];
+    put_zeros(kinds, received);
+    let found = Found {
+        memory: from,
+        passed: *passed,
+    };
+    match copy(kept, bytes, table, received, to, &found) {
+        Ok(()) => {
+            *values = Flat::from_slice(received);
+            Ok(())
+        }
+        Err(fault) => Err(fault),
+    }
+}
+
+/// Copies a value that was scanned in the memory of its giver to its receiver. The receiver's
+/// memory is taken out of the others while it is written, with no copy of its bytes.
+pub(crate) fn copy_between(
+    alloc: Global,
+    kept: &mut Scan,
+    memories: &mut Memories,
+    giver: u32,
+    table: &mut Table,
+    to: Receiver,
+    passed: &Passed<'_>,
+    kinds: &[CoreKind],
+    values: &mut Flat,
+) -> Result<(), AbiFault>
+    requires copied { CanBeCopied (memory_at memories.old giver)
+        (length (memory_at memories.old to.instance)) passed.now kinds.now kept.old }
+    requires apart { giver ≢ to.instance }
+    requires giver { giver < length memories.old }
+    requires receiver { to.instance < length memories.old }
+    requires kinds { length kinds.now ≤ MAX_FLAT_PARAMS }
+    ensures copied { (view : View) (answers : List ℕ) (types : Fields) (v : Val)
+        → CanCopy view (memory_at memories.old giver)
+        (length (memory_at memories.old to.instance)) passed.now kinds.now kept.old answers
+        types v
+        → MatchResult result
+        (λ _. IsCopiedIn to (way_of passed.now.way) types v kept.old.parts answers memories.old
+        memories.new table.old.handles table.new.handles values.new kept.new.numbers)
+        (IsFaultOfCopying kept.old.parts answers to table.old.handles
+        (handles_of_values types v)) }
+    ensures memories_stay { OnErr result (memories.new ≡ memories.old) }
+    ensures table_stays { OnErr result (table.new.handles ≡ table.old.handles) }
+    ensures kept_stays { kept.new ≡ record kept.old { numbers = kept.new.numbers } }
+{
+    let receiver = to.instance as usize;
+    let mut bytes = memories.take(alloc, receiver);
+    let Some(from) = memories.get(giver as usize) else {
+        unreachable!()
+    };
+    let copied = copy_into(kept, from, &mut bytes, table, to, passed, kinds, values);
+    memories.put(receiver, bytes);
+    copied
+}
+
+/// Says where the resource of a handle is that was given at a number of an instance's table, if it
+/// is owned.
+fn place_one_owned(owners: &mut Vec<Place>, leaf: &HandleLeaf, instance: u32, number: u32)
+    ensures { owners.new.items
+        ≡ owner_given instance (leaf_of leaf.now) number owners.old.items }
+{
+    if let HandleLeaf::Owned(value) = leaf {
+        let serial = value.serial as usize;
+        if serial < owners.len() {
+            owners[serial] = Place::InTable {
+                instance,
+                index: number,
+            };
+        }
+    }
+}
+
+/// Says where the resources of the handles are that were given at these numbers of an instance's
+/// table, of those that are owned.
+pub(crate) fn place_owned(
+    owners: &mut Vec<Place>,
+    handles: &[HandleLeaf],
+    instance: u32,
+    numbers: &[u32],
+)
+    ensures { owners.new.items
+        ≡ owners_given instance (leaves_of handles.now) numbers.now owners.old.items }
+{
+    let mut rest = numbers;
+    for leaf in handles {
+        let Some((number, behind)) = rest.split_first() else {
+            return;
+        };
+        place_one_owned(owners, leaf, instance, *number);
+        rest = behind;
+    }
+}
+
+/// Copies the value on its way to its receiver, and says where its resources are; nothing is
+/// on its way then. Else the answer is the trap, and the state is as it was.
+fn move_to_receiver(
+    alloc: Global,
+    state: &mut State,
+    link: &Link,
+    way: Way,
+    giver: u32,
+    to: Receiver,
+    values: &mut Flat,
+) -> Result<(), Trap>
+    requires on { CanBeLowered state.old link.now (way_of way) giver to }
+    ensures moves { LowersOrStops state.old state.new link.now (way_of way) giver to values.new
+        result }
+    ensures stack { state.new.stack ≡ state.old.stack }
+    ensures lends { state.new.lends ≡ state.old.lends }
+    ensures slots { state.new.passing.slots ≡ state.old.passing.slots }
+    ensures handles { state.new.passing.scan.handles ≡ state.old.passing.scan.handles }
+    ensures unchanged { OnErr result (state_of state.new ≡ state_of state.old) }
+{
+    records_ask_for_parts();
+    let layout = layout_of(link, way);
+    let kinds = kinds_of(link, way);
+    let passed = Passed {
+        way,
+        layout,
+        slots: state.passing.slots.as_slice(),
+    };
+    let kept = &mut state.passing.scan;
+    let table = &mut state.tables[to.instance as usize];
+    let memories = &mut state.memories;
+    match copy_between(
+        alloc, kept, memories, giver, table, to, &passed, kinds, values,
+    ) {
+        Ok(()) => {}
+        Err(fault) => return Err(trap_of(fault)),
+    }
+    let scan = &state.passing.scan;
+    place_owned(
+        &mut state.owners,
+        scan.handles(),
+        to.instance,
+        scan.numbers(),
+    );
+    state.passing.is_on_its_way = false;
+    Ok(())
+}
+
+/// Counts the handles of the value on its way that its receiver's table got borrowed for the call,
+/// which is their borrow scope (CanonicalABI.md, `lower_borrow`, `borrow_scope.num_borrows`).
+fn count_borrows(state: &mut State, to: Receiver)
+    requires place { to.call < MAX_FRAMES }
+    requires fits { slice_index state.old.stack.borrows to.call
+        + borrowed_count to state.old.passing.scan.handles ≤ 65536 }
+    ensures borrows { state.new.stack.borrows ≡ slice_set state.old.stack.borrows to.call
+        (slice_index state.old.stack.borrows to.call
+        + borrowed_count to state.old.passing.scan.handles) }
+    ensures frames { state.new.stack.frames ≡ state.old.stack.frames }
+    ensures passing { state.new.passing ≡ state.old.passing }
+    ensures lends { state.new.lends ≡ state.old.lends }
+    ensures same { state_of state.new ≡ state_of state.old }
+{
+    let place = to.call as usize;
+    let borrowed = borrowed_count(to, state.passing.scan.handles()) as u32;
+    let count = state.stack.borrows(place) + borrowed;
+    state.stack.set_borrows(place, count);
+}
+
+/// Lowers the value on its way to its receiver (CanonicalABI.md, `lower_flat_values`): its bytes
+/// stand in the receiver's memory, its handles in its table, and the core values that pass it in
+/// `values`; nothing is on its way then. Else the answer is the trap, and the state is as it was.
+pub(crate) fn lower_flat_values(
+    alloc: Global,
+    state: &mut State,
+    link: &Link,
+    way: Way,
+    giver: u32,
+    to: Receiver,
+    values: &mut Flat,
+) -> Result<(), Trap>
+    requires on { CanBeLowered state.old link.now (way_of way) giver to }
+    ensures hands { LowersOrStops state.old state.new link.now (way_of way) giver to values.new
+        result }
+    ensures counted { OnOk result (AreBorrowsCounted state.new.stack.borrows
+        state.new.stack.frames (state_of state.new).tables) }
+    ensures ends { OnOk result (CanEnd state.old → CanEnd state.new) }
+    ensures frames { state.new.stack.frames ≡ state.old.stack.frames }
+    ensures slots { state.new.passing.slots ≡ state.old.passing.slots }
+    ensures unchanged { OnErr result (state_of state.new ≡ state_of state.old) }
+{
+    borrows_are_counted();
+    tables_change_in_one_place();
+    match move_to_receiver(alloc, state, link, way, giver, to, values) {
+        Ok(()) => {}
+        Err(trap) => return Err(trap),
+    }
+    count_borrows(state, to);
+    Ok(())
+}
